@@ -1,0 +1,272 @@
+// The kinds of tokens (JLS 3.9, 3.10, 3.11, 3.12).
+ghost use Rattle.std.specs.Prelude.{◌≡◌, ◌≢◌, MatchOption, IfOk};
+ghost use Rattle.jr_base.specs.Spellings.{keyword_text, symbol_text};
+ghost use Rattle.jr_base.specs.declared.kind.Keyword.{Keyword};
+ghost use Rattle.jr_base.specs.declared.kind.Symbol.{Symbol};
+
+use crate::{OutOfMemory, Text, Units};
+use std::alloc::Global;
+
+/// A keyword, or one of the words `true`, `false` and `null` (JLS 3.9, 3.10.3, 3.10.7).
+#[derive(Clone, Copy, Debug, PartialEq, Eq)]
+pub enum Keyword {
+    Abstract,
+    Assert,
+    Boolean,
+    Break,
+    Byte,
+    Case,
+    Catch,
+    Char,
+    Class,
+    Const,
+    Continue,
+    Default,
+    Do,
+    Double,
+    Else,
+    Enum,
+    Extends,
+    Final,
+    Finally,
+    Float,
+    For,
+    Goto,
+    If,
+    Implements,
+    Import,
+    Instanceof,
+    Int,
+    Interface,
+    Long,
+    Native,
+    New,
+    Package,
+    Private,
+    Protected,
+    Public,
+    Return,
+    Short,
+    Static,
+    Strictfp,
+    Super,
+    Switch,
+    Synchronized,
+    This,
+    Throw,
+    Throws,
+    Transient,
+    Try,
+    Void,
+    Volatile,
+    While,
+    True,
+    False,
+    Null,
+}
+
+/// A separator or an operator (JLS 3.11, 3.12).
+#[derive(Clone, Copy, Debug, PartialEq, Eq)]
+pub enum Symbol {
+    OpenParen,
+    CloseParen,
+    OpenBrace,
+    CloseBrace,
+    OpenBracket,
+    CloseBracket,
+    Semicolon,
+    Comma,
+    Dot,
+    Assign,
+    Greater,
+    Less,
+    Not,
+    Tilde,
+    Question,
+    Colon,
+    Equal,
+    NotEqual,
+    LessEqual,
+    GreaterEqual,
+    AndAnd,
+    OrOr,
+    PlusPlus,
+    MinusMinus,
+    Plus,
+    Minus,
+    Star,
+    Slash,
+    And,
+    Or,
+    Caret,
+    Percent,
+    ShiftLeft,
+    ShiftRight,
+    ShiftRightUnsigned,
+    PlusAssign,
+    MinusAssign,
+    StarAssign,
+    SlashAssign,
+    AndAssign,
+    OrAssign,
+    CaretAssign,
+    PercentAssign,
+    ShiftLeftAssign,
+    ShiftRightAssign,
+    ShiftRightUnsignedAssign,
+}
+
+/// What a token is, with the value of a literal.
+#[derive(Debug, Drop)]
+pub enum Kind {
+    Word(Keyword),
+    Ident(Text),
+    Int(i32),
+    /// `2147483648`, which stands only under a minus (JLS 3.10.1).
+    IntMin,
+    Long(i64),
+    /// `9223372036854775808L`, which stands only under a minus (JLS 3.10.1).
+    LongMin,
+    Char(u16),
+    Str(Units),
+    Sym(Symbol),
+}
+
+impl Kind {
+    pub fn copy(&self, alloc: Global) -> Result<Kind, OutOfMemory>
+        ensures { IfOk result (λ copy. copy ≡ self.now) }
+    {
+        match self {
+            Kind::Word(word) => Ok(Kind::Word(*word)),
+            Kind::Ident(name) => Ok(Kind::Ident(name.copy(alloc)?)),
+            Kind::Int(value) => Ok(Kind::Int(*value)),
+            Kind::IntMin => Ok(Kind::IntMin),
+            Kind::Long(value) => Ok(Kind::Long(*value)),
+            Kind::LongMin => Ok(Kind::LongMin),
+            Kind::Char(unit) => Ok(Kind::Char(*unit)),
+            Kind::Str(units) => Ok(Kind::Str(units.copy(alloc)?)),
+            Kind::Sym(symbol) => Ok(Kind::Sym(*symbol)),
+        }
+    }
+}
+
+/// The keyword that is spelled so, and None where none is.
+pub fn keyword_of(word: &str) -> Option<Keyword>
+    ensures { MatchOption result
+        ((k : Keyword) → keyword_text k ≢ word.now)
+        (λ k. keyword_text k ≡ word.now) }
+{
+    match word {
+        "abstract" => Some(Keyword::Abstract),
+        "assert" => Some(Keyword::Assert),
+        "boolean" => Some(Keyword::Boolean),
+        "break" => Some(Keyword::Break),
+        "byte" => Some(Keyword::Byte),
+        "case" => Some(Keyword::Case),
+        "catch" => Some(Keyword::Catch),
+        "char" => Some(Keyword::Char),
+        "class" => Some(Keyword::Class),
+        "const" => Some(Keyword::Const),
+        "continue" => Some(Keyword::Continue),
+        "default" => Some(Keyword::Default),
+        "do" => Some(Keyword::Do),
+        "double" => Some(Keyword::Double),
+        "else" => Some(Keyword::Else),
+        "enum" => Some(Keyword::Enum),
+        "extends" => Some(Keyword::Extends),
+        "final" => Some(Keyword::Final),
+        "finally" => Some(Keyword::Finally),
+        "float" => Some(Keyword::Float),
+        "for" => Some(Keyword::For),
+        "goto" => Some(Keyword::Goto),
+        "if" => Some(Keyword::If),
+        "implements" => Some(Keyword::Implements),
+        "import" => Some(Keyword::Import),
+        "instanceof" => Some(Keyword::Instanceof),
+        "int" => Some(Keyword::Int),
+        "interface" => Some(Keyword::Interface),
+        "long" => Some(Keyword::Long),
+        "native" => Some(Keyword::Native),
+        "new" => Some(Keyword::New),
+        "package" => Some(Keyword::Package),
+        "private" => Some(Keyword::Private),
+        "protected" => Some(Keyword::Protected),
+        "public" => Some(Keyword::Public),
+        "return" => Some(Keyword::Return),
+        "short" => Some(Keyword::Short),
+        "static" => Some(Keyword::Static),
+        "strictfp" => Some(Keyword::Strictfp),
+        "super" => Some(Keyword::Super),
+        "switch" => Some(Keyword::Switch),
+        "synchronized" => Some(Keyword::Synchronized),
+        "this" => Some(Keyword::This),
+        "throw" => Some(Keyword::Throw),
+        "throws" => Some(Keyword::Throws),
+        "transient" => Some(Keyword::Transient),
+        "try" => Some(Keyword::Try),
+        "void" => Some(Keyword::Void),
+        "volatile" => Some(Keyword::Volatile),
+        "while" => Some(Keyword::While),
+        "true" => Some(Keyword::True),
+        "false" => Some(Keyword::False),
+        "null" => Some(Keyword::Null),
+        _ => None,
+    }
+}
+
+/// The symbol that is spelled so, and None where none is.
+pub fn symbol_of(text: &[u8]) -> Option<Symbol>
+    ensures { MatchOption result
+        ((s : Symbol) → symbol_text s ≢ text.now)
+        (λ s. symbol_text s ≡ text.now) }
+{
+    match text {
+        b"(" => Some(Symbol::OpenParen),
+        b")" => Some(Symbol::CloseParen),
+        b"{" => Some(Symbol::OpenBrace),
+        b"}" => Some(Symbol::CloseBrace),
+        b"[" => Some(Symbol::OpenBracket),
+        b"]" => Some(Symbol::CloseBracket),
+        b";" => Some(Symbol::Semicolon),
+        b"," => Some(Symbol::Comma),
+        b"." => Some(Symbol::Dot),
+        b"=" => Some(Symbol::Assign),
+        b">" => Some(Symbol::Greater),
+        b"<" => Some(Symbol::Less),
+        b"!" => Some(Symbol::Not),
+        b"~" => Some(Symbol::Tilde),
+        b"?" => Some(Symbol::Question),
+        b":" => Some(Symbol::Colon),
+        b"==" => Some(Symbol::Equal),
+        b"!=" => Some(Symbol::NotEqual),
+        b"<=" => Some(Symbol::LessEqual),
+        b">=" => Some(Symbol::GreaterEqual),
+        b"&&" => Some(Symbol::AndAnd),
+        b"||" => Some(Symbol::OrOr),
+        b"++" => Some(Symbol::PlusPlus),
+        b"--" => Some(Symbol::MinusMinus),
+        b"+" => Some(Symbol::Plus),
+        b"-" => Some(Symbol::Minus),
+        b"*" => Some(Symbol::Star),
+        b"/" => Some(Symbol::Slash),
+        b"&" => Some(Symbol::And),
+        b"|" => Some(Symbol::Or),
+        b"^" => Some(Symbol::Caret),
+        b"%" => Some(Symbol::Percent),
+        b"<<" => Some(Symbol::ShiftLeft),
+        b">>" => Some(Symbol::ShiftRight),
+        b">>>" => Some(Symbol::ShiftRightUnsigned),
+        b"+=" => Some(Symbol::PlusAssign),
+        b"-=" => Some(Symbol::MinusAssign),
+        b"*=" => Some(Symbol::StarAssign),
+        b"/=" => Some(Symbol::SlashAssign),
+        b"&=" => Some(Symbol::AndAssign),
+        b"|=" => Some(Symbol::OrAssign),
+        b"^=" => Some(Symbol::CaretAssign),
+        b"%=" => Some(Symbol::PercentAssign),
+        b"<<=" => Some(Symbol::ShiftLeftAssign),
+        b">>=" => Some(Symbol::ShiftRightAssign),
+        b">>>=" => Some(Symbol::ShiftRightUnsignedAssign),
+        _ => None,
+    }
+}

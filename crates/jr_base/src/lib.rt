@@ -1,0 +1,31 @@
+//! The values that every layer shares: texts, paths, files, tokens, places, limits and requests.
+#![tactic(auto)]
+
+mod copied;
+mod files;
+mod identifier;
+mod ids;
+mod kind;
+mod limits;
+mod memory;
+mod number;
+mod path;
+mod request;
+mod text;
+mod token;
+mod units;
+
+pub use copied::Copied;
+pub use files::Files;
+pub use identifier::{continues_word, is_identifier, starts_word};
+pub use ids::{CuId, DeclId, NodeAt, NodeId, OccId, RuleId, TypeId};
+pub use kind::{Keyword, Kind, Symbol, keyword_of, symbol_of};
+pub use limits::{Limits, Size};
+pub use memory::OutOfMemory;
+pub use number::parse_number;
+pub use path::{Path, PathFault};
+pub use request::Request;
+pub use sqlite_items::{Boxed, Items};
+pub use text::Text;
+pub use token::{Place, Span, Token};
+pub use units::Units;

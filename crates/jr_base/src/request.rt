@@ -1,0 +1,71 @@
+// What a user asks for.
+ghost use Rattle.std.specs.Prelude.{◌≡◌, IfOk};
+
+use crate::{OutOfMemory, Text};
+use std::alloc::Global;
+
+/// A change of the program. Offsets are byte offsets in the file.
+#[derive(Debug, Drop)]
+pub enum Request {
+    /// Gives the declaration at the offset the name.
+    Rename { file: Text, at: u32, name: Text },
+    /// Moves the top-level type at the offset to the package.
+    Move { file: Text, at: u32, package: Text },
+    /// Puts the statements from `start` to `end` into a new method.
+    Extract { file: Text, start: u32, end: u32, name: Text },
+    /// Replaces the uses of the local at the offset by its initializer.
+    Inline { file: Text, at: u32 },
+    /// Moves the method at the offset to the superclass.
+    PullUp { file: Text, at: u32 },
+    /// Removes the declaration at the offset, where nothing uses it.
+    Delete { file: Text, at: u32 },
+    /// Moves all units of the package `old` to the package `new`.
+    Repackage { old: Text, new: Text },
+    /// Makes the member type at the offset a top-level type.
+    Lift { file: Text, at: u32 },
+}
+
+impl Request {
+    pub fn copy(&self, alloc: Global) -> Result<Request, OutOfMemory>
+        ensures { IfOk result (λ copy. copy ≡ self.now) }
+    {
+        match self {
+            Request::Rename { file, at, name } => Ok(Request::Rename {
+                file: file.copy(alloc)?,
+                at: *at,
+                name: name.copy(alloc)?,
+            }),
+            Request::Move { file, at, package } => Ok(Request::Move {
+                file: file.copy(alloc)?,
+                at: *at,
+                package: package.copy(alloc)?,
+            }),
+            Request::Extract { file, start, end, name } => Ok(Request::Extract {
+                file: file.copy(alloc)?,
+                start: *start,
+                end: *end,
+                name: name.copy(alloc)?,
+            }),
+            Request::Inline { file, at } => Ok(Request::Inline {
+                file: file.copy(alloc)?,
+                at: *at,
+            }),
+            Request::PullUp { file, at } => Ok(Request::PullUp {
+                file: file.copy(alloc)?,
+                at: *at,
+            }),
+            Request::Delete { file, at } => Ok(Request::Delete {
+                file: file.copy(alloc)?,
+                at: *at,
+            }),
+            Request::Repackage { old, new } => Ok(Request::Repackage {
+                old: old.copy(alloc)?,
+                new: new.copy(alloc)?,
+            }),
+            Request::Lift { file, at } => Ok(Request::Lift {
+                file: file.copy(alloc)?,
+                at: *at,
+            }),
+        }
+    }
+}

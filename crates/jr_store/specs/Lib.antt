@@ -1,0 +1,2 @@
+pub mod BlindLaws
+pub mod Image
