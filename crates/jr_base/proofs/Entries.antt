@@ -1,5 +1,5 @@
 -- What a place in a list of files says of the list as a map.
-use Rattle.std.proofs.Common.{◌≡◌, ℕ, zero, suc, ◌+◌, ◌<◌, ◌≤◌, Bool, true, false, ◌&&◌, cond, not, List, [], ◌∷◌, ◌++◌, length, get_or, set, map, take, drop, Some, None, Option, refl, sym, ap, subst, ◌∙◌, arith, T}
+use Rattle.std.proofs.Common.{◌≡◌, ℕ, zero, suc, ◌<◌, ◌≤◌, Bool, true, false, ◌&&◌, cond, not, List, [], ◌∷◌, length, get_or, set, Some, None, Option, refl, sym, ap, subst, ◌∙◌, arith, T}
 use Rattle.std.specs.Prelude.{Vec, IsTrue}
 use Rattle.std.specs.List.{insert, filter}
 use Rattle.std.specs.Ordering.{nat_cmp, eq_by_cmp, is_eq}
@@ -12,10 +12,9 @@ use Rattle.std.specs.declared.cmp.Ordering.TheVariants.{Less, Equal, Greater}
 use Rattle.std.specs.declared.alloc.Global.{Global}
 use Rattle.std.proofs.lemmas.List.{get_or-map}
 use Rattle.std.specs.FinMap as finite
-use Rattle.std.specs.FinMap.Entries.{put, find, is_sorted, below_all, where_key, by_order, is_sorted-put, find-put, is_sorted-where_key, find-where_key}
+use Rattle.std.specs.FinMap.Entries.{put, find, is_sorted, below_all, where_key, by_order, is_sorted-put, is_sorted-where_key, find-where_key}
 use Rattle.jr_base.specs.Files.{FileMap, plain}
 use Rattle.jr_base.specs.declared.files.Slot.{Slot}
-use Rattle.jr_base.specs.declared.files.Slot.TheVariants.{At, Before}
 use Rattle.jr_base.specs.Slots.{IsSlot, IsAboveFirst, path_at}
 
 abbrev R : List ℕ → List ℕ → Ordering
@@ -114,15 +113,17 @@ plain-others path (e ∷ es) =
 pub removed : (es next : List (List ℕ × Vec ℕ Global)) (m : FileMap) (path : List ℕ) → T (is_sorted R (plain es)) → finite.from_sorted {R = R} (plain es) ≡ m → next ≡ filter (λ e. not (bytes_eq path e.0)) es → IsMap (plain next) (finite.remove m path)
 removed es next m path sorted is same =
     let left : plain next ≡ where_key R (λ x. not (eq_by_cmp R path x)) (plain es) = ap plain same ∙ plain-others path es in
-    let next_sorted : T (is_sorted R (plain next)) = subst (λ l. T (is_sorted R l)) (sym left) (is_sorted-where_key R (λ x. not (eq_by_cmp R path x)) (plain es) sorted) in
-    (next_sorted, finite.same_map nat_list_cmp_total (finite.slice_cmp-IsAntisymmetric finite.nat_cmp-IsAntisymmetric) _ _ (λ q.
-      finite.get-from_sorted R (plain next) q next_sorted
-      ∙ ap (find R q) left
-      ∙ find-where_key R (λ x. not (eq_by_cmp R path x)) q (λ x t. ap (λ r. not (is_eq r)) (sym (alike_right nat_list_cmp_total q x path t))) (plain es)
-      ∙ turned (eq_by_cmp R path q) (find R q (plain es))
-      ∙ ap (λ b. cond b None (find R q (plain es))) ((eq_by_cmp_equiv nat_list_cmp_total).symm path q)
-      ∙ ap (λ o. cond (eq_by_cmp R q path) None o) (sym (finite.get-from_sorted R (plain es) q sorted) ∙ ap (λ n. finite.get n q) is)
-      ∙ sym (finite.get-remove nat_list_cmp_total m path q)))
+    let next_sorted : T (is_sorted R (plain next)) = subst (λ l. T (is_sorted R l)) (sym left) (is_sorted-where_key R (λ x. not (eq_by_cmp R path x)) (plain es) sorted) in (
+      next_sorted,
+      finite.same_map nat_list_cmp_total (finite.slice_cmp-IsAntisymmetric finite.nat_cmp-IsAntisymmetric) _ _ (λ q.
+          finite.get-from_sorted R (plain next) q next_sorted
+          ∙ ap (find R q) left
+          ∙ find-where_key R (λ x. not (eq_by_cmp R path x)) q (λ x t. ap (λ r. not (is_eq r)) (sym (alike_right nat_list_cmp_total q x path t))) (plain es)
+          ∙ turned (eq_by_cmp R path q) (find R q (plain es))
+          ∙ ap (λ b. cond b None (find R q (plain es))) ((eq_by_cmp_equiv nat_list_cmp_total).symm path q)
+          ∙ ap (λ o. cond (eq_by_cmp R q path) None o) (sym (finite.get-from_sorted R (plain es) q sorted) ∙ ap (λ n. finite.get n q) is)
+          ∙ sym (finite.get-remove nat_list_cmp_total m path q)),
+    )
 
 -- the path and the bytes that are read at an index
 pub path_read : (es : List (List ℕ × Vec ℕ Global)) (i : ℕ) (x : List ℕ × Vec ℕ Global) → i < length es → x ≡ get_or es i x → path_at (plain es) i ≡ x.0

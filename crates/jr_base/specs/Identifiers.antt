@@ -1,5 +1,5 @@
 -- Which texts are identifiers (JLS 3.8, with the character classes of Unicode's annex 31).
-use Rattle.std.specs.Prelude.{◌≡◌, ◌≢◌, ℕ, ◌+◌, Bool, true, ◌||◌, ◌==◌, List, length, slice_range}
+use Rattle.std.specs.Prelude.{◌≡◌, ◌≢◌, ℕ, ◌+◌, Bool, true, ◌||◌, ◌==◌, List, length}
 use Rattle.std.specs.Char.{len_utf8}
 use Rattle.unicode_ident.specs.Ident.{is_xid_start, is_xid_continue}
 use Rattle.jr_base.specs.Places.{CharAt, CharRun}

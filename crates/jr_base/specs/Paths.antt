@@ -1,5 +1,5 @@
 -- Which bytes are the path of a file below the folder.
-use Rattle.std.specs.Prelude.{◌≡◌, ◌≢◌, ◌⊎◌, ℕ, Bool, ◌||◌, List, [], ◌∷◌, Contains, codes, IsTrue, eqb, nat_eq, bytes_eq}
+use Rattle.std.specs.Prelude.{◌≡◌, ◌≢◌, ℕ, Bool, ◌||◌, List, [], ◌∷◌, Contains, codes, IsTrue, eqb, nat_eq, bytes_eq}
 use Rattle.std.specs.List.{slice_split, list_any, ends_with}
 use Rattle.std.specs.Str.{IsUtf8}
 use Rattle.jr_base.specs.declared.path.PathFault.{PathFault}

@@ -6,6 +6,7 @@ use std::alloc::Global;
 
 /// What can be copied. A copy is equal.
 pub trait Copied: Drop {
+    /// An equal value of its own.
     fn copy(&self, alloc: Global) -> Result<Self, OutOfMemory>
         ensures { IfOk result (λ copy. copy ≡ self.now) };
 }

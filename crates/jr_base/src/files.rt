@@ -8,6 +8,7 @@ use std::alloc::Global;
 use std::cmp::Ordering;
 use std::marker::Model;
 
+/// Files by their paths, seen by contracts as a finite map from paths to bytes. The paths rise in the order of their bytes.
 #[derive(Debug, Drop)]
 pub struct Files {
     entries: Vec<(Path, Vec<u8>)>,
@@ -31,6 +32,7 @@ impl Model for Files {
 }
 
 impl Files {
+    /// No files.
     pub fn new(alloc: Global) -> Files
         ensures { result ≡ map.empty }
     {
@@ -39,13 +41,14 @@ impl Files {
         }
     }
 
-    /// The files, in the order of their paths.
+    /// The files. Their paths rise in the order of their bytes.
     pub fn entries(&self) -> &[(Path, Vec<u8>)]
         ensures { plain result.now ≡ map.entries self.now }
     {
         &self.entries
     }
 
+    /// The bytes at the path, or `None` where no file is there.
     pub fn get(&self, path: &Path) -> Option<&Vec<u8>>
         ensures { option_map (λ bytes. bytes.now.items) result ≡ map.get self.now path.now }
     {
@@ -55,7 +58,7 @@ impl Files {
         }
     }
 
-    /// Puts the bytes at the path. An `Err` changes nothing.
+    /// Puts the bytes at the path, in place of what is there. An `Err` changes nothing.
     pub fn insert(&mut self, path: Path, bytes: Vec<u8>) -> Result<(), OutOfMemory>
         ensures ok { OnOk result (self.new ≡ map.insert self.old path bytes.items) }
         ensures err { OnErr result (self.new ≡ self.old) }
@@ -69,11 +72,11 @@ impl Files {
         }
     }
 
+    /// Takes away the file at the path. Where none is, nothing changes.
     pub fn remove(&mut self, path: &Path)
         ensures { self.new ≡ map.remove self.old path.now }
     {
-        self.entries
-            .retain(|entry| path.bytes() != entry.0.bytes());
+        self.entries.retain(|entry| path.bytes() != entry.0.bytes());
     }
 }
 

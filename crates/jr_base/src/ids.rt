@@ -8,7 +8,7 @@ pub struct CuId(pub u32);
 #[derive(Clone, Copy, Debug, PartialEq, Eq, PartialOrd, Ord)]
 pub struct NodeId(pub u32);
 
-/// A node of a program.
+/// A node of a program: a unit of it, and a node of that unit.
 #[derive(Clone, Copy, Debug, PartialEq, Eq, PartialOrd, Ord)]
 pub struct NodeAt {
     pub cu: CuId,
@@ -22,14 +22,14 @@ pub struct DeclId {
     pub part: u32,
 }
 
-/// An occurrence of a name. The part is the number of the identifier in the name, from 0.
+/// An occurrence of an identifier. The part is the number of the identifier in the name, from 0.
 #[derive(Clone, Copy, Debug, PartialEq, Eq, PartialOrd, Ord)]
 pub struct OccId {
     pub at: NodeAt,
     pub part: u32,
 }
 
-/// A class or an interface.
+/// A class or an interface, by its declaration.
 #[derive(Clone, Copy, Debug, PartialEq, Eq, PartialOrd, Ord)]
 pub struct TypeId(pub DeclId);
 

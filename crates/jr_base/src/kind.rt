@@ -116,23 +116,31 @@ pub enum Symbol {
     ShiftRightUnsignedAssign,
 }
 
-/// What a token is, with the value of a literal.
+/// What a token is, with the value of a literal (JLS 3.5, 3.8 to 3.12).
 #[derive(Debug, Drop)]
 pub enum Kind {
+    /// A keyword, or one of the words `true`, `false` and `null`.
     Word(Keyword),
+    /// An identifier, in UTF-8.
     Ident(Text),
+    /// A literal of type `int`. A hexadecimal or octal one may be below 0 (JLS 3.10.1).
     Int(i32),
     /// `2147483648`, which stands only under a minus (JLS 3.10.1).
     IntMin,
+    /// A literal of type `long`. A hexadecimal or octal one may be below 0 (JLS 3.10.1).
     Long(i64),
     /// `9223372036854775808L`, which stands only under a minus (JLS 3.10.1).
     LongMin,
+    /// A character literal, as one 16-bit unit (JLS 3.10.4).
     Char(u16),
+    /// A string literal, without its quotes and with its escapes read (JLS 3.10.5, 3.10.6).
     Str(Units),
+    /// A separator or an operator.
     Sym(Symbol),
 }
 
 impl Kind {
+    /// An equal kind of its own.
     pub fn copy(&self, alloc: Global) -> Result<Kind, OutOfMemory>
         ensures { IfOk result (λ copy. copy ≡ self.now) }
     {

@@ -1,6 +1,7 @@
 //! The values that every layer shares: texts, paths, files, tokens, places, limits and requests.
 #![tactic(auto)]
 
+mod characters;
 mod copied;
 mod files;
 mod identifier;
@@ -15,9 +16,10 @@ mod text;
 mod token;
 mod units;
 
+pub use characters::{char_at, continues_word, starts_word, word_end};
 pub use copied::Copied;
 pub use files::Files;
-pub use identifier::{continues_word, is_identifier, starts_word};
+pub use identifier::is_identifier;
 pub use ids::{CuId, DeclId, NodeAt, NodeId, OccId, RuleId, TypeId};
 pub use kind::{Keyword, Kind, Symbol, keyword_of, symbol_of};
 pub use limits::{Limits, Size};

@@ -11,6 +11,7 @@ use thiserror::Error;
 /// Why bytes are no path. The first of these, in this order, is answered.
 #[derive(Clone, Copy, Debug, PartialEq, Eq, Error)]
 pub enum PathFault {
+    /// There are no bytes.
     #[error("Empty")]
     Empty,
     /// The bytes begin with `/`.
@@ -22,11 +23,13 @@ pub enum PathFault {
     /// The bytes are not UTF-8, or hold a zero byte.
     #[error("NotText")]
     NotText,
+    /// An allocation failed.
     #[error("OutOfMemory")]
     OutOfMemory,
 }
 
-/// A relative path without `.` and `..`, so that it names a file below the folder.
+/// A relative path, in UTF-8 with `/` between its parts. No part is empty, `.` or `..`, so it names a file below the folder.
+/// Contracts see the list of its bytes.
 #[derive(Debug, Drop)]
 pub struct Path {
     bytes: Vec<u8>,
@@ -44,7 +47,7 @@ impl Model for Path {
 }
 
 impl Path {
-    /// The path of these bytes.
+    /// The path of these bytes, or the first fault that they have.
     pub fn parse(alloc: Global, bytes: &[u8]) -> Result<Path, PathFault>
         ensures ok { IfOk result (λ path. (path ≡ bytes.now) × IsPath bytes.now) }
         ensures fault { IfErr result (IsPathFault bytes.now) }
@@ -68,6 +71,7 @@ impl Path {
         }
     }
 
+    /// The bytes of the path.
     pub fn bytes(&self) -> &[u8]
         ensures { result.now ≡ self.now }
     {
@@ -81,6 +85,7 @@ impl Path {
         self.bytes.ends_with(b".java")
     }
 
+    /// An equal path of its own.
     pub fn copy(&self, alloc: Global) -> Result<Path, OutOfMemory>
         ensures { IfOk result (λ copy. copy ≡ self.now) }
     {

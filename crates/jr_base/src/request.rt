@@ -8,24 +8,53 @@ use std::alloc::Global;
 #[derive(Debug, Drop)]
 pub enum Request {
     /// Gives the declaration at the offset the name.
-    Rename { file: Text, at: u32, name: Text },
+    Rename {
+        file: Text,
+        at: u32,
+        name: Text,
+    },
     /// Moves the top-level type at the offset to the package.
-    Move { file: Text, at: u32, package: Text },
+    Move {
+        file: Text,
+        at: u32,
+        package: Text,
+    },
     /// Puts the statements from `start` to `end` into a new method.
-    Extract { file: Text, start: u32, end: u32, name: Text },
+    Extract {
+        file: Text,
+        start: u32,
+        end: u32,
+        name: Text,
+    },
     /// Replaces the uses of the local at the offset by its initializer.
-    Inline { file: Text, at: u32 },
+    Inline {
+        file: Text,
+        at: u32,
+    },
     /// Moves the method at the offset to the superclass.
-    PullUp { file: Text, at: u32 },
+    PullUp {
+        file: Text,
+        at: u32,
+    },
     /// Removes the declaration at the offset, where nothing uses it.
-    Delete { file: Text, at: u32 },
+    Delete {
+        file: Text,
+        at: u32,
+    },
     /// Moves all units of the package `old` to the package `new`.
-    Repackage { old: Text, new: Text },
+    Repackage {
+        old: Text,
+        new: Text,
+    },
     /// Makes the member type at the offset a top-level type.
-    Lift { file: Text, at: u32 },
+    Lift {
+        file: Text,
+        at: u32,
+    },
 }
 
 impl Request {
+    /// An equal request of its own.
     pub fn copy(&self, alloc: Global) -> Result<Request, OutOfMemory>
         ensures { IfOk result (λ copy. copy ≡ self.now) }
     {
@@ -40,7 +69,12 @@ impl Request {
                 at: *at,
                 package: package.copy(alloc)?,
             }),
-            Request::Extract { file, start, end, name } => Ok(Request::Extract {
+            Request::Extract {
+                file,
+                start,
+                end,
+                name,
+            } => Ok(Request::Extract {
                 file: file.copy(alloc)?,
                 start: *start,
                 end: *end,

@@ -26,6 +26,7 @@ pub struct Token {
 }
 
 impl Token {
+    /// An equal token of its own.
     pub fn copy(&self, alloc: Global) -> Result<Token, OutOfMemory>
         ensures { IfOk result (λ copy. copy ≡ self.now) }
     {

@@ -20,18 +20,21 @@ impl Model for Units {
 }
 
 impl Units {
+    /// The string of these units.
     pub fn new(units: Vec<u16>) -> Units
         ensures { result ≡ units.items }
     {
         Units { units }
     }
 
+    /// The units of the string.
     pub fn units(&self) -> &[u16]
         ensures { result.now ≡ self.now }
     {
         &self.units
     }
 
+    /// An equal string of its own.
     pub fn copy(&self, alloc: Global) -> Result<Units, OutOfMemory>
         ensures { IfOk result (λ copy. copy ≡ self.now) }
     {

@@ -1,9 +1,6 @@
-use Rattle.std.proofs.Common.{◌≡◌, ◌<◌, ◌∙◌, sym, ap, length, arith, below_more, nat_cmp}
+use Rattle.std.proofs.Common.{◌<◌, ◌∙◌, sym, ap, length, arith, below_more, nat_cmp}
 use Rattle.std.specs.Cmp.Lexicographic.{slice_cmp}
-use Rattle.std.specs.declared.cmp.Ordering.TheVariants.{Greater, Less, Equal}
-use Rattle.jr_base.specs.Files.{plain}
-use Rattle.jr_base.specs.Slots.{path_at}
-use Rattle.jr_base.proofs.Entries.{path_read, plain-length}
+use Rattle.jr_base.proofs.Entries.{path_read}
 use Rattle.jr_base.proofs.files.find_slot.Goals as goal
 
 pub loop-index-preserved : goal.loop-index-preserved

@@ -1,6 +1,4 @@
-use Rattle.std.proofs.Common.{◌≡◌, ◌<◌, ◌≤◌, ◌∙◌, sym, ap, length, set, arith}
-use Rattle.std.proofs.lemmas.List.{map-set}
-use Rattle.std.specs.List.{insert}
+use Rattle.std.proofs.Common.{◌<◌, ◌≤◌, ◌∙◌, sym, ap, length, set, arith}
 use Rattle.std.specs.FinMap as map
 use Rattle.jr_base.specs.Files.{plain}
 use Rattle.jr_base.proofs.Entries.{IsMap, put_at, put_before, path_read, T-from_IsTrue, IsTrue-from_T, plain-length, place_of, plain-set, plain-insert, inserted}
@@ -14,10 +12,10 @@ written c =
     let at = place_of _ _ _ es _ _ c.bytes.ensures c.deref.ensures.value c.in-At.is c.find_slot.ensures in
     let inside : c.in-At.index < length es = omega (arith, at.0, plain-length es) in
     inserted (plain es) (plain (set es c.in-At.index (c.index_mut.result.now.0, c.args.bytes))) c.args.self.now c.args.path c.args.bytes.items
-      (T-from_IsTrue _ c.self.invariant) c.self.view_is
-      (plain-set es c.in-At.index (c.index_mut.result.now.0, c.args.bytes)
-        ∙ ap (λ p. set (plain es) c.in-At.index (p, c.args.bytes.items)) (sym (path_read es c.in-At.index c.index_mut.result.now inside c.index_mut.ensures.value))
-        ∙ sym (put_at c.args.path c.args.bytes.items (plain es) c.in-At.index at.0 at.1 at.2))
+    (T-from_IsTrue _ c.self.invariant) c.self.view_is
+    (plain-set es c.in-At.index (c.index_mut.result.now.0, c.args.bytes)
+    ∙ ap (λ p. set (plain es) c.in-At.index (p, c.args.bytes.items)) (sym (path_read es c.in-At.index c.index_mut.result.now inside c.index_mut.ensures.value))
+    ∙ sym (put_at c.args.path c.args.bytes.items (plain es) c.in-At.index at.0 at.1 at.2))
 
 -- a new path is put in its place
 added : (c : In_ok-insert-in-Before) → IsMap (plain c.insert.new.self.items) (map.insert c.args.self.now c.args.path c.args.bytes.items)
@@ -26,10 +24,10 @@ added c =
     let at = place_of _ _ _ es _ _ c.bytes.ensures c.deref.ensures.value c.in-Before.is c.find_slot.ensures in
     let inside : c.in-Before.index ≤ length es = omega (arith, at.0, plain-length es) in
     inserted (plain es) (plain c.insert.new.self.items) c.args.self.now c.args.path c.args.bytes.items
-      (T-from_IsTrue _ c.self.invariant) c.self.view_is
-      (ap plain c.in_ok-insert-in-Before.ensures.items
-        ∙ plain-insert es c.in-Before.index (c.args.path, c.args.bytes) inside
-        ∙ sym (put_before c.args.path c.args.bytes.items (plain es) c.in-Before.index at.0 at.1 at.2))
+    (T-from_IsTrue _ c.self.invariant) c.self.view_is
+    (ap plain c.in_ok-insert-in-Before.ensures.items
+    ∙ plain-insert es c.in-Before.index (c.args.path, c.args.bytes) inside
+    ∙ sym (put_before c.args.path c.args.bytes.items (plain es) c.in-Before.index at.0 at.1 at.2))
 
 pub invariant_of-self : goal.invariant_of-self
 invariant_of-self c = IsTrue-from_T _ (written c).0
