@@ -1,5 +1,5 @@
 -- What a place in a list of files says of the list as a map.
-use Rattle.std.proofs.Common.{◌≡◌, ℕ, zero, suc, ◌<◌, ◌≤◌, Bool, true, false, ◌&&◌, cond, not, List, [], ◌∷◌, length, get_or, set, Some, None, Option, refl, sym, ap, subst, ◌∙◌, arith, T}
+use Rattle.std.proofs.Common.{◌≡◌, ℕ, zero, suc, ◌<◌, ◌≤◌, Bool, true, false, ◌&&◌, cond, not, List, [], ◌∷◌, length, ◌++◌, ◌+◌, take, get_or, set, Some, None, Option, Result, refl, sym, ap, subst, ◌∙◌, arith, T}
 use Rattle.std.specs.Prelude.{Vec, IsTrue}
 use Rattle.std.specs.List.{insert, filter}
 use Rattle.std.specs.Ordering.{nat_cmp, eq_by_cmp, is_eq}
@@ -10,17 +10,17 @@ use Rattle.std.specs.Cmp.Lexicographic.{slice_cmp, nat_list_cmp_total}
 use Rattle.std.specs.declared.cmp.Ordering.{Ordering}
 use Rattle.std.specs.declared.cmp.Ordering.TheVariants.{Less, Equal, Greater}
 use Rattle.std.specs.declared.alloc.Global.{Global}
-use Rattle.std.proofs.lemmas.List.{get_or-map}
+use Rattle.std.proofs.lemmas.List.{get_or-map, map-append, take_more}
+use Rattle.std.proofs.Math.Seq.{take-length}
 use Rattle.std.specs.FinMap as finite
 use Rattle.std.specs.FinMap.Entries.{put, find, is_sorted, below_all, where_key, by_order, is_sorted-put, is_sorted-where_key, find-where_key}
 use Rattle.jr_base.specs.Files.{FileMap, plain}
-use Rattle.jr_base.specs.declared.files.Slot.{Slot}
 use Rattle.jr_base.specs.Slots.{IsSlot, IsAboveFirst, path_at}
 
-abbrev R : List ℕ → List ℕ → Ordering
+abbrev pub R : List ℕ → List ℕ → Ordering
 R = slice_cmp nat_cmp
 
-abbrev Entries : Type 0
+abbrev pub Entries : Type 0
 Entries = List (List ℕ × List ℕ)
 
 above_tail : (path : List ℕ) (e : List ℕ × List ℕ) (es : Entries) (i : ℕ) → IsAboveFirst path (e ∷ es) (suc i) → IsAboveFirst path es i
@@ -47,15 +47,15 @@ put_before path bytes (e ∷ es) (suc i) inside less above =
     ap (λ o. by_order o ((path, bytes) ∷ e ∷ es) ((e.0, bytes) ∷ es) (e ∷ put R path bytes es)) (above 0 (omega arith))
     ∙ ap (λ rest. e ∷ rest) (put_before path bytes es i (omega arith) (λ lt. less (omega arith)) (above_tail path e es i above))
 
-first : (a b : Bool) → T (a && b) → T a
+pub first : (a b : Bool) → T (a && b) → T a
 first true b p = tt
 first false b p = p
 
-second : (a b : Bool) → T (a && b) → T b
+pub second : (a b : Bool) → T (a && b) → T b
 second true b p = p
 second false b p = absurd p
 
-is_less : (o : Ordering) → T (Rattle.std.specs.Ordering.is_lt o) → o ≡ Less
+pub is_less : (o : Ordering) → T (Rattle.std.specs.Ordering.is_lt o) → o ≡ Less
 is_less Less p = refl
 is_less Equal p = absurd p
 is_less Greater p = absurd p
@@ -139,7 +139,7 @@ plain-length (e ∷ es) = ap suc (plain-length es)
 pub empty_list : finite.from_sorted {R = R} [] ≡ finite.empty {X = List ℕ}
 empty_list = finite.empty_of_len _ (finite.len-entries _ ∙ ap length (finite.entries-from_sorted R [] tt))
 
-pub place_of : (path path' : List ℕ) (es es' : List (List ℕ × Vec ℕ Global)) (r s : Slot) → path ≡ path' → es ≡ es' → r ≡ s → IsSlot path (plain es) r → IsSlot path' (plain es') s
+pub place_of : (path path' : List ℕ) (es es' : List (List ℕ × Vec ℕ Global)) (r s : Result ℕ ℕ) → path ≡ path' → es ≡ es' → r ≡ s → IsSlot path (plain es) r → IsSlot path' (plain es') s
 place_of path path' es es' r s p e q h = subst (λ x. IsSlot path' (plain es') x) q (subst (λ x. IsSlot path' (plain x) r) e (subst (λ x. IsSlot x (plain es) r) p h))
 
 pub plain-set : (es : List (List ℕ × Vec ℕ Global)) (i : ℕ) (x : List ℕ × Vec ℕ Global) → plain (set es i x) ≡ set (plain es) i (x.0, x.1.items)
@@ -151,3 +151,26 @@ pub plain-insert : (es : List (List ℕ × Vec ℕ Global)) (i : ℕ) (x : List 
 plain-insert es zero x inside = refl
 plain-insert [] (suc i) x inside = absurd (omega arith)
 plain-insert (e ∷ es) (suc i) x inside = ap (λ rest. (e.0, e.1.items) ∷ rest) (plain-insert es i x (omega arith))
+
+-- how many files there are
+pub count : (es : List (List ℕ × Vec ℕ Global)) (m : FileMap) → IsTrue (is_sorted R (plain es)) → finite.from_sorted {R = R} (plain es) ≡ m → finite.len m ≡ length es
+count es m sorted is = finite.len-entries m ∙ ap length (ap finite.entries (sym is) ∙ finite.entries-from_sorted R (plain es) (T-from_IsTrue _ sorted)) ∙ plain-length es
+
+-- one more file is copied
+pub plain_push : (done es : List (List ℕ × Vec ℕ Global)) (i : ℕ) (x y : List ℕ × Vec ℕ Global) → i < length es → y ≡ get_or es i y → x.0 ≡ y.0 → x.1.items ≡ y.1.items → plain done ≡ plain (take i es) → plain (done ++ x ∷ []) ≡ plain (take (i + 1) es)
+plain_push done es i x y inside is path bytes so_far =
+    map-append (λ e. (e.0, e.1.items)) done (x ∷ [])
+    ∙ ap (λ front. front ++ (x.0, x.1.items) ∷ []) so_far
+    ∙ ap (λ p. plain (take i es) ++ (p, x.1.items) ∷ []) path
+    ∙ ap (λ b. plain (take i es) ++ (y.0, b) ∷ []) bytes
+    ∙ sym (map-append (λ e. (e.0, e.1.items)) (take i es) (y ∷ []))
+    ∙ ap (λ e. plain (take i es ++ e ∷ [])) is
+    ∙ ap plain (sym (take_more es i y inside))
+
+-- the copies of all files are the files
+pub all_copied : (done es : List (List ℕ × Vec ℕ Global)) (m : FileMap) (i : ℕ) → IsTrue (is_sorted R (plain es)) → finite.from_sorted {R = R} (plain es) ≡ m → i ≡ length es → plain done ≡ plain (take i es) → IsMap (plain done) m
+all_copied done es m i sorted is whole same =
+    let copied : plain es ≡ plain done = sym (same ∙ ap plain (ap (λ k. take k es) whole ∙ take-length es)) in (
+      subst (λ l. T (is_sorted R l)) copied (T-from_IsTrue _ sorted),
+      subst (λ l. finite.from_sorted {R = R} l ≡ m) copied is,
+    )

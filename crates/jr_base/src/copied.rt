@@ -1,7 +1,7 @@
 // Copies of values that own memory.
 ghost use Rattle.std.specs.Prelude.{◌≡◌, IfOk};
 
-use crate::{Boxed, Items, Kind, OutOfMemory, Path, Request, Text, Token, Units};
+use crate::{Boxed, Files, Items, Kind, OutOfMemory, Path, Request, Text, Token, Units};
 use std::alloc::Global;
 
 /// What can be copied. A copy is equal.
@@ -26,6 +26,12 @@ impl Copied for Units {
 impl Copied for Path {
     fn copy(&self, alloc: Global) -> Result<Path, OutOfMemory> {
         Path::copy(self, alloc)
+    }
+}
+
+impl Copied for Files {
+    fn copy(&self, alloc: Global) -> Result<Files, OutOfMemory> {
+        Files::copy(self, alloc)
     }
 }
 

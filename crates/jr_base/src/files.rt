@@ -1,11 +1,10 @@
 // Files in the order of their paths, seen as a finite map.
-ghost use Rattle.std.specs.Prelude.{◌≡◌, OnOk, OnErr, option_map};
+ghost use Rattle.std.specs.Prelude.{◌≡◌, ◌↔◌, IsTrue, IfOk, OnOk, OnErr, option_map};
 ghost use Rattle.std.specs.FinMap as map;
 ghost use Rattle.jr_base.specs.Files.{plain};
 
 use crate::{OutOfMemory, Path};
 use std::alloc::Global;
-use std::cmp::Ordering;
 use std::marker::Model;
 
 /// Files by their paths, seen by contracts as a finite map from paths to bytes. The paths rise in the order of their bytes.
@@ -41,6 +40,20 @@ impl Files {
         }
     }
 
+    /// How many files there are.
+    pub fn len(&self) -> usize
+        ensures { result ≡ map.len self.now }
+    {
+        self.entries.len()
+    }
+
+    /// Whether there are no files.
+    pub fn is_empty(&self) -> bool
+        ensures { IsTrue result ↔ (self.now ≡ map.empty) }
+    {
+        self.entries.is_empty()
+    }
+
     /// The files. Their paths rise in the order of their bytes.
     pub fn entries(&self) -> &[(Path, Vec<u8>)]
         ensures { plain result.now ≡ map.entries self.now }
@@ -53,8 +66,8 @@ impl Files {
         ensures { option_map (λ bytes. bytes.now.items) result ≡ map.get self.now path.now }
     {
         match find_slot(&self.entries, path.bytes()) {
-            Slot::At(index) => Some(&self.entries[index].1),
-            Slot::Before(_) => None,
+            Ok(index) => Some(&self.entries[index].1),
+            Err(_) => None,
         }
     }
 
@@ -64,11 +77,11 @@ impl Files {
         ensures err { OnErr result (self.new ≡ self.old) }
     {
         match find_slot(&self.entries, path.bytes()) {
-            Slot::At(index) => {
+            Ok(index) => {
                 self.entries[index].1 = bytes;
                 Ok(())
             }
-            Slot::Before(index) => Ok(self.entries.insert(index, (path, bytes))?),
+            Err(index) => Ok(self.entries.insert(index, (path, bytes))?),
         }
     }
 
@@ -78,27 +91,27 @@ impl Files {
     {
         self.entries.retain(|entry| path.bytes() != entry.0.bytes());
     }
+
+    /// Equal files of their own.
+    pub fn copy(&self, alloc: Global) -> Result<Files, OutOfMemory>
+        ensures { IfOk result (λ copy. copy ≡ self.now) }
+    {
+        let mut entries = Vec::new(alloc);
+        for (path, bytes) in &self.entries {
+            entries.push((path.copy(alloc)?, bytes.to_vec(alloc)?))?;
+        }
+        Ok(Files { entries })
+    }
 }
 
-ghost use Rattle.std.specs.Prelude.{◌<◌, ◌≤◌};
+ghost use Rattle.std.specs.Ordering.{nat_cmp};
+ghost use Rattle.std.specs.Cmp.Lexicographic.{slice_cmp};
 ghost use Rattle.jr_base.specs.Slots.{IsSlot};
 
-// Where a path stands, or where it would go.
-#[derive(Clone, Copy)]
-enum Slot {
-    At(usize),
-    Before(usize),
-}
-
-fn find_slot(entries: &[(Path, Vec<u8>)], path: &[u8]) -> Slot
+// Where the path stands, or else where it would go.
+fn find_slot(entries: &[(Path, Vec<u8>)], path: &[u8]) -> Result<usize, usize>
+    requires { IsTrue (map.is_sorted (slice_cmp nat_cmp) (plain entries.now)) }
     ensures { IsSlot path.now (plain entries.now) result }
 {
-    for (index, entry) in entries.iter().enumerate() {
-        match path.cmp(entry.0.bytes()) {
-            Ordering::Less => return Slot::Before(index),
-            Ordering::Equal => return Slot::At(index),
-            Ordering::Greater => {}
-        }
-    }
-    Slot::Before(entries.len())
+    entries.binary_search_by(|entry| entry.0.bytes().cmp(path))
 }

@@ -158,6 +158,125 @@ impl Kind {
     }
 }
 
+impl Keyword {
+    /// The spelling of the word.
+    pub fn text(self) -> &'static str
+        ensures { result.now ≡ keyword_text self }
+    {
+        match self {
+            Keyword::Abstract => "abstract",
+            Keyword::Assert => "assert",
+            Keyword::Boolean => "boolean",
+            Keyword::Break => "break",
+            Keyword::Byte => "byte",
+            Keyword::Case => "case",
+            Keyword::Catch => "catch",
+            Keyword::Char => "char",
+            Keyword::Class => "class",
+            Keyword::Const => "const",
+            Keyword::Continue => "continue",
+            Keyword::Default => "default",
+            Keyword::Do => "do",
+            Keyword::Double => "double",
+            Keyword::Else => "else",
+            Keyword::Enum => "enum",
+            Keyword::Extends => "extends",
+            Keyword::Final => "final",
+            Keyword::Finally => "finally",
+            Keyword::Float => "float",
+            Keyword::For => "for",
+            Keyword::Goto => "goto",
+            Keyword::If => "if",
+            Keyword::Implements => "implements",
+            Keyword::Import => "import",
+            Keyword::Instanceof => "instanceof",
+            Keyword::Int => "int",
+            Keyword::Interface => "interface",
+            Keyword::Long => "long",
+            Keyword::Native => "native",
+            Keyword::New => "new",
+            Keyword::Package => "package",
+            Keyword::Private => "private",
+            Keyword::Protected => "protected",
+            Keyword::Public => "public",
+            Keyword::Return => "return",
+            Keyword::Short => "short",
+            Keyword::Static => "static",
+            Keyword::Strictfp => "strictfp",
+            Keyword::Super => "super",
+            Keyword::Switch => "switch",
+            Keyword::Synchronized => "synchronized",
+            Keyword::This => "this",
+            Keyword::Throw => "throw",
+            Keyword::Throws => "throws",
+            Keyword::Transient => "transient",
+            Keyword::Try => "try",
+            Keyword::Void => "void",
+            Keyword::Volatile => "volatile",
+            Keyword::While => "while",
+            Keyword::True => "true",
+            Keyword::False => "false",
+            Keyword::Null => "null",
+        }
+    }
+}
+
+impl Symbol {
+    /// The spelling of the symbol.
+    pub fn text(self) -> &'static str
+        ensures { result.now ≡ symbol_text self }
+    {
+        match self {
+            Symbol::OpenParen => "(",
+            Symbol::CloseParen => ")",
+            Symbol::OpenBrace => "{",
+            Symbol::CloseBrace => "}",
+            Symbol::OpenBracket => "[",
+            Symbol::CloseBracket => "]",
+            Symbol::Semicolon => ";",
+            Symbol::Comma => ",",
+            Symbol::Dot => ".",
+            Symbol::Assign => "=",
+            Symbol::Greater => ">",
+            Symbol::Less => "<",
+            Symbol::Not => "!",
+            Symbol::Tilde => "~",
+            Symbol::Question => "?",
+            Symbol::Colon => ":",
+            Symbol::Equal => "==",
+            Symbol::NotEqual => "!=",
+            Symbol::LessEqual => "<=",
+            Symbol::GreaterEqual => ">=",
+            Symbol::AndAnd => "&&",
+            Symbol::OrOr => "||",
+            Symbol::PlusPlus => "++",
+            Symbol::MinusMinus => "--",
+            Symbol::Plus => "+",
+            Symbol::Minus => "-",
+            Symbol::Star => "*",
+            Symbol::Slash => "/",
+            Symbol::And => "&",
+            Symbol::Or => "|",
+            Symbol::Caret => "^",
+            Symbol::Percent => "%",
+            Symbol::ShiftLeft => "<<",
+            Symbol::ShiftRight => ">>",
+            Symbol::ShiftRightUnsigned => ">>>",
+            Symbol::PlusAssign => "+=",
+            Symbol::MinusAssign => "-=",
+            Symbol::StarAssign => "*=",
+            Symbol::SlashAssign => "/=",
+            Symbol::AndAssign => "&=",
+            Symbol::OrAssign => "|=",
+            Symbol::CaretAssign => "^=",
+            Symbol::PercentAssign => "%=",
+            Symbol::ShiftLeftAssign => "<<=",
+            Symbol::ShiftRightAssign => ">>=",
+            Symbol::ShiftRightUnsignedAssign => ">>>=",
+        }
+    }
+}
+
 /// The keyword that is spelled so, and None where none is.
 pub fn keyword_of(word: &str) -> Option<Keyword>
     ensures { MatchOption result

@@ -28,6 +28,26 @@ pub enum PathFault {
     OutOfMemory,
 }
 
+impl From<AllocError> for PathFault {
+    ghost use Rattle.jr_base.specs.declared.path.PathFault.TheVariants.{OutOfMemory};
+
+    ghost from_gives = { λ _ fault. fault ≡ OutOfMemory };
+
+    fn from(_: AllocError) -> Self {
+        PathFault::OutOfMemory
+    }
+}
+
+impl From<OutOfMemory> for PathFault {
+    ghost use Rattle.jr_base.specs.declared.path.PathFault.TheVariants.{OutOfMemory};
+
+    ghost from_gives = { λ _ fault. fault ≡ OutOfMemory };
+
+    fn from(_: OutOfMemory) -> Self {
+        PathFault::OutOfMemory
+    }
+}
+
 /// A relative path, in UTF-8 with `/` between its parts. No part is empty, `.` or `..`, so it names a file below the folder.
 /// Contracts see the list of its bytes.
 #[derive(Debug, Drop)]
@@ -65,10 +85,9 @@ impl Path {
         if !is_path_text(bytes) {
             return Err(PathFault::NotText);
         }
-        match bytes.to_vec(alloc) {
-            Ok(bytes) => Ok(Path { bytes }),
-            Err(_) => Err(PathFault::OutOfMemory),
-        }
+        Ok(Path {
+            bytes: bytes.to_vec(alloc)?,
+        })
     }
 
     /// The bytes of the path.
