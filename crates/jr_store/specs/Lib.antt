@@ -1,2 +1,11 @@
 pub mod BlindLaws
+pub mod Calls
 pub mod Image
+pub mod Listing
+pub mod Memory
+pub mod MemoryLaws
+pub mod MemoryStreams
+pub mod Record
+pub mod Replay
+pub mod Sides
+pub mod Streams

@@ -2,7 +2,15 @@
 #![tactic(auto)]
 
 mod blind;
+mod calls;
+mod memory;
+mod memory_streams;
+mod record;
 mod store;
+mod stream;
 
 pub use blind::BlindStore;
+pub use memory::MemStore;
+pub use memory_streams::{MemSink, MemSource};
 pub use store::{Failed, Store, StoreError};
+pub use stream::{Sink, Source};

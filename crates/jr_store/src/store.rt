@@ -3,18 +3,41 @@ ghost use Rattle.std.specs.Prelude.{◌≡◌, ◌≤◌, ℕ, List, length, Opt
 ghost use Rattle.std.specs.List.{IsDistinct};
 ghost use Rattle.jr_store.specs.Image.{Image, ChangesOnly, Puts, Tells, Lists, Reads, AreJava, Follows, OnlyTold, Elapses, HasCause, HasStoreCause};
 
-use jr_base::Path;
+use jr_base::{OutOfMemory, Path};
 use std::alloc::Global;
 
+/// A call that failed, and counted a fault.
 #[derive(Clone, Copy, Debug, PartialEq, Eq)]
 pub struct Failed;
 
+/// Why a call of a store that takes memory gave nothing: a counted fault, or want of memory.
 #[derive(Clone, Copy, Debug, PartialEq, Eq)]
 pub enum StoreError {
     Failed,
     OutOfMemory,
 }
 
+impl From<OutOfMemory> for StoreError {
+    ghost use Rattle.jr_store.specs.declared.store.StoreError.TheVariants.{OutOfMemory};
+
+    ghost from_gives = { λ _ e. e ≡ OutOfMemory };
+
+    fn from(_: OutOfMemory) -> Self {
+        StoreError::OutOfMemory
+    }
+}
+
+impl From<Failed> for StoreError {
+    ghost use Rattle.jr_store.specs.declared.store.StoreError.TheVariants.{Failed};
+
+    ghost from_gives = { λ _ e. e ≡ Failed };
+
+    fn from(_: Failed) -> Self {
+        StoreError::Failed
+    }
+}
+
+/// A folder of files.
 pub trait Store {
     /// What reads give now: a store that doesn't tell has `None`.
     ghost files: { Self → Option Image };

@@ -1,7 +1,7 @@
 use Rattle.std.proofs.Common.{sym, subst, List, ℕ}
 use Rattle.std.specs.Prelude.{bytes_eq}
 use Rattle.std.specs.List.{IsDistinct}
-use Rattle.jr_store.proofs.blind.BlindStore.list.Goals as goal
+use Rattle.jr_store.proofs.blind.BlindStoreStore.list.Goals as goal
 
 pub returns-clause-distinct : goal.returns-clause-distinct
 unfolding IsDistinct

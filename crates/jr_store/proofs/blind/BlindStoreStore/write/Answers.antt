@@ -1,5 +1,5 @@
 use Rattle.std.proofs.Common.{refl}
-use Rattle.jr_store.proofs.blind.BlindStore.remove.Goals as goal
+use Rattle.jr_store.proofs.blind.BlindStoreStore.write.Goals as goal
 
 pub returns-then-bytes-gt1024-clause-crash : goal.returns-then-bytes-gt1024-clause-crash
 returns-then-bytes-gt1024-clause-crash c = λ image left. (image, tt, λ q other. refl)

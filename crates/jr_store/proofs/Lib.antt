@@ -1,0 +1,4 @@
+mod Kept
+mod Listing
+mod Putting
+mod Recording
