@@ -65,12 +65,12 @@ module _ (fa fn : FileMap) (same_files : fn ≡ fa) (old new : List Call) where
 
   pub time_same : new ≡ old → Time
   time_same same = time_at (λ files.
-    subst (λ (l : List Call). Elapses (length old) (length l) (LeftIn files old) (LeftIn files l) (IsLeft (state_of files l))) (sym same)
-    (record { later = omega arith; nothing_else = λ t c le left. inl left; keeps = λ t c le left. left }))
+      subst (λ (l : List Call). Elapses (length old) (length l) (LeftIn files old) (LeftIn files l) (IsLeft (state_of files l))) (sym same)
+      (record { later = omega arith; nothing_else = λ t c le left. inl left; keeps = λ t c le left. left }))
 
   pub time_more : (call : Call) → new ≡ old ++ call ∷ [] → Time
   time_more call kept = time_at (λ files.
-    subst (λ (l : List Call). Elapses (length old) (length l) (LeftIn files old) (LeftIn files l) (IsLeft (state_of files l))) (sym kept) (elapses_push files old call))
+      subst (λ (l : List Call). Elapses (length old) (length l) (LeftIn files old) (LeftIn files l) (IsLeft (state_of files l))) (sym kept) (elapses_push files old call))
 
   same_state : new ≡ old → state_of fa old ≡ state_of fn new
   same_state same = sym (ap (state_of fn) same ∙ ap (λ (l : FileMap). state_of l old) same_files)

@@ -2,3 +2,4 @@ mod Kept
 mod Listing
 mod Putting
 mod Recording
+mod Replaying

@@ -26,12 +26,11 @@ abbrev pub Entries : Type 0
 Entries = List (List ℕ × List ℕ)
 
 -- the path is one of these
-IsIn : List ℕ → List (List ℕ) → Type 0
+abbrev pub IsIn : List ℕ → List (List ℕ) → Type 0
 IsIn path [] = ⊥
 IsIn path (other ∷ others) = (path ≡ other) ⊎ IsIn path others
 
 contains_in : (path : List ℕ) (paths : List (List ℕ)) → IsIn path paths → Contains paths path
-unfolding IsIn
 contains_in path [] is = absurd is
 contains_in path (p ∷ paths) (inl is) = (0, omega arith, sym is)
 contains_in path (p ∷ paths) (inr is) = let at = contains_in path paths is in (suc at.0, omega (arith, at.1), at.2)
@@ -100,16 +99,15 @@ there_each m es inside = each (λ path. IsSome (finite.get m path)) (λ es. (pat
 
 -- what is found stands among the paths
 pub all_listed : (es : Entries) (path : List ℕ) → IsTrue (is_java path) → IsSome (find R path es) → IsIn path (java_paths es)
-unfolding IsIn
 all_listed [] path java found = absurd (subst T (sym found) tt)
 all_listed (e ∷ es) path java found =
     elim (eq_by_cmp R path e.0) as (λ b. eq_by_cmp R path e.0 ≡ b → IsSome (cond b (Some e.1) (find R path es)) → IsIn path (java_paths (e ∷ es))) [
       | true ↦ λ is _.
-        let same : path ≡ e.0 = finite.slice_cmp-IsAntisymmetric finite.nat_cmp-IsAntisymmetric path e.0 (equal _ (subst T (sym is) tt)) in
-        subst (λ b. IsIn path (cond b (e.0 ∷ java_paths es) (java_paths es))) (sym (subst (λ p. is_java p ≡ true) same java)) (inl same)
+          let same : path ≡ e.0 = finite.slice_cmp-IsAntisymmetric finite.nat_cmp-IsAntisymmetric path e.0 (equal _ (subst T (sym is) tt)) in
+          subst (λ b. IsIn path (cond b (e.0 ∷ java_paths es) (java_paths es))) (sym (subst (λ p. is_java p ≡ true) same java)) (inl same)
       | false ↦ λ is on.
-        let rest = all_listed es path java on in
-        elim (is_java e.0) as (λ b. IsIn path (cond b (e.0 ∷ java_paths es) (java_paths es))) [ true ↦ inr rest | false ↦ rest ]
+          let rest = all_listed es path java on in
+          elim (is_java e.0) as (λ b. IsIn path (cond b (e.0 ∷ java_paths es) (java_paths es))) [ true ↦ inr rest | false ↦ rest ]
     ] refl found
 
 all_take : (P : List ℕ → Type 0) (n : ℕ) (paths : List (List ℕ)) → AllByRecursion P paths → AllByRecursion P (take n paths)
@@ -146,9 +144,10 @@ module _ (m : FileMap) (f : Image) (told : image_of m ≡ f) (es : Entries) (mos
   list_at_most = omega (arith, ap length same, length-take most (java_paths es))
 
   pub list_listed : Lists (Some f) most paths
-  list_listed = subst (λ (image : Image). Lists (Some image) most paths) told (subst (λ (ps : List (List ℕ)). Lists (Some (image_of m)) most ps) (sym same)
-    ( all_contained (λ path. IsSome (finite.get m path)) (take most (java_paths es)) (all_take (λ path. IsSome (finite.get m path)) most (java_paths es) (there_each m es (λ path found. subst IsSome (sym (got path)) found)))
-    , λ few path java found. contains_in path (take most (java_paths es)) (subst (IsIn path) (sym (take_few most (java_paths es) few)) (all_listed es path java (subst IsSome (got path) found)))))
+  list_listed = subst (λ (image : Image). Lists (Some image) most paths) told (subst (λ (ps : List (List ℕ)). Lists (Some (image_of m)) most ps) (sym same) (
+    all_contained (λ path. IsSome (finite.get m path)) (take most (java_paths es)) (all_take (λ path. IsSome (finite.get m path)) most (java_paths es) (there_each m es (λ path found. subst IsSome (sym (got path)) found))),
+    λ few path java found. contains_in path (take most (java_paths es)) (subst (IsIn path) (sym (take_few most (java_paths es) few)) (all_listed es path java (subst IsSome (got path) found))),
+  ))
 
 plain-length : (files : List (List ℕ × Vec ℕ Global)) → length (plain files) ≡ length files
 plain-length [] = refl
@@ -160,7 +159,7 @@ module _ (files : List (List ℕ × Vec ℕ Global)) (i : ℕ) (x : List ℕ × 
   java_next =
       at_drop_more java_paths (plain files) i ([], []) (omega (arith, plain-length files))
       ∙ ap (λ (key : List ℕ). cond (is_java key) (key ∷ java_paths (drop (i + 1) (plain files))) (java_paths (drop (i + 1) (plain files))))
-        (ap (λ (p : List ℕ × List ℕ). p.0) (get_or-map (λ e. (e.0, e.1.items)) files i x ([], []) inside) ∙ ap (λ (e : List ℕ × Vec ℕ Global). e.0) (sym is))
+      (ap (λ (p : List ℕ × List ℕ). p.0) (get_or-map (λ e. (e.0, e.1.items)) files i x ([], []) inside) ∙ ap (λ (e : List ℕ × Vec ℕ Global). e.0) (sym is))
 
   pub step_taken : is_java x.0 ≡ true → (paths ++ x.0 ∷ []) ++ java_paths (drop (i + 1) (plain files)) ≡ java_paths (plain files)
   step_taken java =

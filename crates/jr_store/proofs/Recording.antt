@@ -30,9 +30,10 @@ calls_kept arena more (e ∷ es) within = λ i. call_kept arena more e within.0 
 
 all_within : (arena more : List ℕ) (es : List Entry) (e : Entry) → AllByRecursion (IsWithin arena) es → IsWithin (arena ++ more) e → AllByRecursion (IsWithin (arena ++ more)) (es ++ e ∷ [])
 all_within arena more [] e within last = (last, tt)
-all_within arena more (x ∷ es) e within last =
-    ( record { path = within.0.path; bytes = within.0.bytes; inside = omega (arith, within.0.inside, length-append arena more) }
-    , all_within arena more es e within.1 last)
+all_within arena more (x ∷ es) e within last = (
+  record { path = within.0.path; bytes = within.0.bytes; inside = omega (arith, within.0.inside, length-append arena more) },
+  all_within arena more es e within.1 last,
+)
 
 -- the entry of a call whose path and bytes are put behind a run of bytes
 module _ (arena path bytes : List ℕ) (number : ℕ) (action : Action) where

@@ -52,7 +52,11 @@ impl MemStore {
             × LeftByCrashIn self.now call (image_of files) × LeftSince self.now 0 (image_of files)) }
     {
         // The lowest digit says whether the call has had its effect.
-        let last = if pick % 2 == 0 { call } else { call.saturating_sub(1) };
+        let last = if pick % 2 == 0 {
+            call
+        } else {
+            call.saturating_sub(1)
+        };
         let count = self.kept.count_until(last);
         let replayed = replay(alloc, &self.files, &self.kept, count, pick / 2)?;
         MemStore::new(alloc, replayed.left, Vec::new(alloc))
@@ -89,15 +93,21 @@ impl MemStore {
     }
 
     // A write or a removal. One that is to fail is kept as in doubt where there is room.
-    fn change(&mut self, action: Action, path: &[u8], bytes: &[u8]) -> Result<(), Failed>
+    fn change(&mut self, action: Action, path: &Path, bytes: &[u8]) -> Result<(), Failed>
         ensures files { self.new.files ≡ self.old.files }
         ensures ok { OnOk result (KeepsOne action path.now bytes.now self.old.kept self.new.kept) }
         ensures err { OnErr result ((self.new.kept ≡ self.old.kept) ⊎ KeepsOne Action.Unsure path.now bytes.now self.old.kept self.new.kept) }
         ensures asked { OnErr result (Contains self.old.calls.failing.items self.new.calls.made ⊎ IsFull self.old.kept path.now bytes.now) }
         ensures cause { HasCause self.old.calls.faults self.new.calls.faults result }
     {
+        let path = path.bytes();
         match self.calls.next() {
-            Ok(number) => self.keep(KeptCall { number, action, path, bytes }),
+            Ok(number) => self.keep(KeptCall {
+                number,
+                action,
+                path,
+                bytes,
+            }),
             Err(Failed) => {
                 let number = self.calls.made();
                 let _ = self.kept.push(KeptCall {
@@ -164,12 +174,7 @@ fn set_side(
 
 // Leaves the path of a call as a crash may, by a choice: the new side, what was there, no file, or a prefix of the
 // new bytes.
-fn tear(
-    alloc: Global,
-    left: &mut Files,
-    call: KeptCall<'_>,
-    pick: u64,
-) -> Result<(), OutOfMemory>
+fn tear(alloc: Global, left: &mut Files, call: KeptCall<'_>, pick: u64) -> Result<(), OutOfMemory>
     ensures { OnOk result (ChangesOnly call.entry.path.now (image_of left.old) (image_of left.new)) }
 {
     let side = match pick % 4 {
@@ -316,11 +321,11 @@ impl Store for MemStore {
     }
 
     fn write(&mut self, path: &Path, bytes: &[u8]) -> Result<(), Failed> {
-        self.change(Action::Wrote, path.bytes(), bytes)
+        self.change(Action::Wrote, path, bytes)
     }
 
     fn remove(&mut self, path: &Path) -> Result<(), Failed> {
-        self.change(Action::Removed, path.bytes(), b"")
+        self.change(Action::Removed, path, b"")
     }
 
     fn sync(&mut self) -> Result<(), Failed> {

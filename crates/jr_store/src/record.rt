@@ -101,7 +101,10 @@ impl Record {
         ensures same { OnErr result (self.new ≡ self.old) }
     {
         let room = MOST_BYTES - self.arena.len().min(MOST_BYTES);
-        if self.entries.len() >= MOST_CALLS || call.path.len() > room || call.bytes.len() > room - call.path.len() {
+        if self.entries.len() >= MOST_CALLS
+            || call.path.len() > room
+            || call.bytes.len() > room - call.path.len()
+        {
             return Err(Failed);
         }
         let path_start = self.arena.len();

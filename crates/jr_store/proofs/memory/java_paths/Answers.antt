@@ -15,16 +15,16 @@ loop-entry-preserved c =
     let inside : i < length files = omega arith in
     elim c.if-is_java.branch [
       | then-is_java+else-len-most+in_ok-copy+in_ok-push w ↦
-        let pushed : c.if-is_java.paths.items ≡ c.loop-entry.paths.items ++ c.entry-item.result.0 ∷ [] =
+          let pushed : c.if-is_java.paths.items ≡ c.loop-entry.paths.items ++ c.entry-item.result.0 ∷ [] =
           ap (λ (v : Vec (List ℕ) Global). v.items) w.paths-is ∙ w.in_ok-push.ensures.items ∙ ap (λ (p : List ℕ). c.loop-entry.paths.items ++ p ∷ []) w.in_ok-copy.ensures in
-        record {
-          same = ap (λ (ps : List (List ℕ)). ps ++ java_paths (drop (i + 1) (plain files))) pushed
-            ∙ step_taken files i c.entry-item.result inside c.entry-item.is c.loop-entry.paths.items c.loop-entry.invariant.same (ap is_java (sym c.bytes.ensures) ∙ sym c.is_java.ensures ∙ w.if-is_java.true);
-          few = omega (arith, ap length pushed, length-append c.loop-entry.paths.items (c.entry-item.result.0 ∷ []), w.len.ensures);
-        }
+          record {
+            same = ap (λ (ps : List (List ℕ)). ps ++ java_paths (drop (i + 1) (plain files))) pushed
+                ∙ step_taken files i c.entry-item.result inside c.entry-item.is c.loop-entry.paths.items c.loop-entry.invariant.same (sym c.is_java.ensures ∙ w.if-is_java.true);
+            few = omega (arith, ap length pushed, length-append c.loop-entry.paths.items (c.entry-item.result.0 ∷ []), w.len.ensures);
+          }
       | else-is_java w ↦ record {
-          same = ap (λ (v : Vec (List ℕ) Global). v.items ++ java_paths (drop (i + 1) (plain files))) w.paths-is
-            ∙ step_left files i c.entry-item.result inside c.entry-item.is c.loop-entry.paths.items c.loop-entry.invariant.same (ap is_java (sym c.bytes.ensures) ∙ sym c.is_java.ensures ∙ w.if-is_java.false);
-          few = omega (arith, ap (λ (v : Vec (List ℕ) Global). length v.items) w.paths-is);
-        }
+        same = ap (λ (v : Vec (List ℕ) Global). v.items ++ java_paths (drop (i + 1) (plain files))) w.paths-is
+            ∙ step_left files i c.entry-item.result inside c.entry-item.is c.loop-entry.paths.items c.loop-entry.invariant.same (sym c.is_java.ensures ∙ w.if-is_java.false);
+        few = omega (arith, ap (λ (v : Vec (List ℕ) Global). length v.items) w.paths-is);
+      }
     ]

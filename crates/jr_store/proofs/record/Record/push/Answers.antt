@@ -21,7 +21,6 @@ module _ (c : Else-is_err-3) where
       let middle : c.len-bytes_start.result ≡ length arena + length call.path.now =
       (let e : c.len-bytes_start.result ≡ length c.extend_from_slice.new.self.items = search rules in e) ∙ ap length path_put ∙ length-append arena call.path.now in
       let last : c.len-end.result ≡ length arena + length call.path.now + length call.bytes.now =
-      
       (let e : c.len-end.result ≡ length c.extend_from_slice-2.new.self.items = search rules in e) ∙ ap length grown ∙ omega (arith, length-append arena (call.path.now ++ call.bytes.now), length-append call.path.now call.bytes.now) in
       let pushed : c.push.new.self.items ≡ c.self.inside.entries.items ++ record { number = call.number; action = call.action; path_start = c.len-path_start.result; bytes_start = c.len-bytes_start.result; end = c.len-end.result } ∷ [] = search rules in
       pushed ∙ (λ i. c.self.inside.entries.items ++ record { number = call.number; action = call.action; path_start = start i; bytes_start = middle i; end = last i } ∷ [])
