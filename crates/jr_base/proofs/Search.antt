@@ -1,5 +1,5 @@
 -- What a binary search finds among files whose paths rise.
-use Rattle.std.proofs.Common.{◌≡◌, ℕ, zero, suc, ◌<◌, ◌≤◌, List, [], ◌∷◌, length, get_or, Result, Ok, Err, refl, sym, ap, ◌∙◌, arith, T}
+use Rattle.std.proofs.Common.{◌≡◌, ℕ, ◌<◌, ◌≤◌, List, [], ◌∷◌, length, get_or, Result, Ok, Err, refl, sym, ap, ◌∙◌, arith}
 use Rattle.std.specs.Prelude.{Vec, IsTrue}
 use Rattle.std.specs.Ordering.{ordering_index, ordering_reverse}
 use Rattle.std.specs.Cmp.Lexicographic.{nat_list_cmp_total}
@@ -8,23 +8,12 @@ use Rattle.std.specs.List.Sorted.{IsSearchInRange, IsBinarySearchResult, IsNonDe
 use Rattle.std.specs.declared.cmp.Ordering.{Ordering}
 use Rattle.std.specs.declared.cmp.Ordering.TheVariants.{Less, Equal, Greater}
 use Rattle.std.specs.declared.alloc.Global.{Global}
-use Rattle.std.specs.FinMap.Entries.{is_sorted, below_all}
+use Rattle.std.specs.FinMap.Entries.{is_sorted}
 use Rattle.std.proofs.lemmas.List.{get_or-map}
 use Rattle.jr_base.specs.Files.{plain}
 use Rattle.jr_base.specs.Slots.{IsSlot, path_at}
-use Rattle.jr_base.proofs.Entries.{R, Entries, T-from_IsTrue, first, second, is_less, plain-length}
-
-below_at : (path : List ℕ) (es : Entries) (i : ℕ) → i < length es → T (below_all R path es) → R path (path_at es i) ≡ Less
-below_at path [] i inside below = absurd (omega arith)
-below_at path (e ∷ es) zero inside below = is_less _ (first _ _ below)
-below_at path (e ∷ es) (suc i) inside below = below_at path es i (omega arith) (second _ _ below)
-
--- the paths rise
-rises : (es : Entries) (i j : ℕ) → i < j → j < length es → T (is_sorted R es) → R (path_at es i) (path_at es j) ≡ Less
-rises [] i j lt inside sorted = absurd (omega arith)
-rises (e ∷ es) i zero lt inside sorted = absurd (omega arith)
-rises (e ∷ es) zero (suc j) lt inside sorted = below_at e.0 es j (omega arith) (first _ _ sorted)
-rises (e ∷ es) (suc i) (suc j) lt inside sorted = rises es i j (omega arith) (omega arith) (second _ _ sorted)
+use Rattle.jr_base.proofs.Rising.{rises}
+use Rattle.jr_base.proofs.Entries.{R, T-from_IsTrue, plain-length}
 
 flip : (x y : List ℕ) (o : Ordering) → R x y ≡ o → R y x ≡ ordering_reverse o
 flip x y o is = nat_list_cmp_total.antisymm y x ∙ ap ordering_reverse is
