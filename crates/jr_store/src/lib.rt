@@ -11,6 +11,8 @@ mod record;
 mod std_streams;
 mod store;
 mod stream;
+#[cfg(test)]
+mod tests;
 
 pub use blind::BlindStore;
 pub use folder::FolderStore;
