@@ -1,6 +1,6 @@
 -- What the paths of a list of files in order are.
-use Rattle.std.proofs.Common.{◌≡◌, ℕ, zero, suc, ◌+◌, ◌<◌, ◌≤◌, Bool, true, false, ◌&&◌, cond, List, [], ◌∷◌, ◌++◌, length, get_or, take, drop, Some, None, Option, IsSome, IsTrue, refl, sym, ap, subst, ◌∙◌, arith, T, ◌||◌, length-append, append_assoc, inl, inr, ◌⊎◌, Vec}
-use Rattle.std.specs.List.{IsDistinct, AllByRecursion}
+use Rattle.std.proofs.Common.{◌≡◌, ℕ, zero, suc, ◌+◌, ◌<◌, ◌≤◌, Bool, true, false, ◌&&◌, cond, List, [], ◌∷◌, ◌++◌, length, get_or, take, drop, Some, Option, IsSome, IsTrue, refl, sym, ap, subst, ◌∙◌, arith, T, ◌||◌, length-append, append_assoc, inl, inr, ◌⊎◌, Vec}
+use Rattle.std.specs.List.{IsDistinct, AllByRecursion, list_any}
 use Rattle.std.specs.Ordering.{nat_cmp, eq_by_cmp, is_eq, is_lt}
 use Rattle.std.specs.Prelude.{bytes_eq, Contains}
 use Rattle.std.specs.Cmp.Lexicographic.{slice_cmp, nat_list_cmp_total}
@@ -16,7 +16,7 @@ use Rattle.std.specs.FinMap.Entries.{find, is_sorted, below_all}
 use Rattle.jr_base.specs.Files.{FileMap, plain}
 use Rattle.jr_base.specs.Paths.{is_java}
 use Rattle.jr_store.specs.Image.{Image, AreJava, Lists}
-use Rattle.jr_store.specs.Listing.{java_paths}
+use Rattle.jr_store.specs.Listing.{IsListing, java_paths}
 use Rattle.jr_store.specs.Replay.{image_of}
 
 abbrev R : List ℕ → List ℕ → Ordering
@@ -180,3 +180,38 @@ take_at_front (suc n) (path ∷ paths) rest full = ap (λ l. path ∷ l) (take_a
 
 pub take_front : (n : ℕ) (paths rest whole : List (List ℕ)) → paths ++ rest ≡ whole → length paths ≡ n → paths ≡ take n whole
 take_front n paths rest whole is full = subst (λ w. paths ≡ take n w) is (sym (take_at_front n paths rest full))
+
+neither : (a b : Bool) → (a || b) ≡ false → (a ≡ false) × (b ≡ false)
+neither true b e = absurd (subst T e tt)
+neither false b e = (refl, e)
+
+bytes_eq-sym : (xs ys : List ℕ) → bytes_eq xs ys ≡ bytes_eq ys xs
+bytes_eq-sym xs ys = sym (is_eq-slice_cmp xs ys) ∙ (eq_by_cmp_equiv nat_list_cmp_total).symm xs ys ∙ is_eq-slice_cmp ys xs
+
+-- one more path that is new, where there is room
+pub listing_more : (most : ℕ) (paths : List (List ℕ)) (name : List ℕ) → IsListing most paths → length paths < most → is_java name ≡ true → list_any (bytes_eq name) paths ≡ false → IsListing most (paths ++ name ∷ [])
+unfolding IsDistinct
+listing_more most paths name listing room java new = record {
+  java = all_more paths listing.java java;
+  distinct = distinct_more paths listing.distinct new;
+  at_most = omega (arith, length-append paths (name ∷ []));
+}
+  where
+    all_more : (ps : List (List ℕ)) → AllByRecursion (λ path. IsTrue (is_java path)) ps → is_java name ≡ true → AllByRecursion (λ path. IsTrue (is_java path)) (ps ++ name ∷ [])
+    all_more [] all java = (java, tt)
+    all_more (p ∷ ps) all java = (all.0, all_more ps all.1 java)
+
+    -- what stood before differs from the new one
+    differ_more : (path : List ℕ) (ps : List (List ℕ)) → AllByRecursion (λ other. bytes_eq path other ≡ false) ps → bytes_eq path name ≡ false → AllByRecursion (λ other. bytes_eq path other ≡ false) (ps ++ name ∷ [])
+    differ_more path [] all last = (last, tt)
+    differ_more path (p ∷ ps) all last = (all.0, differ_more path ps all.1 last)
+
+    distinct_more : (ps : List (List ℕ)) → IsDistinct bytes_eq ps → list_any (bytes_eq name) ps ≡ false → IsDistinct bytes_eq (ps ++ name ∷ [])
+    distinct_more [] distinct new = (tt, tt)
+    distinct_more (p ∷ ps) distinct new =
+        let parts = neither (bytes_eq name p) (list_any (bytes_eq name) ps) new in
+        (differ_more p ps distinct.0 (bytes_eq-sym p name ∙ parts.0), distinct_more ps distinct.1 parts.1)
+
+pub listing_none : (most : ℕ) (paths : List (List ℕ)) → paths ≡ [] → IsListing most paths
+unfolding IsDistinct
+listing_none most paths is = subst (IsListing most) (sym is) (record { java = tt; distinct = tt; at_most = omega arith })

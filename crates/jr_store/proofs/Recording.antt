@@ -1,6 +1,6 @@
 -- What a record of calls stands for, and one call more in it.
-use Rattle.std.proofs.Common.{◌≡◌, ℕ, zero, suc, ◌+◌, ◌-◌, ◌<◌, ◌≤◌, Bool, true, false, cond, List, [], ◌∷◌, ◌++◌, length, get_or, take, drop, map, refl, sym, ◌∙◌, ap, subst, arith, length-append, length-drop, append_assoc}
-use Rattle.std.specs.Prelude.{sum_by, nat_le}
+use Rattle.std.proofs.Common.{◌≡◌, ℕ, ◌+◌, ◌-◌, ◌<◌, ◌≤◌, Bool, false, cond, List, [], ◌∷◌, ◌++◌, length, get_or, take, drop, map, refl, sym, ◌∙◌, ap, subst, arith, length-append, length-drop, append_assoc}
+use Rattle.std.specs.Prelude.{nat_le}
 use Rattle.std.specs.List.{slice_range, prefix_len, AllByRecursion}
 use Rattle.std.proofs.lemmas.List.{at_drop_more, drop-append-le, take-append-le, take_all, map-append}
 use Rattle.std.proofs.lemmas.List.Sums.{sum_by-append}

@@ -1,12 +1,12 @@
 -- One call more of a record, on what reads give and on what a crash leaves.
-use Rattle.std.proofs.Common.{◌≡◌, inl, inr, ℕ, ◌+◌, ◌≤◌, List, [], ◌∷◌, ◌++◌, length, take, refl, sym, ◌∙◌, ap, subst, arith}
+use Rattle.std.proofs.Common.{◌≡◌, inl, inr, ℕ, ◌+◌, List, [], ◌∷◌, ◌++◌, take, sym, ◌∙◌, ap, subst, arith}
 use Rattle.std.proofs.lemmas.List.{take_all, take_more}
 use Rattle.std.proofs.lemmas.Option.{get_or_from_slice_get, slice_get_within, slice_get_cases}
 use Rattle.std.specs.Prelude.{Some, None, slice_get}
 use Rattle.jr_base.specs.Files.{FileMap}
 use Rattle.jr_store.specs.Calls.{Call}
 use Rattle.jr_store.specs.Image.{Image, ChangesOnly}
-use Rattle.jr_store.specs.Replay.{State, Replays, state_of, image_of, after_action, after_call}
+use Rattle.jr_store.specs.Replay.{State, Replays, state_of, after_action, after_call}
 use Rattle.jr_store.specs.Sides.{put_side}
 use Rattle.jr_store.specs.declared.record.Action.{Action}
 use Rattle.jr_store.specs.declared.record.Action.TheVariants.{Wrote, Removed, Unsure, Synced}

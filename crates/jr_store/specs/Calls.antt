@@ -1,5 +1,5 @@
 -- The calls that a store in memory keeps a record of.
-use Rattle.std.specs.Prelude.{◌≡◌, ℕ, ◌+◌, ◌<◌, ◌≤◌, ◌⊎◌, List, [], ◌∷◌, length, sum_by, take_while, nat_le}
+use Rattle.std.specs.Prelude.{ℕ, ◌+◌, ◌<◌, ◌≤◌, ◌⊎◌, List, length, sum_by, take_while, nat_le}
 use Rattle.jr_store.specs.declared.record.Action.{Action}
 
 -- a write, a removal or a sync, with its number among all calls, its path and the bytes that it was to write

@@ -1,5 +1,5 @@
 -- The files as a crash or a read sees them, and what calls of a store do to them.
-use Rattle.std.specs.Prelude.{◌≡◌, ◌≢◌, ◌⊎◌, ℕ, ◌+◌, ◌-◌, ◌^◌, ◌<◌, ◌≤◌, min, Bool, List, length, take, Contains, codes, Option, Some, None, option_map, IsSome, IsTrue, Result, OnErr, IsErrOf, nat_eq}
+use Rattle.std.specs.Prelude.{◌≡◌, ◌≢◌, ◌⊎◌, ℕ, ◌+◌, ◌-◌, ◌^◌, ◌<◌, ◌≤◌, min, List, length, take, Contains, Option, Some, None, option_map, IsSome, IsTrue, Result, OnErr, IsErrOf}
 use Rattle.std.specs.List.{AllByRecursion}
 use Rattle.jr_base.specs.Paths.{is_java}
 use Rattle.jr_store.specs.declared.store.StoreError.{StoreError}

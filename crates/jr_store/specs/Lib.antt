@@ -1,5 +1,6 @@
 pub mod BlindLaws
 pub mod Calls
+pub mod FolderLaws
 pub mod Image
 pub mod Listing
 pub mod Memory

@@ -1,9 +1,8 @@
 -- What the store and the streams in memory hold.
-use Rattle.std.specs.Prelude.{◌≡◌, ℕ, List, [], length, Option, Vec, Some}
-use Rattle.std.specs.declared.alloc.Global.{Global}
+use Rattle.std.specs.Prelude.{◌≡◌, ℕ, List, []}
 use Rattle.jr_base.specs.Files.{FileMap}
 use Rattle.jr_store.specs.Image.{Image}
-use Rattle.jr_store.specs.Replay.{State, image_of, state_of, LeftIn, LeftInCall}
+use Rattle.jr_store.specs.Replay.{State, state_of, LeftIn, LeftInCall}
 use Rattle.jr_store.specs.declared.memory.MemStore.{MemStore}
 
 abbrev pub state_now : MemStore → State

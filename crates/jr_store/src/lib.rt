@@ -3,14 +3,21 @@
 
 mod blind;
 mod calls;
+mod folder;
+mod folder_list;
 mod memory;
 mod memory_streams;
 mod record;
+mod std_streams;
 mod store;
 mod stream;
+#[cfg(test)]
+mod tests;
 
 pub use blind::BlindStore;
+pub use folder::FolderStore;
 pub use memory::MemStore;
 pub use memory_streams::{MemSink, MemSource};
+pub use std_streams::{StdSink, StdSource};
 pub use store::{Failed, Store, StoreError};
 pub use stream::{Sink, Source};

@@ -1,8 +1,7 @@
-use Rattle.std.proofs.Common.{◌≡◌, ◌<◌, ◌++◌, ◌∷◌, [], ◌∙◌, sym, ap, drop, length, arith, rules, true, false, ◌+◌, length-append, List, ℕ}
+use Rattle.std.proofs.Common.{◌≡◌, ◌<◌, ◌++◌, ◌∷◌, [], ◌∙◌, sym, ap, drop, length, arith, ◌+◌, length-append, List, ℕ}
 use Rattle.std.specs.Prelude.{Vec}
 use Rattle.std.specs.declared.alloc.Global.{Global}
 use Rattle.jr_base.specs.Files.{plain}
-use Rattle.jr_base.specs.Paths.{is_java}
 use Rattle.jr_store.specs.Listing.{java_paths}
 use Rattle.jr_store.proofs.Listing.{step_taken, step_left}
 use Rattle.jr_store.proofs.memory.java_paths.Goals as goal

@@ -1,4 +1,4 @@
-use Rattle.std.proofs.Common.{◌≡◌, ◌+◌, ◌∙◌, sym, ap, subst, take}
+use Rattle.std.proofs.Common.{◌≡◌, ◌∙◌, sym, ap, subst, take}
 use Rattle.std.specs.Prelude.{Some, None, slice_get, option_map}
 use Rattle.jr_store.specs.Record.{kept_call}
 use Rattle.jr_store.specs.Replay.{State, Replays, after_call, image_of, state_of}

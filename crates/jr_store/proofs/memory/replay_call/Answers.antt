@@ -1,9 +1,9 @@
-use Rattle.std.proofs.Common.{◌≡◌, ap, subst, ◌∙◌}
+use Rattle.std.proofs.Common.{ap, subst, ◌∙◌}
 use Rattle.std.proofs.lemmas.Result.{on_ok_weaker}
 use Rattle.jr_store.specs.Image.{ChangesOnly}
 use Rattle.jr_store.specs.Replay.{image_of}
 use Rattle.jr_store.specs.declared.memory.Replayed.{Replayed}
-use Rattle.jr_store.proofs.Replaying.{replay_wrote, replay_removed, replay_unsure, replay_synced}
+use Rattle.jr_store.proofs.Replaying.{replay_wrote, replay_removed, replay_unsure}
 use Rattle.jr_store.proofs.memory.replay_call.Goals as goal
 use Rattle.jr_store.proofs.memory.replay_call.Goals.{in-Wrote+in_ok-set_side-in-Wrote, in-Removed+in_ok-set_side-in-Removed, in-Unsure}
 

@@ -1,4 +1,4 @@
-use Rattle.std.proofs.Common.{◌≡◌, ◌+◌, ◌∙◌, sym, ap, take, List, ℕ}
+use Rattle.std.proofs.Common.{◌≡◌, ◌∙◌, sym, ap, take}
 use Rattle.std.specs.Prelude.{Some, None, slice_get, option_map}
 use Rattle.jr_store.specs.Record.{kept_call}
 use Rattle.jr_store.specs.Replay.{State, state_of, after_call}

@@ -1,4 +1,4 @@
-use Rattle.jr_store.proofs.Listing.{list_distinct, list_java, list_at_most, list_listed}
+use Rattle.jr_store.proofs.Listing.{list_distinct, list_java, list_listed}
 use Rattle.jr_store.specs.Memory.{files_now}
 use Rattle.jr_store.proofs.memory.MemStoreStore.list.Goals as goal
 

@@ -1,5 +1,5 @@
 use Rattle.std.proofs.Common.{refl, []}
-use Rattle.std.specs.Prelude.{Some, None}
+use Rattle.std.specs.Prelude.{None}
 use Rattle.jr_store.specs.declared.record.Action.TheVariants.{Removed}
 use Rattle.jr_store.proofs.Kept.{change_told, change_crash, change_time, puts, removed_touches}
 use Rattle.jr_store.proofs.memory.MemStoreStore.remove.Goals as goal

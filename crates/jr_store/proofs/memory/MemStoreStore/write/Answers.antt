@@ -1,5 +1,5 @@
-use Rattle.std.proofs.Common.{refl, []}
-use Rattle.std.specs.Prelude.{Some, None}
+use Rattle.std.proofs.Common.{refl}
+use Rattle.std.specs.Prelude.{Some}
 use Rattle.jr_store.specs.declared.record.Action.TheVariants.{Wrote}
 use Rattle.jr_store.proofs.Kept.{change_told, change_crash, change_time, puts, wrote_touches}
 use Rattle.jr_store.proofs.memory.MemStoreStore.write.Goals as goal

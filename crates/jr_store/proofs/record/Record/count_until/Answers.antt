@@ -1,4 +1,4 @@
-use Rattle.std.proofs.Common.{◌≡◌, ◌+◌, ◌<◌, ◌≤◌, drop, length, get_or, map, sym, ◌∙◌, ap, arith, rules, true, false, List, ℕ}
+use Rattle.std.proofs.Common.{◌≡◌, ◌<◌, drop, length, get_or, map, sym, ◌∙◌, ap, arith, rules, false, List, ℕ}
 use Rattle.std.specs.Prelude.{nat_le}
 use Rattle.std.specs.List.{prefix_len}
 use borrow.Author.Tests.{tests}

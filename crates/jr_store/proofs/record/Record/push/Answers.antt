@@ -1,4 +1,4 @@
-use Rattle.std.proofs.Common.{◌≡◌, ◌++◌, ◌∷◌, [], ◌+◌, length, sym, ◌∙◌, ap, arith, rules, List, ℕ, append_assoc, length-append}
+use Rattle.std.proofs.Common.{◌≡◌, ◌++◌, ◌∷◌, [], ◌+◌, length, ◌∙◌, ap, arith, rules, List, ℕ, append_assoc, length-append}
 use Rattle.jr_store.specs.Calls.{Call}
 use Rattle.jr_store.proofs.Recording.{new_entry, new_call, grown_within, grown_calls, grown_bytes}
 use Rattle.jr_store.proofs.record.Record.push.Goals as goal

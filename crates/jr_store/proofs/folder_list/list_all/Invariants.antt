@@ -1,0 +1,5 @@
+use Rattle.jr_store.specs.Listing.{IsListing}
+use Rattle.jr_store.proofs.folder_list.list_all.Given as goal
+
+abbrev pub invariant-loop : goal.invariant-loop
+invariant-loop g l = IsListing l.most l.paths.items

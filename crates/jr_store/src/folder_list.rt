@@ -1,0 +1,140 @@
+// The paths of the files below a folder of the system.
+ghost use Rattle.std.specs.Prelude.{◌≡◌, ◌≤◌, length, IfOk, bytes_eq};
+ghost use Rattle.std.specs.List.{list_any};
+ghost use Rattle.jr_store.specs.Listing.{IsListing};
+
+use crate::StoreError;
+use crate::folder::store_error;
+use jr_base::{OutOfMemory, Path, PathFault};
+use std::alloc::{Allocator, Global};
+use std::fs::{DirEntry, FileType, ReadDir};
+use std::rt::Files;
+use std::{fs, io};
+
+/// The paths below the folder that end in `.java`: all where there are at most `most`, else some `most` of them.
+pub fn list_all<R: Files>(
+    rt: &R,
+    alloc: Global,
+    dir: &str,
+    most: usize,
+) -> Result<Vec<Path>, StoreError>
+    ensures { IfOk result (λ paths. IsListing most paths.items) }
+{
+    let mut paths = Vec::new(alloc);
+    // The folders that were found and not listed yet, each with a slash behind it.
+    let mut pending = Vec::new(alloc);
+    list_one(rt, alloc, dir, "", most, &mut paths, &mut pending)?;
+    for _ in 0..u64::MAX {
+        let Some(below) = pending.pop() else {
+            return Ok(paths);
+        };
+        list_one(
+            rt,
+            alloc,
+            dir,
+            below.as_str(),
+            most,
+            &mut paths,
+            &mut pending,
+        )?;
+    }
+    Err(StoreError::Failed)
+}
+
+// The names in one folder below.
+fn list_one<R: Files>(
+    rt: &R,
+    alloc: Global,
+    dir: &str,
+    below: &str,
+    most: usize,
+    paths: &mut Vec<Path>,
+    pending: &mut Vec<String>,
+) -> Result<(), StoreError>
+    ensures { IsListing most paths.old.items → IsListing most paths.new.items }
+{
+    let folder = joined(alloc, dir, "/", below)?;
+    let system = (rt, alloc);
+    for entry in open_folder(&system, folder.as_str())? {
+        let (entry, kind) = with_kind(entry)?;
+        take(alloc, below, entry.file_name(), kind, most, paths, pending)?;
+    }
+    Ok(())
+}
+
+fn open_folder<S: Files + Alloc + Clone + Drop>(
+    system: &S,
+    folder: &str,
+) -> Result<ReadDir<S, S::A>, StoreError> {
+    match fs::read_dir(system, folder) {
+        Ok(entries) => Ok(entries),
+        Err(error) => Err(store_error(&error)),
+    }
+}
+
+fn with_kind<S: Files + Drop, A: Allocator>(
+    entry: io::Result<DirEntry<S, A>>,
+) -> Result<(DirEntry<S, A>, FileType), StoreError> {
+    let entry = match entry {
+        Ok(entry) => entry,
+        Err(error) => return Err(store_error(&error)),
+    };
+    match entry.file_type() {
+        Ok(kind) => Ok((entry, kind)),
+        Err(error) => Err(store_error(&error)),
+    }
+}
+
+// A name in a folder below. A link, and what else is no file and no folder, is left out.
+fn take(
+    alloc: Global,
+    below: &str,
+    name: &str,
+    kind: FileType,
+    most: usize,
+    paths: &mut Vec<Path>,
+    pending: &mut Vec<String>,
+) -> Result<(), StoreError>
+    ensures { IsListing most paths.old.items → IsListing most paths.new.items }
+{
+    if kind.is_dir() {
+        let folder = joined(alloc, below, name, "/")?;
+        if pending.push(folder).is_err() {
+            return Err(StoreError::OutOfMemory);
+        }
+    } else if kind.is_file() {
+        let file = joined(alloc, below, name, "")?;
+        add(alloc, paths, file.as_bytes(), most)?;
+    }
+    Ok(())
+}
+
+fn joined(alloc: Global, front: &str, middle: &str, back: &str) -> Result<String, OutOfMemory> {
+    let mut whole = String::from_str(alloc, front)?;
+    whole.push_str(middle)?;
+    whole.push_str(back)?;
+    Ok(whole)
+}
+
+// Adds a path that ends in `.java`, is new and for which there is room.
+fn add(alloc: Global, paths: &mut Vec<Path>, name: &[u8], most: usize) -> Result<(), StoreError>
+    ensures { IsListing most paths.old.items → IsListing most paths.new.items }
+{
+    let path = match Path::parse(alloc, name) {
+        Ok(path) => path,
+        Err(PathFault::OutOfMemory) => return Err(StoreError::OutOfMemory),
+        Err(_) => return Err(StoreError::Failed),
+    };
+    if paths.len() < most && path.is_java() && !holds(paths, path.bytes()) {
+        if paths.push(path).is_err() {
+            return Err(StoreError::OutOfMemory);
+        }
+    }
+    Ok(())
+}
+
+fn holds(paths: &[Path], name: &[u8]) -> bool
+    ensures { result ≡ list_any (bytes_eq name.now) paths.now }
+{
+    paths.iter().any(|path| name == path.bytes())
+}
