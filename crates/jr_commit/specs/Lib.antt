@@ -1,0 +1,5 @@
+pub mod SidesAt
+pub mod Steps
+pub mod Entries
+pub mod Journal
+pub mod Reading
