@@ -5,3 +5,7 @@ mod Putting
 mod Fields
 mod Texts
 mod Loop
+mod Exact
+mod Olds
+mod Phases
+mod Run

@@ -3,3 +3,5 @@ pub mod Steps
 pub mod Entries
 pub mod Journal
 pub mod Reading
+pub mod Restoring
+pub mod Planned

@@ -3,7 +3,10 @@
 
 mod actions;
 mod entry;
+mod plan;
 mod reading;
 
 pub use actions::Step;
 pub use entry::{Entry, Journal, Side};
+pub use plan::{Plan, commit};
+pub use reading::read_journal;

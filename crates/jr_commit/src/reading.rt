@@ -2,7 +2,7 @@
 ghost use Rattle.std.specs.Prelude.{◌≡◌, ◌≤◌, ◌↔◌, ◌^◌, ◌<◌, ℕ, List, length, IfOk, IfSome, IfNone, IsTrue};
 ghost use Rattle.std.specs.List.{AllByRecursion};
 ghost use Rattle.jr_commit.specs.Entries.{PlainEntry, known_of, plain_of, plain, raw_of, raw, names_of};
-ghost use Rattle.jr_commit.specs.Journal.{IsJournal, IsChange, IsRising};
+ghost use Rattle.jr_commit.specs.Journal.{IsJournal, IsChange, IsRising, most_bytes, fewest};
 ghost use Rattle.jr_commit.specs.Reading.{Gives, number_at, string_at, side_at, tagged_at, sided_at, entry_at, entries_at, version_at, journal_at};
 ghost use Rattle.jr_commit.specs.declared.reading.ReadFault.TheVariants.{Memory};
 
@@ -174,5 +174,104 @@ fn all(alloc: Global, bytes: &[u8]) -> Result<(Version, Vec<RawEntry>), ReadFaul
         Ok((version, entries))
     } else {
         Err(ReadFault::Bad)
+    }
+}
+
+// The most bytes of a journal.
+fn most(version: Version) -> usize
+    ensures { result ≡ most_bytes version }
+{
+    match version {
+        Version::One => MOST_1,
+        Version::Two => MOST_2,
+    }
+}
+
+// The fewest entries of a journal.
+fn fewest(version: Version) -> usize
+    ensures { result ≡ fewest version }
+{
+    match version {
+        Version::One => 0,
+        Version::Two => 1,
+    }
+}
+
+// Whether each path is below the next.
+fn rises(entries: &[RawEntry]) -> bool
+    ensures { IsTrue result ↔ IsRising (names_of (raw entries.now)) }
+{
+    let mut rest = entries;
+    while let [first, after @ ..] = rest {
+        if let [second, ..] = after {
+            match first.path.as_slice().cmp(second.path.as_slice()) {
+                Ordering::Less => (),
+                Ordering::Equal | Ordering::Greater => return false,
+            }
+        }
+        rest = after;
+    }
+    true
+}
+
+// The entry, or None where it is no change of a Java file.
+fn checked(alloc: Global, entry: RawEntry) -> Result<Option<Entry>, OutOfMemory>
+    ensures found { IfOk result (λ o. IfSome o (λ e. (plain_of e ≡ raw_of entry) × IsChange (raw_of entry))) }
+    ensures none { IfOk result (λ o. IfNone o (IsChange (raw_of entry) → ⊥)) }
+{
+    let path = match Path::parse(alloc, &entry.path) {
+        Ok(path) => path,
+        Err(PathFault::OutOfMemory) => return Err(OutOfMemory),
+        Err(_) => return Ok(None),
+    };
+    if !path.is_java() {
+        return Ok(None);
+    }
+    let RawEntry { path: _, old, new } = entry;
+    if old.is_same(&new) {
+        return Ok(None);
+    }
+    Ok(Some(Entry { path, old, new }))
+}
+
+// The entries, or None where one of them is no change of a Java file.
+fn all_checked(alloc: Global, entries: Vec<RawEntry>) -> Result<Option<Vec<Entry>>, OutOfMemory>
+    ensures found { IfOk result (λ o. IfSome o (λ v. (plain v.items ≡ raw entries.items) × AllByRecursion IsChange (raw entries.items))) }
+    ensures none { IfOk result (λ o. IfNone o (AllByRecursion IsChange (raw entries.items) → ⊥)) }
+{
+    let mut changes = Vec::new(alloc);
+    for entry in entries {
+        match checked(alloc, entry)? {
+            Some(change) => changes.push(change)?,
+            None => return Ok(None),
+        }
+    }
+    Ok(Some(changes))
+}
+
+/// The version of a journal and its entries, or None where the bytes are in neither grammar.
+pub fn read_journal(alloc: Global, bytes: &[u8]) -> Result<Option<Journal>, OutOfMemory>
+    ensures found { IfOk result (λ o. IfSome o (λ j. IsJournal j.version bytes.now (plain j.entries.items))) }
+    ensures only { IfOk result (λ o. IfSome o (λ j. (n : ℕ) (es : List PlainEntry) → IsJournal n bytes.now es → (n ≡ j.version) × (es ≡ plain j.entries.items))) }
+    ensures none { IfOk result (λ o. IfNone o ((n : ℕ) (es : List PlainEntry) → IsJournal n bytes.now es → ⊥)) }
+    ensures count { IfOk result (λ o. IfSome o (λ j. length j.entries.items < 2 ^ 32)) }
+{
+    let (version, entries) = match all(alloc, bytes) {
+        Ok(read) => read,
+        Err(ReadFault::Bad) => return Ok(None),
+        Err(ReadFault::Memory) => return Err(OutOfMemory),
+    };
+    if bytes.len() > most(version) || entries.len() < fewest(version) {
+        return Ok(None);
+    }
+    if !rises(&entries) {
+        return Ok(None);
+    }
+    match all_checked(alloc, entries)? {
+        Some(entries) => Ok(Some(Journal {
+            version: version.number(),
+            entries,
+        })),
+        None => Ok(None),
     }
 }

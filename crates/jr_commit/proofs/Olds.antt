@@ -1,0 +1,24 @@
+-- The old sides of a journal's entries.
+use Rattle.std.proofs.Common.{◌≡◌, ℕ, suc, List, [], ◌∷◌, ◌++◌, length, Some, None, refl, ap, subst, sym}
+use Rattle.std.specs.Prelude.{Option, IsSome, IsTrue}
+use Rattle.std.specs.List.{AllByRecursion}
+use Rattle.jr_base.specs.Paths.{is_java}
+use Rattle.jr_commit.specs.SidesAt.{SideAt, paths_of}
+use Rattle.jr_commit.specs.Entries.{Known, PlainEntry, names_of}
+use Rattle.jr_commit.specs.declared.entry.Version.{Version}
+use Rattle.jr_commit.specs.Journal.{IsShaped, IsChange, PutsBack, old_sides}
+
+java_olds : (es : List PlainEntry) → AllByRecursion IsChange es → AllByRecursion (λ p. IsTrue (is_java p)) (paths_of (old_sides es))
+java_olds [] changes = tt
+java_olds ((path, None, new) ∷ es) changes = java_olds es changes.1
+java_olds ((path, Some old, new) ∷ es) changes = (changes.0.java, java_olds es changes.1)
+
+-- each path of a journal ends in `.java`
+pub java_of : (bytes : List ℕ) (olds : List SideAt) → PutsBack bytes olds → AllByRecursion (λ p. IsTrue (is_java p)) (paths_of olds)
+java_of bytes olds is = subst (λ (l : List SideAt). AllByRecursion (λ p. IsTrue (is_java p)) (paths_of l)) (sym is.sides) (java_olds is.entries is.journal.changes)
+
+-- each entry has an old side
+pub names_olds : (v : Version) (es : List PlainEntry) → AllByRecursion (IsShaped v) es → paths_of (old_sides es) ≡ names_of es
+names_olds v [] shaped = refl
+names_olds v ((path, None, new) ∷ es) shaped = let old : IsSome {T = Option (List ℕ)} None = shaped.0.old in absurd cc
+names_olds v ((path, Some old, new) ∷ es) shaped = ap (λ (l : List (List ℕ)). path ∷ l) (names_olds v es shaped.1)
