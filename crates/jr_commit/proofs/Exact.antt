@@ -77,3 +77,14 @@ pub one_journal : (bytes : List ℕ) (a b : List SideAt) → PutsBack bytes a �
 one_journal bytes a b first second =
     let same = only_found bytes (first.version, first.entries) (version_number second.version) second.entries (found_again first.version bytes first.entries first.journal) (second.version, refl, second.journal) in
     first.sides ∙ ap old_sides (sym same.1) ∙ sym second.sides
+
+-- the journal that was found puts back its old sides, and no others
+pub puts_back : (bytes : List ℕ) (n : ℕ) (es : List PlainEntry) (olds : List SideAt) → IsJournal n bytes es → olds ≡ old_sides es → PutsBack bytes olds
+puts_back bytes n es olds (v, is_n, is) sides = record { version = v; entries = es; journal = is; sides = sides }
+
+pub puts_back_only : (bytes : List ℕ) (n : ℕ) (es : List PlainEntry) (olds : List SideAt) → ((m : ℕ) (others : List PlainEntry) → IsJournal m bytes others → (m ≡ n) × (others ≡ es)) → olds ≡ old_sides es
+    → (others : List SideAt) → PutsBack bytes others → others ≡ olds
+puts_back_only bytes n es olds only sides others is = is.sides ∙ ap old_sides (only (version_number is.version) is.entries (is.version, refl, is.journal)).1 ∙ sym sides
+
+pub puts_back_none : (bytes : List ℕ) → ((n : ℕ) (es : List PlainEntry) → IsJournal n bytes es → ⊥) → (olds : List SideAt) → PutsBack bytes olds → ⊥
+puts_back_none bytes none olds is = none (version_number is.version) is.entries (is.version, refl, is.journal)

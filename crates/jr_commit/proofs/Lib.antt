@@ -6,6 +6,9 @@ mod Fields
 mod Texts
 mod Loop
 mod Exact
-mod Olds
+pub mod Olds
 mod Phases
 mod Run
+mod Found
+mod Back
+mod Recovering

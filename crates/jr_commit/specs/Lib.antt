@@ -4,4 +4,6 @@ pub mod Entries
 pub mod Journal
 pub mod Reading
 pub mod Restoring
+pub mod Recovered
 pub mod Planned
+pub mod Differences

@@ -5,8 +5,10 @@ mod actions;
 mod entry;
 mod plan;
 mod reading;
+mod recovery;
 
 pub use actions::Step;
 pub use entry::{Entry, Journal, Side};
 pub use plan::{Plan, commit};
 pub use reading::read_journal;
+pub use recovery::{RecoverFault, Recovered, recover};
