@@ -12,3 +12,5 @@ mod Run
 mod Found
 mod Back
 mod Recovering
+mod Merging
+mod Changing

@@ -6,10 +6,9 @@ use Rattle.std.specs.Cmp.Lexicographic.{slice_cmp}
 use Rattle.std.specs.FinMap as finite
 use Rattle.std.specs.FinMap.Entries.{by_order}
 use Rattle.jr_base.specs.Files.{FileMap}
-use Rattle.jr_store.specs.Image.{Image}
-use Rattle.jr_commit.specs.SidesAt.{IsOff}
+use Rattle.jr_store.specs.Sides.{IsNoneOf}
 use Rattle.jr_commit.specs.Entries.{PlainEntry, names_of}
-use Rattle.jr_commit.specs.Journal.{IsRising, old_sides}
+use Rattle.jr_commit.specs.Journal.{IsRising}
 
 abbrev pub File : Type 0
 File = List ℕ × List ℕ
@@ -45,6 +44,8 @@ changes ps = map entry_of (filter (λ p. not (same_side p.1 p.2)) ps)
 abbrev pub differences : FileMap → FileMap → List PlainEntry
 differences old new = changes (pairs (finite.entries old) (finite.entries new))
 
--- the image that holds just these files
-abbrev pub held : FileMap → Image
-held files q = finite.get files q
+-- One entry for each path at which the files differ, in path order, with both sides.
+pub record IsDifference (old new : FileMap) (es : List PlainEntry) : Type 0 where
+  pub rising : IsRising (names_of es)
+  pub sides : AllByRecursion (λ e. (e.1 ≡ Some (finite.get old e.0)) × (e.2 ≡ Some (finite.get new e.0)) × (e.1 ≢ e.2)) es
+  pub others : (q : List ℕ) → IsNoneOf (names_of es) q → finite.get old q ≡ finite.get new q

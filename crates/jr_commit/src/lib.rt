@@ -2,6 +2,7 @@
 #![tactic(auto)]
 
 mod actions;
+mod differences;
 mod entry;
 mod plan;
 mod reading;
