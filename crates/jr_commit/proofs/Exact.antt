@@ -35,7 +35,7 @@ entry_fits Two e shape short =
     let head = length-append (number (length e.0)) e.0 in
     (record { path = string_short e.0 (omega (arith, whole)); old = side_fits e.1 (omega (arith, whole, sides)); new = side_fits e.2 (omega (arith, whole, sides)) }, omega (arith, whole, head))
 
-entries_fit : (v : Version) (es : List PlainEntry) → AllByRecursion (IsShaped v) es → length (entries_text v es) < 2 ^ 32 → AllByRecursion EntryFits es × (length es ≤ length (entries_text v es))
+pub entries_fit : (v : Version) (es : List PlainEntry) → AllByRecursion (IsShaped v) es → length (entries_text v es) < 2 ^ 32 → AllByRecursion EntryFits es × (length es ≤ length (entries_text v es))
 entries_fit v [] shaped short = (tt, omega arith)
 entries_fit v (e ∷ es) shaped short =
     let long = ap length (entries_cons v e es) ∙ length-append (entry_text v e) (entries_text v es) in

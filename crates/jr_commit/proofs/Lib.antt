@@ -13,4 +13,4 @@ mod Found
 mod Back
 mod Recovering
 mod Merging
-mod Changing
+mod Planning

@@ -101,7 +101,7 @@ all_changes P (p ∷ ps) all =
       | false ↦ λ differ. (all.0 differ, all_changes P ps all.1)
     ] refl
 
-changes_names : (P : List ℕ → Type 0) (ps : List Pair) → AllByRecursion P (pair_paths ps) → AllByRecursion P (names_of (changes ps))
+pub changes_names : (P : List ℕ → Type 0) (ps : List Pair) → AllByRecursion P (pair_paths ps) → AllByRecursion P (names_of (changes ps))
 changes_names P [] all = tt
 changes_names P (p ∷ ps) all =
     elim (same_side p.1 p.2) as (λ b. AllByRecursion P (names_of (map entry_of (cond (not b) (p ∷ filter (λ q. not (same_side q.1 q.2)) ps) (filter (λ q. not (same_side q.1 q.2)) ps))))) [

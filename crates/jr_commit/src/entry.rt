@@ -1,7 +1,8 @@
 // The entries of a journal.
-ghost use Rattle.std.specs.Prelude.{◌≡◌, ◌↔◌, IsTrue};
+ghost use Rattle.std.specs.Prelude.{◌≡◌, ◌↔◌, IsTrue, IfOk};
 
-use jr_base::Path;
+use jr_base::{OutOfMemory, Path};
+use std::alloc::Global;
 
 /// What a journal says of a path.
 #[derive(Debug, Drop)]
@@ -69,5 +70,15 @@ impl Side {
             (Side::Holds(one), Side::Holds(two)) => one.as_slice() == two.as_slice(),
             _ => false,
         }
+    }
+}
+
+// The path of the journal or the gate.
+pub fn own_path(alloc: Global, text: &str) -> Result<Path, OutOfMemory>
+    ensures { IfOk result (λ p. p ≡ text.now) }
+{
+    match Path::parse(alloc, text.as_bytes()) {
+        Ok(path) => Ok(path),
+        Err(_) => Err(OutOfMemory),
     }
 }

@@ -1,17 +1,24 @@
 // A change of many files, all or nothing.
-ghost use Rattle.std.specs.Prelude.{◌≡◌, ◌≢◌, ◌⊎◌, List, [], Option, Some, OnOk};
+ghost use Rattle.std.specs.Prelude.{◌≡◌, ◌≢◌, ◌⊎◌, ◌++◌, List, [], Option, Some, OnOk, IfOk};
 ghost use Rattle.jr_store.specs.Image.{Image, Tells, OnlyTold, LeavesOnly, HasCause};
 ghost use Rattle.jr_commit.specs.SidesAt.{with_sides};
 ghost use Rattle.jr_commit.specs.Steps.{sides_of};
+ghost use Rattle.jr_commit.specs.Journal.{magic, number, ending};
 ghost use Rattle.jr_commit.specs.Restoring.{RestoresTo, SameFiles};
+ghost use Rattle.jr_commit.specs.declared.entry.Version.TheVariants.{Two};
 ghost use Rattle.jr_commit.specs.Planned.{IsPlan, StartsCommit, KeepsJournal, ChangesOnlyPlanned};
 
 use crate::actions::{Step, remove_synced, take_steps_synced, write_synced};
-use jr_base::Path;
+use crate::differences::differences_of;
+use crate::entry::own_path;
+use jr_base::{Files, OutOfMemory, Path};
 use jr_store::{Failed, Store};
+use std::alloc::Global;
 use std::marker::Model;
 
 const OPEN: [u8; 1] = [b'1'];
+const MAGIC: [u8; 5] = [b'J', b'R', b'J', b'2', b'\n'];
+const END: [u8; 4] = [b'E', b'N', b'D', b'\n'];
 
 /// Steps in path order. Where there is a step, the journal has both sides of each path, and the two paths are
 /// `.refactor-journal` and `.refactor-gate`.
@@ -32,6 +39,48 @@ impl Model for Plan {
     ghost view = { λ p. record { journal = p.journal.items; steps = sides_of p.steps.items } };
 
     ghost invariant = { λ p. IsPlan p.journal.items (sides_of p.steps.items) p.journal_path p.gate_path };
+}
+
+// The journal of so many entries with this text.
+fn framed(alloc: Global, count: u32, text: &[u8]) -> Result<Vec<u8>, OutOfMemory>
+    ensures { IfOk result (λ v. v.items ≡ magic Two ++ (number count ++ (text.now ++ ending))) }
+{
+    let mut journal = Vec::new(alloc);
+    journal.extend_from_slice(&MAGIC)?;
+    journal.extend_from_slice(&count.to_be_bytes())?;
+    journal.extend_from_slice(text)?;
+    journal.extend_from_slice(&END)?;
+    Ok(journal)
+}
+
+impl Plan {
+    ghost use Rattle.std.specs.FinMap as map;
+    ghost use Rattle.std.specs.Prelude.{◌≤◌, length, IfOk};
+    ghost use Rattle.jr_store.specs.Image.{AreJava};
+    ghost use Rattle.jr_commit.specs.Journal.{spelling, new_sides};
+    ghost use Rattle.jr_commit.specs.Differences.{differences, IsDifference};
+    ghost use Rattle.jr_commit.specs.declared.entry.Version.TheVariants.{Two};
+
+    /// The plan that makes the new files of the old ones. Their paths end in `.java`, and the journal of their
+    /// differences is at most 50,331,648 bytes long.
+    pub fn new(alloc: Global, old: &Files, new: &Files) -> Result<Plan, OutOfMemory>
+        requires java_old { AreJava (map.keys old.now) }
+        requires java_new { AreJava (map.keys new.now) }
+        requires short { length (spelling Two (differences old.now new.now)) ≤ 50331648 }
+        ensures journal { IfOk result (λ plan. plan.journal ≡ spelling Two (differences old.now new.now)) }
+        ensures steps { IfOk result (λ plan. plan.steps ≡ new_sides (differences old.now new.now)) }
+    {
+        let (text, steps) = differences_of(alloc, old.entries(), new.entries())?;
+        let journal = framed(alloc, steps.len() as u32, &text)?;
+        let journal_path = own_path(alloc, ".refactor-journal")?;
+        let gate_path = own_path(alloc, ".refactor-gate")?;
+        Ok(Plan {
+            journal,
+            steps,
+            journal_path,
+            gate_path,
+        })
+    }
 }
 
 // The six actions of a commit.

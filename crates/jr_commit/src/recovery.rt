@@ -9,7 +9,7 @@ ghost use Rattle.jr_commit.specs.Recovered.{Answers};
 ghost use Rattle.jr_commit.specs.declared.recovery.RecoverFault.TheVariants as faults;
 
 use crate::actions::{Step, remove_synced, take_steps_synced};
-use crate::entry::{Entry, Side};
+use crate::entry::{Entry, Side, own_path};
 use crate::reading::read_journal;
 use jr_base::{OutOfMemory, Path};
 use jr_store::{Failed, Store, StoreError};
@@ -122,16 +122,6 @@ fn read_steps<S: Store>(
     match steps_back(alloc, journal.entries) {
         Ok(steps) => Ok(steps),
         Err(_) => Err(RecoverFault::OutOfMemory),
-    }
-}
-
-// The path of the journal or the gate.
-fn own_path(alloc: Global, text: &str) -> Result<Path, OutOfMemory>
-    ensures { IfOk result (λ p. p ≡ text.now) }
-{
-    match Path::parse(alloc, text.as_bytes()) {
-        Ok(path) => Ok(path),
-        Err(_) => Err(OutOfMemory),
     }
 }
 
