@@ -14,3 +14,4 @@ mod Back
 mod Recovering
 mod Merging
 mod Planning
+mod Values

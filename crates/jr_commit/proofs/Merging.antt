@@ -15,7 +15,7 @@ use Rattle.jr_commit.specs.Entries.{PlainEntry, names_of}
 use Rattle.jr_commit.specs.Journal.{IsRising}
 use Rattle.jr_commit.specs.Differences.{File, Pair, beside, pairs, same_side, entry_of, changes}
 
-abbrev R : List ℕ → List ℕ → Ordering
+abbrev pub R : List ℕ → List ℕ → Ordering
 R = slice_cmp nat_cmp
 
 abbrev pub keys_of : List File → List (List ℕ)
@@ -24,7 +24,7 @@ keys_of fs = map (λ f. f.0) fs
 abbrev pub pair_paths : List Pair → List (List ℕ)
 pair_paths ps = map (λ p. p.0) ps
 
-abbrev Below : List ℕ → List (List ℕ) → Type 0
+abbrev pub Below : List ℕ → List (List ℕ) → Type 0
 Below x ps = AllByRecursion (λ p. R x p ≡ Less) ps
 
 -- each path is below all after it
@@ -32,17 +32,17 @@ abbrev pub Rises : List (List ℕ) → Type 0
 Rises [] = Unit {0}
 Rises (p ∷ ps) = Below p ps × Rises ps
 
-below_trans : (x y : List ℕ) (ps : List (List ℕ)) → R x y ≡ Less → Below y ps → Below x ps
+pub below_trans : (x y : List ℕ) (ps : List (List ℕ)) → R x y ≡ Less → Below y ps → Below x ps
 below_trans x y [] less below = tt
 below_trans x y (p ∷ ps) less below = (nat_list_cmp_total.trans x y p less below.0, below_trans x y ps less below.1)
 
-tied : (x y : List ℕ) → R x y ≡ Equal → x ≡ y
+pub tied : (x y : List ℕ) → R x y ≡ Equal → x ≡ y
 tied x y same = (bytes_eq-Decides x y).0 (sym (is_eq-slice_cmp x y) ∙ ap is_eq same)
 
-flipped : (x y : List ℕ) → R x y ≡ Greater → R y x ≡ Less
+pub flipped : (x y : List ℕ) → R x y ≡ Greater → R y x ≡ Less
 flipped x y greater = nat_list_cmp_total.antisymm y x ∙ ap ordering_reverse greater
 
-less_differs : (x y : List ℕ) → R x y ≡ Less → x ≢ y
+pub less_differs : (x y : List ℕ) → R x y ≡ Less → x ≢ y
 less_differs x y less same =
     let equal : is_eq (R x y) ≡ true = is_eq-slice_cmp x y ∙ (bytes_eq-Decides x y).1 same in
     let lies : false ≡ true = ap is_eq (sym less) ∙ equal in
@@ -55,7 +55,7 @@ module _ (P : List ℕ → Type 0) where
   all_news [] all = tt
   all_news (n ∷ news) all = (all.0, all_news news all.1)
 
-  all_beside : (o : File) (rest : List File → List Pair) → P o.0 → ((ns : List File) → AllByRecursion P (keys_of ns) → AllByRecursion P (pair_paths (rest ns)))
+  pub all_beside : (o : File) (rest : List File → List Pair) → P o.0 → ((ns : List File) → AllByRecursion P (keys_of ns) → AllByRecursion P (pair_paths (rest ns)))
       → (news : List File) → AllByRecursion P (keys_of news) → AllByRecursion P (pair_paths (beside o rest news))
   all_beside o rest here others [] all = (here, others [] tt)
   all_beside o rest here others (n ∷ news) all =

@@ -55,9 +55,12 @@ fn framed(alloc: Global, count: u32, text: &[u8]) -> Result<Vec<u8>, OutOfMemory
 
 impl Plan {
     ghost use Rattle.std.specs.FinMap as map;
-    ghost use Rattle.std.specs.Prelude.{◌≤◌, length, IfOk};
+    ghost use Rattle.std.specs.Prelude.{◌≤◌, length, IfOk, OnOk};
+    ghost use Rattle.std.specs.List.{AllByRecursion};
     ghost use Rattle.jr_store.specs.Image.{AreJava};
-    ghost use Rattle.jr_commit.specs.Journal.{spelling, new_sides};
+    ghost use Rattle.jr_store.specs.Replay.{image_of};
+    ghost use Rattle.jr_commit.specs.SidesAt.{SideAt};
+    ghost use Rattle.jr_commit.specs.Journal.{spelling, new_sides, PutsBack};
     ghost use Rattle.jr_commit.specs.Differences.{differences, IsDifference};
     ghost use Rattle.jr_commit.specs.declared.entry.Version.TheVariants.{Two};
 
@@ -69,6 +72,13 @@ impl Plan {
         requires short { length (spelling Two (differences old.now new.now)) ≤ 50331648 }
         ensures journal { IfOk result (λ plan. plan.journal ≡ spelling Two (differences old.now new.now)) }
         ensures steps { IfOk result (λ plan. plan.steps ≡ new_sides (differences old.now new.now)) }
+
+        // The differences are what their name says, and the steps make the new files of the old ones.
+        ensures differ { OnOk result (IsDifference old.now new.now (differences old.now new.now)) }
+        ensures gives { IfOk result (λ plan. (f : Image) → SameFiles f (image_of old.now) → SameFiles (with_sides plan.steps f) (image_of new.now)) }
+
+        // Where the files are the old ones, each path of the journal holds its entry's old side.
+        ensures olds { IfOk result (λ plan. (f : Image) → SameFiles f (image_of old.now) → (olds : List SideAt) → PutsBack plan.journal olds → AllByRecursion (λ e. f e.0 ≡ e.1) olds) }
     {
         let (text, steps) = differences_of(alloc, old.entries(), new.entries())?;
         let journal = framed(alloc, steps.len() as u32, &text)?;

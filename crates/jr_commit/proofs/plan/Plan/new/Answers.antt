@@ -13,6 +13,7 @@ use Rattle.jr_commit.specs.Differences.{Pair, pairs, changes, differences}
 use Rattle.jr_commit.specs.declared.actions.Step.{Step}
 use Rattle.jr_commit.specs.declared.entry.Version.TheVariants.{Two}
 use Rattle.jr_commit.proofs.Planning.{plan_is, count_news, count_small, made_of}
+use Rattle.jr_commit.proofs.Values.{is_difference, gives_new, holds_olds}
 use Rattle.jr_commit.proofs.plan.Plan.new.Goals as goal
 
 -- a step for each change
@@ -52,3 +53,15 @@ invariant_of-result c =
     let paths : AllByRecursion (λ e. IsPath e.0) (changes ps) = subst (λ (l : List PlainEntry). AllByRecursion (λ e. IsPath e.0) l) (λ i. changes (pairs (c.entries.ensures i) (c.entries-2.ensures i))) c.in_ok-text.ensures.paths in
     planned c.in_ok-journal.journal.items c.in_ok-journal_path.journal_path c.in_ok-gate_path.gate_path (sides_of c.in_ok-text.steps.items) (changes ps)
     (plan_is c.args.old.now c.args.new.now c.requires.java_old c.requires.java_new paths c.requires.short) made steps c.in_ok-journal_path.ensures c.in_ok-gate_path.ensures
+
+pub returns-clause-differ : goal.returns-clause-differ
+returns-clause-differ c = is_difference c.args.old.now c.args.new.now
+
+pub returns-clause-gives : goal.returns-clause-gives
+returns-clause-gives c =
+    let steps : sides_of c.in_ok-text.steps.items ≡ new_sides (differences c.args.old.now c.args.new.now) = c.in_ok-text.ensures.steps ∙ (λ i. new_sides (changes (pairs (c.entries.ensures i) (c.entries-2.ensures i)))) in
+    gives_new c.args.old.now c.args.new.now (sides_of c.in_ok-text.steps.items) steps
+
+pub returns-clause-olds : goal.returns-clause-olds
+returns-clause-olds c =
+    holds_olds c.args.old.now c.args.new.now c.in_ok-journal.journal.items c.requires.java_old c.requires.java_new c.requires.short (returns-clause-journal c)
