@@ -1,6 +1,5 @@
 -- The pairs of two lists of files in the order of their paths.
-use Rattle.std.proofs.Common.{◌≡◌, ◌≢◌, inl, inr, ⊎_elim, List, [], ◌∷◌, ℕ, Bool, true, false, cond, map, filter, not, T, ◌&&◌, refl, sym, ◌∙◌, ap, subst, Some, None}
-use Rattle.std.specs.Prelude.{Option, IsTrue, bytes_eq}
+use Rattle.std.proofs.Common.{◌≡◌, ◌≢◌, List, [], ◌∷◌, ℕ, Bool, true, false, cond, map, filter, not, T, ◌&&◌, refl, sym, ◌∙◌, ap, subst, Some, None}
 use Rattle.std.specs.List.{AllByRecursion}
 use Rattle.std.specs.Ordering.{nat_cmp, is_eq, is_lt, ordering_reverse}
 use Rattle.std.specs.Cmp.Lexicographic.{slice_cmp, nat_list_cmp_total}
@@ -8,9 +7,7 @@ use Rattle.std.specs.declared.cmp.Ordering.{Ordering}
 use Rattle.std.specs.declared.cmp.Ordering.TheVariants.{Less, Equal, Greater}
 use Rattle.std.proofs.lemmas.Map.Text.{is_eq-slice_cmp}
 use Rattle.std.proofs.lemmas.Slice.Eq.{bytes_eq-Decides}
-use Rattle.std.specs.FinMap.Entries.{by_order, find, is_sorted, below_all}
-use Rattle.jr_base.specs.Paths.{is_java}
-use Rattle.jr_store.specs.Sides.{IsNoneOf}
+use Rattle.std.specs.FinMap.Entries.{by_order, is_sorted, below_all}
 use Rattle.jr_commit.specs.Entries.{PlainEntry, names_of}
 use Rattle.jr_commit.specs.Journal.{IsRising}
 use Rattle.jr_commit.specs.Differences.{File, Pair, beside, pairs, same_side, entry_of, changes}

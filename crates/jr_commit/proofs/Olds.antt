@@ -5,7 +5,7 @@ use Rattle.std.specs.Prelude.{Option, IsSome, IsTrue}
 use Rattle.std.specs.List.{AllByRecursion}
 use Rattle.jr_base.specs.Paths.{is_java}
 use Rattle.jr_commit.specs.SidesAt.{SideAt, paths_of}
-use Rattle.jr_commit.specs.Entries.{Known, PlainEntry, names_of, plain, plain_of}
+use Rattle.jr_commit.specs.Entries.{PlainEntry, names_of, plain, plain_of}
 use Rattle.jr_commit.specs.declared.entry.Entry.{Entry}
 use Rattle.jr_commit.specs.declared.entry.Version.{Version}
 use Rattle.jr_commit.specs.declared.entry.Version.TheVariants.{One, Two}

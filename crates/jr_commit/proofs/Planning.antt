@@ -1,6 +1,6 @@
 -- The differences of two maps of files are the entries of a plan.
-use Rattle.std.proofs.Common.{◌≡◌, ◌≢◌, List, [], ◌∷◌, ℕ, ◌≤◌, ◌<◌, ◌^◌, ◌++◌, Bool, true, false, cond, map, filter, not, length, refl, sym, ◌∙◌, ap, subst, Some, None, arith}
-use Rattle.std.specs.Prelude.{Option, IsTrue, bytes_eq, IsSome}
+use Rattle.std.proofs.Common.{◌≡◌, ◌≢◌, List, [], ◌∷◌, ℕ, ◌≤◌, ◌<◌, ◌^◌, ◌++◌, true, false, cond, map, filter, not, length, refl, sym, ◌∙◌, ap, subst, Some, None, arith}
+use Rattle.std.specs.Prelude.{Option, IsTrue, bytes_eq}
 use Rattle.std.specs.List.{AllByRecursion}
 use Rattle.std.proofs.lemmas.List.{length-map, length-append}
 use Rattle.std.specs.FinMap as finite
@@ -8,15 +8,15 @@ use Rattle.std.proofs.lemmas.Slice.Eq.{bytes_eq-Decides}
 use Rattle.jr_base.specs.Files.{FileMap}
 use Rattle.jr_base.specs.Paths.{IsPath, is_java}
 use Rattle.jr_store.specs.Image.{AreJava}
-use Rattle.jr_commit.specs.SidesAt.{SideAt, paths_of}
+use Rattle.jr_commit.specs.SidesAt.{paths_of}
 use Rattle.jr_commit.specs.Entries.{PlainEntry, names_of}
 use Rattle.jr_commit.specs.declared.entry.Version.TheVariants.{Two}
 use Rattle.jr_commit.specs.Journal.{spelling, magic, number, ending, entries_text, new_sides, IsShaped, IsChange, IsIn, IsRising}
 use Rattle.jr_commit.specs.Restoring.{journal_path, gate_path}
 use Rattle.jr_commit.specs.Planned.{IsPlan}
-use Rattle.jr_commit.specs.Differences.{File, Pair, pairs, same_side, entry_of, changes, differences}
+use Rattle.jr_commit.specs.Differences.{Pair, pairs, same_side, entry_of, changes, differences}
 use Rattle.jr_commit.proofs.Exact.{entries_fit}
-use Rattle.jr_commit.proofs.Merging.{keys_of, pair_paths, all_pairs, all_changes, changes_names, differences_rise, rises_of}
+use Rattle.jr_commit.proofs.Merging.{all_pairs, all_changes, changes_names, differences_rise, rises_of}
 
 true_for_all : (P : Pair → Type 0) → ((p : Pair) → P p) → (ps : List Pair) → AllByRecursion P ps
 true_for_all P each [] = tt

@@ -2,9 +2,6 @@
 use Rattle.std.proofs.Common.{◌≡◌, ◌≢◌, ⊎_elim, List, [], ◌∷◌, ℕ, Bool, true, false, cond, map, filter, not, refl, sym, ◌∙◌, ap, subst, Some, None, ◌≤◌, ◌++◌, length, arith}
 use Rattle.std.specs.Prelude.{Option, IsTrue, bytes_eq}
 use Rattle.std.specs.List.{AllByRecursion}
-use Rattle.std.specs.Ordering.{nat_cmp, is_eq}
-use Rattle.std.specs.Cmp.Lexicographic.{slice_cmp, nat_list_cmp_total}
-use Rattle.std.specs.declared.cmp.Ordering.{Ordering}
 use Rattle.std.specs.declared.cmp.Ordering.TheVariants.{Less, Equal, Greater}
 use Rattle.std.proofs.lemmas.Map.Text.{is_eq-slice_cmp}
 use Rattle.std.proofs.lemmas.Slice.Eq.{bytes_eq-Decides}
@@ -17,7 +14,7 @@ use Rattle.jr_base.specs.Paths.{is_java}
 use Rattle.jr_store.specs.Image.{Image, AreJava}
 use Rattle.jr_store.specs.Replay.{image_of}
 use Rattle.jr_store.specs.Sides.{IsNoneOf}
-use Rattle.jr_commit.specs.SidesAt.{SideAt, with_sides, paths_of}
+use Rattle.jr_commit.specs.SidesAt.{SideAt, with_sides}
 use Rattle.jr_commit.specs.Journal.{spelling, magic, number, ending, entries_text, old_sides, new_sides, PutsBack}
 use Rattle.jr_commit.specs.Restoring.{SameFiles}
 use Rattle.jr_commit.specs.Reading.{journal_at}
@@ -73,20 +70,23 @@ at_beside o olds below others [] rising =
 at_beside o olds below others (n ∷ news) rising =
     elim (R o.0 n.0) as (λ r. R o.0 n.0 ≡ r → AllByRecursion (At (o ∷ olds) (n ∷ news)) (by_order r ((o.0, Some o.1, None) ∷ pairs olds (n ∷ news)) ((o.0, Some o.1, Some n.1) ∷ pairs olds news) ((n.0, None, Some n.1) ∷ beside o (pairs olds) news))) [
       | Less ↦ λ less.
-          let above : Below o.0 (keys_of (n ∷ news)) = (less, below_trans o.0 n.0 (keys_of news) less rising.0) in
-          ((sym (find_here o.0 o olds refl), sym (find_none o.0 (n ∷ news) (below_off o.0 (keys_of (n ∷ news)) above))),
-            later olds (n ∷ news) (o ∷ olds) (n ∷ news) o.0 (pairs olds (n ∷ news)) (λ q other. (find_past q o olds other, refl)) (all_pairs (λ p. R o.0 p ≡ Less) olds (n ∷ news) below above) (others (n ∷ news) rising))
+          let above : Below o.0 (keys_of (n ∷ news)) = (less, below_trans o.0 n.0 (keys_of news) less rising.0) in (
+            (sym (find_here o.0 o olds refl), sym (find_none o.0 (n ∷ news) (below_off o.0 (keys_of (n ∷ news)) above))),
+            later olds (n ∷ news) (o ∷ olds) (n ∷ news) o.0 (pairs olds (n ∷ news)) (λ q other. (find_past q o olds other, refl)) (all_pairs (λ p. R o.0 p ≡ Less) olds (n ∷ news) below above) (others (n ∷ news) rising),
+          )
       | Equal ↦ λ same.
           let one : o.0 ≡ n.0 = tied o.0 n.0 same in
-          let above : Below o.0 (keys_of news) = subst (λ x. Below x (keys_of news)) (sym one) rising.0 in
-          ((sym (find_here o.0 o olds refl), sym (find_here o.0 n news one)),
-            later olds news (o ∷ olds) (n ∷ news) o.0 (pairs olds news) (λ q other. (find_past q o olds other, find_past q n news (λ is. other (is ∙ sym one)))) (all_pairs (λ p. R o.0 p ≡ Less) olds news below above) (others news rising.1))
+          let above : Below o.0 (keys_of news) = subst (λ x. Below x (keys_of news)) (sym one) rising.0 in (
+            (sym (find_here o.0 o olds refl), sym (find_here o.0 n news one)),
+            later olds news (o ∷ olds) (n ∷ news) o.0 (pairs olds news) (λ q other. (find_past q o olds other, find_past q n news (λ is. other (is ∙ sym one)))) (all_pairs (λ p. R o.0 p ≡ Less) olds news below above) (others news rising.1),
+          )
       | Greater ↦ λ greater.
           let less : R n.0 o.0 ≡ Less = flipped o.0 n.0 greater in
-          let above : Below n.0 (keys_of (o ∷ olds)) = (less, below_trans n.0 o.0 (keys_of olds) less below) in
-          ((sym (find_none n.0 (o ∷ olds) (below_off n.0 (keys_of (o ∷ olds)) above)), sym (find_here n.0 n news refl)),
+          let above : Below n.0 (keys_of (o ∷ olds)) = (less, below_trans n.0 o.0 (keys_of olds) less below) in (
+            (sym (find_none n.0 (o ∷ olds) (below_off n.0 (keys_of (o ∷ olds)) above)), sym (find_here n.0 n news refl)),
             later (o ∷ olds) news (o ∷ olds) (n ∷ news) n.0 (beside o (pairs olds) news) (λ q other. (refl, find_past q n news other))
-            (all_beside (λ p. R n.0 p ≡ Less) o (pairs olds) less (λ ns all. all_pairs (λ p. R n.0 p ≡ Less) olds ns above.1 all) news rising.0) (at_beside o olds below others news rising.1))
+                (all_beside (λ p. R n.0 p ≡ Less) o (pairs olds) less (λ ns all. all_pairs (λ p. R n.0 p ≡ Less) olds ns above.1 all) news rising.0) (at_beside o olds below others news rising.1),
+          )
     ] refl
 
 at_pairs : (olds news : List File) → Rises (keys_of olds) → Rises (keys_of news) → AllByRecursion (At olds news) (pairs olds news)

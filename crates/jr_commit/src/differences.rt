@@ -25,10 +25,7 @@ struct Pair<'a> {
 }
 
 // The first path of either list, or None where both are empty.
-fn first_pair<'a>(
-    olds: &'a [(Path, Vec<u8>)],
-    news: &'a [(Path, Vec<u8>)],
-) -> Option<Pair<'a>>
+fn first_pair<'a>(olds: &'a [(Path, Vec<u8>)], news: &'a [(Path, Vec<u8>)]) -> Option<Pair<'a>>
     ensures first { MatchOption result (pairs (plain olds.now) (plain news.now) ≡ [])
         (λ p. pairs (plain olds.now) (plain news.now) ≡ (p.path.now, option_copied p.old, option_copied p.new) ∷ pairs (plain p.olds.now) (plain p.news.now)) }
     ensures fewer { IfSome result (λ p. length p.olds.now + length p.news.now < length olds.now + length news.now) }

@@ -17,7 +17,9 @@ use std::alloc::Global;
 use std::marker::Model;
 
 const OPEN: [u8; 1] = [b'1'];
+
 const MAGIC: [u8; 5] = [b'J', b'R', b'J', b'2', b'\n'];
+
 const END: [u8; 4] = [b'E', b'N', b'D', b'\n'];
 
 /// Steps in path order. Where there is a step, the journal has both sides of each path, and the two paths are

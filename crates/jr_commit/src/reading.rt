@@ -12,7 +12,9 @@ use std::alloc::{AllocError, AllocFailed, Global};
 use std::cmp::Ordering;
 
 const MAGIC_1: [u8; 5] = [b'J', b'R', b'J', b'1', b'\n'];
+
 const MAGIC_2: [u8; 5] = [b'J', b'R', b'J', b'2', b'\n'];
+
 const END: [u8; 4] = [b'E', b'N', b'D', b'\n'];
 
 /// The most bytes of a journal of version 1.
@@ -115,11 +117,7 @@ fn sided_entry(alloc: Global, bytes: &[u8]) -> Result<(RawEntry, &[u8]), ReadFau
     Ok((RawEntry { path, old, new }, rest))
 }
 
-fn entry_of(
-    alloc: Global,
-    version: Version,
-    bytes: &[u8],
-) -> Result<(RawEntry, &[u8]), ReadFault>
+fn entry_of(alloc: Global, version: Version, bytes: &[u8]) -> Result<(RawEntry, &[u8]), ReadFault>
     ensures { Gives (λ x. (raw_of x.0, x.1.now)) result (entry_at version bytes.now) }
 {
     match version {

@@ -1,13 +1,11 @@
-use Rattle.std.proofs.Common.{◌≡◌, ◌≢◌, eqb, Bool, true, false, inl, ◌⊎◌, List, [], ◌∷◌, length, refl, sym, ap, subst, ◌∙◌, arith}
+use Rattle.std.proofs.Common.{◌≡◌, ◌≢◌, eqb, Bool, true, false, inl, ◌⊎◌, List, [], ◌∷◌, length, refl, sym, subst, ◌∙◌, arith}
 use Rattle.std.proofs.lemmas.Bool.{eqb-true}
 use Rattle.std.proofs.lemmas.Result.{on_ok_weaker}
 use Rattle.std.specs.Prelude.{Result, OnOk, Ok, Err}
-use Rattle.jr_store.specs.Image.{Image}
 use Rattle.jr_commit.specs.SidesAt.{SideAt, with_sides}
 use Rattle.jr_commit.specs.Steps.{sides_of}
-use Rattle.jr_commit.specs.Restoring.{SameFiles, RestoresTo}
+use Rattle.jr_commit.specs.Restoring.{RestoresTo}
 use Rattle.jr_commit.specs.declared.actions.Step.{Step}
-use Rattle.jr_commit.proofs.Told.{tells_same}
 use Rattle.jr_commit.proofs.Moments.{started}
 use Rattle.jr_commit.proofs.Run.{before, all_done, journal_kept, journal_off, journal_run, gate_run, steps_run, close_run, ended}
 use Rattle.jr_commit.proofs.plan.commit_steps.Goals as goal

@@ -1,10 +1,8 @@
-use Rattle.std.proofs.Common.{◌≡◌, ◌≤◌, ◌<◌, ◌^◌, true, false, List, refl, sym, ◌∙◌, ap, subst, length, arith, vec_len}
-use Rattle.std.specs.Prelude.{IsTrue}
-use Rattle.std.specs.List.{AllByRecursion}
+use Rattle.std.proofs.Common.{◌≡◌, ◌≤◌, ◌<◌, ◌^◌, true, List, sym, ◌∙◌, ap, subst, length, arith}
 use Rattle.std.proofs.lemmas.List.{length-map}
 use Rattle.jr_commit.specs.Entries.{PlainEntry, plain, raw, raw_of, plain_of, names_of}
 use Rattle.jr_commit.specs.declared.entry.RawEntry.{RawEntry}
-use Rattle.jr_commit.specs.Journal.{IsIn, IsRising, IsChange, fewest, most_bytes}
+use Rattle.jr_commit.specs.Journal.{IsIn, IsRising, fewest, most_bytes}
 use Rattle.jr_commit.proofs.Texts.{ReadsJournal, journal_takes}
 use Rattle.jr_commit.proofs.Exact.{is_read, only_found, none_found}
 use Rattle.jr_commit.proofs.reading.read_journal.Goals as goal
