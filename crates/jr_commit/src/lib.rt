@@ -7,6 +7,8 @@ mod entry;
 mod plan;
 mod reading;
 mod recovery;
+#[cfg(test)]
+mod tests;
 
 pub use actions::Step;
 pub use entry::{Entry, Journal, Side};
