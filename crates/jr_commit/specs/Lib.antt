@@ -1,0 +1,9 @@
+pub mod SidesAt
+pub mod Steps
+pub mod Entries
+pub mod Journal
+pub mod Reading
+pub mod Restoring
+pub mod Recovered
+pub mod Planned
+pub mod Differences
