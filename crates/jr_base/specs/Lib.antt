@@ -5,3 +5,8 @@ pub mod Paths
 pub mod Slots
 pub mod Places
 pub mod Spellings
+pub mod Gaps
+pub mod Literals
+pub mod Numerals
+pub mod Reading
+pub mod Tokens
