@@ -10,3 +10,4 @@ pub mod Literals
 pub mod Numerals
 pub mod Reading
 pub mod Tokens
+pub mod Respelled
