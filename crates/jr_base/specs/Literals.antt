@@ -1,8 +1,8 @@
 -- Character and string literals with their escapes (JLS 3.3, 3.10.4, 3.10.5, 3.10.6).
-use Rattle.std.specs.Prelude.{◌≡◌, ℕ, ◌+◌, ◌∷◌, [], ◌++◌, Bool, true, not, ◌||◌, ◌&&◌, ◌==◌, nat_le, List, length, drop, take, slice_index, take_while, Option, Some, None, option_map, if◌then◌else◌}
+use Rattle.std.specs.Prelude.{◌≡◌, ℕ, ◌+◌, ◌∷◌, [], ◌++◌, Bool, true, not, ◌||◌, ◌&&◌, ◌==◌, nat_le, List, length, drop, take, slice_index, Option, Some, None, option_map, if◌then◌else◌}
 use Rattle.std.specs.Char.{is_digit, len_utf8}
 use Rattle.std.specs.Char.Escape.{encode_utf16}
-use Rattle.std.specs.List.{list_all}
+use Rattle.std.specs.List.{list_all, prefix_len}
 use Rattle.std.specs.Str.Parse.{digits_value}
 use Rattle.jr_base.specs.Places.{CharAt}
 
@@ -36,7 +36,7 @@ hex_unit digits =
 
 -- how many `u` the text begins with
 abbrev pub mark_count : List ℕ → ℕ
-mark_count text = length (take_while (λ c. c == 117) text)
+mark_count text = prefix_len (λ c. c == 117) text
 
 -- the unit of what stands behind a backslash, and how long that is
 abbrev pub escaped : List ℕ → Option (ℕ × ℕ)

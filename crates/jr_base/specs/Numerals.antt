@@ -47,10 +47,19 @@ long_of radix value =
     then (if nat_lt value (2 ^ 63) then Some (Long (pos value)) else (if value == 2 ^ 63 then Some LongMin else None))
     else (if nat_lt value (2 ^ 64) then Some (Long (cast_signed w64 value)) else None)
 
+-- the word ends in `l` or `L`
+abbrev pub has_long_mark : List ℕ → Bool
+has_long_mark word = is_long_mark (slice_index word (length word - 1))
+
+-- the word without that mark
+abbrev pub numeral_in : List ℕ → List ℕ
+numeral_in word = if has_long_mark word then take (length word - 1) word else word
+
 -- the integer literal that the whole word is
 abbrev pub integer_of : List ℕ → Option Kind
 integer_of word =
-    let numeral = take (length word - 1) word in
-    if is_long_mark (slice_index word (length word - 1))
-    then (if is_numeral numeral then long_of (radix_of numeral) (numeral_value numeral) else None)
-    else (if is_numeral word then int_of (radix_of word) (numeral_value word) else None)
+    let numeral = numeral_in word in
+    if is_numeral numeral
+    then (if has_long_mark word then long_of (radix_of numeral) (numeral_value numeral)
+        else int_of (radix_of numeral) (numeral_value numeral))
+    else None

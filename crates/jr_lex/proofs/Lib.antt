@@ -1,1 +1,5 @@
+pub mod Digits
+pub mod EscapeLemmas
+pub mod Fronts
+pub mod Tests
 pub mod Utf8

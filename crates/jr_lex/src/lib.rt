@@ -1,8 +1,11 @@
 //! The tokens of a file (JLS 3), exact in both directions.
 #![tactic(auto)]
 
+mod escapes;
 mod fault;
+mod gaps;
 mod lexer;
+mod numerals;
 
 pub use fault::LexFault;
 pub use lexer::lex;
