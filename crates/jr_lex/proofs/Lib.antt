@@ -1,3 +1,4 @@
+pub mod CharacterLemmas
 pub mod Digits
 pub mod EscapeLemmas
 pub mod Fronts
