@@ -7,14 +7,14 @@ use Rattle.std.specs.Str.{IsUtf8, IsCharBoundary}
 use Rattle.std.proofs.lemmas.Bool.{eqb-true}
 use Rattle.std.proofs.lemmas.Bool.Decides.{nat_tests}
 use Rattle.std.proofs.lemmas.List.{append-nil, drop_all, drop-append-le, take-append-drop, get_or-drop, length-take-le}
-use Rattle.std.proofs.lemmas.Str.{char_from_byte, len_utf8_bounds}
+use Rattle.std.proofs.lemmas.Str.{char_from_byte, len_utf8_bounds, IsCharBoundary-after_ascii}
 use Rattle.jr_base.specs.Places.{CharAt}
 use Rattle.jr_base.specs.Gaps.{is_line_end}
 use Rattle.jr_base.specs.Literals.{Characters, none, plain, escape, is_plain, is_quote, escaped, escape_of, IsLiteral}
 use Rattle.jr_base.proofs.Runs.{char_one, char_inside, after_char}
 use Rattle.jr_lex.proofs.Tests.{no_both}
 use Rattle.jr_lex.proofs.Fronts.{char_front, index_front}
-use Rattle.jr_lex.proofs.EscapeLemmas.{escape_front, escape_opens, escape_boundary}
+use Rattle.jr_lex.proofs.EscapeLemmas.{some_one, index_inside, escape_front, escape_opens, escape_boundary}
 
 -- the first byte of an ASCII character is the character
 pub char_byte : (text : List ℕ) (place c : ℕ) → CharAt text place c → slice_index text place < 128 → c ≡ slice_index text place
@@ -32,10 +32,10 @@ nothing_some : {A : Type 0} {x : A} → Some x ≡ None → ⊥
 nothing_some h = cc
 
 pair_left : {a b c d : ℕ} → ◌≡◌ {A = Option (ℕ × ℕ)} (Some (a, b)) (Some (c, d)) → a ≡ c
-pair_left h = cc
+pair_left h = ap (λ p. p.0) (some_one h)
 
 pair_right : {a b c d : ℕ} → ◌≡◌ {A = Option (ℕ × ℕ)} (Some (a, b)) (Some (c, d)) → b ≡ d
-pair_right h = cc
+pair_right h = ap (λ p. p.1) (some_one h)
 
 module _ {q : ℕ} {text : List ℕ} where
   pub chars_le : {start end : ℕ} {us : List ℕ} → Characters q text start end us → start ≤ end
@@ -102,7 +102,12 @@ module _ {q : ℕ} {text : List ℕ} where
 
 -- a text with another first byte begins with no escape
 no_escape_at : (t : List ℕ) → (slice_index t 0 == 92) ≡ false → escape_of t ≡ None
+unfolding escape_of
 no_escape_at t h = rw h refl
+
+no_escape_past : escape_of [] ≡ None
+unfolding escape_of
+no_escape_past = refl
 
 module _ (q : ℕ) (text : List ℕ) (place : ℕ) where
   by_byte : (b : ℕ) → b < 128 → slice_index text place ≡ b → is_plain q b ≡ false → (b == 92) ≡ false → Ends q text place
@@ -132,7 +137,7 @@ module _ (q : ℕ) (text : List ℕ) (place : ℕ) where
   pub ends_at_end : length text ≤ place → Ends q text place
   ends_at_end l = record {
     no_char = λ c h. absurd (omega (arith, char_inside text place c h));
-    no_escape = ap escape_of (drop_all place text l);
+    no_escape = ap escape_of (drop_all place text l) ∙ no_escape_past;
   }
 
   pub ends_at_bad : slice_index text place ≡ 92 → escape_of (drop place text) ≡ None → Ends q text place
@@ -195,3 +200,8 @@ literal_from q text len us h =
       closes = at h.close some ∙ h.closes;
       ends = omega (arith, h.ends);
     })
+
+pub first_boundary : (text : List ℕ) (q : ℕ) → IsUtf8 text → is_quote q ≡ true → slice_index text 0 ≡ q → IsCharBoundary text 1
+first_boundary text q u h e =
+    let low : (0 < q) × (q < 128) = (grind (arith, nat_tests), grind (arith, nat_tests)) in
+    IsCharBoundary-after_ascii text 0 u (index_inside text 0 (omega arith)) (omega arith)

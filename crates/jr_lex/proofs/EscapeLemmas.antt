@@ -48,7 +48,7 @@ part_front w r s m n l =
 none_some : {A : Type 0} {x : A} → Some x ≡ None → ⊥
 none_some h = cc
 
-some_one : {A : Type 0} {x y : A} → Some x ≡ Some y → x ≡ y
+pub some_one : {A : Type 0} {x y : A} → Some x ≡ Some y → x ≡ y
 some_one h = cc
 
 -- the value in a mapped option
@@ -111,13 +111,14 @@ escaped_front (c ∷ w) r s unit len l h =
 
 -- an escape that ends before the front does stands there whatever follows
 pub escape_front : (w r s : List ℕ) (unit len : ℕ) → 1 + len < length w → escape_of (w ++ r) ≡ Some (unit, len) → escape_of (w ++ s) ≡ Some (unit, len)
+unfolding escape_of
 escape_front [] r s unit len l h = absurd (omega arith)
 escape_front (b ∷ w) r s unit len l h =
     let goal : Bool → Type 0 = λ t. cond t (escaped (w ++ r)) None ≡ Some (unit, len) → cond t (escaped (w ++ s)) None ≡ Some (unit, len) in
     elim (b == 92) as goal [ true ↦ λ k. escaped_front w r s unit len (omega arith) k | false ↦ λ k. k ] h
 
 -- a byte that is not 0 stands in the text
-index_inside : (t : List ℕ) (i : ℕ) → 0 < slice_index t i → i < length t
+pub index_inside : (t : List ℕ) (i : ℕ) → 0 < slice_index t i → i < length t
 index_inside [] i h = absurd (omega arith)
 index_inside (x ∷ xs) zero h = omega arith
 index_inside (x ∷ xs) (suc i) h = let k = index_inside xs i h in omega arith
@@ -197,6 +198,7 @@ escaped_ends t unit len h =
     by (is_digit (slice_index t 0) 8) refl (slice_index t 0 == 117) (sym (escaped_by t) ∙ h)
 
 escape_parts : (t : List ℕ) (unit len : ℕ) → escape_of t ≡ Some (unit, len) → (slice_index t 0 ≡ 92) × (escaped (drop 1 t) ≡ Some (unit, len))
+unfolding escape_of
 escape_parts t unit len h = by (slice_index t 0 == 92) refl
   where
     by : (b : Bool) → (slice_index t 0 == 92) ≡ b → (slice_index t 0 ≡ 92) × (escaped (drop 1 t) ≡ Some (unit, len))

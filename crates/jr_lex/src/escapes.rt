@@ -7,6 +7,7 @@ ghost use Rattle.jr_base.specs.Literals.{simple_escape, octal_count, is_reserved
 use crate::numerals::{all_digits, digit_value};
 
 /// The unit of the escape that the text begins with, and its length behind the backslash.
+#[tactic(auto, unfolding(jr_base::specs::Literals::escape_of))]
 pub fn escape_of(text: &[u8]) -> Option<(u16, usize)>
     ensures { result ≡ escape_of text.now }
 {

@@ -4,8 +4,11 @@
 mod escapes;
 mod fault;
 mod gaps;
+mod items;
 mod lexer;
+mod literals;
 mod numerals;
+mod symbols;
 
 pub use fault::LexFault;
 pub use lexer::lex;

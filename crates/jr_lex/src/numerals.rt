@@ -8,6 +8,7 @@ ghost use Rattle.jr_base.specs.Numerals.{is_hex_mark, is_long_mark, radix_of, di
 use jr_base::Kind;
 
 /// The integer literal that the whole word is.
+#[tactic(auto, unfolding(jr_base::specs::Numerals::integer_of))]
 pub fn integer_of(word: &[u8]) -> Option<Kind>
     ensures { result ≡ integer_of word.now }
 {

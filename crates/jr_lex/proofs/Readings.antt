@@ -1,0 +1,2 @@
+-- Readings.
+use Rattle.std.proofs.Common.{◌≡◌}
