@@ -118,7 +118,7 @@ line_opens text h = grind (arith, nat_tests)
 pub block_opens : (text : List ℕ) → opens_block_comment text ≡ true → slice_index text 0 ≡ 47
 block_opens text h = grind (arith, nat_tests)
 
-line_or_block : (text : List ℕ) → opens_line_comment text ≡ true → opens_block_comment text ≡ true → ⊥
+pub line_or_block : (text : List ℕ) → opens_line_comment text ≡ true → opens_block_comment text ≡ true → ⊥
 line_or_block text l b = grind (arith, nat_tests)
 
 abbrev pub OpensComment : List ℕ → Type 0
@@ -141,7 +141,7 @@ no_blank text len k h t = by k (sym (token_class text len k t) ∙ class_of_blan
 pub gap_or_token : (text : List ℕ) (m n : ℕ) (k : Kind) → IsGap text m → IsToken text n k → ⊥
 gap_or_token text m n k g t = ⊎_elim (λ b. no_blank text n k b.blank t) (⊎_elim (λ l. no_comment text n k (inl l.opens) t) (λ b. no_comment text n k (inr b.opens) t)) g
 
-comment_not_blank : (text : List ℕ) → OpensComment text → is_blank (slice_index text 0) ≡ true → ⊥
+pub comment_not_blank : (text : List ℕ) → OpensComment text → is_blank (slice_index text 0) ≡ true → ⊥
 comment_not_blank text c b = let s = comment_sign text c in let w = class_of_blank (slice_index text 0) b in absurd (let no : Sign ≡ Blank = sym s ∙ w in cc)
 
 lines_le : (text : List ℕ) (m n : ℕ) → IsLineComment text m → IsLineComment text n → n ≤ m

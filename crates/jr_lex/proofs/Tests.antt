@@ -1,5 +1,6 @@
 -- What tests of bytes say.
-use Rattle.std.proofs.Common.{◌≡◌, ◌⊎◌, ℕ, ◌+◌, ◌<◌, ◌≤◌, Bool, true, false, ◌&&◌, List, [], ◌∷◌, length, get_or, zero, suc, refl, sym, ◌∙◌, arith}
+use Rattle.std.specs.Prelude.{slice_range}
+use Rattle.std.proofs.Common.{◌≡◌, ◌⊎◌, ℕ, ◌+◌, ◌-◌, take, ap, ◌<◌, ◌≤◌, Bool, true, false, ◌&&◌, List, [], ◌∷◌, length, get_or, zero, suc, refl, sym, ◌∙◌, arith}
 use Rattle.std.specs.List.{list_all}
 use Rattle.std.proofs.lemmas.Bool.{false≢true}
 
@@ -22,3 +23,7 @@ pub all_each : (p : ℕ → Bool) (xs : List ℕ) → list_all p xs ≡ true →
 all_each p [] h i l = absurd (omega arith)
 all_each p (x ∷ xs) h zero l = both_left (p x) (list_all p xs) h
 all_each p (x ∷ xs) h (suc i) l = all_each p xs (both_right (p x) (list_all p xs) h) i (omega arith)
+
+-- the part of a list from its start on
+pub range_front : (xs : List ℕ) (n : ℕ) → slice_range xs 0 n ≡ take n xs
+range_front xs n = ap (λ k. take k xs) (let e : n - 0 ≡ n = omega arith in e)

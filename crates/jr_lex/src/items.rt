@@ -1,8 +1,9 @@
 // What stands at the front of a text: a gap, a token or a fault.
-ghost use Rattle.std.specs.Prelude.{◌≡◌, ◌^◌, ◌<◌, ℕ, true, length, slice_index, IfOk, MatchOption, MatchResult};
+ghost use Rattle.std.specs.Prelude.{◌≡◌, ◌^◌, ◌<◌, ◌≤◌, ◌==◌, ◌∷◌, [], ℕ, true, length, take, slice_index, IfOk, MatchOption, MatchResult};
 ghost use Rattle.std.specs.Char.{is_ascii_digit};
 ghost use Rattle.jr_base.specs.Identifiers.{WordAt};
 ghost use Rattle.jr_base.specs.Literals.{is_quote};
+ghost use Rattle.jr_base.specs.Numerals.{integer_of};
 ghost use Rattle.jr_lex.specs.Items.{IsKindOf, NoInteger, IsItem, IsFault};
 
 use crate::LexFault;
@@ -46,26 +47,52 @@ fn word_item(alloc: Global, text: &str) -> Result<Option<Item>, OutOfMemory>
     Ok(Some(Item::Found(kind, end)))
 }
 
+/// Whether a point stands at a place.
+fn has_point(text: &str, at: usize) -> bool
+    ensures { result ≡ (slice_index text.now at == 46) }
+{
+    let bytes = text.as_bytes();
+    at < bytes.len() && bytes[at] == b'.'
+}
+
+/// The integer that the first `len` bytes are.
+fn integer_in(text: &str, len: usize) -> Option<Kind>
+    requires { len ≤ length text.now }
+    ensures { result ≡ integer_of (take len text.now) }
+{
+    integer_of(&text.as_bytes()[..len])
+}
+
 /// The integer that the text begins with.
 fn integer_item(text: &str) -> Option<Item>
     ensures { MatchOption result (NoInteger text.now) (IsItem text.now) }
 {
     let end = word_end(text, 0);
-    let bytes = text.as_bytes();
-    if end < bytes.len() && bytes[end] == b'.' {
+    if has_point(text, end) {
         return None;
     }
-    let kind = integer_of(&bytes[..end])?;
-    Some(Item::Found(kind, end))
+    match integer_in(text, end) {
+        Some(kind) => Some(Item::Found(kind, end)),
+        None => None,
+    }
 }
 
-/// The literal that the text begins with a quote of.
-fn literal_item(alloc: Global, text: &str, place: u32) -> Result<Item, LexFault>
+fn only_unit(units: &[u16]) -> Option<u16>
+    ensures { MatchOption result (length units.now ≡ 1 → ⊥) (λ unit. units.now ≡ unit ∷ []) }
+{
+    match units {
+        [unit] => Some(*unit),
+        _ => None,
+    }
+}
+
+/// The literal that begins with the quote.
+fn literal_item(alloc: Global, text: &str, quote: u8, place: u32) -> Result<Item, LexFault>
     requires short { length text.now < 2 ^ 32 }
-    requires quote { is_quote (slice_index text.now 0) ≡ true }
+    requires quote { is_quote quote ≡ true }
+    requires opens { slice_index text.now 0 ≡ quote }
     ensures { MatchResult result (λ item. IsItem text.now item) (λ fault. IsFault text.now place fault) }
 {
-    let quote = text.as_bytes()[0];
     match scan_literal(alloc, text, quote)? {
         Scan::BadEscape => Err(LexFault::BadEscape(place)),
         Scan::Open => Err(LexFault::OpenLiteral(place)),
@@ -73,10 +100,10 @@ fn literal_item(alloc: Global, text: &str, place: u32) -> Result<Item, LexFault>
             if quote == b'"' {
                 return Ok(Item::Found(Kind::Str(Units::new(units)), len));
             }
-            if units.len() == 1 {
-                return Ok(Item::Found(Kind::Char(units[0]), len));
+            match only_unit(units.as_slice()) {
+                Some(unit) => Ok(Item::Found(Kind::Char(unit), len)),
+                None => Err(LexFault::OpenLiteral(place)),
             }
-            Err(LexFault::OpenLiteral(place))
         }
     }
 }
@@ -107,7 +134,7 @@ pub fn item_at(alloc: Global, text: &str, place: u32) -> Result<Item, LexFault>
         };
     }
     if is_quote(bytes[0]) {
-        return literal_item(alloc, text, place);
+        return literal_item(alloc, text, bytes[0], place);
     }
     if let Some(item) = word_item(alloc, text)? {
         return Ok(item);

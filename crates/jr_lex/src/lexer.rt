@@ -6,7 +6,8 @@ ghost use Rattle.jr_base.specs.declared.token.Token.{Token};
 ghost use Rattle.jr_lex.specs.Faults.{IsFirstFault, IsMemory, IsStop};
 
 use crate::LexFault;
-use jr_base::Token;
+use crate::items::{Item, item_at};
+use jr_base::{Span, Token};
 use std::alloc::Global;
 use std::str;
 
@@ -41,5 +42,21 @@ fn lex_text(alloc: Global, text: &str) -> Result<Vec<Token>, LexFault>
     ensures only_fault { (place : ℕ) → StopsAt text.now place
         → MatchResult result (λ _. ⊥) (λ fault. IsStop text.now place fault) }
 {
-    Err(LexFault::OutOfMemory)
+    let mut tokens = Vec::new(alloc);
+    let mut at = 0;
+    while at < text.len() {
+        match item_at(alloc, &text[at..], at as u32)? {
+            Item::Gap(len) => at += len,
+            Item::Found(kind, len) => {
+                let end = at + len;
+                let span = Span {
+                    start: at as u32,
+                    end: end as u32,
+                };
+                tokens.push(Token { kind, span })?;
+                at = end;
+            }
+        }
+    }
+    Ok(tokens)
 }
