@@ -1,16 +1,15 @@
 -- What stands between two quotes is read in one way.
-use Rattle.std.proofs.Common.{◌≡◌, ◌≢◌, ℕ, ◌+◌, ◌-◌, ◌<◌, ◌≤◌, Bool, true, false, not, ◌||◌, ◌&&◌, ◌==◌, cond, List, [], ◌∷◌, ◌++◌, length, get_or, take, drop, refl, sym, ◌∙◌, ap, subst, arith, Option, Some, None, length-take, length-drop, length-append, append_assoc, eq-eqb}
+use Rattle.std.proofs.Common.{◌≡◌, ℕ, ◌+◌, ◌<◌, ◌≤◌, true, false, not, ◌||◌, ◌==◌, List, [], ◌∷◌, ◌++◌, length, get_or, take, drop, refl, sym, ◌∙◌, ap, subst, arith, Option, Some, None, length-drop, append_assoc, eq-eqb}
 use Rattle.std.specs.Prelude.{slice_index}
 use Rattle.std.specs.Char.{len_utf8}
 use Rattle.std.specs.Char.Escape.{encode_utf16}
 use Rattle.std.specs.Str.{IsUtf8, IsCharBoundary}
-use Rattle.std.proofs.lemmas.Bool.{eqb-true}
 use Rattle.std.proofs.lemmas.Bool.Decides.{nat_tests}
 use Rattle.std.proofs.lemmas.List.{append-nil, drop_all, drop-append-le, take-append-drop, get_or-drop, length-take-le}
 use Rattle.std.proofs.lemmas.Str.{char_from_byte, len_utf8_bounds, IsCharBoundary-after_ascii}
 use Rattle.jr_base.specs.Places.{CharAt}
 use Rattle.jr_base.specs.Gaps.{is_line_end}
-use Rattle.jr_base.specs.Literals.{Characters, none, plain, escape, is_plain, is_quote, escaped, escape_of, IsLiteral}
+use Rattle.jr_base.specs.Literals.{Characters, none, plain, escape, is_plain, is_quote, escape_of, IsLiteral}
 use Rattle.jr_base.proofs.Runs.{char_one, char_inside, after_char}
 use Rattle.jr_lex.proofs.Tests.{no_both}
 use Rattle.jr_lex.proofs.Fronts.{char_front, index_front}
@@ -192,14 +191,16 @@ literal_from q text len us h =
     let size : length w ≡ len = length-take-le len text inside in
     let whole : w ++ drop len text ≡ text = take-append-drop len text in
     let at : (i : ℕ) → i < len → slice_index w i ≡ slice_index text i = λ i m. sym (index_front w (drop len text) i (omega arith)) ∙ ap (λ t. slice_index t i) whole in
-    let some : h.close < len = omega (arith, h.ends) in
-    (inside, record {
-      opens = at 0 (omega arith) ∙ h.opens;
-      close = h.close;
-      body = moved_body q (w ++ []) w (append-nil w) (chars_front q w (drop len text) [] (omega arith) (moved_body q text (w ++ drop len text) (sym whole) h.body));
-      closes = at h.close some ∙ h.closes;
-      ends = omega (arith, h.ends);
-    })
+    let some : h.close < len = omega (arith, h.ends) in (
+      inside,
+      record {
+        opens = at 0 (omega arith) ∙ h.opens;
+        close = h.close;
+        body = moved_body q (w ++ []) w (append-nil w) (chars_front q w (drop len text) [] (omega arith) (moved_body q text (w ++ drop len text) (sym whole) h.body));
+        closes = at h.close some ∙ h.closes;
+        ends = omega (arith, h.ends);
+      },
+    )
 
 pub first_boundary : (text : List ℕ) (q : ℕ) → IsUtf8 text → is_quote q ≡ true → slice_index text 0 ≡ q → IsCharBoundary text 1
 first_boundary text q u h e =

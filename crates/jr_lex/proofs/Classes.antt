@@ -1,15 +1,13 @@
 -- The first byte of a token says of which kind it is.
-use Rattle.std.proofs.Common.{◌≡◌, ◌≢◌, ◌⊎◌, ⊎_elim, inl, inr, ℕ, zero, suc, ◌+◌, ◌-◌, ◌<◌, ◌≤◌, Bool, true, false, cond, ◌||◌, ◌&&◌, not, ◌==◌, nat_lt, List, [], ◌∷◌, ◌++◌, length, get_or, take, drop, refl, sym, ◌∙◌, ap, subst, arith, Some, length-take, length-drop}
+use Rattle.std.proofs.Common.{◌≡◌, ℕ, zero, suc, ◌+◌, ◌-◌, ◌<◌, ◌≤◌, Bool, true, false, cond, ◌||◌, ◌==◌, nat_lt, List, [], ◌∷◌, ◌++◌, length, take, drop, refl, sym, ◌∙◌, ap, subst, arith, Some}
 use Rattle.std.specs.Prelude.{slice_index}
 use Rattle.std.specs.Char.{is_ascii_alphabetic, is_ascii_alphanumeric, is_ascii_digit, len_utf8}
-use Rattle.std.specs.List.{list_all}
 use Rattle.std.proofs.lemmas.Bool.Decides.{nat_tests}
 use Rattle.std.proofs.lemmas.List.{append-nil, take-append-drop, get_or-take, length-take-le, at_drop_more}
 use Rattle.std.proofs.lemmas.Str.{encode_ascii, len_utf8_ascii, len_utf8_bounds}
 use Rattle.unicode_ident.proofs.IdentLemmas.{is_xid_start-ascii, is_xid_continue-ascii}
 use Rattle.jr_base.specs.Gaps.{is_blank}
 use Rattle.jr_base.specs.Identifiers.{is_start_char, is_word_char, WordAt, IsIdentifier}
-use Rattle.jr_base.specs.Literals.{is_quote}
 use Rattle.jr_base.specs.Numerals.{integer_of}
 use Rattle.jr_base.specs.Places.{CharAt, CharRun, none, more}
 use Rattle.jr_base.specs.Spellings.{keyword_text, symbol_text}
@@ -18,12 +16,12 @@ use Rattle.jr_base.specs.declared.kind.Keyword.{Keyword}
 use Rattle.jr_base.specs.declared.kind.Kind.{Kind}
 use Rattle.jr_base.specs.declared.kind.Kind.TheVariants.{Word, Ident, Int, IntMin, Long, LongMin, Char, Str, Sym}
 use Rattle.jr_base.specs.declared.kind.Symbol.{Symbol}
-use Rattle.jr_base.proofs.Runs.{run_le, char_inside}
-use Rattle.jr_lex.proofs.CharacterLemmas.{char_byte, Quoted, quoted_from}
+use Rattle.jr_base.proofs.Runs.{run_le}
+use Rattle.jr_lex.proofs.CharacterLemmas.{char_byte, quoted_from}
 use Rattle.jr_lex.proofs.Fronts.{word_front}
 use Rattle.jr_lex.proofs.IntegerLemmas.{integer_alnum, integer_first}
 use Rattle.jr_lex.proofs.SpellingTables.{is_sign, keyword_some, keyword_letters, symbol_some, symbol_signs}
-use Rattle.jr_lex.proofs.Tests.{all_each, le_or_lt}
+use Rattle.jr_lex.proofs.Tests.{all_each}
 
 pub data Class : Type 0 where
   Letter : Class
@@ -97,10 +95,10 @@ word_class text len h =
 -- an ASCII byte is a character
 pub char_of_byte : (text : List ℕ) (place : ℕ) → place < length text → slice_index text place < 128 → CharAt text place (slice_index text place)
 char_of_byte text place l a = record {
-    scalar = grind (arith, nat_tests);
-    rest = drop (place + 1) text;
-    split = rw (encode_ascii (slice_index text place) a) (at_drop_more (λ x. x) text place 0 l);
-  }
+  scalar = grind (arith, nat_tests);
+  rest = drop (place + 1) text;
+  split = rw (encode_ascii (slice_index text place) a) (at_drop_more (λ x. x) text place 0 l);
+}
 
 alnum_low : (b : ℕ) → is_ascii_alphanumeric b ≡ true → b < 128
 alnum_low b h = grind (arith, nat_tests)
@@ -119,7 +117,7 @@ run_of_bytes text (suc n) start l h =
     let rest : CharRun is_word_char text (start + 1) (start + 1 + n) = run_of_bytes text n (start + 1) (omega arith) (λ i p q. h i (omega arith) (omega arith)) in
     let end : start + 1 + n ≡ start + suc n = omega arith in
     more (char_of_byte text start (omega arith) low) (alnum_goes_on b good)
-        (subst (λ s. CharRun is_word_char text s (start + suc n)) (sym next) (subst (λ e. CharRun is_word_char text (start + 1) e) end rest))
+    (subst (λ s. CharRun is_word_char text s (start + suc n)) (sym next) (subst (λ e. CharRun is_word_char text (start + 1) e) end rest))
 
 letter_alnum : (b : ℕ) → is_ascii_alphabetic b ≡ true → is_ascii_alphanumeric b ≡ true
 letter_alnum b h = grind (arith, nat_tests)
@@ -139,7 +137,7 @@ module _ (text : List ℕ) (len : ℕ) where
       let wide : length (keyword_text k) ≡ len = sym (ap length h.spells) ∙ size in
       let some : 0 < len = omega (arith, keyword_some k) in
       let letter : (i : ℕ) → i < len → is_ascii_alphabetic (slice_index text i) ≡ true =
-          λ i l. subst (λ b. is_ascii_alphabetic b ≡ true) (ap (λ w. slice_index w i) (sym h.spells) ∙ take_first text len i l) (all_each is_ascii_alphabetic (keyword_text k) (keyword_letters k) i (omega arith)) in
+      λ i l. subst (λ b. is_ascii_alphabetic b ≡ true) (ap (λ w. slice_index w i) (sym h.spells) ∙ take_first text len i l) (all_each is_ascii_alphabetic (keyword_text k) (keyword_letters k) i (omega arith)) in
       let b = slice_index text 0 in
       let low : b < 128 = alnum_low b (letter_alnum b (letter 0 some)) in
       let next : 0 + len_utf8 b ≡ 1 = omega (arith, len_utf8_ascii b low) in
@@ -188,7 +186,7 @@ module _ (text : List ℕ) (len : ℕ) where
       let inside : len ≤ length text = h.inside in
       let end : 0 + len ≡ len = omega arith in
       subst (λ x. CharRun is_word_char text 0 x) end
-          (run_of_bytes text len 0 (omega arith) (λ i p q. subst (λ b. is_ascii_alphanumeric b ≡ true) (take_first text len i (omega arith)) (integer_alnum (take len text) k (integer_token k e h).0 i (omega arith))))
+      (run_of_bytes text len 0 (omega arith) (λ i p q. subst (λ b. is_ascii_alphanumeric b ≡ true) (take_first text len i (omega arith)) (integer_alnum (take len text) k (integer_token k e h).0 i (omega arith))))
 
   symbol_first : (s : Symbol) → IsToken text len (Sym s) → (0 < len) × (class_of (slice_index text 0) ≡ Sign)
   symbol_first s h =

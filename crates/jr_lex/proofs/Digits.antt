@@ -35,9 +35,10 @@ digits_grow radix bs i h l =
 -- bytes that pass the test of a digit are digits
 all_digits : (radix : ℕ) (cs : List ℕ) → list_all (λ c. is_digit c radix) cs ≡ true → AllDigits radix cs
 all_digits radix [] h = tt
-all_digits radix (c ∷ cs) h =
-    (ltb-true (digit_value c) radix (both_left (is_digit c radix) (list_all (λ c. is_digit c radix) cs) h),
-     all_digits radix cs (both_right (is_digit c radix) (list_all (λ c. is_digit c radix) cs) h))
+all_digits radix (c ∷ cs) h = (
+  ltb-true (digit_value c) radix (both_left (is_digit c radix) (list_all (λ c. is_digit c radix) cs) h),
+  all_digits radix cs (both_right (is_digit c radix) (list_all (λ c. is_digit c radix) cs) h),
+)
 
 -- four hexadecimal digits make 16 bits
 pub hex_small : (ds : List ℕ) → length ds ≡ 4 → list_all (λ c. is_digit c 16) ds ≡ true → digits_value 16 ds < 65536

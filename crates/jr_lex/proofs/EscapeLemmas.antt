@@ -1,12 +1,12 @@
 -- An escape does not depend on what follows the byte behind it, and its last byte is ASCII.
-use Rattle.std.proofs.Common.{◌≡◌, ◌⊎◌, ⊎_elim, ℕ, zero, suc, ◌+◌, ◌-◌, ◌<◌, ◌≤◌, Bool, true, false, cond, ◌&&◌, ◌==◌, List, [], ◌∷◌, ◌++◌, length, get_or, take, drop, refl, sym, ◌∙◌, ap, subst, arith, Option, Some, None, length-take, length-drop, length-append}
+use Rattle.std.proofs.Common.{◌≡◌, ⊎_elim, ℕ, zero, suc, ◌+◌, ◌-◌, ◌<◌, ◌≤◌, Bool, true, false, cond, ◌&&◌, ◌==◌, List, [], ◌∷◌, ◌++◌, length, take, drop, refl, sym, ◌∙◌, ap, subst, arith, Option, Some, None, length-drop}
 use Rattle.std.specs.Prelude.{slice_index, option_map, nat_le}
-use Rattle.std.specs.Char.{is_digit, digit_value}
+use Rattle.std.specs.Char.{is_digit}
 use Rattle.std.specs.List.{list_all}
 use Rattle.std.proofs.lemmas.Bool.Decides.{nat_tests}
 use Rattle.std.proofs.lemmas.List.{drop-append-le, take-append-le, get_or-take, get_or-drop}
 use Rattle.std.specs.Str.Parse.{digits_value}
-use Rattle.jr_base.specs.Literals.{simple_escape, octal_count, hex_unit, mark_count, escaped, escape_of, is_quote, is_reserved}
+use Rattle.jr_base.specs.Literals.{simple_escape, octal_count, hex_unit, mark_count, escaped, escape_of}
 use Rattle.std.specs.Str.{IsUtf8, IsCharBoundary}
 use Rattle.std.proofs.lemmas.Bool.{eqb-true}
 use Rattle.std.proofs.lemmas.Str.{IsCharBoundary-after_ascii}
@@ -31,9 +31,10 @@ octal_front (a ∷ []) r s l = absurd (omega (arith, octal_some (a ∷ r)))
 octal_front (a ∷ b ∷ []) r s l =
     let count : List ℕ → Bool → ℕ = λ x d. cond d (cond (nat_le a 51 && is_digit (slice_index x 0) 8) 3 2) 1 in
     let goal : Bool → Type 0 = λ d. count r d < 2 → count s d ≡ count r d in
-    elim (is_digit b 8) as goal
-    [ true ↦ elim (nat_le a 51 && is_digit (slice_index r 0) 8) as (λ d. cond d 3 2 < 2 → count s true ≡ cond d 3 2) [ true ↦ λ h. absurd (omega arith) | false ↦ λ h. absurd (omega arith) ]
-    | false ↦ λ h. refl ] l
+    elim (is_digit b 8) as goal [
+      | true ↦ elim (nat_le a 51 && is_digit (slice_index r 0) 8) as (λ d. cond d 3 2 < 2 → count s true ≡ cond d 3 2) [ true ↦ λ h. absurd (omega arith) | false ↦ λ h. absurd (omega arith) ]
+      | false ↦ λ h. refl
+    ] l
 octal_front (a ∷ b ∷ c ∷ w) r s l = refl
 
 take_front : (w r s : List ℕ) (n : ℕ) → n ≤ length w → take n (w ++ s) ≡ take n (w ++ r)
@@ -104,9 +105,10 @@ escaped_front (c ∷ w) r s unit len l h =
     let way : List ℕ → Bool → Bool → Option (ℕ × ℕ) = λ t b d. cond b (hex (mark_count t) (take 4 (drop (mark_count t) t))) (cond d (octal t) (simple c)) in
     let goal : Bool → Bool → Type 0 = λ b d. way (a ++ r) b d ≡ Some (unit, len) → way (a ++ s) b d ≡ Some (unit, len) in
     let by : goal (c == 117) (is_digit c 8) =
-        elim (c == 117) as (λ b. goal b (is_digit c 8))
-        [ true ↦ λ k. hex_front a r s unit len l k
-        | false ↦ elim (is_digit c 8) as (λ d. goal false d) [ true ↦ λ k. octal_escape_front a r s unit len l k | false ↦ λ k. k ] ] in
+    elim (c == 117) as (λ b. goal b (is_digit c 8)) [
+      | true ↦ λ k. hex_front a r s unit len l k
+      | false ↦ elim (is_digit c 8) as (λ d. goal false d) [ true ↦ λ k. octal_escape_front a r s unit len l k | false ↦ λ k. k ]
+    ] in
     escaped_by (a ++ s) ∙ by (sym (escaped_by (a ++ r)) ∙ h)
 
 -- an escape that ends before the front does stands there whatever follows
@@ -145,6 +147,7 @@ octal_ends t unit len h e = second (is_digit (slice_index t 1) 8) refl
     third true d f = let n : octal_count t ≡ 3 = rw (d, f) refl in
         at_digit t 2 len 8 (omega arith) (octal_len t unit len e ∙ n) (both_right (nat_le (slice_index t 0) 51) (is_digit (slice_index t 2) 8) f)
     third false d f = let n : octal_count t ≡ 2 = rw (d, f) refl in at_digit t 1 len 8 (omega arith) (octal_len t unit len e ∙ n) d
+
     second : (b : Bool) → is_digit (slice_index t 1) 8 ≡ b → EndsLow t len
     second true d = third (nat_le (slice_index t 0) 51 && is_digit (slice_index t 2) 8) d refl
     second false d = let n : octal_count t ≡ 1 = rw d refl in at_digit t 0 len 8 (omega arith) (octal_len t unit len e ∙ n) h
@@ -192,9 +195,10 @@ escaped_ends : (t : List ℕ) (unit len : ℕ) → escaped t ≡ Some (unit, len
 escaped_ends t unit len h =
     let way : Bool → Bool → Option (ℕ × ℕ) = λ b d. cond b (hex (mark_count t) (take 4 (drop (mark_count t) t))) (cond d (octal t) (simple (slice_index t 0))) in
     let by : (d : Bool) → is_digit (slice_index t 0) 8 ≡ d → (b : Bool) → way b d ≡ Some (unit, len) → EndsLow t len =
-        λ d e b. elim b as (λ b. way b d ≡ Some (unit, len) → EndsLow t len)
-        [ true ↦ λ k. hex_ends t unit len k
-        | false ↦ octal_or_simple t unit len d e ] in
+    λ d e b. elim b as (λ b. way b d ≡ Some (unit, len) → EndsLow t len) [
+      | true ↦ λ k. hex_ends t unit len k
+      | false ↦ octal_or_simple t unit len d e
+    ] in
     by (is_digit (slice_index t 0) 8) refl (slice_index t 0 == 117) (sym (escaped_by t) ∙ h)
 
 escape_parts : (t : List ℕ) (unit len : ℕ) → escape_of t ≡ Some (unit, len) → (slice_index t 0 ≡ 92) × (escaped (drop 1 t) ≡ Some (unit, len))
@@ -216,7 +220,7 @@ escape_boundary text start unit len u h =
     let e = escaped_ends (drop 1 t) unit len (escape_parts t unit len h).1 in
     let back = index_inside t 0 (omega (arith, escape_opens t unit len h)) in
     let read : slice_index (drop 1 t) (len - 1) ≡ slice_index text (start + len) =
-        get_or-drop 1 t (len - 1) 0 ∙ (get_or-drop start text (1 + (len - 1)) 0 ∙ ap (slice_index text) (let p : start + (1 + (len - 1)) ≡ start + len = omega (arith, e.some) in p)) in
+    get_or-drop 1 t (len - 1) 0 ∙ (get_or-drop start text (1 + (len - 1)) 0 ∙ ap (slice_index text) (let p : start + (1 + (len - 1)) ≡ start + len = omega (arith, e.some) in p)) in
     let low : slice_index text (start + len) < 128 = subst (λ b. b < 128) read e.low in
     let size : start + len < length text = omega (arith, e.inside, length-drop 1 t, length-drop start text, back) in
     let at : start + len + 1 ≡ start + 1 + len = omega arith in

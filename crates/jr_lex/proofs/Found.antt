@@ -1,32 +1,28 @@
 -- What the scanners find is the longest token, or nothing starts there.
-use Rattle.std.proofs.Common.{◌≡◌, ◌≢◌, ◌⊎◌, ⊎_elim, inl, inr, ℕ, ◌+◌, ◌-◌, ◌<◌, ◌≤◌, Bool, true, false, cond, ◌||◌, ◌==◌, nat_lt, List, [], ◌∷◌, ◌++◌, length, take, drop, refl, sym, ◌∙◌, ap, subst, arith, Option, Some, None}
+use Rattle.std.proofs.Common.{◌≡◌, ◌⊎◌, ⊎_elim, inl, inr, ℕ, ◌+◌, ◌<◌, ◌≤◌, Bool, true, false, cond, ◌||◌, ◌==◌, nat_lt, List, [], ◌∷◌, ◌++◌, length, take, drop, refl, sym, ◌∙◌, ap, subst, arith, Option, Some, None}
 use Rattle.std.specs.Prelude.{slice_index, pos}
 use Rattle.std.specs.Int.{cast_signed, w32, w64}
-use Rattle.std.specs.Char.{is_ascii_digit, len_utf8}
-use Rattle.std.specs.Str.{IsUtf8, IsCharBoundary}
+use Rattle.std.specs.Char.{is_ascii_digit}
 use Rattle.std.proofs.lemmas.Bool.{false≢true}
 use Rattle.std.proofs.lemmas.Bool.Decides.{nat_tests}
 use Rattle.std.proofs.lemmas.List.{append-nil, take-append-drop, length-take-le}
 use Rattle.jr_base.specs.Gaps.{is_blank, is_line_end, opens_line_comment, opens_block_comment, closes_comment, IsGap}
-use Rattle.jr_base.specs.Identifiers.{is_start_char, is_word_char, WordAt, IsIdentifier}
+use Rattle.jr_base.specs.Identifiers.{is_start_char, is_word_char, WordAt}
 use Rattle.jr_base.specs.Literals.{is_quote, Characters, escape_of}
 use Rattle.jr_base.specs.Numerals.{radix_of, is_numeral, numeral_value, int_of, long_of, has_long_mark, numeral_in, integer_of}
 use Rattle.jr_base.specs.Places.{CharAt, CharRun}
-use Rattle.jr_base.specs.Reading.{HasOpenComment, HasBadEscape, HasOpenLiteral, HasBadNumber, HasBadByte, starts_number}
-use Rattle.jr_base.specs.Spellings.{keyword_text, symbol_text}
-use Rattle.jr_base.specs.Tokens.{Spells, IsApart, IsToken, IsLongest, NothingStarts, EndsInteger, StartsSymbol, opens_fraction}
-use Rattle.jr_base.specs.declared.kind.Keyword.{Keyword}
+use Rattle.jr_base.specs.Reading.{HasOpenComment, HasBadEscape, HasOpenLiteral, HasBadNumber, HasBadByte}
+use Rattle.jr_base.specs.Tokens.{Spells, IsApart, IsToken, IsLongest, NothingStarts, EndsInteger, opens_fraction}
 use Rattle.jr_base.specs.declared.kind.Kind.{Kind}
 use Rattle.jr_base.specs.declared.kind.Kind.TheVariants.{Word, Ident, Int, IntMin, Long, LongMin, Char, Str, Sym}
 use Rattle.jr_base.specs.declared.kind.Symbol.{Symbol}
-use Rattle.jr_base.proofs.Runs.{char_one, char_inside, run_le, run_longest}
+use Rattle.jr_base.proofs.Runs.{char_one, run_longest}
 use Rattle.jr_lex.specs.Items.{HasSymbol, IsKindOf, NoInteger}
-use Rattle.jr_lex.proofs.CharacterLemmas.{char_byte, drop_first, Ends, Quoted, quoted_from, literal_from, chars_one, ends_at_quote, ends_at_line, ends_at_end, ends_at_bad}
-use Rattle.jr_lex.proofs.Classes.{Class, Letter, Digit, Blank, Single, Double, Sign, kind_class, class_of, class_of_digit, class_of_blank, token_class, token_word, integer_token, integer_bytes, integer_run}
+use Rattle.jr_lex.proofs.CharacterLemmas.{drop_first, Ends, Quoted, quoted_from, literal_from, chars_one, ends_at_quote, ends_at_line, ends_at_end, ends_at_bad}
+use Rattle.jr_lex.proofs.Classes.{Digit, Single, Double, Sign, kind_class, class_of, class_of_digit, token_class, token_word, integer_token, integer_bytes, integer_run}
 use Rattle.jr_lex.proofs.EscapeLemmas.{index_inside}
 use Rattle.jr_lex.proofs.Fronts.{word_front}
-use Rattle.jr_lex.proofs.Longest.{WordStops, rest_char, ends_word, word_longest, integer_longest, char_longest, string_longest, symbol_longest, OpensComment, no_comment, comment_not_blank, line_or_block, line_opens, block_opens, quoted_one}
-use Rattle.jr_lex.proofs.Tests.{le_or_lt}
+use Rattle.jr_lex.proofs.Longest.{WordStops, ends_word, word_longest, integer_longest, char_longest, string_longest, symbol_longest, no_comment, comment_not_blank, line_or_block, line_opens, block_opens, quoted_one}
 
 -- words
 pub word_found : (text : List ℕ) (len : ℕ) (k : Kind) → len ≤ length text → WordAt text 0 len → WordStops text len → IsKindOf (take len text) k → IsLongest text len k
@@ -112,9 +108,9 @@ no_integer text end run stop why len k l h e =
     let other = integer_run text len k c (integer_made text len k l h e) in
     let same : len ≡ end = omega (arith, run_longest run stop other, run_longest other (ends_word text len e) run) in
     ⊎_elim
-        (λ n. some_none (sym h ∙ (ap (λ x. integer_of (take x text)) same ∙ n)))
-        (λ p. e.no_point (drop_first text len ∙ (ap (slice_index text) same ∙ p)))
-        why
+    (λ n. some_none (sym h ∙ (ap (λ x. integer_of (take x text)) same ∙ n)))
+    (λ p. e.no_point (drop_first text len ∙ (ap (slice_index text) same ∙ p)))
+    why
 
 -- literals
 pub string_found : (text : List ℕ) (len : ℕ) (us : List ℕ) → Quoted 34 text len us → IsLongest text len (Str us)
@@ -153,12 +149,12 @@ module _ (text : List ℕ) (q : ℕ) (is_q : is_quote q ≡ true) (opens : slice
 
   nothing_quoted : (end : ℕ) (us : List ℕ) → Characters q text 1 end us → Ends q text end → (slice_index text end ≡ q → ⊥) → NothingStarts text
   nothing_quoted end us body ends unclosed = record {
-      no_gap = λ len g. no_gap_quote text len first_quote g;
-      no_token = λ len k t.
-          let h = literal_only text q len k is_q opens t in
-          let same = chars_one body ends h.1.body (ends_at_quote q text h.1.close is_q h.1.closes) in
-          unclosed (ap (slice_index text) same.0 ∙ h.1.closes);
-    }
+    no_gap = λ len g. no_gap_quote text len first_quote g;
+    no_token = λ len k t.
+        let h = literal_only text q len k is_q opens t in
+        let same = chars_one body ends h.1.body (ends_at_quote q text h.1.close is_q h.1.closes) in
+        unclosed (ap (slice_index text) same.0 ∙ h.1.closes);
+  }
 
   open_not_bad : (end : ℕ) (us : List ℕ) → Characters q text 1 end us → Ends q text end → (slice_index text end ≡ 92 → ⊥) → HasBadEscape text → ⊥
   open_not_bad end us body ends other bad =
@@ -168,9 +164,10 @@ module _ (text : List ℕ) (q : ℕ) (is_q : is_quote q ≡ true) (opens : slice
 
   -- a backslash that starts no escape
   pub bad_escape : (end : ℕ) (us : List ℕ) → Characters q text 1 end us → slice_index text end ≡ 92 → escape_of (drop end text) ≡ None → NothingStarts text × HasBadEscape text
-  bad_escape end us body back none =
-      (nothing_quoted end us body (ends_at_bad q text end back none) (λ e. quote_not_back q is_q (sym e ∙ back)),
-       record { opens = first_quote; place = end; units = us; body = subst (λ x. Characters x text 1 end us) (sym opens) body; backslash = back; none = none })
+  bad_escape end us body back none = (
+    nothing_quoted end us body (ends_at_bad q text end back none) (λ e. quote_not_back q is_q (sym e ∙ back)),
+    record { opens = first_quote; place = end; units = us; body = subst (λ x. Characters x text 1 end us) (sym opens) body; backslash = back; none = none },
+  )
     where
       quote_not_back : (q : ℕ) → is_quote q ≡ true → q ≡ 92 → ⊥
       quote_not_back q h e = grind (arith, nat_tests)
@@ -180,21 +177,24 @@ module _ (text : List ℕ) (q : ℕ) (is_q : is_quote q ≡ true) (opens : slice
   open_literal end us body why =
       let ends : Ends q text end = ⊎_elim (λ l. ends_at_end q text end l) (λ l. ends_at_line q text end l) why in
       let not_byte : (b : ℕ) → 0 < b → is_line_end b ≡ false → slice_index text end ≡ b → ⊥ = λ b some h e.
-          ⊎_elim (λ l. absurd (omega (arith, index_inside text end (omega arith)))) (λ l. false≢true (sym h ∙ (ap is_line_end (sym e) ∙ l))) why in
-      (nothing_quoted end us body ends (λ e. not_byte q (quote_some q is_q) (quote_no_line q is_q) e),
-       record { opens = first_quote; escapes = open_not_bad end us body ends (λ e. not_byte 92 (omega arith) refl e) })
+      ⊎_elim (λ l. absurd (omega (arith, index_inside text end (omega arith)))) (λ l. false≢true (sym h ∙ (ap is_line_end (sym e) ∙ l))) why in (
+        nothing_quoted end us body ends (λ e. not_byte q (quote_some q is_q) (quote_no_line q is_q) e),
+        record { opens = first_quote; escapes = open_not_bad end us body ends (λ e. not_byte 92 (omega arith) refl e) },
+      )
     where
       quote_some : (q : ℕ) → is_quote q ≡ true → 0 < q
       quote_some q h = grind (arith, nat_tests)
+
       quote_no_line : (q : ℕ) → is_quote q ≡ true → is_line_end q ≡ false
       quote_no_line q h = grind (arith, nat_tests)
 
 -- several characters, or none, between single quotes
 pub no_char_literal : (text : List ℕ) (len : ℕ) (us : List ℕ) → Quoted 39 text len us → (length us ≡ 1 → ⊥) → NothingStarts text × HasOpenLiteral text
 no_char_literal text len us h several =
-    let first : is_quote (slice_index text 0) ≡ true = ap is_quote h.opens in
-    (record { no_gap = λ n g. no_gap_quote text n first g; no_token = λ n k t. by n k t (sym (token_class text n k t) ∙ ap class_of h.opens) },
-     record { opens = first; escapes = open_not_bad text 39 refl h.opens h.close us h.body (ends_at_quote 39 text h.close refl h.closes) (λ e. let no : 39 ≡ 92 = sym h.closes ∙ e in omega (arith, no)) })
+    let first : is_quote (slice_index text 0) ≡ true = ap is_quote h.opens in (
+      record { no_gap = λ n g. no_gap_quote text n first g; no_token = λ n k t. by n k t (sym (token_class text n k t) ∙ ap class_of h.opens) },
+      record { opens = first; escapes = open_not_bad text 39 refl h.opens h.close us h.body (ends_at_quote 39 text h.close refl h.closes) (λ e. let no : 39 ≡ 92 = sym h.closes ∙ e in omega (arith, no)) },
+    )
   where
     by : (n : ℕ) (k : Kind) → IsToken text n k → kind_class k ≡ Single → ⊥
     by n (Char u) t e = several (ap length (quoted_one 39 text len n us (u ∷ []) refl h (quoted_from 39 text n (u ∷ []) t.inside t.spells)).1)
@@ -223,22 +223,28 @@ closed_several q text us len o e other several h =
 
 -- comments
 pub open_comment : (text : List ℕ) → opens_block_comment text ≡ true → ((k : ℕ) → 2 ≤ k → closes_comment text k ≡ false) → NothingStarts text × HasOpenComment text
-open_comment text b never =
-    (record {
-      no_gap = λ len g. ⊎_elim (λ h. comment_not_blank text (inr b) h.blank) (⊎_elim (λ h. line_or_block text h.opens b) (λ h. false≢true (sym (never h.close h.after) ∙ h.closes))) g;
-      no_token = λ len k t. no_comment text len k (inr b) t;
-    }, record { opens = b; never = never })
+open_comment text b never = (
+  record {
+    no_gap = λ len g. ⊎_elim (λ h. comment_not_blank text (inr b) h.blank) (⊎_elim (λ h. line_or_block text h.opens b) (λ h. false≢true (sym (never h.close h.after) ∙ h.closes))) g;
+    no_token = λ len k t. no_comment text len k (inr b) t;
+  },
+  record { opens = b; never = never },
+)
 
 module _ (text : List ℕ) (blank : is_blank (slice_index text 0) ≡ false) (line : opens_line_comment text ≡ false) (block : opens_block_comment text ≡ false) where
   no_gap_here : (len : ℕ) → IsGap text len → ⊥
   no_gap_here len g = ⊎_elim (λ h. false≢true (sym blank ∙ h.blank)) (⊎_elim (λ h. false≢true (sym line ∙ h.opens)) (λ h. false≢true (sym block ∙ h.opens))) g
 
   pub bad_number : is_ascii_digit (slice_index text 0) ≡ true → NoInteger text → NothingStarts text × HasBadNumber text
-  bad_number d none =
-      (record { no_gap = no_gap_here; no_token = λ len k t.
+  bad_number d none = (
+    record {
+      no_gap = no_gap_here;
+      no_token = λ len k t.
           let c : kind_class k ≡ Digit = sym (token_class text len k t) ∙ class_of_digit (slice_index text 0) d in
-          let h = integer_token text len k c t in none len k t.inside h.0 h.1 },
-       rw d refl)
+          let h = integer_token text len k c t in none len k t.inside h.0 h.1;
+    },
+    rw d refl,
+  )
 
   pub fraction : opens_fraction text ≡ true → NothingStarts text × HasBadNumber text
   fraction f =
@@ -246,9 +252,11 @@ module _ (text : List ℕ) (blank : is_blank (slice_index text 0) ≡ false) (li
     where
       point : (text : List ℕ) → opens_fraction text ≡ true → slice_index text 0 ≡ 46
       point text h = grind (arith, nat_tests)
+
       either : (x y : Bool) → y ≡ true → (x || y) ≡ true
       either true y h = refl
       either false y h = h
+
       by : (len : ℕ) (k : Kind) → IsToken text len k → kind_class k ≡ Sign → ⊥
       by len (Sym s) t e = false≢true (sym t.apart.no_fraction ∙ f)
       by len k t e = absurd (let no : kind_class k ≡ Sign = e in cc)

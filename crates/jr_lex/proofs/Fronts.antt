@@ -1,14 +1,14 @@
 -- What stands in the front of a text does not depend on what follows.
-use Rattle.std.proofs.Common.{◌≡◌, ℕ, ◌+◌, ◌-◌, ◌<◌, ◌≤◌, Bool, true, List, [], ◌∷◌, ◌++◌, length, get_or, take, drop, refl, sym, ◌∙◌, ap, subst, arith, length-drop, length-append, append_assoc}
+use Rattle.std.proofs.Common.{◌≡◌, ℕ, ◌+◌, ◌<◌, ◌≤◌, Bool, List, ◌++◌, length, take, drop, sym, ◌∙◌, ap, arith, length-drop, append_assoc}
 use Rattle.std.specs.Prelude.{slice_index}
 use Rattle.std.specs.Char.{len_utf8}
 use Rattle.std.proofs.Math.ListN.{get_or-append}
 use Rattle.std.proofs.Math.Seq.{take-append_seam}
 use Rattle.std.proofs.lemmas.List.{drop-append-le, take-append-le, take-append-drop}
-use Rattle.std.proofs.lemmas.Str.{len_utf8_bounds, length-encode}
+use Rattle.std.proofs.lemmas.Str.{length-encode}
 use lib.Utf8.{encode}
 use Rattle.jr_base.specs.Places.{CharAt, CharRun, none, more}
-use Rattle.jr_base.specs.Identifiers.{WordAt, is_word_char}
+use Rattle.jr_base.specs.Identifiers.{WordAt}
 use Rattle.jr_base.proofs.Runs.{run_le}
 
 -- of two ways to cut a list, the shorter front begins the longer

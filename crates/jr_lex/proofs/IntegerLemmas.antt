@@ -1,12 +1,12 @@
 -- An integer literal is letters and digits, and begins with a digit.
-use Rattle.std.proofs.Common.{◌≡◌, ◌⊎◌, ⊎_elim, inl, inr, ℕ, zero, suc, ◌+◌, ◌-◌, ◌<◌, ◌≤◌, Bool, true, false, cond, ◌&&◌, ◌==◌, nat_lt, List, length, get_or, take, drop, refl, sym, ◌∙◌, ap, subst, arith, Option, Some, None, length-take, length-drop}
+use Rattle.std.proofs.Common.{◌≡◌, ⊎_elim, ℕ, zero, suc, ◌+◌, ◌-◌, ◌<◌, ◌≤◌, Bool, true, false, ◌&&◌, ◌==◌, nat_lt, List, length, take, drop, refl, sym, ◌∙◌, ap, subst, arith, Some, None, length-drop}
 use Rattle.std.specs.Prelude.{slice_index}
 use Rattle.std.specs.Char.{is_ascii_alphanumeric, is_ascii_digit, is_digit}
 use Rattle.std.specs.List.{list_all}
 use Rattle.std.proofs.lemmas.Bool.{eqb-true, ltb-true}
 use Rattle.std.proofs.lemmas.Bool.Decides.{nat_tests}
 use Rattle.std.proofs.lemmas.List.{get_or-take, get_or-drop, length-take-le}
-use Rattle.jr_base.specs.Numerals.{is_hex_mark, is_long_mark, radix_of, digits_of, is_numeral, numeral_value, int_of, long_of, has_long_mark, numeral_in, integer_of}
+use Rattle.jr_base.specs.Numerals.{is_hex_mark, is_long_mark, radix_of, digits_of, is_numeral, has_long_mark, numeral_in, integer_of}
 use Rattle.jr_base.specs.declared.kind.Kind.{Kind}
 use Rattle.jr_lex.proofs.Tests.{all_each, both_left, both_right, le_or_lt}
 
@@ -22,6 +22,7 @@ radix_cases n = outer ((slice_index n 0 == 48) && nat_lt 1 (length n)) refl
     inner : (b : Bool) → ((slice_index n 0 == 48) && nat_lt 1 (length n)) ≡ true → is_hex_mark (slice_index n 1) ≡ b → Radix n
     inner true e f = sixteen (rw (e, f) refl) (eqb-true (slice_index n 0) 48 (both_left (slice_index n 0 == 48) (nat_lt 1 (length n)) e)) f
     inner false e f = eight (rw (e, f) refl) (eqb-true (slice_index n 0) 48 (both_left (slice_index n 0 == 48) (nat_lt 1 (length n)) e))
+
     outer : (b : Bool) → ((slice_index n 0 == 48) && nat_lt 1 (length n)) ≡ b → Radix n
     outer true e = inner (is_hex_mark (slice_index n 1)) e refl
     outer false e = ten (rw e refl)
@@ -68,9 +69,11 @@ hex_digits n h e =
 
 numeral_alnum : (n : List ℕ) → is_numeral n ≡ true → (i : ℕ) → i < length n → is_ascii_alphanumeric (slice_index n i) ≡ true
 numeral_alnum n h i l =
-    elim (radix_cases n) [ sixteen e z m ↦ by_hex i (hex_digits n h e) z m l
-    | eight e z ↦ alnum_digit (slice_index n i) 8 (omega arith) (all_each (λ c. is_digit c 8) n (plain_digits n 8 h e refl).1 i l)
-    | ten e ↦ alnum_digit (slice_index n i) 10 (omega arith) (all_each (λ c. is_digit c 10) n (plain_digits n 10 h e refl).1 i l) ]
+    elim (radix_cases n) [
+      | sixteen e z m ↦ by_hex i (hex_digits n h e) z m l
+      | eight e z ↦ alnum_digit (slice_index n i) 8 (omega arith) (all_each (λ c. is_digit c 8) n (plain_digits n 8 h e refl).1 i l)
+      | ten e ↦ alnum_digit (slice_index n i) 10 (omega arith) (all_each (λ c. is_digit c 10) n (plain_digits n 10 h e refl).1 i l)
+    ]
   where
     by_hex : (i : ℕ) → HexDigits n → slice_index n 0 ≡ 48 → is_hex_mark (slice_index n 1) ≡ true → i < length n → is_ascii_alphanumeric (slice_index n i) ≡ true
     by_hex zero d z m l = alnum_zero (slice_index n 0) z
@@ -86,9 +89,11 @@ digit_zero c h = rw h refl
 
 numeral_first : (n : List ℕ) → is_numeral n ≡ true → (0 < length n) × (is_ascii_digit (slice_index n 0) ≡ true)
 numeral_first n h =
-    elim (radix_cases n) [ sixteen e z m ↦ (omega (arith, (hex_digits n h e).long), digit_zero (slice_index n 0) z)
-    | eight e z ↦ ((plain_digits n 8 h e refl).0, digit_zero (slice_index n 0) z)
-    | ten e ↦ ((plain_digits n 10 h e refl).0, decimal_digit (slice_index n 0) (all_each (λ c. is_digit c 10) n (plain_digits n 10 h e refl).1 0 (plain_digits n 10 h e refl).0)) ]
+    elim (radix_cases n) [
+      | sixteen e z m ↦ (omega (arith, (hex_digits n h e).long), digit_zero (slice_index n 0) z)
+      | eight e z ↦ ((plain_digits n 8 h e refl).0, digit_zero (slice_index n 0) z)
+      | ten e ↦ ((plain_digits n 10 h e refl).0, decimal_digit (slice_index n 0) (all_each (λ c. is_digit c 10) n (plain_digits n 10 h e refl).1 0 (plain_digits n 10 h e refl).0))
+    ]
 
 some_none : {A : Type 0} {x : A} → Some x ≡ None → ⊥
 some_none h = cc
@@ -110,9 +115,9 @@ integer_alnum w k h i l = by (has_long_mark w) refl
         let good : is_numeral (take (length w - 1) w) ≡ true = subst (λ n. is_numeral n ≡ true) same (integer_numeral w k h) in
         let size : length (take (length w - 1) w) ≡ length w - 1 = length-take-le (length w - 1) w (omega arith) in
         ⊎_elim
-            (λ m. subst (λ j. is_ascii_alphanumeric (slice_index w j) ≡ true) (let at : length w - 1 ≡ i = omega arith in at) (alnum_long (slice_index w (length w - 1)) e))
-            (λ m. subst (λ c. is_ascii_alphanumeric c ≡ true) (get_or-take (length w - 1) w i 0 m) (numeral_alnum (take (length w - 1) w) good i (omega arith)))
-            (le_or_lt (length w - 1) i)
+        (λ m. subst (λ j. is_ascii_alphanumeric (slice_index w j) ≡ true) (let at : length w - 1 ≡ i = omega arith in at) (alnum_long (slice_index w (length w - 1)) e))
+        (λ m. subst (λ c. is_ascii_alphanumeric c ≡ true) (get_or-take (length w - 1) w i 0 m) (numeral_alnum (take (length w - 1) w) good i (omega arith)))
+        (le_or_lt (length w - 1) i)
     by false e =
         let same : numeral_in w ≡ w = rw e refl in
         numeral_alnum w (subst (λ n. is_numeral n ≡ true) same (integer_numeral w k h)) i l

@@ -1,16 +1,13 @@
 -- One token at most is the longest at the front of a text, and when a token is.
-use Rattle.std.proofs.Common.{◌≡◌, ◌⊎◌, ⊎_elim, inl, inr, ℕ, ◌+◌, ◌-◌, ◌<◌, ◌≤◌, true, false, ◌||◌, List, [], ◌∷◌, length, take, drop, refl, sym, ◌∙◌, ap, subst, arith, Some}
+use Rattle.std.proofs.Common.{◌≡◌, ◌⊎◌, ⊎_elim, inl, inr, ℕ, ◌+◌, ◌≤◌, true, false, List, [], ◌∷◌, drop, refl, sym, ◌∙◌, ap, subst, arith, Some}
 use Rattle.std.specs.Prelude.{slice_index}
 use Rattle.std.proofs.lemmas.Bool.{false≢true}
 use Rattle.std.proofs.lemmas.Bool.Decides.{nat_tests}
-use Rattle.jr_base.specs.Gaps.{is_blank, is_line_end, opens_line_comment, opens_block_comment, closes_comment, IsBlank, IsLineComment, IsBlockComment, IsGap}
+use Rattle.jr_base.specs.Gaps.{is_blank, opens_line_comment, opens_block_comment, IsLineComment, IsBlockComment, IsGap}
 use Rattle.jr_base.specs.Identifiers.{is_word_char, WordAt}
 use Rattle.jr_base.specs.Literals.{is_quote}
-use Rattle.jr_base.specs.Numerals.{integer_of}
 use Rattle.jr_base.specs.Places.{CharAt, CharRun}
-use Rattle.jr_base.specs.Spellings.{keyword_text, symbol_text}
-use Rattle.jr_base.specs.Tokens.{IsToken, IsLongest, EndsInteger, StartsSymbol}
-use Rattle.jr_base.specs.declared.kind.Keyword.{Keyword}
+use Rattle.jr_base.specs.Tokens.{IsToken, IsLongest, EndsInteger}
 use Rattle.jr_base.specs.declared.kind.Kind.{Kind}
 use Rattle.jr_base.specs.declared.kind.Kind.TheVariants.{Word, Ident, Int, IntMin, Long, LongMin, Char, Str, Sym}
 use Rattle.jr_base.specs.declared.kind.Symbol.{Symbol}
@@ -19,7 +16,7 @@ use Rattle.jr_base.proofs.Tables.{keyword_one, symbol_one}
 use Rattle.std.specs.Char.{len_utf8}
 use Rattle.jr_lex.specs.Items.{HasSymbol}
 use Rattle.jr_lex.proofs.CharacterLemmas.{Quoted, quoted_from, chars_one, ends_at_quote}
-use Rattle.jr_lex.proofs.Classes.{Class, Letter, Digit, Blank, Single, Double, Sign, kind_class, class_of, class_of_blank, token_class, token_word, integer_token, integer_run}
+use Rattle.jr_lex.proofs.Classes.{Letter, Digit, Blank, Single, Double, Sign, kind_class, class_of, class_of_blank, token_class, token_word, integer_token, integer_run}
 use Rattle.jr_lex.proofs.Tests.{le_or_lt}
 
 -- no word goes on at the end of the first len bytes

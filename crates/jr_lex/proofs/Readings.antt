@@ -1,16 +1,16 @@
 -- How bytes read is determined, step by step.
-use Rattle.std.proofs.Common.{◌≡◌, ◌≢◌, ◌⊎◌, ⊎_elim, inl, inr, ℕ, ◌+◌, ◌-◌, ◌<◌, ◌≤◌, true, false, ◌||◌, ◌&&◌, ◌==◌, List, [], ◌∷◌, ◌++◌, length, get_or, take, drop, refl, sym, ◌∙◌, ap, subst, arith, Bool, length-take, length-drop}
+use Rattle.std.proofs.Common.{◌≡◌, ⊎_elim, ℕ, ◌+◌, ◌-◌, ◌<◌, ◌≤◌, true, List, [], ◌∷◌, ◌++◌, length, take, drop, refl, sym, ◌∙◌, ap, subst, arith, Bool, length-drop}
 use Rattle.std.specs.Prelude.{slice_index}
 use Rattle.std.specs.Str.{IsUtf8, IsCharBoundary}
 use Rattle.std.proofs.lemmas.Bool.Decides.{nat_tests}
 use Rattle.std.proofs.lemmas.List.{length-take-le}
 use Rattle.std.proofs.lemmas.Str.{IsCharBoundary-after_ascii, IsCharBoundary-before_ascii, IsCharBoundary-end, IsCharBoundary-start, IsCharBoundary-from_rest, IsUtf8-drop}
-use Rattle.jr_base.specs.Gaps.{is_blank, is_line_end, closes_comment, IsGap, IsBlank, IsLineComment, IsBlockComment}
-use Rattle.jr_base.specs.Identifiers.{WordAt, is_word_char}
+use Rattle.jr_base.specs.Gaps.{is_blank, is_line_end, closes_comment, IsGap}
+use Rattle.jr_base.specs.Identifiers.{WordAt}
 use Rattle.jr_base.specs.Places.{CharRun, none, more}
 use Rattle.jr_base.specs.Reading.{Reads, here, gap, token, Lex, StopsAt}
 use Rattle.jr_base.specs.Spellings.{symbol_text}
-use Rattle.jr_base.specs.Tokens.{IsToken, IsLongest, NothingStarts, GapAt, LongestAt}
+use Rattle.jr_base.specs.Tokens.{IsToken, NothingStarts, GapAt, LongestAt}
 use Rattle.jr_base.specs.declared.kind.Kind.{Kind}
 use Rattle.jr_base.specs.declared.kind.Kind.TheVariants.{Word, Ident, Int, IntMin, Long, LongMin, Char, Str, Sym}
 use Rattle.jr_base.specs.declared.kind.Symbol.{Symbol}
@@ -21,7 +21,7 @@ use Rattle.jr_lex.specs.Items.{IsFault}
 use Rattle.jr_lex.specs.declared.fault.LexFault.{LexFault}
 use Rattle.jr_lex.specs.declared.fault.LexFault.TheVariants.{BadByte, OpenComment, OpenLiteral, BadEscape, BadNumber, NotUtf8, OutOfMemory}
 use Rattle.jr_lex.proofs.CharacterLemmas.{quoted_from}
-use Rattle.jr_lex.proofs.Classes.{kind_class, token_class, token_word, token_some, integer_run, take_first}
+use Rattle.jr_lex.proofs.Classes.{token_word, token_some, integer_run, take_first}
 use Rattle.jr_lex.proofs.EscapeLemmas.{index_inside}
 use Rattle.jr_lex.proofs.Longest.{gap_one, gap_or_token, longest_one}
 use Rattle.jr_lex.proofs.SpellingTables.{is_sign, symbol_some, symbol_signs}
@@ -43,7 +43,7 @@ pub gap_inside : (text : List ℕ) (len : ℕ) → IsGap text len → (0 < len) 
 gap_inside text len g = ⊎_elim
     (λ h. (omega (arith, h.one), omega (arith, h.one, index_inside text 0 (blank_bounds (slice_index text 0) h.blank).0)))
     (⊎_elim (λ h. (omega (arith, h.some), h.inside))
-        (λ h. (omega (arith, h.ends), omega (arith, h.ends, (close_inside text h.close h.closes).0))))
+    (λ h. (omega (arith, h.ends), omega (arith, h.ends, (close_inside text h.close h.closes).0))))
     g
 
 -- a text may be cut behind a gap, and behind a token
@@ -54,11 +54,11 @@ pub gap_boundary : (text : List ℕ) (len : ℕ) → IsUtf8 text → IsGap text 
 gap_boundary text len u g = ⊎_elim
     (λ h. let b = blank_bounds (slice_index text 0) h.blank in after_byte text len 0 u (omega (arith, h.one)) (index_inside text 0 b.0) b.1)
     (⊎_elim
-        (λ h. ⊎_elim
-            (λ l. subst (λ x. IsCharBoundary text x) (let e : length text ≡ len = omega (arith, h.inside) in e) (IsCharBoundary-end text))
-            (λ l. IsCharBoundary-before_ascii text len l (line_bounds (slice_index text len) (h.ends l)))
-            (le_or_lt (length text) len))
-        (λ h. let c = close_inside text h.close h.closes in after_byte text len (h.close + 1) u (omega (arith, h.ends)) c.0 c.1))
+    (λ h. ⊎_elim
+    (λ l. subst (λ x. IsCharBoundary text x) (let e : length text ≡ len = omega (arith, h.inside) in e) (IsCharBoundary-end text))
+    (λ l. IsCharBoundary-before_ascii text len l (line_bounds (slice_index text len) (h.ends l)))
+    (le_or_lt (length text) len))
+    (λ h. let c = close_inside text h.close h.closes in after_byte text len (h.close + 1) u (omega (arith, h.ends)) c.0 c.1))
     g
 
 run_boundary : {p : ℕ → Bool} {text : List ℕ} {start end : ℕ} → IsUtf8 text → IsCharBoundary text start → CharRun p text start end → IsCharBoundary text end
@@ -113,9 +113,9 @@ reads_token (token q m r) p l = token q m (reads_token r p l)
 
 pub nothing_at_end : (bytes : List ℕ) → NothingStarts (drop (length bytes) bytes)
 nothing_at_end bytes = record {
-    no_gap = λ len g. absurd (omega (arith, gap_inside (drop (length bytes) bytes) len g, length-drop (length bytes) bytes));
-    no_token = λ len k t. absurd (omega (arith, token_some (drop (length bytes) bytes) len k t, t.inside, length-drop (length bytes) bytes));
-  }
+  no_gap = λ len g. absurd (omega (arith, gap_inside (drop (length bytes) bytes) len g, length-drop (length bytes) bytes));
+  no_token = λ len k t. absurd (omega (arith, token_some (drop (length bytes) bytes) len k t, t.inside, length-drop (length bytes) bytes));
+}
 
 -- a token is its kind and its place
 pub token_same : (t u : Token) → t.span.start ≡ u.span.start → t.span.end ≡ u.span.end → t.kind ≡ u.kind → t ≡ u

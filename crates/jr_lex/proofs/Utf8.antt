@@ -1,5 +1,5 @@
 -- Bytes have one longest front that is UTF-8.
-use Rattle.std.proofs.Common.{◌≡◌, ℕ, ◌<◌, List, length, take, sym, ◌∙◌, subst, arith}
+use Rattle.std.proofs.Common.{◌≡◌, ℕ, List, length, sym, ◌∙◌, subst}
 use Rattle.std.specs.Str.{IsUtf8, IsValidUpTo}
 use Rattle.std.proofs.Math.Seq.{take-length}
 use Rattle.std.proofs.lemmas.Str.{utf8_valid_len-IsValidUpTo}

@@ -1,6 +1,6 @@
 // The tokens of a file.
-ghost use Rattle.std.specs.Prelude.{◌≡◌, ◌^◌, ◌<◌, ℕ, List, length, IfOk, IfErr, MatchResult, Err};
-ghost use Rattle.std.specs.Str.{IsValidUpTo};
+ghost use Rattle.std.specs.Prelude.{◌≡◌, ◌^◌, ◌<◌, ℕ, List, drop, length, IfOk, IfErr, MatchResult};
+ghost use Rattle.std.specs.Str.{IsCharBoundary, IsValidUpTo};
 ghost use Rattle.jr_base.specs.Reading.{Lex, StopsAt};
 ghost use Rattle.jr_base.specs.declared.token.Token.{Token};
 ghost use Rattle.jr_lex.specs.Faults.{IsFirstFault, IsMemory, IsStop};
@@ -45,7 +45,8 @@ fn lex_text(alloc: Global, text: &str) -> Result<Vec<Token>, LexFault>
     let mut tokens = Vec::new(alloc);
     let mut at = 0;
     while at < text.len() {
-        match item_at(alloc, &text[at..], at as u32)? {
+        let rest = from_place(text, at);
+        match item_at(alloc, rest, at as u32)? {
             Item::Gap(len) => at += len,
             Item::Found(kind, len) => {
                 let end = at + len;
@@ -59,4 +60,12 @@ fn lex_text(alloc: Global, text: &str) -> Result<Vec<Token>, LexFault>
         }
     }
     Ok(tokens)
+}
+
+/// The text from a place on.
+fn from_place(text: &str, at: usize) -> &str
+    requires { IsCharBoundary text.now at }
+    ensures { result.now ≡ drop at text.now }
+{
+    &text[at..]
 }

@@ -94,7 +94,11 @@ fn int_of(radix: u64, value: u64) -> Option<Kind>
         if value < 1 << 31 {
             return Some(Kind::Int(value as i32));
         }
-        return if value == 1 << 31 { Some(Kind::IntMin) } else { None };
+        return if value == 1 << 31 {
+            Some(Kind::IntMin)
+        } else {
+            None
+        };
     }
     match u32::try_from(value) {
         Ok(bits) => Some(Kind::Int(bits.cast_signed())),
@@ -110,7 +114,11 @@ fn long_of(radix: u64, value: u64) -> Option<Kind>
         if value < 1 << 63 {
             return Some(Kind::Long(value as i64));
         }
-        return if value == 1 << 63 { Some(Kind::LongMin) } else { None };
+        return if value == 1 << 63 {
+            Some(Kind::LongMin)
+        } else {
+            None
+        };
     }
     Some(Kind::Long(value.cast_signed()))
 }

@@ -18,7 +18,7 @@ pub fn symbol_at(text: &[u8]) -> Option<(Symbol, usize)>
     ensures { MatchOption result
         ((len : ℕ) (s : Symbol) → HasSymbol text.now len s → ⊥)
         (λ found. HasSymbol text.now found.1 found.0
-            × ((len : ℕ) (s : Symbol) → HasSymbol text.now len s → len ≤ found.1)) }
+        × ((len : ℕ) (s : Symbol) → HasSymbol text.now len s → len ≤ found.1)) }
 {
     for len in (1..5).rev() {
         if len <= text.len() {

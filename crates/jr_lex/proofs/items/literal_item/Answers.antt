@@ -1,4 +1,4 @@
-use Rattle.std.proofs.Common.{◌≡◌, sym, ◌∙◌, refl}
+use Rattle.std.proofs.Common.{sym, ◌∙◌, refl}
 use Rattle.jr_lex.proofs.Found.{bad_escape, open_literal, closed_string, closed_char, closed_several}
 use Rattle.jr_lex.proofs.items.literal_item.Goals as goal
 
@@ -13,11 +13,11 @@ returns-in-Some c =
     closed_char c.args.quote c.args.text.now c.in-Literal.units.items c.in-Literal.len c.in-Some.unit c.requires.opens c.requires.quote c.if-quote-eq34.false
     (sym c.as_slice.ensures.value ∙ c.in-Some.ensures) h
 
-pub returns-in-None : goal.returns-in-None
-returns-in-None c =
+pub returns : goal.returns
+returns c =
     let h = rw c.in-Literal.is at c.in_ok-scan_literal.ensures in
     let r = closed_several c.args.quote c.args.text.now c.in-Literal.units.items c.in-Literal.len c.requires.opens c.requires.quote c.if-quote-eq34.false
-        (rw c.as_slice.ensures.value at c.in-None.ensures) h in
+    (rw c.as_slice.ensures.value at c.in-None.ensures) h in
     (r.0, (refl, r.1))
 
 pub returns-in-BadEscape : goal.returns-in-BadEscape

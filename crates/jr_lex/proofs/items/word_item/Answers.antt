@@ -1,4 +1,4 @@
-use Rattle.std.proofs.Common.{◌≡◌, sym, ◌∙◌, subst}
+use Rattle.std.proofs.Common.{sym, ◌∙◌, subst}
 use Rattle.std.proofs.lemmas.Str.{IsCharBoundary-start}
 use Rattle.jr_base.specs.Identifiers.{is_word_char}
 use Rattle.jr_base.specs.Places.{CharRun}

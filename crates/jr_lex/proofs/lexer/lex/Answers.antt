@@ -1,4 +1,4 @@
-use Rattle.std.proofs.Common.{◌≡◌, ap, sym, ◌∙◌}
+use Rattle.std.proofs.Common.{ap, ◌∙◌}
 use Rattle.jr_lex.specs.declared.fault.LexFault.TheVariants.{NotUtf8}
 use Rattle.jr_lex.proofs.Utf8.{front_one, front_short}
 use Rattle.jr_lex.proofs.lexer.lex.Goals as goal

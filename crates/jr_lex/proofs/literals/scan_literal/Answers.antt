@@ -1,5 +1,3 @@
-use Rattle.std.proofs.Common.{◌≡◌, sym, ◌∙◌, refl, subst, arith}
-use Rattle.std.specs.Str.{IsCharBoundary}
 use Rattle.jr_base.specs.Literals.{none}
 use Rattle.jr_base.proofs.Runs.{after_char}
 use Rattle.jr_lex.proofs.CharacterLemmas.{chars_plain, chars_escape, first_boundary}

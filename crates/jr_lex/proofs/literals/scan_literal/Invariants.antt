@@ -1,4 +1,4 @@
-use Rattle.std.proofs.Common.{length, ◌-◌, ◌+◌, ◌≤◌}
+use Rattle.std.proofs.Common.{length, ◌-◌, ◌+◌}
 use Rattle.std.specs.Str.{IsCharBoundary}
 use Rattle.jr_base.specs.Literals.{Characters}
 use Rattle.jr_lex.proofs.literals.scan_literal.Given as goal
