@@ -9,6 +9,8 @@ mod lexer;
 mod literals;
 mod numerals;
 mod symbols;
+#[cfg(test)]
+mod tests;
 
 pub use fault::LexFault;
 pub use lexer::lex;
