@@ -48,7 +48,7 @@ escaped text =
     else option_map (λ unit. (unit, 1)) (simple_escape (slice_index text 0)))
 
 -- the unit of the escape that the text begins with, and its length behind the backslash
-abbrev pub escape_of : List ℕ → Option (ℕ × ℕ)
+unfoldable pub escape_of : List ℕ → Option (ℕ × ℕ)
 escape_of text = if slice_index text 0 == 92 then escaped (drop 1 text) else None
 
 -- the character stands for itself between such quotes

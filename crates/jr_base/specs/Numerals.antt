@@ -56,7 +56,7 @@ abbrev pub numeral_in : List ℕ → List ℕ
 numeral_in word = if has_long_mark word then take (length word - 1) word else word
 
 -- the integer literal that the whole word is
-abbrev pub integer_of : List ℕ → Option Kind
+unfoldable pub integer_of : List ℕ → Option Kind
 integer_of word =
     let numeral = numeral_in word in
     if is_numeral numeral

@@ -1,0 +1,13 @@
+pub mod CharacterLemmas
+pub mod Classes
+pub mod Digits
+pub mod EscapeLemmas
+pub mod Fronts
+pub mod IntegerLemmas
+pub mod Longest
+pub mod Found
+pub mod Readings
+pub mod SpellingTables
+pub mod SymbolLemmas
+pub mod Tests
+pub mod Utf8

@@ -1,0 +1,16 @@
+//! The tokens of a file (JLS 3), exact in both directions.
+#![tactic(auto)]
+
+mod escapes;
+mod fault;
+mod gaps;
+mod items;
+mod lexer;
+mod literals;
+mod numerals;
+mod symbols;
+#[cfg(test)]
+mod tests;
+
+pub use fault::LexFault;
+pub use lexer::lex;

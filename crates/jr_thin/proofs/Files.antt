@@ -1,0 +1,89 @@
+-- Which files are read.
+use Rattle.std.proofs.Common.{◌≡◌, ℕ, ◌+◌, ◌<◌, ◌≤◌, Bool, true, false, cond, List, [], ◌∷◌, length, suc, Some, None, Option, refl, sym, ap, subst, ◌∙◌, arith, inl, inr}
+use Rattle.std.specs.Prelude.{option_map, slice_index_or}
+use Rattle.std.proofs.lemmas.Option.{option_and_then_some}
+use Rattle.std.proofs.lemmas.Bool.{cases_lt}
+use Rattle.jr_base.specs.declared.kind.Kind.{Kind}
+use Rattle.jr_base.specs.declared.token.Token.{Token}
+use Rattle.jr_thin.specs.declared.sites.Site.{Site}
+use Rattle.jr_thin.specs.declared.reading.Phase.{Phase}
+use Rattle.jr_thin.specs.declared.reading.Phase.TheVariants.{Start}
+use Rattle.jr_thin.specs.declared.reading.Step.{Step}
+use Rattle.jr_thin.specs.Binding.{IsUnbound}
+use Rattle.jr_thin.specs.Clashes.{IsRespelled, IsRespelledSite}
+use Rattle.jr_thin.specs.Reading.{terminal_of, next, is_end, site_of, nodes_of, method_after, sites_from, sites_in}
+use Rattle.jr_thin.specs.Scopes.{IsBinding, KeepsRule}
+use Rattle.jr_thin.specs.Served.{AreTokens, IsRead, IsUnread}
+use Rattle.jr_thin.specs.Sites.{site_at, sites_of, plain}
+use Rattle.jr_thin.specs.Text.{is_of}
+use Rattle.jr_thin.specs.Trees.{kinds_of}
+use Rattle.jr_thin.proofs.Accepts.{read_as_class, read_of_class}
+use Rattle.jr_thin.proofs.Respellings.{other_is_of, some_is_of}
+
+none_some : {A : Type 0} (x : A) → None ≡ Some x → ⊥
+none_some x e = cc
+
+same_some : {A : Type 0} (x y : A) → Some x ≡ Some y → x ≡ y
+same_some x y e = cc
+
+mapped : (s : Site) (o : Option (List Site)) (sites : List Site) → option_map (λ l. s ∷ l) o ≡ Some sites → (rest : List Site) × (o ≡ Some rest) × (s ∷ rest ≡ sites)
+mapped s None sites is = absurd (none_some sites is)
+mapped s (Some rest) sites is = (rest, refl, same_some (s ∷ rest) sites is)
+
+pub length_from : (phase : Phase) (method node : ℕ) (ks : List Kind) (sites : List Site) → sites_from phase method node ks ≡ Some sites → length sites ≡ length ks
+length_from phase method node [] sites is = at_end (is_end phase) is
+  where
+    at_end : (b : Bool) → cond b (Some []) None ≡ Some sites → length sites ≡ 0
+    at_end true is = ap length (sym (same_some [] sites is))
+    at_end false is = absurd (none_some sites is)
+length_from phase method node (k ∷ ks) sites is =
+    option_and_then_some (λ (s : Step). option_map (λ (l : List Site). site_of s.role method node k ∷ l) (sites_from s.phase (method_after method s) (node + nodes_of s ks) ks)) (next phase (terminal_of k)) sites is (λ s found rest.
+    let more = mapped (site_of s.role method node k) (sites_from s.phase (method_after method s) (node + nodes_of s ks) ks) sites rest in
+    sym (ap length more.2) ∙ ap suc (length_from s.phase (method_after method s) (node + nodes_of s ks) ks more.0 more.1))
+
+pub length_kinds : (tokens : List Token) → length (kinds_of tokens) ≡ length tokens
+length_kinds [] = refl
+length_kinds (t ∷ ts) = ap suc (length_kinds ts)
+
+pub no_tokens : (bytes : List ℕ) → ((tokens : List Token) → Rattle.jr_base.specs.Reading.Lex bytes tokens → ⊥) → IsUnread bytes
+no_tokens bytes none tokens tree targets reads binding rule = none tokens reads.lex
+
+pub no_sites : (bytes : List ℕ) (tokens : List Token) → AreTokens bytes tokens → None ≡ sites_in (kinds_of tokens) → IsUnread bytes
+no_sites bytes tokens are none others tree targets reads binding rule =
+    none_some (sites_of tree) (none ∙ read_of_class (kinds_of tokens) tree (ap kinds_of (are.1 others reads.lex) ∙ reads.written))
+
+pub no_targets : (bytes : List ℕ) (tokens : List Token) (sites : List Site) → AreTokens bytes tokens → Some sites ≡ sites_in (kinds_of tokens) → IsUnbound sites → IsUnread bytes
+no_targets bytes tokens sites are read unbound others tree targets reads binding rule =
+    let same : sites_of tree ≡ sites = same_some (sites_of tree) sites (sym (read_of_class (kinds_of tokens) tree (ap kinds_of (are.1 others reads.lex) ∙ reads.written)) ∙ sym read) in
+    unbound targets (subst (λ l. IsBinding l targets) same binding) (subst KeepsRule same rule)
+
+pub is_read : (bytes : List ℕ) (tokens : List Token) (sites : List Site) (targets : List (Option ℕ)) → AreTokens bytes tokens → Some sites ≡ sites_in (kinds_of tokens) → IsBinding sites targets → KeepsRule sites → IsRead bytes tokens sites targets
+is_read bytes tokens sites targets are read binding rule =
+    let c = read_as_class (kinds_of tokens) sites (sym read) in
+    record { tree = c.0; reads = record { lex = are.0; written = c.1 }; same = c.2; only = λ others tree reads. (are.1 others reads.lex, same_some sites (sites_of tree) (read ∙ read_of_class (kinds_of tokens) tree (ap kinds_of (are.1 others reads.lex) ∙ reads.written))); size = length_from Start 0 0 (kinds_of tokens) sites (sym read) ∙ length_kinds tokens; binding = binding; rule = rule }
+
+pub past_sites : (sites : List Site) (i : ℕ) → length sites ≤ i → site_at sites i ≡ plain
+past_sites sites i order = Rattle.std.proofs.lemmas.List.get_or_past sites i plain order
+
+-- what holds of each token before the end holds of all
+pub all_respelled : (old new : List Site) (targets : List (Option ℕ)) (d : ℕ) (name : List ℕ) → length new ≡ length old → length targets ≡ length old
+    → ((i : ℕ) → i < length old → IsRespelledSite (site_at old i) (site_at new i) (is_of d (slice_index_or targets i None)) name) → IsRespelled old new targets d name
+all_respelled old new targets d name size targets_size each =
+    record {
+      role = λ i. elim (cases_lt i (length old)) [ inl inside ↦ (each i inside).role | inr out ↦ ap (λ s. s.role) (past_new i out ∙ sym (past_sites old i out)) ];
+      method = λ i. elim (cases_lt i (length old)) [ inl inside ↦ (each i inside).method | inr out ↦ ap (λ s. s.method) (past_new i out ∙ sym (past_sites old i out)) ];
+      chosen = λ i is. elim (cases_lt i (length old)) [
+        | inl inside ↦ (each i inside).text ∙ ap (λ b. cond b name (site_at old i).text) (some_is_of d (slice_index_or targets i None) is)
+        | inr out ↦ absurd (none_some d (sym (Rattle.std.proofs.lemmas.List.get_or_past targets i None (past_targets i out)) ∙ is))
+      ];
+      kept = λ i apart. elim (cases_lt i (length old)) [
+        | inl inside ↦ (each i inside).text ∙ ap (λ b. cond b name (site_at old i).text) (other_is_of d (slice_index_or targets i None) apart)
+        | inr out ↦ ap (λ s. s.text) (past_new i out ∙ sym (past_sites old i out))
+      ];
+    }
+  where
+    past_new : (i : ℕ) → length old ≤ i → site_at new i ≡ plain
+    past_new i order = past_sites new i (omega arith)
+
+    past_targets : (i : ℕ) → length old ≤ i → length targets ≤ i
+    past_targets i order = omega arith

@@ -1,0 +1,9 @@
+pub mod Accepts
+pub mod ClashLemmas
+pub mod Files
+pub mod Methods
+pub mod Outcomes
+pub mod Respellings
+pub mod ScopeLemmas
+pub mod Spans
+pub mod Walks

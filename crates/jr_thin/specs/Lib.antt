@@ -1,0 +1,9 @@
+pub mod Binding
+pub mod Clashes
+pub mod Reading
+pub mod Renaming
+pub mod Scopes
+pub mod Served
+pub mod Sites
+pub mod Text
+pub mod Trees

@@ -1,0 +1,18 @@
+//! The rename of a local or parameter in a class of static int methods, from bytes to bytes.
+//!
+//! A class has methods `static int f(int a, ..)` of statements `int x = e;` and `return e;`, whose expressions are int literals
+//! and simple names joined by `+`.
+#![tactic(auto)]
+
+mod answers;
+mod binding;
+mod clashes;
+mod reading;
+mod served;
+mod sites;
+mod spelling;
+
+pub use answers::{Renaming, rename};
+
+#[cfg(test)]
+mod tests;
