@@ -1,0 +1,10 @@
+//! What a user asks for: the words of a command, and a batch of requests in JSON.
+#![tactic(auto)]
+
+mod command;
+mod fault;
+mod words;
+
+pub use command::Command;
+pub use fault::RequestFault;
+pub use words::read_words;
