@@ -1,5 +1,6 @@
 // Why words or a batch are no request.
 use jr_base::{OutOfMemory, Text};
+use std::alloc::{AllocError, AllocFailed};
 use thiserror::Error;
 
 /// Why words or a batch are refused.
@@ -28,6 +29,28 @@ impl From<OutOfMemory> for RequestFault {
     ghost from_gives = { λ _ e. e ≡ OutOfMemory };
 
     fn from(_: OutOfMemory) -> Self {
+        RequestFault::OutOfMemory
+    }
+}
+
+impl From<AllocError> for RequestFault {
+    ghost use Rattle.std.specs.Prelude.{◌≡◌};
+    ghost use Rattle.jr_request.specs.declared.fault.RequestFault.TheVariants.{OutOfMemory};
+
+    ghost from_gives = { λ _ e. e ≡ OutOfMemory };
+
+    fn from(_: AllocError) -> Self {
+        RequestFault::OutOfMemory
+    }
+}
+
+impl<T: Drop> From<AllocFailed<T>> for RequestFault {
+    ghost use Rattle.std.specs.Prelude.{◌≡◌};
+    ghost use Rattle.jr_request.specs.declared.fault.RequestFault.TheVariants.{OutOfMemory};
+
+    ghost from_gives = { λ _ e. e ≡ OutOfMemory };
+
+    fn from(_: AllocFailed<T>) -> Self {
         RequestFault::OutOfMemory
     }
 }
