@@ -1,6 +1,6 @@
 // A batch of requests in JSON (RFC 8259).
 ghost use Rattle.std.specs.Prelude.{◌≡◌, ◌⊎◌, List, Result};
-ghost use Rattle.serde_json.specs.View.{view, items_view, items_of};
+ghost use Rattle.serde_json.specs.View.{view, items_view};
 ghost use Rattle.jr_base.specs.declared.request.Request.{Request};
 ghost use Rattle.jr_request.specs.declared.fault.RequestFault.{RequestFault};
 ghost use Rattle.jr_request.specs.Batch.{IsBatchAnswer};
