@@ -42,6 +42,7 @@ impl Edits {
     pub fn push(&mut self, span: Span, text: Text) -> Result<(), EditFault>
         ensures ok { OnOk result (self.new ≡ pushed self.old span text) }
         ensures err { OnErr result (self.new ≡ self.old) }
+        ensures same_text { self.new.text_len ≡ self.old.text_len }
         ensures apart { AreApart 0 self.new.text_len self.new.edits }
         ensures out_of_range { (result ≡ Err EditFault.OutOfRange)
             ↔ (IsInRange self.old.text_len span → ⊥) }

@@ -4,6 +4,8 @@
 mod edit;
 mod edits;
 mod fault;
+#[cfg(test)]
+mod tests;
 
 pub use edits::{Edits, apply};
 pub use fault::EditFault;

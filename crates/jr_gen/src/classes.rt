@@ -2,7 +2,7 @@
 ghost use Rattle.std.specs.Prelude.{◌≡◌, ◌≤◌, IfOk, string_bytes};
 ghost use Rattle.jr_gen.specs.Workspace.{path_of, returned_by, head_of, step_of, tail_of, text_of, workspace_of};
 
-use jr_base::{Files, OutOfMemory, Path};
+use jr_base::{Files, OutOfMemory, Path, PathFault};
 use std::alloc::Global;
 
 /// The files `g/C0.java` to `g/C(n-1).java`.
@@ -26,7 +26,10 @@ fn class_path(alloc: Global, number: u32) -> Result<Path, OutOfMemory>
     let name = format!(in alloc; "g/C{number}.java")?;
     match Path::parse(alloc, name.as_bytes()) {
         Ok(path) => Ok(path),
-        Err(_) => Err(OutOfMemory),
+        Err(fault) => match fault {
+            PathFault::OutOfMemory => Err(OutOfMemory),
+            _ => unreachable!(),
+        },
     }
 }
 

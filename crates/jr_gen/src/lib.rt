@@ -3,6 +3,8 @@
 
 mod changes;
 mod classes;
+#[cfg(test)]
+mod tests;
 
 pub use changes::requests;
 pub use classes::workspace;

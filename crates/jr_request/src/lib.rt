@@ -7,6 +7,9 @@ mod element;
 mod fault;
 mod words;
 
+#[cfg(test)]
+mod tests;
+
 pub use batch::read_batch;
 pub use command::Command;
 pub use fault::RequestFault;
