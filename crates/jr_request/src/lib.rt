@@ -5,10 +5,9 @@ mod batch;
 mod command;
 mod element;
 mod fault;
-mod words;
-
 #[cfg(test)]
 mod tests;
+mod words;
 
 pub use batch::read_batch;
 pub use command::Command;

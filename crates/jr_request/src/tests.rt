@@ -26,16 +26,46 @@ fn fits(outcome: &Result<Vec<Request>, RequestFault>, said: Said) -> bool {
 const BATCHES: [(&str, Said); 66] = [
     (r#"[]"#, Said::Requests(0)),
     (r#" [ ] "#, Said::Requests(0)),
-    (r#"[{"do":"rename","file":"A.java","at":27,"name":"b"}]"#, Said::Requests(1)),
-    (r#"[{"name":"b","at":27,"file":"A.java","do":"rename"}]"#, Said::Requests(1)),
-    (r#"[{"do":"move","file":"A.java","at":6,"package":"p.q"}]"#, Said::Requests(1)),
-    (r#"[{"do":"extract","file":"A.java","from":1,"to":2,"name":"m"}]"#, Said::Requests(1)),
-    (r#"[{"do":"inline","file":"A.java","at":0},{"do":"pullup","file":"A.java","at":9}]"#, Said::Requests(2)),
-    (r#"[{"do":"inline","file":"","at":4294967295}]"#, Said::Requests(1)),
-    (r#"[{"do":"rename","do":"inline","file":"A.java","at":0}]"#, Said::Requests(1)),
-    (r#"[{"do":"inline","file":1,"file":"A.java","at":0}]"#, Said::Requests(1)),
-    (r#"[{"do":"inline","file":"A.java","at":0,"at":"0"}]"#, Said::Field(1, "at")),
-    (r#"[{"d\u006f":"inline","file":"A.java","at":0}]"#, Said::Requests(1)),
+    (
+        r#"[{"do":"rename","file":"A.java","at":27,"name":"b"}]"#,
+        Said::Requests(1),
+    ),
+    (
+        r#"[{"name":"b","at":27,"file":"A.java","do":"rename"}]"#,
+        Said::Requests(1),
+    ),
+    (
+        r#"[{"do":"move","file":"A.java","at":6,"package":"p.q"}]"#,
+        Said::Requests(1),
+    ),
+    (
+        r#"[{"do":"extract","file":"A.java","from":1,"to":2,"name":"m"}]"#,
+        Said::Requests(1),
+    ),
+    (
+        r#"[{"do":"inline","file":"A.java","at":0},{"do":"pullup","file":"A.java","at":9}]"#,
+        Said::Requests(2),
+    ),
+    (
+        r#"[{"do":"inline","file":"","at":4294967295}]"#,
+        Said::Requests(1),
+    ),
+    (
+        r#"[{"do":"rename","do":"inline","file":"A.java","at":0}]"#,
+        Said::Requests(1),
+    ),
+    (
+        r#"[{"do":"inline","file":1,"file":"A.java","at":0}]"#,
+        Said::Requests(1),
+    ),
+    (
+        r#"[{"do":"inline","file":"A.java","at":0,"at":"0"}]"#,
+        Said::Field(1, "at"),
+    ),
+    (
+        r#"[{"d\u006f":"inline","file":"A.java","at":0}]"#,
+        Said::Requests(1),
+    ),
     (r#"{"#, Said::NoJson),
     (r#""#, Said::NoJson),
     (r#"[}"#, Said::NoJson),
@@ -53,43 +83,130 @@ const BATCHES: [(&str, Said); 66] = [
     (r#"null"#, Said::Field(0, "do")),
     (r#"7"#, Said::Field(0, "do")),
     (r#""do""#, Said::Field(0, "do")),
-    (r#"{"do":"inline","file":"A.java","at":0}"#, Said::Field(0, "do")),
+    (
+        r#"{"do":"inline","file":"A.java","at":0}"#,
+        Said::Field(0, "do"),
+    ),
     (r#"[7]"#, Said::Field(1, "do")),
     (r#"[[]]"#, Said::Field(1, "do")),
     (r#"[{}]"#, Said::Field(1, "do")),
     (r#"[{"file":"A.java","at":0}]"#, Said::Field(1, "do")),
     (r#"[{"do":1}]"#, Said::Field(1, "do")),
-    (r#"[{"do":"Rename","file":"A.java","at":0,"name":"b"}]"#, Said::Field(1, "do")),
-    (r#"[{"do":"delete","file":"A.java","at":0}]"#, Said::Field(1, "do")),
-    (r#"[{"do":"lift","file":"A.java","at":0}]"#, Said::Field(1, "do")),
+    (
+        r#"[{"do":"Rename","file":"A.java","at":0,"name":"b"}]"#,
+        Said::Field(1, "do"),
+    ),
+    (
+        r#"[{"do":"delete","file":"A.java","at":0}]"#,
+        Said::Field(1, "do"),
+    ),
+    (
+        r#"[{"do":"lift","file":"A.java","at":0}]"#,
+        Said::Field(1, "do"),
+    ),
     (r#"[{"do":"undo"}]"#, Said::Field(1, "do")),
     (r#"[{"do":"inline"}]"#, Said::Field(1, "file")),
-    (r#"[{"do":"rename","at":0,"name":"b"}]"#, Said::Field(1, "file")),
-    (r#"[{"do":"rename","file":7,"at":0,"name":"b"}]"#, Said::Field(1, "file")),
+    (
+        r#"[{"do":"rename","at":0,"name":"b"}]"#,
+        Said::Field(1, "file"),
+    ),
+    (
+        r#"[{"do":"rename","file":7,"at":0,"name":"b"}]"#,
+        Said::Field(1, "file"),
+    ),
     (r#"[{"do":"inline","file":"A.java"}]"#, Said::Field(1, "at")),
-    (r#"[{"do":"inline","file":"A.java","at":1.0}]"#, Said::Field(1, "at")),
-    (r#"[{"do":"inline","file":"A.java","at":-1}]"#, Said::Field(1, "at")),
-    (r#"[{"do":"inline","file":"A.java","at":-0}]"#, Said::Field(1, "at")),
-    (r#"[{"do":"inline","file":"A.java","at":1e2}]"#, Said::Field(1, "at")),
-    (r#"[{"do":"inline","file":"A.java","at":4294967296}]"#, Said::Field(1, "at")),
-    (r#"[{"do":"inline","file":"A.java","at":18446744073709551616}]"#, Said::Field(1, "at")),
-    (r#"[{"do":"inline","file":"A.java","at":null}]"#, Said::Field(1, "at")),
-    (r#"[{"do":"rename","file":"A.java","name":"b"}]"#, Said::Field(1, "at")),
-    (r#"[{"do":"extract","file":"A.java","at":0,"name":"b"}]"#, Said::Field(1, "from")),
-    (r#"[{"do":"extract","file":"A.java","from":"0","to":1,"name":"b"}]"#, Said::Field(1, "from")),
-    (r#"[{"do":"extract","file":"A.java","from":0,"name":"b"}]"#, Said::Field(1, "to")),
-    (r#"[{"do":"extract","file":"A.java","from":0,"to":1}]"#, Said::Field(1, "name")),
-    (r#"[{"do":"rename","file":"A.java","at":0}]"#, Said::Field(1, "name")),
-    (r#"[{"do":"rename","file":"A.java","at":0,"name":null}]"#, Said::Field(1, "name")),
-    (r#"[{"do":"move","file":"A.java","at":0,"name":"b"}]"#, Said::Field(1, "package")),
-    (r#"[{"do":"move","file":"A.java","at":0,"package":["p"]}]"#, Said::Field(1, "package")),
-    (r#"[{"do":"inline","file":"A.java","at":0,"name":"b"}]"#, Said::Field(1, "name")),
-    (r#"[{"do":"inline","file":"A.java","at":0,"z":1,"to":2,"b":3}]"#, Said::Field(1, "b")),
-    (r#"[{"do":"inline","file":"A.java","at":0,"b":3,"Z":1}]"#, Said::Field(1, "Z")),
-    (r#"[{"do":"inline","file":"A.java","at":0,"ab":1,"":2,"a":3}]"#, Said::Field(1, "")),
-    (r#"[{"do":"inline","file":"A.java","a":1}]"#, Said::Field(1, "at")),
-    (r#"[{"do":"inline","file":"A.java","at":0},{"do":"inline","file":"A.java"}]"#, Said::Field(2, "at")),
-    (r#"[{"do":"inline","file":"A.java"},7]"#, Said::Field(1, "at")),
+    (
+        r#"[{"do":"inline","file":"A.java","at":1.0}]"#,
+        Said::Field(1, "at"),
+    ),
+    (
+        r#"[{"do":"inline","file":"A.java","at":-1}]"#,
+        Said::Field(1, "at"),
+    ),
+    (
+        r#"[{"do":"inline","file":"A.java","at":-0}]"#,
+        Said::Field(1, "at"),
+    ),
+    (
+        r#"[{"do":"inline","file":"A.java","at":1e2}]"#,
+        Said::Field(1, "at"),
+    ),
+    (
+        r#"[{"do":"inline","file":"A.java","at":4294967296}]"#,
+        Said::Field(1, "at"),
+    ),
+    (
+        r#"[{"do":"inline","file":"A.java","at":18446744073709551616}]"#,
+        Said::Field(1, "at"),
+    ),
+    (
+        r#"[{"do":"inline","file":"A.java","at":null}]"#,
+        Said::Field(1, "at"),
+    ),
+    (
+        r#"[{"do":"rename","file":"A.java","name":"b"}]"#,
+        Said::Field(1, "at"),
+    ),
+    (
+        r#"[{"do":"extract","file":"A.java","at":0,"name":"b"}]"#,
+        Said::Field(1, "from"),
+    ),
+    (
+        r#"[{"do":"extract","file":"A.java","from":"0","to":1,"name":"b"}]"#,
+        Said::Field(1, "from"),
+    ),
+    (
+        r#"[{"do":"extract","file":"A.java","from":0,"name":"b"}]"#,
+        Said::Field(1, "to"),
+    ),
+    (
+        r#"[{"do":"extract","file":"A.java","from":0,"to":1}]"#,
+        Said::Field(1, "name"),
+    ),
+    (
+        r#"[{"do":"rename","file":"A.java","at":0}]"#,
+        Said::Field(1, "name"),
+    ),
+    (
+        r#"[{"do":"rename","file":"A.java","at":0,"name":null}]"#,
+        Said::Field(1, "name"),
+    ),
+    (
+        r#"[{"do":"move","file":"A.java","at":0,"name":"b"}]"#,
+        Said::Field(1, "package"),
+    ),
+    (
+        r#"[{"do":"move","file":"A.java","at":0,"package":["p"]}]"#,
+        Said::Field(1, "package"),
+    ),
+    (
+        r#"[{"do":"inline","file":"A.java","at":0,"name":"b"}]"#,
+        Said::Field(1, "name"),
+    ),
+    (
+        r#"[{"do":"inline","file":"A.java","at":0,"z":1,"to":2,"b":3}]"#,
+        Said::Field(1, "b"),
+    ),
+    (
+        r#"[{"do":"inline","file":"A.java","at":0,"b":3,"Z":1}]"#,
+        Said::Field(1, "Z"),
+    ),
+    (
+        r#"[{"do":"inline","file":"A.java","at":0,"ab":1,"":2,"a":3}]"#,
+        Said::Field(1, ""),
+    ),
+    (
+        r#"[{"do":"inline","file":"A.java","a":1}]"#,
+        Said::Field(1, "at"),
+    ),
+    (
+        r#"[{"do":"inline","file":"A.java","at":0},{"do":"inline","file":"A.java"}]"#,
+        Said::Field(2, "at"),
+    ),
+    (
+        r#"[{"do":"inline","file":"A.java"},7]"#,
+        Said::Field(1, "at"),
+    ),
 ];
 
 #[test]
@@ -122,13 +239,23 @@ fn nesting_ends_at_127(rt: HostRuntime) -> Result<(), Fail> {
 
 #[test]
 fn a_batch_of_each_kind(rt: HostRuntime) -> Result<(), Fail> {
-    let text = r#"[{"do":"rename","file":"A","at":1,"name":"b"},{"do":"extract","file":"B","from":2,"to":3,"name":"m"},{"do":"move","file":"C","at":4,"package":"p"}]"#;
+    let text =
+        r#"[{"do":"rename","file":"A","at":1,"name":"b"},{"do":"extract","file":"B","from":2,"to":3,"name":"m"},{"do":"move","file":"C","at":4,"package":"p"}]"#;
     let requests = read_batch(rt.alloc(), text.as_bytes())?;
     let ok = match requests.as_slice() {
         [
             Request::Rename { file, at: 1, name },
-            Request::Extract { file: second, start: 2, end: 3, name: method },
-            Request::Move { file: third, at: 4, package },
+            Request::Extract {
+                file: second,
+                start: 2,
+                end: 3,
+                name: method,
+            },
+            Request::Move {
+                file: third,
+                at: 4,
+                package,
+            },
         ] => {
             file.bytes() == b"A".as_slice()
                 && name.bytes() == b"b".as_slice()
@@ -224,7 +351,10 @@ fn words(rt: HostRuntime) -> Result<(), Fail> {
         for word in line.split_whitespace() {
             words.push(Text::new(word.as_bytes().to_vec(rt.alloc())?))?;
         }
-        assert!(rt; kind_of(&read_words(rt.alloc(), &words)) == Some(kind), "{line}");
+        assert!(rt;
+            kind_of(&read_words(rt.alloc(), &words)) == Some(kind),
+            "{line}"
+        );
     }
     Ok(())
 }
