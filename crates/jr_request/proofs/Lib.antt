@@ -1,0 +1,5 @@
+pub mod Arity
+pub mod Elements
+pub mod Fields
+pub mod Keys
+pub mod One
