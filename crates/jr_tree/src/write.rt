@@ -1,0 +1,22 @@
+//! Writes trees out as tokens.
+ghost use Rattle.std.specs.Prelude.{◌≡◌, IfOk};
+ghost use Rattle.jr_tree.specs.Tokens.{tokens_of};
+
+mod decl;
+mod expr;
+mod stmt;
+mod words;
+
+use crate::tree::Unit;
+use decl::write_unit;
+use jr_base::{Kind, OutOfMemory};
+use std::alloc::Global;
+
+/// The tokens of a unit, in order.
+pub fn tokens_of(alloc: Global, unit: &Unit) -> Result<Vec<Kind>, OutOfMemory>
+    ensures { IfOk result (λ tokens. tokens.items ≡ tokens_of unit.now) }
+{
+    let mut out = Vec::new(alloc);
+    write_unit(alloc, &mut out, unit)?;
+    Ok(out)
+}
