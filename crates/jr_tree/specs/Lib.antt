@@ -5,3 +5,4 @@ pub mod Levels
 pub mod Shape
 pub mod Depth
 pub mod Nodes
+pub mod Faithful
