@@ -87,12 +87,14 @@ abbrev pub is_new_array : x.Expr → Bool
 is_new_array (x.NewArray base dims more list) = true
 is_new_array _ = false
 
+abbrev pub has_expr : x.Exprs → Bool
+has_expr x.no_exprs = false
+has_expr (x.more_exprs e all) = true
+
 -- an array gets dimensions, or else brackets and a list (JLS 15.10)
 abbrev pub array_fits : x.Exprs → ℕ → x.AnyList → Bool
-array_fits x.no_exprs more x.no_list = false
-array_fits x.no_exprs more (x.a_list l) = nat_lt 0 more
-array_fits (x.more_exprs e all) more x.no_list = true
-array_fits (x.more_exprs e all) more (x.a_list l) = false
+array_fits dims more x.no_list = has_expr dims
+array_fits dims more (x.a_list l) = not (has_expr dims) && nat_lt 0 more
 
 -- an operand of a level or tighter, but for its parts
 abbrev pub Fits : ℕ → x.Expr → Type 0
@@ -168,10 +170,6 @@ IsStatementExpr e = IsTrue (is_statement e) × IsShapedExpr e
 abbrev pub AreStatementExprs : x.Exprs → Type 0
 AreStatementExprs x.no_exprs = Unit {0}
 AreStatementExprs (x.more_exprs e all) = IsStatementExpr e × AreStatementExprs all
-
-abbrev pub has_expr : x.Exprs → Bool
-has_expr x.no_exprs = false
-has_expr (x.more_exprs e all) = true
 
 -- ---- parts of statements (JLS 8.3, 14.4, 14.11, 14.14.1)
 
