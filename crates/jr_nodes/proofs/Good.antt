@@ -27,7 +27,7 @@ tail_good : (x : Node) (xs : Nodes) → IsGood (x ∷ xs) → IsGood xs
 tail_good x xs g at a h = g (suc at) a h
 
 pub good_append : (xs ys : Nodes) → IsGood xs → IsGood ys → IsGood (xs ++ ys)
-good_append [] ys g h = h
+good_append [] ys g h at a e = h at a e
 good_append (x ∷ xs) ys g h zero a e = let p : StandAt (x ∷ xs) zero (subtree a) = g zero a e in (p.0 ++ ys, ap (λ l. l ++ ys) p.1 ∙ append_assoc (subtree a) p.0 ys)
 good_append (x ∷ xs) ys g h (suc at) a e = good_append xs ys (tail_good x xs g) h at a e
 
