@@ -33,7 +33,7 @@ pub enum NodeRef<'a> {
 
 /// The node, if the number is 0, and else the number counted from the node after it.
 pub fn here(node: NodeRef<'_>, id: u32) -> ControlFlow<NodeRef<'_>, u32>
-    ensures { located result ≡ taken (seen node) id }
+    ensures { located result ≡ taken (seen node.entry) id }
 {
     if id == 0 {
         ControlFlow::Break(node)

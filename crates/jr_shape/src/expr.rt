@@ -81,6 +81,111 @@ fn is_new_array(expr: &Expr) -> bool
     ensures { result ≡ f.is_new_array (x.plain_expr expr.now) }
 {
     match expr {
+        Expr::NewArray { .. } => true,
+        _ => false,
+    }
+}
+
+pub fn has_expr(exprs: &[Expr]) -> bool
+    ensures { result ≡ f.has_expr (x.plain_exprs exprs.now) }
+{
+    match exprs {
+        [] => false,
+        [_, ..] => true,
+    }
+}
+
+fn fits(least: u8, expr: &Expr) -> bool
+    ensures { result ≡ t.fits least (x.plain_expr expr.now) }
+{
+    least <= level(expr) && !is_least(expr)
+}
+
+fn fits_before_dot(expr: &Expr) -> bool
+    ensures { result ≡ t.fits_before_dot (x.plain_expr expr.now) }
+{
+    fits(14, expr) && !is_name(expr)
+}
+
+fn fits_before_bracket(expr: &Expr) -> bool
+    ensures { result ≡ t.fits_before_bracket (x.plain_expr expr.now) }
+{
+    fits(14, expr) && !is_new_array(expr)
+}
+
+#[cycle(expr_shaped)]
+fn expr_shaped(expr: &Expr) -> bool
+    ensures { result ≡ t.expr_shaped (x.plain_expr expr.now) }
+{
+    match expr {
+        Expr::Assign { target, op, value } => {
+            is_assignment(*op)
+                && is_target(target.get())
+                && expr_shaped(target.get())
+                && fits(0, value.get())
+                && expr_shaped(value.get())
+        }
+        Expr::Cond { cond, yes, no } => {
+            fits(2, cond.get())
+                && expr_shaped(cond.get())
+                && fits(0, yes.get())
+                && expr_shaped(yes.get())
+                && fits(1, no.get())
+                && expr_shaped(no.get())
+        }
+        Expr::Binary { left, op, right } => {
+            0 < binary_level(*op)
+                && fits(binary_level(*op), left.get())
+                && expr_shaped(left.get())
+                && fits(binary_level(*op) + 1, right.get())
+                && expr_shaped(right.get())
+        }
+        Expr::IsA { value, ty } => {
+            fits(8, value.get()) && expr_shaped(value.get()) && type_shaped(ty)
+        }
+        Expr::Unary { op, value } => {
+            is_unary(*op)
+                && 12 <= level(value.get())
+                && (is_minus(*op) || !is_least(value.get()))
+                && expr_shaped(value.get())
+        }
+        Expr::Cast { ty, value } => {
+            type_shaped(ty)
+                && fits(12, value.get())
+                && !(is_named(&ty.base) && is_signed(value.get()))
+                && expr_shaped(value.get())
+        }
+        Expr::PreStep { op, value } => {
+            is_step(*op) && fits(12, value.get()) && expr_shaped(value.get())
+        }
+        Expr::PostStep { value, op } => {
+            is_step(*op) && fits(13, value.get()) && expr_shaped(value.get())
+        }
+        Expr::Lit { kind } => is_literal(kind),
+        Expr::This { name } => any_name_shaped(name),
+        Expr::Paren { inner } => fits(0, inner.get()) && expr_shaped(inner.get()),
+        Expr::NameExpr { name } => name_shaped(name),
+        Expr::Select { object, .. } => {
+            fits_before_dot(object.get()) && expr_shaped(object.get())
+        }
+        Expr::SuperSelect { .. } => true,
+        Expr::Index { array, at } => {
+            fits_before_bracket(array.get())
+                && expr_shaped(array.get())
+                && fits(0, at.get())
+                && expr_shaped(at.get())
+        }
+        Expr::Call {
+            receiver: None,
+            args,
+            ..
+        } => exprs_shaped(args.as_slice()),
+        Expr::Call {
+            receiver: Some(receiver),
+            args,
+            ..
+        } => { receiver_shaped(receiver) && exprs_shaped(args.as_slice()) }
+        Expr::New { name, args } => name_shaped(name) && exprs_shaped(args.as_slice()),
         Expr::NewArray {
             base,
             dims,
