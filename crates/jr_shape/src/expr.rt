@@ -175,34 +175,27 @@ fn expr_shaped(expr: &Expr) -> bool
                 && fits(0, at.get())
                 && expr_shaped(at.get())
         }
-        Expr::Call {
-            receiver: None,
-            args,
-            ..
-        } => exprs_shaped(args.as_slice()),
-        Expr::Call {
-            receiver: Some(receiver),
-            args,
-            ..
-        } => { receiver_shaped(receiver) && exprs_shaped(args.as_slice()) }
+        Expr::Call { receiver, args, .. } => match receiver {
+            None => exprs_shaped(args.as_slice()),
+            Some(receiver) => receiver_shaped(receiver) && exprs_shaped(args.as_slice()),
+        },
         Expr::New { name, args } => name_shaped(name) && exprs_shaped(args.as_slice()),
         Expr::NewArray {
             base,
             dims,
-            init: None,
-            ..
-        } => { base_shaped(base) && exprs_shaped(dims.as_slice()) && has_expr(dims.as_slice()) }
-        Expr::NewArray {
-            base,
-            dims,
             more,
-            init: Some(list),
-        } => {
-            base_shaped(base)
-                && exprs_shaped(dims.as_slice())
-                && (!has_expr(dims.as_slice()) && 0 < *more)
-                && list_shaped(list)
-        }
+            init,
+        } => match init {
+            None => {
+                base_shaped(base) && exprs_shaped(dims.as_slice()) && has_expr(dims.as_slice())
+            }
+            Some(list) => {
+                base_shaped(base)
+                    && exprs_shaped(dims.as_slice())
+                    && (!has_expr(dims.as_slice()) && 0 < *more)
+                    && list_shaped(list)
+            }
+        },
     }
 }
 

@@ -167,21 +167,15 @@ fn stmt_shaped(stmt: &Stmt) -> bool
         Stmt::While { cond, body } => {
             whole_expr(cond) && !is_local(body.get()) && stmt_shaped(body.get())
         }
-        Stmt::If {
-            cond,
-            yes,
-            no: None,
-        } => { whole_expr(cond) && !is_local(yes.get()) && stmt_shaped(yes.get()) }
-        Stmt::If {
-            cond,
-            yes,
-            no: Some(no),
-        } => {
-            whole_expr(cond)
-                && !is_local(yes.get())
-                && stmt_shaped(yes.get())
-                && (!takes_else(yes.get()) && !is_local(no.get()) && stmt_shaped(no.get()))
-        }
+        Stmt::If { cond, yes, no } => match no {
+            None => whole_expr(cond) && !is_local(yes.get()) && stmt_shaped(yes.get()),
+            Some(no) => {
+                whole_expr(cond)
+                    && !is_local(yes.get())
+                    && stmt_shaped(yes.get())
+                    && (!takes_else(yes.get()) && !is_local(no.get()) && stmt_shaped(no.get()))
+            }
+        },
         Stmt::Eval { value } => statement_expr(value),
         Stmt::For {
             first,
@@ -202,17 +196,17 @@ fn stmt_shaped(stmt: &Stmt) -> bool
         Stmt::Try {
             body,
             catches,
-            last: None,
-        } => {
-            block_shaped(body)
-                && catches_shaped(catches.as_slice())
-                && has_catch(catches.as_slice())
-        }
-        Stmt::Try {
-            body,
-            catches,
-            last: Some(last),
-        } => { block_shaped(body) && catches_shaped(catches.as_slice()) && block_shaped(last) }
+            last,
+        } => match last {
+            None => {
+                block_shaped(body)
+                    && catches_shaped(catches.as_slice())
+                    && has_catch(catches.as_slice())
+            }
+            Some(last) => {
+                block_shaped(body) && catches_shaped(catches.as_slice()) && block_shaped(last)
+            }
+        },
         Stmt::CtorCall { .. } => false,
     }
 }
