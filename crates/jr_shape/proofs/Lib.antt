@@ -1,0 +1,2 @@
+pub mod Iff
+pub mod Tells

@@ -1,0 +1,4 @@
+-- The trees as plain data: every definition on syntax goes by its cases.
+pub mod Exprs
+pub mod Stmts
+pub mod Decls
