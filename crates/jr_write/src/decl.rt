@@ -11,8 +11,8 @@ use crate::words::{
     ident, mark, word, word_if, write_imports, write_modifiers, write_names_after, write_package,
     write_params, write_parent, write_result, write_type,
 };
-use jr_tree::{Block, Member, TypeDecl, Unit};
 use jr_base::{Keyword, Kind, OutOfMemory, Symbol};
+use jr_tree::{Block, Member, TypeDecl, Unit};
 use std::alloc::Global;
 
 fn write_body(alloc: Global, out: &mut Vec<Kind>, body: &Option<Block>) -> Result<(), OutOfMemory>

@@ -8,8 +8,8 @@ ghost use Rattle.jr_tree.specs.Words as t;
 use crate::words::{
     brackets, ident, mark, mark_if, word, write_base, write_name, write_token, write_type,
 };
-use jr_tree::{Expr, Init, InitList, Name, Receiver};
 use jr_base::{Keyword, Kind, OutOfMemory, Symbol};
+use jr_tree::{Expr, Init, InitList, Name, Receiver};
 use std::alloc::Global;
 
 #[cycle(write_expr)]

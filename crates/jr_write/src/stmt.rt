@@ -8,8 +8,8 @@ ghost use Rattle.jr_tree.specs.Words as t;
 
 use crate::expr::{write_args, write_expr, write_exprs, write_init};
 use crate::words::{brackets, ident, mark, which_word, word, word_if, write_param, write_type};
-use jr_tree::{Block, Catch, Declarator, Expr, ForInit, Group, Stmt, SwitchLabel, TypeUse};
 use jr_base::{Keyword, Kind, OutOfMemory, Symbol, Text};
+use jr_tree::{Block, Catch, Declarator, Expr, ForInit, Group, Stmt, SwitchLabel, TypeUse};
 use std::alloc::Global;
 
 fn write_declarator(

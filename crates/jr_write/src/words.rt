@@ -3,10 +3,10 @@ ghost use Rattle.std.specs.Prelude.{◌≡◌, [], ◌∷◌, ◌++◌, map, OnO
 ghost use Rattle.jr_base.specs.declared.kind.Symbol.TheVariants as y;
 ghost use Rattle.jr_tree.specs.Words as t;
 
+use jr_base::{Keyword, Kind, OutOfMemory, Symbol, Text};
 use jr_tree::{
     Base, Import, Modifier, Name, PackageDecl, Param, Primitive, ResultType, ThisOrSuper, TypeUse,
 };
-use jr_base::{Keyword, Kind, OutOfMemory, Symbol, Text};
 use std::alloc::Global;
 
 pub fn write_token(out: &mut Vec<Kind>, kind: Kind) -> Result<(), OutOfMemory>
