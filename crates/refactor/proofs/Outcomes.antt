@@ -1,7 +1,7 @@
 -- From the status that was reported to the status that is answered.
 use Rattle.std.proofs.Common.{◌≡◌, ℕ, List, Option, Some, None, refl, sym, subst, ◌∙◌, inl, inr, ◌⊎◌}
 use Rattle.std.specs.Io.KnownBytes.{Appends}
-use Rattle.jr_request.specs.declared.words.Command.{Command}
+use Rattle.jr_request.specs.declared.command.Command.{Command}
 use Rattle.jr_store.specs.Image.{Image}
 use Rattle.jr_thin.specs.Renaming.{Serves}
 use Rattle.refactor.specs.Renaming.{AsksRename, Holds, ForTold}

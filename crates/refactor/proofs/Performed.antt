@@ -2,8 +2,8 @@
 use Rattle.std.proofs.Common.{◌≡◌, ◌≢◌, ℕ, ◌≤◌, List, [], ◌∷◌, get_or, Option, Some, None, IsSome, refl, sym, ap, subst, ◌∙◌, inl, inr, ◌⊎◌, arith, Vec, Global}
 use Rattle.jr_base.specs.declared.request.Request.TheVariants.{Rename}
 use Rattle.jr_request.specs.Words.{command_of}
-use Rattle.jr_request.specs.declared.words.Command.{Command}
-use Rattle.jr_request.specs.declared.words.Command.TheVariants.{One}
+use Rattle.jr_request.specs.declared.command.Command.{Command}
+use Rattle.jr_request.specs.declared.command.Command.TheVariants.{One}
 use Rattle.jr_store.specs.Image.{Image, Tells, ChangesOnly, Puts, OnlyTold, Rose}
 use Rattle.jr_thin.specs.Renaming.{Serves, IsDone}
 use Rattle.refactor.specs.Line.{line_of}

@@ -3,7 +3,7 @@ use Rattle.std.specs.Prelude.{◌≡◌, ◌≢◌, ◌⊎◌, ℕ, zero, suc, L
 use Rattle.std.specs.Io.KnownBytes.{Appends}
 use Rattle.jr_request.specs.Words.{command_of}
 use Rattle.jr_store.specs.Image.{Image, Tells, ChangesOnly, Puts, OnlyTold, Rose}
-use Rattle.jr_store.specs.Sink.{AppendsPart}
+use Rattle.jr_store.specs.Streams.{AppendsPart}
 use Rattle.jr_thin.specs.Renaming.{Serves, IsLost, IsBroken, IsDone}
 use Rattle.refactor.specs.Line.{line_of}
 use Rattle.refactor.specs.Renaming.{AsksRename, AsksSomeRename, files_named, Holds, ForTold}

@@ -2,8 +2,8 @@
 use Rattle.std.specs.Prelude.{◌≡◌, ◌≢◌, ℕ, List, [], ◌∷◌, Option, Some, None}
 use Rattle.jr_base.specs.declared.request.Request.TheVariants.{Rename}
 use Rattle.jr_request.specs.Words.{command_of}
-use Rattle.jr_request.specs.declared.words.Command.{Command}
-use Rattle.jr_request.specs.declared.words.Command.TheVariants.{One}
+use Rattle.jr_request.specs.declared.command.Command.{Command}
+use Rattle.jr_request.specs.declared.command.Command.TheVariants.{One}
 use Rattle.jr_store.specs.Image.{Image, Rose}
 use Rattle.jr_thin.specs.Renaming.{Serves, IsLost, IsBroken, IsDone}
 use Rattle.refactor.specs.Renaming.{AsksRename, AsksSomeRename, Holds, ForTold}

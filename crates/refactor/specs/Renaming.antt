@@ -3,8 +3,8 @@ use Rattle.std.specs.Prelude.{◌≡◌, ℕ, ◌≤◌, List, [], ◌∷◌, le
 use Rattle.jr_base.specs.Paths.{is_java}
 use Rattle.jr_base.specs.declared.request.Request.TheVariants.{Rename}
 use Rattle.jr_request.specs.Words.{command_of}
-use Rattle.jr_request.specs.declared.words.Command.{Command}
-use Rattle.jr_request.specs.declared.words.Command.TheVariants.{One}
+use Rattle.jr_request.specs.declared.command.Command.{Command}
+use Rattle.jr_request.specs.declared.command.Command.TheVariants.{One}
 use Rattle.jr_store.specs.Image.{Image}
 
 -- the words ask for the rename of what stands at the offset of the file
