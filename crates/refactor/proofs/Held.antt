@@ -100,5 +100,5 @@ first_is paths file x is e = e ∙ ap (λ (ps : List (List ℕ)). get_or ps 0 x)
 pub read_again : (told again : Option Image) (file path : List ℕ) (found : Option (Vec ℕ Global)) (bytes : Vec ℕ Global) → again ≡ told → path ≡ file → found ≡ Some bytes → Reads again path 65537 (option_map (λ v. v.items) found) → Reads told file 65537 (Some bytes.items)
 read_again told again file path found bytes same file_is is read =
     subst (λ (t : Option Image). Reads t file 65537 (Some bytes.items)) same
-      (subst (λ (p : List ℕ). Reads again p 65537 (Some bytes.items)) file_is
-        (subst (λ (o : Option (Vec ℕ Global)). Reads again path 65537 (option_map (λ v. v.items) o)) is read))
+    (subst (λ (p : List ℕ). Reads again p 65537 (Some bytes.items)) file_is
+    (subst (λ (o : Option (Vec ℕ Global)). Reads again path 65537 (option_map (λ v. v.items) o)) is read))

@@ -39,11 +39,7 @@ fn is_just(paths: &[Path], file: &[u8]) -> bool
 }
 
 // What the file holds; None where it is not the only one, or is large.
-fn find<S: Store>(
-    alloc: Global,
-    file: &[u8],
-    store: &mut S,
-) -> Result<Option<Found>, StoreError>
+fn find<S: Store>(alloc: Global, file: &[u8], store: &mut S) -> Result<Option<Found>, StoreError>
     ensures held { IfOk result (λ found. ForTold (S.files store.old) (λ files. IsHeld files file.now (option_map found_bytes found))) }
     ensures paths { IfOk result (λ found. IfSome found (λ one. one.paths.items ≡ file.now ∷ [])) }
     ensures small { IfOk result (λ found. IfSome found (λ one. length one.bytes.items ≤ 65536)) }
@@ -129,7 +125,9 @@ fn decide_command<S: Store>(alloc: Global, command: &Command, store: &mut S) -> 
     ensures decision { DecidesCommand command.now (S.files store.old) (S.faults store.old) (S.faults store.new) result }
 {
     match command {
-        Command::One(Request::Rename { file, at, name }) => decide_rename(alloc, file, *at, name, store),
+        Command::One(Request::Rename { file, at, name }) => decide_rename(
+            alloc, file, *at, name, store,
+        ),
         _ => Decision::Answer(Status::NotYet),
     }
 }

@@ -77,11 +77,7 @@ fn report_line(alloc: Global, report: &Report) -> Result<Vec<u8>, OutOfMemory>
     }
 }
 
-fn fault_line(
-    alloc: Global,
-    paths: &[Path],
-    fault: NotCompiling,
-) -> Result<Vec<u8>, OutOfMemory>
+fn fault_line(alloc: Global, paths: &[Path], fault: NotCompiling) -> Result<Vec<u8>, OutOfMemory>
     ensures { IfOk result (λ bytes. bytes.items ≡ fault_line paths.now fault) }
 {
     let line = LineWriter::new(alloc);
@@ -238,7 +234,10 @@ impl LineWriter {
         if request == 0 {
             return Ok(LineWriter::new(alloc));
         }
-        LineWriter::new(alloc).text("request ")?.number(request)?.text(": ")
+        LineWriter::new(alloc)
+            .text("request ")?
+            .number(request)?
+            .text(": ")
     }
 
     fn bytes(self, bytes: &[u8]) -> Result<LineWriter, OutOfMemory>

@@ -11,10 +11,9 @@ mod top;
 use jr_base::{OutOfMemory, Text};
 use jr_store::{FolderStore, StdSink, StdSource};
 use std::alloc::Global;
-use std::env;
-use std::io;
 use std::process::ExitCode;
 use std::rt::Env;
+use std::{env, io};
 use top::refactor;
 
 const HELP: &str = "\

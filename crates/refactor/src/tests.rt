@@ -66,17 +66,73 @@ fn a_call_answers(rt: HostRuntime) -> Result<(), Fail> {
     let twice = "class A { static int f(int y) { int x = 1; return 0; } }";
     let rows = [
         ROW,
-        Row { words: ". rename A.java 39 b", ..ROW },
+        Row {
+            words: ". rename A.java 39 b",
+            ..ROW
+        },
         // Nothing is written: the third call of the store would fail.
-        Row { words: ". rename A.java 27 a", store_fails: &[3], line: "done, files changed: 0\n", left: OLD, ..ROW },
-        Row { text: taken, words: ". rename A.java 27 b", number: 4, line: "no spelling: A.java:50\n", left: taken, ..ROW },
-        Row { text: twice, words: ". rename A.java 27 x", number: 6, line: "broken rule: 6 A.java:36\n", left: twice, ..ROW },
+        Row {
+            words: ". rename A.java 27 a",
+            store_fails: &[3],
+            line: "done, files changed: 0\n",
+            left: OLD,
+            ..ROW
+        },
+        Row {
+            text: taken,
+            words: ". rename A.java 27 b",
+            number: 4,
+            line: "no spelling: A.java:50\n",
+            left: taken,
+            ..ROW
+        },
+        Row {
+            text: twice,
+            words: ". rename A.java 27 x",
+            number: 6,
+            line: "broken rule: 6 A.java:36\n",
+            left: twice,
+            ..ROW
+        },
         // The store is not called: its first call would fail.
-        Row { words: ". rename A.java x b", store_fails: &[1], number: 1, line: "bad words\n", left: OLD, ..ROW },
-        Row { words: ".", store_fails: &[1], number: 1, line: "bad words\n", left: OLD, ..ROW },
-        Row { words: ". check", store_fails: &[1], number: 20, line: "not yet\n", left: OLD, ..ROW },
-        Row { words: ". rename B.java 27 b", number: 20, line: "not yet\n", left: OLD, ..ROW },
-        Row { words: ". rename A.java 27 int", number: 20, line: "not yet\n", left: OLD, ..ROW },
+        Row {
+            words: ". rename A.java x b",
+            store_fails: &[1],
+            number: 1,
+            line: "bad words\n",
+            left: OLD,
+            ..ROW
+        },
+        Row {
+            words: ".",
+            store_fails: &[1],
+            number: 1,
+            line: "bad words\n",
+            left: OLD,
+            ..ROW
+        },
+        Row {
+            words: ". check",
+            store_fails: &[1],
+            number: 20,
+            line: "not yet\n",
+            left: OLD,
+            ..ROW
+        },
+        Row {
+            words: ". rename B.java 27 b",
+            number: 20,
+            line: "not yet\n",
+            left: OLD,
+            ..ROW
+        },
+        Row {
+            words: ". rename A.java 27 int",
+            number: 20,
+            line: "not yet\n",
+            left: OLD,
+            ..ROW
+        },
     ];
     for row in &rows {
         let (number, line, left) = outcome(rt.alloc(), row)?;
@@ -92,13 +148,46 @@ fn a_fault_is_answered(rt: HostRuntime) -> Result<(), Fail> {
     let reading = "store fault: reading\n";
     let writing = "store fault: writing\n";
     let rows = [
-        Row { store_fails: &[1], number: 7, line: reading, left: OLD, ..ROW },
-        Row { store_fails: &[2], number: 7, line: reading, left: OLD, ..ROW },
-        Row { store_fails: &[3], number: 7, line: writing, left: OLD, ..ROW },
+        Row {
+            store_fails: &[1],
+            number: 7,
+            line: reading,
+            left: OLD,
+            ..ROW
+        },
+        Row {
+            store_fails: &[2],
+            number: 7,
+            line: reading,
+            left: OLD,
+            ..ROW
+        },
+        Row {
+            store_fails: &[3],
+            number: 7,
+            line: writing,
+            left: OLD,
+            ..ROW
+        },
         // The sync fails: the file has the new bytes, but a crash may lose them.
-        Row { store_fails: &[4], number: 7, line: writing, left: NEW, ..ROW },
-        Row { store_fails: &[5], ..ROW },
-        Row { sink_fails: &[1], number: 14, line: "", left: NEW, ..ROW },
+        Row {
+            store_fails: &[4],
+            number: 7,
+            line: writing,
+            left: NEW,
+            ..ROW
+        },
+        Row {
+            store_fails: &[5],
+            ..ROW
+        },
+        Row {
+            sink_fails: &[1],
+            number: 14,
+            line: "",
+            left: NEW,
+            ..ROW
+        },
     ];
     for row in &rows {
         let (number, line, left) = outcome(rt.alloc(), row)?;

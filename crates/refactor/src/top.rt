@@ -74,12 +74,7 @@ fn change<S: Store, O: Sink>(
 }
 
 // The status that is answered, and the one that is reported.
-fn perform<S: Store, O: Sink>(
-    alloc: Global,
-    words: &[Text],
-    store: &mut S,
-    out: &mut O,
-) -> Status
+fn perform<S: Store, O: Sink>(alloc: Global, words: &[Text], store: &mut S, out: &mut O) -> Status
     ensures answer { (status : Status)
         × Answers words.now (S.files store.old) (S.files store.new) (S.may_leave store.new) (S.faults store.old) (S.faults store.new) status
         × Reports status (reported words.now status) result (O.contents out.old) (O.contents out.new) (O.faults out.old) (O.faults out.new) }

@@ -10,6 +10,8 @@ returns-then-eq c =
     let new = c.in-Ok-Renamed.bytes.items in
     let same : new ≡ old = first_of (search rules, grind (arith, common_steps)) in
     let done : IsDone c.deref.result.now c.args.at c.args.name.now new =
-      subst (λ (r : Renaming). IsRenaming c.deref.result.now c.args.at c.args.name.now r) c.in-Ok-Renamed.field-0-is c.in-Ok-Renamed.ensures in
-    (refl, subst (λ (b : List ℕ). IsDone old c.args.at c.args.name.now b) same
-      (subst (λ (b : List ℕ). IsDone b c.args.at c.args.name.now new) c.deref.ensures.value done))
+    subst (λ (r : Renaming). IsRenaming c.deref.result.now c.args.at c.args.name.now r) c.in-Ok-Renamed.field-0-is c.in-Ok-Renamed.ensures in (
+      refl,
+      subst (λ (b : List ℕ). IsDone old c.args.at c.args.name.now b) same
+          (subst (λ (b : List ℕ). IsDone b c.args.at c.args.name.now new) c.deref.ensures.value done),
+    )
