@@ -76,7 +76,6 @@ def main():
         print(shape.__name__)
         rates = []
         for size in SIZES:
-            # A longer name must not take the file past the limit of 64 KB, which is on the file found.
             text = shape(size * 1024)
             seconds = max(timed(arguments.bin, text, arguments.runs) - empty, 1e-6)
             rates.append(seconds / (len(text) * math.log2(len(text))))
