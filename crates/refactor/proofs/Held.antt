@@ -1,11 +1,11 @@
 -- What the listing and the bytes of a store say of its one file.
-use Rattle.std.proofs.Common.{◌≡◌, ℕ, zero, suc, ◌<◌, ◌≤◌, Bool, true, false, List, [], ◌∷◌, length, get_or, take, Some, None, Option, option_map, IsSome, IsTrue, refl, sym, ap, subst, ◌∙◌, arith, length-take, Vec, Global}
+use Rattle.std.proofs.Common.{◌≡◌, ℕ, zero, suc, ◌<◌, ◌≤◌, Bool, List, [], ◌∷◌, length, get_or, take, Some, None, Option, option_map, IsSome, IsTrue, refl, sym, ap, subst, ◌∙◌, arith, length-take, Vec, Global}
 use Rattle.std.specs.Prelude.{Contains, bytes_eq}
 use Rattle.std.specs.List.{IsDistinct}
 use Rattle.std.proofs.lemmas.Slice.Eq.{bytes_eq-Decides}
 use Rattle.std.proofs.lemmas.Bool.{false≢true}
 use Rattle.jr_store.specs.Image.{Image, AreJava, Lists, Reads}
-use Rattle.refactor.specs.Renaming.{IsOnly, Holds, ForTold}
+use Rattle.refactor.specs.Renaming.{IsOnly, ForTold}
 use Rattle.refactor.specs.Decisions.{IsHeld}
 
 -- one path, compared

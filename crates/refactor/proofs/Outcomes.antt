@@ -1,12 +1,11 @@
 -- From the status that was reported to the status that is answered.
-use Rattle.std.proofs.Common.{◌≡◌, ℕ, List, Option, Some, None, refl, sym, subst, ◌∙◌, inl, inr, ◌⊎◌}
+use Rattle.std.proofs.Common.{◌≡◌, ℕ, List, Option, Some, None, refl, sym, subst, ◌∙◌, inl, inr}
 use Rattle.std.specs.Io.KnownBytes.{Appends}
-use Rattle.jr_request.specs.declared.command.Command.{Command}
 use Rattle.jr_store.specs.Image.{Image}
 use Rattle.jr_thin.specs.Renaming.{Serves}
 use Rattle.refactor.specs.Renaming.{AsksRename, Holds, ForTold}
 use Rattle.refactor.specs.Answers.{Answers, Reports, reported, Outcome, IsServedAnswer}
-use Rattle.refactor.specs.declared.status.Phase.TheVariants.{Recovering, Reading, Writing}
+use Rattle.refactor.specs.declared.status.Phase.TheVariants.{Reading, Writing}
 use Rattle.refactor.specs.declared.status.Status.{Status}
 use Rattle.refactor.specs.declared.status.Status.TheVariants.{Done, BadWords, NoSpelling, BrokenRule, NotYet, StoreFault, SinkFault, OutOfMemory}
 

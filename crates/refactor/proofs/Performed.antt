@@ -1,21 +1,21 @@
 -- From what was decided, and what was done then, to the answer.
-use Rattle.std.proofs.Common.{◌≡◌, ◌≢◌, ℕ, ◌≤◌, List, [], ◌∷◌, get_or, Option, Some, None, IsSome, refl, sym, ap, subst, ◌∙◌, inl, inr, ◌⊎◌, arith, Vec, Global}
+use Rattle.std.proofs.Common.{◌≡◌, ◌≢◌, ℕ, ◌≤◌, List, [], ◌∷◌, Option, Some, None, IsSome, refl, sym, ap, subst, ◌∙◌, inl, inr, ◌⊎◌, arith, Vec, Global}
 use Rattle.jr_base.specs.declared.request.Request.TheVariants.{Rename}
 use Rattle.jr_request.specs.Words.{command_of}
 use Rattle.jr_request.specs.declared.command.Command.{Command}
 use Rattle.jr_request.specs.declared.command.Command.TheVariants.{One}
-use Rattle.jr_store.specs.Image.{Image, Tells, ChangesOnly, Puts, OnlyTold, Rose}
+use Rattle.jr_store.specs.Image.{Image, Tells, ChangesOnly, Puts, Rose}
 use Rattle.jr_thin.specs.Renaming.{Serves, IsDone}
 use Rattle.refactor.specs.Line.{line_of}
-use Rattle.refactor.specs.Renaming.{AsksRename, AsksSomeRename, files_named, Holds, ForTold}
+use Rattle.refactor.specs.Renaming.{AsksRename, files_named, Holds, ForTold}
 use Rattle.refactor.specs.Decisions.{HoldsSome, HoldsNone, DecidesRename, IsRename, DecidesCommand, Decides}
-use Rattle.refactor.specs.Answers.{Asks, IsChanged, LeavesChange, Answers, Changes, Reports, IsReported, reported}
+use Rattle.refactor.specs.Answers.{IsChanged, LeavesChange, Answers, Changes, Reports, IsReported, reported}
 use Rattle.refactor.specs.declared.decide.Decision.{Decision}
 use Rattle.refactor.specs.declared.decide.Decision.TheVariants.{Answer, Refuse, Change}
-use Rattle.refactor.specs.declared.status.Phase.TheVariants.{Recovering, Reading, Writing}
-use Rattle.refactor.specs.declared.status.Report.TheVariants.{Changed, Checked, Printed}
+use Rattle.refactor.specs.declared.status.Phase.TheVariants.{Reading, Writing}
+use Rattle.refactor.specs.declared.status.Report.TheVariants.{Changed}
 use Rattle.refactor.specs.declared.status.Status.{Status}
-use Rattle.refactor.specs.declared.status.Status.TheVariants.{Done, BadWords, NoSpelling, BrokenRule, NotYet, StoreFault, SinkFault, OutOfMemory}
+use Rattle.refactor.specs.declared.status.Status.TheVariants.{Done, BadWords, NoSpelling, BrokenRule, NotYet, StoreFault, OutOfMemory}
 
 module _ (words : List (List ℕ)) (told : Option Image) (before after : ℕ) where
   -- a decision on a command is one on a rename, or says that it is not served

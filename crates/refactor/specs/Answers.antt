@@ -1,5 +1,5 @@
 -- When each answer comes, and what it leaves.
-use Rattle.std.specs.Prelude.{◌≡◌, ◌≢◌, ◌⊎◌, ℕ, zero, suc, List, [], ◌∷◌, Option, Some, None, IsSome}
+use Rattle.std.specs.Prelude.{◌≡◌, ◌≢◌, ◌⊎◌, ℕ, zero, suc, List, Option, Some, None, IsSome}
 use Rattle.std.specs.Io.KnownBytes.{Appends}
 use Rattle.jr_request.specs.Words.{command_of}
 use Rattle.jr_store.specs.Image.{Image, Tells, ChangesOnly, Puts, OnlyTold, Rose}

@@ -6,7 +6,7 @@ use Rattle.jr_request.specs.declared.command.Command.{Command}
 use Rattle.jr_request.specs.declared.command.Command.TheVariants.{One}
 use Rattle.jr_store.specs.Image.{Image, Rose}
 use Rattle.jr_thin.specs.Renaming.{Serves, IsLost, IsBroken, IsDone}
-use Rattle.refactor.specs.Renaming.{AsksRename, AsksSomeRename, Holds, ForTold}
+use Rattle.refactor.specs.Renaming.{Holds, ForTold}
 use Rattle.refactor.specs.declared.decide.Decision.{Decision}
 use Rattle.refactor.specs.declared.decide.Decision.TheVariants.{Answer, Refuse, Change}
 use Rattle.refactor.specs.declared.decide.Found.{Found}

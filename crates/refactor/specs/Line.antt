@@ -1,10 +1,8 @@
 -- The line of each answer, with its end. A place is shown by the path of its unit.
 use Rattle.std.specs.Prelude.{ℕ, ◌-◌, ◌==◌, nat_lt, List, [], ◌++◌, slice_index_or, Option, Some, None, if◌then◌else◌, codes, decimal}
-use Rattle.jr_base.specs.declared.ids.CuId.{CuId}
 use Rattle.jr_base.specs.declared.token.Place.{Place}
 use Rattle.jr_base.specs.declared.limits.Size.{Size}
 use Rattle.jr_base.specs.declared.limits.Size.TheVariants as size
-use Rattle.refactor.specs.declared.status.Edge.{Edge}
 use Rattle.refactor.specs.declared.status.EdgeKind.{EdgeKind}
 use Rattle.refactor.specs.declared.status.EdgeKind.TheVariants.{Control, Dispatch, DefUse}
 use Rattle.refactor.specs.declared.status.NotCompiling.{NotCompiling}

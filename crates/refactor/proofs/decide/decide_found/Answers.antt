@@ -1,4 +1,4 @@
-use Rattle.std.proofs.Common.{◌≡◌, ℕ, List, subst, sym, refl, rules, arith}
+use Rattle.std.proofs.Common.{◌≡◌, ℕ, List, subst, refl, rules, arith}
 use Rattle.std.proofs.lemmas.Grind.{common_steps}
 use Rattle.jr_thin.specs.Renaming.{IsDone, IsRenaming}
 use Rattle.jr_thin.specs.declared.answers.Renaming.{Renaming}

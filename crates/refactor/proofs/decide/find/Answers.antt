@@ -1,4 +1,4 @@
-use Rattle.std.proofs.Common.{◌≡◌, ◌<◌, ◌≤◌, sym, ◌∙◌, arith, [], ◌∷◌, List, ℕ}
+use Rattle.std.proofs.Common.{◌≡◌, sym, ◌∙◌, arith, [], ◌∷◌}
 use Rattle.std.proofs.lemmas.Bool.{false≢true}
 use Rattle.refactor.proofs.Held.{not_listed, large, holds_it, read_again, first_is}
 use Rattle.refactor.proofs.decide.find.Goals as goal

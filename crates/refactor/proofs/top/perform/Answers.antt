@@ -1,4 +1,4 @@
-use Rattle.std.proofs.Common.{◌≡◌, ◌∙◌, sym, subst, [], List, ℕ}
+use Rattle.std.proofs.Common.{subst, [], List, ℕ}
 use Rattle.refactor.specs.Answers.{IsReported, Changes}
 use Rattle.refactor.proofs.Held.{first_is}
 use Rattle.refactor.proofs.Performed.{answered, refused, renames, reports, changed, reports_change}
