@@ -198,9 +198,9 @@ claim u b (token {t = t} {ts = ts} p l r) e [] m h = absurd (let no : [] ≡ t �
 claim {bytes} u b (token {start = start} {t = t} {ts = ts} p l r) e (c ∷ cs) m h =
     let same : c.0 ≡ t = head_is c cs m in
     let next : IsCharBoundary bytes t.span.end = subst (λ n. IsCharBoundary bytes n) (sym l.1) (token_at bytes start l.0 t.kind u b l.2.stands) in
-    let inner : Claim bytes t.span.end cs = claim u next r e cs (tail_is c cs m) h.1 in
+    let inner : Claim bytes t.span.end cs = claim u next r e cs (tail_is c cs m) (λ k d s. h (suc k) d (omega arith)) in
     with_token bytes u start c cs b (ap (λ t. t.span.start) same ∙ p)
-        (subst (λ t. LongestAt bytes start t.span.end t.kind) (sym same) l) h.0
+        (subst (λ t. LongestAt bytes start t.span.end t.kind) (sym same) l) (h 0 c (omega arith))
         (subst (λ t. Claim bytes t.span.end cs) (sym same) inner)
 
 pub respelled_reads : RespelledReads
