@@ -61,5 +61,5 @@ integer_of word =
     let numeral = numeral_in word in
     if is_numeral numeral
     then (if has_long_mark word then long_of (radix_of numeral) (numeral_value numeral)
-        else int_of (radix_of numeral) (numeral_value numeral))
+    else int_of (radix_of numeral) (numeral_value numeral))
     else None
