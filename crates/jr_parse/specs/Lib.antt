@@ -1,0 +1,4 @@
+pub mod Begins
+pub mod Stmts
+pub mod Decls
+pub mod Answers

@@ -1,0 +1,4 @@
+pub mod Starts
+pub mod Names
+pub mod Exprs
+pub mod Views

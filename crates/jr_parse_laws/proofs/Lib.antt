@@ -1,0 +1,10 @@
+pub mod Outcomes
+pub mod Stops
+pub mod Exact
+pub mod Sequence
+pub mod Options
+pub mod Lists
+pub mod Choice
+pub mod Commas
+pub mod Nodes
+pub mod Turns
