@@ -11,7 +11,7 @@ use Rattle.jr_base.specs.Places.{CharAt}
 use Rattle.jr_base.specs.Gaps.{is_line_end}
 use Rattle.jr_base.specs.Literals.{Characters, none, plain, escape, is_plain, is_quote, escape_of, IsLiteral}
 use Rattle.jr_base.proofs.Runs.{char_one, char_inside, after_char}
-use Rattle.jr_lex.proofs.Tests.{no_both}
+use Rattle.jr_lex.proofs.ByteLemmas.{no_both}
 use Rattle.jr_lex.proofs.Fronts.{char_front, index_front}
 use Rattle.jr_lex.proofs.EscapeLemmas.{some_one, index_inside, escape_front, escape_opens, escape_boundary}
 

@@ -21,7 +21,7 @@ use Rattle.jr_lex.proofs.CharacterLemmas.{char_byte, quoted_from}
 use Rattle.jr_lex.proofs.Fronts.{word_front}
 use Rattle.jr_lex.proofs.IntegerLemmas.{integer_alnum, integer_first}
 use Rattle.jr_lex.proofs.SpellingTables.{is_sign, keyword_some, keyword_letters, symbol_some, symbol_signs}
-use Rattle.jr_lex.proofs.Tests.{all_each}
+use Rattle.jr_lex.proofs.ByteLemmas.{all_each}
 
 pub data Class : Type 0 where
   Letter : Class

@@ -6,7 +6,7 @@ use Rattle.std.specs.Str.Parse.{digits_value, digits_value_after, AllDigits}
 use Rattle.std.proofs.lemmas.Int.Digits.{digits_value_more, digits_value-lt}
 use Rattle.std.proofs.lemmas.Bool.{ltb-true}
 use Rattle.std.proofs.lemmas.List.{take-append-drop}
-use Rattle.jr_lex.proofs.Tests.{both_left, both_right}
+use Rattle.jr_lex.proofs.ByteLemmas.{both_left, both_right}
 use Rattle.std.proofs.Math.Nat.{mul-le-mul_left}
 
 after-append : (r n : ℕ) (xs ys : List ℕ) → digits_value_after r n (xs ++ ys) ≡ digits_value_after r (digits_value_after r n xs) ys

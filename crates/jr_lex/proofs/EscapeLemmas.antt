@@ -10,7 +10,7 @@ use Rattle.jr_base.specs.Literals.{simple_escape, octal_count, hex_unit, mark_co
 use Rattle.std.specs.Str.{IsUtf8, IsCharBoundary}
 use Rattle.std.proofs.lemmas.Bool.{eqb-true}
 use Rattle.std.proofs.lemmas.Str.{IsCharBoundary-after_ascii}
-use Rattle.jr_lex.proofs.Tests.{all_each, both_left, both_right, le_or_lt}
+use Rattle.jr_lex.proofs.ByteLemmas.{all_each, both_left, both_right, le_or_lt}
 
 -- the `u`s that end in the front
 marks_front : (w r s : List ℕ) → mark_count (w ++ r) < length w → mark_count (w ++ s) ≡ mark_count (w ++ r)

@@ -8,7 +8,7 @@ use Rattle.std.proofs.lemmas.Bool.Decides.{nat_tests}
 use Rattle.std.proofs.lemmas.List.{get_or-take, get_or-drop, length-take-le}
 use Rattle.jr_base.specs.Numerals.{is_hex_mark, is_long_mark, radix_of, digits_of, is_numeral, has_long_mark, numeral_in, integer_of}
 use Rattle.jr_base.specs.declared.kind.Kind.{Kind}
-use Rattle.jr_lex.proofs.Tests.{all_each, both_left, both_right, le_or_lt}
+use Rattle.jr_lex.proofs.ByteLemmas.{all_each, both_left, both_right, le_or_lt}
 
 -- which base a numeral has, and why
 data Radix (n : List ℕ) : Type 0 where

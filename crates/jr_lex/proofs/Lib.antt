@@ -7,7 +7,9 @@ pub mod IntegerLemmas
 pub mod Longest
 pub mod Found
 pub mod Readings
+pub mod Respelling
+pub mod RespelledText
 pub mod SpellingTables
 pub mod SymbolLemmas
-pub mod Tests
+pub mod ByteLemmas
 pub mod Utf8

@@ -17,7 +17,7 @@ use Rattle.std.specs.Char.{len_utf8}
 use Rattle.jr_lex.specs.Items.{HasSymbol}
 use Rattle.jr_lex.proofs.CharacterLemmas.{Quoted, quoted_from, chars_one, ends_at_quote}
 use Rattle.jr_lex.proofs.Classes.{Letter, Digit, Blank, Single, Double, Sign, kind_class, class_of, class_of_blank, token_class, token_word, integer_token, integer_run}
-use Rattle.jr_lex.proofs.Tests.{le_or_lt}
+use Rattle.jr_lex.proofs.ByteLemmas.{le_or_lt}
 
 -- no word goes on at the end of the first len bytes
 abbrev pub WordStops : List ℕ → ℕ → Type 0

@@ -25,7 +25,7 @@ use Rattle.jr_lex.proofs.Classes.{token_word, token_some, integer_run, take_firs
 use Rattle.jr_lex.proofs.EscapeLemmas.{index_inside}
 use Rattle.jr_lex.proofs.Longest.{gap_one, gap_or_token, longest_one}
 use Rattle.jr_lex.proofs.SpellingTables.{is_sign, symbol_some, symbol_signs}
-use Rattle.jr_lex.proofs.Tests.{all_each, le_or_lt}
+use Rattle.jr_lex.proofs.ByteLemmas.{all_each, le_or_lt}
 
 -- each gap goes on, within the text
 close_inside : (text : List ℕ) (place : ℕ) → closes_comment text place ≡ true → (place + 1 < length text) × (slice_index text (place + 1) < 128)

@@ -11,7 +11,7 @@ use Rattle.jr_base.specs.declared.kind.Symbol.TheVariants as symbol
 use Rattle.jr_base.specs.Gaps.{is_blank}
 use Rattle.jr_base.specs.Literals.{is_quote}
 use Rattle.jr_base.specs.Spellings.{keyword_text, symbol_text}
-use Rattle.jr_lex.proofs.Tests.{both_left, both_right}
+use Rattle.jr_lex.proofs.ByteLemmas.{both_left, both_right}
 
 -- an ASCII byte that begins no word, number, literal or blank
 abbrev pub is_sign : ℕ → Bool

@@ -5,7 +5,7 @@ use Rattle.jr_base.specs.declared.kind.Symbol.{Symbol}
 use Rattle.jr_base.specs.Spellings.{symbol_text}
 use Rattle.jr_lex.specs.Items.{HasSymbol}
 use Rattle.jr_lex.proofs.SpellingTables.{symbol_some, symbol_short}
-use Rattle.jr_lex.proofs.Tests.{le_or_lt}
+use Rattle.jr_lex.proofs.ByteLemmas.{le_or_lt}
 
 pub symbol_len : (text : List ℕ) (len : ℕ) (s : Symbol) → HasSymbol text len s → len ≡ length (symbol_text s)
 symbol_len text len s h = sym (length-take-le len text h.inside) ∙ ap length h.spells

@@ -5,6 +5,7 @@ mod escapes;
 mod fault;
 mod gaps;
 mod items;
+pub mod laws;
 mod lexer;
 mod literals;
 mod numerals;

@@ -4,7 +4,7 @@ use Rattle.jr_base.specs.Identifiers.{is_word_char}
 use Rattle.jr_base.specs.Places.{CharRun}
 use Rattle.jr_lex.specs.Items.{IsKindOf}
 use Rattle.jr_lex.proofs.Found.{word_found, no_word}
-use Rattle.jr_lex.proofs.Tests.{range_front}
+use Rattle.jr_lex.proofs.ByteLemmas.{range_front}
 use Rattle.jr_lex.proofs.items.word_item.Goals as goal
 
 pub char_at-first-requires-clause-boundary : goal.char_at-first-requires-clause-boundary
