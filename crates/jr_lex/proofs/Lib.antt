@@ -9,6 +9,7 @@ pub mod Found
 pub mod Readings
 pub mod Respelling
 pub mod RespelledText
+pub mod Spans
 pub mod SpellingTables
 pub mod SymbolLemmas
 pub mod ByteLemmas

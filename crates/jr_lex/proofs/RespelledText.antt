@@ -1,17 +1,15 @@
 -- The whole text with identifiers spelled otherwise, gap by gap and token by token.
-use Rattle.std.proofs.Common.{◌≡◌, ℕ, zero, suc, ◌+◌, ◌-◌, ◌<◌, ◌≤◌, List, [], ◌∷◌, ◌++◌, length, take, drop, refl, sym, ◌∙◌, ap, subst, arith, Option, Some, None, length-take, length-drop, length-append, append_assoc}
+use Rattle.std.proofs.Common.{◌≡◌, ℕ, suc, ◌+◌, ◌-◌, ◌<◌, ◌≤◌, List, [], ◌∷◌, ◌++◌, length, take, drop, refl, sym, ◌∙◌, ap, subst, arith, Option, Some, None, length-drop, length-append, append_assoc}
 use Rattle.std.specs.Prelude.{slice_range, map, All}
 use Rattle.std.specs.Str.{IsUtf8, IsCharBoundary}
 use Rattle.std.proofs.Math.Seq.{take-append-add, drop-append_seam}
-use Rattle.std.proofs.lemmas.List.{append-nil, take-append-drop, length-take-le, drop-drop, drop_all}
+use Rattle.std.proofs.lemmas.List.{length-take-le, drop_all}
 use Rattle.std.proofs.lemmas.List.Folds.{drop_split}
 use Rattle.std.proofs.lemmas.Str.{IsUtf8-append, IsUtf8-take, IsUtf8-drop, IsUtf8-nil, IsCharBoundary-start}
 use Rattle.jr_base.specs.Gaps.{IsGap}
-use Rattle.jr_base.specs.Identifiers.{IsIdentifier}
-use Rattle.jr_base.specs.Reading.{Reads, here, gap, token, Lex}
+use Rattle.jr_base.specs.Reading.{Reads, here, gap, token}
 use Rattle.jr_base.specs.Respelled.{Choice, IsChoice, new_kind, new_spelling, new_width, respelled, moved_token, moved_tokens, RespelledReads}
-use Rattle.jr_base.specs.Tokens.{IsToken, IsLongest, GapAt, LongestAt}
-use Rattle.jr_base.specs.declared.kind.Kind.{Kind}
+use Rattle.jr_base.specs.Tokens.{IsLongest, GapAt, LongestAt}
 use Rattle.jr_base.specs.declared.kind.Kind.TheVariants.{Ident}
 use Rattle.jr_base.specs.declared.token.Token.{Token}
 use Rattle.jr_base.proofs.Words.{word_utf8}
@@ -62,11 +60,11 @@ record Piece (bytes : List ℕ) (start end : ℕ) : Type 0 where
 
 piece : (bytes : List ℕ) (start end : ℕ) → start ≤ end → end ≤ length bytes → Piece bytes start end
 piece bytes start end l m = record {
-    word = slice_range bytes start end;
-    is = refl;
-    size = omega (arith, length-take-le (end - start) (drop start bytes) (omega (arith, length-drop start bytes)));
-    split = drop_split bytes start end l;
-  }
+  word = slice_range bytes start end;
+  is = refl;
+  size = omega (arith, length-take-le (end - start) (drop start bytes) (omega (arith, length-drop start bytes)));
+  split = drop_split bytes start end l;
+}
 
 piece_utf8 : (bytes : List ℕ) (start len end : ℕ) → end ≡ start + len → IsUtf8 bytes → IsCharBoundary bytes start → IsCharBoundary (drop start bytes) len → IsUtf8 (slice_range bytes start end)
 piece_utf8 bytes start len end e u b c =
@@ -95,9 +93,9 @@ module _ (bytes : List ℕ) (u : IsUtf8 bytes) where
             let at = length front in
             let goal : List ℕ → Type 0 = λ x. Reads (front ++ x) at (moved_tokens start at cs) (length (front ++ x)) in
             let moved : moved_tokens end (at + length w) cs ≡ moved_tokens start at cs =
-                ap (λ k. moved_tokens end (at + k) cs) (let e : length w ≡ end - start = omega (arith, p.size) in e) ∙ sym (moved_cut start end at cs (omega (arith, g.1)) f) in
+            ap (λ k. moved_tokens end (at + k) cs) (let e : length w ≡ end - start = omega (arith, p.size) in e) ∙ sym (moved_cut start end at cs (omega (arith, g.1)) f) in
             let after : Reads (front ++ (w ++ rest)) (at + length w) (moved_tokens end (at + length w) cs) (length (front ++ (w ++ rest))) =
-                regroup front w rest (λ x n. Reads x n (moved_tokens end n cs) (length x)) (inner.reads (front ++ w)) in
+            regroup front w rest (λ x n. Reads x n (moved_tokens end n cs) (length x)) (inner.reads (front ++ w)) in
             let here_gap : GapAt (front ++ (w ++ rest)) at (at + length w) = (length w, refl, subst (λ x. IsGap x (length w)) (sym (drop-append_seam front (w ++ rest))) new) in
             subst goal (sym cut) (gap here_gap (subst (λ ts. Reads (front ++ (w ++ rest)) (at + length w) ts (length (front ++ (w ++ rest)))) moved after));
       }
@@ -120,11 +118,11 @@ module _ (bytes : List ℕ) (u : IsUtf8 bytes) where
             let from : ℕ → Type 0 = λ s. Reads x at (moved_token s c ∷ moved_tokens end (s + new_width c) cs) (length x) in
             let same : at + (c.0.span.start - start) ≡ at = omega arith in
             let after : Reads x (at + length v) (moved_tokens end (at + length v) cs) (length x) =
-                regroup front v rest (λ y n. Reads y n (moved_tokens end n cs) (length y)) (inner.reads (front ++ v)) in
+            regroup front v rest (λ y n. Reads y n (moved_tokens end n cs) (length y)) (inner.reads (front ++ v)) in
             let moved : Reads x (at + new_width c) (moved_tokens end (at + new_width c) cs) (length x) =
-                subst (λ n. Reads x (at + n) (moved_tokens end (at + n) cs) (length x)) size after in
+            subst (λ n. Reads x (at + n) (moved_tokens end (at + n) cs) (length x)) size after in
             let stands : LongestAt x at (at + new_width c) (new_kind c) =
-                (length v, ap (λ n. at + n) (sym size), subst (λ y. IsLongest y (length v) (new_kind c)) (sym (drop-append_seam front (v ++ rest))) longest) in
+            (length v, ap (λ n. at + n) (sym size), subst (λ y. IsLongest y (length v) (new_kind c)) (sym (drop-append_seam front (v ++ rest))) longest) in
             let whole : from at = token {t = moved_token at c} refl stands moved in
             subst goal (sym cut) (subst from (sym same) whole);
       }
@@ -134,12 +132,16 @@ module _ (bytes : List ℕ) (u : IsUtf8 bytes) where
     where
       end : ℕ
       end = t.span.end
+
       len : ℕ
       len = g.0
+
       forward : (start ≤ t.span.end) × (t.span.end ≤ length bytes)
       forward = (omega (arith, g.1), omega (arith, g.1, g.2.stands.inside, length-drop start bytes, b.0))
+
       p2 : Piece bytes start t.span.end
       p2 = piece bytes start t.span.end forward.0 forward.1
+
       by : (o : Option (List ℕ)) → IsChoice (t, o) → Claim bytes start ((t, o) ∷ cs)
       by None choice =
           let q = piece bytes start t.span.end forward.0 forward.1 in
@@ -151,8 +153,8 @@ module _ (bytes : List ℕ) (u : IsUtf8 bytes) where
           let stood : IsLongest (w ++ old) (length w) t.kind = subst (λ n. IsLongest (w ++ old) n t.kind) wide (subst (λ x. IsLongest x g.0 t.kind) q.split g.2) in
           let some : 0 < length w = omega (arith, token_some (drop start bytes) g.0 t.kind g.2.stands) in
           made start (t, None) cs w p (q.is ∙ ap (λ s. slice_range bytes s t.span.end) (sym p)) (omega (arith, q.size)) uw
-              (subst (λ x. Alike x (w ++ rest)) (sym q.split) (alike_behind w old rest uw inner.alike))
-              (longest_kept w old rest inner.alike some t.kind stood) inner
+          (subst (λ x. Alike x (w ++ rest)) (sym q.split) (alike_behind w old rest uw inner.alike))
+          (longest_kept w old rest inner.alike some t.kind stood) inner
       by (Some name) choice =
           let q = piece bytes start t.span.end forward.0 forward.1 in
           let w = q.word in
@@ -161,14 +163,14 @@ module _ (bytes : List ℕ) (u : IsUtf8 bytes) where
           let was = choice.0.0 in
           let wide : g.0 ≡ length w = omega (arith, g.1, q.size) in
           let stood : IsLongest (w ++ old) (length w) (Ident was) =
-              subst (λ k. IsLongest (w ++ old) (length w) k) choice.0.1 (subst (λ n. IsLongest (w ++ old) n t.kind) wide (subst (λ x. IsLongest x g.0 t.kind) q.split g.2)) in
+          subst (λ k. IsLongest (w ++ old) (length w) k) choice.0.1 (subst (λ n. IsLongest (w ++ old) n t.kind) wide (subst (λ x. IsLongest x g.0 t.kind) q.split g.2)) in
           let some : 0 < length w = omega (arith, token_some (drop start bytes) g.0 t.kind g.2.stands) in
           let new : IsLongest (name ++ rest) (length name) (Ident name) = longest_renamed w old rest inner.alike some name was choice.1 stood in
           let begun = begins_of (w ++ old) (length w) (name_word (w ++ old) (length w) was stood.stands) in
           let begins = begins_of (name ++ rest) (length name) (name_word (name ++ rest) (length name) name new.stands) in
           made start (t, Some name) cs name p refl refl (word_utf8 name choice.1.word)
-              (subst (λ x. Alike x (name ++ rest)) (sym q.split) (alike_begins (w ++ old) (name ++ rest) begun begins))
-              new inner
+          (subst (λ x. Alike x (name ++ rest)) (sym q.split) (alike_begins (w ++ old) (name ++ rest) begun begins))
+          new inner
 
 head_is : {t : Token} {ts : List Token} (c : Choice) (cs : List Choice) → map (λ c. c.0) (c ∷ cs) ≡ t ∷ ts → c.0 ≡ t
 head_is c cs h = cc
@@ -200,8 +202,8 @@ claim {bytes} u b (token {start = start} {t = t} {ts = ts} p l r) e (c ∷ cs) m
     let next : IsCharBoundary bytes t.span.end = subst (λ n. IsCharBoundary bytes n) (sym l.1) (token_at bytes start l.0 t.kind u b l.2.stands) in
     let inner : Claim bytes t.span.end cs = claim u next r e cs (tail_is c cs m) (λ k d s. h (suc k) d (omega arith)) in
     with_token bytes u start c cs b (ap (λ t. t.span.start) same ∙ p)
-        (subst (λ t. LongestAt bytes start t.span.end t.kind) (sym same) l) (h 0 c (omega arith))
-        (subst (λ t. Claim bytes t.span.end cs) (sym same) inner)
+    (subst (λ t. LongestAt bytes start t.span.end t.kind) (sym same) l) (h 0 c (omega arith))
+    (subst (λ t. Claim bytes t.span.end cs) (sym same) inner)
 
 pub respelled_reads : RespelledReads
 respelled_reads bytes choices lex good =

@@ -1,19 +1,18 @@
 -- A text in which identifiers are spelled otherwise reads as the same tokens with those replaced.
-use Rattle.std.proofs.Common.{◌≡◌, ◌≢◌, ◌⊎◌, ⊎_elim, inl, inr, ℕ, zero, suc, ◌+◌, ◌-◌, ◌<◌, ◌≤◌, Bool, true, false, ◌||◌, ◌&&◌, ◌==◌, lit<, List, [], ◌∷◌, ◌++◌, length, get_or, take, drop, refl, sym, ◌∙◌, ap, subst, arith, Option, Some, None, length-take, length-drop, length-append, append_assoc}
-use Rattle.std.specs.Prelude.{slice_index, slice_range, map, All}
+use Rattle.std.proofs.Common.{◌≡◌, ◌⊎◌, ⊎_elim, inl, inr, ℕ, ◌+◌, ◌<◌, ◌≤◌, Bool, true, false, ◌||◌, ◌&&◌, ◌==◌, lit<, List, [], ◌∷◌, ◌++◌, length, take, drop, refl, sym, ◌∙◌, ap, subst, arith, length-drop, length-append, append_assoc}
+use Rattle.std.specs.Prelude.{slice_index}
 use Rattle.std.specs.Char.{is_ascii_digit, len_utf8}
 use Rattle.std.specs.List.{list_all}
-use Rattle.std.specs.Str.{IsUtf8, IsCharBoundary}
+use Rattle.std.specs.Str.{IsUtf8}
 use Rattle.std.proofs.Math.Seq.{take-append_seam, drop-append_seam}
-use Rattle.std.proofs.lemmas.Bool.{false≢true, eqb-true}
+use Rattle.std.proofs.lemmas.Bool.{eqb-true}
 use Rattle.std.proofs.lemmas.Bool.Decides.{nat_tests}
 use Rattle.std.proofs.lemmas.List.{append-nil, take-append-drop, length-take-le, get_or-append-add}
-use Rattle.jr_base.specs.Gaps.{is_blank, is_line_end, opens_line_comment, opens_block_comment, closes_comment, IsGap, IsBlank, IsLineComment, IsBlockComment}
+use Rattle.jr_base.specs.Gaps.{is_blank, is_line_end, opens_line_comment, opens_block_comment, IsGap}
 use Rattle.jr_base.specs.Identifiers.{is_start_char, is_word_char, WordAt, IsIdentifier}
-use Rattle.jr_base.specs.Places.{CharAt, CharRun, none, more}
-use Rattle.jr_base.specs.Spellings.{keyword_text, symbol_text}
+use Rattle.jr_base.specs.Places.{CharAt}
+use Rattle.jr_base.specs.Spellings.{symbol_text}
 use Rattle.jr_base.specs.Tokens.{Spells, IsApart, IsToken, IsLongest, EndsInteger, StartsSymbol, opens_fraction}
-use Rattle.jr_base.specs.declared.kind.Keyword.{Keyword}
 use Rattle.jr_base.specs.declared.kind.Kind.{Kind}
 use Rattle.jr_base.specs.declared.kind.Kind.TheVariants.{Word, Ident, Int, IntMin, Long, LongMin, Char, Str, Sym}
 use Rattle.jr_base.specs.declared.kind.Symbol.{Symbol}
@@ -24,8 +23,8 @@ use Rattle.std.proofs.lemmas.Str.{encode_same, length-encode, len_utf8_bounds}
 use Rattle.unicode_ident.specs.Ident.{is_xid_start, is_xid_continue}
 use Rattle.unicode_ident.proofs.IdentLemmas.{is_xid_start-is_xid_continue, is_xid_continue-ascii}
 use Rattle.jr_lex.specs.Items.{HasSymbol}
-use Rattle.jr_lex.proofs.Classes.{Class, Letter, Digit, Blank, Sign, kind_class, class_of, class_of_digit, class_of_blank, class_of_sign, word_class, token_class, token_word, token_some}
-use Rattle.jr_lex.proofs.Fronts.{char_front, index_front, index_same, word_front}
+use Rattle.jr_lex.proofs.Classes.{Letter, Digit, Blank, Sign, kind_class, class_of, class_of_digit, class_of_blank, class_of_sign, word_class, token_word}
+use Rattle.jr_lex.proofs.Fronts.{char_front, index_same, word_front}
 use Rattle.jr_lex.proofs.Longest.{WordStops, word_longest, integer_longest, char_longest, string_longest, symbol_longest}
 use Rattle.jr_lex.proofs.SpellingTables.{is_sign, symbol_signs}
 use Rattle.jr_lex.proofs.ByteLemmas.{both_left, both_right, no_both}
@@ -57,12 +56,15 @@ start_goes_on c h = by (is_xid_start c) refl
   where
     low_line : is_word_char 95 ≡ true
     low_line = rw (is_xid_continue-ascii 95 (lit< tt)) refl
+
     dollar : (x y : Bool) → y ≡ true → (x || y) ≡ true
     dollar true y e = refl
     dollar false y e = e
+
     other : (b : Bool) → (c == 95) ≡ b → ((c == 95) || (c == 36)) ≡ true → is_word_char c ≡ true
     other true e k = subst (λ x. is_word_char x ≡ true) (sym (eqb-true c 95 e)) low_line
     other false e k = dollar (is_xid_continue c) (c == 36) (rw e at k)
+
     by : (b : Bool) → is_xid_start c ≡ b → is_word_char c ≡ true
     by true e = rw (is_xid_start-is_xid_continue c e) refl
     by false e = other (c == 95) refl (rw e at h)
@@ -78,11 +80,11 @@ tail_same h = cc
 
 pub alike_begins : (a b : List ℕ) → Begins a → Begins b → Alike a b
 alike_begins a b p q = record {
-    first = inr (p.class, q.class);
-    some = λ l. p.some;
-    chars = λ c h w. (p.char, p.here, start_goes_on p.char p.starts);
-    signs = no_signs;
-  }
+  first = inr (p.class, q.class);
+  some = λ l. p.some;
+  chars = λ c h w. (p.char, p.here, start_goes_on p.char p.starts);
+  signs = no_signs;
+}
   where
     no_signs : Signs a b
     no_signs [] t h e = (a, refl)
@@ -111,11 +113,11 @@ first_inside w b c u some h = by u.0 u.1.1
 pub alike_behind : (w a b : List ℕ) → IsUtf8 w → Alike a b → Alike (w ++ a) (w ++ b)
 alike_behind [] a b u h = h
 alike_behind (x ∷ w) a b u h = record {
-    first = inl refl;
-    some = λ l. omega arith;
-    chars = λ c k y. (c, char_front (x ∷ w) b a 0 c (omega (arith, first_inside (x ∷ w) b c u (omega arith) k)) k, y);
-    signs = signs_behind (x ∷ w) a b h.signs;
-  }
+  first = inl refl;
+  some = λ l. omega arith;
+  chars = λ c k y. (c, char_front (x ∷ w) b a 0 c (omega (arith, first_inside (x ∷ w) b c u (omega arith) k)) k, y);
+  signs = signs_behind (x ∷ w) a b h.signs;
+}
 
 two : (f : ℕ → ℕ → Bool) (x y p q : ℕ) → x ≡ p → y ≡ q → f x y ≡ f p q
 two f x y p q e g = ap (λ z. f z y) e ∙ ap (f p) g
@@ -138,28 +140,28 @@ module _ (w a b : List ℕ) (alike : Alike a b) where
   gap_kept g = ⊎_elim
       (λ h. inl (record { blank = ap is_blank (at 0 (omega (arith, h.one))) ∙ h.blank; one = h.one }))
       (⊎_elim
-          (λ h. inr (inl (record {
-              opens = two (λ x y. (x == 47) && (y == 47)) _ _ _ _ (at 0 (omega (arith, h.some))) (at 1 (omega (arith, h.some))) ∙ h.opens;
-              some = h.some;
-              inside = omega (arith, length-append w b);
-              free = λ k p q. ap is_line_end (at k q) ∙ h.free k p q;
-              ends = λ l. ap is_line_end (seam w b) ∙ line_kept (sym (ap is_line_end (seam w a)) ∙ h.ends (omega (arith, length-append w a, alike.some (omega (arith, length-append w b)))));
-            })))
-          (λ h. inr (inr (record {
-              opens = two (λ x y. (x == 47) && (y == 42)) _ _ _ _ (at 0 (omega (arith, h.after, h.ends))) (at 1 (omega (arith, h.after, h.ends))) ∙ h.opens;
-              close = h.close;
-              after = h.after;
-              closes = two (λ x y. (x == 42) && (y == 47)) _ _ _ _ (at h.close (omega (arith, h.ends))) (at (h.close + 1) (omega (arith, h.ends))) ∙ h.closes;
-              first = λ k p q. two (λ x y. (x == 42) && (y == 47)) _ _ _ _ (at k (omega (arith, h.ends))) (at (k + 1) (omega (arith, h.ends))) ∙ h.first k p q;
-              ends = h.ends;
-            }))))
+      (λ h. inr (inl (record {
+        opens = two (λ x y. (x == 47) && (y == 47)) _ _ _ _ (at 0 (omega (arith, h.some))) (at 1 (omega (arith, h.some))) ∙ h.opens;
+        some = h.some;
+        inside = omega (arith, length-append w b);
+        free = λ k p q. ap is_line_end (at k q) ∙ h.free k p q;
+        ends = λ l. ap is_line_end (seam w b) ∙ line_kept (sym (ap is_line_end (seam w a)) ∙ h.ends (omega (arith, length-append w a, alike.some (omega (arith, length-append w b)))));
+      })))
+      (λ h. inr (inr (record {
+        opens = two (λ x y. (x == 47) && (y == 42)) _ _ _ _ (at 0 (omega (arith, h.after, h.ends))) (at 1 (omega (arith, h.after, h.ends))) ∙ h.opens;
+        close = h.close;
+        after = h.after;
+        closes = two (λ x y. (x == 42) && (y == 47)) _ _ _ _ (at h.close (omega (arith, h.ends))) (at (h.close + 1) (omega (arith, h.ends))) ∙ h.closes;
+        first = λ k p q. two (λ x y. (x == 42) && (y == 47)) _ _ _ _ (at k (omega (arith, h.ends))) (at (k + 1) (omega (arith, h.ends))) ∙ h.first k p q;
+        ends = h.ends;
+      }))))
       g
 
   ends_kept : EndsInteger a → EndsInteger b
   ends_kept h = record {
-      whole = λ c k. by c k (is_word_char c) refl;
-      no_point = λ e. ⊎_elim (λ f. h.no_point (sym f ∙ e)) (λ f. let s = sym (ap class_of e) ∙ f.1 in absurd (let no : Sign ≡ Letter = s in cc)) alike.first;
-    }
+    whole = λ c k. by c k (is_word_char c) refl;
+    no_point = λ e. ⊎_elim (λ f. h.no_point (sym f ∙ e)) (λ f. let s = sym (ap class_of e) ∙ f.1 in absurd (let no : Sign ≡ Letter = s in cc)) alike.first;
+  }
     where
       by : (c : ℕ) → CharAt b 0 c → (v : Bool) → is_word_char c ≡ v → is_word_char c ≡ false
       by c k false e = e
@@ -178,19 +180,22 @@ module _ (w a b : List ℕ) (alike : Alike a b) where
 
   starts_kept : 0 < length w → StartsSymbol (w ++ a) → StartsSymbol (w ++ b)
   starts_kept l h = record {
-      no_line = line (opens_line_comment (w ++ b)) refl;
-      no_block = block (opens_block_comment (w ++ b)) refl;
-      no_fraction = fraction (opens_fraction (w ++ b)) refl;
-    }
+    no_line = line (opens_line_comment (w ++ b)) refl;
+    no_block = block (opens_block_comment (w ++ b)) refl;
+    no_fraction = fraction (opens_fraction (w ++ b)) refl;
+  }
     where
       line : (v : Bool) → opens_line_comment (w ++ b) ≡ v → opens_line_comment (w ++ b) ≡ false
       line false e = e
       line true e = absurd (no_both (same_second l (λ x y. (x == 47) && (y == 47)) (byte_class _ 47 (eqb-true _ 47 (both_right (slice_index (w ++ b) 0 == 47) (slice_index (w ++ b) 1 == 47) e)) refl) ∙ e) h.no_line)
+
       block : (v : Bool) → opens_block_comment (w ++ b) ≡ v → opens_block_comment (w ++ b) ≡ false
       block false e = e
       block true e = absurd (no_both (same_second l (λ x y. (x == 47) && (y == 42)) (byte_class _ 42 (eqb-true _ 42 (both_right (slice_index (w ++ b) 0 == 47) (slice_index (w ++ b) 1 == 42) e)) refl) ∙ e) h.no_block)
+
       digit : is_ascii_digit (slice_index (w ++ b) 1) ≡ true → class_of (slice_index (w ++ b) 1) ≡ Letter → ⊥
       digit d c = let s = class_of_digit (slice_index (w ++ b) 1) d in absurd (let no : Digit ≡ Letter = sym s ∙ c in cc)
+
       fraction : (v : Bool) → opens_fraction (w ++ b) ≡ v → opens_fraction (w ++ b) ≡ false
       fraction false e = e
       fraction true e = absurd (no_both (same_second l (λ x y. (x == 46) && is_ascii_digit y) (digit (both_right (slice_index (w ++ b) 0 == 46) (is_ascii_digit (slice_index (w ++ b) 1)) e)) ∙ e) h.no_fraction)
@@ -208,10 +213,10 @@ module _ (w a b : List ℕ) (alike : Alike a b) where
 
   token_kept : 0 < length w → (k : Kind) → IsToken (w ++ a) (length w) k → IsToken (w ++ b) (length w) k
   token_kept l k t = record {
-      inside = omega (arith, length-append w b);
-      spells = subst (Spells k) (take-append_seam w a ∙ sym (take-append_seam w b)) t.spells;
-      apart = apart_kept l k t.apart;
-    }
+    inside = omega (arith, length-append w b);
+    spells = subst (Spells k) (take-append_seam w a ∙ sym (take-append_seam w b)) t.spells;
+    apart = apart_kept l k t.apart;
+  }
 
   -- what a word before the first text does not go on with, it does not before the second
   stops_kept : (v : List ℕ) → WordStops (w ++ a) (length w) → WordStops (v ++ b) (length v)
@@ -219,6 +224,7 @@ module _ (w a b : List ℕ) (alike : Alike a b) where
     where
       here : CharAt b 0 c
       here = record { scalar = k.scalar; rest = k.rest; split = sym (drop-append_seam v b) ∙ k.split }
+
       by : (x : Bool) → is_word_char c ≡ x → is_word_char c ≡ false
       by false e = e
       by true e =
@@ -242,12 +248,16 @@ stops_of text len k e t c h = by (is_word_char c) refl
   where
     n : ℕ
     n = len + len_utf8 c
+
     word : is_word_char c ≡ true → WordAt text 0 (len + len_utf8 c)
     word y = let v = token_word text len k e t.stands in record { first = v.first; here = v.here; starts = v.starts; run = run_more v.run h y }
+
     inside : len + len_utf8 c ≤ length text
     inside = omega (arith, length-drop len text, ap length h.split, length-append (encode c) h.rest, length-encode c, len_utf8_bounds c)
+
     longer : (l : Kind) → Spells l (take (len + len_utf8 c) text) → IsApart l text (len + len_utf8 c) → ⊥
     longer l s p = omega (arith, t.longest (len + len_utf8 c) l (record { inside = inside; spells = s; apart = p }), len_utf8_bounds c)
+
     alone : is_word_char c ≡ true → IsIdentifier (take (len + len_utf8 c) text)
     alone y =
         let v = take (len + len_utf8 c) text in
@@ -255,6 +265,7 @@ stops_of text len k e t c h = by (is_word_char c) refl
         let front : WordAt (v ++ drop (len + len_utf8 c) text) 0 (len + len_utf8 c) = subst (λ x. WordAt x 0 (len + len_utf8 c)) (sym (take-append-drop (len + len_utf8 c) text)) (word y) in
         let own : WordAt v 0 (length v) = subst (λ x. WordAt x 0 (length v)) (append-nil v) (subst (λ x. WordAt (v ++ []) 0 x) (sym size) (word_front v (drop (len + len_utf8 c) text) [] (len + len_utf8 c) (omega arith) front)) in
         record { word = own; free = λ j q. longer (Word j) (sym q) tt }
+
     by : (x : Bool) → is_word_char c ≡ x → is_word_char c ≡ false
     by false y = y
     by true y = absurd (longer (Ident (take (len + len_utf8 c) text)) (refl, alone y) tt)
@@ -281,10 +292,10 @@ module _ (w a b : List ℕ) (alike : Alike a b) (some : 0 < length w) where
   longest_renamed name n i t =
       let front : WordAt (name ++ b) 0 (length name) = word_front name [] b (length name) (omega arith) (subst (λ x. WordAt x 0 (length name)) (sym (append-nil name)) i.word) in
       let token : IsToken (name ++ b) (length name) (Ident name) = record {
-          inside = omega (arith, length-append name b);
-          spells = (take-append_seam name b, subst IsIdentifier (sym (take-append_seam name b)) i);
-          apart = tt;
-        } in
+        inside = omega (arith, length-append name b);
+        spells = (take-append_seam name b, subst IsIdentifier (sym (take-append_seam name b)) i);
+        apart = tt;
+      } in
       word_longest (name ++ b) (length name) front (stops_kept w a b alike name (stops_of (w ++ a) (length w) (Ident n) refl t)) (Ident name) refl token
 
 -- a text that begins with a word begins as an identifier does

@@ -1,2 +1,0 @@
-pub mod Iff
-pub mod Tells

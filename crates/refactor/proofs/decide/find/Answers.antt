@@ -1,0 +1,23 @@
+use Rattle.std.proofs.Common.{◌≡◌, sym, ◌∙◌, arith, [], ◌∷◌}
+use Rattle.std.proofs.lemmas.Bool.{false≢true}
+use Rattle.refactor.proofs.Held.{not_listed, large, holds_it, read_again, first_is}
+use Rattle.refactor.proofs.decide.find.Goals as goal
+
+pub returns-then-not-is_just-clause-held : goal.returns-then-not-is_just-clause-held
+returns-then-not-is_just-clause-held g c =
+    not_listed _ c.args.file.now _ c.in_ok-paths.ensures.distinct c.in_ok-paths.ensures.java c.in_ok-paths.ensures.listed
+    (λ is. false≢true (sym c.if-not-is_just.true ∙ c.is_just.ensures.1 (c.deref.ensures.value ∙ is)))
+
+pub returns-then-len-gt65536-clause-held : goal.returns-then-len-gt65536-clause-held
+returns-then-len-gt65536-clause-held g c =
+    let just : c.in_ok-paths.paths.items ≡ c.args.file.now ∷ [] = sym c.deref.ensures.value ∙ c.is_just.ensures.0 c.if-not-is_just.false in
+    large _ c.args.file.now c.in-Some.bytes.items
+    (read_again _ _ c.args.file.now _ c.in_ok-bytes.field-0 c.in-Some.bytes c.in_ok-paths.ensures.told (first_is _ _ _ just c.index.ensures) c.in-Some.is c.in_ok-bytes.ensures.bytes)
+    (omega (arith, c.len.ensures, c.in-Some.bytes.ok.0))
+
+pub returns-clause-held : goal.returns-clause-held
+returns-clause-held g c =
+    let just : c.in_ok-paths.paths.items ≡ c.args.file.now ∷ [] = sym c.deref.ensures.value ∙ c.is_just.ensures.0 c.if-not-is_just.false in
+    holds_it _ c.args.file.now c.in-Some.bytes.items _ c.in_ok-paths.ensures.java c.in_ok-paths.ensures.listed just
+    (read_again _ _ c.args.file.now _ c.in_ok-bytes.field-0 c.in-Some.bytes c.in_ok-paths.ensures.told (first_is _ _ _ just c.index.ensures) c.in-Some.is c.in_ok-bytes.ensures.bytes)
+    (omega (arith, c.len.ensures, c.in-Some.bytes.ok.0))

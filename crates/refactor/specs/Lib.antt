@@ -1,0 +1,5 @@
+pub mod Answers
+pub mod Decisions
+pub mod Line
+pub mod Renaming
+pub mod Status

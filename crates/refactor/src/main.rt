@@ -1,0 +1,78 @@
+//! Changes a folder of Java source, keeping what each name refers to.
+#![tactic(auto)]
+
+mod decide;
+mod lines;
+mod status;
+#[cfg(test)]
+mod tests;
+mod top;
+
+use jr_base::{OutOfMemory, Text};
+use jr_store::{FolderStore, StdSink, StdSource};
+use std::alloc::Global;
+use std::process::ExitCode;
+use std::rt::Env;
+use std::{env, io};
+use top::refactor;
+
+const HELP: &str = "\
+refactor DIR COMMAND ..: changes the Java source below the folder DIR, keeping what each name refers to
+
+  rename FILE OFFSET NAME   gives the local or parameter at the byte offset of the file another name
+
+The folder has one file that ends in .java, of at most 65,536 bytes: a class of methods `static int f(int ..)` with
+statements `int x = e;` and `return e;`. All else is answered `not yet`.
+Each answer is one line on standard output, and a status: 0 done, 1 bad words, 4 no spelling, 6 broken rule,
+7 store fault, 10 out of memory, 14 output fault, 20 not yet.
+";
+
+const VERSION: &str = "refactor 0.1.0\n";
+
+// The words after the program's name. Where the system gives no text, there are none.
+fn arguments<R: Env + Alloc>(rt: &R, alloc: Global) -> Result<Vec<Text>, OutOfMemory> {
+    let mut words = Vec::new(alloc);
+    if let Ok(args) = env::args(rt) {
+        for word in args.skip(1) {
+            words.push(Text::new(word.as_bytes().to_vec(alloc)?))?;
+        }
+    }
+    Ok(words)
+}
+
+fn folder(alloc: Global, words: &[Text]) -> Result<Text, OutOfMemory> {
+    match words {
+        [dir, ..] => dir.copy(alloc),
+        [] => Ok(Text::new(b".".to_vec(alloc)?)),
+    }
+}
+
+// What `--help` or `--version` alone asks for.
+fn information(words: &[Text]) -> Option<&'static str> {
+    match words {
+        [word] if word.bytes() == b"--help".as_slice() => Some(HELP),
+        [word] if word.bytes() == b"--version".as_slice() => Some(VERSION),
+        _ => None,
+    }
+}
+
+fn run(rt: &HostRuntime, alloc: Global) -> Result<u8, OutOfMemory> {
+    let words = arguments(rt, alloc)?;
+    if let Some(text) = information(&words) {
+        return match rt.print(text) {
+            Ok(()) => Ok(0),
+            Err(_) => Ok(14),
+        };
+    }
+    let dir = folder(alloc, &words)?;
+    let mut store = FolderStore::new(rt, alloc, dir)?;
+    let mut input = StdSource::new(rt.stdin());
+    let mut out = StdSink::new(io::writer(rt));
+    Ok(refactor(alloc, &words, &mut store, &mut input, &mut out).number())
+}
+
+fn main(rt: HostRuntime) -> ExitCode {
+    // Where memory is refused before the call, the status is its number, and there is no line.
+    let number = run(&rt, rt.alloc()).unwrap_or(10);
+    ExitCode::from(number)
+}

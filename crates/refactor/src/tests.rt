@@ -1,0 +1,133 @@
+// The answers of the top call on a store and an output in memory.
+use crate::top::refactor;
+use jr_base::{Files, Path, Text};
+use jr_store::{MemSink, MemSource, MemStore};
+use std::alloc::Global;
+use std::process::Abort;
+use std::test::Fail;
+
+const OLD: &str = "class A { static int f(int a) { return a + 1; } }";
+
+const NEW: &str = "class A { static int f(int b) { return b + 1; } }";
+
+const RENAME: &str = ". rename A.java 27 b";
+
+const DONE: &str = "done, files changed: 1\n";
+
+// What a call comes to.
+#[derive(Drop)]
+struct Called {
+    number: u8,
+    line: Vec<u8>,
+    left: Vec<u8>,
+}
+
+fn words_of(alloc: Global, line: &str) -> Result<Vec<Text>, Fail> {
+    let mut words = Vec::new(alloc);
+    for word in line.split(' ') {
+        words.push(Text::new(word.as_bytes().to_vec(alloc)?))?;
+    }
+    Ok(words)
+}
+
+// The calls that fail: the one with this number, or none.
+fn failing_calls(alloc: Global, call: u64) -> Result<Vec<u64>, Fail> {
+    let mut calls = Vec::new(alloc);
+    if call > 0 {
+        calls.push(call)?;
+    }
+    Ok(calls)
+}
+
+fn store_of(alloc: Global, text: &str, store_fails: u64) -> Result<MemStore, Fail> {
+    let mut files = Files::new(alloc);
+    files.insert(
+        Path::parse(alloc, b"A.java")?,
+        text.as_bytes().to_vec(alloc)?,
+    )?;
+    Ok(MemStore::new(alloc, files, failing_calls(alloc, store_fails)?)?)
+}
+
+fn left_in(alloc: Global, store: &MemStore) -> Result<Vec<u8>, Fail> {
+    let path = Path::parse(alloc, b"A.java")?;
+    let files = store.files(alloc)?;
+    match files.get(&path) {
+        Some(bytes) => Ok(bytes.to_vec(alloc)?),
+        None => Ok(Vec::new(alloc)),
+    }
+}
+
+fn call(
+    alloc: Global,
+    text: &str,
+    words: &str,
+    store_fails: u64,
+    sink_fails: u64,
+) -> Result<Called, Fail> {
+    let mut store = store_of(alloc, text, store_fails)?;
+    let mut input = MemSource::new(Vec::new(alloc), Vec::new(alloc));
+    let mut out = MemSink::new(alloc, failing_calls(alloc, sink_fails)?)?;
+    let words = words_of(alloc, words)?;
+    let status = refactor(alloc, &words, &mut store, &mut input, &mut out);
+    Ok(Called {
+        number: status.number(),
+        line: out.bytes().to_vec(alloc)?,
+        left: left_in(alloc, &store)?,
+    })
+}
+
+fn expect(rt: &impl Abort, called: &Called, number: u8, line: &str, left: &str) {
+    assert_eq!(rt; called.number, number);
+    assert!(rt; called.line.as_slice() == line.as_bytes());
+    assert!(rt; called.left.as_slice() == left.as_bytes());
+}
+
+#[test]
+fn a_rename_is_made(rt: HostRuntime) -> Result<(), Fail> {
+    let alloc = rt.alloc();
+    expect(&rt, &call(alloc, OLD, RENAME, 0, 0)?, 0, DONE, NEW);
+    let by_use = call(alloc, OLD, ". rename A.java 39 b", 0, 0)?;
+    expect(&rt, &by_use, 0, DONE, NEW);
+    // Nothing is written: the third call of the store would fail.
+    let to_itself = call(alloc, OLD, ". rename A.java 27 a", 3, 0)?;
+    expect(&rt, &to_itself, 0, "done, files changed: 0\n", OLD);
+    Ok(())
+}
+
+#[test]
+fn a_rename_is_refused(rt: HostRuntime) -> Result<(), Fail> {
+    let alloc = rt.alloc();
+    let taken = "class A { static int f(int a) { int b = 1; return a; } }";
+    let lost = call(alloc, taken, RENAME, 0, 0)?;
+    expect(&rt, &lost, 4, "no spelling: A.java:50\n", taken);
+    let twice = "class A { static int f(int y) { int x = 1; return 0; } }";
+    let broken = call(alloc, twice, ". rename A.java 27 x", 0, 0)?;
+    expect(&rt, &broken, 6, "broken rule: 6 A.java:36\n", twice);
+    // The store is not called: its first call would fail.
+    let bad = call(alloc, OLD, ". rename A.java x b", 1, 0)?;
+    expect(&rt, &bad, 1, "bad words\n", OLD);
+    let check = call(alloc, OLD, ". check", 1, 0)?;
+    expect(&rt, &check, 20, "not yet\n", OLD);
+    let elsewhere = call(alloc, OLD, ". rename B.java 27 b", 0, 0)?;
+    expect(&rt, &elsewhere, 20, "not yet\n", OLD);
+    let keyword = call(alloc, OLD, ". rename A.java 27 int", 0, 0)?;
+    expect(&rt, &keyword, 20, "not yet\n", OLD);
+    Ok(())
+}
+
+#[test]
+fn a_fault_is_answered(rt: HostRuntime) -> Result<(), Fail> {
+    let alloc = rt.alloc();
+    for failing in [1, 2] {
+        let reading = call(alloc, OLD, RENAME, failing, 0)?;
+        expect(&rt, &reading, 7, "store fault: reading\n", OLD);
+    }
+    let write = call(alloc, OLD, RENAME, 3, 0)?;
+    expect(&rt, &write, 7, "store fault: writing\n", OLD);
+    // The file has the new bytes, but a crash may lose them.
+    let sync = call(alloc, OLD, RENAME, 4, 0)?;
+    expect(&rt, &sync, 7, "store fault: writing\n", NEW);
+    let sink = call(alloc, OLD, RENAME, 0, 1)?;
+    expect(&rt, &sink, 14, "", NEW);
+    Ok(())
+}

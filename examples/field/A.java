@@ -1,0 +1,1 @@
+class A { int x; int f(int y) { return x + y; } }
