@@ -1,8 +1,7 @@
 -- Which files are read.
-use Rattle.std.proofs.Common.{◌≡◌, ℕ, ◌+◌, ◌<◌, ◌≤◌, Bool, true, false, cond, List, [], ◌∷◌, length, suc, Some, None, Option, refl, sym, ap, subst, ◌∙◌, arith, inl, inr}
-use Rattle.std.specs.Prelude.{option_map, slice_index_or}
+use Rattle.std.proofs.Common.{◌≡◌, ℕ, ◌+◌, ◌≤◌, Bool, true, false, cond, List, [], ◌∷◌, length, suc, Some, None, Option, refl, sym, ap, subst, ◌∙◌}
+use Rattle.std.specs.Prelude.{option_map}
 use Rattle.std.proofs.lemmas.Option.{option_and_then_some}
-use Rattle.std.proofs.lemmas.Bool.{cases_lt}
 use Rattle.jr_base.specs.declared.kind.Kind.{Kind}
 use Rattle.jr_base.specs.declared.token.Token.{Token}
 use Rattle.jr_thin.specs.declared.sites.Site.{Site}
@@ -10,15 +9,12 @@ use Rattle.jr_thin.specs.declared.reading.Phase.{Phase}
 use Rattle.jr_thin.specs.declared.reading.Phase.TheVariants.{Start}
 use Rattle.jr_thin.specs.declared.reading.Step.{Step}
 use Rattle.jr_thin.specs.Binding.{IsUnbound}
-use Rattle.jr_thin.specs.Clashes.{IsRespelled, IsRespelledSite}
 use Rattle.jr_thin.specs.Reading.{terminal_of, next, is_end, site_of, nodes_of, method_after, sites_from, sites_in}
 use Rattle.jr_thin.specs.Scopes.{IsBinding, KeepsRule}
 use Rattle.jr_thin.specs.Served.{AreTokens, IsRead, IsUnread}
 use Rattle.jr_thin.specs.Sites.{site_at, sites_of, plain}
-use Rattle.jr_thin.specs.Text.{is_of}
 use Rattle.jr_thin.specs.Trees.{kinds_of}
 use Rattle.jr_thin.proofs.Accepts.{read_as_class, read_of_class}
-use Rattle.jr_thin.proofs.Respellings.{other_is_of, some_is_of}
 
 none_some : {A : Type 0} (x : A) → None ≡ Some x → ⊥
 none_some x e = cc
@@ -64,26 +60,3 @@ is_read bytes tokens sites targets are read binding rule =
 
 pub past_sites : (sites : List Site) (i : ℕ) → length sites ≤ i → site_at sites i ≡ plain
 past_sites sites i order = Rattle.std.proofs.lemmas.List.get_or_past sites i plain order
-
--- what holds of each token before the end holds of all
-pub all_respelled : (old new : List Site) (targets : List (Option ℕ)) (d : ℕ) (name : List ℕ) → length new ≡ length old → length targets ≡ length old
-    → ((i : ℕ) → i < length old → IsRespelledSite (site_at old i) (site_at new i) (is_of d (slice_index_or targets i None)) name) → IsRespelled old new targets d name
-all_respelled old new targets d name size targets_size each =
-    record {
-      role = λ i. elim (cases_lt i (length old)) [ inl inside ↦ (each i inside).role | inr out ↦ ap (λ s. s.role) (past_new i out ∙ sym (past_sites old i out)) ];
-      method = λ i. elim (cases_lt i (length old)) [ inl inside ↦ (each i inside).method | inr out ↦ ap (λ s. s.method) (past_new i out ∙ sym (past_sites old i out)) ];
-      chosen = λ i is. elim (cases_lt i (length old)) [
-        | inl inside ↦ (each i inside).text ∙ ap (λ b. cond b name (site_at old i).text) (some_is_of d (slice_index_or targets i None) is)
-        | inr out ↦ absurd (none_some d (sym (Rattle.std.proofs.lemmas.List.get_or_past targets i None (past_targets i out)) ∙ is))
-      ];
-      kept = λ i apart. elim (cases_lt i (length old)) [
-        | inl inside ↦ (each i inside).text ∙ ap (λ b. cond b name (site_at old i).text) (other_is_of d (slice_index_or targets i None) apart)
-        | inr out ↦ ap (λ s. s.text) (past_new i out ∙ sym (past_sites old i out))
-      ];
-    }
-  where
-    past_new : (i : ℕ) → length old ≤ i → site_at new i ≡ plain
-    past_new i order = past_sites new i (omega arith)
-
-    past_targets : (i : ℕ) → length old ≤ i → length targets ≤ i
-    past_targets i order = omega arith

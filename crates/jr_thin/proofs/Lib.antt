@@ -1,5 +1,6 @@
 pub mod Accepts
 pub mod ClashLemmas
+pub mod Exclusion
 pub mod Files
 pub mod Methods
 pub mod Outcomes

@@ -3,24 +3,27 @@ use Rattle.std.proofs.Common.{◌≡◌, ◌⊎◌, inl, inr, ℕ, ◌<◌, ◌�
 use Rattle.std.specs.Prelude.{slice_index_or}
 use Rattle.std.proofs.lemmas.Bool.{cases_lt}
 use Rattle.jr_base.specs.Identifiers.{IsIdentifier}
-use Rattle.jr_base.specs.Respelled.{respelled}
+use Rattle.jr_base.specs.Reading.{Lex}
+use Rattle.jr_base.specs.Respelled.{respelled, moved_tokens}
 use Rattle.jr_base.specs.declared.token.Token.{Token}
 use Rattle.jr_thin.specs.declared.answers.Renaming.{Renaming}
 use Rattle.jr_thin.specs.declared.answers.Renaming.TheVariants.{NotServed, NoSpelling, BrokenRule, Renamed}
 use Rattle.jr_thin.specs.declared.reading.Phase.TheVariants.{Start}
 use Rattle.jr_thin.specs.declared.sites.Site.{Site}
 use Rattle.jr_thin.specs.declared.sites.Role.TheVariants.{Plain, Use}
-use Rattle.jr_thin.specs.Clashes.{IsClash, IsLostUse, IsFirstLostUse}
+use Rattle.jr_lex.proofs.RespelledText.{respelled_reads}
+use Rattle.jr_thin.specs.Clashes.{IsRespelled, IsClash, IsLostUse, IsFirstLostUse}
 use Rattle.jr_thin.specs.Renaming.{Serves, Changes, KeepsTarget, KeepsTargets, IsFirstLost, IsLost, IsBroken, IsDone, IsRenaming}
+use Rattle.jr_thin.specs.Reading.{sites_in}
 use Rattle.jr_thin.specs.Scopes.{is_declaration, IsTarget, IsBinding, KeepsRule, Redeclares}
-use Rattle.jr_thin.specs.Served.{IsRead, IsUnread, IsServed, IsChanged, IsRefusal}
+use Rattle.jr_thin.specs.Served.{IsRead, IsUnread, IsServed, IsRefusal}
 use Rattle.jr_thin.specs.Sites.{site_at, sites_of}
 use Rattle.jr_thin.specs.Text.{Covers, choices}
 use Rattle.jr_thin.specs.Trees.{ThinClass, kinds_of, tokens_of}
-use Rattle.jr_thin.proofs.Accepts.{read_as_class}
+use Rattle.jr_thin.proofs.Accepts.{read_as_class, read_of_class}
 use Rattle.jr_thin.proofs.ClashLemmas.{free_kept, free_rule, clash_kept, clash_redeclares, clash_only, lost_use}
 use Rattle.jr_thin.proofs.Files.{length_from, length_kinds, past_sites}
-use Rattle.jr_thin.proofs.Respellings.{past}
+use Rattle.jr_thin.proofs.Respellings.{past, tokens_chosen, respelling, respelled_is, respelled_sites}
 use Rattle.jr_thin.proofs.ScopeLemmas.{name_inside, declared_inside}
 
 pub no_identifier : (bytes : List ℕ) (at : ℕ) (name : List ℕ) → (IsIdentifier name → ⊥) → Serves bytes at name → ⊥
@@ -48,6 +51,13 @@ declared_of bytes at name tokens sites targets d served =
       | inr binds ↦ binds.visible.candidate.scope.declared
     ]
 
+-- the changed text has these tokens, of which each is what it was, with its new spelling
+pub record IsChanged (bytes : List ℕ) (tokens : List Token) (old : List Site) (targets : List (Option ℕ)) (declaration : ℕ) (name : List ℕ) : Type 0 where
+  pub lex : Lex bytes tokens
+  pub sites : List Site
+  pub read : sites_in (kinds_of tokens) ≡ Some sites
+  pub respelled : IsRespelled old sites targets declaration name
+
 module _ (bytes : List ℕ) (at : ℕ) (name : List ℕ) (tokens : List Token) (sites : List Site) (targets : List (Option ℕ)) (d : ℕ) (served : IsServed bytes at name tokens sites targets d) where
   abbrev serves : Serves bytes at name
   serves =
@@ -68,7 +78,25 @@ module _ (bytes : List ℕ) (at : ℕ) (name : List ℕ) (tokens : List Token) (
   declared : is_declaration (site_at sites d).role
   declared = declared_of bytes at name tokens sites targets d served
 
-  module _ (new : List ℕ) (changed : List Token) (change : new ≡ respelled bytes 0 (choices d name tokens targets)) (is : IsChanged new changed sites targets d name) where
+  abbrev changed : List Token
+  changed = moved_tokens 0 0 (choices d name tokens targets)
+
+  changed_is : IsChanged (respelled bytes 0 (choices d name tokens targets)) changed sites targets d name
+  changed_is =
+      let read = served.read in
+      let old : sites_in (kinds_of tokens) ≡ Some sites = read_of_class (kinds_of tokens) read.tree read.reads.written ∙ ap Some (sym read.same) in
+      let r = respelling d name tokens sites targets served.identifier old read.binding in
+      record {
+        lex = respelled_reads bytes (choices d name tokens targets) (subst (Lex bytes) (sym (tokens_chosen d name tokens targets)) read.reads.lex) r.chosen;
+        sites = respelled_sites d name sites targets;
+        read = r.read;
+        respelled = respelled_is d name sites targets read.binding;
+      }
+
+  module _ (new : List ℕ) (change : new ≡ respelled bytes 0 (choices d name tokens targets)) where
+    pub is : IsChanged new changed sites targets d name
+    is = subst (λ text. IsChanged text changed sites targets d name) (sym change) changed_is
+
     abbrev class : (c : ThinClass) × (kinds_of changed ≡ tokens_of c) × (is.sites ≡ sites_of c)
     class = read_as_class (kinds_of changed) is.sites is.read
 
@@ -98,6 +126,7 @@ module _ (bytes : List ℕ) (at : ℕ) (name : List ℕ) (tokens : List Token) (
         record {
           changes = changes;
           kept = λ i inside. kept_in i (kept_each (free_kept sites is.sites targets d name served.read.binding served.read.rule is.respelled declared free) i);
+          nodes = λ i. ap (λ (l : List Site). (site_at l i).node) (sym class.2) ∙ is.respelled.node i ∙ ap (λ (l : List Site). (site_at l i).node) served.read.same;
           rule = subst KeepsRule class.2 (free_rule sites is.sites targets d name served.read.binding served.read.rule is.respelled declared free);
         }
 

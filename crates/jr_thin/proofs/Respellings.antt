@@ -259,6 +259,12 @@ as_method Param name s = refl
 as_method Local name s = refl
 as_method Use name s = refl
 
+as_node : (r : Role) (name : List ℕ) (s : Site) → (respelled_as r name s).node ≡ s.node
+as_node Plain name s = refl
+as_node Param name s = refl
+as_node Local name s = refl
+as_node Use name s = refl
+
 as_text : (r : Role) (name : List ℕ) (s : Site) → r ≢ Plain → (respelled_as r name s).text ≡ name
 as_text Plain name s named = absurd (named refl)
 as_text Param name s named = refl
@@ -280,6 +286,7 @@ respelled_is d name ss targets binding =
     record {
       role = λ i. ap (λ s. s.role) (site_respelled d name ss targets i) ∙ either (λ s. s.role ≡ (site_at ss i).role) i (as_role _ name (site_at ss i)) refl;
       method = λ i. ap (λ s. s.method) (site_respelled d name ss targets i) ∙ either (λ s. s.method ≡ (site_at ss i).method) i (as_method _ name (site_at ss i)) refl;
+      node = λ i. ap (λ s. s.node) (site_respelled d name ss targets i) ∙ either (λ s. s.node ≡ (site_at ss i).node) i (as_node _ name (site_at ss i)) refl;
       chosen = λ i is. ap (λ s. s.text) (site_respelled d name ss targets i)
           ∙ ap (λ b. (cond b (respelled_as (site_at ss i).role name (site_at ss i)) (site_at ss i)).text) (some_is_of d (slice_index_or targets i None) is)
           ∙ as_text _ name (site_at ss i) (names_bound ss targets d i binding is);

@@ -1,10 +1,10 @@
 -- Tokens stand one after another, and a token more is spelled.
-use Rattle.std.proofs.Common.{◌≡◌, ℕ, ◌+◌, ◌<◌, ◌≤◌, Bool, cond, List, [], ◌∷◌, ◌++◌, length, drop, get_or, slice_range, Some, None, Option, sym, ap, subst, ◌∙◌, arith, append_assoc}
+use Rattle.std.proofs.Common.{◌≡◌, ℕ, ◌+◌, ◌-◌, ◌<◌, ◌≤◌, Bool, cond, List, [], ◌∷◌, ◌++◌, length, drop, get_or, slice_range, Some, None, Option, sym, ap, subst, ◌∙◌, arith, append_assoc}
 use Rattle.std.specs.Prelude.{slice_index_or}
-use Rattle.std.proofs.lemmas.List.{at_drop_more}
+use Rattle.std.proofs.lemmas.List.{at_drop_more, drop-drop}
 use Rattle.jr_base.specs.Reading.{Lex, Reads}
 use Rattle.jr_base.specs.Reading.Reads.{here, gap, token}
-use Rattle.jr_base.specs.Respelled.{Choice, respelled, new_spelling}
+use Rattle.jr_base.specs.Respelled.{Choice, respelled, new_spelling, new_width, moved_tokens}
 use Rattle.jr_base.specs.declared.token.Token.{Token}
 use Rattle.jr_thin.specs.Served.{SpansRise}
 use Rattle.jr_thin.specs.Text.{choices, is_of}
@@ -59,3 +59,16 @@ spelled_more bytes d name tokens targets i from t old new anew size inside is ho
     ∙ ap (λ l. old ++ l) (append_assoc (slice_range bytes from t.span.start) (new_spelling bytes c) rest)
     ∙ ap (λ b. old ++ respelled bytes from ((t, cond b (Some name) None) ∷ more)) how
     ∙ ap (λ l. old ++ respelled bytes from l) (sym (next_choice d name tokens targets i t size inside is))
+
+-- a token more is moved
+pub moved_more : (d : ℕ) (name : List ℕ) (tokens all : List Token) (targets : List (Option ℕ)) (i from at : ℕ) (t : Token) (anew : Bool) (start width next : ℕ) → length targets ≡ length tokens → i < length tokens → t ≡ get_or tokens i t
+    → anew ≡ is_of d (slice_index_or targets i None) → start ≡ at + (t.span.start - from) → width ≡ new_width (t, cond anew (Some name) None) → next ≡ start + width
+    → drop i all ≡ moved_tokens from at (choices d name (drop i tokens) (drop i targets))
+    → drop (i + 1) all ≡ moved_tokens t.span.end next (choices d name (drop (i + 1) tokens) (drop (i + 1) targets))
+moved_more d name tokens all targets i from at t anew start width next size inside is how begins wide ends same =
+    let more = choices d name (drop (i + 1) tokens) (drop (i + 1) targets) in
+    let first : Choice = (t, cond (is_of d (slice_index_or targets i None)) (Some name) None) in
+    let there : next ≡ (at + (t.span.start - from)) + new_width first = ends ∙ ap (λ n. n + width) begins ∙ ap (λ n. (at + (t.span.start - from)) + n) (wide ∙ ap (λ b. new_width (t, cond b (Some name) None)) how) in
+    sym (drop-drop 1 i all)
+    ∙ ap (drop 1) (same ∙ ap (moved_tokens from at) (next_choice d name tokens targets i t size inside is))
+    ∙ ap (λ n. moved_tokens t.span.end n more) (sym there)

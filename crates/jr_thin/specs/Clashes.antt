@@ -1,5 +1,5 @@
 -- What becomes of the names of a method when one of its declarations takes the name of another.
-use Rattle.std.specs.Prelude.{◌≡◌, ◌≢◌, ◌⊎◌, ℕ, ◌<◌, Bool, List, if◌then◌else◌, Option, Some, None, slice_index_or}
+use Rattle.std.specs.Prelude.{◌≡◌, ◌≢◌, ◌⊎◌, ℕ, ◌<◌, List, Option, Some, None, slice_index_or}
 use Rattle.jr_thin.specs.declared.sites.Site.{Site}
 use Rattle.jr_thin.specs.declared.sites.Role.TheVariants.{Param, Use}
 use Rattle.jr_thin.specs.Sites.{site_at}
@@ -38,11 +38,6 @@ pub record IsFirstLostUse (sites : List Site) (targets : List (Option ℕ)) (fir
 pub record IsRespelled (old new : List Site) (targets : List (Option ℕ)) (d : ℕ) (name : List ℕ) : Type 0 where
   pub role : (i : ℕ) → (site_at new i).role ≡ (site_at old i).role
   pub method : (i : ℕ) → (site_at new i).method ≡ (site_at old i).method
+  pub node : (i : ℕ) → (site_at new i).node ≡ (site_at old i).node
   pub chosen : (i : ℕ) → slice_index_or targets i None ≡ Some d → (site_at new i).text ≡ name
   pub kept : (i : ℕ) → slice_index_or targets i None ≢ Some d → (site_at new i).text ≡ (site_at old i).text
-
--- the same of one token
-pub record IsRespelledSite (old new : Site) (anew : Bool) (name : List ℕ) : Type 0 where
-  pub role : new.role ≡ old.role
-  pub method : new.method ≡ old.method
-  pub text : new.text ≡ (if anew then name else old.text)

@@ -1,5 +1,6 @@
 pub mod Binding
 pub mod Clashes
+pub mod Laws
 pub mod Reading
 pub mod Renaming
 pub mod Scopes

@@ -78,10 +78,11 @@ pub record IsBroken (old : List ℕ) (at : ℕ) (name : List ℕ) (place : ℕ) 
   pub first : (e d : ℕ) → Redeclares (sites_of changes.tree) e d → d < declared → ⊥
   pub starts : place ≡ (span_at changes.tokens declared).start
 
--- the new bytes are the changed text, every name keeps its declaration, and the rule is kept
+-- the new bytes are the changed text, every name keeps its declaration and its node, and the rule is kept
 pub record IsDone (old : List ℕ) (at : ℕ) (name new : List ℕ) : Type 0 where
   pub changes : Changes old at name new
   pub kept : KeepsTargets changes
+  pub nodes : (i : ℕ) → (site_at (sites_of changes.tree) i).node ≡ (site_at (sites_of changes.serves.tree) i).node
   pub rule : KeepsRule (sites_of changes.tree)
 
 abbrev pub IsRenaming : List ℕ → ℕ → List ℕ → Renaming → Type 0

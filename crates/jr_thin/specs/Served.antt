@@ -6,10 +6,9 @@ use Rattle.jr_thin.specs.declared.sites.Site.{Site}
 use Rattle.jr_base.specs.Reading.{Lex}
 use Rattle.jr_thin.specs.declared.answers.Renaming.{Renaming}
 use Rattle.jr_thin.specs.declared.answers.Renaming.TheVariants.{NoSpelling, BrokenRule}
-use Rattle.jr_thin.specs.Clashes.{IsRespelled, IsLostUse, IsFirstLostUse}
+use Rattle.jr_thin.specs.Clashes.{IsLostUse, IsFirstLostUse}
 use Rattle.jr_thin.specs.Renaming.{occurrence, declaration_id}
-use Rattle.jr_thin.specs.Reading.{sites_in}
-use Rattle.jr_thin.specs.Trees.{ThinClass, ReadsThin, kinds_of}
+use Rattle.jr_thin.specs.Trees.{ThinClass, ReadsThin}
 use Rattle.jr_thin.specs.Sites.{site_at, sites_of}
 use Rattle.jr_thin.specs.Scopes.{IsBinding, KeepsRule}
 use Rattle.jr_thin.specs.Text.{Covers, span_at}
@@ -40,17 +39,14 @@ pub record IsServed (bytes : List ℕ) (at : ℕ) (name : List ℕ) (tokens : Li
 abbrev pub AreTokens : List ℕ → List Token → Type 0
 AreTokens bytes tokens = Lex bytes tokens × ((others : List Token) → Lex bytes others → tokens ≡ others)
 
--- the changed text has these tokens, of which each is what it was, with its new spelling
-pub record IsChanged (bytes : List ℕ) (tokens : List Token) (old : List Site) (targets : List (Option ℕ)) (declaration : ℕ) (name : List ℕ) : Type 0 where
-  pub lex : Lex bytes tokens
-  pub sites : List Site
-  pub read : sites_in (kinds_of tokens) ≡ Some sites
-  pub respelled : IsRespelled old sites targets declaration name
-
 -- the tokens stand one after another, from a place up to another
 abbrev pub SpansRise : ℕ → ℕ → List Token → Type 0
 SpansRise from to [] = from ≤ to
 SpansRise from to (t ∷ ts) = (from ≤ t.span.start) × (t.span.start ≤ t.span.end) × SpansRise t.span.end to ts
+
+-- the same, from a place on
+abbrev pub RiseFrom : ℕ → List Token → Type 0
+RiseFrom from tokens = (to : ℕ) × SpansRise from to tokens
 
 -- Where the declarations first and last have one name now: the first lost use with its node, its place and the node of its
 -- declaration, or that none is lost, and the place of the last in the changed text.

@@ -1,12 +1,14 @@
 // The rename of a local or parameter.
 ghost use Rattle.std.specs.Prelude.{◌≡◌, ◌≢◌, ◌≤◌, ◌<◌, ◌⊎◌, IfOk, length};
 ghost use Rattle.jr_thin.specs.Renaming.{IsRenaming};
-ghost use Rattle.jr_thin.specs.Served.{IsServed, IsRefusal};
+ghost use Rattle.jr_base.specs.Respelled.{moved_tokens};
+ghost use Rattle.jr_thin.specs.Served.{IsServed, IsRefusal, RiseFrom};
+ghost use Rattle.jr_thin.specs.Text.{choices};
 
 use crate::clashes::{clash, first_lost};
-use crate::served::{Class, changed_tokens, class_in};
-use crate::spelling::{name_at, respell};
-use jr_base::{CuId, DeclId, NodeAt, NodeId, OccId, OutOfMemory, Token, is_identifier};
+use crate::served::{Class, class_in};
+use crate::spelling::{moved_start, name_at, respell};
+use jr_base::{CuId, DeclId, NodeAt, NodeId, OccId, OutOfMemory, is_identifier};
 use std::alloc::Global;
 
 /// What a rename comes to. Offsets are in bytes.
@@ -44,23 +46,29 @@ fn ordered(a: usize, b: usize) -> (usize, usize)
 }
 
 // The answer where the declarations `first` and `last` have one name now.
-fn refusal(class: &Class, changed: &[Token], first: usize, last: usize) -> Renaming
+fn refusal(
+    class: &Class,
+    declaration: usize,
+    name: &[u8],
+    first: usize,
+    last: usize,
+) -> Result<Renaming, OutOfMemory>
     requires first { first < length class.now.sites.items }
     requires last { last < length class.now.sites.items }
-    requires changed { last < length changed.now }
     requires targets { length class.now.targets.items ≡ length class.now.sites.items }
     requires tokens { length class.now.tokens.items ≡ length class.now.sites.items }
-    ensures { IsRefusal class.now.tokens.items class.now.sites.items class.now.targets.items changed.now first last result }
+    requires rise { RiseFrom 0 class.now.tokens.items }
+    ensures { IfOk result (IsRefusal class.now.tokens.items class.now.sites.items class.now.targets.items
+        (moved_tokens 0 0 (choices declaration name.now class.now.tokens.items class.now.targets.items)) first last) }
 {
     let Some(lost) = first_lost(&class.sites, &class.targets, first, last) else {
-        return Renaming::BrokenRule {
-            at: changed[last].span.start,
-        };
+        let at = moved_start(&class.tokens, &class.targets, declaration, name, last)?;
+        return Ok(Renaming::BrokenRule { at });
     };
     let Some(lock) = class.targets[lost] else {
         unreachable!()
     };
-    Renaming::NoSpelling {
+    Ok(Renaming::NoSpelling {
         occ: OccId {
             at: node_at(class.sites[lost].node),
             part: 0,
@@ -70,7 +78,7 @@ fn refusal(class: &Class, changed: &[Token], first: usize, last: usize) -> Renam
             at: node_at(class.sites[lock].node),
             part: 0,
         },
-    }
+    })
 }
 
 // The answer for a declaration whose rename is served.
@@ -85,6 +93,10 @@ fn decide(
     requires { IsServed bytes.now at name.now class.now.tokens.items class.now.sites.items class.now.targets.items declaration }
     ensures { IfOk result (IsRenaming bytes.now at name.now) }
 {
+    if let Some(other) = clash(&class.sites, declaration, name) {
+        let (first, last) = ordered(declaration, other);
+        return refusal(class, declaration, name, first, last);
+    }
     let new = respell(
         alloc,
         bytes,
@@ -93,14 +105,7 @@ fn decide(
         declaration,
         name,
     )?;
-    let changed = changed_tokens(alloc, &new, class, declaration, name)?;
-    match clash(&class.sites, declaration, name) {
-        None => Ok(Renaming::Renamed(new)),
-        Some(other) => {
-            let (first, last) = ordered(declaration, other);
-            Ok(refusal(class, &changed, first, last))
-        }
-    }
+    Ok(Renaming::Renamed(new))
 }
 
 /// Renames the local or parameter whose name holds the offset `at`, at its first byte or before its end.

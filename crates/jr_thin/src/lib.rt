@@ -7,12 +7,14 @@
 mod answers;
 mod binding;
 mod clashes;
+mod laws;
 mod reading;
 mod served;
 mod sites;
 mod spelling;
 
 pub use answers::{Renaming, rename};
+pub use laws::one_answer;
 
 #[cfg(test)]
 mod tests;

@@ -196,8 +196,8 @@ fn pluses(tokens: &[Token]) -> usize
     count
 }
 
-// A number and more, where it fits.
-fn added(number: u32, more: usize) -> Result<u32, OutOfMemory>
+/// A number and more, where it fits.
+pub fn added(number: u32, more: usize) -> Result<u32, OutOfMemory>
     ensures { IfOk result (λ sum. sum ≡ number + more) }
 {
     let more = u32::try_from(more).map_err(|_| OutOfMemory)?;

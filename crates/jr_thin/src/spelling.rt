@@ -1,9 +1,10 @@
 // Spells a declaration and its uses anew.
 ghost use Rattle.std.specs.Prelude.{◌≡◌, ◌+◌, ◌-◌, ◌<◌, ◌≤◌, ◌++◌, ◌↔◌, ℕ, IsTrue, IfOk, OnOk, MatchOption, length, slice_range, slice_index_or, Some, None, if◌then◌else◌};
-ghost use Rattle.jr_base.specs.Respelled.{respelled, new_spelling, moved_tokens};
-ghost use Rattle.jr_thin.specs.Served.{SpansRise};
+ghost use Rattle.jr_base.specs.Respelled.{respelled, new_spelling, new_width, moved_tokens};
+ghost use Rattle.jr_thin.specs.Served.{SpansRise, RiseFrom};
 ghost use Rattle.jr_thin.specs.Text.{Covers, is_of, choices, span_at};
 
+use crate::reading::added;
 use crate::sites::{Role, Site};
 use jr_base::{OutOfMemory, Token};
 use std::alloc::Global;
@@ -75,4 +76,44 @@ pub fn respell(
     }
     new.extend_from_slice(&bytes[done..])?;
     Ok(new)
+}
+
+// How many bytes are written for the token: the name where it is spelled anew.
+fn new_width(token: &Token, anew: bool, name: &[u8]) -> usize
+    requires { token.now.span.start ≤ token.now.span.end }
+    ensures { result ≡ new_width (token.now, (if anew then Some name.now else None)) }
+{
+    if anew {
+        name.len()
+    } else {
+        (token.span.end - token.span.start) as usize
+    }
+}
+
+/// The place of the token `last` in the text with the name in the place of each token that refers to the declaration.
+/// It is a number below 2^32, or memory is wanting.
+pub fn moved_start(
+    tokens: &[Token],
+    targets: &[Option<usize>],
+    declaration: usize,
+    name: &[u8],
+    last: usize,
+) -> Result<u32, OutOfMemory>
+    requires size { length targets.now ≡ length tokens.now }
+    requires inside { last < length tokens.now }
+    requires rise { RiseFrom 0 tokens.now }
+    ensures { IfOk result (λ start. start ≡ (span_at (moved_tokens 0 0 (choices declaration name.now tokens.now targets.now)) last).start) }
+{
+    let mut from = 0;
+    let mut at = 0;
+    for index in 0..last {
+        let token = &tokens[index];
+        let start = added(at, (token.span.start - from) as usize)?;
+        at = added(
+            start,
+            new_width(token, is_of(declaration, targets[index]), name),
+        )?;
+        from = token.span.end;
+    }
+    added(at, (tokens[last].span.start - from) as usize)
 }
