@@ -243,7 +243,7 @@ module _ (w a b : List ℕ) (alike : Alike a b) where
       }
 
 -- a word that is the longest token is one that no character goes on
-stops_of : (text : List ℕ) (len : ℕ) (k : Kind) → kind_class k ≡ Letter → IsLongest text len k → WordStops text len
+pub stops_of : (text : List ℕ) (len : ℕ) (k : Kind) → kind_class k ≡ Letter → IsLongest text len k → WordStops text len
 stops_of text len k e t c h = by (is_word_char c) refl
   where
     n : ℕ
