@@ -1,49 +1,47 @@
 -- A text put together from gaps and spellings has just those tokens.
 use Rattle.std.proofs.Common.{◌≡◌, ⊎_elim, inl, inr, ℕ, zero, suc, ◌+◌, ◌<◌, ◌≤◌, Bool, true, ◌&&◌, ◌==◌, List, [], ◌∷◌, ◌++◌, length, take, drop, refl, sym, ◌∙◌, ap, subst, arith, length-append, append_assoc}
 use Rattle.std.specs.Prelude.{slice_index, All}
+use Rattle.std.proofs.lemmas.Bool.Decides.{nat_tests}
 use Rattle.std.proofs.Math.Seq.{drop-append_seam}
-use Rattle.std.proofs.lemmas.List.{get_or-append-add, append-nil}
-use Rattle.jr_base.specs.Gaps.{is_blank, is_line_end, IsGap}
+use Rattle.std.proofs.lemmas.List.{append-nil}
+use Rattle.jr_base.specs.Gaps.{is_line_end, opens_line_comment, IsGap}
 use Rattle.jr_base.specs.Identifiers.{IsIdentifier}
 use Rattle.jr_base.specs.Reading.{Reads, here, gap, token}
 use Rattle.jr_base.specs.Tokens.{Spells, IsLongest, GapAt, LongestAt}
 use Rattle.jr_base.specs.declared.kind.Kind.{Kind}
 use Rattle.jr_base.specs.declared.kind.Kind.TheVariants.{Ident}
 use Rattle.jr_base.specs.declared.token.Token.{Token}
-use Rattle.jr_lex.specs.Texts.{Chunk, space, spelled, FollowsGap, text_of, tokens_of, AllStand, TextReads, IsNamed, NamesAreIdentifiers}
+use Rattle.jr_lex.specs.Texts.{Chunk, space, spelled, FollowsGap, text_of, tokens_of, AllStand, TextReads, GapFollowsExactly, IsNamed, NamesAreIdentifiers}
 use Rattle.jr_lex.proofs.Following.{follows_longest}
+use Rattle.jr_lex.proofs.EscapeLemmas.{index_inside}
 use Rattle.jr_lex.proofs.Fronts.{index_front}
-
-two : (f : ℕ → ℕ → Bool) (x y p q : ℕ) → x ≡ p → y ≡ q → f x y ≡ f p q
-two f x y p q e g = ap (λ z. f z y) e ∙ ap (f p) g
-
-seam : (w x : List ℕ) → slice_index (w ++ x) (length w) ≡ slice_index x 0
-seam w x = ap (slice_index (w ++ x)) (let z : length w ≡ length w + 0 = omega arith in z) ∙ get_or-append-add w x 0 0
+use Rattle.jr_lex.proofs.Longest.{comment_not_blank, line_or_block}
+use Rattle.jr_lex.proofs.Respelling.{two, seam, gap_moved}
 
 module _ (w rest : List ℕ) where
-  at : (i : ℕ) → i < length w → slice_index (w ++ rest) i ≡ slice_index w i
-  at i l = index_front w rest i l
-
   gap_stands : IsGap w (length w) → FollowsGap w rest → IsGap (w ++ rest) (length w)
-  gap_stands g f = ⊎_elim
-      (λ h. inl (record { blank = ap is_blank (at 0 (omega (arith, h.one))) ∙ h.blank; one = h.one }))
+  gap_stands g f = gap_moved w [] rest (λ h l. f (subst (λ x. opens_line_comment x ≡ true) (append-nil w) h.opens) l) (subst (λ x. IsGap x (length w)) (sym (append-nil w)) g)
+
+  opens_kept : opens_line_comment w ≡ true → opens_line_comment (w ++ rest) ≡ true
+  opens_kept h =
+      let inside : 1 < length w = index_inside w 1 (let e = second_slash w h in omega arith) in
+      two (λ x y. (x == 47) && (y == 47)) _ _ _ _ (index_front w rest 0 (omega arith)) (index_front w rest 1 inside) ∙ h
+    where
+      second_slash : (w : List ℕ) → opens_line_comment w ≡ true → slice_index w 1 ≡ 47
+      second_slash w h = grind (arith, nat_tests)
+
+  gap_ends : IsGap (w ++ rest) (length w) → FollowsGap w rest
+  gap_ends g opens some =
+      let there = opens_kept opens in
+      ⊎_elim
+      (λ h. absurd (comment_not_blank (w ++ rest) (inl there) h.blank))
       (⊎_elim
-      (λ h. inr (inl (record {
-        opens = two (λ x y. (x == 47) && (y == 47)) _ _ _ _ (at 0 (omega (arith, h.some))) (at 1 (omega (arith, h.some))) ∙ h.opens;
-        some = h.some;
-        inside = omega (arith, length-append w rest);
-        free = λ k p q. ap is_line_end (at k q) ∙ h.free k p q;
-        ends = λ l. ap is_line_end (seam w rest) ∙ f h.opens (omega (arith, length-append w rest));
-      })))
-      (λ h. inr (inr (record {
-        opens = two (λ x y. (x == 47) && (y == 42)) _ _ _ _ (at 0 (omega (arith, h.after, h.ends))) (at 1 (omega (arith, h.after, h.ends))) ∙ h.opens;
-        close = h.close;
-        after = h.after;
-        closes = two (λ x y. (x == 42) && (y == 47)) _ _ _ _ (at h.close (omega (arith, h.ends))) (at (h.close + 1) (omega (arith, h.ends))) ∙ h.closes;
-        first = λ k p q. two (λ x y. (x == 42) && (y == 47)) _ _ _ _ (at k (omega (arith, h.ends))) (at (k + 1) (omega (arith, h.ends))) ∙ h.first k p q;
-        ends = h.ends;
-      }))))
+      (λ h. sym (ap is_line_end (seam w rest)) ∙ h.ends (omega (arith, length-append w rest)))
+      (λ h. absurd (line_or_block (w ++ rest) there h.opens)))
       g
+
+pub gap_follows_exactly : GapFollowsExactly
+gap_follows_exactly w rest g = (gap_stands w rest g, gap_ends w rest)
 
 -- behind any front
 abbrev ReadsBehind : List ℕ → List Chunk → Type 0

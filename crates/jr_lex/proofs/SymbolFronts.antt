@@ -13,6 +13,7 @@ use Rattle.jr_lex.specs.Items.{HasSymbol}
 use Rattle.jr_lex.specs.Texts.{EndsSymbol, breaks_symbol, goes_on}
 use Rattle.jr_lex.proofs.ByteLemmas.{all_each, both_left, both_right, le_or_lt, no_both}
 use Rattle.jr_lex.proofs.SpellingTables.{is_sign, symbol_signs}
+use Rattle.jr_lex.proofs.Respelling.{seam}
 use Rattle.jr_lex.proofs.SymbolLemmas.{symbol_len}
 use Rattle.jr_base.specs.Gaps.{is_blank}
 use Rattle.jr_base.specs.Literals.{is_quote}
@@ -101,9 +102,6 @@ block_kept (x ∷ y ∷ w) rest h e = h
 first_no_sign : (rest : List ℕ) → breaks_symbol rest ≡ true → 0 < length rest → is_sign (slice_index rest 0) ≡ false
 first_no_sign [] e l = absurd (omega arith)
 first_no_sign (b ∷ rest) e l = no_sign b e
-
-seam : (w x : List ℕ) → slice_index (w ++ x) (length w) ≡ slice_index x 0
-seam w x = ap (slice_index (w ++ x)) (let z : length w ≡ length w + 0 = omega arith in z) ∙ get_or-append-add w x 0 0
 
 -- no symbol reaches past the seam
 no_longer : (w rest : List ℕ) → breaks_symbol rest ≡ true → (len : ℕ) (r : Symbol) → HasSymbol (w ++ rest) len r → len ≤ length w

@@ -77,6 +77,11 @@ abbrev pub FollowsExactly : Type 0
 FollowsExactly = (kind : Kind) (word rest : List ℕ) → Spells kind word
     → (Follows kind word rest → IsLongest (word ++ rest) (length word) kind) × (IsLongest (word ++ rest) (length word) kind → Follows kind word rest)
 
+-- a gap stays one exactly before a text that may stand behind it
+abbrev pub GapFollowsExactly : Type 0
+GapFollowsExactly = (gap rest : List ℕ) → IsGap gap (length gap)
+    → (FollowsGap gap rest → IsGap (gap ++ rest) (length gap)) × (IsGap (gap ++ rest) (length gap) → FollowsGap gap rest)
+
 -- simple cases, by the first byte of what follows
 
 -- an ASCII letter or digit, `_`, `$`, or a byte of a character beyond ASCII

@@ -1,7 +1,7 @@
 // Laws of reading, for the layers above.
 ghost use Rattle.jr_base.specs.Respelled.{RespelledReads};
 ghost use Rattle.jr_lex.specs.Laws.{OneReading, SpansRise};
-ghost use Rattle.jr_lex.specs.Texts.{FollowsExactly, NamesAreIdentifiers, SimplyFollows, TextReads};
+ghost use Rattle.jr_lex.specs.Texts.{FollowsExactly, GapFollowsExactly, NamesAreIdentifiers, SimplyFollows, TextReads};
 
 /// Bytes have one list of tokens.
 pub fn one_reading()
@@ -26,6 +26,11 @@ pub fn text_reads()
 /// A spelling is the longest token of its kind exactly before a text that may stand behind it.
 pub fn follows_exactly()
     ensures { FollowsExactly }
+{}
+
+/// A gap stays one exactly before a text that may stand behind it.
+pub fn gap_follows_exactly()
+    ensures { GapFollowsExactly }
 {}
 
 /// A text may stand behind a token where its first byte shows so.
