@@ -1,5 +1,5 @@
 -- A text put together from gaps and spellings has just those tokens.
-use Rattle.std.proofs.Common.{◌≡◌, ⊎_elim, inl, inr, ℕ, zero, suc, ◌+◌, ◌<◌, ◌≤◌, Bool, true, ◌&&◌, ◌==◌, List, [], ◌∷◌, ◌++◌, length, take, drop, refl, sym, ◌∙◌, ap, subst, arith, length-append, append_assoc}
+use Rattle.std.proofs.Common.{◌≡◌, ⊎_elim, inl, ℕ, zero, suc, ◌+◌, ◌<◌, true, ◌&&◌, ◌==◌, List, [], ◌∷◌, ◌++◌, length, take, drop, refl, sym, ◌∙◌, ap, subst, arith, length-append, append_assoc}
 use Rattle.std.specs.Prelude.{slice_index, All}
 use Rattle.std.proofs.lemmas.Bool.Decides.{nat_tests}
 use Rattle.std.proofs.Math.Seq.{drop-append_seam}
@@ -8,7 +8,6 @@ use Rattle.jr_base.specs.Gaps.{is_line_end, opens_line_comment, IsGap}
 use Rattle.jr_base.specs.Identifiers.{IsIdentifier}
 use Rattle.jr_base.specs.Reading.{Reads, here, gap, token}
 use Rattle.jr_base.specs.Tokens.{Spells, IsLongest, GapAt, LongestAt}
-use Rattle.jr_base.specs.declared.kind.Kind.{Kind}
 use Rattle.jr_base.specs.declared.kind.Kind.TheVariants.{Ident}
 use Rattle.jr_base.specs.declared.token.Token.{Token}
 use Rattle.jr_lex.specs.Texts.{Chunk, space, spelled, FollowsGap, text_of, tokens_of, AllStand, TextReads, GapFollowsExactly, IsNamed, NamesAreIdentifiers}

@@ -1,19 +1,18 @@
 -- What may stand behind a token.
-use Rattle.std.proofs.Common.{◌≡◌, ℕ, ◌+◌, ◌<◌, Bool, true, false, ◌||◌, ◌&&◌, ◌==◌, not, List, [], ◌∷◌, ◌++◌, length, take, drop, refl, sym, ◌∙◌, ap, subst, arith, length-append}
+use Rattle.std.proofs.Common.{◌≡◌, ℕ, ◌<◌, true, false, ◌||◌, ◌&&◌, ◌==◌, not, List, [], ◌∷◌, ◌++◌, length, refl, sym, ◌∙◌, ap, subst, arith, length-append}
 use Rattle.std.specs.Prelude.{slice_index}
-use Rattle.std.specs.Char.{is_ascii_alphanumeric, len_utf8}
+use Rattle.std.specs.Char.{is_ascii_alphanumeric}
 use Rattle.std.proofs.Math.Seq.{take-append_seam, drop-append_seam}
-use Rattle.std.proofs.lemmas.Bool.{false≢true}
 use Rattle.std.proofs.lemmas.Bool.Decides.{nat_tests}
 use Rattle.std.proofs.lemmas.Str.{length-encode, len_utf8_bounds}
 use lib.Utf8.{encode}
 use Rattle.unicode_ident.proofs.IdentLemmas.{is_xid_continue-ascii}
 use Rattle.jr_base.specs.Identifiers.{is_word_char}
 use Rattle.jr_base.specs.Places.{CharAt}
-use Rattle.jr_base.specs.Tokens.{Spells, IsApart, IsToken, IsLongest, EndsInteger, opens_fraction}
+use Rattle.jr_base.specs.Tokens.{Spells, IsApart, IsToken, IsLongest, EndsInteger}
 use Rattle.jr_base.specs.declared.kind.Kind.{Kind}
 use Rattle.jr_base.specs.declared.kind.Kind.TheVariants.{Word, Ident, Int, IntMin, Long, LongMin, Char, Str, Sym}
-use Rattle.jr_lex.specs.Texts.{EndsWord, Follows, FollowsExactly, SimplyFollows, breaks_word, goes_on, simply_follows}
+use Rattle.jr_lex.specs.Texts.{EndsWord, Follows, FollowsExactly, SimplyFollows, breaks_word, goes_on}
 use Rattle.jr_lex.proofs.ByteLemmas.{both_left, both_right}
 use Rattle.jr_lex.proofs.CharacterLemmas.{char_byte}
 use Rattle.jr_lex.proofs.Classes.{kind_class, Letter, token_word}

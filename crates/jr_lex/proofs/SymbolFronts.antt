@@ -1,12 +1,12 @@
 -- A symbol before a text that begins with no sign (JLS 3.11, 3.12).
-use Rattle.std.proofs.Common.{◌≡◌, ◌⊎◌, ⊎_elim, ℕ, ◌+◌, ◌-◌, ◌<◌, ◌≤◌, Bool, true, false, ◌||◌, ◌&&◌, ◌==◌, not, List, [], ◌∷◌, ◌++◌, length, take, drop, refl, sym, ◌∙◌, ap, subst, arith, length-append}
+use Rattle.std.proofs.Common.{◌≡◌, ⊎_elim, ℕ, ◌<◌, ◌≤◌, Bool, true, false, ◌||◌, ◌&&◌, ◌==◌, not, List, [], ◌∷◌, ◌++◌, length, refl, sym, ◌∙◌, ap, arith, length-append}
 use Rattle.std.specs.Prelude.{slice_index}
 use Rattle.std.proofs.lemmas.Bool.{false≢true}
 use Rattle.std.proofs.lemmas.Bool.Decides.{nat_tests}
-use Rattle.std.proofs.lemmas.List.{get_or-append-add, get_or-take}
+use Rattle.std.proofs.lemmas.List.{get_or-take}
 use Rattle.jr_base.specs.Gaps.{opens_line_comment, opens_block_comment}
 use Rattle.jr_base.specs.Spellings.{symbol_text}
-use Rattle.jr_base.specs.Tokens.{StartsSymbol, opens_fraction}
+use Rattle.jr_base.specs.Tokens.{opens_fraction}
 use Rattle.jr_base.specs.declared.kind.Symbol.{Symbol}
 use Rattle.jr_base.specs.declared.kind.Symbol.TheVariants as symbol
 use Rattle.jr_lex.specs.Items.{HasSymbol}
