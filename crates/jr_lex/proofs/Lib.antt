@@ -14,3 +14,6 @@ pub mod SpellingTables
 pub mod SymbolLemmas
 pub mod ByteLemmas
 pub mod Utf8
+pub mod ChunkTexts
+pub mod Following
+pub mod SymbolFronts

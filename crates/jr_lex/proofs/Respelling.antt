@@ -8,7 +8,7 @@ use Rattle.std.proofs.Math.Seq.{take-append_seam, drop-append_seam}
 use Rattle.std.proofs.lemmas.Bool.{eqb-true}
 use Rattle.std.proofs.lemmas.Bool.Decides.{nat_tests}
 use Rattle.std.proofs.lemmas.List.{append-nil, take-append-drop, length-take-le, get_or-append-add}
-use Rattle.jr_base.specs.Gaps.{is_blank, is_line_end, opens_line_comment, opens_block_comment, IsGap}
+use Rattle.jr_base.specs.Gaps.{is_blank, is_line_end, opens_line_comment, opens_block_comment, IsLineComment, IsGap}
 use Rattle.jr_base.specs.Identifiers.{is_start_char, is_word_char, WordAt, IsIdentifier}
 use Rattle.jr_base.specs.Places.{CharAt}
 use Rattle.jr_base.specs.Spellings.{symbol_text}
@@ -119,25 +119,22 @@ alike_behind (x ∷ w) a b u h = record {
   signs = signs_behind (x ∷ w) a b h.signs;
 }
 
-two : (f : ℕ → ℕ → Bool) (x y p q : ℕ) → x ≡ p → y ≡ q → f x y ≡ f p q
+pub two : (f : ℕ → ℕ → Bool) (x y p q : ℕ) → x ≡ p → y ≡ q → f x y ≡ f p q
 two f x y p q e g = ap (λ z. f z y) e ∙ ap (f p) g
 
-seam : (w x : List ℕ) → slice_index (w ++ x) (length w) ≡ slice_index x 0
+pub seam : (w x : List ℕ) → slice_index (w ++ x) (length w) ≡ slice_index x 0
 seam w x = ap (slice_index (w ++ x)) (let z : length w ≡ length w + 0 = omega arith in z) ∙ get_or-append-add w x 0 0
 
 line_blank : (b : ℕ) → is_line_end b ≡ true → is_blank b ≡ true
 line_blank b h = grind (arith, nat_tests)
 
-module _ (w a b : List ℕ) (alike : Alike a b) where
+module _ (w a b : List ℕ) where
   at : (i : ℕ) → i < length w → slice_index (w ++ b) i ≡ slice_index (w ++ a) i
   at i l = index_same w b a i l
 
-  line_kept : is_line_end (slice_index a 0) ≡ true → is_line_end (slice_index b 0) ≡ true
-  line_kept h = ⊎_elim (λ e. ap is_line_end e ∙ h)
-      (λ c. absurd (let s = class_of_blank (slice_index a 0) (line_blank (slice_index a 0) h) in let no : Blank ≡ Letter = sym s ∙ c.0 in cc)) alike.first
-
-  pub gap_kept : IsGap (w ++ a) (length w) → IsGap (w ++ b) (length w)
-  gap_kept g = ⊎_elim
+  -- a gap before one text is one before another, where behind a line comment a line ends there too
+  pub gap_moved : (IsLineComment (w ++ a) (length w) → 0 < length b → is_line_end (slice_index b 0) ≡ true) → IsGap (w ++ a) (length w) → IsGap (w ++ b) (length w)
+  gap_moved line g = ⊎_elim
       (λ h. inl (record { blank = ap is_blank (at 0 (omega (arith, h.one))) ∙ h.blank; one = h.one }))
       (⊎_elim
       (λ h. inr (inl (record {
@@ -145,7 +142,7 @@ module _ (w a b : List ℕ) (alike : Alike a b) where
         some = h.some;
         inside = omega (arith, length-append w b);
         free = λ k p q. ap is_line_end (at k q) ∙ h.free k p q;
-        ends = λ l. ap is_line_end (seam w b) ∙ line_kept (sym (ap is_line_end (seam w a)) ∙ h.ends (omega (arith, length-append w a, alike.some (omega (arith, length-append w b)))));
+        ends = λ l. ap is_line_end (seam w b) ∙ line h (omega (arith, length-append w b));
       })))
       (λ h. inr (inr (record {
         opens = two (λ x y. (x == 47) && (y == 42)) _ _ _ _ (at 0 (omega (arith, h.after, h.ends))) (at 1 (omega (arith, h.after, h.ends))) ∙ h.opens;
@@ -156,6 +153,14 @@ module _ (w a b : List ℕ) (alike : Alike a b) where
         ends = h.ends;
       }))))
       g
+
+module _ (w a b : List ℕ) (alike : Alike a b) where
+  line_kept : is_line_end (slice_index a 0) ≡ true → is_line_end (slice_index b 0) ≡ true
+  line_kept h = ⊎_elim (λ e. ap is_line_end e ∙ h)
+      (λ c. absurd (let s = class_of_blank (slice_index a 0) (line_blank (slice_index a 0) h) in let no : Blank ≡ Letter = sym s ∙ c.0 in cc)) alike.first
+
+  pub gap_kept : IsGap (w ++ a) (length w) → IsGap (w ++ b) (length w)
+  gap_kept g = gap_moved w a b (λ h l. line_kept (sym (ap is_line_end (seam w a)) ∙ h.ends (omega (arith, length-append w a, alike.some l)))) g
 
   ends_kept : EndsInteger a → EndsInteger b
   ends_kept h = record {
@@ -173,7 +178,7 @@ module _ (w a b : List ℕ) (alike : Alike a b) where
   second (x ∷ y ∷ v) l other = refl
 
   same_second : 0 < length w → (f : ℕ → ℕ → Bool) → (class_of (slice_index (w ++ b) 1) ≡ Letter → ⊥) → f (slice_index (w ++ a) 0) (slice_index (w ++ a) 1) ≡ f (slice_index (w ++ b) 0) (slice_index (w ++ b) 1)
-  same_second l f other = two f _ _ _ _ (sym (at 0 l)) (second w l other)
+  same_second l f other = two f _ _ _ _ (sym (at w a b 0 l)) (second w l other)
 
   byte_class : (x y : ℕ) → x ≡ y → class_of y ≡ Sign → class_of x ≡ Letter → ⊥
   byte_class x y e s c = absurd (let no : Sign ≡ Letter = sym s ∙ (sym (ap class_of e) ∙ c) in cc)
@@ -243,7 +248,7 @@ module _ (w a b : List ℕ) (alike : Alike a b) where
       }
 
 -- a word that is the longest token is one that no character goes on
-stops_of : (text : List ℕ) (len : ℕ) (k : Kind) → kind_class k ≡ Letter → IsLongest text len k → WordStops text len
+pub stops_of : (text : List ℕ) (len : ℕ) (k : Kind) → kind_class k ≡ Letter → IsLongest text len k → WordStops text len
 stops_of text len k e t c h = by (is_word_char c) refl
   where
     n : ℕ
