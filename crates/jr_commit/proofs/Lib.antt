@@ -15,3 +15,4 @@ mod Recovering
 mod Merging
 mod Planning
 mod Values
+pub mod Lengths

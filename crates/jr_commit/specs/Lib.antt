@@ -7,3 +7,4 @@ pub mod Restoring
 pub mod Recovered
 pub mod Planned
 pub mod Differences
+pub mod Sizes

@@ -7,6 +7,7 @@ mod entry;
 mod plan;
 mod reading;
 mod recovery;
+mod sizes;
 #[cfg(test)]
 mod tests;
 
@@ -15,3 +16,4 @@ pub use entry::{Entry, Journal, Side};
 pub use plan::{Plan, commit};
 pub use reading::read_journal;
 pub use recovery::{RecoverFault, Recovered, recover};
+pub use sizes::journal_fits;

@@ -24,11 +24,13 @@ fn holds(alloc: Global, files: &Files, path: &str, bytes: &[u8]) -> Result<bool,
     }
 }
 
-// A store with an open gate over a journal, and one file.
-fn stopped(alloc: Global, journal: &[u8]) -> Result<MemStore, Fail> {
+// A store with an open gate over a journal, if there is one, and one file.
+fn stopped(alloc: Global, journal: Option<&[u8]>) -> Result<MemStore, Fail> {
     let mut files = Files::new(alloc);
     put(alloc, &mut files, ".refactor-gate", b"1")?;
-    put(alloc, &mut files, ".refactor-journal", journal)?;
+    if let Some(journal) = journal {
+        put(alloc, &mut files, ".refactor-journal", journal)?;
+    }
     put(alloc, &mut files, "A.java", b"x")?;
     Ok(MemStore::new(alloc, files, Vec::new(alloc))?)
 }
@@ -36,10 +38,10 @@ fn stopped(alloc: Global, journal: &[u8]) -> Result<MemStore, Fail> {
 #[test]
 fn puts_back_both_versions(rt: HostRuntime) -> Result<(), Fail> {
     let alloc = rt.alloc();
-    let mut first = stopped(alloc, VERSION_1)?;
+    let mut first = stopped(alloc, Some(VERSION_1))?;
     assert_eq!(rt; recover(alloc, &mut first), Ok(Recovered::RolledBack(1)));
     assert!(rt; holds(alloc, &first.files(alloc)?, "A.java", b"class A { }")?);
-    let mut second = stopped(alloc, VERSION_2)?;
+    let mut second = stopped(alloc, Some(VERSION_2))?;
     assert_eq!(rt; recover(alloc, &mut second), Ok(Recovered::RolledBack(1)));
     assert!(rt;
         holds(
@@ -60,7 +62,12 @@ fn refuses_other_journals(rt: HostRuntime) -> Result<(), Fail> {
     longer.push(b'\n')?;
     let mut cut = VERSION_2.to_vec(alloc)?;
     let _ = cut.pop();
-    for journal in [longer.as_slice(), cut.as_slice(), b"".as_slice()] {
+    for journal in [
+        Some(longer.as_slice()),
+        Some(cut.as_slice()),
+        Some(b"".as_slice()),
+        None,
+    ] {
         let mut store = stopped(alloc, journal)?;
         assert_eq!(rt; recover(alloc, &mut store), Err(RecoverFault::BadJournal));
     }
