@@ -46,10 +46,10 @@ pub armed_image : (journal : List ℕ) (es : List SideAt) (c f : Image) → Puts
 armed_image journal es c f is olds open_gate at same =
     (with_sides es c, inr (open_gate, journal, es, at, is, refl), λ q java. back es c f q olds (same q java))
 
--- the files are f, with a closed gate, and hold the old sides; a crash leaves the gate and the files so
+-- the files are f, with a closed gate, and hold the old sides; a crash leaves a closed gate and the same files
 pub record Starts (f : Image) (outcomes : Image → Type 0) (es : List SideAt) : Type 0 where
   pub shut : IsOpen f → ⊥
-  pub gate : (c : Image) → outcomes c → c gate_path ≡ f gate_path
+  pub gate : (c : Image) → outcomes c → IsOpen c → ⊥
   pub files : (c : Image) → outcomes c → SameFiles c f
   pub olds : AllByRecursion (λ e. f e.0 ≡ e.1) es
 
@@ -61,8 +61,8 @@ module _ (journal : List ℕ) (es ss : List SideAt) (f : Image) (outcomes : Imag
   pub journal_phase : (c : Image) → After (ChangesOnly journal_path) outcomes c → RestoresTo c f
   journal_phase c after =
       let d = after.0 in
-      let gate : c gate_path ≡ f gate_path = after.2 gate_path gate_journal ∙ start.gate d after.1 in
-      shut_image c f (λ open_gate. start.shut (sym gate ∙ open_gate)) (λ q java. after.2 q (apart q journal_path java journal_apart) ∙ start.files d after.1 q java)
+      let gate : c gate_path ≡ d gate_path = after.2 gate_path gate_journal in
+      shut_image c f (λ open_gate. start.gate d after.1 (sym gate ∙ open_gate)) (λ q java. after.2 q (apart q journal_path java journal_apart) ∙ start.files d after.1 q java)
 
   module _ (g1 : Image) (wrote : Puts journal_path (Some journal) f g1) where
     files1 : SameFiles g1 f

@@ -20,7 +20,7 @@ after_only step files outcomes g c is only after = subst (λ d. step d c) (only_
 
 -- before the first call
 pub before : (outcomes : Image → Type 0) (plan : Planned) (f : Image) → StartsCommit f outcomes plan → (c : Image) → outcomes c → RestoresTo c f
-before outcomes plan f begins c left = shut_image c f (λ open_gate. begins.shut (sym (begins.gate c left) ∙ open_gate)) (begins.files c left)
+before outcomes plan f begins c left = shut_image c f (begins.gate c left) (begins.files c left)
 
 module _ {S : Type 0} (files : S → Option Image) (may_leave : S → Image → Type 0) (moment : S → ℕ) (left_since : S → ℕ → Image → Type 0)
     (journal jp gp : List ℕ) (jp_is : jp ≡ journal_path) (gp_is : gp ≡ gate_path)

@@ -26,10 +26,10 @@ pub record IsPlan (journal : List ℕ) (steps : List SideAt) (at_journal at_gate
   pub gate_is : steps ≢ [] → at_gate ≡ gate_path
 
 -- The files are f, with a closed gate, and each path of the plan's journal holds its entry's old side. A crash leaves
--- the gate and the files so.
+-- a closed gate and the same files.
 pub record StartsCommit (f : Image) (outcomes : Image → Type 0) (plan : Planned) : Type 0 where
   pub shut : IsOpen f → ⊥
-  pub gate : (c : Image) → outcomes c → c gate_path ≡ f gate_path
+  pub gate : (c : Image) → outcomes c → IsOpen c → ⊥
   pub files : (c : Image) → outcomes c → SameFiles c f
   pub olds : (olds : List SideAt) → PutsBack plan.journal olds → AllByRecursion (λ e. f e.0 ≡ e.1) olds
 
