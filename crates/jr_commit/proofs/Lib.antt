@@ -1,4 +1,4 @@
-mod Moments
+pub mod Moments
 mod Told
 mod Going
 mod Putting
@@ -7,10 +7,10 @@ mod Texts
 mod Loop
 mod Exact
 pub mod Olds
-mod Phases
-mod Run
+pub mod Phases
+pub mod Run
 mod Found
-mod Back
+pub mod Back
 mod Recovering
 mod Merging
 mod Planning

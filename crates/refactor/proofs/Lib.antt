@@ -1,3 +1,6 @@
 mod Held
 mod Outcomes
 mod Performed
+mod Settled
+mod Single
+mod Carried
