@@ -8,7 +8,7 @@ mod Loop
 mod Exact
 pub mod Olds
 pub mod Phases
-pub mod Run
+mod Run
 mod Found
 pub mod Back
 mod Recovering

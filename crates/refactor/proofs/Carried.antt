@@ -8,6 +8,8 @@ use Rattle.jr_commit.proofs.Back.{here_by}
 use Rattle.jr_request.specs.Words.{command_of}
 use Rattle.jr_request.specs.declared.command.Command.{Command}
 use Rattle.jr_store.specs.Image.{Image, Tells, Elapses, Rose, LeavesOnly}
+use Rattle.jr_base.specs.declared.limits.Size.TheVariants.{File, Path}
+use Rattle.refactor.specs.declared.status.Report.TheVariants.{Changed}
 use Rattle.refactor.specs.Answers.{AnswersFound, OnFound, Answers, Reports, IsReported, reported}
 use Rattle.refactor.specs.Crash.{StandsForEither, StandsAfter, IsSettled, Survives, SurvivesSettled}
 use Rattle.refactor.specs.Line.{line_of}
@@ -34,6 +36,11 @@ pub earlier : (words : List (List ℕ)) (found left : Option Image) (outcomes : 
 earlier words found left outcomes before middle after (StoreFault Reading) later a = (a.0, a.1, rose_earlier before middle after later a.2)
 earlier words found left outcomes before middle after (StoreFault Writing) later a = (a.0, rose_earlier before middle after later a.1)
 earlier words found left outcomes before middle after (StoreFault other) later a = absurd a
+earlier words found left outcomes before middle after (Done (Changed files)) later a = a
+earlier words found left outcomes before middle after (Done other) later a = absurd a
+earlier words found left outcomes before middle after (TooLarge Path request) later a = a
+earlier words found left outcomes before middle after (TooLarge File request) later a = a
+earlier words found left outcomes before middle after (TooLarge other request) later a = absurd a
 earlier words found left outcomes before middle after other later a = a
 
 -- an answer on the files found is one of the call

@@ -7,7 +7,7 @@ use Rattle.jr_request.specs.declared.command.Command.TheVariants.{One}
 use Rattle.jr_commit.specs.Planned.{Planned, ChangesOnlyPlanned}
 use Rattle.jr_commit.specs.Restoring.{RestoresTo, SameFiles}
 use Rattle.jr_store.specs.Image.{Image, Tells, OnlyTold, Rose}
-use Rattle.std.proofs.lemmas.Option.{none-some}
+use Rattle.std.proofs.lemmas.Option.{none-some, same_Some}
 use Rattle.refactor.specs.Changing.{IsCommitted, IsPlanOf, MayChange}
 use Rattle.refactor.specs.Crash.{StandsForChange, StandsForEither, StandsAfter, IsSettled, SurvivesSettled}
 use Rattle.refactor.specs.Performing.{IsTaken, Commits, Reported}
@@ -220,7 +220,7 @@ module _ (words : List (List ℕ)) (told left : Option Image) (kept outcomes : I
     survives_done (Some h) None f r told_is same held taken only c left = absurd taken
     survives_done (Some h) (Some g) f r told_is same (old, holds, (new, done, differs, fits, is)) taken only c left =
         let steps = some_step h file old new plan holds is in
-        let here : SameFiles h r = subst (λ (i : Image). SameFiles i r) (sym (same_some h f told_is)) same in
+        let here : SameFiles h r = subst (λ (i : Image). SameFiles i r) (sym (same_Some h f told_is)) same in
         subst (StandsForChange words r) (sym (only steps c left))
         (stands_committed h file old new plan holds is at name done differs fits words r g asked here taken (λ opened. none-some (49 ∷ []) (sym (taken.journal steps).1 ∙ opened)))
 
