@@ -4,7 +4,7 @@ use Rattle.std.proofs.lemmas.Option.{same_Some, none-some}
 use Rattle.jr_commit.specs.Restoring.{IsOpen, Restored, RestoresTo, SameFiles, StartsRecover, KeepsOthers}
 use Rattle.jr_commit.proofs.Moments.{started, goes_on, goes_further}
 use Rattle.jr_commit.proofs.Phases.{open_or_not}
-use Rattle.jr_commit.proofs.Back.{here_by}
+use Rattle.jr_commit.proofs.Back.{here}
 use Rattle.jr_request.specs.Words.{command_of}
 use Rattle.jr_request.specs.declared.command.Command.{Command}
 use Rattle.jr_store.specs.Image.{Image, Tells, Elapses, Rose, LeavesOnly}
@@ -19,6 +19,10 @@ use Rattle.refactor.specs.Renaming.{ForTold}
 use Rattle.refactor.specs.declared.status.Phase.TheVariants.{Recovering, Reading, Writing}
 use Rattle.refactor.specs.declared.status.Status.{Status}
 use Rattle.refactor.specs.declared.status.Status.TheVariants.{Done, NoSpelling, BrokenRule, NotYet, StoreFault, TooLarge, OutOfMemory, BadJournal}
+
+-- what a crash leaves before the call stands for the files found
+here_by : (f r : Image) (outcomes : Image → Type 0) → StartsRecover f outcomes → Restored f r → (c : Image) → outcomes c → RestoresTo c r
+here_by f r outcomes start restored = here (λ (s : ℕ). Some f) (λ (s : ℕ). outcomes) (λ (s : ℕ). 0) (λ (s t : ℕ). outcomes) f r 0 refl restored start (λ c l. l)
 
 -- a weaker property of what a crash leaves
 pub weaker : {S : Type 0} (moment : S → ℕ) (left_since : S → ℕ → Image → Type 0) (old new : S) (P Q : Image → Type 0) → LeavesOnly moment left_since old new Q → ((c : Image) → Q c → P c) → LeavesOnly moment left_since old new P

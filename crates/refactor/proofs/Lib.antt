@@ -4,3 +4,4 @@ mod Performed
 mod Settled
 mod Single
 mod Carried
+mod Chosen

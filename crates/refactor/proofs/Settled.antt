@@ -45,6 +45,12 @@ settled_stands f r outcomes settled c left = shut_image c r (settled.left c left
 pub off_one : (file old new : List ℕ) (plan : Planned) → IsPlanOf file old new plan → (q : List ℕ) → q ≢ file → IsOff plan.steps q
 off_one file old new plan is q other = subst (λ (ss : List SideAt). IsOff ss q) (sym is.steps) (other, tt)
 
+one_long : (ss : List SideAt) (s : SideAt) → ss ≡ s ∷ [] → length ss ≡ 1
+one_long ss s is = ap length is
+
+none_long : (ss : List SideAt) → ss ≡ [] → length ss ≡ 0
+none_long ss is = ap length is
+
 module _ (f : Image) (file old new : List ℕ) (plan : Planned) (holds : Holds f file old) (is : IsPlanOf file old new plan) where
   pub starts : (r : Image) (outcomes : Image → Type 0) → IsSettled f r outcomes → StartsCommit f outcomes plan
   starts r outcomes settled = record {
@@ -55,7 +61,7 @@ module _ (f : Image) (file old new : List ℕ) (plan : Planned) (holds : Holds f
   }
 
   pub some_step : plan.steps ≢ []
-  some_step none = let e : (file, Some new) ∷ [] ≡ [] = sym is.steps ∙ none in absurd (omega (arith, ap length e))
+  some_step none = absurd (omega (arith, one_long plan.steps (file, Some new) is.steps, none_long plan.steps none))
 
   after_is : with_sides plan.steps f ≡ put_side file (Some new) f
   after_is = ap (λ (ss : List SideAt). with_sides ss f) is.steps

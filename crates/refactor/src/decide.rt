@@ -98,7 +98,8 @@ fn decide_bytes(alloc: Global, found: Found, bytes: Vec<u8>, at: u32, name: &[u8
     requires done { IsDone found.bytes.items at name.now bytes.items }
     ensures { DecidesFound found at name.now result }
 {
-    let _ = (at, name);
+    let _ = at;
+    let _ = name;
     if bytes.as_slice() == found.bytes.as_slice() {
         return Decision::Answer(Status::Done(Report::Changed(0)));
     }

@@ -26,14 +26,14 @@ returns-clause-held g c =
 pub returns-in_err-paths-clause-any_moment : goal.returns-in_err-paths-clause-any_moment
 returns-in_err-paths-clause-any_moment g c =
     let S = g.S.Store in
-    read_once S.may_leave S.moment S.left_since c.args.store.now (g.met.S.Store.only_now c.args.store.now) c.list.new.store c.list.ensures.time c.list.ensures.crash
+    read_once S.may_leave S.moment S.left_since c.args.store.now (g.met.S.Store.only_now c.args.store.now) c.list.new.self c.list.ensures.time c.list.ensures.crash
 
 pub returns-then-not-is_just-clause-any_moment : goal.returns-then-not-is_just-clause-any_moment
 returns-then-not-is_just-clause-any_moment g c =
     let S = g.S.Store in
-    read_once S.may_leave S.moment S.left_since c.args.store.now (g.met.S.Store.only_now c.args.store.now) c.list.new.store c.list.ensures.time c.list.ensures.crash
+    read_once S.may_leave S.moment S.left_since c.args.store.now (g.met.S.Store.only_now c.args.store.now) c.list.new.self c.list.ensures.time c.list.ensures.crash
 
 pub returns-clause-any_moment : goal.returns-clause-any_moment
 returns-clause-any_moment g c =
     let S = g.S.Store in
-    read_twice S.may_leave S.moment S.left_since c.args.store.now (g.met.S.Store.only_now c.args.store.now) c.list.new.store c.list.ensures.time c.list.ensures.crash c.read.new.store c.read.ensures.time c.read.ensures.crash
+    read_twice S.may_leave S.moment S.left_since c.args.store.now (g.met.S.Store.only_now c.args.store.now) c.list.new.self c.list.ensures.time c.list.ensures.crash c.read.new.self c.read.ensures.time c.read.ensures.crash

@@ -1,6 +1,8 @@
 use Rattle.std.proofs.Common.{subst, sym, ◌∙◌, [], List, ℕ, inl, inr, ⊎_elim}
 use Rattle.refactor.specs.Answers.{IsReported}
 use Rattle.refactor.specs.Crash.{StandsForEither}
+use Rattle.refactor.specs.Decisions.{Decides}
+use Rattle.refactor.specs.declared.decide.Decision.TheVariants.{Answer, Refuse}
 use Rattle.refactor.proofs.Carried.{weaker}
 use Rattle.refactor.proofs.Performed.{answered, refused, stays, stays_refused, renames, reports, changed, reports_change, either_run}
 use Rattle.refactor.proofs.Settled.{settled_stands}
@@ -16,7 +18,7 @@ returns-in-Answer-clause-answer g c words is =
     let outcomes = S.may_leave c.decide.new.store in
     let before = S.faults c.args.store.now in
     let after = S.faults c.decide.new.store in
-    let decided = (c.args.command.now, is, c.in-Answer.ensures.decision) in
+    let decided : Decides words told before after (Answer c.in-Answer.status) = (c.args.command.now, is, c.in-Answer.ensures.decision) in
     reports words told left kept outcomes before after c.in-Answer.status c.report.result [] (O.contents c.args.out.now) (O.contents c.report.new.out) (O.faults c.args.out.now) (O.faults c.report.new.out)
     c.decide.ensures.files c.decide.ensures.crash
     (answered words told before after left outcomes c.in-Answer.status c.decide.ensures.files decided)
@@ -33,7 +35,7 @@ returns-in-Refuse-clause-answer g c words is =
     let outcomes = S.may_leave c.decide.new.store in
     let before = S.faults c.args.store.now in
     let after = S.faults c.decide.new.store in
-    let decided = (c.args.command.now, is, c.in-Refuse.ensures.decision) in
+    let decided : Decides words told before after (Refuse c.in-Refuse.status c.in-Refuse.paths) = (c.args.command.now, is, c.in-Refuse.ensures.decision) in
     reports words told left kept outcomes before after c.in-Refuse.status c.report-in-Refuse.result c.in-Refuse.paths.items (O.contents c.args.out.now) (O.contents c.report-in-Refuse.new.out) (O.faults c.args.out.now) (O.faults c.report-in-Refuse.new.out)
     c.decide.ensures.files c.decide.ensures.crash
     (refused words told before after left outcomes c.in-Refuse.status c.in-Refuse.paths c.decide.ensures.files decided)

@@ -11,25 +11,25 @@ returns-in-Err-BadWords-clause-answer g c =
     let S = g.S.Store in
     let O = g.O.Sink in
     let s = c.args.store.now in
-    early c.args.words.now (S.files s) (S.files s) (S.may_leave s) (S.may_leave s) (S.faults s) (S.faults s) BadWords c.report-in-Err.result (O.contents c.args.out.now) (O.contents c.report-in-Err.new.out) (O.faults c.args.out.now) (O.faults c.report-in-Err.new.out)
-    refl (λ image left. left) (refl, c.in-Err-BadWords.ensures) (λ found image stands. stands) refl c.report-in-Err.ensures
+    early c.args.words.now (S.files s) (S.files s) (S.may_leave s) (S.may_leave s) (S.faults s) (S.faults s) BadWords c.report.result (O.contents c.args.out.now) (O.contents c.report.new.out) (O.faults c.args.out.now) (O.faults c.report.new.out)
+    refl (λ image left. left) (refl, c.in-Err-BadWords.ensures) (λ found image stands. stands) refl c.report.ensures
 
 pub returns-in-Err-clause-answer : goal.returns-in-Err-clause-answer
 returns-in-Err-clause-answer g c =
     let S = g.S.Store in
     let O = g.O.Sink in
     let s = c.args.store.now in
-    early c.args.words.now (S.files s) (S.files s) (S.may_leave s) (S.may_leave s) (S.faults s) (S.faults s) OutOfMemory c.report-in-Err-2.result (O.contents c.args.out.now) (O.contents c.report-in-Err-2.new.out) (O.faults c.args.out.now) (O.faults c.report-in-Err-2.new.out)
-    refl (λ image left. left) (inl refl) (λ found image stands. stands) refl c.report-in-Err-2.ensures
+    early c.args.words.now (S.files s) (S.files s) (S.may_leave s) (S.may_leave s) (S.faults s) (S.faults s) OutOfMemory c.report-in-Err.result (O.contents c.args.out.now) (O.contents c.report-in-Err.new.out) (O.faults c.args.out.now) (O.faults c.report-in-Err.new.out)
+    refl (λ image left. left) (inl refl) (λ found image stands. stands) refl c.report-in-Err.ensures
 
 pub returns-then-not-needs_files-clause-answer : goal.returns-then-not-needs_files-clause-answer
 returns-then-not-needs_files-clause-answer g c =
     let S = g.S.Store in
     let O = g.O.Sink in
     let s = c.args.store.now in
-    early c.args.words.now (S.files s) (S.files s) (S.may_leave s) (S.may_leave s) (S.faults s) (S.faults s) NotYet c.report.result (O.contents c.args.out.now) (O.contents c.report.new.out) (O.faults c.args.out.now) (O.faults c.report.new.out)
+    early c.args.words.now (S.files s) (S.files s) (S.may_leave s) (S.may_leave s) (S.faults s) (S.faults s) NotYet c.report-then-not-needs_files.result (O.contents c.args.out.now) (O.contents c.report-then-not-needs_files.new.out) (O.faults c.args.out.now) (O.faults c.report-then-not-needs_files.new.out)
     refl (λ image left. left) (inl (refl, subst IsSome (sym c.in-Ok.ensures) refl, no_recovery c.args.words.now c.in-Ok.command c.in-Ok.ensures (λ needs. cc (c.if-not-needs_files.true, c.needs_files.ensures.1 needs))))
-    (λ found image stands. stands) refl c.report.ensures
+    (λ found image stands. stands) refl c.report-then-not-needs_files.ensures
 
 pub returns-clause-answer : goal.returns-clause-answer
 returns-clause-answer g c = c.recover_first.ensures.answer c.args.words.now c.in-Ok.ensures (c.needs_files.ensures.0 c.if-not-needs_files.false)
