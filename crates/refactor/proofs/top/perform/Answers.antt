@@ -12,7 +12,7 @@ returns-in-Err-BadWords-clause-answer g c =
     let O = g.O.Sink in
     let s = c.args.store.now in
     early c.args.words.now (S.files s) (S.files s) (S.may_leave s) (S.may_leave s) (S.faults s) (S.faults s) BadWords c.report.result (O.contents c.args.out.now) (O.contents c.report.new.out) (O.faults c.args.out.now) (O.faults c.report.new.out)
-    refl (λ image left. left) (refl, c.in-Err-BadWords.ensures) (λ found image stands. stands) refl c.report.ensures
+    refl (λ image left. left) (refl, rw c.in-Err-BadWords.field-0-is at c.in-Err-BadWords.ensures) (λ found image stands. stands) refl c.report.ensures
 
 pub returns-in-Err-clause-answer : goal.returns-in-Err-clause-answer
 returns-in-Err-clause-answer g c =
