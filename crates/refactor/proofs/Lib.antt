@@ -1,3 +1,7 @@
 mod Held
 mod Outcomes
 mod Performed
+mod Settled
+mod Single
+mod Carried
+mod Chosen

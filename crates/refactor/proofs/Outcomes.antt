@@ -1,45 +1,65 @@
 -- From the status that was reported to the status that is answered.
-use Rattle.std.proofs.Common.{◌≡◌, ℕ, List, Option, Some, None, refl, sym, subst, ◌∙◌, inl, inr}
+use Rattle.std.proofs.Common.{◌≡◌, ℕ, List, Option, Some, None, refl, sym, subst, ◌∙◌, inl, inr, ⊎_elim, ◌≤◌, arith}
+use Rattle.std.proofs.lemmas.Option.{same_Some, none-some}
 use Rattle.std.specs.Io.KnownBytes.{Appends}
-use Rattle.jr_store.specs.Image.{Image}
+use Rattle.jr_commit.specs.Restoring.{IsOpen, Restored}
+use Rattle.jr_store.specs.Image.{Image, Rose, Tells}
 use Rattle.jr_thin.specs.Renaming.{Serves}
+use Rattle.refactor.specs.Recovering.{IsRecovered, Recovers}
 use Rattle.refactor.specs.Renaming.{AsksRename, Holds, ForTold}
-use Rattle.refactor.specs.Answers.{Answers, Reports, reported, Outcome, IsServedAnswer}
-use Rattle.refactor.specs.declared.status.Phase.TheVariants.{Reading, Writing}
+use Rattle.refactor.specs.Answers.{AnswersFound, OnFound, Answers, Reports, reported, Outcome, IsServedAnswer}
+use Rattle.refactor.specs.Crash.{Survives}
+use Rattle.refactor.specs.Performing.{Reported}
+use Rattle.refactor.proofs.Settled.{holds_back}
+use Rattle.refactor.specs.declared.status.Phase.TheVariants.{Recovering, Reading, Writing}
 use Rattle.refactor.specs.declared.status.Status.{Status}
-use Rattle.refactor.specs.declared.status.Status.TheVariants.{Done, BadWords, NoSpelling, BrokenRule, NotYet, StoreFault, SinkFault, OutOfMemory}
+use Rattle.refactor.specs.declared.status.Status.TheVariants.{Done, BadWords, NoSpelling, BrokenRule, NotYet, StoreFault, SinkFault, TooLarge, OutOfMemory, BadJournal}
 
-module _ (words : List (List ℕ)) (told left : Option Image) (outcomes : Image → Type 0) (before after : ℕ) (old new : Option (List ℕ)) (fewer more : ℕ) where
-  written : (status : Status) → Answers words told left outcomes before after status → Appends old new (reported words status) → Outcome words told left outcomes before after old new fewer more status
-  written SinkFault answers appends = absurd answers
-  written other answers appends = (answers, appends)
+module _ (words : List (List ℕ)) (told left : Option Image) (kept outcomes : Image → Type 0) (before after : ℕ) (old new : Option (List ℕ)) (fewer more : ℕ) where
+  abbrev Said : Status → Type 0
+  Said status = Answers words told left outcomes before after status × Survives words told kept outcomes status
 
-  pub outcome : (status result : Status) → Answers words told left outcomes before after status → Reports status (reported words status) result old new fewer more → Outcome words told left outcomes before after old new fewer more result
-  outcome status result answers (inl done) = subst (Outcome words told left outcomes before after old new fewer more) (sym done.0) (written status answers done.1)
-  outcome status result answers (inr failed) = subst (Outcome words told left outcomes before after old new fewer more) (sym failed.0) (status, answers, failed.1, failed.2)
+  written : (status : Status) → Said status → Appends old new (reported words status) → Outcome words Said old new fewer more status
+  written SinkFault said appends = absurd said.0.3
+  written other said appends = (said, appends)
 
-  none_some : {A : Type 0} {x : A} → None ≡ Some x → ⊥
-  none_some e = cc
+  pub outcome : (result : Status) → Reported words Said result old new fewer more → Outcome words Said old new fewer more result
+  outcome result (status, said, inl done) = subst (Outcome words Said old new fewer more) (sym done.0) (written status said done.1)
+  outcome result (status, said, inr failed) = subst (Outcome words Said old new fewer more) (sym failed.0) (status, said, failed.1, failed.2)
 
-  served : (files : Image) → told ≡ Some files → (status : Status) → Answers words told left outcomes before after status → (file : List ℕ) (at : ℕ) (name bytes : List ℕ) → AsksRename words file at name → Holds files file bytes → Serves bytes at name → IsServedAnswer before after fewer more status
-  served files is (Done report) answers file at name bytes asks holds serves = tt
-  served files is BadWords answers file at name bytes asks holds serves = none_some (sym answers.1 ∙ asks)
-  served files is (NoSpelling request occ place lock) answers file at name bytes asks holds serves = tt
-  served files is (BrokenRule request rule place) answers file at name bytes asks holds serves = tt
-  served files is NotYet answers file at name bytes asks holds serves =
-      subst (λ t. ForTold t (λ files. (file : List ℕ) (at : ℕ) (name bytes : List ℕ) → AsksRename words file at name → Holds files file bytes → Serves bytes at name → ⊥)) is answers.2 file at name bytes asks holds serves
-  served files is (StoreFault Reading) answers file at name bytes asks holds serves = answers.2
-  served files is (StoreFault Writing) answers file at name bytes asks holds serves = answers.1
-  served files is OutOfMemory answers file at name bytes asks holds serves = tt
-  served files is other answers file at name bytes asks holds serves = absurd answers
+  -- a rename that is served, in the files found
+  module _ (files found : Image) (is : told ≡ Some files) (restored : Restored files found) (file : List ℕ) (at : ℕ) (name bytes : List ℕ)
+      (asks : AsksRename words file at name) (holds : Holds found file bytes) (serves : Serves bytes at name) where
+    never_not_yet : (t u : Option Image) → t ≡ Some files → Recovers t u →
+        ForTold u (λ files. (file : List ℕ) (at : ℕ) (name bytes : List ℕ) → AsksRename words file at name → Holds files file bytes → Serves bytes at name → ⊥) → ⊥
+    never_not_yet None u told_is recovers none = none-some files told_is
+    never_not_yet (Some f) None told_is recovers none = recovers
+    never_not_yet (Some f) (Some g) told_is recovers none =
+        none file at name bytes asks (holds_back g found file bytes (recovers.files found (subst (λ (i : Image). Restored i found) (sym (same_Some f files told_is)) restored)) holds) serves
 
-  pub complete : (status result : Status) → Answers words told left outcomes before after status → Reports status (reported words status) result old new fewer more → ForTold told (λ files. (file : List ℕ) (at : ℕ) (name bytes : List ℕ) → AsksRename words file at name → Holds files file bytes → Serves bytes at name → IsServedAnswer before after fewer more result)
-  complete status result answers reports = each told refl
-    where
-      answered : Reports status (reported words status) result old new fewer more → IsServedAnswer before after fewer more status → IsServedAnswer before after fewer more result
-      answered (inl done) s = subst (IsServedAnswer before after fewer more) (sym done.0) s
-      answered (inr failed) s = subst (IsServedAnswer before after fewer more) (sym failed.0) failed.2
+    no_bad_journal : (t : Option Image) → t ≡ Some files → ForTold t (λ files. (r : Image) → Restored files r → ⊥) → ⊥
+    no_bad_journal None told_is none = none-some files told_is
+    no_bad_journal (Some f) told_is none = none found (subst (λ (i : Image). Restored i found) (sym (same_Some f files told_is)) restored)
 
-      each : (t : Option Image) → told ≡ t → ForTold t (λ files. (file : List ℕ) (at : ℕ) (name bytes : List ℕ) → AsksRename words file at name → Holds files file bytes → Serves bytes at name → IsServedAnswer before after fewer more result)
-      each None is = tt
-      each (Some files) is = λ file at name bytes asks holds serves. answered reports (served files is status answers file at name bytes asks holds serves)
+    bad_told : (t : Option Image) → ForTold t (λ files. IsOpen files × ((r : Image) → Restored files r → ⊥)) → ForTold t (λ files. (r : Image) → Restored files r → ⊥)
+    bad_told None bad = tt
+    bad_told (Some f) bad = bad.1
+
+    served : (status : Status) → Answers words told left outcomes before after status → IsServedAnswer before after fewer more status
+    served (Done report) answers = tt
+    served BadWords answers = none-some _ (sym answers.1 ∙ asks)
+    served (NoSpelling request occ place lock) answers = tt
+    served (BrokenRule request rule place) answers = tt
+    served (TooLarge what request) answers = tt
+    served BadJournal answers = no_bad_journal told is (bad_told told answers.2)
+    served NotYet (inl early) = absurd (early.2 (_, asks, tt))
+    served NotYet (inr (u, asked, recovers, none)) = absurd (never_not_yet told u is recovers none.2)
+    served (StoreFault Recovering) answers = answers.2
+    served (StoreFault Reading) answers = answers.3.2
+    served (StoreFault Writing) answers = answers.3.1
+    served OutOfMemory answers = tt
+    served other answers = absurd answers.3
+
+    pub complete : (result : Status) → Reported words Said result old new fewer more → IsServedAnswer before after fewer more result
+    complete result (status, said, inl done) = subst (IsServedAnswer before after fewer more) (sym done.0) (served status said.0)
+    complete result (status, said, inr failed) = subst (IsServedAnswer before after fewer more) (sym failed.0) failed.2

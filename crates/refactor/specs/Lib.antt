@@ -1,5 +1,9 @@
 pub mod Answers
+pub mod Changing
+pub mod Crash
 pub mod Decisions
 pub mod Line
+pub mod Performing
+pub mod Recovering
 pub mod Renaming
 pub mod Status

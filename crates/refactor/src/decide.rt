@@ -1,25 +1,30 @@
 // What is to be done, before anything is written.
-ghost use Rattle.std.specs.Prelude.{◌≡◌, ◌≤◌, ◌∷◌, [], ◌↔◌, IsTrue, IfOk, IfSome, length, option_map};
-ghost use Rattle.jr_store.specs.Image.{HasStoreCause};
-ghost use Rattle.refactor.specs.Renaming.{ForTold, AsksSomeRename};
-ghost use Rattle.refactor.specs.Decisions.{IsHeld, found_bytes, DecidesFound, DecidesRename, IsRename, DecidesCommand, Decides};
+ghost use Rattle.std.specs.Prelude.{◌≡◌, ◌≢◌, ◌≤◌, ◌∷◌, [], ◌↔◌, IsTrue, IfOk, IfSome, length, option_map};
+ghost use Rattle.std.specs.FinMap as map;
+ghost use Rattle.jr_base.specs.Paths.{is_java};
+ghost use Rattle.jr_store.specs.Image.{Image, HasStoreCause, LeavesOnly};
+ghost use Rattle.jr_thin.specs.Renaming.{IsDone};
+ghost use Rattle.refactor.specs.Changing.{IsPlanOf};
+ghost use Rattle.refactor.specs.Renaming.{ForTold};
+ghost use Rattle.refactor.specs.Decisions.{IsOnePath, IsShortPath, IsHeld, found_bytes, DecidesFound, DecidesRename, DecidesCommand};
 
 use crate::status::{Phase, Report, Status};
-use jr_base::{CuId, Path, Place, Request, RuleId, Text};
-use jr_request::{Command, RequestFault, read_words};
+use jr_base::{CuId, Files, OutOfMemory, Path, Place, Request, RuleId, Size, Text};
+use jr_commit::{Plan, journal_fits};
+use jr_request::Command;
 use jr_store::{Store, StoreError};
 use jr_thin::{Renaming, rename};
 use std::alloc::Global;
 
-/// What is to be done: an answer that leaves the files, or new bytes for the one file. The paths are those of the
-/// program's units from 2 on.
+/// What is to be done: an answer that leaves the files, or a change of them. The paths are those of the program's
+/// units from 2 on.
 #[derive(Drop)]
 pub enum Decision {
     /// An answer whose line names no place.
     Answer(Status),
     /// An answer whose line names a place.
     Refuse { status: Status, paths: Vec<Path> },
-    Change { paths: Vec<Path>, bytes: Vec<u8> },
+    Change(Plan),
 }
 
 // The one file of a store, and its bytes.
@@ -41,9 +46,11 @@ fn is_just(paths: &[Path], file: &[u8]) -> bool
 // What the file holds; None where it is not the only one, or is large.
 fn find<S: Store>(alloc: Global, file: &[u8], store: &mut S) -> Result<Option<Found>, StoreError>
     ensures held { IfOk result (λ found. ForTold (S.files store.old) (λ files. IsHeld files file.now (option_map found_bytes found))) }
-    ensures paths { IfOk result (λ found. IfSome found (λ one. one.paths.items ≡ file.now ∷ [])) }
+    ensures paths { IfOk result (λ found. IfSome found (λ one. IsOnePath one.paths.items file.now)) }
     ensures small { IfOk result (λ found. IfSome found (λ one. length one.bytes.items ≤ 65536)) }
     ensures files { S.files store.new ≡ S.files store.old }
+    ensures crash { (c : Image) → S.may_leave store.new c → S.may_leave store.old c }
+    ensures any_moment { LeavesOnly S.moment S.left_since store.old store.new (S.may_leave store.old) }
     ensures cause { HasStoreCause (S.faults store.old) (S.faults store.new) result }
 {
     let paths = store.list(alloc, 2)?;
@@ -59,9 +66,60 @@ fn find<S: Store>(alloc: Global, file: &[u8], store: &mut S) -> Result<Option<Fo
     Ok(Some(Found { paths, bytes }))
 }
 
+// The files of one path.
+fn one_file(alloc: Global, path: &Path, bytes: Vec<u8>) -> Result<Files, OutOfMemory>
+    ensures { IfOk result (λ files. files ≡ map.insert map.empty path.now bytes.items) }
+{
+    let mut files = Files::new(alloc);
+    files.insert(path.copy(alloc)?, bytes)?;
+    Ok(files)
+}
+
+// The plan that gives the one file its new bytes.
+fn plan_of(alloc: Global, path: &Path, old: Vec<u8>, new: Vec<u8>) -> Result<Plan, OutOfMemory>
+    requires java { IsTrue (is_java path.now) }
+    requires short { length path.now ≤ 1024 }
+    requires small_old { length old.items ≤ 16777216 }
+    requires small_new { length new.items ≤ 16777216 }
+    requires differ { new.items ≢ old.items }
+    ensures { IfOk result (λ plan. IsPlanOf path.now old.items new.items plan) }
+{
+    let before = one_file(alloc, path, old)?;
+    let after = one_file(alloc, path, new)?;
+    journal_fits(&before, &after);
+    let plan = Plan::new(alloc, &before, &after)?;
+    Ok(plan)
+}
+
+// What new bytes for the file that was found come to.
+fn decide_bytes(alloc: Global, found: Found, bytes: Vec<u8>, at: u32, name: &[u8]) -> Decision
+    requires path { IsShortPath found.paths.items }
+    requires small { length found.bytes.items ≤ 65536 }
+    requires done { IsDone found.bytes.items at name.now bytes.items }
+    ensures { DecidesFound found at name.now result }
+{
+    let _ = at;
+    let _ = name;
+    if bytes.as_slice() == found.bytes.as_slice() {
+        return Decision::Answer(Status::Done(Report::Changed(0)));
+    }
+    if bytes.len() > 1_048_576 {
+        return Decision::Answer(Status::TooLarge {
+            what: Size::File,
+            request: 0,
+        });
+    }
+    let Found { paths, bytes: old } = found;
+    match plan_of(alloc, &paths[0], old, bytes) {
+        Ok(plan) => Decision::Change(plan),
+        Err(_) => Decision::Answer(Status::OutOfMemory),
+    }
+}
+
 // What the rename of bytes that were found asks for.
 fn decide_found(alloc: Global, found: Found, at: u32, name: &[u8]) -> Decision
-    requires { length found.bytes.items ≤ 65536 }
+    requires path { IsShortPath found.paths.items }
+    requires small { length found.bytes.items ≤ 65536 }
     ensures { DecidesFound found at name.now result }
 {
     match rename(alloc, &found.bytes, at, name) {
@@ -83,16 +141,7 @@ fn decide_found(alloc: Global, found: Found, at: u32, name: &[u8]) -> Decision
             },
             paths: found.paths,
         },
-        Ok(Renaming::Renamed(bytes)) => {
-            if bytes.as_slice() == found.bytes.as_slice() {
-                Decision::Answer(Status::Done(Report::Changed(0)))
-            } else {
-                Decision::Change {
-                    paths: found.paths,
-                    bytes,
-                }
-            }
-        }
+        Ok(Renaming::Renamed(bytes)) => decide_bytes(alloc, found, bytes, at, name),
         Err(_) => Decision::Answer(Status::OutOfMemory),
     }
 }
@@ -106,10 +155,18 @@ fn decide_rename<S: Store>(
 ) -> Decision
     ensures files { S.files store.new ≡ S.files store.old }
     ensures later { S.faults store.old ≤ S.faults store.new }
+    ensures crash { (c : Image) → S.may_leave store.new c → S.may_leave store.old c }
+    ensures any_moment { LeavesOnly S.moment S.left_since store.old store.new (S.may_leave store.old) }
     ensures decision { DecidesRename file.now at name.now (S.files store.old) (S.faults store.old) (S.faults store.new) result }
 {
     match find(alloc, file.bytes(), store) {
-        Ok(Some(found)) => decide_found(alloc, found, at, name.bytes()),
+        Ok(Some(found)) if file.bytes().len() <= 1024 => decide_found(
+            alloc, found, at, name.bytes(),
+        ),
+        Ok(Some(_)) => Decision::Answer(Status::TooLarge {
+            what: Size::Path,
+            request: 0,
+        }),
         Ok(None) => Decision::Answer(Status::NotYet),
         Err(StoreError::Failed) => Decision::Answer(Status::StoreFault {
             phase: Phase::Reading,
@@ -118,10 +175,12 @@ fn decide_rename<S: Store>(
     }
 }
 
-fn decide_command<S: Store>(alloc: Global, command: &Command, store: &mut S) -> Decision
+/// What a command asks for. Nothing is written; a store is only read for a rename.
+pub fn decide<S: Store>(alloc: Global, command: &Command, store: &mut S) -> Decision
     ensures files { S.files store.new ≡ S.files store.old }
     ensures later { S.faults store.old ≤ S.faults store.new }
-    ensures untouched { (IsRename command.now → ⊥) → store.new ≡ store.old }
+    ensures crash { (c : Image) → S.may_leave store.new c → S.may_leave store.old c }
+    ensures any_moment { LeavesOnly S.moment S.left_since store.old store.new (S.may_leave store.old) }
     ensures decision { DecidesCommand command.now (S.files store.old) (S.faults store.old) (S.faults store.new) result }
 {
     match command {
@@ -129,19 +188,5 @@ fn decide_command<S: Store>(alloc: Global, command: &Command, store: &mut S) -> 
             alloc, file, *at, name, store,
         ),
         _ => Decision::Answer(Status::NotYet),
-    }
-}
-
-/// What the words ask for. Nothing is written; a store is only read where they ask for a rename.
-pub fn decide<S: Store>(alloc: Global, words: &[Text], store: &mut S) -> Decision
-    ensures files { S.files store.new ≡ S.files store.old }
-    ensures later { S.faults store.old ≤ S.faults store.new }
-    ensures untouched { (AsksSomeRename words.now → ⊥) → store.new ≡ store.old }
-    ensures decision { Decides words.now (S.files store.old) (S.faults store.old) (S.faults store.new) result }
-{
-    match read_words(alloc, words) {
-        Ok(command) => decide_command(alloc, &command, store),
-        Err(RequestFault::BadWords) => Decision::Answer(Status::BadWords),
-        Err(_) => Decision::Answer(Status::OutOfMemory),
     }
 }

@@ -24,7 +24,8 @@ refactor DIR COMMAND ..: changes the Java source below the folder DIR, keeping w
 The folder has one file that ends in .java, of at most 65,536 bytes: a class of methods `static int f(int ..)` with
 statements `int x = e;` and `return e;`. All else is answered `not yet`.
 Each answer is one line on standard output, and a status: 0 done, 1 bad words, 4 no spelling, 6 broken rule,
-7 store fault, 10 out of memory, 14 output fault, 20 not yet.
+7 store fault, 9 too large, 10 out of memory, 11 bad journal, 14 output fault, 20 not yet.
+A run that was stopped while it wrote is first undone, by the files .refactor-gate and .refactor-journal.
 ";
 
 const VERSION: &str = "refactor 0.1.0\n";

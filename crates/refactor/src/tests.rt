@@ -88,8 +88,8 @@ fn a_rename_is_made(rt: HostRuntime) -> Result<(), Fail> {
     expect(&rt, &call(alloc, OLD, RENAME, 0, 0)?, 0, DONE, NEW);
     let by_use = call(alloc, OLD, ". rename A.java 39 b", 0, 0)?;
     expect(&rt, &by_use, 0, DONE, NEW);
-    // Nothing is written: the third call of the store would fail.
-    let to_itself = call(alloc, OLD, ". rename A.java 27 a", 3, 0)?;
+    // Nothing is written: the fourth call of the store would fail.
+    let to_itself = call(alloc, OLD, ". rename A.java 27 a", 4, 0)?;
     expect(&rt, &to_itself, 0, "done, files changed: 0\n", OLD);
     Ok(())
 }
@@ -106,7 +106,8 @@ fn a_rename_is_refused(rt: HostRuntime) -> Result<(), Fail> {
     // The store is not called: its first call would fail.
     let bad = call(alloc, OLD, ". rename A.java x b", 1, 0)?;
     expect(&rt, &bad, 1, "bad words\n", OLD);
-    let check = call(alloc, OLD, ". check", 1, 0)?;
+    // Only the gate is read: the second call of the store would fail.
+    let check = call(alloc, OLD, ". check", 2, 0)?;
     expect(&rt, &check, 20, "not yet\n", OLD);
     let elsewhere = call(alloc, OLD, ". rename B.java 27 b", 0, 0)?;
     expect(&rt, &elsewhere, 20, "not yet\n", OLD);
@@ -118,16 +119,71 @@ fn a_rename_is_refused(rt: HostRuntime) -> Result<(), Fail> {
 #[test]
 fn a_fault_is_answered(rt: HostRuntime) -> Result<(), Fail> {
     let alloc = rt.alloc();
-    for failing in [1, 2] {
+    let recovering = call(alloc, OLD, RENAME, 1, 0)?;
+    expect(&rt, &recovering, 7, "store fault: recovering\n", OLD);
+    for failing in [2, 3] {
         let reading = call(alloc, OLD, RENAME, failing, 0)?;
         expect(&rt, &reading, 7, "store fault: reading\n", OLD);
     }
-    let write = call(alloc, OLD, RENAME, 3, 0)?;
+    let write = call(alloc, OLD, RENAME, 8, 0)?;
     expect(&rt, &write, 7, "store fault: writing\n", OLD);
     // The file has the new bytes, but a crash may lose them.
-    let sync = call(alloc, OLD, RENAME, 4, 0)?;
+    let sync = call(alloc, OLD, RENAME, 9, 0)?;
     expect(&rt, &sync, 7, "store fault: writing\n", NEW);
     let sink = call(alloc, OLD, RENAME, 0, 1)?;
     expect(&rt, &sink, 14, "", NEW);
+    Ok(())
+}
+
+// The call after one that a fault or a stop left half done.
+fn call_again(alloc: Global, store: &mut MemStore) -> Result<Called, Fail> {
+    let mut input = MemSource::new(Vec::new(alloc), Vec::new(alloc));
+    let mut out = MemSink::new(alloc, Vec::new(alloc))?;
+    let words = words_of(alloc, ". rename A.java 1 a")?;
+    let status = refactor(alloc, &words, store, &mut input, &mut out);
+    Ok(Called {
+        number: status.number(),
+        line: out.bytes().to_vec(alloc)?,
+        left: left_in(alloc, store)?,
+    })
+}
+
+#[test]
+fn a_stop_is_recovered_from(rt: HostRuntime) -> Result<(), Fail> {
+    let alloc = rt.alloc();
+    let mut input = MemSource::new(Vec::new(alloc), Vec::new(alloc));
+    let mut out = MemSink::new(alloc, Vec::new(alloc))?;
+    let words = words_of(alloc, RENAME)?;
+    // The sync of the new bytes fails.
+    let mut store = store_of(alloc, OLD, 9)?;
+    let status = refactor(alloc, &words, &mut store, &mut input, &mut out);
+    assert_eq!(rt; status.number(), 7);
+    expect(&rt, &call_again(alloc, &mut store)?, 20, "not yet\n", OLD);
+    let mut whole = store_of(alloc, OLD, 0)?;
+    let done = refactor(alloc, &words, &mut whole, &mut input, &mut out);
+    assert_eq!(rt; done.number(), 0);
+    for stop in 4..12u64 {
+        for pick in 0..4u64 {
+            let again = call_again(alloc, &mut whole.image(alloc, stop, pick)?)?;
+            assert_eq!(rt; again.number, 20);
+            let left = again.left.as_slice();
+            assert!(rt; left == OLD.as_bytes() || left == NEW.as_bytes());
+        }
+    }
+    Ok(())
+}
+
+#[test]
+fn a_bad_journal_is_refused(rt: HostRuntime) -> Result<(), Fail> {
+    let alloc = rt.alloc();
+    let mut files = Files::new(alloc);
+    files.insert(
+        Path::parse(alloc, b".refactor-gate")?,
+        b"1".to_vec(alloc)?,
+    )?;
+    files.insert(Path::parse(alloc, b"A.java")?, OLD.as_bytes().to_vec(alloc)?)?;
+    let mut store = MemStore::new(alloc, files, Vec::new(alloc))?;
+    let called = call_again(alloc, &mut store)?;
+    expect(&rt, &called, 11, "bad journal\n", OLD);
     Ok(())
 }

@@ -1,16 +1,25 @@
 // The top call: from the words, the store and the output to the answer.
-ghost use Rattle.std.specs.Prelude.{◌≡◌, ◌∷◌, [], ℕ, List, Some, OnOk};
-ghost use Rattle.jr_store.specs.Image.{ChangesOnly, Puts, Tells, OnlyTold, HasCause};
+ghost use Rattle.std.specs.Prelude.{◌≡◌, ◌≢◌, ◌⊎◌, ◌↔◌, [], ℕ, List, Some, OnOk, IsTrue};
+ghost use Rattle.jr_commit.specs.Planned.{StartsCommit, ChangesOnlyPlanned};
+ghost use Rattle.jr_commit.specs.Restoring.{Restored, RestoresTo, StartsRecover};
+ghost use Rattle.jr_commit.specs.SidesAt.{with_sides};
+ghost use Rattle.jr_request.specs.Words.{command_of};
+ghost use Rattle.jr_store.specs.Image.{Image, Tells, OnlyTold, LeavesOnly, HasCause};
 ghost use Rattle.jr_thin.specs.Renaming.{Serves};
-ghost use Rattle.refactor.specs.Answers.{Answers, Changes, Reports, IsReported, reported, Outcome, IsServedAnswer};
+ghost use Rattle.refactor.specs.Answers.{AnswersFound, Answers, Reports, IsReported, reported, Outcome, IsServedAnswer};
+ghost use Rattle.refactor.specs.Crash.{StandsForEither, Survives, IsSettled, SurvivesSettled};
 ghost use Rattle.refactor.specs.Line.{line_of};
-ghost use Rattle.refactor.specs.Renaming.{AsksRename, AsksSomeRename, Holds, ForTold};
+ghost use Rattle.refactor.specs.Recovering.{AsksRecovery, NeedsFiles};
+ghost use Rattle.refactor.specs.Renaming.{AsksRename, Holds};
+ghost use Rattle.refactor.specs.Performing.{IsTaken, Commits, Reported};
 ghost use Rattle.refactor.specs.declared.status.Status.{Status};
 
 use crate::decide::{Decision, decide};
 use crate::lines::line_of;
 use crate::status::{Phase, Report, Status};
 use jr_base::{Path, Text};
+use jr_commit::{Plan, RecoverFault, commit, recover};
+use jr_request::{Command, RequestFault, read_words};
 use jr_store::{Failed, Sink, Source, Store};
 use std::alloc::Global;
 
@@ -34,34 +43,32 @@ fn report<O: Sink>(alloc: Global, status: Status, paths: &[Path], out: &mut O) -
     }
 }
 
-// Writes the bytes of one file, and has them last.
-fn write_file<S: Store>(store: &mut S, path: &Path, bytes: &[u8]) -> Result<(), Failed>
-    ensures told { Tells (S.files store.old) (S.files store.new) (ChangesOnly path.now) }
-    ensures written { OnOk result (Tells (S.files store.old) (S.files store.new) (Puts path.now (Some bytes.now))) }
-    ensures durable { OnOk result (OnlyTold (S.files store.new) (S.may_leave store.new)) }
+// Takes the steps of a plan.
+fn take_all<S: Store>(store: &mut S, plan: &Plan) -> Result<(), Failed>
+    ensures taken { OnOk result (Tells (S.files store.old) (S.files store.new) (IsTaken plan.now)) }
+    ensures changes { Tells (S.files store.old) (S.files store.new) (ChangesOnlyPlanned plan.now) }
+    ensures durable { OnOk result (plan.now.steps ≢ [] → OnlyTold (S.files store.new) (S.may_leave store.new)) }
+    ensures any_moment { (f : Image) → S.files store.old ≡ Some f → StartsCommit f (S.may_leave store.old) plan.now →
+        LeavesOnly S.moment S.left_since store.old store.new (λ c. RestoresTo c f ⊎ RestoresTo c (with_sides plan.now.steps f)) }
     ensures cause { HasCause (S.faults store.old) (S.faults store.new) result }
 {
-    store.write(path, bytes)?;
-    store.sync()
+    commit(store, plan)?;
+    Ok(())
 }
 
-// Writes the new bytes of the one file, and reports. The line is made before the first write, since nothing after it
-// may want memory.
-fn change<S: Store, O: Sink>(
-    alloc: Global,
-    path: &Path,
-    bytes: &[u8],
-    store: &mut S,
-    out: &mut O,
-) -> Status
-    ensures { (status : Status) × Changes path.now bytes.now (S.files store.old) (S.files store.new) (S.may_leave store.new) (S.faults store.old) (S.faults store.new) status
+// Takes the steps of a plan, and reports. The line is made before the first write, since nothing after it may want
+// memory.
+fn change<S: Store, O: Sink>(alloc: Global, plan: &Plan, store: &mut S, out: &mut O) -> Status
+    ensures answer { (status : Status) × Commits plan.now (S.files store.old) (S.files store.new) (S.may_leave store.old) (S.may_leave store.new) (S.faults store.old) (S.faults store.new) status
         × Reports status (line_of [] status) result (O.contents out.old) (O.contents out.new) (O.faults out.old) (O.faults out.new) }
+    ensures any_moment { (f : Image) → S.files store.old ≡ Some f → StartsCommit f (S.may_leave store.old) plan.now →
+        LeavesOnly S.moment S.left_since store.old store.new (λ c. RestoresTo c f ⊎ RestoresTo c (with_sides plan.now.steps f)) }
 {
     let done = Status::Done(Report::Changed(1));
     let Ok(line) = line_of(alloc, &[], &done) else {
         return write_line(Status::OutOfMemory, b"out of memory\n", out);
     };
-    match write_file(store, path, bytes) {
+    match take_all(store, plan) {
         Ok(()) => write_line(done, &line, out),
         Err(_) => write_line(
             Status::StoreFault {
@@ -73,24 +80,87 @@ fn change<S: Store, O: Sink>(
     }
 }
 
-// The status that is answered, and the one that is reported.
-fn perform<S: Store, O: Sink>(alloc: Global, words: &[Text], store: &mut S, out: &mut O) -> Status
-    ensures answer { (status : Status)
-        × Answers words.now (S.files store.old) (S.files store.new) (S.may_leave store.new) (S.faults store.old) (S.faults store.new) status
-        × Reports status (reported words.now status) result (O.contents out.old) (O.contents out.new) (O.faults out.old) (O.faults out.new) }
-    ensures untouched { (AsksSomeRename words.now → ⊥) → store.new ≡ store.old }
+// Does what a command asks for, on the files found.
+fn obey<S: Store, O: Sink>(
+    alloc: Global,
+    command: &Command,
+    store: &mut S,
+    out: &mut O,
+) -> Status
+    ensures answer { (words : List (List ℕ)) → command_of words ≡ Some command.now →
+        Reported words (λ status. AnswersFound words (S.files store.old) (S.files store.new) (S.may_leave store.new) (S.faults store.old) (S.faults store.new) status
+        × SurvivesSettled words (S.files store.old) (S.may_leave store.old) (S.may_leave store.new) status) result (O.contents out.old) (O.contents out.new) (O.faults out.old) (O.faults out.new) }
+    ensures any_moment { (words : List (List ℕ)) (f r : Image) → command_of words ≡ Some command.now → S.files store.old ≡ Some f → IsSettled f r (S.may_leave store.old) →
+        LeavesOnly S.moment S.left_since store.old store.new (StandsForEither words r) }
 {
-    match decide(alloc, words, store) {
+    match decide(alloc, command, store) {
         Decision::Answer(status) => report(alloc, status, &[], out),
         Decision::Refuse { status, paths } => report(alloc, status, &paths, out),
-        Decision::Change { paths, bytes } => change(alloc, &paths[0], &bytes, store, out),
+        Decision::Change(plan) => change(alloc, &plan, store, out),
     }
+}
+
+// Whether the command reads the files.
+fn needs_files(command: &Command) -> bool
+    ensures { IsTrue result ↔ NeedsFiles command.now }
+{
+    match command {
+        Command::Demo(_) => false,
+        _ => true,
+    }
+}
+
+// Puts back what an earlier run left half done, and does what a command asks for.
+fn recover_first<S: Store, O: Sink>(
+    alloc: Global,
+    command: &Command,
+    store: &mut S,
+    out: &mut O,
+) -> Status
+    ensures answer { (words : List (List ℕ)) → command_of words ≡ Some command.now → NeedsFiles command.now →
+        Reported words (λ status. Answers words (S.files store.old) (S.files store.new) (S.may_leave store.new) (S.faults store.old) (S.faults store.new) status
+        × Survives words (S.files store.old) (S.may_leave store.old) (S.may_leave store.new) status) result (O.contents out.old) (O.contents out.new) (O.faults out.old) (O.faults out.new) }
+    ensures any_moment { (words : List (List ℕ)) (f r : Image) → command_of words ≡ Some command.now → S.files store.old ≡ Some f → Restored f r →
+        StartsRecover f (S.may_leave store.old) → LeavesOnly S.moment S.left_since store.old store.new (StandsForEither words r) }
+{
+    match recover(alloc, store) {
+        Ok(_) => obey(alloc, command, store, out),
+        Err(RecoverFault::Failed) => write_line(
+            Status::StoreFault {
+                phase: Phase::Recovering,
+            },
+            b"store fault: recovering\n",
+            out,
+        ),
+        Err(RecoverFault::BadJournal) => report(alloc, Status::BadJournal, &[], out),
+        Err(RecoverFault::OutOfMemory) => report(alloc, Status::OutOfMemory, &[], out),
+    }
+}
+
+// The status that is answered, and the one that is reported.
+fn perform<S: Store, O: Sink>(alloc: Global, words: &[Text], store: &mut S, out: &mut O) -> Status
+    ensures answer { Reported words.now (λ status. Answers words.now (S.files store.old) (S.files store.new) (S.may_leave store.new) (S.faults store.old) (S.faults store.new) status
+        × Survives words.now (S.files store.old) (S.may_leave store.old) (S.may_leave store.new) status) result (O.contents out.old) (O.contents out.new) (O.faults out.old) (O.faults out.new) }
+    ensures any_moment { (f r : Image) → S.files store.old ≡ Some f → Restored f r → StartsRecover f (S.may_leave store.old) →
+        LeavesOnly S.moment S.left_since store.old store.new (StandsForEither words.now r) }
+    ensures untouched { (AsksRecovery words.now → ⊥) → store.new ≡ store.old }
+{
+    let command = match read_words(alloc, words) {
+        Ok(command) => command,
+        Err(RequestFault::BadWords) => return report(alloc, Status::BadWords, &[], out),
+        Err(_) => return report(alloc, Status::OutOfMemory, &[], out),
+    };
+    if !needs_files(&command) {
+        return report(alloc, Status::NotYet, &[], out);
+    }
+    recover_first(alloc, &command, store, out)
 }
 
 /// Does what the words ask for, and writes one line.
 ///
-/// The first word is the folder, which is not read here. Only a rename is served, in a store with one `.java` file of
-/// at most 65,536 bytes. Want of memory may be answered at any time before the first write.
+/// The first word is the folder, which is not read here. Every command but `demo` begins with recovery. Only a rename
+/// is served, in a store with one `.java` file of at most 65,536 bytes. Want of memory may be answered at any time
+/// before the first write of the commit, unless recovery has begun to write and not ended.
 pub fn refactor<S: Store, I: Source, O: Sink>(
     alloc: Global,
     words: &[Text],
@@ -98,16 +168,24 @@ pub fn refactor<S: Store, I: Source, O: Sink>(
     input: &mut I,
     out: &mut O,
 ) -> Status
-    // Each answer has its cause, and the files left are those that it says. A rename that is done is the requested change.
-    ensures answer { Outcome words.now (S.files store.old) (S.files store.new) (S.may_leave store.new) (S.faults store.old) (S.faults store.new)
-        (O.contents out.old) (O.contents out.new) (O.faults out.old) (O.faults out.new) result }
+    // Each answer has its cause, the files left are those that it says, and a crash leaves such files. A rename that is
+    // done is the requested change.
+    ensures answer { Outcome words.now (λ status. Answers words.now (S.files store.old) (S.files store.new) (S.may_leave store.new) (S.faults store.old) (S.faults store.new) status
+        × Survives words.now (S.files store.old) (S.may_leave store.old) (S.may_leave store.new) status) (O.contents out.old) (O.contents out.new) (O.faults out.old) (O.faults out.new) result }
 
     // A rename that is served gets one of the answers to a rename, unless memory runs out or a fault is counted.
-    ensures complete { ForTold (S.files store.old) (λ files. (file : List ℕ) (at : ℕ) (name bytes : List ℕ) → AsksRename words.now file at name
-        → Holds files file bytes → Serves bytes at name → IsServedAnswer (S.faults store.old) (S.faults store.new) (O.faults out.old) (O.faults out.new) result) }
+    ensures complete { (files found : Image) → S.files store.old ≡ Some files → Restored files found → (file : List ℕ) (at : ℕ) (name bytes : List ℕ)
+        → AsksRename words.now file at name → Holds found file bytes → Serves bytes at name → IsServedAnswer (S.faults store.old) (S.faults store.new) (O.faults out.old) (O.faults out.new) result }
 
-    // Where the words ask for no rename, the store is not called.
-    ensures untouched { (AsksSomeRename words.now → ⊥) → store.new ≡ store.old }
+    // A crash at any moment of the call leaves an image of the files found or of those of the change.
+    ensures any_moment { (f r : Image) → S.files store.old ≡ Some f → Restored f r → StartsRecover f (S.may_leave store.old) →
+        LeavesOnly S.moment S.left_since store.old store.new (StandsForEither words.now r) }
+
+    // Without a crash, so do reads, after a fault too.
+    ensures read_back { (f r g : Image) → S.files store.old ≡ Some f → Restored f r → StartsRecover f (S.may_leave store.old) → S.files store.new ≡ Some g → StandsForEither words.now r g }
+
+    // Where the words ask for nothing that needs the files, the store is not called.
+    ensures untouched { (AsksRecovery words.now → ⊥) → store.new ≡ store.old }
 
     // The input is not read.
     ensures unread { input.new ≡ input.old }

@@ -1,5 +1,6 @@
 use Rattle.std.proofs.Common.{◌≡◌, sym, ◌∙◌, arith, [], ◌∷◌}
 use Rattle.std.proofs.lemmas.Bool.{false≢true}
+use Rattle.refactor.proofs.Carried.{read_once, read_twice}
 use Rattle.refactor.proofs.Held.{not_listed, large, holds_it, read_again, first_is}
 use Rattle.refactor.proofs.decide.find.Goals as goal
 
@@ -21,3 +22,18 @@ returns-clause-held g c =
     holds_it _ c.args.file.now c.in-Some.bytes.items _ c.in_ok-paths.ensures.java c.in_ok-paths.ensures.listed just
     (read_again _ _ c.args.file.now _ c.in_ok-bytes.field-0 c.in-Some.bytes c.in_ok-paths.ensures.told (first_is _ _ _ just c.index.ensures) c.in-Some.is c.in_ok-bytes.ensures.bytes)
     (omega (arith, c.len.ensures, c.in-Some.bytes.ok.0))
+
+pub returns-in_err-paths-clause-any_moment : goal.returns-in_err-paths-clause-any_moment
+returns-in_err-paths-clause-any_moment g c =
+    let S = g.S.Store in
+    read_once S.may_leave S.moment S.left_since c.args.store.now (g.met.S.Store.only_now c.args.store.now) c.list.new.self c.list.ensures.time c.list.ensures.crash
+
+pub returns-then-not-is_just-clause-any_moment : goal.returns-then-not-is_just-clause-any_moment
+returns-then-not-is_just-clause-any_moment g c =
+    let S = g.S.Store in
+    read_once S.may_leave S.moment S.left_since c.args.store.now (g.met.S.Store.only_now c.args.store.now) c.list.new.self c.list.ensures.time c.list.ensures.crash
+
+pub returns-clause-any_moment : goal.returns-clause-any_moment
+returns-clause-any_moment g c =
+    let S = g.S.Store in
+    read_twice S.may_leave S.moment S.left_since c.args.store.now (g.met.S.Store.only_now c.args.store.now) c.list.new.self c.list.ensures.time c.list.ensures.crash c.read.new.self c.read.ensures.time c.read.ensures.crash

@@ -1,46 +1,50 @@
-use Rattle.std.proofs.Common.{subst, [], List, ℕ}
-use Rattle.refactor.specs.Answers.{IsReported, Changes}
-use Rattle.refactor.proofs.Held.{first_is}
-use Rattle.refactor.proofs.Performed.{answered, refused, renames, reports, changed, reports_change}
+use Rattle.std.proofs.Common.{◌≡◌, inl, inr, [], refl, sym, ◌∙◌, ap, subst, IsSome}
+use Rattle.std.specs.Prelude.{Some}
+use Rattle.jr_request.specs.declared.command.Command.{Command}
+use Rattle.refactor.specs.Recovering.{NeedsFiles}
+use Rattle.refactor.specs.declared.status.Status.TheVariants.{BadWords, OutOfMemory, NotYet}
+use Rattle.refactor.proofs.Carried.{early, stays_here, no_recovery}
 use Rattle.refactor.proofs.top.perform.Goals as goal
 
-pub returns-in-Answer-clause-answer : goal.returns-in-Answer-clause-answer
-returns-in-Answer-clause-answer g c =
-    let told = g.S.Store.files c.args.store.now in
-    let left = g.S.Store.files c.decide.new.store in
-    let outcomes = g.S.Store.may_leave c.decide.new.store in
-    let before = g.S.Store.faults c.args.store.now in
-    let after = g.S.Store.faults c.decide.new.store in
-    reports c.args.words.now told left outcomes before after c.in-Answer.status c.report.result [] (g.O.Sink.contents c.args.out.now) (g.O.Sink.contents c.report.new.out) (g.O.Sink.faults c.args.out.now) (g.O.Sink.faults c.report.new.out)
-    c.in-Answer.ensures.files
-    (answered c.args.words.now told before after left outcomes c.in-Answer.status c.in-Answer.ensures.files c.in-Answer.ensures.decision)
-    c.report.ensures
+pub returns-in-Err-BadWords-clause-answer : goal.returns-in-Err-BadWords-clause-answer
+returns-in-Err-BadWords-clause-answer g c =
+    let S = g.S.Store in
+    let O = g.O.Sink in
+    let s = c.args.store.now in
+    early c.args.words.now (S.files s) (S.files s) (S.may_leave s) (S.may_leave s) (S.faults s) (S.faults s) BadWords c.report.result (O.contents c.args.out.now) (O.contents c.report.new.out) (O.faults c.args.out.now) (O.faults c.report.new.out)
+    refl (λ image left. left) (refl, rw c.in-Err-BadWords.field-0-is at c.in-Err-BadWords.ensures) (λ found image stands. stands) refl c.report.ensures
 
-pub returns-in-Refuse-clause-answer : goal.returns-in-Refuse-clause-answer
-returns-in-Refuse-clause-answer g c =
-    let told = g.S.Store.files c.args.store.now in
-    let left = g.S.Store.files c.decide.new.store in
-    let outcomes = g.S.Store.may_leave c.decide.new.store in
-    let before = g.S.Store.faults c.args.store.now in
-    let after = g.S.Store.faults c.decide.new.store in
-    reports c.args.words.now told left outcomes before after c.in-Refuse.status c.report-in-Refuse.result c.in-Refuse.paths.items (g.O.Sink.contents c.args.out.now) (g.O.Sink.contents c.report-in-Refuse.new.out) (g.O.Sink.faults c.args.out.now) (g.O.Sink.faults c.report-in-Refuse.new.out)
-    c.in-Refuse.ensures.files
-    (refused c.args.words.now told before after left outcomes c.in-Refuse.status c.in-Refuse.paths c.in-Refuse.ensures.files c.in-Refuse.ensures.decision)
-    (subst (λ (ps : List (List ℕ)). IsReported c.in-Refuse.status ps c.report-in-Refuse.result (g.O.Sink.contents c.args.out.now) (g.O.Sink.contents c.report-in-Refuse.new.out) (g.O.Sink.faults c.args.out.now) (g.O.Sink.faults c.report-in-Refuse.new.out)) c.deref.ensures.value c.report-in-Refuse.ensures)
+pub returns-in-Err-clause-answer : goal.returns-in-Err-clause-answer
+returns-in-Err-clause-answer g c =
+    let S = g.S.Store in
+    let O = g.O.Sink in
+    let s = c.args.store.now in
+    early c.args.words.now (S.files s) (S.files s) (S.may_leave s) (S.may_leave s) (S.faults s) (S.faults s) OutOfMemory c.report-in-Err.result (O.contents c.args.out.now) (O.contents c.report-in-Err.new.out) (O.faults c.args.out.now) (O.faults c.report-in-Err.new.out)
+    refl (λ image left. left) (inl refl) (λ found image stands. stands) refl c.report-in-Err.ensures
 
-pub returns-in-Change-clause-answer : goal.returns-in-Change-clause-answer
-returns-in-Change-clause-answer g c =
-    let told = g.S.Store.files c.args.store.now in
-    let mid = g.S.Store.files c.decide.new.store in
-    let left = g.S.Store.files c.change.new.store in
-    let outcomes = g.S.Store.may_leave c.change.new.store in
-    let before = g.S.Store.faults c.args.store.now in
-    let middle = g.S.Store.faults c.decide.new.store in
-    let after = g.S.Store.faults c.change.new.store in
-    let asked = renames c.args.words.now told before middle c.in-Change.paths c.in-Change.bytes c.in-Change.ensures.decision in
-    let done = c.change.ensures in
-    reports_change c.args.words.now told left outcomes before after done.0 c.change.result (g.O.Sink.contents c.args.out.now) (g.O.Sink.contents c.change.new.out) (g.O.Sink.faults c.args.out.now) (g.O.Sink.faults c.change.new.out)
-    (changed c.args.words.now told left outcomes before after middle mid c.index.result.now c.in-Change.bytes.items asked.0 asked.1 asked.2 done.0 c.in-Change.ensures.files c.in-Change.ensures.later
-    (first_is c.in-Change.paths.items asked.0 c.index.result.now asked.4 c.index.ensures) asked.3 asked.5
-    (subst (λ (b : List ℕ). Changes c.index.result.now b mid left outcomes middle after done.0) c.deref-in-Change.ensures.value done.1))
-    done.2
+pub returns-then-not-needs_files-clause-answer : goal.returns-then-not-needs_files-clause-answer
+returns-then-not-needs_files-clause-answer g c =
+    let S = g.S.Store in
+    let O = g.O.Sink in
+    let s = c.args.store.now in
+    early c.args.words.now (S.files s) (S.files s) (S.may_leave s) (S.may_leave s) (S.faults s) (S.faults s) NotYet c.report-then-not-needs_files.result (O.contents c.args.out.now) (O.contents c.report-then-not-needs_files.new.out) (O.faults c.args.out.now) (O.faults c.report-then-not-needs_files.new.out)
+    refl (λ image left. left) (inl (refl, subst IsSome (sym c.in-Ok.ensures) refl, no_recovery c.args.words.now c.in-Ok.command c.in-Ok.ensures (λ needs. cc (c.if-not-needs_files.true, c.needs_files.ensures.1 needs))))
+    (λ found image stands. stands) refl c.report-then-not-needs_files.ensures
+
+pub returns-clause-answer : goal.returns-clause-answer
+returns-clause-answer g c = c.recover_first.ensures.answer c.args.words.now c.in-Ok.ensures (c.needs_files.ensures.0 c.if-not-needs_files.false)
+
+pub returns-clause-any_moment : goal.returns-clause-any_moment
+returns-clause-any_moment g c f r told restored start = c.recover_first.ensures.any_moment c.args.words.now f r c.in-Ok.ensures told restored start
+
+pub returns-clause-untouched : goal.returns-clause-untouched
+returns-clause-untouched g c never = absurd (never (c.in-Ok.command, c.in-Ok.ensures, c.needs_files.ensures.0 c.if-not-needs_files.false))
+
+pub returns-in-Err-BadWords-clause-any_moment : goal.returns-in-Err-BadWords-clause-any_moment
+returns-in-Err-BadWords-clause-any_moment g c f r told restored start = let S = g.S.Store in stays_here S.may_leave S.moment S.left_since c.args.words.now f r c.args.store.now (g.met.S.Store.only_now c.args.store.now) restored start
+
+pub returns-in-Err-clause-any_moment : goal.returns-in-Err-clause-any_moment
+returns-in-Err-clause-any_moment g c f r told restored start = let S = g.S.Store in stays_here S.may_leave S.moment S.left_since c.args.words.now f r c.args.store.now (g.met.S.Store.only_now c.args.store.now) restored start
+
+pub returns-then-not-needs_files-clause-any_moment : goal.returns-then-not-needs_files-clause-any_moment
+returns-then-not-needs_files-clause-any_moment g c f r told restored start = let S = g.S.Store in stays_here S.may_leave S.moment S.left_since c.args.words.now f r c.args.store.now (g.met.S.Store.only_now c.args.store.now) restored start
