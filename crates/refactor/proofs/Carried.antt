@@ -88,13 +88,16 @@ module _ (words : List (List ℕ)) (command : Command) (is : command_of words �
   pub carried : (result : Status) (old new : Option (List ℕ)) (fewer more : ℕ) →
       Reported words (λ status. AnswersFound words found left outcomes middle after status × SurvivesSettled words found settled_outcomes outcomes status) result old new fewer more →
       Reported words (λ status. Answers words told left outcomes before after status × Survives words told kept outcomes status) result old new fewer more
-  carried result old new fewer more (status, (answer, survives), reports) =
-      (status,
-      (on_found words told left outcomes before after status (found, (command, is, needs), recovered, earlier words found left outcomes before middle after status later answer),
+  carried result old new fewer more (status, (answer, survives), reports) = (
+    status,
+    (
+      on_found words told left outcomes before after status (found, (command, is, needs), recovered, earlier words found left outcomes before middle after status later answer),
       λ f r told_is restored start c l.
-      let g = still_told told found f recovered told_is in
-      survives g.0 r g.1 (settled told found settled_outcomes f g.0 r recovered told_is g.1 restored (closed f r told_is restored start)) c l),
-      reports)
+          let g = still_told told found f recovered told_is in
+          survives g.0 r g.1 (settled told found settled_outcomes f g.0 r recovered told_is g.1 restored (closed f r told_is restored start)) c l,
+    ),
+    reports,
+  )
 
 module _ (words : List (List ℕ)) (told left : Option Image) (kept outcomes : Image → Type 0) (before after : ℕ) where
   abbrev Said : Status → Type 0
@@ -104,12 +107,16 @@ module _ (words : List (List ℕ)) (told left : Option Image) (kept outcomes : I
   pub early : (status result : Status) (old new : Option (List ℕ)) (fewer more : ℕ) → left ≡ told → ((c : Image) → outcomes c → kept c) →
       Answers words told left outcomes before after status → ((found image : Image) → RestoresTo image found → StandsAfter words found status image) → line_of [] status ≡ reported words status →
       IsReported status [] result old new fewer more → Reported words Said result old new fewer more
-  early status result old new fewer more same fewer_left answer stands line (final, inl final_is, r) =
-      (status, (answer, λ f found told_is restored start c l. stands found c (here_by f found kept start restored c (fewer_left c l))),
-      subst (λ (l : List ℕ). Reports status l result old new fewer more) line (subst (λ (x : Status). Reports x (line_of [] x) result old new fewer more) final_is r))
-  early status result old new fewer more same fewer_left answer stands line (final, inr final_is, r) =
-      (OutOfMemory, (inl same, λ f found told_is restored start c l. here_by f found kept start restored c (fewer_left c l)),
-      subst (λ (x : Status). Reports x (line_of [] x) result old new fewer more) final_is r)
+  early status result old new fewer more same fewer_left answer stands line (final, inl final_is, r) = (
+    status,
+    (answer, λ f found told_is restored start c l. stands found c (here_by f found kept start restored c (fewer_left c l))),
+    subst (λ (l : List ℕ). Reports status l result old new fewer more) line (subst (λ (x : Status). Reports x (line_of [] x) result old new fewer more) final_is r),
+  )
+  early status result old new fewer more same fewer_left answer stands line (final, inr final_is, r) = (
+    OutOfMemory,
+    (inl same, λ f found told_is restored start c l. here_by f found kept start restored c (fewer_left c l)),
+    subst (λ (x : Status). Reports x (line_of [] x) result old new fewer more) final_is r,
+  )
 
 pub all_run : {S : Type 0} (moment : S → ℕ) (left_since : S → ℕ → Image → Type 0) (words : List (List ℕ)) (r : Image) (s0 s1 s2 : S) → LeavesOnly moment left_since s0 s1 (λ c. RestoresTo c r) → LeavesOnly moment left_since s1 s2 (StandsForEither words r) → LeavesOnly moment left_since s0 s2 (StandsForEither words r)
 all_run moment left_since words r s0 s1 s2 first second =

@@ -183,12 +183,16 @@ module _ (words : List (List ℕ)) (told left : Option Image) (kept outcomes : I
       AnswersFound words told left outcomes before after status × (line_of paths status ≡ reported words status) →
       ((found image : Image) → RestoresTo image found → StandsAfter words found status image) →
       IsReported status paths result old new fewer more → Reported words Said result old new fewer more
-  reports status result paths old new fewer more same fewer_left a after_it (final, inl is, r) =
-      (status, (a.0, λ files found told_is settled image l. after_it found image (settled_stands files found kept settled image (fewer_left image l))),
-      subst (λ (l : List ℕ). Reports status l result old new fewer more) a.1 (subst (λ (f : Status). Reports f (line_of paths f) result old new fewer more) is r))
-  reports status result paths old new fewer more same fewer_left a after_it (final, inr is, r) =
-      (OutOfMemory, (same, λ files found told_is settled image l. settled_stands files found kept settled image (fewer_left image l)),
-      subst (λ (f : Status). Reports f (line_of paths f) result old new fewer more) is r)
+  reports status result paths old new fewer more same fewer_left a after_it (final, inl is, r) = (
+    status,
+    (a.0, λ files found told_is settled image l. after_it found image (settled_stands files found kept settled image (fewer_left image l))),
+    subst (λ (l : List ℕ). Reports status l result old new fewer more) a.1 (subst (λ (f : Status). Reports f (line_of paths f) result old new fewer more) is r),
+  )
+  reports status result paths old new fewer more same fewer_left a after_it (final, inr is, r) = (
+    OutOfMemory,
+    (same, λ files found told_is settled image l. settled_stands files found kept settled image (fewer_left image l)),
+    subst (λ (f : Status). Reports f (line_of paths f) result old new fewer more) is r,
+  )
 
   rose_earlier : (middle : ℕ) → before ≤ middle → Rose middle after → Rose before after
   rose_earlier middle later rose = omega arith
@@ -230,9 +234,13 @@ module _ (words : List (List ℕ)) (told left : Option Image) (kept outcomes : I
         Commits plan mid left entered outcomes middle after status → Said status × (line_of [] status ≡ reported words status)
     changed middle mid entered (Done (Changed files)) same later fewer held either (one, taken_mid, only) =
         let taken = subst (λ (t : Option Image). Tells t left (IsTaken plan)) same taken_mid in
-        subst (λ (n : ℕ). Said (Done (Changed n)) × (line_of [] (Done (Changed n)) ≡ reported words (Done (Changed n)))) (sym one)
-        ((((file, at, name, asked, tell_done told left held taken), only_left told left held taken only),
-        λ f r told_is settled c l. survives_done told left f r told_is settled.same held taken only c l), refl)
+        subst (λ (n : ℕ). Said (Done (Changed n)) × (line_of [] (Done (Changed n)) ≡ reported words (Done (Changed n)))) (sym one) (
+          (
+            ((file, at, name, asked, tell_done told left held taken), only_left told left held taken only),
+            λ f r told_is settled c l. survives_done told left f r told_is settled.same held taken only c l,
+          ),
+          refl,
+        )
     changed middle mid entered (StoreFault Writing) same later fewer held either (part, rose) =
         ((((file, at, name, asked, tell_part told left held (subst (λ (t : Option Image). Tells t left (ChangesOnlyPlanned plan)) same part)), rose_earlier middle later rose), either), refl)
     changed middle mid entered OutOfMemory same later fewer held either (left_is, outcomes_are) =

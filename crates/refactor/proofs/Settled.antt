@@ -69,7 +69,11 @@ module _ (f : Image) (file old new : List ℕ) (plan : Planned) (holds : Holds f
   module _ (at : ℕ) (name : List ℕ) (done : IsDone old at name new) (differs : new ≢ old) (fits : length new ≤ 1048576) where
     pub stands_changed : (words : List (List ℕ)) (r c : Image) → AsksRename words file at name → SameFiles f r → RestoresTo c (with_sides plan.steps f) → StandsForChange words r c
     stands_changed words r c asked same stands = (
-      file, at, name, asked, put_side file (Some new) r,
+      file,
+      at,
+      name,
+      asked,
+      put_side file (Some new) r,
       record {
         before = old;
         after = new;

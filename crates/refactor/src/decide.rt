@@ -161,7 +161,10 @@ fn decide_rename<S: Store>(
 {
     match find(alloc, file.bytes(), store) {
         Ok(Some(found)) if file.bytes().len() <= 1024 => decide_found(
-            alloc, found, at, name.bytes(),
+            alloc,
+            found,
+            at,
+            name.bytes(),
         ),
         Ok(Some(_)) => Decision::Answer(Status::TooLarge {
             what: Size::Path,

@@ -177,11 +177,11 @@ fn a_stop_is_recovered_from(rt: HostRuntime) -> Result<(), Fail> {
 fn a_bad_journal_is_refused(rt: HostRuntime) -> Result<(), Fail> {
     let alloc = rt.alloc();
     let mut files = Files::new(alloc);
+    files.insert(Path::parse(alloc, b".refactor-gate")?, b"1".to_vec(alloc)?)?;
     files.insert(
-        Path::parse(alloc, b".refactor-gate")?,
-        b"1".to_vec(alloc)?,
+        Path::parse(alloc, b"A.java")?,
+        OLD.as_bytes().to_vec(alloc)?,
     )?;
-    files.insert(Path::parse(alloc, b"A.java")?, OLD.as_bytes().to_vec(alloc)?)?;
     let mut store = MemStore::new(alloc, files, Vec::new(alloc))?;
     let called = call_again(alloc, &mut store)?;
     expect(&rt, &called, 11, "bad journal\n", OLD);

@@ -81,12 +81,7 @@ fn change<S: Store, O: Sink>(alloc: Global, plan: &Plan, store: &mut S, out: &mu
 }
 
 // Does what a command asks for, on the files found.
-fn obey<S: Store, O: Sink>(
-    alloc: Global,
-    command: &Command,
-    store: &mut S,
-    out: &mut O,
-) -> Status
+fn obey<S: Store, O: Sink>(alloc: Global, command: &Command, store: &mut S, out: &mut O) -> Status
     ensures answer { (words : List (List ℕ)) → command_of words ≡ Some command.now →
         Reported words (λ status. AnswersFound words (S.files store.old) (S.files store.new) (S.may_leave store.new) (S.faults store.old) (S.faults store.new) status
         × SurvivesSettled words (S.files store.old) (S.may_leave store.old) (S.may_leave store.new) status) result (O.contents out.old) (O.contents out.new) (O.faults out.old) (O.faults out.new) }
