@@ -5,7 +5,7 @@ use Rattle.jr_tree.specs.Mirror.Exprs as x
 use Rattle.jr_tree.specs.Mirror.Stmts as s
 use Rattle.jr_tree.specs.Mirror.Decls as d
 use Rattle.jr_depth.specs.Within as w
-use Rattle.jr_depth.proofs.Counts.{IsWithin, none, one, leaf, join, join3, join4, first, last, each, maybe}
+use Rattle.jr_depth.proofs.Counts.{IsWithin, none, one, leaf, join, join3, join4, first, last, swap, each, maybe}
 
 mutual
   pub expr : (n : ℕ) (e : x.Expr) → IsWithin (w.expr_within n e) (expr_depth e) n
@@ -94,7 +94,7 @@ mutual
   catch n (s.CatchOf p b) = block n b
 
   pub group : (n : ℕ) (g : s.Group) → IsWithin (w.group_within n g) (group_depth g) n
-  group n (s.GroupOf labels all) = join n (each (w.label_within n) label_depth n (label n) labels) (stmts n all)
+  group n (s.GroupOf labels all) = swap n (join n (stmts n all) (each (w.label_within n) label_depth n (label n) labels))
 
   pub stmts : (n : ℕ) (all : s.Stmts) → IsWithin (w.stmts_within n all) (stmts_depth all) n
   stmts n s.no_stmts = none n

@@ -99,7 +99,7 @@ abbrev mutual
   catch_within n (s.CatchOf p b) = block_within n b
 
   pub group_within : ℕ → s.Group → Bool
-  group_within n (s.GroupOf labels all) = list_all (label_within n) labels && stmts_within n all
+  group_within n (s.GroupOf labels all) = stmts_within n all && list_all (label_within n) labels
 
   pub stmts_within : ℕ → s.Stmts → Bool
   stmts_within n s.no_stmts = true

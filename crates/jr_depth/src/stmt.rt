@@ -1,5 +1,5 @@
 // Depth of statements.
-ghost use Rattle.std.specs.Prelude.{◌≡◌};
+ghost use Rattle.std.specs.Prelude.{◌≡◌, true};
 ghost use Rattle.std.specs.List.{list_all};
 ghost use Rattle.std.specs.Option.{option_map, option_map_or};
 ghost use Rattle.jr_tree.specs.Mirror.Exprs as x;
@@ -152,8 +152,8 @@ fn is_catch_within(most: usize, catch: &Catch) -> bool
 fn is_group_within(most: usize, group: &Group) -> bool
     ensures { result ≡ t.group_within most (m.plain_group group.now) }
 {
-    are_labels_within(most, group.labels.as_slice())
-        && are_stmts_within(most, group.stmts.as_slice())
+    are_stmts_within(most, group.stmts.as_slice())
+        && are_labels_within(most, group.labels.as_slice())
 }
 
 #[cycle(is_stmt_within)]

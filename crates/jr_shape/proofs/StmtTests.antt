@@ -75,8 +75,8 @@ mutual
 
   pub tells_group : (g : s.Group) → Tells (is_shaped_group g) (IsShapedGroup g)
   tells_group (s.GroupOf labels all) =
-    like (both (both (itself (not (is_empty labels))) (each is_shaped_label IsShapedLabel tells_label labels)) (tells_stmts all))
-      (λ h. (h.0.0, h.0.1, h.1)) (λ h. ((h.0, h.1), h.2))
+    like (both (tells_stmts all) (both (itself (not (is_empty labels))) (each is_shaped_label IsShapedLabel tells_label labels)))
+      (λ h. (h.1.0, h.1.1, h.0)) (λ h. (h.2, (h.0, h.1)))
 
   pub tells_stmts : (all : s.Stmts) → Tells (are_shaped_stmts all) (AreShapedStmts all)
   tells_stmts s.no_stmts = always

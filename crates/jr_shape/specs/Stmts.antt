@@ -61,7 +61,7 @@ abbrev mutual
   is_shaped_catch (s.CatchOf p b) = is_shaped_param p && is_shaped_block b
 
   pub is_shaped_group : s.Group → Bool
-  is_shaped_group (s.GroupOf labels all) = are_shaped_labels labels && are_shaped_stmts all
+  is_shaped_group (s.GroupOf labels all) = are_shaped_stmts all && are_shaped_labels labels
 
   pub are_shaped_stmts : s.Stmts → Bool
   are_shaped_stmts s.no_stmts = true

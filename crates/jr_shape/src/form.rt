@@ -1,5 +1,5 @@
 // Tests of the outermost form of an expression or a statement.
-ghost use Rattle.std.specs.Prelude.{◌≡◌, ◌≤◌, ◌&&◌, not};
+ghost use Rattle.std.specs.Prelude.{◌≡◌};
 ghost use Rattle.jr_tree.specs.Mirror.Exprs as m;
 ghost use Rattle.jr_tree.specs.Mirror.Stmts as n;
 ghost use Rattle.jr_tree.specs.Shape as s;

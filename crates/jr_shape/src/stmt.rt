@@ -1,5 +1,5 @@
 // Tests of statements.
-ghost use Rattle.std.specs.Prelude.{◌≡◌, not};
+ghost use Rattle.std.specs.Prelude.{◌≡◌, true, false, not};
 ghost use Rattle.std.specs.Option.{option_map, option_map_or};
 ghost use Rattle.jr_tree.specs.Mirror.Exprs as x;
 ghost use Rattle.jr_tree.specs.Mirror.Stmts as m;
@@ -189,7 +189,7 @@ fn is_shaped_catch(catch: &Catch) -> bool
 fn is_shaped_group(group: &Group) -> bool
     ensures { result ≡ t.is_shaped_group (m.plain_group group.now) }
 {
-    are_shaped_labels(group.labels.as_slice()) && are_shaped_stmts(group.stmts.as_slice())
+    are_shaped_stmts(group.stmts.as_slice()) && are_shaped_labels(group.labels.as_slice())
 }
 
 #[cycle(is_shaped_stmt)]
