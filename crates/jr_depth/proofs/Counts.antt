@@ -46,8 +46,9 @@ first {p} {a} n e = record { is = rw (max-zero a) e.is }
 pub last : {p : Bool} {a : ℕ} (n : ℕ) → IsWithin p a n → IsWithin p (max 0 a) n
 last {p} {a} n e = record { is = rw (zero-max a) e.is }
 
-pub swap : {p : Bool} {a b : ℕ} (n : ℕ) → IsWithin p (max a b) n → IsWithin p (max b a) n
-swap {p} {a} {b} n e = let same : max b a ≡ max a b = omega arith in record { is = rw same e.is }
+-- the test of the second first
+pub turn : {p q : Bool} {a b : ℕ} (n : ℕ) → IsWithin p a n → IsWithin q b n → IsWithin (q && p) (max a b) n
+turn {p} {q} {a} {b} n e f = let same : max a b ≡ max b a = omega arith in record { is = rw same (join n f e).is }
 
 pub each : {A : Type 0} (f : A → Bool) (d : A → ℕ) (n : ℕ) → ((a : A) → IsWithin (f a) (d a) n) → (all : List A) → IsWithin (list_all f all) (deepest d all) n
 each f d n tells [] = none n

@@ -5,7 +5,7 @@ use Rattle.jr_tree.specs.Mirror.Exprs as x
 use Rattle.jr_tree.specs.Mirror.Stmts as s
 use Rattle.jr_tree.specs.Mirror.Decls as d
 use Rattle.jr_depth.specs.Within as w
-use Rattle.jr_depth.proofs.Counts.{IsWithin, none, one, leaf, join, join3, join4, first, last, swap, each, maybe}
+use Rattle.jr_depth.proofs.Counts.{IsWithin, none, one, leaf, join, join3, join4, first, last, turn, each, maybe}
 
 mutual
   pub expr : (n : ℕ) (e : x.Expr) → IsWithin (w.expr_within n e) (expr_depth e) n
@@ -25,7 +25,7 @@ mutual
   expr n (x.SuperSelect name) = leaf n
   expr n (x.Index array at) = one n (join (n - 1) (expr (n - 1) array) (expr (n - 1) at))
   expr n (x.Call x.no_receiver name args) = one n (last (n - 1) (exprs (n - 1) args))
-  expr n (x.Call (x.a_receiver r) name args) = one n (join (n - 1) (receiver (n - 1) r) (exprs (n - 1) args))
+  expr n (x.Call (x.a_receiver r) name args) = one n (turn (n - 1) (receiver (n - 1) r) (exprs (n - 1) args))
   expr n (x.New class args) = one n (exprs (n - 1) args)
   expr n (x.NewArray base dims more x.no_list) = one n (first (n - 1) (exprs (n - 1) dims))
   expr n (x.NewArray base dims more (x.a_list l)) = one n (join (n - 1) (exprs (n - 1) dims) (list (n - 1) l))
@@ -77,7 +77,7 @@ mutual
   stmt n (s.Eval value) = one n (expr (n - 1) value)
   stmt n (s.For start c update body) =
     one n (join4 (n - 1) (maybe (w.for_init_within (n - 1)) for_init_depth (n - 1) (for_init (n - 1)) start) (maybe (w.expr_within (n - 1)) expr_depth (n - 1) (expr (n - 1)) c) (exprs (n - 1) update) (stmt (n - 1) body))
-  stmt n (s.Switch value gs) = one n (join (n - 1) (expr (n - 1) value) (groups (n - 1) gs))
+  stmt n (s.Switch value gs) = one n (turn (n - 1) (expr (n - 1) value) (groups (n - 1) gs))
   stmt n (s.Labeled name body) = one n (stmt (n - 1) body)
   stmt n (s.Break name) = leaf n
   stmt n (s.Continue name) = leaf n
@@ -94,7 +94,7 @@ mutual
   catch n (s.CatchOf p b) = block n b
 
   pub group : (n : ℕ) (g : s.Group) → IsWithin (w.group_within n g) (group_depth g) n
-  group n (s.GroupOf labels all) = swap n (join n (stmts n all) (each (w.label_within n) label_depth n (label n) labels))
+  group n (s.GroupOf labels all) = turn n (each (w.label_within n) label_depth n (label n) labels) (stmts n all)
 
   pub stmts : (n : ℕ) (all : s.Stmts) → IsWithin (w.stmts_within n all) (stmts_depth all) n
   stmts n s.no_stmts = none n

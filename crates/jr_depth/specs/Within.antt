@@ -27,7 +27,7 @@ abbrev mutual
   expr_parts_within n (x.SuperSelect name) = true
   expr_parts_within n (x.Index array at) = (nat_lt 0 n && expr_parts_within (n - 1) array) && (nat_lt 0 n && expr_parts_within (n - 1) at)
   expr_parts_within n (x.Call x.no_receiver name args) = exprs_within n args
-  expr_parts_within n (x.Call (x.a_receiver r) name args) = receiver_within n r && exprs_within n args
+  expr_parts_within n (x.Call (x.a_receiver r) name args) = exprs_within n args && receiver_within n r
   expr_parts_within n (x.New class args) = exprs_within n args
   expr_parts_within n (x.NewArray base dims more x.no_list) = exprs_within n dims
   expr_parts_within n (x.NewArray base dims more (x.a_list l)) = exprs_within n dims && list_within n l
@@ -82,7 +82,7 @@ abbrev mutual
   stmt_parts_within n (s.Eval value) = expr_within n value
   stmt_parts_within n (s.For first c update body) =
       option_map_or (for_init_within n) first true && option_map_or (expr_within n) c true && exprs_within n update && (nat_lt 0 n && stmt_parts_within (n - 1) body)
-  stmt_parts_within n (s.Switch value gs) = expr_within n value && groups_within n gs
+  stmt_parts_within n (s.Switch value gs) = groups_within n gs && expr_within n value
   stmt_parts_within n (s.Labeled label body) = nat_lt 0 n && stmt_parts_within (n - 1) body
   stmt_parts_within n (s.Break label) = true
   stmt_parts_within n (s.Continue label) = true

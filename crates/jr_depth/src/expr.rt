@@ -45,7 +45,7 @@ fn are_parts_within(most: usize, expr: &Expr) -> bool
         Expr::Call { receiver, args, .. } => match receiver {
             None => are_exprs_within(most, args.as_slice()),
             Some(receiver) => {
-                is_receiver_within(most, receiver) && are_exprs_within(most, args.as_slice())
+                are_exprs_within(most, args.as_slice()) && is_receiver_within(most, receiver)
             }
         },
         Expr::New { args, .. } => are_exprs_within(most, args.as_slice()),

@@ -114,7 +114,7 @@ fn are_parts_within(most: usize, stmt: &Stmt) -> bool
                 && is_stmt_within(most, body.get())
         }
         Stmt::Switch { value, groups } => {
-            is_expr_within(most, value) && are_groups_within(most, groups.as_slice())
+            are_groups_within(most, groups.as_slice()) && is_expr_within(most, value)
         }
         Stmt::Labeled { body, .. } => is_stmt_within(most, body.get()),
         Stmt::Return { value } => is_any_expr_within(most, value),
