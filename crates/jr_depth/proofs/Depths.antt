@@ -76,7 +76,7 @@ mutual
   stmt n (s.If c a (s.a_stmt b)) = one n (join3 (n - 1) (expr (n - 1) c) (stmt (n - 1) a) (stmt (n - 1) b))
   stmt n (s.Eval value) = one n (expr (n - 1) value)
   stmt n (s.For start c update body) =
-    one n (join4 (n - 1) (maybe (w.for_init_within (n - 1)) for_init_depth (n - 1) (for_init (n - 1)) start) (maybe (w.expr_within (n - 1)) expr_depth (n - 1) (expr (n - 1)) c) (exprs (n - 1) update) (stmt (n - 1) body))
+      one n (join4 (n - 1) (maybe (w.for_init_within (n - 1)) for_init_depth (n - 1) (for_init (n - 1)) start) (maybe (w.expr_within (n - 1)) expr_depth (n - 1) (expr (n - 1)) c) (exprs (n - 1) update) (stmt (n - 1) body))
   stmt n (s.Switch value gs) = one n (turn (n - 1) (expr (n - 1) value) (groups (n - 1) gs))
   stmt n (s.Labeled name body) = one n (stmt (n - 1) body)
   stmt n (s.Break name) = leaf n

@@ -34,10 +34,8 @@ fn are_parts_within(most: usize, expr: &Expr) -> bool
         | Expr::PreStep { value, .. }
         | Expr::PostStep { value, .. } => is_expr_within(most, value.get()),
         Expr::Paren { inner } => is_expr_within(most, inner.get()),
-        Expr::Lit { .. }
-        | Expr::This { .. }
-        | Expr::NameExpr { .. }
-        | Expr::SuperSelect { .. } => true,
+        Expr::Lit { .. } | Expr::This { .. } | Expr::NameExpr { .. } | Expr::SuperSelect { .. } =>
+            true,
         Expr::Select { object, .. } => is_expr_within(most, object.get()),
         Expr::Index { array, at } => {
             is_expr_within(most, array.get()) && is_expr_within(most, at.get())

@@ -12,11 +12,7 @@ use jr_tree::{
 use std::alloc::Global;
 
 /// `primitive part;`
-fn plain_field(
-    alloc: Global,
-    of: Primitive,
-    part: &str,
-) -> Result<Member, OutOfMemory> {
+fn plain_field(alloc: Global, of: Primitive, part: &str) -> Result<Member, OutOfMemory> {
     Ok(Member::Field {
         mods: Items::new(alloc),
         ty: primitive(of),
@@ -45,11 +41,7 @@ pub fn method(alloc: Global, stmts: Items<Stmt>) -> Result<Member, OutOfMemory> 
     })
 }
 
-fn class_of(
-    alloc: Global,
-    part: &str,
-    body: Items<Member>,
-) -> Result<TypeDecl, OutOfMemory> {
+fn class_of(alloc: Global, part: &str, body: Items<Member>) -> Result<TypeDecl, OutOfMemory> {
     Ok(TypeDecl::Class {
         mods: Items::new(alloc),
         name: text(alloc, part)?,

@@ -93,11 +93,7 @@ fn for_exprs(alloc: Global, exprs: Option<Items<Expr>>) -> Result<Stmt, OutOfMem
 pub fn loops(alloc: Global) -> Result<Items<Stmt>, OutOfMemory> {
     let whiles = two(alloc, do_while(alloc)?, while_true(alloc)?)?;
     let fors = with(whiles, for_locals(alloc)?)?;
-    let exprs = two(
-        alloc,
-        assign(alloc, "x", number(1))?,
-        call(alloc, "f")?,
-    )?;
+    let exprs = two(alloc, assign(alloc, "x", number(1))?, call(alloc, "f")?)?;
     let fors = with(fors, for_exprs(alloc, Some(exprs))?)?;
     with(fors, for_exprs(alloc, None)?)
 }
@@ -152,10 +148,7 @@ pub fn jumps(alloc: Global) -> Result<Items<Stmt>, OutOfMemory> {
     continues_and_returns(alloc, breaks)
 }
 
-fn continues_and_returns(
-    alloc: Global,
-    stmts: Items<Stmt>,
-) -> Result<Items<Stmt>, OutOfMemory> {
+fn continues_and_returns(alloc: Global, stmts: Items<Stmt>) -> Result<Items<Stmt>, OutOfMemory> {
     let stmts = with(stmts, Stmt::Continue { label: None })?;
     let label = Some(text(alloc, "l")?);
     let stmts = with(stmts, Stmt::Continue { label })?;

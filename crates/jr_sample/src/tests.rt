@@ -6,14 +6,13 @@ use crate::exprs::{
 };
 use crate::parts::one;
 use crate::stmts::{branches, declared, evaluated, jumps, loops, tries};
-use jr_base::{Kind, OutOfMemory, Symbol};
+use jr_base::{Items, Kind, OutOfMemory, Symbol};
 use jr_copy::CopiedTree;
 use jr_depth::is_within_depth;
 use jr_lex::lex;
 use jr_shape::is_shaped;
 use jr_tree::{Expr, Stmt, Unit};
 use jr_write::tokens_of;
-use jr_base::Items;
 use std::alloc::{AllocError, Global};
 use std::fmt::Write;
 use std::process::Abort;
@@ -65,11 +64,7 @@ fn check_expr<R: Abort + AllocGlobal>(rt: &R, text: &str, expr: Expr) -> Result<
 }
 
 /// The same of statements in `class A { void m() { stmts } }`.
-fn check_stmts<R: Abort + AllocGlobal>(
-    rt: &R,
-    text: &str,
-    stmts: Items<Stmt>,
-) -> Result<(), Fail> {
+fn check_stmts<R: Abort + AllocGlobal>(rt: &R, text: &str, stmts: Items<Stmt>) -> Result<(), Fail> {
     let alloc = rt.alloc();
     let tree = unit(alloc, one(alloc, method(alloc, stmts)?)?)?;
     let whole = format!(in alloc; "class A {{ void m() {{ {text} }} }}")?;
@@ -92,11 +87,7 @@ fn literals_and_arrays(rt: HostRuntime) -> Result<(), Fail> {
     check_expr(&rt, "new int[1][2][]", new_array(alloc)?)?;
     check_expr(&rt, "new A[][]{1, {2,}}", listed_array(alloc)?)?;
     check_expr(&rt, "!true == 'a' + 5L + \"b\"", literals(alloc)?)?;
-    check_expr(
-        &rt,
-        "-2147483648 * -9223372036854775808L",
-        least(alloc)?,
-    )
+    check_expr(&rt, "-2147483648 * -9223372036854775808L", least(alloc)?)
 }
 
 #[test]

@@ -17,9 +17,9 @@ mutual
   pub tells_member : (m : d.Member) → Tells (is_shaped_member m) (IsShapedMember m)
   tells_member (d.Field mods ty ds) = tells_variables ty ds
   tells_member (d.Method mods gives name params thrown body) =
-    four (tells_result gives) (each is_shaped_param IsShapedParam tells_param params) (each is_shaped_name IsName tells_name thrown) (maybe is_shaped_block IsShapedBlock tells_block body)
+      four (tells_result gives) (each is_shaped_param IsShapedParam tells_param params) (each is_shaped_name IsName tells_name thrown) (maybe is_shaped_block IsShapedBlock tells_block body)
   tells_member (d.Constructor mods name params thrown body) =
-    three (each is_shaped_param IsShapedParam tells_param params) (each is_shaped_name IsName tells_name thrown) (tells_ctor_body body)
+      three (each is_shaped_param IsShapedParam tells_param params) (each is_shaped_name IsName tells_name thrown) (tells_ctor_body body)
   tells_member (d.Init is_static body) = tells_block body
   tells_member (d.Nested decl) = tells_decl decl
 
@@ -29,4 +29,4 @@ mutual
 
 pub tells_unit : (u : d.CompilationUnit) → Tells (is_shaped_unit u) (IsShapedUnit u)
 tells_unit (d.UnitOf package_decl imports types) =
-  three (maybe is_shaped_package IsShapedPackage tells_package package_decl) (each is_shaped_import IsShapedImport tells_import imports) (each is_shaped_decl IsShapedDecl tells_decl types)
+    three (maybe is_shaped_package IsShapedPackage tells_package package_decl) (each is_shaped_import IsShapedImport tells_import imports) (each is_shaped_decl IsShapedDecl tells_decl types)

@@ -1,12 +1,11 @@
 -- The tests of statements tell what they are to tell.
-use Rattle.std.proofs.Common.{◌≡◌, refl, sym, ◌∙◌, Bool, true, false, not, ◌&&◌, ◌||◌, List}
+use Rattle.std.proofs.Common.{◌≡◌, refl, sym, ◌∙◌, Bool, true, false, not, ◌||◌, List}
 use Rattle.std.specs.Prelude.{IsTrue}
 use Rattle.jr_tree.specs.declared.tree.TypeUse.{TypeUse}
-use Rattle.jr_tree.specs.Shape.{is_empty, is_local, takes_else, has_expr, has_stmt, has_group, has_catch, group_fits, IsWholeExpr, IsShapedInit, IsShapedDeclarator, AreShapedVariables, IsShapedForInit, IsShapedLabel, IsShapedStmt, IsShapedBlock, IsShapedCatch, IsShapedGroup, AreShapedStmts, AreShapedGroups, AreShapedCatches, IsShapedCtorBody, AreShapedExprs}
-use Rattle.jr_tree.specs.Mirror.Exprs as x
+use Rattle.jr_tree.specs.Shape.{is_empty, is_local, takes_else, has_expr, has_group, has_catch, group_fits, IsWholeExpr, IsShapedInit, IsShapedDeclarator, AreShapedVariables, IsShapedForInit, IsShapedLabel, IsShapedStmt, IsShapedBlock, IsShapedCatch, IsShapedGroup, AreShapedStmts, AreShapedGroups, AreShapedCatches, IsShapedCtorBody}
 use Rattle.jr_tree.specs.Mirror.Stmts as s
 use Rattle.jr_shape.specs.Exprs.{is_operand, is_shaped_init}
-use Rattle.jr_shape.specs.Stmts.{is_shaped_declarator, are_shaped_variables, is_shaped_for_init, is_shaped_label, is_bare, is_shaped_stmt, is_shaped_block, is_shaped_catch, is_shaped_group, are_shaped_stmts, are_shaped_groups, are_shaped_catches, is_shaped_call, are_shaped_in_ctor, is_shaped_ctor_body}
+use Rattle.jr_shape.specs.Stmts.{is_shaped_declarator, are_shaped_variables, is_shaped_for_init, is_shaped_label, is_bare, is_shaped_stmt, is_shaped_block, is_shaped_catch, is_shaped_group, are_shaped_stmts, are_shaped_groups, are_shaped_catches, is_shaped_ctor_body}
 use Rattle.jr_shape.proofs.Tells.{Tells, itself, always, never, both, three, four, like, each, maybe}
 use Rattle.jr_shape.proofs.PartTests.{tells_type, tells_param}
 use Rattle.jr_shape.proofs.ExprTests.{tells_init, tells_operand, tells_statement, tells_statements, tells_exprs}
@@ -16,7 +15,7 @@ tells_declarator (s.DeclaratorOf name dims init) = maybe is_shaped_init IsShaped
 
 pub tells_variables : (ty : TypeUse) (ds : List s.Declarator) → Tells (are_shaped_variables ty ds) (AreShapedVariables ty ds)
 tells_variables ty ds =
-  like (both (tells_type ty) (both (itself (not (is_empty ds))) (each is_shaped_declarator IsShapedDeclarator tells_declarator ds)))
+    like (both (tells_type ty) (both (itself (not (is_empty ds))) (each is_shaped_declarator IsShapedDeclarator tells_declarator ds)))
     (λ h. (h.0, h.1.0, h.1.1)) (λ h. (h.0, (h.1, h.2)))
 
 pub tells_for_init : (f : s.ForInit) → Tells (is_shaped_for_init f) (IsShapedForInit f)
@@ -50,10 +49,10 @@ mutual
   tells_stmt (s.While c body) = three (tells_operand c) (itself (not (is_local body))) (tells_stmt body)
   tells_stmt (s.If c a s.no_stmt) = like (three (tells_operand c) (itself (not (is_local a))) (tells_stmt a)) (λ h. (h.0, h.1, h.2, tt)) (λ h. (h.0, h.1, h.2))
   tells_stmt (s.If c a (s.a_stmt b)) =
-    four (tells_operand c) (itself (not (is_local a))) (tells_stmt a) (three (itself (not (takes_else a))) (itself (not (is_local b))) (tells_stmt b))
+      four (tells_operand c) (itself (not (is_local a))) (tells_stmt a) (three (itself (not (takes_else a))) (itself (not (is_local b))) (tells_stmt b))
   tells_stmt (s.Eval value) = tells_statement value
   tells_stmt (s.For first c update body) =
-    like (four (maybe is_shaped_for_init IsShapedForInit tells_for_init first) (maybe (is_operand 0) IsWholeExpr tells_operand c) (tells_statements update) (both (itself (not (is_local body))) (tells_stmt body)))
+      like (four (maybe is_shaped_for_init IsShapedForInit tells_for_init first) (maybe (is_operand 0) IsWholeExpr tells_operand c) (tells_statements update) (both (itself (not (is_local body))) (tells_stmt body)))
       (λ h. (h.0, h.1, h.2, h.3.0, h.3.1)) (λ h. (h.0, h.1, h.2, (h.3, h.4)))
   tells_stmt (s.Switch value gs) = both (tells_operand value) (like (tells_groups false gs) (λ h. h.1) (λ h. (refl, h)))
   tells_stmt (s.Labeled label body) = both (itself (not (is_local body))) (tells_stmt body)
@@ -75,7 +74,7 @@ mutual
 
   pub tells_group : (g : s.Group) → Tells (is_shaped_group g) (IsShapedGroup g)
   tells_group (s.GroupOf labels all) =
-    like (both (tells_stmts all) (both (itself (not (is_empty labels))) (each is_shaped_label IsShapedLabel tells_label labels)))
+      like (both (tells_stmts all) (both (itself (not (is_empty labels))) (each is_shaped_label IsShapedLabel tells_label labels)))
       (λ h. (h.1.0, h.1.1, h.0)) (λ h. (h.2, (h.0, h.1)))
 
   pub tells_stmts : (all : s.Stmts) → Tells (are_shaped_stmts all) (AreShapedStmts all)
@@ -86,7 +85,7 @@ mutual
   pub tells_groups : (bare : Bool) (gs : s.Groups) → Tells (are_shaped_groups bare gs) (IsTrue (not bare || not (has_group gs)) × AreShapedGroups gs)
   tells_groups bare s.no_groups = like always (λ h. (last_may bare, tt)) (λ h. tt)
   tells_groups bare (s.more_groups g all) =
-    like (three (itself (not bare)) (tells_group g) (tells_groups (is_bare g) all))
+      like (three (itself (not bare)) (tells_group g) (tells_groups (is_bare g) all))
       (λ h. (not_last bare ∙ h.0, (h.1, sym (bare_is g all) ∙ h.2.0, h.2.1)))
       (λ h. (sym (not_last bare) ∙ h.0, h.1.0, (bare_is g all ∙ h.1.1, h.1.2)))
 

@@ -21,22 +21,22 @@ never = record { holds = λ h. absurd (false≢true h); shown = λ h. absurd h }
 pub both : {a b : Bool} {A B : Type 0} → Tells a A → Tells b B → Tells (a && b) (A × B)
 both {a} {b} p q = record {
   holds = λ h. (p.holds (and_parts a b h).0, q.holds (and_parts a b h).1);
-  shown = λ h. and_from a b (p.shown h.0) (q.shown h.1)
+  shown = λ h. and_from a b (p.shown h.0) (q.shown h.1);
 }
 
 pub three : {a b c : Bool} {A B C : Type 0} → Tells a A → Tells b B → Tells c C → Tells (a && b && c) (A × B × C)
 three {a} {b} {c} p q r =
-  let first = both p q in record {
-    holds = λ h. let front = first.holds (and_parts (a && b) c h).0 in (front.0, front.1, r.holds (and_parts (a && b) c h).1);
-    shown = λ h. and_from (a && b) c (first.shown (h.0, h.1)) (r.shown h.2)
-  }
+    let first = both p q in record {
+      holds = λ h. let front = first.holds (and_parts (a && b) c h).0 in (front.0, front.1, r.holds (and_parts (a && b) c h).1);
+      shown = λ h. and_from (a && b) c (first.shown (h.0, h.1)) (r.shown h.2);
+    }
 
 pub four : {a b c d : Bool} {A B C D : Type 0} → Tells a A → Tells b B → Tells c C → Tells d D → Tells (a && b && c && d) (A × B × C × D)
 four {a} {b} {c} {d} p q r s =
-  let first = three p q r in record {
-    holds = λ h. let front = first.holds (and_parts (a && b && c) d h).0 in (front.0, front.1, front.2, s.holds (and_parts (a && b && c) d h).1);
-    shown = λ h. and_from (a && b && c) d (first.shown (h.0, h.1, h.2)) (s.shown h.3)
-  }
+    let first = three p q r in record {
+      holds = λ h. let front = first.holds (and_parts (a && b && c) d h).0 in (front.0, front.1, front.2, s.holds (and_parts (a && b && c) d h).1);
+      shown = λ h. and_from (a && b && c) d (first.shown (h.0, h.1, h.2)) (s.shown h.3);
+    }
 
 -- the same in other words
 pub like : {b : Bool} {P Q : Type 0} → Tells b P → (P → Q) → (Q → P) → Tells b Q

@@ -4,7 +4,6 @@ use Rattle.std.specs.List.{list_all}
 use Rattle.std.specs.Option.{option_map_or}
 use Rattle.jr_tree.specs.declared.tree.TypeUse.{TypeUse}
 use Rattle.jr_tree.specs.Shape.{is_empty, is_local, takes_else, has_expr, has_stmt, has_catch}
-use Rattle.jr_tree.specs.Mirror.Exprs as x
 use Rattle.jr_tree.specs.Mirror.Stmts as s
 use Rattle.jr_shape.specs.Parts.{is_shaped_type, is_shaped_param}
 use Rattle.jr_shape.specs.Exprs.{is_operand, is_shaped_init, is_statement_expr, are_statement_exprs, are_shaped_exprs}
