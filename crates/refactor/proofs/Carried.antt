@@ -1,5 +1,5 @@
 -- From what recovery found to the whole call.
-use Rattle.std.proofs.Common.{◌≡◌, ◌⊎◌, inl, inr, ⊎_elim, ℕ, ◌≤◌, List, [], Option, Some, None, refl, sym, ap, subst, ◌∙◌, arith}
+use Rattle.std.proofs.Common.{◌≡◌, inl, inr, ⊎_elim, ℕ, ◌≤◌, List, [], Option, Some, None, refl, sym, subst, ◌∙◌, arith}
 use Rattle.std.proofs.lemmas.Option.{same_Some, none-some}
 use Rattle.jr_commit.specs.Restoring.{IsOpen, Restored, RestoresTo, SameFiles, StartsRecover, KeepsOthers}
 use Rattle.jr_commit.proofs.Moments.{started, goes_on, goes_further}
@@ -14,7 +14,7 @@ use Rattle.refactor.specs.Answers.{AnswersFound, OnFound, Answers, Reports, IsRe
 use Rattle.refactor.specs.Crash.{StandsForEither, StandsAfter, IsSettled, Survives, SurvivesSettled}
 use Rattle.refactor.specs.Line.{line_of}
 use Rattle.refactor.specs.Performing.{Reported}
-use Rattle.refactor.specs.Recovering.{NeedsFiles, AsksRecovery, IsRecovered, Recovers}
+use Rattle.refactor.specs.Recovering.{NeedsFiles, AsksRecovery, Recovers}
 use Rattle.refactor.specs.Renaming.{ForTold}
 use Rattle.refactor.specs.declared.status.Phase.TheVariants.{Recovering, Reading, Writing}
 use Rattle.refactor.specs.declared.status.Status.{Status}

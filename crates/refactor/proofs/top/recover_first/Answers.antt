@@ -1,8 +1,8 @@
-use Rattle.std.proofs.Common.{inl, inr, [], refl, ap}
+use Rattle.std.proofs.Common.{inl, refl, ap}
 use Rattle.std.specs.Prelude.{Err}
 use Rattle.refactor.specs.Crash.{StandsForEither}
 use Rattle.refactor.proofs.Carried.{weaker, carried, early, recovers, settled, still_told, recovery_failed, bad_journal, all_run}
-use Rattle.refactor.specs.declared.status.Status.TheVariants.{BadJournal, OutOfMemory}
+use Rattle.refactor.specs.declared.status.Status.TheVariants.{OutOfMemory}
 use Rattle.refactor.proofs.top.recover_first.Goals as goal
 
 pub returns-in-Ok-clause-answer : goal.returns-in-Ok-clause-answer
