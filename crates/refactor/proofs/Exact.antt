@@ -115,6 +115,25 @@ module _ (words : List (List ℕ)) (told left : Option Image) (kept outcomes : I
       each NotYet (inr on) = absurd (none_read words none on.1)
       each other a = absurd (none_read words none a.1)
 
+  -- an image that stands for no files
+  pub unreadable : (result : Status) → Reported words Said result old new fewer more → (files : Image) → told ≡ Some files → ((restored : Image) → Restored files restored → ⊥) → AsksRecovery words →
+      (result ≡ BadJournal) ⊎ IsFailure before after fewer more result
+  unreadable result reported files is none asks = answered (λ status. status ≡ BadJournal) each result reported
+    where
+      never : (t here : Option Image) → t ≡ Some files → Recovers t here → ⊥
+      never None here t_is recovers = none-some files t_is
+      never (Some f) None t_is recovers = recovers
+      never (Some f) (Some g) t_is recovers = none recovers.stood.0 (subst (λ (i : Image). Restored i recovers.stood.0) (same_Some f files t_is) recovers.stood.1)
+
+      each : (status : Status) → Answers words told left outcomes before after status → (status ≡ BadJournal) ⊎ IsFailure before after fewer more status
+      each BadWords a = absurd (none_read words a.1 asks)
+      each BadJournal a = inl refl
+      each (StoreFault Recovering) a = inr a.2
+      each OutOfMemory a = inr tt
+      each NotYet (inl early) = absurd (early.2 asks)
+      each NotYet (inr a) = absurd (never told a.0 is a.2)
+      each other a = absurd (never told a.0 is a.2)
+
   -- a command that needs no files
   pub needs_no_files : (result : Status) → Reported words Said result old new fewer more → IsSome (command_of words) → (AsksRecovery words → ⊥) → (result ≡ NotYet) ⊎ IsFailure before after fewer more result
   needs_no_files result reported some never = answered (λ status. status ≡ NotYet) each result reported

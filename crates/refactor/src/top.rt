@@ -15,7 +15,7 @@ ghost use Rattle.refactor.specs.Recovering.{AsksRecovery, NeedsFiles};
 ghost use Rattle.refactor.specs.Renaming.{AsksRename, Holds};
 ghost use Rattle.refactor.specs.Performing.{IsTaken, Commits, Reported};
 ghost use Rattle.refactor.specs.declared.status.Status.{Status};
-ghost use Rattle.refactor.specs.declared.status.Status.TheVariants.{BadWords, NotYet};
+ghost use Rattle.refactor.specs.declared.status.Status.TheVariants.{BadJournal, BadWords, NotYet};
 
 use crate::decide::{Decision, decide};
 use crate::lines::line_of;
@@ -175,19 +175,23 @@ pub fn refactor<S: Store, I: Source, O: Sink>(
     ensures complete { (files found : Image) → S.files store.old ≡ Some files → Restored files found → (file : List ℕ) (at : ℕ) (name bytes : List ℕ)
         → AsksRename words.now file at name → Holds found file bytes → Serves bytes at name → IsServedAnswer (S.faults store.old) (S.faults store.new) (O.faults out.old) (O.faults out.new) result }
 
-    // Where one is asked for of a file that is there, the answer is that of the rename, with the files that it says.
+    // A rename of the one file that is there gets the one answer that it comes to, and leaves the files so.
     ensures exact { (files found : Image) → S.files store.old ≡ Some files → Restored files found → (file : List ℕ) (at : ℕ) (name bytes : List ℕ) (comes_to : Renaming)
         → AsksRename words.now file at name → Holds found file bytes → IsRenaming bytes at name comes_to
         → IsAnswered found file bytes comes_to (S.files store.new) result ⊎ IsFailure (S.faults store.old) (S.faults store.new) (O.faults out.old) (O.faults out.new) result }
 
-    // Where none is, the command is not served.
+    // Where no rename of such a file is asked for, the command is not served yet.
     ensures not_served { (files found : Image) → S.files store.old ≡ Some files → Restored files found → IsSome (command_of words.now)
         → ((file : List ℕ) (at : ℕ) (name bytes : List ℕ) → AsksRename words.now file at name → Holds found file bytes → ⊥)
         → (result ≡ NotYet) ⊎ IsFailure (S.faults store.old) (S.faults store.new) (O.faults out.old) (O.faults out.new) result }
 
-    // Nor is a command that needs no files.
+    // Nor is one that needs no files.
     ensures needs_no_files { IsSome (command_of words.now) → (AsksRecovery words.now → ⊥)
         → (result ≡ NotYet) ⊎ IsFailure (S.faults store.old) (S.faults store.new) (O.faults out.old) (O.faults out.new) result }
+
+    // Where the gate is open over no journal that can be read, no command goes on.
+    ensures bad_journal { (files : Image) → S.files store.old ≡ Some files → ((restored : Image) → Restored files restored → ⊥) → AsksRecovery words.now
+        → (result ≡ BadJournal) ⊎ IsFailure (S.faults store.old) (S.faults store.new) (O.faults out.old) (O.faults out.new) result }
 
     // Words outside the grammar are answered so.
     ensures bad_words { command_of words.now ≡ None

@@ -1,4 +1,4 @@
-use Rattle.refactor.proofs.Exact.{bad_words, needs_no_files, not_served, exact}
+use Rattle.refactor.proofs.Exact.{bad_words, needs_no_files, not_served, unreadable, exact}
 use Rattle.refactor.proofs.Outcomes.{outcome, complete}
 use Rattle.refactor.proofs.top.refactor.Goals as goal
 
@@ -48,3 +48,10 @@ returns-clause-bad_words g c none =
     bad_words c.args.words.now (S.files c.args.store.now) (S.files c.perform.new.store) (S.may_leave c.args.store.now) (S.may_leave c.perform.new.store) (S.faults c.args.store.now) (S.faults c.perform.new.store)
     (g.O.Sink.contents c.args.out.now) (g.O.Sink.contents c.perform.new.out) (g.O.Sink.faults c.args.out.now) (g.O.Sink.faults c.perform.new.out)
     c.perform.result c.perform.ensures.answer none
+
+pub returns-clause-bad_journal : goal.returns-clause-bad_journal
+returns-clause-bad_journal g c files told none asks =
+    let S = g.S.Store in
+    unreadable c.args.words.now (S.files c.args.store.now) (S.files c.perform.new.store) (S.may_leave c.args.store.now) (S.may_leave c.perform.new.store) (S.faults c.args.store.now) (S.faults c.perform.new.store)
+    (g.O.Sink.contents c.args.out.now) (g.O.Sink.contents c.perform.new.out) (g.O.Sink.faults c.args.out.now) (g.O.Sink.faults c.perform.new.out)
+    c.perform.result c.perform.ensures.answer files told none asks
