@@ -1,0 +1,11 @@
+//! The batch: the input read to its end, and the requests that it asks for.
+#![tactic(auto)]
+
+mod fault;
+mod input;
+mod requests;
+#[cfg(test)]
+mod tests;
+
+pub use fault::BatchFault;
+pub use requests::read_requests;
