@@ -1,5 +1,5 @@
 -- How a search goes on over a list of nodes.
-use Rattle.std.proofs.Common.{◌≡◌, refl, sym, ap, ℕ, zero, suc, [], ◌∷◌, ◌++◌, Option, Some, None, slice_get}
+use Rattle.std.proofs.Common.{◌≡◌, refl, sym, ◌∙◌, ap, subst, ℕ, zero, suc, ◌+◌, ◌<◌, List, [], ◌∷◌, ◌++◌, length, drop, get_or, add-one, drop-cons, Option, Some, None, slice_get}
 use Rattle.jr_tree.specs.Nodes.{Node, Nodes}
 use Rattle.jr_nodes.specs.Progress.{Progress, At, Before, past, go_on}
 
@@ -7,6 +7,22 @@ use Rattle.jr_nodes.specs.Progress.{Progress, At, Before, past, go_on}
 pub go_on_append : (a b : Nodes) (p : Progress) → go_on (a ++ b) p ≡ go_on b (go_on a p)
 go_on_append [] b p = refl
 go_on_append (n ∷ ns) b p = go_on_append ns b (past n p)
+
+-- two searches, the second from where the first came to
+pub over_two : (a b : Nodes) (p q r : Progress) → q ≡ go_on a p → r ≡ go_on b q → r ≡ go_on (a ++ b) p
+over_two a b p q r one two = two ∙ ap (go_on b) one ∙ sym (go_on_append a b p)
+
+-- a search over a node and then over two parts of what is below it
+pub over_parts : (node : Node) (a b whole : Nodes) (p s q r : Progress) → whole ≡ node ∷ (a ++ b) → s ≡ past node p → q ≡ go_on a s → r ≡ go_on b q → r ≡ go_on whole p
+over_parts node a b whole p s q r is at_node one two = over_two a b s q r one two ∙ ap (go_on (a ++ b)) at_node ∙ sym (ap (λ ns. go_on ns p) is)
+
+-- one turn of a loop over a list, whose nodes are those of its items in order
+pub over_one_more : {A : Type 0} (all : List A → Nodes) (each_of : A → Nodes) → ((a : A) (others : List A) → all (a ∷ others) ≡ each_of a ++ all others)
+    → (items : List A) (i : ℕ) (a : A) → i < length items → a ≡ get_or items i a → (p q : Progress) → q ≡ go_on (each_of a) p
+    → go_on (all (drop (i + 1) items)) q ≡ go_on (all (drop i items)) p
+over_one_more all each_of more items i a within is p q one =
+    let whole : drop i items ≡ a ∷ drop (i + 1) items = rw (add-one, drop-cons items i a) (rw (← is) refl) in
+    sym (ap (λ ns. go_on (all ns) p) whole ∙ ap (λ ns. go_on ns p) (more a (drop (i + 1) items)) ∙ go_on_append (each_of a) (all (drop (i + 1) items)) p ∙ ap (go_on (all (drop (i + 1) items))) (sym one))
 
 -- what is found stays found
 pub go_on_found : (ns : Nodes) (m : Node) → go_on ns (At m) ≡ At m

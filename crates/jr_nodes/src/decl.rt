@@ -1,6 +1,4 @@
 // The search over declarations and units.
-#![tactic(auto, using(crate::proofs::Passing::go_on_append))]
-
 ghost use Rattle.std.specs.Prelude.{◌≡◌};
 ghost use Rattle.std.specs.Option.{option_map};
 ghost use Rattle.jr_tree.specs.Mirror.Stmts as s;

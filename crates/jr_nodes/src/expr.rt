@@ -1,6 +1,4 @@
 // The search over expressions.
-#![tactic(auto, using(crate::proofs::Passing::go_on_append))]
-
 ghost use Rattle.std.specs.Prelude.{◌≡◌};
 ghost use Rattle.jr_tree.specs.Mirror.Exprs as x;
 ghost use Rattle.jr_tree.specs.Nodes as n;
