@@ -22,15 +22,20 @@ fn in_declarator<'a>(state: Search<'a>, declarator: &'a Declarator) -> Search<'a
     }
 }
 
-/// Over a type and the variables that are declared with it.
-pub fn in_variables<'a>(state: Search<'a>, ty: &'a TypeUse, decls: &'a [Declarator]) -> Search<'a>
-    ensures { progress result ≡ go_on (n.variables_nodes ty.now (s.plain_declarators decls.now)) (progress state.entry) }
+fn in_declarators<'a>(mut state: Search<'a>, decls: &'a [Declarator]) -> Search<'a>
+    ensures { progress result ≡ go_on (n.each n.declarator_nodes (s.plain_declarators decls.now)) (progress state.entry) }
 {
-    let mut state = in_type(state, ty);
     for decl in decls {
         state = in_declarator(state, decl);
     }
     state
+}
+
+/// Over a type and the variables that are declared with it.
+pub fn in_variables<'a>(state: Search<'a>, ty: &'a TypeUse, decls: &'a [Declarator]) -> Search<'a>
+    ensures { progress result ≡ go_on (n.variables_nodes ty.now (s.plain_declarators decls.now)) (progress state.entry) }
+{
+    in_declarators(in_type(state, ty), decls)
 }
 
 fn in_for_init<'a>(state: Search<'a>, first: &'a Option<ForInit>) -> Search<'a>

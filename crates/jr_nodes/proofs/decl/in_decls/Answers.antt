@@ -1,9 +1,9 @@
 -- A search over a node's parts is one over them joined; a turn of a loop passes one item.
-use Rattle.std.proofs.Common.{◌∙◌, refl, rules, List}
+use Rattle.std.proofs.Common.{◌∙◌, refl, List}
 use Rattle.jr_tree.specs.declared.tree.TypeDecl.{TypeDecl}
 use Rattle.jr_tree.specs.Mirror.Decls as d
 use Rattle.jr_tree.specs.Nodes as n
-use Rattle.jr_nodes.proofs.Passing.{over_two, over_one_more}
+use Rattle.jr_nodes.proofs.Passing.{over_one_more}
 use Rattle.jr_nodes.proofs.decl.in_decls.Goals as goal
 
 pub loop-decl-preserved : goal.loop-decl-preserved

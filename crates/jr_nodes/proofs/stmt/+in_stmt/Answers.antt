@@ -1,5 +1,6 @@
 -- A search over a node's parts is one over them joined; a turn of a loop passes one item.
 use Rattle.std.proofs.Common.{◌∙◌, refl, rules, List}
+use Rattle.std.proofs.lemmas.List.{append-nil}
 use Rattle.jr_tree.specs.declared.tree.Catch.{Catch}
 use Rattle.jr_tree.specs.declared.tree.Group.{Group}
 use Rattle.jr_tree.specs.declared.tree.Stmt.{Stmt}
@@ -26,6 +27,12 @@ in_stmt-returns-in-Switch t c = search (rules, the_lemmas, over_two)
 
 pub in_stmt-returns-in-Some-last : goal.in_stmt-returns-in-Some-last
 in_stmt-returns-in-Some-last t c = search (rules, the_lemmas, over_two)
+
+pub in_stmt-returns-in-None : goal.in_stmt-returns-in-None
+in_stmt-returns-in-None t c = search (rules, the_lemmas, append-nil, over_two)
+
+pub in_stmt-returns-in-None-last : goal.in_stmt-returns-in-None-last
+in_stmt-returns-in-None-last t c = search (rules, the_lemmas, append-nil, over_two)
 
 pub in_group-returns : goal.in_group-returns
 in_group-returns t c = search (rules, the_lemmas, over_two)

@@ -1,9 +1,9 @@
 -- A search over a node's parts is one over them joined; a turn of a loop passes one item.
-use Rattle.std.proofs.Common.{◌∙◌, refl, rules, List}
+use Rattle.std.proofs.Common.{◌∙◌, refl, List}
 use Rattle.jr_tree.specs.declared.tree.SwitchLabel.{SwitchLabel}
 use Rattle.jr_tree.specs.Mirror.Stmts as s
 use Rattle.jr_tree.specs.Nodes as n
-use Rattle.jr_nodes.proofs.Passing.{over_two, over_one_more}
+use Rattle.jr_nodes.proofs.Passing.{over_one_more}
 use Rattle.jr_nodes.proofs.stmt.in_labels.Goals as goal
 
 pub loop-label-preserved : goal.loop-label-preserved
