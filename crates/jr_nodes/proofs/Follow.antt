@@ -133,7 +133,7 @@ ruleset expr_rules = (append-nil, append_assoc, below-append, below-any_name, be
 
 ruleset stmt_rules = (append-nil, append_assoc, below-append, below-declarators, below-any_for, below-any_expr, below-exprs, below-any_init, below-labels, below-any_stmt, below-any_block, below-stmts, below-groups, below-catches)
 
-ruleset decl_rules = (append-nil, append_assoc, below-append, below-names, below-any_name, below-params, below-result, below-declarators, below-body, below-members, below-imports, below-any_package, below-decls)
+ruleset decl_rules = (append-nil, append_assoc, below-append, below-names, below-params, below-result, below-declarators, below-body, below-members, below-imports, below-any_package, below-decls)
 
 -- ---- each type's nodes
 
@@ -215,7 +215,7 @@ of_group : (g : s.Group) → n.group_nodes g ≡ n.OfGroup g ∷ below (t.group_
 of_group (s.GroupOf ls all) = simp stmt_rules
 
 of_decl : (y : d.TypeDecl) → n.decl_nodes y ≡ n.OfDecl y ∷ below (t.decl_children y)
-of_decl (d.Class mods name parent faces body) = simp decl_rules
+of_decl (d.Class mods name parent faces body) = simp (append_assoc, below-append, below-any_name parent, below-names faces, below-members)
 of_decl (d.Interface mods name faces body) = simp decl_rules
 of_decl d.Empty = refl
 
@@ -283,9 +283,9 @@ found all number m h =
 -- the subtrees of some nodes are those before one of them, its own, and those after it
 around : (ms : n.Nodes) (k : ℕ) (m : n.Node) → slice_get ms k ≡ Some m → below ms ≡ below (take k ms) ++ (t.subtree m ++ below (drop (suc k) ms))
 around [] k m h = cc
-around (a ∷ as) zero m h = let e : a ≡ m = cc in rw e refl
-around (a ∷ as) (suc k) m h =
-    ap (λ r. t.subtree a ++ r) (around as k m h) ∙ sym (append_assoc (t.subtree a) (below (take k as)) (t.subtree m ++ below (drop (suc k) as)))
+around (a ∷ others) zero m h = let e : a ≡ m = cc in rw e refl
+around (a ∷ others) (suc k) m h =
+    ap (λ r. t.subtree a ++ r) (around others k m h) ∙ sym (append_assoc (t.subtree a) (below (take k others)) (t.subtree m ++ below (drop (suc k) others)))
 
 regroup : (a b c e f : n.Nodes) (parent : n.Node) → a ++ (parent ∷ (b ++ (c ++ e))) ++ f ≡ (a ++ (parent ∷ b)) ++ c ++ (e ++ f)
 regroup a b c e f parent = simp append_assoc
@@ -303,5 +303,5 @@ child all number k parent m h at_k =
       before = h.before ++ (parent ∷ below earlier);
       after = below later ++ h.after;
       all_is = h.all_is ∙ ap (λ r. h.before ++ r ++ h.after) parts ∙ regroup h.before (below earlier) (t.subtree m) (below later) h.after parent;
-      number_is = omega (arith, count, size_before, h.number_is)
+      number_is = omega (arith, count, size_before, h.number_is);
     }

@@ -98,5 +98,8 @@ pub fn in_unit<'a>(state: Search<'a>, unit: &'a Unit) -> Search<'a>
     ensures { progress result ≡ go_on (n.nodes unit.now) (progress state.entry) }
 {
     let state = in_package(step(state, NodeRef::Unit(unit)), &unit.package);
-    in_decls(in_imports(state, unit.imports.as_slice()), unit.types.as_slice())
+    in_decls(
+        in_imports(state, unit.imports.as_slice()),
+        unit.types.as_slice(),
+    )
 }

@@ -39,7 +39,10 @@ pub fn in_expr<'a>(state: Search<'a>, expr: &'a Expr) -> Search<'a>
         },
         Expr::New { name, args } => in_exprs(in_name(state, name), args.as_slice()),
         Expr::NewArray {
-            base, dims, init, ..
+            base,
+            dims,
+            init,
+            ..
         } => {
             let state = in_exprs(in_base(state, base), dims.as_slice());
             match init {

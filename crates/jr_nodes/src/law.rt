@@ -12,8 +12,6 @@ pub fn numbers_follow_the_tree()
     ensures sizes { (node : Node) → size node ≡ 1 + sum_by size (children node) }
     ensures first { (unit : tree.Unit) → StandsAt (nodes unit) 0 (OfUnit (plain_unit unit)) }
     ensures found { (all : Nodes) (number : ℕ) (node : Node) → StandsAt all number node → slice_get all number ≡ Some node }
-    ensures child {
-        (all : Nodes) (number k : ℕ) (parent node : Node) → StandsAt all number parent → slice_get (children parent) k ≡ Some node
-        → StandsAt all (number + 1 + sum_by size (take k (children parent))) node
-    }
+    ensures child { (all : Nodes) (number k : ℕ) (parent node : Node) → StandsAt all number parent → slice_get (children parent) k ≡ Some node
+        → StandsAt all (number + 1 + sum_by size (take k (children parent))) node }
 {}

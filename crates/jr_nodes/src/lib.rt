@@ -20,12 +20,10 @@ use crate::decl::in_unit;
 use crate::search::Search;
 use jr_base::NodeId;
 use jr_tree::Unit;
-
 pub use law::numbers_follow_the_tree;
 pub use node_ref::NodeRef;
 
 /// The node with this number in preorder, from 0. None exactly where the number is not below the unit's count of nodes. Takes time linear in that count.
-#[tactic(auto, using(crate::proofs::Passing::slice_get_go_on))]
 pub fn node<'a>(unit: &'a Unit, id: NodeId) -> Option<NodeRef<'a>>
     ensures { option_map seen result ≡ slice_get (nodes unit.now) id.0 }
 {

@@ -151,7 +151,10 @@ fn in_group<'a>(state: Search<'a>, group: &'a Group) -> Search<'a>
     ensures { progress result ≡ go_on (n.group_nodes (s.plain_group group.now)) (progress state.entry) }
 {
     let state = step(state, NodeRef::Group(group));
-    in_stmts(in_labels(state, group.labels.as_slice()), group.stmts.as_slice())
+    in_stmts(
+        in_labels(state, group.labels.as_slice()),
+        group.stmts.as_slice(),
+    )
 }
 
 #[cycle(in_stmt)]
