@@ -12,10 +12,6 @@ go_on_append (n ∷ ns) b p = go_on_append ns b (past n p)
 pub over_two : (a b : Nodes) (p q r : Progress) → q ≡ go_on a p → r ≡ go_on b q → r ≡ go_on (a ++ b) p
 over_two a b p q r one two = two ∙ ap (go_on b) one ∙ sym (go_on_append a b p)
 
--- a search over a node and then over two parts of what is below it
-pub over_parts : (node : Node) (a b whole : Nodes) (p s q r : Progress) → whole ≡ node ∷ (a ++ b) → s ≡ past node p → q ≡ go_on a s → r ≡ go_on b q → r ≡ go_on whole p
-over_parts node a b whole p s q r is at_node one two = over_two a b s q r one two ∙ ap (go_on (a ++ b)) at_node ∙ sym (ap (λ ns. go_on ns p) is)
-
 -- one turn of a loop over a list, whose nodes are those of its items in order
 pub over_one_more : {A : Type 0} (all : List A → Nodes) (each_of : A → Nodes) → ((a : A) (others : List A) → all (a ∷ others) ≡ each_of a ++ all others)
     → (items : List A) (i : ℕ) (a : A) → i < length items → a ≡ get_or items i a → (p q : Progress) → q ≡ go_on (each_of a) p
