@@ -1,0 +1,3 @@
+pub mod Seen
+pub mod Progress
+pub mod Subtree
