@@ -1,7 +1,12 @@
 -- From what recovery found to the whole call.
-use Rattle.std.proofs.Common.{◌≡◌, ◌⊎◌, inl, inr, ⊎_elim, ℕ, ◌≤◌, List, [], Option, Some, None, refl, sym, ap, subst, ◌∙◌, arith}
+use Rattle.std.proofs.Common.{◌≡◌, inl, inr, ⊎_elim, ℕ, ◌≤◌, List, [], Option, Some, None, refl, sym, subst, ◌∙◌, arith}
 use Rattle.std.proofs.lemmas.Option.{same_Some, none-some}
 use Rattle.jr_commit.specs.Restoring.{IsOpen, Restored, RestoresTo, SameFiles, StartsRecover, KeepsOthers}
+use Rattle.jr_commit.specs.Journal.{old_sides}
+use Rattle.jr_commit.specs.Recovered.{Answers as AnswersRecovery}
+use Rattle.jr_commit.specs.SidesAt.{with_sides}
+use Rattle.jr_commit.specs.declared.recovery.Recovered.{Recovered}
+use Rattle.jr_commit.specs.declared.recovery.Recovered.TheVariants.{Clean, RolledBack}
 use Rattle.jr_commit.proofs.Moments.{started, goes_on, goes_further}
 use Rattle.jr_commit.proofs.Phases.{open_or_not}
 use Rattle.jr_commit.proofs.Back.{here}
@@ -14,7 +19,7 @@ use Rattle.refactor.specs.Answers.{AnswersFound, OnFound, Answers, Reports, IsRe
 use Rattle.refactor.specs.Crash.{StandsForEither, StandsAfter, IsSettled, Survives, SurvivesSettled}
 use Rattle.refactor.specs.Line.{line_of}
 use Rattle.refactor.specs.Performing.{Reported}
-use Rattle.refactor.specs.Recovering.{NeedsFiles, AsksRecovery, IsRecovered, Recovers}
+use Rattle.refactor.specs.Recovering.{NeedsFiles, AsksRecovery, Recovers}
 use Rattle.refactor.specs.Renaming.{ForTold}
 use Rattle.refactor.specs.declared.status.Phase.TheVariants.{Recovering, Reading, Writing}
 use Rattle.refactor.specs.declared.status.Status.{Status}
@@ -60,11 +65,17 @@ on_found words told left outcomes before after (BrokenRule request rule place) o
 on_found words told left outcomes before after (TooLarge what request) on = on
 on_found words told left outcomes before after other on = absurd on.3
 
-pub recovers : (told found : Option Image) → Tells told found (λ f g. (IsOpen g → ⊥) × ((r : Image) → Restored f r → SameFiles g r)) → Tells told found KeepsOthers → Recovers told found
-recovers None None done others = tt
-recovers None (Some g) done others = done
-recovers (Some f) None done others = done
-recovers (Some f) (Some g) done others = record { shut = done.0; files = done.1; others = others }
+-- recovery answers well only where the image stood for files
+stood : (answer : Recovered) (f : Image) → AnswersRecovery answer (Some f) → (r : Image) × Restored f r
+stood Clean f shut = (f, inl (shut, refl))
+stood (RolledBack n) f (opened, bytes, version, entries, journal, is, counted) =
+    (with_sides (old_sides entries) f, inr (opened, bytes, old_sides entries, journal, record { version = version; entries = entries; journal = is; sides = refl }, refl))
+
+pub recovers : (answer : Recovered) (told found : Option Image) → AnswersRecovery answer told → Tells told found (λ f g. (IsOpen g → ⊥) × ((r : Image) → Restored f r → SameFiles g r)) → Tells told found KeepsOthers → Recovers told found
+recovers answer None None answers done others = tt
+recovers answer None (Some g) answers done others = done
+recovers answer (Some f) None answers done others = done
+recovers answer (Some f) (Some g) answers done others = record { stood = stood answer f answers; shut = done.0; files = done.1; others = others }
 
 -- what is told after recovery is settled
 pub settled : (told found : Option Image) (outcomes : Image → Type 0) (f g r : Image) → Recovers told found → told ≡ Some f → found ≡ Some g → Restored f r → ((c : Image) → outcomes c → (IsOpen c → ⊥) × SameFiles c r) → IsSettled g r outcomes

@@ -5,3 +5,4 @@ mod Settled
 mod Single
 mod Carried
 mod Chosen
+mod Exact

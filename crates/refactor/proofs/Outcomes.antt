@@ -1,19 +1,30 @@
 -- From the status that was reported to the status that is answered.
-use Rattle.std.proofs.Common.{◌≡◌, ℕ, List, Option, Some, None, refl, sym, subst, ◌∙◌, inl, inr, ⊎_elim, ◌≤◌, arith}
+use Rattle.std.proofs.Common.{◌≡◌, ℕ, List, Option, Some, None, refl, sym, subst, ◌∙◌, inl, inr}
 use Rattle.std.proofs.lemmas.Option.{same_Some, none-some}
 use Rattle.std.specs.Io.KnownBytes.{Appends}
-use Rattle.jr_commit.specs.Restoring.{IsOpen, Restored}
-use Rattle.jr_store.specs.Image.{Image, Rose, Tells}
+use Rattle.jr_commit.specs.Restoring.{IsOpen, Restored, SameFiles}
+use Rattle.jr_store.specs.Image.{Image}
 use Rattle.jr_thin.specs.Renaming.{Serves}
-use Rattle.refactor.specs.Recovering.{IsRecovered, Recovers}
-use Rattle.refactor.specs.Renaming.{AsksRename, Holds, ForTold}
-use Rattle.refactor.specs.Answers.{AnswersFound, OnFound, Answers, Reports, reported, Outcome, IsServedAnswer}
+use Rattle.refactor.specs.Recovering.{Recovers}
+use Rattle.refactor.specs.Renaming.{AsksRename, Holds, IsUnserved, ForTold}
+use Rattle.refactor.specs.Answers.{Answers, reported, Outcome, IsServedAnswer}
 use Rattle.refactor.specs.Crash.{Survives}
 use Rattle.refactor.specs.Performing.{Reported}
 use Rattle.refactor.proofs.Settled.{holds_back}
 use Rattle.refactor.specs.declared.status.Phase.TheVariants.{Recovering, Reading, Writing}
 use Rattle.refactor.specs.declared.status.Status.{Status}
 use Rattle.refactor.specs.declared.status.Status.TheVariants.{Done, BadWords, NoSpelling, BrokenRule, NotYet, StoreFault, SinkFault, TooLarge, OutOfMemory, BadJournal}
+
+-- recovery has found the files that the image stood for
+pub found_files : (files found : Image) (told here : Option Image) → told ≡ Some files → Restored files found → Recovers told here → (g : Image) × (here ≡ Some g) × SameFiles g found
+found_files files found None here is restored recovers = absurd (none-some files is)
+found_files files found (Some f) None is restored recovers = absurd recovers
+found_files files found (Some f) (Some g) is restored recovers = (g, refl, recovers.files found (subst (λ (i : Image). Restored i found) (sym (same_Some f files is)) restored))
+
+-- an image that stands for files has no bad journal
+pub no_bad_journal : (files found : Image) (told : Option Image) → told ≡ Some files → Restored files found → ForTold told (λ files. IsOpen files × ((r : Image) → Restored files r → ⊥)) → ⊥
+no_bad_journal files found None is restored bad = none-some files is
+no_bad_journal files found (Some f) is restored bad = bad.1 found (subst (λ (i : Image). Restored i found) (sym (same_Some f files is)) restored)
 
 module _ (words : List (List ℕ)) (told left : Option Image) (kept outcomes : Image → Type 0) (before after : ℕ) (old new : Option (List ℕ)) (fewer more : ℕ) where
   abbrev Said : Status → Type 0
@@ -30,20 +41,12 @@ module _ (words : List (List ℕ)) (told left : Option Image) (kept outcomes : I
   -- a rename that is served, in the files found
   module _ (files found : Image) (is : told ≡ Some files) (restored : Restored files found) (file : List ℕ) (at : ℕ) (name bytes : List ℕ)
       (asks : AsksRename words file at name) (holds : Holds found file bytes) (serves : Serves bytes at name) where
-    never_not_yet : (t u : Option Image) → t ≡ Some files → Recovers t u →
-        ForTold u (λ files. (file : List ℕ) (at : ℕ) (name bytes : List ℕ) → AsksRename words file at name → Holds files file bytes → Serves bytes at name → ⊥) → ⊥
-    never_not_yet None u told_is recovers none = none-some files told_is
-    never_not_yet (Some f) None told_is recovers none = recovers
-    never_not_yet (Some f) (Some g) told_is recovers none =
-        none file at name bytes asks (holds_back g found file bytes (recovers.files found (subst (λ (i : Image). Restored i found) (sym (same_Some f files told_is)) restored)) holds) serves
-
-    no_bad_journal : (t : Option Image) → t ≡ Some files → ForTold t (λ files. (r : Image) → Restored files r → ⊥) → ⊥
-    no_bad_journal None told_is none = none-some files told_is
-    no_bad_journal (Some f) told_is none = none found (subst (λ (i : Image). Restored i found) (sym (same_Some f files told_is)) restored)
-
-    bad_told : (t : Option Image) → ForTold t (λ files. IsOpen files × ((r : Image) → Restored files r → ⊥)) → ForTold t (λ files. (r : Image) → Restored files r → ⊥)
-    bad_told None bad = tt
-    bad_told (Some f) bad = bad.1
+    never_not_yet : (here : Option Image) → Recovers told here →
+        ForTold here (λ files. (file : List ℕ) (at : ℕ) (name bytes : List ℕ) → AsksRename words file at name → Holds files file bytes → IsUnserved file bytes at name) → ⊥
+    never_not_yet here recovers unserved =
+        let there = found_files files found told here is restored recovers in
+        (subst (λ (o : Option Image). ForTold o (λ files. (file : List ℕ) (at : ℕ) (name bytes : List ℕ) → AsksRename words file at name → Holds files file bytes → IsUnserved file bytes at name)) there.1 unserved
+        file at name bytes asks (holds_back there.0 found file bytes there.2 holds)).1 serves
 
     served : (status : Status) → Answers words told left outcomes before after status → IsServedAnswer before after fewer more status
     served (Done report) answers = tt
@@ -51,9 +54,9 @@ module _ (words : List (List ℕ)) (told left : Option Image) (kept outcomes : I
     served (NoSpelling request occ place lock) answers = tt
     served (BrokenRule request rule place) answers = tt
     served (TooLarge what request) answers = tt
-    served BadJournal answers = no_bad_journal told is (bad_told told answers.2)
+    served BadJournal answers = no_bad_journal files found told is restored answers.2
     served NotYet (inl early) = absurd (early.2 (_, asks, tt))
-    served NotYet (inr (u, asked, recovers, none)) = absurd (never_not_yet told u is recovers none.2)
+    served NotYet (inr (here, asked, recovers, unserved)) = absurd (never_not_yet here recovers unserved.2)
     served (StoreFault Recovering) answers = answers.2
     served (StoreFault Reading) answers = answers.3.2
     served (StoreFault Writing) answers = answers.3.1

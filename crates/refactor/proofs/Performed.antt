@@ -1,5 +1,5 @@
 -- From what was decided, and what was done then, to the answer.
-use Rattle.std.proofs.Common.{◌≡◌, ◌≢◌, ℕ, ◌<◌, ◌≤◌, List, [], ◌∷◌, length, Option, Some, None, IsSome, refl, sym, ap, subst, ◌∙◌, inl, inr, ⊎_elim, ◌⊎◌, arith, Vec, Global}
+use Rattle.std.proofs.Common.{◌≡◌, ◌≢◌, ℕ, ◌≤◌, List, [], ◌∷◌, length, Option, Some, None, IsSome, refl, sym, ap, subst, ◌∙◌, inl, inr, ⊎_elim, ◌⊎◌, arith, Vec, Global}
 use Rattle.jr_base.specs.declared.request.Request.TheVariants.{Rename}
 use Rattle.jr_request.specs.Words.{command_of}
 use Rattle.jr_request.specs.declared.command.Command.{Command}
@@ -17,10 +17,10 @@ use Rattle.jr_commit.proofs.Moments.{goes_further}
 use Rattle.jr_store.specs.Image.{LeavesOnly}
 use Rattle.refactor.proofs.Carried.{weaker}
 use Rattle.refactor.proofs.Settled.{settled_stands, starts, restores_same, stands_changed, committed, some_step, off_one, stands_committed}
-use Rattle.jr_thin.specs.Renaming.{Serves, IsDone}
+use Rattle.jr_thin.specs.Renaming.{IsDone}
 use Rattle.refactor.specs.Line.{line_of}
-use Rattle.refactor.specs.Renaming.{AsksRename, files_named, Holds, ForTold}
-use Rattle.refactor.specs.Decisions.{HoldsSome, HoldsNone, DecidesRename, IsRename, DecidesCommand, Decides}
+use Rattle.refactor.specs.Renaming.{AsksRename, files_named, Holds, IsUnserved, ForTold}
+use Rattle.refactor.specs.Decisions.{HoldsSome, HoldsOnly, DecidesRename, IsRename, DecidesCommand, Decides}
 use Rattle.jr_base.specs.declared.limits.Size.TheVariants.{File, Path}
 use Rattle.refactor.specs.Answers.{LeavesChange, AnswersFound, Reports, IsReported, reported}
 use Rattle.refactor.specs.declared.decide.Decision.{Decision}
@@ -44,17 +44,18 @@ module _ (words : List (List ℕ)) (told : Option Image) (before after : ℕ) wh
   same_rename f g i j m n e = (cc, cc, cc)
 
   -- no other rename is asked for
-  one_rename : (file : List ℕ) (at : ℕ) (name : List ℕ) → AsksRename words file at name → (told : Option Image) → HoldsNone told file (λ bytes. Serves bytes at name) →
-      ForTold told (λ files. (f : List ℕ) (i : ℕ) (n bytes : List ℕ) → AsksRename words f i n → Holds files f bytes → Serves bytes i n → ⊥)
-  one_rename file at name asked None none = tt
-  one_rename file at name asked (Some files) none = λ f i n bytes asks holds serves.
-      let same = same_rename f file i at n name (same_some _ _ (sym asks ∙ asked)) in
-      none bytes (subst (λ (p : List ℕ). Holds files p bytes) same.0 holds) (subst (λ (m : List ℕ). Serves bytes at m) same.2 (subst (λ (k : ℕ). Serves bytes k n) same.1 serves))
+  one_rename : (file : List ℕ) (at : ℕ) (name : List ℕ) → AsksRename words file at name → (told : Option Image) → HoldsOnly told file (λ bytes. IsUnserved file bytes at name) →
+      ForTold told (λ files. (f : List ℕ) (i : ℕ) (n bytes : List ℕ) → AsksRename words f i n → Holds files f bytes → IsUnserved f bytes i n)
+  one_rename file at name asked None only = tt
+  one_rename file at name asked (Some files) only = λ f i n bytes asks holds.
+      let same = same_rename file f at i name n (same_some _ _ (sym asked ∙ asks)) in
+      subst (λ (m : List ℕ). IsUnserved f bytes i m) same.2 (subst (λ (k : ℕ). IsUnserved f bytes k name) same.1 (subst (λ (p : List ℕ). IsUnserved p bytes at name) same.0
+      (only bytes (subst (λ (p : List ℕ). Holds files p bytes) (sym same.0) holds))))
 
   no_rename : (command : Command) → command_of words ≡ Some command → (IsRename command → ⊥) → (told : Option Image) →
-      ForTold told (λ files. (f : List ℕ) (i : ℕ) (n bytes : List ℕ) → AsksRename words f i n → Holds files f bytes → Serves bytes i n → ⊥)
+      ForTold told (λ files. (f : List ℕ) (i : ℕ) (n bytes : List ℕ) → AsksRename words f i n → Holds files f bytes → IsUnserved f bytes i n)
   no_rename command is other None = tt
-  no_rename command is other (Some files) = λ f i n bytes asks holds serves. other (subst IsRename (same_some _ _ (sym asks ∙ is)) tt)
+  no_rename command is other (Some files) = λ f i n bytes asks holds. absurd (other (subst IsRename (same_some _ _ (sym asks ∙ is)) tt))
 
   some_held : (t : Option Image) (file : List ℕ) → HoldsSome t file (λ bytes. Unit {0}) → ForTold t (λ files. (bytes : List ℕ) × Holds files file bytes)
   some_held None file held = tt
@@ -69,8 +70,8 @@ module _ (words : List (List ℕ)) (told : Option Image) (before after : ℕ) wh
           ⊎ ((file : List ℕ) × (at : ℕ) × (name : List ℕ) × (command ≡ One (Rename file at name)) × DecidesRename file at name told before after (Answer (Done (Changed files)))) →
           AnswersFound words told left outcomes before after (Done (Changed files)) × (line_of [] (Done (Changed files)) ≡ reported words (Done (Changed files)))
       go (inl other) = absurd (let e : Answer (Done (Changed files)) ≡ Answer NotYet = other.0 in cc)
-      go (inr (file, at, name, rename, (none, held))) =
-          (subst (λ (n : ℕ). LeavesChange words told left outcomes n) (sym none) (same, (file, at, name, is ∙ ap Some rename, held)), refl)
+      go (inr (file, at, name, rename, (none, short, held))) =
+          (subst (λ (n : ℕ). LeavesChange words told left outcomes n) (sym none) (same, (file, at, name, is ∙ ap Some rename, short, held)), refl)
   answered left outcomes (TooLarge Path request) same (command, is, decides) = go (split command (Answer (TooLarge Path request)) decides)
     where
       go : ((Answer (TooLarge Path request) ≡ Answer NotYet) × (IsRename command → ⊥))
@@ -84,14 +85,14 @@ module _ (words : List (List ℕ)) (told : Option Image) (before after : ℕ) wh
           ⊎ ((file : List ℕ) × (at : ℕ) × (name : List ℕ) × (command ≡ One (Rename file at name)) × DecidesRename file at name told before after (Answer (TooLarge File request))) →
           AnswersFound words told left outcomes before after (TooLarge File request) × (line_of [] (TooLarge File request) ≡ reported words (TooLarge File request))
       go (inl other) = absurd (let e : Answer (TooLarge File request) ≡ Answer NotYet = other.0 in cc)
-      go (inr (file, at, name, rename, (single, held))) = ((same, single, (file, at, name, is ∙ ap Some rename, held)), refl)
+      go (inr (file, at, name, rename, (single, short, held))) = ((same, single, (file, at, name, is ∙ ap Some rename, short, held)), refl)
   answered left outcomes NotYet same (command, is, decides) = go (split command (Answer NotYet) decides)
     where
       go : ((Answer NotYet ≡ Answer NotYet) × (IsRename command → ⊥))
           ⊎ ((file : List ℕ) × (at : ℕ) × (name : List ℕ) × (command ≡ One (Rename file at name)) × DecidesRename file at name told before after (Answer NotYet)) →
           AnswersFound words told left outcomes before after NotYet × (line_of [] NotYet ≡ reported words NotYet)
       go (inl other) = ((same, subst IsSome (sym is) refl, no_rename command is other.1 told), refl)
-      go (inr (file, at, name, rename, none)) = ((same, subst IsSome (sym is) refl, one_rename file at name (is ∙ ap Some rename) told none), refl)
+      go (inr (file, at, name, rename, only)) = ((same, subst IsSome (sym is) refl, one_rename file at name (is ∙ ap Some rename) told only), refl)
   answered left outcomes (StoreFault Reading) same (command, is, decides) = go (split command (Answer (StoreFault Reading)) decides)
     where
       go : ((Answer (StoreFault Reading) ≡ Answer NotYet) × (IsRename command → ⊥))
@@ -117,18 +118,18 @@ module _ (words : List (List ℕ)) (told : Option Image) (before after : ℕ) wh
           ⊎ ((file : List ℕ) × (at : ℕ) × (name : List ℕ) × (command ≡ One (Rename file at name)) × DecidesRename file at name told before after (Refuse (NoSpelling request occ place lock) paths)) →
           AnswersFound words told left outcomes before after (NoSpelling request occ place lock) × (line_of paths.items (NoSpelling request occ place lock) ≡ reported words (NoSpelling request occ place lock))
       go (inl not_yet) = absurd (let e : Refuse (NoSpelling request occ place lock) paths ≡ Answer NotYet = not_yet.0 in cc)
-      go (inr (file, at, name, rename, (single, unit, named, held))) =
+      go (inr (file, at, name, rename, (single, unit, named, short, held))) =
           let asked = is ∙ ap Some rename in
-          ((same, single, unit, (file, at, name, asked, held)), ap (λ (ps : List (List ℕ)). line_of ps (NoSpelling request occ place lock)) (named ∙ sym (ap files_named asked)))
+          ((same, single, unit, (file, at, name, asked, short, held)), ap (λ (ps : List (List ℕ)). line_of ps (NoSpelling request occ place lock)) (named ∙ sym (ap files_named asked)))
   refused left outcomes (BrokenRule request rule place) paths same (command, is, decides) = go (split command (Refuse (BrokenRule request rule place) paths) decides)
     where
       go : ((Refuse (BrokenRule request rule place) paths ≡ Answer NotYet) × (IsRename command → ⊥))
           ⊎ ((file : List ℕ) × (at : ℕ) × (name : List ℕ) × (command ≡ One (Rename file at name)) × DecidesRename file at name told before after (Refuse (BrokenRule request rule place) paths)) →
           AnswersFound words told left outcomes before after (BrokenRule request rule place) × (line_of paths.items (BrokenRule request rule place) ≡ reported words (BrokenRule request rule place))
       go (inl not_yet) = absurd (let e : Refuse (BrokenRule request rule place) paths ≡ Answer NotYet = not_yet.0 in cc)
-      go (inr (file, at, name, rename, (single, six, unit, named, held))) =
+      go (inr (file, at, name, rename, (single, six, unit, named, short, held))) =
           let asked = is ∙ ap Some rename in
-          ((same, single, six, unit, (file, at, name, asked, held)), ap (λ (ps : List (List ℕ)). line_of ps (BrokenRule request rule place)) (named ∙ sym (ap files_named asked)))
+          ((same, single, six, unit, (file, at, name, asked, short, held)), ap (λ (ps : List (List ℕ)). line_of ps (BrokenRule request rule place)) (named ∙ sym (ap files_named asked)))
   refused left outcomes other paths same (command, is, decides) = go (split command (Refuse other paths) decides)
     where
       go : ((Refuse other paths ≡ Answer NotYet) × (IsRename command → ⊥))
@@ -139,16 +140,16 @@ module _ (words : List (List ℕ)) (told : Option Image) (before after : ℕ) wh
 
   -- a change of the file that is named
   pub renames : (plan : Planned) → Decides words told before after (Change plan) →
-      (file : List ℕ) × (at : ℕ) × (name : List ℕ) × AsksRename words file at name
+      (file : List ℕ) × (at : ℕ) × (name : List ℕ) × AsksRename words file at name × (length file ≤ 1024)
       × HoldsSome told file (λ old. (new : List ℕ) × IsDone old at name new × (new ≢ old) × (length new ≤ 1048576) × IsPlanOf file old new plan)
   renames plan (command, is, decides) = go (split command (Change plan) decides)
     where
       go : ((Change plan ≡ Answer NotYet) × (IsRename command → ⊥))
           ⊎ ((file : List ℕ) × (at : ℕ) × (name : List ℕ) × (command ≡ One (Rename file at name)) × DecidesRename file at name told before after (Change plan)) →
-          (file : List ℕ) × (at : ℕ) × (name : List ℕ) × AsksRename words file at name
+          (file : List ℕ) × (at : ℕ) × (name : List ℕ) × AsksRename words file at name × (length file ≤ 1024)
           × HoldsSome told file (λ old. (new : List ℕ) × IsDone old at name new × (new ≢ old) × (length new ≤ 1048576) × IsPlanOf file old new plan)
       go (inl not_yet) = absurd (let e : Change plan ≡ Answer NotYet = not_yet.0 in cc)
-      go (inr (file, at, name, rename, held)) = (file, at, name, is ∙ ap Some rename, held)
+      go (inr (file, at, name, rename, (short, held))) = (file, at, name, is ∙ ap Some rename, short, held)
 
   -- after an answer that leaves the files a crash leaves those found
   pub stays : (status : Status) → Decides words told before after (Answer status) → (found image : Image) → RestoresTo image found → StandsAfter words found status image
@@ -158,7 +159,7 @@ module _ (words : List (List ℕ)) (told : Option Image) (before after : ℕ) wh
           ⊎ ((file : List ℕ) × (at : ℕ) × (name : List ℕ) × (command ≡ One (Rename file at name)) × DecidesRename file at name told before after (Answer (Done (Changed files)))) →
           StandsAfter words found (Done (Changed files)) image
       go (inl other) = absurd (let e : Answer (Done (Changed files)) ≡ Answer NotYet = other.0 in cc)
-      go (inr (file, at, name, rename, (none, held))) = subst (λ (n : ℕ). StandsAfter words found (Done (Changed n)) image) (sym none) stands
+      go (inr (file, at, name, rename, (none, short, held))) = subst (λ (n : ℕ). StandsAfter words found (Done (Changed n)) image) (sym none) stands
   stays (Done other) (command, is, decides) found image stands = stands
   stays (StoreFault phase) decides found image stands = inl stands
   stays other decides found image stands = stands
@@ -197,7 +198,7 @@ module _ (words : List (List ℕ)) (told left : Option Image) (kept outcomes : I
   rose_earlier : (middle : ℕ) → before ≤ middle → Rose middle after → Rose before after
   rose_earlier middle later rose = omega arith
 
-  module _ (file : List ℕ) (at : ℕ) (name : List ℕ) (plan : Planned) (asked : AsksRename words file at name) where
+  module _ (file : List ℕ) (at : ℕ) (name : List ℕ) (plan : Planned) (asked : AsksRename words file at name) (short : length file ≤ 1024) where
     abbrev Planned_of : Option Image → Type 0
     Planned_of t = HoldsSome t file (λ old. (new : List ℕ) × IsDone old at name new × (new ≢ old) × (length new ≤ 1048576) × IsPlanOf file old new plan)
 
@@ -236,7 +237,7 @@ module _ (words : List (List ℕ)) (told left : Option Image) (kept outcomes : I
         let taken = subst (λ (t : Option Image). Tells t left (IsTaken plan)) same taken_mid in
         subst (λ (n : ℕ). Said (Done (Changed n)) × (line_of [] (Done (Changed n)) ≡ reported words (Done (Changed n)))) (sym one) (
           (
-            ((file, at, name, asked, tell_done told left held taken), only_left told left held taken only),
+            ((file, at, name, asked, short, tell_done told left held taken), only_left told left held taken only),
             λ f r told_is settled c l. survives_done told left f r told_is settled.same held taken only c l,
           ),
           refl,

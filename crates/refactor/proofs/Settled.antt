@@ -1,17 +1,16 @@
 -- What a crash leaves, from recovery's end on.
-use Rattle.std.proofs.Common.{◌≡◌, ◌≢◌, ◌⊎◌, inl, inr, ⊎_elim, ℕ, zero, suc, ◌≤◌, List, [], ◌∷◌, length, Bool, true, false, Some, None, Option, IsSome, IsTrue, refl, sym, ap, subst, ◌∙◌, arith}
+use Rattle.std.proofs.Common.{◌≡◌, ◌≢◌, ℕ, ◌≤◌, List, [], ◌∷◌, length, Bool, true, false, Some, None, Option, IsSome, refl, sym, ap, subst, ◌∙◌, arith}
 use Rattle.std.specs.Prelude.{bytes_eq, if◌then◌else◌}
 use Rattle.std.proofs.lemmas.Slice.Eq.{bytes_eq-Decides}
-use Rattle.jr_base.specs.Paths.{is_java}
 use Rattle.jr_commit.specs.Planned.{Planned, StartsCommit, KeepsJournal, ChangesOnlyPlanned}
-use Rattle.jr_commit.specs.Restoring.{IsOpen, Restored, RestoresTo, SameFiles}
+use Rattle.jr_commit.specs.Restoring.{IsOpen, RestoresTo, SameFiles}
 use Rattle.jr_commit.specs.SidesAt.{SideAt, with_sides, IsOff}
 use Rattle.jr_commit.proofs.Phases.{shut_image}
-use Rattle.jr_store.specs.Image.{Image, Tells, OnlyTold}
+use Rattle.jr_store.specs.Image.{Image, Tells}
 use Rattle.jr_store.specs.Sides.{put_side}
 use Rattle.jr_thin.specs.Renaming.{IsDone}
-use Rattle.refactor.specs.Changing.{IsChanged, IsCommitted, IsPlanOf, MayChange}
-use Rattle.refactor.specs.Crash.{StandsForChange, StandsForEither, IsSettled}
+use Rattle.refactor.specs.Changing.{IsCommitted, IsPlanOf}
+use Rattle.refactor.specs.Crash.{StandsForChange, IsSettled}
 use Rattle.refactor.specs.Performing.{IsTaken}
 use Rattle.refactor.specs.Renaming.{AsksRename, Holds}
 

@@ -1,6 +1,6 @@
 -- One file as a map, its image, and the journal of its change.
 use Rattle.std.proofs.Common.{◌≡◌, ◌≢◌, ℕ, ◌≤◌, List, [], ◌∷◌, length, Bool, true, false, cond, map, not, Some, None, Option, IsSome, IsTrue, refl, sym, ap, subst, ◌∙◌, arith}
-use Rattle.std.specs.Prelude.{bytes_eq, filter}
+use Rattle.std.specs.Prelude.{bytes_eq}
 use Rattle.std.specs.List.{AllByRecursion}
 use Rattle.std.specs.Ordering.{nat_cmp}
 use Rattle.std.specs.FinMap as finite
@@ -12,7 +12,7 @@ use Rattle.std.proofs.lemmas.Map.Text.{is_eq-slice_cmp}
 use Rattle.std.proofs.lemmas.Slice.Eq.{bytes_eq-Decides}
 use Rattle.jr_base.specs.Files.{FileMap}
 use Rattle.jr_base.specs.Paths.{is_java}
-use Rattle.jr_commit.specs.Differences.{File, beside, pairs, same_side, entry_of, changes, differences}
+use Rattle.jr_commit.specs.Differences.{File, beside, pairs, entry_of, changes, differences}
 use Rattle.jr_commit.specs.Entries.{PlainEntry}
 use Rattle.jr_commit.specs.Restoring.{SameFiles}
 use Rattle.jr_commit.specs.Sizes.{IsSmallFile}

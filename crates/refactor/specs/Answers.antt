@@ -1,32 +1,32 @@
 -- When each answer comes, and what it leaves.
-use Rattle.std.specs.Prelude.{◌≡◌, ◌≢◌, ◌⊎◌, ℕ, zero, suc, ◌<◌, ◌≤◌, List, length, Option, Some, None, IsSome}
+use Rattle.std.specs.Prelude.{◌≡◌, ◌⊎◌, ℕ, zero, suc, ◌<◌, ◌≤◌, List, length, Option, None, IsSome}
 use Rattle.std.specs.Io.KnownBytes.{Appends}
 use Rattle.jr_base.specs.declared.limits.Size.TheVariants.{File, Path}
 use Rattle.jr_commit.specs.Restoring.{IsOpen, KeepsOthers, Restored}
 use Rattle.jr_request.specs.Words.{command_of}
 use Rattle.jr_store.specs.Image.{Image, Tells, OnlyTold, Rose}
 use Rattle.jr_store.specs.Streams.{AppendsPart}
-use Rattle.jr_thin.specs.Renaming.{Serves, IsLost, IsBroken, IsDone}
-use Rattle.refactor.specs.Changing.{IsChanged, IsCommitted, MayChange}
+use Rattle.jr_thin.specs.Renaming.{IsLost, IsBroken, IsDone}
+use Rattle.refactor.specs.Changing.{IsCommitted, IsTooLong, MayChange}
 use Rattle.refactor.specs.Line.{line_of}
 use Rattle.refactor.specs.Recovering.{AsksRecovery, Recovers}
-use Rattle.refactor.specs.Renaming.{AsksRename, AsksSomeRename, files_named, Holds, ForTold}
+use Rattle.refactor.specs.Renaming.{AsksRename, AsksSomeRename, files_named, Holds, IsUnserved, ForTold}
 use Rattle.refactor.specs.declared.status.Phase.TheVariants.{Recovering, Reading, Writing}
 use Rattle.refactor.specs.declared.status.Report.TheVariants.{Changed}
 use Rattle.refactor.specs.declared.status.Status.{Status}
 use Rattle.refactor.specs.declared.status.Status.TheVariants.{Done, BadWords, NoSpelling, BrokenRule, StoreFault, SinkFault, TooLarge, OutOfMemory, BadJournal, NotYet}
 
--- The words ask for the rename of a file, and it holds bytes of which this is so. What a store does not tell is not
--- known.
+-- The words ask for the rename of a file, whose path has at most 1,024 bytes, and it holds bytes of which this is so.
+-- What a store does not tell is not known.
 abbrev pub Asks : List (List ℕ) → Option Image → (List ℕ → ℕ → List ℕ → Type 0) → Type 0
-Asks words told P = (file : List ℕ) × (at : ℕ) × (name : List ℕ) × AsksRename words file at name
+Asks words told P = (file : List ℕ) × (at : ℕ) × (name : List ℕ) × AsksRename words file at name × (length file ≤ 1024)
     × ForTold told (λ files. (bytes : List ℕ) × Holds files file bytes × P bytes at name)
 
 -- The files left are the change that the words ask for, the journal is that of the change, the gate is closed, and a
 -- crash leaves them so. Where nothing is to be changed, nothing is written.
 abbrev pub LeavesChange : List (List ℕ) → Option Image → Option Image → (Image → Type 0) → ℕ → Type 0
 LeavesChange words found left outcomes zero = (left ≡ found) × Asks words found (λ bytes at name. IsDone bytes at name bytes)
-LeavesChange words found left outcomes (suc zero) = ((file : List ℕ) × (at : ℕ) × (name : List ℕ) × AsksRename words file at name
+LeavesChange words found left outcomes (suc zero) = ((file : List ℕ) × (at : ℕ) × (name : List ℕ) × AsksRename words file at name × (length file ≤ 1024)
     × Tells found left (IsCommitted file at name)) × OnlyTold left outcomes
 LeavesChange words found left outcomes (suc (suc n)) = ⊥
 
@@ -45,9 +45,10 @@ AnswersFound words found left outcomes before after (TooLarge Path request) = (l
     × ((file : List ℕ) × (at : ℕ) × (name : List ℕ) × AsksRename words file at name × (1024 < length file) × ForTold found (λ files. (bytes : List ℕ) × Holds files file bytes))
 -- the changed text is longer than 1,048,576 bytes
 AnswersFound words found left outcomes before after (TooLarge File request) = (left ≡ found) × (request ≡ 0)
-    × Asks words found (λ bytes at name. (new : List ℕ) × IsDone bytes at name new × (1048576 < length new))
+    × Asks words found IsTooLong
+-- no rename is asked for, or none that is served of a file that is held
 AnswersFound words found left outcomes before after NotYet = (left ≡ found) × IsSome (command_of words)
-    × ForTold found (λ files. (file : List ℕ) (at : ℕ) (name bytes : List ℕ) → AsksRename words file at name → Holds files file bytes → Serves bytes at name → ⊥)
+    × ForTold found (λ files. (file : List ℕ) (at : ℕ) (name bytes : List ℕ) → AsksRename words file at name → Holds files file bytes → IsUnserved file bytes at name)
 AnswersFound words found left outcomes before after (StoreFault Reading) = (left ≡ found) × AsksSomeRename words × Rose before after
 AnswersFound words found left outcomes before after (StoreFault Writing) = ((file : List ℕ) × (at : ℕ) × (name : List ℕ) × AsksRename words file at name
     × Tells found left (MayChange file)) × Rose before after
@@ -89,13 +90,17 @@ abbrev pub Outcome : List (List ℕ) → (Status → Type 0) → Option (List �
 Outcome words IsSo old new fewer more SinkFault = (status : Status) × IsSo status × AppendsPart old new (reported words status) × Rose fewer more
 Outcome words IsSo old new fewer more status = IsSo status × Appends old new (reported words status)
 
--- what may be answered to a rename that is served: a fault only where its count rose
+-- what may be answered in place of any answer: want of memory, or a fault whose count rose
+abbrev pub IsFailure : ℕ → ℕ → ℕ → ℕ → Status → Type 0
+IsFailure before after fewer more OutOfMemory = Unit {0}
+IsFailure before after fewer more (StoreFault phase) = Rose before after
+IsFailure before after fewer more SinkFault = Rose fewer more
+IsFailure before after fewer more other = ⊥
+
+-- what may be answered to a rename that is served
 abbrev pub IsServedAnswer : ℕ → ℕ → ℕ → ℕ → Status → Type 0
 IsServedAnswer before after fewer more (Done report) = Unit {0}
 IsServedAnswer before after fewer more (NoSpelling request occ place lock) = Unit {0}
 IsServedAnswer before after fewer more (BrokenRule request rule place) = Unit {0}
 IsServedAnswer before after fewer more (TooLarge what request) = Unit {0}
-IsServedAnswer before after fewer more OutOfMemory = Unit {0}
-IsServedAnswer before after fewer more (StoreFault phase) = Rose before after
-IsServedAnswer before after fewer more SinkFault = Rose fewer more
-IsServedAnswer before after fewer more other = ⊥
+IsServedAnswer before after fewer more other = IsFailure before after fewer more other

@@ -1,5 +1,6 @@
 -- What a change of one file leaves.
-use Rattle.std.specs.Prelude.{◌≡◌, ◌≢◌, ℕ, ◌≤◌, List, [], ◌∷◌, length, Some, None, IsTrue}
+use Rattle.std.specs.Prelude.{◌≡◌, ◌≢◌, ℕ, ◌<◌, ◌≤◌, List, [], ◌∷◌, length, Some, None, IsTrue}
+use Rattle.std.specs.Global.{Vec}
 use Rattle.std.specs.List.{AllByRecursion}
 use Rattle.jr_base.specs.Paths.{is_java}
 use Rattle.jr_commit.specs.Journal.{spelling, PutsBack}
@@ -21,6 +22,10 @@ pub record IsChanged (file : List ℕ) (at : ℕ) (name : List ℕ) (old new : I
   pub fits : length after ≤ 1048576
   pub there : new file ≡ Some after
   pub others : (q : List ℕ) → IsTrue (is_java q) → q ≢ file → new q ≡ old q
+
+-- the changed text, which memory holds, is longer than 1,048,576 bytes
+abbrev pub IsTooLong : List ℕ → ℕ → List ℕ → Type 0
+IsTooLong old at name = (new : Vec ℕ) × IsDone old at name new.items × (1048576 < length new.items)
 
 -- the journal of the change of one file, in version 2
 abbrev pub journal_of : List ℕ → List ℕ → List ℕ → List ℕ

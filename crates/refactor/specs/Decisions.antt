@@ -8,8 +8,8 @@ use Rattle.jr_request.specs.declared.command.Command.{Command}
 use Rattle.jr_request.specs.declared.command.Command.TheVariants.{One}
 use Rattle.jr_store.specs.Image.{Image, Rose}
 use Rattle.jr_thin.specs.Renaming.{Serves, IsLost, IsBroken, IsDone}
-use Rattle.refactor.specs.Changing.{IsPlanOf}
-use Rattle.refactor.specs.Renaming.{Holds, ForTold}
+use Rattle.refactor.specs.Changing.{IsPlanOf, IsTooLong}
+use Rattle.refactor.specs.Renaming.{Holds, IsUnserved, ForTold}
 use Rattle.refactor.specs.declared.decide.Decision.{Decision}
 use Rattle.refactor.specs.declared.decide.Decision.TheVariants.{Answer, Refuse, Change}
 use Rattle.refactor.specs.declared.decide.Found.{Found}
@@ -40,32 +40,31 @@ IsHeld files file None = (bytes : List ℕ) → Holds files file bytes → ⊥
 abbrev pub HoldsSome : Option Image → List ℕ → (List ℕ → Type 0) → Type 0
 HoldsSome told file P = ForTold told (λ files. (bytes : List ℕ) × Holds files file bytes × P bytes)
 
--- no bytes that the file holds serve the rename
-abbrev pub HoldsNone : Option Image → List ℕ → (List ℕ → Type 0) → Type 0
-HoldsNone told file P = ForTold told (λ files. (bytes : List ℕ) → Holds files file bytes → P bytes → ⊥)
+-- whatever bytes the file holds, this is so of them
+abbrev pub HoldsOnly : Option Image → List ℕ → (List ℕ → Type 0) → Type 0
+HoldsOnly told file P = ForTold told (λ files. (bytes : List ℕ) → Holds files file bytes → P bytes)
 
 -- when each decision on a rename comes
 abbrev pub DecidesRename : List ℕ → ℕ → List ℕ → Option Image → ℕ → ℕ → Decision → Type 0
-DecidesRename file at name told before after (Answer (Done (Changed files))) = (files ≡ 0) × HoldsSome told file (λ bytes. IsDone bytes at name bytes)
-DecidesRename file at name told before after (Answer NotYet) = HoldsNone told file (λ bytes. Serves bytes at name)
+DecidesRename file at name told before after (Answer (Done (Changed files))) = (files ≡ 0) × (length file ≤ 1024) × HoldsSome told file (λ bytes. IsDone bytes at name bytes)
+DecidesRename file at name told before after (Answer NotYet) = HoldsOnly told file (λ bytes. IsUnserved file bytes at name)
 DecidesRename file at name told before after (Answer (StoreFault Reading)) = Rose before after
 DecidesRename file at name told before after (Answer (TooLarge Path request)) = (request ≡ 0) × (1024 < length file) × HoldsSome told file (λ bytes. Unit {0})
-DecidesRename file at name told before after (Answer (TooLarge File request)) = (request ≡ 0)
-    × HoldsSome told file (λ bytes. (new : List ℕ) × IsDone bytes at name new × (1048576 < length new))
+DecidesRename file at name told before after (Answer (TooLarge File request)) = (request ≡ 0) × (length file ≤ 1024) × HoldsSome told file (λ bytes. IsTooLong bytes at name)
 DecidesRename file at name told before after (Answer OutOfMemory) = Unit {0}
 DecidesRename file at name told before after (Refuse (NoSpelling request occ place lock) paths) =
-    (request ≡ 0) × (place.cu.0 ≡ 2) × (paths.items ≡ file ∷ []) × HoldsSome told file (λ bytes. IsLost bytes at name occ place.at lock)
+    (request ≡ 0) × (place.cu.0 ≡ 2) × (paths.items ≡ file ∷ []) × (length file ≤ 1024) × HoldsSome told file (λ bytes. IsLost bytes at name occ place.at lock)
 DecidesRename file at name told before after (Refuse (BrokenRule request rule place) paths) =
-    (request ≡ 0) × (rule.0 ≡ 6) × (place.cu.0 ≡ 2) × (paths.items ≡ file ∷ []) × HoldsSome told file (λ bytes. IsBroken bytes at name place.at)
+    (request ≡ 0) × (rule.0 ≡ 6) × (place.cu.0 ≡ 2) × (paths.items ≡ file ∷ []) × (length file ≤ 1024) × HoldsSome told file (λ bytes. IsBroken bytes at name place.at)
 DecidesRename file at name told before after (Change plan) =
-    HoldsSome told file (λ old. (new : List ℕ) × IsDone old at name new × (new ≢ old) × (length new ≤ 1048576) × IsPlanOf file old new plan)
+    (length file ≤ 1024) × HoldsSome told file (λ old. (new : List ℕ) × IsDone old at name new × (new ≢ old) × (length new ≤ 1048576) × IsPlanOf file old new plan)
 DecidesRename file at name told before after other = ⊥
 
 -- the same, where the bytes that the file holds are known
 abbrev pub DecidesFound : Found → ℕ → List ℕ → Decision → Type 0
 DecidesFound found at name (Answer (Done (Changed files))) = (files ≡ 0) × IsDone found.bytes.items at name found.bytes.items
 DecidesFound found at name (Answer NotYet) = Serves found.bytes.items at name → ⊥
-DecidesFound found at name (Answer (TooLarge File request)) = (request ≡ 0) × (new : List ℕ) × IsDone found.bytes.items at name new × (1048576 < length new)
+DecidesFound found at name (Answer (TooLarge File request)) = (request ≡ 0) × IsTooLong found.bytes.items at name
 DecidesFound found at name (Answer OutOfMemory) = Unit {0}
 DecidesFound found at name (Refuse (NoSpelling request occ place lock) paths) =
     (request ≡ 0) × (place.cu.0 ≡ 2) × (paths.items ≡ found.paths.items) × IsLost found.bytes.items at name occ place.at lock

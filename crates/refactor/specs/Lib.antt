@@ -2,6 +2,7 @@ pub mod Answers
 pub mod Changing
 pub mod Crash
 pub mod Decisions
+pub mod Exact
 pub mod Line
 pub mod Performing
 pub mod Recovering

@@ -14,8 +14,9 @@ NeedsFiles other = Unit {0}
 abbrev pub AsksRecovery : List (List ℕ) → Type 0
 AsksRecovery words = (command : Command) × (command_of words ≡ Some command) × NeedsFiles command
 
--- The gate is closed, the files found are those that the image stood for, and nothing else has changed.
+-- The image stood for files; the files found are those, the gate is closed, and nothing else has changed.
 pub record IsRecovered (old new : Image) : Type 0 where
+  pub stood : (restored : Image) × Restored old restored
   pub shut : IsOpen new → ⊥
   pub files : (restored : Image) → Restored old restored → SameFiles new restored
   pub others : KeepsOthers old new

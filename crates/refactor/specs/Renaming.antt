@@ -6,6 +6,7 @@ use Rattle.jr_request.specs.Words.{command_of}
 use Rattle.jr_request.specs.declared.command.Command.{Command}
 use Rattle.jr_request.specs.declared.command.Command.TheVariants.{One}
 use Rattle.jr_store.specs.Image.{Image}
+use Rattle.jr_thin.specs.Renaming.{Serves}
 
 -- the words ask for the rename of what stands at the offset of the file
 abbrev pub AsksRename : List (List ℕ) → List ℕ → ℕ → List ℕ → Type 0
@@ -29,6 +30,10 @@ pub record Holds (files : Image) (file bytes : List ℕ) : Type 0 where
   pub only : IsOnly files file
   pub there : files file ≡ Some bytes
   pub small : length bytes ≤ 65536
+
+-- the rename is not served, and that is not for the length of the path
+abbrev pub IsUnserved : List ℕ → List ℕ → ℕ → List ℕ → Type 0
+IsUnserved file bytes at name = (length file ≤ 1024) × (Serves bytes at name → ⊥)
 
 -- where a store tells its files, they have the property
 abbrev pub ForTold : Option Image → (Image → Type 0) → Type 0

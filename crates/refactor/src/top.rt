@@ -1,18 +1,21 @@
 // The top call: from the words, the store and the output to the answer.
-ghost use Rattle.std.specs.Prelude.{◌≡◌, ◌≢◌, ◌⊎◌, ◌↔◌, [], ℕ, List, Some, OnOk, IsTrue};
+ghost use Rattle.std.specs.Prelude.{◌≡◌, ◌≢◌, ◌⊎◌, ◌↔◌, [], ℕ, List, Some, None, OnOk, IsSome, IsTrue};
 ghost use Rattle.jr_commit.specs.Planned.{StartsCommit, ChangesOnlyPlanned};
 ghost use Rattle.jr_commit.specs.Restoring.{Restored, RestoresTo, StartsRecover};
 ghost use Rattle.jr_commit.specs.SidesAt.{with_sides};
 ghost use Rattle.jr_request.specs.Words.{command_of};
 ghost use Rattle.jr_store.specs.Image.{Image, Tells, OnlyTold, LeavesOnly, HasCause};
-ghost use Rattle.jr_thin.specs.Renaming.{Serves};
-ghost use Rattle.refactor.specs.Answers.{AnswersFound, Answers, Reports, IsReported, reported, Outcome, IsServedAnswer};
+ghost use Rattle.jr_thin.specs.Renaming.{Serves, IsRenaming};
+ghost use Rattle.jr_thin.specs.declared.answers.Renaming.{Renaming};
+ghost use Rattle.refactor.specs.Answers.{AnswersFound, Answers, Reports, IsReported, reported, Outcome, IsFailure, IsServedAnswer};
 ghost use Rattle.refactor.specs.Crash.{StandsForEither, Survives, IsSettled, SurvivesSettled};
+ghost use Rattle.refactor.specs.Exact.{IsAnswered};
 ghost use Rattle.refactor.specs.Line.{line_of};
 ghost use Rattle.refactor.specs.Recovering.{AsksRecovery, NeedsFiles};
 ghost use Rattle.refactor.specs.Renaming.{AsksRename, Holds};
 ghost use Rattle.refactor.specs.Performing.{IsTaken, Commits, Reported};
 ghost use Rattle.refactor.specs.declared.status.Status.{Status};
+ghost use Rattle.refactor.specs.declared.status.Status.TheVariants.{BadJournal, BadWords, NotYet};
 
 use crate::decide::{Decision, decide};
 use crate::lines::line_of;
@@ -171,6 +174,28 @@ pub fn refactor<S: Store, I: Source, O: Sink>(
     // A rename that is served gets one of the answers to a rename, unless memory runs out or a fault is counted.
     ensures complete { (files found : Image) → S.files store.old ≡ Some files → Restored files found → (file : List ℕ) (at : ℕ) (name bytes : List ℕ)
         → AsksRename words.now file at name → Holds found file bytes → Serves bytes at name → IsServedAnswer (S.faults store.old) (S.faults store.new) (O.faults out.old) (O.faults out.new) result }
+
+    // A rename of the one file that is there gets the one answer that it comes to, and leaves the files so.
+    ensures exact { (files found : Image) → S.files store.old ≡ Some files → Restored files found → (file : List ℕ) (at : ℕ) (name bytes : List ℕ) (comes_to : Renaming)
+        → AsksRename words.now file at name → Holds found file bytes → IsRenaming bytes at name comes_to
+        → IsAnswered found file bytes comes_to (S.files store.new) result ⊎ IsFailure (S.faults store.old) (S.faults store.new) (O.faults out.old) (O.faults out.new) result }
+
+    // Where no rename of such a file is asked for, the command is not served yet.
+    ensures not_served { (files found : Image) → S.files store.old ≡ Some files → Restored files found → IsSome (command_of words.now)
+        → ((file : List ℕ) (at : ℕ) (name bytes : List ℕ) → AsksRename words.now file at name → Holds found file bytes → ⊥)
+        → (result ≡ NotYet) ⊎ IsFailure (S.faults store.old) (S.faults store.new) (O.faults out.old) (O.faults out.new) result }
+
+    // Nor is one that needs no files.
+    ensures needs_no_files { IsSome (command_of words.now) → (AsksRecovery words.now → ⊥)
+        → (result ≡ NotYet) ⊎ IsFailure (S.faults store.old) (S.faults store.new) (O.faults out.old) (O.faults out.new) result }
+
+    // Where the gate is open over no journal that can be read, no command goes on.
+    ensures bad_journal { (files : Image) → S.files store.old ≡ Some files → ((restored : Image) → Restored files restored → ⊥) → AsksRecovery words.now
+        → (result ≡ BadJournal) ⊎ IsFailure (S.faults store.old) (S.faults store.new) (O.faults out.old) (O.faults out.new) result }
+
+    // Words outside the grammar are answered so.
+    ensures bad_words { command_of words.now ≡ None
+        → (result ≡ BadWords) ⊎ IsFailure (S.faults store.old) (S.faults store.new) (O.faults out.old) (O.faults out.new) result }
 
     // A crash at any moment of the call leaves an image of the files found or of those of the change.
     ensures any_moment { (f r : Image) → S.files store.old ≡ Some f → Restored f r → StartsRecover f (S.may_leave store.old) →

@@ -1,4 +1,4 @@
-use Rattle.std.proofs.Common.{◌≡◌, ◌≤◌, ℕ, List, length, subst, sym, ap, refl, rules, arith}
+use Rattle.std.proofs.Common.{◌≡◌, ◌≤◌, ℕ, List, length, subst, sym, refl, rules, arith}
 use Rattle.std.specs.Prelude.{IsTrue}
 use Rattle.std.proofs.lemmas.Grind.{common_steps}
 use Rattle.jr_base.specs.Paths.{is_java}
@@ -22,3 +22,6 @@ pub plan_of-requires-clause-short : goal.plan_of-requires-clause-short
 plan_of-requires-clause-short c =
     let path = c.requires.path in
     subst (λ (p : List ℕ). length p ≤ 1024) (sym (first_is c.args.found.paths.items path.file c.index.result.now path.one.is c.index.ensures)) path.short
+
+pub returns-then-len-gt1048576 : goal.returns-then-len-gt1048576
+returns-then-len-gt1048576 c = (refl, (c.args.bytes, c.requires.done, omega (arith, c.len.ensures, c.args.bytes.ok.0)))

@@ -1,3 +1,5 @@
+use Rattle.std.proofs.Common.{◌≤◌, length, arith}
+use Rattle.std.proofs.lemmas.Grind.{common_steps}
 use Rattle.refactor.specs.Decisions.{IsOnePath, DecidesFound}
 use Rattle.refactor.specs.Renaming.{Holds, ForTold}
 use Rattle.refactor.proofs.Chosen.{chosen}
@@ -11,5 +13,6 @@ returns-in-Ok-Some-clause-decision g c =
     let held : ForTold told (λ files. Holds files c.args.file.now c.in-Ok-Some.found.bytes.items) = rw c.bytes.ensures at held_there in
     let one_there : IsOnePath c.in-Ok-Some.found.paths.items c.bytes.result.now = rw c.in-Ok-Some.field-0-is at c.in-Ok-Some.ensures.paths in
     let one : IsOnePath c.in-Ok-Some.found.paths.items c.args.file.now = rw c.bytes.ensures at one_there in
+    let short : length c.args.file.now ≤ 1024 = grind (arith, common_steps) in
     let decided : DecidesFound c.in-Ok-Some.found c.args.at c.args.name.now c.decide_found.result = rw c.bytes-in-Ok-Some.ensures at c.decide_found.ensures in
-    chosen told c.args.file.now c.args.name.now c.args.at (S.faults c.args.store.now) (S.faults c.find.new.store) c.in-Ok-Some.found held one.is c.decide_found.result decided
+    chosen told c.args.file.now c.args.name.now c.args.at (S.faults c.args.store.now) (S.faults c.find.new.store) c.in-Ok-Some.found held one.is short c.decide_found.result decided

@@ -1,5 +1,4 @@
-use Rattle.std.proofs.Common.{ℕ, List, refl, sym, ◌∙◌, ap}
-use Rattle.jr_commit.specs.Entries.{PlainEntry}
+use Rattle.std.proofs.Common.{◌∙◌, ap}
 use Rattle.jr_commit.specs.Journal.{spelling, new_sides}
 use Rattle.jr_commit.specs.declared.entry.Version.TheVariants.{Two}
 use Rattle.refactor.proofs.Single.{java_single, small_single, differences_single, held_single}

@@ -1,4 +1,4 @@
-use Rattle.std.proofs.Common.{subst, sym, ◌∙◌, [], List, ℕ, inl, inr, ⊎_elim}
+use Rattle.std.proofs.Common.{subst, ◌∙◌, [], List, ℕ, inl}
 use Rattle.refactor.specs.Answers.{IsReported}
 use Rattle.refactor.specs.Crash.{StandsForEither}
 use Rattle.refactor.specs.Decisions.{Decides}
@@ -60,7 +60,7 @@ returns-in-Change-clause-any_moment g c words f r is told settled =
     let kept = S.may_leave c.args.store.now in
     let asked = renames words (S.files c.args.store.now) (S.faults c.args.store.now) (S.faults c.decide.new.store) c.in-Change.plan (c.args.command.now, is, c.in-Change.ensures.decision) in
     either_run S.moment S.left_since words f r kept (S.may_leave c.decide.new.store) c.args.store.now c.decide.new.store c.change.new.store asked.0 asked.1 asked.2 c.in-Change.plan asked.3
-    (S.files c.args.store.now) told settled c.decide.ensures.crash asked.4 c.decide.ensures.any_moment (c.change.ensures.any_moment f (c.decide.ensures.files ∙ told))
+    (S.files c.args.store.now) told settled c.decide.ensures.crash asked.5 c.decide.ensures.any_moment (c.change.ensures.any_moment f (c.decide.ensures.files ∙ told))
 
 pub returns-in-Change-clause-answer : goal.returns-in-Change-clause-answer
 returns-in-Change-clause-answer g c words is =
@@ -76,8 +76,8 @@ returns-in-Change-clause-answer g c words is =
     let asked = renames words told before middle c.in-Change.plan (c.args.command.now, is, c.in-Change.ensures.decision) in
     let done = c.change.ensures.answer in
     reports_change words told left kept outcomes before after done.0 c.change.result (O.contents c.args.out.now) (O.contents c.change.new.out) (O.faults c.args.out.now) (O.faults c.change.new.out)
-    (changed words told left kept outcomes before after asked.0 asked.1 asked.2 c.in-Change.plan asked.3 middle (S.files c.decide.new.store) (S.may_leave c.decide.new.store) done.0
-    c.decide.ensures.files c.decide.ensures.later c.decide.ensures.crash asked.4
+    (changed words told left kept outcomes before after asked.0 asked.1 asked.2 c.in-Change.plan asked.3 asked.4 middle (S.files c.decide.new.store) (S.may_leave c.decide.new.store) done.0
+    c.decide.ensures.files c.decide.ensures.later c.decide.ensures.crash asked.5
     (λ f r told_is settled image l.
     let run = returns-in-Change-clause-any_moment g c words f r is told_is settled in
     run.each image (g.met.S.Store.counts_now c.change.new.store (S.moment c.args.store.now) image run.later l))

@@ -1,7 +1,4 @@
-use Rattle.std.proofs.Common.{◌≡◌, inl, inr, [], refl, sym, ◌∙◌, ap, subst, IsSome}
-use Rattle.std.specs.Prelude.{Some}
-use Rattle.jr_request.specs.declared.command.Command.{Command}
-use Rattle.refactor.specs.Recovering.{NeedsFiles}
+use Rattle.std.proofs.Common.{inl, refl, sym, subst, IsSome}
 use Rattle.refactor.specs.declared.status.Status.TheVariants.{BadWords, OutOfMemory, NotYet}
 use Rattle.refactor.proofs.Carried.{early, stays_here, no_recovery}
 use Rattle.refactor.proofs.top.perform.Goals as goal

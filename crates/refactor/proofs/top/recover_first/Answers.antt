@@ -1,8 +1,8 @@
-use Rattle.std.proofs.Common.{inl, inr, [], refl, ap}
+use Rattle.std.proofs.Common.{inl, refl, ap}
 use Rattle.std.specs.Prelude.{Err}
 use Rattle.refactor.specs.Crash.{StandsForEither}
 use Rattle.refactor.proofs.Carried.{weaker, carried, early, recovers, settled, still_told, recovery_failed, bad_journal, all_run}
-use Rattle.refactor.specs.declared.status.Status.TheVariants.{BadJournal, OutOfMemory}
+use Rattle.refactor.specs.declared.status.Status.TheVariants.{OutOfMemory}
 use Rattle.refactor.proofs.top.recover_first.Goals as goal
 
 pub returns-in-Ok-clause-answer : goal.returns-in-Ok-clause-answer
@@ -11,13 +11,13 @@ returns-in-Ok-clause-answer g c words is needs =
     let O = g.O.Sink in
     carried words c.args.command.now is needs (S.files c.args.store.now) (S.files c.recover.new.store) (S.files c.obey.new.store) (S.may_leave c.args.store.now) (S.may_leave c.recover.new.store) (S.may_leave c.obey.new.store)
     (S.faults c.args.store.now) (S.faults c.recover.new.store) (S.faults c.obey.new.store) c.recover.ensures.later
-    (recovers (S.files c.args.store.now) (S.files c.recover.new.store) c.in-Ok.ensures.done c.recover.ensures.others) c.in-Ok.ensures.after
+    (recovers c.in-Ok.field-0 (S.files c.args.store.now) (S.files c.recover.new.store) c.in-Ok.ensures.answer c.in-Ok.ensures.done c.recover.ensures.others) c.in-Ok.ensures.after
     c.obey.result (O.contents c.args.out.now) (O.contents c.obey.new.out) (O.faults c.args.out.now) (O.faults c.obey.new.out) (c.obey.ensures.answer words is)
 
 pub returns-in-Ok-clause-any_moment : goal.returns-in-Ok-clause-any_moment
 returns-in-Ok-clause-any_moment g c words f r is told restored start =
     let S = g.S.Store in
-    let found = recovers (S.files c.args.store.now) (S.files c.recover.new.store) c.in-Ok.ensures.done c.recover.ensures.others in
+    let found = recovers c.in-Ok.field-0 (S.files c.args.store.now) (S.files c.recover.new.store) c.in-Ok.ensures.answer c.in-Ok.ensures.done c.recover.ensures.others in
     let there = still_told (S.files c.args.store.now) (S.files c.recover.new.store) f found told in
     all_run S.moment S.left_since words r c.args.store.now c.recover.new.store c.obey.new.store (c.recover.ensures.any_moment f r told restored start)
     (c.obey.ensures.any_moment words there.0 r is there.1

@@ -1,3 +1,4 @@
+use Rattle.refactor.proofs.Exact.{bad_words, needs_no_files, not_served, unreadable, exact}
 use Rattle.refactor.proofs.Outcomes.{outcome, complete}
 use Rattle.refactor.proofs.top.refactor.Goals as goal
 
@@ -19,3 +20,38 @@ returns-clause-read_back g c f r h told restored start is =
     let S = g.S.Store in
     let run = c.perform.ensures.any_moment f r told restored start in
     run.each h (g.met.S.Store.counts_now c.perform.new.store (S.moment c.args.store.now) h run.later (g.met.S.Store.reads_now c.perform.new.store h is))
+
+pub returns-clause-exact : goal.returns-clause-exact
+returns-clause-exact g c files found told restored file at name bytes comes_to asks holds renames =
+    let S = g.S.Store in
+    exact c.args.words.now (S.files c.args.store.now) (S.files c.perform.new.store) (S.may_leave c.args.store.now) (S.may_leave c.perform.new.store) (S.faults c.args.store.now) (S.faults c.perform.new.store)
+    (g.O.Sink.contents c.args.out.now) (g.O.Sink.contents c.perform.new.out) (g.O.Sink.faults c.args.out.now) (g.O.Sink.faults c.perform.new.out)
+    files found told restored file at name bytes asks holds c.args.alloc comes_to renames c.perform.result c.perform.ensures.answer
+
+pub returns-clause-not_served : goal.returns-clause-not_served
+returns-clause-not_served g c files found told restored some none =
+    let S = g.S.Store in
+    not_served c.args.words.now (S.files c.args.store.now) (S.files c.perform.new.store) (S.may_leave c.args.store.now) (S.may_leave c.perform.new.store) (S.faults c.args.store.now) (S.faults c.perform.new.store)
+    (g.O.Sink.contents c.args.out.now) (g.O.Sink.contents c.perform.new.out) (g.O.Sink.faults c.args.out.now) (g.O.Sink.faults c.perform.new.out)
+    files found told restored none c.perform.result c.perform.ensures.answer some
+
+pub returns-clause-needs_no_files : goal.returns-clause-needs_no_files
+returns-clause-needs_no_files g c some never =
+    let S = g.S.Store in
+    needs_no_files c.args.words.now (S.files c.args.store.now) (S.files c.perform.new.store) (S.may_leave c.args.store.now) (S.may_leave c.perform.new.store) (S.faults c.args.store.now) (S.faults c.perform.new.store)
+    (g.O.Sink.contents c.args.out.now) (g.O.Sink.contents c.perform.new.out) (g.O.Sink.faults c.args.out.now) (g.O.Sink.faults c.perform.new.out)
+    c.perform.result c.perform.ensures.answer some never
+
+pub returns-clause-bad_words : goal.returns-clause-bad_words
+returns-clause-bad_words g c none =
+    let S = g.S.Store in
+    bad_words c.args.words.now (S.files c.args.store.now) (S.files c.perform.new.store) (S.may_leave c.args.store.now) (S.may_leave c.perform.new.store) (S.faults c.args.store.now) (S.faults c.perform.new.store)
+    (g.O.Sink.contents c.args.out.now) (g.O.Sink.contents c.perform.new.out) (g.O.Sink.faults c.args.out.now) (g.O.Sink.faults c.perform.new.out)
+    c.perform.result c.perform.ensures.answer none
+
+pub returns-clause-bad_journal : goal.returns-clause-bad_journal
+returns-clause-bad_journal g c files told none asks =
+    let S = g.S.Store in
+    unreadable c.args.words.now (S.files c.args.store.now) (S.files c.perform.new.store) (S.may_leave c.args.store.now) (S.may_leave c.perform.new.store) (S.faults c.args.store.now) (S.faults c.perform.new.store)
+    (g.O.Sink.contents c.args.out.now) (g.O.Sink.contents c.perform.new.out) (g.O.Sink.faults c.args.out.now) (g.O.Sink.faults c.perform.new.out)
+    c.perform.result c.perform.ensures.answer files told none asks

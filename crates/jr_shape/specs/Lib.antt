@@ -1,0 +1,4 @@
+pub mod Parts
+pub mod Exprs
+pub mod Stmts
+pub mod Decls
