@@ -26,7 +26,7 @@ use Rattle.refactor.specs.declared.status.Status.{Status}
 use Rattle.refactor.specs.declared.status.Status.TheVariants.{Done, NoSpelling, BrokenRule, NotYet, StoreFault, TooLarge, OutOfMemory, BadJournal}
 
 -- what a crash leaves before the call stands for the files found
-here_by : (f r : Image) (outcomes : Image → Type 0) → StartsRecover f outcomes → Restored f r → (c : Image) → outcomes c → RestoresTo c r
+pub here_by : (f r : Image) (outcomes : Image → Type 0) → StartsRecover f outcomes → Restored f r → (c : Image) → outcomes c → RestoresTo c r
 here_by f r outcomes start restored = here (λ (s : ℕ). Some f) (λ (s : ℕ). outcomes) (λ (s : ℕ). 0) (λ (s t : ℕ). outcomes) f r 0 refl restored start (λ c l. l)
 
 -- a weaker property of what a crash leaves
@@ -153,6 +153,11 @@ stays_here may_leave moment left_since words f r s now restored start = started 
 pub no_recovery : (words : List (List ℕ)) (command : Command) → command_of words ≡ Some command → (NeedsFiles command → ⊥) → AsksRecovery words → ⊥
 no_recovery words command is never (other, other_is, needs) = never (subst NeedsFiles (same_Some other command (sym other_is ∙ is)) needs)
 
+-- a closed gate stands for the files themselves
+pub opened : (told : Option Image) → ((f : Image) → told ≡ Some f → (r : Image) → Restored f r → ⊥) → ForTold told (λ files. IsOpen files × ((r : Image) → Restored files r → ⊥))
+opened None none = tt
+opened (Some f) none = (⊎_elim (λ open_gate. open_gate) (λ shut. absurd (none f refl f (inl (shut, refl)))) (open_or_not f), none f refl)
+
 -- what a fault of recovery leaves, where it comes before its first write or in its writes
 module _ (words : List (List ℕ)) (told left : Option Image) (kept outcomes : Image → Type 0) (before after : ℕ) (command : Command) (is : command_of words ≡ Some command) (needs : NeedsFiles command) where
   pub recovery_failed : (result : Status) (old new : Option (List ℕ)) (fewer more : ℕ) → Tells told left KeepsOthers → Rose before after →
@@ -167,8 +172,3 @@ module _ (words : List (List ℕ)) (told left : Option Image) (kept outcomes : I
       Reported words (λ status. Answers words told left outcomes before after status × Survives words told kept outcomes status) result old new fewer more
   bad_journal result old new fewer more same fewer_left none reports =
       early words told left kept outcomes before after BadJournal result old new fewer more same fewer_left (same, (command, is, needs), opened told none) (λ found image stands. stands) refl reports
-    where
-      -- a closed gate stands for the files themselves
-      opened : (t : Option Image) → ((f : Image) → t ≡ Some f → (r : Image) → Restored f r → ⊥) → ForTold t (λ files. IsOpen files × ((r : Image) → Restored files r → ⊥))
-      opened None none = tt
-      opened (Some f) none = (⊎_elim (λ open_gate. open_gate) (λ shut. absurd (none f refl f (inl (shut, refl)))) (open_or_not f), none f refl)

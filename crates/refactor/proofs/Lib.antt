@@ -6,3 +6,4 @@ mod Single
 mod Carried
 mod Chosen
 mod Exact
+mod BatchAnswers

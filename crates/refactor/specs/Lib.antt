@@ -1,4 +1,5 @@
 pub mod Answers
+pub mod Batches
 pub mod Changing
 pub mod Crash
 pub mod Decisions

@@ -135,6 +135,39 @@ fn a_fault_is_answered(rt: HostRuntime) -> Result<(), Fail> {
     Ok(())
 }
 
+// The answer to a batch of these bytes. The read of the input with this number fails, or none where it is 0.
+fn batch(alloc: Global, bytes: Vec<u8>, input_fails: u64) -> Result<Called, Fail> {
+    let mut store = store_of(alloc, OLD, 0)?;
+    let mut input = MemSource::new(bytes, failing_calls(alloc, input_fails)?);
+    let mut out = MemSink::new(alloc, Vec::new(alloc))?;
+    let words = words_of(alloc, ". batch")?;
+    let status = refactor(alloc, &words, &mut store, &mut input, &mut out);
+    Ok(Called {
+        number: status.number(),
+        line: out.bytes().to_vec(alloc)?,
+        left: left_in(alloc, &store)?,
+    })
+}
+
+#[test]
+fn a_batch_is_read(rt: HostRuntime) -> Result<(), Fail> {
+    let alloc = rt.alloc();
+    let empty = batch(alloc, b"[]".to_vec(alloc)?, 0)?;
+    expect(&rt, &empty, 20, "not yet\n", OLD);
+    let no_json = batch(alloc, b"{".to_vec(alloc)?, 0)?;
+    expect(&rt, &no_json, 2, "bad request: 9\n", OLD);
+    let no_array = batch(alloc, b"{}".to_vec(alloc)?, 0)?;
+    expect(&rt, &no_array, 2, "bad request: 9 do\n", OLD);
+    let lacking = r#"[{"do":"inline","file":"A.java"}]"#;
+    let no_offset = batch(alloc, lacking.as_bytes().to_vec(alloc)?, 0)?;
+    expect(&rt, &no_offset, 2, "request 1: bad request: 9 at\n", OLD);
+    let fault = batch(alloc, b"[]".to_vec(alloc)?, 1)?;
+    expect(&rt, &fault, 8, "input fault\n", OLD);
+    let large = batch(alloc, vec![in alloc; b' '; 1_048_577]?, 0)?;
+    expect(&rt, &large, 9, "too large: input\n", OLD);
+    Ok(())
+}
+
 // The call after one that a fault or a stop left half done.
 fn call_again(alloc: Global, store: &mut MemStore) -> Result<Called, Fail> {
     let mut input = MemSource::new(Vec::new(alloc), Vec::new(alloc));

@@ -1,5 +1,8 @@
 // The top call: from the words, the store and the output to the answer.
-ghost use Rattle.std.specs.Prelude.{◌≡◌, ◌≢◌, ◌⊎◌, ◌↔◌, [], ℕ, List, Some, None, OnOk, IsSome, IsTrue};
+ghost use Rattle.std.specs.Prelude.{◌≡◌, ◌≢◌, ◌⊎◌, ◌↔◌, [], ℕ, List, Some, None, Result, OnOk, IsSome, IsTrue};
+ghost use Rattle.jr_base.specs.declared.request.Request.{Request};
+ghost use Rattle.jr_batch.specs.Input.{IsInputAnswer, LeavesSome};
+ghost use Rattle.jr_batch.specs.declared.fault.BatchFault.{BatchFault};
 ghost use Rattle.jr_commit.specs.Planned.{StartsCommit, ChangesOnlyPlanned};
 ghost use Rattle.jr_commit.specs.Restoring.{Restored, RestoresTo, StartsRecover};
 ghost use Rattle.jr_commit.specs.SidesAt.{with_sides};
@@ -8,6 +11,7 @@ ghost use Rattle.jr_store.specs.Image.{Image, Tells, OnlyTold, LeavesOnly, HasCa
 ghost use Rattle.jr_thin.specs.Renaming.{Serves, IsRenaming};
 ghost use Rattle.jr_thin.specs.declared.answers.Renaming.{Renaming};
 ghost use Rattle.refactor.specs.Answers.{AnswersFound, Answers, Reports, IsReported, reported, Outcome, IsFailure, IsServedAnswer};
+ghost use Rattle.refactor.specs.Batches.{AsksBatch, Hears, AnswersBatch, status_of, IsBatchFailure};
 ghost use Rattle.refactor.specs.Crash.{StandsForEither, Survives, IsSettled, SurvivesSettled};
 ghost use Rattle.refactor.specs.Exact.{IsAnswered};
 ghost use Rattle.refactor.specs.Line.{line_of};
@@ -18,6 +22,7 @@ ghost use Rattle.refactor.specs.declared.status.Status.{Status};
 ghost use Rattle.refactor.specs.declared.status.Status.TheVariants.{BadJournal, BadWords, NotYet};
 
 use crate::decide::{Decision, decide};
+use crate::hear::hear;
 use crate::lines::line_of;
 use crate::status::{Phase, Report, Status};
 use jr_base::{Path, Text};
@@ -98,6 +103,34 @@ fn obey<S: Store, O: Sink>(alloc: Global, command: &Command, store: &mut S, out:
     }
 }
 
+// Reads a batch, or does what another command asks for, on the files found.
+fn serve<S: Store, I: Source, O: Sink>(
+    alloc: Global,
+    command: &Command,
+    store: &mut S,
+    input: &mut I,
+    out: &mut O,
+) -> Status
+    ensures answer { (words : List (List ℕ)) → command_of words ≡ Some command.now → (command.now ≡ Command.Batch → ⊥) →
+        Reported words (λ status. AnswersFound words (S.files store.old) (S.files store.new) (S.may_leave store.new) (S.faults store.old) (S.faults store.new) status
+        × SurvivesSettled words (S.files store.old) (S.may_leave store.old) (S.may_leave store.new) status) result (O.contents out.old) (O.contents out.new) (O.faults out.old) (O.faults out.new) }
+    ensures batch { command.now ≡ Command.Batch → (status : Status) × Hears (I.left input.old) (I.faults input.old) (I.faults input.new) status
+        × IsReported status [] result (O.contents out.old) (O.contents out.new) (O.faults out.old) (O.faults out.new) }
+    ensures kept { command.now ≡ Command.Batch → store.new ≡ store.old }
+    ensures any_moment { (words : List (List ℕ)) (f r : Image) → command_of words ≡ Some command.now → S.files store.old ≡ Some f → IsSettled f r (S.may_leave store.old) →
+        LeavesOnly S.moment S.left_since store.old store.new (StandsForEither words r) }
+    ensures unread { (command.now ≡ Command.Batch → ⊥) → input.new ≡ input.old }
+    ensures taken { (bytes : List ℕ) → I.left input.old ≡ Some bytes → LeavesSome bytes (I.left input.new) }
+{
+    match command {
+        Command::Batch => {
+            let status = hear(alloc, input);
+            report(alloc, status, &[], out)
+        }
+        _ => obey(alloc, command, store, out),
+    }
+}
+
 // Whether the command reads the files.
 fn needs_files(command: &Command) -> bool
     ensures { IsTrue result ↔ NeedsFiles command.now }
@@ -109,20 +142,26 @@ fn needs_files(command: &Command) -> bool
 }
 
 // Puts back what an earlier run left half done, and does what a command asks for.
-fn recover_first<S: Store, O: Sink>(
+fn recover_first<S: Store, I: Source, O: Sink>(
     alloc: Global,
     command: &Command,
     store: &mut S,
+    input: &mut I,
     out: &mut O,
 ) -> Status
-    ensures answer { (words : List (List ℕ)) → command_of words ≡ Some command.now → NeedsFiles command.now →
+    ensures answer { (words : List (List ℕ)) → command_of words ≡ Some command.now → NeedsFiles command.now → (command.now ≡ Command.Batch → ⊥) →
         Reported words (λ status. Answers words (S.files store.old) (S.files store.new) (S.may_leave store.new) (S.faults store.old) (S.faults store.new) status
+        × Survives words (S.files store.old) (S.may_leave store.old) (S.may_leave store.new) status) result (O.contents out.old) (O.contents out.new) (O.faults out.old) (O.faults out.new) }
+    ensures batch { (words : List (List ℕ)) → AsksBatch words → command.now ≡ Command.Batch →
+        Reported words (λ status. AnswersBatch words (S.files store.old) (S.files store.new) (S.may_leave store.new) (S.faults store.old) (S.faults store.new) (I.left input.old) (I.faults input.old) (I.faults input.new) status
         × Survives words (S.files store.old) (S.may_leave store.old) (S.may_leave store.new) status) result (O.contents out.old) (O.contents out.new) (O.faults out.old) (O.faults out.new) }
     ensures any_moment { (words : List (List ℕ)) (f r : Image) → command_of words ≡ Some command.now → S.files store.old ≡ Some f → Restored f r →
         StartsRecover f (S.may_leave store.old) → LeavesOnly S.moment S.left_since store.old store.new (StandsForEither words r) }
+    ensures unread { (command.now ≡ Command.Batch → ⊥) → input.new ≡ input.old }
+    ensures taken { (bytes : List ℕ) → I.left input.old ≡ Some bytes → LeavesSome bytes (I.left input.new) }
 {
     match recover(alloc, store) {
-        Ok(_) => obey(alloc, command, store, out),
+        Ok(_) => serve(alloc, command, store, input, out),
         Err(RecoverFault::Failed) => write_line(
             Status::StoreFault {
                 phase: Phase::Recovering,
@@ -136,12 +175,22 @@ fn recover_first<S: Store, O: Sink>(
 }
 
 // The status that is answered, and the one that is reported.
-fn perform<S: Store, O: Sink>(alloc: Global, words: &[Text], store: &mut S, out: &mut O) -> Status
-    ensures answer { Reported words.now (λ status. Answers words.now (S.files store.old) (S.files store.new) (S.may_leave store.new) (S.faults store.old) (S.faults store.new) status
+fn perform<S: Store, I: Source, O: Sink>(
+    alloc: Global,
+    words: &[Text],
+    store: &mut S,
+    input: &mut I,
+    out: &mut O,
+) -> Status
+    ensures answer { (AsksBatch words.now → ⊥) → Reported words.now (λ status. Answers words.now (S.files store.old) (S.files store.new) (S.may_leave store.new) (S.faults store.old) (S.faults store.new) status
+        × Survives words.now (S.files store.old) (S.may_leave store.old) (S.may_leave store.new) status) result (O.contents out.old) (O.contents out.new) (O.faults out.old) (O.faults out.new) }
+    ensures batch { AsksBatch words.now → Reported words.now (λ status. AnswersBatch words.now (S.files store.old) (S.files store.new) (S.may_leave store.new) (S.faults store.old) (S.faults store.new) (I.left input.old) (I.faults input.old) (I.faults input.new) status
         × Survives words.now (S.files store.old) (S.may_leave store.old) (S.may_leave store.new) status) result (O.contents out.old) (O.contents out.new) (O.faults out.old) (O.faults out.new) }
     ensures any_moment { (f r : Image) → S.files store.old ≡ Some f → Restored f r → StartsRecover f (S.may_leave store.old) →
         LeavesOnly S.moment S.left_since store.old store.new (StandsForEither words.now r) }
     ensures untouched { (AsksRecovery words.now → ⊥) → store.new ≡ store.old }
+    ensures unread { (AsksBatch words.now → ⊥) → input.new ≡ input.old }
+    ensures taken { (bytes : List ℕ) → I.left input.old ≡ Some bytes → LeavesSome bytes (I.left input.new) }
 {
     let command = match read_words(alloc, words) {
         Ok(command) => command,
@@ -151,13 +200,13 @@ fn perform<S: Store, O: Sink>(alloc: Global, words: &[Text], store: &mut S, out:
     if !needs_files(&command) {
         return report(alloc, Status::NotYet, &[], out);
     }
-    recover_first(alloc, &command, store, out)
+    recover_first(alloc, &command, store, input, out)
 }
 
 /// Does what the words ask for, and writes one line.
 ///
 /// The first word is the folder, which is not read here. Every command but `demo` begins with recovery. Only a rename
-/// is served, in a store with one `.java` file of at most 65,536 bytes. Want of memory may be answered at any time
+/// is served, in a store with one `.java` file of at most 65,536 bytes. The input of a batch is read after recovery. Want of memory may be answered at any time
 /// before the first write of the commit, unless recovery has begun to write and not ended.
 pub fn refactor<S: Store, I: Source, O: Sink>(
     alloc: Global,
@@ -168,7 +217,11 @@ pub fn refactor<S: Store, I: Source, O: Sink>(
 ) -> Status
     // Each answer has its cause, the files left are those that it says, and a crash leaves such files. A rename that is
     // done is the requested change.
-    ensures answer { Outcome words.now (λ status. Answers words.now (S.files store.old) (S.files store.new) (S.may_leave store.new) (S.faults store.old) (S.faults store.new) status
+    ensures answer { (AsksBatch words.now → ⊥) → Outcome words.now (λ status. Answers words.now (S.files store.old) (S.files store.new) (S.may_leave store.new) (S.faults store.old) (S.faults store.new) status
+        × Survives words.now (S.files store.old) (S.may_leave store.old) (S.may_leave store.new) status) (O.contents out.old) (O.contents out.new) (O.faults out.old) (O.faults out.new) result }
+
+    // So has each answer to a batch: what the input comes to.
+    ensures batch { AsksBatch words.now → Outcome words.now (λ status. AnswersBatch words.now (S.files store.old) (S.files store.new) (S.may_leave store.new) (S.faults store.old) (S.faults store.new) (I.left input.old) (I.faults input.old) (I.faults input.new) status
         × Survives words.now (S.files store.old) (S.may_leave store.old) (S.may_leave store.new) status) (O.contents out.old) (O.contents out.new) (O.faults out.old) (O.faults out.new) result }
 
     // A rename that is served gets one of the answers to a rename, unless memory runs out or a fault is counted.
@@ -182,7 +235,7 @@ pub fn refactor<S: Store, I: Source, O: Sink>(
 
     // Where no rename of such a file is asked for, the command is not served yet.
     ensures not_served { (files found : Image) → S.files store.old ≡ Some files → Restored files found → IsSome (command_of words.now)
-        → ((file : List ℕ) (at : ℕ) (name bytes : List ℕ) → AsksRename words.now file at name → Holds found file bytes → ⊥)
+        → (AsksBatch words.now → ⊥) → ((file : List ℕ) (at : ℕ) (name bytes : List ℕ) → AsksRename words.now file at name → Holds found file bytes → ⊥)
         → (result ≡ NotYet) ⊎ IsFailure (S.faults store.old) (S.faults store.new) (O.faults out.old) (O.faults out.new) result }
 
     // Nor is one that needs no files.
@@ -197,6 +250,11 @@ pub fn refactor<S: Store, I: Source, O: Sink>(
     ensures bad_words { command_of words.now ≡ None
         → (result ≡ BadWords) ⊎ IsFailure (S.faults store.old) (S.faults store.new) (O.faults out.old) (O.faults out.new) result }
 
+    // A batch gets the one answer that its input has.
+    ensures batch_exact { (files found : Image) (bytes : List ℕ) (answer : Result (List Request) BatchFault) → S.files store.old ≡ Some files → Restored files found → AsksBatch words.now
+        → I.left input.old ≡ Some bytes → IsInputAnswer bytes answer
+        → (result ≡ status_of answer) ⊎ IsBatchFailure (S.faults store.old) (S.faults store.new) (O.faults out.old) (O.faults out.new) (I.faults input.old) (I.faults input.new) result }
+
     // A crash at any moment of the call leaves an image of the files found or of those of the change.
     ensures any_moment { (f r : Image) → S.files store.old ≡ Some f → Restored f r → StartsRecover f (S.may_leave store.old) →
         LeavesOnly S.moment S.left_since store.old store.new (StandsForEither words.now r) }
@@ -207,9 +265,11 @@ pub fn refactor<S: Store, I: Source, O: Sink>(
     // Where the words ask for nothing that needs the files, the store is not called.
     ensures untouched { (AsksRecovery words.now → ⊥) → store.new ≡ store.old }
 
-    // The input is not read.
-    ensures unread { input.new ≡ input.old }
+    // The input is read for a batch alone.
+    ensures unread { (AsksBatch words.now → ⊥) → input.new ≡ input.old }
+
+    // At most its first 1,048,577 bytes are.
+    ensures taken { (bytes : List ℕ) → I.left input.old ≡ Some bytes → LeavesSome bytes (I.left input.new) }
 {
-    let _ = input;
-    perform(alloc, words, store, out)
+    perform(alloc, words, store, input, out)
 }

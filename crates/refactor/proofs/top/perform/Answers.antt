@@ -1,10 +1,14 @@
-use Rattle.std.proofs.Common.{inl, refl, sym, subst, IsSome}
+use Rattle.std.proofs.Common.{◌≡◌, ◌∙◌, Some, inl, refl, sym, ap, subst, IsSome}
+use Rattle.std.proofs.lemmas.Option.{same_Some, none-some}
+use Rattle.jr_request.specs.declared.command.Command.TheVariants.{Batch}
+use Rattle.refactor.specs.Recovering.{NeedsFiles}
+use Rattle.refactor.proofs.BatchAnswers.{untaken, no_memory}
 use Rattle.refactor.specs.declared.status.Status.TheVariants.{BadWords, OutOfMemory, NotYet}
 use Rattle.refactor.proofs.Carried.{early, stays_here, no_recovery}
 use Rattle.refactor.proofs.top.perform.Goals as goal
 
 pub returns-in-Err-BadWords-clause-answer : goal.returns-in-Err-BadWords-clause-answer
-returns-in-Err-BadWords-clause-answer g c =
+returns-in-Err-BadWords-clause-answer g c never =
     let S = g.S.Store in
     let O = g.O.Sink in
     let s = c.args.store.now in
@@ -12,7 +16,7 @@ returns-in-Err-BadWords-clause-answer g c =
     refl (λ image left. left) (refl, rw c.in-Err-BadWords.field-0-is at c.in-Err-BadWords.ensures) (λ found image stands. stands) refl c.report.ensures
 
 pub returns-in-Err-clause-answer : goal.returns-in-Err-clause-answer
-returns-in-Err-clause-answer g c =
+returns-in-Err-clause-answer g c never =
     let S = g.S.Store in
     let O = g.O.Sink in
     let s = c.args.store.now in
@@ -20,7 +24,7 @@ returns-in-Err-clause-answer g c =
     refl (λ image left. left) (inl refl) (λ found image stands. stands) refl c.report-in-Err.ensures
 
 pub returns-then-not-needs_files-clause-answer : goal.returns-then-not-needs_files-clause-answer
-returns-then-not-needs_files-clause-answer g c =
+returns-then-not-needs_files-clause-answer g c never =
     let S = g.S.Store in
     let O = g.O.Sink in
     let s = c.args.store.now in
@@ -29,7 +33,8 @@ returns-then-not-needs_files-clause-answer g c =
     (λ found image stands. stands) refl c.report-then-not-needs_files.ensures
 
 pub returns-clause-answer : goal.returns-clause-answer
-returns-clause-answer g c = c.recover_first.ensures.answer c.args.words.now c.in-Ok.ensures (c.needs_files.ensures.0 c.if-not-needs_files.false)
+returns-clause-answer g c never =
+    c.recover_first.ensures.answer c.args.words.now c.in-Ok.ensures (c.needs_files.ensures.0 c.if-not-needs_files.false) (λ batch. never (c.in-Ok.ensures ∙ ap Some batch))
 
 pub returns-clause-any_moment : goal.returns-clause-any_moment
 returns-clause-any_moment g c f r told restored start = c.recover_first.ensures.any_moment c.args.words.now f r c.in-Ok.ensures told restored start
@@ -45,3 +50,41 @@ returns-in-Err-clause-any_moment g c f r told restored start = let S = g.S.Store
 
 pub returns-then-not-needs_files-clause-any_moment : goal.returns-then-not-needs_files-clause-any_moment
 returns-then-not-needs_files-clause-any_moment g c f r told restored start = let S = g.S.Store in stays_here S.may_leave S.moment S.left_since c.args.words.now f r c.args.store.now (g.met.S.Store.only_now c.args.store.now) restored start
+
+-- ---- a batch
+
+pub returns-in-Err-BadWords-clause-batch : goal.returns-in-Err-BadWords-clause-batch
+returns-in-Err-BadWords-clause-batch g c asks =
+    let none = rw c.in-Err-BadWords.field-0-is at c.in-Err-BadWords.ensures in
+    absurd (none-some Batch (sym none ∙ asks))
+
+pub returns-in-Err-clause-batch : goal.returns-in-Err-clause-batch
+returns-in-Err-clause-batch g c asks =
+    let S = g.S.Store in
+    let O = g.O.Sink in
+    let I = g.I.Source in
+    let s = c.args.store.now in
+    let i = c.args.input.now in
+    no_memory c.args.words.now asks (S.files s) (S.files s) (S.may_leave s) (S.may_leave s) (S.faults s) (S.faults s) (I.left i) (I.faults i) (I.faults i)
+    c.report-in-Err.result (O.contents c.args.out.now) (O.contents c.report-in-Err.new.out) (O.faults c.args.out.now) (O.faults c.report-in-Err.new.out) refl (λ image left. left) c.report-in-Err.ensures
+
+pub returns-then-not-needs_files-clause-batch : goal.returns-then-not-needs_files-clause-batch
+returns-then-not-needs_files-clause-batch g c asks =
+    let same : c.in-Ok.command ≡ Batch = same_Some _ _ (sym c.in-Ok.ensures ∙ asks) in
+    let none : NeedsFiles c.in-Ok.command → ⊥ = λ needs. cc (c.if-not-needs_files.true, c.needs_files.ensures.1 needs) in
+    absurd (none (subst NeedsFiles (sym same) tt))
+
+pub returns-clause-batch : goal.returns-clause-batch
+returns-clause-batch g c asks = c.recover_first.ensures.batch c.args.words.now asks (same_Some _ _ (sym c.in-Ok.ensures ∙ asks))
+
+pub returns-clause-unread : goal.returns-clause-unread
+returns-clause-unread g c never = c.recover_first.ensures.unread (λ batch. never (c.in-Ok.ensures ∙ ap Some batch))
+
+pub returns-in-Err-BadWords-clause-taken : goal.returns-in-Err-BadWords-clause-taken
+returns-in-Err-BadWords-clause-taken g c bytes is = untaken bytes (g.I.Source.left c.args.input.now) is
+
+pub returns-in-Err-clause-taken : goal.returns-in-Err-clause-taken
+returns-in-Err-clause-taken g c bytes is = untaken bytes (g.I.Source.left c.args.input.now) is
+
+pub returns-then-not-needs_files-clause-taken : goal.returns-then-not-needs_files-clause-taken
+returns-then-not-needs_files-clause-taken g c bytes is = untaken bytes (g.I.Source.left c.args.input.now) is
