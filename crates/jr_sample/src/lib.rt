@@ -6,8 +6,12 @@ mod decls;
 #[cfg(test)]
 mod exprs;
 #[cfg(test)]
+mod members;
+#[cfg(test)]
 mod parts;
 #[cfg(test)]
 mod stmts;
 #[cfg(test)]
 mod tests;
+#[cfg(test)]
+mod trees;

@@ -1,94 +1,80 @@
-// Names, types and lists.
+// Names, types and lists. Each function takes its parts as they were made, so that a tree is one expression of calls.
 use jr_base::{Boxed, Items, OutOfMemory, Text};
-use jr_tree::{Base, Declarator, Expr, Init, Name, Param, Primitive, Stmt, TypeUse};
+use jr_tree::{Base, Declarator, Init, Name, Param, Primitive, TypeUse};
 use std::alloc::Global;
 
-pub fn one<T: Drop>(alloc: Global, item: T) -> Result<Items<T>, OutOfMemory> {
-    let mut items = Items::new(alloc);
-    items.push(item)?;
+pub type Made<T> = Result<T, OutOfMemory>;
+
+pub fn none<T>(alloc: Global) -> Made<Items<T>> {
+    Ok(Items::new(alloc))
+}
+
+pub fn and<T: Drop>(items: Made<Items<T>>, last: Made<T>) -> Made<Items<T>> {
+    let mut items = items?;
+    items.push(last?)?;
     Ok(items)
 }
 
-pub fn two<T: Drop>(alloc: Global, first: T, second: T) -> Result<Items<T>, OutOfMemory> {
-    let mut items = one(alloc, first)?;
-    items.push(second)?;
-    Ok(items)
+pub fn one<T: Drop>(alloc: Global, item: Made<T>) -> Made<Items<T>> {
+    and(none(alloc), item)
 }
 
-/// The items and one more.
-pub fn with<T: Drop>(mut items: Items<T>, last: T) -> Result<Items<T>, OutOfMemory> {
-    items.push(last)?;
-    Ok(items)
+pub fn two<T: Drop>(alloc: Global, first: Made<T>, second: Made<T>) -> Made<Items<T>> {
+    and(one(alloc, first), second)
 }
 
-pub fn boxed<T: Drop>(alloc: Global, value: T) -> Result<Boxed<T>, OutOfMemory> {
-    Ok(Boxed::new(alloc, value)?)
+pub fn some<T: Drop>(value: Made<T>) -> Made<Option<T>> {
+    Ok(Some(value?))
 }
 
-pub fn text(alloc: Global, name: &str) -> Result<Text, OutOfMemory> {
+pub fn boxed<T: Drop>(alloc: Global, value: Made<T>) -> Made<Boxed<T>> {
+    Ok(Boxed::new(alloc, value?)?)
+}
+
+pub fn text(alloc: Global, name: &str) -> Made<Text> {
     Ok(Text::new(Vec::from_slice(alloc, name.as_bytes())?))
 }
 
-pub fn name(alloc: Global, part: &str) -> Result<Name, OutOfMemory> {
-    Ok(Name {
-        parts: one(alloc, text(alloc, part)?)?,
-    })
+fn name_of(parts: Made<Items<Text>>) -> Made<Name> {
+    Ok(Name { parts: parts? })
+}
+
+pub fn name(alloc: Global, part: &str) -> Made<Name> {
+    name_of(one(alloc, text(alloc, part)))
 }
 
 /// `first.second`
-pub fn dotted(alloc: Global, first: &str, second: &str) -> Result<Name, OutOfMemory> {
-    Ok(Name {
-        parts: two(alloc, text(alloc, first)?, text(alloc, second)?)?,
-    })
+pub fn dotted(alloc: Global, first: &str, second: &str) -> Made<Name> {
+    name_of(two(alloc, text(alloc, first), text(alloc, second)))
 }
 
-pub fn primitive(primitive: Primitive) -> TypeUse {
-    TypeUse {
-        base: Base::Primitive(primitive),
-        dims: 0,
-    }
-}
-
-pub fn class(alloc: Global, part: &str, dims: usize) -> Result<TypeUse, OutOfMemory> {
+pub fn primitive(primitive: Primitive, dims: usize) -> Made<TypeUse> {
     Ok(TypeUse {
-        base: Base::Named(name(alloc, part)?),
+        base: Base::Primitive(primitive),
         dims,
     })
 }
 
-pub fn param(
-    alloc: Global,
-    is_final: bool,
-    ty: TypeUse,
-    part: &str,
-    dims: usize,
-) -> Result<Param, OutOfMemory> {
+pub fn named(name: Made<Name>, dims: usize) -> Made<TypeUse> {
+    Ok(TypeUse {
+        base: Base::Named(name?),
+        dims,
+    })
+}
+
+pub fn param(is_final: bool, ty: Made<TypeUse>, name: Made<Text>, dims: usize) -> Made<Param> {
     Ok(Param {
         is_final,
-        ty,
-        name: text(alloc, part)?,
+        ty: ty?,
+        name: name?,
         dims,
     })
 }
 
-pub fn declarator(
-    alloc: Global,
-    part: &str,
-    dims: usize,
-    init: Option<Init>,
-) -> Result<Declarator, OutOfMemory> {
+pub fn declarator(name: Made<Text>, dims: usize, init: Made<Option<Init>>) -> Made<Declarator> {
     Ok(Declarator {
-        name: text(alloc, part)?,
+        name: name?,
         dims,
-        init,
+        init: init?,
     })
-}
-
-/// `part = value`
-pub fn variable(alloc: Global, part: &str, value: Expr) -> Result<Declarator, OutOfMemory> {
-    declarator(alloc, part, 0, Some(Init::Value { value }))
-}
-
-pub fn eval(value: Expr) -> Stmt {
-    Stmt::Eval { value }
 }

@@ -1,11 +1,11 @@
 // Each tree is written out, copied and tested.
-use crate::decls::{declarations, field, method, unit};
-use crate::exprs::{
-    binary, calls, casts, choice, index, least, listed_array, literals, new_array, number,
-    of_super, paren,
+use crate::exprs::{binary, number};
+use crate::members::{declarations, with_expr, with_stmts};
+use crate::parts::Made;
+use crate::trees::{
+    array, array_of, attempts, branches, calls, casts, choice, element, evaluated, exits, fors,
+    jumps, least, literals, object, of_super, parens, plain, whiles,
 };
-use crate::parts::one;
-use crate::stmts::{branches, declared, evaluated, jumps, loops, tries};
 use jr_base::{Items, Kind, OutOfMemory, Symbol};
 use jr_copy::CopiedTree;
 use jr_depth::is_within_depth;
@@ -43,82 +43,86 @@ fn written(alloc: Global, unit: &Unit) -> Result<String, OutOfMemory> {
 }
 
 /// The tree is written out as the text, and so is a copy; the grammar has it.
-fn check<R: Abort + AllocGlobal>(rt: &R, text: &str, unit: &Unit) -> Result<(), Fail> {
+fn check<R: Abort + AllocGlobal>(rt: &R, text: &str, unit: Made<Unit>) -> Result<(), Fail> {
+    let unit = unit?;
     let expected = lexed(rt.alloc(), text.as_bytes())?;
-    let found = written(rt.alloc(), unit)?;
+    let found = written(rt.alloc(), &unit)?;
     assert_eq!(rt; found.as_str(), expected.as_str());
     let copy = unit.copy(rt.alloc())?;
     let again = written(rt.alloc(), &copy)?;
     assert_eq!(rt; again.as_str(), expected.as_str());
-    assert!(rt; is_shaped(unit));
-    assert!(rt; is_within_depth(unit, 256));
+    assert!(rt; is_shaped(&unit));
+    assert!(rt; is_within_depth(&unit, 256));
     Ok(())
 }
 
 /// The same of an expression in `class A { int a = expr; }`.
-fn check_expr<R: Abort + AllocGlobal>(rt: &R, text: &str, expr: Expr) -> Result<(), Fail> {
-    let alloc = rt.alloc();
-    let tree = unit(alloc, one(alloc, field(alloc, expr)?)?)?;
-    let whole = format!(in alloc; "class A {{ int a = {text}; }}")?;
-    check(rt, whole.as_str(), &tree)
+fn check_expr<R: Abort + AllocGlobal>(rt: &R, text: &str, expr: Made<Expr>) -> Result<(), Fail> {
+    let whole = format!(in rt.alloc(); "class A {{ int a = {text}; }}")?;
+    check(rt, whole.as_str(), with_expr(rt.alloc(), expr))
 }
 
 /// The same of statements in `class A { void m() { stmts } }`.
-fn check_stmts<R: Abort + AllocGlobal>(rt: &R, text: &str, stmts: Items<Stmt>) -> Result<(), Fail> {
-    let alloc = rt.alloc();
-    let tree = unit(alloc, one(alloc, method(alloc, stmts)?)?)?;
-    let whole = format!(in alloc; "class A {{ void m() {{ {text} }} }}")?;
-    check(rt, whole.as_str(), &tree)
+fn check_stmts<R: Abort + AllocGlobal>(
+    rt: &R,
+    text: &str,
+    stmts: Made<Items<Stmt>>,
+) -> Result<(), Fail> {
+    let whole = format!(in rt.alloc(); "class A {{ void m() {{ {text} }} }}")?;
+    check(rt, whole.as_str(), with_stmts(rt.alloc(), stmts))
 }
 
 #[test]
 fn expressions(rt: HostRuntime) -> Result<(), Fail> {
     let alloc = rt.alloc();
-    check_expr(&rt, "(a).f(1, a) + b.f(1, a)", calls(alloc)?)?;
-    check_expr(&rt, "super.f(1, a) - super.g", of_super(alloc)?)?;
-    check_expr(&rt, "a ? b.c : this", choice(alloc)?)?;
-    check_expr(&rt, "(int) a instanceof B[]", casts(alloc)?)?;
-    check_expr(&rt, "A.this.f[1]", index(alloc)?)
+    check_expr(&rt, "(a).f(1, a) + b.f(1, a)", calls(alloc))?;
+    check_expr(&rt, "super.f(1, a) - super.g", of_super(alloc))?;
+    check_expr(&rt, "a ? b.c : this", choice(alloc))?;
+    check_expr(&rt, "(int) a instanceof B[]", casts(alloc))?;
+    check_expr(&rt, "A.this.f[1]", element(alloc))
 }
 
 #[test]
 fn literals_and_arrays(rt: HostRuntime) -> Result<(), Fail> {
     let alloc = rt.alloc();
-    check_expr(&rt, "new int[1][2][]", new_array(alloc)?)?;
-    check_expr(&rt, "new A[][]{1, {2,}}", listed_array(alloc)?)?;
-    check_expr(&rt, "!true == 'a' + 5L + \"b\"", literals(alloc)?)?;
-    check_expr(&rt, "-2147483648 * -9223372036854775808L", least(alloc)?)
+    check_expr(&rt, "new A(1, a)", object(alloc))?;
+    check_expr(&rt, "new int[1][a][]", array(alloc))?;
+    check_expr(&rt, "new A[][]{1, {2,}}", array_of(alloc))?;
+    check_expr(&rt, "!true == 'a' + 5L + \"b\"", literals(alloc))?;
+    check_expr(&rt, "-2147483648 * -9223372036854775808L", least(alloc))
 }
 
 #[test]
 fn statements(rt: HostRuntime) -> Result<(), Fail> {
     let alloc = rt.alloc();
-    check_stmts(&rt, "{} final int i = 0, j[]; ;", declared(alloc)?)?;
-    check_stmts(&rt, "x = 1; ++i; i--; f(); new A(1);", evaluated(alloc)?)?;
+    check_stmts(&rt, "{} final int i = 0, j[]; ;", plain(alloc))?;
+    check_stmts(&rt, "x = 1; ++i; i--; f(); new A(1, a);", evaluated(alloc))?;
+    check_stmts(&rt, "return; return a; throw a;", exits(alloc))?;
     check_stmts(
         &rt,
-        "do f(); while (true); while (a) ; for (int i = 0; a; ++i, i--) ; for (x = 1, f(); ; ) ; for (; ; ) ;",
-        loops(alloc)?,
+        "l: ; break; break l; continue; continue l;",
+        jumps(alloc),
     )
 }
 
 #[test]
-fn branches_and_jumps(rt: HostRuntime) -> Result<(), Fail> {
+fn loops_and_branches(rt: HostRuntime) -> Result<(), Fail> {
     let alloc = rt.alloc();
+    check_stmts(&rt, "do f(); while (true); while (a) ;", whiles(alloc))?;
     check_stmts(
         &rt,
-        "if (a) f(); else {} if (a) f(); switch (a) { case 1: default: f(); case 2: }",
-        branches(alloc)?,
+        "for (int i = 0; a; ++i, i--) ; for (x = 1, f(); ; ) ; for (; ; ) ;",
+        fors(alloc),
     )?;
     check_stmts(
         &rt,
-        "l: ; break; break l; continue; continue l; return; return a; throw a;",
-        jumps(alloc)?,
+        "if (a) f(); else {} if (a) ; switch (a) { case 1: default: f(); case 2: }",
+        branches(alloc),
     )?;
     check_stmts(
         &rt,
         "try {} catch (final E e) {} try {} finally {}",
-        tries(alloc)?,
+        attempts(alloc),
     )
 }
 
@@ -135,43 +139,37 @@ fn whole_unit(rt: HostRuntime) -> Result<(), Fail> {
             static {} {} ;
         }
         interface I extends J { boolean z; short s; char c; } ;",
-        &declarations(rt.alloc())?,
+        declarations(rt.alloc()),
     )
 }
 
-fn is_shaped_as_field(alloc: Global, expr: Expr) -> Result<bool, OutOfMemory> {
-    let tree = unit(alloc, one(alloc, field(alloc, expr)?)?)?;
-    Ok(is_shaped(&tree))
+/// `1 - 2 - 3`, grouped to the left or to the right.
+fn minus(alloc: Global, to_the_left: bool) -> Made<Unit> {
+    let expr = if to_the_left {
+        let inner = binary(alloc, number(1), Symbol::Minus, number(2));
+        binary(alloc, inner, Symbol::Minus, number(3))
+    } else {
+        let inner = binary(alloc, number(2), Symbol::Minus, number(3));
+        binary(alloc, number(1), Symbol::Minus, inner)
+    };
+    with_expr(alloc, expr)
 }
 
 #[test]
 fn subtraction_groups_to_the_left(rt: HostRuntime) -> Result<(), Fail> {
-    let alloc = rt.alloc();
-    let inner = binary(alloc, number(1), Symbol::Minus, number(2))?;
-    let left = binary(alloc, inner, Symbol::Minus, number(3))?;
-    assert!(rt; is_shaped_as_field(alloc, left)?);
-    let inner = binary(alloc, number(2), Symbol::Minus, number(3))?;
-    let right = binary(alloc, number(1), Symbol::Minus, inner)?;
-    assert!(rt; !is_shaped_as_field(alloc, right)?);
+    let left = minus(rt.alloc(), true)?;
+    let right = minus(rt.alloc(), false)?;
+    assert!(rt; is_shaped(&left));
+    assert!(rt; !is_shaped(&right));
     Ok(())
-}
-
-/// `class A { int a = ((..1..)); }`, which is three deeper than its parentheses.
-fn nested(alloc: Global, parens: usize) -> Result<Unit, OutOfMemory> {
-    let mut expr = number(1);
-    for _ in 0..parens {
-        expr = paren(alloc, expr)?;
-    }
-    unit(alloc, one(alloc, field(alloc, expr)?)?)
 }
 
 #[test]
 fn depth_is_exact(rt: HostRuntime) -> Result<(), Fail> {
-    let alloc = rt.alloc();
-    for parens in 252..=254usize {
-        let tree = nested(alloc, parens)?;
-        let within = is_within_depth(&tree, 256);
-        assert_eq!(rt; within, parens <= 253, "at {parens}");
+    // A class, a field and the number in the parentheses are three deep.
+    for pairs in 252..=254usize {
+        let tree = with_expr(rt.alloc(), parens(rt.alloc(), pairs))?;
+        assert_eq!(rt; is_within_depth(&tree, 256), pairs <= 253, "at {pairs}");
         assert!(rt; is_shaped(&tree));
     }
     Ok(())
