@@ -1,5 +1,5 @@
 -- How a search goes on over a list of nodes.
-use Rattle.std.proofs.Common.{◌≡◌, refl, sym, ◌∙◌, ap, subst, ℕ, zero, suc, ◌+◌, ◌<◌, List, [], ◌∷◌, ◌++◌, length, drop, get_or, add-one, drop-cons, Option, Some, None, slice_get}
+use Rattle.std.proofs.Common.{◌≡◌, refl, sym, ◌∙◌, ap, ℕ, zero, suc, ◌+◌, ◌<◌, List, [], ◌∷◌, ◌++◌, length, drop, get_or, add-one, drop-cons, Option, Some, None, slice_get}
 use Rattle.jr_tree.specs.Nodes.{Node, Nodes}
 use Rattle.jr_nodes.specs.Progress.{Progress, At, Before, past, go_on}
 

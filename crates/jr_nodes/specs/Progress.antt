@@ -1,5 +1,5 @@
 -- How far a search for the node at a number has come, and how it goes on over a list of nodes.
-use Rattle.std.specs.Prelude.{ℕ, zero, suc, List, [], ◌∷◌}
+use Rattle.std.specs.Prelude.{ℕ, zero, suc, [], ◌∷◌}
 use Rattle.jr_tree.specs.Nodes.{Node, Nodes}
 use Rattle.jr_nodes.specs.declared.search.Search.{Search}
 use Rattle.jr_nodes.specs.declared.search.Search.TheVariants as search

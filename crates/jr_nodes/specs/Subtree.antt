@@ -1,5 +1,5 @@
 -- The children of each node, the nodes of its subtree, and where that subtree stands in a list of nodes.
-use Rattle.std.specs.Prelude.{◌≡◌, ℕ, List, [], ◌∷◌, ◌++◌, length, map, Option}
+use Rattle.std.specs.Prelude.{◌≡◌, ℕ, List, [], ◌∷◌, ◌++◌, length, map}
 use Rattle.std.specs.Option.{option_to_list}
 use Rattle.jr_tree.specs.declared.tree.Name.{Name}
 use Rattle.jr_tree.specs.declared.tree.Base.{Base}
