@@ -1,1 +1,10 @@
 pub mod NameLaws
+pub mod Written
+pub mod Beginnings
+pub mod Followers
+pub mod Repeats
+pub mod NameReads
+pub mod Loops
+pub mod Steps
+pub mod Asked
+pub mod Arguments

@@ -2,3 +2,5 @@ pub mod Starts
 pub mod Names
 pub mod Exprs
 pub mod Views
+pub mod Writing
+pub mod Follow
