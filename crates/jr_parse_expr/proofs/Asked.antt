@@ -49,6 +49,15 @@ pub record ReadsLists (room : ℕ) (read : Parser x.InitList) : Type 0 where
   pub complete : (l : x.InitList) (rest : List Kind) → IsShapedList l → list_depth l ≤ room → read (write_list l rest) ≡ Ok (l, rest)
   pub sound : (ts : List Kind) (r : x.InitList × List Kind) → read ts ≡ Ok r → ListFound room ts r
 
+-- an operand that was read, of at most a level more
+pub record Operand (room : ℕ) (ts : List Kind) (r : x.Expr × List Kind) : Type 0 where
+  pub shaped : IsShapedExpr r.0
+  pub tight : 12 ≤ level r.0
+  pub not_least : is_least r.0 ≡ false
+  pub low : expr_depth r.0 ≤ suc room
+  pub written : ts ≡ write_expr r.0 r.1
+  pub ended : LastEnds r.0 (first r.1)
+
 -- ---- facts on trees
 
 pub depth_pos : (e : x.Expr) → 1 ≤ expr_depth e

@@ -8,3 +8,4 @@ pub mod Loops
 pub mod Steps
 pub mod Asked
 pub mod Arguments
+pub mod Creations

@@ -138,7 +138,7 @@ abbrev pub BaseEnds : Base → Option Kind → Type 0
 BaseEnds (base.Primitive p) o = Unit {0}
 BaseEnds (base.Named n) o = begins_with y.Dot o ≡ false
 
-base_named : (all : List Text) (rest : List Kind) → not (is_empty all) ≡ true → primitive_at (write_all all rest) ≡ None
+pub base_named : (all : List Text) (rest : List Kind) → not (is_empty all) ≡ true → primitive_at (write_all all rest) ≡ None
 base_named [] rest h = absurd (cc)
 base_named (head ∷ all) rest h = refl
 
