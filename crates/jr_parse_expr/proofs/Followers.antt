@@ -119,7 +119,7 @@ dot_free : (b : Bool) (o : Option Kind) → begins_with y.Dot o ≡ false → Do
 dot_free true o h = h
 dot_free false o h = tt
 
-unless : (b : Bool) (P : Type 0) → (b ≡ false → P) → Unless b P
+pub unless : (b : Bool) (P : Type 0) → (b ≡ false → P) → Unless b P
 unless true P h = tt
 unless false P h = h refl
 

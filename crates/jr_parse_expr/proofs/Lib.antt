@@ -9,3 +9,5 @@ pub mod Steps
 pub mod Asked
 pub mod Arguments
 pub mod Creations
+pub mod Parentheses
+pub mod Operands

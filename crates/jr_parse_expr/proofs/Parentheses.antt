@@ -1,6 +1,6 @@
 -- Reading casts and parentheses is exact in both directions.
-use Rattle.std.proofs.Common.{◌≡◌, ℕ, zero, suc, ◌<◌, ◌≤◌, max, Bool, true, false, not, ◌&&◌, ltb, List, [], ◌∷◌, ◌++◌, Option, Some, None, Ok, refl, sym, ap, ◌∙◌, subst, inl, inr, arith}
-use Rattle.std.proofs.lemmas.Bool.{cases_Bool, not-true, not-false, not_from_false, true≢false}
+use Rattle.std.proofs.Common.{◌≡◌, ℕ, zero, suc, ◌<◌, ◌≤◌, max, Bool, true, false, not, ◌&&◌, ltb, List, [], ◌∷◌, ◌++◌, Option, Some, None, Ok, refl, sym, ap, ◌∙◌, subst, ◌⊎◌, inl, inr, arith}
+use Rattle.std.proofs.lemmas.Bool.{not-true, not-false, not_from_false, and_left, and_right, true≢false}
 use Rattle.jr_base.specs.declared.text.Text.{Text}
 use Rattle.jr_base.specs.declared.kind.Kind.{Kind}
 use Rattle.jr_base.specs.declared.kind.Kind.TheVariants as kind
@@ -19,14 +19,14 @@ use Rattle.jr_parse_laws.specs.Parsers.{Parser, and_then, first, is_at, symbol_a
 use Rattle.jr_parse_laws.proofs.Outcomes.{bind_ok, chosen, ok_is, err_ok, is_symbol_is}
 use Rattle.jr_parse_laws.proofs.Exact.{expect_sound}
 use Rattle.jr_parse_expr.specs.Starts.{begins_cast_operand, begins_operand, next_is, starts_expr}
-use Rattle.jr_parse_expr.specs.Names.{name_of, type_of, primitive_kind, dims, element, Dotted, Plain, Enclosing, dotted}
-use Rattle.jr_parse_expr.specs.Exprs.{Lead, Nothing, Named, Indexed, closed, cast, primitive_cast, name_in_parens, array_cast, bracket_in_parens, dotted_in_parens_by, dotted_in_parens, in_parens_by, in_parens}
+use Rattle.jr_parse_expr.specs.Names.{name_of, type_of, primitive_kind, primitive_at, dims, element, Dotted, Plain, Enclosing, dotted}
+use Rattle.jr_parse_expr.specs.Exprs.{Lead, Nothing, Named, Indexed, skipping, closed, cast, primitive_cast, name_in_parens, array_cast, bracket_in_parens, dotted_in_parens_by, dotted_in_parens, in_parens_by, in_parens}
 use Rattle.jr_parse_expr.specs.Writing.{write_parts, write_all, write_name, write_brackets, write_base, write_type, write_dotted, write_expr}
 use Rattle.jr_parse_expr.specs.Follow.{Unless, LastEnds, Ends, IsExpr}
 use Rattle.jr_parse_expr.proofs.Beginnings.{begins_any, begins_tight}
-use Rattle.jr_parse_expr.proofs.Followers.{Closes, ends_before, unless}
-use Rattle.jr_parse_expr.proofs.NameReads.{Headed, dotted_name, dotted_sound, dims_read, dims_sound, element_read, element_sound, has_parts, primitive_here}
-use Rattle.jr_parse_expr.proofs.Asked.{Found, ReadsExprs, Operand, depth_pos, found_starts, at_sound}
+use Rattle.jr_parse_expr.proofs.Followers.{unless}
+use Rattle.jr_parse_expr.proofs.NameReads.{base_named, dotted_name, dotted_sound, dims_read, dims_sound, element_read, element_sound, has_parts, primitive_here}
+use Rattle.jr_parse_expr.proofs.Asked.{Found, ReadsExprs, Operand, depth_pos}
 use Rattle.jr_parse_expr.proofs.Arguments.{whole_read}
 
 not_primitive : (token : Kind) → begins_operand token ≡ true → primitive_kind token ≡ None
@@ -38,6 +38,10 @@ not_primitive (kind.Word k.Int) h = absurd (cc)
 not_primitive (kind.Word k.Long) h = absurd (cc)
 not_primitive token h = refl
 
+abbrev past_one : List Kind → List Kind
+past_one [] = []
+past_one (token ∷ ts) = ts
+
 -- a cast to a name takes no sign (JLS 15.16)
 begun_unsigned : (e : x.Expr) (rest : List Kind) → next_is begins_cast_operand (first (write_expr e rest)) ≡ true → IsShapedExpr e → 12 ≤ level e → is_signed e ≡ false
 begun_unsigned (x.Unary y.Plus value) rest h s t = absurd (cc)
@@ -48,14 +52,43 @@ begun_unsigned (x.PreStep y.MinusMinus value) rest h s t = absurd (cc)
 begun_unsigned (x.PreStep _ value) rest h s t = absurd (let g = s.0 in cc)
 begun_unsigned e rest h s t = refl
 
--- what is a name is written as one
-name_written_only : (e : x.Expr) → is_name e ≡ true → (n : Name) × (e ≡ x.NameExpr n)
-name_written_only (x.NameExpr n) h = (n, refl)
-name_written_only e h = absurd (cc)
+not_named : (b : Base) (p : Primitive) (ts us : List Kind) → IsBase b → primitive_at ts ≡ Some p → ts ≡ write_base b us → is_named b ≡ false
+not_named (base.Primitive q) p ts us is g e = refl
+not_named (base.Named n) p ts us is g e = absurd (none_some (sym (base_named n.parts us is) ∙ sym (ap primitive_at e) ∙ g)) where
+  none_some : {A : Type 0} {a : A} → None ≡ Some a → ⊥
+  none_some e = cc
 
-name_parts : (all : List Text) → not (is_empty all) ≡ true → (head : Text) × (more : List Text) × (all ≡ head ∷ more)
-name_parts [] h = absurd (cc)
-name_parts (head ∷ more) h = (head, more, refl)
+abbrev is_identifier : List Kind → Bool
+is_identifier (kind.Ident name ∷ ts) = true
+is_identifier _ = false
+
+all_begins : (all : List Text) (ts : List Kind) → not (is_empty all) ≡ true → is_identifier (write_all all ts) ≡ true
+all_begins [] ts some = absurd (cc)
+all_begins (head ∷ all) ts some = refl
+
+-- what begins with no identifier is no name
+name_begins_only : (e : x.Expr) (token : Kind) (ts rest : List Kind) → is_identifier (token ∷ ts) ≡ false → IsShapedExpr e → token ∷ ts ≡ write_expr e rest → is_name e ≡ false
+name_begins_only (x.NameExpr n) token ts rest h s e = absurd (true≢false (sym (all_begins n.parts rest s) ∙ sym (ap is_identifier e) ∙ h))
+name_begins_only e token ts rest h s same = refl
+
+-- whether a name is closed at once
+abbrev is_close : Dotted → List Kind → Bool
+is_close (Plain before last) ts = is_at y.CloseParen ts
+is_close (Enclosing before last) ts = false
+
+all_next : (all : List Text) (head : Text) (us vs rest : List Kind) (d : Dotted) → not (is_empty all) ≡ true → kind.Ident head ∷ us ≡ write_all all (kind.Sym y.CloseParen ∷ rest) → dotted true [] head us ≡ Ok (d, vs)
+    → is_close d vs ≡ true
+all_next [] head us vs rest d some e h = absurd (cc)
+all_next (first_part ∷ all) head us vs rest d some e h =
+    let same_head : head ≡ first_part = cc in
+    let same : us ≡ write_parts all (kind.Sym y.CloseParen ∷ rest) = cc in
+    let read = dotted_name true [] head all (kind.Sym y.CloseParen ∷ rest) refl in
+    ap (λ (p : Dotted × List Kind). is_close p.0 p.1) (sym (ok_is (sym read.read ∙ ap (dotted true [] head) (sym same) ∙ h)))
+
+named_next : (e : x.Expr) (head : Text) (us vs rest : List Kind) (d : Dotted) → IsShapedExpr e → kind.Ident head ∷ us ≡ write_expr e (kind.Sym y.CloseParen ∷ rest) → dotted true [] head us ≡ Ok (d, vs)
+    → is_name e ≡ true → is_close d vs ≡ true
+named_next (x.NameExpr n) head us vs rest d s e h named = all_next n.parts head us vs rest d s e h
+named_next e head us vs rest d s same h named = absurd (cc)
 
 module _ (room : ℕ) (inner : Lead → ℕ → Parser x.Expr) (list : Parser x.InitList) (reads : ReadsExprs room inner) where
   -- ---- casts
@@ -125,7 +158,7 @@ module _ (room : ℕ) (inner : Lead → ℕ → Parser x.Expr) (list : Parser x.
 
   -- a name is all that is read of one
   name_alone : (e : x.Expr) (before : List Text) (last : Text) (ts vs rest : List Kind) → 1 ≤ room → ts ≡ write_all (before ++ last ∷ []) (kind.Sym y.CloseParen ∷ vs)
-      → inner Nothing 0 ts ≡ Ok (e, kind.Sym y.CloseParen ∷ rest) → (x.NameExpr (name_of (before ++ last ∷ [])), kind.Sym y.CloseParen ∷ vs) ≡ (e, kind.Sym y.CloseParen ∷ rest)
+      → inner Nothing 0 ts ≡ Ok (e, kind.Sym y.CloseParen ∷ rest) → ◌≡◌ {A = x.Expr × List Kind} (x.NameExpr (name_of (before ++ last ∷ [])), kind.Sym y.CloseParen ∷ vs) (e, kind.Sym y.CloseParen ∷ rest)
   name_alone e before last ts vs rest some same h =
       let n = name_of (before ++ last ∷ []) in
       let is : IsExpr room 0 (x.NameExpr n) = record { shaped = has_parts before last; fits = (omega arith, refl); low = some } in
@@ -154,9 +187,9 @@ module _ (room : ℕ) (inner : Lead → ℕ → Parser x.Expr) (list : Parser x.
   plain_read before last ts (kind.Sym y.CloseParen ∷ vs) e rest some fine same g h =
       let alone = name_alone e before last ts vs rest some same g in
       let is_one : x.NameExpr (name_of (before ++ last ∷ [])) ≡ e = ap (λ (p : x.Expr × List Kind). p.0) alone in
-      let ends_same : vs ≡ rest = cc in
+      let ends_same : vs ≡ rest = ap (λ (p : x.Expr × List Kind). past_one p.1) alone in
       let free : next_is begins_cast_operand (first vs) ≡ false = subst (λ (ts : List Kind). next_is begins_cast_operand (first ts) ≡ false) (sym ends_same) (fine (ap is_name (sym is_one))) in
-      rw free (ap (λ (p : x.Expr × List Kind). Ok (x.Paren p.0, p.1)) (let both : (x.NameExpr (name_of (before ++ last ∷ [])), vs) ≡ (e, rest) = cc in both))
+      rw free (ap (λ (p : x.Expr × List Kind). Ok (x.Paren p.0, past_one p.1)) alone)
   plain_read before last ts (kind.Sym y.OpenBracket ∷ vs) e rest some fine same g h = behind_bracket_read before last vs e rest h
   plain_read before last ts (token ∷ vs) e rest some fine same g h = closing (inner (Named (Plain before last)) 0) (token ∷ vs) e rest h
 
@@ -222,13 +255,109 @@ module _ (room : ℕ) (inner : Lead → ℕ → Parser x.Expr) (list : Parser x.
       let pairs = dims_sound b.0.1 n.0 n.1 in
       let c = bind_ok (expect y.CloseParen n.0.1) _ r n.2 in
       let closed_at = expect_sound y.CloseParen n.0.1 c.0 c.1 in
-      let word = primitive_kind_back token p g in
-      cast_made b.0.0 n.0.0 (token ∷ ts) c.0.1 r found.is (inr (not_named b.0.0 p ts b.0.1 (ap (λ token. token ∷ ts) (sym word) ∙ found.written)))
-      (found.written ∙ ap (write_base b.0.0) (pairs.0 ∙ ap (write_brackets n.0.0) closed_at)) c.2 where
-    all_not_named : (all : List Text) (w : _) (ts us : List Kind) → not (is_empty all) ≡ true → kind.Word w ∷ ts ≡ write_all all us → ⊥
-    all_not_named [] w ts us some e = absurd (cc)
-    all_not_named (head ∷ all) w ts us some e = cc
+      cast_made b.0.0 n.0.0 (token ∷ ts) c.0.1 r found.is (inr (not_named b.0.0 p (token ∷ ts) b.0.1 found.is g found.written))
+      (found.written ∙ ap (write_base b.0.0) (pairs.0 ∙ ap (write_brackets n.0.0) closed_at)) c.2
 
-    not_named : (b : Base) (p : Primitive) (ts us : List Kind) → kind.Word (primitive_word p) ∷ ts ≡ write_base b us → is_named b ≡ false
-    not_named (base.Primitive q) p ts us e = refl
-    not_named (base.Named n) p ts us e = ?
+  paren_made : (ts : List Kind) (e : x.Expr) (rest : List Kind) → Found room 0 ts (e, kind.Sym y.CloseParen ∷ rest) → Fine e rest → Operand room (kind.Sym y.OpenParen ∷ ts) (x.Paren e, rest)
+  paren_made ts e rest found fine =
+      let low = found.is.low in
+      record {
+        shaped = (found.is.fits, found.is.shaped);
+        tight = omega arith;
+        not_least = refl;
+        low = omega arith;
+        written = ap (λ us. kind.Sym y.OpenParen ∷ us) found.written;
+        ended = unless (not (is_name e)) (next_is begins_cast_operand (first rest) ≡ false) (λ h. fine (not-false _ h));
+      }
+
+  record Closed (p : Parser x.Expr) (ts : List Kind) (r : x.Expr × List Kind) : Type 0 where
+    inside : x.Expr
+    rest : List Kind
+    read : p ts ≡ Ok (inside, kind.Sym y.CloseParen ∷ rest)
+    made : (x.Paren inside, rest) ≡ r
+
+  closed_sound : (p : Parser x.Expr) (ts : List Kind) (r : x.Expr × List Kind) → and_then (p ts) closed ≡ Ok r → Closed p ts r
+  closed_sound p ts r h =
+      let a = bind_ok (p ts) closed r h in
+      let b = bind_ok (expect y.CloseParen a.0.1) _ r a.2 in
+      record { inside = a.0.0; rest = b.0.1; read = a.1 ∙ ap (λ us. Ok (a.0.0, us)) (expect_sound y.CloseParen a.0.1 b.0 b.1); made = ok_is b.2 }
+
+  default_sound : (d : Dotted) (head : Text) (us vs : List Kind) (r : x.Expr × List Kind) → 1 ≤ room → dotted true [] head us ≡ Ok (d, vs) → is_close d vs ≡ false
+      → and_then (inner (Named d) 0 vs) closed ≡ Ok r → Operand room (kind.Sym y.OpenParen ∷ kind.Ident head ∷ us) r
+  default_sound d head us vs r some e open_at h =
+      let c = closed_sound (inner (Named d) 0) vs r h in
+      let read : inner Nothing 0 (kind.Ident head ∷ us) ≡ Ok (c.inside, kind.Sym y.CloseParen ∷ c.rest) =
+      reads.named 0 head us some ∙ ap (λ o. and_then o (λ d. inner (Named d) 0)) e ∙ c.read in
+      let found = reads.sound 0 (kind.Ident head ∷ us) (c.inside, kind.Sym y.CloseParen ∷ c.rest) (omega arith) read in
+      subst (Operand room (kind.Sym y.OpenParen ∷ kind.Ident head ∷ us)) c.made
+      (paren_made (kind.Ident head ∷ us) c.inside c.rest found
+      (λ named. absurd (true≢false (sym (named_next c.inside head us vs c.rest d found.is.shaped found.written e named) ∙ open_at))))
+
+  array_cast_sound : (n : Name) (ts vs : List Kind) (r : x.Expr × List Kind) → IsName n → ts ≡ write_name n (kind.Sym y.OpenBracket ∷ vs) → is_at y.CloseBracket vs ≡ true → skipping (array_cast room inner list n) vs ≡ Ok r
+      → Operand room (kind.Sym y.OpenParen ∷ ts) r
+  unfolding array_cast
+  array_cast_sound n ts [] r is same q h = absurd (cc)
+  array_cast_sound n ts (token ∷ vs) r is same q h =
+      let m = bind_ok (dims vs) _ r h in
+      let pairs = dims_sound vs m.0 m.1 in
+      let c = bind_ok (expect y.CloseParen m.0.1) _ r m.2 in
+      let closed_at = expect_sound y.CloseParen m.0.1 c.0 c.1 in
+      elim (chosen (next_is begins_cast_operand (first c.0.1)) _ _ _ c.2) [
+        | inl t ↦
+            cast_made (base.Named n) (suc m.0.0) ts c.0.1 r is (inl t.0)
+            (same ∙ ap (λ token. write_name n (kind.Sym y.OpenBracket ∷ token ∷ vs)) (is_symbol_is y.CloseBracket token q)
+            ∙ ap (λ us. write_name n (kind.Sym y.OpenBracket ∷ kind.Sym y.CloseBracket ∷ us)) (pairs.0 ∙ ap (write_brackets m.0.0) closed_at)) t.1
+        | inr t ↦ absurd (err_ok t.1)
+      ]
+
+  plain_sound : (before : List Text) (last head : Text) (us vs : List Kind) (r : x.Expr × List Kind) → 1 ≤ room → dotted true [] head us ≡ Ok (Plain before last, vs)
+      → kind.Ident head ∷ us ≡ write_all (before ++ last ∷ []) vs → dotted_in_parens room inner list (Plain before last) vs ≡ Ok r → Operand room (kind.Sym y.OpenParen ∷ kind.Ident head ∷ us) r
+  unfolding dotted_in_parens name_in_parens bracket_in_parens
+  plain_sound before last head us [] r some e same h = default_sound (Plain before last) head us [] r some e refl h
+  plain_sound before last head us (kind.Sym y.CloseParen ∷ vs) r some e same h =
+      elim (chosen (next_is begins_cast_operand (first vs)) _ _ _ h) [
+        | inl t ↦ cast_made (base.Named (name_of (before ++ last ∷ []))) 0 (kind.Ident head ∷ us) vs r (has_parts before last) (inl t.0) same t.1
+        | inr t ↦
+            subst (Operand room (kind.Sym y.OpenParen ∷ kind.Ident head ∷ us)) (ok_is t.1)
+            (record {
+              shaped = ((omega arith, refl), has_parts before last);
+              tight = omega arith;
+              not_least = refl;
+              low = omega arith;
+              written = ap (λ us. kind.Sym y.OpenParen ∷ us) same;
+              ended = t.0;
+            })
+      ]
+  plain_sound before last head us (kind.Sym y.OpenBracket ∷ vs) r some e same h =
+      elim (chosen (is_at y.CloseBracket vs) _ _ _ h) [
+        | inl t ↦ array_cast_sound (name_of (before ++ last ∷ [])) (kind.Ident head ∷ us) vs r (has_parts before last) same t.0 t.1
+        | inr t ↦
+            (let c = closed_sound (inner (Indexed (name_of (before ++ last ∷ []))) 0) vs r t.1 in
+            let out = reads.out_of_bracket 0 before last vs _ c.read in
+            default_sound (Plain before last) head us (kind.Sym y.OpenBracket ∷ vs) r some e refl (closing (inner (Named (Plain before last)) 0) (kind.Sym y.OpenBracket ∷ vs) c.inside c.rest out ∙ ap Ok c.made))
+      ]
+  plain_sound before last head us (token ∷ vs) r some e same h = default_sound (Plain before last) head us (token ∷ vs) r some e refl h
+
+  dotted_in_sound : (d : Dotted) (head : Text) (us vs : List Kind) (r : x.Expr × List Kind) → 1 ≤ room → dotted true [] head us ≡ Ok (d, vs)
+      → dotted_in_parens room inner list d vs ≡ Ok r → Operand room (kind.Sym y.OpenParen ∷ kind.Ident head ∷ us) r
+  unfolding dotted_in_parens
+  dotted_in_sound (Plain before last) head us vs r some e h = plain_sound before last head us vs r some e (dotted_sound true [] head us (Plain before last, vs) e).written h
+  dotted_in_sound (Enclosing before last) head us vs r some e h = default_sound (Enclosing before last) head us vs r some e refl h
+
+  by_sound : (o : Option Primitive) (token : Kind) (ts : List Kind) (r : x.Expr × List Kind) → 1 ≤ room → primitive_kind token ≡ o → in_parens_by room inner list o token (token ∷ ts) ≡ Ok r
+      → Operand room (kind.Sym y.OpenParen ∷ token ∷ ts) r
+  by_sound (Some p) token ts r some g h = primitive_sound token p ts r g h
+  by_sound None (kind.Ident head) ts r some g h =
+      let d = bind_ok (dotted true [] head ts) _ r h in
+      dotted_in_sound d.0.0 head ts d.0.1 r some d.1 d.2
+  by_sound None token ts r some g h =
+      let c = closed_sound (inner Nothing 0) (token ∷ ts) r h in
+      let found = reads.sound 0 (token ∷ ts) (c.inside, kind.Sym y.CloseParen ∷ c.rest) (omega arith) c.read in
+      subst (Operand room (kind.Sym y.OpenParen ∷ token ∷ ts)) c.made
+      (paren_made (token ∷ ts) c.inside c.rest found
+      (λ named. absurd (true≢false (sym named ∙ name_begins_only c.inside token ts (kind.Sym y.CloseParen ∷ c.rest) refl found.is.shaped found.written))))
+
+  pub in_parens_sound : (ts : List Kind) (r : x.Expr × List Kind) → 1 ≤ room → in_parens room inner list ts ≡ Ok r → Operand room (kind.Sym y.OpenParen ∷ ts) r
+  unfolding in_parens
+  in_parens_sound [] r some h = absurd (err_ok h)
+  in_parens_sound (token ∷ ts) r some h = by_sound (primitive_kind token) token ts r some refl h

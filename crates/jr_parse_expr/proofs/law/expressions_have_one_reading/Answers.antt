@@ -7,6 +7,8 @@ use Rattle.jr_parse_expr.proofs.Loops.{keeps}
 use Rattle.jr_parse_expr.proofs.Steps.{takes_assignment}
 use Rattle.jr_parse_expr.proofs.Arguments.{sizes_sound}
 use Rattle.jr_parse_expr.proofs.Creations.{creation_sound}
+use Rattle.jr_parse_expr.proofs.Parentheses.{in_parens_sound}
+use Rattle.jr_parse_expr.proofs.Operands.{operand_sound}
 use Rattle.jr_parse_expr.proofs.law.expressions_have_one_reading.Goals as goal
 
 pub returns : goal.returns
