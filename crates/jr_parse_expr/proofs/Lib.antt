@@ -11,3 +11,7 @@ pub mod Arguments
 pub mod Creations
 pub mod Parentheses
 pub mod Operands
+pub mod Chains
+pub mod Climbs
+pub mod Initializers
+pub mod ExprReads

@@ -85,6 +85,10 @@ LastEnds _ o = ⊤
 abbrev pub Ends : ℕ → x.Expr → Option Kind → Type 0
 Ends least e o = LastEnds e o × IsOver least e o
 
+abbrev pub InitEnds : x.Init → Option Kind → Type 0
+InitEnds (x.Value value) o = Ends 0 value o
+InitEnds (x.Listed l) o = ⊤
+
 -- ---- what is read
 
 -- an expression from a level on, of at most so many levels

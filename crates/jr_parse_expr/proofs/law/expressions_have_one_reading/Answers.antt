@@ -9,6 +9,10 @@ use Rattle.jr_parse_expr.proofs.Arguments.{sizes_sound}
 use Rattle.jr_parse_expr.proofs.Creations.{creation_sound}
 use Rattle.jr_parse_expr.proofs.Parentheses.{in_parens_sound}
 use Rattle.jr_parse_expr.proofs.Operands.{operand_sound}
+use Rattle.jr_parse_expr.proofs.Chains.{suffixes_sound}
+use Rattle.jr_parse_expr.proofs.Climbs.{level_sound}
+use Rattle.jr_parse_expr.proofs.Initializers.{braces_sound}
+use Rattle.jr_parse_expr.proofs.ExprReads.{expr_sound}
 use Rattle.jr_parse_expr.proofs.law.expressions_have_one_reading.Goals as goal
 
 pub returns : goal.returns
