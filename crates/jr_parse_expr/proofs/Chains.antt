@@ -1,5 +1,6 @@
 -- Reading what stands behind an operand: dots, brackets, calls and steps.
 use Rattle.std.proofs.Common.{◌≡◌, ℕ, zero, suc, ◌<◌, ◌≤◌, max, Bool, true, false, not, List, [], ◌∷◌, Option, Some, None, Ok, refl, sym, ap, ◌∙◌, subst, inl, inr, arith}
+use Rattle.std.specs.Prelude.{⊤}
 use Rattle.std.proofs.lemmas.Bool.{not-true, not_from_false, lt-ltb, true≢false}
 use Rattle.jr_base.specs.declared.text.Text.{Text}
 use Rattle.jr_base.specs.declared.kind.Kind.{Kind}
@@ -20,7 +21,7 @@ use Rattle.jr_parse_expr.proofs.Loops.{stays, goes, keeps}
 use Rattle.jr_parse_expr.proofs.Steps.{Suffixed, Ended, Selects, Indexes, Steps, suffix_view, suffix_none, takes_dot, takes_bracket, takes_step}
 use Rattle.jr_parse_expr.proofs.Asked.{ReadsExprs, ReadsLists, Operand}
 use Rattle.jr_parse_expr.proofs.Arguments.{whole_read}
-use Rattle.jr_parse_expr.proofs.Operands.{call_read, access_read, call_sound, operand_read}
+use Rattle.jr_parse_expr.proofs.Operands.{call_read, access_read, call_sound, goes_on_from, operand_read}
 
 none_some : {A : Type 0} {a : A} → None ≡ Some a → ⊥
 none_some e = cc
@@ -101,41 +102,50 @@ module _ (room : ℕ) (inner : Lead → ℕ → Parser x.Expr) (list : Parser x.
     -- ---- what is written is read
 
 
+    -- from what stands in front, as head reads it
+    module _ (head : Parser x.Expr) (Allowed : x.Expr → Type 0) (tight : (e : x.Expr) → 13 ≤ level e → Allowed e)
+        (base : (e : x.Expr) (rest : List Kind) → IsShapedExpr e → 12 ≤ level e → is_least e ≡ false → expr_depth e ≤ suc room → LastEnds e (first rest) → goes_on_from e ≡ false → Allowed e
+        → head (write_expr e rest) ≡ Ok (e, rest)) where
+      pub chain_from : (e : x.Expr) (rest : List Kind) → IsShapedExpr e → 12 ≤ level e → is_least e ≡ false → expr_depth e ≤ suc room → LastEnds e (first rest) → Allowed e
+          → and_then (head (write_expr e rest)) (suffixes room inner list) ≡ suffixes room inner list e rest
+      chain_from (x.PostStep value y.PlusPlus) rest s t l low ended a =
+          let near : 13 ≤ level value = s.1.0 in
+          chain_from value (kind.Sym y.PlusPlus ∷ rest) s.2 (omega arith) (not-true _ s.1.1) (omega arith)
+          (last_ends value (Some (kind.Sym y.PlusPlus)) s.2 refl near (λ n. refl) (λ n. refl)) (tight value (omega arith))
+          ∙ suffixes_go value (kind.Sym y.PlusPlus) rest _ (takes_step room inner list value y.PlusPlus near refl) (omega arith)
+      chain_from (x.PostStep value y.MinusMinus) rest s t l low ended a =
+          let near : 13 ≤ level value = s.1.0 in
+          chain_from value (kind.Sym y.MinusMinus ∷ rest) s.2 (omega arith) (not-true _ s.1.1) (omega arith)
+          (last_ends value (Some (kind.Sym y.MinusMinus)) s.2 refl near (λ n. refl) (λ n. refl)) (tight value (omega arith))
+          ∙ suffixes_go value (kind.Sym y.MinusMinus) rest _ (takes_step room inner list value y.MinusMinus near refl) (omega arith)
+      chain_from (x.PostStep value _) rest s t l low ended a = absurd (let h = s.0 in cc)
+      chain_from (x.Select object name) rest s t l low ended a =
+          let near : 14 ≤ level object = s.0.0.0 in
+          chain_from object (kind.Sym y.Dot ∷ kind.Ident name ∷ rest) s.1 (omega arith) (not-true _ s.0.0.1) (omega arith)
+          (last_ends object (Some (kind.Sym y.Dot)) s.1 refl near (λ n. absurd (true≢false (sym n ∙ not-true _ s.0.1))) (λ n. refl)) (tight object (omega arith))
+          ∙ suffixes_go object (kind.Sym y.Dot) (kind.Ident name ∷ rest) _ (takes_dot room inner list object near) (omega arith)
+          ∙ ap (λ o. and_then o (suffixes room inner list)) (access_read room inner list reads lists (x.a_receiver (x.Of object)) name (x.Select object name) rest ended)
+      chain_from (x.Index array at) rest s t l low ended a =
+          let near : 14 ≤ level array = s.0.0.0 in
+          let ts = write_expr at (kind.Sym y.CloseBracket ∷ rest) in
+          chain_from array (kind.Sym y.OpenBracket ∷ ts) s.1 (omega arith) (not-true _ s.0.0.1) (omega arith)
+          (last_ends array (Some (kind.Sym y.OpenBracket)) s.1 refl near (λ n. refl) (λ n. absurd (true≢false (sym n ∙ not-true _ s.0.1)))) (tight array (omega arith))
+          ∙ suffixes_go array (kind.Sym y.OpenBracket) ts _ (takes_bracket room inner list array near (not-true _ s.0.1)) (omega arith)
+          ∙ rw (whole_read room inner list reads at (kind.Sym y.CloseBracket ∷ rest) (record { shaped = s.3; fits = s.2; low = omega arith }) (record { cast = refl; none = refl })) refl
+      chain_from (x.Call (x.a_receiver (x.Of object)) name args) rest s t l low ended a =
+          let near : 14 ≤ level object = s.0.0.0.0 in
+          let ts = kind.Sym y.OpenParen ∷ write_exprs args (kind.Sym y.CloseParen ∷ rest) in
+          chain_from object (kind.Sym y.Dot ∷ kind.Ident name ∷ ts) s.0.1 (omega arith) (not-true _ s.0.0.0.1) (omega arith)
+          (last_ends object (Some (kind.Sym y.Dot)) s.0.1 refl near (λ n. absurd (true≢false (sym n ∙ not-true _ s.0.0.1))) (λ n. refl)) (tight object (omega arith))
+          ∙ suffixes_go object (kind.Sym y.Dot) (kind.Ident name ∷ ts) _ (takes_dot room inner list object near) (omega arith)
+          ∙ ap (λ o. and_then o (suffixes room inner list)) (call_read room inner list reads lists (x.a_receiver (x.Of object)) name (x.Select object name) args rest s.1 (omega arith))
+      chain_from e rest s t l low ended a =
+          ap (λ o. and_then o (suffixes room inner list)) (base e rest s t l low ended refl a)
+
     pub chain_read : (e : x.Expr) (rest : List Kind) → IsShapedExpr e → 12 ≤ level e → is_least e ≡ false → expr_depth e ≤ suc room → LastEnds e (first rest)
         → and_then (operand room inner list Nothing (write_expr e rest)) (suffixes room inner list) ≡ suffixes room inner list e rest
-    chain_read (x.PostStep value y.PlusPlus) rest s t l low ended =
-        let tight : 13 ≤ level value = s.1.0 in
-        chain_read value (kind.Sym y.PlusPlus ∷ rest) s.2 (omega arith) (not-true _ s.1.1) (omega arith)
-        (last_ends value (Some (kind.Sym y.PlusPlus)) s.2 refl tight (λ n. refl) (λ n. refl))
-        ∙ suffixes_go value (kind.Sym y.PlusPlus) rest _ (takes_step room inner list value y.PlusPlus tight refl) (omega arith)
-    chain_read (x.PostStep value y.MinusMinus) rest s t l low ended =
-        let tight : 13 ≤ level value = s.1.0 in
-        chain_read value (kind.Sym y.MinusMinus ∷ rest) s.2 (omega arith) (not-true _ s.1.1) (omega arith)
-        (last_ends value (Some (kind.Sym y.MinusMinus)) s.2 refl tight (λ n. refl) (λ n. refl))
-        ∙ suffixes_go value (kind.Sym y.MinusMinus) rest _ (takes_step room inner list value y.MinusMinus tight refl) (omega arith)
-    chain_read (x.PostStep value _) rest s t l low ended = absurd (let h = s.0 in cc)
-    chain_read (x.Select object name) rest s t l low ended =
-        let tight : 14 ≤ level object = s.0.0.0 in
-        chain_read object (kind.Sym y.Dot ∷ kind.Ident name ∷ rest) s.1 (omega arith) (not-true _ s.0.0.1) (omega arith)
-        (last_ends object (Some (kind.Sym y.Dot)) s.1 refl tight (λ n. absurd (true≢false (sym n ∙ not-true _ s.0.1))) (λ n. refl))
-        ∙ suffixes_go object (kind.Sym y.Dot) (kind.Ident name ∷ rest) _ (takes_dot room inner list object tight) (omega arith)
-        ∙ ap (λ o. and_then o (suffixes room inner list)) (access_read room inner list reads lists (x.a_receiver (x.Of object)) name (x.Select object name) rest ended)
-    chain_read (x.Index array at) rest s t l low ended =
-        let tight : 14 ≤ level array = s.0.0.0 in
-        let ts = write_expr at (kind.Sym y.CloseBracket ∷ rest) in
-        chain_read array (kind.Sym y.OpenBracket ∷ ts) s.1 (omega arith) (not-true _ s.0.0.1) (omega arith)
-        (last_ends array (Some (kind.Sym y.OpenBracket)) s.1 refl tight (λ n. refl) (λ n. absurd (true≢false (sym n ∙ not-true _ s.0.1))))
-        ∙ suffixes_go array (kind.Sym y.OpenBracket) ts _ (takes_bracket room inner list array tight (not-true _ s.0.1)) (omega arith)
-        ∙ rw (whole_read room inner list reads at (kind.Sym y.CloseBracket ∷ rest) (record { shaped = s.3; fits = s.2; low = omega arith }) (record { cast = refl; none = refl })) refl
-    chain_read (x.Call (x.a_receiver (x.Of object)) name args) rest s t l low ended =
-        let tight : 14 ≤ level object = s.0.0.0.0 in
-        let ts = kind.Sym y.OpenParen ∷ write_exprs args (kind.Sym y.CloseParen ∷ rest) in
-        chain_read object (kind.Sym y.Dot ∷ kind.Ident name ∷ ts) s.0.1 (omega arith) (not-true _ s.0.0.0.1) (omega arith)
-        (last_ends object (Some (kind.Sym y.Dot)) s.0.1 refl tight (λ n. absurd (true≢false (sym n ∙ not-true _ s.0.0.1))) (λ n. refl))
-        ∙ suffixes_go object (kind.Sym y.Dot) (kind.Ident name ∷ ts) _ (takes_dot room inner list object tight) (omega arith)
-        ∙ ap (λ o. and_then o (suffixes room inner list)) (call_read room inner list reads lists (x.a_receiver (x.Of object)) name (x.Select object name) args rest s.1 (omega arith))
     chain_read e rest s t l low ended =
-        ap (λ o. and_then o (suffixes room inner list)) (operand_read room inner list reads lists e rest s t l low ended refl)
+        chain_from (operand room inner list Nothing) (λ e. ⊤) (λ e h. tt) (λ e rest s t l low ended g a. operand_read room inner list reads lists e rest s t l low ended g) e rest s t l low ended tt
 
     -- ---- what is read is written
 

@@ -44,6 +44,14 @@ least_is : (e : x.Expr) → is_least e ≡ true → (token : Kind) × (e ≡ x.L
 least_is (x.Lit token) h = (token, refl, h)
 least_is e h = absurd (cc)
 
+-- what begins with a part of its own kind, to which it goes on
+abbrev pub goes_on_from : x.Expr → Bool
+goes_on_from (x.PostStep value op) = true
+goes_on_from (x.Select object name) = true
+goes_on_from (x.Index array at) = true
+goes_on_from (x.Call (x.a_receiver (x.Of object)) name args) = true
+goes_on_from _ = false
+
 module _ (room : ℕ) (inner : Lead → ℕ → Parser x.Expr) (list : Parser x.InitList) (reads : ReadsExprs room inner) (lists : ReadsLists room list) where
   -- ---- a call, or what stands there without one
 
@@ -187,14 +195,6 @@ module _ (room : ℕ) (inner : Lead → ℕ → Parser x.Expr) (list : Parser x.
   super_call_read method args rest s low = call_read (x.a_receiver x.Super) method (x.SuperSelect method) args rest s low
 
   -- ---- what is written with no part in front is read
-
-  -- what begins with a part of its own kind, to which it goes on
-  abbrev pub goes_on_from : x.Expr → Bool
-  goes_on_from (x.PostStep value op) = true
-  goes_on_from (x.Select object name) = true
-  goes_on_from (x.Index array at) = true
-  goes_on_from (x.Call (x.a_receiver (x.Of object)) name args) = true
-  goes_on_from _ = false
 
   new_is : (ts : List Kind) → operand room inner list Nothing (kind.Word k.New ∷ ts) ≡ creation room inner list ts
   unfolding operand

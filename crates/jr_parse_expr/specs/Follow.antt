@@ -9,7 +9,7 @@ use Rattle.jr_tree.specs.declared.tree.Name.{Name}
 use Rattle.jr_tree.specs.declared.tree.TypeUse.{TypeUse}
 use Rattle.jr_tree.specs.Mirror.Exprs as x
 use Rattle.jr_tree.specs.Levels.{binary_level, is_assignment, is_step}
-use Rattle.jr_tree.specs.Shape.{level, is_target, is_least, is_name, is_named, is_new_array, IsName, Fits, IsShapedExpr}
+use Rattle.jr_tree.specs.Shape.{level, is_target, is_least, is_name, is_named, is_new_array, IsName, Fits, IsShapedExpr, IsStatementExpr}
 use Rattle.jr_tree.specs.Depth.{expr_depth}
 use Rattle.jr_parse_laws.specs.Parsers.{first, begins_with, symbol_of}
 use Rattle.jr_parse_expr.specs.Starts.{begins_cast_operand, next_is}
@@ -85,6 +85,10 @@ LastEnds _ o = ⊤
 abbrev pub Ends : ℕ → x.Expr → Option Kind → Type 0
 Ends least e o = LastEnds e o × IsOver least e o
 
+-- an expression that stands as a statement ends before o
+abbrev pub EffectEnds : x.Expr → Option Kind → Type 0
+EffectEnds e o = LastEnds e o × (has_suffix e (symbol_next o) ≡ false)
+
 abbrev pub InitEnds : x.Init → Option Kind → Type 0
 InitEnds (x.Value value) o = Ends 0 value o
 InitEnds (x.Listed l) o = ⊤
@@ -95,6 +99,11 @@ InitEnds (x.Listed l) o = ⊤
 pub record IsExpr (room least : ℕ) (e : x.Expr) : Type 0 where
   pub shaped : IsShapedExpr e
   pub fits : Fits least e
+  pub low : expr_depth e ≤ room
+
+-- an expression that stands as a statement, of at most so many levels
+pub record IsEffect (room : ℕ) (e : x.Expr) : Type 0 where
+  pub is : IsStatementExpr e
   pub low : expr_depth e ≤ room
 
 -- what the caller has read is all of the name that stands there
