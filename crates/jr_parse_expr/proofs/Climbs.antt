@@ -62,7 +62,7 @@ binary_no_cast y.Not h = absurd (omega arith)
 binary_no_cast y.Tilde h = absurd (omega arith)
 binary_no_cast op h = refl
 
-assignment_needs : (op : Symbol) → is_assignment op ≡ true → needs (Some (kind.Sym op)) ≡ 14
+pub assignment_needs : (op : Symbol) → is_assignment op ≡ true → needs (Some (kind.Sym op)) ≡ 14
 assignment_needs y.Question h = absurd (cc)
 assignment_needs y.Dot h = absurd (cc)
 assignment_needs y.OpenBracket h = absurd (cc)
@@ -70,21 +70,21 @@ assignment_needs y.PlusPlus h = absurd (cc)
 assignment_needs y.MinusMinus h = absurd (cc)
 assignment_needs op h = ap (λ b. cond b 14 (binary_level op)) h
 
-assignment_no_cast : (op : Symbol) → is_assignment op ≡ true → next_is begins_cast_operand (Some (kind.Sym op)) ≡ false
+pub assignment_no_cast : (op : Symbol) → is_assignment op ≡ true → next_is begins_cast_operand (Some (kind.Sym op)) ≡ false
 assignment_no_cast y.OpenParen h = absurd (cc)
 assignment_no_cast y.Not h = absurd (cc)
 assignment_no_cast y.Tilde h = absurd (cc)
 assignment_no_cast op h = refl
 
-assignment_no_dot : (op : Symbol) → is_assignment op ≡ true → begins_with y.Dot (Some (kind.Sym op)) ≡ false
+pub assignment_no_dot : (op : Symbol) → is_assignment op ≡ true → begins_with y.Dot (Some (kind.Sym op)) ≡ false
 assignment_no_dot y.Dot h = absurd (cc)
 assignment_no_dot op h = refl
 
-assignment_no_bracket : (op : Symbol) → is_assignment op ≡ true → begins_with y.OpenBracket (Some (kind.Sym op)) ≡ false
+pub assignment_no_bracket : (op : Symbol) → is_assignment op ≡ true → begins_with y.OpenBracket (Some (kind.Sym op)) ≡ false
 assignment_no_bracket y.OpenBracket h = absurd (cc)
 assignment_no_bracket op h = refl
 
-assignment_free : (e : x.Expr) (op : Symbol) → is_assignment op ≡ true → has_suffix e (Some op) ≡ false
+pub assignment_free : (e : x.Expr) (op : Symbol) → is_assignment op ≡ true → has_suffix e (Some op) ≡ false
 assignment_free e y.Dot h = absurd (cc)
 assignment_free e y.OpenBracket h = absurd (cc)
 assignment_free e y.PlusPlus h = absurd (cc)

@@ -121,7 +121,7 @@ all_read (suc room) =
 -- ---- what was read before
 
 -- the name is read whole
-dotted_whole : (d : Dotted) (ts : List Kind) → IsLed (Named d) (first ts) → (head : Text) × (us : List Kind) × (write_dotted d ts ≡ kind.Ident head ∷ us) × (dotted true [] head us ≡ Ok (d, ts))
+pub dotted_whole : (d : Dotted) (ts : List Kind) → IsLed (Named d) (first ts) → (head : Text) × (us : List Kind) × (write_dotted d ts ≡ kind.Ident head ∷ us) × (dotted true [] head us ≡ Ok (d, ts))
 dotted_whole (Plain [] last) ts led = (last, ts, refl, dotted_end true [] last ts led)
 dotted_whole (Plain (head ∷ before) last) ts led =
     (head, write_parts before (kind.Sym y.Dot ∷ kind.Ident last ∷ ts), ap (λ us. kind.Ident head ∷ us) (parts_append before (last ∷ []) ts),

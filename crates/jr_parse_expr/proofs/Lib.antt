@@ -15,3 +15,5 @@ pub mod Chains
 pub mod Climbs
 pub mod Initializers
 pub mod ExprReads
+pub mod Effects
+pub mod Readings

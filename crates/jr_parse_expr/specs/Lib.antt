@@ -4,3 +4,4 @@ pub mod Exprs
 pub mod Views
 pub mod Writing
 pub mod Follow
+pub mod Laws

@@ -1,11 +1,15 @@
 // The laws of reading expressions.
-ghost use Rattle.std.specs.Prelude.{◌≡◌, List, ◌++◌};
-ghost use Rattle.jr_base.specs.declared.kind.Kind.{Kind};
-ghost use Rattle.jr_tree.specs.Mirror.Exprs as x;
-ghost use Rattle.jr_tree.specs.Tokens.{expr_tokens};
-ghost use Rattle.jr_parse_expr.specs.Writing.{write_expr};
+ghost use Rattle.jr_parse_expr.specs.Laws.{IsWritten, IsExprComplete, IsExprSound, IsEffectComplete, IsEffectSound, IsInitComplete, IsInitSound, HasOneReading};
 
-/// Reading an expression answers exactly the one tree that is written so (JLS 15).
+/// Reading an expression, one that stands as a statement, or an initializer answers exactly the tree that is written so, and ends where it does not go on
+/// (JLS 15, 14.8, 10.6). So an expression has one reading.
 pub fn expressions_have_one_reading()
-    ensures written { (e : x.Expr) (rest : List Kind) → write_expr e rest ≡ expr_tokens e ++ rest }
+    ensures written { IsWritten }
+    ensures complete { IsExprComplete }
+    ensures sound { IsExprSound }
+    ensures effects_complete { IsEffectComplete }
+    ensures effects_sound { IsEffectSound }
+    ensures inits_complete { IsInitComplete }
+    ensures inits_sound { IsInitSound }
+    ensures one_reading { HasOneReading }
 {}

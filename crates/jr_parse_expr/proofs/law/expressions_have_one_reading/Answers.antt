@@ -1,19 +1,28 @@
 use Rattle.jr_parse_expr.proofs.Written.{written}
-use Rattle.jr_parse_expr.proofs.Beginnings.{begins_any}
-use Rattle.jr_parse_expr.proofs.Followers.{ends_before}
-use Rattle.jr_parse_expr.proofs.Repeats.{many_sound}
-use Rattle.jr_parse_expr.proofs.NameReads.{type_sound}
-use Rattle.jr_parse_expr.proofs.Loops.{keeps}
-use Rattle.jr_parse_expr.proofs.Steps.{takes_assignment}
-use Rattle.jr_parse_expr.proofs.Arguments.{sizes_sound}
-use Rattle.jr_parse_expr.proofs.Creations.{creation_sound}
-use Rattle.jr_parse_expr.proofs.Parentheses.{in_parens_sound}
-use Rattle.jr_parse_expr.proofs.Operands.{operand_sound}
-use Rattle.jr_parse_expr.proofs.Chains.{suffixes_sound}
-use Rattle.jr_parse_expr.proofs.Climbs.{level_sound}
-use Rattle.jr_parse_expr.proofs.Initializers.{braces_sound}
-use Rattle.jr_parse_expr.proofs.ExprReads.{expr_sound}
+use Rattle.jr_parse_expr.proofs.Effects.{effect_complete, effect_sound}
+use Rattle.jr_parse_expr.proofs.Readings.{exprs_complete, exprs_sound, inits_complete, inits_sound, one_reading}
 use Rattle.jr_parse_expr.proofs.law.expressions_have_one_reading.Goals as goal
 
-pub returns : goal.returns
-returns c = record { written = written }
+pub returns-clause-written : goal.returns-clause-written
+returns-clause-written c = written
+
+pub returns-clause-complete : goal.returns-clause-complete
+returns-clause-complete c = exprs_complete
+
+pub returns-clause-sound : goal.returns-clause-sound
+returns-clause-sound c = exprs_sound
+
+pub returns-clause-effects_complete : goal.returns-clause-effects_complete
+returns-clause-effects_complete c = effect_complete
+
+pub returns-clause-effects_sound : goal.returns-clause-effects_sound
+returns-clause-effects_sound c = effect_sound
+
+pub returns-clause-inits_complete : goal.returns-clause-inits_complete
+returns-clause-inits_complete c = inits_complete
+
+pub returns-clause-inits_sound : goal.returns-clause-inits_sound
+returns-clause-inits_sound c = inits_sound
+
+pub returns-clause-one_reading : goal.returns-clause-one_reading
+returns-clause-one_reading c = one_reading
