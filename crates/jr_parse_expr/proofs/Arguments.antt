@@ -1,11 +1,11 @@
 -- Reading arguments and sizes is exact in both directions.
-use Rattle.std.proofs.Common.{◌≡◌, ℕ, zero, suc, ◌<◌, ◌≤◌, max, Bool, true, false, List, [], ◌∷◌, length, Option, Some, None, Ok, refl, sym, ap, ◌∙◌, subst, inl, inr, arith}
+use Rattle.std.proofs.Common.{◌≡◌, ℕ, zero, suc, ◌≤◌, true, false, List, [], ◌∷◌, length, Ok, refl, sym, ap, ◌∙◌, subst, inl, inr, arith}
 use Rattle.std.proofs.lemmas.Bool.{not-true}
 use Rattle.jr_base.specs.declared.kind.Kind.{Kind}
 use Rattle.jr_base.specs.declared.kind.Kind.TheVariants as kind
 use Rattle.jr_base.specs.declared.kind.Symbol.TheVariants as y
-use Rattle.jr_tree.specs.Shape.{level, is_least, IsShapedExpr, AreShapedExprs}
-use Rattle.jr_tree.specs.Depth.{expr_depth, exprs_depth}
+use Rattle.jr_tree.specs.Shape.{AreShapedExprs}
+use Rattle.jr_tree.specs.Depth.{exprs_depth}
 use Rattle.jr_tree.specs.Mirror.Exprs as x
 use Rattle.jr_parse_laws.specs.Parsers.{Parser, first, is_at, is_symbol, begins_with, expect, many, after_comma, commas, pure, ◌>>=◌}
 use Rattle.jr_parse_laws.proofs.Outcomes.{bind_ok, chosen, ok_is, is_symbol_is}

@@ -1,17 +1,16 @@
 -- What the readers of a tree ask of the readers of its parts, and what follows from it.
-use Rattle.std.proofs.Common.{◌≡◌, ℕ, suc, ◌<◌, ◌≤◌, Bool, true, false, List, [], ◌∷◌, ◌++◌, length, Option, Some, None, Ok, refl, sym, ap, ◌∙◌, subst, inl, inr, arith}
-use Rattle.std.proofs.lemmas.Bool.{cases_Bool, not_from_false, not-true}
+use Rattle.std.proofs.Common.{◌≡◌, ℕ, suc, ◌<◌, ◌≤◌, true, false, List, [], ◌∷◌, ◌++◌, length, Ok, refl, ap, arith}
+use Rattle.std.proofs.lemmas.Bool.{not-true}
 use Rattle.jr_base.specs.declared.text.Text.{Text}
 use Rattle.jr_base.specs.declared.kind.Kind.{Kind}
 use Rattle.jr_base.specs.declared.kind.Kind.TheVariants as kind
 use Rattle.jr_base.specs.declared.kind.Symbol.{Symbol}
 use Rattle.jr_base.specs.declared.kind.Symbol.TheVariants as y
-use Rattle.jr_base.specs.declared.kind.Keyword.TheVariants as k
 use Rattle.jr_tree.specs.declared.tree.Name.{Name}
-use Rattle.jr_tree.specs.Shape.{level, is_least, IsShapedExpr, IsShapedList, AreShapedExprs}
-use Rattle.jr_tree.specs.Depth.{expr_depth, list_depth, exprs_depth}
+use Rattle.jr_tree.specs.Shape.{level, is_least, IsShapedExpr, IsShapedList}
+use Rattle.jr_tree.specs.Depth.{expr_depth, list_depth}
 use Rattle.jr_tree.specs.Mirror.Exprs as x
-use Rattle.jr_parse_laws.specs.Parsers.{Parser, and_then, first, is_at, is_symbol}
+use Rattle.jr_parse_laws.specs.Parsers.{Parser, and_then, first, is_at}
 use Rattle.jr_parse_laws.proofs.Outcomes.{is_symbol_is}
 use Rattle.jr_parse_laws.proofs.Turns.{Keeps}
 use Rattle.jr_parse_expr.specs.Starts.{starts_expr}

@@ -1,6 +1,6 @@
 -- What the first token of an expression is.
-use Rattle.std.proofs.Common.{◌≡◌, ℕ, ◌≤◌, Bool, true, false, not, ◌||◌, List, [], ◌∷◌, Option, Some, None, refl, sym, ap, ◌∙◌, arith}
-use Rattle.std.proofs.lemmas.Bool.{or_left, or_right, not-true}
+use Rattle.std.proofs.Common.{◌≡◌, ◌≤◌, true, false, not, List, [], ◌∷◌, Option, Some, None, refl, arith}
+use Rattle.std.proofs.lemmas.Bool.{or_right, not-true}
 use Rattle.jr_base.specs.declared.text.Text.{Text}
 use Rattle.jr_base.specs.declared.kind.Kind.{Kind}
 use Rattle.jr_base.specs.declared.kind.Kind.TheVariants as kind
@@ -10,7 +10,7 @@ use Rattle.jr_tree.specs.Levels.{binary_level, is_literal, is_least_kind}
 use Rattle.jr_tree.specs.Shape.{is_empty, level, is_target, is_least, is_signed, IsShapedExpr}
 use Rattle.jr_tree.specs.Mirror.Exprs as x
 use Rattle.jr_parse_laws.specs.Parsers.{first}
-use Rattle.jr_parse_expr.specs.Starts.{is_plain_literal, begins_primary, begins_cast_operand, begins_operand, next_is, starts_expr}
+use Rattle.jr_parse_expr.specs.Starts.{begins_primary, begins_cast_operand, begins_operand, next_is, starts_expr}
 use Rattle.jr_parse_expr.specs.Writing.{write_all, write_expr}
 
 pub binary_low : (op : Symbol) → binary_level op ≤ 11

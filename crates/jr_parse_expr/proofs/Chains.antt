@@ -1,5 +1,5 @@
 -- Reading what stands behind an operand: dots, brackets, calls and steps.
-use Rattle.std.proofs.Common.{◌≡◌, ℕ, zero, suc, ◌<◌, ◌≤◌, max, Bool, true, false, not, List, [], ◌∷◌, Option, Some, None, Ok, refl, sym, ap, ◌∙◌, subst, inl, inr, arith}
+use Rattle.std.proofs.Common.{◌≡◌, ℕ, suc, ◌<◌, ◌≤◌, true, false, not, List, [], ◌∷◌, Option, Some, None, Ok, refl, sym, ap, ◌∙◌, subst, inl, inr, arith}
 use Rattle.std.specs.Prelude.{⊤}
 use Rattle.std.proofs.lemmas.Bool.{not-true, not_from_false, lt-ltb, true≢false}
 use Rattle.jr_base.specs.declared.text.Text.{Text}
@@ -100,7 +100,6 @@ module _ (room : ℕ) (inner : Lead → ℕ → Parser x.Expr) (list : Parser x.
 
   module _ (reads : ReadsExprs room inner) (lists : ReadsLists room list) where
     -- ---- what is written is read
-
 
     -- from what stands in front, as head reads it
     module _ (head : Parser x.Expr) (Allowed : x.Expr → Type 0) (tight : (e : x.Expr) → 13 ≤ level e → Allowed e)

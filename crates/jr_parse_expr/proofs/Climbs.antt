@@ -1,14 +1,13 @@
 -- Reading operators by how tightly they bind.
-use Rattle.std.proofs.Common.{◌≡◌, ℕ, zero, suc, ◌<◌, ◌≤◌, max, Bool, true, false, cond, List, [], ◌∷◌, Option, Some, None, Ok, refl, sym, ap, ◌∙◌, subst, inl, inr, arith}
-use Rattle.std.proofs.lemmas.Bool.{not-true, not_from_false, true≢false}
+use Rattle.std.proofs.Common.{◌≡◌, ℕ, suc, ◌<◌, ◌≤◌, true, false, cond, List, ◌∷◌, Option, Some, None, Ok, refl, sym, ap, ◌∙◌, subst, arith}
+use Rattle.std.proofs.lemmas.Bool.{not-true, not_from_false}
 use Rattle.jr_base.specs.declared.kind.Kind.{Kind}
 use Rattle.jr_base.specs.declared.kind.Kind.TheVariants as kind
 use Rattle.jr_base.specs.declared.kind.Symbol.{Symbol}
 use Rattle.jr_base.specs.declared.kind.Symbol.TheVariants as y
 use Rattle.jr_base.specs.declared.kind.Keyword.TheVariants as k
-use Rattle.jr_tree.specs.declared.tree.TypeUse.{TypeUse}
 use Rattle.jr_tree.specs.Levels.{binary_level, is_assignment}
-use Rattle.jr_tree.specs.Shape.{level, is_name, is_new_array, is_least, is_target, IsShapedExpr}
+use Rattle.jr_tree.specs.Shape.{level, is_target}
 use Rattle.jr_tree.specs.Depth.{expr_depth}
 use Rattle.jr_tree.specs.Mirror.Exprs as x
 use Rattle.jr_parse_laws.specs.Parsers.{Parser, Outcome, and_then, first, begins_with, expect}
@@ -24,7 +23,7 @@ use Rattle.jr_parse_expr.proofs.Followers.{needs, last_ends, suffix_free, dot_ne
 use Rattle.jr_parse_expr.proofs.NameReads.{type_read, type_sound}
 use Rattle.jr_parse_expr.proofs.Loops.{stays, goes, keeps}
 use Rattle.jr_parse_expr.proofs.Steps.{Operated, Over, Chooses, Computes, Assigns, Tests, operator_view, operator_none, takes_question, takes_test, takes_binary, takes_assignment}
-use Rattle.jr_parse_expr.proofs.Asked.{Found, ReadsExprs, ReadsLists, Operand}
+use Rattle.jr_parse_expr.proofs.Asked.{Found, ReadsExprs, ReadsLists}
 use Rattle.jr_parse_expr.proofs.Arguments.{whole_read}
 use Rattle.jr_parse_expr.proofs.Operands.{operand_sound}
 use Rattle.jr_parse_expr.proofs.Chains.{loose_free, suffixes_stay, chain_read, suffixes_sound}

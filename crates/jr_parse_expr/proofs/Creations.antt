@@ -1,5 +1,5 @@
 -- Reading creations is exact in both directions.
-use Rattle.std.proofs.Common.{◌≡◌, ℕ, zero, suc, ◌<◌, ◌≤◌, max, Bool, true, false, ltb, List, [], ◌∷◌, Option, Some, None, Ok, refl, sym, ap, ◌∙◌, subst, inl, inr, arith}
+use Rattle.std.proofs.Common.{◌≡◌, ℕ, zero, suc, ◌≤◌, true, false, ltb, List, [], ◌∷◌, Option, Some, None, Ok, refl, sym, ap, ◌∙◌, subst, inl, inr, arith}
 use Rattle.std.proofs.lemmas.Bool.{not-true, le-ltb, lt-ltb}
 use Rattle.jr_base.specs.declared.kind.Kind.{Kind}
 use Rattle.jr_base.specs.declared.kind.Kind.TheVariants as kind
@@ -16,7 +16,7 @@ use Rattle.jr_tree.specs.Mirror.Exprs as x
 use Rattle.jr_parse_laws.specs.Parsers.{Parser, first, is_at, begins_with, expect}
 use Rattle.jr_parse_laws.proofs.Outcomes.{bind_ok, chosen, ok_is, err_ok, is_symbol_is}
 use Rattle.jr_parse_laws.proofs.Exact.{expect_sound}
-use Rattle.jr_parse_expr.specs.Names.{primitive_kind, primitive_at, dims, name}
+use Rattle.jr_parse_expr.specs.Names.{primitive_at, dims, name}
 use Rattle.jr_parse_expr.specs.Exprs.{Lead, Nothing, next_token, arguments, sizes, sized, unsized, array, created_by, creation_by, creation}
 use Rattle.jr_parse_expr.specs.Writing.{write_name, write_brackets, write_base, write_expr, write_exprs, write_dims, write_any_list, write_list}
 use Rattle.jr_parse_expr.specs.Follow.{LastEnds, IsExpr}

@@ -1,6 +1,6 @@
 -- Reading an expression that stands as a statement is exact in both directions.
-use Rattle.std.proofs.Common.{◌≡◌, ℕ, zero, suc, ◌<◌, ◌≤◌, max, Bool, true, false, not, ◌&&◌, cond, ltb, List, [], ◌∷◌, ◌++◌, Option, Some, None, Ok, Err, refl, sym, ap, ◌∙◌, subst, ◌⊎◌, inl, inr, arith}
-use Rattle.std.proofs.lemmas.Bool.{cases_Bool, not-true, not_from_false, and_parts, and_right, le-ltb, ltb-false, true≢false}
+use Rattle.std.proofs.Common.{◌≡◌, ℕ, zero, suc, ◌≤◌, Bool, true, false, not, ◌&&◌, cond, ltb, List, [], ◌∷◌, ◌++◌, Option, Some, None, Ok, Err, refl, sym, ap, ◌∙◌, subst, inl, inr, arith}
+use Rattle.std.proofs.lemmas.Bool.{cases_Bool, and_parts, and_right, le-ltb, ltb-false, true≢false}
 use Rattle.jr_base.specs.declared.text.Text.{Text}
 use Rattle.jr_base.specs.declared.kind.Kind.{Kind}
 use Rattle.jr_base.specs.declared.kind.Kind.TheVariants as kind
@@ -16,11 +16,11 @@ use Rattle.jr_parse_laws.specs.declared.fault.Fault.TheVariants.{NoTree}
 use Rattle.jr_parse_laws.specs.Parsers.{Outcome, Parser, and_then, first, symbol_at, expect}
 use Rattle.jr_parse_laws.proofs.Outcomes.{bind_ok, chosen, ok_is, err_ok}
 use Rattle.jr_parse_laws.proofs.Exact.{expect_sound}
-use Rattle.jr_parse_expr.specs.Starts.{begins_cast_operand, next_is, starts_expr, no_level}
-use Rattle.jr_parse_expr.specs.Names.{name_of, Dotted, Plain, Enclosing, dotted}
-use Rattle.jr_parse_expr.specs.Exprs.{Lead, Nothing, Named, Indexed, This, Super, skipping, closed, assigned, after_dotted, after_bracket, prefix, operand, suffixes, effect_by, effect_operand, effect_end_by, effect_end, effects, expr, list, goes_on, effect}
+use Rattle.jr_parse_expr.specs.Starts.{begins_cast_operand, next_is, starts_expr}
+use Rattle.jr_parse_expr.specs.Names.{name_of, Dotted, Plain, dotted}
+use Rattle.jr_parse_expr.specs.Exprs.{Lead, Nothing, Named, Indexed, This, Super, skipping, closed, assigned, after_dotted, after_bracket, prefix, operand, suffixes, effect_operand, effect_end_by, effect_end, effects, expr, list, goes_on, effect}
 use Rattle.jr_parse_expr.specs.Writing.{write_all, write_dotted, write_lead, write_expr}
-use Rattle.jr_parse_expr.specs.Follow.{symbol_next, has_suffix, Unless, LastEnds, Ends, EffectEnds, IsEffect, IsLed}
+use Rattle.jr_parse_expr.specs.Follow.{symbol_next, has_suffix, LastEnds, EffectEnds, IsEffect, IsLed}
 use Rattle.jr_parse_expr.specs.Laws.{IsEffectRead}
 use Rattle.jr_parse_expr.proofs.Beginnings.{binary_low, target_tight, target_not_least}
 use Rattle.jr_parse_expr.proofs.Followers.{needs, last_ends, unless}
@@ -147,8 +147,8 @@ module _ (room : ℕ) (inner : Lead → ℕ → Parser x.Expr) (list : Parser x.
         let n : needs (Some (kind.Sym op)) ≡ 14 = assignment_needs op s.0 in
         rw (
           reaches target (kind.Sym op ∷ write_expr value rest) s.2 (omega arith) (target_not_least target s.1) (omega arith)
-          (last_ends target (Some (kind.Sym op)) s.2 (assignment_no_cast op s.0) (omega arith) (λ _. assignment_no_dot op s.0) (λ _. assignment_no_bracket op s.0))
-          (tight_front target (omega arith)) (assignment_free target op s.0),
+              (last_ends target (Some (kind.Sym op)) s.2 (assignment_no_cast op s.0) (omega arith) (λ _. assignment_no_dot op s.0) (λ _. assignment_no_bracket op s.0))
+              (tight_front target (omega arith)) (assignment_free target op s.0),
           s.0,
           s.1,
           le-ltb room (expr_depth target) (omega arith),

@@ -1,6 +1,5 @@
 -- Reading an expression is exact in both directions, at each number of levels and whatever of it was read before.
-use Rattle.std.proofs.Common.{◌≡◌, ℕ, zero, suc, ◌<◌, ◌≤◌, max, Bool, true, false, not, List, [], ◌∷◌, ◌++◌, Option, Some, None, Ok, Err, refl, sym, ap, ◌∙◌, subst, inl, inr, arith}
-use Rattle.std.proofs.lemmas.Bool.{not-true}
+use Rattle.std.proofs.Common.{◌≡◌, ℕ, zero, suc, ◌<◌, ◌≤◌, Bool, true, not, List, [], ◌∷◌, ◌++◌, Option, Ok, Err, refl, sym, ap, ◌∙◌, subst, inl, inr, arith}
 use Rattle.jr_base.specs.declared.text.Text.{Text}
 use Rattle.jr_base.specs.declared.kind.Kind.{Kind}
 use Rattle.jr_base.specs.declared.kind.Kind.TheVariants as kind
@@ -9,7 +8,7 @@ use Rattle.jr_base.specs.declared.kind.Keyword.TheVariants as k
 use Rattle.jr_tree.specs.declared.tree.Name.{Name}
 use Rattle.jr_tree.specs.Shape.{is_empty}
 use Rattle.jr_tree.specs.Mirror.Exprs as x
-use Rattle.jr_parse_laws.specs.Parsers.{Outcome, Parser, and_then, first, begins_with, expect}
+use Rattle.jr_parse_laws.specs.Parsers.{Outcome, Parser, and_then, first}
 use Rattle.jr_parse_laws.proofs.Outcomes.{bind_ok, chosen, err_ok}
 use Rattle.jr_parse_expr.specs.Starts.{starts_expr, starts_list, no_level}
 use Rattle.jr_parse_expr.specs.Names.{name_of, Dotted, Plain, Enclosing, dotted}
@@ -123,13 +122,19 @@ all_read (suc room) =
 -- the name is read whole
 pub dotted_whole : (d : Dotted) (ts : List Kind) → IsLed (Named d) (first ts) → (head : Text) × (us : List Kind) × (write_dotted d ts ≡ kind.Ident head ∷ us) × (dotted true [] head us ≡ Ok (d, ts))
 dotted_whole (Plain [] last) ts led = (last, ts, refl, dotted_end true [] last ts led)
-dotted_whole (Plain (head ∷ before) last) ts led =
-    (head, write_parts before (kind.Sym y.Dot ∷ kind.Ident last ∷ ts), ap (λ us. kind.Ident head ∷ us) (parts_append before (last ∷ []) ts),
-    dotted_method true [] head before last ts ∙ dotted_end true (head ∷ before) last ts led)
+dotted_whole (Plain (head ∷ before) last) ts led = (
+  head,
+  write_parts before (kind.Sym y.Dot ∷ kind.Ident last ∷ ts),
+  ap (λ us. kind.Ident head ∷ us) (parts_append before (last ∷ []) ts),
+  dotted_method true [] head before last ts ∙ dotted_end true (head ∷ before) last ts led,
+)
 dotted_whole (Enclosing [] last) ts led = (last, kind.Sym y.Dot ∷ kind.Word k.This ∷ ts, refl, dotted_at_dot true [] last (kind.Word k.This ∷ ts))
-dotted_whole (Enclosing (head ∷ before) last) ts led =
-    (head, write_parts before (kind.Sym y.Dot ∷ kind.Ident last ∷ kind.Sym y.Dot ∷ kind.Word k.This ∷ ts), ap (λ us. kind.Ident head ∷ us) (parts_append before (last ∷ []) (kind.Sym y.Dot ∷ kind.Word k.This ∷ ts)),
-    dotted_method true [] head before last (kind.Sym y.Dot ∷ kind.Word k.This ∷ ts) ∙ dotted_at_dot true (head ∷ before) last (kind.Word k.This ∷ ts))
+dotted_whole (Enclosing (head ∷ before) last) ts led = (
+  head,
+  write_parts before (kind.Sym y.Dot ∷ kind.Ident last ∷ kind.Sym y.Dot ∷ kind.Word k.This ∷ ts),
+  ap (λ us. kind.Ident head ∷ us) (parts_append before (last ∷ []) (kind.Sym y.Dot ∷ kind.Word k.This ∷ ts)),
+  dotted_method true [] head before last (kind.Sym y.Dot ∷ kind.Word k.This ∷ ts) ∙ dotted_at_dot true (head ∷ before) last (kind.Word k.This ∷ ts),
+)
 
 pub last_of : (all : List Text) → not (is_empty all) ≡ true → (before : List Text) × (last : Text) × (all ≡ before ++ last ∷ [])
 last_of [] some = absurd (cc)

@@ -1,5 +1,5 @@
 -- What may follow an expression, so that no part of it goes on.
-use Rattle.std.proofs.Common.{◌≡◌, ℕ, suc, ◌<◌, ◌≤◌, max, Bool, true, false, not, cond, ◌||◌, ◌&&◌, ltb, Option, Some, None, refl, sym, ap, ◌∙◌, ◌⊎◌, inl, inr, arith}
+use Rattle.std.proofs.Common.{◌≡◌, ℕ, suc, ◌<◌, ◌≤◌, max, Bool, true, false, not, cond, ◌||◌, ltb, Option, Some, None, refl, inl, inr, arith}
 use Rattle.std.proofs.lemmas.Bool.{cases_Bool, lt-ltb, ltb-false}
 use Rattle.jr_base.specs.declared.kind.Kind.{Kind}
 use Rattle.jr_base.specs.declared.kind.Kind.TheVariants as kind
@@ -11,8 +11,8 @@ use Rattle.jr_tree.specs.Shape.{level, is_least, is_name, is_new_array, IsShaped
 use Rattle.jr_tree.specs.Mirror.Exprs as x
 use Rattle.jr_parse_laws.specs.Parsers.{begins_with}
 use Rattle.jr_parse_expr.specs.Starts.{begins_cast_operand, next_is}
-use Rattle.jr_parse_expr.specs.Follow.{symbol_next, has_suffix, has_operator_by, has_operator, IsOver, Unless, DotFree, is_plain_name, TypeEnds, LastEnds, Ends}
-use Rattle.jr_parse_expr.proofs.Beginnings.{binary_low, target_tight, target_not_least}
+use Rattle.jr_parse_expr.specs.Follow.{symbol_next, has_suffix, has_operator_by, has_operator, IsOver, Unless, DotFree, is_plain_name, LastEnds, Ends}
+use Rattle.jr_parse_expr.proofs.Beginnings.{binary_low}
 
 -- how tightly what stands before the token must bind for the token to go on with it; 0 where it never does
 abbrev pub needs : Option Kind → ℕ
@@ -137,9 +137,10 @@ last_ends (x.Cond q a z) o s c n d b =
     (last_ends z o s.5 c (omega arith) (λ _. dot_needs o (omega arith)) (λ _. bracket_needs o (omega arith)), (suffix_free z o (omega arith), operator_free 1 z o (omega arith)))
 last_ends (x.Binary left op right) o s c n d b =
     let l : suc (binary_level op) ≤ level right = s.3.0 in
-    let low = binary_low op in
-    (last_ends right o s.4 c (omega arith) (λ _. dot_needs o (omega arith)) (λ _. bracket_needs o (omega arith)),
-    (suffix_free right o (omega arith), operator_free (suc (binary_level op)) right o (omega arith)))
+    let low = binary_low op in (
+      last_ends right o s.4 c (omega arith) (λ _. dot_needs o (omega arith)) (λ _. bracket_needs o (omega arith)),
+      (suffix_free right o (omega arith), operator_free (suc (binary_level op)) right o (omega arith)),
+    )
 last_ends (x.IsA value ty) o s c n d b = (bracket_needs o (omega arith), dot_free (is_plain_name ty) o (dot_needs o (omega arith)))
 last_ends (x.Unary op value) o s c n d b =
     let l : 12 ≤ level value = s.1 in

@@ -1,5 +1,5 @@
 -- Reading names and types is exact in both directions.
-use Rattle.std.proofs.Common.{◌≡◌, ℕ, zero, suc, ◌+◌, ◌<◌, ◌≤◌, Bool, true, false, not, ◌&&◌, ltb, List, [], ◌∷◌, ◌++◌, length, Option, Some, None, Ok, Err, refl, sym, ap, ◌∙◌, subst, append_assoc, le-ltb, arith}
+use Rattle.std.proofs.Common.{◌≡◌, ℕ, zero, suc, ◌+◌, ◌≤◌, Bool, true, false, not, ltb, List, [], ◌∷◌, ◌++◌, length, Option, Some, None, Ok, refl, sym, ap, ◌∙◌, subst, append_assoc, le-ltb, arith}
 use Rattle.jr_base.specs.declared.text.Text.{Text}
 use Rattle.jr_base.specs.declared.kind.Kind.{Kind}
 use Rattle.jr_base.specs.declared.kind.Kind.TheVariants as kind
@@ -14,16 +14,16 @@ use Rattle.jr_tree.specs.declared.tree.Base.TheVariants as base
 use Rattle.jr_tree.specs.declared.tree.TypeUse.{TypeUse}
 use Rattle.jr_tree.specs.Words.{primitive_word}
 use Rattle.jr_tree.specs.Shape.{is_empty, IsName, IsBase, IsTypeUse}
-use Rattle.jr_parse_laws.specs.Parsers.{Outcome, Parser, and_then, first, is_at, begins_with, expect, identifier, many, with_front, ◌>>◌}
+use Rattle.jr_parse_laws.specs.Parsers.{Parser, and_then, first, begins_with, expect, identifier, with_front, ◌>>◌}
 use Rattle.jr_parse_laws.proofs.Outcomes.{bind_ok, ok_is, err_ok, some_is}
 use Rattle.jr_parse_laws.proofs.Exact.{expect_sound, identifier_token}
 use Rattle.jr_parse_laws.proofs.Lists.{many_over, many_turn}
 use Rattle.jr_parse_laws.proofs.Turns.{at_first, behind_shortens, expect_keeps, identifier_keeps}
-use Rattle.jr_parse_expr.specs.Names.{name_of, type_of, pairs, counted, dims, parts, named_all, name_after, name, primitive_of, primitive_kind, primitive_at, base_by, element, type_use, Dotted, Plain, Enclosing, dotted_from, dotted_behind, dotted}
+use Rattle.jr_parse_expr.specs.Names.{name_of, type_of, pairs, counted, dims, parts, named_all, name_after, name, primitive_of, primitive_kind, primitive_at, base_by, element, type_use, Dotted, Plain, Enclosing, dotted_from, dotted}
 use Rattle.jr_parse_expr.specs.Writing.{write_parts, write_all, write_name, write_brackets, write_base, write_type, write_dotted}
 use Rattle.jr_parse_expr.specs.Follow.{DotFree, is_plain_name, TypeEnds}
 use Rattle.jr_parse_expr.proofs.NameLaws.{dims_more, dims_done, dotted_more, dotted_at_dot}
-use Rattle.jr_parse_expr.proofs.Repeats.{AreAll, write_each, Repeated, many_sound}
+use Rattle.jr_parse_expr.proofs.Repeats.{write_each, many_sound}
 
 -- a symbol and then what p reads
 pub behind_sound : {A : Type 0} (s : _) (p : Parser A) (ts : List Kind) (r : A × List Kind) → (expect s >> p) ts ≡ Ok r → (us : List Kind) × (ts ≡ kind.Sym s ∷ us) × (p us ≡ Ok r)

@@ -1,5 +1,5 @@
 -- Reading an operand, before what may stand behind it, is exact in both directions.
-use Rattle.std.proofs.Common.{◌≡◌, ℕ, zero, suc, ◌<◌, ◌≤◌, max, Bool, true, false, not, ◌||◌, ◌&&◌, cond, ltb, List, [], ◌∷◌, ◌++◌, Option, Some, None, Ok, Err, refl, sym, ap, ◌∙◌, subst, ◌⊎◌, inl, inr, arith}
+use Rattle.std.proofs.Common.{◌≡◌, ℕ, suc, ◌≤◌, Bool, true, false, not, cond, ltb, List, [], ◌∷◌, ◌++◌, Some, None, Ok, Err, refl, sym, ap, ◌∙◌, subst, inl, inr, arith}
 use Rattle.std.proofs.lemmas.Bool.{not-true, not_from_false, and_from, and_parts, or_right, le-ltb, ltb-false}
 use Rattle.jr_base.specs.declared.text.Text.{Text}
 use Rattle.jr_base.specs.declared.kind.Kind.{Kind}
@@ -7,9 +7,8 @@ use Rattle.jr_base.specs.declared.kind.Kind.TheVariants as kind
 use Rattle.jr_base.specs.declared.kind.Symbol.{Symbol}
 use Rattle.jr_base.specs.declared.kind.Symbol.TheVariants as y
 use Rattle.jr_base.specs.declared.kind.Keyword.TheVariants as k
-use Rattle.jr_tree.specs.declared.tree.Name.{Name}
 use Rattle.jr_tree.specs.Levels.{is_unary, is_step, is_literal, is_least_kind, is_minus}
-use Rattle.jr_tree.specs.Shape.{is_empty, level, is_least, IsName, Fits, IsShapedExpr, AreShapedExprs, IsShapedAnyReceiver}
+use Rattle.jr_tree.specs.Shape.{is_empty, level, is_least, IsShapedExpr, AreShapedExprs, IsShapedAnyReceiver}
 use Rattle.jr_tree.specs.Depth.{expr_depth, exprs_depth, any_receiver_depth}
 use Rattle.jr_tree.specs.Mirror.Exprs as x
 use Rattle.jr_parse_laws.specs.declared.fault.Fault.TheVariants.{NoTree}
@@ -19,8 +18,8 @@ use Rattle.jr_parse_laws.proofs.Exact.{expect_sound, identifier_token}
 use Rattle.jr_parse_laws.proofs.Turns.{at_first}
 use Rattle.jr_parse_expr.specs.Starts.{is_plain_literal, begins_operand, starts_expr}
 use Rattle.jr_parse_expr.specs.Names.{name_of, Dotted, Plain, Enclosing, dotted}
-use Rattle.jr_parse_expr.specs.Exprs.{Lead, Nothing, next_token, receiver_of, arguments, call_or, after_dotted, super_member, creation, in_parens, prefix, negated_by, negated, operand_by, operand}
-use Rattle.jr_parse_expr.specs.Writing.{write_parts, write_all, write_name, write_dotted, write_qualifier, write_expr, write_exprs}
+use Rattle.jr_parse_expr.specs.Exprs.{Lead, Nothing, receiver_of, arguments, call_or, after_dotted, super_member, creation, in_parens, prefix, negated, operand}
+use Rattle.jr_parse_expr.specs.Writing.{write_all, write_qualifier, write_expr, write_exprs}
 use Rattle.jr_parse_expr.specs.Follow.{Unless, LastEnds, Ends}
 use Rattle.jr_parse_expr.proofs.Beginnings.{binary_low, begins_any}
 use Rattle.jr_parse_expr.proofs.Followers.{unless}
@@ -248,17 +247,17 @@ module _ (room : ℕ) (inner : Lead → ℕ → Parser x.Expr) (list : Parser x.
       call_sound (receiver_of before) last (x.NameExpr (name_of (before ++ last ∷ []))) ts us r (shaped_receiver before) (low_receiver before)
       (found.written ∙ received before last us)
       (λ paren. record { shaped = has_parts before last; tight = omega arith; not_least = refl; low = omega arith; written = found.written; ended = (found.ended, paren) }) h where
-    shaped_receiver : (before : List Text) → IsShapedAnyReceiver (receiver_of before)
-    shaped_receiver [] = tt
-    shaped_receiver (part ∷ before) = refl
+        shaped_receiver : (before : List Text) → IsShapedAnyReceiver (receiver_of before)
+        shaped_receiver [] = tt
+        shaped_receiver (part ∷ before) = refl
 
-    low_receiver : (before : List Text) → any_receiver_depth (receiver_of before) ≤ room
-    low_receiver [] = omega arith
-    low_receiver (part ∷ before) = omega arith
+        low_receiver : (before : List Text) → any_receiver_depth (receiver_of before) ≤ room
+        low_receiver [] = omega arith
+        low_receiver (part ∷ before) = omega arith
 
-    received : (before : List Text) (last : Text) (us : List Kind) → write_all (before ++ last ∷ []) us ≡ write_qualifier (receiver_of before) (kind.Ident last ∷ us)
-    received [] last us = refl
-    received (part ∷ before) last us = ap (λ ts. kind.Ident part ∷ ts) (parts_append before (last ∷ []) us)
+        received : (before : List Text) (last : Text) (us : List Kind) → write_all (before ++ last ∷ []) us ≡ write_qualifier (receiver_of before) (kind.Ident last ∷ us)
+        received [] last us = refl
+        received (part ∷ before) last us = ap (λ ts. kind.Ident part ∷ ts) (parts_append before (last ∷ []) us)
 
   super_sound : (ts : List Kind) (r : x.Expr × List Kind) → super_member room inner list ts ≡ Ok r → Operand room (kind.Word k.Super ∷ ts) r
   unfolding super_member

@@ -1,5 +1,5 @@
 -- Reading casts and parentheses is exact in both directions.
-use Rattle.std.proofs.Common.{◌≡◌, ℕ, zero, suc, ◌<◌, ◌≤◌, max, Bool, true, false, not, ◌&&◌, ltb, List, [], ◌∷◌, ◌++◌, Option, Some, None, Ok, refl, sym, ap, ◌∙◌, subst, ◌⊎◌, inl, inr, arith}
+use Rattle.std.proofs.Common.{◌≡◌, ℕ, zero, suc, ◌≤◌, Bool, true, false, not, ◌&&◌, List, [], ◌∷◌, ◌++◌, Option, Some, None, Ok, refl, sym, ap, ◌∙◌, subst, ◌⊎◌, inl, inr, arith}
 use Rattle.std.proofs.lemmas.Bool.{not-true, not-false, not_from_false, and_left, and_right, true≢false}
 use Rattle.jr_base.specs.declared.text.Text.{Text}
 use Rattle.jr_base.specs.declared.kind.Kind.{Kind}
@@ -12,15 +12,15 @@ use Rattle.jr_tree.specs.declared.tree.Base.{Base}
 use Rattle.jr_tree.specs.declared.tree.Base.TheVariants as base
 use Rattle.jr_tree.specs.declared.tree.TypeUse.{TypeUse}
 use Rattle.jr_tree.specs.Words.{primitive_word}
-use Rattle.jr_tree.specs.Shape.{is_empty, level, is_name, is_named, is_signed, is_least, IsName, IsBase, Fits, IsShapedExpr}
+use Rattle.jr_tree.specs.Shape.{is_empty, level, is_name, is_named, is_signed, IsName, IsBase, IsShapedExpr}
 use Rattle.jr_tree.specs.Depth.{expr_depth}
 use Rattle.jr_tree.specs.Mirror.Exprs as x
-use Rattle.jr_parse_laws.specs.Parsers.{Parser, and_then, first, is_at, symbol_at, begins_with, expect}
+use Rattle.jr_parse_laws.specs.Parsers.{Parser, and_then, first, is_at, begins_with, expect}
 use Rattle.jr_parse_laws.proofs.Outcomes.{bind_ok, chosen, ok_is, err_ok, is_symbol_is}
 use Rattle.jr_parse_laws.proofs.Exact.{expect_sound}
 use Rattle.jr_parse_expr.specs.Starts.{begins_cast_operand, begins_operand, next_is, starts_expr}
 use Rattle.jr_parse_expr.specs.Names.{name_of, type_of, primitive_kind, primitive_at, dims, element, Dotted, Plain, Enclosing, dotted}
-use Rattle.jr_parse_expr.specs.Exprs.{Lead, Nothing, Named, Indexed, skipping, closed, cast, primitive_cast, name_in_parens, array_cast, bracket_in_parens, dotted_in_parens_by, dotted_in_parens, in_parens_by, in_parens}
+use Rattle.jr_parse_expr.specs.Exprs.{Lead, Nothing, Named, Indexed, skipping, closed, cast, primitive_cast, name_in_parens, array_cast, bracket_in_parens, dotted_in_parens, in_parens_by, in_parens}
 use Rattle.jr_parse_expr.specs.Writing.{write_parts, write_all, write_name, write_brackets, write_base, write_type, write_dotted, write_expr}
 use Rattle.jr_parse_expr.specs.Follow.{Unless, LastEnds, Ends, IsExpr}
 use Rattle.jr_parse_expr.proofs.Beginnings.{begins_any, begins_tight}

@@ -1,9 +1,8 @@
 -- The laws of reading expressions as they are stated.
-use Rattle.std.proofs.Common.{◌≡◌, ℕ, ◌≤◌, max, List, [], ◌++◌, Ok, None, refl, sym, ap, ◌∙◌, arith}
+use Rattle.std.proofs.Common.{◌≡◌, max, List, [], ◌++◌, None, refl, sym, ap, ◌∙◌, arith}
 use Rattle.jr_base.specs.declared.kind.Kind.{Kind}
 use Rattle.jr_tree.specs.Mirror.Exprs as x
 use Rattle.jr_tree.specs.Depth.{expr_depth}
-use Rattle.jr_tree.specs.Tokens.{expr_tokens}
 use Rattle.jr_parse_laws.proofs.Outcomes.{ok_is}
 use Rattle.jr_parse_expr.specs.Exprs.{Nothing, expr, list}
 use Rattle.jr_parse_expr.specs.Writing.{write_expr}

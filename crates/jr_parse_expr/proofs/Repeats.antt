@@ -1,8 +1,8 @@
 -- Items as long as one begins: what was read was written.
-use Rattle.std.proofs.Common.{◌≡◌, ℕ, zero, suc, ◌<◌, ◌≤◌, Bool, false, List, [], ◌∷◌, length, Option, None, Ok, refl, sym, ap, ◌∙◌, subst, inl, inr, arith}
+use Rattle.std.proofs.Common.{◌≡◌, ℕ, zero, suc, ◌≤◌, Bool, false, List, [], ◌∷◌, length, Option, None, Ok, refl, ap, ◌∙◌, subst, inl, inr, arith}
 use Rattle.std.specs.Prelude.{⊤}
 use Rattle.jr_base.specs.declared.kind.Kind.{Kind}
-use Rattle.jr_parse_laws.specs.Parsers.{first, Parser, and_then, many_from, many}
+use Rattle.jr_parse_laws.specs.Parsers.{first, Parser, many_from, many}
 use Rattle.jr_parse_laws.proofs.Outcomes.{bind_ok, chosen, ok_is}
 use Rattle.jr_parse_laws.proofs.Lists.{Shortens}
 

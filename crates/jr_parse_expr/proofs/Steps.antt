@@ -1,6 +1,6 @@
 -- How an operand or an expression goes on.
-use Rattle.std.proofs.Common.{◌≡◌, ℕ, suc, ◌<◌, ◌≤◌, max, Bool, true, false, not, cond, ◌||◌, ◌&&◌, ltb, List, [], ◌∷◌, Option, Some, None, Ok, refl, sym, ap, ◌∙◌, inl, inr, arith}
-use Rattle.std.proofs.lemmas.Bool.{cases_Bool, ltb-false, le-ltb, or_parts, or_from, and_parts, and_from, not-true, not-false, not_from_true, not_from_false}
+use Rattle.std.proofs.Common.{◌≡◌, ℕ, ◌<◌, ◌≤◌, Bool, true, false, not, cond, ◌||◌, ◌&&◌, ltb, Option, Some, None, refl, ◌∙◌, inl, inr, arith}
+use Rattle.std.proofs.lemmas.Bool.{cases_Bool, ltb-false, le-ltb, or_parts, and_parts, not-true, not-false, not_from_true}
 use Rattle.jr_base.specs.declared.kind.Kind.{Kind}
 use Rattle.jr_base.specs.declared.kind.Kind.TheVariants as kind
 use Rattle.jr_base.specs.declared.kind.Symbol.{Symbol}
@@ -9,10 +9,9 @@ use Rattle.jr_base.specs.declared.kind.Keyword.TheVariants as k
 use Rattle.jr_tree.specs.Levels.{binary_level, is_assignment, is_step}
 use Rattle.jr_tree.specs.Shape.{level, is_target, is_new_array}
 use Rattle.jr_tree.specs.Mirror.Exprs as x
-use Rattle.jr_tree.specs.Depth.{expr_depth}
 use Rattle.jr_parse_laws.specs.Parsers.{Parser, pure}
 use Rattle.jr_parse_expr.specs.Exprs.{Lead, suffix, selected, indexed, operator, operator_by, choice, binary, assigned, tested}
-use Rattle.jr_parse_expr.specs.Follow.{symbol_next, is_tight, has_suffix, has_operator_by, has_operator}
+use Rattle.jr_parse_expr.specs.Follow.{is_tight, has_suffix, has_operator_by, has_operator}
 
 module _ (room : ℕ) (inner : Lead → ℕ → Parser x.Expr) (list : Parser x.InitList) where
   -- a dot, a bracket or a step

@@ -1,19 +1,18 @@
 -- What cannot follow an expression, since it would belong to it (JLS 15), and what the laws of reading say.
-use Rattle.std.specs.Prelude.{◌≡◌, ℕ, suc, ◌≤◌, Bool, true, false, not, ◌&&◌, ◌||◌, if◌then◌else◌, nat_lt, List, Option, Some, None, Ok, ⊤}
+use Rattle.std.specs.Prelude.{◌≡◌, ℕ, suc, ◌≤◌, Bool, true, false, not, ◌&&◌, ◌||◌, if◌then◌else◌, nat_lt, Option, Some, None, ⊤}
 use Rattle.jr_base.specs.declared.kind.Kind.{Kind}
 use Rattle.jr_base.specs.declared.kind.Kind.TheVariants as kind
 use Rattle.jr_base.specs.declared.kind.Symbol.{Symbol}
 use Rattle.jr_base.specs.declared.kind.Symbol.TheVariants as y
 use Rattle.jr_base.specs.declared.kind.Keyword.TheVariants as k
-use Rattle.jr_tree.specs.declared.tree.Name.{Name}
 use Rattle.jr_tree.specs.declared.tree.TypeUse.{TypeUse}
 use Rattle.jr_tree.specs.Mirror.Exprs as x
 use Rattle.jr_tree.specs.Levels.{binary_level, is_assignment, is_step}
 use Rattle.jr_tree.specs.Shape.{level, is_target, is_least, is_name, is_named, is_new_array, IsName, Fits, IsShapedExpr, IsStatementExpr}
 use Rattle.jr_tree.specs.Depth.{expr_depth}
-use Rattle.jr_parse_laws.specs.Parsers.{first, begins_with, symbol_of}
+use Rattle.jr_parse_laws.specs.Parsers.{begins_with, symbol_of}
 use Rattle.jr_parse_expr.specs.Starts.{begins_cast_operand, next_is}
-use Rattle.jr_parse_expr.specs.Names.{Dotted, Plain, Enclosing}
+use Rattle.jr_parse_expr.specs.Names.{Plain, Enclosing}
 use Rattle.jr_parse_expr.specs.Exprs.{Lead, Nothing, Named, Indexed, This, Super}
 
 abbrev pub symbol_next : Option Kind → Option Symbol

@@ -1,13 +1,13 @@
 -- What the laws of reading expressions say: what is written is read, and what is read is written (JLS 15, 18).
-use Rattle.std.specs.Prelude.{◌≡◌, ℕ, ◌≤◌, List, ◌++◌, Option, Ok}
+use Rattle.std.specs.Prelude.{◌≡◌, ℕ, ◌≤◌, List, ◌++◌, Ok}
 use Rattle.jr_base.specs.declared.kind.Kind.{Kind}
 use Rattle.jr_tree.specs.Mirror.Exprs as x
-use Rattle.jr_tree.specs.Shape.{IsShapedInit, IsShapedList, IsWholeExpr}
-use Rattle.jr_tree.specs.Depth.{init_depth, list_depth}
+use Rattle.jr_tree.specs.Shape.{IsShapedInit, IsWholeExpr}
+use Rattle.jr_tree.specs.Depth.{init_depth}
 use Rattle.jr_tree.specs.Tokens.{expr_tokens}
 use Rattle.jr_parse_laws.specs.Parsers.{first}
-use Rattle.jr_parse_expr.specs.Exprs.{Lead, expr, effect, init, list}
-use Rattle.jr_parse_expr.specs.Writing.{write_lead, write_expr, write_init, write_list}
+use Rattle.jr_parse_expr.specs.Exprs.{Lead, expr, effect, init}
+use Rattle.jr_parse_expr.specs.Writing.{write_lead, write_expr, write_init}
 use Rattle.jr_parse_expr.specs.Follow.{Ends, EffectEnds, InitEnds, IsExpr, IsEffect, IsLed}
 
 -- writing in front of a rest is writing out the tokens and then the rest
