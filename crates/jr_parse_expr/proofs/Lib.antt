@@ -17,3 +17,4 @@ pub mod Initializers
 pub mod ExprReads
 pub mod Effects
 pub mod Readings
+pub mod Locals
