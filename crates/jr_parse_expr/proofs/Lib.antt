@@ -18,3 +18,5 @@ pub mod ExprReads
 pub mod Effects
 pub mod Readings
 pub mod Locals
+pub mod NameLocals
+pub mod ExprLocals

@@ -1,7 +1,7 @@
 -- A reader that stopped stops at the same place whatever follows the token there, and with more levels too.
 use Rattle.std.proofs.Common.{◌≡◌, ℕ, zero, suc, ◌<◌, ◌≤◌, Bool, true, false, cond, ltb, List, [], ◌∷◌, ◌++◌, length, Option, Some, None, Ok, Err, refl, sym, ap, ◌∙◌, subst, inl, inr, append_assoc, arith}
 use Rattle.std.specs.Prelude.{⊤}
-use Rattle.std.proofs.lemmas.Bool.{ltb-false, ltb-true, le-ltb, lt-ltb}
+use Rattle.std.proofs.lemmas.Bool.{cases_Bool, ltb-false, le-ltb}
 use Rattle.jr_base.specs.declared.kind.Kind.{Kind}
 use Rattle.jr_base.specs.declared.kind.Symbol.{Symbol}
 use Rattle.jr_parse_laws.specs.declared.fault.Fault.{Fault}
@@ -100,7 +100,7 @@ module _ (room other : ℕ) (le : room ≤ other) where
   abbrev pub Looks : {X : Type 0} → (List Kind → X) → Type 0
   Looks h = (ts us : List Kind) → first ts ≡ first us → h ts ≡ h us
 
-  on_kept : {A X : Type 0} (h : List Kind → X) (g : X → Parser A) → Looks h → (ts : List Kind) (o : Outcome A) → Kept (g (h ts)) ts o → Kept (λ us. g (h us) us) ts o
+  pub on_kept : {A X : Type 0} (h : List Kind → X) (g : X → Parser A) → Looks h → (ts : List Kind) (o : Outcome A) → Kept (g (h ts)) ts o → Kept (λ us. g (h us) us) ts o
   on_kept h g looks ts (Ok r) a = record {
     front = a.front;
     split = a.split;
@@ -135,9 +135,9 @@ module _ (room other : ℕ) (le : room ≤ other) where
 
   -- ---- levels
 
-  by_room : {A : Type 0} (height : ℕ) (p q : Parser A) (ts : List Kind) (b : Bool) → ltb room height ≡ b → Local p q → Kept (over height other q) ts (cond b (Err (TooDeep, ts)) (p ts))
-  by_room height p q ts true e one = λ wider. here (over height other q) (λ w. Err (TooDeep, w)) ts (λ w f. let same : other ≡ room = wider in rw (same, e) refl)
-  by_room height p q ts false e one = with_room (p ts) (one ts) where
+  pub by_room : {A : Type 0} (height : ℕ) (q : Parser A) (ts : List Kind) (o : Outcome A) (b : Bool) → ltb room height ≡ b → (b ≡ false → Kept q ts o) → Kept (over height other q) ts (cond b (Err (TooDeep, ts)) o)
+  by_room height q ts o true e one = λ wider. here (over height other q) (λ w. Err (TooDeep, w)) ts (λ w f. let same : other ≡ room = wider in rw (same, e) refl)
+  by_room height q ts o false e one = with_room o (one refl) where
     enough : ltb other height ≡ false
     enough = le-ltb other height (let h = ltb-false room height e in omega arith)
 
@@ -146,4 +146,50 @@ module _ (room other : ℕ) (le : room ≤ other) where
     with_room (Err stop) k = λ wider. let a = k wider in record { front = a.front; split = a.split; again = λ w f. rw enough (a.again w f) }
 
   pub local_over : {A : Type 0} (height : ℕ) (p q : Parser A) → Local p q → Local (over height room p) (over height other q)
-  local_over height p q one ts = by_room height p q ts (ltb room height) refl one
+  local_over height p q one ts = by_room height q ts (p ts) (ltb room height) refl (λ e. one ts)
+
+  -- ---- one of two, and the same reader
+
+  pub kept_same : {A : Type 0} (q q' : Parser A) → ((us : List Kind) → q us ≡ q' us) → (ts : List Kind) (o : Outcome A) → Kept q ts o → Kept q' ts o
+  kept_same q q' same ts (Ok r) a = record { front = a.front; split = a.split; again = λ w e. sym (same (a.front ++ w)) ∙ a.again w e }
+  kept_same q q' same ts (Err stop) k = λ wider. let a = k wider in record { front = a.front; split = a.split; again = λ w e. sym (same (a.front ++ w)) ∙ a.again w e }
+
+  pub kept_cond : {A : Type 0} (b : Bool) (q q' : Parser A) (ts : List Kind) (o o' : Outcome A) → (b ≡ true → Kept q ts o) → (b ≡ false → Kept q' ts o') → Kept (λ us. cond b (q us) (q' us)) ts (cond b o o')
+  kept_cond true q q' ts o o' one two = one refl
+  kept_cond false q q' ts o o' one two = two refl
+
+  pub kept_if : {A : Type 0} (h : List Kind → Bool) (q q' : Parser A) (ts : List Kind) (o o' : Outcome A) → Looks h → (h ts ≡ true → Kept q ts o) → (h ts ≡ false → Kept q' ts o')
+      → Kept (λ us. cond (h us) (q us) (q' us)) ts (cond (h ts) o o')
+  kept_if h q q' ts o o' looks one two = on_kept h (λ b us. cond b (q us) (q' us)) looks ts (cond (h ts) o o') (kept_cond (h ts) q q' ts o o' one two)
+
+  -- ---- items as long as one begins
+
+  module _ {A : Type 0} (starts : Option Kind → Bool) (item item' : Parser A) (silent : starts None ≡ false) (shortens : Shortens item) (shortens' : Shortens item') (one : Local item item') where
+    abbrev turn_of : Parser (List A)
+    turn_of = item' >>= (λ a. many starts item' >>= (λ all. pure (a ∷ all)))
+
+    abbrev choice_of : Parser (List A)
+    choice_of us = cond (starts (first us)) (turn_of us) (Ok ([], us))
+
+    turns_same : (us : List Kind) → choice_of us ≡ many starts item' us
+    turns_same us =
+        elim (cases_Bool (starts (first us))) [
+          | inl t ↦ rw t (sym (many_turn starts item' silent shortens' us t))
+          | inr f ↦ rw f (sym (many_over starts item' us f))
+        ]
+
+    from_kept : (turns : ℕ) (ts : List Kind) → length ts ≤ turns → Kept (many starts item') ts (many_from starts item turns ts)
+    from_kept zero [] l = here (many starts item') (λ w. Ok ([], w)) [] (λ w e. many_over starts item' w (ap starts (sym e) ∙ silent))
+    from_kept zero (k ∷ ts) l = absurd (omega arith)
+    from_kept (suc turns) ts l =
+        kept_same choice_of (many starts item') turns_same ts (many_from starts item (suc turns) ts)
+        (kept_if (λ us. starts (first us)) turn_of (λ us. Ok ([], us)) ts (and_then (item ts) (λ a rest. and_then (many_from starts item turns rest) (λ all rest. Ok (a ∷ all, rest)))) (Ok ([], ts)) (looks_first starts)
+        (λ t. kept_bind item' (λ a rest. and_then (many_from starts item turns rest) (λ all rest. Ok (a ∷ all, rest))) (λ a. many starts item' >>= (λ all. pure (a ∷ all))) ts (item ts) (one ts)
+        (λ r e.
+        let s = shortens ts r.0 r.1 e in
+        kept_bind (many starts item') (λ all. pure (r.0 ∷ all)) (λ all. pure (r.0 ∷ all)) r.1 (many_from starts item turns r.1) (from_kept turns r.1 (omega arith)) (λ q f. local_pure (r.0 ∷ q.0) q.1)))
+        (λ f. here (λ us. Ok ([], us)) (λ w. Ok ([], w)) ts (λ w e. refl)))
+
+    pub local_many : Local (many starts item) (many starts item')
+    unfolding many
+    local_many ts = from_kept (length ts) ts (omega arith)

@@ -57,6 +57,12 @@ module _ (room : ℕ) (inner : Lead → ℕ → Parser x.Expr) (list : Parser x.
         ∙ rw (le-ltb room (expr_depth left) low)
         (and_then_when (p ts) (loop room) (loop (suc room)) (λ e rest i. let r = raises left (k ∷ ts) p h ts e rest i in sym (more_turns room e rest (omega arith))))
 
+    -- a turn, and then the loop again
+    pub unrolls : (left : x.Expr) (ts : List Kind) → loop (suc room) left ts ≡ turn room inner list left (step left ts) (loop (suc room)) ts
+    unrolls left ts =
+        next room left ts
+        ∙ turn_alike left (step left ts) (loop room) (loop (suc room)) ts (λ p s low e us rest i. let r = raises left ts p s us e rest i in sym (more_turns room e rest (omega arith)))
+
     -- what holds before each turn holds at the end
     pub keeps : (Holds : x.Expr → List Kind → Type 0)
         → ((left : x.Expr) (k : Kind) (ts : List Kind) (p : Parser x.Expr) (e : x.Expr) (rest : List Kind) → Holds left (k ∷ ts) → step left (k ∷ ts) ≡ Some p → expr_depth left ≤ room → p ts ≡ Ok (e, rest) → Holds e rest)
