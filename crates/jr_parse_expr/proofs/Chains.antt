@@ -13,11 +13,11 @@ use Rattle.jr_tree.specs.Mirror.Exprs as x
 use Rattle.jr_parse_laws.specs.Parsers.{Parser, and_then, first, symbol_of, symbol_at, is_symbol, begins_with, expect, identifier}
 use Rattle.jr_parse_laws.proofs.Outcomes.{bind_ok, chosen, ok_is, some_is}
 use Rattle.jr_parse_laws.proofs.Exact.{expect_sound, identifier_token}
-use Rattle.jr_parse_expr.specs.Exprs.{Lead, Nothing, arguments, call_or, selected, indexed, suffix, suffixes_from, suffixes, operand}
+use Rattle.jr_parse_expr.specs.Exprs.{Lead, Nothing, arguments, call_or, selected, indexed, suffix, turn, suffixes_from, suffixes, operand}
 use Rattle.jr_parse_expr.specs.Writing.{write_expr, write_exprs}
 use Rattle.jr_parse_expr.specs.Follow.{symbol_next, has_suffix, LastEnds}
 use Rattle.jr_parse_expr.proofs.Followers.{last_ends}
-use Rattle.jr_parse_expr.proofs.Loops.{stays, goes, keeps}
+use Rattle.jr_parse_expr.proofs.Loops.{stays, goes, keeps, unrolls}
 use Rattle.jr_parse_expr.proofs.Steps.{Suffixed, Ended, Selects, Indexes, Steps, suffix_view, suffix_none, takes_dot, takes_bracket, takes_step}
 use Rattle.jr_parse_expr.proofs.Asked.{ReadsExprs, ReadsLists, Operand}
 use Rattle.jr_parse_expr.proofs.Arguments.{whole_read}
@@ -84,13 +84,17 @@ module _ (room : ℕ) (inner : Lead → ℕ → Parser x.Expr) (list : Parser x.
   abbrev step : x.Expr → List Kind → Option (Parser x.Expr)
   step left ts = suffix room inner list left (symbol_at ts)
 
-  raises : (left : x.Expr) (ts : List Kind) (p : Parser x.Expr) → step left ts ≡ Some p → (us : List Kind) (e : x.Expr) (rest : List Kind) → p us ≡ Ok (e, rest) → expr_depth left < expr_depth e
+  pub raises : (left : x.Expr) (ts : List Kind) (p : Parser x.Expr) → step left ts ≡ Some p → (us : List Kind) (e : x.Expr) (rest : List Kind) → p us ≡ Ok (e, rest) → expr_depth left < expr_depth e
   raises left ts p s us e rest h = suffix_raises left (symbol_at ts) (step left ts) p (suffix_view room inner list left (symbol_at ts)) s us e rest h
 
   pub suffixes_go : (left : x.Expr) (token : Kind) (ts : List Kind) (p : Parser x.Expr) → suffix room inner list left (symbol_of token) ≡ Some p → expr_depth left ≤ room
       → suffixes room inner list left (token ∷ ts) ≡ and_then (p ts) (suffixes room inner list)
   unfolding suffixes
   suffixes_go left token ts p h low = goes room inner list step (suffixes_from room inner list) (λ left ts. refl) (λ turns left ts. refl) raises left token ts p h low
+
+  pub suffixes_unroll : (left : x.Expr) (ts : List Kind) → suffixes room inner list left ts ≡ turn room inner list left (suffix room inner list left (symbol_at ts)) (suffixes room inner list) ts
+  unfolding suffixes
+  suffixes_unroll left ts = unrolls room inner list step (suffixes_from room inner list) (λ left ts. refl) (λ turns left ts. refl) raises left ts
 
   pub suffixes_stay : (left : x.Expr) (ts : List Kind) → has_suffix left (symbol_next (first ts)) ≡ false → suffixes room inner list left ts ≡ Ok (left, ts)
   unfolding suffixes

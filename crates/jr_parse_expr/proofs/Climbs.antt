@@ -15,13 +15,13 @@ use Rattle.jr_parse_laws.proofs.Outcomes.{bind_ok, ok_is, some_is}
 use Rattle.jr_parse_laws.proofs.Exact.{expect_sound}
 use Rattle.jr_parse_expr.specs.Starts.{begins_cast_operand, next_is}
 use Rattle.jr_parse_expr.specs.Names.{type_use}
-use Rattle.jr_parse_expr.specs.Exprs.{Lead, Nothing, suffixes, operand, choice, binary, assigned, tested, operator, climb_from, climb, operations}
+use Rattle.jr_parse_expr.specs.Exprs.{Lead, Nothing, suffixes, operand, choice, binary, assigned, tested, operator, turn, climb_from, climb, operations}
 use Rattle.jr_parse_expr.specs.Writing.{write_expr, write_type}
 use Rattle.jr_parse_expr.specs.Follow.{symbol_next, has_suffix, has_operator, LastEnds, Ends, IsExpr}
 use Rattle.jr_parse_expr.proofs.Beginnings.{binary_low, target_tight, target_not_least}
 use Rattle.jr_parse_expr.proofs.Followers.{needs, last_ends, suffix_free, dot_needs, bracket_needs}
 use Rattle.jr_parse_expr.proofs.NameReads.{type_read, type_sound}
-use Rattle.jr_parse_expr.proofs.Loops.{stays, goes, keeps}
+use Rattle.jr_parse_expr.proofs.Loops.{stays, goes, keeps, unrolls}
 use Rattle.jr_parse_expr.proofs.Steps.{Operated, Over, Chooses, Computes, Assigns, Tests, operator_view, operator_none, takes_question, takes_test, takes_binary, takes_assignment}
 use Rattle.jr_parse_expr.proofs.Asked.{Found, ReadsExprs, ReadsLists}
 use Rattle.jr_parse_expr.proofs.Arguments.{whole_read}
@@ -137,13 +137,17 @@ module _ (room : ℕ) (inner : Lead → ℕ → Parser x.Expr) (list : Parser x.
     abbrev loop : ℕ → x.Expr → Parser x.Expr
     loop turns = climb_from room inner list turns least
 
-    raises : (left : x.Expr) (ts : List Kind) (p : Parser x.Expr) → step left ts ≡ Some p → (us : List Kind) (e : x.Expr) (rest : List Kind) → p us ≡ Ok (e, rest) → expr_depth left < expr_depth e
+    pub raises : (left : x.Expr) (ts : List Kind) (p : Parser x.Expr) → step left ts ≡ Some p → (us : List Kind) (e : x.Expr) (rest : List Kind) → p us ≡ Ok (e, rest) → expr_depth left < expr_depth e
     raises left ts p s us e rest h = operator_raises least left (first ts) (step left ts) p (operator_view room inner list least left (first ts)) s us e rest h
 
     pub climb_goes : (left : x.Expr) (token : Kind) (ts : List Kind) (p : Parser x.Expr) → operator room inner list least left (Some token) ≡ Some p → expr_depth left ≤ room
         → climb room inner list least left (token ∷ ts) ≡ and_then (p ts) (climb room inner list least)
     unfolding climb
     climb_goes left token ts p h low = goes room inner list step loop (λ left ts. refl) (λ turns left ts. refl) raises left token ts p h low
+
+    pub climb_unroll : (left : x.Expr) (ts : List Kind) → climb room inner list least left ts ≡ turn room inner list left (operator room inner list least left (first ts)) (climb room inner list least) ts
+    unfolding climb
+    climb_unroll left ts = unrolls room inner list step loop (λ left ts. refl) (λ turns left ts. refl) raises left ts
 
     pub climb_stays : (left : x.Expr) (ts : List Kind) → has_operator least left (first ts) ≡ false → climb room inner list least left ts ≡ Ok (left, ts)
     unfolding climb

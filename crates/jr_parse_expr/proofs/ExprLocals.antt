@@ -41,7 +41,7 @@ looks_symbol (k ∷ ts) (j ∷ us) e = let same : k ≡ j = cc in ap symbol_of s
 module _ (room : ℕ) (inner : Lead → ℕ → Parser x.Expr) (list : Parser x.InitList) where
   -- ---- the readers that take a token, as told by that token
 
-  abbrev first_in : Option Kind → Parser x.Expr
+  abbrev pub first_in : Option Kind → Parser x.Expr
   first_in None = refuse
   first_in (Some token) = reader.in_parens_by room inner list (primitive_kind token) token
 
@@ -50,11 +50,11 @@ module _ (room : ℕ) (inner : Lead → ℕ → Parser x.Expr) (list : Parser x.
   first_in_is [] = refl
   first_in_is (token ∷ us) = refl
 
-  abbrev first_negated : Option Kind → Parser x.Expr
+  abbrev pub first_negated : Option Kind → Parser x.Expr
   first_negated None = refuse
   first_negated (Some token) = λ us. cond (is_least_kind token) (skipping (pure (x.Unary y.Minus (x.Lit token))) us) ((inner Nothing 12 >>= (λ v. pure (x.Unary y.Minus v))) us)
 
-  first_negated_is : (us : List Kind) → first_negated (first us) us ≡ reader.negated room inner list us
+  pub first_negated_is : (us : List Kind) → first_negated (first us) us ≡ reader.negated room inner list us
   unfolding reader.negated
   first_negated_is [] = refl
   first_negated_is (token ∷ us) = refl
@@ -78,12 +78,12 @@ module _ (room : ℕ) (inner : Lead → ℕ → Parser x.Expr) (list : Parser x.
   first_sized_is p [] = refl
   first_sized_is p (token ∷ us) = refl
 
-  abbrev first_prefix : Symbol → Parser x.Expr
+  abbrev pub first_prefix : Symbol → Parser x.Expr
   first_prefix s us =
       cond (is_unary s) (over 1 room (skipping (inner Nothing 12 >>= (λ v. pure (x.Unary s v)))) us)
       (cond (is_step s) (over 1 room (skipping (inner Nothing 12 >>= (λ v. pure (x.PreStep s v)))) us) (refuse us))
 
-  abbrev first_operand : Option Kind → Parser x.Expr
+  abbrev pub first_operand : Option Kind → Parser x.Expr
   first_operand None = refuse
   first_operand (Some (kind.Ident head)) = skipping (dotted true [] head >>= reader.after_dotted room inner list)
   first_operand (Some (kind.Word k.This)) = skipping (pure (x.This None))
@@ -94,7 +94,7 @@ module _ (room : ℕ) (inner : Lead → ℕ → Parser x.Expr) (list : Parser x.
   first_operand (Some (kind.Sym s)) = first_prefix s
   first_operand (Some token) = λ us. cond (is_plain_literal token) (skipping (pure (x.Lit token)) us) (refuse us)
 
-  first_operand_is : (us : List Kind) → first_operand (first us) us ≡ reader.operand room inner list Nothing us
+  pub first_operand_is : (us : List Kind) → first_operand (first us) us ≡ reader.operand room inner list Nothing us
   unfolding reader.operand
   first_operand_is [] = refl
   first_operand_is (kind.Ident head ∷ us) = refl
@@ -155,17 +155,17 @@ module _ (room other : ℕ) (le : room ≤ other) where
     pub led : 1 ≤ room → (lead : Lead) (least : ℕ) → Local room other le (inner lead least) (inner' lead least)
 
   module _ (inner inner' : Lead → ℕ → Parser x.Expr) (list list' : Parser x.InitList) (reads : ReadsExprs room inner) (reads' : ReadsExprs other inner') (near : NearExprs inner inner') (near_list : Local room other le list list') where
-    abbrev L : {A : Type 0} → Parser A → Parser A → Type 0
+    abbrev pub L : {A : Type 0} → Parser A → Parser A → Type 0
     L p q = Local room other le p q
 
-    bind : {A B : Type 0} (p q : Parser A) (f g : A → Parser B) → L p q → ((a : A) → L (f a) (g a)) → L (p >>= f) (q >>= g)
+    pub bind : {A B : Type 0} (p q : Parser A) (f g : A → Parser B) → L p q → ((a : A) → L (f a) (g a)) → L (p >>= f) (q >>= g)
     bind p q f g one next = local_bind room other le p q f g one next
 
-    give : {A : Type 0} (a : A) → L (pure a) (pure a)
+    pub give : {A : Type 0} (a : A) → L (pure a) (pure a)
     give a = local_pure room other le a
 
     -- a part, and then a symbol
-    closed_by : {A B : Type 0} (p q : Parser A) (s : Symbol) (f g : A → Parser B) → L p q → ((a : A) → L (f a) (g a)) → L (p >>= (λ a. expect s >> f a)) (q >>= (λ a. expect s >> g a))
+    pub closed_by : {A B : Type 0} (p q : Parser A) (s : Symbol) (f g : A → Parser B) → L p q → ((a : A) → L (f a) (g a)) → L (p >>= (λ a. expect s >> f a)) (q >>= (λ a. expect s >> g a))
     closed_by p q s f g one next = bind p q _ _ one (λ a. bind (expect s) (expect s) _ _ (local_expect room other le s) (λ u. next a))
 
     -- ---- arguments
@@ -191,7 +191,7 @@ module _ (room other : ℕ) (le : room ≤ other) where
     unfolding reader.arguments
     arguments_local = closed_by (reader.any_commas starts_expr (inner Nothing 0)) (reader.any_commas starts_expr (inner' Nothing 0)) y.CloseParen (λ all. pure all) (λ all. pure all) any_local (λ all. give all)
 
-    call_local : (object : x.AnyReceiver) (method : Text) (access : x.Expr) → L (reader.call_or room inner list object method access) (reader.call_or other inner' list' object method access)
+    pub call_local : (object : x.AnyReceiver) (method : Text) (access : x.Expr) → L (reader.call_or room inner list object method access) (reader.call_or other inner' list' object method access)
     call_local object method access =
         local_if room other le (is_at y.OpenParen) (skipping (reader.arguments room inner list >>= (λ args. pure (x.Call object method (x.exprs args))))) (skipping (reader.arguments other inner' list' >>= (λ args. pure (x.Call object method (x.exprs args)))))
         (pure access) (pure access) (looks_at room other le y.OpenParen)
@@ -272,7 +272,7 @@ module _ (room other : ℕ) (le : room ≤ other) where
     parens_by_local some None token ts = bind (inner Nothing 0) (inner' Nothing 0) reader.closed reader.closed (near.plain 0) closed_local ts
 
     -- what comes first is looked at, and read again
-    by_first : {A : Type 0} (f g : Option Kind → Parser A) (p q : Parser A) → ((us : List Kind) → f (first us) us ≡ p us) → ((us : List Kind) → g (first us) us ≡ q us) → ((o : Option Kind) → L (f o) (g o)) → L p q
+    pub by_first : {A : Type 0} (f g : Option Kind → Parser A) (p q : Parser A) → ((us : List Kind) → f (first us) us ≡ p us) → ((us : List Kind) → g (first us) us ≡ q us) → ((o : Option Kind) → L (f o) (g o)) → L p q
     by_first f g p q fp gq one ts =
         subst (Kept room other le q ts) (fp ts) (kept_same room other le (λ us. g (first us) us) q gq ts (f (first ts) ts) (local_on room other le first f g (λ ts us same. same) one ts))
 

@@ -20,3 +20,4 @@ pub mod Readings
 pub mod Locals
 pub mod NameLocals
 pub mod ExprLocals
+pub mod LevelLocals

@@ -117,7 +117,7 @@ module _ (room other : ℕ) (le : room ≤ other) where
   pub local_on : {A X : Type 0} (h : List Kind → X) (f g : X → Parser A) → Looks h → ((c : X) → Local (f c) (g c)) → Local (λ ts. f (h ts) ts) (λ ts. g (h ts) ts)
   local_on h f g looks one ts = on_kept h g looks ts (f (h ts) ts) (one (h ts) ts)
 
-  cond_local : {A : Type 0} (p p' q q' : Parser A) → Local p p' → Local q q' → (b : Bool) → Local (λ ts. cond b (p ts) (q ts)) (λ ts. cond b (p' ts) (q' ts))
+  pub cond_local : {A : Type 0} (p p' q q' : Parser A) → Local p p' → Local q q' → (b : Bool) → Local (λ ts. cond b (p ts) (q ts)) (λ ts. cond b (p' ts) (q' ts))
   cond_local p p' q q' one two true ts = one ts
   cond_local p p' q q' one two false ts = two ts
 
