@@ -21,3 +21,4 @@ pub mod Locals
 pub mod NameLocals
 pub mod ExprLocals
 pub mod LevelLocals
+pub mod AllLocals
