@@ -22,3 +22,4 @@ pub mod NameLocals
 pub mod ExprLocals
 pub mod LevelLocals
 pub mod AllLocals
+pub mod Growths
