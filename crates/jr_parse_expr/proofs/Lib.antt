@@ -23,3 +23,4 @@ pub mod ExprLocals
 pub mod LevelLocals
 pub mod AllLocals
 pub mod Growths
+pub mod NameGrowths
