@@ -35,7 +35,7 @@ module _ (room : ℕ) (inner : Lead → ℕ → Parser x.Expr) (list : Parser x.
   closes_others x.no_exprs rest = record { cast = refl; none = refl }
   closes_others (x.more_exprs e all) rest = record { cast = refl; none = refl }
 
-  shortens : Shortens (after_comma (inner Nothing 0))
+  pub shortens : Shortens (after_comma (inner Nothing 0))
   shortens = behind_shortens y.Comma (inner Nothing 0) (inner_keeps room inner reads)
 
   others_read : (all : x.Exprs) (rest : List Kind) → AreShapedExprs all → exprs_depth all ≤ room
@@ -63,10 +63,10 @@ module _ (room : ℕ) (inner : Lead → ℕ → Parser x.Expr) (list : Parser x.
     pub low : exprs_depth (x.exprs r.0) ≤ room
     pub written : ts ≡ write (x.exprs r.0) r.1
 
-  abbrev write_item : x.Expr → List Kind → List Kind
+  abbrev pub write_item : x.Expr → List Kind → List Kind
   write_item e rest = kind.Sym y.Comma ∷ write_expr e rest
 
-  item_sound : (ts : List Kind) (r : x.Expr × List Kind) → after_comma (inner Nothing 0) ts ≡ Ok r → IsExpr room 0 r.0 × (ts ≡ write_item r.0 r.1)
+  pub item_sound : (ts : List Kind) (r : x.Expr × List Kind) → after_comma (inner Nothing 0) ts ≡ Ok r → IsExpr room 0 r.0 × (ts ≡ write_item r.0 r.1)
   item_sound ts r h =
       let b = behind_sound y.Comma (inner Nothing 0) ts r h in
       let f = reads.sound 0 b.0 r (omega arith) b.2 in
@@ -106,7 +106,7 @@ module _ (room : ℕ) (inner : Lead → ℕ → Parser x.Expr) (list : Parser x.
         written = one.written ∙ ap (write_expr a.0.0) (others.written ∙ items_written b.0.0 b.0.1);
       })
 
-  any_sound : (ts : List Kind) (r : List x.Expr × List Kind) → any_commas starts_expr (inner Nothing 0) ts ≡ Ok r → ArgumentsFound write_exprs ts r
+  pub any_sound : (ts : List Kind) (r : List x.Expr × List Kind) → any_commas starts_expr (inner Nothing 0) ts ≡ Ok r → ArgumentsFound write_exprs ts r
   any_sound ts r h =
       elim (chosen (starts_expr (first ts)) _ _ _ h) [
         | inl t ↦ commas_sound ts r t.1

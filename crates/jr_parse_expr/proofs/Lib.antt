@@ -24,3 +24,5 @@ pub mod LevelLocals
 pub mod AllLocals
 pub mod Growths
 pub mod NameGrowths
+pub mod PartGrowths
+pub mod CreationGrowths
