@@ -87,7 +87,7 @@ dotted_more b before last (kind.Sym y.Dot ∷ kind.Ident other ∷ ts) name rest
 dotted_more b before last (kind.Sym y.Dot ∷ k ∷ ts) name rest h e = absurd (err_ok e)
 dotted_more b before last (k ∷ ts) name rest h e = absurd (cc)
 
-dotted_at_dot : (b : Bool) (before : List Text) (last : Text) (ts : List Kind) → dotted b before last (kind.Sym y.Dot ∷ ts) ≡ dotted_behind b (length ts) before last ts
+pub dotted_at_dot : (b : Bool) (before : List Text) (last : Text) (ts : List Kind) → dotted b before last (kind.Sym y.Dot ∷ ts) ≡ dotted_behind b (length ts) before last ts
 unfolding dotted
 dotted_at_dot b before last ts = let e : length (kind.Sym y.Dot ∷ ts) ≡ suc (length ts) = omega arith in ap (λ n. dotted_from b n before last (kind.Sym y.Dot ∷ ts)) e
 

@@ -255,13 +255,14 @@ module _ (room : ℕ) (inner : Lead → ℕ → Parser x.Expr) (list : Parser x.
   abbrev pub operator_by : ℕ → x.Expr → Symbol → Option (Parser x.Expr)
   operator_by least left op =
       if is_assignment op then (if nat_lt 0 least || not (is_target left) then None else Some (assigned left op))
-      else (if nat_lt (binary_level op) (suc 0) || nat_lt (binary_level op) least then None else Some (binary left op))
+      else (if nat_lt (binary_level op) 1 || (nat_lt (binary_level op) least || nat_lt (level left) (binary_level op)) then None else Some (binary left op))
 
-  -- how the expression goes on with an operator that binds as tightly as least, if it does
+  -- how the expression goes on with an operator that binds as tightly as least, where it can take left, if it does:
+  -- what stands before an operator binds as tightly as it does, and so `a instanceof T + b` ends before the plus
   abbrev pub operator : ℕ → x.Expr → Option Kind → Option (Parser x.Expr)
-  operator least left (Some (kind.Sym y.Question)) = if nat_lt 1 least then None else Some (choice left)
+  operator least left (Some (kind.Sym y.Question)) = if nat_lt 1 least || nat_lt (level left) 2 then None else Some (choice left)
   operator least left (Some (kind.Sym op)) = operator_by least left op
-  operator least left (Some (kind.Word k.Instanceof)) = if nat_lt 8 least then None else Some (tested left)
+  operator least left (Some (kind.Word k.Instanceof)) = if nat_lt 8 least || nat_lt (level left) 8 then None else Some (tested left)
   operator least left _ = None
 
   abbrev pub climb_from : ℕ → ℕ → x.Expr → Parser x.Expr

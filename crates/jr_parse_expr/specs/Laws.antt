@@ -1,0 +1,62 @@
+-- What the laws of reading expressions say: what is written is read, and what is read is written (JLS 15, 18).
+use Rattle.std.specs.Prelude.{◌≡◌, ℕ, ◌≤◌, List, ◌++◌, Ok}
+use Rattle.jr_base.specs.declared.kind.Kind.{Kind}
+use Rattle.jr_tree.specs.Mirror.Exprs as x
+use Rattle.jr_tree.specs.Shape.{IsShapedInit, IsWholeExpr}
+use Rattle.jr_tree.specs.Depth.{init_depth}
+use Rattle.jr_tree.specs.Tokens.{expr_tokens}
+use Rattle.jr_parse_laws.specs.Parsers.{first}
+use Rattle.jr_parse_expr.specs.Exprs.{Lead, expr, effect, init}
+use Rattle.jr_parse_expr.specs.Writing.{write_lead, write_expr, write_init}
+use Rattle.jr_parse_expr.specs.Follow.{Ends, EffectEnds, InitEnds, IsExpr, IsEffect, IsLed}
+
+-- writing in front of a rest is writing out the tokens and then the rest
+abbrev pub IsWritten : Type 0
+IsWritten = (e : x.Expr) (rest : List Kind) → write_expr e rest ≡ expr_tokens e ++ rest
+
+-- ---- expressions, from a level of binding on, in at most so many levels, where the caller may have read their beginning
+
+pub record IsExprRead (room least : ℕ) (ts : List Kind) (read : x.Expr × List Kind) : Type 0 where
+  pub is : IsExpr room least read.0
+  pub written : ts ≡ write_expr read.0 read.1
+  pub ended : Ends least read.0 (first read.1)
+
+abbrev pub IsExprComplete : Type 0
+IsExprComplete = (room least : ℕ) (lead : Lead) (e : x.Expr) (rest ts : List Kind) → IsExpr room least e → Ends least e (first rest) → IsLed lead (first ts) → write_lead lead ts ≡ write_expr e rest
+    → expr room lead least ts ≡ Ok (e, rest)
+
+abbrev pub IsExprSound : Type 0
+IsExprSound = (room least : ℕ) (lead : Lead) (ts : List Kind) (read : x.Expr × List Kind) → least ≤ 12 → IsLed lead (first ts) → expr room lead least ts ≡ Ok read → IsExprRead room least (write_lead lead ts) read
+
+-- ---- expressions that stand as statements
+
+pub record IsEffectRead (room : ℕ) (ts : List Kind) (read : x.Expr × List Kind) : Type 0 where
+  pub is : IsEffect room read.0
+  pub written : ts ≡ write_expr read.0 read.1
+  pub ended : EffectEnds read.0 (first read.1)
+
+abbrev pub IsEffectComplete : Type 0
+IsEffectComplete = (room : ℕ) (lead : Lead) (e : x.Expr) (rest ts : List Kind) → IsEffect room e → EffectEnds e (first rest) → IsLed lead (first ts) → write_lead lead ts ≡ write_expr e rest
+    → effect room lead ts ≡ Ok (e, rest)
+
+abbrev pub IsEffectSound : Type 0
+IsEffectSound = (room : ℕ) (lead : Lead) (ts : List Kind) (read : x.Expr × List Kind) → IsLed lead (first ts) → effect room lead ts ≡ Ok read → IsEffectRead room (write_lead lead ts) read
+
+-- ---- initializers
+
+pub record IsInitRead (room : ℕ) (ts : List Kind) (read : x.Init × List Kind) : Type 0 where
+  pub shaped : IsShapedInit read.0
+  pub low : init_depth read.0 ≤ room
+  pub written : ts ≡ write_init read.0 read.1
+  pub ended : InitEnds read.0 (first read.1)
+
+abbrev pub IsInitComplete : Type 0
+IsInitComplete = (room : ℕ) (i : x.Init) (rest : List Kind) → IsShapedInit i → init_depth i ≤ room → InitEnds i (first rest) → init room (write_init i rest) ≡ Ok (i, rest)
+
+abbrev pub IsInitSound : Type 0
+IsInitSound = (room : ℕ) (ts : List Kind) (read : x.Init × List Kind) → init room ts ≡ Ok read → IsInitRead room ts read
+
+-- ---- one reading
+
+abbrev pub HasOneReading : Type 0
+HasOneReading = (a b : x.Expr) → IsWholeExpr a → IsWholeExpr b → expr_tokens a ≡ expr_tokens b → a ≡ b

@@ -1,0 +1,15 @@
+// The laws of reading expressions.
+ghost use Rattle.jr_parse_expr.specs.Laws.{IsWritten, IsExprComplete, IsExprSound, IsEffectComplete, IsEffectSound, IsInitComplete, IsInitSound, HasOneReading};
+
+/// Reading an expression, one that stands as a statement, or an initializer answers exactly the tree that is written so, and ends where it does not go on
+/// (JLS 15, 14.8, 10.6). So an expression has one reading.
+pub fn expressions_have_one_reading()
+    ensures written { IsWritten }
+    ensures complete { IsExprComplete }
+    ensures sound { IsExprSound }
+    ensures effects_complete { IsEffectComplete }
+    ensures effects_sound { IsEffectSound }
+    ensures inits_complete { IsInitComplete }
+    ensures inits_sound { IsInitSound }
+    ensures one_reading { HasOneReading }
+{}
