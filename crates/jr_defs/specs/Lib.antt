@@ -19,3 +19,8 @@ pub mod Overloads
 pub mod Lookup
 pub mod Headers
 pub mod Binding
+pub mod Prelude
+pub mod Program
+pub mod Numbers
+pub mod Rules
+pub mod Compiling
