@@ -11,7 +11,7 @@ pub record IsTree (p : Rows) : Type 0 where
   -- all but the program stand below an earlier row
   pub root : parent p 0 ≡ 0
   pub up : (n : ℕ) → n < length p → 0 < n → parent p n < n
-  pub held : (n : ℕ) → n < length p → 0 < n → end p n ≤ end p (parent p n)
+  pub held : (n : ℕ) → n < length p → 0 < n → n < end p (parent p n)
   -- what stands inside a row has its parent there
   pub inner : (m n : ℕ) → m < n → n < end p m → m ≤ parent p n
   -- of two rows one holds the other, or they are apart

@@ -2,7 +2,9 @@
 #![tactic(auto)]
 
 mod label;
+mod law;
 mod row;
 
 pub use label::{ImportKind, Label, Modifiers, NameKind, NamePlace, ReceiverKind, Role, Sought};
+pub use law::programs_are_trees;
 pub use row::Row;
