@@ -6,7 +6,9 @@ use Rattle.jr_rows.specs.declared.label.ImportKind.{ImportKind}
 use Rattle.jr_rows.specs.declared.label.ImportKind.TheVariants as importing
 use Rattle.jr_rows.specs.declared.label.Role.{Role}
 use Rattle.jr_rows.specs.declared.label.Role.TheVariants as role
-use Rattle.jr_rows.specs.Rows.{Rows, label, name, parent, end, role_at}
+use Rattle.jr_rows.specs.declared.label.Sought.{Sought}
+use Rattle.jr_rows.specs.declared.label.Sought.TheVariants as sought
+use Rattle.jr_rows.specs.Rows.{Rows, label, name, parent, end, role_at, sought_at}
 use Rattle.jr_defs.specs.declared.referent.RowType.{RowType}
 use Rattle.jr_defs.specs.declared.referent.Space.TheVariants as space
 use Rattle.jr_defs.specs.declared.referent.Referent.TheVariants.{Declared}
@@ -37,14 +39,14 @@ pub record SameParameters (p : Rows) (t : Table) (m k : ℕ) : Type 0 where
   pub first : Parameters p t m types
   pub second : Parameters p t k types
 
--- a unit stands in the package whose path is that of d's package and d's name
+-- a unit stands in the subpackage that has the name of d (JLS 7.1); the unnamed package has no subpackages
 pub record IsSubpackage (p : Rows) (d : ℕ) : Type 0 where
   pub path : List Text
   pub inside : InPackage p path d
+  pub named : path ≡ [] → ⊥
   pub unit : ℕ
   pub is_unit : label p unit ≡ is.Unit
-  pub rest : List Text
-  pub named : package_of p unit ≡ path ++ (name p d ∷ rest)
+  pub stands : package_of p unit ≡ path ++ name p d ∷ []
 
 -- e encloses d, at any depth
 pub data Encloses (p : Rows) : ℕ → ℕ → Type 0 where
@@ -71,10 +73,22 @@ pub record DeclaresTop (p : Rows) (u d : ℕ) : Type 0 where
   pub top : IsTopLevel p d
   pub inside : parent p d ≡ u
 
+-- what is sought behind a dot
+abbrev pub IsBehindDot : Sought → Type 0
+IsBehindDot (sought.Qualified kind) = Unit {0}
+IsBehindDot sought.FieldOf = Unit {0}
+IsBehindDot sought.MethodOf = Unit {0}
+IsBehindDot _ = ⊥
+
+-- the receiver of the occurrence, where it has one
+pub record HasReceiver (p : Rows) (t : Table) (o c : ℕ) (through : Option RowType) : Type 0 where
+  pub behind : IsBehindDot (sought_at p o)
+  pub receiver : Receiver p t (HasConstantForm p t) o c through
+
 -- the type of what the occurrence is reached through
 pub data Through (p : Rows) (t : Table) (o : ℕ) : Option RowType → Type 0 where
-  receiver : {c : ℕ} {through : Option RowType} → Receiver p t (HasConstantForm p t) o c through → Through p t o through
-  without : ((c : ℕ) (through : Option RowType) → Receiver p t (HasConstantForm p t) o c through → ⊥) → Through p t o None
+  receiver : {c : ℕ} {through : Option RowType} → HasReceiver p t o c through → Through p t o through
+  without : ((c : ℕ) (through : Option RowType) → HasReceiver p t o c through → ⊥) → Through p t o None
 
 -- the rule is broken at the row
 pub data Breaks (p : Rows) (t : Table) : ℕ → ℕ → Type 0 where
