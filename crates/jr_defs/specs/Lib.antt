@@ -24,3 +24,4 @@ pub mod Program
 pub mod Numbers
 pub mod Rules
 pub mod Compiling
+pub mod Correspondence

@@ -31,7 +31,7 @@ use Rattle.jr_defs.specs.Imports.{StaticImport, ImportsHold}
 use Rattle.jr_defs.specs.Scope.{Depth, within, Imported, InScope, Visible}
 use Rattle.jr_defs.specs.Instances.{HasInstance}
 use Rattle.jr_defs.specs.Typing.{TypeOf}
-use Rattle.jr_defs.specs.Overloads.{ArgumentTypes, Choice}
+use Rattle.jr_defs.specs.Overloads.{ArgumentTypes, Choice, ImportedChoice}
 
 -- ---- names without a dot
 
@@ -135,7 +135,7 @@ pub record ImportedMethod (p : Rows) (t : Table) (x : Text) (o d : ℕ) : Type 0
 -- a method without receiver, in the innermost type that has one of the name, else among the imported ones; arguments are seen by their types
 pub data MethodCandidate (p : Rows) (t : Table) (x : Text) (o : ℕ) (arguments : List RowType) : ℕ → Option ℕ → Type 0 where
   member : {c d : ℕ} → MethodLevel p t x o c → Choice p t c o None arguments (MemberNamed p t space.Method x c) d → MethodCandidate p t x o arguments d (Some c)
-  imported : {d : ℕ} → ((c : ℕ) → MethodLevel p t x o c → ⊥) → Choice p t o o None arguments (ImportedMethod p t x o) d → MethodCandidate p t x o arguments d None
+  imported : {d : ℕ} → ((c : ℕ) → MethodLevel p t x o c → ⊥) → ImportedChoice p t o arguments (ImportedMethod p t x o) d → MethodCandidate p t x o arguments d None
 
 -- the innermost enclosing class that has an inner class as member gives its objects their enclosing one (JLS 15.9.2)
 pub record EnclosesNew (p : Rows) (t : Table) (o c e : ℕ) : Type 0 where
@@ -196,7 +196,7 @@ pub record IsLength (p : Rows) (t : Table) (K : ℕ → Type 0) (o : ℕ) (x : T
 
 pub data Otherwise (p : Rows) (t : Table) (K : ℕ → Type 0) (o : ℕ) (x : Text) (s : Sought) : Referent → Type 0 where
   package_name : IsPackageName p t o s → Otherwise p t K o x s Package
-  length : IsLength p t K o x s → Otherwise p t K o x s ArrayLength
+  length : (IsPackageName p t o s → ⊥) → IsLength p t K o x s → Otherwise p t K o x s ArrayLength
   unbound : (IsPackageName p t o s → ⊥) → (IsLength p t K o x s → ⊥) → Otherwise p t K o x s Unbound
 
 -- the answer at the place o, where it seeks so

@@ -1,5 +1,5 @@
 -- Which method or constructor a call chooses (JLS 15.12.2, 8.4.8.4, 8.4.5).
-use Rattle.std.specs.Prelude.{◌≡◌, ◌⊎◌, ℕ, ◌+◌, ◌<◌, List, [], ◌∷◌, Option}
+use Rattle.std.specs.Prelude.{◌≡◌, ◌⊎◌, ℕ, ◌+◌, ◌<◌, List, [], ◌∷◌, Option, None}
 use Rattle.jr_rows.specs.Rows.{Rows, parent, end}
 use Rattle.jr_defs.specs.declared.referent.RowType.{RowType}
 use Rattle.jr_defs.specs.Referents.{Table}
@@ -50,7 +50,7 @@ pub record IsMostSpecific (p : Rows) (t : Table) (A : ℕ → Type 0) (m : ℕ) 
 -- the result of m is that of k, or a reference subtype of it (JLS 8.4.5)
 pub data ResultFits (p : Rows) (t : Table) (m k : ℕ) : Type 0 where
   same : {a : RowType} → HasType p t m a → HasType p t k a → ResultFits p t m k
-  below : {a b : RowType} → HasType p t m a → HasType p t k b → IsReferenceType a → IsReferenceType b → Subtype p t a b → ResultFits p t m k
+  reference : {a b : RowType} → HasType p t m a → HasType p t k b → IsReferenceType a → IsReferenceType b → Subtype p t a b → ResultFits p t m k
 
 -- in the order of the direct supertypes of c, the one at n is the first that has the member d
 pub record FirstThrough (p : Rows) (t : Table) (c n s d : ℕ) : Type 0 where
@@ -90,3 +90,8 @@ pub data IsLeftOf (p : Rows) (t : Table) (c : ℕ) (A : ℕ → Type 0) (m : ℕ
 -- the choice among the methods or constructors S of the type c, at the place o
 abbrev pub Choice : Rows → Table → ℕ → ℕ → Option RowType → List RowType → (ℕ → Type 0) → ℕ → Type 0
 Choice p t c o receiver arguments S m = IsLeftOf p t c (Applicable p t o receiver arguments S) m
+
+-- the choice among imported static methods, none of which is abstract
+pub data ImportedChoice (p : Rows) (t : Table) (o : ℕ) (arguments : List RowType) (S : ℕ → Type 0) (m : ℕ) : Type 0 where
+  chosen : IsMostSpecific p t (Applicable p t o None arguments S) m → ImportedChoice p t o arguments S m
+  undecided : ((k : ℕ) → IsMostSpecific p t (Applicable p t o None arguments S) k → ⊥) → Applicable p t o None arguments S m → ImportedChoice p t o arguments S m

@@ -1,0 +1,159 @@
+-- What corresponding occurrences may refer to corresponds: lookup does not depend on how anything else is written.
+use Rattle.std.proofs.Common.{◌≡◌, ◌⊎◌, ℕ, suc, ◌<◌, ◌≤◌, refl, sym, ◌∙◌, ap, subst, inl, inr, arith, List, [], ◌∷◌}
+use Rattle.std.specs.Prelude.{Option, Some, None}
+use Rattle.jr_base.specs.declared.text.Text.{Text}
+use Rattle.jr_tree.specs.declared.tree.ThisOrSuper.{ThisOrSuper}
+use Rattle.jr_tree.specs.declared.tree.ThisOrSuper.TheVariants as which
+use Rattle.jr_rows.specs.declared.label.Label.{Label}
+use Rattle.jr_rows.specs.declared.label.Label.TheVariants as is
+use Rattle.jr_rows.specs.declared.label.NameKind.{NameKind}
+use Rattle.jr_rows.specs.declared.label.NameKind.TheVariants as kind
+use Rattle.jr_rows.specs.declared.label.Role.{Role}
+use Rattle.jr_rows.specs.declared.label.Role.TheVariants as role
+use Rattle.jr_rows.specs.declared.label.Sought.{Sought}
+use Rattle.jr_rows.specs.declared.label.Sought.TheVariants as sought
+use Rattle.jr_rows.specs.Labels.{role_of}
+use Rattle.jr_rows.specs.Rows.{Rows, label, name, parent, role_at, sought_at}
+use Rattle.jr_defs.specs.declared.referent.Space.{Space}
+use Rattle.jr_defs.specs.declared.referent.Space.TheVariants as space
+use Rattle.jr_defs.specs.declared.referent.RowType.{RowType}
+use Rattle.jr_defs.specs.declared.referent.Referent.{Referent}
+use Rattle.jr_defs.specs.declared.referent.Referent.TheVariants.{Unbound, Ambiguous, ArrayLength, Package, Declared}
+use Rattle.jr_defs.specs.Referents.{Table, IsAnswer, one, none, several}
+use Rattle.jr_defs.specs.Declarations.{Declares, IsType, IsClass, IsClassLabel}
+use Rattle.jr_defs.specs.Enclosing.{BodyOf, InBody, Innermost, DeclaredIn, ConstructorOf}
+use Rattle.jr_defs.specs.Modifiers.{IsInner, IsStatic}
+use Rattle.jr_defs.specs.Types.{NamesType}
+use Rattle.jr_defs.specs.Supertypes.{Super, SuperAt, Superclass}
+use Rattle.jr_defs.specs.Members.{MemberOf, MemberNamed}
+use Rattle.jr_defs.specs.Scope.{Depth, within}
+use Rattle.jr_defs.specs.Overloads.{IsApplicable, Applicable, IsMostSpecific, Choice, ImportedChoice, Earlier}
+use Rattle.jr_defs.specs.Lookup.{SimpleCandidate, MemberBefore, TypeBefore, QualifiedCandidate, SuperOf, MethodLevel, ImportedMethod, MethodCandidate, EnclosesNew, NewLevel, CalledClass, Candidate, IsPackageName, IsLength, Otherwise, LookFor, Arguments}
+use Rattle.jr_defs.specs.Correspondence.{IsDeclared, Alike, Carries, Sees, Places, Asks, moved, moved_level, moved_types, moved_receiver}
+use Rattle.jr_defs.proofs.CarryMembers.{of_role, type_declared, declared_in_declared, member_declared, role_over, at_role, type_over, static_over, declares_over, member_over, member_named_over}
+use Rattle.jr_defs.proofs.CarryScope.{scope_declared, depth_declared, IsNoMethod, no_method, found_over, none_over}
+use Rattle.jr_defs.proofs.CarryOverloads.{Sets, SetsBoth, turned, applicable_over, more_specific_over, result_over, earlier_over, Choosing, Both, flipped, both_most, most_over, left_of_over}
+
+-- what seeks methods or constructors reads parameter types and subtypes
+abbrev pub IsCall : Sought → Type 0
+IsCall sought.Method = Unit {0}
+IsCall sought.MethodOf = Unit {0}
+IsCall sought.SuperMethod = Unit {0}
+IsCall sought.Creation = Unit {0}
+IsCall (sought.ConstructorCall w) = Unit {0}
+IsCall _ = ⊥
+
+-- all that two programs have to agree on, so that an occurrence of one is looked up as one of the other
+pub record Corresponds (p : Rows) (t : Table) (K : ℕ → Type 0) (q : Rows) (u : Table) (L : ℕ → Type 0) (f g : ℕ → ℕ) (C D : ℕ → Type 0) (o o' : ℕ) : Type 0 where
+  pub carries : Carries p t q u f g C D
+  pub places : Places p t q u f C o o'
+  pub asks : Asks p t K q u L f g C o o'
+  pub sees : IsCall (sought_at p o) → Sees p t q u f
+  pub wide : IsCall (sought_at p o) → (c s : ℕ) → Super p t c s → C c
+
+class_type_label : (l : Label) → IsClassLabel l → role_of l ≡ role.Type
+class_type_label (is.Class m b) h = refl
+class_type_label _ h = absurd h
+
+-- ---- a direction, given the other
+
+module _ (p : Rows) (t : Table) (K : ℕ → Type 0) (q : Rows) (u : Table) (L : ℕ → Type 0) (f g : ℕ → ℕ) (C D : ℕ → Type 0) (o o' : ℕ)
+  (to : Corresponds p t K q u L f g C D o o') (from : Corresponds q u L p t K g f D C o' o) where
+
+  simple_over : (x : Text) (k : NameKind) (d : ℕ) (level : Option ℕ) → SimpleCandidate p t x o k d level → SimpleCandidate q u x o' k (f d) (moved_level f level)
+  simple_over x _ d l (SimpleCandidate.variable h) = SimpleCandidate.variable (found_over p t q u f g C D to.carries from.carries o o' to.places from.places space.Variable x d l (λ k. cc) h)
+  simple_over x _ d l (SimpleCandidate.type h) = SimpleCandidate.type (found_over p t q u f g C D to.carries from.carries o o' to.places from.places space.Type x d l (λ k. cc) h)
+  simple_over x _ d l (SimpleCandidate.package_or_type h) = SimpleCandidate.package_or_type (found_over p t q u f g C D to.carries from.carries o o' to.places from.places space.Type x d l (λ k. cc) h)
+  simple_over x _ d l (SimpleCandidate.first_variable h) = SimpleCandidate.first_variable (found_over p t q u f g C D to.carries from.carries o o' to.places from.places space.Variable x d l (λ k. cc) h)
+  simple_over x _ d l (SimpleCandidate.then_type none' h) = SimpleCandidate.then_type
+    (none_over p t q u f g C D to.carries from.carries o o' to.places from.places space.Variable x (λ k. cc) none')
+    (found_over p t q u f g C D to.carries from.carries o o' to.places from.places space.Type x d l (λ k. cc) h)
+
+  member_before_over : (x : Text) (d : ℕ) → MemberBefore p t K space.Variable x o d → MemberBefore q u L space.Variable x o' (f d)
+  member_before_over x d h = record {
+    class = f h.class;
+    receiver = moved_receiver f h.receiver;
+    before = to.asks.receiver h.class h.receiver h.before;
+    member = member_named_over p t q u f g C D to.carries from.carries space.Variable x h.class d (to.asks.receiver_known h.class h.receiver h.before)
+      (λ e. absurd (no_method space.Variable (role_at p d) (λ k. cc) h.member.declares.of_kind e)) h.member }
+
+  type_before_over : (x : Text) (d : ℕ) → TypeBefore p t x o d → TypeBefore q u x o' (f d)
+  type_before_over x d (TypeBefore.member {c = c} h m) = TypeBefore.member (to.asks.named c h)
+    (member_named_over p t q u f g C D to.carries from.carries space.Type x c d (to.asks.named_known c h)
+      (λ e. absurd (no_method space.Type (role_at p d) (λ k. cc) m.declares.of_kind e)) m)
+  type_before_over x d (TypeBefore.top {path = path} h w i) = TypeBefore.top (to.asks.packaged path h) (to.carries.alike.of_path path d w)
+    (declares_over p q f g to.carries.alike space.Type x d (type_declared p d w.top.type) i)
+
+  innermost_over : (c : ℕ) → Innermost p o c → Innermost q o' (f c)
+  innermost_over c h = record {
+    holds = to.places.body c h.holds;
+    innermost = λ e' w. let v = from.places.body e' w in
+      subst (λ e. e ≤ f c) (from.carries.alike.back e' (type_declared q e' w.of_type.type)) (to.carries.alike.order (g e') c (h.innermost (g e') v)) }
+
+  super_over_here : (s : ℕ) → SuperOf p t o s → SuperOf q u o' (f s)
+  super_over_here s h = record {
+    class = f h.class;
+    innermost = innermost_over h.class h.innermost;
+    instance = to.places.instance h.class h.instance;
+    above = to.carries.superclass h.class s (to.places.body_known h.class h.innermost.holds) h.above }
+
+  superclass_known : (c s : ℕ) → C c → Superclass p t c s → C s
+  superclass_known c s k (Superclass.named {n = n} a b) = to.carries.super_known c n s k (SuperAt.class a b)
+  superclass_known c s k (Superclass.implied a b) = to.carries.super_known c c s k (SuperAt.implied a b)
+
+  inner_over : (c : ℕ) → IsInner p c → IsInner q (f c)
+  inner_over c h = let l = type_declared p c (class_type_label (label p c) h.class) in record {
+    class = subst IsClassLabel (sym (to.carries.alike.label_same c l)) h.class;
+    around = f h.around;
+    member = to.carries.alike.declared h.around c h.member;
+    instance = λ s. h.instance (subst (IsStatic p) (to.carries.alike.back c l)
+      (static_over q p g f from.carries.alike (f c) (λ n. l (sym (role_over p q f g to.carries.alike c l) ∙ n)) s)) }
+
+  level_method_over : (x : Text) (c : ℕ) → IsCall (sought_at p o) → IsCall (sought_at q o') → MethodLevel p t x o c → MethodLevel q u x o' (f c)
+  level_method_over x c call call' h = record {
+    holds = to.places.body c h.holds;
+    some = f h.some;
+    member = member_named_over p t q u f g C D to.carries from.carries space.Method x c h.some (to.places.body_known c h.holds) (λ _. from.sees call') h.member;
+    innermost = λ e' d' w m.
+      let v = from.places.body e' w in
+      let n = member_named_over q u p t g f D C from.carries to.carries space.Method x e' d' (from.places.body_known e' w) (λ _. to.sees call) m in
+      subst (λ e. e ≤ f c) (from.carries.alike.back e' (type_declared q e' w.of_type.type)) (to.carries.alike.order (g e') c (h.innermost (g e') (g d') v n)) }
+
+  -- what stands for the methods and constructors of a call
+  module _ (call : IsCall (sought_at p o)) (call' : IsCall (sought_at q o')) (receiver : Option RowType) (arguments : List RowType)
+    (same_receiver : moved_receiver g (moved_receiver f receiver) ≡ receiver) (same_arguments : moved_types g (moved_types f arguments) ≡ arguments) where
+    applicables : (S S' : ℕ → Type 0) → SetsBoth p q f g S S'
+      → Both p t q u f g (Applicable p t o receiver arguments S) (Applicable q u o' (moved_receiver f receiver) (moved_types f arguments) S')
+    applicables S S' sets = record {
+      there = record {
+        alike = to.carries.alike;
+        sets = record {
+          there = record {
+            goes = λ m h. record { candidate = sets.there.goes m h.candidate;
+              applicable = applicable_over p t q u f g C D to.carries (to.wide call) o o' to.places (to.sees call) receiver arguments m (sets.there.are m h.candidate) h.applicable };
+            are = λ m h. sets.there.are m h.candidate };
+          back = record { goes = λ m h. back_goes m h; are = λ m h. sets.back.are m h.candidate } };
+        specific = more_specific_over p t q u f g C D to.carries (to.wide call) o o' to.places (to.sees call);
+        results = result_over p t q u f g C D to.carries (to.wide call) o o' to.places (to.sees call) };
+      back = record {
+        alike = from.carries.alike;
+        sets = record {
+          there = record { goes = λ m h. back_goes m h; are = λ m h. sets.back.are m h.candidate };
+          back = record {
+            goes = λ m h. record { candidate = sets.there.goes m h.candidate;
+              applicable = applicable_over p t q u f g C D to.carries (to.wide call) o o' to.places (to.sees call) receiver arguments m (sets.there.are m h.candidate) h.applicable };
+            are = λ m h. sets.there.are m h.candidate } };
+        specific = more_specific_over q u p t g f D C from.carries (from.wide call') o' o from.places (from.sees call');
+        results = result_over q u p t g f D C from.carries (from.wide call') o' o from.places (from.sees call') } }
+      where
+        back_goes : (m : ℕ) → Applicable q u o' (moved_receiver f receiver) (moved_types f arguments) S' m → Applicable p t o receiver arguments S (g m)
+        back_goes m h = record {
+          candidate = sets.back.goes m h.candidate;
+          applicable = subst (λ r. IsApplicable p t o r arguments (g m)) same_receiver (subst (λ a. IsApplicable p t o (moved_receiver g (moved_receiver f receiver)) a (g m)) same_arguments
+            (applicable_over q u p t g f D C from.carries (from.wide call') o' o from.places (from.sees call') (moved_receiver f receiver) (moved_types f arguments) m
+              (sets.back.are m h.candidate) h.applicable)) }
+
+    choice_over : (S S' : ℕ → Type 0) → SetsBoth p q f g S S' → (c m : ℕ) → C c → Choice p t c o receiver arguments S m
+      → Choice q u (f c) o' (moved_receiver f receiver) (moved_types f arguments) S' (f m)
+    choice_over S S' sets c m k h = left_of_over p t q u f g (Applicable p t o receiver arguments S) (Applicable q u o' (moved_receiver f receiver) (moved_types f arguments) S')
+      (applicables S S' sets) c (λ d e i j w. earlier_over p t q u f g C D to.carries from.carries (from.sees call') (to.sees call) c d e k i j w) m h

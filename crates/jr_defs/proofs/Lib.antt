@@ -1,0 +1,6 @@
+pub mod Unique
+pub mod CarryMembers
+pub mod CarryScope
+pub mod CarryTypes
+pub mod CarryOverloads
+pub mod CarryLookup
