@@ -44,12 +44,12 @@ IsCall (sought.ConstructorCall w) = Unit {0}
 IsCall _ = ⊥
 
 -- all that two programs have to agree on, so that an occurrence of one is looked up as one of the other
-pub record Corresponds (p : Rows) (t : Table) (K : ℕ → Type 0) (q : Rows) (u : Table) (L : ℕ → Type 0) (f g : ℕ → ℕ) (C D : ℕ → Type 0) (o o' : ℕ) : Type 0 where
+pub record Corresponds (p : Rows) (t : Table) (K : ℕ → Type 0) (q : Rows) (u : Table) (L : ℕ → Type 0) (f g : ℕ → ℕ) (C D : ℕ → Type 0) (o o' : ℕ) (s : Sought) : Type 0 where
   pub carries : Carries p t q u f g C D
   pub places : Places p t q u f C o o'
   pub asks : Asks p t K q u L f g C o o'
-  pub sees : IsCall (sought_at p o) → Sees p t q u f
-  pub wide : IsCall (sought_at p o) → (c s : ℕ) → Super p t c s → C c
+  pub sees : IsCall s → Sees p t q u f
+  pub wide : IsCall s → (c r : ℕ) → Super p t c r → C c
 
 class_type_label : (l : Label) → IsClassLabel l → role_of l ≡ role.Type
 class_type_label (is.Class m b) h = refl
@@ -57,10 +57,10 @@ class_type_label _ h = absurd h
 
 -- ---- a direction, given the other
 
-module _ (p : Rows) (t : Table) (K : ℕ → Type 0) (q : Rows) (u : Table) (L : ℕ → Type 0) (f g : ℕ → ℕ) (C D : ℕ → Type 0) (o o' : ℕ)
-  (to : Corresponds p t K q u L f g C D o o') (from : Corresponds q u L p t K g f D C o' o) where
+module _ (p : Rows) (t : Table) (K : ℕ → Type 0) (q : Rows) (u : Table) (L : ℕ → Type 0) (f g : ℕ → ℕ) (C D : ℕ → Type 0) (o o' : ℕ) (s : Sought)
+  (to : Corresponds p t K q u L f g C D o o' s) (from : Corresponds q u L p t K g f D C o' o s) where
 
-  simple_over : (x : Text) (k : NameKind) (d : ℕ) (level : Option ℕ) → SimpleCandidate p t x o k d level → SimpleCandidate q u x o' k (f d) (moved_level f level)
+  pub simple_over : (x : Text) (k : NameKind) (d : ℕ) (level : Option ℕ) → SimpleCandidate p t x o k d level → SimpleCandidate q u x o' k (f d) (moved_level f level)
   simple_over x _ d l (SimpleCandidate.variable h) = SimpleCandidate.variable (found_over p t q u f g C D to.carries from.carries o o' to.places from.places space.Variable x d l (λ k. cc) h)
   simple_over x _ d l (SimpleCandidate.type h) = SimpleCandidate.type (found_over p t q u f g C D to.carries from.carries o o' to.places from.places space.Type x d l (λ k. cc) h)
   simple_over x _ d l (SimpleCandidate.package_or_type h) = SimpleCandidate.package_or_type (found_over p t q u f g C D to.carries from.carries o o' to.places from.places space.Type x d l (λ k. cc) h)
@@ -69,7 +69,7 @@ module _ (p : Rows) (t : Table) (K : ℕ → Type 0) (q : Rows) (u : Table) (L :
     (none_over p t q u f g C D to.carries from.carries o o' to.places from.places space.Variable x (λ k. cc) none')
     (found_over p t q u f g C D to.carries from.carries o o' to.places from.places space.Type x d l (λ k. cc) h)
 
-  member_before_over : (x : Text) (d : ℕ) → MemberBefore p t K space.Variable x o d → MemberBefore q u L space.Variable x o' (f d)
+  pub member_before_over : (x : Text) (d : ℕ) → MemberBefore p t K space.Variable x o d → MemberBefore q u L space.Variable x o' (f d)
   member_before_over x d h = record {
     class = f h.class;
     receiver = moved_receiver f h.receiver;
@@ -77,31 +77,31 @@ module _ (p : Rows) (t : Table) (K : ℕ → Type 0) (q : Rows) (u : Table) (L :
     member = member_named_over p t q u f g C D to.carries from.carries space.Variable x h.class d (to.asks.receiver_known h.class h.receiver h.before)
       (λ e. absurd (no_method space.Variable (role_at p d) (λ k. cc) h.member.declares.of_kind e)) h.member }
 
-  type_before_over : (x : Text) (d : ℕ) → TypeBefore p t x o d → TypeBefore q u x o' (f d)
+  pub type_before_over : (x : Text) (d : ℕ) → TypeBefore p t x o d → TypeBefore q u x o' (f d)
   type_before_over x d (TypeBefore.member {c = c} h m) = TypeBefore.member (to.asks.named c h)
     (member_named_over p t q u f g C D to.carries from.carries space.Type x c d (to.asks.named_known c h)
       (λ e. absurd (no_method space.Type (role_at p d) (λ k. cc) m.declares.of_kind e)) m)
   type_before_over x d (TypeBefore.top {path = path} h w i) = TypeBefore.top (to.asks.packaged path h) (to.carries.alike.of_path path d w)
     (declares_over p q f g to.carries.alike space.Type x d (type_declared p d w.top.type) i)
 
-  innermost_over : (c : ℕ) → Innermost p o c → Innermost q o' (f c)
+  pub innermost_over : (c : ℕ) → Innermost p o c → Innermost q o' (f c)
   innermost_over c h = record {
     holds = to.places.body c h.holds;
     innermost = λ e' w. let v = from.places.body e' w in
       subst (λ e. e ≤ f c) (from.carries.alike.back e' (type_declared q e' w.of_type.type)) (to.carries.alike.order (g e') c (h.innermost (g e') v)) }
 
-  super_over_here : (s : ℕ) → SuperOf p t o s → SuperOf q u o' (f s)
-  super_over_here s h = record {
+  pub super_over_here : (r : ℕ) → SuperOf p t o r → SuperOf q u o' (f r)
+  super_over_here r h = record {
     class = f h.class;
     innermost = innermost_over h.class h.innermost;
     instance = to.places.instance h.class h.instance;
-    above = to.carries.superclass h.class s (to.places.body_known h.class h.innermost.holds) h.above }
+    above = to.carries.superclass h.class r (to.places.body_known h.class h.innermost.holds) h.above }
 
-  superclass_known : (c s : ℕ) → C c → Superclass p t c s → C s
-  superclass_known c s k (Superclass.named {n = n} a b) = to.carries.super_known c n s k (SuperAt.class a b)
-  superclass_known c s k (Superclass.implied a b) = to.carries.super_known c c s k (SuperAt.implied a b)
+  pub superclass_known : (c r : ℕ) → C c → Superclass p t c r → C r
+  superclass_known c r k (Superclass.named {n = n} a b) = to.carries.super_known c n r k (SuperAt.class a b)
+  superclass_known c r k (Superclass.implied a b) = to.carries.super_known c c r k (SuperAt.implied a b)
 
-  inner_over : (c : ℕ) → IsInner p c → IsInner q (f c)
+  pub inner_over : (c : ℕ) → IsInner p c → IsInner q (f c)
   inner_over c h = let l = type_declared p c (class_type_label (label p c) h.class) in record {
     class = subst IsClassLabel (sym (to.carries.alike.label_same c l)) h.class;
     around = f h.around;
@@ -109,7 +109,7 @@ module _ (p : Rows) (t : Table) (K : ℕ → Type 0) (q : Rows) (u : Table) (L :
     instance = λ s. h.instance (subst (IsStatic p) (to.carries.alike.back c l)
       (static_over q p g f from.carries.alike (f c) (λ n. l (sym (role_over p q f g to.carries.alike c l) ∙ n)) s)) }
 
-  level_method_over : (x : Text) (c : ℕ) → IsCall (sought_at p o) → IsCall (sought_at q o') → MethodLevel p t x o c → MethodLevel q u x o' (f c)
+  pub level_method_over : (x : Text) (c : ℕ) → IsCall s → IsCall s → MethodLevel p t x o c → MethodLevel q u x o' (f c)
   level_method_over x c call call' h = record {
     holds = to.places.body c h.holds;
     some = f h.some;
@@ -120,9 +120,9 @@ module _ (p : Rows) (t : Table) (K : ℕ → Type 0) (q : Rows) (u : Table) (L :
       subst (λ e. e ≤ f c) (from.carries.alike.back e' (type_declared q e' w.of_type.type)) (to.carries.alike.order (g e') c (h.innermost (g e') (g d') v n)) }
 
   -- what stands for the methods and constructors of a call
-  module _ (call : IsCall (sought_at p o)) (call' : IsCall (sought_at q o')) (receiver : Option RowType) (arguments : List RowType)
+  module _ (call : IsCall s) (call' : IsCall s) (receiver : Option RowType) (arguments : List RowType)
     (same_receiver : moved_receiver g (moved_receiver f receiver) ≡ receiver) (same_arguments : moved_types g (moved_types f arguments) ≡ arguments) where
-    applicables : (S S' : ℕ → Type 0) → SetsBoth p q f g S S'
+    pub applicables : (S S' : ℕ → Type 0) → SetsBoth p q f g S S'
       → Both p t q u f g (Applicable p t o receiver arguments S) (Applicable q u o' (moved_receiver f receiver) (moved_types f arguments) S')
     applicables S S' sets = record {
       there = record {
@@ -153,7 +153,46 @@ module _ (p : Rows) (t : Table) (K : ℕ → Type 0) (q : Rows) (u : Table) (L :
             (applicable_over q u p t g f D C from.carries (from.wide call') o' o from.places (from.sees call') (moved_receiver f receiver) (moved_types f arguments) m
               (sets.back.are m h.candidate) h.applicable)) }
 
-    choice_over : (S S' : ℕ → Type 0) → SetsBoth p q f g S S' → (c m : ℕ) → C c → Choice p t c o receiver arguments S m
+    pub choice_over : (S S' : ℕ → Type 0) → SetsBoth p q f g S S' → (c m : ℕ) → C c → Choice p t c o receiver arguments S m
       → Choice q u (f c) o' (moved_receiver f receiver) (moved_types f arguments) S' (f m)
     choice_over S S' sets c m k h = left_of_over p t q u f g (Applicable p t o receiver arguments S) (Applicable q u o' (moved_receiver f receiver) (moved_types f arguments) S')
       (applicables S S' sets) c (λ d e i j w. earlier_over p t q u f g C D to.carries from.carries (from.sees call') (to.sees call) c d e k i j w) m h
+
+  -- the methods of a name, and the constructors, of corresponding types
+  pub methods_of : (x : Text) (c : ℕ) → IsCall s → C c → SetsBoth p q f g (MemberNamed p t space.Method x c) (MemberNamed q u space.Method x (f c))
+  methods_of x c call k = record {
+    there = record {
+      goes = λ m h. member_named_over p t q u f g C D to.carries from.carries space.Method x c m k (λ _. from.sees call) h;
+      are = λ m h. member_declared p t c m h.member };
+    back = record {
+      goes = λ m h. subst (λ c. MemberNamed p t space.Method x c (g m)) (to.carries.alike.back c (type_declared p c (to.carries.known c k)))
+        (member_named_over q u p t g f D C from.carries to.carries space.Method x (f c) m (to.carries.goes c k) (λ _. to.sees call) h);
+      are = λ m h. member_declared q u (f c) m h.member } }
+
+  pub constructors_of : (c : ℕ) → C c → SetsBoth p q f g (ConstructorOf p c) (ConstructorOf q (f c))
+  constructors_of c k = record {
+    there = record {
+      goes = λ m h. to.carries.alike.constructor c m h;
+      are = λ m h. of_role p m role.Constructor h.constructor (λ k. cc) };
+    back = record {
+      goes = λ m h. subst (λ c. ConstructorOf p c (g m)) (to.carries.alike.back c (type_declared p c (to.carries.known c k))) (from.carries.alike.constructor (f c) m h);
+      are = λ m h. of_role q m role.Constructor h.constructor (λ k. cc) } }
+
+  pub imported_declared : (x : Text) (d : ℕ) → ImportedMethod p t x o d → IsDeclared p d
+  imported_declared x d h = member_declared p t h.imported.brings.imports.of_type d h.imported.brings.imports.member
+
+  pub imported_over : (x : Text) (d : ℕ) → ImportedMethod p t x o d → ImportedMethod q u x o' (f d)
+  imported_over x d h = record {
+    imported = to.places.static d h.imported;
+    declares = declares_over p q f g to.carries.alike space.Method x d (imported_declared x d h) h.declares }
+
+  pub encloses_over : (c e : ℕ) → IsType p c → EnclosesNew p t o c e → EnclosesNew q u o' (f c) (f e)
+  encloses_over c e k h = record {
+    holds = to.places.body e h.holds;
+    member = member_over p t q u f g C D to.carries from.carries e c (to.places.body_known e h.holds) (λ m. absurd (let x = sym k ∙ m in cc)) h.member;
+    innermost = λ e' w m.
+      let v = from.places.body e' w in
+      let j = type_over p q f g to.carries.alike c k in
+      let n = subst (MemberOf p t (g e')) (to.carries.alike.back c (type_declared p c k))
+                (member_over q u p t g f D C from.carries to.carries e' (f c) (from.places.body_known e' w) (λ m. absurd (let x = sym j ∙ m in cc)) m) in
+      subst (λ x. x ≤ f e) (from.carries.alike.back e' (type_declared q e' w.of_type.type)) (to.carries.alike.order (g e') e (h.innermost (g e') v n)) }

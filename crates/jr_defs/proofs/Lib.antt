@@ -4,3 +4,4 @@ pub mod CarryScope
 pub mod CarryTypes
 pub mod CarryOverloads
 pub mod CarryLookup
+pub mod CarryAnswers
