@@ -5,3 +5,4 @@ pub mod CarryTypes
 pub mod CarryOverloads
 pub mod CarryLookup
 pub mod CarryAnswers
+pub mod Carry
