@@ -29,7 +29,7 @@ use Rattle.jr_defs.specs.Members.{MemberOf, MemberNamed}
 use Rattle.jr_defs.specs.Scope.{Depth, within}
 use Rattle.jr_defs.specs.Overloads.{IsApplicable, Applicable, IsMostSpecific, Choice, ImportedChoice, Earlier}
 use Rattle.jr_defs.specs.Lookup.{SimpleCandidate, MemberBefore, TypeBefore, QualifiedCandidate, SuperOf, MethodLevel, ImportedMethod, MethodCandidate, EnclosesNew, NewLevel, CalledClass, Candidate, IsPackageName, IsLength, Otherwise, LookFor, Arguments}
-use Rattle.jr_defs.specs.Correspondence.{IsDeclared, Alike, Carries, Sees, Places, Asks, moved, moved_level, moved_types, moved_receiver}
+use Rattle.jr_defs.specs.Correspondence.{IsDeclared, Alike, Carries, Sees, Places, IsRound, Asks, moved, moved_level, moved_types, moved_receiver}
 use Rattle.jr_defs.proofs.CarryMembers.{of_role, type_declared, declared_in_declared, member_declared, role_over, at_role, type_over, static_over, declares_over, member_over, member_named_over}
 use Rattle.jr_defs.proofs.CarryScope.{scope_declared, depth_declared, IsNoMethod, no_method, found_over, none_over}
 use Rattle.jr_defs.proofs.CarryOverloads.{Sets, SetsBoth, turned, applicable_over, more_specific_over, result_over, earlier_over, Choosing, Both, flipped, both_most, most_over, left_of_over}
@@ -88,7 +88,7 @@ module _ (p : Rows) (t : Table) (K : ℕ → Type 0) (q : Rows) (u : Table) (L :
   innermost_over c h = record {
     holds = to.places.body c h.holds;
     innermost = λ e' w. let v = from.places.body e' w in
-      subst (λ e. e ≤ f c) (from.carries.alike.back e' (type_declared q e' w.of_type.type)) (to.carries.alike.order (g e') c (h.innermost (g e') v)) }
+      subst (λ e. e ≤ f c) (from.carries.alike.back e' (type_declared q e' w.of_type.type)) (to.places.order (g e') c (IsRound.body v) (IsRound.body h.holds) (h.innermost (g e') v)) }
 
   pub super_over_here : (r : ℕ) → SuperOf p t o r → SuperOf q u o' (f r)
   super_over_here r h = record {
@@ -117,7 +117,7 @@ module _ (p : Rows) (t : Table) (K : ℕ → Type 0) (q : Rows) (u : Table) (L :
     innermost = λ e' d' w m.
       let v = from.places.body e' w in
       let n = member_named_over q u p t g f D C from.carries to.carries space.Method x e' d' (from.places.body_known e' w) (λ _. to.sees call) m in
-      subst (λ e. e ≤ f c) (from.carries.alike.back e' (type_declared q e' w.of_type.type)) (to.carries.alike.order (g e') c (h.innermost (g e') (g d') v n)) }
+      subst (λ e. e ≤ f c) (from.carries.alike.back e' (type_declared q e' w.of_type.type)) (to.places.order (g e') c (IsRound.body v) (IsRound.body h.holds) (h.innermost (g e') (g d') v n)) }
 
   -- what stands for the methods and constructors of a call
   module _ (call : IsCall s) (call' : IsCall s) (receiver : Option RowType) (arguments : List RowType)
@@ -195,4 +195,4 @@ module _ (p : Rows) (t : Table) (K : ℕ → Type 0) (q : Rows) (u : Table) (L :
       let j = type_over p q f g to.carries.alike c k in
       let n = subst (MemberOf p t (g e')) (to.carries.alike.back c (type_declared p c k))
                 (member_over q u p t g f D C from.carries to.carries e' (f c) (from.places.body_known e' w) (λ m. absurd (let x = sym j ∙ m in cc)) m) in
-      subst (λ x. x ≤ f e) (from.carries.alike.back e' (type_declared q e' w.of_type.type)) (to.carries.alike.order (g e') e (h.innermost (g e') v n)) }
+      subst (λ x. x ≤ f e) (from.carries.alike.back e' (type_declared q e' w.of_type.type)) (to.places.order (g e') e (IsRound.body v) (IsRound.body h.holds) (h.innermost (g e') v n)) }

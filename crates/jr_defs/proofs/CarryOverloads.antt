@@ -100,7 +100,7 @@ module _ (p : Rows) (t : Table) (q : Rows) (u : Table) (f g : ℕ → ℕ) (C D 
     let b = from.place_back (f c) m' r' kd sup in
     let a = to.place_back c n s k h.at in
     let o : m' ≤ f n = omega arith in
-    let z = from.alike.order m' (f n) o in
+    let z = from.place_order (f c) m' (f n) r' (f s) kd sup (to.super_at c n s k h.at) o in
     let mem = subst (MemberOf p t (g r')) (to.alike.back d l) (member_over q u p t g f D C from to r' (f d) (from.super_known (f c) m' r' kd sup) (λ _. sees) m) in
     h.first (g m') (g r') (smaller (g m') n (subst (λ x. g m' ≤ x) a z) (λ w. let y = ap f w in let v : m' ≡ f n = sym b ∙ y in absurd (omega arith))) sup' mem
     where
@@ -116,7 +116,7 @@ module _ (p : Rows) (t : Table) (q : Rows) (u : Table) (f g : ℕ → ℕ) (C D 
   before_over : (c m n r s : ℕ) → C c → SuperAt p t c m r → SuperAt p t c n s → m < n → f m < f n
   before_over c m n r s k a b lt =
     let x = to.place_back c m r k a in let y = to.place_back c n s k b in
-    let z = to.alike.order m n (omega arith) in
+    let z = to.place_order c m n r s k a b (omega arith) in
     strict (f m) (f n) z (λ e. let w = ap g e in let v : m ≡ n = sym x ∙ w ∙ y in absurd (omega arith))
     where
       strict : (a b : ℕ) → a ≤ b → (a ≡ b → ⊥) → a < b

@@ -12,28 +12,59 @@ use Rattle.jr_defs.specs.Declarations.{IsOf, Declares, IsType}
 use Rattle.jr_defs.specs.Scope.{Depth, on_demand, of_package, of_unit, within, rank, HasScope, InScope, Visible, Imported}
 use Rattle.jr_defs.specs.Imports.{SingleImport, StaticImport, OnDemandImport, OnDemandOf}
 use Rattle.jr_defs.specs.Lookup.{Found, level_of, NoneInScope}
-use Rattle.jr_defs.specs.Correspondence.{IsDeclared, Alike, Carries, Sees, Places, moved_depth, moved_level}
+use Rattle.jr_defs.specs.Correspondence.{IsDeclared, Alike, Carries, Sees, Places, IsRound, moved_depth, moved_level}
 use Rattle.jr_defs.proofs.CarryMembers.{of_role, type_declared, member_declared, role_over, member_over, declares_over}
 
 -- ---- how far in
 
-pub rank_over : (f : ℕ → ℕ) → ((m n : ℕ) → m ≤ n → f m ≤ f n) → (r s : Depth) → rank r ≤ rank s → rank (moved_depth f r) ≤ rank (moved_depth f s)
-rank_over f order (within a) (within b) h = let z = order a b (omega arith) in omega arith
-rank_over f order (within a) on_demand h = absurd (omega arith)
-rank_over f order (within a) of_package h = absurd (omega arith)
-rank_over f order (within a) of_unit h = absurd (omega arith)
-rank_over f order on_demand (within b) h = omega arith
-rank_over f order of_package (within b) h = omega arith
-rank_over f order of_unit (within b) h = omega arith
-rank_over f order on_demand on_demand h = h
-rank_over f order on_demand of_package h = h
-rank_over f order on_demand of_unit h = h
-rank_over f order of_package on_demand h = h
-rank_over f order of_package of_package h = h
-rank_over f order of_package of_unit h = h
-rank_over f order of_unit on_demand h = h
-rank_over f order of_unit of_package h = h
-rank_over f order of_unit of_unit h = h
+-- f keeps the order of two depths
+abbrev pub KeepsDepths : (ℕ → ℕ) → Depth → Depth → Type 0
+KeepsDepths f (within a) (within b) = a ≤ b → f a ≤ f b
+KeepsDepths f _ _ = Unit {0}
+
+pub rank_over : (f : ℕ → ℕ) (r s : Depth) → KeepsDepths f r s → rank r ≤ rank s → rank (moved_depth f r) ≤ rank (moved_depth f s)
+rank_over f (within a) (within b) order h = let z = order (omega arith) in omega arith
+rank_over f (within a) on_demand order h = absurd (omega arith)
+rank_over f (within a) of_package order h = absurd (omega arith)
+rank_over f (within a) of_unit order h = absurd (omega arith)
+rank_over f on_demand (within b) order h = omega arith
+rank_over f of_package (within b) order h = omega arith
+rank_over f of_unit (within b) order h = omega arith
+rank_over f on_demand on_demand order h = h
+rank_over f on_demand of_package order h = h
+rank_over f on_demand of_unit order h = h
+rank_over f of_package on_demand order h = h
+rank_over f of_package of_package order h = h
+rank_over f of_package of_unit order h = h
+rank_over f of_unit on_demand order h = h
+rank_over f of_unit of_package order h = h
+rank_over f of_unit of_unit order h = h
+
+-- the row of the depth is that of a scope round the place
+abbrev pub DepthRound : Rows → ℕ → Depth → Type 0
+DepthRound p o (within s) = IsRound p o s
+DepthRound p o _ = Unit {0}
+
+pub depth_round : (p : Rows) (t : Table) (o d : ℕ) (r : Depth) → HasScope p t o d r → DepthRound p o r
+depth_round p t o d _ (HasScope.local h) = IsRound.local h
+depth_round p t o d _ (HasScope.parameter h) = IsRound.parameter h
+depth_round p t o d _ (HasScope.labeled h) = IsRound.labeled h
+depth_round p t o d _ (HasScope.member h m) = IsRound.body h
+depth_round p t o d _ (HasScope.of_same_unit h) = tt
+depth_round p t o d _ (HasScope.of_same_package h) = tt
+depth_round p t o d _ (HasScope.single h) = tt
+depth_round p t o d _ (HasScope.static h) = tt
+depth_round p t o d _ (HasScope.demanded h) = tt
+
+pub keeps_depths : (p : Rows) (o : ℕ) (f : ℕ → ℕ) → ((m n : ℕ) → IsRound p o m → IsRound p o n → m ≤ n → f m ≤ f n) → (r s : Depth) → DepthRound p o r → DepthRound p o s
+  → KeepsDepths f r s
+keeps_depths p o f order (within a) (within b) h k = order a b h k
+keeps_depths p o f order (within a) on_demand h k = tt
+keeps_depths p o f order (within a) of_package h k = tt
+keeps_depths p o f order (within a) of_unit h k = tt
+keeps_depths p o f order on_demand _ h k = tt
+keeps_depths p o f order of_package _ h k = tt
+keeps_depths p o f order of_unit _ h k = tt
 
 -- the row of the depth declares something
 abbrev pub DepthDeclared : Rows → Depth → Type 0
@@ -118,9 +149,11 @@ module _ (p : Rows) (t : Table) (q : Rows) (u : Table) (f g : ℕ → ℕ) (C D 
   visible_over kind x d r k h = record {
     in_scope = in_scope_over p t q u f g C D to from kind x o o' d r k at h.in_scope;
     innermost = λ e' r' w.
-      let z = h.innermost (g e') (moved_depth g r') (in_scope_over q u p t g f D C from to kind x o' o e' r' k back w) in
+      let v = in_scope_over q u p t g f D C from to kind x o' o e' r' k back w in
+      let z = h.innermost (g e') (moved_depth g r') v in
+      let order = keeps_depths p o f at.order (moved_depth g r') r (depth_round p t o (g e') (moved_depth g r') v.scope) (depth_round p t o d r h.in_scope.scope) in
       subst (λ s. rank s ≤ rank (moved_depth f r)) (depth_back q g f from.alike.back r' (depth_declared q u o' e' r' w.scope))
-        (rank_over f to.alike.order (moved_depth g r') r z) }
+        (rank_over f (moved_depth g r') r order z) }
 
   level_over : (a : Role) (r : Depth) → level_of a (moved_depth f r) ≡ moved_level f (level_of a r)
   level_over role.Field (within s) = refl

@@ -61,12 +61,11 @@ moved_depth f (within s) = within (f s)
 abbrev pub IsDeclared : Rows → ℕ → Type 0
 IsDeclared p n = role_at p n ≡ role.Nothing → ⊥
 
--- what p declares stands in q with the same label and name, in the same order, in the same types and packages
+-- what p declares stands in q with the same label and name, in the same types and packages
 pub record Alike (p q : Rows) (f g : ℕ → ℕ) : Type 0 where
   pub label_same : (n : ℕ) → IsDeclared p n → label q (f n) ≡ label p n
   pub name_same : (n : ℕ) → IsDeclared p n → name q (f n) ≡ name p n
   pub back : (n : ℕ) → IsDeclared p n → g (f n) ≡ n
-  pub order : (m n : ℕ) → m ≤ n → f m ≤ f n
   pub declared : (c d : ℕ) → DeclaredIn p c d → DeclaredIn q (f c) (f d)
   pub constructor : (c k : ℕ) → ConstructorOf p c k → ConstructorOf q (f c) (f k)
   pub access_same : (d : ℕ) → IsDeclared p d → access_of q (f d) ≡ access_of p d
@@ -82,6 +81,7 @@ pub record Carries (p : Rows) (t : Table) (q : Rows) (u : Table) (f g : ℕ → 
   pub super_at : (c n s : ℕ) → C c → SuperAt p t c n s → SuperAt q u (f c) (f n) (f s)
   pub super_known : (c n s : ℕ) → C c → SuperAt p t c n s → C s
   pub place_back : (c n s : ℕ) → C c → SuperAt p t c n s → g (f n) ≡ n
+  pub place_order : (c m n r s : ℕ) → C c → SuperAt p t c m r → SuperAt p t c n s → m ≤ n → f m ≤ f n
   pub superclass : (c s : ℕ) → C c → Superclass p t c s → Superclass q u (f c) (f s)
 
 -- and the declared types of variables, results and parameters
@@ -91,13 +91,21 @@ pub record Sees (p : Rows) (t : Table) (q : Rows) (u : Table) (f : ℕ → ℕ) 
 
 -- ---- places
 
--- the scopes that hold the place o hold the place o'
+-- the row is that of a scope which holds the place: the body of a type, or the scope of a local, parameter or label
+pub data IsRound (p : Rows) (o : ℕ) : ℕ → Type 0 where
+  body : {c : ℕ} → InBody p c o → IsRound p o c
+  local : {d : ℕ} → InLocalScope p d o → IsRound p o d
+  parameter : {d : ℕ} → InParameterScope p d o → IsRound p o d
+  labeled : {d : ℕ} → InLabelScope p d o → IsRound p o d
+
+-- the scopes that hold the place o hold the place o', in the same order
 pub record Places (p : Rows) (t : Table) (q : Rows) (u : Table) (f : ℕ → ℕ) (C : ℕ → Type 0) (o o' : ℕ) : Type 0 where
   pub local : (d : ℕ) → InLocalScope p d o → InLocalScope q (f d) o'
   pub parameter : (d : ℕ) → InParameterScope p d o → InParameterScope q (f d) o'
   pub labeled : (d : ℕ) → InLabelScope p d o → InLabelScope q (f d) o'
   pub body : (c : ℕ) → InBody p c o → InBody q (f c) o'
   pub body_known : (c : ℕ) → InBody p c o → C c
+  pub order : (m n : ℕ) → IsRound p o m → IsRound p o n → m ≤ n → f m ≤ f n
   pub unit : (d : ℕ) → TypeOfUnit p o d → TypeOfUnit q o' (f d)
   pub other : (d : ℕ) → TypeOfOther p o d → TypeOfOther q o' (f d)
   pub single : (d : ℕ) → Imported p (SingleImport p t) o d → Imported q (SingleImport q u) o' (f d)
