@@ -20,25 +20,28 @@ use Rattle.jr_defs.specs.Modifiers.{IsInner}
 use Rattle.jr_defs.specs.Supertypes.{Superclass}
 use Rattle.jr_defs.specs.Members.{MemberNamed}
 use Rattle.jr_defs.specs.Overloads.{Applicable, IsMostSpecific, Choice, ImportedChoice}
-use Rattle.jr_defs.specs.Lookup.{SimpleCandidate, MemberBefore, TypeBefore, QualifiedCandidate, MethodLevel, ImportedMethod, MethodCandidate, NewLevel, CalledClass, Candidate, PackageBefore, ArrayBefore, IsPackageName, IsLength, Otherwise, LookFor}
-use Rattle.jr_defs.specs.Correspondence.{IsDeclared, Alike, Carries, moved, moved_level, moved_types, moved_receiver}
+use Rattle.jr_defs.specs.Lookup.{SimpleCandidate, MemberBefore, TypeBefore, QualifiedCandidate, MethodLevel, ImportedMethod, MethodCandidate, NewLevel, CalledClass, Candidate, PackageBefore, ArrayBefore, IsPackageName, IsLength, MayBeLength, Otherwise, LookFor}
+use Rattle.jr_defs.specs.Correspondence.{IsDeclared, Alike, Carries, IsRead, IsCall, Corresponds, moved, moved_level, moved_types, moved_receiver}
 use Rattle.jr_defs.proofs.CarryMembers.{type_declared, member_named_over}
 use Rattle.jr_defs.proofs.CarryScope.{found_over, no_method}
 use Rattle.jr_defs.proofs.CarryOverloads.{SetsBoth, Both, flipped, most_over}
-use Rattle.jr_defs.proofs.CarryLookup.{IsCall, Corresponds, simple_over, member_before_over, type_before_over, super_over_here, superclass_known, innermost_over, inner_over, level_method_over, applicables, choice_over, methods_of, constructors_of, imported_declared, imported_over, encloses_over}
+use Rattle.jr_defs.proofs.CarryLookup.{simple_over, member_before_over, type_before_over, super_over_here, superclass_known, innermost_over, inner_over, level_method_over, applicables, choice_over, methods_of, constructors_of, imported_declared, imported_over, encloses_over}
 use Rattle.jr_defs.proofs.CarryAnswers.{LevelDeclared, IsKnown, candidate_known}
 
 module _ (p : Rows) (t : Table) (K : ℕ → Type 0) (q : Rows) (u : Table) (L : ℕ → Type 0) (f g : ℕ → ℕ) (C D : ℕ → Type 0) (o o' : ℕ) (x : Text) where
   -- ---- names behind a dot
 
-  qualified_over : (s : Sought) → Corresponds p t K q u L f g C D o o' s → Corresponds q u L p t K g f D C o' o s → (k : NameKind) (d : ℕ)
+  qualified_over : (k : NameKind) → Corresponds p t K q u L f g C D o o' (sought.Qualified k) → Corresponds q u L p t K g f D C o' o (sought.Qualified k) → (d : ℕ)
     → QualifiedCandidate p t K x o k d → QualifiedCandidate q u L x o' k (f d)
-  qualified_over s to from _ d (QualifiedCandidate.variable h) = QualifiedCandidate.variable (member_before_over p t K q u L f g C D o o' s to from x d h)
-  qualified_over s to from _ d (QualifiedCandidate.type h) = QualifiedCandidate.type (type_before_over p t K q u L f g C D o o' s to from x d h)
-  qualified_over s to from _ d (QualifiedCandidate.package_or_type h) = QualifiedCandidate.package_or_type (type_before_over p t K q u L f g C D o o' s to from x d h)
-  qualified_over s to from _ d (QualifiedCandidate.first_field h) = QualifiedCandidate.first_field (member_before_over p t K q u L f g C D o o' s to from x d h)
-  qualified_over s to from _ d (QualifiedCandidate.then_type n h) = QualifiedCandidate.then_type
-    (λ e' w. n (g e') (member_before_over q u L p t K g f D C o' o s from to x e' w)) (type_before_over p t K q u L f g C D o o' s to from x d h)
+  qualified_over _ to from d (QualifiedCandidate.variable h) = QualifiedCandidate.variable (member_before_over p t K q u L f g C D o o' (sought.Qualified kind.Variable) to from x d tt h)
+  qualified_over _ to from d (QualifiedCandidate.type h) = QualifiedCandidate.type (type_before_over p t K q u L f g C D o o' (sought.Qualified kind.Type) to from x d h)
+  qualified_over _ to from d (QualifiedCandidate.package_or_type h) =
+    QualifiedCandidate.package_or_type (type_before_over p t K q u L f g C D o o' (sought.Qualified kind.PackageOrType) to from x d h)
+  qualified_over _ to from d (QualifiedCandidate.first_field h) =
+    QualifiedCandidate.first_field (member_before_over p t K q u L f g C D o o' (sought.Qualified kind.Ambiguous) to from x d tt h)
+  qualified_over _ to from d (QualifiedCandidate.then_type n h) = QualifiedCandidate.then_type
+    (λ e' w. n (g e') (member_before_over q u L p t K g f D C o' o (sought.Qualified kind.Ambiguous) from to x e' tt w))
+    (type_before_over p t K q u L f g C D o o' (sought.Qualified kind.Ambiguous) to from x d h)
 
   -- ---- calls
 
@@ -48,8 +51,8 @@ module _ (p : Rows) (t : Table) (K : ℕ → Type 0) (q : Rows) (u : Table) (L :
     where
       sets : SetsBoth p q f g (ImportedMethod p t x o) (ImportedMethod q u x o')
       sets = record {
-        there = record { goes = λ m h. imported_over p t K q u L f g C D o o' s to from x m h; are = λ m h. imported_declared p t K q u L f g C D o o' s to from x m h };
-        back = record { goes = λ m h. imported_over q u L p t K g f D C o' o s from to x m h; are = λ m h. imported_declared q u L p t K g f D C o' o s from to x m h } }
+        there = record { goes = λ m h. imported_over p t K q u L f g C D o o' s to from x m call h; are = λ m h. imported_declared p t K q u L f g C D o o' s to from x m h };
+        back = record { goes = λ m h. imported_over q u L p t K g f D C o' o s from to x m call h; are = λ m h. imported_declared q u L p t K g f D C o' o s from to x m h } }
 
       both : Both p t q u f g (Applicable p t o None all (ImportedMethod p t x o)) (Applicable q u o' None (moved_types f all) (ImportedMethod q u x o'))
       both = applicables p t K q u L f g C D o o' s to from call call None all refl back (ImportedMethod p t x o) (ImportedMethod q u x o') sets
@@ -96,27 +99,27 @@ module _ (p : Rows) (t : Table) (K : ℕ → Type 0) (q : Rows) (u : Table) (L :
   pub candidate_over : (s : Sought) (to : Corresponds p t K q u L f g C D o o' s) (from : Corresponds q u L p t K g f D C o' o s) → (d : ℕ) (l : Option ℕ)
     → Candidate p t K o x s d l → Candidate q u L o' x s (f d) (moved_level f l)
   candidate_over s to from d l (Candidate.simple {k = k} h) = Candidate.simple (simple_over p t K q u L f g C D o o' s to from x k d l h)
-  candidate_over s to from d _ (Candidate.qualified {k = k} h) = Candidate.qualified (qualified_over s to from k d h)
-  candidate_over s to from d _ (Candidate.field h) = Candidate.field (member_before_over p t K q u L f g C D o o' s to from x d h)
+  candidate_over s to from d _ (Candidate.qualified {k = k} h) = Candidate.qualified (qualified_over k to from d h)
+  candidate_over s to from d _ (Candidate.field h) = Candidate.field (member_before_over p t K q u L f g C D o o' s to from x d tt h)
   candidate_over s to from d _ (Candidate.super_field {s = r} h m) = Candidate.super_field (super_over_here p t K q u L f g C D o o' s to from r h)
     (member_named_over p t q u f g C D to.carries from.carries space.Variable x r d (super_known_here s to from h.class r h.innermost.holds h.above)
       (λ e. absurd (no_method space.Variable (role_at p d) (λ k. cc) m.declares.of_kind e)) m)
-  candidate_over s to from d l (Candidate.method {all = all} h w) = Candidate.method (to.asks.arguments all h) (method_over s to from tt all (to.asks.arguments_back all h) d l w)
-  candidate_over s to from d _ (Candidate.method_of {c = c} {receiver = r} {all = all} h a w) = let k = to.asks.receiver_known c r h in
-    Candidate.method_of (to.asks.receiver c r h) (to.asks.arguments all a)
-      (choice_over p t K q u L f g C D o o' s to from tt tt r all (to.asks.receiver_back c r h) (to.asks.arguments_back all a) (MemberNamed p t space.Method x c) (MemberNamed q u space.Method x (f c))
+  candidate_over s to from d l (Candidate.method {all = all} h w) = Candidate.method (to.asks.arguments tt all h) (method_over s to from tt all (to.asks.arguments_back tt all h) d l w)
+  candidate_over s to from d _ (Candidate.method_of {c = c} {receiver = r} {all = all} h a w) = let k = to.asks.receiver_known tt c r h in
+    Candidate.method_of (to.asks.receiver tt c r h) (to.asks.arguments tt all a)
+      (choice_over p t K q u L f g C D o o' s to from tt tt r all (to.asks.receiver_back tt c r h) (to.asks.arguments_back tt all a) (MemberNamed p t space.Method x c) (MemberNamed q u space.Method x (f c))
         (methods_of p t K q u L f g C D o o' s to from x c tt k) c d k w)
   candidate_over s to from d _ (Candidate.super_method {s = r} {all = all} h a w) = let k = super_known_here s to from h.class r h.innermost.holds h.above in
-    Candidate.super_method (super_over_here p t K q u L f g C D o o' s to from r h) (to.asks.arguments all a)
-      (choice_over p t K q u L f g C D o o' s to from tt tt None all refl (to.asks.arguments_back all a) (MemberNamed p t space.Method x r) (MemberNamed q u space.Method x (f r))
+    Candidate.super_method (super_over_here p t K q u L f g C D o o' s to from r h) (to.asks.arguments tt all a)
+      (choice_over p t K q u L f g C D o o' s to from tt tt None all refl (to.asks.arguments_back tt all a) (MemberNamed p t space.Method x r) (MemberNamed q u space.Method x (f r))
         (methods_of p t K q u L f g C D o o' s to from x r tt k) r d k w)
   candidate_over s to from d l (Candidate.creation {c = c} {all = all} h n a w) = let k = to.asks.named_known c h in
-    Candidate.creation (to.asks.named c h) (new_over s to from c l k n) (to.asks.arguments all a)
-      (choice_over p t K q u L f g C D o o' s to from tt tt None all refl (to.asks.arguments_back all a) (ConstructorOf p c) (ConstructorOf q (f c))
+    Candidate.creation (to.asks.named c h) (new_over s to from c l k n) (to.asks.arguments tt all a)
+      (choice_over p t K q u L f g C D o o' s to from tt tt None all refl (to.asks.arguments_back tt all a) (ConstructorOf p c) (ConstructorOf q (f c))
         (constructors_of p t K q u L f g C D o o' s to from c k) c d k w)
   candidate_over s to from d _ (Candidate.constructor {w = which'} {c = c} {all = all} h a w) = let k = called_known s to from which' c h in
-    Candidate.constructor (called_over s to from which' c h) (to.asks.arguments all a)
-      (choice_over p t K q u L f g C D o o' s to from tt tt None all refl (to.asks.arguments_back all a) (ConstructorOf p c) (ConstructorOf q (f c))
+    Candidate.constructor (called_over s to from which' c h) (to.asks.arguments tt all a)
+      (choice_over p t K q u L f g C D o o' s to from tt tt None all refl (to.asks.arguments_back tt all a) (ConstructorOf p c) (ConstructorOf q (f c))
         (constructors_of p t K q u L f g C D o o' s to from c k) c d k w)
   candidate_over s to from d _ (Candidate.own_class h) = Candidate.own_class (to.places.own_body d h)
   candidate_over s to from d l (Candidate.labeled h) = Candidate.labeled (found_over p t q u f g C D to.carries from.carries o o' to.places from.places space.Label x d l (λ k. cc) h)
@@ -128,7 +131,13 @@ module _ (p : Rows) (t : Table) (K : ℕ → Type 0) (q : Rows) (u : Table) (L :
   package_over s to _ (IsPackageName.qualified {path = path} h w) = IsPackageName.qualified h (to.asks.packaged path w)
 
   length_over : (s : Sought) (to : Corresponds p t K q u L f g C D o o' s) → IsLength p t K o x s → IsLength q u L o' x s
-  length_over s to h = record { allowed = h.allowed; array = to.asks.array h.array; named = h.named }
+  length_over s to h = record { allowed = h.allowed; array = to.asks.array (length_read s h.allowed) h.array; named = h.named }
+    where
+      length_read : (a : Sought) → MayBeLength a → IsRead a
+      length_read (sought.Qualified kind.Variable) m = tt
+      length_read (sought.Qualified kind.Ambiguous) m = tt
+      length_read sought.FieldOf m = tt
+      length_read _ m = absurd m
 
   level_back : (l : Option ℕ) → ((n : ℕ) → IsDeclared p n → g (f n) ≡ n) → LevelDeclared p l → moved_level g (moved_level f l) ≡ l
   level_back None back k = refl

@@ -24,12 +24,12 @@ use Rattle.jr_defs.specs.Members.{MemberNamed}
 use Rattle.jr_defs.specs.Scope.{Depth, within}
 use Rattle.jr_defs.specs.Overloads.{Applicable, IsMostSpecific, IsPreferred, IsLeftOf, Choice, ImportedChoice}
 use Rattle.jr_defs.specs.Lookup.{Found, level_of, SimpleCandidate, MemberBefore, TypeBefore, QualifiedCandidate, MethodLevel, ImportedMethod, MethodCandidate, NewLevel, CalledClass, Candidate, PackageBefore, ArrayBefore, IsPackageName, IsLength, MayBePackage, MayBeLength, Otherwise, LookFor}
-use Rattle.jr_defs.specs.Correspondence.{IsDeclared, Alike, Carries, moved, moved_level, moved_types, moved_receiver}
+use Rattle.jr_defs.specs.Correspondence.{IsDeclared, Alike, Carries, IsCall, Corresponds, moved, moved_level, moved_types, moved_receiver}
 use Rattle.jr_defs.proofs.Unique.{answer_unique}
 use Rattle.jr_defs.proofs.CarryMembers.{of_role, type_declared, member_declared}
 use Rattle.jr_defs.proofs.CarryScope.{DepthDeclared, scope_declared, depth_declared, found_over}
 use Rattle.jr_defs.proofs.CarryOverloads.{SetsBoth, Both, flipped, most_over}
-use Rattle.jr_defs.proofs.CarryLookup.{IsCall, Corresponds, simple_over, member_before_over, type_before_over, super_over_here, superclass_known, innermost_over, inner_over, level_method_over, applicables, choice_over, methods_of, constructors_of, imported_declared, imported_over, encloses_over}
+use Rattle.jr_defs.proofs.CarryLookup.{simple_over, member_before_over, type_before_over, super_over_here, superclass_known, innermost_over, inner_over, level_method_over, applicables, choice_over, methods_of, constructors_of, imported_declared, imported_over, encloses_over}
 
 -- ---- candidates are declared
 

@@ -29,27 +29,10 @@ use Rattle.jr_defs.specs.Members.{MemberOf, MemberNamed}
 use Rattle.jr_defs.specs.Scope.{Depth, within}
 use Rattle.jr_defs.specs.Overloads.{IsApplicable, Applicable, IsMostSpecific, Choice, ImportedChoice, Earlier}
 use Rattle.jr_defs.specs.Lookup.{SimpleCandidate, MemberBefore, TypeBefore, QualifiedCandidate, SuperOf, MethodLevel, ImportedMethod, MethodCandidate, EnclosesNew, NewLevel, CalledClass, Candidate, IsPackageName, IsLength, Otherwise, LookFor, Arguments}
-use Rattle.jr_defs.specs.Correspondence.{IsDeclared, Alike, Carries, Sees, Places, IsRound, Asks, moved, moved_level, moved_types, moved_receiver}
+use Rattle.jr_defs.specs.Correspondence.{IsDeclared, Alike, Carries, Sees, Places, IsRound, Asks, IsRead, IsCall, Corresponds, moved, moved_level, moved_types, moved_receiver}
 use Rattle.jr_defs.proofs.CarryMembers.{of_role, type_declared, declared_in_declared, member_declared, role_over, at_role, type_over, static_over, declares_over, member_over, member_named_over}
 use Rattle.jr_defs.proofs.CarryScope.{scope_declared, depth_declared, IsNoMethod, no_method, found_over, none_over}
 use Rattle.jr_defs.proofs.CarryOverloads.{Sets, SetsBoth, turned, applicable_over, more_specific_over, result_over, earlier_over, Choosing, Both, flipped, both_most, most_over, left_of_over}
-
--- what seeks methods or constructors reads parameter types and subtypes
-abbrev pub IsCall : Sought → Type 0
-IsCall sought.Method = Unit {0}
-IsCall sought.MethodOf = Unit {0}
-IsCall sought.SuperMethod = Unit {0}
-IsCall sought.Creation = Unit {0}
-IsCall (sought.ConstructorCall w) = Unit {0}
-IsCall _ = ⊥
-
--- all that two programs have to agree on, so that an occurrence of one is looked up as one of the other
-pub record Corresponds (p : Rows) (t : Table) (K : ℕ → Type 0) (q : Rows) (u : Table) (L : ℕ → Type 0) (f g : ℕ → ℕ) (C D : ℕ → Type 0) (o o' : ℕ) (s : Sought) : Type 0 where
-  pub carries : Carries p t q u f g C D
-  pub places : Places p t q u f C o o'
-  pub asks : Asks p t K q u L f g C o o'
-  pub sees : IsCall s → Sees p t q u f
-  pub wide : IsCall s → (c r : ℕ) → Super p t c r → C c
 
 class_type_label : (l : Label) → IsClassLabel l → role_of l ≡ role.Type
 class_type_label (is.Class m b) h = refl
@@ -69,12 +52,12 @@ module _ (p : Rows) (t : Table) (K : ℕ → Type 0) (q : Rows) (u : Table) (L :
     (none_over p t q u f g C D to.carries from.carries o o' to.places from.places space.Variable x (λ k. cc) none')
     (found_over p t q u f g C D to.carries from.carries o o' to.places from.places space.Type x d l (λ k. cc) h)
 
-  pub member_before_over : (x : Text) (d : ℕ) → MemberBefore p t K space.Variable x o d → MemberBefore q u L space.Variable x o' (f d)
-  member_before_over x d h = record {
+  pub member_before_over : (x : Text) (d : ℕ) → IsRead s → MemberBefore p t K space.Variable x o d → MemberBefore q u L space.Variable x o' (f d)
+  member_before_over x d read h = record {
     class = f h.class;
     receiver = moved_receiver f h.receiver;
-    before = to.asks.receiver h.class h.receiver h.before;
-    member = member_named_over p t q u f g C D to.carries from.carries space.Variable x h.class d (to.asks.receiver_known h.class h.receiver h.before)
+    before = to.asks.receiver read h.class h.receiver h.before;
+    member = member_named_over p t q u f g C D to.carries from.carries space.Variable x h.class d (to.asks.receiver_known read h.class h.receiver h.before)
       (λ e. absurd (no_method space.Variable (role_at p d) (λ k. cc) h.member.declares.of_kind e)) h.member }
 
   pub type_before_over : (x : Text) (d : ℕ) → TypeBefore p t x o d → TypeBefore q u x o' (f d)
@@ -181,9 +164,9 @@ module _ (p : Rows) (t : Table) (K : ℕ → Type 0) (q : Rows) (u : Table) (L :
   pub imported_declared : (x : Text) (d : ℕ) → ImportedMethod p t x o d → IsDeclared p d
   imported_declared x d h = member_declared p t h.imported.brings.imports.of_type d h.imported.brings.imports.member
 
-  pub imported_over : (x : Text) (d : ℕ) → ImportedMethod p t x o d → ImportedMethod q u x o' (f d)
-  imported_over x d h = record {
-    imported = to.places.static d h.imported;
+  pub imported_over : (x : Text) (d : ℕ) → IsCall s → ImportedMethod p t x o d → ImportedMethod q u x o' (f d)
+  imported_over x d call h = record {
+    imported = to.asks.imported call d h.imported;
     declares = declares_over p q f g to.carries.alike space.Method x d (imported_declared x d h) h.declares }
 
   pub encloses_over : (c e : ℕ) → IsType p c → EnclosesNew p t o c e → EnclosesNew q u o' (f c) (f e)

@@ -134,7 +134,7 @@ module _ (p : Rows) (t : Table) (q : Rows) (u : Table) (f g : ℕ → ℕ) (C D 
   scope_over o o' d _ at k (HasScope.of_same_unit h) = HasScope.of_same_unit (at.unit d h)
   scope_over o o' d _ at k (HasScope.of_same_package h) = HasScope.of_same_package (at.other d h)
   scope_over o o' d _ at k (HasScope.single h) = HasScope.single (at.single d h)
-  scope_over o o' d _ at k (HasScope.static h) = HasScope.static (at.static d h)
+  scope_over o o' d _ at k (HasScope.static h) = HasScope.static (at.static d k h)
   scope_over o o' d _ at k (HasScope.demanded h) = HasScope.demanded (at.demanded d h)
 
   pub in_scope_over : (kind : Space) (x : Text) (o o' d : ℕ) (r : Depth) → IsNoMethod kind → Places p t q u f C o o' → InScope p t kind x o d r

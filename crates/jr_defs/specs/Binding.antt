@@ -3,20 +3,19 @@ use Rattle.std.specs.Prelude.{◌≡◌, ℕ, ◌+◌, ◌<◌}
 use Rattle.jr_rows.specs.Rows.{Rows}
 use Rattle.jr_defs.specs.declared.referent.Referent.TheVariants.{Unbound}
 use Rattle.jr_defs.specs.Referents.{Table}
-use Rattle.jr_defs.specs.Declarations.{IsType, IsOccurrence}
+use Rattle.jr_defs.specs.Declarations.{IsType}
 use Rattle.jr_defs.specs.Constants.{HasConstantForm}
 use Rattle.jr_defs.specs.Lookup.{Look}
 use Rattle.jr_defs.specs.Headers.{NamesHeader, IsIdentifierOf, IsLookedForIn, IsFirstOf, IsSettled, HeaderPath}
 
--- the entry of every row is what lookup gives under the table itself
+-- the entry of every row is what lookup gives under the table itself; a row that is no occurrence is not bound
 abbrev pub IsBound : Rows → Table → Type 0
-IsBound p t = (o : ℕ) → IsOccurrence p o → Look p t (HasConstantForm p t) o (t o)
+IsBound p t = (o : ℕ) → Look p t (HasConstantForm p t) o (t o)
 
 -- each type is settled, so no header leads back to its own type; and the table agrees with itself
 pub record IsBinding (p : Rows) (t : Table) : Type 0 where
   pub settled : (c : ℕ) → IsType p c → IsSettled p t c
   pub bound : IsBound p t
-  pub others : (o : ℕ) → (IsOccurrence p o → ⊥) → t o ≡ Unbound
 
 -- an identifier in the header of the type, or in an import where the first identifier of one is looked for
 pub data IsOfHeader (p : Rows) (t : Table) (c o : ℕ) : Type 0 where

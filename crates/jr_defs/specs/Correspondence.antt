@@ -3,6 +3,8 @@ use Rattle.std.specs.Prelude.{◌≡◌, ◌⊎◌, ℕ, ◌<◌, ◌≤◌, Lis
 use Rattle.jr_base.specs.declared.text.Text.{Text}
 use Rattle.jr_tree.specs.declared.tree.ThisOrSuper.TheVariants as which
 use Rattle.jr_rows.specs.declared.label.Role.TheVariants as role
+use Rattle.jr_rows.specs.declared.label.NameKind.TheVariants as kind
+use Rattle.jr_rows.specs.declared.label.Sought.{Sought}
 use Rattle.jr_rows.specs.declared.label.Sought.TheVariants as sought
 use Rattle.jr_rows.specs.Rows.{Rows, label, name, parent, role_at, sought_at}
 use Rattle.jr_defs.specs.declared.referent.Element.{Element}
@@ -55,6 +57,25 @@ moved_depth f on_demand = on_demand
 moved_depth f of_package = of_package
 moved_depth f of_unit = of_unit
 moved_depth f (within s) = within (f s)
+
+-- ---- what a search reads
+
+-- it reads what stands before the dot as an expression
+abbrev pub IsRead : Sought → Type 0
+IsRead (sought.Qualified kind.Variable) = Unit {0}
+IsRead (sought.Qualified kind.Ambiguous) = Unit {0}
+IsRead sought.FieldOf = Unit {0}
+IsRead sought.MethodOf = Unit {0}
+IsRead _ = ⊥
+
+-- it reads arguments, parameter types and subtypes
+abbrev pub IsCall : Sought → Type 0
+IsCall sought.Method = Unit {0}
+IsCall sought.MethodOf = Unit {0}
+IsCall sought.SuperMethod = Unit {0}
+IsCall sought.Creation = Unit {0}
+IsCall (sought.ConstructorCall w) = Unit {0}
+IsCall _ = ⊥
 
 -- ---- declarations
 
@@ -109,7 +130,7 @@ pub record Places (p : Rows) (t : Table) (q : Rows) (u : Table) (f : ℕ → ℕ
   pub unit : (d : ℕ) → TypeOfUnit p o d → TypeOfUnit q o' (f d)
   pub other : (d : ℕ) → TypeOfOther p o d → TypeOfOther q o' (f d)
   pub single : (d : ℕ) → Imported p (SingleImport p t) o d → Imported q (SingleImport q u) o' (f d)
-  pub static : (d : ℕ) → Imported p (StaticImport p t) o d → Imported q (StaticImport q u) o' (f d)
+  pub static : (d : ℕ) → (role_at p d ≡ role.Method → ⊥) → Imported p (StaticImport p t) o d → Imported q (StaticImport q u) o' (f d)
   pub demanded : (d : ℕ) → Imported p (OnDemandImport p t) o d → Imported q (OnDemandImport q u) o' (f d)
   -- access at the place
   pub same_top : (d : ℕ) → IsDeclared p d → SameTopLevel p d o → SameTopLevel q (f d) o'
@@ -119,14 +140,23 @@ pub record Places (p : Rows) (t : Table) (q : Rows) (u : Table) (f : ℕ → ℕ
   -- the class whose constructor stands there
   pub own_body : (c : ℕ) → BodyOf p c (parent p o) → BodyOf q (f c) (parent q o')
 
--- what stands before the dot of o, and its arguments, go over to those of o'
-pub record Asks (p : Rows) (t : Table) (K : ℕ → Type 0) (q : Rows) (u : Table) (L : ℕ → Type 0) (f g : ℕ → ℕ) (C : ℕ → Type 0) (o o' : ℕ) : Type 0 where
-  pub receiver : (c : ℕ) (through : Option RowType) → Receiver p t K o c through → Receiver q u L o' (f c) (moved_receiver f through)
-  pub receiver_known : (c : ℕ) (through : Option RowType) → Receiver p t K o c through → C c
-  pub receiver_back : (c : ℕ) (through : Option RowType) → Receiver p t K o c through → moved_receiver g (moved_receiver f through) ≡ through
+-- what stands before the dot of o, and its arguments, go over to those of o', as far as the search s reads them
+pub record Asks (p : Rows) (t : Table) (K : ℕ → Type 0) (q : Rows) (u : Table) (L : ℕ → Type 0) (f g : ℕ → ℕ) (C : ℕ → Type 0) (o o' : ℕ) (s : Sought) : Type 0 where
+  pub receiver : IsRead s → (c : ℕ) (through : Option RowType) → Receiver p t K o c through → Receiver q u L o' (f c) (moved_receiver f through)
+  pub receiver_known : IsRead s → (c : ℕ) (through : Option RowType) → Receiver p t K o c through → C c
+  pub receiver_back : IsRead s → (c : ℕ) (through : Option RowType) → Receiver p t K o c through → moved_receiver g (moved_receiver f through) ≡ through
+  pub array : IsRead s → ArrayBefore p t K o → ArrayBefore q u L o'
   pub named : (c : ℕ) → NamesType p t o c → NamesType q u o' (f c)
   pub named_known : (c : ℕ) → NamesType p t o c → C c
   pub packaged : (path : List Text) → PackageBefore p t o path → PackageBefore q u o' path
-  pub array : ArrayBefore p t K o → ArrayBefore q u L o'
-  pub arguments : (all : List RowType) → Arguments p t K o all → Arguments q u L o' (moved_types f all)
-  pub arguments_back : (all : List RowType) → Arguments p t K o all → moved_types g (moved_types f all) ≡ all
+  pub arguments : IsCall s → (all : List RowType) → Arguments p t K o all → Arguments q u L o' (moved_types f all)
+  pub arguments_back : IsCall s → (all : List RowType) → Arguments p t K o all → moved_types g (moved_types f all) ≡ all
+  pub imported : IsCall s → (d : ℕ) → Imported p (StaticImport p t) o d → Imported q (StaticImport q u) o' (f d)
+
+-- all that two programs have to agree on, so that an occurrence of one is looked up as one of the other
+pub record Corresponds (p : Rows) (t : Table) (K : ℕ → Type 0) (q : Rows) (u : Table) (L : ℕ → Type 0) (f g : ℕ → ℕ) (C D : ℕ → Type 0) (o o' : ℕ) (s : Sought) : Type 0 where
+  pub carries : Carries p t q u f g C D
+  pub places : Places p t q u f C o o'
+  pub asks : Asks p t K q u L f g C o o' s
+  pub sees : IsCall s → Sees p t q u f
+  pub wide : IsCall s → (c r : ℕ) → Super p t c r → C c
