@@ -34,7 +34,7 @@ use Rattle.jr_defs.proofs.CarryMembers.{of_role, type_declared, declared_in_decl
 use Rattle.jr_defs.proofs.CarryScope.{scope_declared, depth_declared, IsNoMethod, no_method, found_over, none_over}
 use Rattle.jr_defs.proofs.CarryOverloads.{Sets, SetsBoth, turned, applicable_over, more_specific_over, result_over, earlier_over, Choosing, Both, flipped, both_most, most_over, left_of_over}
 
-class_type_label : (l : Label) → IsClassLabel l → role_of l ≡ role.Type
+pub class_type_label : (l : Label) → IsClassLabel l → role_of l ≡ role.Type
 class_type_label (is.Class m b) h = refl
 class_type_label _ h = absurd h
 

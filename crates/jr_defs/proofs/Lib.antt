@@ -6,3 +6,4 @@ pub mod CarryOverloads
 pub mod CarryLookup
 pub mod CarryAnswers
 pub mod Carry
+pub mod Itself

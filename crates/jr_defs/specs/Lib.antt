@@ -24,4 +24,5 @@ pub mod Program
 pub mod Numbers
 pub mod Rules
 pub mod Compiling
+pub mod Formed
 pub mod Correspondence
