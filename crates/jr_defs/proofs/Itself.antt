@@ -5,6 +5,8 @@ use Rattle.std.specs.Prelude.{Option, Some, None}
 use Rattle.jr_base.specs.declared.text.Text.{Text}
 use Rattle.jr_rows.specs.declared.label.Label.{Label}
 use Rattle.jr_rows.specs.declared.label.Label.TheVariants as is
+use Rattle.jr_rows.specs.declared.label.ImportKind.{ImportKind}
+use Rattle.jr_rows.specs.declared.label.ImportKind.TheVariants as importing
 use Rattle.jr_rows.specs.declared.label.NameKind.{NameKind}
 use Rattle.jr_rows.specs.declared.label.NameKind.TheVariants as kind
 use Rattle.jr_rows.specs.declared.label.Role.TheVariants as role
@@ -132,13 +134,10 @@ places p t u o h = record {
 
 -- the tables agree on the names of imports
 pub record SameImportNames (p : Rows) (t u : Table) : Type 0 where
-  pub at : (i : ℕ) → NamesTypeFirst (label p i) → t (i + 1) ≡ u (i + 1)
+  pub at : (i : ℕ) (form : ImportKind) → label p i ≡ is.Import form → t (i + 1) ≡ u (i + 1)
 
-import_names : (p : Rows) (t u : Table) → SameImportNames p t u → (i c : ℕ) → NamesTypeFirst (label p i) → ImportNames p t i c → ImportNames p u i c
-import_names p t u h i c k w = record { level = w.level; refers = sym (h.at i k) ∙ w.refers; type = w.type }
-
-an_import : (p : Rows) (i : ℕ) (form : _) → label p i ≡ is.Import form → NamesTypeFirst (label p i)
-an_import p i form e = subst NamesTypeFirst (sym e) NamesTypeFirst.import
+pub import_names : (p : Rows) (t u : Table) → SameImportNames p t u → (i c : ℕ) (form : ImportKind) → label p i ≡ is.Import form → ImportNames p t i c → ImportNames p u i c
+import_names p t u h i c form k w = record { level = w.level; refers = sym (h.at i form k) ∙ w.refers; type = w.type }
 
 pub same_imports : (p : Rows) (t u : Table) → SameHeaders p t u → SameImportNames p t u → (o : ℕ) → SameImports p t u o
 same_imports p t u h names o = record { single = singles; static = statics; demanded = demandeds }
@@ -146,17 +145,17 @@ same_imports p t u h names o = record { single = singles; static = statics; dema
     singles : (d : ℕ) → Imported p (SingleImport p t) o d → Imported p (SingleImport p u) o d
     singles d w = record { unit = w.unit; holds = w.holds; brings = record {
       import = w.brings.import; is_import = w.brings.is_import; foreign = w.brings.foreign;
-      names = import_names p t u names w.brings.import d (an_import p w.brings.import _ w.brings.is_import.import) w.brings.names } }
+      names = import_names p t u names w.brings.import d importing.Single w.brings.is_import.import w.brings.names } }
 
     statics : (d : ℕ) → (role_at p d ≡ role.Method → ⊥) → Imported p (StaticImport p t) o d → Imported p (StaticImport p u) o d
     statics d k w = let b = w.brings.imports in record { unit = w.unit; holds = w.holds; brings = record { import = w.brings.import; imports = record {
       is_import = b.is_import; of_type = b.of_type; static = b.static; named = b.named; reached = b.reached;
-      names = import_names p t u names w.brings.import b.of_type (an_import p w.brings.import _ b.is_import.import) b.names;
+      names = import_names p t u names w.brings.import b.of_type importing.StaticSingle b.is_import.import b.names;
       member = member_over p t p u same same (IsType p) (IsType p) (carries p t u h) (carries p u t (turned_headers p t u h)) b.of_type d b.names.type (λ m. absurd (k m)) b.member } } }
 
     demanded_of : (v d : ℕ) → OnDemandOf p t v d → OnDemandOf p u v d
-    demanded_of v d (OnDemandOf.of_package {i = i} k e w) = OnDemandOf.of_package k (sym (names.at i (an_import p i _ k.import)) ∙ e) w
-    demanded_of v d (OnDemandOf.of_type {i = i} {c = c} k n m ty) = OnDemandOf.of_type k (import_names p t u names i c (an_import p i _ k.import) n)
+    demanded_of v d (OnDemandOf.of_package {i = i} k e w) = OnDemandOf.of_package k (sym (names.at i importing.OnDemand k.import) ∙ e) w
+    demanded_of v d (OnDemandOf.of_type {i = i} {c = c} k n m ty) = OnDemandOf.of_type k (import_names p t u names i c importing.OnDemand k.import n)
       (member_over p t p u same same (IsType p) (IsType p) (carries p t u h) (carries p u t (turned_headers p t u h)) c d n.type (λ e. absurd (let x = sym ty ∙ e in cc)) m) ty
     demanded_of v d (OnDemandOf.lang w) = OnDemandOf.lang w
 

@@ -7,3 +7,4 @@ pub mod CarryLookup
 pub mod CarryAnswers
 pub mod Carry
 pub mod Itself
+pub mod TypesAgree

@@ -45,5 +45,8 @@ pub record IsFormed (p : Rows) : Type 0 where
   pub header_name : (c n : ℕ) → NamesHeader p c n → SeeksType (sought_at p n)
   pub first_name : (n : ℕ) → NamesTypeFirst (label p n) → SeeksType (sought_at p (n + 1))
   pub qualifier : (n : ℕ) (k : NameKind) → sought_at p n ≡ sought.Qualified k → SeeksKind (left_kind k) (sought_at p (n + 1))
+  pub simple_leaf : (n : ℕ) (k : NameKind) → sought_at p n ≡ sought.Simple k → parent p (n + 1) ≡ n → ⊥
+  pub name_below : (n m : ℕ) → IsNameLabel (label p n) → parent p m ≡ n → n < m → IsNameLabel (label p m)
+  pub import_name : (i : ℕ) (form : ImportKind) → label p i ≡ is.Import form → i + 1 < end p i
   -- types stand behind imports, and not in them
   pub imports_apart : (i o k : ℕ) (form : ImportKind) → label p i ≡ is.Import form → i < o → o < end p i → InTopLevel p k o → ⊥
