@@ -8,3 +8,4 @@ pub mod CarryAnswers
 pub mod Carry
 pub mod Itself
 pub mod TypesAgree
+pub mod TypingSame
