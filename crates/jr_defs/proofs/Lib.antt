@@ -9,3 +9,4 @@ pub mod Carry
 pub mod Itself
 pub mod TypesAgree
 pub mod TypingSame
+pub mod OneBinding
