@@ -30,6 +30,7 @@ use Rattle.jr_defs.specs.Imports.{ImportOf, ImportNames, SingleImport, ImportedB
 use Rattle.jr_defs.specs.Scope.{Imported, HasScope}
 use Rattle.jr_defs.specs.Headers.{NamesHeader}
 use Rattle.jr_defs.specs.Lookup.{Found, SimpleCandidate, TypeBefore, QualifiedCandidate, Candidate, Otherwise, LookFor, Look, PackageBefore}
+use Rattle.jr_defs.specs.Laws.{SameHeaders}
 use Rattle.jr_defs.specs.Formed.{SeeksType, IsNameLabel, SeeksKind, NamesTypeFirst, IsFormed}
 use Rattle.jr_defs.specs.Correspondence.{IsDeclared, Alike, Carries, Sees, Places, Asks, IsRead, IsCall, Corresponds, moved, moved_level, moved_element, moved_type, moved_types, moved_receiver}
 use Rattle.jr_defs.proofs.CarryMembers.{type_declared, member_over}
@@ -78,11 +79,6 @@ pub alike : (p : Rows) → Alike p p same same
 alike p = record {
   label_same = λ n k. refl; name_same = λ n k. refl; back = λ n k. refl;
   declared = λ c d h. h; constructor = λ c k h. h; access_same = λ d k. refl; same_package = λ m n i j h. h; of_path = λ path d h. h; prelude = λ x c h. h }
-
--- the tables agree on the names in headers, and there name types
-pub record SameHeaders (p : Rows) (t u : Table) : Type 0 where
-  pub at : (c n : ℕ) → NamesHeader p c n → t n ≡ u n
-  pub types : (c n s : ℕ) (l : Option ℕ) → NamesHeader p c n → t n ≡ Declared s l → IsType p s
 
 pub turned_headers : (p : Rows) (t u : Table) → SameHeaders p t u → SameHeaders p u t
 turned_headers p t u h = record { at = λ c n k. sym (h.at c n k); types = λ c n s l k e. h.types c n s l k (h.at c n k ∙ e) }

@@ -25,10 +25,11 @@ use Rattle.jr_defs.specs.Typing.{TypeOf}
 use Rattle.jr_defs.specs.Overloads.{ArgumentTypes}
 use Rattle.jr_defs.specs.Lookup.{Receiver, ArrayBefore, Arguments, arguments_by}
 use Rattle.jr_defs.specs.Binding.{IsBound}
+use Rattle.jr_defs.specs.Laws.{SameHeaders}
 use Rattle.jr_defs.specs.Formed.{SeeksType, IsNameLabel, SeeksKind, IsFormed}
 use Rattle.jr_defs.specs.Correspondence.{Sees, Corresponds, IsRead, IsCall, moved_type, moved_types, moved_receiver}
 use Rattle.jr_defs.proofs.CarryMembers.{member_over}
-use Rattle.jr_defs.proofs.Itself.{same, types_same, receiver_same, SameHeaders, turned_headers, carries, super_wide, places, SameImportNames, import_names, same_imports, SameFirst, named_same, packaged_same}
+use Rattle.jr_defs.proofs.Itself.{same, types_same, receiver_same, turned_headers, carries, super_wide, places, SameImportNames, import_names, same_imports, SameFirst, named_same, packaged_same}
 use Rattle.jr_defs.proofs.TypesAgree.{bound_same, SameTypes, turned_types, turned_names, import_names_agree, types_agree, has_type_same, sees_same}
 use Rattle.jr_defs.proofs.TypingSame.{SameNames, name_label, typing_same, typing_known}
 

@@ -21,11 +21,12 @@ use Rattle.jr_defs.specs.Constants.{HasConstantForm}
 use Rattle.jr_defs.specs.Lookup.{Otherwise, LookFor, Look}
 use Rattle.jr_defs.specs.Binding.{IsBound}
 use Rattle.jr_defs.specs.Declarations.{IsType}
+use Rattle.jr_defs.specs.Laws.{SameHeaders}
 use Rattle.jr_defs.specs.Formed.{SeeksType, IsNameLabel, SeeksKind, NamesTypeFirst, IsFormed}
 use Rattle.jr_defs.specs.Correspondence.{Sees, Corresponds, moved, moved_type, moved_types}
 use Rattle.jr_defs.proofs.Unique.{IsOne, answer_unique}
 use Rattle.jr_defs.proofs.Carry.{look_carries}
-use Rattle.jr_defs.proofs.Itself.{same, moved_same, type_same, types_same, SameHeaders, turned_headers, SameImports, SameImportNames, same_imports, SameFirst, type_search}
+use Rattle.jr_defs.proofs.Itself.{same, moved_same, type_same, types_same, turned_headers, SameImports, SameImportNames, same_imports, SameFirst, type_search}
 
 -- ---- one answer
 

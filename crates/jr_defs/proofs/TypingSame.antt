@@ -24,10 +24,11 @@ use Rattle.jr_defs.specs.Supertypes.{Super, Above, IsReferenceType, Subtype}
 use Rattle.jr_defs.specs.Constants.{ConstantOf, ConstantVariable, HasConstantForm}
 use Rattle.jr_defs.specs.Conversions.{IsCastable, Promotes, PromotesBoth}
 use Rattle.jr_defs.specs.Typing.{LiteralType, IsComparable, BinaryType, UnaryType, CompoundType, FitsConstant, HasOwnType, ConditionalType, First, Second, Third, TypeOf, class_of}
+use Rattle.jr_defs.specs.Laws.{SameHeaders}
 use Rattle.jr_defs.specs.Formed.{SeeksType, IsNameLabel, SeeksKind, NamesTypeFirst, IsFormed}
 use Rattle.jr_defs.specs.Correspondence.{Carries, moved_type}
 use Rattle.jr_defs.proofs.CarryTypes.{subtype_over}
-use Rattle.jr_defs.proofs.Itself.{same, type_same, SameHeaders, carries, super_wide}
+use Rattle.jr_defs.proofs.Itself.{same, type_same, carries, super_wide}
 use Rattle.jr_defs.proofs.TypesAgree.{SameTypes, type_name_same, type_at_same, has_type_same}
 
 -- ---- names

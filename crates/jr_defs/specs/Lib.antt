@@ -26,3 +26,4 @@ pub mod Rules
 pub mod Compiling
 pub mod Formed
 pub mod Correspondence
+pub mod Laws
