@@ -98,7 +98,7 @@ module _ (p : Rows) (t : Table) (K : ℕ → Type 0) (q : Rows) (u : Table) (L :
 
   pub candidate_over : (s : Sought) (to : Corresponds p t K q u L f g C D o o' s) (from : Corresponds q u L p t K g f D C o' o s) → (d : ℕ) (l : Option ℕ)
     → Candidate p t K o x s d l → Candidate q u L o' x s (f d) (moved_level f l)
-  candidate_over s to from d l (Candidate.simple {k = k} h) = Candidate.simple (simple_over p t K q u L f g C D o o' s to from x k d l h)
+  candidate_over s to from d l (Candidate.simple {k = k} h) = Candidate.simple (simple_over p t K q u L f g C D o o' (sought.Simple k) to from x k d l tt h)
   candidate_over s to from d _ (Candidate.qualified {k = k} h) = Candidate.qualified (qualified_over k to from d h)
   candidate_over s to from d _ (Candidate.field h) = Candidate.field (member_before_over p t K q u L f g C D o o' s to from x d tt h)
   candidate_over s to from d _ (Candidate.super_field {s = r} h m) = Candidate.super_field (super_over_here p t K q u L f g C D o o' s to from r h)
@@ -122,7 +122,7 @@ module _ (p : Rows) (t : Table) (K : ℕ → Type 0) (q : Rows) (u : Table) (L :
       (choice_over p t K q u L f g C D o o' s to from tt tt None all refl (to.asks.arguments_back tt all a) (ConstructorOf p c) (ConstructorOf q (f c))
         (constructors_of p t K q u L f g C D o o' s to from c k) c d k w)
   candidate_over s to from d _ (Candidate.own_class h) = Candidate.own_class (to.places.own_body d h)
-  candidate_over s to from d l (Candidate.labeled h) = Candidate.labeled (found_over p t q u f g C D to.carries from.carries o o' to.places from.places space.Label x d l (λ k. cc) h)
+  candidate_over s to from d l (Candidate.labeled h) = Candidate.labeled (found_over p t q u f g C D to.carries from.carries o o' to.places from.places (to.imports tt) (from.imports tt) space.Label x d l (λ k. cc) h)
 
   -- ---- where there is none
 

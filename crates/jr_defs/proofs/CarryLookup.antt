@@ -29,7 +29,7 @@ use Rattle.jr_defs.specs.Members.{MemberOf, MemberNamed}
 use Rattle.jr_defs.specs.Scope.{Depth, within}
 use Rattle.jr_defs.specs.Overloads.{IsApplicable, Applicable, IsMostSpecific, Choice, ImportedChoice, Earlier}
 use Rattle.jr_defs.specs.Lookup.{SimpleCandidate, MemberBefore, TypeBefore, QualifiedCandidate, SuperOf, MethodLevel, ImportedMethod, MethodCandidate, EnclosesNew, NewLevel, CalledClass, Candidate, IsPackageName, IsLength, Otherwise, LookFor, Arguments}
-use Rattle.jr_defs.specs.Correspondence.{IsDeclared, Alike, Carries, Sees, Places, IsRound, Asks, IsRead, IsCall, Corresponds, moved, moved_level, moved_types, moved_receiver}
+use Rattle.jr_defs.specs.Correspondence.{IsDeclared, Alike, Carries, Sees, Places, IsRound, Asks, IsRead, IsScoped, IsCall, Corresponds, moved, moved_level, moved_types, moved_receiver}
 use Rattle.jr_defs.proofs.CarryMembers.{of_role, type_declared, declared_in_declared, member_declared, role_over, at_role, type_over, static_over, declares_over, member_over, member_named_over}
 use Rattle.jr_defs.proofs.CarryScope.{scope_declared, depth_declared, IsNoMethod, no_method, found_over, none_over}
 use Rattle.jr_defs.proofs.CarryOverloads.{Sets, SetsBoth, turned, applicable_over, more_specific_over, result_over, earlier_over, Choosing, Both, flipped, both_most, most_over, left_of_over}
@@ -43,14 +43,14 @@ class_type_label _ h = absurd h
 module _ (p : Rows) (t : Table) (K : ℕ → Type 0) (q : Rows) (u : Table) (L : ℕ → Type 0) (f g : ℕ → ℕ) (C D : ℕ → Type 0) (o o' : ℕ) (s : Sought)
   (to : Corresponds p t K q u L f g C D o o' s) (from : Corresponds q u L p t K g f D C o' o s) where
 
-  pub simple_over : (x : Text) (k : NameKind) (d : ℕ) (level : Option ℕ) → SimpleCandidate p t x o k d level → SimpleCandidate q u x o' k (f d) (moved_level f level)
-  simple_over x _ d l (SimpleCandidate.variable h) = SimpleCandidate.variable (found_over p t q u f g C D to.carries from.carries o o' to.places from.places space.Variable x d l (λ k. cc) h)
-  simple_over x _ d l (SimpleCandidate.type h) = SimpleCandidate.type (found_over p t q u f g C D to.carries from.carries o o' to.places from.places space.Type x d l (λ k. cc) h)
-  simple_over x _ d l (SimpleCandidate.package_or_type h) = SimpleCandidate.package_or_type (found_over p t q u f g C D to.carries from.carries o o' to.places from.places space.Type x d l (λ k. cc) h)
-  simple_over x _ d l (SimpleCandidate.first_variable h) = SimpleCandidate.first_variable (found_over p t q u f g C D to.carries from.carries o o' to.places from.places space.Variable x d l (λ k. cc) h)
-  simple_over x _ d l (SimpleCandidate.then_type none' h) = SimpleCandidate.then_type
-    (none_over p t q u f g C D to.carries from.carries o o' to.places from.places space.Variable x (λ k. cc) none')
-    (found_over p t q u f g C D to.carries from.carries o o' to.places from.places space.Type x d l (λ k. cc) h)
+  pub simple_over : (x : Text) (k : NameKind) (d : ℕ) (level : Option ℕ) → IsScoped s → SimpleCandidate p t x o k d level → SimpleCandidate q u x o' k (f d) (moved_level f level)
+  simple_over x _ d l sc (SimpleCandidate.variable h) = SimpleCandidate.variable (found_over p t q u f g C D to.carries from.carries o o' to.places from.places (to.imports sc) (from.imports sc) space.Variable x d l (λ k. cc) h)
+  simple_over x _ d l sc (SimpleCandidate.type h) = SimpleCandidate.type (found_over p t q u f g C D to.carries from.carries o o' to.places from.places (to.imports sc) (from.imports sc) space.Type x d l (λ k. cc) h)
+  simple_over x _ d l sc (SimpleCandidate.package_or_type h) = SimpleCandidate.package_or_type (found_over p t q u f g C D to.carries from.carries o o' to.places from.places (to.imports sc) (from.imports sc) space.Type x d l (λ k. cc) h)
+  simple_over x _ d l sc (SimpleCandidate.first_variable h) = SimpleCandidate.first_variable (found_over p t q u f g C D to.carries from.carries o o' to.places from.places (to.imports sc) (from.imports sc) space.Variable x d l (λ k. cc) h)
+  simple_over x _ d l sc (SimpleCandidate.then_type none' h) = SimpleCandidate.then_type
+    (none_over p t q u f g C D to.carries from.carries o o' to.places from.places (to.imports sc) (from.imports sc) space.Variable x (λ k. cc) none')
+    (found_over p t q u f g C D to.carries from.carries o o' to.places from.places (to.imports sc) (from.imports sc) space.Type x d l (λ k. cc) h)
 
   pub member_before_over : (x : Text) (d : ℕ) → IsRead s → MemberBefore p t K space.Variable x o d → MemberBefore q u L space.Variable x o' (f d)
   member_before_over x d read h = record {

@@ -12,7 +12,7 @@ use Rattle.jr_defs.specs.Declarations.{IsOf, Declares, IsType}
 use Rattle.jr_defs.specs.Scope.{Depth, on_demand, of_package, of_unit, within, rank, HasScope, InScope, Visible, Imported}
 use Rattle.jr_defs.specs.Imports.{SingleImport, StaticImport, OnDemandImport, OnDemandOf}
 use Rattle.jr_defs.specs.Lookup.{Found, level_of, NoneInScope}
-use Rattle.jr_defs.specs.Correspondence.{IsDeclared, Alike, Carries, Sees, Places, IsRound, moved_depth, moved_level}
+use Rattle.jr_defs.specs.Correspondence.{IsDeclared, Alike, Carries, Sees, Places, ImportsGo, IsRound, moved_depth, moved_level}
 use Rattle.jr_defs.proofs.CarryMembers.{of_role, type_declared, member_declared, role_over, member_over, declares_over}
 
 -- ---- how far in
@@ -126,30 +126,30 @@ no_method _ role.Label k h e = cc
 -- ---- scope
 
 module _ (p : Rows) (t : Table) (q : Rows) (u : Table) (f g : ℕ → ℕ) (C D : ℕ → Type 0) (to : Carries p t q u f g C D) (from : Carries q u p t g f D C) where
-  pub scope_over : (o o' d : ℕ) (r : Depth) → Places p t q u f C o o' → (role_at p d ≡ role.Method → ⊥) → HasScope p t o d r → HasScope q u o' (f d) (moved_depth f r)
-  scope_over o o' d _ at k (HasScope.local h) = HasScope.local (at.local d h)
-  scope_over o o' d _ at k (HasScope.parameter h) = HasScope.parameter (at.parameter d h)
-  scope_over o o' d _ at k (HasScope.labeled h) = HasScope.labeled (at.labeled d h)
-  scope_over o o' d _ at k (HasScope.member {c = c} h m) = HasScope.member (at.body c h) (member_over p t q u f g C D to from c d (at.body_known c h) (λ e. absurd (k e)) m)
-  scope_over o o' d _ at k (HasScope.of_same_unit h) = HasScope.of_same_unit (at.unit d h)
-  scope_over o o' d _ at k (HasScope.of_same_package h) = HasScope.of_same_package (at.other d h)
-  scope_over o o' d _ at k (HasScope.single h) = HasScope.single (at.single d h)
-  scope_over o o' d _ at k (HasScope.static h) = HasScope.static (at.static d k h)
-  scope_over o o' d _ at k (HasScope.demanded h) = HasScope.demanded (at.demanded d h)
+  pub scope_over : (o o' d : ℕ) (r : Depth) → Places p t q u f C o o' → ImportsGo p t q u f o o' → (role_at p d ≡ role.Method → ⊥) → HasScope p t o d r → HasScope q u o' (f d) (moved_depth f r)
+  scope_over o o' d _ at im k (HasScope.local h) = HasScope.local (at.local d h)
+  scope_over o o' d _ at im k (HasScope.parameter h) = HasScope.parameter (at.parameter d h)
+  scope_over o o' d _ at im k (HasScope.labeled h) = HasScope.labeled (at.labeled d h)
+  scope_over o o' d _ at im k (HasScope.member {c = c} h m) = HasScope.member (at.body c h) (member_over p t q u f g C D to from c d (at.body_known c h) (λ e. absurd (k e)) m)
+  scope_over o o' d _ at im k (HasScope.of_same_unit h) = HasScope.of_same_unit (at.unit d h)
+  scope_over o o' d _ at im k (HasScope.of_same_package h) = HasScope.of_same_package (at.other d h)
+  scope_over o o' d _ at im k (HasScope.single h) = HasScope.single (im.single d h)
+  scope_over o o' d _ at im k (HasScope.static h) = HasScope.static (im.static d k h)
+  scope_over o o' d _ at im k (HasScope.demanded h) = HasScope.demanded (im.demanded d h)
 
-  pub in_scope_over : (kind : Space) (x : Text) (o o' d : ℕ) (r : Depth) → IsNoMethod kind → Places p t q u f C o o' → InScope p t kind x o d r
+  pub in_scope_over : (kind : Space) (x : Text) (o o' d : ℕ) (r : Depth) → IsNoMethod kind → Places p t q u f C o o' → ImportsGo p t q u f o o' → InScope p t kind x o d r
     → InScope q u kind x o' (f d) (moved_depth f r)
-  in_scope_over kind x o o' d r k at h = record {
-    scope = scope_over o o' d r at (no_method kind (role_at p d) k h.declares.of_kind) h.scope;
+  in_scope_over kind x o o' d r k at im h = record {
+    scope = scope_over o o' d r at im (no_method kind (role_at p d) k h.declares.of_kind) h.scope;
     declares = declares_over p q f g to.alike kind x d (scope_declared p t o d r h.scope) h.declares }
 
 module _ (p : Rows) (t : Table) (q : Rows) (u : Table) (f g : ℕ → ℕ) (C D : ℕ → Type 0) (to : Carries p t q u f g C D) (from : Carries q u p t g f D C)
-  (o o' : ℕ) (at : Places p t q u f C o o') (back : Places q u p t g D o' o) where
+  (o o' : ℕ) (at : Places p t q u f C o o') (back : Places q u p t g D o' o) (im : ImportsGo p t q u f o o') (im' : ImportsGo q u p t g o' o) where
   pub visible_over : (kind : Space) (x : Text) (d : ℕ) (r : Depth) → IsNoMethod kind → Visible p t kind x o d r → Visible q u kind x o' (f d) (moved_depth f r)
   visible_over kind x d r k h = record {
-    in_scope = in_scope_over p t q u f g C D to from kind x o o' d r k at h.in_scope;
+    in_scope = in_scope_over p t q u f g C D to from kind x o o' d r k at im h.in_scope;
     innermost = λ e' r' w.
-      let v = in_scope_over q u p t g f D C from to kind x o' o e' r' k back w in
+      let v = in_scope_over q u p t g f D C from to kind x o' o e' r' k back im' w in
       let z = h.innermost (g e') (moved_depth g r') v in
       let order = keeps_depths p o f at.order (moved_depth g r') r (depth_round p t o (g e') (moved_depth g r') v.scope) (depth_round p t o d r h.in_scope.scope) in
       subst (λ s. rank s ≤ rank (moved_depth f r)) (depth_back q g f from.alike.back r' (depth_declared q u o' e' r' w.scope))
@@ -176,4 +176,4 @@ module _ (p : Rows) (t : Table) (q : Rows) (u : Table) (f g : ℕ → ℕ) (C D 
       ∙ level_over (role_at p d) h.depth ∙ ap (moved_level f) h.through }
 
   pub none_over : (kind : Space) (x : Text) → IsNoMethod kind → NoneInScope p t kind x o → NoneInScope q u kind x o'
-  none_over kind x k h e' r' w = h (g e') (moved_depth g r') (in_scope_over q u p t g f D C from to kind x o' o e' r' k back w)
+  none_over kind x k h e' r' w = h (g e') (moved_depth g r') (in_scope_over q u p t g f D C from to kind x o' o e' r' k back im' w)

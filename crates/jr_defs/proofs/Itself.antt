@@ -32,7 +32,7 @@ use Rattle.jr_defs.specs.Headers.{NamesHeader}
 use Rattle.jr_defs.specs.Lookup.{Found, SimpleCandidate, TypeBefore, QualifiedCandidate, Candidate, Otherwise, LookFor, Look, PackageBefore}
 use Rattle.jr_defs.specs.Laws.{SameHeaders}
 use Rattle.jr_defs.specs.Formed.{SeeksType, IsNameLabel, SeeksKind, NamesTypeFirst, IsFormed}
-use Rattle.jr_defs.specs.Correspondence.{IsDeclared, Alike, Carries, Sees, Places, Asks, IsRead, IsCall, Corresponds, moved, moved_level, moved_element, moved_type, moved_types, moved_receiver}
+use Rattle.jr_defs.specs.Correspondence.{IsDeclared, Alike, Carries, Sees, Places, ImportsGo, Asks, IsRead, IsScoped, IsCall, Corresponds, moved, moved_level, moved_element, moved_type, moved_types, moved_receiver}
 use Rattle.jr_defs.proofs.CarryMembers.{type_declared, member_over}
 use Rattle.jr_defs.proofs.CarryLookup.{class_type_label}
 use Rattle.jr_defs.proofs.Carry.{look_carries}
@@ -117,15 +117,13 @@ super_wide p t formed c r h = by_place h.place h.at
 -- ---- places
 
 -- what imports bring to the place is the same
-pub record SameImports (p : Rows) (t u : Table) (o : ℕ) : Type 0 where
-  pub single : (d : ℕ) → Imported p (SingleImport p t) o d → Imported p (SingleImport p u) o d
-  pub static : (d : ℕ) → (role_at p d ≡ role.Method → ⊥) → Imported p (StaticImport p t) o d → Imported p (StaticImport p u) o d
-  pub demanded : (d : ℕ) → Imported p (OnDemandImport p t) o d → Imported p (OnDemandImport p u) o d
+abbrev pub SameImports : Rows → Table → Table → ℕ → Type 0
+SameImports p t u o = ImportsGo p t p u same o o
 
-pub places : (p : Rows) (t u : Table) (o : ℕ) → SameImports p t u o → Places p t p u same (IsType p) o o
-places p t u o h = record {
-  local = λ d w. w; parameter = λ d w. w; labeled = λ d w. w; body = λ c w. w; body_known = λ c w. w.of_type.type; order = λ m n i j le. le;
-  unit = λ d w. w; other = λ d w. w; single = h.single; static = h.static; demanded = h.demanded;
+pub places : (p : Rows) (t u : Table) (C : ℕ → Type 0) (o : ℕ) → ((c : ℕ) → InBody p c o → C c) → Places p t p u same C o o
+places p t u C o known = record {
+  local = λ d w. w; parameter = λ d w. w; labeled = λ d w. w; body = λ c w. w; body_known = known; order = λ m n i j le. le;
+  unit = λ d w. w; other = λ d w. w;
   same_top = λ d k w. w; same_package = λ d k w. w; super_call = λ e. e; instance = λ c w. w; own_body = λ c w. w }
 
 -- the tables agree on the names of imports
@@ -184,21 +182,29 @@ named_same p t u o h c w = record { first = w.first; level = w.level; refers = s
 pub packaged_same : (p : Rows) (t u : Table) (o : ℕ) → SameFirst p t u o → (path : List Text) → PackageBefore p t o path → PackageBefore p u o path
 packaged_same p t u o h path w = record { first = w.first; refers = sym (h w.first) ∙ w.refers; spells = w.spells }
 
-pub type_search : (p : Rows) (t u : Table) (K L : ℕ → Type 0) (o : ℕ) → SeeksType (sought_at p o) → IsFormed p → SameHeaders p t u → SameImports p t u o → SameFirst p t u o
-  → Corresponds p t K p u L same same (IsType p) (IsType p) o o (sought_at p o)
-type_search p t u K L o seeks formed h imports first = record {
-  carries = carries p t u h;
-  places = places p t u o imports;
+-- with the types whose supertypes are known, at a name of a type
+pub type_search_in : (p : Rows) (t u : Table) (K L : ℕ → Type 0) (C : ℕ → Type 0) (o : ℕ) → SeeksType (sought_at p o) → Carries p t p u same same C C
+  → ((c : ℕ) → InBody p c o → C c) → (IsScoped (sought_at p o) → SameImports p t u o) → SameFirst p t u o → ((c : ℕ) → NamesType p t o c → C c)
+  → Corresponds p t K p u L same same C C o o (sought_at p o)
+type_search_in p t u K L C o seeks over known imports first named = record {
+  carries = over;
+  places = places p t u C o known;
+  imports = imports;
   asks = record {
     receiver = λ r. absurd (no_read (sought_at p o) seeks r);
     receiver_known = λ r. absurd (no_read (sought_at p o) seeks r);
     receiver_back = λ r. absurd (no_read (sought_at p o) seeks r);
     array = λ r. absurd (no_read (sought_at p o) seeks r);
     named = named_same p t u o first;
-    named_known = λ c w. w.type;
+    named_known = named;
     packaged = packaged_same p t u o first;
     arguments = λ r. absurd (no_call (sought_at p o) seeks r);
     arguments_back = λ r. absurd (no_call (sought_at p o) seeks r);
     imported = λ r. absurd (no_call (sought_at p o) seeks r) };
   sees = λ r. absurd (no_call (sought_at p o) seeks r);
-  wide = λ r c s w. super_wide p t formed c s w }
+  wide = λ r. absurd (no_call (sought_at p o) seeks r) }
+
+pub type_search : (p : Rows) (t u : Table) (K L : ℕ → Type 0) (o : ℕ) → SeeksType (sought_at p o) → SameHeaders p t u → SameImports p t u o → SameFirst p t u o
+  → Corresponds p t K p u L same same (IsType p) (IsType p) o o (sought_at p o)
+type_search p t u K L o seeks h imports first =
+  type_search_in p t u K L (IsType p) o seeks (carries p t u h) (λ c w. w.of_type.type) (λ s. imports) first (λ c w. w.type)

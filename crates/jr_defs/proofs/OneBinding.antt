@@ -78,7 +78,8 @@ module _ (p : Rows) (t u : Table) (K L : ℕ → Type 0) (formed : IsFormed p) (
   pub search_same : Corresponds p t K p u L same same (IsType p) (IsType p) o o (sought_at p o)
   search_same = record {
     carries = carries p t u h;
-    places = places p t u o (same_imports p t u h names o);
+    places = places p t u (IsType p) o (λ c w. w.of_type.type);
+    imports = λ s. same_imports p t u h names o;
     asks = record {
       receiver = λ r. receivers;
       receiver_known = λ r. receiver_type;
@@ -130,7 +131,7 @@ module _ (p : Rows) (t u : Table) (formed : IsFormed p) (a : IsBound p t) (b : I
 
   -- what looks up alike below is bound alike
   agree_at : (o : ℕ) → SameFirst p t u o → SameBelow p t u (HasConstantForm p t) (HasConstantForm p u) o → SameBelow p u t (HasConstantForm p u) (HasConstantForm p t) o → t o ≡ u o
-  agree_at o first below back = bound_same p t u o a b
+  agree_at o first below back = bound_same p t u (IsType p) o (a o) (b o)
     (search_same p t u (HasConstantForm p t) (HasConstantForm p u) formed h imports types (turned_types p t u types) o first below)
     (search_same p u t (HasConstantForm p u) (HasConstantForm p t) formed (turned_headers p t u h) (turned_names p t u imports) (turned_types p t u types) types o (λ e. sym (first e)) back)
 

@@ -42,12 +42,12 @@ otherwise_one p t K o x s _ _ (Otherwise.unbound n k) (Otherwise.length m h) = a
 otherwise_one p t K o x s _ _ (Otherwise.unbound n k) (Otherwise.unbound m h) = refl
 
 -- what looks up alike is bound alike
-pub bound_same : (p : Rows) (t u : Table) (o : ℕ) → IsBound p t → IsBound p u
-  → Corresponds p t (HasConstantForm p t) p u (HasConstantForm p u) same same (IsType p) (IsType p) o o (sought_at p o)
-  → Corresponds p u (HasConstantForm p u) p t (HasConstantForm p t) same same (IsType p) (IsType p) o o (sought_at p o) → t o ≡ u o
-bound_same p t u o a b to from =
-  let l = look_carries p t (HasConstantForm p t) p u (HasConstantForm p u) same same (IsType p) (IsType p) o o (name p o) (sought_at p o) to from (t o) (a o) in
-  sym (moved_same (t o)) ∙ answer_unique _ _ (otherwise_one p u (HasConstantForm p u) o (name p o) (sought_at p o)) (moved same (t o)) (u o) l (b o)
+pub bound_same : (p : Rows) (t u : Table) (C : ℕ → Type 0) (o : ℕ) → Look p t (HasConstantForm p t) o (t o) → Look p u (HasConstantForm p u) o (u o)
+  → Corresponds p t (HasConstantForm p t) p u (HasConstantForm p u) same same C C o o (sought_at p o)
+  → Corresponds p u (HasConstantForm p u) p t (HasConstantForm p t) same same C C o o (sought_at p o) → t o ≡ u o
+bound_same p t u C o a b to from =
+  let l = look_carries p t (HasConstantForm p t) p u (HasConstantForm p u) same same C C o o (name p o) (sought_at p o) to from (t o) a in
+  sym (moved_same (t o)) ∙ answer_unique _ _ (otherwise_one p u (HasConstantForm p u) o (name p o) (sought_at p o)) (moved same (t o)) (u o) l b
 
 -- ---- names of types
 
@@ -72,9 +72,9 @@ below_seeks p n formed _ e h below = absurd h
 
 module _ (p : Rows) (t u : Table) (formed : IsFormed p) (a : IsBound p t) (b : IsBound p u) (h : SameHeaders p t u) where
   type_same_at : (o : ℕ) → SeeksType (sought_at p o) → SameImports p t u o → SameImports p u t o → SameFirst p t u o → t o ≡ u o
-  type_same_at o seeks imports back first = bound_same p t u o a b
-    (type_search p t u (HasConstantForm p t) (HasConstantForm p u) o seeks formed h imports first)
-    (type_search p u t (HasConstantForm p u) (HasConstantForm p t) o seeks formed (turned_headers p t u h) back (λ w. sym (first w)))
+  type_same_at o seeks imports back first = bound_same p t u (IsType p) o (a o) (b o)
+    (type_search p t u (HasConstantForm p t) (HasConstantForm p u) o seeks h imports first)
+    (type_search p u t (HasConstantForm p u) (HasConstantForm p t) o seeks (turned_headers p t u h) back (λ w. sym (first w)))
 
   -- in an import nothing is imported
   no_imports : (v w : Table) (i o : ℕ) (form : ImportKind) → label p i ≡ is.Import form → i < o → o < end p i → SameImports p v w o

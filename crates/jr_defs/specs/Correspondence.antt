@@ -68,6 +68,12 @@ IsRead sought.FieldOf = Unit {0}
 IsRead sought.MethodOf = Unit {0}
 IsRead _ = ⊥
 
+-- it reads what is in scope, imports among it
+abbrev pub IsScoped : Sought → Type 0
+IsScoped (sought.Simple k) = Unit {0}
+IsScoped sought.Label = Unit {0}
+IsScoped _ = ⊥
+
 -- it reads arguments, parameter types and subtypes
 abbrev pub IsCall : Sought → Type 0
 IsCall sought.Method = Unit {0}
@@ -129,9 +135,6 @@ pub record Places (p : Rows) (t : Table) (q : Rows) (u : Table) (f : ℕ → ℕ
   pub order : (m n : ℕ) → IsRound p o m → IsRound p o n → m ≤ n → f m ≤ f n
   pub unit : (d : ℕ) → TypeOfUnit p o d → TypeOfUnit q o' (f d)
   pub other : (d : ℕ) → TypeOfOther p o d → TypeOfOther q o' (f d)
-  pub single : (d : ℕ) → Imported p (SingleImport p t) o d → Imported q (SingleImport q u) o' (f d)
-  pub static : (d : ℕ) → (role_at p d ≡ role.Method → ⊥) → Imported p (StaticImport p t) o d → Imported q (StaticImport q u) o' (f d)
-  pub demanded : (d : ℕ) → Imported p (OnDemandImport p t) o d → Imported q (OnDemandImport q u) o' (f d)
   -- access at the place
   pub same_top : (d : ℕ) → IsDeclared p d → SameTopLevel p d o → SameTopLevel q (f d) o'
   pub same_package : (d : ℕ) → IsDeclared p d → SamePackage p d o → SamePackage q (f d) o'
@@ -139,6 +142,12 @@ pub record Places (p : Rows) (t : Table) (q : Rows) (u : Table) (f : ℕ → ℕ
   pub instance : (c : ℕ) → HasInstance p o c → HasInstance q o' (f c)
   -- the class whose constructor stands there
   pub own_body : (c : ℕ) → BodyOf p c (parent p o) → BodyOf q (f c) (parent q o')
+
+-- what imports bring to the place goes over
+pub record ImportsGo (p : Rows) (t : Table) (q : Rows) (u : Table) (f : ℕ → ℕ) (o o' : ℕ) : Type 0 where
+  pub single : (d : ℕ) → Imported p (SingleImport p t) o d → Imported q (SingleImport q u) o' (f d)
+  pub static : (d : ℕ) → (role_at p d ≡ role.Method → ⊥) → Imported p (StaticImport p t) o d → Imported q (StaticImport q u) o' (f d)
+  pub demanded : (d : ℕ) → Imported p (OnDemandImport p t) o d → Imported q (OnDemandImport q u) o' (f d)
 
 -- what stands before the dot of o, and its arguments, go over to those of o', as far as the search s reads them
 pub record Asks (p : Rows) (t : Table) (K : ℕ → Type 0) (q : Rows) (u : Table) (L : ℕ → Type 0) (f g : ℕ → ℕ) (C : ℕ → Type 0) (o o' : ℕ) (s : Sought) : Type 0 where
@@ -157,6 +166,7 @@ pub record Asks (p : Rows) (t : Table) (K : ℕ → Type 0) (q : Rows) (u : Tabl
 pub record Corresponds (p : Rows) (t : Table) (K : ℕ → Type 0) (q : Rows) (u : Table) (L : ℕ → Type 0) (f g : ℕ → ℕ) (C D : ℕ → Type 0) (o o' : ℕ) (s : Sought) : Type 0 where
   pub carries : Carries p t q u f g C D
   pub places : Places p t q u f C o o'
+  pub imports : IsScoped s → ImportsGo p t q u f o o'
   pub asks : Asks p t K q u L f g C o o' s
   pub sees : IsCall s → Sees p t q u f
   pub wide : IsCall s → (c r : ℕ) → Super p t c r → C c
