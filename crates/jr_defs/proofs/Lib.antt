@@ -10,3 +10,4 @@ pub mod Itself
 pub mod TypesAgree
 pub mod TypingSame
 pub mod OneBinding
+pub mod HeadersAgree

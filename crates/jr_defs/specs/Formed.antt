@@ -10,9 +10,9 @@ use Rattle.jr_rows.specs.declared.label.Sought.TheVariants as sought
 use Rattle.jr_rows.specs.Exprs.{left_kind}
 use Rattle.jr_rows.specs.Rows.{Rows, label, parent, end, sought_at}
 use Rattle.jr_rows.specs.Tree.{IsTree}
-use Rattle.jr_defs.specs.Declarations.{IsType}
-use Rattle.jr_defs.specs.Enclosing.{InTopLevel}
-use Rattle.jr_defs.specs.Headers.{NamesHeader}
+use Rattle.jr_defs.specs.Declarations.{IsType, IsObject}
+use Rattle.jr_defs.specs.Enclosing.{InTopLevel, InBody, DeclaredIn}
+use Rattle.jr_defs.specs.Headers.{NamesHeader, IsIdentifierOf}
 
 -- a name that stands for a type, or is a qualifier of one
 abbrev pub SeeksType : Sought → Type 0
@@ -50,3 +50,12 @@ pub record IsFormed (p : Rows) : Type 0 where
   pub import_name : (i : ℕ) (form : ImportKind) → label p i ≡ is.Import form → i + 1 < end p i
   -- types stand behind imports, and not in them
   pub imports_apart : (i o k : ℕ) (form : ImportKind) → label p i ≡ is.Import form → i < o → o < end p i → InTopLevel p k o → ⊥
+  pub import_outside : (i o e : ℕ) (form : ImportKind) → label p i ≡ is.Import form → i < o → o < end p i → InBody p e o → ⊥
+  -- below the name of a type stand its qualifiers alone, and its first identifier stands last
+  pub identifier : (n m : ℕ) → SeeksType (sought_at p n) → IsIdentifierOf p n m → SeeksType (sought_at p m)
+  pub first_last : (n m : ℕ) (k : NameKind) → SeeksType (sought_at p n) → IsIdentifierOf p n m → sought_at p m ≡ sought.Simple k → end p n ≡ m + 1
+  -- a header stands in the bodies that hold its type
+  pub header_place : (c n m e : ℕ) → NamesHeader p c n → IsIdentifierOf p n m → InBody p e m → InBody p e c
+  pub body_chain : (c e : ℕ) → IsType p c → InBody p e c → DeclaredIn p e c ⊎ ((f : ℕ) × DeclaredIn p f c × InBody p e f)
+  -- Object names nothing in its header
+  pub object_bare : (c n : ℕ) → IsObject p c → NamesHeader p c n → ⊥
