@@ -40,10 +40,10 @@ use Rattle.jr_defs.proofs.TypesAgree.{otherwise_one, bound_same, below_seeks, se
 pub data Agreed (p : Rows) (t u : Table) : ℕ → Type 0 where
   agreed : {c : ℕ} → IsType p c → ((n : ℕ) → NamesHeader p c n → t n ≡ u n) → ((n s : ℕ) → SuperAt p t c n s → Agreed p t u s) → Agreed p t u c
 
-agreed_type : (p : Rows) (t u : Table) (c : ℕ) → Agreed p t u c → IsType p c
+pub agreed_type : (p : Rows) (t u : Table) (c : ℕ) → Agreed p t u c → IsType p c
 agreed_type p t u c (agreed k names up) = k
 
-agreed_names : (p : Rows) (t u : Table) (c n : ℕ) → Agreed p t u c → NamesHeader p c n → t n ≡ u n
+pub agreed_names : (p : Rows) (t u : Table) (c n : ℕ) → Agreed p t u c → NamesHeader p c n → t n ≡ u n
 agreed_names p t u c n (agreed k names up) h = names n h
 
 agreed_above : (p : Rows) (t u : Table) (c n s : ℕ) → Agreed p t u c → SuperAt p t c n s → Agreed p t u s
@@ -68,13 +68,13 @@ module _ (p : Rows) (t u : Table) where
   superclass_back c s k (Superclass.named {n = n} h e) = Superclass.named h (agreed_names p t u c n k (inl h) ∙ e)
   superclass_back c s k (Superclass.implied h e) = Superclass.implied h e
 
-  carries_there : Carries p t p u same same (Agreed p t u) (Agreed p t u)
+  pub carries_there : Carries p t p u same same (Agreed p t u) (Agreed p t u)
   carries_there = record {
     alike = alike p; known = agreed_type p t u; goes = λ c k. k;
     super_at = super_there; super_known = λ c n s k w. agreed_above p t u c n s k w;
     place_back = λ c n s k w. refl; place_order = λ c m n r s k a b le. le; superclass = superclass_there }
 
-  carries_back : Carries p u p t same same (Agreed p t u) (Agreed p t u)
+  pub carries_back : Carries p u p t same same (Agreed p t u) (Agreed p t u)
   carries_back = record {
     alike = alike p; known = agreed_type p t u; goes = λ c k. k;
     super_at = super_back; super_known = λ c n s k w. agreed_above p t u c n s k (super_back c n s k w);
@@ -105,7 +105,7 @@ candidate_of p t K o x s _ d l e (one e' m h only) = let i : e' ≡ d = cc in le
 candidate_of p t K o x s a d l e (none never h) = absurd (no_row p t K o x s a h (subst IsRow (sym e) tt))
 candidate_of p t K o x s _ d l e (several c c' m m' h h' apart) = cc
 
-type_role : (p : Rows) (x : Text) (d : ℕ) → Declares p space.Type x d → IsType p d
+pub type_role : (p : Rows) (x : Text) (d : ℕ) → Declares p space.Type x d → IsType p d
 type_role p x d h = by_role (role_at p d) h.of_kind
   where
     by_role : (r : _) → IsOf space.Type r → r ≡ role.Type
@@ -137,18 +137,18 @@ type_declares p t K o x _ d _ k (Candidate.constructor h m w) = absurd k
 type_declares p t K o x _ d _ k (Candidate.own_class h) = absurd k
 type_declares p t K o x _ d l k (Candidate.labeled h) = absurd k
 
-target_declares : (p : Rows) (t : Table) → IsBound p t → (o d : ℕ) (l : Option ℕ) → SeeksType (sought_at p o) → t o ≡ Declared d l → Declares p space.Type (name p o) d
+pub target_declares : (p : Rows) (t : Table) → IsBound p t → (o d : ℕ) (l : Option ℕ) → SeeksType (sought_at p o) → t o ≡ Declared d l → Declares p space.Type (name p o) d
 target_declares p t a o d l seeks e = type_declares p t (HasConstantForm p t) o (name p o) (sought_at p o) d l seeks
   (candidate_of p t (HasConstantForm p t) o (name p o) (sought_at p o) (t o) d l e (a o))
 
 -- ---- scopes at a place in a header
 
 -- the tables agree on an import, and what it names is agreed on
-record ImportSame (p : Rows) (t u : Table) (i : ℕ) : Type 0 where
-  at : t (i + 1) ≡ u (i + 1)
-  known : (c : ℕ) → ImportNames p t i c → Agreed p t u c
+pub record ImportSame (p : Rows) (t u : Table) (i : ℕ) : Type 0 where
+  pub at : t (i + 1) ≡ u (i + 1)
+  pub known : (c : ℕ) → ImportNames p t i c → Agreed p t u c
 
-abbrev IsBoundedBy : Rows → Table → ℕ → ℕ → Type 0
+abbrev pub IsBoundedBy : Rows → Table → ℕ → ℕ → Type 0
 IsBoundedBy p t m k = (e : ℕ) (q : Depth) → InScope p t space.Type (name p m) m e q → rank q ≤ k
 
 module _ (p : Rows) (t u : Table) (formed : IsFormed p) (a : IsBound p t) (b : IsBound p u) (m : ℕ)
@@ -362,7 +362,7 @@ module _ (p : Rows) (t u : Table) (formed : IsFormed p) (a : IsBound p t) (b : I
   look_there k r seeks (none never h) = none (λ d l w. never d l (simple_back (sought.Simple k) d l seeks tt w)) (otherwise_there k r h)
   look_there k _ seeks (several d e l q h i apart) = several d e l q (simple_there (sought.Simple k) d l seeks tt h) (simple_there (sought.Simple k) e q seeks tt i) apart
 
-  first_agrees : (k : NameKind) → sought_at p m ≡ sought.Simple k → SeeksType (sought.Simple k) → t m ≡ u m
+  pub first_agrees : (k : NameKind) → sought_at p m ≡ sought.Simple k → SeeksType (sought.Simple k) → t m ≡ u m
   first_agrees k e seeks =
     let x = subst (λ s. LookFor p t (HasConstantForm p t) m (name p m) s (t m)) e (a m) in
     let y = subst (λ s. LookFor p u (HasConstantForm p u) m (name p m) s (u m)) e (b m) in

@@ -11,3 +11,4 @@ pub mod TypesAgree
 pub mod TypingSame
 pub mod OneBinding
 pub mod HeadersAgree
+pub mod Settling

@@ -70,18 +70,18 @@ below_seeks p n formed (sought.Qualified kind.Type) e h below = kind_seeks kind.
 below_seeks p n formed (sought.Qualified kind.PackageOrType) e h below = kind_seeks kind.PackageOrType (sought_at p (n + 1)) (formed.qualifier n kind.PackageOrType e) tt
 below_seeks p n formed _ e h below = absurd h
 
+-- in an import nothing is imported
+pub no_imports : (p : Rows) → IsFormed p → (v w : Table) (i o : ℕ) (form : ImportKind) → label p i ≡ is.Import form → i < o → o < end p i → SameImports p v w o
+no_imports p formed v w i o form e lo hi = record {
+  single = λ d x. absurd (formed.imports_apart i o x.holds.top form e lo hi x.holds.inside);
+  static = λ d k x. absurd (formed.imports_apart i o x.holds.top form e lo hi x.holds.inside);
+  demanded = λ d x. absurd (formed.imports_apart i o x.holds.top form e lo hi x.holds.inside) }
+
 module _ (p : Rows) (t u : Table) (formed : IsFormed p) (a : IsBound p t) (b : IsBound p u) (h : SameHeaders p t u) where
   type_same_at : (o : ℕ) → SeeksType (sought_at p o) → SameImports p t u o → SameImports p u t o → SameFirst p t u o → t o ≡ u o
   type_same_at o seeks imports back first = bound_same p t u (IsType p) o (a o) (b o)
     (type_search p t u (HasConstantForm p t) (HasConstantForm p u) o seeks h imports first)
     (type_search p u t (HasConstantForm p u) (HasConstantForm p t) o seeks (turned_headers p t u h) back (λ w. sym (first w)))
-
-  -- in an import nothing is imported
-  no_imports : (v w : Table) (i o : ℕ) (form : ImportKind) → label p i ≡ is.Import form → i < o → o < end p i → SameImports p v w o
-  no_imports v w i o form e lo hi = record {
-    single = λ d x. absurd (formed.imports_apart i o x.holds.top form e lo hi x.holds.inside);
-    static = λ d k x. absurd (formed.imports_apart i o x.holds.top form e lo hi x.holds.inside);
-    demanded = λ d x. absurd (formed.imports_apart i o x.holds.top form e lo hi x.holds.inside) }
 
   inside_too : (i n : ℕ) → i < n → n < end p i → parent p (n + 1) ≡ n → n + 1 < end p i
   inside_too i n lo hi e = elim (side (n + 1)) [
@@ -95,7 +95,7 @@ module _ (p : Rows) (t u : Table) (formed : IsFormed p) (a : IsBound p t) (b : I
 
   imports_from : (k o : ℕ) → length p ≤ o + k → (n i : ℕ) (form : ImportKind) → o ≤ n → label p i ≡ is.Import form → i < n → n < end p i → SeeksType (sought_at p n) → t n ≡ u n
   imports_from zero o le n i form after e lo hi seeks = absurd (seeks_past p n (omega arith) seeks)
-  imports_from (suc k) o le n i form after e lo hi seeks = type_same_at n seeks (no_imports t u i n form e lo hi) (no_imports u t i n form e lo hi)
+  imports_from (suc k) o le n i form after e lo hi seeks = type_same_at n seeks (no_imports p formed t u i n form e lo hi) (no_imports p formed u t i n form e lo hi)
     (λ below. imports_from k (o + 1) (omega arith) (n + 1) i form (omega arith) e (omega arith) (inside_too i n lo hi below) (below_seeks p n formed (sought_at p n) refl seeks below))
 
   pub import_names_agree : SameImportNames p t u
