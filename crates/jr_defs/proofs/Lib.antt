@@ -1,0 +1,14 @@
+pub mod Unique
+pub mod CarryMembers
+pub mod CarryScope
+pub mod CarryTypes
+pub mod CarryOverloads
+pub mod CarryLookup
+pub mod CarryAnswers
+pub mod Carry
+pub mod Itself
+pub mod TypesAgree
+pub mod TypingSame
+pub mod OneBinding
+pub mod HeadersAgree
+pub mod Settling

@@ -1,0 +1,38 @@
+-- Laws of the definitions.
+use Rattle.std.specs.Prelude.{◌≡◌, ℕ, Bool, IsTrue, Option}
+use Rattle.jr_base.specs.declared.text.Text.{Text}
+use Rattle.jr_rows.specs.declared.label.Sought.{Sought}
+use Rattle.jr_rows.specs.Rows.{Rows}
+use Rattle.jr_defs.specs.declared.referent.Referent.{Referent}
+use Rattle.jr_defs.specs.declared.referent.Referent.TheVariants.{Declared}
+use Rattle.jr_defs.specs.Referents.{Table}
+use Rattle.jr_defs.specs.Declarations.{IsType}
+use Rattle.jr_defs.specs.Lookup.{LookFor}
+use Rattle.jr_defs.specs.Headers.{NamesHeader}
+use Rattle.jr_defs.specs.Binding.{IsBound}
+use Rattle.jr_defs.specs.Formed.{IsFormed}
+use Rattle.jr_defs.specs.Correspondence.{Corresponds, moved}
+
+-- the numbers that a test picks
+abbrev pub Picked : (ℕ → Bool) → ℕ → Type 0
+Picked test n = IsTrue (test n)
+
+-- lookup has at most one answer
+abbrev pub OneAnswer : Type 0
+OneAnswer = (p : Rows) (t : Table) (k : ℕ → Bool) (o : ℕ) (x : Text) (s : Sought) (a b : Referent) → LookFor p t (Picked k) o x s a → LookFor p t (Picked k) o x s b → a ≡ b
+
+-- what corresponding occurrences refer to corresponds
+abbrev pub LookCarries : Type 0
+LookCarries = (p q : Rows) (t u : Table) (k l c d : ℕ → Bool) (f g : ℕ → ℕ) (o o' : ℕ) (x : Text) (s : Sought) (a : Referent)
+  → Corresponds p t (Picked k) q u (Picked l) f g (Picked c) (Picked d) o o' s
+  → Corresponds q u (Picked l) p t (Picked k) g f (Picked d) (Picked c) o' o s
+  → LookFor p t (Picked k) o x s a → LookFor q u (Picked l) o' x s (moved f a)
+
+-- the tables agree on the names in headers, and there name types
+pub record SameHeaders (p : Rows) (t u : Table) : Type 0 where
+  pub at : (c n : ℕ) → NamesHeader p c n → t n ≡ u n
+  pub types : (c n s : ℕ) (l : Option ℕ) → NamesHeader p c n → t n ≡ Declared s l → IsType p s
+
+-- tables that agree with themselves, and with each other on headers, are one
+abbrev pub BindingsAgree : Type 0
+BindingsAgree = (p : Rows) (t u : Table) → IsFormed p → IsBound p t → IsBound p u → SameHeaders p t u → (o : ℕ) → t o ≡ u o

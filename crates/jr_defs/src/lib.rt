@@ -1,0 +1,12 @@
+//! What names, types and constants of a program mean: definitions over its rows, and the types that they speak of.
+#![tactic(auto)]
+
+mod law;
+mod program;
+mod referent;
+mod table;
+
+pub use law::{bindings_agree, lookup_carries, lookup_is_unique};
+pub use program::{Program, UnitAt};
+pub use referent::{Element, Referent, RowType, Space};
+pub use table::{BindingTable, Headers, MemberTable, Supers, Target, TypeMembers};

@@ -1,0 +1,7 @@
+// The law of rows.
+ghost use Rattle.jr_rows.specs.Tree.{EachProgramIsTree};
+
+/// The rows of a program are those of one tree: each has its parent before it and ends inside it, and of two rows one holds the other or they are apart.
+pub fn programs_are_trees()
+    ensures { EachProgramIsTree }
+{}
