@@ -27,3 +27,4 @@ pub mod NameGrowths
 pub mod PartGrowths
 pub mod CreationGrowths
 pub mod ParenGrowths
+pub mod OperandGrowths
