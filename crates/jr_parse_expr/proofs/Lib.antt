@@ -28,3 +28,4 @@ pub mod PartGrowths
 pub mod CreationGrowths
 pub mod ParenGrowths
 pub mod OperandGrowths
+pub mod LevelGrowths
