@@ -29,3 +29,4 @@ pub mod CreationGrowths
 pub mod ParenGrowths
 pub mod OperandGrowths
 pub mod LevelGrowths
+pub mod AllGrowths
