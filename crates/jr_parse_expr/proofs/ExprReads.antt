@@ -41,7 +41,7 @@ unfolding expr operations operand
 level_named room least head ts = chain_of (dotted true [] head ts) (after_dotted room (expr room) (list room)) (suffixes room (expr room) (list room)) (climb room (expr room) (list room) least)
 
 -- a name and a bracket is the same as a name, and then a bracket behind it, where a level is left
-level_bracket : (room least : ℕ) (before : List Text) (last : Text) (ts : List Kind) → 1 ≤ room
+pub level_bracket : (room least : ℕ) (before : List Text) (last : Text) (ts : List Kind) → 1 ≤ room
     → expr (suc room) (Named (Plain before last)) least (kind.Sym y.OpenBracket ∷ ts) ≡ expr (suc room) (Indexed (name_of (before ++ last ∷ []))) least ts
 unfolding expr operations operand after_dotted after_bracket
 level_bracket room least before last ts some =

@@ -26,3 +26,7 @@ pub mod Growths
 pub mod NameGrowths
 pub mod PartGrowths
 pub mod CreationGrowths
+pub mod ParenGrowths
+pub mod OperandGrowths
+pub mod LevelGrowths
+pub mod AllGrowths
