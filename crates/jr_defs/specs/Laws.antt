@@ -9,7 +9,7 @@ use Rattle.jr_defs.specs.Referents.{Table}
 use Rattle.jr_defs.specs.Declarations.{IsType}
 use Rattle.jr_defs.specs.Lookup.{LookFor}
 use Rattle.jr_defs.specs.Headers.{NamesHeader}
-use Rattle.jr_defs.specs.Binding.{IsBound}
+use Rattle.jr_defs.specs.Binding.{IsBound, IsBinding}
 use Rattle.jr_defs.specs.Formed.{IsFormed}
 use Rattle.jr_defs.specs.Correspondence.{Corresponds, moved}
 
@@ -24,9 +24,9 @@ OneAnswer = (p : Rows) (t : Table) (k : ℕ → Bool) (o : ℕ) (x : Text) (s : 
 -- what corresponding occurrences refer to corresponds
 abbrev pub LookCarries : Type 0
 LookCarries = (p q : Rows) (t u : Table) (k l c d : ℕ → Bool) (f g : ℕ → ℕ) (o o' : ℕ) (x : Text) (s : Sought) (a : Referent)
-  → Corresponds p t (Picked k) q u (Picked l) f g (Picked c) (Picked d) o o' s
-  → Corresponds q u (Picked l) p t (Picked k) g f (Picked d) (Picked c) o' o s
-  → LookFor p t (Picked k) o x s a → LookFor q u (Picked l) o' x s (moved f a)
+    → Corresponds p t (Picked k) q u (Picked l) f g (Picked c) (Picked d) o o' s
+    → Corresponds q u (Picked l) p t (Picked k) g f (Picked d) (Picked c) o' o s
+    → LookFor p t (Picked k) o x s a → LookFor q u (Picked l) o' x s (moved f a)
 
 -- the tables agree on the names in headers, and there name types
 pub record SameHeaders (p : Rows) (t u : Table) : Type 0 where
@@ -36,3 +36,7 @@ pub record SameHeaders (p : Rows) (t u : Table) : Type 0 where
 -- tables that agree with themselves, and with each other on headers, are one
 abbrev pub BindingsAgree : Type 0
 BindingsAgree = (p : Rows) (t u : Table) → IsFormed p → IsBound p t → IsBound p u → SameHeaders p t u → (o : ℕ) → t o ≡ u o
+
+-- a program has at most one binding
+abbrev pub OneBinding : Type 0
+OneBinding = (p : Rows) (t u : Table) → IsFormed p → IsBinding p t → IsBinding p u → (o : ℕ) → t o ≡ u o

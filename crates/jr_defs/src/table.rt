@@ -16,10 +16,7 @@ pub enum Target {
     TypePart(TypeId),
     /// The level is the enclosing type whose member the field or method is, or the enclosing class whose instance encloses the object
     /// that a creation makes.
-    Decl {
-        decl: DeclId,
-        level: Option<TypeId>,
-    },
+    Decl { decl: DeclId, level: Option<TypeId> },
 }
 
 /// The targets of occurrences, which rise.
