@@ -236,12 +236,12 @@ all_local (suc room) (suc other) le =
 
 -- ---- the fault is the same whatever follows its token
 
-wider_le : (f : Fault) (room other : ℕ) → Wider f room other → room ≤ other
+pub wider_le : (f : Fault) (room other : ℕ) → Wider f room other → room ≤ other
 wider_le NoTree room other h = h
 wider_le TooDeep room other h = omega arith
 wider_le OutOfMemory room other h = absurd h
 
-alone_by : {A : Type 0} (room other : ℕ) (le : room ≤ other) (q : Parser A) (ts : List Kind) (o : Outcome A) (f : Fault) (rest : List Kind) → o ≡ Err (f, rest) → Kept room other le q ts o → Wider f room other → Again q (λ w. Err (f, w)) ts rest
+pub alone_by : {A : Type 0} (room other : ℕ) (le : room ≤ other) (q : Parser A) (ts : List Kind) (o : Outcome A) (f : Fault) (rest : List Kind) → o ≡ Err (f, rest) → Kept room other le q ts o → Wider f room other → Again q (λ w. Err (f, w)) ts rest
 alone_by room other le q ts (Ok r) f rest e k wider = absurd (ok_err e)
 alone_by room other le q ts (Err stop) f rest e k wider =
     subst (λ (stop : Fault × List Kind). Again q (λ w. Err (stop.0, w)) ts stop.1) (err_is e) (k (subst (λ (stop : Fault × List Kind). Wider stop.0 room other) (sym (err_is e)) wider))
