@@ -1,13 +1,10 @@
 -- Where reading stops, as it is stated.
-use Rattle.std.proofs.Common.{◌≡◌, ℕ, zero, suc, ◌<◌, ◌≤◌, List, [], ◌∷◌, ◌++◌, Option, Ok, Err, refl, sym, ap, ◌∙◌, subst, arith}
+use Rattle.std.proofs.Common.{◌≡◌, ℕ, zero, suc, ◌≤◌, List, ◌∷◌, ◌++◌, refl, sym, ap, ◌∙◌, arith}
 use Rattle.jr_base.specs.declared.kind.Kind.{Kind}
 use Rattle.jr_base.specs.declared.kind.Kind.TheVariants as kind
 use Rattle.jr_base.specs.declared.kind.Symbol.TheVariants as y
-use Rattle.jr_tree.specs.Mirror.Exprs as x
-use Rattle.jr_parse_laws.specs.declared.fault.Fault.{Fault}
 use Rattle.jr_parse_laws.specs.Parsers.{first}
-use Rattle.jr_parse_laws.specs.Viable.{Wider}
-use Rattle.jr_parse_expr.specs.Names.{name_of, Dotted, Plain, Enclosing}
+use Rattle.jr_parse_expr.specs.Names.{name_of, Plain}
 use Rattle.jr_parse_expr.specs.Exprs.{Lead, Nothing, Named, Indexed, This, Super, expr, init, list}
 use Rattle.jr_parse_expr.specs.Writing.{write_all, write_lead}
 use Rattle.jr_parse_expr.specs.Follow.{IsLed}

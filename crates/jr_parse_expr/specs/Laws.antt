@@ -8,7 +8,7 @@ use Rattle.jr_tree.specs.Tokens.{expr_tokens}
 use Rattle.jr_parse_laws.specs.declared.fault.Fault.{Fault}
 use Rattle.jr_parse_laws.specs.Parsers.{first}
 use Rattle.jr_parse_laws.specs.Viable.{Alike, Begun, Wider, Deeper}
-use Rattle.jr_parse_expr.specs.Exprs.{Lead, Nothing, Named, Indexed, This, Super, expr, effect, init}
+use Rattle.jr_parse_expr.specs.Exprs.{Lead, Indexed, expr, effect, init}
 use Rattle.jr_parse_expr.specs.Writing.{write_lead, write_expr, write_init}
 use Rattle.jr_parse_expr.specs.Follow.{Ends, EffectEnds, InitEnds, IsExpr, IsEffect, IsLed}
 
