@@ -1,18 +1,18 @@
 -- Where reading an initializer or an expression stops, what stands before begins one.
-use Rattle.std.proofs.Common.{◌≡◌, ℕ, zero, suc, ◌<◌, ◌≤◌, max, Bool, true, false, ◌||◌, cond, List, [], ◌∷◌, ◌++◌, length, Option, Some, None, Ok, Err, refl, sym, ap, ◌∙◌, subst, ◌⊎◌, inl, inr, arith}
+use Rattle.std.proofs.Common.{◌≡◌, ℕ, zero, suc, ◌≤◌, max, Bool, true, false, ◌||◌, cond, List, [], ◌∷◌, ◌++◌, length, Option, Some, None, Ok, Err, refl, sym, ap, ◌∙◌, subst, ◌⊎◌, inl, inr, arith}
 use Rattle.std.proofs.lemmas.Bool.{cases_lt, true≢false}
 use Rattle.jr_base.specs.declared.text.Text.{Text}
 use Rattle.jr_base.specs.declared.kind.Kind.{Kind}
 use Rattle.jr_base.specs.declared.kind.Kind.TheVariants as kind
 use Rattle.jr_base.specs.declared.kind.Symbol.TheVariants as y
-use Rattle.jr_tree.specs.Shape.{IsShapedInit, IsShapedList, AreShapedInits}
-use Rattle.jr_tree.specs.Depth.{init_depth, inits_depth, list_depth}
-use Rattle.jr_tree.specs.Tokens.{init_tokens, inits_tokens, list_tokens}
+use Rattle.jr_tree.specs.Shape.{IsShapedInit, AreShapedInits}
+use Rattle.jr_tree.specs.Depth.{init_depth, inits_depth}
+use Rattle.jr_tree.specs.Tokens.{init_tokens, inits_tokens}
 use Rattle.jr_tree.specs.Words.{if_true, mark}
 use Rattle.jr_tree.specs.Mirror.Exprs as x
 use Rattle.jr_parse_laws.specs.declared.fault.Fault.{Fault}
-use Rattle.jr_parse_laws.specs.declared.fault.Fault.TheVariants.{NoTree, TooDeep}
-use Rattle.jr_parse_laws.specs.Parsers.{Outcome, Parser, and_then, first, is_at, is_symbol, pure, expect}
+use Rattle.jr_parse_laws.specs.declared.fault.Fault.TheVariants.{TooDeep}
+use Rattle.jr_parse_laws.specs.Parsers.{Outcome, Parser, first, is_at, is_symbol, pure, expect}
 use Rattle.jr_parse_laws.proofs.Outcomes.{bind_ok, chosen, ok_err, err_is, is_symbol_is, Before, After, stops}
 use Rattle.jr_parse_laws.proofs.Stops.{Leading, leading_nothing}
 use Rattle.jr_parse_laws.proofs.Exact.{expect_sound}
@@ -20,14 +20,13 @@ use Rattle.jr_parse_expr.specs.Starts.{is_open_brace, begins_operand, starts_exp
 use Rattle.jr_parse_expr.specs.Names.{name_of, Plain}
 use Rattle.jr_parse_expr.specs.Exprs as reader
 use Rattle.jr_parse_expr.specs.Exprs.{Lead, Nothing, Named, Indexed, skipping, expr, list}
-use Rattle.jr_parse_expr.specs.Writing.{write_comma, write_expr, write_list, write_init, write_inits, write_more}
-use Rattle.jr_parse_expr.specs.Follow.{IsExpr}
+use Rattle.jr_parse_expr.specs.Writing.{write_comma, write_list, write_init, write_inits, write_more}
 use Rattle.jr_parse_expr.proofs.Written.{init_written, inits_written, comma_written}
 use Rattle.jr_parse_expr.proofs.Asked.{ReadsExprs, ReadsLists, depth_pos, list_depth_pos}
 use Rattle.jr_parse_expr.proofs.Initializers.{init_sound, items_sound}
 use Rattle.jr_parse_expr.proofs.ExprReads.{no_level_err, level_bracket, all_read}
-use Rattle.jr_parse_expr.proofs.Growths.{Growing, Starter, leading_tokens, leading_then, leading_one, grows, none_grows, deep_grows, starter}
-use Rattle.jr_parse_expr.proofs.PartGrowths.{NoLevel, Deep, Refused, IsListIn, Within, GrowsExprs, GrowsLists, missing}
+use Rattle.jr_parse_expr.proofs.Growths.{Growing, leading_tokens, leading_then, leading_one, grows, none_grows, deep_grows, starter}
+use Rattle.jr_parse_expr.proofs.PartGrowths.{NoLevel, Deep, Refused, IsListIn, GrowsExprs, GrowsLists, missing}
 use Rattle.jr_parse_expr.proofs.LevelGrowths.{level_grows}
 
 abbrev pub IsInitIn : ℕ → x.Init → Type 0

@@ -1,5 +1,5 @@
 -- Where reading a level of expressions stops, what stands before begins one.
-use Rattle.std.proofs.Common.{◌≡◌, ℕ, zero, suc, ◌<◌, ◌≤◌, max, Bool, true, false, not, List, [], ◌∷◌, Option, Some, None, Ok, Err, refl, sym, ap, ◌∙◌, subst, inl, inr, arith}
+use Rattle.std.proofs.Common.{◌≡◌, ℕ, suc, ◌<◌, ◌≤◌, max, true, false, not, List, [], ◌∷◌, Option, Some, None, Ok, Err, refl, sym, ap, ◌∙◌, subst, inl, inr, arith}
 use Rattle.std.proofs.lemmas.Bool.{not_from_false}
 use Rattle.jr_base.specs.declared.text.Text.{Text}
 use Rattle.jr_base.specs.declared.kind.Kind.{Kind}
@@ -14,15 +14,15 @@ use Rattle.jr_tree.specs.Shape.{level, is_least, is_name, is_new_array, is_targe
 use Rattle.jr_tree.specs.Depth.{expr_depth}
 use Rattle.jr_tree.specs.Mirror.Exprs as x
 use Rattle.jr_parse_laws.specs.declared.fault.Fault.{Fault}
-use Rattle.jr_parse_laws.specs.declared.fault.Fault.TheVariants.{NoTree, TooDeep}
-use Rattle.jr_parse_laws.specs.Parsers.{Parser, and_then, first, symbol_of, expect, identifier}
+use Rattle.jr_parse_laws.specs.declared.fault.Fault.TheVariants.{TooDeep}
+use Rattle.jr_parse_laws.specs.Parsers.{Parser, and_then, symbol_of, expect, identifier}
 use Rattle.jr_parse_laws.proofs.Outcomes.{bind_ok, ok_err, some_is, Before, After, stops}
 use Rattle.jr_parse_laws.proofs.Stops.{leading_nothing}
 use Rattle.jr_parse_laws.proofs.Exact.{expect_sound, identifier_token}
 use Rattle.jr_parse_expr.specs.Names.{name_of, type_of, type_use}
 use Rattle.jr_parse_expr.specs.Exprs as reader
 use Rattle.jr_parse_expr.specs.Exprs.{Lead, Nothing}
-use Rattle.jr_parse_expr.specs.Writing.{write_type, write_expr}
+use Rattle.jr_parse_expr.specs.Writing.{write_expr}
 use Rattle.jr_parse_expr.specs.Follow.{IsExpr}
 use Rattle.jr_parse_expr.proofs.Beginnings.{binary_low}
 use Rattle.jr_parse_expr.proofs.Steps.{Suffixed, Ended, Selects, Indexes, Steps, suffix_view, Operated, Over, Chooses, Computes, Assigns, Tests, operator_view}
@@ -31,7 +31,7 @@ use Rattle.jr_parse_expr.proofs.Operands.{operand_sound}
 use Rattle.jr_parse_expr.proofs.Chains.{symbol_is_of, no_name_before_dot, suffixes_halt, suffixes_sound}
 use Rattle.jr_parse_expr.proofs.Climbs.{Climbed, climb_halt}
 use Rattle.jr_parse_expr.proofs.Growths.{Growing, leading_then, leading_expr, leading_one, grows, none_grows, deep_grows, sample, sample_is}
-use Rattle.jr_parse_expr.proofs.NameGrowths.{IsTypeIn, type_grows}
+use Rattle.jr_parse_expr.proofs.NameGrowths.{type_grows}
 use Rattle.jr_parse_expr.proofs.PartGrowths.{Within, GrowsExprs, GrowsLists, missing, call_grows}
 use Rattle.jr_parse_expr.proofs.OperandGrowths.{operand_grows}
 
@@ -283,10 +283,10 @@ module _ (room : ℕ) (inner : Lead → ℕ → Parser x.Expr) (list : Parser x.
             ])
         | After left us e d ↦ after_chain left us e d
       ] where
-    after_chain : (left : x.Expr) (us : List Kind) → and_then (reader.operand room inner list Nothing ts) (reader.suffixes room inner list) ≡ Ok (left, us) → reader.climb room inner list least left us ≡ Err stop → Starts least ts stop
-    after_chain left us e d =
-        let a = bind_ok (reader.operand room inner list Nothing ts) (reader.suffixes room inner list) (left, us) e in
-        let chain = suffixes_sound room inner list reads lists ts a.0.0 a.0.1 (left, us) (operand_sound room inner list reads lists ts a.0 a.1) a.2 in
-        let tight = chain.0.tight in
-        climb_grows least ts left us stop
-        (record { is = record { shaped = chain.0.shaped; fits = (omega arith, not_from_false _ chain.0.not_least); low = chain.0.low }; written = chain.0.written; ended = chain.0.ended; free = chain.1 }) d
+        after_chain : (left : x.Expr) (us : List Kind) → and_then (reader.operand room inner list Nothing ts) (reader.suffixes room inner list) ≡ Ok (left, us) → reader.climb room inner list least left us ≡ Err stop → Starts least ts stop
+        after_chain left us e d =
+            let a = bind_ok (reader.operand room inner list Nothing ts) (reader.suffixes room inner list) (left, us) e in
+            let chain = suffixes_sound room inner list reads lists ts a.0.0 a.0.1 (left, us) (operand_sound room inner list reads lists ts a.0 a.1) a.2 in
+            let tight = chain.0.tight in
+            climb_grows least ts left us stop
+            (record { is = record { shaped = chain.0.shaped; fits = (omega arith, not_from_false _ chain.0.not_least); low = chain.0.low }; written = chain.0.written; ended = chain.0.ended; free = chain.1 }) d

@@ -30,3 +30,4 @@ pub mod ParenGrowths
 pub mod OperandGrowths
 pub mod LevelGrowths
 pub mod AllGrowths
+pub mod Stuck

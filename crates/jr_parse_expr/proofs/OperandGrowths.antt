@@ -1,6 +1,6 @@
 -- Where reading an operand stops, what stands before begins one.
-use Rattle.std.proofs.Common.{◌≡◌, ℕ, zero, suc, ◌<◌, ◌≤◌, max, Bool, true, false, not, cond, ltb, List, [], ◌∷◌, ◌++◌, Option, Some, None, Ok, Err, refl, sym, ap, ◌∙◌, subst, inl, inr, arith}
-use Rattle.std.proofs.lemmas.Bool.{or_right, ltb-false, not_from_false}
+use Rattle.std.proofs.Common.{◌≡◌, ℕ, suc, ◌≤◌, true, not, cond, ltb, List, [], ◌∷◌, ◌++◌, Ok, Err, refl, sym, ap, ◌∙◌, subst, inl, inr, arith}
+use Rattle.std.proofs.lemmas.Bool.{or_right, ltb-false}
 use Rattle.jr_base.specs.declared.text.Text.{Text}
 use Rattle.jr_base.specs.declared.kind.Kind.{Kind}
 use Rattle.jr_base.specs.declared.kind.Kind.TheVariants as kind
@@ -8,13 +8,12 @@ use Rattle.jr_base.specs.declared.kind.Symbol.{Symbol}
 use Rattle.jr_base.specs.declared.kind.Symbol.TheVariants as y
 use Rattle.jr_base.specs.declared.kind.Keyword.TheVariants as k
 use Rattle.jr_tree.specs.Levels.{is_unary, is_step, is_minus, is_least_kind}
-use Rattle.jr_tree.specs.Shape.{level, is_least, is_name, is_new_array, IsShapedExpr}
-use Rattle.jr_tree.specs.Depth.{expr_depth}
+use Rattle.jr_tree.specs.Shape.{is_least}
 use Rattle.jr_tree.specs.Mirror.Exprs as x
 use Rattle.jr_parse_laws.specs.declared.fault.Fault.{Fault}
 use Rattle.jr_parse_laws.specs.declared.fault.Fault.TheVariants.{NoTree, TooDeep}
-use Rattle.jr_parse_laws.specs.Parsers.{Outcome, Parser, and_then, first, symbol_of, symbol_at, refuse, expect, identifier}
-use Rattle.jr_parse_laws.proofs.Outcomes.{chosen, ok_err, err_is, some_is, Before, After, stops}
+use Rattle.jr_parse_laws.specs.Parsers.{Outcome, Parser, and_then, expect, identifier}
+use Rattle.jr_parse_laws.proofs.Outcomes.{chosen, ok_err, err_is, Before, After, stops}
 use Rattle.jr_parse_laws.proofs.Stops.{leading_nothing}
 use Rattle.jr_parse_laws.proofs.Exact.{expect_sound, identifier_token}
 use Rattle.jr_parse_expr.specs.Starts.{begins_operand, is_plain_literal}
@@ -22,11 +21,10 @@ use Rattle.jr_parse_expr.specs.Names.{name_of, Dotted, Plain, Enclosing, dotted}
 use Rattle.jr_parse_expr.specs.Exprs as reader
 use Rattle.jr_parse_expr.specs.Exprs.{Lead, Nothing}
 use Rattle.jr_parse_expr.specs.Writing.{write_all, write_dotted, write_name, write_expr}
-use Rattle.jr_parse_expr.specs.Follow.{IsExpr, symbol_next}
 use Rattle.jr_parse_expr.proofs.NameReads.{dotted_sound, has_parts, all_append}
-use Rattle.jr_parse_expr.proofs.Asked.{ReadsExprs, ReadsLists, Operand}
+use Rattle.jr_parse_expr.proofs.Asked.{ReadsExprs, ReadsLists}
 use Rattle.jr_parse_expr.proofs.Operands.{shaped_receiver, low_receiver, received}
-use Rattle.jr_parse_expr.proofs.Growths.{Growing, Starter, leading_then, leading_expr, leading_one, grows, none_grows, deep_grows, sample, sample_is, starter}
+use Rattle.jr_parse_expr.proofs.Growths.{Growing, leading_then, leading_one, grows, none_grows, deep_grows, sample, sample_is, starter}
 use Rattle.jr_parse_expr.proofs.NameGrowths.{dotted_stop, leading_name}
 use Rattle.jr_parse_expr.proofs.PartGrowths.{Within, GrowsExprs, GrowsLists, missing, call_grows}
 use Rattle.jr_parse_expr.proofs.CreationGrowths.{creation_grows}
@@ -124,11 +122,11 @@ module _ (room : ℕ) (inner : Lead → ℕ → Parser x.Expr) (list : Parser x.
             (λ z. all_append s.front s.final ([] ∷ []) z) (record { shaped = has_parts (s.front ++ s.final ∷ []) []; fits = (omega arith, refl); low = omega arith }))))
         | After d rest e i ↦ after_grows d rest (dotted_sound true [] head ts (d, rest) e).written i
       ] where
-    after_grows : (d : Dotted) (rest : List Kind) → kind.Ident head ∷ ts ≡ write_dotted d rest → reader.after_dotted room inner list d rest ≡ Err stop → Begins (kind.Ident head ∷ ts) stop
-    after_grows (Enclosing before last) rest same i = absurd (ok_err i)
-    after_grows (Plain before last) rest same i =
-        call_grows room inner list reads lists growths growing (reader.receiver_of before) last (x.NameExpr (name_of (before ++ last ∷ []))) (kind.Ident head ∷ ts) rest stop (shaped_receiver before) (low_receiver room before)
-        (same ∙ received before last rest) i
+        after_grows : (d : Dotted) (rest : List Kind) → kind.Ident head ∷ ts ≡ write_dotted d rest → reader.after_dotted room inner list d rest ≡ Err stop → Begins (kind.Ident head ∷ ts) stop
+        after_grows (Enclosing before last) rest same i = absurd (ok_err i)
+        after_grows (Plain before last) rest same i =
+            call_grows room inner list reads lists growths growing (reader.receiver_of before) last (x.NameExpr (name_of (before ++ last ∷ []))) (kind.Ident head ∷ ts) rest stop (shaped_receiver before) (low_receiver room before)
+            (same ∙ received before last rest) i
 
   super_grows : (ts : List Kind) (stop : Fault × List Kind) → reader.super_member room inner list ts ≡ Err stop → Begins (kind.Word k.Super ∷ ts) stop
   unfolding reader.super_member
