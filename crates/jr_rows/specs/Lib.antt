@@ -5,3 +5,4 @@ pub mod Stmts
 pub mod Decls
 pub mod Rows
 pub mod Tree
+pub mod Below
