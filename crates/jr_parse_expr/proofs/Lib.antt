@@ -15,7 +15,7 @@ pub mod Chains
 pub mod Climbs
 pub mod Initializers
 pub mod ExprReads
-pub mod Effects
+pub mod EffectReads
 pub mod Readings
 pub mod Locals
 pub mod NameLocals
@@ -31,3 +31,4 @@ pub mod OperandGrowths
 pub mod LevelGrowths
 pub mod AllGrowths
 pub mod Stuck
+pub mod Rules

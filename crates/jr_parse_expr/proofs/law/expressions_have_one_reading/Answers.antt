@@ -1,5 +1,5 @@
 use Rattle.jr_parse_expr.proofs.Written.{written}
-use Rattle.jr_parse_expr.proofs.Effects.{effect_complete, effect_sound}
+use Rattle.jr_parse_expr.proofs.EffectReads.{effect_complete, effect_sound}
 use Rattle.jr_parse_expr.proofs.Readings.{exprs_complete, exprs_sound, inits_complete, inits_sound, one_reading}
 use Rattle.jr_parse_expr.proofs.Stuck.{exprs_stuck, inits_stuck}
 use Rattle.jr_parse_expr.proofs.law.expressions_have_one_reading.Goals as goal
