@@ -62,18 +62,18 @@ starts_left k at true f h = one_of (left_kind k) (left_kind (left_kind k)) f (sy
 starts_left k at false f h = h
 
 dotted_fits : (k : NameKind) (at : NamePlace) (parts : List Text) (b : Bool) (left rest : Forest) (over : Label) → Starts (is.Name k at b) left → Fits (is.Name k at b) left
-  → ((b : Bool) → Under over (is.Name k at b)) → Fits over rest → Fits over (dotted k at parts b left rest)
+    → ((b : Bool) → Under over (is.Name k at b)) → Fits over rest → Fits over (dotted k at parts b left rest)
 dotted_fits k at [] b left rest over s h under r = r
 dotted_fits k at (part ∷ []) b left rest over s h under r = (under b, s, h, r)
 dotted_fits k at (part ∷ (next ∷ parts)) b left rest over s h under r =
-  dotted_fits k at (next ∷ parts) true (more (is.Name (left_kind k) place.Qualifier b) part left none) rest over refl
+    dotted_fits k at (next ∷ parts) true (more (is.Name (left_kind k) place.Qualifier b) part left none) rest over refl
     (tt, starts_left k at b left s, fits_name k (left_kind k) at place.Qualifier b b left h, tt) under r
 
 pub name_fits : (k : NameKind) (at : NamePlace) (n : Name) (over : Label) (rest : Forest) → ((b : Bool) → Under over (is.Name k at b)) → Fits over rest → Fits over (name_labels k at n rest)
 name_fits k at n over rest under r = dotted_fits k at n.parts false none rest over tt tt under r
 
 dotted_first : (P : Label → Type 0) (k : NameKind) (at : NamePlace) (parts : List Text) (b : Bool) (left rest : Forest) → ((b : Bool) → P (is.Name k at b)) → IsTrue (not (is_empty parts))
-  → FirstIs P (dotted k at parts b left rest)
+    → FirstIs P (dotted k at parts b left rest)
 dotted_first P k at [] b left rest h e = absurd (let z : false ≡ true = e in cc)
 dotted_first P k at (part ∷ []) b left rest h e = h b
 dotted_first P k at (part ∷ (next ∷ parts)) b left rest h e = dotted_first P k at (next ∷ parts) true (more (is.Name (left_kind k) place.Qualifier b) part left none) rest h refl
@@ -102,55 +102,69 @@ array_starts (base.Primitive p) lengths extra rest h = tt
 array_starts (base.Named n) lengths extra rest h = type_name_first n rest h
 
 pub type_fits : (t : TypeUse) (over : Label) (rest : Forest) → IsOpen over → IsTypeUse t → Fits over rest → Fits over (type_labels t rest)
-type_fits t over rest o h r = (open_under over (is.TypeUse (primitive_of t.base) t.dims) o tt, type_starts t.base t.dims h,
-  base_fits t.base (is.TypeUse (primitive_of t.base) t.dims) none tt tt, r)
+type_fits t over rest o h r = (
+  open_under over (is.TypeUse (primitive_of t.base) t.dims) o tt,
+  type_starts t.base t.dims h,
+  base_fits t.base (is.TypeUse (primitive_of t.base) t.dims) none tt tt,
+  r,
+)
 
 -- ---- expressions
 
 mutual
   pub expr_fits : (e : x.Expr) (over : Label) (rest : Forest) → IsOpen over → IsShapedExpr e → Fits over rest → Fits over (expr_labels e rest)
   expr_fits (x.Assign target op value) over rest o h r =
-    (open_under over (is.Assign op) o tt, tt, expr_fits target (is.Assign op) (expr_labels value none) tt h.2 (expr_fits value (is.Assign op) none tt h.4 tt), r)
-  expr_fits (x.Cond c a b) over rest o h r =
-    (open_under over is.Conditional o tt, tt, expr_fits c is.Conditional (expr_labels a (expr_labels b none)) tt h.1
-      (expr_fits a is.Conditional (expr_labels b none) tt h.3 (expr_fits b is.Conditional none tt h.5 tt)), r)
+      (open_under over (is.Assign op) o tt, tt, expr_fits target (is.Assign op) (expr_labels value none) tt h.2 (expr_fits value (is.Assign op) none tt h.4 tt), r)
+  expr_fits (x.Cond c a b) over rest o h r = (
+    open_under over is.Conditional o tt,
+    tt,
+    expr_fits c is.Conditional (expr_labels a (expr_labels b none)) tt h.1
+        (expr_fits a is.Conditional (expr_labels b none) tt h.3 (expr_fits b is.Conditional none tt h.5 tt)),
+    r,
+  )
   expr_fits (x.Binary left op right) over rest o h r =
-    (open_under over (is.Binary op) o tt, tt, expr_fits left (is.Binary op) (expr_labels right none) tt h.2 (expr_fits right (is.Binary op) none tt h.4 tt), r)
+      (open_under over (is.Binary op) o tt, tt, expr_fits left (is.Binary op) (expr_labels right none) tt h.2 (expr_fits right (is.Binary op) none tt h.4 tt), r)
   expr_fits (x.IsA value ty) over rest o h r =
-    (open_under over is.IsA o tt, tt, expr_fits value is.IsA (type_labels ty none) tt h.1 (type_fits ty is.IsA none tt h.2 tt), r)
+      (open_under over is.IsA o tt, tt, expr_fits value is.IsA (type_labels ty none) tt h.1 (type_fits ty is.IsA none tt h.2 tt), r)
   expr_fits (x.Unary op value) over rest o h r = (open_under over (is.Unary op) o tt, tt, expr_fits value (is.Unary op) none tt h.3 tt, r)
   expr_fits (x.Cast ty value) over rest o h r =
-    (open_under over is.Cast o tt, tt, type_fits ty is.Cast (expr_labels value none) tt h.0 (expr_fits value is.Cast none tt h.3 tt), r)
+      (open_under over is.Cast o tt, tt, type_fits ty is.Cast (expr_labels value none) tt h.0 (expr_fits value is.Cast none tt h.3 tt), r)
   expr_fits (x.PreStep op value) over rest o h r = (open_under over (is.PreStep op) o tt, tt, expr_fits value (is.PreStep op) none tt h.2 tt, r)
   expr_fits (x.PostStep value op) over rest o h r = (open_under over (is.PostStep op) o tt, tt, expr_fits value (is.PostStep op) none tt h.2 tt, r)
   expr_fits (x.Lit token) over rest o h r = (open_under over (is.Literal token) o tt, tt, tt, r)
   expr_fits (x.This None) over rest o h r = (open_under over (is.This false) o tt, tt, tt, r)
   expr_fits (x.This (Some class)) over rest o h r =
-    (open_under over (is.This true) o tt, type_name_first class none h, type_name_fits class (is.This true) none tt tt, r)
+      (open_under over (is.This true) o tt, type_name_first class none h, type_name_fits class (is.This true) none tt tt, r)
   expr_fits (x.Paren inner) over rest o h r = (open_under over is.Paren o tt, tt, expr_fits inner is.Paren none tt h.1 tt, r)
   expr_fits (x.NameExpr name) over rest o h r =
-    name_fits kind.Variable place.Expression name over rest (λ b. open_under over (is.Name kind.Variable place.Expression b) o tt) r
+      name_fits kind.Variable place.Expression name over rest (λ b. open_under over (is.Name kind.Variable place.Expression b) o tt) r
   expr_fits (x.Select object name) over rest o h r = (open_under over is.Select o tt, tt, expr_fits object is.Select none tt h.1 tt, r)
   expr_fits (x.SuperSelect name) over rest o h r = (open_under over is.SuperSelect o tt, tt, tt, r)
   expr_fits (x.Index array at) over rest o h r =
-    (open_under over is.Index o tt, tt, expr_fits array is.Index (expr_labels at none) tt h.1 (expr_fits at is.Index none tt h.3 tt), r)
+      (open_under over is.Index o tt, tt, expr_fits array is.Index (expr_labels at none) tt h.1 (expr_fits at is.Index none tt h.3 tt), r)
   expr_fits (x.Call x.no_receiver name args) over rest o h r = (open_under over (is.Call on.Absent) o tt, tt, exprs_fits args (is.Call on.Absent) none tt h.1 tt, r)
   expr_fits (x.Call (x.a_receiver (x.Of object)) name args) over rest o h r =
-    (open_under over (is.Call on.Expression) o tt, tt, expr_fits object (is.Call on.Expression) (exprs_labels args none) tt h.0.1 (exprs_fits args (is.Call on.Expression) none tt h.1 tt), r)
+      (open_under over (is.Call on.Expression) o tt, tt, expr_fits object (is.Call on.Expression) (exprs_labels args none) tt h.0.1 (exprs_fits args (is.Call on.Expression) none tt h.1 tt), r)
   expr_fits (x.Call (x.a_receiver (x.OfName before)) name args) over rest o h r =
-    (open_under over (is.Call on.Name) o tt, tt, name_fits kind.Ambiguous place.Receiver before (is.Call on.Name) (exprs_labels args none) (λ b. tt) (exprs_fits args (is.Call on.Name) none tt h.1 tt), r)
+      (open_under over (is.Call on.Name) o tt, tt, name_fits kind.Ambiguous place.Receiver before (is.Call on.Name) (exprs_labels args none) (λ b. tt) (exprs_fits args (is.Call on.Name) none tt h.1 tt), r)
   expr_fits (x.Call (x.a_receiver x.Super) name args) over rest o h r = (open_under over (is.Call on.Super) o tt, tt, exprs_fits args (is.Call on.Super) none tt h.1 tt, r)
   expr_fits (x.New class args) over rest o h r =
-    (open_under over is.New o tt, type_name_first class (exprs_labels args none) h.0, type_name_fits class is.New (exprs_labels args none) tt (exprs_fits args is.New none tt h.1 tt), r)
-  expr_fits (x.NewArray base lengths extra x.no_list) over rest o h r =
-    (open_under over (is.NewArray (primitive_of base) (count lengths) extra) o tt, array_starts base (count lengths) extra (exprs_labels lengths none) h.0,
-      base_fits base (is.NewArray (primitive_of base) (count lengths) extra) (exprs_labels lengths none) tt
-        (exprs_fits lengths (is.NewArray (primitive_of base) (count lengths) extra) none tt h.1 tt), r)
-  expr_fits (x.NewArray base lengths extra (x.a_list list)) over rest o h r =
-    (open_under over (is.NewArray (primitive_of base) (count lengths) extra) o tt, array_starts base (count lengths) extra (exprs_labels lengths (list_labels list none)) h.0,
-      base_fits base (is.NewArray (primitive_of base) (count lengths) extra) (exprs_labels lengths (list_labels list none)) tt
+      (open_under over is.New o tt, type_name_first class (exprs_labels args none) h.0, type_name_fits class is.New (exprs_labels args none) tt (exprs_fits args is.New none tt h.1 tt), r)
+  expr_fits (x.NewArray base lengths extra x.no_list) over rest o h r = (
+    open_under over (is.NewArray (primitive_of base) (count lengths) extra) o tt,
+    array_starts base (count lengths) extra (exprs_labels lengths none) h.0,
+    base_fits base (is.NewArray (primitive_of base) (count lengths) extra) (exprs_labels lengths none) tt
+        (exprs_fits lengths (is.NewArray (primitive_of base) (count lengths) extra) none tt h.1 tt),
+    r,
+  )
+  expr_fits (x.NewArray base lengths extra (x.a_list list)) over rest o h r = (
+    open_under over (is.NewArray (primitive_of base) (count lengths) extra) o tt,
+    array_starts base (count lengths) extra (exprs_labels lengths (list_labels list none)) h.0,
+    base_fits base (is.NewArray (primitive_of base) (count lengths) extra) (exprs_labels lengths (list_labels list none)) tt
         (exprs_fits lengths (is.NewArray (primitive_of base) (count lengths) extra) (list_labels list none) tt h.1
-          (list_fits list (is.NewArray (primitive_of base) (count lengths) extra) none tt h.3 tt)), r)
+        (list_fits list (is.NewArray (primitive_of base) (count lengths) extra) none tt h.3 tt)),
+    r,
+  )
 
   pub exprs_fits : (e : x.Exprs) (over : Label) (rest : Forest) → IsOpen over → AreShapedExprs e → Fits over rest → Fits over (exprs_labels e rest)
   exprs_fits x.no_exprs over rest o h r = r

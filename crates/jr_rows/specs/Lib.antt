@@ -6,3 +6,4 @@ pub mod Decls
 pub mod Rows
 pub mod Tree
 pub mod Below
+pub mod Local
