@@ -19,7 +19,7 @@ use Rattle.jr_rows.specs.Rows.{Rows, row, label, parent, end, role_at, sought_at
 use Rattle.jr_rows.specs.Below.{IsQualifier, IsOtherName, IsTypeLabel, IsUnitOrBody, IsUnitLabel, IsProgramLabel, Under, IsQualifierOf, IsTypeName}
 use Rattle.jr_rows.specs.Local.{HasQualifier, HasTypeName, StartsAt, IsLocal}
 use Rattle.jr_defs.specs.Declarations.{IsType, IsObject}
-use Rattle.jr_defs.specs.Enclosing.{BodyOf, InBody, DeclaredIn, InTopLevel}
+use Rattle.jr_defs.specs.Enclosing.{BodyOf, InBody, DeclaredIn, InTopLevel, IsMemberRole, holder}
 use Rattle.jr_defs.specs.Supertypes.{IsSuperclassLabel, IsSuperinterfaceLabel}
 use Rattle.jr_defs.specs.Headers.{NamesHeader, IsIdentifierOf}
 use Rattle.jr_defs.specs.Formed.{SeeksType, IsNameLabel, SeeksKind, NamesTypeFirst, IsFormed}
@@ -153,6 +153,10 @@ seeks_name l h = by_sought (sought_by l) refl h
     by_sought (sought.Simple k) e h = name_label l (sought.Simple k) e k (inl refl)
     by_sought (sought.Qualified k) e h = name_label l (sought.Qualified k) e k (inr refl)
     by_sought _ e h = absurd h
+
+abbrev IsBodyRow : Label → Type 0
+IsBodyRow is.Body = Unit {0}
+IsBodyRow _ = ⊥
 
 abbrev IsImport : Label → Type 0
 IsImport (is.Import f) = Unit {0}
@@ -424,3 +428,151 @@ module _ (p : Rows) (h : IsLocal p) where
       by_side : (w.body ≤ i) ⊎ (i < w.body) → ⊥
       by_side (inl le) = no_root (outside_import i w.body o form q lo le w.before no_import no_unit)
       by_side (inr lt) = let f = w.after in subst IsNameLabel w.of_type.body (inside_import i form q w.body lt (omega arith))
+
+  -- ---- names of types
+
+  record IsLink (n m : ℕ) : Type 0 where
+    ends : end p m ≡ end p n
+    seeks : SeeksType (sought_at p m)
+
+  left_seeks : (k : NameKind) (s : Sought) → SeeksType (sought.Qualified k) → SeeksKind (left_kind k) s → SeeksType s
+  left_seeks kind.Type _ w SeeksKind.simple = tt
+  left_seeks kind.Type _ w SeeksKind.qualified = tt
+  left_seeks kind.PackageOrType _ w SeeksKind.simple = tt
+  left_seeks kind.PackageOrType _ w SeeksKind.qualified = tt
+  left_seeks kind.Variable _ w v = absurd w
+  left_seeks kind.Ambiguous _ w v = absurd w
+  left_seeks kind.Package _ w v = absurd w
+
+  equal_or : (a b : ℕ) → b ≤ a → (a ≡ b) ⊎ (b < a)
+  equal_or a b le = grind arith
+
+  -- a row right below an identifier of a type's name is the next one
+  link_below : (n v m : ℕ) (s : Sought) → sought_at p v ≡ s → SeeksType s → end p v ≡ end p n → parent p m ≡ v → v < m → IsLink n m
+  link_below n v m (sought.Simple k) e w q pa lt = let z = child_held v m pa lt in let y = simple_end v k e in absurd (omega arith)
+  link_below n v m (sought.Qualified k) e w q pa lt = elim (equal_or m (v + 1) (omega arith)) [
+      inl same ↦ subst (IsLink n) (sym same) (record { ends = (parts_of v k e).0.whole ∙ q; seeks = left_seeks k (sought_at p (v + 1)) w (qualifier' v k e) })
+    | inr more ↦ (let held = child_held v m pa lt in let whole = (parts_of v k e).0.whole in let z = h.tree.inner (v + 1) m more (omega arith) in absurd (omega arith)) ]
+  link_below n v m _ e w q pa lt = absurd w
+
+  link_here : (n m : ℕ) → n < m → m < end p n → ((v : ℕ) → v < m → n ≤ v → v < end p n → IsLink n v) → IsLink n m
+  link_here n m lo hi before =
+    let l = inside_there n m lo hi in let up = h.tree.up m l (omega arith) in let z = h.tree.inner n m lo hi in
+    let w = before (parent p m) up z (omega arith) in
+    link_below n (parent p m) m (sought_at p (parent p m)) refl w.seeks w.ends refl up
+    where
+      inside_there : (n m : ℕ) → n < m → m < end p n → m < length p
+      inside_there n m lo hi = elim (side n) [ inl x ↦ (let z = h.tree.last n x in omega arith) | inr g ↦ (let z = ap (λ r. r.end) (past n g) in absurd (omega arith)) ]
+
+  links : (n : ℕ) → SeeksType (sought_at p n) → (j m : ℕ) → m ≤ j → n ≤ m → m < end p n → IsLink n m
+  links n seeks zero m le lo hi = elim (equal_or m n lo) [ inl q ↦ subst (IsLink n) (sym q) (record { ends = refl; seeks = seeks }) | inr g ↦ absurd (omega arith) ]
+  links n seeks (suc j) m le lo hi = elim (equal_or m n lo) [
+      inl q ↦ subst (IsLink n) (sym q) (record { ends = refl; seeks = seeks })
+    | inr g ↦ link_here n m g hi (λ v lt lo' hi'. links n seeks j v (omega arith) lo' hi') ]
+
+  identifier' : (n m : ℕ) → SeeksType (sought_at p n) → IsIdentifierOf p n m → SeeksType (sought_at p m)
+  identifier' n m seeks i = (links n seeks m m (omega arith) i.from i.before).seeks
+
+  first_last' : (n m : ℕ) (k : NameKind) → SeeksType (sought_at p n) → IsIdentifierOf p n m → sought_at p m ≡ sought.Simple k → end p n ≡ m + 1
+  first_last' n m k seeks i e = sym (links n seeks m m (omega arith) i.from i.before).ends ∙ simple_end m k e
+
+  -- ---- bodies
+
+  no_name_body : (b : ℕ) → label p b ≡ is.Body → IsNameLabel (label p b) → ⊥
+  no_name_body b e k = subst IsNameLabel e k
+
+  header_place' : (c n m e : ℕ) → NamesHeader p c n → IsIdentifierOf p n m → InBody p e m → InBody p e c
+  header_place' c n m e w i v = record { body = v.body; of_type = v.of_type; after = after; before = before }
+    where
+      parent_is : parent p n ≡ c
+      parent_is = header_parent c n w
+
+      name_at : IsNameLabel (label p n)
+      name_at = seeks_name (label p n) (header_known c n w).1
+
+      above : c < n
+      above = let l = there IsNameLabel n (λ x. x) name_at in let z = h.tree.up n l (behind IsNameLabel n (λ x. x) name_at) in let y = parent_is in omega arith
+
+      not_in_name : n ≤ v.body → ⊥
+      not_in_name le = elim (equal_or v.body n le) [
+          inl q ↦ no_name_body v.body v.of_type.body (subst (λ x. IsNameLabel (label p x)) (sym q) name_at)
+        | inr g ↦ no_name_body v.body v.of_type.body (inside_name n name_at v.body g (let x = v.after in let y = i.before in omega arith)) ]
+
+      side' : (a b : ℕ) → (a ≤ b) ⊎ (b < a)
+      side' a b = grind arith
+
+      body_first : v.body < n
+      body_first = elim (side' n v.body) [ inl le ↦ absurd (not_in_name le) | inr g ↦ g ]
+
+      not_behind : c < v.body → ⊥
+      not_behind lt = let x = v.before in let y = i.from in let f = body_first in let z = h.tree.inner v.body n f (omega arith) in let q = parent_is in absurd (omega arith)
+
+      not_here : v.body ≡ c → ⊥
+      not_here q = let x = type_row c (header_type c n w) in subst IsTypeLabel (sym (ap (label p) q) ∙ v.of_type.body) x
+
+      after : v.body < c
+      after = elim (side' c v.body) [ inl le ↦ (elim (equal_or v.body c le) [ inl q ↦ absurd (not_here q) | inr g ↦ absurd (not_behind g) ]) | inr g ↦ g ]
+
+      before : c < end p v.body
+      before = let x = above in let y = i.from in let z = v.before in omega arith
+
+  member_of_body : (c f v : ℕ) → IsType p c → parent p c ≡ v → label p v ≡ is.Body → parent p v ≡ f → IsType p f → DeclaredIn p f c
+  member_of_body c f v k q e r ty = record {
+    member = subst IsMemberRole (sym k) tt;
+    inside = subst (λ r. BodyOf p f (holder r p c)) (sym k) (subst (BodyOf p f) (sym q) (record { type = ty; body = e; inside = r })) }
+
+  body_chain' : (c e : ℕ) → IsType p c → InBody p e c → DeclaredIn p e c ⊎ ((f : ℕ) × DeclaredIn p f c × InBody p e f)
+  body_chain' c e k w = by_parent (equal_or (parent p c) w.body (h.tree.inner w.body c w.after w.before))
+    where
+      type_there : c < length p
+      type_there = there IsTypeLabel c (λ x. x) (type_row c k)
+
+      up : parent p c < c
+      up = h.tree.up c type_there (type_positive c k)
+
+      over : IsUnitOrBody (label p (parent p c))
+      over = type_over (label p (parent p c)) (label p c) (type_row c k) (h.under c (type_positive c k) type_there)
+
+      no_root : w.body ≡ 0 → ⊥
+      no_root z = let y = sym w.of_type.body ∙ ap (label p) z ∙ h.program in cc
+
+      deeper : w.body < parent p c → label p (parent p c) ≡ is.Body → (f : ℕ) × DeclaredIn p f c × InBody p e f
+      deeper lt q =
+        let v = parent p c in
+        let t = there IsBodyRow (parent p c) (λ x. x) (subst IsBodyRow (sym q) tt) in
+        let pos = behind IsBodyRow (parent p c) (λ x. x) (subst IsBodyRow (sym q) tt) in
+        let f = parent p (parent p c) in
+        let ty = type_label (label p f) (body_over (label p f) (subst (Under (label p f)) q (h.under (parent p c) pos t))) in
+        let x = up in let y = w.before in
+        let z = h.tree.inner w.body (parent p c) lt (omega arith) in
+        let u' = h.tree.up (parent p c) t pos in
+        (f, member_of_body c f (parent p c) k refl q refl ty, record {
+          body = w.body; of_type = w.of_type; before = omega arith;
+          after = elim (equal_or f w.body z) [ inl s ↦ absurd (not_type w.body f s ty w.of_type.body) | inr g ↦ g ] })
+        where
+          not_type : (b f : ℕ) → f ≡ b → IsType p f → label p b ≡ is.Body → ⊥
+          not_type b f s ty q = subst IsTypeLabel (ap (label p) s ∙ q) (type_row f ty)
+
+      by_parent : (parent p c ≡ w.body) ⊎ (w.body < parent p c) → DeclaredIn p e c ⊎ ((f : ℕ) × DeclaredIn p f c × InBody p e f)
+      by_parent (inl q) = inl (member_of_body c e w.body k q w.of_type.body w.of_type.inside w.of_type.type)
+      by_parent (inr lt) = elim (unit_or_body (label p (parent p c)) over) [
+          inl q ↦ (let x = up in let y = w.before in absurd (no_root (no_unit_inside w.body (parent p c) q lt (omega arith))))
+        | inr q ↦ inr (deeper lt q) ]
+
+  pub formed : ((c n : ℕ) → IsObject p c → NamesHeader p c n → ⊥) → IsFormed p
+  formed bare = record {
+    tree = h.tree;
+    header = header_type;
+    header_name = λ c n w. (header_known c n w).1;
+    first_name = first_name';
+    qualifier = qualifier';
+    simple_leaf = simple_leaf';
+    name_below = λ n m k e lt. name_child n m k e lt;
+    import_name = import_name';
+    imports_apart = imports_apart';
+    import_outside = import_outside';
+    identifier = identifier';
+    first_last = first_last';
+    header_place = header_place';
+    body_chain = body_chain';
+    object_bare = bare }
