@@ -194,11 +194,11 @@ module _ (p : Rows) (h : IsLocal p) where
   program_row : (v : ℕ) → label p v ≡ is.Program → v ≡ 0
   program_row zero e = refl
   program_row (suc v) e = let l = there IsProgramLabel (suc v) (λ x. x) (subst IsProgramLabel (sym e) tt) in
-    absurd (program_over (label p (parent p (suc v))) (subst (Under (label p (parent p (suc v)))) e (h.under (suc v) (omega arith) l)))
+      absurd (program_over (label p (parent p (suc v))) (subst (Under (label p (parent p (suc v)))) e (h.under (suc v) (omega arith) l)))
 
   unit_parent : (w : ℕ) → label p w ≡ is.Unit → parent p w ≡ 0
   unit_parent w e = program_row (parent p w) (is_program (label p (parent p w)) (unit_over (label p (parent p w))
-    (subst (Under (label p (parent p w))) e (under_at IsUnitLabel w (λ x. x) (λ x. x) (subst IsUnitLabel (sym e) tt)))))
+      (subst (Under (label p (parent p w))) e (under_at IsUnitLabel w (λ x. x) (λ x. x) (subst IsUnitLabel (sym e) tt)))))
 
   -- no unit stands inside a row but the program
   no_unit_inside : (b w : ℕ) → label p w ≡ is.Unit → b < w → w < end p b → b ≡ 0
@@ -206,7 +206,7 @@ module _ (p : Rows) (h : IsLocal p) where
 
   -- what stands inside an import or a name is a name
   name_here : (i : ℕ) → ((m : ℕ) → parent p m ≡ i → i < m → IsNameLabel (label p m)) → (m : ℕ) → i < m → m < end p i
-    → ((v : ℕ) → v < m → i < v → v < end p i → IsNameLabel (label p v)) → IsNameLabel (label p m)
+      → ((v : ℕ) → v < m → i < v → v < end p i → IsNameLabel (label p v)) → IsNameLabel (label p m)
   name_here i first m lo hi before = by_parent (split (parent p m) (h.tree.inner i m lo hi))
     where
       l : m < length p
@@ -228,21 +228,21 @@ module _ (p : Rows) (h : IsLocal p) where
 
   import_child : (i : ℕ) (form : ImportKind) → label p i ≡ is.Import form → (m : ℕ) → parent p m ≡ i → i < m → IsNameLabel (label p m)
   import_child i form e m q lt = let u = h.under m (omega arith) (child_there i m q lt) in
-    other_name (label p m) (subst (λ x. Under x (label p m)) (ap (label p) q ∙ e) u)
+      other_name (label p m) (subst (λ x. Under x (label p m)) (ap (label p) q ∙ e) u)
 
   inside_import : (i : ℕ) (form : ImportKind) → label p i ≡ is.Import form → (m : ℕ) → i < m → m < end p i → IsNameLabel (label p m)
   inside_import i form e m lo hi = names_inside i (import_child i form e) m m (omega arith) lo hi
 
   name_child : (n m : ℕ) → IsNameLabel (label p n) → parent p m ≡ n → n < m → IsNameLabel (label p m)
   name_child n m k e lt = let u = h.under m (omega arith) (child_there n m e lt) in
-    name_under (label p n) (label p m) k (subst (λ v. Under (label p v) (label p m)) e u)
+      name_under (label p n) (label p m) k (subst (λ v. Under (label p v) (label p m)) e u)
 
   inside_name : (n : ℕ) → IsNameLabel (label p n) → (m : ℕ) → n < m → m < end p n → IsNameLabel (label p m)
   inside_name n k m lo hi = names_inside n (λ m e lt. name_child n m k e lt) m m (omega arith) lo hi
 
   import_parent : (i : ℕ) (form : ImportKind) → label p i ≡ is.Import form → label p (parent p i) ≡ is.Unit
   import_parent i form e = is_unit (label p (parent p i)) (import_over (label p (parent p i)) form
-    (subst (Under (label p (parent p i))) e (under_at IsImport i (λ x. x) (λ x. x) (subst IsImport (sym e) tt))))
+      (subst (Under (label p (parent p i))) e (under_at IsImport i (λ x. x) (λ x. x) (subst IsImport (sym e) tt))))
 
   -- nothing but units and the program holds an import
   outside_import : (i b o : ℕ) (form : ImportKind) → label p i ≡ is.Import form → i < o → b ≤ i → o < end p b → (label p b ≡ is.Import form → ⊥) → (label p b ≡ is.Unit → ⊥) → b ≡ 0
@@ -257,9 +257,10 @@ module _ (p : Rows) (h : IsLocal p) where
       by_side : (b ≡ i) ⊎ (b < i) → b ≡ 0
       by_side (inl q) = absurd (no1 (ap (label p) q ∙ e))
       by_side (inr lt) = let z = h.tree.inner b i lt (omega arith) in let w = import_parent i form e in
-        elim (split' b (parent p i) z) [
-          inl q ↦ absurd (no2 (ap (label p) q ∙ w))
-        | inr l ↦ (let t = there IsImport i (λ x. x) (subst IsImport (sym e) tt) in let v = h.tree.up i t (omega arith) in no_unit_inside b (parent p i) w l (omega arith)) ]
+          elim (split' b (parent p i) z) [
+            | inl q ↦ absurd (no2 (ap (label p) q ∙ w))
+            | inr l ↦ (let t = there IsImport i (λ x. x) (subst IsImport (sym e) tt) in let v = h.tree.up i t (omega arith) in no_unit_inside b (parent p i) w l (omega arith))
+          ]
 
   -- ---- the parts
 
@@ -407,7 +408,7 @@ module _ (p : Rows) (h : IsLocal p) where
 
       by_side : (k ≤ i) ⊎ (i < k) → ⊥
       by_side (inl le) = let x = type_row k w.top.type in let y = type_positive k w.top.type in
-        let z = outside_import i k o form e lo le w.before (no_import x) (no_unit x) in absurd (omega arith)
+          let z = outside_import i k o form e lo le w.before (no_import x) (no_unit x) in absurd (omega arith)
       by_side (inr lt) = let f = w.from in no_type_name (label p k) (type_row k w.top.type) (inside_import i form e k lt (omega arith))
 
   import_outside' : (i o e : ℕ) (form : ImportKind) → label p i ≡ is.Import form → i < o → o < end p i → InBody p e o → ⊥
@@ -451,15 +452,16 @@ module _ (p : Rows) (h : IsLocal p) where
   link_below : (n v m : ℕ) (s : Sought) → sought_at p v ≡ s → SeeksType s → end p v ≡ end p n → parent p m ≡ v → v < m → IsLink n m
   link_below n v m (sought.Simple k) e w q pa lt = let z = child_held v m pa lt in let y = simple_end v k e in absurd (omega arith)
   link_below n v m (sought.Qualified k) e w q pa lt = elim (equal_or m (v + 1) (omega arith)) [
-      inl same ↦ subst (IsLink n) (sym same) (record { ends = (parts_of v k e).0.whole ∙ q; seeks = left_seeks k (sought_at p (v + 1)) w (qualifier' v k e) })
-    | inr more ↦ (let held = child_held v m pa lt in let whole = (parts_of v k e).0.whole in let z = h.tree.inner (v + 1) m more (omega arith) in absurd (omega arith)) ]
+    | inl same ↦ subst (IsLink n) (sym same) (record { ends = (parts_of v k e).0.whole ∙ q; seeks = left_seeks k (sought_at p (v + 1)) w (qualifier' v k e) })
+    | inr more ↦ (let held = child_held v m pa lt in let whole = (parts_of v k e).0.whole in let z = h.tree.inner (v + 1) m more (omega arith) in absurd (omega arith))
+  ]
   link_below n v m _ e w q pa lt = absurd w
 
   link_here : (n m : ℕ) → n < m → m < end p n → ((v : ℕ) → v < m → n ≤ v → v < end p n → IsLink n v) → IsLink n m
   link_here n m lo hi before =
-    let l = inside_there n m lo hi in let up = h.tree.up m l (omega arith) in let z = h.tree.inner n m lo hi in
-    let w = before (parent p m) up z (omega arith) in
-    link_below n (parent p m) m (sought_at p (parent p m)) refl w.seeks w.ends refl up
+      let l = inside_there n m lo hi in let up = h.tree.up m l (omega arith) in let z = h.tree.inner n m lo hi in
+      let w = before (parent p m) up z (omega arith) in
+      link_below n (parent p m) m (sought_at p (parent p m)) refl w.seeks w.ends refl up
     where
       inside_there : (n m : ℕ) → n < m → m < end p n → m < length p
       inside_there n m lo hi = elim (side n) [ inl x ↦ (let z = h.tree.last n x in omega arith) | inr g ↦ (let z = ap (λ r. r.end) (past n g) in absurd (omega arith)) ]
@@ -467,8 +469,9 @@ module _ (p : Rows) (h : IsLocal p) where
   links : (n : ℕ) → SeeksType (sought_at p n) → (j m : ℕ) → m ≤ j → n ≤ m → m < end p n → IsLink n m
   links n seeks zero m le lo hi = elim (equal_or m n lo) [ inl q ↦ subst (IsLink n) (sym q) (record { ends = refl; seeks = seeks }) | inr g ↦ absurd (omega arith) ]
   links n seeks (suc j) m le lo hi = elim (equal_or m n lo) [
-      inl q ↦ subst (IsLink n) (sym q) (record { ends = refl; seeks = seeks })
-    | inr g ↦ link_here n m g hi (λ v lt lo' hi'. links n seeks j v (omega arith) lo' hi') ]
+    | inl q ↦ subst (IsLink n) (sym q) (record { ends = refl; seeks = seeks })
+    | inr g ↦ link_here n m g hi (λ v lt lo' hi'. links n seeks j v (omega arith) lo' hi')
+  ]
 
   identifier' : (n m : ℕ) → SeeksType (sought_at p n) → IsIdentifierOf p n m → SeeksType (sought_at p m)
   identifier' n m seeks i = (links n seeks m m (omega arith) i.from i.before).seeks
@@ -495,8 +498,9 @@ module _ (p : Rows) (h : IsLocal p) where
 
       not_in_name : n ≤ v.body → ⊥
       not_in_name le = elim (equal_or v.body n le) [
-          inl q ↦ no_name_body v.body v.of_type.body (subst (λ x. IsNameLabel (label p x)) (sym q) name_at)
-        | inr g ↦ no_name_body v.body v.of_type.body (inside_name n name_at v.body g (let x = v.after in let y = i.before in omega arith)) ]
+        | inl q ↦ no_name_body v.body v.of_type.body (subst (λ x. IsNameLabel (label p x)) (sym q) name_at)
+        | inr g ↦ no_name_body v.body v.of_type.body (inside_name n name_at v.body g (let x = v.after in let y = i.before in omega arith))
+      ]
 
       side' : (a b : ℕ) → (a ≤ b) ⊎ (b < a)
       side' a b = grind arith
@@ -519,7 +523,8 @@ module _ (p : Rows) (h : IsLocal p) where
   member_of_body : (c f v : ℕ) → IsType p c → parent p c ≡ v → label p v ≡ is.Body → parent p v ≡ f → IsType p f → DeclaredIn p f c
   member_of_body c f v k q e r ty = record {
     member = subst IsMemberRole (sym k) tt;
-    inside = subst (λ r. BodyOf p f (holder r p c)) (sym k) (subst (BodyOf p f) (sym q) (record { type = ty; body = e; inside = r })) }
+    inside = subst (λ r. BodyOf p f (holder r p c)) (sym k) (subst (BodyOf p f) (sym q) (record { type = ty; body = e; inside = r }));
+  }
 
   body_chain' : (c e : ℕ) → IsType p c → InBody p e c → DeclaredIn p e c ⊎ ((f : ℕ) × DeclaredIn p f c × InBody p e f)
   body_chain' c e k w = by_parent (equal_or (parent p c) w.body (h.tree.inner w.body c w.after w.before))
@@ -538,17 +543,23 @@ module _ (p : Rows) (h : IsLocal p) where
 
       deeper : w.body < parent p c → label p (parent p c) ≡ is.Body → (f : ℕ) × DeclaredIn p f c × InBody p e f
       deeper lt q =
-        let v = parent p c in
-        let t = there IsBodyRow (parent p c) (λ x. x) (subst IsBodyRow (sym q) tt) in
-        let pos = behind IsBodyRow (parent p c) (λ x. x) (subst IsBodyRow (sym q) tt) in
-        let f = parent p (parent p c) in
-        let ty = type_label (label p f) (body_over (label p f) (subst (Under (label p f)) q (h.under (parent p c) pos t))) in
-        let x = up in let y = w.before in
-        let z = h.tree.inner w.body (parent p c) lt (omega arith) in
-        let u' = h.tree.up (parent p c) t pos in
-        (f, member_of_body c f (parent p c) k refl q refl ty, record {
-          body = w.body; of_type = w.of_type; before = omega arith;
-          after = elim (equal_or f w.body z) [ inl s ↦ absurd (not_type w.body f s ty w.of_type.body) | inr g ↦ g ] })
+          let v = parent p c in
+          let t = there IsBodyRow (parent p c) (λ x. x) (subst IsBodyRow (sym q) tt) in
+          let pos = behind IsBodyRow (parent p c) (λ x. x) (subst IsBodyRow (sym q) tt) in
+          let f = parent p (parent p c) in
+          let ty = type_label (label p f) (body_over (label p f) (subst (Under (label p f)) q (h.under (parent p c) pos t))) in
+          let x = up in let y = w.before in
+          let z = h.tree.inner w.body (parent p c) lt (omega arith) in
+          let u' = h.tree.up (parent p c) t pos in (
+            f,
+            member_of_body c f (parent p c) k refl q refl ty,
+            record {
+              body = w.body;
+              of_type = w.of_type;
+              before = omega arith;
+              after = elim (equal_or f w.body z) [ inl s ↦ absurd (not_type w.body f s ty w.of_type.body) | inr g ↦ g ];
+            },
+          )
         where
           not_type : (b f : ℕ) → f ≡ b → IsType p f → label p b ≡ is.Body → ⊥
           not_type b f s ty q = subst IsTypeLabel (ap (label p) s ∙ q) (type_row f ty)
@@ -556,8 +567,9 @@ module _ (p : Rows) (h : IsLocal p) where
       by_parent : (parent p c ≡ w.body) ⊎ (w.body < parent p c) → DeclaredIn p e c ⊎ ((f : ℕ) × DeclaredIn p f c × InBody p e f)
       by_parent (inl q) = inl (member_of_body c e w.body k q w.of_type.body w.of_type.inside w.of_type.type)
       by_parent (inr lt) = elim (unit_or_body (label p (parent p c)) over) [
-          inl q ↦ (let x = up in let y = w.before in absurd (no_root (no_unit_inside w.body (parent p c) q lt (omega arith))))
-        | inr q ↦ inr (deeper lt q) ]
+        | inl q ↦ (let x = up in let y = w.before in absurd (no_root (no_unit_inside w.body (parent p c) q lt (omega arith))))
+        | inr q ↦ inr (deeper lt q)
+      ]
 
   pub formed : ((c n : ℕ) → IsObject p c → NamesHeader p c n → ⊥) → IsFormed p
   formed bare = record {
@@ -575,4 +587,5 @@ module _ (p : Rows) (h : IsLocal p) where
     first_last = first_last';
     header_place = header_place';
     body_chain = body_chain';
-    object_bare = bare }
+    object_bare = bare;
+  }
