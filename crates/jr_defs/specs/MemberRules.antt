@@ -100,7 +100,7 @@ pub data BreaksMembers (p : Rows) (t : Table) : ℕ → ℕ → Type 0 where
   other_result : {m k : ℕ} → Overrides p t m k → (ResultFits p t m k → ⊥) → BreaksMembers p t 15 m
   no_common_result : {c m k : ℕ} → InheritsBoth p t c m k → (IsAbstract p m → ⊥) → (ResultFits p t m k → ⊥) → BreaksMembers p t 15 c
   no_abstract_result : {c m : ℕ} → IsType p c → MemberOf p t c m → role_at p m ≡ role.Method
-    → ((k : ℕ) → MemberOf p t c k → SameMethods p t k m → IsAbstract p k × ((l : ℕ) × InheritsBoth p t c k l × (ResultFits p t k l → ⊥))) → BreaksMembers p t 15 c
+      → ((k : ℕ) → MemberOf p t c k → SameMethods p t k m → IsAbstract p k × ((l : ℕ) × InheritsBoth p t c k l × (ResultFits p t k l → ⊥))) → BreaksMembers p t 15 c
   narrowed : {m k a b : ℕ} → RedefinesMethod p t m k → IsOpenTo p m a → IsOpenTo p k b → a < b → BreaksMembers p t 16 m
   static_over_instance : {m k : ℕ} → Hides p t m k → (IsStatic p k → ⊥) → BreaksMembers p t 17 m
   instance_over_static : {m k : ℕ} → Overrides p t m k → IsStatic p k → BreaksMembers p t 17 m
