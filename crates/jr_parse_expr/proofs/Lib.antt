@@ -26,3 +26,4 @@ pub mod Growths
 pub mod NameGrowths
 pub mod PartGrowths
 pub mod CreationGrowths
+pub mod ParenGrowths

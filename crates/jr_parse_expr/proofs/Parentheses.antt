@@ -43,7 +43,7 @@ past_one [] = []
 past_one (token ∷ ts) = ts
 
 -- a cast to a name takes no sign (JLS 15.16)
-begun_unsigned : (e : x.Expr) (rest : List Kind) → next_is begins_cast_operand (first (write_expr e rest)) ≡ true → IsShapedExpr e → 12 ≤ level e → is_signed e ≡ false
+pub begun_unsigned : (e : x.Expr) (rest : List Kind) → next_is begins_cast_operand (first (write_expr e rest)) ≡ true → IsShapedExpr e → 12 ≤ level e → is_signed e ≡ false
 begun_unsigned (x.Unary y.Plus value) rest h s t = absurd (cc)
 begun_unsigned (x.Unary y.Minus value) rest h s t = absurd (cc)
 begun_unsigned (x.Unary _ value) rest h s t = refl
@@ -52,7 +52,7 @@ begun_unsigned (x.PreStep y.MinusMinus value) rest h s t = absurd (cc)
 begun_unsigned (x.PreStep _ value) rest h s t = absurd (let g = s.0 in cc)
 begun_unsigned e rest h s t = refl
 
-not_named : (b : Base) (p : Primitive) (ts us : List Kind) → IsBase b → primitive_at ts ≡ Some p → ts ≡ write_base b us → is_named b ≡ false
+pub not_named : (b : Base) (p : Primitive) (ts us : List Kind) → IsBase b → primitive_at ts ≡ Some p → ts ≡ write_base b us → is_named b ≡ false
 not_named (base.Primitive q) p ts us is g e = refl
 not_named (base.Named n) p ts us is g e = absurd (none_some (sym (base_named n.parts us is) ∙ sym (ap primitive_at e) ∙ g)) where
   none_some : {A : Type 0} {a : A} → None ≡ Some a → ⊥

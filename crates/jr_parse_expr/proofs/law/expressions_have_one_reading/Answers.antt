@@ -8,6 +8,7 @@ use Rattle.jr_parse_expr.proofs.Growths.{many_stopped}
 use Rattle.jr_parse_expr.proofs.NameGrowths.{dotted_stop}
 use Rattle.jr_parse_expr.proofs.PartGrowths.{sizes_grow}
 use Rattle.jr_parse_expr.proofs.CreationGrowths.{creation_grows}
+use Rattle.jr_parse_expr.proofs.ParenGrowths.{in_parens_grow}
 use Rattle.jr_parse_expr.proofs.Effects.{effect_complete, effect_sound}
 use Rattle.jr_parse_expr.proofs.Readings.{exprs_complete, exprs_sound, inits_complete, inits_sound, one_reading}
 use Rattle.jr_parse_expr.proofs.law.expressions_have_one_reading.Goals as goal
