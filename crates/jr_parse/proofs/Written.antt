@@ -39,7 +39,7 @@ assigned_written : (i : Option x.Init) (rest : List Kind) → write_assigned i r
 assigned_written None rest = refl
 assigned_written (Some i) rest = ap (λ ts. kind.Sym y.Assign ∷ ts) (init_written i rest)
 
-declarator_written : (d : s.Declarator) (rest : List Kind) → write_declarator d rest ≡ declarator_tokens d ++ rest
+pub declarator_written : (d : s.Declarator) (rest : List Kind) → write_declarator d rest ≡ declarator_tokens d ++ rest
 declarator_written (s.DeclaratorOf name dims init) rest = simp append_assoc (rw (assigned_written init rest) (ap (λ ts. kind.Ident name ∷ ts) (brackets_written dims _)))
 
 later_written : (ds : List s.Declarator) (rest : List Kind) → write_later ds rest ≡ after_declarator ds ++ rest
@@ -61,7 +61,7 @@ for_init_written : (i : s.ForInit) (rest : List Kind) → write_for_init i rest 
 for_init_written (s.Locals b ty ds) rest = locals_written b ty ds rest
 for_init_written (s.Exprs es) rest = exprs_written es rest
 
-label_written : (l : s.SwitchLabel) (rest : List Kind) → write_label l rest ≡ label_tokens l ++ rest
+pub label_written : (l : s.SwitchLabel) (rest : List Kind) → write_label l rest ≡ label_tokens l ++ rest
 label_written (s.Case value) rest = simp append_assoc (ap (λ ts. kind.Word k.Case ∷ ts) (written value (kind.Sym y.Colon ∷ rest)))
 label_written s.Default rest = refl
 
@@ -141,13 +141,13 @@ mutual
   pub block_written : (b : s.Block) (rest : List Kind) → write_block b rest ≡ block_tokens b ++ rest
   block_written (s.BlockOf all) rest = ap (λ ts. kind.Sym y.OpenBrace ∷ ts) (stmts_written all (kind.Sym y.CloseBrace ∷ rest)) ∙ simp append_assoc refl
 
-  catch_written : (c : s.Catch) (rest : List Kind) → write_catch c rest ≡ catch_tokens c ++ rest
+  pub catch_written : (c : s.Catch) (rest : List Kind) → write_catch c rest ≡ catch_tokens c ++ rest
   catch_written (s.CatchOf p b) rest =
       ap (λ ts. kind.Word k.Catch ∷ kind.Sym y.OpenParen ∷ write_param p (kind.Sym y.CloseParen ∷ ts)) (block_written b rest)
       ∙ ap (λ ts. kind.Word k.Catch ∷ kind.Sym y.OpenParen ∷ ts) (param_written p (kind.Sym y.CloseParen ∷ (block_tokens b ++ rest)))
       ∙ simp append_assoc refl
 
-  group_written : (g : s.Group) (rest : List Kind) → write_group g rest ≡ group_tokens g ++ rest
+  pub group_written : (g : s.Group) (rest : List Kind) → write_group g rest ≡ group_tokens g ++ rest
   group_written (s.GroupOf labels all) rest = ap (write_labels labels) (stmts_written all rest) ∙ labels_written labels (stmts_tokens all ++ rest) ∙ simp append_assoc refl
 
   pub stmts_written : (all : s.Stmts) (rest : List Kind) → write_stmts all rest ≡ stmts_tokens all ++ rest
@@ -259,7 +259,7 @@ decls_written (t ∷ ts) rest = ap (write_decl t) (decls_written ts rest) ∙ de
 package_written : (p : PackageDecl) (rest : List Kind) → write_package p rest ≡ package_tokens p ++ rest
 package_written p rest = ap (λ ts. kind.Word k.Package ∷ ts) (name_written p.name (kind.Sym y.Semicolon ∷ rest)) ∙ simp append_assoc refl
 
-import_written : (i : Import) (rest : List Kind) → write_import i rest ≡ import_tokens i ++ rest
+pub import_written : (i : Import) (rest : List Kind) → write_import i rest ≡ import_tokens i ++ rest
 import_written (import.Single n) rest = ap (λ ts. kind.Word k.Import ∷ ts) (name_written n (kind.Sym y.Semicolon ∷ rest)) ∙ simp append_assoc refl
 import_written (import.OnDemand n) rest = ap (λ ts. kind.Word k.Import ∷ ts) (name_written n (kind.Sym y.Dot ∷ kind.Sym y.Star ∷ kind.Sym y.Semicolon ∷ rest)) ∙ simp append_assoc refl
 import_written (import.StaticSingle n member) rest =
@@ -278,11 +278,5 @@ unit_written (d.UnitOf package_decl imports types) rest =
 
 -- ---- what follows
 
-joined_longer : (front rest : List Kind) → length rest ≤ length (front ++ rest)
-joined_longer front rest = rw length-append (omega arith)
-
-pub block_longer : (b : s.Block) (rest : List Kind) → length rest ≤ length (write_block b rest)
-block_longer b rest = rw (block_written b rest) (joined_longer (block_tokens b) rest)
-
-pub stmt_longer : (a : s.Stmt) (rest : List Kind) → length rest ≤ length (write_stmt a rest)
-stmt_longer a rest = rw (stmt_written a rest) (joined_longer (stmt_tokens a) rest)
+pub longer_by : (tokens rest ts : List Kind) → ts ≡ tokens ++ rest → length rest ≤ length ts
+longer_by tokens rest ts h = rw (h, length-append) (omega arith)

@@ -31,6 +31,15 @@ abbrev pub write_some : {A : Type 0} → (A → List Kind → List Kind) → Opt
 write_some write None rest = rest
 write_some write (Some a) rest = write a rest
 
+-- each in order
+abbrev pub write_many : {A : Type 0} → (A → List Kind → List Kind) → List A → List Kind → List Kind
+write_many write [] rest = rest
+write_many write (a ∷ all) rest = write a (write_many write all rest)
+
+-- behind a comma
+abbrev pub write_after : {A : Type 0} → (A → List Kind → List Kind) → A → List Kind → List Kind
+write_after write a rest = kind.Sym y.Comma ∷ write a rest
+
 -- ---- parts of statements (JLS 8.3, 14.4, 14.11, 14.14.1)
 
 abbrev pub write_assigned : Option x.Init → List Kind → List Kind
@@ -42,8 +51,7 @@ write_declarator (s.DeclaratorOf name dims init) rest = kind.Ident name ∷ writ
 
 -- each behind a comma
 abbrev pub write_later : List s.Declarator → List Kind → List Kind
-write_later [] rest = rest
-write_later (d ∷ ds) rest = kind.Sym y.Comma ∷ write_declarator d (write_later ds rest)
+write_later ds rest = write_many (write_after write_declarator) ds rest
 
 abbrev pub write_declarators : List s.Declarator → List Kind → List Kind
 write_declarators [] rest = rest
@@ -61,8 +69,7 @@ write_label (s.Case value) rest = kind.Word k.Case ∷ write_expr value (kind.Sy
 write_label s.Default rest = kind.Word k.Default ∷ kind.Sym y.Colon ∷ rest
 
 abbrev pub write_labels : List s.SwitchLabel → List Kind → List Kind
-write_labels [] rest = rest
-write_labels (l ∷ ls) rest = write_label l (write_labels ls rest)
+write_labels ls rest = write_many write_label ls rest
 
 abbrev pub write_cond : x.Expr → List Kind → List Kind
 write_cond c rest = kind.Sym y.OpenParen ∷ write_expr c (kind.Sym y.CloseParen ∷ rest)
@@ -126,22 +133,22 @@ abbrev mutual
 
 -- ---- parts of declarations (JLS 8, 9)
 
+abbrev pub write_modifier : Modifier → List Kind → List Kind
+write_modifier m rest = kind.Word (modifier_word m) ∷ rest
+
 abbrev pub write_modifiers : List Modifier → List Kind → List Kind
-write_modifiers [] rest = rest
-write_modifiers (m ∷ ms) rest = kind.Word (modifier_word m) ∷ write_modifiers ms rest
+write_modifiers ms rest = write_many write_modifier ms rest
 
 -- each behind a comma
 abbrev pub write_later_params : List Param → List Kind → List Kind
-write_later_params [] rest = rest
-write_later_params (p ∷ ps) rest = kind.Sym y.Comma ∷ write_param p (write_later_params ps rest)
+write_later_params ps rest = write_many (write_after write_param) ps rest
 
 abbrev pub write_params : List Param → List Kind → List Kind
 write_params [] rest = kind.Sym y.OpenParen ∷ kind.Sym y.CloseParen ∷ rest
 write_params (p ∷ ps) rest = kind.Sym y.OpenParen ∷ write_param p (write_later_params ps (kind.Sym y.CloseParen ∷ rest))
 
 abbrev pub write_later_names : List Name → List Kind → List Kind
-write_later_names [] rest = rest
-write_later_names (n ∷ ns) rest = kind.Sym y.Comma ∷ write_name n (write_later_names ns rest)
+write_later_names ns rest = write_many (write_after write_name) ns rest
 
 -- a word and names, or nothing where there is no name
 abbrev pub write_names_after : Keyword → List Name → List Kind → List Kind
@@ -184,8 +191,7 @@ abbrev mutual
   write_members (d.more_members m all) rest = write_member m (write_members all rest)
 
 abbrev pub write_decls : List d.TypeDecl → List Kind → List Kind
-write_decls [] rest = rest
-write_decls (t ∷ ts) rest = write_decl t (write_decls ts rest)
+write_decls ts rest = write_many write_decl ts rest
 
 -- ---- units (JLS 7.3)
 
@@ -198,8 +204,7 @@ write_import (import.OnDemand n) rest = kind.Word k.Import ∷ write_name n (kin
 write_import (import.StaticSingle n member) rest = kind.Word k.Import ∷ kind.Word k.Static ∷ write_name n (kind.Sym y.Dot ∷ kind.Ident member ∷ kind.Sym y.Semicolon ∷ rest)
 
 abbrev pub write_imports : List Import → List Kind → List Kind
-write_imports [] rest = rest
-write_imports (i ∷ is) rest = write_import i (write_imports is rest)
+write_imports all rest = write_many write_import all rest
 
 abbrev pub write_unit : d.CompilationUnit → List Kind → List Kind
 write_unit (d.UnitOf package_decl imports types) rest = write_some write_package package_decl (write_imports imports (write_decls types rest))

@@ -1,3 +1,7 @@
+use Rattle.jr_parse.proofs.Named.{named_local_read}
+use Rattle.jr_parse.proofs.Endings.{stmt_starts}
+use Rattle.jr_parse.proofs.Expressions.{updates_sound}
+use Rattle.jr_parse.proofs.Variables.{param_begins}
 use Rattle.jr_parse.proofs.Written.{stmt_written, unit_written}
 use Rattle.jr_parse.proofs.law.statements_are_written.Goals as goal
 
