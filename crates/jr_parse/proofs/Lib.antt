@@ -5,3 +5,5 @@ pub mod Variables
 pub mod Expressions
 pub mod Endings
 pub mod Named
+pub mod Blocks
+pub mod Groups

@@ -1,3 +1,5 @@
+use Rattle.jr_parse.proofs.Blocks.{catches_sound}
+use Rattle.jr_parse.proofs.Groups.{groups_sound}
 use Rattle.jr_parse.proofs.Named.{named_local_read}
 use Rattle.jr_parse.proofs.Endings.{stmt_starts}
 use Rattle.jr_parse.proofs.Expressions.{updates_sound}
