@@ -134,3 +134,14 @@ stmt_starts (s.Local false ty ds) rest h = type_starts ty (write_declarators ds 
 stmt_starts (s.Eval value) rest h = block_first _ (stmt_first _ (effect_starts value (kind.Sym y.Semicolon ∷ rest) h))
 stmt_starts (s.CtorCall which args) rest h = absurd h
 stmt_starts a rest h = refl
+
+-- what begins an expression begins no declaration of variables
+pub no_local_effect : (token : Kind) → begins_effect token ≡ true → begins_local token ≡ false
+no_local_effect (kind.Word k.Final) h = absurd (cc)
+no_local_effect (kind.Word k.Boolean) h = absurd (cc)
+no_local_effect (kind.Word k.Byte) h = absurd (cc)
+no_local_effect (kind.Word k.Short) h = absurd (cc)
+no_local_effect (kind.Word k.Char) h = absurd (cc)
+no_local_effect (kind.Word k.Int) h = absurd (cc)
+no_local_effect (kind.Word k.Long) h = absurd (cc)
+no_local_effect token h = refl

@@ -7,3 +7,6 @@ pub mod Endings
 pub mod Named
 pub mod Blocks
 pub mod Groups
+pub mod Headers
+pub mod Statements
+pub mod Bodies

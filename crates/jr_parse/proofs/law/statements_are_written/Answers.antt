@@ -1,3 +1,6 @@
+use Rattle.jr_parse.proofs.Bodies.{ctors_sound}
+use Rattle.jr_parse.proofs.Statements.{stmt_reads}
+use Rattle.jr_parse.proofs.Headers.{first_read}
 use Rattle.jr_parse.proofs.Blocks.{catches_sound}
 use Rattle.jr_parse.proofs.Groups.{groups_sound}
 use Rattle.jr_parse.proofs.Named.{named_local_read}
