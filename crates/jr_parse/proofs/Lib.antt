@@ -10,3 +10,6 @@ pub mod Groups
 pub mod Headers
 pub mod Statements
 pub mod Bodies
+pub mod Modifiers
+pub mod Members
+pub mod Units

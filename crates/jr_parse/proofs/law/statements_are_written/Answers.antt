@@ -1,3 +1,6 @@
+use Rattle.jr_parse.proofs.Units.{decls_sound}
+use Rattle.jr_parse.proofs.Members.{member_sound}
+use Rattle.jr_parse.proofs.Modifiers.{params_sound}
 use Rattle.jr_parse.proofs.Bodies.{ctors_sound}
 use Rattle.jr_parse.proofs.Statements.{stmt_reads}
 use Rattle.jr_parse.proofs.Headers.{first_read}
