@@ -16,3 +16,4 @@ pub mod Finishing
 pub mod Exits
 pub mod Steps
 pub mod Follows
+pub mod Finding

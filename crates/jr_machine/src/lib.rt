@@ -1,18 +1,21 @@
 //! The reference machine: what a program does, step by step.
 #![tactic(auto)]
 
-mod binary;
 mod changes;
+mod conversions;
 mod heap;
 mod number;
 mod operators;
 mod outcome;
 mod prelude;
 mod reference;
+mod references;
 mod slots;
 mod stack;
 mod state;
+mod texts;
 mod value;
+mod variables;
 mod work;
 
 pub use heap::Cell;

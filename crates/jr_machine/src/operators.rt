@@ -1,7 +1,7 @@
-// Operators on values (JLS 15.15 to 15.22).
-ghost use Rattle.std.specs.Prelude.{◌≡◌, IfOk, Option};
+// Operators on numbers and booleans (JLS 15.15 to 15.22).
+ghost use Rattle.std.specs.Prelude.{◌≡◌, ◌<◌};
 ghost use Rattle.std.specs.Int.{w32, w64};
-ghost use Rattle.jr_machine.specs.Operators.{number_of, number_value, arithmetic, arithmetic_of, promoted, shifted, shifted_by, distance, is_shift, on_numbers, on_bools, unary, unary_number, unary_of};
+ghost use Rattle.jr_machine.specs.Operators.{number_of, number_value, arithmetic, arithmetic_of, promoted, shifted, shifted_by, distance, is_shift, on_numbers, on_bools, unary, unary_of};
 ghost use Rattle.jr_machine.specs.declared.value.Value.TheVariants as v;
 
 use crate::number::{Number, Pair};
@@ -66,6 +66,132 @@ fn int_arithmetic(op: BinaryOp, left: i32, right: i32) -> Outcome<'static>
         BinaryOp::And => Outcome::Gives(Value::Int(left & right)),
         BinaryOp::Xor => Outcome::Gives(Value::Int(left ^ right)),
         BinaryOp::Or => Outcome::Gives(Value::Int(left | right)),
+    }
+}
+
+/// An operator on two numbers of type `long`.
+fn long_arithmetic(op: BinaryOp, left: i64, right: i64) -> Outcome<'static>
+    ensures { result ≡ arithmetic w64 v.Long op left right }
+{
+    match op {
+        BinaryOp::Multiply => Outcome::Gives(Value::Long(left.wrapping_mul(right))),
+        BinaryOp::Divide if right == 0 => Outcome::Throws(Fault::Arithmetic),
+        BinaryOp::Divide => Outcome::Gives(Value::Long(left.wrapping_div(right))),
+        BinaryOp::Remainder if right == 0 => Outcome::Throws(Fault::Arithmetic),
+        BinaryOp::Remainder => Outcome::Gives(Value::Long(left.wrapping_rem(right))),
+        BinaryOp::Add => Outcome::Gives(Value::Long(left.wrapping_add(right))),
+        BinaryOp::Subtract => Outcome::Gives(Value::Long(left.wrapping_sub(right))),
+        BinaryOp::ShiftLeft | BinaryOp::ShiftRight | BinaryOp::ShiftRightUnsigned => Outcome::Unfit,
+        BinaryOp::Less => Outcome::Gives(Value::Bool(left < right)),
+        BinaryOp::Greater => Outcome::Gives(Value::Bool(left > right)),
+        BinaryOp::LessEqual => Outcome::Gives(Value::Bool(left <= right)),
+        BinaryOp::GreaterEqual => Outcome::Gives(Value::Bool(left >= right)),
+        BinaryOp::Equal => Outcome::Gives(Value::Bool(left == right)),
+        BinaryOp::NotEqual => Outcome::Gives(Value::Bool(left != right)),
+        BinaryOp::And => Outcome::Gives(Value::Long(left & right)),
+        BinaryOp::Xor => Outcome::Gives(Value::Long(left ^ right)),
+        BinaryOp::Or => Outcome::Gives(Value::Long(left | right)),
+    }
+}
+
+/// The low 5 bits of the right operand of a shift (JLS 15.19).
+fn int_distance(count: Number) -> u32
+    ensures { result ≡ distance 32 count }
+{
+    match count {
+        Number::Int(value) => value.cast_unsigned() % 32,
+        Number::Long(value) => (value.cast_unsigned() % 32) as u32,
+    }
+}
+
+/// The low 6 bits of the right operand of a shift (JLS 15.19).
+fn long_distance(count: Number) -> u32
+    ensures { result ≡ distance 64 count }
+{
+    match count {
+        Number::Int(value) => value.cast_unsigned() % 64,
+        Number::Long(value) => (value.cast_unsigned() % 64) as u32,
+    }
+}
+
+/// A shift of an `int`.
+fn int_shift(op: BinaryOp, left: i32, by: u32) -> Outcome<'static>
+    requires { by < 32 }
+    ensures { result ≡ shifted w32 v.Int op left by }
+{
+    match op {
+        BinaryOp::ShiftLeft => Outcome::Gives(Value::Int(left << by)),
+        BinaryOp::ShiftRight => Outcome::Gives(Value::Int(left >> by)),
+        BinaryOp::ShiftRightUnsigned => {
+            Outcome::Gives(Value::Int((left.cast_unsigned() >> by).cast_signed()))
+        }
+        _ => Outcome::Unfit,
+    }
+}
+
+/// A shift of a `long`.
+fn long_shift(op: BinaryOp, left: i64, by: u32) -> Outcome<'static>
+    requires { by < 64 }
+    ensures { result ≡ shifted w64 v.Long op left by }
+{
+    match op {
+        BinaryOp::ShiftLeft => Outcome::Gives(Value::Long(left << by)),
+        BinaryOp::ShiftRight => Outcome::Gives(Value::Long(left >> by)),
+        BinaryOp::ShiftRightUnsigned => {
+            Outcome::Gives(Value::Long((left.cast_unsigned() >> by).cast_signed()))
+        }
+        _ => Outcome::Unfit,
+    }
+}
+
+/// A shift.
+fn shifted_by(op: BinaryOp, left: Number, right: Number) -> Outcome<'static>
+    ensures { result ≡ shifted_by op left right }
+{
+    match left {
+        Number::Int(left) => int_shift(op, left, int_distance(right)),
+        Number::Long(left) => long_shift(op, left, long_distance(right)),
+    }
+}
+
+fn is_shift(op: BinaryOp) -> bool
+    ensures { result ≡ is_shift op }
+{
+    matches!(op, BinaryOp::ShiftLeft | BinaryOp::ShiftRight | BinaryOp::ShiftRightUnsigned)
+}
+
+fn arithmetic_of(op: BinaryOp, pair: Pair) -> Outcome<'static>
+    ensures { result ≡ arithmetic_of op pair }
+{
+    match pair {
+        Pair::Ints(left, right) => int_arithmetic(op, left, right),
+        Pair::Longs(left, right) => long_arithmetic(op, left, right),
+    }
+}
+
+/// `left op right` of numbers.
+pub fn on_numbers(op: BinaryOp, left: Number, right: Number) -> Outcome<'static>
+    ensures { result ≡ on_numbers op left right }
+{
+    if is_shift(op) {
+        shifted_by(op, left, right)
+    } else {
+        arithmetic_of(op, promoted(left, right))
+    }
+}
+
+/// `left op right` of booleans (JLS 15.21.2, 15.22.2).
+pub fn on_bools(op: BinaryOp, left: bool, right: bool) -> Outcome<'static>
+    ensures { result ≡ on_bools op left right }
+{
+    match op {
+        BinaryOp::Equal => Outcome::Gives(Value::Bool(if left { right } else { !right })),
+        BinaryOp::NotEqual | BinaryOp::Xor => {
+            Outcome::Gives(Value::Bool(if left { !right } else { right }))
+        }
+        BinaryOp::And => Outcome::Gives(Value::Bool(if left { right } else { false })),
+        BinaryOp::Or => Outcome::Gives(Value::Bool(if left { true } else { right })),
+        _ => Outcome::Unfit,
     }
 }
 
