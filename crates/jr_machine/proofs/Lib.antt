@@ -4,5 +4,4 @@ pub mod Taking
 pub mod Setting
 pub mod Joining
 pub mod Counting
-pub mod Running
 pub mod Choosing
