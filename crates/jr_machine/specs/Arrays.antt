@@ -6,6 +6,8 @@ use Rattle.jr_machine.specs.declared.value.Value.TheVariants as v
 use Rattle.jr_machine.specs.declared.heap.Cell.{Cell}
 use Rattle.jr_machine.specs.declared.heap.Cell.TheVariants as cell
 use Rattle.jr_machine.specs.declared.outcome.Fault.TheVariants as fault
+use Rattle.jr_machine.specs.declared.outcome.Sizes.{Sizes}
+use Rattle.jr_machine.specs.declared.outcome.Sizes.TheVariants as sizes_are
 use Rattle.jr_machine.specs.declared.state.State.{State}
 use Rattle.jr_machine.specs.Values.{default_of}
 use Rattle.jr_machine.specs.States.{Next, push_value, with_heap, raises, add_cell}
@@ -17,27 +19,13 @@ makes_array ty items s = None
 
 -- ---- dimensions
 
-abbrev pub count_of : Value → Option ℕ
-count_of (v.Int (pos n)) = Some n
-count_of value = None
-
-abbrev pub counted : Option ℕ → Option (List ℕ) → Option (List ℕ)
-counted (Some n) (Some counts) = Some (n ∷ counts)
-counted (Some n) None = None
-counted None counts = None
-
--- the dimensions as counts, where none is negative
-abbrev pub counts_of : List Value → Option (List ℕ)
-counts_of [] = Some []
-counts_of (value ∷ dims) = counted (count_of value) (counts_of dims)
-
-abbrev pub is_int : Value → Bool
-is_int (v.Int z) = true
-is_int value = false
-
-abbrev pub are_ints : List Value → Bool
-are_ints [] = true
-are_ints (value ∷ all) = if is_int value then are_ints all else false
+-- the dimensions as counts, after those in `sizes`; whether one of them was negative
+abbrev pub sizes_from : List Value → Bool → List ℕ → Sizes
+sizes_from [] false sizes = sizes_are.Fit sizes
+sizes_from [] true sizes = sizes_are.Negative
+sizes_from (v.Int (pos n) ∷ dims) is_negative sizes = sizes_from dims is_negative (sizes ++ n ∷ [])
+sizes_from (v.Int (negsuc n) ∷ dims) is_negative sizes = sizes_from dims true sizes
+sizes_from (value ∷ dims) is_negative sizes = sizes_are.Unfit
 
 -- so many references to cells that follow each other
 abbrev pub references : ℕ → ℕ → List Value
@@ -62,12 +50,16 @@ is_array_of ty [] = true
 is_array_of (t.Array item) (size ∷ sizes) = is_array_of item sizes
 is_array_of ty sizes = false
 
-abbrev pub makes_sized : t.Ty → Option (List ℕ) → State → Next
-makes_sized ty None s = Some (raises fault.NegativeArraySize s)
-makes_sized ty (Some []) s = None
-makes_sized ty (Some (size ∷ sizes)) s =
+abbrev pub makes_fit : t.Ty → List ℕ → State → Next
+makes_fit ty [] s = None
+makes_fit ty (size ∷ sizes) s =
     if is_array_of ty (size ∷ sizes) then Some (push_value (v.Ref (length s.heap)) (with_heap (s.heap ++ arrays ty (length s.heap) 1 (size ∷ sizes)) s)) else None
+
+abbrev pub makes_sized : t.Ty → Sizes → State → Next
+makes_sized ty (sizes_are.Fit sizes) s = makes_fit ty sizes s
+makes_sized ty sizes_are.Negative s = Some (raises fault.NegativeArraySize s)
+makes_sized ty sizes_are.Unfit s = None
 
 -- the array with these dimensions, each component with the default value of its type; the dimensions are checked after all are evaluated (JLS 15.10.1)
 abbrev pub makes_arrays : t.Ty → List Value → State → Next
-makes_arrays ty dims s = if are_ints dims then makes_sized ty (counts_of dims) s else None
+makes_arrays ty dims s = makes_sized ty (sizes_from dims false []) s

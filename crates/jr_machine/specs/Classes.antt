@@ -43,34 +43,36 @@ abbrev pub is_among : List TypeId → TypeId → Bool
 is_among [] id = false
 is_among (x ∷ all) id = same_type x id || is_among all id
 
--- the list, with each of the others that it lacks at its end
+-- these, with another one at the end, if it is not among them
+abbrev pub with_other : List TypeId → TypeId → List TypeId
+with_other these x = if is_among these x then these else these ++ x ∷ []
+
 abbrev pub with_others : List TypeId → List TypeId → List TypeId
 with_others these [] = these
-with_others these (x ∷ all) = with_others (if is_among these x then these else these ++ x ∷ []) all
+with_others these (x ∷ all) = with_others (with_other these x) all
 
-abbrev pub parent_list : Option TypeId → List TypeId
-parent_list None = []
-parent_list (Some parent) = parent ∷ []
+abbrev pub with_parent : List TypeId → Option TypeId → List TypeId
+with_parent these None = these
+with_parent these (Some parent) = with_other these parent
 
--- the direct supertypes of a class or an interface
-abbrev pub supers_of : Option Class → List TypeId
-supers_of None = []
-supers_of (Some c) = parent_list c.parent ++ c.faces
+-- these, with the direct supertypes of a class or an interface
+abbrev pub with_supers : List TypeId → Option Class → List TypeId
+with_supers these None = these
+with_supers these (Some c) = with_others (with_parent these c.parent) c.faces
 
--- the direct supertypes of these, each once
-abbrev pub supers_of_all : Core → List TypeId → List TypeId → List TypeId
-supers_of_all core [] found = found
-supers_of_all core (x ∷ all) found = supers_of_all core all (with_others found (supers_of (class_in core x)))
+-- these, with the direct supertypes of the others
+abbrev pub with_supers_of : Core → List TypeId → List TypeId → List TypeId
+with_supers_of core these [] = these
+with_supers_of core these (x ∷ all) = with_supers_of core (with_supers these (class_in core x)) all
 
--- the high one is among these, or above one of them by at most so many levels
+-- the high one is among these, or above one of them by less than so many levels
 abbrev pub is_above : Core → ℕ → List TypeId → TypeId → Bool
 is_above core zero these high = false
-is_above core (suc levels) [] high = false
-is_above core (suc levels) (x ∷ these) high = is_among (x ∷ these) high || is_above core levels (supers_of_all core (x ∷ these) []) high
+is_above core (suc levels) these high = is_among these high || is_above core levels (with_supers_of core [] these) high
 
 -- the class or interface is the other, or below it; there are no more levels than classes
 abbrev pub is_below : Core → TypeId → TypeId → Bool
-is_below core low high = same_type high object_class || is_above core (suc (length core.classes)) (low ∷ []) high
+is_below core low high = same_type high object_class || same_type low high || is_above core (length core.classes) (low ∷ []) high
 
 -- subtypes of types of objects, and of components of arrays (JLS 4.10.2, 4.10.3)
 abbrev pub is_subtype : Core → t.Ty → t.Ty → Bool

@@ -39,37 +39,38 @@ abbrev pub has_default : List SwitchLabel → Bool
 has_default [] = false
 has_default (l ∷ all) = is_default l || has_default all
 
+abbrev pub group_work : m.Group → List Work
+group_work (m.GroupOf labels stmts) = evals stmts
+
 -- the statements of these groups, one group after another
 abbrev pub groups_work : m.Groups → List Work
 groups_work m.no_groups = []
-groups_work (m.more_groups (m.GroupOf labels stmts) all) = evals stmts ++ groups_work all
+groups_work (m.more_groups group all) = group_work group ++ groups_work all
 
--- the statements from the first group with this case on, if there is one
-abbrev pub from_case : ℤ → m.Groups → Option (List Work)
-from_case value m.no_groups = None
-from_case value (m.more_groups (m.GroupOf labels stmts) all) =
-    if has_case value labels then Some (evals stmts ++ groups_work all) else from_case value all
+-- the groups from the first with this case on
+abbrev pub cases_from : ℤ → m.Groups → m.Groups
+cases_from value m.no_groups = m.no_groups
+cases_from value (m.more_groups (m.GroupOf labels stmts) all) = if has_case value labels then m.more_groups (m.GroupOf labels stmts) all else cases_from value all
 
--- the statements from the default on, if there is one
-abbrev pub from_default : m.Groups → List Work
-from_default m.no_groups = []
-from_default (m.more_groups (m.GroupOf labels stmts) all) = if has_default labels then evals stmts ++ groups_work all else from_default all
+-- the groups from that with the default on
+abbrev pub default_from : m.Groups → m.Groups
+default_from m.no_groups = m.no_groups
+default_from (m.more_groups (m.GroupOf labels stmts) all) = if has_default labels then m.more_groups (m.GroupOf labels stmts) all else default_from all
 
-abbrev pub or_default : Option (List Work) → m.Groups → List Work
-or_default (Some work) all = work
-or_default None all = from_default all
+abbrev pub or_default : m.Groups → m.Groups → m.Groups
+or_default m.no_groups all = default_from all
+or_default (m.more_groups group rest) all = m.more_groups group rest
 
--- the statements that a switch goes on with (JLS 14.11)
-abbrev pub chosen : ℤ → m.Groups → List Work
-chosen value all = or_default (from_case value all) all
+-- the groups that a switch goes on with (JLS 14.11)
+abbrev pub chosen : ℤ → m.Groups → m.Groups
+chosen value all = or_default (cases_from value all) all
 
 -- ---- labels
 
--- the label stands directly round a loop, above these items
-abbrev pub is_labeled : DeclId → List Work → Bool
-is_labeled label [] = false
-is_labeled label (w.Finish (m.Labeled l body) ∷ rest) = same_decl l label || is_labeled label rest
-is_labeled label (item ∷ rest) = false
+-- the labels directly round a loop are put back, and then what follows its body (JLS 14.16)
+abbrev pub relabeled : Code → List Work → List Work
+relabeled (m.Labeled label body) rest = relabeled body (w.Finish (m.Labeled label body) ∷ rest)
+relabeled loop rest = w.AfterBody loop ∷ rest
 
 -- ---- catches
 
@@ -104,4 +105,4 @@ instance_at core heap (suc levels) class (Some current) (Some object) =
     else instance_at core heap levels class (outer_class (class_in core current)) (outer_of heap object)
 
 abbrev pub instance_of : Core → List Cell → TypeId → TypeId → Value → Option Value
-instance_of core heap class current object = instance_at core heap (suc (length core.classes)) class (Some current) (Some object)
+instance_of core heap class current object = instance_at core heap (length core.classes) class (Some current) (Some object)

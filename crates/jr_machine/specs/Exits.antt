@@ -18,8 +18,8 @@ use Rattle.jr_machine.specs.declared.state.State.{State}
 use Rattle.jr_machine.specs.Values.{same_decl}
 use Rattle.jr_machine.specs.Classes.{class_of_object}
 use Rattle.jr_machine.specs.Parts.{evals}
-use Rattle.jr_machine.specs.Control.{is_labeled, catch_for}
-use Rattle.jr_machine.specs.States.{Next, add_work, push_value, set_local, throws}
+use Rattle.jr_machine.specs.Control.{relabeled, catch_for}
+use Rattle.jr_machine.specs.States.{Next, add_work, with_work, push_value, set_local, throws}
 
 -- ---- within a frame
 
@@ -36,8 +36,7 @@ through_finally (m.a_list last) leaving s = Some (add_work (evals last ++ w.Exit
 abbrev pub at_loop : Code → Exit → State → Next
 at_loop loop (exit.Break None) s = Some s
 at_loop loop (exit.Continue None) s = Some (add_work (w.AfterBody loop ∷ []) s)
-at_loop loop (exit.Continue (Some label)) s =
-    if is_labeled label s.frame.work then Some (add_work (w.AfterBody loop ∷ []) s) else goes_on (exit.Continue (Some label)) s
+at_loop loop (exit.Continue (Some label)) s = goes_on (exit.Continue (Some label)) s
 at_loop loop (exit.Break (Some label)) s = goes_on (exit.Break (Some label)) s
 at_loop loop (exit.Throw value) s = goes_on (exit.Throw value) s
 at_loop loop (exit.Return value) s = goes_on (exit.Return value) s
@@ -46,9 +45,12 @@ abbrev pub at_switch : Exit → State → Next
 at_switch (exit.Break None) s = Some s
 at_switch leaving s = goes_on leaving s
 
-abbrev pub at_label : DeclId → Exit → State → Next
-at_label label (exit.Break (Some target)) s = if same_decl label target then Some s else goes_on (exit.Break (Some target)) s
-at_label label leaving s = goes_on leaving s
+-- a break with this label ends here, and a continue goes on with the loop (JLS 14.7, 14.15, 14.16)
+abbrev pub at_label : DeclId → Code → Exit → State → Next
+at_label label code (exit.Break (Some target)) s = if same_decl label target then Some s else goes_on (exit.Break (Some target)) s
+at_label label code (exit.Continue (Some target)) s =
+    if same_decl label target then Some (with_work (relabeled code s.frame.work) s) else goes_on (exit.Continue (Some target)) s
+at_label label code leaving s = goes_on leaving s
 
 abbrev pub after_catch : Code → m.AnyCodes → List Work
 after_catch code m.no_list = []
@@ -68,7 +70,7 @@ at_try core code all last (exit.Throw value) s = thrown_to core code all last (c
 at_try core code all last leaving s = through_finally last leaving s
 
 abbrev pub at_finishing : Core → Code → Exit → State → Next
-at_finishing core (m.Labeled label body) leaving s = at_label label leaving s
+at_finishing core (m.Labeled label body) leaving s = at_label label (m.Labeled label body) leaving s
 at_finishing core (m.Try body ks last) leaving s = at_try core (m.Try body ks last) ks last leaving s
 at_finishing core code leaving s = goes_on leaving s
 

@@ -18,13 +18,13 @@ use Rattle.jr_machine.specs.declared.outcome.Outcome.TheVariants as o
 use Rattle.jr_machine.specs.declared.state.State.{State}
 use Rattle.jr_machine.specs.Prelude.{to_string_method}
 use Rattle.jr_machine.specs.Classes.{body_in, is_instance}
-use Rattle.jr_machine.specs.Strings.{text_of, units_of, int_of_count}
+use Rattle.jr_machine.specs.Strings.{text_of, units_of}
 use Rattle.jr_machine.specs.Operators.{number_of, binary, unary, converted_to, compound, stepped}
 use Rattle.jr_machine.specs.Parts.{eval_any, evals, codes_count}
-use Rattle.jr_machine.specs.Places.{with_item, read_field, read_item, store, length_of_cell}
+use Rattle.jr_machine.specs.Places.{read_field, read_item, store, length_of}
 use Rattle.jr_machine.specs.Arrays.{makes_array, makes_arrays}
 use Rattle.jr_machine.specs.Calls.{calls, calls_on, creates_any, constructs}
-use Rattle.jr_machine.specs.Control.{chosen, instance_of}
+use Rattle.jr_machine.specs.Control.{chosen, groups_work, instance_of}
 use Rattle.jr_machine.specs.States.{Next, with_one, with_two, with_some, with_outcome, settled, add_work, push_value, throws, raises, set_local}
 
 -- ---- expressions
@@ -72,15 +72,6 @@ casts core (t.Class class) value s = casts_object core (t.Class class) value s
 casts core (t.Array item) value s = casts_object core (t.Array item) value s
 casts core ty value s = settled (converted_to ty value) s
 
-abbrev pub length_pushed : Option ℕ → State → Next
-length_pushed None s = None
-length_pushed (Some size) s = Some (push_value (v.Int (int_of_count size)) s)
-
-abbrev pub reads_length : Value → State → Next
-reads_length v.Null s = Some (raises fault.NullPointer s)
-reads_length (v.Ref at) s = length_pushed (length_of_cell (slice_get s.heap at)) s
-reads_length value s = None
-
 -- an object that is no string is shown by its `toString`; `+` shows null as `null` (JLS 5.1.11, 15.18.1.1)
 abbrev pub shows_object : Core → Option (List ℕ) → Value → State → Next
 shows_object core (Some units) value s = Some (push_value value s)
@@ -111,7 +102,7 @@ loops loop body s = with_one s.frame.values s (branches (w.Eval body ∷ w.After
 
 abbrev pub switches : m.Groups → Option Number → State → Next
 switches all None s = None
-switches all (Some (n.Int z)) s = Some (add_work (chosen z all ++ w.Breakable ∷ []) s)
+switches all (Some (n.Int z)) s = Some (add_work (groups_work (chosen z all) ++ w.Breakable ∷ []) s)
 switches all (Some (n.Long z)) s = None
 
 abbrev pub returns : m.AnyCode → State → Next
@@ -143,7 +134,7 @@ finishes core (m.Lit value) s = None
 finishes core (m.This class) s = pushes_any (instance_of core s.heap class s.frame.class s.frame.this) s
 finishes core (m.Var local) s = None
 finishes core (m.FieldAt on field) s = read_field (body_in core field) on field s
-finishes core (m.Length array) s = with_one s.frame.values s reads_length
+finishes core (m.Length array) s = with_one s.frame.values s (λ a s. settled (length_of s.heap a) s)
 finishes core (m.Index array at) s = read_item s
 finishes core (m.Call receiver is_super method args) s = with_some (codes_count args) [] s.frame.values s (calls core (body_in core method) receiver is_super)
 finishes core (m.New outer ctor args) s = with_some (codes_count args) [] s.frame.values s (creates_any (body_in core ctor) outer)

@@ -1,5 +1,5 @@
 -- A step of the machine, a run, and what it prints.
-use Rattle.std.specs.Prelude.{ℕ, zero, suc, ◌+◌, Bool, true, false, if◌then◌else◌, List, [], ◌∷◌, ◌++◌, Option, Some, None, unwrap_or}
+use Rattle.std.specs.Prelude.{◌≡◌, ℕ, zero, suc, ◌+◌, Bool, true, false, if◌then◌else◌, List, [], ◌∷◌, ◌++◌, Option, Some, None, unwrap_or}
 use Rattle.jr_base.specs.declared.ids.DeclId.{DeclId}
 use Rattle.jr_base.specs.declared.ids.TypeId.{TypeId}
 use Rattle.jr_core.specs.Mirror as m
@@ -15,6 +15,7 @@ use Rattle.jr_machine.specs.declared.state.Purpose.TheVariants as purpose
 use Rattle.jr_machine.specs.declared.state.RunEnd.{RunEnd}
 use Rattle.jr_machine.specs.declared.state.RunEnd.TheVariants as ends
 use Rattle.jr_machine.specs.declared.state.State.{State}
+use Rattle.jr_machine.specs.declared.state.Ran.{Ran}
 use Rattle.jr_machine.specs.Prelude.{object_class, string_class}
 use Rattle.jr_machine.specs.Values.{value_of}
 use Rattle.jr_machine.specs.Classes.{body_in, is_among}
@@ -85,16 +86,19 @@ step core s = unwrap_or (next core s) s
 abbrev pub start_call : DeclId → Code
 start_call start = m.Call m.no_code false start (m.more_codes (m.Lit None) m.no_codes)
 
-abbrev pub start_of : DeclId → State
-start_of start = record {
-  heap = cell.Array (t.Class string_class) [] ∷ [];
+abbrev pub start_with : t.Ty → Code → State
+start_with item call = record {
+  heap = cell.Array item [] ∷ [];
   statics = []; begun = []; callers = []; printed = []; end = ends.Running;
   frame = record {
     purpose = purpose.Method; class = object_class; this = v.Null; locals = [];
-    work = w.Finish (start_call start) ∷ [];
+    work = w.Finish call ∷ [];
     values = v.Ref 0 ∷ []
   }
 }
+
+abbrev pub start_of : DeclId → State
+start_of start = start_with (t.Class string_class) (start_call start)
 
 -- the state after so many steps
 abbrev pub after : Core → ℕ → State → State
@@ -113,3 +117,13 @@ run_of core start n = after core n (start_of start)
 -- what a run prints in so many steps
 abbrev pub printed_of : Core → DeclId → ℕ → List ℕ
 printed_of core start n = let s = run_of core start n in s.printed
+
+-- how the run from this state ends in at most so many steps, what it prints, and how many steps it makes
+pub record IsRunFrom (core : Core) (s : State) (n : ℕ) (ran : Ran) : Type 0 where
+  pub end : ran.end ≡ (after core n s).end
+  pub printed : ran.printed ≡ (after core n s).printed
+  pub steps : ran.steps ≡ steps_made core n s
+
+-- the same of the run of a method
+abbrev pub IsRun : Core → DeclId → ℕ → Ran → Type 0
+IsRun core start n ran = IsRunFrom core (start_of start) n ran

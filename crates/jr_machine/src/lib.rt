@@ -1,27 +1,45 @@
 //! The reference machine: what a program does, step by step.
 #![tactic(auto)]
 
+mod cells;
+mod arrays;
+mod calls;
 mod changes;
+mod control;
 mod conversions;
+mod exits;
+mod finishing;
+mod frames;
 mod heap;
+mod natives;
 mod number;
 mod operators;
 mod outcome;
+mod parts;
+mod places;
 mod prelude;
+mod printed;
+mod program;
 mod reference;
 mod references;
+mod runs;
 mod slots;
 mod stack;
 mod state;
+mod steps;
+mod subtypes;
 mod texts;
 mod value;
 mod variables;
 mod work;
 
+pub use cells::Cells;
 pub use heap::Cell;
 pub use number::{Number, Pair};
-pub use outcome::{Fault, Outcome};
+pub use outcome::{Fault, Given, Outcome, Placed, Sizes};
+pub use printed::Printed;
 pub use reference::{CodeRef, TyRef, UnitsRef};
+pub use runs::run;
 pub use slots::Slot;
 pub use stack::Stack;
 pub use state::{Frame, Purpose, Ran, RunEnd, State};

@@ -1,6 +1,6 @@
 // The classes and methods of the prelude that the machine knows by itself.
 ghost use Rattle.std.specs.Prelude.{◌≡◌};
-ghost use Rattle.jr_machine.specs.Prelude.{decl_at, type_at, fault_class};
+ghost use Rattle.jr_machine.specs.Prelude.{decl_at, type_at, fault_class, object_class, string_class, to_string_method, length_method, char_at_method, equals_method, print_method};
 
 use crate::outcome::Fault;
 use jr_base::{CuId, DeclId, NodeAt, NodeId, TypeId};
@@ -38,4 +38,53 @@ pub fn fault_class(fault: Fault) -> TypeId
         Fault::ArrayIndex => type_at(214),
         Fault::StringIndex => type_at(226),
     }
+}
+
+/// The class `Object`.
+pub fn object_class() -> TypeId
+    ensures { result ≡ object_class }
+{
+    type_at(3)
+}
+
+/// The class `String`.
+pub fn string_class() -> TypeId
+    ensures { result ≡ string_class }
+{
+    type_at(25)
+}
+
+/// The method `toString` of `Object`.
+pub fn to_string_method() -> DeclId
+    ensures { result ≡ to_string_method }
+{
+    decl_at(0, 19)
+}
+
+/// The method `length` of `String`.
+pub fn length_method() -> DeclId
+    ensures { result ≡ length_method }
+{
+    decl_at(0, 28)
+}
+
+/// The method `charAt` of `String`.
+pub fn char_at_method() -> DeclId
+    ensures { result ≡ char_at_method }
+{
+    decl_at(0, 30)
+}
+
+/// The method `equals` of `String`.
+pub fn equals_method() -> DeclId
+    ensures { result ≡ equals_method }
+{
+    decl_at(0, 34)
+}
+
+/// The method `print(String)` of `PrintStream`.
+pub fn print_method() -> DeclId
+    ensures { result ≡ print_method }
+{
+    decl_at(1, 4)
 }

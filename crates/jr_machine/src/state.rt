@@ -1,6 +1,8 @@
 // The state of a run.
 
+use crate::cells::Cells;
 use crate::heap::Cell;
+use crate::printed::Printed;
 use crate::slots::Slot;
 use crate::stack::Stack;
 use crate::value::Value;
@@ -47,7 +49,7 @@ pub enum RunEnd {
 /// The state of a run.
 #[derive(Drop)]
 pub struct State<'a> {
-    pub heap: Items<Cell<'a>>,
+    pub heap: Cells<Cell<'a>>,
     /// The static fields that have been assigned.
     pub statics: Items<Slot<'a>>,
     /// The classes whose initialization has begun.
@@ -57,7 +59,7 @@ pub struct State<'a> {
     /// The frames that wait, the nearest first.
     pub callers: Stack<Frame<'a>>,
     /// The printed 16-bit units.
-    pub printed: Items<u16>,
+    pub printed: Printed,
     pub end: RunEnd,
 }
 
