@@ -6,3 +6,17 @@ pub mod Joining
 pub mod Counting
 pub mod Running
 pub mod Choosing
+pub mod RenamedValues
+pub mod RenamedParts
+pub mod RenamedStates
+pub mod RenamedClasses
+pub mod RenamedOperators
+pub mod RenamedControl
+pub mod RenamedPlaces
+pub mod RenamedArrays
+pub mod RenamedInitialization
+pub mod RenamedCalls
+pub mod RenamedFinishing
+pub mod RenamedExits
+pub mod RenamedSteps
+pub mod RenamedTwice

@@ -11,6 +11,7 @@ mod exits;
 mod finishing;
 mod frames;
 mod heap;
+mod law;
 mod natives;
 mod number;
 mod operators;
@@ -35,6 +36,7 @@ mod work;
 
 pub use cells::Cells;
 pub use heap::Cell;
+pub use law::{renaming_commutes, renamings_compose};
 pub use number::{Number, Pair};
 pub use outcome::{Fault, Given, Outcome, Placed, Sizes};
 pub use printed::Printed;
