@@ -20,3 +20,4 @@ pub mod RenamedFinishing
 pub mod RenamedExits
 pub mod RenamedSteps
 pub mod RenamedTwice
+pub mod RenamedTables

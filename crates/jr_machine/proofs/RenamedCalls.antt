@@ -24,7 +24,7 @@ use Rattle.jr_machine.specs.Natives.{length_of, only_of, char_of, equals_units, 
 use Rattle.jr_machine.specs.Initialization.{class_work}
 use Rattle.jr_machine.specs.Calls.{slots_of, enters, runs, runs_any, dispatches, calls_on, calls, creates, creates_any, constructs}
 use Rattle.jr_machine.specs.States.{add_work, add_cell, push_value}
-use Rattle.jr_machine.specs.Renamed.{IsRenaming, renamed_type, renamed_any_code, renamed_body, renamed_core, renamed_slot, renamed_cell, renamed_purpose, renamed_state}
+use Rattle.jr_machine.specs.Renamed.{IsRenaming, IsOwn, renamed_type, renamed_any_code, renamed_body, renamed_core, renamed_slot, renamed_cell, renamed_purpose, renamed_state}
 use Rattle.jr_machine.proofs.RenamedValues.{image_on, same_kept}
 use Rattle.jr_machine.proofs.RenamedParts.{evals_renamed}
 use Rattle.jr_machine.proofs.RenamedStates.{Alike, goes, stops, along, if_on, if_alike, one_alike, work_added, cell_added, place_renamed, raises_renamed, settles}
@@ -58,13 +58,13 @@ module _ (f : DeclId → DeclId) (p : IsRenaming f) where
   native_alike : (method : DeclId) (receiver : Value) (args : List Value) (s : State)
       → Alike f (native_call (f method) receiver args (renamed_state f s)) (native_call method receiver args s)
   native_alike method receiver args s =
-      if_alike (same_kept f p method length_method p.keeps_length) (settles f p (length_of (units_of s.heap receiver)) s (ap length_of (units_of_renamed f s.heap receiver)))
-      (if_alike (same_kept f p method char_at_method p.keeps_char_at)
+      if_alike (same_kept f p method length_method (p.keeps_own length_method IsOwn.string_length)) (settles f p (length_of (units_of s.heap receiver)) s (ap length_of (units_of_renamed f s.heap receiver)))
+      (if_alike (same_kept f p method char_at_method (p.keeps_own char_at_method IsOwn.char_at))
       (settles f p (char_of (units_of s.heap receiver) (only_of args)) s (ap (λ u. char_of u (only_of args)) (units_of_renamed f s.heap receiver)))
-      (if_alike (same_kept f p method equals_method p.keeps_equals)
+      (if_alike (same_kept f p method equals_method (p.keeps_own equals_method IsOwn.equals))
       (settles f p (equals_of s.heap (units_of s.heap receiver) (only_of args)) s
       (ap (λ u. equals_of (map (renamed_cell f) s.heap) u (only_of args)) (units_of_renamed f s.heap receiver) ∙ equals_of_renamed s.heap (units_of s.heap receiver) (only_of args)))
-      (if_alike (same_kept f p method print_method p.keeps_print) (prints_alike (only_of args) s) (goes refl))))
+      (if_alike (same_kept f p method print_method (p.keeps_own print_method IsOwn.prints)) (prints_alike (only_of args) s) (goes refl))))
 
   -- ---- calls
 

@@ -15,7 +15,7 @@ use Rattle.jr_machine.specs.declared.heap.Cell.{Cell}
 use Rattle.jr_machine.specs.declared.heap.Cell.TheVariants as cell
 use Rattle.jr_machine.specs.Prelude.{object_class, string_class}
 use Rattle.jr_machine.specs.Classes.{class_among, body_among, found_among, class_in, body_in, found_in, is_among, with_other, with_others, with_parent, with_supers, with_supers_of, is_above, is_below, is_subtype, cell_type, type_of_object, class_of_type, class_of_object, is_of, is_instance}
-use Rattle.jr_machine.specs.Renamed.{IsRenaming, renamed_type, renamed_ty, renamed_pair, renamed_class, renamed_body, renamed_core, renamed_cell}
+use Rattle.jr_machine.specs.Renamed.{IsRenaming, IsOwn, renamed_type, renamed_ty, renamed_pair, renamed_class, renamed_body, renamed_core, renamed_cell}
 use Rattle.jr_machine.proofs.RenamedValues.{cond_image, or_same, same_renamed, same_type_renamed, same_type_kept}
 
 abbrev type_by : DeclId → TypeId
@@ -95,12 +95,12 @@ module _ (f : DeclId → DeclId) (p : IsRenaming f) where
 
   pub is_below_renamed : (core : Core) (low high : TypeId) → is_below (renamed_core f core) (renamed_type f low) (renamed_type f high) ≡ is_below core low high
   is_below_renamed core low high =
-      or_same (or_same (same_type_kept f p high object_class p.keeps_object) (same_type_renamed f p low high))
+      or_same (or_same (same_type_kept f p high object_class (p.keeps_own object_class.0 IsOwn.object)) (same_type_renamed f p low high))
       (ap (λ n. is_above (renamed_core f core) n (renamed_type f low ∷ []) (renamed_type f high)) (classes_count core) ∙ is_above_renamed core (length core.classes) (low ∷ []) high)
 
   pub is_subtype_renamed : (core : Core) (low high : t.Ty) → is_subtype (renamed_core f core) (renamed_ty f low) (renamed_ty f high) ≡ is_subtype core low high
   is_subtype_renamed core (t.Class low) (t.Class high) = is_below_renamed core low high
-  is_subtype_renamed core (t.Array low) (t.Class high) = same_type_kept f p high object_class p.keeps_object
+  is_subtype_renamed core (t.Array low) (t.Class high) = same_type_kept f p high object_class (p.keeps_own object_class.0 IsOwn.object)
   is_subtype_renamed core (t.Array low) (t.Array high) = is_subtype_renamed core low high
   is_subtype_renamed core t.Boolean t.Boolean = refl
   is_subtype_renamed core t.Byte t.Byte = refl
@@ -113,10 +113,10 @@ module _ (f : DeclId → DeclId) (p : IsRenaming f) where
   -- ---- the class of a value
 
   pub object_kept : renamed_type f object_class ≡ object_class
-  object_kept = ap type_by p.keeps_object
+  object_kept = ap type_by (p.keeps_own object_class.0 IsOwn.object)
 
   pub string_kept : t.Class (renamed_type f string_class) ≡ t.Class string_class
-  string_kept = ap (λ d. t.Class (type_by d)) p.keeps_string
+  string_kept = ap (λ d. t.Class (type_by d)) (p.keeps_own string_class.0 IsOwn.string)
 
   cell_type_renamed : (c : Cell) → cell_type (renamed_cell f c) ≡ renamed_ty f (cell_type c)
   cell_type_renamed (cell.Object class outer fields) = refl

@@ -27,7 +27,7 @@ use Rattle.jr_machine.specs.Calls.{calls, calls_on, creates_any, constructs}
 use Rattle.jr_machine.specs.Control.{chosen, groups_work, instance_of}
 use Rattle.jr_machine.specs.Finishing.{assigns, steps, branches, and_also, or_else, tests, casts_object, casts, shows_object, shows, pushes_any, creates_array, declares, loops, switches, returns, throws_any, finally_work, finishes}
 use Rattle.jr_machine.specs.States.{Next, with_one, with_some, with_outcome, settled, add_work, push_value, set_local}
-use Rattle.jr_machine.specs.Renamed.{IsRenaming, renamed_ty, renamed_code, renamed_codes, renamed_any_code, renamed_any_codes, renamed_groups, renamed_core, renamed_work, renamed_state}
+use Rattle.jr_machine.specs.Renamed.{IsRenaming, IsOwn, renamed_ty, renamed_code, renamed_codes, renamed_any_code, renamed_any_codes, renamed_groups, renamed_core, renamed_work, renamed_state}
 use Rattle.jr_machine.proofs.RenamedParts.{work_joined, eval_any_renamed, evals_renamed, codes_count_renamed}
 use Rattle.jr_machine.proofs.RenamedStates.{Alike, goes, stops, along, if_alike, one_alike, two_alike, some_alike, work_added, local_set, raises_renamed, outcome_same, pushed, settles}
 use Rattle.jr_machine.proofs.RenamedClasses.{body_in_renamed, is_instance_renamed}
@@ -101,7 +101,7 @@ module _ (f : DeclId → DeclId) (p : IsRenaming f) where
   shows_object_alike core (Some units) value s = goes refl
   shows_object_alike core None v.Null s = goes refl
   shows_object_alike core None value s =
-      along (ap (λ d. calls_on (renamed_core f core) d value [] (renamed_state f s)) (sym p.keeps_to_string)) (calls_on_alike f p core to_string_method value [] s)
+      along (ap (λ d. calls_on (renamed_core f core) d value [] (renamed_state f s)) (sym (p.keeps_own to_string_method IsOwn.to_string))) (calls_on_alike f p core to_string_method value [] s)
 
   shows_alike : (core : Core) (any : Option (List ℕ)) (value : Value) (s : State) → Alike f (shows (renamed_core f core) any value (renamed_state f s)) (shows core any value s)
   shows_alike core (Some text) value s = settles f p (o.Makes text) s refl

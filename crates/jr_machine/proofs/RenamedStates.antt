@@ -15,7 +15,7 @@ use Rattle.jr_machine.specs.declared.work.Work.{Work}
 use Rattle.jr_machine.specs.declared.state.State.{State}
 use Rattle.jr_machine.specs.Prelude.{fault_class}
 use Rattle.jr_machine.specs.States.{Next, with_work, with_values, with_heap, add_work, push_value, set_local, add_cell, throws, raises, with_one, with_two, with_some, with_outcome, settled}
-use Rattle.jr_machine.specs.Renamed.{IsRenaming, renamed_type, renamed_cell, renamed_work, renamed_state, renamed_next}
+use Rattle.jr_machine.specs.Renamed.{IsRenaming, IsOwn, renamed_type, renamed_cell, renamed_work, renamed_state, renamed_next}
 use Rattle.jr_machine.proofs.RenamedValues.{assigned_renamed}
 use Rattle.jr_machine.proofs.RenamedParts.{work_joined}
 
@@ -84,7 +84,7 @@ module _ (f : DeclId → DeclId) (p : IsRenaming f) where
   local_set local value s = ap (λ t. with_locals t (renamed_state f s)) (assigned_renamed f p s.frame.locals local value)
 
   fault_kept : (x : Fault) → renamed_type f (fault_class x) ≡ fault_class x
-  fault_kept x = ap type_by (p.keeps_faults x)
+  fault_kept x = ap type_by (p.keeps_own (fault_class x).0 (IsOwn.exception x))
 
   pub raises_renamed : (x : Fault) (s : State) → raises x (renamed_state f s) ≡ renamed_state f (raises x s)
   raises_renamed x s =

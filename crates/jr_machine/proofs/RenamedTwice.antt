@@ -13,14 +13,7 @@ use Rattle.jr_machine.specs.Renamed.{IsRenaming, renamed_type, renamed_ty, renam
 pub composed : (f g : DeclId → DeclId) → IsRenaming f → IsRenaming g → IsRenaming (λ d. g (f d))
 composed f g p q = record {
   one_to_one = λ a b e. p.one_to_one a b (q.one_to_one (f a) (f b) e);
-  keeps_object = ap g p.keeps_object ∙ q.keeps_object;
-  keeps_string = ap g p.keeps_string ∙ q.keeps_string;
-  keeps_faults = λ x. ap g (p.keeps_faults x) ∙ q.keeps_faults x;
-  keeps_to_string = ap g p.keeps_to_string ∙ q.keeps_to_string;
-  keeps_length = ap g p.keeps_length ∙ q.keeps_length;
-  keeps_char_at = ap g p.keeps_char_at ∙ q.keeps_char_at;
-  keeps_equals = ap g p.keeps_equals ∙ q.keeps_equals;
-  keeps_print = ap g p.keeps_print ∙ q.keeps_print;
+  keeps_own = λ d own. ap g (p.keeps_own d own) ∙ q.keeps_own d own;
 }
 
 maps_twice : {X : Type 0} (g h k : X → X) → ((x : X) → g (h x) ≡ k x) → (all : List X) → map g (map h all) ≡ map k all
@@ -126,17 +119,7 @@ twice_core f g core =
 -- ---- the renaming that changes nothing
 
 pub nothing_renamed : IsRenaming (λ d. d)
-nothing_renamed = record {
-  one_to_one = λ a b e. e;
-  keeps_object = refl;
-  keeps_string = refl;
-  keeps_faults = λ x. refl;
-  keeps_to_string = refl;
-  keeps_length = refl;
-  keeps_char_at = refl;
-  keeps_equals = refl;
-  keeps_print = refl;
-}
+nothing_renamed = record { one_to_one = λ a b e. e; keeps_own = λ d own. refl }
 
 map_stays : {X : Type 0} (g : X → X) → ((x : X) → g x ≡ x) → (all : List X) → map g all ≡ all
 map_stays g e [] = refl

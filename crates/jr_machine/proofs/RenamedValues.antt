@@ -34,10 +34,10 @@ true_alike false false there back = refl
 
 -- ---- declarations
 
-abbrev decl_of : ℕ → ℕ → ℕ → DeclId
+abbrev pub decl_of : ℕ → ℕ → ℕ → DeclId
 decl_of a b c = record { at = record { cu = record { 0 = a }; node = record { 0 = b } }; part = c }
 
-same_parts : (a b : DeclId) → a.at.cu.0 ≡ b.at.cu.0 → a.at.node.0 ≡ b.at.node.0 → a.part ≡ b.part → a ≡ b
+pub same_parts : (a b : DeclId) → a.at.cu.0 ≡ b.at.cu.0 → a.at.node.0 ≡ b.at.node.0 → a.part ≡ b.part → a ≡ b
 same_parts a b x y z =
     ap (λ n. decl_of n a.at.node.0 a.part) x ∙ (ap (λ n. decl_of b.at.cu.0 n a.part) y ∙ ap (λ n. decl_of b.at.cu.0 b.at.node.0 n) z)
 

@@ -1,5 +1,5 @@
 -- The renaming of a core and of a state by a map of declarations.
-use Rattle.std.specs.Prelude.{◌≡◌, map}
+use Rattle.std.specs.Prelude.{◌≡◌, ℕ, suc, ◌+◌, unwrap_or, List, [], ◌∷◌, map, Some}
 use Rattle.std.specs.Option.{option_map}
 use Rattle.jr_base.specs.declared.ids.DeclId.{DeclId}
 use Rattle.jr_base.specs.declared.ids.TypeId.{TypeId}
@@ -24,19 +24,24 @@ use Rattle.jr_machine.specs.declared.state.RunEnd.TheVariants as ends
 use Rattle.jr_machine.specs.declared.state.Ran.{Ran}
 use Rattle.jr_machine.specs.declared.state.State.{State}
 use Rattle.jr_machine.specs.Prelude.{object_class, string_class, fault_class, to_string_method, length_method, char_at_method, equals_method, print_method}
+use Rattle.jr_machine.specs.Classes.{found_among}
 use Rattle.jr_machine.specs.States.{Next}
 
--- a map by which programs may be renamed: different declarations stay different, and those of the prelude that the machine knows by itself stay
+-- a declaration of the prelude that the machine knows by itself
+pub data IsOwn : DeclId → Type 0 where
+  object : IsOwn object_class.0
+  string : IsOwn string_class.0
+  exception : (x : Fault) → IsOwn (fault_class x).0
+  to_string : IsOwn to_string_method
+  string_length : IsOwn length_method
+  char_at : IsOwn char_at_method
+  equals : IsOwn equals_method
+  prints : IsOwn print_method
+
+-- a map by which programs may be renamed: different declarations stay different, and those that the machine knows by itself stay as they are
 pub record IsRenaming (f : DeclId → DeclId) : Type 0 where
   pub one_to_one : IsOneToOne f
-  pub keeps_object : f object_class.0 ≡ object_class.0
-  pub keeps_string : f string_class.0 ≡ string_class.0
-  pub keeps_faults : (x : Fault) → f (fault_class x).0 ≡ (fault_class x).0
-  pub keeps_to_string : f to_string_method ≡ to_string_method
-  pub keeps_length : f length_method ≡ length_method
-  pub keeps_char_at : f char_at_method ≡ char_at_method
-  pub keeps_equals : f equals_method ≡ equals_method
-  pub keeps_print : f print_method ≡ print_method
+  pub keeps_own : (d : DeclId) → IsOwn d → f d ≡ d
 
 -- ---- types
 
@@ -218,3 +223,23 @@ renamed_next f next = option_map (renamed_state f) next
 
 abbrev pub renamed_ran : (DeclId → DeclId) → Ran → Ran
 renamed_ran f ran = record ran { end = renamed_end f ran.end }
+
+-- ---- renamings by a table
+
+-- more than the part of each copy in the table
+abbrev pub part_above : List (DeclId × DeclId) → ℕ
+part_above [] = 0
+part_above (pair ∷ all) = pair.1.part + suc (part_above all)
+
+-- the declaration, as another one that no table up to this part has for a copy
+abbrev pub apart : ℕ → DeclId → DeclId
+apart part d = record d { part = d.part + part }
+
+-- a declaration goes to its copy in the table, and all others go apart
+abbrev pub by_table : List (DeclId × DeclId) → DeclId → DeclId
+by_table pairs d = unwrap_or (found_among pairs d) (apart (part_above pairs) d)
+
+-- a table of declarations and their copies: no two have one copy, and those that the machine knows by itself are their own copies
+pub record IsTable (pairs : List (DeclId × DeclId)) : Type 0 where
+  pub one_to_one : (a b copy : DeclId) → found_among pairs a ≡ Some copy → found_among pairs b ≡ Some copy → a ≡ b
+  pub has_own : (d : DeclId) → IsOwn d → found_among pairs d ≡ Some d

@@ -36,7 +36,7 @@ mod work;
 
 pub use cells::Cells;
 pub use heap::Cell;
-pub use law::{renaming_commutes, renamings_compose};
+pub use law::{renaming_commutes, renamings_compose, tables_rename};
 pub use number::{Number, Pair};
 pub use outcome::{Fault, Given, Outcome, Placed, Sizes};
 pub use printed::Printed;
