@@ -17,3 +17,4 @@ pub mod Exits
 pub mod Steps
 pub mod Follows
 pub mod Finding
+pub mod Renamed

@@ -9,6 +9,7 @@ mod conversions;
 mod exits;
 mod frames;
 mod heap;
+mod law;
 mod natives;
 mod number;
 mod operators;
@@ -31,6 +32,7 @@ mod work;
 
 pub use cells::Cells;
 pub use heap::Cell;
+pub use law::{renaming_commutes, renamings_compose, tables_rename};
 pub use number::{Number, Pair};
 pub use outcome::{Fault, Given, Outcome, Placed, Sizes};
 pub use printed::Printed;
