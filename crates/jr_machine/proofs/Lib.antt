@@ -4,7 +4,6 @@ pub mod Taking
 pub mod Setting
 pub mod Joining
 pub mod Counting
-pub mod Running
 pub mod Choosing
 pub mod RenamedValues
 pub mod RenamedParts

@@ -2,13 +2,11 @@
 #![tactic(auto)]
 
 mod cells;
-mod arrays;
 mod calls;
 mod changes;
 mod control;
 mod conversions;
 mod exits;
-mod finishing;
 mod frames;
 mod heap;
 mod law;
@@ -23,11 +21,9 @@ mod printed;
 mod program;
 mod reference;
 mod references;
-mod runs;
 mod slots;
 mod stack;
 mod state;
-mod steps;
 mod subtypes;
 mod texts;
 mod value;
@@ -41,7 +37,6 @@ pub use number::{Number, Pair};
 pub use outcome::{Fault, Given, Outcome, Placed, Sizes};
 pub use printed::Printed;
 pub use reference::{CodeRef, TyRef, UnitsRef};
-pub use runs::run;
 pub use slots::Slot;
 pub use stack::Stack;
 pub use state::{Frame, Purpose, Ran, RunEnd, State};

@@ -1,7 +1,0 @@
-use Rattle.std.proofs.Common.{◌≡◌, ◌++◌, ◌-◌}
-use Rattle.jr_ty.specs.Mirror.{plain_ty}
-use Rattle.jr_machine.specs.Arrays.{arrays_of_arrays}
-use Rattle.jr_machine.proofs.arrays.Cells+Cell.push_level.Given as goal
-
-abbrev pub invariant-loop-i : goal.invariant-loop-i
-invariant-loop-i l = l.self ++ arrays_of_arrays (plain_ty l.item) l.at l.size (l.count - l.i) ≡ l.initial.self ++ arrays_of_arrays (plain_ty l.item) l.fn.first l.size l.count

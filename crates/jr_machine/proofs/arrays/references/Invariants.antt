@@ -1,6 +1,0 @@
-use Rattle.std.proofs.Common.{◌≡◌, ◌++◌, ◌-◌}
-use Rattle.jr_machine.specs.Arrays.{references}
-use Rattle.jr_machine.proofs.arrays.references.Given as goal
-
-abbrev pub invariant-loop-i : goal.invariant-loop-i
-invariant-loop-i l = l.items ++ references l.at (l.size - l.i) ≡ references l.fn.first l.size
