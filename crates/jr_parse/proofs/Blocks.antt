@@ -136,8 +136,7 @@ module _ (room : ℕ) (inner outer : Parser s.Stmt) (most : ℕ) (reads : ReadsO
       let c = eats y.CloseParen p.0.1 _ r p.2 in
       let e = bind_ok (reader.block room inner outer c.rest) _ r c.more in
       let found = block_sound c.rest e.0 e.1 in
-      subst (λ (r : s.Catch × List Kind). FitsCatch r.0 × (ts ≡ write_catch r.0 r.1)) (ok_is e.2)
-      (
+      subst (λ (r : s.Catch × List Kind). FitsCatch r.0 × (ts ≡ write_catch r.0 r.1)) (ok_is e.2) (
         ((is_param.0, found.shaped), found.low),
         a.written
             ∙ ap (λ us. kind.Word k.Catch ∷ us)

@@ -115,6 +115,7 @@ type_starts t ts is = of_base t.base is where
   of_name : (all : List Text) (us : List Kind) → not (is_empty all) ≡ true → starts_block_stmt (first (write_all all us)) ≡ true
   of_name [] us h = absurd (cc)
   of_name (part ∷ all) us h = refl
+
   of_base : (b : Base) → IsBase b → starts_block_stmt (first (write_base b (write_brackets t.dims ts))) ≡ true
   of_base (base.Named n) h = of_name n.parts (write_brackets t.dims ts) h
   of_base (base.Primitive primitive.Boolean) h = refl

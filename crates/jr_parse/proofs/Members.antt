@@ -181,6 +181,7 @@ module _ (room : ℕ) (nested : List Modifier → Parser d.TypeDecl) (reads : Re
     of_name : (all : List Text) (us : List Kind) → not (is_empty all) ≡ true → starts_modifier (first (write_all all us)) ≡ false
     of_name [] us h = absurd (cc)
     of_name (part ∷ all) us h = refl
+
     of_base : (b : Base) → IsBase b → starts_modifier (first (write_base b (write_brackets t.dims ts))) ≡ false
     of_base (base.Named n) h = of_name n.parts (write_brackets t.dims ts) h
     of_base (base.Primitive primitive.Boolean) h = refl

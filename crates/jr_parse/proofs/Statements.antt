@@ -468,9 +468,9 @@ module _ (room : ℕ) (inner outer : Parser s.Stmt) (reads : ReadsOne room false
   effect_token declares token ts h =
       ap (λ b. cond b (typed_here (token ∷ ts)) (cond (begins_effect token) (effected_here token ts) (Err (NoTree, token ∷ ts)))) (never declares (begins_local token) (no_local_effect token h))
       ∙ ap (λ b. cond b (effected_here token ts) (Err (NoTree, token ∷ ts))) h where
-    never : (a b : Bool) → b ≡ false → a && b ≡ false
-    never true b h = h
-    never false b h = refl
+        never : (a b : Bool) → b ≡ false → a && b ≡ false
+        never true b h = h
+        never false b h = refl
 
 -- an expression
 module _ (room : ℕ) (inner outer : Parser s.Stmt) (reads : ReadsOne (suc room) false inner) (outers : ReadsOne (suc room) true outer) where

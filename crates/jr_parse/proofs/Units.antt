@@ -72,6 +72,7 @@ type_member t ts is = of_base t.base is where
   of_name : (all : List Text) (us : List Kind) → not (is_empty all) ≡ true → starts_member (first (write_all all us)) ≡ true
   of_name [] us h = absurd (cc)
   of_name (part ∷ all) us h = refl
+
   of_base : (b : Base) → IsBase b → starts_member (first (write_base b (write_brackets t.dims ts))) ≡ true
   of_base (base.Named n) h = of_name n.parts (write_brackets t.dims ts) h
   of_base (base.Primitive primitive.Boolean) h = refl

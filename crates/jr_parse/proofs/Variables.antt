@@ -171,6 +171,7 @@ no_final_type t rest is = of_base t.base is where
   of_name : (all : List Text) (ts : List Kind) → not (is_empty all) ≡ true → is_at_word k.Final (write_all all ts) ≡ false
   of_name [] ts h = absurd (cc)
   of_name (part ∷ all) ts h = refl
+
   of_base : (b : Base) → IsBase b → is_at_word k.Final (write_base b (write_brackets t.dims rest)) ≡ false
   of_base (base.Named n) h = of_name n.parts (write_brackets t.dims rest) h
   of_base (base.Primitive primitive.Boolean) h = refl
@@ -214,8 +215,7 @@ param_sound ts r h =
     let found = type_sound f.0.1 t.0 t.1 in
     let name = bind_ok (identifier t.0.1) _ r t.2 in
     let n = bind_ok (dims name.0.1) _ r name.2 in
-    subst (λ (r : Param × List Kind). IsShapedParam r.0 × (ts ≡ write_param r.0 r.1)) (ok_is n.2)
-    (
+    subst (λ (r : Param × List Kind). IsShapedParam r.0 × (ts ≡ write_param r.0 r.1)) (ok_is n.2) (
       found.is,
       finality_sound ts f.0 f.1
           ∙ ap (write_if f.0.0 (kind.Word k.Final))
@@ -227,6 +227,7 @@ param_begins p rest is = of_final p.is_final where
   of_name : (all : List Text) (ts : List Kind) → not (is_empty all) ≡ true → starts_param (first (write_all all ts)) ≡ true
   of_name [] ts h = absurd (cc)
   of_name (part ∷ all) ts h = refl
+
   of_base : (b : Base) (ts : List Kind) → IsBase b → starts_param (first (write_base b ts)) ≡ true
   of_base (base.Named n) ts h = of_name n.parts ts h
   of_base (base.Primitive primitive.Boolean) ts h = refl
@@ -235,6 +236,7 @@ param_begins p rest is = of_final p.is_final where
   of_base (base.Primitive primitive.Char) ts h = refl
   of_base (base.Primitive primitive.Int) ts h = refl
   of_base (base.Primitive primitive.Long) ts h = refl
+
   of_final : (b : Bool) → starts_param (first (write_if b (kind.Word k.Final) (write_type p.ty (kind.Ident p.name ∷ write_brackets p.dims rest)))) ≡ true
   of_final true = refl
   of_final false = of_base p.ty.base (write_brackets p.ty.dims (kind.Ident p.name ∷ write_brackets p.dims rest)) is
