@@ -13,3 +13,4 @@ pub mod OneBinding
 pub mod HeadersAgree
 pub mod Settling
 pub mod Worked
+pub mod Forming
