@@ -9,7 +9,7 @@ use Rattle.jr_defs.specs.declared.referent.Space.{Space}
 use Rattle.jr_defs.specs.declared.referent.Space.TheVariants as space
 use Rattle.jr_defs.specs.Referents.{Table}
 use Rattle.jr_defs.specs.Declarations.{IsOf, Declares, IsType}
-use Rattle.jr_defs.specs.Scope.{Depth, on_demand, of_package, of_unit, within, rank, HasScope, InScope, Visible, Imported}
+use Rattle.jr_defs.specs.Scope.{Depth, on_demand, of_package, of_unit, within, rank, InOneList, HasScope, InScope, Visible, Imported}
 use Rattle.jr_defs.specs.Imports.{SingleImport, StaticImport, OnDemandImport, OnDemandOf}
 use Rattle.jr_defs.specs.Lookup.{Found, level_of, NoneInScope}
 use Rattle.jr_defs.specs.Correspondence.{IsDeclared, Alike, Carries, Sees, Places, ImportsGo, IsRound, moved_depth, moved_level}
@@ -151,10 +151,12 @@ module _ (p : Rows) (t : Table) (q : Rows) (u : Table) (f g : ℕ → ℕ) (C D 
     in_scope = in_scope_over p t q u f g C D to from kind x o o' d r k at im h.in_scope;
     innermost = λ e' r' w.
         let v = in_scope_over q u p t g f D C from to kind x o' o e' r' k back im' w in
-        let z = h.innermost (g e') (moved_depth g r') v in
         let order = keeps_depths p o f at.order (moved_depth g r') r (depth_round p t o (g e') (moved_depth g r') v.scope) (depth_round p t o d r h.in_scope.scope) in
-        subst (λ s. rank s ≤ rank (moved_depth f r)) (depth_back q g f from.alike.back r' (depth_declared q u o' e' r' w.scope))
-        (rank_over f (moved_depth g r') r order z);
+        elim (h.innermost (g e') (moved_depth g r') v) [
+          | inl z ↦ inl (subst (λ s. rank s ≤ rank (moved_depth f r)) (depth_back q g f from.alike.back r' (depth_declared q u o' e' r' w.scope))
+            (rank_over f (moved_depth g r') r order z))
+          | inr l ↦ inr (subst (λ e. InOneList q e (f d)) (from.alike.back e' (scope_declared q u o' e' r' w.scope)) (to.alike.one_list (g e') d l))
+        ];
   }
 
   level_over : (a : Role) (r : Depth) → level_of a (moved_depth f r) ≡ moved_level f (level_of a r)

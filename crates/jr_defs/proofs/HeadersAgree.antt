@@ -153,6 +153,13 @@ pub target_declares : (p : Rows) (t : Table) → IsBound p t → (o d : ℕ) (l 
 target_declares p t a o d l seeks e = type_declares p t (HasConstantForm p t) o (name p o) (sought_at p o) d l seeks
     (candidate_of p t (HasConstantForm p t) o (name p o) (sought_at p o) (t o) d l e (a o))
 
+-- no type is a parameter, so what is in scope beside a visible type is no further in
+visible_bound : (p : Rows) (t : Table) (x : Text) (m d : ℕ) (r : Depth) → Visible p t space.Type x m d r → (e : ℕ) (q : Depth) → InScope p t space.Type x m e q → rank q ≤ rank r
+visible_bound p t x m d r h e q w = elim (h.innermost e q w) [
+  | inl z ↦ z
+  | inr l ↦ absurd (subst (IsOf space.Type) l.second h.in_scope.declares.of_kind)
+]
+
 -- ---- scopes at a place in a header
 
 -- the tables agree on an import, and what it names is agreed on
@@ -361,15 +368,15 @@ module _ (p : Rows) (t u : Table) (formed : IsFormed p) (a : IsBound p t) (b : I
   bound_back r h e _ k (HasScope.demanded w) = omega arith
 
   visible_there : (d : ℕ) (r : Depth) → Visible p t space.Type (name p m) m d r → Visible p u space.Type (name p m) m d r
-  visible_there d r h = record {
-    in_scope = record { declares = h.in_scope.declares; scope = scope_there d r h.in_scope.declares h.innermost h.in_scope.scope };
-    innermost = λ e q w. bound_there r h.innermost e q w.declares w.scope;
+  visible_there d r h = let bounded : IsBoundedBy p t m (rank r) = λ e q w. visible_bound p t (name p m) m d r h e q w in record {
+    in_scope = record { declares = h.in_scope.declares; scope = scope_there d r h.in_scope.declares bounded h.in_scope.scope };
+    innermost = λ e q w. inl (bound_there r bounded e q w.declares w.scope);
   }
 
   visible_back : (d : ℕ) (r : Depth) → Visible p u space.Type (name p m) m d r → Visible p t space.Type (name p m) m d r
-  visible_back d r h = let bounded : IsBoundedBy p t m (rank r) = λ e q w. bound_back r h.innermost e q w.declares w.scope in record {
+  visible_back d r h = let bounded : IsBoundedBy p t m (rank r) = λ e q w. bound_back r (λ e q w. visible_bound p u (name p m) m d r h e q w) e q w.declares w.scope in record {
     in_scope = record { declares = h.in_scope.declares; scope = scope_back d r h.in_scope.declares bounded h.in_scope.scope };
-    innermost = bounded;
+    innermost = λ e q w. inl (bounded e q w);
   }
 
   found_there : (d : ℕ) (l : Option ℕ) → Found p t space.Type (name p m) m d l → Found p u space.Type (name p m) m d l

@@ -82,6 +82,7 @@ alike p = record {
   back = λ n k. refl;
   declared = λ c d h. h;
   constructor = λ c k h. h;
+  one_list = λ d e h. h;
   access_same = λ d k. refl;
   same_package = λ m n i j h. h;
   of_path = λ path d h. h;

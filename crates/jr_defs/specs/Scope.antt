@@ -93,6 +93,12 @@ pub record InScope (p : Rows) (t : Table) (kind : Space) (x : Text) (o d : ℕ) 
   pub scope : HasScope p t o d r
   pub declares : Declares p kind x d
 
+-- two parameters of one list: neither stands in the scope of the other, so neither shadows it (JLS 8.4.1)
+pub record InOneList (p : Rows) (d e : ℕ) : Type 0 where
+  pub first : role_at p d ≡ role.Parameter
+  pub second : role_at p e ≡ role.Parameter
+  pub beside : parent p d ≡ parent p e
+
 -- the one declaration shadows the other where the scope of both holds the place (JLS 6.3.1)
 pub record Shadows (p : Rows) (t : Table) (o d e : ℕ) : Type 0 where
   pub kind : Space
@@ -102,8 +108,9 @@ pub record Shadows (p : Rows) (t : Table) (o d e : ℕ) : Type 0 where
   pub first : InScope p t kind x o d inner
   pub second : InScope p t kind x o e outer
   pub further : rank outer < rank inner
+  pub apart : InOneList p d e → ⊥
 
 -- in scope, and not shadowed by another such
 pub record Visible (p : Rows) (t : Table) (kind : Space) (x : Text) (o d : ℕ) (r : Depth) : Type 0 where
   pub in_scope : InScope p t kind x o d r
-  pub innermost : (e : ℕ) (q : Depth) → InScope p t kind x o e q → rank q ≤ rank r
+  pub innermost : (e : ℕ) (q : Depth) → InScope p t kind x o e q → (rank q ≤ rank r) ⊎ InOneList p e d
