@@ -129,8 +129,8 @@ module _ (p : Rows) (t u : Table) (formed : IsFormed p) (h : SameHeaders p t u) 
 
   compound_same : (op : Symbol) (a b : RowType) → CompoundType p t op a b → CompoundType p u op a b
   compound_same op _ b (CompoundType.text e w i) = CompoundType.text e w i
-  compound_same op _ _ (CompoundType.primitive {a = a} {b = b} {r = r} w c) =
-      CompoundType.primitive (binary_same (class_of op) (plain a) (plain b) (plain r) w) (castable_same (plain r) (plain a) c)
+  compound_same op _ _ (CompoundType.primitive {a = a} {b = b} {r = r} i j w c) =
+      CompoundType.primitive i j (binary_same (class_of op) (plain a) (plain b) (plain r) w) (castable_same (plain r) (plain a) c)
 
   module _ (types : SameTypes p t u) (names : SameNames p t u) (types' : SameTypes p u t) (names' : SameNames p u t) where
     own_same : (m k : ℕ) (a b r : Element) → HasOwnType p t (HasConstantForm p t) m k a b r → HasOwnType p u (HasConstantForm p u) m k a b r
