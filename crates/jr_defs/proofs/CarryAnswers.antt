@@ -124,4 +124,4 @@ candidate_known p t K o x _ d _ (Candidate.constructor {c = c} {all = all} h a w
   through = tt;
 }
 candidate_known p t K o x _ d _ (Candidate.own_class h) = record { row = type_declared p d h.type; through = tt }
-candidate_known p t K o x _ d l (Candidate.labeled h) = found_known p t space.Label x o d l h
+candidate_known p t K o x _ d _ (Candidate.labeled {depth = r} h) = record { row = scope_declared p t o d r h.scope; through = tt }

@@ -147,7 +147,7 @@ type_declares p t K o x _ d _ k (Candidate.super_method h m w) = absurd k
 type_declares p t K o x _ d l k (Candidate.creation h n m w) = absurd k
 type_declares p t K o x _ d _ k (Candidate.constructor h m w) = absurd k
 type_declares p t K o x _ d _ k (Candidate.own_class h) = absurd k
-type_declares p t K o x _ d l k (Candidate.labeled h) = absurd k
+type_declares p t K o x _ d _ k (Candidate.labeled h) = absurd k
 
 pub target_declares : (p : Rows) (t : Table) → IsBound p t → (o d : ℕ) (l : Option ℕ) → SeeksType (sought_at p o) → t o ≡ Declared d l → Declares p space.Type (name p o) d
 target_declares p t a o d l seeks e = type_declares p t (HasConstantForm p t) o (name p o) (sought_at p o) d l seeks
@@ -406,7 +406,7 @@ module _ (p : Rows) (t u : Table) (formed : IsFormed p) (a : IsBound p t) (b : I
   simple_there _ d l k sc (Candidate.creation h n m w) = absurd k
   simple_there _ d _ k sc (Candidate.constructor h m w) = absurd k
   simple_there _ d _ k sc (Candidate.own_class h) = absurd k
-  simple_there _ d l k sc (Candidate.labeled h) = absurd k
+  simple_there _ d _ k sc (Candidate.labeled h) = absurd k
 
   simple_back : (s : Sought) (d : ℕ) (l : Option ℕ) → SeeksType s → IsScoped s → U s d l → T s d l
   simple_back _ d l k sc (Candidate.simple (SimpleCandidate.type h)) = Candidate.simple (SimpleCandidate.type (found_back d l h))
@@ -423,7 +423,7 @@ module _ (p : Rows) (t u : Table) (formed : IsFormed p) (a : IsBound p t) (b : I
   simple_back _ d l k sc (Candidate.creation h n m w) = absurd k
   simple_back _ d _ k sc (Candidate.constructor h m w) = absurd k
   simple_back _ d _ k sc (Candidate.own_class h) = absurd k
-  simple_back _ d l k sc (Candidate.labeled h) = absurd k
+  simple_back _ d _ k sc (Candidate.labeled h) = absurd k
 
   otherwise_there : (k : NameKind) (r : Referent) → Otherwise p t (HasConstantForm p t) m (name p m) (sought.Simple k) r → Otherwise p u (HasConstantForm p u) m (name p m) (sought.Simple k) r
   otherwise_there k _ (Otherwise.package_name (IsPackageName.simple h)) = Otherwise.package_name (IsPackageName.simple h)

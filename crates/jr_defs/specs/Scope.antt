@@ -6,6 +6,7 @@ use Rattle.jr_rows.specs.declared.label.Label.TheVariants as is
 use Rattle.jr_rows.specs.declared.label.Role.TheVariants as role
 use Rattle.jr_rows.specs.Rows.{Rows, label, parent, end, role_at}
 use Rattle.jr_defs.specs.declared.referent.Space.{Space}
+use Rattle.jr_defs.specs.declared.referent.Space.TheVariants as space
 use Rattle.jr_defs.specs.Referents.{Table}
 use Rattle.jr_defs.specs.Declarations.{Declares, IsType}
 use Rattle.jr_defs.specs.Enclosing.{InBody, IsTopLevel}
@@ -99,7 +100,7 @@ pub record InOneList (p : Rows) (d e : ℕ) : Type 0 where
   pub second : role_at p e ≡ role.Parameter
   pub beside : parent p d ≡ parent p e
 
--- the one declaration shadows the other where the scope of both holds the place (JLS 6.3.1)
+-- the one declaration shadows the other where the scope of both holds the place; labels shadow nothing (JLS 6.3.1, 14.7)
 pub record Shadows (p : Rows) (t : Table) (o d e : ℕ) : Type 0 where
   pub kind : Space
   pub x : Text
@@ -108,6 +109,7 @@ pub record Shadows (p : Rows) (t : Table) (o d e : ℕ) : Type 0 where
   pub first : InScope p t kind x o d inner
   pub second : InScope p t kind x o e outer
   pub further : rank outer < rank inner
+  pub no_label : kind ≡ space.Label → ⊥
   pub apart : InOneList p d e → ⊥
 
 -- in scope, and not shadowed by another such
