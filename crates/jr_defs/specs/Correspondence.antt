@@ -20,7 +20,7 @@ use Rattle.jr_defs.specs.Packages.{SamePackage, TypeOfPackage}
 use Rattle.jr_defs.specs.Types.{NamesType, HasType, Parameters}
 use Rattle.jr_defs.specs.Supertypes.{Super, SuperAt, Superclass}
 use Rattle.jr_defs.specs.Imports.{SingleImport, StaticImport, OnDemandImport}
-use Rattle.jr_defs.specs.Scope.{InLocalScope, InParameterScope, InLabelScope, InOneList, TypeOfUnit, TypeOfOther, Imported, Depth, on_demand, of_package, of_unit, within}
+use Rattle.jr_defs.specs.Scope.{InLocalScope, InParameterScope, InLabelScope, InOneList, TypeOfUnit, TypeOfOther, Imported, Depth, on_demand, of_package, of_unit, imported, within}
 use Rattle.jr_defs.specs.Instances.{HasInstance}
 use Rattle.jr_defs.specs.Lookup.{Receiver, PackageBefore, ArrayBefore, Arguments}
 
@@ -56,6 +56,7 @@ abbrev pub moved_depth : (ℕ → ℕ) → Depth → Depth
 moved_depth f on_demand = on_demand
 moved_depth f of_package = of_package
 moved_depth f of_unit = of_unit
+moved_depth f imported = imported
 moved_depth f (within s) = within (f s)
 
 -- ---- what a search reads

@@ -49,15 +49,22 @@ pub data Depth : Type 0 where
   on_demand : Depth
   of_package : Depth
   of_unit : Depth
+  imported : Depth
   within : ℕ → Depth
 
--- what is further in shadows: imports on demand shadow nothing, types of the package shadow them, types of the unit itself and of its
--- single imports shadow both, and all else goes by the row that it is declared in, or through (JLS 6.3.1, 7.5.1, 7.5.2)
+-- what is further in shadows: imports on demand shadow nothing, types of the package shadow them, what is imported by name shadows both,
+-- and all else goes by the row that it is declared in, or through (JLS 6.3.1, 7.5.1, 7.5.2)
 abbrev pub rank : Depth → ℕ
 rank on_demand = 0
 rank of_package = 1
 rank of_unit = 2
+rank imported = 2
 rank (within s) = 3 + s
+
+-- what is in so far as q does not shadow what is in so far as r: of the top-level types of one package none shadows another
+pub data IsNoFurther : Depth → Depth → Type 0 where
+  by_rank : {q r : Depth} → rank q ≤ rank r → IsNoFurther q r
+  of_one_package : IsNoFurther of_unit of_package
 
 -- a top-level type of the same package, and of the same unit or another
 pub record TypeOfUnit (p : Rows) (o d : ℕ) : Type 0 where
@@ -85,8 +92,8 @@ pub data HasScope (p : Rows) (t : Table) (o : ℕ) : ℕ → Depth → Type 0 wh
   member : {c d : ℕ} → InBody p c o → MemberOf p t c d → HasScope p t o d (within c)
   of_same_unit : {d : ℕ} → TypeOfUnit p o d → HasScope p t o d of_unit
   of_same_package : {d : ℕ} → TypeOfOther p o d → HasScope p t o d of_package
-  single : {d : ℕ} → Imported p (SingleImport p t) o d → HasScope p t o d of_unit
-  static : {d : ℕ} → Imported p (StaticImport p t) o d → HasScope p t o d of_unit
+  single : {d : ℕ} → Imported p (SingleImport p t) o d → HasScope p t o d imported
+  static : {d : ℕ} → Imported p (StaticImport p t) o d → HasScope p t o d imported
   demanded : {d : ℕ} → Imported p (OnDemandImport p t) o d → HasScope p t o d on_demand
 
 -- in scope at the place, under the name
@@ -108,11 +115,11 @@ pub record Shadows (p : Rows) (t : Table) (o d e : ℕ) : Type 0 where
   pub outer : Depth
   pub first : InScope p t kind x o d inner
   pub second : InScope p t kind x o e outer
-  pub further : rank outer < rank inner
+  pub further : IsNoFurther inner outer → ⊥
   pub no_label : kind ≡ space.Label → ⊥
   pub apart : InOneList p d e → ⊥
 
 -- in scope, and not shadowed by another such
 pub record Visible (p : Rows) (t : Table) (kind : Space) (x : Text) (o d : ℕ) (r : Depth) : Type 0 where
   pub in_scope : InScope p t kind x o d r
-  pub innermost : (e : ℕ) (q : Depth) → InScope p t kind x o e q → (rank q ≤ rank r) ⊎ InOneList p e d
+  pub innermost : (e : ℕ) (q : Depth) → InScope p t kind x o e q → IsNoFurther q r ⊎ InOneList p e d
