@@ -11,7 +11,7 @@ use Rattle.jr_defs.specs.Referents.{Table}
 use Rattle.jr_defs.specs.Declarations.{IsOf, Declares, IsType}
 use Rattle.jr_defs.specs.Scope.{Depth, on_demand, of_package, of_unit, imported, within, rank, IsNoFurther, InOneList, HasScope, InScope, Visible, Imported}
 use Rattle.jr_defs.specs.Imports.{SingleImport, StaticImport, OnDemandImport, OnDemandOf}
-use Rattle.jr_defs.specs.Lookup.{Found, level_of, NoneInScope}
+use Rattle.jr_defs.specs.Lookup.{VisibleThrough, level_of, NoneInScope}
 use Rattle.jr_defs.specs.Correspondence.{IsDeclared, Alike, Carries, Sees, Places, ImportsGo, IsRound, moved_depth, moved_level}
 use Rattle.jr_defs.proofs.CarryMembers.{of_role, type_declared, member_declared, role_over, member_over, declares_over}
 
@@ -189,7 +189,7 @@ module _ (p : Rows) (t : Table) (q : Rows) (u : Table) (f g : ℕ → ℕ) (C D 
   level_over role.Local r = refl
   level_over role.Label r = refl
 
-  pub found_over : (kind : Space) (x : Text) (d : ℕ) (level : Option ℕ) → IsNoMethod kind → Found p t kind x o d level → Found q u kind x o' (f d) (moved_level f level)
+  pub found_over : (kind : Space) (x : Text) (d : ℕ) (level : Option ℕ) → IsNoMethod kind → VisibleThrough p t kind x o d level → VisibleThrough q u kind x o' (f d) (moved_level f level)
   found_over kind x d level k h = record {
     depth = moved_depth f h.depth;
     visible = visible_over kind x d h.depth k h.visible;

@@ -24,7 +24,7 @@ use Rattle.jr_defs.specs.Members.{MemberOf}
 use Rattle.jr_defs.specs.Imports.{ImportOf, ImportNames, SingleImport, ImportedBy, StaticImport, OnDemandOf, OnDemandImport}
 use Rattle.jr_defs.specs.Scope.{Depth, on_demand, of_package, of_unit, imported, within, rank, IsNoFurther, HasScope, InScope, Visible, Imported}
 use Rattle.jr_defs.specs.Constants.{HasConstantForm}
-use Rattle.jr_defs.specs.Lookup.{Found, SimpleCandidate, TypeBefore, QualifiedCandidate, Candidate, Otherwise, IsPackageName, LookFor, Look}
+use Rattle.jr_defs.specs.Lookup.{VisibleThrough, SimpleCandidate, TypeBefore, QualifiedCandidate, Candidate, Otherwise, IsPackageName, LookFor, Look}
 use Rattle.jr_defs.specs.Headers.{NamesHeader, IsIdentifierOf, IsFirstOf, depth_of, MayBring, IsLookedForIn, NameMeets, Meets, IsSettled}
 use Rattle.jr_defs.specs.Binding.{IsBound}
 use Rattle.jr_defs.specs.Laws.{SameHeaders}
@@ -396,10 +396,10 @@ module _ (p : Rows) (t u : Table) (formed : IsFormed p) (a : IsBound p t) (b : I
     innermost = λ e q w. inl (bounded e q w);
   }
 
-  found_there : (d : ℕ) (l : Option ℕ) → Found p t space.Type (name p m) m d l → Found p u space.Type (name p m) m d l
+  found_there : (d : ℕ) (l : Option ℕ) → VisibleThrough p t space.Type (name p m) m d l → VisibleThrough p u space.Type (name p m) m d l
   found_there d l h = record { depth = h.depth; visible = visible_there d h.depth h.visible; through = h.through }
 
-  found_back : (d : ℕ) (l : Option ℕ) → Found p u space.Type (name p m) m d l → Found p t space.Type (name p m) m d l
+  found_back : (d : ℕ) (l : Option ℕ) → VisibleThrough p u space.Type (name p m) m d l → VisibleThrough p t space.Type (name p m) m d l
   found_back d l h = record { depth = h.depth; visible = visible_back d h.depth h.visible; through = h.through }
 
   abbrev T : Sought → ℕ → Option ℕ → Type 0

@@ -78,7 +78,7 @@ module _ (p : Rows) (t u : Table) (formed : IsFormed p) (types : SameTypes p t u
     constant_same n v (ConstantOf.literal e k) = ConstantOf.literal e k
     constant_same n v (ConstantOf.reference {d = d} k e w) = ConstantOf.reference (form_same n k) (sym (names.at n (form_name n k)) ∙ e) (variable_same d v w)
     constant_same n v (ConstantOf.paren e i w) = ConstantOf.paren e i (constant_same (n + 1) v w)
-    constant_same n w (ConstantOf.cast {a = a} {v = v} e i j k c) = ConstantOf.cast e (type_at_same p t u formed types (n + 1) a i) j (constant_same (end p (n + 1)) v k) c
+    constant_same n w (ConstantOf.cast {a = a} {v = v} e b i j k c) = ConstantOf.cast e b (type_at_same p t u formed types (n + 1) a i) j (constant_same (end p (n + 1)) v k) c
     constant_same n w (ConstantOf.unary {v = v} e i k c) = ConstantOf.unary e i (constant_same (n + 1) v k) c
     constant_same n w (ConstantOf.binary {u = a} {v = v} e i j k l c) = ConstantOf.binary e i (constant_same (n + 1) a j) k (constant_same (end p (n + 1)) v l) c
     constant_same n w (ConstantOf.conditional {u = a} {v = v} e i j k l m o c) =

@@ -36,11 +36,6 @@ abbrev pub depth_of : ImportKind → Depth
 depth_of importing.OnDemand = on_demand
 depth_of _ = imported
 
--- the last identifier of an import: that of its name, or of the members that it imports
-abbrev pub last_of : ImportKind → Rows → ℕ → Text
-last_of importing.StaticSingle p i = name p i
-last_of _ p i = name p (i + 1)
-
 -- an import on demand may bring any name, another only its last identifier
 pub data MayBring (p : Rows) (i : ℕ) (x : Text) : ImportKind → Type 0 where
   on_demand_import : MayBring p i x importing.OnDemand

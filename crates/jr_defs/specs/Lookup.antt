@@ -41,7 +41,7 @@ level_of role.Field (within s) = Some s
 level_of _ _ = None
 
 -- visible at the place, with its level
-pub record Found (p : Rows) (t : Table) (k : Space) (x : Text) (o d : ℕ) (level : Option ℕ) : Type 0 where
+pub record VisibleThrough (p : Rows) (t : Table) (k : Space) (x : Text) (o d : ℕ) (level : Option ℕ) : Type 0 where
   pub depth : Depth
   pub visible : Visible p t k x o d depth
   pub through : level_of (role_at p d) depth ≡ level
@@ -52,11 +52,11 @@ NoneInScope p t k x o = (d : ℕ) (r : Depth) → InScope p t k x o d r → ⊥
 
 -- a simple name, by its kind; an ambiguous one is a variable if one is in scope, else a type (JLS 6.5.2)
 pub data SimpleCandidate (p : Rows) (t : Table) (x : Text) (o : ℕ) : NameKind → ℕ → Option ℕ → Type 0 where
-  variable : {d : ℕ} {level : Option ℕ} → Found p t space.Variable x o d level → SimpleCandidate p t x o kind.Variable d level
-  type : {d : ℕ} {level : Option ℕ} → Found p t space.Type x o d level → SimpleCandidate p t x o kind.Type d level
-  package_or_type : {d : ℕ} {level : Option ℕ} → Found p t space.Type x o d level → SimpleCandidate p t x o kind.PackageOrType d level
-  first_variable : {d : ℕ} {level : Option ℕ} → Found p t space.Variable x o d level → SimpleCandidate p t x o kind.Ambiguous d level
-  then_type : {d : ℕ} {level : Option ℕ} → NoneInScope p t space.Variable x o → Found p t space.Type x o d level → SimpleCandidate p t x o kind.Ambiguous d level
+  variable : {d : ℕ} {level : Option ℕ} → VisibleThrough p t space.Variable x o d level → SimpleCandidate p t x o kind.Variable d level
+  type : {d : ℕ} {level : Option ℕ} → VisibleThrough p t space.Type x o d level → SimpleCandidate p t x o kind.Type d level
+  package_or_type : {d : ℕ} {level : Option ℕ} → VisibleThrough p t space.Type x o d level → SimpleCandidate p t x o kind.PackageOrType d level
+  first_variable : {d : ℕ} {level : Option ℕ} → VisibleThrough p t space.Variable x o d level → SimpleCandidate p t x o kind.Ambiguous d level
+  then_type : {d : ℕ} {level : Option ℕ} → NoneInScope p t space.Variable x o → VisibleThrough p t space.Type x o d level → SimpleCandidate p t x o kind.Ambiguous d level
 
 -- ---- what stands before a dot
 
