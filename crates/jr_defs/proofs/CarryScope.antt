@@ -170,7 +170,7 @@ module _ (p : Rows) (t : Table) (q : Rows) (u : Table) (f g : ℕ → ℕ) (C D 
         let order = keeps_depths p o f at.order (moved_depth g r') r (depth_round p t o (g e') (moved_depth g r') v.scope) (depth_round p t o d r h.in_scope.scope) in
         elim (h.innermost (g e') (moved_depth g r') v) [
           | inl z ↦ inl (subst (λ s. IsNoFurther s (moved_depth f r)) (depth_back q g f from.alike.back r' (depth_declared q u o' e' r' w.scope))
-            (no_further_over f (moved_depth g r') r order z))
+              (no_further_over f (moved_depth g r') r order z))
           | inr l ↦ inr (subst (λ e. InOneList q e (f d)) (from.alike.back e' (scope_declared q u o' e' r' w.scope)) (to.alike.one_list (g e') d l))
         ];
   }
