@@ -14,3 +14,4 @@ pub mod HeadersAgree
 pub mod Settling
 pub mod Worked
 pub mod Forming
+pub mod Cycles

@@ -11,8 +11,9 @@ use Rattle.jr_defs.specs.declared.referent.Referent.TheVariants.{Declared}
 use Rattle.jr_defs.specs.Referents.{Table}
 use Rattle.jr_defs.specs.Declarations.{IsType, IsObject}
 use Rattle.jr_defs.specs.Lookup.{LookFor}
-use Rattle.jr_defs.specs.Headers.{NamesHeader}
-use Rattle.jr_defs.specs.Binding.{IsBound, IsBinding}
+use Rattle.jr_defs.specs.Enclosing.{DeclaredIn}
+use Rattle.jr_defs.specs.Headers.{NamesHeader, Meets, IsSettled}
+use Rattle.jr_defs.specs.Binding.{IsBound, IsBinding, OfHeaders, HasCycle}
 use Rattle.jr_defs.specs.Formed.{IsFormed}
 use Rattle.jr_defs.specs.Correspondence.{Corresponds, moved}
 
@@ -56,3 +57,11 @@ ProgramsAreFormed = (units : List declared_unit.Unit) → AllByRecursion IsShape
 abbrev pub OneBindingOfUnits : Type 0
 OneBindingOfUnits = (units : List declared_unit.Unit) (t u : Table) → AllByRecursion IsShaped units → HasBareObject (program_rows units)
     → IsBinding (program_rows units) t → IsBinding (program_rows units) u → (o : ℕ) → t o ≡ u o
+
+-- two types whose headers meet each other are a cycle
+abbrev pub MutualHeadersAreCycle : Type 0
+MutualHeadersAreCycle = (p : Rows) (t : Table) (a b : ℕ) → OfHeaders p t → IsType p a → Meets p t a b → Meets p t b a → HasCycle p
+
+-- a type whose header names nothing is settled where its enclosing types are
+abbrev pub BareTypeIsSettled : Type 0
+BareTypeIsSettled = (p : Rows) (t : Table) (c : ℕ) → ((n : ℕ) → NamesHeader p c n → ⊥) → ((e : ℕ) → DeclaredIn p e c → IsSettled p t e) → IsSettled p t c

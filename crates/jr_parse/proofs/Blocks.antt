@@ -1,34 +1,26 @@
 -- Reading blocks, groups and handlers is exact in both directions.
-use Rattle.std.proofs.Common.{◌≡◌, ℕ, zero, suc, ◌≤◌, Bool, true, false, not, ◌||◌, List, [], ◌∷◌, ◌++◌, length, Option, Some, None, Ok, refl, sym, ap, ◌∙◌, subst, inl, inr, length-append, arith}
-use Rattle.std.proofs.lemmas.Bool.{not-true, or_right}
+use Rattle.std.proofs.Common.{◌≡◌, ℕ, suc, ◌≤◌, true, false, List, [], ◌∷◌, ◌++◌, length, Some, Ok, refl, ap, ◌∙◌, subst, length-append, arith}
 use Rattle.std.specs.List.{AllByRecursion}
 use Rattle.jr_base.specs.declared.kind.Kind.{Kind}
 use Rattle.jr_base.specs.declared.kind.Kind.TheVariants as kind
 use Rattle.jr_base.specs.declared.kind.Symbol.TheVariants as y
 use Rattle.jr_base.specs.declared.kind.Keyword.TheVariants as k
-use Rattle.jr_tree.specs.declared.tree.Param.{Param}
-use Rattle.jr_tree.specs.Shape.{is_empty, has_stmt, has_group, has_catch, has_block, group_fits, IsShapedParam, IsWholeExpr, IsShapedLabel, IsShapedStmt, IsShapedBlock, IsShapedCatch, IsShapedGroup, IsShapedFinally, AreShapedStmts, AreShapedGroups, AreShapedCatches}
-use Rattle.jr_tree.specs.Depth.{deepest, expr_depth, label_depth, stmt_depth, stmts_depth, block_depth, any_block_depth, catch_depth, catches_depth, group_depth, groups_depth}
-use Rattle.jr_tree.specs.Tokens.{stmts_tokens, stmt_tokens, group_tokens, label_tokens, catch_tokens}
-use Rattle.jr_tree.specs.Mirror.Exprs as x
+use Rattle.jr_tree.specs.Shape.{IsShapedStmt, IsShapedBlock, IsShapedCatch, AreShapedStmts, AreShapedCatches}
+use Rattle.jr_tree.specs.Depth.{stmts_depth, block_depth, catch_depth, catches_depth}
+use Rattle.jr_tree.specs.Tokens.{stmt_tokens, catch_tokens}
 use Rattle.jr_tree.specs.Mirror.Stmts as s
-use Rattle.jr_parse_laws.specs.Parsers.{Parser, and_then, first, is_at_word, expect, expect_word, many}
-use Rattle.jr_parse_laws.proofs.Outcomes.{bind_ok, chosen, ok_is, err_ok}
-use Rattle.jr_parse_laws.proofs.Lists.{Shortens}
+use Rattle.jr_parse_laws.specs.Parsers.{Parser, first, many}
+use Rattle.jr_parse_laws.proofs.Outcomes.{bind_ok, ok_is}
 use Rattle.jr_parse_expr.specs.Starts.{next_is}
-use Rattle.jr_parse_expr.specs.Exprs.{Nothing, next_token, expr}
-use Rattle.jr_parse_expr.specs.Writing.{write_expr}
-use Rattle.jr_parse.specs.Begins.{starts_block_stmt, starts_label, is_catch}
+use Rattle.jr_parse.specs.Begins.{starts_block_stmt, is_catch}
 use Rattle.jr_parse.specs.Stmts as reader
-use Rattle.jr_parse.specs.Writing.{write_many, write_label, write_labels, write_param, write_stmt, write_block, write_stmts, write_group, write_groups, write_catch, write_catches, write_finally}
-use Rattle.jr_parse.specs.Follow.{is_finally, StmtEnds, IsStmt}
-use Rattle.jr_parse.specs.Laws.{IsStmtRead}
-use Rattle.jr_parse.proofs.Written.{stmt_written, stmts_written, group_written, label_written, catch_written, longer_by}
-use Rattle.jr_parse.proofs.Tokens.{eats, eats_word, skipped_word, within_sound}
-use Rattle.jr_parse.proofs.Lists.{together, asunder, Sound, shortens_by, list_read, list_sound, one_more, no_more}
+use Rattle.jr_parse.specs.Writing.{write_many, write_param, write_stmt, write_block, write_stmts, write_catch, write_catches}
+use Rattle.jr_parse.specs.Follow.{IsStmt}
+use Rattle.jr_parse.proofs.Written.{stmt_written, catch_written, longer_by}
+use Rattle.jr_parse.proofs.Tokens.{eats, eats_word}
+use Rattle.jr_parse.proofs.Lists.{Sound, list_read, list_sound, one_more, no_more}
 use Rattle.jr_parse.proofs.Variables.{param_read, param_sound}
-use Rattle.jr_parse.proofs.Expressions.{whole, whole_sound}
-use Rattle.jr_parse.proofs.Endings.{Calm, calm_ends, calm_stmt, calm_label, stmt_no_label, label_no_stmt, stmt_starts, finally_at, finally_here}
+use Rattle.jr_parse.proofs.Endings.{Calm, calm_ends, calm_stmt, stmt_starts}
 use Rattle.jr_parse.proofs.Named.{ReadsOne}
 
 -- ---- statements as a list

@@ -1,10 +1,9 @@
 -- Reading the bodies of methods and constructors is exact in both directions.
-use Rattle.std.proofs.Common.{◌≡◌, ℕ, zero, suc, ◌≤◌, Bool, true, false, not, List, [], ◌∷◌, ◌++◌, Option, Some, None, Ok, Err, refl, sym, ap, ◌∙◌, subst, inl, inr, ◌⊎◌, arith}
+use Rattle.std.proofs.Common.{◌≡◌, ℕ, zero, suc, ◌≤◌, Bool, true, false, not, List, [], ◌∷◌, ◌++◌, Option, Some, Ok, refl, sym, ap, ◌∙◌, subst, inl, inr, ◌⊎◌, arith}
 use Rattle.jr_base.specs.declared.text.Text.{Text}
 use Rattle.jr_base.specs.declared.kind.Kind.{Kind}
 use Rattle.jr_base.specs.declared.kind.Kind.TheVariants as kind
 use Rattle.jr_base.specs.declared.kind.Symbol.TheVariants as y
-use Rattle.jr_base.specs.declared.kind.Keyword.{Keyword}
 use Rattle.jr_base.specs.declared.kind.Keyword.TheVariants as k
 use Rattle.jr_tree.specs.declared.tree.Base.{Base}
 use Rattle.jr_tree.specs.declared.tree.Base.TheVariants as base
@@ -16,19 +15,17 @@ use Rattle.jr_tree.specs.Shape.{is_empty, IsBase, IsStatementExpr, AreShapedExpr
 use Rattle.jr_tree.specs.Depth.{expr_depth, exprs_depth, stmts_depth, block_depth}
 use Rattle.jr_tree.specs.Mirror.Exprs as x
 use Rattle.jr_tree.specs.Mirror.Stmts as s
-use Rattle.jr_parse_laws.specs.Parsers.{Parser, Outcome, and_then, first, is_at}
+use Rattle.jr_parse_laws.specs.Parsers.{Parser, first, is_at}
 use Rattle.jr_parse_laws.proofs.Outcomes.{bind_ok, chosen, ok_is, err_ok}
-use Rattle.jr_parse_expr.specs.Exprs.{Lead, Nothing, This, Super, arguments, effect_end, effects, super_member, suffixes, expr, list, effect}
+use Rattle.jr_parse_expr.specs.Exprs.{Lead, This, Super, arguments, effect_end, effects, super_member, suffixes, expr, list, effect}
 use Rattle.jr_parse_expr.specs.Writing.{write_all, write_base, write_brackets, write_expr, write_exprs, write_lead}
 use Rattle.jr_parse_expr.specs.Follow.{IsLed}
-use Rattle.jr_parse_expr.proofs.Asked.{listed, exprs_listed, depth_pos}
+use Rattle.jr_parse_expr.proofs.Asked.{exprs_listed, depth_pos}
 use Rattle.jr_parse_expr.proofs.Arguments.{arguments_read, arguments_sound}
 use Rattle.jr_parse_expr.proofs.ExprReads.{all_read}
-use Rattle.jr_parse.specs.Begins.{starts_block_stmt}
 use Rattle.jr_parse.specs.Stmts as reader
 use Rattle.jr_parse.specs.Writing.{write_declarators, write_stmt, write_stmts, write_block}
-use Rattle.jr_parse.specs.Follow.{IsStmt}
-use Rattle.jr_parse.specs.Laws.{IsStmtRead, IsBodyRead, IsBodyComplete, IsBodySound, IsCtorBodyRead, IsCtorBodyComplete, IsCtorBodySound}
+use Rattle.jr_parse.specs.Laws.{IsBodyComplete, IsBodySound, IsCtorBodyRead, IsCtorBodyComplete, IsCtorBodySound}
 use Rattle.jr_parse.proofs.Tokens.{eats, skipped}
 use Rattle.jr_parse.proofs.Expressions.{closes_semicolon, led}
 use Rattle.jr_parse.proofs.Named.{ReadsOne, evaluated_sound}

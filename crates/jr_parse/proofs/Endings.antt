@@ -1,6 +1,6 @@
 -- What begins a statement, and what may follow one.
-use Rattle.std.proofs.Common.{◌≡◌, ℕ, suc, ◌≤◌, Bool, true, false, not, ◌||◌, List, [], ◌∷◌, length, Option, Some, None, refl, sym, ap, ◌∙◌, arith}
-use Rattle.std.proofs.lemmas.Bool.{not-true, or_right}
+use Rattle.std.proofs.Common.{◌≡◌, true, false, not, List, [], ◌∷◌, Option, Some, None, refl}
+use Rattle.std.proofs.lemmas.Bool.{or_right}
 use Rattle.jr_base.specs.declared.text.Text.{Text}
 use Rattle.jr_base.specs.declared.kind.Kind.{Kind}
 use Rattle.jr_base.specs.declared.kind.Kind.TheVariants as kind
@@ -14,9 +14,9 @@ use Rattle.jr_tree.specs.Shape.{is_empty, takes_else, IsBase, IsTypeUse, IsShape
 use Rattle.jr_tree.specs.Mirror.Stmts as s
 use Rattle.jr_parse_laws.specs.Parsers.{first, is_at_word}
 use Rattle.jr_parse_expr.specs.Starts.{begins_effect, next_is, starts_effect}
-use Rattle.jr_parse_expr.specs.Writing.{write_all, write_base, write_brackets, write_type, write_expr}
-use Rattle.jr_parse.specs.Begins.{stmt_word, begins_stmt, begins_local, begins_block_stmt, starts_stmt, starts_block_stmt, starts_label, is_catch}
-use Rattle.jr_parse.specs.Writing.{write_if, write_declarators, write_locals, write_stmt}
+use Rattle.jr_parse_expr.specs.Writing.{write_all, write_base, write_brackets, write_type}
+use Rattle.jr_parse.specs.Begins.{stmt_word, begins_stmt, begins_local, starts_stmt, starts_block_stmt, starts_label, is_catch}
+use Rattle.jr_parse.specs.Writing.{write_declarators, write_stmt}
 use Rattle.jr_parse.specs.Follow.{is_else, is_finally, StmtEnds}
 use Rattle.jr_parse.proofs.Expressions.{effect_starts}
 

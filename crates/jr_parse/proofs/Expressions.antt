@@ -1,5 +1,5 @@
 -- Reading the expressions of statements is exact in both directions.
-use Rattle.std.proofs.Common.{◌≡◌, ℕ, zero, suc, ◌≤◌, Bool, true, false, not, List, [], ◌∷◌, length, Option, Some, None, Ok, refl, sym, ap, ◌∙◌, subst, inl, inr, arith}
+use Rattle.std.proofs.Common.{◌≡◌, ℕ, suc, ◌≤◌, true, false, not, List, [], ◌∷◌, length, Option, Some, None, Ok, refl, ap, ◌∙◌, subst, inl, inr, arith}
 use Rattle.std.proofs.lemmas.Bool.{not-true, or_right}
 use Rattle.std.specs.Prelude.{IfSome}
 use Rattle.std.specs.List.{AllByRecursion}
@@ -8,22 +8,20 @@ use Rattle.jr_base.specs.declared.text.Text.{Text}
 use Rattle.jr_base.specs.declared.kind.Kind.{Kind}
 use Rattle.jr_base.specs.declared.kind.Kind.TheVariants as kind
 use Rattle.jr_base.specs.declared.kind.Symbol.TheVariants as y
-use Rattle.jr_base.specs.declared.kind.Keyword.TheVariants as k
-use Rattle.jr_tree.specs.Levels.{is_step, is_literal, is_least_kind}
-use Rattle.jr_tree.specs.Shape.{is_empty, level, is_least, has_expr, IsShapedExpr, AreShapedExprs, IsWholeExpr, IsStatementExpr, AreStatementExprs}
-use Rattle.jr_tree.specs.Depth.{deepest, expr_depth, exprs_depth}
-use Rattle.jr_tree.specs.Tokens.{expr_tokens}
+use Rattle.jr_tree.specs.Levels.{is_literal, is_least_kind}
+use Rattle.jr_tree.specs.Shape.{is_empty, level, is_least, IsShapedExpr, IsWholeExpr, IsStatementExpr, AreStatementExprs}
+use Rattle.jr_tree.specs.Depth.{expr_depth, exprs_depth}
 use Rattle.jr_tree.specs.Mirror.Exprs as x
-use Rattle.jr_parse_laws.specs.Parsers.{Parser, first, begins_with, expect, many, after_comma, optional}
+use Rattle.jr_parse_laws.specs.Parsers.{first, begins_with, many, after_comma, optional}
 use Rattle.jr_parse_laws.proofs.Outcomes.{bind_ok, chosen, ok_is}
-use Rattle.jr_parse_expr.specs.Starts.{is_plain_literal, begins_primary, begins_effect, starts_expr, starts_effect}
+use Rattle.jr_parse_expr.specs.Starts.{begins_primary, begins_effect, starts_expr, starts_effect}
 use Rattle.jr_parse_expr.specs.Exprs.{Lead, Nothing, expr, effect, any_commas}
 use Rattle.jr_parse_expr.specs.Writing.{write_all, write_expr, write_exprs, write_others, write_lead}
-use Rattle.jr_parse_expr.specs.Follow.{EffectEnds, IsExpr, IsEffect, IsLed}
+use Rattle.jr_parse_expr.specs.Follow.{EffectEnds, IsLed}
 use Rattle.jr_parse_expr.proofs.Written.{longer}
 use Rattle.jr_parse_expr.proofs.Beginnings.{target_tight, target_not_least, binary_low, begins_any}
 use Rattle.jr_parse_expr.proofs.Followers.{Closes, ends_before}
-use Rattle.jr_parse_expr.proofs.Asked.{listed, exprs_listed, depth_pos}
+use Rattle.jr_parse_expr.proofs.Asked.{listed}
 use Rattle.jr_parse_expr.proofs.Readings.{exprs_complete, exprs_sound}
 use Rattle.jr_parse_expr.proofs.Effects.{effect_complete, effect_sound}
 use Rattle.jr_parse.specs.Stmts.{condition}

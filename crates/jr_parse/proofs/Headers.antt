@@ -1,5 +1,5 @@
 -- Reading the header of a `for` is exact in both directions.
-use Rattle.std.proofs.Common.{◌≡◌, ℕ, zero, suc, ◌≤◌, Bool, true, false, not, ◌&&◌, cond, List, [], ◌∷◌, ◌++◌, Option, Some, None, Ok, Err, refl, sym, ap, ◌∙◌, subst, inl, inr, arith}
+use Rattle.std.proofs.Common.{◌≡◌, ℕ, zero, suc, ◌≤◌, Bool, true, false, not, cond, List, [], ◌∷◌, ◌++◌, Option, Some, None, Ok, refl, sym, ap, ◌∙◌, subst, inl, inr, arith}
 use Rattle.std.specs.Prelude.{IfSome}
 use Rattle.std.specs.Option.{option_map_or}
 use Rattle.jr_base.specs.declared.text.Text.{Text}
@@ -12,27 +12,25 @@ use Rattle.jr_tree.specs.declared.tree.Base.{Base}
 use Rattle.jr_tree.specs.declared.tree.Base.TheVariants as base
 use Rattle.jr_tree.specs.declared.tree.Primitive.TheVariants as primitive
 use Rattle.jr_tree.specs.declared.tree.TypeUse.{TypeUse}
-use Rattle.jr_tree.specs.Shape.{is_empty, has_expr, IsBase, IsTypeUse, IsStatementExpr, AreStatementExprs, IsShapedForInit}
+use Rattle.jr_tree.specs.Shape.{is_empty, IsBase, IsTypeUse, IsStatementExpr, AreStatementExprs, IsShapedForInit}
 use Rattle.jr_tree.specs.Depth.{expr_depth, exprs_depth, for_init_depth}
 use Rattle.jr_tree.specs.Mirror.Exprs as x
 use Rattle.jr_tree.specs.Mirror.Stmts as s
 use Rattle.jr_parse_laws.specs.Parsers.{Parser, Outcome, and_then, first, is_at, begins_with, many, after_comma}
-use Rattle.jr_parse_laws.specs.declared.fault.Fault.TheVariants.{NoTree}
 use Rattle.jr_parse_laws.proofs.Outcomes.{bind_ok, chosen, ok_is}
 use Rattle.jr_parse_expr.specs.Starts.{begins_effect, starts_effect}
 use Rattle.jr_parse_expr.specs.Names.{name_of, type_of, dims, type_use, Dotted, Plain, Enclosing, dotted}
 use Rattle.jr_parse_expr.specs.Exprs.{Lead, Nothing, Named, Indexed, effect}
-use Rattle.jr_parse_expr.specs.Writing.{write_parts, write_all, write_brackets, write_type, write_expr, write_exprs, write_others, write_dotted, write_lead}
+use Rattle.jr_parse_expr.specs.Writing.{write_all, write_brackets, write_type, write_expr, write_others, write_dotted, write_lead}
 use Rattle.jr_parse_expr.specs.Follow.{IsLed}
-use Rattle.jr_parse_expr.proofs.NameReads.{dims_read, dims_sound, dotted_name, dotted_sound, DottedEnds, has_parts, type_read, type_sound}
-use Rattle.jr_parse_expr.proofs.Asked.{listed, exprs_listed, depth_pos}
-use Rattle.jr_parse_expr.proofs.Followers.{Closes}
+use Rattle.jr_parse_expr.proofs.NameReads.{dims_read, dims_sound, dotted_name, dotted_sound, DottedEnds, has_parts, type_sound}
+use Rattle.jr_parse_expr.proofs.Asked.{exprs_listed, depth_pos}
 use Rattle.jr_parse.specs.Begins.{begins_local}
 use Rattle.jr_parse.specs.Stmts as reader
 use Rattle.jr_parse.specs.Writing.{write_some, write_for_init, write_if, write_declarators}
-use Rattle.jr_parse.proofs.Tokens.{eats, skipped}
+use Rattle.jr_parse.proofs.Tokens.{skipped}
 use Rattle.jr_parse.proofs.Variables.{AreVariables, declarators_read, declarators_sound, finality_read, finality_sound, type_before}
-use Rattle.jr_parse.proofs.Expressions.{closes_semicolon, led, plain, effect_starts, EffectFound, found_effect, later_read, later_found, closes_others}
+use Rattle.jr_parse.proofs.Expressions.{closes_semicolon, led, plain, effect_starts, found_effect, later_read, later_found, closes_others}
 use Rattle.jr_parse.proofs.Endings.{no_local_effect}
 use Rattle.jr_parse.proofs.Named.{write_locals_front, no_name, no_close, name_first}
 

@@ -13,3 +13,5 @@ pub mod Bodies
 pub mod Modifiers
 pub mod Members
 pub mod Units
+pub mod Imports
+pub mod Readings

@@ -1,9 +1,9 @@
 -- Lists of items as long as one begins: what is written is read, and what is read is written.
-use Rattle.std.proofs.Common.{◌≡◌, ℕ, suc, ◌≤◌, max, Bool, true, false, List, [], ◌∷◌, length, Option, None, Ok, refl, ap, ◌∙◌, arith}
+use Rattle.std.proofs.Common.{◌≡◌, ℕ, suc, ◌≤◌, Bool, true, false, List, [], ◌∷◌, length, Option, None, Ok, refl, ap, ◌∙◌, arith}
 use Rattle.std.specs.List.{AllByRecursion}
 use Rattle.jr_base.specs.declared.kind.Kind.{Kind}
 use Rattle.jr_tree.specs.Depth.{deepest}
-use Rattle.jr_parse_laws.specs.Parsers.{first, Parser, and_then, many}
+use Rattle.jr_parse_laws.specs.Parsers.{first, Parser, many}
 use Rattle.jr_parse_laws.proofs.Lists.{Shortens, many_over, many_turn}
 use Rattle.jr_parse_expr.proofs.Repeats.{AreAll, write_each, many_sound}
 use Rattle.jr_parse.specs.Writing.{write_many}

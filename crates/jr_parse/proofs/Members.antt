@@ -1,5 +1,5 @@
 -- Reading members is exact in both directions.
-use Rattle.std.proofs.Common.{◌≡◌, ℕ, zero, suc, ◌≤◌, Bool, true, false, not, List, [], ◌∷◌, ◌++◌, length, Option, Some, None, Ok, Err, refl, sym, ap, ◌∙◌, subst, inl, inr, le-ltb, arith}
+use Rattle.std.proofs.Common.{◌≡◌, ℕ, zero, suc, ◌≤◌, Bool, true, false, not, List, [], ◌∷◌, Option, Some, None, Ok, refl, sym, ap, ◌∙◌, subst, inl, inr, le-ltb, arith}
 use Rattle.std.specs.Prelude.{IfSome}
 use Rattle.std.specs.List.{AllByRecursion}
 use Rattle.std.specs.Option.{option_map_or}
@@ -27,7 +27,6 @@ use Rattle.jr_tree.specs.Mirror.Decls as d
 use Rattle.jr_parse_laws.specs.Parsers.{Parser, Outcome, and_then, first, is_at, is_at_word, begins_with, identifier}
 use Rattle.jr_parse_laws.proofs.Outcomes.{bind_ok, chosen, ok_is, err_ok}
 use Rattle.jr_parse_laws.proofs.Exact.{identifier_token}
-use Rattle.jr_parse_laws.proofs.Turns.{at_first}
 use Rattle.jr_parse_expr.specs.Names.{type_of, dims, name_of, name_after, primitive_kind, type_use}
 use Rattle.jr_parse_expr.specs.Writing.{write_parts, write_all, write_name, write_base, write_brackets, write_type}
 use Rattle.jr_parse_expr.proofs.NameReads.{name_after_read, name_sound, dims_read, dims_sound, type_sound}

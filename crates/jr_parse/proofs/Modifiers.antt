@@ -1,8 +1,7 @@
 -- Reading modifiers, lists of names and parameters is exact in both directions.
-use Rattle.std.proofs.Common.{◌≡◌, ℕ, zero, suc, ◌≤◌, Bool, true, false, not, List, [], ◌∷◌, ◌++◌, length, Option, Some, None, Ok, Err, refl, sym, ap, ◌∙◌, subst, inl, inr, arith}
+use Rattle.std.proofs.Common.{◌≡◌, suc, ◌≤◌, true, false, List, [], ◌∷◌, length, Option, Some, None, Ok, refl, ap, ◌∙◌, subst, inl, inr, arith}
 use Rattle.std.specs.Prelude.{IfSome}
 use Rattle.std.specs.List.{AllByRecursion}
-use Rattle.jr_base.specs.declared.text.Text.{Text}
 use Rattle.jr_base.specs.declared.kind.Kind.{Kind}
 use Rattle.jr_base.specs.declared.kind.Kind.TheVariants as kind
 use Rattle.jr_base.specs.declared.kind.Symbol.TheVariants as y
@@ -14,7 +13,7 @@ use Rattle.jr_tree.specs.declared.tree.Modifier.{Modifier}
 use Rattle.jr_tree.specs.declared.tree.Modifier.TheVariants as modifier
 use Rattle.jr_tree.specs.Words.{modifier_word, name_tokens, param_tokens}
 use Rattle.jr_tree.specs.Shape.{IsName, IsShapedParam}
-use Rattle.jr_parse_laws.specs.Parsers.{Parser, and_then, first, is_at_word, begins_with, expect, many, after_comma, commas}
+use Rattle.jr_parse_laws.specs.Parsers.{Parser, first, is_at_word, begins_with, many, after_comma}
 use Rattle.jr_parse_laws.proofs.Outcomes.{bind_ok, chosen, ok_is, err_ok, some_is}
 use Rattle.jr_parse_expr.specs.Names.{name}
 use Rattle.jr_parse_expr.specs.Exprs.{next_token, any_commas}
@@ -24,7 +23,7 @@ use Rattle.jr_parse_expr.proofs.NameReads.{name_read, name_sound}
 use Rattle.jr_parse.specs.Begins.{modifier_of, modifier_kind, starts_modifier, starts_param}
 use Rattle.jr_parse.specs.Stmts.{param}
 use Rattle.jr_parse.specs.Decls as reader
-use Rattle.jr_parse.specs.Writing.{write_many, write_after, write_modifier, write_modifiers, write_param, write_later_params, write_params, write_later_names, write_names_after, write_parent}
+use Rattle.jr_parse.specs.Writing.{write_after, write_modifier, write_modifiers, write_param, write_later_params, write_params, write_later_names, write_names_after, write_parent}
 use Rattle.jr_parse.proofs.Written.{param_written, longer_by}
 use Rattle.jr_parse.proofs.Tokens.{eats, skipped_word}
 use Rattle.jr_parse.proofs.Lists.{Sound, list_read, list_sound}

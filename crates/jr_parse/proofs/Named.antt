@@ -1,7 +1,6 @@
 -- Reading a statement from a name on, which is a declaration, a label or an expression, is exact in both directions.
-use Rattle.std.proofs.Common.{◌≡◌, ℕ, zero, suc, ◌≤◌, Bool, true, false, not, ◌&&◌, ◌||◌, cond, ltb, List, [], ◌∷◌, ◌++◌, Option, Some, None, Ok, Err, refl, sym, ap, ◌∙◌, subst, inl, inr, arith}
-use Rattle.std.proofs.lemmas.Bool.{not-true, and_parts, le-ltb}
-use Rattle.std.specs.List.{AllByRecursion}
+use Rattle.std.proofs.Common.{◌≡◌, ℕ, zero, suc, ◌≤◌, Bool, true, false, ◌&&◌, ◌||◌, List, [], ◌∷◌, ◌++◌, Ok, refl, sym, ap, ◌∙◌, subst, inl, inr, arith}
+use Rattle.std.proofs.lemmas.Bool.{and_parts, le-ltb}
 use Rattle.jr_base.specs.declared.text.Text.{Text}
 use Rattle.jr_base.specs.declared.kind.Kind.{Kind}
 use Rattle.jr_base.specs.declared.kind.Kind.TheVariants as kind
@@ -10,16 +9,16 @@ use Rattle.jr_base.specs.declared.kind.Keyword.TheVariants as k
 use Rattle.jr_tree.specs.declared.tree.Name.{Name}
 use Rattle.jr_tree.specs.declared.tree.Base.TheVariants as base
 use Rattle.jr_tree.specs.declared.tree.TypeUse.{TypeUse}
-use Rattle.jr_tree.specs.Shape.{is_empty, is_local, IsTypeUse, IsStatementExpr, IsShapedStmt}
-use Rattle.jr_tree.specs.Depth.{expr_depth, stmt_depth, deepest, declarator_depth}
+use Rattle.jr_tree.specs.Shape.{IsTypeUse, IsStatementExpr}
+use Rattle.jr_tree.specs.Depth.{expr_depth}
 use Rattle.jr_tree.specs.Mirror.Exprs as x
 use Rattle.jr_tree.specs.Mirror.Stmts as s
-use Rattle.jr_parse_laws.specs.Parsers.{Parser, Outcome, and_then, first, is_at, begins_with, expect}
+use Rattle.jr_parse_laws.specs.Parsers.{Parser, and_then, first, is_at, begins_with}
 use Rattle.jr_parse_laws.proofs.Outcomes.{bind_ok, chosen, ok_is, err_ok}
 use Rattle.jr_parse_expr.specs.Starts.{starts_expr}
 use Rattle.jr_parse_expr.specs.Names.{name_of, type_of, dims, Dotted, Plain, Enclosing, dotted}
 use Rattle.jr_parse_expr.specs.Exprs.{Lead, Nothing, Named, Indexed, after_dotted, after_bracket, suffixes, effect_end, effects, expr, list, effect}
-use Rattle.jr_parse_expr.specs.Writing.{write_parts, write_all, write_name, write_brackets, write_type, write_expr, write_dotted, write_lead}
+use Rattle.jr_parse_expr.specs.Writing.{write_parts, write_all, write_brackets, write_type, write_expr, write_dotted, write_lead}
 use Rattle.jr_parse_expr.specs.Follow.{IsLed}
 use Rattle.jr_parse_expr.proofs.NameReads.{dims_read, dims_sound, dotted_name, dotted_end, dotted_sound, DottedEnds, has_parts}
 use Rattle.jr_parse_expr.proofs.ExprReads.{chain_of}
@@ -28,7 +27,7 @@ use Rattle.jr_parse.specs.Writing.{write_if, write_declarators, write_stmt}
 use Rattle.jr_parse.specs.Follow.{StmtEnds, IsStmt}
 use Rattle.jr_parse.specs.Laws.{IsStmtRead}
 use Rattle.jr_parse.proofs.Tokens.{eats, skipped, within_sound}
-use Rattle.jr_parse.proofs.Variables.{AreVariables, VariablesFound, declarators_read, declarators_sound}
+use Rattle.jr_parse.proofs.Variables.{AreVariables, declarators_read, declarators_sound}
 use Rattle.jr_parse.proofs.Expressions.{whole_starts, whole_sound, closes_semicolon, led, found_effect}
 
 -- what the readers of a statement ask of the readers of its parts

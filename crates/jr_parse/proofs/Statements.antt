@@ -1,7 +1,6 @@
 -- Reading a statement is exact in both directions.
-use Rattle.std.proofs.Common.{◌≡◌, ℕ, zero, suc, ◌≤◌, Bool, true, false, not, ◌&&◌, ◌||◌, cond, ltb, List, [], ◌∷◌, ◌++◌, Option, Some, None, Ok, Err, refl, sym, ap, ◌∙◌, subst, inl, inr, le-ltb, arith}
-use Rattle.std.proofs.lemmas.Bool.{cases_Bool, not-true, not_from_false, and_parts, or_right, true≢false}
-use Rattle.std.specs.Prelude.{IfSome}
+use Rattle.std.proofs.Common.{◌≡◌, ℕ, zero, suc, ◌≤◌, Bool, true, false, not, ◌&&◌, ◌||◌, cond, ltb, List, [], ◌∷◌, Option, Some, None, Ok, Err, refl, sym, ap, ◌∙◌, subst, inl, inr, le-ltb, arith}
+use Rattle.std.proofs.lemmas.Bool.{cases_Bool, not-true, not_from_false, and_parts, true≢false}
 use Rattle.jr_base.specs.declared.text.Text.{Text}
 use Rattle.jr_base.specs.declared.kind.Kind.{Kind}
 use Rattle.jr_base.specs.declared.kind.Kind.TheVariants as kind
@@ -11,30 +10,30 @@ use Rattle.jr_tree.specs.declared.tree.Base.{Base}
 use Rattle.jr_tree.specs.declared.tree.Base.TheVariants as base
 use Rattle.jr_tree.specs.declared.tree.Primitive.TheVariants as primitive
 use Rattle.jr_tree.specs.declared.tree.TypeUse.{TypeUse}
-use Rattle.jr_tree.specs.Shape.{is_empty, is_local, takes_else, has_catch, has_block, IsBase, IsTypeUse, IsStatementExpr, IsWholeExpr, IsShapedStmt, IsShapedElse, IsShapedFinally}
+use Rattle.jr_tree.specs.Shape.{is_empty, is_local, takes_else, has_catch, has_block, IsBase, IsTypeUse, IsStatementExpr, IsShapedStmt, IsShapedElse, IsShapedFinally}
 use Rattle.jr_tree.specs.Depth.{expr_depth, exprs_depth, stmt_depth, any_stmt_depth, any_block_depth, catches_depth, groups_depth}
 use Rattle.jr_tree.specs.Mirror.Exprs as x
 use Rattle.jr_tree.specs.Mirror.Stmts as s
-use Rattle.jr_parse_laws.specs.Parsers.{Parser, Outcome, and_then, first, is_at_word, expect, many, optional}
+use Rattle.jr_parse_laws.specs.Parsers.{Parser, Outcome, and_then, first, is_at_word, many, optional}
 use Rattle.jr_parse_laws.specs.declared.fault.Fault.TheVariants.{NoTree, TooDeep}
 use Rattle.jr_parse_laws.proofs.Outcomes.{bind_ok, chosen, ok_is, err_ok}
 use Rattle.jr_parse_expr.specs.Starts.{begins_effect, starts_expr, starts_effect, next_is}
 use Rattle.jr_parse_expr.specs.Names.{name_of, type_of, type_use, dotted}
-use Rattle.jr_parse_expr.specs.Exprs.{Lead, Nothing, expr, effect, any_commas}
-use Rattle.jr_parse_expr.specs.Writing.{write_parts, write_all, write_brackets, write_type, write_expr, write_exprs, write_lead}
+use Rattle.jr_parse_expr.specs.Exprs.{Nothing, expr, effect, any_commas}
+use Rattle.jr_parse_expr.specs.Writing.{write_all, write_brackets, write_type, write_expr, write_exprs}
 use Rattle.jr_parse_expr.proofs.NameReads.{dotted_sound, type_sound}
 use Rattle.jr_parse_expr.proofs.Asked.{exprs_listed, depth_pos}
 use Rattle.jr_parse_expr.proofs.ExprReads.{no_level_err}
 use Rattle.jr_parse.specs.Begins.{begins_local, starts_stmt, starts_block_stmt, starts_label, is_catch}
 use Rattle.jr_parse.specs.Stmts as reader
 use Rattle.jr_parse.specs.Writing.{write_some, write_if, write_ident, write_declarators, write_for_init, write_cond, write_stmt, write_else, write_finally, write_block, write_catches, write_groups}
-use Rattle.jr_parse.specs.Follow.{is_else, is_finally, StmtEnds, IsStmt}
+use Rattle.jr_parse.specs.Follow.{StmtEnds, IsStmt}
 use Rattle.jr_parse.specs.Laws.{IsStmtRead}
 use Rattle.jr_parse.proofs.Tokens.{eats, eats_word, skipped_word, within_sound}
 use Rattle.jr_parse.proofs.Variables.{AreVariables, finality_read, finality_sound}
 use Rattle.jr_parse.proofs.Expressions.{whole, whole_sound, closes_semicolon, condition_read, condition_sound, any_read, any_sound, plain, effect_starts, updates_read, updates_sound}
 use Rattle.jr_parse.proofs.Endings.{ends_by, no_else_after, else_at, else_here, finally_at, finally_here, no_local_effect}
-use Rattle.jr_parse.proofs.Named.{ReadsOne, not_local, write_locals_front, evaluated_sound, local_read, local_sound, named_sound, named_read, label_read, named_local_read}
+use Rattle.jr_parse.proofs.Named.{ReadsOne, not_local, evaluated_sound, local_read, local_sound, named_sound, named_read, label_read, named_local_read}
 use Rattle.jr_parse.proofs.Blocks.{block_read, block_sound, catches_read, catches_sound}
 use Rattle.jr_parse.proofs.Groups.{groups_listed, groups_read, groups_sound}
 use Rattle.jr_parse.proofs.Headers.{type_of_variables, first_read, first_sound}

@@ -1,18 +1,18 @@
 -- What follows from a token that was taken.
-use Rattle.std.proofs.Common.{◌≡◌, ℕ, ◌≤◌, ltb, cond, Bool, true, false, List, [], ◌∷◌, Option, Some, None, Ok, Err, refl, sym, ap, ◌∙◌, inl, inr, arith}
-use Rattle.std.proofs.lemmas.Bool.{le-ltb, ltb-false}
+use Rattle.std.proofs.Common.{◌≡◌, ℕ, ◌≤◌, ltb, cond, true, false, List, [], ◌∷◌, Option, Some, None, Ok, Err, refl, ap, inl, inr}
+use Rattle.std.proofs.lemmas.Bool.{le-ltb}
 use Rattle.jr_base.specs.declared.kind.Kind.{Kind}
 use Rattle.jr_base.specs.declared.kind.Kind.TheVariants as kind
 use Rattle.jr_base.specs.declared.kind.Symbol.{Symbol}
 use Rattle.jr_base.specs.declared.kind.Symbol.TheVariants as y
 use Rattle.jr_base.specs.declared.kind.Keyword.{Keyword}
 use Rattle.jr_parse_laws.specs.declared.fault.Fault.{Fault}
-use Rattle.jr_parse_laws.specs.Parsers.{Outcome, Parser, and_then, first, expect, expect_word, is_at, is_at_word, begins_with}
+use Rattle.jr_parse_laws.specs.Parsers.{Outcome, Parser, and_then, expect, expect_word, is_at, is_at_word, begins_with}
 use Rattle.jr_parse_laws.proofs.Outcomes.{bind_ok, chosen, err_ok, is_symbol_is, is_word_is}
 use Rattle.jr_parse_laws.proofs.Exact.{expect_sound, word_sound}
-use Rattle.jr_parse_expr.specs.Starts.{begins_cast_operand, next_is, within}
+use Rattle.jr_parse_expr.specs.Starts.{within}
 use Rattle.jr_parse_expr.specs.Exprs.{skipping}
-use Rattle.jr_parse_expr.proofs.Followers.{needs, Closes}
+use Rattle.jr_parse_expr.proofs.Followers.{Closes}
 
 -- a token and what is read behind it
 pub record Eaten {B : Type 0} (token : Kind) (ts : List Kind) (f : Unit {0} → Parser B) (r : B × List Kind) : Type 0 where

@@ -1,5 +1,5 @@
 -- Reading declarations of types and units is exact in both directions.
-use Rattle.std.proofs.Common.{◌≡◌, ℕ, zero, suc, ◌≤◌, max, Bool, true, false, not, List, [], ◌∷◌, ◌++◌, length, Option, Some, None, Ok, Err, refl, sym, ap, ◌∙◌, subst, inl, inr, append_assoc, append-nil, length-append, arith}
+use Rattle.std.proofs.Common.{◌≡◌, ℕ, zero, suc, ◌≤◌, Bool, true, false, not, List, [], ◌∷◌, ◌++◌, length, Option, None, Ok, refl, sym, ap, ◌∙◌, subst, length-append, arith}
 use Rattle.std.specs.Prelude.{IfSome}
 use Rattle.std.specs.List.{AllByRecursion}
 use Rattle.jr_base.specs.declared.text.Text.{Text}
@@ -15,32 +15,24 @@ use Rattle.jr_tree.specs.declared.tree.Primitive.TheVariants as primitive
 use Rattle.jr_tree.specs.declared.tree.Modifier.{Modifier}
 use Rattle.jr_tree.specs.declared.tree.Modifier.TheVariants as modifier
 use Rattle.jr_tree.specs.declared.tree.ResultType.TheVariants as outcome
-use Rattle.jr_tree.specs.declared.tree.PackageDecl.{PackageDecl}
-use Rattle.jr_tree.specs.declared.tree.Import.{Import}
-use Rattle.jr_tree.specs.declared.tree.Import.TheVariants as import
-use Rattle.jr_tree.specs.Shape.{is_empty, IsName, IsBase, IsTypeUse, IsShapedMember, AreShapedMembers, IsShapedDecl, IsShapedPackage, IsShapedImport, IsShapedUnit}
-use Rattle.jr_tree.specs.Depth.{deepest, member_depth, members_depth, decl_depth, unit_depth}
-use Rattle.jr_tree.specs.Tokens.{member_tokens, decl_tokens, unit_tokens}
-use Rattle.jr_tree.specs.Words.{import_tokens}
+use Rattle.jr_tree.specs.Shape.{is_empty, IsName, IsBase, IsTypeUse, IsShapedMember, AreShapedMembers, IsShapedDecl}
+use Rattle.jr_tree.specs.Depth.{member_depth, members_depth, decl_depth}
+use Rattle.jr_tree.specs.Tokens.{member_tokens}
 use Rattle.jr_tree.specs.Mirror.Stmts as s
 use Rattle.jr_tree.specs.Mirror.Decls as d
-use Rattle.jr_parse_laws.specs.Parsers.{Parser, and_then, first, is_at, is_at_word, begins_with, expect, identifier, many, ◌>>=◌}
-use Rattle.jr_parse_laws.proofs.Outcomes.{bind_ok, chosen, ok_is, err_ok}
+use Rattle.jr_parse_laws.specs.Parsers.{Parser, and_then, first, is_at_word, begins_with, identifier, many}
+use Rattle.jr_parse_laws.proofs.Outcomes.{bind_ok, ok_is, err_ok}
 use Rattle.jr_parse_laws.proofs.Exact.{identifier_token}
-use Rattle.jr_parse_expr.specs.Starts.{next_is}
-use Rattle.jr_parse_expr.specs.Names.{name_of, name}
-use Rattle.jr_parse_expr.specs.Writing.{write_parts, write_all, write_name, write_base, write_brackets, write_type}
-use Rattle.jr_parse_expr.proofs.NameReads.{name_read, name_sound, has_parts, parts_append, all_append}
+use Rattle.jr_parse_expr.specs.Writing.{write_all, write_base, write_brackets, write_type}
 use Rattle.jr_parse_expr.proofs.ExprReads.{no_level_err}
-use Rattle.jr_parse.specs.Begins.{starts_member, starts_decl, is_import}
+use Rattle.jr_parse.specs.Begins.{starts_member, starts_decl}
 use Rattle.jr_parse.specs.Decls as reader
-use Rattle.jr_parse.specs.Writing.{write_some, write_many, write_modifiers, write_parent, write_names_after, write_block, write_member, write_members, write_decl, write_decls, write_package, write_import, write_imports, write_unit}
-use Rattle.jr_parse.specs.Laws.{IsMemberRead, IsMemberComplete, IsMemberSound, IsDeclRead, IsDeclComplete, IsDeclSound, IsUnitRead, IsUnitComplete, IsUnitSound}
-use Rattle.jr_parse.proofs.Written.{member_written, decl_written, import_written, unit_written, longer_by}
-use Rattle.jr_parse.proofs.Tokens.{eats, eats_word, skipped, skipped_word}
-use Rattle.jr_parse.proofs.Lists.{together, asunder, Sound, list_read, list_sound}
-use Rattle.jr_parse.proofs.Blocks.{longer_first}
-use Rattle.jr_parse.proofs.Modifiers.{modifiers_read, modifiers_sound, Ended, names_after_read, names_after_sound, parent_read, parent_sound}
+use Rattle.jr_parse.specs.Writing.{write_many, write_modifiers, write_parent, write_names_after, write_block, write_member, write_members, write_decl}
+use Rattle.jr_parse.specs.Laws.{IsMemberRead, IsMemberComplete, IsMemberSound, IsDeclComplete, IsDeclSound}
+use Rattle.jr_parse.proofs.Written.{member_written}
+use Rattle.jr_parse.proofs.Tokens.{eats}
+use Rattle.jr_parse.proofs.Lists.{Sound, list_read, list_sound}
+use Rattle.jr_parse.proofs.Modifiers.{modifiers_read, modifiers_sound, names_after_read, names_after_sound, parent_read, parent_sound}
 use Rattle.jr_parse.proofs.Members.{modifiers_of, write_bare, bare, bare_plain, decl_depth_pos, DeclFound, ReadsDecl, member_read, member_sound}
 
 -- ---- what begins a member or a declaration
@@ -50,7 +42,7 @@ first_some starts [] silent h = absurd (let g : starts None ≡ true = h in cc)
 first_some starts (t ∷ tokens) silent h = omega arith
 
 -- what is written takes a token
-longer_starts : (starts : Option Kind → Bool) (tokens rest nothing ts : List Kind) → starts None ≡ false → nothing ≡ tokens ++ [] → starts (first nothing) ≡ true → ts ≡ tokens ++ rest → suc (length rest) ≤ length ts
+pub longer_starts : (starts : Option Kind → Bool) (tokens rest nothing ts : List Kind) → starts None ≡ false → nothing ≡ tokens ++ [] → starts (first nothing) ≡ true → ts ≡ tokens ++ rest → suc (length rest) ≤ length ts
 longer_starts starts tokens rest nothing ts silent same h written =
     let one = first_some starts tokens silent (subst (λ ts. starts (first ts) ≡ true) same h) in
     rw (written, length-append) (omega arith)
@@ -93,9 +85,9 @@ type_member t ts is = of_base t.base is where
 block_member : (b : s.Block) (rest : List Kind) → starts_member (first (write_block b rest)) ≡ true
 block_member (s.BlockOf all) rest = refl
 
-decl_starts : (t : d.TypeDecl) (rest : List Kind) → starts_decl (first (write_decl t rest)) ≡ true
-decl_starts (d.Class mods name parent faces body) rest = decl_modifiers mods _ refl
-decl_starts (d.Interface mods name faces body) rest = decl_modifiers mods _ refl
+pub decl_starts : (t : d.TypeDecl) (rest : List Kind) → starts_decl (first (write_decl t rest)) ≡ true
+decl_starts (d.Class mods n parent faces body) rest = decl_modifiers mods _ refl
+decl_starts (d.Interface mods n faces body) rest = decl_modifiers mods _ refl
 decl_starts d.Empty rest = refl
 
 member_starts : (m : d.Member) (rest : List Kind) → IsShapedMember m → starts_member (first (write_member m rest)) ≡ true
@@ -105,8 +97,8 @@ member_starts (d.Method mods (outcome.Of t) n ps thrown b) rest h = member_modif
 member_starts (d.Constructor mods n ps thrown b) rest h = member_modifiers mods _ refl
 member_starts (d.Init true b) rest h = refl
 member_starts (d.Init false b) rest h = block_member b rest
-member_starts (d.Nested (d.Class mods name parent faces body)) rest h = member_modifiers mods _ refl
-member_starts (d.Nested (d.Interface mods name faces body)) rest h = member_modifiers mods _ refl
+member_starts (d.Nested (d.Class mods n parent faces body)) rest h = member_modifiers mods _ refl
+member_starts (d.Nested (d.Interface mods n faces body)) rest h = member_modifiers mods _ refl
 member_starts (d.Nested d.Empty) rest h = refl
 
 -- ---- members in braces

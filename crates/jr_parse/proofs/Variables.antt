@@ -1,5 +1,5 @@
 -- Reading declarations of variables and parameters is exact in both directions.
-use Rattle.std.proofs.Common.{◌≡◌, ℕ, suc, ◌≤◌, Bool, true, false, not, List, [], ◌∷◌, ◌++◌, length, Option, Some, None, Ok, refl, sym, ap, ◌∙◌, subst, inl, inr, arith}
+use Rattle.std.proofs.Common.{◌≡◌, ℕ, suc, ◌≤◌, Bool, true, false, not, List, [], ◌∷◌, length, Option, Some, None, Ok, refl, sym, ap, ◌∙◌, subst, inl, inr, arith}
 use Rattle.std.proofs.lemmas.Bool.{le-ltb}
 use Rattle.std.specs.Prelude.{IfSome}
 use Rattle.std.specs.List.{AllByRecursion}
@@ -14,32 +14,28 @@ use Rattle.jr_tree.specs.declared.tree.Base.{Base}
 use Rattle.jr_tree.specs.declared.tree.Base.TheVariants as base
 use Rattle.jr_tree.specs.declared.tree.TypeUse.{TypeUse}
 use Rattle.jr_tree.specs.declared.tree.Primitive.TheVariants as primitive
-use Rattle.jr_tree.specs.declared.tree.Name.{Name}
-use Rattle.jr_tree.specs.Shape.{is_empty, IsName, IsBase, IsTypeUse, IsShapedInit, IsShapedDeclarator, IsShapedParam}
-use Rattle.jr_tree.specs.Depth.{deepest, init_depth, declarator_depth, expr_depth}
+use Rattle.jr_tree.specs.Shape.{is_empty, IsBase, IsTypeUse, IsShapedInit, IsShapedDeclarator, IsShapedParam}
+use Rattle.jr_tree.specs.Depth.{deepest, init_depth, declarator_depth}
 use Rattle.jr_tree.specs.Tokens.{declarator_tokens}
-use Rattle.jr_tree.specs.Words.{param_tokens}
 use Rattle.jr_tree.specs.Mirror.Exprs as x
 use Rattle.jr_tree.specs.Mirror.Stmts as s
-use Rattle.jr_parse_laws.specs.Parsers.{Parser, and_then, first, is_at, is_at_word, begins_with, expect, identifier, many, after_comma, commas}
+use Rattle.jr_parse_laws.specs.Parsers.{and_then, first, is_at, is_at_word, begins_with, identifier, many, after_comma}
 use Rattle.jr_parse_laws.proofs.Outcomes.{bind_ok, chosen, ok_is, is_symbol_is, is_word_is}
 use Rattle.jr_parse_laws.proofs.Exact.{identifier_token}
 use Rattle.jr_parse_laws.proofs.Turns.{at_first}
-use Rattle.jr_parse_expr.specs.Starts.{within}
 use Rattle.jr_parse_expr.specs.Names.{dims, type_use}
 use Rattle.jr_parse_expr.specs.Exprs.{init}
-use Rattle.jr_parse_expr.specs.Writing.{write_all, write_name, write_brackets, write_base, write_type, write_init}
-use Rattle.jr_parse_expr.specs.Follow.{TypeEnds, is_plain_name, DotFree}
+use Rattle.jr_parse_expr.specs.Writing.{write_all, write_brackets, write_base, write_type}
+use Rattle.jr_parse_expr.specs.Follow.{is_plain_name, DotFree}
 use Rattle.jr_parse_expr.proofs.NameReads.{dims_read, dims_sound, type_read, type_sound}
 use Rattle.jr_parse_expr.proofs.Asked.{depth_pos, list_depth_pos}
-use Rattle.jr_parse_expr.proofs.Followers.{Closes}
 use Rattle.jr_parse_expr.proofs.Initializers.{init_ends}
 use Rattle.jr_parse_expr.proofs.Readings.{inits_complete, inits_sound}
-use Rattle.jr_parse.specs.Stmts.{initializer, declarator_after, declarator, declarators, declarators_after, finality, param_of, param}
-use Rattle.jr_parse.specs.Begins.{starts_param, begins_param}
-use Rattle.jr_parse.specs.Writing.{write_if, write_many, write_after, write_assigned, write_declarator, write_later, write_declarators, write_param}
-use Rattle.jr_parse.proofs.Written.{declarator_written, param_written, longer_by}
-use Rattle.jr_parse.proofs.Tokens.{eats, skipped, skipped_word, within_sound, within_read, Apart, apart_semicolon, apart_comma}
+use Rattle.jr_parse.specs.Stmts.{initializer, declarator_after, declarator, declarators, declarators_after, finality, param}
+use Rattle.jr_parse.specs.Begins.{starts_param}
+use Rattle.jr_parse.specs.Writing.{write_if, write_after, write_assigned, write_declarator, write_later, write_declarators, write_param}
+use Rattle.jr_parse.proofs.Written.{declarator_written, longer_by}
+use Rattle.jr_parse.proofs.Tokens.{eats, within_sound, Apart, apart_semicolon, apart_comma}
 use Rattle.jr_parse.proofs.Lists.{together, asunder, Sound, list_read, list_sound}
 
 init_depth_pos : (i : x.Init) → 1 ≤ init_depth i

@@ -1,5 +1,5 @@
 -- Writing in front of a rest is writing out the tokens and then the rest.
-use Rattle.std.proofs.Common.{◌≡◌, ℕ, ◌≤◌, Bool, true, false, List, [], ◌∷◌, ◌++◌, map, length, Option, Some, None, refl, ap, ◌∙◌, append_assoc, length-append, arith}
+use Rattle.std.proofs.Common.{◌≡◌, ◌≤◌, Bool, true, false, List, [], ◌∷◌, ◌++◌, map, length, Option, Some, None, refl, ap, ◌∙◌, append_assoc, length-append, arith}
 use Rattle.jr_base.specs.declared.text.Text.{Text}
 use Rattle.jr_base.specs.declared.kind.Kind.{Kind}
 use Rattle.jr_base.specs.declared.kind.Kind.TheVariants as kind
@@ -15,12 +15,12 @@ use Rattle.jr_tree.specs.declared.tree.ResultType.TheVariants as outcome
 use Rattle.jr_tree.specs.declared.tree.PackageDecl.{PackageDecl}
 use Rattle.jr_tree.specs.declared.tree.Import.{Import}
 use Rattle.jr_tree.specs.declared.tree.Import.TheVariants as import
-use Rattle.jr_tree.specs.Words.{if_some, if_true, mark, ident, joined, after_each, between, brackets, name_tokens, type_tokens, param_tokens, params_tokens, modifiers_tokens, result_tokens, modifier_word, which_word, names_after, parent_tokens, package_tokens, import_tokens}
+use Rattle.jr_tree.specs.Words.{if_some, if_true, ident, joined, after_each, brackets, name_tokens, type_tokens, param_tokens, params_tokens, modifiers_tokens, result_tokens, modifier_word, which_word, names_after, parent_tokens, package_tokens, import_tokens}
 use Rattle.jr_tree.specs.Tokens.{expr_tokens, exprs_tokens, init_tokens, declarator_tokens, after_declarator, declarators_tokens, locals_tokens, for_init_tokens, label_tokens, labels_tokens, cond_tokens, stmt_tokens, else_tokens, finally_tokens, block_tokens, catch_tokens, group_tokens, stmts_tokens, groups_tokens, catches_tokens, body_tokens, decl_tokens, member_tokens, members_tokens, decls_tokens, unit_tokens}
 use Rattle.jr_tree.specs.Mirror.Exprs as x
 use Rattle.jr_tree.specs.Mirror.Stmts as s
 use Rattle.jr_tree.specs.Mirror.Decls as d
-use Rattle.jr_parse_expr.specs.Writing.{write_name, write_brackets, write_type, write_expr, write_exprs, write_init}
+use Rattle.jr_parse_expr.specs.Writing.{write_name, write_type, write_expr, write_exprs}
 use Rattle.jr_parse_expr.proofs.Written.{name_written, brackets_written, type_written, written, exprs_written, init_written}
 use Rattle.jr_parse.specs.Writing.{write_if, write_some, write_assigned, write_declarator, write_later, write_declarators, write_locals, write_for_init, write_label, write_labels, write_cond, write_ident, write_param, write_stmt, write_else, write_finally, write_block, write_catch, write_group, write_stmts, write_groups, write_catches, write_modifiers, write_later_params, write_params, write_later_names, write_names_after, write_parent, write_result, write_body, write_decl, write_member, write_members, write_decls, write_package, write_import, write_imports, write_unit}
 

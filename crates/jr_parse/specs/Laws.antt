@@ -5,7 +5,7 @@ use Rattle.jr_tree.specs.Mirror.Stmts as s
 use Rattle.jr_tree.specs.Mirror.Decls as d
 use Rattle.jr_tree.specs.Shape.{IsShapedBlock, IsShapedCtorBody, IsShapedDecl, IsShapedMember, IsShapedUnit}
 use Rattle.jr_tree.specs.Depth.{block_depth, decl_depth, member_depth, unit_depth}
-use Rattle.jr_tree.specs.Tokens.{stmt_tokens, block_tokens, decl_tokens, member_tokens, unit_tokens}
+use Rattle.jr_tree.specs.Tokens.{stmt_tokens, unit_tokens}
 use Rattle.jr_parse_laws.specs.Parsers.{first, ◌>>=◌}
 use Rattle.jr_parse.specs.Stmts.{stmt, body, ctor_body}
 use Rattle.jr_parse.specs.Decls.{modifiers, member, decl, unit}

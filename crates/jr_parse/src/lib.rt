@@ -5,4 +5,4 @@ mod fault;
 mod law;
 
 pub use fault::ParseFault;
-pub use law::statements_are_written;
+pub use law::{one_reading, statements_are_read, statements_are_written, units_are_read};
