@@ -1,10 +1,3 @@
-pub mod SlotLemmas
-pub mod Levels
-pub mod Taking
-pub mod Setting
-pub mod Joining
-pub mod Counting
-pub mod Choosing
 pub mod RenamedValues
 pub mod RenamedParts
 pub mod RenamedStates

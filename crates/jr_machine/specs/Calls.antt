@@ -31,7 +31,7 @@ slots_of (d ∷ params) (a ∷ args) = slot_of d a ∷ slots_of params args
 abbrev pub enters : Body → Purpose → Value → List Value → State → State
 enters b kind this args s = record s {
   callers = s.frame ∷ s.callers;
-  frame = record { purpose = kind; class = b.class; this = this; locals = slots_of b.params args; work = evals b.code; values = [] }
+  frame = record { purpose = kind; class = b.class; this = this; locals = slots_of b.params args; work = evals b.code; values = [] };
 }
 
 abbrev pub runs : Body → Value → List Value → State → Next

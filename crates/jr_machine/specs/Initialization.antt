@@ -45,10 +45,13 @@ begins core class s = record s {
   begun = s.begun ++ class ∷ [];
   callers = s.frame ∷ s.callers;
   frame = record {
-    purpose = purpose.Initializer class; class = class; this = v.Null; locals = [];
+    purpose = purpose.Initializer class;
+    class = class;
+    this = v.Null;
+    locals = [];
     work = parent_work s.begun (class_in core class) ++ class_work core true (class_in core class);
-    values = []
-  }
+    values = [];
+  };
 }
 
 -- the class of a static member

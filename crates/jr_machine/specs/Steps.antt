@@ -89,12 +89,19 @@ start_call start = m.Call m.no_code false start (m.more_codes (m.Lit None) m.no_
 abbrev pub start_with : t.Ty → Code → State
 start_with item call = record {
   heap = cell.Array item [] ∷ [];
-  statics = []; begun = []; callers = []; printed = []; end = ends.Running;
+  statics = [];
+  begun = [];
+  callers = [];
+  printed = [];
+  end = ends.Running;
   frame = record {
-    purpose = purpose.Method; class = object_class; this = v.Null; locals = [];
+    purpose = purpose.Method;
+    class = object_class;
+    this = v.Null;
+    locals = [];
     work = w.Finish call ∷ [];
-    values = v.Ref 0 ∷ []
-  }
+    values = v.Ref 0 ∷ [];
+  };
 }
 
 abbrev pub start_of : DeclId → State

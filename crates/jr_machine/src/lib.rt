@@ -2,32 +2,16 @@
 #![tactic(auto)]
 
 mod cells;
-mod calls;
-mod changes;
-mod control;
-mod conversions;
-mod exits;
-mod frames;
 mod heap;
 mod law;
-mod natives;
 mod number;
-mod operators;
 mod outcome;
-mod parts;
-mod places;
-mod prelude;
 mod printed;
-mod program;
 mod reference;
-mod references;
 mod slots;
 mod stack;
 mod state;
-mod subtypes;
-mod texts;
 mod value;
-mod variables;
 mod work;
 
 pub use cells::Cells;

@@ -1,8 +1,0 @@
-use Rattle.std.proofs.Common.{◌≡◌, ◌-◌, List, []}
-use Rattle.jr_machine.specs.declared.value.Value.{Value}
-use Rattle.jr_machine.specs.declared.state.State.{State}
-use Rattle.jr_machine.specs.States.{Next, with_some}
-use Rattle.jr_machine.proofs.changes.Stack+Value.take.Given as goal
-
-abbrev pub invariant-loop-i : goal.invariant-loop-i
-invariant-loop-i l = (s : State) (f : List Value → State → Next) → with_some (l.count - l.i) l.args l.self s f ≡ with_some l.count [] l.initial.self s f

@@ -1,6 +1,0 @@
-use Rattle.std.proofs.Common.{◌≡◌, ◌++◌, drop}
-use Rattle.jr_machine.specs.Calls.{slots_of}
-use Rattle.jr_machine.proofs.frames.slots_of.Given as goal
-
-abbrev pub invariant-loop-param : goal.invariant-loop-param
-invariant-loop-param l = l.slots ++ slots_of (drop l.param-index l.params) l.args ≡ slots_of l.params l.initial.args
