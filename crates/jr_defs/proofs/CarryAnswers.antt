@@ -66,7 +66,8 @@ pub record IsKnown (p : Rows) (d : ℕ) (level : Option ℕ) : Type 0 where
 found_known : (p : Rows) (t : Table) (k : _) (x : Text) (o d : ℕ) (l : Option ℕ) → Found p t k x o d l → IsKnown p d l
 found_known p t k x o d l h = record {
   row = scope_declared p t o d h.depth h.visible.in_scope.scope;
-  through = level_declared p (role_at p d) h.depth l (depth_declared p t o d h.depth h.visible.in_scope.scope) h.through }
+  through = level_declared p (role_at p d) h.depth l (depth_declared p t o d h.depth h.visible.in_scope.scope) h.through;
+}
 
 simple_known : (p : Rows) (t : Table) (x : Text) (o : ℕ) (k : NameKind) (d : ℕ) (l : Option ℕ) → SimpleCandidate p t x o k d l → IsKnown p d l
 simple_known p t x o _ d l (SimpleCandidate.variable h) = found_known p t space.Variable x o d l h
@@ -88,10 +89,14 @@ qualified_known p t K x o _ d (QualifiedCandidate.then_type n h) = type_before_k
 
 method_known : (p : Rows) (t : Table) (x : Text) (o : ℕ) (as' : List RowType) (d : ℕ) (l : Option ℕ) → MethodCandidate p t x o as' d l → IsKnown p d l
 method_known p t x o as' d _ (MethodCandidate.member {c = c} h w) = let m = choice_candidate p t c o None as' (MemberNamed p t space.Method x c) d w in record {
-  row = member_declared p t c d m.member; through = type_declared p c h.holds.of_type.type }
+  row = member_declared p t c d m.member;
+  through = type_declared p c h.holds.of_type.type;
+}
 method_known p t x o as' d _ (MethodCandidate.imported n w) =
-  let m = imported_candidate p t o as' (ImportedMethod p t x o) d w in record {
-  row = member_declared p t m.imported.brings.imports.of_type d m.imported.brings.imports.member; through = tt }
+    let m = imported_candidate p t o as' (ImportedMethod p t x o) d w in record {
+      row = member_declared p t m.imported.brings.imports.of_type d m.imported.brings.imports.member;
+      through = tt;
+    }
 
 constructor_known : (p : Rows) (c d : ℕ) → ConstructorOf p c d → IsDeclared p d
 constructor_known p c d h = of_role p d role.Constructor h.constructor (λ k. cc)
@@ -107,12 +112,16 @@ candidate_known p t K o x _ d _ (Candidate.field h) = record { row = member_decl
 candidate_known p t K o x _ d _ (Candidate.super_field {s = s} h m) = record { row = member_declared p t s d m.member; through = tt }
 candidate_known p t K o x _ d l (Candidate.method {all = all} h w) = method_known p t x o all d l w
 candidate_known p t K o x _ d _ (Candidate.method_of {c = c} {receiver = r} {all = all} h a w) =
-  let m = choice_candidate p t c o r all (MemberNamed p t space.Method x c) d w in record { row = member_declared p t c d m.member; through = tt }
+    let m = choice_candidate p t c o r all (MemberNamed p t space.Method x c) d w in record { row = member_declared p t c d m.member; through = tt }
 candidate_known p t K o x _ d _ (Candidate.super_method {s = s} {all = all} h a w) =
-  let m = choice_candidate p t s o None all (MemberNamed p t space.Method x s) d w in record { row = member_declared p t s d m.member; through = tt }
+    let m = choice_candidate p t s o None all (MemberNamed p t space.Method x s) d w in record { row = member_declared p t s d m.member; through = tt }
 candidate_known p t K o x _ d l (Candidate.creation {c = c} {all = all} h n a w) = record {
-  row = constructor_known p c d (choice_candidate p t c o None all (ConstructorOf p c) d w); through = new_known p t o c l n }
+  row = constructor_known p c d (choice_candidate p t c o None all (ConstructorOf p c) d w);
+  through = new_known p t o c l n;
+}
 candidate_known p t K o x _ d _ (Candidate.constructor {c = c} {all = all} h a w) = record {
-  row = constructor_known p c d (choice_candidate p t c o None all (ConstructorOf p c) d w); through = tt }
+  row = constructor_known p c d (choice_candidate p t c o None all (ConstructorOf p c) d w);
+  through = tt;
+}
 candidate_known p t K o x _ d _ (Candidate.own_class h) = record { row = type_declared p d h.type; through = tt }
 candidate_known p t K o x _ d l (Candidate.labeled h) = found_known p t space.Label x o d l h

@@ -104,7 +104,8 @@ module _ (p q : Rows) (f g : ℕ → ℕ) (a : Alike p q f g) where
   same_named_over r e d k h = record {
     first = at_role e r h.first k;
     second = at_role d r h.second k;
-    named = a.name_same e (of_role p e r h.first k) ∙ h.named ∙ sym (a.name_same d (of_role p d r h.second k)) }
+    named = a.name_same e (of_role p e r h.first k) ∙ h.named ∙ sym (a.name_same d (of_role p d r h.second k));
+  }
 
   module _ (t u : Table) where
     pub methods_over : (e d : ℕ) → Sees p t q u f → SameMethods p t e d → SameMethods q u (f e) (f d)
@@ -115,7 +116,9 @@ module _ (p q : Rows) (f g : ℕ → ℕ) (a : Alike p q f g) where
         named = a.name_same e (of_role p e role.Method h.first (λ k. cc)) ∙ h.signature.named ∙ sym (a.name_same d (of_role p d role.Method h.second (λ k. cc)));
         types = moved_types f h.signature.types;
         first = see.parameters e h.signature.types h.signature.first;
-        second = see.parameters d h.signature.types h.signature.second } }
+        second = see.parameters d h.signature.types h.signature.second;
+      };
+    }
 
     pub replaces_over : (e d : ℕ) → (role_at p d ≡ role.Method → Sees p t q u f) → Replaces p t e d → Replaces q u (f e) (f d)
     replaces_over e d see (Replaces.field h) = Replaces.field (same_named_over role.Field e d (λ k. cc) h)
@@ -142,14 +145,15 @@ module _ (p : Rows) (t : Table) (q : Rows) (u : Table) (f g : ℕ → ℕ) (C D 
 module _ (p : Rows) (t : Table) (q : Rows) (u : Table) (f g : ℕ → ℕ) (C D : ℕ → Type 0) (to : Carries p t q u f g C D) (from : Carries q u p t g f D C) where
   left_over : (c d : ℕ) → IsType p c → IsDeclared p d → (role_at p d ≡ role.Method → Sees q u p t g) → IsLeft p t c d → IsLeft q u (f c) (f d)
   left_over c d k l see h e' dec r = h (g e')
-    (subst (λ c. DeclaredIn p c (g e')) (to.alike.back c (type_declared p c k)) (from.alike.declared (f c) e' dec))
-    (subst (λ d. Replaces p t (g e') d) (to.alike.back d l)
+      (subst (λ c. DeclaredIn p c (g e')) (to.alike.back c (type_declared p c k)) (from.alike.declared (f c) e' dec))
+      (subst (λ d. Replaces p t (g e') d) (to.alike.back d l)
       (replaces_over q p g f from.alike u t e' (f d) (λ e. see (sym (role_over p q f g to.alike d l) ∙ e)) r))
 
   can_over : (c d : ℕ) → IsType p c → IsDeclared p d → CanInherit p c d → CanInherit q (f c) (f d)
   can_over c d k l h = record {
     open_member = λ x. h.open_member (private_back p q f g to.alike d l x);
-    reach = reached h.reach }
+    reach = reached h.reach;
+  }
     where
       reached : IsPublic p d ⊎ IsProtected p d ⊎ SamePackage p c d → IsPublic q (f d) ⊎ IsProtected q (f d) ⊎ SamePackage q (f c) (f d)
       reached (inl x) = inl (public_over p q f g to.alike d l x)
@@ -157,8 +161,10 @@ module _ (p : Rows) (t : Table) (q : Rows) (u : Table) (f g : ℕ → ℕ) (C D 
       reached (inr (inr x)) = inr (inr (to.alike.same_package c d (type_declared p c k) l x))
 
   passes_over : (s d : ℕ) → IsType p s → Passes p s d → Passes q (f s) (f d)
-  passes_over s d k h = record { from_interface = λ i. in_interface_over p q f g to.alike d
-    (h.from_interface (subst IsInterfaceLabel (to.alike.label_same s (type_declared p s k)) i)) }
+  passes_over s d k h = record {
+    from_interface = λ i. in_interface_over p q f g to.alike d
+        (h.from_interface (subst IsInterfaceLabel (to.alike.label_same s (type_declared p s k)) i));
+  }
 
   object_method_over : (d : ℕ) → IsObjectMethod p d → IsObjectMethod q (f d)
   object_method_over d h = let l = declared_in_declared p h.of_type d h.declared in record {
@@ -167,24 +173,26 @@ module _ (p : Rows) (t : Table) (q : Rows) (u : Table) (f g : ℕ → ℕ) (C D 
     declared = to.alike.declared h.of_type d h.declared;
     method = role_over p q f g to.alike d l ∙ h.method;
     public = public_over p q f g to.alike d l h.public;
-    instance = λ s. h.instance (subst (IsStatic p) (to.alike.back d l) (static_over q p g f from.alike (f d) (λ n. l (sym (role_over p q f g to.alike d l) ∙ n)) s)) }
+    instance = λ s. h.instance (subst (IsStatic p) (to.alike.back d l) (static_over q p g f from.alike (f d) (λ n. l (sym (role_over p q f g to.alike d l) ∙ n)) s));
+  }
 
   pub member_over : (c d : ℕ) → C c → (role_at p d ≡ role.Method → Sees q u p t g) → MemberOf p t c d → MemberOf q u (f c) (f d)
   member_over c d k see (MemberOf.declared h) = MemberOf.declared (to.alike.declared c d h)
   member_over c d k see (MemberOf.inherited {s = s} sup m pass can left) =
-    let ks = to.super_known c sup.place s k sup.at in
-    let l = member_declared p t s d m in
-    MemberOf.inherited (super_over p t q u f g C D to c s k sup) (member_over s d ks see m) (passes_over s d (to.known s ks) pass)
+      let ks = to.super_known c sup.place s k sup.at in
+      let l = member_declared p t s d m in
+      MemberOf.inherited (super_over p t q u f g C D to c s k sup) (member_over s d ks see m) (passes_over s d (to.known s ks) pass)
       (can_over c d (to.known c k) l can) (left_over c d (to.known c k) l see left)
   member_over c d k see (MemberOf.of_object i o left) =
-    let l = declared_in_declared p o.of_type d o.declared in
-    MemberOf.of_object (interface_over p q f g to.alike c i) (object_method_over d o)
+      let l = declared_in_declared p o.of_type d o.declared in
+      MemberOf.of_object (interface_over p q f g to.alike c i) (object_method_over d o)
       (λ s' i' up. let i = interface_over q p g f from.alike s' i' in
-        let b = at_or_above_over q u p t g f D C from (f c) s' (to.goes c k) up in
-        let z = left (g s') i (subst (λ c. AtOrAbove p t c (g s')) (to.alike.back c (type_declared p c (to.known c k))) b) in
-        subst (λ s. IsLeft q u s (f d)) (from.alike.back s' (interface_declared q s' i')) (left_over (g s') d (interface_type p (g s') i) l see z))
+      let b = at_or_above_over q u p t g f D C from (f c) s' (to.goes c k) up in
+      let z = left (g s') i (subst (λ c. AtOrAbove p t c (g s')) (to.alike.back c (type_declared p c (to.known c k))) b) in
+      subst (λ s. IsLeft q u s (f d)) (from.alike.back s' (interface_declared q s' i')) (left_over (g s') d (interface_type p (g s') i) l see z))
 
   pub member_named_over : (kind : Space) (x : Text) (c d : ℕ) → C c → (role_at p d ≡ role.Method → Sees q u p t g) → MemberNamed p t kind x c d → MemberNamed q u kind x (f c) (f d)
   member_named_over kind x c d k see h = record {
     member = member_over c d k see h.member;
-    declares = declares_over p q f g to.alike kind x d (member_declared p t c d h.member) h.declares }
+    declares = declares_over p q f g to.alike kind x d (member_declared p t c d h.member) h.declares;
+  }

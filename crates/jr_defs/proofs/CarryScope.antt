@@ -57,7 +57,7 @@ depth_round p t o d _ (HasScope.static h) = tt
 depth_round p t o d _ (HasScope.demanded h) = tt
 
 pub keeps_depths : (p : Rows) (o : ℕ) (f : ℕ → ℕ) → ((m n : ℕ) → IsRound p o m → IsRound p o n → m ≤ n → f m ≤ f n) → (r s : Depth) → DepthRound p o r → DepthRound p o s
-  → KeepsDepths f r s
+    → KeepsDepths f r s
 keeps_depths p o f order (within a) (within b) h k = order a b h k
 keeps_depths p o f order (within a) on_demand h k = tt
 keeps_depths p o f order (within a) of_package h k = tt
@@ -138,22 +138,24 @@ module _ (p : Rows) (t : Table) (q : Rows) (u : Table) (f g : ℕ → ℕ) (C D 
   scope_over o o' d _ at im k (HasScope.demanded h) = HasScope.demanded (im.demanded d h)
 
   pub in_scope_over : (kind : Space) (x : Text) (o o' d : ℕ) (r : Depth) → IsNoMethod kind → Places p t q u f C o o' → ImportsGo p t q u f o o' → InScope p t kind x o d r
-    → InScope q u kind x o' (f d) (moved_depth f r)
+      → InScope q u kind x o' (f d) (moved_depth f r)
   in_scope_over kind x o o' d r k at im h = record {
     scope = scope_over o o' d r at im (no_method kind (role_at p d) k h.declares.of_kind) h.scope;
-    declares = declares_over p q f g to.alike kind x d (scope_declared p t o d r h.scope) h.declares }
+    declares = declares_over p q f g to.alike kind x d (scope_declared p t o d r h.scope) h.declares;
+  }
 
 module _ (p : Rows) (t : Table) (q : Rows) (u : Table) (f g : ℕ → ℕ) (C D : ℕ → Type 0) (to : Carries p t q u f g C D) (from : Carries q u p t g f D C)
-  (o o' : ℕ) (at : Places p t q u f C o o') (back : Places q u p t g D o' o) (im : ImportsGo p t q u f o o') (im' : ImportsGo q u p t g o' o) where
+    (o o' : ℕ) (at : Places p t q u f C o o') (back : Places q u p t g D o' o) (im : ImportsGo p t q u f o o') (im' : ImportsGo q u p t g o' o) where
   pub visible_over : (kind : Space) (x : Text) (d : ℕ) (r : Depth) → IsNoMethod kind → Visible p t kind x o d r → Visible q u kind x o' (f d) (moved_depth f r)
   visible_over kind x d r k h = record {
     in_scope = in_scope_over p t q u f g C D to from kind x o o' d r k at im h.in_scope;
     innermost = λ e' r' w.
-      let v = in_scope_over q u p t g f D C from to kind x o' o e' r' k back im' w in
-      let z = h.innermost (g e') (moved_depth g r') v in
-      let order = keeps_depths p o f at.order (moved_depth g r') r (depth_round p t o (g e') (moved_depth g r') v.scope) (depth_round p t o d r h.in_scope.scope) in
-      subst (λ s. rank s ≤ rank (moved_depth f r)) (depth_back q g f from.alike.back r' (depth_declared q u o' e' r' w.scope))
-        (rank_over f (moved_depth g r') r order z) }
+        let v = in_scope_over q u p t g f D C from to kind x o' o e' r' k back im' w in
+        let z = h.innermost (g e') (moved_depth g r') v in
+        let order = keeps_depths p o f at.order (moved_depth g r') r (depth_round p t o (g e') (moved_depth g r') v.scope) (depth_round p t o d r h.in_scope.scope) in
+        subst (λ s. rank s ≤ rank (moved_depth f r)) (depth_back q g f from.alike.back r' (depth_declared q u o' e' r' w.scope))
+        (rank_over f (moved_depth g r') r order z);
+  }
 
   level_over : (a : Role) (r : Depth) → level_of a (moved_depth f r) ≡ moved_level f (level_of a r)
   level_over role.Field (within s) = refl
@@ -173,7 +175,8 @@ module _ (p : Rows) (t : Table) (q : Rows) (u : Table) (f g : ℕ → ℕ) (C D 
     depth = moved_depth f h.depth;
     visible = visible_over kind x d h.depth k h.visible;
     through = ap (λ a. level_of a (moved_depth f h.depth)) (role_over p q f g to.alike d (scope_declared p t o d h.depth h.visible.in_scope.scope))
-      ∙ level_over (role_at p d) h.depth ∙ ap (moved_level f) h.through }
+        ∙ level_over (role_at p d) h.depth ∙ ap (moved_level f) h.through;
+  }
 
   pub none_over : (kind : Space) (x : Text) → IsNoMethod kind → NoneInScope p t kind x o → NoneInScope q u kind x o'
   none_over kind x k h e' r' w = h (g e') (moved_depth g r') (in_scope_over q u p t g f D C from to kind x o' o e' r' k back im' w)

@@ -39,7 +39,7 @@ module _ (p : Rows) (t : Table) (q : Rows) (u : Table) (f g : ℕ → ℕ) (C D 
   subtype_over _ _ (Subtype.class {c = c} {s = s} h) = Subtype.class (above_wide c s h)
   subtype_over _ _ (Subtype.array_object {s = s} o) = Subtype.array_object (to.alike.prelude _ s o)
   subtype_over _ _ (Subtype.array_array {a = a} {b = b} {m = m} {n = n} i j h) =
-    Subtype.array_array (reference_over f (array a m) i) (reference_over f (array b n) j) (subtype_over (array a m) (array b n) h)
+      Subtype.array_array (reference_over f (array a m) i) (reference_over f (array b n) j) (subtype_over (array a m) (array b n) h)
 
   pub all_subtypes_over : (as' bs : List RowType) → AllSubtypes p t as' bs → AllSubtypes q u (moved_types f as') (moved_types f bs)
   all_subtypes_over _ _ AllSubtypes.none = AllSubtypes.none

@@ -70,15 +70,27 @@ module _ (p : Rows) (t u : Table) where
 
   pub carries_there : Carries p t p u same same (Agreed p t u) (Agreed p t u)
   carries_there = record {
-    alike = alike p; known = agreed_type p t u; goes = λ c k. k;
-    super_at = super_there; super_known = λ c n s k w. agreed_above p t u c n s k w;
-    place_back = λ c n s k w. refl; place_order = λ c m n r s k a b le. le; superclass = superclass_there }
+    alike = alike p;
+    known = agreed_type p t u;
+    goes = λ c k. k;
+    super_at = super_there;
+    super_known = λ c n s k w. agreed_above p t u c n s k w;
+    place_back = λ c n s k w. refl;
+    place_order = λ c m n r s k a b le. le;
+    superclass = superclass_there;
+  }
 
   pub carries_back : Carries p u p t same same (Agreed p t u) (Agreed p t u)
   carries_back = record {
-    alike = alike p; known = agreed_type p t u; goes = λ c k. k;
-    super_at = super_back; super_known = λ c n s k w. agreed_above p t u c n s k (super_back c n s k w);
-    place_back = λ c n s k w. refl; place_order = λ c m n r s k a b le. le; superclass = superclass_back }
+    alike = alike p;
+    known = agreed_type p t u;
+    goes = λ c k. k;
+    super_at = super_back;
+    super_known = λ c n s k w. agreed_above p t u c n s k (super_back c n s k w);
+    place_back = λ c n s k w. refl;
+    place_order = λ c m n r s k a b le. le;
+    superclass = superclass_back;
+  }
 
   member_there : (c d : ℕ) → Agreed p t u c → (role_at p d ≡ role.Method → ⊥) → MemberOf p t c d → MemberOf p u c d
   member_there c d k no' m = member_over p t p u same same (Agreed p t u) (Agreed p t u) carries_there carries_back c d k (λ e. absurd (no' e)) m
@@ -139,7 +151,7 @@ type_declares p t K o x _ d l k (Candidate.labeled h) = absurd k
 
 pub target_declares : (p : Rows) (t : Table) → IsBound p t → (o d : ℕ) (l : Option ℕ) → SeeksType (sought_at p o) → t o ≡ Declared d l → Declares p space.Type (name p o) d
 target_declares p t a o d l seeks e = type_declares p t (HasConstantForm p t) o (name p o) (sought_at p o) d l seeks
-  (candidate_of p t (HasConstantForm p t) o (name p o) (sought_at p o) (t o) d l e (a o))
+    (candidate_of p t (HasConstantForm p t) o (name p o) (sought_at p o) (t o) d l e (a o))
 
 -- ---- scopes at a place in a header
 
@@ -152,8 +164,7 @@ abbrev pub IsBoundedBy : Rows → Table → ℕ → ℕ → Type 0
 IsBoundedBy p t m k = (e : ℕ) (q : Depth) → InScope p t space.Type (name p m) m e q → rank q ≤ k
 
 module _ (p : Rows) (t u : Table) (formed : IsFormed p) (a : IsBound p t) (b : IsBound p u) (m : ℕ)
-  (around : (e : ℕ) → InBody p e m → Agreed p t u e) (looked : (i : ℕ) → IsLookedForIn p t m i → ImportSame p t u i) where
-
+    (around : (e : ℕ) → InBody p e m → Agreed p t u e) (looked : (i : ℕ) → IsLookedForIn p t m i → ImportSame p t u i) where
   names_there : (i c : ℕ) → ImportSame p t u i → ImportNames p t i c → ImportNames p u i c
   names_there i c h w = record { level = w.level; refers = sym h.at ∙ w.refers; type = w.type }
 
@@ -169,18 +180,33 @@ module _ (p : Rows) (t u : Table) (formed : IsFormed p) (a : IsBound p t) (b : I
 
   same_single : (v : Table) → IsBound p v → (d : ℕ) → IsBoundedBy p t m 2 → Declares p space.Type (name p m) d → (w : Imported p (SingleImport p v) m d) → ImportSame p t u w.brings.import
   same_single v c d bounded h w = looked w.brings.import (record {
-    unit = w.unit; around = w.holds.unit; form = importing.Single; import = w.brings.is_import;
-    may = MayBring.single (ends_so v c w.brings.import d importing.Single w.brings.is_import.import w.brings.names h); unshadowed = bounded })
+    unit = w.unit;
+    around = w.holds.unit;
+    form = importing.Single;
+    import = w.brings.is_import;
+    may = MayBring.single (ends_so v c w.brings.import d importing.Single w.brings.is_import.import w.brings.names h);
+    unshadowed = bounded;
+  })
 
   same_static : (v : Table) (d : ℕ) → IsBoundedBy p t m 2 → Declares p space.Type (name p m) d → (w : Imported p (StaticImport p v) m d) → ImportSame p t u w.brings.import
   same_static v d bounded h w = looked w.brings.import (record {
-    unit = w.unit; around = w.holds.unit; form = importing.StaticSingle; import = w.brings.imports.is_import;
-    may = MayBring.static (sym w.brings.imports.named ∙ h.named); unshadowed = bounded })
+    unit = w.unit;
+    around = w.holds.unit;
+    form = importing.StaticSingle;
+    import = w.brings.imports.is_import;
+    may = MayBring.static (sym w.brings.imports.named ∙ h.named);
+    unshadowed = bounded;
+  })
 
   same_demanded : (v i : ℕ) → IsBoundedBy p t m 0 → ImportOf p v importing.OnDemand i → (w : Imported p (λ x y. Unit {0}) m 0) → w.unit ≡ v → ImportSame p t u i
   same_demanded v i bounded k w e = looked i (record {
-    unit = w.unit; around = w.holds.unit; form = importing.OnDemand; import = subst (λ v. ImportOf p v importing.OnDemand i) (sym e) k;
-    may = MayBring.on_demand_import; unshadowed = bounded })
+    unit = w.unit;
+    around = w.holds.unit;
+    form = importing.OnDemand;
+    import = subst (λ v. ImportOf p v importing.OnDemand i) (sym e) k;
+    may = MayBring.on_demand_import;
+    unshadowed = bounded;
+  })
 
   single_there : (d : ℕ) (w : Imported p (SingleImport p t) m d) → ImportSame p t u w.brings.import → Imported p (SingleImport p u) m d
   single_there d w h = record { unit = w.unit; holds = w.holds; brings = record { import = w.brings.import; is_import = w.brings.is_import; foreign = w.brings.foreign; names = names_there w.brings.import d h w.brings.names } }
@@ -189,30 +215,56 @@ module _ (p : Rows) (t u : Table) (formed : IsFormed p) (a : IsBound p t) (b : I
   single_back d w h = record { unit = w.unit; holds = w.holds; brings = record { import = w.brings.import; is_import = w.brings.is_import; foreign = w.brings.foreign; names = names_back w.brings.import d h w.brings.names } }
 
   static_there : (d : ℕ) → (role_at p d ≡ role.Method → ⊥) → (w : Imported p (StaticImport p t) m d) → ImportSame p t u w.brings.import → Imported p (StaticImport p u) m d
-  static_there d k w h = let b = w.brings.imports in record { unit = w.unit; holds = w.holds; brings = record { import = w.brings.import; imports = record {
-    is_import = b.is_import; of_type = b.of_type; static = b.static; named = b.named; reached = b.reached; names = names_there w.brings.import b.of_type h b.names;
-    member = member_there p t u b.of_type d (h.known b.of_type b.names) k b.member } } }
+  static_there d k w h = let b = w.brings.imports in record {
+    unit = w.unit;
+    holds = w.holds;
+    brings = record {
+      import = w.brings.import;
+      imports = record {
+        is_import = b.is_import;
+        of_type = b.of_type;
+        static = b.static;
+        named = b.named;
+        reached = b.reached;
+        names = names_there w.brings.import b.of_type h b.names;
+        member = member_there p t u b.of_type d (h.known b.of_type b.names) k b.member;
+      };
+    };
+  }
 
   static_back : (d : ℕ) → (role_at p d ≡ role.Method → ⊥) → (w : Imported p (StaticImport p u) m d) → ImportSame p t u w.brings.import → Imported p (StaticImport p t) m d
   static_back d k w h = let b = w.brings.imports in let n = names_back w.brings.import b.of_type h b.names in
-    record { unit = w.unit; holds = w.holds; brings = record { import = w.brings.import; imports = record {
-    is_import = b.is_import; of_type = b.of_type; static = b.static; named = b.named; reached = b.reached; names = n;
-    member = member_back p t u b.of_type d (h.known b.of_type n) k b.member } } }
+      record {
+        unit = w.unit;
+        holds = w.holds;
+        brings = record {
+          import = w.brings.import;
+          imports = record {
+            is_import = b.is_import;
+            of_type = b.of_type;
+            static = b.static;
+            named = b.named;
+            reached = b.reached;
+            names = n;
+            member = member_back p t u b.of_type d (h.known b.of_type n) k b.member;
+          };
+        };
+      }
 
   demanded_there : (d : ℕ) → (role_at p d ≡ role.Method → ⊥) → IsBoundedBy p t m 0 → (w : Imported p (OnDemandImport p t) m d) → OnDemandOf p t w.unit d → OnDemandOf p u w.unit d
   demanded_there d k bounded w (OnDemandOf.of_package {i = i} i' e h) =
-    let s = same_demanded w.unit i bounded i' (record { unit = w.unit; holds = w.holds; brings = tt }) refl in OnDemandOf.of_package i' (sym s.at ∙ e) h
+      let s = same_demanded w.unit i bounded i' (record { unit = w.unit; holds = w.holds; brings = tt }) refl in OnDemandOf.of_package i' (sym s.at ∙ e) h
   demanded_there d k bounded w (OnDemandOf.of_type {i = i} {c = c} i' n h ty) =
-    let s = same_demanded w.unit i bounded i' (record { unit = w.unit; holds = w.holds; brings = tt }) refl in
-    OnDemandOf.of_type i' (names_there i c s n) (member_there p t u c d (s.known c n) k h) ty
+      let s = same_demanded w.unit i bounded i' (record { unit = w.unit; holds = w.holds; brings = tt }) refl in
+      OnDemandOf.of_type i' (names_there i c s n) (member_there p t u c d (s.known c n) k h) ty
   demanded_there d k bounded w (OnDemandOf.lang h) = OnDemandOf.lang h
 
   demanded_back : (d : ℕ) → (role_at p d ≡ role.Method → ⊥) → IsBoundedBy p t m 0 → (w : Imported p (OnDemandImport p u) m d) → OnDemandOf p u w.unit d → OnDemandOf p t w.unit d
   demanded_back d k bounded w (OnDemandOf.of_package {i = i} i' e h) =
-    let s = same_demanded w.unit i bounded i' (record { unit = w.unit; holds = w.holds; brings = tt }) refl in OnDemandOf.of_package i' (s.at ∙ e) h
+      let s = same_demanded w.unit i bounded i' (record { unit = w.unit; holds = w.holds; brings = tt }) refl in OnDemandOf.of_package i' (s.at ∙ e) h
   demanded_back d k bounded w (OnDemandOf.of_type {i = i} {c = c} i' n h ty) =
-    let s = same_demanded w.unit i bounded i' (record { unit = w.unit; holds = w.holds; brings = tt }) refl in let n' = names_back i c s n in
-    OnDemandOf.of_type i' n' (member_back p t u c d (s.known c n') k h) ty
+      let s = same_demanded w.unit i bounded i' (record { unit = w.unit; holds = w.holds; brings = tt }) refl in let n' = names_back i c s n in
+      OnDemandOf.of_type i' n' (member_back p t u c d (s.known c n') k h) ty
   demanded_back d k bounded w (OnDemandOf.lang h) = OnDemandOf.lang h
 
   -- what is in scope so far in goes over, where nothing further in is in scope
@@ -225,8 +277,14 @@ module _ (p : Rows) (t u : Table) (formed : IsFormed p) (a : IsBound p t) (b : I
   scope_there d _ k bounded (HasScope.of_same_package h) = HasScope.of_same_package h
   scope_there d _ k bounded (HasScope.single w) = HasScope.single (single_there d w (same_single t a d bounded k w))
   scope_there d _ k bounded (HasScope.static w) = HasScope.static (static_there d (no_type_method p (name p m) d k) w (same_static t d bounded k w))
-  scope_there d _ k bounded (HasScope.demanded w) = HasScope.demanded (record { unit = w.unit; holds = w.holds; brings = record {
-    brings = demanded_there d (no_type_method p (name p m) d k) bounded w w.brings.brings; reached = w.brings.reached } })
+  scope_there d _ k bounded (HasScope.demanded w) = HasScope.demanded (record {
+    unit = w.unit;
+    holds = w.holds;
+    brings = record {
+      brings = demanded_there d (no_type_method p (name p m) d k) bounded w w.brings.brings;
+      reached = w.brings.reached;
+    };
+  })
 
   scope_back : (d : ℕ) (r : Depth) → Declares p space.Type (name p m) d → IsBoundedBy p t m (rank r) → HasScope p u m d r → HasScope p t m d r
   scope_back d _ k bounded (HasScope.local h) = HasScope.local h
@@ -237,8 +295,14 @@ module _ (p : Rows) (t u : Table) (formed : IsFormed p) (a : IsBound p t) (b : I
   scope_back d _ k bounded (HasScope.of_same_package h) = HasScope.of_same_package h
   scope_back d _ k bounded (HasScope.single w) = HasScope.single (single_back d w (same_single u b d bounded k w))
   scope_back d _ k bounded (HasScope.static w) = HasScope.static (static_back d (no_type_method p (name p m) d k) w (same_static u d bounded k w))
-  scope_back d _ k bounded (HasScope.demanded w) = HasScope.demanded (record { unit = w.unit; holds = w.holds; brings = record {
-    brings = demanded_back d (no_type_method p (name p m) d k) bounded w w.brings.brings; reached = w.brings.reached } })
+  scope_back d _ k bounded (HasScope.demanded w) = HasScope.demanded (record {
+    unit = w.unit;
+    holds = w.holds;
+    brings = record {
+      brings = demanded_back d (no_type_method p (name p m) d k) bounded w w.brings.brings;
+      reached = w.brings.reached;
+    };
+  })
 
   widened : (k l : ℕ) → k ≤ l → IsBoundedBy p t m k → IsBoundedBy p t m l
   widened k l le h e q w = let z = h e q w in omega arith
@@ -255,21 +319,23 @@ module _ (p : Rows) (t u : Table) (formed : IsFormed p) (a : IsBound p t) (b : I
   bound_there r h e _ k (HasScope.of_same_unit w) = h e _ (record { scope = HasScope.of_same_unit w; declares = k })
   bound_there r h e _ k (HasScope.of_same_package w) = h e _ (record { scope = HasScope.of_same_package w; declares = k })
   bound_there r h e _ k (HasScope.single w) = elim (low (rank r)) [
-      inl g ↦ g
-    | inr g ↦ h e _ (record { scope = HasScope.single (single_back e w (same_single u b e (widened (rank r) 2 (omega arith) h) k w)); declares = k }) ]
+    | inl g ↦ g
+    | inr g ↦ h e _ (record { scope = HasScope.single (single_back e w (same_single u b e (widened (rank r) 2 (omega arith) h) k w)); declares = k })
+  ]
   bound_there r h e _ k (HasScope.static w) = elim (low (rank r)) [
-      inl g ↦ g
-    | inr g ↦ h e _ (record { scope = HasScope.static (static_back e (no_type_method p (name p m) e k) w (same_static u e (widened (rank r) 2 (omega arith) h) k w)); declares = k }) ]
+    | inl g ↦ g
+    | inr g ↦ h e _ (record { scope = HasScope.static (static_back e (no_type_method p (name p m) e k) w (same_static u e (widened (rank r) 2 (omega arith) h) k w)); declares = k })
+  ]
   bound_there r h e _ k (HasScope.demanded w) = omega arith
 
   -- under a bound of u nothing of t is further in than the unit, unless u has it
   inner_back : (r : Depth) → ((e : ℕ) (q : Depth) → InScope p u space.Type (name p m) m e q → rank q ≤ rank r) → rank r ≤ 1 → (e : ℕ) (q : Depth) → Declares p space.Type (name p m) e
-    → HasScope p t m e q → rank q ≤ 2
+      → HasScope p t m e q → rank q ≤ 2
   inner_back r h lo e _ k (HasScope.local w) = let z = h e _ (record { scope = HasScope.local w; declares = k }) in omega arith
   inner_back r h lo e _ k (HasScope.parameter w) = let z = h e _ (record { scope = HasScope.parameter w; declares = k }) in omega arith
   inner_back r h lo e _ k (HasScope.labeled w) = let z = h e _ (record { scope = HasScope.labeled w; declares = k }) in omega arith
   inner_back r h lo e _ k (HasScope.member {c = c} i w) =
-    let z = h e _ (record { scope = HasScope.member i (member_there p t u c e (around c i) (no_type_method p (name p m) e k) w); declares = k }) in omega arith
+      let z = h e _ (record { scope = HasScope.member i (member_there p t u c e (around c i) (no_type_method p (name p m) e k) w); declares = k }) in omega arith
   inner_back r h lo e _ k (HasScope.of_same_unit w) = omega arith
   inner_back r h lo e _ k (HasScope.of_same_package w) = omega arith
   inner_back r h lo e _ k (HasScope.single w) = omega arith
@@ -277,7 +343,7 @@ module _ (p : Rows) (t u : Table) (formed : IsFormed p) (a : IsBound p t) (b : I
   inner_back r h lo e _ k (HasScope.demanded w) = omega arith
 
   bound_back : (r : Depth) → ((e : ℕ) (q : Depth) → InScope p u space.Type (name p m) m e q → rank q ≤ rank r) → (e : ℕ) (q : Depth) → Declares p space.Type (name p m) e
-    → HasScope p t m e q → rank q ≤ rank r
+      → HasScope p t m e q → rank q ≤ rank r
   bound_back r h e _ k (HasScope.local w) = h e _ (record { scope = HasScope.local w; declares = k })
   bound_back r h e _ k (HasScope.parameter w) = h e _ (record { scope = HasScope.parameter w; declares = k })
   bound_back r h e _ k (HasScope.labeled w) = h e _ (record { scope = HasScope.labeled w; declares = k })
@@ -285,22 +351,26 @@ module _ (p : Rows) (t u : Table) (formed : IsFormed p) (a : IsBound p t) (b : I
   bound_back r h e _ k (HasScope.of_same_unit w) = h e _ (record { scope = HasScope.of_same_unit w; declares = k })
   bound_back r h e _ k (HasScope.of_same_package w) = h e _ (record { scope = HasScope.of_same_package w; declares = k })
   bound_back r h e _ k (HasScope.single w) = elim (low (rank r)) [
-      inl g ↦ g
-    | inr g ↦ h e _ (record { scope = HasScope.single (single_there e w (same_single t a e (λ e' q' v. inner_back r h g e' q' v.declares v.scope) k w)); declares = k }) ]
+    | inl g ↦ g
+    | inr g ↦ h e _ (record { scope = HasScope.single (single_there e w (same_single t a e (λ e' q' v. inner_back r h g e' q' v.declares v.scope) k w)); declares = k })
+  ]
   bound_back r h e _ k (HasScope.static w) = elim (low (rank r)) [
-      inl g ↦ g
-    | inr g ↦ h e _ (record { scope = HasScope.static (static_there e (no_type_method p (name p m) e k) w (same_static t e (λ e' q' v. inner_back r h g e' q' v.declares v.scope) k w)); declares = k }) ]
+    | inl g ↦ g
+    | inr g ↦ h e _ (record { scope = HasScope.static (static_there e (no_type_method p (name p m) e k) w (same_static t e (λ e' q' v. inner_back r h g e' q' v.declares v.scope) k w)); declares = k })
+  ]
   bound_back r h e _ k (HasScope.demanded w) = omega arith
 
   visible_there : (d : ℕ) (r : Depth) → Visible p t space.Type (name p m) m d r → Visible p u space.Type (name p m) m d r
   visible_there d r h = record {
     in_scope = record { declares = h.in_scope.declares; scope = scope_there d r h.in_scope.declares h.innermost h.in_scope.scope };
-    innermost = λ e q w. bound_there r h.innermost e q w.declares w.scope }
+    innermost = λ e q w. bound_there r h.innermost e q w.declares w.scope;
+  }
 
   visible_back : (d : ℕ) (r : Depth) → Visible p u space.Type (name p m) m d r → Visible p t space.Type (name p m) m d r
   visible_back d r h = let bounded : IsBoundedBy p t m (rank r) = λ e q w. bound_back r h.innermost e q w.declares w.scope in record {
     in_scope = record { declares = h.in_scope.declares; scope = scope_back d r h.in_scope.declares bounded h.in_scope.scope };
-    innermost = bounded }
+    innermost = bounded;
+  }
 
   found_there : (d : ℕ) (l : Option ℕ) → Found p t space.Type (name p m) m d l → Found p u space.Type (name p m) m d l
   found_there d l h = record { depth = h.depth; visible = visible_there d h.depth h.visible; through = h.through }
@@ -357,13 +427,13 @@ module _ (p : Rows) (t u : Table) (formed : IsFormed p) (a : IsBound p t) (b : I
       turn (IsPackageName.simple h) = IsPackageName.simple h
 
   look_there : (k : NameKind) (r : Referent) → SeeksType (sought.Simple k) → LookFor p t (HasConstantForm p t) m (name p m) (sought.Simple k) r
-    → LookFor p u (HasConstantForm p u) m (name p m) (sought.Simple k) r
+      → LookFor p u (HasConstantForm p u) m (name p m) (sought.Simple k) r
   look_there k _ seeks (one d l h only) = one d l (simple_there (sought.Simple k) d l seeks tt h) (λ e q w. only e q (simple_back (sought.Simple k) e q seeks tt w))
   look_there k r seeks (none never h) = none (λ d l w. never d l (simple_back (sought.Simple k) d l seeks tt w)) (otherwise_there k r h)
   look_there k _ seeks (several d e l q h i apart) = several d e l q (simple_there (sought.Simple k) d l seeks tt h) (simple_there (sought.Simple k) e q seeks tt i) apart
 
   pub first_agrees : (k : NameKind) → sought_at p m ≡ sought.Simple k → SeeksType (sought.Simple k) → t m ≡ u m
   first_agrees k e seeks =
-    let x = subst (λ s. LookFor p t (HasConstantForm p t) m (name p m) s (t m)) e (a m) in
-    let y = subst (λ s. LookFor p u (HasConstantForm p u) m (name p m) s (u m)) e (b m) in
-    answer_unique _ _ (otherwise_one p u (HasConstantForm p u) m (name p m) (sought.Simple k)) (t m) (u m) (look_there k (t m) seeks x) y
+      let x = subst (λ s. LookFor p t (HasConstantForm p t) m (name p m) s (t m)) e (a m) in
+      let y = subst (λ s. LookFor p u (HasConstantForm p u) m (name p m) s (u m)) e (b m) in
+      answer_unique _ _ (otherwise_one p u (HasConstantForm p u) m (name p m) (sought.Simple k)) (t m) (u m) (look_there k (t m) seeks x) y

@@ -77,8 +77,16 @@ receiver_same (Some a) = ap (λ a. Some a) (type_same a)
 
 pub alike : (p : Rows) → Alike p p same same
 alike p = record {
-  label_same = λ n k. refl; name_same = λ n k. refl; back = λ n k. refl;
-  declared = λ c d h. h; constructor = λ c k h. h; access_same = λ d k. refl; same_package = λ m n i j h. h; of_path = λ path d h. h; prelude = λ x c h. h }
+  label_same = λ n k. refl;
+  name_same = λ n k. refl;
+  back = λ n k. refl;
+  declared = λ c d h. h;
+  constructor = λ c k h. h;
+  access_same = λ d k. refl;
+  same_package = λ m n i j h. h;
+  of_path = λ path d h. h;
+  prelude = λ x c h. h;
+}
 
 pub turned_headers : (p : Rows) (t u : Table) → SameHeaders p t u → SameHeaders p u t
 turned_headers p t u h = record { at = λ c n k. sym (h.at c n k); types = λ c n s l k e. h.types c n s l k (h.at c n k ∙ e) }
@@ -99,12 +107,15 @@ superclass_same p t u h c s (Superclass.implied k e) = Superclass.implied k e
 
 pub carries : (p : Rows) (t u : Table) → SameHeaders p t u → Carries p t p u same same (IsType p) (IsType p)
 carries p t u h = record {
-  alike = alike p; known = λ c k. k; goes = λ c k. k;
+  alike = alike p;
+  known = λ c k. k;
+  goes = λ c k. k;
   super_at = λ c n s k w. super_at_same p t u h c n s w;
   super_known = λ c n s k w. super_type p t u h c n s w;
   place_back = λ c n s k w. refl;
   place_order = λ c m n r s k a b le. le;
-  superclass = λ c s k w. superclass_same p t u h c s w }
+  superclass = λ c s k w. superclass_same p t u h c s w;
+}
 
 pub super_wide : (p : Rows) (t : Table) → IsFormed p → (c r : ℕ) → Super p t c r → IsType p c
 super_wide p t formed c r h = by_place h.place h.at
@@ -122,9 +133,20 @@ SameImports p t u o = ImportsGo p t p u same o o
 
 pub places : (p : Rows) (t u : Table) (C : ℕ → Type 0) (o : ℕ) → ((c : ℕ) → InBody p c o → C c) → Places p t p u same C o o
 places p t u C o known = record {
-  local = λ d w. w; parameter = λ d w. w; labeled = λ d w. w; body = λ c w. w; body_known = known; order = λ m n i j le. le;
-  unit = λ d w. w; other = λ d w. w;
-  same_top = λ d k w. w; same_package = λ d k w. w; super_call = λ e. e; instance = λ c w. w; own_body = λ c w. w }
+  local = λ d w. w;
+  parameter = λ d w. w;
+  labeled = λ d w. w;
+  body = λ c w. w;
+  body_known = known;
+  order = λ m n i j le. le;
+  unit = λ d w. w;
+  other = λ d w. w;
+  same_top = λ d k w. w;
+  same_package = λ d k w. w;
+  super_call = λ e. e;
+  instance = λ c w. w;
+  own_body = λ c w. w;
+}
 
 -- the tables agree on the names of imports
 pub record SameImportNames (p : Rows) (t u : Table) : Type 0 where
@@ -137,20 +159,39 @@ pub same_imports : (p : Rows) (t u : Table) → SameHeaders p t u → SameImport
 same_imports p t u h names o = record { single = singles; static = statics; demanded = demandeds }
   where
     singles : (d : ℕ) → Imported p (SingleImport p t) o d → Imported p (SingleImport p u) o d
-    singles d w = record { unit = w.unit; holds = w.holds; brings = record {
-      import = w.brings.import; is_import = w.brings.is_import; foreign = w.brings.foreign;
-      names = import_names p t u names w.brings.import d importing.Single w.brings.is_import.import w.brings.names } }
+    singles d w = record {
+      unit = w.unit;
+      holds = w.holds;
+      brings = record {
+        import = w.brings.import;
+        is_import = w.brings.is_import;
+        foreign = w.brings.foreign;
+        names = import_names p t u names w.brings.import d importing.Single w.brings.is_import.import w.brings.names;
+      };
+    }
 
     statics : (d : ℕ) → (role_at p d ≡ role.Method → ⊥) → Imported p (StaticImport p t) o d → Imported p (StaticImport p u) o d
-    statics d k w = let b = w.brings.imports in record { unit = w.unit; holds = w.holds; brings = record { import = w.brings.import; imports = record {
-      is_import = b.is_import; of_type = b.of_type; static = b.static; named = b.named; reached = b.reached;
-      names = import_names p t u names w.brings.import b.of_type importing.StaticSingle b.is_import.import b.names;
-      member = member_over p t p u same same (IsType p) (IsType p) (carries p t u h) (carries p u t (turned_headers p t u h)) b.of_type d b.names.type (λ m. absurd (k m)) b.member } } }
+    statics d k w = let b = w.brings.imports in record {
+      unit = w.unit;
+      holds = w.holds;
+      brings = record {
+        import = w.brings.import;
+        imports = record {
+          is_import = b.is_import;
+          of_type = b.of_type;
+          static = b.static;
+          named = b.named;
+          reached = b.reached;
+          names = import_names p t u names w.brings.import b.of_type importing.StaticSingle b.is_import.import b.names;
+          member = member_over p t p u same same (IsType p) (IsType p) (carries p t u h) (carries p u t (turned_headers p t u h)) b.of_type d b.names.type (λ m. absurd (k m)) b.member;
+        };
+      };
+    }
 
     demanded_of : (v d : ℕ) → OnDemandOf p t v d → OnDemandOf p u v d
     demanded_of v d (OnDemandOf.of_package {i = i} k e w) = OnDemandOf.of_package k (sym (names.at i importing.OnDemand k.import) ∙ e) w
     demanded_of v d (OnDemandOf.of_type {i = i} {c = c} k n m ty) = OnDemandOf.of_type k (import_names p t u names i c importing.OnDemand k.import n)
-      (member_over p t p u same same (IsType p) (IsType p) (carries p t u h) (carries p u t (turned_headers p t u h)) c d n.type (λ e. absurd (let x = sym ty ∙ e in cc)) m) ty
+        (member_over p t p u same same (IsType p) (IsType p) (carries p t u h) (carries p u t (turned_headers p t u h)) c d n.type (λ e. absurd (let x = sym ty ∙ e in cc)) m) ty
     demanded_of v d (OnDemandOf.lang w) = OnDemandOf.lang w
 
     demandeds : (d : ℕ) → Imported p (OnDemandImport p t) o d → Imported p (OnDemandImport p u) o d
@@ -184,8 +225,8 @@ packaged_same p t u o h path w = record { first = w.first; refers = sym (h w.fir
 
 -- with the types whose supertypes are known, at a name of a type
 pub type_search_in : (p : Rows) (t u : Table) (K L : ℕ → Type 0) (C : ℕ → Type 0) (o : ℕ) → SeeksType (sought_at p o) → Carries p t p u same same C C
-  → ((c : ℕ) → InBody p c o → C c) → (IsScoped (sought_at p o) → SameImports p t u o) → SameFirst p t u o → ((c : ℕ) → NamesType p t o c → C c)
-  → Corresponds p t K p u L same same C C o o (sought_at p o)
+    → ((c : ℕ) → InBody p c o → C c) → (IsScoped (sought_at p o) → SameImports p t u o) → SameFirst p t u o → ((c : ℕ) → NamesType p t o c → C c)
+    → Corresponds p t K p u L same same C C o o (sought_at p o)
 type_search_in p t u K L C o seeks over known imports first named = record {
   carries = over;
   places = places p t u C o known;
@@ -200,11 +241,13 @@ type_search_in p t u K L C o seeks over known imports first named = record {
     packaged = packaged_same p t u o first;
     arguments = λ r. absurd (no_call (sought_at p o) seeks r);
     arguments_back = λ r. absurd (no_call (sought_at p o) seeks r);
-    imported = λ r. absurd (no_call (sought_at p o) seeks r) };
+    imported = λ r. absurd (no_call (sought_at p o) seeks r);
+  };
   sees = λ r. absurd (no_call (sought_at p o) seeks r);
-  wide = λ r. absurd (no_call (sought_at p o) seeks r) }
+  wide = λ r. absurd (no_call (sought_at p o) seeks r);
+}
 
 pub type_search : (p : Rows) (t u : Table) (K L : ℕ → Type 0) (o : ℕ) → SeeksType (sought_at p o) → SameHeaders p t u → SameImports p t u o → SameFirst p t u o
-  → Corresponds p t K p u L same same (IsType p) (IsType p) o o (sought_at p o)
+    → Corresponds p t K p u L same same (IsType p) (IsType p) o o (sought_at p o)
 type_search p t u K L o seeks h imports first =
-  type_search_in p t u K L (IsType p) o seeks (carries p t u h) (λ c w. w.of_type.type) (λ s. imports) first (λ c w. w.type)
+    type_search_in p t u K L (IsType p) o seeks (carries p t u h) (λ c w. w.of_type.type) (λ s. imports) first (λ c w. w.type)

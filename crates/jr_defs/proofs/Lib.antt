@@ -12,3 +12,5 @@ pub mod TypingSame
 pub mod OneBinding
 pub mod HeadersAgree
 pub mod Settling
+pub mod Worked
+pub mod Forming

@@ -38,7 +38,7 @@ abbrev pub SameBelow : Rows → Table → Table → (ℕ → Type 0) → (ℕ �
 SameBelow p t u K L o = (m : ℕ) (a : RowType) → parent p m ≡ o → o < m → TypeOf p t K m a → TypeOf p u L m a
 
 module _ (p : Rows) (t u : Table) (K L : ℕ → Type 0) (formed : IsFormed p) (h : SameHeaders p t u) (names : SameImportNames p t u) (types : SameTypes p t u) (types' : SameTypes p u t)
-  (o : ℕ) (first : SameFirst p t u o) (below : SameBelow p t u K L o) where
+    (o : ℕ) (first : SameFirst p t u o) (below : SameBelow p t u K L o) where
   receivers : (c : ℕ) (through : Option RowType) → Receiver p t K o c through → Receiver p u L o c (moved_receiver same through)
   receivers c _ (Receiver.object e w) = Receiver.object e (below (o + 1) _ e (omega arith) w)
   receivers c _ (Receiver.array_object e w i) = Receiver.array_object e (below (o + 1) _ e (omega arith) w) i
@@ -54,7 +54,7 @@ module _ (p : Rows) (t u : Table) (K L : ℕ → Type 0) (formed : IsFormed p) (
 
   arguments_from : (k : ℕ) (all : List RowType) → o < k → ArgumentTypes p t K o k all → ArgumentTypes p u L o k all
   arguments_from k _ lo (ArgumentTypes.argument {a = a} {more = more} e w rest) =
-    let z = formed.tree.nested k in ArgumentTypes.argument e (below k a e lo w) (arguments_from (end p k) more (omega arith) rest)
+      let z = formed.tree.nested k in ArgumentTypes.argument e (below k a e lo w) (arguments_from (end p k) more (omega arith) rest)
   arguments_from k _ lo (ArgumentTypes.done e) = ArgumentTypes.done e
 
   begins_after : (l : Label) → o < arguments_by l p o
@@ -69,11 +69,23 @@ module _ (p : Rows) (t u : Table) (K L : ℕ → Type 0) (formed : IsFormed p) (
   arguments_same all w = subst (Arguments p u L o) (sym (types_same all)) (arguments_from (arguments_by (label p o) p o) all (begins_after (label p o)) w)
 
   statics : (d : ℕ) → Imported p (StaticImport p t) o d → Imported p (StaticImport p u) o d
-  statics d w = let b = w.brings.imports in record { unit = w.unit; holds = w.holds; brings = record { import = w.brings.import; imports = record {
-    is_import = b.is_import; of_type = b.of_type; static = b.static; named = b.named; reached = b.reached;
-    names = import_names p t u names w.brings.import b.of_type importing.StaticSingle b.is_import.import b.names;
-    member = member_over p t p u same same (IsType p) (IsType p) (carries p t u h) (carries p u t (turned_headers p t u h)) b.of_type d b.names.type
-      (λ _. sees_same p u t formed types') b.member } } }
+  statics d w = let b = w.brings.imports in record {
+    unit = w.unit;
+    holds = w.holds;
+    brings = record {
+      import = w.brings.import;
+      imports = record {
+        is_import = b.is_import;
+        of_type = b.of_type;
+        static = b.static;
+        named = b.named;
+        reached = b.reached;
+        names = import_names p t u names w.brings.import b.of_type importing.StaticSingle b.is_import.import b.names;
+        member = member_over p t p u same same (IsType p) (IsType p) (carries p t u h) (carries p u t (turned_headers p t u h)) b.of_type d b.names.type
+            (λ _. sees_same p u t formed types') b.member;
+      };
+    };
+  }
 
   pub search_same : Corresponds p t K p u L same same (IsType p) (IsType p) o o (sought_at p o)
   search_same = record {
@@ -90,13 +102,15 @@ module _ (p : Rows) (t u : Table) (K L : ℕ → Type 0) (formed : IsFormed p) (
       packaged = packaged_same p t u o first;
       arguments = λ r. arguments_same;
       arguments_back = λ r all w. ap (moved_types same) (types_same all) ∙ types_same all;
-      imported = λ r. statics };
+      imported = λ r. statics;
+    };
     sees = λ r. sees_same p t u formed types;
-    wide = λ r c s w. super_wide p t formed c s w }
+    wide = λ r c s w. super_wide p t formed c s w;
+  }
 
 -- the type of a name reads the table there alone
 name_typing : (p : Rows) (t u : Table) (K L : ℕ → Type 0) (formed : IsFormed p) (types : SameTypes p t u) (n : ℕ) (a : RowType) → IsNameLabel (label p n) → t n ≡ u n
-  → TypeOf p t K n a → TypeOf p u L n a
+    → TypeOf p t K n a → TypeOf p u L n a
 name_typing p t u K L formed types n a k e (TypeOf.literal w x) = absurd (subst IsNameLabel w k)
 name_typing p t u K L formed types n a k e (TypeOf.variable {d = d} w v x) = TypeOf.variable (sym e ∙ w) v (has_type_same p t u formed types d a x)
 name_typing p t u K L formed types n _ k e (TypeOf.length w) = TypeOf.length (sym e ∙ w)
@@ -120,7 +134,7 @@ name_typing p t u K L formed types n a k e (TypeOf.compound w x y z v r s) = abs
 
 name_past : (p : Rows) (n : ℕ) → length p ≤ n → IsNameLabel (label p n) → ⊥
 name_past p n le h = let e = get_or_past p n (record { label = is.Skip; name = []; parent = n; end = n + 1; previous = n }) le in
-  subst (λ r. IsNameLabel r.label) e h
+    subst (λ r. IsNameLabel r.label) e h
 
 module _ (p : Rows) (t u : Table) (formed : IsFormed p) (a : IsBound p t) (b : IsBound p u) (h : SameHeaders p t u) where
   imports : SameImportNames p t u
@@ -132,17 +146,17 @@ module _ (p : Rows) (t u : Table) (formed : IsFormed p) (a : IsBound p t) (b : I
   -- what looks up alike below is bound alike
   agree_at : (o : ℕ) → SameFirst p t u o → SameBelow p t u (HasConstantForm p t) (HasConstantForm p u) o → SameBelow p u t (HasConstantForm p u) (HasConstantForm p t) o → t o ≡ u o
   agree_at o first below back = bound_same p t u (IsType p) o (a o) (b o)
-    (search_same p t u (HasConstantForm p t) (HasConstantForm p u) formed h imports types (turned_types p t u types) o first below)
-    (search_same p u t (HasConstantForm p u) (HasConstantForm p t) formed (turned_headers p t u h) (turned_names p t u imports) (turned_types p t u types) types o (λ e. sym (first e)) back)
+      (search_same p t u (HasConstantForm p t) (HasConstantForm p u) formed h imports types (turned_types p t u types) o first below)
+      (search_same p u t (HasConstantForm p u) (HasConstantForm p t) formed (turned_headers p t u h) (turned_names p t u imports) (turned_types p t u types) types o (λ e. sym (first e)) back)
 
   -- names, from the last row back
   names_from : (k o : ℕ) → length p ≤ o + k → (n : ℕ) → o ≤ n → IsNameLabel (label p n) → t n ≡ u n
   names_from zero o le n after name' = absurd (name_past p n (omega arith) name')
   names_from (suc k) o le n after name' = agree_at n
-    (λ e. names_from k (o + 1) (omega arith) (n + 1) (omega arith) (formed.name_below n (n + 1) name' e (omega arith)))
-    (λ m w e lt x. let i = formed.name_below n m name' e lt in
+      (λ e. names_from k (o + 1) (omega arith) (n + 1) (omega arith) (formed.name_below n (n + 1) name' e (omega arith)))
+      (λ m w e lt x. let i = formed.name_below n m name' e lt in
       name_typing p t u (HasConstantForm p t) (HasConstantForm p u) formed types m w i (names_from k (o + 1) (omega arith) m (omega arith) i) x)
-    (λ m w e lt x. let i = formed.name_below n m name' e lt in
+      (λ m w e lt x. let i = formed.name_below n m name' e lt in
       name_typing p u t (HasConstantForm p u) (HasConstantForm p t) formed (turned_types p t u types) m w i (sym (names_from k (o + 1) (omega arith) m (omega arith) i)) x)
 
   names_agree : SameNames p t u
@@ -153,22 +167,22 @@ module _ (p : Rows) (t u : Table) (formed : IsFormed p) (a : IsBound p t) (b : I
 
   past_same : (n : ℕ) → length p ≤ n → t n ≡ u n
   past_same n le = agree_at n
-    (λ e. absurd (not_below (n + 1) (omega arith) n (omega arith) e))
-    (λ m w e lt x. absurd (not_below m (omega arith) n lt e))
-    (λ m w e lt x. absurd (not_below m (omega arith) n lt e))
+      (λ e. absurd (not_below (n + 1) (omega arith) n (omega arith) e))
+      (λ m w e lt x. absurd (not_below m (omega arith) n lt e))
+      (λ m w e lt x. absurd (not_below m (omega arith) n lt e))
     where
       not_below : (m : ℕ) → length p ≤ m → (n : ℕ) → n < m → parent p m ≡ n → ⊥
       not_below m le n lt e = let z = ap (λ r. r.parent) (get_or_past p m (record { label = is.Skip; name = []; parent = m; end = m + 1; previous = m }) le) in
-        let w : m ≡ n = sym z ∙ e in absurd (omega arith)
+          let w : m ≡ n = sym z ∙ e in absurd (omega arith)
 
   -- all rows, from the last one back
   all_from : (k o : ℕ) → length p ≤ o + k → (n : ℕ) → o ≤ n → t n ≡ u n
   all_from zero o le n after = past_same n (omega arith)
   all_from (suc k) o le n after = agree_at n
-    (λ e. all_from k (o + 1) (omega arith) (n + 1) (omega arith))
-    (λ m w e lt x. typing_same p t u formed h types names_agree (turned_types p t u types) names_back (n + 1)
+      (λ e. all_from k (o + 1) (omega arith) (n + 1) (omega arith))
+      (λ m w e lt x. typing_same p t u formed h types names_agree (turned_types p t u types) names_back (n + 1)
       (λ i le'. all_from k (o + 1) (omega arith) i (omega arith)) m w (omega arith) x)
-    (λ m w e lt x. typing_same p u t formed (turned_headers p t u h) (turned_types p t u types) names_back types names_agree (n + 1)
+      (λ m w e lt x. typing_same p u t formed (turned_headers p t u h) (turned_types p t u types) names_back types names_agree (n + 1)
       (λ i le'. sym (all_from k (o + 1) (omega arith) i (omega arith))) m w (omega arith) x)
 
   pub all_agree : (o : ℕ) → t o ≡ u o

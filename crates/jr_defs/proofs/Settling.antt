@@ -46,32 +46,32 @@ module _ (p : Rows) (t u : Table) (formed : IsFormed p) (a : IsBound p t) (b : I
       inside : (m + 1 < length p) ⊎ (length p ≤ m + 1) → m + 1 < end p n
       inside (inl l) = let z = formed.tree.held (m + 1) l (omega arith) in let y = ends n m h.from h.before in let w = subst (λ k. m + 1 < end p k) e z in omega arith
       inside (inr g) = let z = ap (λ r. r.parent) (get_or_past p (m + 1) (record { label = is.Skip; name = []; parent = m + 1; end = m + 1 + 1; previous = m + 1 }) g) in
-        let y : m + 1 ≡ m = sym z ∙ e in absurd (omega arith)
+          let y : m + 1 ≡ m = sym z ∙ e in absurd (omega arith)
 
   -- the identifiers of a name, from the last row back
   module _ (n : ℕ) (seeks : SeeksType (sought_at p n)) (around : (m e : ℕ) → IsIdentifierOf p n m → InBody p e m → Agreed p t u e)
-    (met : (m s : ℕ) (l : Option ℕ) → IsIdentifierOf p n m → t m ≡ Declared s l → IsType p s → Agreed p t u s)
-    (simple : (m : ℕ) (k : NameKind) → IsIdentifierOf p n m → sought_at p m ≡ sought.Simple k → SeeksType (sought.Simple k) → t m ≡ u m) where
+      (met : (m s : ℕ) (l : Option ℕ) → IsIdentifierOf p n m → t m ≡ Declared s l → IsType p s → Agreed p t u s)
+      (simple : (m : ℕ) (k : NameKind) → IsIdentifierOf p n m → sought_at p m ≡ sought.Simple k → SeeksType (sought.Simple k) → t m ≡ u m) where
     identifier_agrees : (m : ℕ) (s : Sought) → IsIdentifierOf p n m → sought_at p m ≡ s → SeeksType s → SameFirst p t u m → t m ≡ u m
     identifier_agrees m (sought.Simple k) i e h first = simple m k i e h
     identifier_agrees m (sought.Qualified k) i e h first = bound_same p t u (Agreed p t u) m (a m) (b m)
-      (type_search_in p t u (HasConstantForm p t) (HasConstantForm p u) (Agreed p t u) m (subst SeeksType (sym e) h) (carries_there p t u) (λ c w. around m c i w)
+        (type_search_in p t u (HasConstantForm p t) (HasConstantForm p u) (Agreed p t u) m (subst SeeksType (sym e) h) (carries_there p t u) (λ c w. around m c i w)
         (λ sc. absurd (subst IsScoped e sc)) first (λ c w. met (m + 1) c w.level (next_identifier n m i w.first) w.refers w.type))
-      (type_search_in p u t (HasConstantForm p u) (HasConstantForm p t) (Agreed p t u) m (subst SeeksType (sym e) h) (carries_back p t u) (λ c w. around m c i w)
+        (type_search_in p u t (HasConstantForm p u) (HasConstantForm p t) (Agreed p t u) m (subst SeeksType (sym e) h) (carries_back p t u) (λ c w. around m c i w)
         (λ sc. absurd (subst IsScoped e sc)) (λ e. sym (first e)) (λ c w. met (m + 1) c w.level (next_identifier n m i w.first) (first w.first ∙ w.refers) w.type))
     identifier_agrees m _ i e h first = absurd h
 
     identifiers_from : (j o : ℕ) → end p n ≤ o + j → (m : ℕ) → o ≤ m → IsIdentifierOf p n m → t m ≡ u m
     identifiers_from zero o le m after i = let z = i.before in absurd (omega arith)
     identifiers_from (suc j) o le m after i = identifier_agrees m (sought_at p m) i refl (formed.identifier n m seeks i)
-      (λ e. identifiers_from j (o + 1) (omega arith) (m + 1) (omega arith) (next_identifier n m i e))
+        (λ e. identifiers_from j (o + 1) (omega arith) (m + 1) (omega arith) (next_identifier n m i e))
 
     pub identifiers_agree : (m : ℕ) → IsIdentifierOf p n m → t m ≡ u m
     identifiers_agree m i = identifiers_from (end p n) 0 (omega arith) m (omega arith) i
 
   -- the name of an import, where what it meets is agreed on
   module _ (i : ℕ) (form : ImportKind) (is_import : label p i ≡ is.Import form)
-    (met : (m s : ℕ) (l : Option ℕ) → IsIdentifierOf p (i + 1) m → t m ≡ Declared s l → IsType p s → Agreed p t u s) where
+      (met : (m s : ℕ) (l : Option ℕ) → IsIdentifierOf p (i + 1) m → t m ≡ Declared s l → IsType p s → Agreed p t u s) where
     import_seeks : SeeksType (sought_at p (i + 1))
     import_seeks = formed.first_name i (subst NamesTypeFirst (sym is_import) NamesTypeFirst.import)
 
@@ -89,27 +89,28 @@ module _ (p : Rows) (t u : Table) (formed : IsFormed p) (a : IsBound p t) (b : I
 
     import_simple : (m : ℕ) (k : NameKind) → IsIdentifierOf p (i + 1) m → sought_at p m ≡ sought.Simple k → SeeksType (sought.Simple k) → t m ≡ u m
     import_simple m k h e seeks = bound_same p t u (Agreed p t u) m (a m) (b m)
-      (type_search_in p t u (HasConstantForm p t) (HasConstantForm p u) (Agreed p t u) m (subst SeeksType (sym e) seeks) (carries_there p t u) (λ c w. nothing_around m c h w)
+        (type_search_in p t u (HasConstantForm p t) (HasConstantForm p u) (Agreed p t u) m (subst SeeksType (sym e) seeks) (carries_there p t u) (λ c w. nothing_around m c h w)
         (λ sc. no_imports p formed t u i m form is_import (behind_import m h) (within_import m h)) (no_first m k e)
         (λ c w. absurd (formed.simple_leaf m k e w.first)))
-      (type_search_in p u t (HasConstantForm p u) (HasConstantForm p t) (Agreed p t u) m (subst SeeksType (sym e) seeks) (carries_back p t u) (λ c w. nothing_around m c h w)
+        (type_search_in p u t (HasConstantForm p u) (HasConstantForm p t) (Agreed p t u) m (subst SeeksType (sym e) seeks) (carries_back p t u) (λ c w. nothing_around m c h w)
         (λ sc. no_imports p formed u t i m form is_import (behind_import m h) (within_import m h)) (λ w. sym (no_first m k e w))
         (λ c w. absurd (formed.simple_leaf m k e w.first)))
 
     import_agrees : ImportSame p t u i
     import_agrees = record {
       at = identifiers_agree (i + 1) import_seeks nothing_around met import_simple (i + 1) (record { from = omega arith; before = formed.tree.nested (i + 1) });
-      known = λ c w. met (i + 1) c w.level (record { from = omega arith; before = formed.tree.nested (i + 1) }) w.refers w.type }
+      known = λ c w. met (i + 1) c w.level (record { from = omega arith; before = formed.tree.nested (i + 1) }) w.refers w.type;
+    }
 
   -- the header of a type, where what it meets is agreed on, and all round it
   header_agrees : (c n : ℕ) → NamesHeader p c n → ((e : ℕ) → InBody p e c → Agreed p t u e) → ((s : ℕ) → IsType p s → Meets p t c s → Agreed p t u s) → t n ≡ u n
   header_agrees c n header around met = identifiers_agree n (formed.header_name c n header) (λ m e i w. outside m e i w)
-    (λ m s l i e k. met s k (record { row = n; header = header; meets = NameMeets.own i e k }))
-    (λ m k i e seeks. first_agrees p t u formed a b m (λ e' w. outside m e' i w)
+      (λ m s l i e k. met s k (record { row = n; header = header; meets = NameMeets.own i e k }))
+      (λ m k i e seeks. first_agrees p t u formed a b m (λ e' w. outside m e' i w)
       (λ j looked. import_agrees j looked.form looked.import.import
-        (λ m' s l i' e' k'. met s k' (record { row = n; header = header; meets = NameMeets.import (record { last = formed.first_last n m k (formed.header_name c n header) i e; kind = k; simple = e }) looked i' e' k' })))
+      (λ m' s l i' e' k'. met s k' (record { row = n; header = header; meets = NameMeets.import (record { last = formed.first_last n m k (formed.header_name c n header) i e; kind = k; simple = e }) looked i' e' k' })))
       k e seeks)
-    n (record { from = omega arith; before = formed.tree.nested n })
+      n (record { from = omega arith; before = formed.tree.nested n })
     where
       outside : (m e : ℕ) → IsIdentifierOf p n m → InBody p e m → Agreed p t u e
       outside m e i w = around e (formed.header_place c n m e header i w)
@@ -152,7 +153,7 @@ module _ (p : Rows) (t u : Table) (formed : IsFormed p) (a : IsBound p t) (b : I
 
       own_meets : (n s : ℕ) (l : Option ℕ) → NamesHeader p c n → t n ≡ Declared s l → Agreed p t u s
       own_meets n s l h e = let k = header_type c n s l h e in
-        met s k (record { row = n; header = h; meets = NameMeets.own (record { from = omega arith; before = formed.tree.nested n }) e k })
+          met s k (record { row = n; header = h; meets = NameMeets.own (record { from = omega arith; before = formed.tree.nested n }) e k })
 
       above : (n s : ℕ) → SuperAt p t c n s → Agreed p t u s
       above n s (SuperAt.class {level = l} h e) = own_meets n s l (inl h) e
@@ -165,7 +166,8 @@ module _ (p : Rows) (t u : Table) (formed : IsFormed p) (a : IsBound p t) (b : I
   pub headers_agree : ((c : ℕ) → IsType p c → IsSettled p t c) → SameHeaders p t u
   headers_agree all = record {
     at = λ c n h. let k = formed.header c n h in agreed_names p t u c n (settle c k (all c k)).itself h;
-    types = header_type }
+    types = header_type;
+  }
 
 pub one_binding : (p : Rows) (t u : Table) → IsFormed p → IsBinding p t → IsBinding p u → (o : ℕ) → t o ≡ u o
 one_binding p t u formed x y = all_agree p t u formed x.bound y.bound (headers_agree p t u formed x.bound y.bound x.settled)

@@ -43,17 +43,17 @@ otherwise_one p t K o x s _ _ (Otherwise.unbound n k) (Otherwise.unbound m h) = 
 
 -- what looks up alike is bound alike
 pub bound_same : (p : Rows) (t u : Table) (C : ℕ → Type 0) (o : ℕ) → Look p t (HasConstantForm p t) o (t o) → Look p u (HasConstantForm p u) o (u o)
-  → Corresponds p t (HasConstantForm p t) p u (HasConstantForm p u) same same C C o o (sought_at p o)
-  → Corresponds p u (HasConstantForm p u) p t (HasConstantForm p t) same same C C o o (sought_at p o) → t o ≡ u o
+    → Corresponds p t (HasConstantForm p t) p u (HasConstantForm p u) same same C C o o (sought_at p o)
+    → Corresponds p u (HasConstantForm p u) p t (HasConstantForm p t) same same C C o o (sought_at p o) → t o ≡ u o
 bound_same p t u C o a b to from =
-  let l = look_carries p t (HasConstantForm p t) p u (HasConstantForm p u) same same C C o o (name p o) (sought_at p o) to from (t o) a in
-  sym (moved_same (t o)) ∙ answer_unique _ _ (otherwise_one p u (HasConstantForm p u) o (name p o) (sought_at p o)) (moved same (t o)) (u o) l b
+    let l = look_carries p t (HasConstantForm p t) p u (HasConstantForm p u) same same C C o o (name p o) (sought_at p o) to from (t o) a in
+    sym (moved_same (t o)) ∙ answer_unique _ _ (otherwise_one p u (HasConstantForm p u) o (name p o) (sought_at p o)) (moved same (t o)) (u o) l b
 
 -- ---- names of types
 
 pub seeks_past : (p : Rows) (n : ℕ) → length p ≤ n → SeeksType (sought_at p n) → ⊥
 seeks_past p n le h = let e = get_or_past p n (record { label = is.Skip; name = []; parent = n; end = n + 1; previous = n }) le in
-  subst (λ r. SeeksType (sought_by r.label)) e h
+    subst (λ r. SeeksType (sought_by r.label)) e h
 
 kind_seeks : (k : NameKind) (s : Sought) → SeeksKind k s → SeeksType (sought.Simple k) → SeeksType s
 kind_seeks k _ SeeksKind.simple h = h
@@ -75,20 +75,22 @@ pub no_imports : (p : Rows) → IsFormed p → (v w : Table) (i o : ℕ) (form :
 no_imports p formed v w i o form e lo hi = record {
   single = λ d x. absurd (formed.imports_apart i o x.holds.top form e lo hi x.holds.inside);
   static = λ d k x. absurd (formed.imports_apart i o x.holds.top form e lo hi x.holds.inside);
-  demanded = λ d x. absurd (formed.imports_apart i o x.holds.top form e lo hi x.holds.inside) }
+  demanded = λ d x. absurd (formed.imports_apart i o x.holds.top form e lo hi x.holds.inside);
+}
 
 module _ (p : Rows) (t u : Table) (formed : IsFormed p) (a : IsBound p t) (b : IsBound p u) (h : SameHeaders p t u) where
   type_same_at : (o : ℕ) → SeeksType (sought_at p o) → SameImports p t u o → SameImports p u t o → SameFirst p t u o → t o ≡ u o
   type_same_at o seeks imports back first = bound_same p t u (IsType p) o (a o) (b o)
-    (type_search p t u (HasConstantForm p t) (HasConstantForm p u) o seeks h imports first)
-    (type_search p u t (HasConstantForm p u) (HasConstantForm p t) o seeks (turned_headers p t u h) back (λ w. sym (first w)))
+      (type_search p t u (HasConstantForm p t) (HasConstantForm p u) o seeks h imports first)
+      (type_search p u t (HasConstantForm p u) (HasConstantForm p t) o seeks (turned_headers p t u h) back (λ w. sym (first w)))
 
   inside_too : (i n : ℕ) → i < n → n < end p i → parent p (n + 1) ≡ n → n + 1 < end p i
   inside_too i n lo hi e = elim (side (n + 1)) [
-      inl l ↦ (let z = formed.tree.held (n + 1) l (omega arith) in let y = formed.tree.apart i n lo hi in
+    | inl l ↦ (let z = formed.tree.held (n + 1) l (omega arith) in let y = formed.tree.apart i n lo hi in
         let w = subst (λ m. n + 1 < end p m) e z in omega arith)
     | inr g ↦ (let z = ap (λ r. r.parent) (get_or_past p (n + 1) (record { label = is.Skip; name = []; parent = n + 1; end = n + 1 + 1; previous = n + 1 }) g) in
-        let y : n + 1 ≡ n = sym z ∙ e in absurd (omega arith)) ]
+        let y : n + 1 ≡ n = sym z ∙ e in absurd (omega arith))
+  ]
     where
       side : (m : ℕ) → (m < length p) ⊎ (length p ≤ m)
       side m = grind arith
@@ -96,11 +98,13 @@ module _ (p : Rows) (t u : Table) (formed : IsFormed p) (a : IsBound p t) (b : I
   imports_from : (k o : ℕ) → length p ≤ o + k → (n i : ℕ) (form : ImportKind) → o ≤ n → label p i ≡ is.Import form → i < n → n < end p i → SeeksType (sought_at p n) → t n ≡ u n
   imports_from zero o le n i form after e lo hi seeks = absurd (seeks_past p n (omega arith) seeks)
   imports_from (suc k) o le n i form after e lo hi seeks = type_same_at n seeks (no_imports p formed t u i n form e lo hi) (no_imports p formed u t i n form e lo hi)
-    (λ below. imports_from k (o + 1) (omega arith) (n + 1) i form (omega arith) e (omega arith) (inside_too i n lo hi below) (below_seeks p n formed (sought_at p n) refl seeks below))
+      (λ below. imports_from k (o + 1) (omega arith) (n + 1) i form (omega arith) e (omega arith) (inside_too i n lo hi below) (below_seeks p n formed (sought_at p n) refl seeks below))
 
   pub import_names_agree : SameImportNames p t u
-  import_names_agree = record { at = λ i form e. imports_from (length p) 0 (omega arith) (i + 1) i form (omega arith) e (omega arith) (formed.import_name i form e)
-    (formed.first_name i (subst NamesTypeFirst (sym e) NamesTypeFirst.import)) }
+  import_names_agree = record {
+    at = λ i form e. imports_from (length p) 0 (omega arith) (i + 1) i form (omega arith) e (omega arith) (formed.import_name i form e)
+        (formed.first_name i (subst NamesTypeFirst (sym e) NamesTypeFirst.import));
+  }
 
 pub record SameTypes (p : Rows) (t u : Table) : Type 0 where
   pub at : (n : ℕ) → SeeksType (sought_at p n) → t n ≡ u n
@@ -115,8 +119,8 @@ module _ (p : Rows) (t u : Table) (formed : IsFormed p) (a : IsBound p t) (b : I
   types_from : (k o : ℕ) → length p ≤ o + k → (n : ℕ) → o ≤ n → SeeksType (sought_at p n) → t n ≡ u n
   types_from zero o le n after seeks = absurd (seeks_past p n (omega arith) seeks)
   types_from (suc k) o le n after seeks =
-    let names = import_names_agree p t u formed a b h in
-    type_same_at p t u formed a b h n seeks (same_imports p t u h names n) (same_imports p u t (turned_headers p t u h) (turned_names p t u names) n)
+      let names = import_names_agree p t u formed a b h in
+      type_same_at p t u formed a b h n seeks (same_imports p t u h names n) (same_imports p u t (turned_headers p t u h) (turned_names p t u names) n)
       (λ below. types_from k (o + 1) (omega arith) (n + 1) (omega arith) (below_seeks p n formed (sought_at p n) refl seeks below))
 
   pub types_agree : SameTypes p t u
@@ -147,4 +151,5 @@ module _ (p : Rows) (t u : Table) (formed : IsFormed p) (types : SameTypes p t u
   pub sees_same : Sees p t p u same
   sees_same = record {
     has_type = λ d a w. subst (HasType p u d) (sym (type_same a)) (has_type_same d a w);
-    parameters = λ m all w. subst (Parameters p u m) (sym (types_same all)) (parameters_same m (m + 1) all w) }
+    parameters = λ m all w. subst (Parameters p u m) (sym (types_same all)) (parameters_same m (m + 1) all w);
+  }

@@ -63,8 +63,11 @@ module _ (p : Rows) (t u : Table) (formed : IsFormed p) (types : SameTypes p t u
   pub form_same : (n : ℕ) → HasConstantForm p t n → HasConstantForm p u n
   form_same n (HasConstantForm.simple e) = HasConstantForm.simple e
   form_same n (HasConstantForm.of_type {b = b} e w) = HasConstantForm.of_type e (record {
-    first = w.first; level = w.level; type = w.type;
-    refers = sym (names.at (n + 1) (formed.name_below n (n + 1) (name_label (label p n) (sought_at p n) refl kind.Variable (inr e)) w.first (omega arith))) ∙ w.refers })
+    first = w.first;
+    level = w.level;
+    type = w.type;
+    refers = sym (names.at (n + 1) (formed.name_below n (n + 1) (name_label (label p n) (sought_at p n) refl kind.Variable (inr e)) w.first (omega arith))) ∙ w.refers;
+  })
 
   form_name : (n : ℕ) → HasConstantForm p t n → IsNameLabel (label p n)
   form_name n (HasConstantForm.simple e) = name_label (label p n) (sought_at p n) refl kind.Variable (inl e)
@@ -79,18 +82,18 @@ module _ (p : Rows) (t u : Table) (formed : IsFormed p) (types : SameTypes p t u
     constant_same n w (ConstantOf.unary {v = v} e i k c) = ConstantOf.unary e i (constant_same (n + 1) v k) c
     constant_same n w (ConstantOf.binary {u = a} {v = v} e i j k l c) = ConstantOf.binary e i (constant_same (n + 1) a j) k (constant_same (end p (n + 1)) v l) c
     constant_same n w (ConstantOf.conditional {u = a} {v = v} e i j k l m o c) =
-      ConstantOf.conditional e i (constant_same (n + 1) _ j) k (constant_same (end p (n + 1)) a l) m (constant_same (end p (end p (n + 1))) v o) c
+        ConstantOf.conditional e i (constant_same (n + 1) _ j) k (constant_same (end p (n + 1)) a l) m (constant_same (end p (end p (n + 1))) v o) c
 
     pub variable_same : (d : ℕ) (v : Const) → ConstantVariable p t (HasConstantForm p t) d v → ConstantVariable p u (HasConstantForm p u) d v
     variable_same d w (ConstantVariable.variable {a = a} {v = v} x f h i j k l c) =
-      ConstantVariable.variable x f (has_type_same p t u formed types d a h) i j k (constant_same (d + 2) v l) c
+        ConstantVariable.variable x f (has_type_same p t u formed types d a h) i j k (constant_same (d + 2) v l) c
 
 -- ---- conversions
 
 module _ (p : Rows) (t u : Table) (formed : IsFormed p) (h : SameHeaders p t u) where
   pub subtype_same : (a b : RowType) → Subtype p t a b → Subtype p u a b
   subtype_same a b w = subst (λ x. Subtype p u x b) (type_same a) (subst (λ x. Subtype p u (moved_type same a) x) (type_same b)
-    (subtype_over p t p u same same (IsType p) (IsType p) (carries p t u h) (super_wide p t formed) a b w))
+      (subtype_over p t p u same same (IsType p) (IsType p) (carries p t u h) (super_wide p t formed) a b w))
 
   pub castable_same : (a b : RowType) → IsCastable p t a b → IsCastable p u a b
   castable_same _ _ (IsCastable.numbers i j) = IsCastable.numbers i j
@@ -127,10 +130,9 @@ module _ (p : Rows) (t u : Table) (formed : IsFormed p) (h : SameHeaders p t u) 
   compound_same : (op : Symbol) (a b : RowType) → CompoundType p t op a b → CompoundType p u op a b
   compound_same op _ b (CompoundType.text e w i) = CompoundType.text e w i
   compound_same op _ _ (CompoundType.primitive {a = a} {b = b} {r = r} w c) =
-    CompoundType.primitive (binary_same (class_of op) (plain a) (plain b) (plain r) w) (castable_same (plain r) (plain a) c)
+      CompoundType.primitive (binary_same (class_of op) (plain a) (plain b) (plain r) w) (castable_same (plain r) (plain a) c)
 
   module _ (types : SameTypes p t u) (names : SameNames p t u) (types' : SameTypes p u t) (names' : SameNames p u t) where
-
     own_same : (m k : ℕ) (a b r : Element) → HasOwnType p t (HasConstantForm p t) m k a b r → HasOwnType p u (HasConstantForm p u) m k a b r
     own_same m k _ _ _ HasOwnType.byte_short = HasOwnType.byte_short
     own_same m k _ _ _ HasOwnType.short_byte = HasOwnType.short_byte
@@ -184,13 +186,13 @@ module _ (p : Rows) (t u : Table) (formed : IsFormed p) (h : SameHeaders p t u) 
       typing_same n _ le (TypeOf.pre_step {m = m} e i w r) = TypeOf.pre_step e i (typing_same m _ (first_after n m le i) w) r
       typing_same n _ le (TypeOf.post_step {m = m} e i w r) = TypeOf.post_step e i (typing_same m _ (first_after n m le i) w) r
       typing_same n r le (TypeOf.binary {m = m} {k = k} {op = op} {a = a} {b = b} e i v j w c) =
-        TypeOf.binary e i (typing_same m a (first_after n m le i) v) j (typing_same k b (second_after n k le j) w) (binary_same (class_of op) a b r c)
+          TypeOf.binary e i (typing_same m a (first_after n m le i) v) j (typing_same k b (second_after n k le j) w) (binary_same (class_of op) a b r c)
       typing_same n r le (TypeOf.conditional {l = l} {m = m} {k = k} {a = a} {b = b} e i v j w f x c) =
-        TypeOf.conditional e i (typing_same l _ (first_after n l le i) v) j (typing_same m a (second_after n m le j) w) f (typing_same k b (third_after n k le f) x)
+          TypeOf.conditional e i (typing_same l _ (first_after n l le i) v) j (typing_same m a (second_after n m le j) w) f (typing_same k b (third_after n k le f) x)
           (conditional_same m k a b r c)
       typing_same n a le (TypeOf.assigned {m = m} e i w) = TypeOf.assigned e i (typing_same m a (first_after n m le i) w)
       typing_same n a le (TypeOf.compound {m = m} {k = k} {op = op} {b = b} e f i v j w c) =
-        TypeOf.compound e f i (typing_same m a (first_after n m le i) v) j (typing_same k b (second_after n k le j) w) (compound_same op a b c)
+          TypeOf.compound e f i (typing_same m a (first_after n m le i) v) j (typing_same k b (second_after n k le j) w) (compound_same op a b c)
 
 -- ---- the types of expressions are of types that are declared
 
@@ -297,6 +299,6 @@ typing_known p t K n _ (TypeOf.pre_step {m = m} {a = a} e i w r) = typing_known 
 typing_known p t K n _ (TypeOf.post_step {m = m} {a = a} e i w r) = typing_known p t K m (plain a) w
 typing_known p t K n r (TypeOf.binary {op = op} {a = a} {b = b} e i v j w c) = binary_known p t (class_of op) a b r c
 typing_known p t K n r (TypeOf.conditional {m = m} {k = k} {a = a} {b = b} e i v j w f x c) =
-  conditional_known p t K m k a b r c (typing_known p t K m a w) (typing_known p t K k b x)
+    conditional_known p t K m k a b r c (typing_known p t K m a w) (typing_known p t K k b x)
 typing_known p t K n a (TypeOf.assigned {m = m} e i w) = typing_known p t K m a w
 typing_known p t K n a (TypeOf.compound {m = m} e f i v j w c) = typing_known p t K m a v

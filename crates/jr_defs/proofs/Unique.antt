@@ -17,11 +17,11 @@ pub answer_unique : (C : ℕ → Option ℕ → Type 0) (Q : Referent → Type 0
 answer_unique C Q only _ _ (one d l h same) (one e m k other) = let w = other d l h in let x = w.0 in let y = w.1 in cc
 answer_unique C Q only _ b (one d l h same) (none never q) = absurd (never d l h)
 answer_unique C Q only _ _ (one d l h same) (several e r m k i j apart) =
-  let v = same e m i in let w = same r k j in let x = v.0 in let y = v.1 in let z = w.0 in let a = w.1 in absurd (apart (x ∙ sym z, y ∙ sym a))
+    let v = same e m i in let w = same r k j in let x = v.0 in let y = v.1 in let z = w.0 in let a = w.1 in absurd (apart (x ∙ sym z, y ∙ sym a))
 answer_unique C Q only a _ (none never q) (one e m k other) = absurd (never e m k)
 answer_unique C Q only a b (none never q) (none no' r) = only a b q r
 answer_unique C Q only a _ (none never q) (several e r m k i j apart) = absurd (never e m i)
 answer_unique C Q only _ _ (several e r m k i j apart) (one d l h same) =
-  let v = same e m i in let w = same r k j in let x = v.0 in let y = v.1 in let z = w.0 in let a = w.1 in absurd (apart (x ∙ sym z, y ∙ sym a))
+    let v = same e m i in let w = same r k j in let x = v.0 in let y = v.1 in let z = w.0 in let a = w.1 in absurd (apart (x ∙ sym z, y ∙ sym a))
 answer_unique C Q only _ b (several e r m k i j apart) (none never q) = absurd (never e m i)
 answer_unique C Q only _ _ (several e r m k i j apart) (several e' r' m' k' i' j' apart') = refl

@@ -1,5 +1,6 @@
 -- Static contexts, and the classes that have an instance at a place (JLS 8.1.3, 8.3.2, 8.4.3.2, 8.8.7.1, 15.8.3, 15.8.4).
 use Rattle.std.specs.Prelude.{◌≡◌, ◌⊎◌, ℕ, ◌<◌, ◌≤◌, Bool, IsTrue}
+use Rattle.jr_tree.specs.declared.tree.ThisOrSuper.{ThisOrSuper}
 use Rattle.jr_rows.specs.declared.label.Label.{Label}
 use Rattle.jr_rows.specs.declared.label.Label.TheVariants as is
 use Rattle.jr_rows.specs.Rows.{Rows, label, parent, end}
@@ -28,7 +29,8 @@ pub record InStaticContext (p : Rows) (o : ℕ) : Type 0 where
 -- the place is an argument of a call of a constructor, of the innermost class
 pub record InConstructorCall (p : Rows) (o : ℕ) : Type 0 where
   pub call : ℕ
-  pub calls : ((which : _) → label p call ≡ is.ConstructorCall which → ⊥) → ⊥
+  pub target : ThisOrSuper
+  pub calls : label p call ≡ is.ConstructorCall target
   pub after : call < o
   pub before : o < end p call
 

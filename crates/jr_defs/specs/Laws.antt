@@ -1,15 +1,18 @@
 -- Laws of the definitions.
-use Rattle.std.specs.Prelude.{◌≡◌, ℕ, Bool, IsTrue, Option}
+use Rattle.std.specs.Prelude.{◌≡◌, ℕ, Bool, IsTrue, List, Option}
+use Rattle.std.specs.List.{AllByRecursion}
 use Rattle.jr_base.specs.declared.text.Text.{Text}
 use Rattle.jr_rows.specs.declared.label.Sought.{Sought}
-use Rattle.jr_rows.specs.Rows.{Rows}
+use Rattle.jr_tree.specs.declared.tree.Unit as declared_unit
+use Rattle.jr_tree.specs.Shape.{IsShaped}
+use Rattle.jr_rows.specs.Rows.{Rows, program_rows}
 use Rattle.jr_defs.specs.declared.referent.Referent.{Referent}
 use Rattle.jr_defs.specs.declared.referent.Referent.TheVariants.{Declared}
 use Rattle.jr_defs.specs.Referents.{Table}
-use Rattle.jr_defs.specs.Declarations.{IsType}
+use Rattle.jr_defs.specs.Declarations.{IsType, IsObject}
 use Rattle.jr_defs.specs.Lookup.{LookFor}
 use Rattle.jr_defs.specs.Headers.{NamesHeader}
-use Rattle.jr_defs.specs.Binding.{IsBound}
+use Rattle.jr_defs.specs.Binding.{IsBound, IsBinding}
 use Rattle.jr_defs.specs.Formed.{IsFormed}
 use Rattle.jr_defs.specs.Correspondence.{Corresponds, moved}
 
@@ -24,9 +27,9 @@ OneAnswer = (p : Rows) (t : Table) (k : ℕ → Bool) (o : ℕ) (x : Text) (s : 
 -- what corresponding occurrences refer to corresponds
 abbrev pub LookCarries : Type 0
 LookCarries = (p q : Rows) (t u : Table) (k l c d : ℕ → Bool) (f g : ℕ → ℕ) (o o' : ℕ) (x : Text) (s : Sought) (a : Referent)
-  → Corresponds p t (Picked k) q u (Picked l) f g (Picked c) (Picked d) o o' s
-  → Corresponds q u (Picked l) p t (Picked k) g f (Picked d) (Picked c) o' o s
-  → LookFor p t (Picked k) o x s a → LookFor q u (Picked l) o' x s (moved f a)
+    → Corresponds p t (Picked k) q u (Picked l) f g (Picked c) (Picked d) o o' s
+    → Corresponds q u (Picked l) p t (Picked k) g f (Picked d) (Picked c) o' o s
+    → LookFor p t (Picked k) o x s a → LookFor q u (Picked l) o' x s (moved f a)
 
 -- the tables agree on the names in headers, and there name types
 pub record SameHeaders (p : Rows) (t u : Table) : Type 0 where
@@ -36,3 +39,20 @@ pub record SameHeaders (p : Rows) (t u : Table) : Type 0 where
 -- tables that agree with themselves, and with each other on headers, are one
 abbrev pub BindingsAgree : Type 0
 BindingsAgree = (p : Rows) (t u : Table) → IsFormed p → IsBound p t → IsBound p u → SameHeaders p t u → (o : ℕ) → t o ≡ u o
+
+-- a program has at most one binding
+abbrev pub OneBinding : Type 0
+OneBinding = (p : Rows) (t u : Table) → IsFormed p → IsBinding p t → IsBinding p u → (o : ℕ) → t o ≡ u o
+
+-- Object names nothing in its header, as in the prelude
+abbrev pub HasBareObject : Rows → Type 0
+HasBareObject p = (c n : ℕ) → IsObject p c → NamesHeader p c n → ⊥
+
+-- rows of shaped units are formed
+abbrev pub ProgramsAreFormed : Type 0
+ProgramsAreFormed = (units : List declared_unit.Unit) → AllByRecursion IsShaped units → HasBareObject (program_rows units) → IsFormed (program_rows units)
+
+-- so a program of shaped units has at most one binding
+abbrev pub OneBindingOfUnits : Type 0
+OneBindingOfUnits = (units : List declared_unit.Unit) (t u : Table) → AllByRecursion IsShaped units → HasBareObject (program_rows units)
+    → IsBinding (program_rows units) t → IsBinding (program_rows units) u → (o : ℕ) → t o ≡ u o

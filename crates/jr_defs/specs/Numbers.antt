@@ -101,7 +101,7 @@ pub data IsTarget (p : Rows) (t : Table) (o : ℕ) : Target → Type 0 where
   package_part : t o ≡ r.Package → IsPart p t o → IsTarget p t o target.PackagePart
   type_part : {d : ℕ} {level : Option ℕ} {id : TypeId} → t o ≡ r.Declared d level → IsPart p t o → IsTypeId p d id → IsTarget p t o (target.TypePart id)
   declared : {d : ℕ} {level : Option ℕ} {decl : DeclId} {through : Option TypeId} → t o ≡ r.Declared d level → (IsPart p t o → ⊥) → IsDeclaration p d decl
-    → IsLevel p level through → IsTarget p t o (target.Decl decl through)
+      → IsLevel p level through → IsTarget p t o (target.Decl decl through)
 
 -- the targets are those of the table, one for each occurrence
 pub record AreTargets (p : Rows) (t : Table) (targets : List (OccId × Target)) : Type 0 where
@@ -111,7 +111,7 @@ pub record AreTargets (p : Rows) (t : Table) (targets : List (OccId × Target)) 
 -- occurrences by their units, then by their nodes, then by their parts
 abbrev pub ComesBefore : OccId → OccId → Type 0
 ComesBefore a b = (a.at.cu.0 < b.at.cu.0) ⊎ ((a.at.cu.0 ≡ b.at.cu.0) × (a.at.node.0 < b.at.node.0))
-  ⊎ ((a.at ≡ b.at) × (a.part < b.part))
+    ⊎ ((a.at ≡ b.at) × (a.part < b.part))
 
 pub data AreRising : List (OccId × Target) → Type 0 where
   none : AreRising []

@@ -34,7 +34,7 @@ pub record IsUnitOf (path : List ℕ) (bytes : List ℕ) (u : UnitAt) : Type 0 w
 pub data AreUnitsOf : List (List ℕ × List ℕ) → List UnitAt → Type 0 where
   none : AreUnitsOf [] []
   more : {path bytes : List ℕ} {u : UnitAt} {found : List (List ℕ × List ℕ)} {units : List UnitAt} → IsUnitOf path bytes u → AreUnitsOf found units
-    → AreUnitsOf ((path, bytes) ∷ found) (u ∷ units)
+      → AreUnitsOf ((path, bytes) ∷ found) (u ∷ units)
 
 -- the units of the prelude, before all others
 abbrev pub prelude_files : List (List ℕ × List ℕ)

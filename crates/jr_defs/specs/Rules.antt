@@ -108,13 +108,13 @@ pub data Breaks (p : Rows) (t : Table) : ℕ → ℕ → Type 0 where
   import_and_type : {u i d e : ℕ} → NamesAlone p t u i d → DeclaresTop p u e → name p d ≡ name p e → (d ≡ e → ⊥) → Breaks p t 8 (i + 1)
   import_not_canonical : {u i d : ℕ} {form : ImportKind} → ImportOf p u form i → ImportNames p t i d → (CanonicalName p d (spelled p (i + 1)) → ⊥) → Breaks p t 9 (i + 1)
   not_accessible : {o d : ℕ} {level : Option ℕ} {through : Option RowType} → IsOccurrence p o → t o ≡ Declared d level → Through p t o through
-    → (IsAccessible p t d o through → ⊥) → Breaks p t 10 o
+      → (IsAccessible p t d o through → ⊥) → Breaks p t 10 o
   final_superclass : {c n d : ℕ} {level : Option ℕ} → NamesSuperclass p c n → t n ≡ Declared d level → IsFinal p d → Breaks p t 13 n
   interface_as_superclass : {c n d : ℕ} {level : Option ℕ} → NamesSuperclass p c n → t n ≡ Declared d level → IsInterface p d → Breaks p t 13 n
   inner_superclass : {c n d : ℕ} {level : Option ℕ} → NamesSuperclass p c n → t n ≡ Declared d level → IsInner p d → Breaks p t 13 n
   class_as_superinterface : {c n d : ℕ} {level : Option ℕ} → NamesSuperinterface p c n → t n ≡ Declared d level → IsClass p d → Breaks p t 13 n
   superinterface_twice : {c n m d : ℕ} {level other : Option ℕ} → NamesSuperinterface p c n → NamesSuperinterface p c m → n < m → t n ≡ Declared d level
-    → t m ≡ Declared d other → Breaks p t 13 m
+      → t m ≡ Declared d other → Breaks p t 13 m
   imports_nothing : {u i : ℕ} → ImportOf p u importing.StaticSingle i → ((d : ℕ) → ImportedBy p t u i d → ⊥) → Breaks p t 47 i
   imports_another : {u i j d e : ℕ} → ImportedBy p t u i d → IsType p d → BringsType p t u j e → (i ≡ j → ⊥) → name p d ≡ name p e → (d ≡ e → ⊥) → Breaks p t 47 i
   imports_beside : {u i d e : ℕ} → ImportedBy p t u i d → IsType p d → DeclaresTop p u e → name p d ≡ name p e → (d ≡ e → ⊥) → Breaks p t 47 i

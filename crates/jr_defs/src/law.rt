@@ -1,20 +1,32 @@
 // The laws of the definitions.
-ghost use Rattle.jr_defs.specs.Laws.{OneAnswer, LookCarries, BindingsAgree};
+ghost use Rattle.jr_defs.specs.Laws.{OneAnswer, LookCarries, BindingsAgree, OneBinding, OneBindingOfUnits, ProgramsAreFormed};
 
 /// Lookup has at most one answer.
 pub fn lookup_is_unique()
     ensures { OneAnswer }
-{
-}
+{}
 
 /// What corresponding occurrences of two programs refer to corresponds: lookup sees how a name is spelled only at the one that is looked up.
 pub fn lookup_carries()
     ensures { LookCarries }
-{
-}
+{}
 
 /// Two tables that agree with themselves, and with each other on the headers of types, are one.
 pub fn bindings_agree()
     ensures { BindingsAgree }
-{
-}
+{}
+
+/// A program has at most one binding.
+pub fn at_most_one_binding()
+    ensures { OneBinding }
+{}
+
+/// The rows of shaped units are formed as the law of one binding asks.
+pub fn programs_are_formed()
+    ensures { ProgramsAreFormed }
+{}
+
+/// A program of shaped units has at most one binding.
+pub fn units_have_at_most_one_binding()
+    ensures { OneBindingOfUnits }
+{}

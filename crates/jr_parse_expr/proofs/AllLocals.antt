@@ -1,6 +1,6 @@
 -- Lists of initializers, and expressions of any number of levels, are read the same whatever stands behind.
-use Rattle.std.proofs.Common.{◌≡◌, ℕ, zero, suc, ◌+◌, ◌-◌, zero-add, ◌<◌, ◌≤◌, Bool, true, false, ◌||◌, cond, List, [], ◌∷◌, ◌++◌, length, Option, Some, None, Ok, Err, refl, sym, ap, ◌∙◌, subst, inl, inr, arith}
-use Rattle.std.proofs.lemmas.Bool.{cases_Bool, or_parts, true≢false}
+use Rattle.std.proofs.Common.{◌≡◌, ℕ, zero, suc, ◌+◌, ◌-◌, zero-add, ◌≤◌, Bool, true, false, ◌||◌, cond, List, [], ◌∷◌, ◌++◌, length, Option, Some, None, Ok, Err, refl, sym, ap, ◌∙◌, subst, arith}
+use Rattle.std.proofs.lemmas.Bool.{or_parts}
 use Rattle.jr_base.specs.declared.kind.Kind.{Kind}
 use Rattle.jr_base.specs.declared.kind.Kind.TheVariants as kind
 use Rattle.jr_base.specs.declared.kind.Symbol.{Symbol}
@@ -10,7 +10,7 @@ use Rattle.jr_tree.specs.Levels.{is_unary, is_step}
 use Rattle.jr_tree.specs.Mirror.Exprs as x
 use Rattle.jr_parse_laws.specs.declared.fault.Fault.{Fault}
 use Rattle.jr_parse_laws.specs.declared.fault.Fault.TheVariants.{NoTree, TooDeep, OutOfMemory}
-use Rattle.jr_parse_laws.specs.Parsers.{Outcome, Parser, and_then, first, is_at, is_symbol, pure, refuse, deep, expect, ◌>>=◌, ◌>>◌}
+use Rattle.jr_parse_laws.specs.Parsers.{Outcome, Parser, and_then, first, is_at, is_symbol, pure, refuse, expect, ◌>>=◌, ◌>>◌}
 use Rattle.jr_parse_laws.specs.Viable.{Wider, Alike}
 use Rattle.jr_parse_laws.proofs.Outcomes.{and_then_when, cond_same, no_first, ok_err, err_is}
 use Rattle.jr_parse_expr.specs.Starts.{begins_cast_operand, begins_operand, begins_primary, is_plain_literal, starts_expr, starts_list, starts_init, no_level}
@@ -20,7 +20,7 @@ use Rattle.jr_parse_expr.proofs.Written.{init_longer}
 use Rattle.jr_parse_expr.proofs.Asked.{ReadsExprs, ReadsLists}
 use Rattle.jr_parse_expr.proofs.Initializers.{init_sound}
 use Rattle.jr_parse_expr.proofs.ExprReads.{all_read}
-use Rattle.jr_parse_expr.proofs.Locals.{Again, Kept, Local, here, along, local_pure, local_refuse, kept_bind, local_skip, local_expect, looks_at, looks_first, kept_same, kept_if, local_if}
+use Rattle.jr_parse_expr.proofs.Locals.{Again, Kept, Local, here, along, local_pure, kept_bind, local_skip, local_expect, looks_at, looks_first, kept_same, kept_if, local_if}
 use Rattle.jr_parse_expr.proofs.ExprLocals.{NearExprs, bind, first_prefix, first_operand, first_operand_is}
 use Rattle.jr_parse_expr.proofs.LevelLocals.{operations_local}
 
@@ -236,12 +236,12 @@ all_local (suc room) (suc other) le =
 
 -- ---- the fault is the same whatever follows its token
 
-wider_le : (f : Fault) (room other : ℕ) → Wider f room other → room ≤ other
+pub wider_le : (f : Fault) (room other : ℕ) → Wider f room other → room ≤ other
 wider_le NoTree room other h = h
 wider_le TooDeep room other h = omega arith
 wider_le OutOfMemory room other h = absurd h
 
-alone_by : {A : Type 0} (room other : ℕ) (le : room ≤ other) (q : Parser A) (ts : List Kind) (o : Outcome A) (f : Fault) (rest : List Kind) → o ≡ Err (f, rest) → Kept room other le q ts o → Wider f room other → Again q (λ w. Err (f, w)) ts rest
+pub alone_by : {A : Type 0} (room other : ℕ) (le : room ≤ other) (q : Parser A) (ts : List Kind) (o : Outcome A) (f : Fault) (rest : List Kind) → o ≡ Err (f, rest) → Kept room other le q ts o → Wider f room other → Again q (λ w. Err (f, w)) ts rest
 alone_by room other le q ts (Ok r) f rest e k wider = absurd (ok_err e)
 alone_by room other le q ts (Err stop) f rest e k wider =
     subst (λ (stop : Fault × List Kind). Again q (λ w. Err (stop.0, w)) ts stop.1) (err_is e) (k (subst (λ (stop : Fault × List Kind). Wider stop.0 room other) (sym (err_is e)) wider))

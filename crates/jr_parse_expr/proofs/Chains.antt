@@ -1,5 +1,5 @@
 -- Reading what stands behind an operand: dots, brackets, calls and steps.
-use Rattle.std.proofs.Common.{◌≡◌, ℕ, suc, ◌<◌, ◌≤◌, true, false, not, List, [], ◌∷◌, Option, Some, None, Ok, refl, sym, ap, ◌∙◌, subst, inl, inr, arith}
+use Rattle.std.proofs.Common.{◌≡◌, ℕ, suc, ◌<◌, ◌≤◌, true, false, not, List, [], ◌∷◌, Option, Some, None, Ok, refl, sym, ap, ◌∙◌, subst, inl, inr, arith, Err}
 use Rattle.std.specs.Prelude.{⊤}
 use Rattle.std.proofs.lemmas.Bool.{not-true, not_from_false, lt-ltb, true≢false}
 use Rattle.jr_base.specs.declared.text.Text.{Text}
@@ -10,6 +10,7 @@ use Rattle.jr_base.specs.declared.kind.Symbol.TheVariants as y
 use Rattle.jr_tree.specs.Shape.{level, is_name, is_new_array, is_least, IsShapedExpr}
 use Rattle.jr_tree.specs.Depth.{expr_depth}
 use Rattle.jr_tree.specs.Mirror.Exprs as x
+use Rattle.jr_parse_laws.specs.declared.fault.Fault.{Fault}
 use Rattle.jr_parse_laws.specs.Parsers.{Parser, and_then, first, symbol_of, symbol_at, is_symbol, begins_with, expect, identifier}
 use Rattle.jr_parse_laws.proofs.Outcomes.{bind_ok, chosen, ok_is, some_is}
 use Rattle.jr_parse_laws.proofs.Exact.{expect_sound, identifier_token}
@@ -17,7 +18,7 @@ use Rattle.jr_parse_expr.specs.Exprs.{Lead, Nothing, arguments, call_or, selecte
 use Rattle.jr_parse_expr.specs.Writing.{write_expr, write_exprs}
 use Rattle.jr_parse_expr.specs.Follow.{symbol_next, has_suffix, LastEnds}
 use Rattle.jr_parse_expr.proofs.Followers.{last_ends}
-use Rattle.jr_parse_expr.proofs.Loops.{stays, goes, keeps, unrolls}
+use Rattle.jr_parse_expr.proofs.Loops.{Halt, stays, goes, keeps, unrolls, halts}
 use Rattle.jr_parse_expr.proofs.Steps.{Suffixed, Ended, Selects, Indexes, Steps, suffix_view, suffix_none, takes_dot, takes_bracket, takes_step}
 use Rattle.jr_parse_expr.proofs.Asked.{ReadsExprs, ReadsLists, Operand}
 use Rattle.jr_parse_expr.proofs.Arguments.{whole_read}
@@ -34,7 +35,7 @@ pub symbol_is_of : (token : Kind) (s : Symbol) → symbol_of token ≡ Some s �
 symbol_is_of (kind.Sym t) s h = ap kind.Sym (some_is h)
 symbol_is_of token s h = absurd (cc)
 
-no_name_before_dot : (e : x.Expr) (token : Kind) → LastEnds e (Some token) → token ≡ kind.Sym y.Dot → is_name e ≡ false
+pub no_name_before_dot : (e : x.Expr) (token : Kind) → LastEnds e (Some token) → token ≡ kind.Sym y.Dot → is_name e ≡ false
 no_name_before_dot (x.NameExpr n) token ended h = absurd (true≢false (subst (λ token. begins_with y.Dot (Some token) ≡ false) h ended.0))
 no_name_before_dot e token ended h = refl
 
@@ -81,7 +82,7 @@ module _ (room : ℕ) (inner : Lead → ℕ → Parser x.Expr) (list : Parser x.
   suffix_ended left o q (Indexes h t l n) s = absurd (none_some (sym s ∙ n))
   suffix_ended left o q (Steps op h t l n) s = absurd (none_some (sym s ∙ n))
 
-  abbrev step : x.Expr → List Kind → Option (Parser x.Expr)
+  abbrev pub step : x.Expr → List Kind → Option (Parser x.Expr)
   step left ts = suffix room inner list left (symbol_at ts)
 
   pub raises : (left : x.Expr) (ts : List Kind) (p : Parser x.Expr) → step left ts ≡ Some p → (us : List Kind) (e : x.Expr) (rest : List Kind) → p us ≡ Ok (e, rest) → expr_depth left < expr_depth e
@@ -199,6 +200,15 @@ module _ (room : ℕ) (inner : Lead → ℕ → Parser x.Expr) (list : Parser x.
           written = found.written ∙ ap (λ token. write_expr left (token ∷ us)) (symbol_is_of token op h);
           ended = tt;
         })
+
+    -- where the chain stopped
+    pub suffixes_halt : (ts : List Kind) (left : x.Expr) (us : List Kind) (stop : Fault × List Kind) → Operand room ts (left, us) → suffixes room inner list left us ≡ Err stop
+        → Halt room inner list step (suffixes_from room inner list) (λ left ts. refl) (λ turns left ts. refl) raises (λ left us. Operand room ts (left, us)) stop
+    unfolding suffixes
+    suffixes_halt ts left us stop found h =
+        halts room inner list step (suffixes_from room inner list) (λ left ts. refl) (λ turns left ts. refl) raises (λ left us. Operand room ts (left, us))
+        (λ left token us p e rest found s low g. suffix_sound ts left token us (step left (token ∷ us)) p (e, rest) found (suffix_view room inner list left (symbol_of token)) s low g)
+        (λ left. refl) (suc room) left us stop (omega arith) found h
 
     pub suffixes_sound : (ts : List Kind) (left : x.Expr) (us : List Kind) (r : x.Expr × List Kind) → Operand room ts (left, us) → suffixes room inner list left us ≡ Ok r
         → Operand room ts r × (has_suffix r.0 (symbol_next (first r.1)) ≡ false)

@@ -1,5 +1,5 @@
 -- Reading operators by how tightly they bind.
-use Rattle.std.proofs.Common.{◌≡◌, ℕ, suc, ◌<◌, ◌≤◌, true, false, cond, List, ◌∷◌, Option, Some, None, Ok, refl, sym, ap, ◌∙◌, subst, arith}
+use Rattle.std.proofs.Common.{◌≡◌, ℕ, suc, ◌<◌, ◌≤◌, true, false, cond, List, ◌∷◌, Option, Some, None, Ok, refl, sym, ap, ◌∙◌, subst, arith, Err}
 use Rattle.std.proofs.lemmas.Bool.{not-true, not_from_false}
 use Rattle.jr_base.specs.declared.kind.Kind.{Kind}
 use Rattle.jr_base.specs.declared.kind.Kind.TheVariants as kind
@@ -10,6 +10,7 @@ use Rattle.jr_tree.specs.Levels.{binary_level, is_assignment}
 use Rattle.jr_tree.specs.Shape.{level, is_target}
 use Rattle.jr_tree.specs.Depth.{expr_depth}
 use Rattle.jr_tree.specs.Mirror.Exprs as x
+use Rattle.jr_parse_laws.specs.declared.fault.Fault.{Fault}
 use Rattle.jr_parse_laws.specs.Parsers.{Parser, Outcome, and_then, first, begins_with, expect}
 use Rattle.jr_parse_laws.proofs.Outcomes.{bind_ok, ok_is, some_is}
 use Rattle.jr_parse_laws.proofs.Exact.{expect_sound}
@@ -21,7 +22,7 @@ use Rattle.jr_parse_expr.specs.Follow.{symbol_next, has_suffix, has_operator, La
 use Rattle.jr_parse_expr.proofs.Beginnings.{binary_low, target_tight, target_not_least}
 use Rattle.jr_parse_expr.proofs.Followers.{needs, last_ends, suffix_free, dot_needs, bracket_needs}
 use Rattle.jr_parse_expr.proofs.NameReads.{type_read, type_sound}
-use Rattle.jr_parse_expr.proofs.Loops.{stays, goes, keeps, unrolls}
+use Rattle.jr_parse_expr.proofs.Loops.{Halt, stays, goes, keeps, unrolls, halts}
 use Rattle.jr_parse_expr.proofs.Steps.{Operated, Over, Chooses, Computes, Assigns, Tests, operator_view, operator_none, takes_question, takes_test, takes_binary, takes_assignment}
 use Rattle.jr_parse_expr.proofs.Asked.{Found, ReadsExprs, ReadsLists}
 use Rattle.jr_parse_expr.proofs.Arguments.{whole_read}
@@ -131,10 +132,10 @@ module _ (room : ℕ) (inner : Lead → ℕ → Parser x.Expr) (list : Parser x.
   operator_over least left o q (Tests h t l n) s = absurd (none_some (sym s ∙ n))
 
   module _ (least : ℕ) where
-    abbrev step : x.Expr → List Kind → Option (Parser x.Expr)
+    abbrev pub step : x.Expr → List Kind → Option (Parser x.Expr)
     step left ts = operator room inner list least left (first ts)
 
-    abbrev loop : ℕ → x.Expr → Parser x.Expr
+    abbrev pub loop : ℕ → x.Expr → Parser x.Expr
     loop turns = climb_from room inner list turns least
 
     pub raises : (left : x.Expr) (ts : List Kind) (p : Parser x.Expr) → step left ts ≡ Some p → (us : List Kind) (e : x.Expr) (rest : List Kind) → p us ≡ Ok (e, rest) → expr_depth left < expr_depth e
@@ -300,6 +301,15 @@ module _ (room : ℕ) (inner : Lead → ℕ → Parser x.Expr) (list : Parser x.
         assigned_sound least ts left token us op r found (some_is h) b t l low (ap (λ (p : Parser x.Expr). p us) (some_is (sym n ∙ s)) ∙ g)
     operator_sound least ts left token us q p r found (Tests h t l n) s low g =
         tested_sound least ts left token us r found (some_is h) t l low (ap (λ (p : Parser x.Expr). p us) (some_is (sym n ∙ s)) ∙ g)
+
+    -- where the climb stopped
+    pub climb_halt : (least : ℕ) (ts : List Kind) (left : x.Expr) (us : List Kind) (stop : Fault × List Kind) → Climbed least ts (left, us) → climb room inner list least left us ≡ Err stop
+        → Halt room inner list (step least) (loop least) (λ left ts. refl) (λ turns left ts. refl) (raises least) (λ left us. Climbed least ts (left, us)) stop
+    unfolding climb
+    climb_halt least ts left us stop found h =
+        halts room inner list (step least) (loop least) (λ left ts. refl) (λ turns left ts. refl) (raises least) (λ left us. Climbed least ts (left, us))
+        (λ left token us p e rest found s low g. operator_sound least ts left token us (step least left (token ∷ us)) p (e, rest) found (operator_view room inner list least left (Some token)) s low g)
+        (λ left. refl) (suc room) left us stop (omega arith) found h
 
     climb_sound : (least : ℕ) (ts : List Kind) (left : x.Expr) (us : List Kind) (r : x.Expr × List Kind) → Climbed least ts (left, us) → climb room inner list least left us ≡ Ok r
         → Climbed least ts r × (has_operator least r.0 (first r.1) ≡ false)

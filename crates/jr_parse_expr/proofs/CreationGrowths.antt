@@ -1,6 +1,6 @@
 -- Where reading a creation stops, what stands before begins one.
-use Rattle.std.proofs.Common.{◌≡◌, ℕ, zero, suc, ◌<◌, ◌≤◌, max, Bool, true, false, ltb, List, [], ◌∷◌, Option, Some, None, Ok, Err, refl, sym, ap, ◌∙◌, subst, inl, inr, arith}
-use Rattle.std.proofs.lemmas.Bool.{ltb-false, ltb-true, lt-ltb}
+use Rattle.std.proofs.Common.{◌≡◌, ℕ, suc, ◌≤◌, max, false, ltb, List, [], ◌∷◌, Option, Some, None, Err, refl, sym, ap, subst, inl, inr, arith}
+use Rattle.std.proofs.lemmas.Bool.{ltb-false, lt-ltb}
 use Rattle.jr_base.specs.declared.kind.Kind.{Kind}
 use Rattle.jr_base.specs.declared.kind.Kind.TheVariants as kind
 use Rattle.jr_base.specs.declared.kind.Symbol.TheVariants as y
@@ -10,11 +10,11 @@ use Rattle.jr_tree.specs.declared.tree.Primitive.{Primitive}
 use Rattle.jr_tree.specs.declared.tree.Base.{Base}
 use Rattle.jr_tree.specs.declared.tree.Base.TheVariants as base
 use Rattle.jr_tree.specs.Words.{primitive_word}
-use Rattle.jr_tree.specs.Shape.{IsName, IsBase, IsShapedExpr}
-use Rattle.jr_tree.specs.Depth.{expr_depth, exprs_depth, list_depth}
+use Rattle.jr_tree.specs.Shape.{IsName, IsBase}
+use Rattle.jr_tree.specs.Depth.{exprs_depth, list_depth}
 use Rattle.jr_tree.specs.Mirror.Exprs as x
 use Rattle.jr_parse_laws.specs.declared.fault.Fault.{Fault}
-use Rattle.jr_parse_laws.specs.declared.fault.Fault.TheVariants.{NoTree, TooDeep}
+use Rattle.jr_parse_laws.specs.declared.fault.Fault.TheVariants.{NoTree}
 use Rattle.jr_parse_laws.specs.Parsers.{Parser, is_at, expect, ◌>>◌}
 use Rattle.jr_parse_laws.proofs.Outcomes.{chosen, ok_err, err_is, is_symbol_is, Before, After, stops}
 use Rattle.jr_parse_laws.proofs.Exact.{expect_sound}
@@ -22,13 +22,13 @@ use Rattle.jr_parse_expr.specs.Starts.{within}
 use Rattle.jr_parse_expr.specs.Names.{name_of, primitive_at, dims, name}
 use Rattle.jr_parse_expr.specs.Exprs as reader
 use Rattle.jr_parse_expr.specs.Exprs.{Lead, Nothing, next_token}
-use Rattle.jr_parse_expr.specs.Writing.{write_name, write_brackets, write_base, write_expr, write_list}
+use Rattle.jr_parse_expr.specs.Writing.{write_name, write_brackets, write_base, write_expr}
 use Rattle.jr_parse_expr.specs.Follow.{IsExpr}
 use Rattle.jr_parse_expr.proofs.NameReads.{dims_sound, name_sound, primitive_kind_back}
 use Rattle.jr_parse_expr.proofs.Asked.{ReadsExprs, ReadsLists}
 use Rattle.jr_parse_expr.proofs.Growths.{Growing, leading_then, leading_expr, leading_one, grows, none_grows, deep_grows, sample}
-use Rattle.jr_parse_expr.proofs.NameGrowths.{IsNameIn, name_grows, dims_stop, brackets_more, leading_name, leading_brackets, leading_base}
-use Rattle.jr_parse_expr.proofs.PartGrowths.{Within, GrowsExprs, GrowsLists, missing, AreArgs, arguments_grow, sizes_grow, one_arg}
+use Rattle.jr_parse_expr.proofs.NameGrowths.{name_grows, dims_stop, brackets_more, leading_name, leading_brackets, leading_base}
+use Rattle.jr_parse_expr.proofs.PartGrowths.{Within, GrowsExprs, GrowsLists, missing, AreArgs, arguments_grow, sizes_grow}
 
 module _ (room : ℕ) (inner : Lead → ℕ → Parser x.Expr) (list : Parser x.InitList) (reads : ReadsExprs room inner) (lists : ReadsLists room list) (growths : GrowsExprs room inner) (growing : GrowsLists room list) where
   -- a creation begins so

@@ -1,7 +1,5 @@
 -- An expression is read the same whatever stands behind, and with more levels.
-use Rattle.std.proofs.Common.{◌≡◌, ℕ, zero, suc, ◌+◌, ◌-◌, zero-add, ◌<◌, ◌≤◌, Bool, true, false, ◌&&◌, ◌||◌, not, cond, ltb, List, [], ◌∷◌, ◌++◌, length, Option, Some, None, Ok, Err, refl, sym, ap, ◌∙◌, subst, inl, inr, arith}
-use Rattle.std.specs.Prelude.{⊤}
-use Rattle.std.proofs.lemmas.Bool.{cases_Bool, ltb-false, le-ltb}
+use Rattle.std.proofs.Common.{◌≡◌, ℕ, zero, suc, ◌+◌, ◌-◌, zero-add, ◌<◌, ◌≤◌, true, cond, List, [], ◌∷◌, ◌++◌, length, Option, Some, None, Ok, refl, sym, ap, ◌∙◌, subst, arith}
 use Rattle.jr_base.specs.declared.text.Text.{Text}
 use Rattle.jr_base.specs.declared.kind.Kind.{Kind}
 use Rattle.jr_base.specs.declared.kind.Kind.TheVariants as kind
@@ -12,25 +10,19 @@ use Rattle.jr_tree.specs.declared.tree.Name.{Name}
 use Rattle.jr_tree.specs.declared.tree.Primitive.{Primitive}
 use Rattle.jr_tree.specs.declared.tree.Base.{Base}
 use Rattle.jr_tree.specs.declared.tree.Base.TheVariants as base
-use Rattle.jr_tree.specs.Levels.{binary_level, is_assignment, is_unary, is_step, is_least_kind}
-use Rattle.jr_tree.specs.Shape.{level, is_target, is_new_array}
-use Rattle.jr_tree.specs.Depth.{expr_depth}
+use Rattle.jr_tree.specs.Levels.{is_unary, is_step, is_least_kind}
 use Rattle.jr_tree.specs.Mirror.Exprs as x
-use Rattle.jr_parse_laws.specs.declared.fault.Fault.TheVariants.{NoTree, TooDeep}
-use Rattle.jr_parse_laws.specs.Parsers.{Outcome, Parser, and_then, first, symbol_of, symbol_at, is_at, is_symbol, begins_with, pure, refuse, expect, identifier, many, after_comma, commas, ◌>>=◌, ◌>>◌}
-use Rattle.jr_parse_laws.specs.Viable.{Wider}
-use Rattle.jr_parse_laws.proofs.Outcomes.{and_then_when, cond_alike, cond_same, no_first, one_first}
+use Rattle.jr_parse_laws.specs.Parsers.{Parser, and_then, first, symbol_of, symbol_at, is_at, is_symbol, begins_with, pure, refuse, expect, identifier, many, after_comma, commas, ◌>>=◌, ◌>>◌}
+use Rattle.jr_parse_laws.proofs.Outcomes.{and_then_when, cond_alike, cond_same, no_first}
 use Rattle.jr_parse_laws.proofs.Exact.{expect_sound}
 use Rattle.jr_parse_laws.proofs.Turns.{behind_shortens}
-use Rattle.jr_parse_expr.specs.Starts.{begins_cast_operand, begins_operand, next_is, starts_expr, starts_list, starts_init, is_plain_literal, no_level, within, over}
-use Rattle.jr_parse_expr.specs.Names.{name_of, type_of, primitive_kind, primitive_at, name, dims, element, type_use, Dotted, Plain, Enclosing, dotted}
+use Rattle.jr_parse_expr.specs.Starts.{begins_cast_operand, next_is, starts_expr, is_plain_literal, over}
+use Rattle.jr_parse_expr.specs.Names.{name_of, type_of, primitive_kind, primitive_at, name, dims, element, Dotted, Plain, Enclosing, dotted}
 use Rattle.jr_parse_expr.specs.Exprs as reader
 use Rattle.jr_parse_expr.specs.Exprs.{Lead, Nothing, Named, Indexed, This, Super, skipping, next_token}
-use Rattle.jr_parse_expr.proofs.Asked.{ReadsExprs, ReadsLists, inner_keeps}
-use Rattle.jr_parse_expr.proofs.Loops.{unrolls}
-use Rattle.jr_parse_expr.proofs.ExprReads.{all_read}
-use Rattle.jr_parse_expr.proofs.Locals.{Again, Kept, Local, here, along, local_pure, local_refuse, local_bind, kept_bind, local_skip, local_next, at_token, local_expect, local_identifier, Looks, local_on, on_kept, local_if, looks_at, looks_first, by_room, local_over, kept_same, kept_cond, kept_if, local_many}
-use Rattle.jr_parse_expr.proofs.NameLocals.{name_local, dims_local, looks_primitive, element_local, type_local, dotted_local}
+use Rattle.jr_parse_expr.proofs.Asked.{ReadsExprs, inner_keeps}
+use Rattle.jr_parse_expr.proofs.Locals.{Kept, Local, here, along, local_pure, local_refuse, local_bind, kept_bind, local_skip, local_expect, local_identifier, local_on, local_if, looks_at, looks_first, local_over, kept_same, kept_if, local_many}
+use Rattle.jr_parse_expr.proofs.NameLocals.{name_local, dims_local, looks_primitive, element_local, dotted_local}
 
 pub looks_symbol : (ts us : List Kind) → first ts ≡ first us → symbol_at ts ≡ symbol_at us
 looks_symbol [] [] e = refl
@@ -361,11 +353,11 @@ module _ (room other : ℕ) (le : room ≤ other) where
     creation_by_local (Some p) ts =
         by_first (first_sized room inner list p) (first_sized other inner' list' p) (reader.creation_by room inner list (Some p)) (reader.creation_by other inner' list' (Some p)) (first_sized_is room inner list p) (first_sized_is other inner' list' p)
         (first_sized_local p) ts where
-      first_sized_local : (p : Primitive) (o : Option Kind) → L (first_sized room inner list p o) (first_sized other inner' list' p o)
-      first_sized_local p None ts = local_refuse room other le ts
-      first_sized_local p (Some token) ts =
-          local_over room other le 1 (skipping (expect y.OpenBracket >> reader.array room inner list (base.Primitive p))) (skipping (expect y.OpenBracket >> reader.array other inner' list' (base.Primitive p)))
-          (local_skip room other le (expect y.OpenBracket >> reader.array room inner list (base.Primitive p)) (expect y.OpenBracket >> reader.array other inner' list' (base.Primitive p)) (primitive_array_local (base.Primitive p))) ts
+          first_sized_local : (p : Primitive) (o : Option Kind) → L (first_sized room inner list p o) (first_sized other inner' list' p o)
+          first_sized_local p None ts = local_refuse room other le ts
+          first_sized_local p (Some token) ts =
+              local_over room other le 1 (skipping (expect y.OpenBracket >> reader.array room inner list (base.Primitive p))) (skipping (expect y.OpenBracket >> reader.array other inner' list' (base.Primitive p)))
+              (local_skip room other le (expect y.OpenBracket >> reader.array room inner list (base.Primitive p)) (expect y.OpenBracket >> reader.array other inner' list' (base.Primitive p)) (primitive_array_local (base.Primitive p))) ts
 
     pub creation_local : L (reader.creation room inner list) (reader.creation other inner' list')
     unfolding reader.creation

@@ -41,7 +41,7 @@ unfolding expr operations operand
 level_named room least head ts = chain_of (dotted true [] head ts) (after_dotted room (expr room) (list room)) (suffixes room (expr room) (list room)) (climb room (expr room) (list room) least)
 
 -- a name and a bracket is the same as a name, and then a bracket behind it, where a level is left
-level_bracket : (room least : ℕ) (before : List Text) (last : Text) (ts : List Kind) → 1 ≤ room
+pub level_bracket : (room least : ℕ) (before : List Text) (last : Text) (ts : List Kind) → 1 ≤ room
     → expr (suc room) (Named (Plain before last)) least (kind.Sym y.OpenBracket ∷ ts) ≡ expr (suc room) (Indexed (name_of (before ++ last ∷ []))) least ts
 unfolding expr operations operand after_dotted after_bracket
 level_bracket room least before last ts some =
@@ -141,7 +141,7 @@ last_of [] some = absurd (cc)
 last_of (head ∷ []) some = ([], head, refl)
 last_of (head ∷ part ∷ all) some = let more = last_of (part ∷ all) refl in (head ∷ more.0, more.1, ap (λ all. head ∷ all) more.2)
 
-named_same : (room least : ℕ) (d : Dotted) (ts : List Kind) → 0 < room → IsLed (Named d) (first ts) → expr room Nothing least (write_dotted d ts) ≡ expr room (Named d) least ts
+pub named_same : (room least : ℕ) (d : Dotted) (ts : List Kind) → 0 < room → IsLed (Named d) (first ts) → expr room Nothing least (write_dotted d ts) ≡ expr room (Named d) least ts
 named_same room least d ts some led =
     let w = dotted_whole d ts led in
     ap (expr room Nothing least) w.2 ∙ (all_read room).exprs.named least w.0 w.1 some ∙ ap (λ o. and_then o (λ d. expr room (Named d) least)) w.3
@@ -151,11 +151,11 @@ none_read : (lead : Lead) (least : ℕ) (ts : List Kind) (r : x.Expr × List Kin
 unfolding expr
 none_read lead least ts r h = no_level_err starts_expr ts r h
 
-this_same : (room least : ℕ) (ts : List Kind) → expr (suc room) Nothing least (kind.Word k.This ∷ ts) ≡ expr (suc room) This least ts
+pub this_same : (room least : ℕ) (ts : List Kind) → expr (suc room) Nothing least (kind.Word k.This ∷ ts) ≡ expr (suc room) This least ts
 unfolding expr operations operand
 this_same room least ts = refl
 
-super_same : (room least : ℕ) (ts : List Kind) → expr (suc room) Nothing least (kind.Word k.Super ∷ ts) ≡ expr (suc room) Super least ts
+pub super_same : (room least : ℕ) (ts : List Kind) → expr (suc room) Nothing least (kind.Word k.Super ∷ ts) ≡ expr (suc room) Super least ts
 unfolding expr operations operand
 super_same room least ts = refl
 

@@ -1,20 +1,18 @@
 -- What stands before a fault begins a tree.
-use Rattle.std.proofs.Common.{◌≡◌, ℕ, zero, suc, ◌<◌, ◌≤◌, max, Bool, true, false, not, ◌||◌, List, [], ◌∷◌, ◌++◌, length, Option, Some, None, Ok, Err, refl, sym, ap, ◌∙◌, subst, inl, inr, append_assoc, arith}
-use Rattle.std.proofs.lemmas.Bool.{and_parts, not-true}
-use Rattle.jr_base.specs.declared.text.Text.{Text}
+use Rattle.std.proofs.Common.{◌≡◌, ℕ, zero, suc, ◌≤◌, Bool, true, false, not, ◌||◌, List, [], ◌∷◌, ◌++◌, length, Option, None, Ok, Err, refl, sym, ap, ◌∙◌, inl, inr, append_assoc, arith}
+use Rattle.std.proofs.lemmas.Bool.{and_parts}
 use Rattle.jr_base.specs.declared.kind.Kind.{Kind}
 use Rattle.jr_base.specs.declared.kind.Kind.TheVariants as kind
 use Rattle.jr_base.specs.declared.kind.Symbol.TheVariants as y
-use Rattle.jr_base.specs.declared.kind.Keyword.{Keyword}
 use Rattle.jr_base.specs.declared.kind.Keyword.TheVariants as k
 use Rattle.jr_tree.specs.Levels.{is_literal, is_least_kind}
 use Rattle.jr_tree.specs.Mirror.Exprs as x
 use Rattle.jr_tree.specs.Tokens.{expr_tokens}
 use Rattle.jr_parse_laws.specs.declared.fault.Fault.{Fault}
-use Rattle.jr_parse_laws.specs.declared.fault.Fault.TheVariants.{NoTree, TooDeep, OutOfMemory}
-use Rattle.jr_parse_laws.specs.Parsers.{Outcome, Parser, and_then, first, many_from, many}
-use Rattle.jr_parse_laws.specs.Viable.{Alike, Begun, Deeper}
-use Rattle.jr_parse_laws.proofs.Outcomes.{bind_ok, chosen, ok_is, ok_err, Before, After, stops}
+use Rattle.jr_parse_laws.specs.declared.fault.Fault.TheVariants.{NoTree, TooDeep}
+use Rattle.jr_parse_laws.specs.Parsers.{Parser, first, many_from, many}
+use Rattle.jr_parse_laws.specs.Viable.{Begun, Deeper}
+use Rattle.jr_parse_laws.proofs.Outcomes.{chosen, ok_err, Before, After, stops}
 use Rattle.jr_parse_laws.proofs.Stops.{here, next, Leading, leading_nothing, leading_kind, deeper_by, begun_by}
 use Rattle.jr_parse_laws.proofs.Lists.{Shortens}
 use Rattle.jr_parse_expr.specs.Starts.{begins_primary, begins_operand, is_plain_literal}

@@ -23,7 +23,7 @@ abbrev pub listed_inits : x.Inits → List x.Init
 listed_inits x.no_inits = []
 listed_inits (x.more_inits i all) = i ∷ listed_inits all
 
-inits_listed : (all : x.Inits) → x.inits (listed_inits all) ≡ all
+pub inits_listed : (all : x.Inits) → x.inits (listed_inits all) ≡ all
 inits_listed x.no_inits = refl
 inits_listed (x.more_inits i all) = ap (x.more_inits i) (inits_listed all)
 
@@ -124,10 +124,10 @@ module _ (room : ℕ) (inner : Lead → ℕ → Parser x.Expr) (list : Parser x.
   unfolding braces
   braces_read (x.ListOf all b) rest s low = rw (items_read all b rest s (omega arith)) (ap (λ all. Ok (x.ListOf all b, rest)) (inits_listed all))
 
-  record ItemsFound (write : x.Inits → List Kind → List Kind) (ts : List Kind) (r : (List x.Init × Bool) × List Kind) : Type 0 where
-    shaped : AreShapedInits (x.inits r.0.0)
-    low : inits_depth (x.inits r.0.0) ≤ room
-    written : ts ≡ write (x.inits r.0.0) (write_comma r.0.1 r.1)
+  pub record ItemsFound (write : x.Inits → List Kind → List Kind) (ts : List Kind) (r : (List x.Init × Bool) × List Kind) : Type 0 where
+    pub shaped : AreShapedInits (x.inits r.0.0)
+    pub low : inits_depth (x.inits r.0.0) ≤ room
+    pub written : ts ≡ write (x.inits r.0.0) (write_comma r.0.1 r.1)
 
   no_more : (ts : List Kind) → ItemsFound write_more ts (([], false), ts)
   no_more ts = record { shaped = tt; low = omega arith; written = refl }
@@ -167,7 +167,7 @@ module _ (room : ℕ) (inner : Lead → ℕ → Parser x.Expr) (list : Parser x.
         | inr t ↦ subst (ItemsFound write_inits (token ∷ ts)) (ok_is t.1) (record { shaped = tt; low = omega arith; written = refl })
       ]
 
-  items_sound : (ts : List Kind) (r : (List x.Init × Bool) × List Kind) → items room inner list ts ≡ Ok r → ItemsFound write_inits ts r
+  pub items_sound : (ts : List Kind) (r : (List x.Init × Bool) × List Kind) → items room inner list ts ≡ Ok r → ItemsFound write_inits ts r
   unfolding items after_item
   items_sound ts r h =
       elim (chosen (starts_init (first ts)) _ _ _ h) [

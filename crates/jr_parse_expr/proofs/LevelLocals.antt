@@ -1,7 +1,7 @@
 -- A level of expressions is read the same whatever stands behind, and with more levels; and so are all.
-use Rattle.std.proofs.Common.{◌≡◌, ℕ, zero, suc, ◌+◌, ◌<◌, ◌≤◌, Bool, true, false, ◌&&◌, ◌||◌, not, cond, ltb, List, [], ◌∷◌, Option, Some, None, Ok, Err, refl, sym, ap, ◌∙◌, subst, inl, inr, arith}
+use Rattle.std.proofs.Common.{◌≡◌, ℕ, zero, suc, ◌+◌, ◌≤◌, Bool, true, false, ◌&&◌, ◌||◌, not, cond, ltb, List, [], ◌∷◌, Option, Some, None, Ok, Err, refl, sym, arith}
 use Rattle.std.specs.Prelude.{⊤}
-use Rattle.std.proofs.lemmas.Bool.{ltb-false, or_parts}
+use Rattle.std.proofs.lemmas.Bool.{ltb-false}
 use Rattle.jr_base.specs.declared.kind.Kind.{Kind}
 use Rattle.jr_base.specs.declared.kind.Kind.TheVariants as kind
 use Rattle.jr_base.specs.declared.kind.Symbol.{Symbol}
@@ -11,20 +11,20 @@ use Rattle.jr_tree.specs.Levels.{binary_level, is_assignment, is_unary, is_step,
 use Rattle.jr_tree.specs.Shape.{level, is_target, is_new_array}
 use Rattle.jr_tree.specs.Depth.{expr_depth}
 use Rattle.jr_tree.specs.Mirror.Exprs as x
-use Rattle.jr_parse_laws.specs.declared.fault.Fault.TheVariants.{NoTree, TooDeep}
-use Rattle.jr_parse_laws.specs.Parsers.{Outcome, Parser, and_then, first, symbol_at, pure, refuse, deep, expect, identifier, ◌>>=◌, ◌>>◌}
+use Rattle.jr_parse_laws.specs.declared.fault.Fault.TheVariants.{NoTree}
+use Rattle.jr_parse_laws.specs.Parsers.{Parser, and_then, first, symbol_at, pure, refuse, deep, identifier, ◌>>=◌}
 use Rattle.jr_parse_laws.proofs.Outcomes.{no_first}
 use Rattle.jr_parse_expr.specs.Starts.{is_plain_literal, over}
 use Rattle.jr_parse_expr.specs.Names.{type_use, dotted}
 use Rattle.jr_parse_expr.specs.Exprs as reader
 use Rattle.jr_parse_expr.specs.Exprs.{Lead, Nothing, Named, Indexed, This, Super, skipping}
 use Rattle.jr_parse_expr.specs.Follow.{is_tight}
-use Rattle.jr_parse_expr.proofs.Asked.{ReadsExprs, ReadsLists}
+use Rattle.jr_parse_expr.proofs.Asked.{ReadsExprs}
 use Rattle.jr_parse_expr.proofs.Chains as chains
 use Rattle.jr_parse_expr.proofs.Climbs as climbs
-use Rattle.jr_parse_expr.proofs.Locals.{Again, Kept, Local, here, along, local_pure, local_refuse, kept_bind, local_skip, local_expect, local_identifier, Looks, on_kept, looks_first, by_room, local_over, cond_local, kept_same}
+use Rattle.jr_parse_expr.proofs.Locals.{Kept, Local, here, along, local_pure, local_refuse, kept_bind, local_skip, local_identifier, on_kept, by_room, local_over, cond_local, kept_same}
 use Rattle.jr_parse_expr.proofs.NameLocals.{type_local, dotted_local}
-use Rattle.jr_parse_expr.proofs.ExprLocals.{NearExprs, L, bind, give, closed_by, by_first, call_local, after_dotted_local, after_bracket_local, super_local, in_parens_local, creation_local, first_negated, first_negated_is, first_prefix, first_operand, first_operand_is, looks_symbol}
+use Rattle.jr_parse_expr.proofs.ExprLocals.{NearExprs, bind, closed_by, by_first, call_local, after_dotted_local, after_bracket_local, super_local, in_parens_local, creation_local, first_negated, first_negated_is, first_prefix, first_operand, first_operand_is, looks_symbol}
 
 module _ (room other : ℕ) (le : room ≤ other) (inner inner' : Lead → ℕ → Parser x.Expr) (list list' : Parser x.InitList) (reads : ReadsExprs room inner) (reads' : ReadsExprs other inner')
     (near : NearExprs room other le inner inner') (near_list : Local room other le list list') where

@@ -15,7 +15,7 @@ pub mod Chains
 pub mod Climbs
 pub mod Initializers
 pub mod ExprReads
-pub mod Effects
+pub mod EffectReads
 pub mod Readings
 pub mod Locals
 pub mod NameLocals
@@ -27,3 +27,8 @@ pub mod NameGrowths
 pub mod PartGrowths
 pub mod CreationGrowths
 pub mod ParenGrowths
+pub mod OperandGrowths
+pub mod LevelGrowths
+pub mod AllGrowths
+pub mod Stuck
+pub mod Rules

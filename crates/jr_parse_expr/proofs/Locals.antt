@@ -1,14 +1,13 @@
 -- A reader that stopped stops at the same place whatever follows the token there, and with more levels too.
-use Rattle.std.proofs.Common.{◌≡◌, ℕ, zero, suc, ◌<◌, ◌≤◌, Bool, true, false, cond, ltb, List, [], ◌∷◌, ◌++◌, length, Option, Some, None, Ok, Err, refl, sym, ap, ◌∙◌, subst, inl, inr, append_assoc, arith}
-use Rattle.std.specs.Prelude.{⊤}
+use Rattle.std.proofs.Common.{◌≡◌, ℕ, zero, suc, ◌≤◌, Bool, true, false, cond, ltb, List, [], ◌∷◌, ◌++◌, length, Option, None, Ok, Err, refl, sym, ap, ◌∙◌, subst, inl, inr, append_assoc, arith}
 use Rattle.std.proofs.lemmas.Bool.{cases_Bool, ltb-false, le-ltb}
 use Rattle.jr_base.specs.declared.kind.Kind.{Kind}
 use Rattle.jr_base.specs.declared.kind.Symbol.{Symbol}
 use Rattle.jr_parse_laws.specs.declared.fault.Fault.{Fault}
-use Rattle.jr_parse_laws.specs.declared.fault.Fault.TheVariants.{NoTree, TooDeep, OutOfMemory}
-use Rattle.jr_parse_laws.specs.Parsers.{Outcome, Parser, and_then, first, pure, refuse, deep, is_at, expect, identifier, is_symbol, many_from, many, ◌>>=◌}
+use Rattle.jr_parse_laws.specs.declared.fault.Fault.TheVariants.{NoTree, TooDeep}
+use Rattle.jr_parse_laws.specs.Parsers.{Outcome, Parser, and_then, first, pure, refuse, is_at, expect, identifier, is_symbol, many_from, many, ◌>>=◌}
 use Rattle.jr_parse_laws.specs.Viable.{Wider}
-use Rattle.jr_parse_laws.proofs.Outcomes.{chosen, no_first, one_first}
+use Rattle.jr_parse_laws.proofs.Outcomes.{no_first, one_first}
 use Rattle.jr_parse_laws.proofs.Stops.{first_front}
 use Rattle.jr_parse_laws.proofs.Exact.{OneToken, symbol_token, identifier_token}
 use Rattle.jr_parse_laws.proofs.Lists.{Shortens, many_over, many_turn}

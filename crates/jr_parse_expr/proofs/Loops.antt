@@ -1,11 +1,13 @@
 -- A loop that takes what it has read as a part of what it reads, a level at each turn.
-use Rattle.std.proofs.Common.{◌≡◌, ℕ, zero, suc, ◌+◌, ◌<◌, ◌≤◌, ltb, List, [], ◌∷◌, Option, Some, None, Ok, refl, sym, ap, ◌∙◌, subst, inl, inr, arith}
-use Rattle.std.proofs.lemmas.Bool.{ltb-false, le-ltb}
+use Rattle.std.proofs.Common.{◌≡◌, ℕ, zero, suc, ◌+◌, ◌<◌, ◌≤◌, ltb, List, [], ◌∷◌, Option, Some, None, Ok, refl, sym, ap, ◌∙◌, subst, inl, inr, arith, Err, ◌⊎◌}
+use Rattle.std.proofs.lemmas.Bool.{ltb-false, ltb-true, le-ltb}
 use Rattle.jr_base.specs.declared.kind.Kind.{Kind}
 use Rattle.jr_tree.specs.Mirror.Exprs as x
 use Rattle.jr_tree.specs.Depth.{expr_depth}
+use Rattle.jr_parse_laws.specs.declared.fault.Fault.{Fault}
+use Rattle.jr_parse_laws.specs.declared.fault.Fault.TheVariants.{TooDeep}
 use Rattle.jr_parse_laws.specs.Parsers.{Parser, and_then, deep}
-use Rattle.jr_parse_laws.proofs.Outcomes.{bind_ok, and_then_when, chosen, cond_alike, ok_is, err_ok}
+use Rattle.jr_parse_laws.proofs.Outcomes.{bind_ok, and_then_when, chosen, cond_alike, ok_is, err_ok, ok_err, err_is, Before, After, stops}
 use Rattle.jr_parse_expr.specs.Exprs.{Lead, turn}
 
 module _ (room : ℕ) (inner : Lead → ℕ → Parser x.Expr) (list : Parser x.InitList) where
@@ -33,6 +35,26 @@ module _ (room : ℕ) (inner : Lead → ℕ → Parser x.Expr) (list : Parser x.
       elim (chosen (ltb room (expr_depth left)) _ _ _ h) [
         | inl t ↦ absurd (err_ok t.1)
         | inr t ↦ Went p k ts refl refl (ltb-false room (expr_depth left) t.0) t.1
+      ]
+
+  -- where a turn stopped
+  data TurnStop (left : x.Expr) (o : Option (Parser x.Expr)) (on : x.Expr → Parser x.Expr) (ts : List Kind) (stop : Fault × List Kind) : Type 0 where
+    TooHigh : (p : Parser x.Expr) (k : Kind) (us : List Kind) → o ≡ Some p → ts ≡ k ∷ us → room < expr_depth left → (TooDeep, k ∷ us) ≡ stop → TurnStop left o on ts stop
+    Inside : (p : Parser x.Expr) (k : Kind) (us : List Kind) → o ≡ Some p → ts ≡ k ∷ us → expr_depth left ≤ room → p us ≡ Err stop → TurnStop left o on ts stop
+    Later : (p : Parser x.Expr) (k : Kind) (us : List Kind) (e : x.Expr) (rest : List Kind) → o ≡ Some p → ts ≡ k ∷ us → expr_depth left ≤ room → p us ≡ Ok (e, rest) → on e rest ≡ Err stop → TurnStop left o on ts stop
+    AtEnd : (p : Parser x.Expr) → o ≡ Some p → ts ≡ [] → TurnStop left o on ts stop
+
+  turn_stop : (left : x.Expr) (o : Option (Parser x.Expr)) (on : x.Expr → Parser x.Expr) (ts : List Kind) (stop : Fault × List Kind) → turn room inner list left o on ts ≡ Err stop → TurnStop left o on ts stop
+  turn_stop left None on ts stop h = absurd (ok_err h)
+  turn_stop left (Some p) on [] stop h = AtEnd p refl refl
+  turn_stop left (Some p) on (k ∷ ts) stop h =
+      elim (chosen (ltb room (expr_depth left)) _ _ _ h) [
+        | inl t ↦ TooHigh p k ts refl refl (ltb-true room (expr_depth left) t.0) (err_is t.1)
+        | inr t ↦
+            (elim (stops (p ts) on stop t.1) [
+              | Before e ↦ Inside p k ts refl refl (ltb-false room (expr_depth left) t.0) e
+              | After e rest i d ↦ Later p k ts e rest refl refl (ltb-false room (expr_depth left) t.0) i d
+            ])
       ]
 
   module _ (step : x.Expr → List Kind → Option (Parser x.Expr)) (loop : ℕ → x.Expr → Parser x.Expr)
@@ -80,4 +102,41 @@ module _ (room : ℕ) (inner : Lead → ℕ → Parser x.Expr) (list : Parser x.
               keeps Holds kept turns b.0.0 b.0.1 y
               (kept left k us p b.0.0 b.0.1 (subst (Holds left) shape holds) (subst (λ ts. step left ts ≡ Some p) shape here) low b.1)
               b.2)
+        ]
+
+    -- where the loop stopped: in a turn, or before one for which no level is left
+    pub record Halt (Holds : x.Expr → List Kind → Type 0) (stop : Fault × List Kind) : Type 0 where
+      pub left : x.Expr
+      pub token : Kind
+      pub us : List Kind
+      pub p : Parser x.Expr
+      pub holds : Holds left (token ∷ us)
+      pub here : step left (token ∷ us) ≡ Some p
+      pub why : ((expr_depth left ≤ room) × (p us ≡ Err stop)) ⊎ ((room < expr_depth left) × ((TooDeep, token ∷ us) ≡ stop))
+
+    none_some : {A : Type 0} {a : A} → None ≡ Some a → ⊥
+    none_some e = cc
+
+    pub halts : (Holds : x.Expr → List Kind → Type 0)
+        → ((left : x.Expr) (k : Kind) (ts : List Kind) (p : Parser x.Expr) (e : x.Expr) (rest : List Kind) → Holds left (k ∷ ts) → step left (k ∷ ts) ≡ Some p → expr_depth left ≤ room → p ts ≡ Ok (e, rest) → Holds e rest)
+        → ((left : x.Expr) → step left [] ≡ None)
+        → (turns : ℕ) (left : x.Expr) (ts : List Kind) (stop : Fault × List Kind) → suc room ≤ turns + expr_depth left → Holds left ts → loop turns left ts ≡ Err stop → Halt Holds stop
+    halts Holds kept ends zero left ts stop fuel holds h =
+        elim (turn_stop left (step left ts) (λ e. deep) ts stop (sym (last left ts) ∙ h)) [
+          | TooHigh p k us here shape high same ↦
+              record { left = left; token = k; us = us; p = p; holds = subst (Holds left) shape holds; here = subst (λ ts. step left ts ≡ Some p) shape here; why = inr (high, same) }
+          | Inside p k us here shape low e ↦ absurd (omega arith)
+          | Later p k us e rest here shape low i d ↦ absurd (omega arith)
+          | AtEnd p here shape ↦ absurd (none_some (sym (ends left) ∙ subst (λ ts. step left ts ≡ Some p) shape here))
+        ]
+    halts Holds kept ends (suc turns) left ts stop fuel holds h =
+        elim (turn_stop left (step left ts) (loop turns) ts stop (sym (next turns left ts) ∙ h)) [
+          | TooHigh p k us here shape high same ↦
+              record { left = left; token = k; us = us; p = p; holds = subst (Holds left) shape holds; here = subst (λ ts. step left ts ≡ Some p) shape here; why = inr (high, same) }
+          | Inside p k us here shape low e ↦
+              record { left = left; token = k; us = us; p = p; holds = subst (Holds left) shape holds; here = subst (λ ts. step left ts ≡ Some p) shape here; why = inl (low, e) }
+          | Later p k us e rest here shape low i d ↦
+              (let up = raises left ts p here us e rest i in
+              halts Holds kept ends turns e rest stop (omega arith) (kept left k us p e rest (subst (Holds left) shape holds) (subst (λ ts. step left ts ≡ Some p) shape here) low i) d)
+          | AtEnd p here shape ↦ absurd (none_some (sym (ends left) ∙ subst (λ ts. step left ts ≡ Some p) shape here))
         ]

@@ -1,5 +1,5 @@
 -- Where reading a name or a type stops, what stands before begins one.
-use Rattle.std.proofs.Common.{◌≡◌, ℕ, zero, suc, ◌+◌, ◌≤◌, Bool, true, false, List, [], ◌∷◌, ◌++◌, length, Option, Some, None, Ok, Err, refl, sym, ap, ◌∙◌, subst, append_assoc, arith}
+use Rattle.std.proofs.Common.{◌≡◌, ℕ, zero, suc, true, List, [], ◌∷◌, ◌++◌, length, Option, Some, None, Ok, Err, refl, sym, ap, ◌∙◌, subst}
 use Rattle.jr_base.specs.declared.text.Text.{Text}
 use Rattle.jr_base.specs.declared.kind.Kind.{Kind}
 use Rattle.jr_base.specs.declared.kind.Kind.TheVariants as kind
@@ -14,16 +14,16 @@ use Rattle.jr_tree.specs.declared.tree.TypeUse.{TypeUse}
 use Rattle.jr_tree.specs.Words.{brackets, base_tokens, name_tokens}
 use Rattle.jr_tree.specs.Shape.{IsName, IsBase, IsTypeUse}
 use Rattle.jr_parse_laws.specs.declared.fault.Fault.{Fault}
-use Rattle.jr_parse_laws.specs.declared.fault.Fault.TheVariants.{NoTree, TooDeep}
-use Rattle.jr_parse_laws.specs.Parsers.{Outcome, Parser, and_then, first, begins_with, is_symbol, expect, identifier, many, with_front, ◌>>=◌, ◌>>◌}
-use Rattle.jr_parse_laws.proofs.Outcomes.{bind_ok, chosen, ok_is, ok_err, err_is, is_symbol_is, Before, After, stops}
+use Rattle.jr_parse_laws.specs.declared.fault.Fault.TheVariants.{NoTree}
+use Rattle.jr_parse_laws.specs.Parsers.{Parser, first, begins_with, expect, identifier, with_front, ◌>>◌}
+use Rattle.jr_parse_laws.proofs.Outcomes.{ok_err, err_is, is_symbol_is, Before, After, stops}
 use Rattle.jr_parse_laws.proofs.Stops.{Leading, leading_nothing}
 use Rattle.jr_parse_laws.proofs.Exact.{identifier_token, symbol_token}
 use Rattle.jr_parse_laws.proofs.Turns.{behind_shortens, expect_keeps, identifier_keeps}
-use Rattle.jr_parse_expr.specs.Names.{name_of, type_of, pairs, counted, dims, parts, named_all, name_after, name, primitive_at, base_by, element, type_use, Dotted, Plain, Enclosing, dotted_from, dotted}
+use Rattle.jr_parse_expr.specs.Names.{name_of, type_of, pairs, dims, parts, name_after, name, primitive_at, base_by, element, type_use, dotted_from, dotted}
 use Rattle.jr_parse_expr.specs.Writing.{write_parts, write_all, write_name, write_brackets, write_base, write_type}
 use Rattle.jr_parse_expr.proofs.Written.{name_written, brackets_written, base_written}
-use Rattle.jr_parse_expr.proofs.NameReads.{behind_sound, parts_append, all_append, element_sound, has_parts}
+use Rattle.jr_parse_expr.proofs.NameReads.{behind_sound, parts_append, all_append, element_sound}
 use Rattle.jr_parse_expr.proofs.Growths as g
 use Rattle.jr_parse_expr.proofs.Growths.{Growing, leading_tokens, leading_then, leading_one, grows, none_grows}
 

@@ -6,16 +6,15 @@ use Rattle.jr_base.specs.declared.kind.Kind.TheVariants as kind
 use Rattle.jr_base.specs.declared.kind.Symbol.TheVariants as y
 use Rattle.jr_base.specs.declared.kind.Keyword.TheVariants as k
 use Rattle.jr_tree.specs.declared.tree.Primitive.{Primitive}
-use Rattle.jr_tree.specs.declared.tree.Base.{Base}
 use Rattle.jr_tree.specs.declared.tree.Base.TheVariants as base
-use Rattle.jr_parse_laws.specs.declared.fault.Fault.TheVariants.{NoTree, TooDeep}
-use Rattle.jr_parse_laws.specs.Parsers.{Outcome, Parser, and_then, first, pure, begins_with, expect, identifier, many, with_front, ◌>>=◌, ◌>>◌}
+use Rattle.jr_parse_laws.specs.declared.fault.Fault.TheVariants.{NoTree}
+use Rattle.jr_parse_laws.specs.Parsers.{first, pure, begins_with, expect, identifier, with_front, ◌>>=◌, ◌>>◌}
 use Rattle.jr_parse_laws.proofs.Outcomes.{no_first, one_first}
 use Rattle.jr_parse_laws.proofs.Turns.{behind_shortens, expect_keeps, identifier_keeps}
-use Rattle.jr_parse_expr.specs.Names.{name_of, type_of, pairs, counted, dims, parts, named_all, name_after, name, primitive_kind, primitive_at, base_by, element, type_use, Dotted, Plain, Enclosing, dotted_from, dotted}
+use Rattle.jr_parse_expr.specs.Names.{name_of, type_of, pairs, dims, parts, name_after, name, primitive_kind, primitive_at, base_by, element, type_use, Plain, dotted_from, dotted}
 use Rattle.jr_parse_expr.proofs.NameLaws.{dotted_more, dotted_at_dot}
 use Rattle.jr_parse_expr.proofs.NameReads.{dotted_end}
-use Rattle.jr_parse_expr.proofs.Locals.{Again, Kept, Local, here, along, local_pure, local_bind, local_skip, local_expect, local_identifier, local_on, Looks, local_many}
+use Rattle.jr_parse_expr.proofs.Locals.{Kept, Local, here, along, local_pure, local_bind, local_expect, local_identifier, local_on, Looks, local_many}
 
 module _ (room other : ℕ) (le : room ≤ other) where
   part_local : Local room other le (expect y.Dot >> identifier) (expect y.Dot >> identifier)

@@ -51,6 +51,20 @@ goes_on_from (x.Index array at) = true
 goes_on_from (x.Call (x.a_receiver (x.Of object)) name args) = true
 goes_on_from _ = false
 
+-- the receiver of a call behind names
+
+pub shaped_receiver : (before : List Text) → IsShapedAnyReceiver (receiver_of before)
+shaped_receiver [] = tt
+shaped_receiver (part ∷ before) = refl
+
+pub low_receiver : (room : ℕ) (before : List Text) → any_receiver_depth (receiver_of before) ≤ room
+low_receiver room [] = omega arith
+low_receiver room (part ∷ before) = omega arith
+
+pub received : (before : List Text) (last : Text) (us : List Kind) → write_all (before ++ last ∷ []) us ≡ write_qualifier (receiver_of before) (kind.Ident last ∷ us)
+received [] last us = refl
+received (part ∷ before) last us = ap (λ ts. kind.Ident part ∷ ts) (parts_append before (last ∷ []) us)
+
 module _ (room : ℕ) (inner : Lead → ℕ → Parser x.Expr) (list : Parser x.InitList) (reads : ReadsExprs room inner) (lists : ReadsLists room list) where
   -- ---- a call, or what stands there without one
 
@@ -244,20 +258,9 @@ module _ (room : ℕ) (inner : Lead → ℕ → Parser x.Expr) (list : Parser x.
       subst (Operand room ts) (ok_is h)
       (record { shaped = has_parts before last; tight = omega arith; not_least = refl; low = omega arith; written = found.written; ended = tt })
   named_sound (Plain before last) ts us r found h =
-      call_sound (receiver_of before) last (x.NameExpr (name_of (before ++ last ∷ []))) ts us r (shaped_receiver before) (low_receiver before)
+      call_sound (receiver_of before) last (x.NameExpr (name_of (before ++ last ∷ []))) ts us r (shaped_receiver before) (low_receiver room before)
       (found.written ∙ received before last us)
-      (λ paren. record { shaped = has_parts before last; tight = omega arith; not_least = refl; low = omega arith; written = found.written; ended = (found.ended, paren) }) h where
-        shaped_receiver : (before : List Text) → IsShapedAnyReceiver (receiver_of before)
-        shaped_receiver [] = tt
-        shaped_receiver (part ∷ before) = refl
-
-        low_receiver : (before : List Text) → any_receiver_depth (receiver_of before) ≤ room
-        low_receiver [] = omega arith
-        low_receiver (part ∷ before) = omega arith
-
-        received : (before : List Text) (last : Text) (us : List Kind) → write_all (before ++ last ∷ []) us ≡ write_qualifier (receiver_of before) (kind.Ident last ∷ us)
-        received [] last us = refl
-        received (part ∷ before) last us = ap (λ ts. kind.Ident part ∷ ts) (parts_append before (last ∷ []) us)
+      (λ paren. record { shaped = has_parts before last; tight = omega arith; not_least = refl; low = omega arith; written = found.written; ended = (found.ended, paren) }) h
 
   super_sound : (ts : List Kind) (r : x.Expr × List Kind) → super_member room inner list ts ≡ Ok r → Operand room (kind.Word k.Super ∷ ts) r
   unfolding super_member

@@ -1,6 +1,6 @@
 -- Where reading a cast or parentheses stops, what stands before begins one.
-use Rattle.std.proofs.Common.{◌≡◌, ℕ, zero, suc, ◌+◌, ◌<◌, ◌≤◌, max, Bool, true, false, not, ◌&&◌, ltb, List, [], ◌∷◌, ◌++◌, length, length-append, Option, Some, None, Ok, Err, refl, sym, ap, ◌∙◌, subst, ◌⊎◌, inl, inr, arith}
-use Rattle.std.proofs.lemmas.Bool.{not_from_false, and_left, and_right, true≢false}
+use Rattle.std.proofs.Common.{◌≡◌, ℕ, suc, ◌<◌, ◌≤◌, max, true, false, ◌&&◌, List, [], ◌∷◌, ◌++◌, length, length-append, Option, Some, None, Ok, Err, refl, sym, ap, ◌∙◌, subst, ◌⊎◌, inl, inr, arith}
+use Rattle.std.proofs.lemmas.Bool.{not_from_false, and_left, and_right}
 use Rattle.jr_base.specs.declared.text.Text.{Text}
 use Rattle.jr_base.specs.declared.kind.Kind.{Kind}
 use Rattle.jr_base.specs.declared.kind.Kind.TheVariants as kind
@@ -11,25 +11,24 @@ use Rattle.jr_tree.specs.declared.tree.Primitive.{Primitive}
 use Rattle.jr_tree.specs.declared.tree.Base.{Base}
 use Rattle.jr_tree.specs.declared.tree.Base.TheVariants as base
 use Rattle.jr_tree.specs.Shape.{level, is_signed, is_named, IsName, IsBase, IsShapedExpr}
-use Rattle.jr_tree.specs.Depth.{expr_depth}
 use Rattle.jr_tree.specs.Mirror.Exprs as x
 use Rattle.jr_parse_laws.specs.declared.fault.Fault.{Fault}
 use Rattle.jr_parse_laws.specs.declared.fault.Fault.TheVariants.{NoTree, TooDeep, OutOfMemory}
 use Rattle.jr_parse_laws.specs.Parsers.{Parser, and_then, first, is_at, expect}
-use Rattle.jr_parse_laws.specs.Viable.{Alike, Begun, Deeper}
+use Rattle.jr_parse_laws.specs.Viable.{Begun, Deeper}
 use Rattle.jr_parse_laws.proofs.Outcomes.{chosen, ok_err, err_is, is_symbol_is, Before, After, stops}
-use Rattle.jr_parse_laws.proofs.Stops.{Leading, leading_nothing}
+use Rattle.jr_parse_laws.proofs.Stops.{Leading}
 use Rattle.jr_parse_laws.proofs.Exact.{expect_sound}
 use Rattle.jr_parse_expr.specs.Starts.{begins_cast_operand, next_is, starts_expr}
 use Rattle.jr_parse_expr.specs.Names.{name_of, type_of, primitive_kind, dims, element, Dotted, Plain, Enclosing, dotted}
 use Rattle.jr_parse_expr.specs.Exprs as reader
 use Rattle.jr_parse_expr.specs.Exprs.{Lead, Nothing, Named, Indexed, skipping, closed}
-use Rattle.jr_parse_expr.specs.Writing.{write_parts, write_all, write_name, write_brackets, write_base, write_type, write_expr}
+use Rattle.jr_parse_expr.specs.Writing.{write_all, write_name, write_brackets, write_base, write_expr}
 use Rattle.jr_parse_expr.specs.Follow.{IsExpr}
 use Rattle.jr_parse_expr.proofs.NameReads.{dims_sound, element_sound, dotted_sound, has_parts, all_append}
-use Rattle.jr_parse_expr.proofs.Asked.{Found, ReadsExprs, ReadsLists}
+use Rattle.jr_parse_expr.proofs.Asked.{ReadsExprs, ReadsLists}
 use Rattle.jr_parse_expr.proofs.Parentheses.{not_named, begun_unsigned}
-use Rattle.jr_parse_expr.proofs.Growths.{Growing, Starter, leading_then, leading_expr, leading_one, grows, none_grows, deep_grows, sample, sample_is, starter}
+use Rattle.jr_parse_expr.proofs.Growths.{Growing, leading_then, leading_expr, leading_one, grows, none_grows, deep_grows, sample, sample_is, starter}
 use Rattle.jr_parse_expr.proofs.NameGrowths.{element_grows, dims_stop, dotted_stop, brackets_more, leading_name, leading_brackets, leading_base}
 use Rattle.jr_parse_expr.proofs.PartGrowths.{NoLevel, Deep, Refused, Within, GrowsExprs, GrowsLists, missing}
 

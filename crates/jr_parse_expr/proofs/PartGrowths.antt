@@ -1,40 +1,33 @@
 -- Where reading arguments, sizes or a creation stops, what stands before begins one.
-use Rattle.std.proofs.Common.{◌≡◌, ℕ, zero, suc, ◌+◌, ◌<◌, ◌≤◌, max, Bool, true, false, cond, ltb, List, [], ◌∷◌, ◌++◌, length, Option, Some, None, Ok, Err, refl, sym, ap, ◌∙◌, subst, ◌⊎◌, inl, inr, arith}
-use Rattle.std.proofs.lemmas.Bool.{cases_lt, ltb-false, ltb-true, lt-ltb, true≢false}
+use Rattle.std.proofs.Common.{◌≡◌, ℕ, zero, suc, ◌≤◌, max, Bool, true, false, List, [], ◌∷◌, ◌++◌, length, Option, Err, refl, sym, ap, ◌∙◌, subst, ◌⊎◌, inl, inr, arith}
+use Rattle.std.proofs.lemmas.Bool.{cases_lt, true≢false}
 use Rattle.jr_base.specs.declared.text.Text.{Text}
 use Rattle.jr_base.specs.declared.kind.Kind.{Kind}
 use Rattle.jr_base.specs.declared.kind.Kind.TheVariants as kind
 use Rattle.jr_base.specs.declared.kind.Symbol.{Symbol}
 use Rattle.jr_base.specs.declared.kind.Symbol.TheVariants as y
-use Rattle.jr_base.specs.declared.kind.Keyword.TheVariants as k
-use Rattle.jr_tree.specs.declared.tree.Name.{Name}
-use Rattle.jr_tree.specs.declared.tree.Primitive.{Primitive}
-use Rattle.jr_tree.specs.declared.tree.Base.{Base}
-use Rattle.jr_tree.specs.declared.tree.Base.TheVariants as base
-use Rattle.jr_tree.specs.Words.{primitive_word}
 use Rattle.jr_tree.specs.Tokens.{qualifier_tokens, exprs_tokens, after_expr}
-use Rattle.jr_tree.specs.Shape.{level, IsName, IsBase, IsShapedExpr, IsShapedList, IsShapedAnyReceiver, AreShapedExprs}
-use Rattle.jr_tree.specs.Depth.{expr_depth, exprs_depth, list_depth, any_receiver_depth}
+use Rattle.jr_tree.specs.Shape.{IsShapedList, IsShapedAnyReceiver, AreShapedExprs}
+use Rattle.jr_tree.specs.Depth.{exprs_depth, list_depth, any_receiver_depth}
 use Rattle.jr_tree.specs.Mirror.Exprs as x
 use Rattle.jr_parse_laws.specs.declared.fault.Fault.{Fault}
 use Rattle.jr_parse_laws.specs.declared.fault.Fault.TheVariants.{NoTree, TooDeep}
-use Rattle.jr_parse_laws.specs.Parsers.{Parser, and_then, first, is_at, is_symbol, begins_with, expect, many, after_comma, pure, ◌>>=◌}
-use Rattle.jr_parse_laws.proofs.Outcomes.{chosen, ok_is, ok_err, err_is, is_symbol_is, Before, After, stops}
+use Rattle.jr_parse_laws.specs.Parsers.{Parser, first, is_at, is_symbol, begins_with, expect, many, after_comma, pure, ◌>>=◌}
+use Rattle.jr_parse_laws.proofs.Outcomes.{chosen, ok_err, is_symbol_is, Before, After, stops}
 use Rattle.jr_parse_laws.proofs.Stops.{leading_nothing}
 use Rattle.jr_parse_laws.proofs.Exact.{symbol_token, expect_sound}
 use Rattle.jr_parse_expr.specs.Starts.{starts_expr, starts_list}
-use Rattle.jr_parse_expr.specs.Names.{name_of, primitive_kind, primitive_at, dims, name, Plain}
+use Rattle.jr_parse_expr.specs.Names.{name_of, dims, Plain}
 use Rattle.jr_parse_expr.specs.Exprs as reader
 use Rattle.jr_parse_expr.specs.Exprs.{Lead, Nothing, Named, Indexed, skipping, next_token}
-use Rattle.jr_parse_expr.specs.Writing.{write_name, write_brackets, write_base, write_expr, write_exprs, write_others, write_dims, write_qualifier, write_list}
+use Rattle.jr_parse_expr.specs.Writing.{write_brackets, write_expr, write_exprs, write_others, write_dims, write_qualifier, write_list}
 use Rattle.jr_parse_expr.specs.Follow.{IsExpr}
 use Rattle.jr_parse_expr.proofs.Written.{exprs_written, others_written, qualifier_written}
-use Rattle.jr_parse_expr.proofs.NameReads.{dims_sound, name_sound, primitive_kind_back}
 use Rattle.jr_parse_expr.proofs.Asked.{ReadsExprs, ReadsLists, depth_pos}
 use Rattle.jr_parse_expr.proofs.Arguments.{shortens, write_item, item_sound, any_sound}
 use Rattle.jr_parse_expr.proofs.Growths as g
 use Rattle.jr_parse_expr.proofs.Growths.{Growing, Starter, leading_tokens, leading_then, leading_expr, leading_one, grows, none_grows, deep_grows, sample, sample_is, starter}
-use Rattle.jr_parse_expr.proofs.NameGrowths.{IsNameIn, name_grows, dims_stop, behind_stop, brackets_more, leading_name, leading_brackets, leading_base}
+use Rattle.jr_parse_expr.proofs.NameGrowths.{dims_stop, behind_stop, brackets_more, leading_brackets}
 
 -- where no level is left
 pub data NoLevel (starts : Option Kind → Bool) (ts : List Kind) (stop : Fault × List Kind) : Type 0 where

@@ -4,13 +4,13 @@ use Rattle.jr_base.specs.declared.kind.Kind.{Kind}
 use Rattle.jr_tree.specs.Mirror.Exprs as x
 use Rattle.jr_tree.specs.Depth.{expr_depth}
 use Rattle.jr_parse_laws.proofs.Outcomes.{ok_is}
-use Rattle.jr_parse_expr.specs.Exprs.{Nothing, expr, list}
+use Rattle.jr_parse_expr.specs.Exprs.{Nothing, expr}
 use Rattle.jr_parse_expr.specs.Writing.{write_expr}
 use Rattle.jr_parse_expr.specs.Laws.{IsExprComplete, IsExprSound, IsInitComplete, IsInitSound, HasOneReading}
 use Rattle.jr_parse_expr.proofs.Written.{written}
 use Rattle.jr_parse_expr.proofs.Followers.{ends_before}
-use Rattle.jr_parse_expr.proofs.Initializers.{init_read, init_sound}
-use Rattle.jr_parse_expr.proofs.ExprReads.{all_read, expr_complete, expr_sound}
+use Rattle.jr_parse_expr.proofs.Rules.{an_init}
+use Rattle.jr_parse_expr.proofs.ExprReads.{expr_complete, expr_sound}
 
 pub exprs_complete : IsExprComplete
 exprs_complete = expr_complete
@@ -21,12 +21,12 @@ exprs_sound room least lead ts read some led h =
     record { is = found.is; written = found.written; ended = found.ended }
 
 pub inits_complete : IsInitComplete
-inits_complete room i rest s low ended = init_read room (expr room) (list room) (all_read room).exprs (all_read room).lists i rest s low ended
+inits_complete room i rest s low ended = an_init.exact.complete room i rest (s, low) ended
 
 pub inits_sound : IsInitSound
 inits_sound room ts read h =
-    let found = init_sound room (expr room) (list room) (all_read room).exprs (all_read room).lists ts read h in
-    record { shaped = found.shaped; low = found.low; written = found.written; ended = found.ended }
+    let found = an_init.exact.sound room ts read h in
+    record { shaped = found.is.0; low = found.is.1; written = found.written; ended = found.ended }
 
 pub one_reading : HasOneReading
 one_reading a b sa sb same =

@@ -36,7 +36,7 @@ base_written (base.Named n) rest = name_written n rest
 pub type_written : (t : TypeUse) (rest : List Kind) → write_type t rest ≡ type_tokens t ++ rest
 type_written t rest = simp append_assoc (rw (brackets_written t.dims rest) (base_written t.base _))
 
-comma_written : (b : Bool) (rest : List Kind) → write_comma b rest ≡ if_true b (mark y.Comma) ++ rest
+pub comma_written : (b : Bool) (rest : List Kind) → write_comma b rest ≡ if_true b (mark y.Comma) ++ rest
 comma_written true rest = refl
 comma_written false rest = refl
 

@@ -1,12 +1,14 @@
 -- What the laws of reading expressions say: what is written is read, and what is read is written (JLS 15, 18).
-use Rattle.std.specs.Prelude.{◌≡◌, ℕ, ◌≤◌, List, ◌++◌, Ok}
+use Rattle.std.specs.Prelude.{◌≡◌, ℕ, ◌≤◌, List, ◌++◌, Ok, Err}
 use Rattle.jr_base.specs.declared.kind.Kind.{Kind}
 use Rattle.jr_tree.specs.Mirror.Exprs as x
 use Rattle.jr_tree.specs.Shape.{IsShapedInit, IsWholeExpr}
 use Rattle.jr_tree.specs.Depth.{init_depth}
 use Rattle.jr_tree.specs.Tokens.{expr_tokens}
+use Rattle.jr_parse_laws.specs.declared.fault.Fault.{Fault}
 use Rattle.jr_parse_laws.specs.Parsers.{first}
-use Rattle.jr_parse_expr.specs.Exprs.{Lead, expr, effect, init}
+use Rattle.jr_parse_laws.specs.Viable.{Alike, Begun, Wider, Deeper}
+use Rattle.jr_parse_expr.specs.Exprs.{Lead, Indexed, expr, effect, init}
 use Rattle.jr_parse_expr.specs.Writing.{write_lead, write_expr, write_init}
 use Rattle.jr_parse_expr.specs.Follow.{Ends, EffectEnds, InitEnds, IsExpr, IsEffect, IsLed}
 
@@ -55,6 +57,34 @@ IsInitComplete = (room : ℕ) (i : x.Init) (rest : List Kind) → IsShapedInit i
 
 abbrev pub IsInitSound : Type 0
 IsInitSound = (room : ℕ) (ts : List Kind) (read : x.Init × List Kind) → init room ts ≡ Ok read → IsInitRead room ts read
+
+-- ---- where a reader stops: what stands before the fault begins a tree, a deeper tree goes on where a level is missing, and the fault is the same whatever follows its token,
+-- at each number of levels where no tree goes on
+
+-- what the caller has read fits in so many levels
+abbrev pub HasRoom : Lead → ℕ → Type 0
+HasRoom (Indexed n) room = 2 ≤ room
+HasRoom _ room = 1 ≤ room
+
+pub record IsExprStop (room least : ℕ) (lead : Lead) (ts : List Kind) (f : Fault) (rest : List Kind) : Type 0 where
+  pub viable : Begun (IsExpr room least) write_expr rest (write_lead lead ts)
+  pub deeper : Deeper (λ r. IsExpr r least) write_expr f rest (write_lead lead ts)
+  pub alone : (other : ℕ) (w : List Kind) → Wider f room other → first rest ≡ first w → (us : List Kind) × Alike rest w ts us × (expr other lead least us ≡ Err (f, w))
+
+abbrev pub IsExprStuck : Type 0
+IsExprStuck = (room least : ℕ) (lead : Lead) (ts : List Kind) (f : Fault) (rest : List Kind) → HasRoom lead room → least ≤ 12 → IsLed lead (first ts) → expr room lead least ts ≡ Err (f, rest)
+    → IsExprStop room least lead ts f rest
+
+abbrev pub IsInitOf : ℕ → x.Init → Type 0
+IsInitOf r i = IsShapedInit i × (init_depth i ≤ r)
+
+pub record IsInitStop (room : ℕ) (ts : List Kind) (f : Fault) (rest : List Kind) : Type 0 where
+  pub viable : Begun (IsInitOf room) write_init rest ts
+  pub deeper : Deeper IsInitOf write_init f rest ts
+  pub alone : (other : ℕ) (w : List Kind) → Wider f room other → first rest ≡ first w → (us : List Kind) × Alike rest w ts us × (init other us ≡ Err (f, w))
+
+abbrev pub IsInitStuck : Type 0
+IsInitStuck = (room : ℕ) (ts : List Kind) (f : Fault) (rest : List Kind) → 1 ≤ room → init room ts ≡ Err (f, rest) → IsInitStop room ts f rest
 
 -- ---- one reading
 

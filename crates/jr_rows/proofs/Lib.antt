@@ -1,1 +1,4 @@
 pub mod Trees
+pub mod Fitting
+pub mod FittingStmts
+pub mod Locals

@@ -5,3 +5,5 @@ pub mod Stmts
 pub mod Decls
 pub mod Rows
 pub mod Tree
+pub mod Below
+pub mod Local

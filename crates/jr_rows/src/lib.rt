@@ -6,5 +6,5 @@ mod law;
 mod row;
 
 pub use label::{ImportKind, Label, Modifiers, NameKind, NamePlace, ReceiverKind, Role, Sought};
-pub use law::programs_are_trees;
+pub use law::{programs_are_trees, rows_stand_as_they_may};
 pub use row::Row;

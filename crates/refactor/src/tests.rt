@@ -149,21 +149,33 @@ fn batch(alloc: Global, bytes: Vec<u8>, input_fails: u64) -> Result<Called, Fail
     })
 }
 
+fn batch_of(alloc: Global, text: &str, input_fails: u64) -> Result<Called, Fail> {
+    batch(alloc, text.as_bytes().to_vec(alloc)?, input_fails)
+}
+
 #[test]
 fn a_batch_is_read(rt: HostRuntime) -> Result<(), Fail> {
     let alloc = rt.alloc();
-    let empty = batch(alloc, b"[]".to_vec(alloc)?, 0)?;
-    expect(&rt, &empty, 20, "not yet\n", OLD);
-    let no_json = batch(alloc, b"{".to_vec(alloc)?, 0)?;
-    expect(&rt, &no_json, 2, "bad request: 9\n", OLD);
-    let no_array = batch(alloc, b"{}".to_vec(alloc)?, 0)?;
-    expect(&rt, &no_array, 2, "bad request: 9 do\n", OLD);
-    let lacking = r#"[{"do":"inline","file":"A.java"}]"#;
-    let no_offset = batch(alloc, lacking.as_bytes().to_vec(alloc)?, 0)?;
-    expect(&rt, &no_offset, 2, "request 1: bad request: 9 at\n", OLD);
-    let fault = batch(alloc, b"[]".to_vec(alloc)?, 1)?;
-    expect(&rt, &fault, 8, "input fault\n", OLD);
-    let large = batch(alloc, vec![in alloc; b' '; 1_048_577]?, 0)?;
+    expect(&rt, &batch_of(alloc, "[]", 0)?, 20, "not yet\n", OLD);
+    expect(&rt, &batch_of(alloc, "{", 0)?, 2, "bad request: 9\n", OLD);
+    expect(
+        &rt,
+        &batch_of(alloc, "{}", 0)?,
+        2,
+        "bad request: 9 do\n",
+        OLD,
+    );
+    let lacking = batch_of(alloc, r#"[{"do":"inline","file":"A.java"}]"#, 0)?;
+    expect(&rt, &lacking, 2, "request 1: bad request: 9 at\n", OLD);
+    expect(&rt, &batch_of(alloc, "[]", 1)?, 8, "input fault\n", OLD);
+    Ok(())
+}
+
+#[test]
+fn a_large_batch_is_refused(rt: HostRuntime) -> Result<(), Fail> {
+    let alloc = rt.alloc();
+    let blanks = vec![in alloc; b' '; 1_048_577]?;
+    let large = batch(alloc, blanks, 0)?;
     expect(&rt, &large, 9, "too large: input\n", OLD);
     Ok(())
 }

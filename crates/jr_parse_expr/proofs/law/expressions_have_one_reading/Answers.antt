@@ -1,16 +1,7 @@
 use Rattle.jr_parse_expr.proofs.Written.{written}
-use Rattle.jr_parse_expr.proofs.Locals.{local_over}
-use Rattle.jr_parse_expr.proofs.NameLocals.{dotted_local}
-use Rattle.jr_parse_expr.proofs.ExprLocals.{creation_local}
-use Rattle.jr_parse_expr.proofs.LevelLocals.{operand_local}
-use Rattle.jr_parse_expr.proofs.AllLocals.{expr_alone}
-use Rattle.jr_parse_expr.proofs.Growths.{many_stopped}
-use Rattle.jr_parse_expr.proofs.NameGrowths.{dotted_stop}
-use Rattle.jr_parse_expr.proofs.PartGrowths.{sizes_grow}
-use Rattle.jr_parse_expr.proofs.CreationGrowths.{creation_grows}
-use Rattle.jr_parse_expr.proofs.ParenGrowths.{in_parens_grow}
-use Rattle.jr_parse_expr.proofs.Effects.{effect_complete, effect_sound}
+use Rattle.jr_parse_expr.proofs.EffectReads.{effect_complete, effect_sound}
 use Rattle.jr_parse_expr.proofs.Readings.{exprs_complete, exprs_sound, inits_complete, inits_sound, one_reading}
+use Rattle.jr_parse_expr.proofs.Stuck.{exprs_stuck, inits_stuck}
 use Rattle.jr_parse_expr.proofs.law.expressions_have_one_reading.Goals as goal
 
 pub returns-clause-written : goal.returns-clause-written
@@ -36,3 +27,9 @@ returns-clause-inits_sound c = inits_sound
 
 pub returns-clause-one_reading : goal.returns-clause-one_reading
 returns-clause-one_reading c = one_reading
+
+pub returns-clause-stuck : goal.returns-clause-stuck
+returns-clause-stuck c = exprs_stuck
+
+pub returns-clause-inits_stuck : goal.returns-clause-inits_stuck
+returns-clause-inits_stuck c = inits_stuck
