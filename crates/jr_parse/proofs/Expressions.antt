@@ -23,7 +23,7 @@ use Rattle.jr_parse_expr.proofs.Beginnings.{target_tight, target_not_least, bina
 use Rattle.jr_parse_expr.proofs.Followers.{Closes, ends_before}
 use Rattle.jr_parse_expr.proofs.Asked.{listed}
 use Rattle.jr_parse_expr.proofs.Readings.{exprs_complete, exprs_sound}
-use Rattle.jr_parse_expr.proofs.Effects.{effect_complete, effect_sound}
+use Rattle.jr_parse_expr.proofs.EffectReads.{effect_complete, effect_sound}
 use Rattle.jr_parse.specs.Stmts.{condition}
 use Rattle.jr_parse.specs.Writing.{write_some, write_many, write_after, write_cond}
 use Rattle.jr_parse.proofs.Tokens.{eats}
