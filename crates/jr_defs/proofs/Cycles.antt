@@ -16,7 +16,7 @@ pub settled_part_whole : (p : Rows) (t u : Table) → IsFormed p → ((c : ℕ) 
 settled_part_whole p t u formed all part o = part.kept o (λ c h. all c (formed.header c o h))
 
 module _ (p : Rows) (t : Table) (a b : ℕ) (to_b : Meets p t a b) (to_a : Meets p t b a) where
-  never : (c : ℕ) → (c ≡ a) ⊎ (c ≡ b) → IsSettled p t c → ⊥
+  pub never : (c : ℕ) → (c ≡ a) ⊎ (c ≡ b) → IsSettled p t c → ⊥
   never c (inl e) (IsSettled.settled out met) = never b (inr refl) (met b (subst (λ k. Meets p t k b) (sym e) to_b))
   never c (inr e) (IsSettled.settled out met) = never a (inl refl) (met a (subst (λ k. Meets p t k a) (sym e) to_a))
 

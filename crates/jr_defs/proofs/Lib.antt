@@ -15,3 +15,4 @@ pub mod Settling
 pub mod Worked
 pub mod Forming
 pub mod Cycles
+pub mod WorkedCycle

@@ -40,7 +40,7 @@ use Rattle.jr_defs.specs.Constants.{ConstantOf, HasConstantForm}
 use Rattle.jr_defs.specs.Conversions.{PromotesBoth}
 use Rattle.jr_defs.specs.Typing.{TypeOf, BinaryType, LiteralType}
 
-abbrev lang : d.CompilationUnit
+abbrev pub lang : d.CompilationUnit
 lang = d.UnitOf (Some (record { name = record { parts = codes "java" ∷ codes "lang" ∷ [] } })) [] (d.Class (modifier.Public ∷ []) (codes "Object") None [] d.no_members ∷ [])
 
 abbrev int_type : TypeUse
