@@ -49,7 +49,10 @@ fn params(alloc: Global) -> Result<Items<Param>, OutOfMemory> {
     ] {
         params.push(Param {
             is_final: true,
-            ty: TypeUse { base: Base::Primitive(primitive), dims: 1 },
+            ty: TypeUse {
+                base: Base::Primitive(primitive),
+                dims: 1,
+            },
             name: text(alloc, "a")?,
             dims: 2,
         })?;
@@ -90,7 +93,11 @@ fn made_member(alloc: Global, form: MemberForm, parts: MemberParts) -> Member {
         body,
     } = parts;
     match form {
-        MemberForm::Field => Member::Field { mods, ty: int(1), decls },
+        MemberForm::Field => Member::Field {
+            mods,
+            ty: int(1),
+            decls,
+        },
         MemberForm::Method => Member::Method {
             mods,
             result_: ResultType::Of { ty: int(1) },
@@ -107,10 +114,24 @@ fn made_member(alloc: Global, form: MemberForm, parts: MemberParts) -> Member {
             thrown: Items::new(alloc),
             body: None,
         },
-        MemberForm::Constructor => Member::Constructor { mods, name: word, params, thrown, body },
-        MemberForm::StaticInit => Member::Init { is_static: true, body },
-        MemberForm::Init => Member::Init { is_static: false, body },
-        MemberForm::Nothing => Member::Nested { decl: TypeDecl::Empty },
+        MemberForm::Constructor => Member::Constructor {
+            mods,
+            name: word,
+            params,
+            thrown,
+            body,
+        },
+        MemberForm::StaticInit => Member::Init {
+            is_static: true,
+            body,
+        },
+        MemberForm::Init => Member::Init {
+            is_static: false,
+            body,
+        },
+        MemberForm::Nothing => Member::Nested {
+            decl: TypeDecl::Empty,
+        },
     }
 }
 
@@ -156,21 +177,32 @@ fn interface(alloc: Global, member: Member) -> Result<TypeDecl, OutOfMemory> {
 
 fn imports(alloc: Global) -> Result<Items<Import>, OutOfMemory> {
     let mut imports = Items::new(alloc);
-    imports.push(Import::Single { name: name(alloc, &["p", "T"])? })?;
-    imports.push(Import::OnDemand { name: name(alloc, &["p"])? })?;
-    imports.push(Import::StaticSingle { name: name(alloc, &["p", "T"])?, member: text(alloc, "f")? })?;
+    imports.push(Import::Single {
+        name: name(alloc, &["p", "T"])?,
+    })?;
+    imports.push(Import::OnDemand {
+        name: name(alloc, &["p"])?,
+    })?;
+    imports.push(Import::StaticSingle {
+        name: name(alloc, &["p", "T"])?,
+        member: text(alloc, "f")?,
+    })?;
     Ok(imports)
 }
 
 /// A unit with each form of import and of declaration, and this member in its class.
 pub fn unit(alloc: Global, member: Member) -> Result<Unit, OutOfMemory> {
-    let nothing = Member::Nested { decl: TypeDecl::Empty };
+    let nothing = Member::Nested {
+        decl: TypeDecl::Empty,
+    };
     let mut types = Items::new(alloc);
     types.push(class(alloc, member)?)?;
     types.push(interface(alloc, nothing)?)?;
     types.push(TypeDecl::Empty)?;
     Ok(Unit {
-        package: Some(PackageDecl { name: name(alloc, &["p"])? }),
+        package: Some(PackageDecl {
+            name: name(alloc, &["p"])?,
+        }),
         imports: imports(alloc)?,
         types,
     })

@@ -131,35 +131,107 @@ fn made(alloc: Global, form: Form, parts: Parts) -> Expr {
         list,
     } = parts;
     match form {
-        Form::Assign => Expr::Assign { target: a, op: Symbol::Assign, value: b },
-        Form::Cond => Expr::Cond { cond: b, yes: a, no: c },
-        Form::Minus => Expr::Binary { left: a, op: Symbol::Minus, right: b },
-        Form::IsA => Expr::IsA { value: b, ty: TypeUse { base: Base::Named(name), dims: 1 } },
-        Form::Unary => Expr::Unary { op: Symbol::Minus, value: b },
-        Form::Cast => Expr::Cast { ty: TypeUse { base: Base::Named(name), dims: 0 }, value: b },
-        Form::PreStep => Expr::PreStep { op: Symbol::PlusPlus, value: b },
-        Form::PostStep => Expr::PostStep { value: b, op: Symbol::MinusMinus },
-        Form::True => Expr::Lit { kind: Kind::Word(Keyword::True) },
+        Form::Assign => Expr::Assign {
+            target: a,
+            op: Symbol::Assign,
+            value: b,
+        },
+        Form::Cond => Expr::Cond {
+            cond: b,
+            yes: a,
+            no: c,
+        },
+        Form::Minus => Expr::Binary {
+            left: a,
+            op: Symbol::Minus,
+            right: b,
+        },
+        Form::IsA => Expr::IsA {
+            value: b,
+            ty: TypeUse {
+                base: Base::Named(name),
+                dims: 1,
+            },
+        },
+        Form::Unary => Expr::Unary {
+            op: Symbol::Minus,
+            value: b,
+        },
+        Form::Cast => Expr::Cast {
+            ty: TypeUse {
+                base: Base::Named(name),
+                dims: 0,
+            },
+            value: b,
+        },
+        Form::PreStep => Expr::PreStep {
+            op: Symbol::PlusPlus,
+            value: b,
+        },
+        Form::PostStep => Expr::PostStep {
+            value: b,
+            op: Symbol::MinusMinus,
+        },
+        Form::True => Expr::Lit {
+            kind: Kind::Word(Keyword::True),
+        },
         Form::Int => Expr::Lit { kind: Kind::Int(1) },
         Form::IntMin => Expr::Lit { kind: Kind::IntMin },
-        Form::Long => Expr::Lit { kind: Kind::Long(2) },
-        Form::LongMin => Expr::Lit { kind: Kind::LongMin },
-        Form::Char => Expr::Lit { kind: Kind::Char(117) },
-        Form::Str => Expr::Lit { kind: Kind::Str(string) },
+        Form::Long => Expr::Lit {
+            kind: Kind::Long(2),
+        },
+        Form::LongMin => Expr::Lit {
+            kind: Kind::LongMin,
+        },
+        Form::Char => Expr::Lit {
+            kind: Kind::Char(117),
+        },
+        Form::Str => Expr::Lit {
+            kind: Kind::Str(string),
+        },
         Form::This => Expr::This { name: None },
         Form::OuterThis => Expr::This { name: Some(name) },
         Form::Paren => Expr::Paren { inner: b },
         Form::Name => Expr::NameExpr { name },
-        Form::Select => Expr::Select { object: b, name: word },
+        Form::Select => Expr::Select {
+            object: b,
+            name: word,
+        },
         Form::SuperSelect => Expr::SuperSelect { name: word },
         Form::Index => Expr::Index { array: b, at: a },
-        Form::Call => Expr::Call { receiver: None, name: word, args },
-        Form::CallOf => Expr::Call { receiver: Some(Receiver::Of { object: b }), name: word, args },
-        Form::CallOfName => Expr::Call { receiver: Some(Receiver::OfName { name }), name: word, args },
-        Form::CallOfSuper => Expr::Call { receiver: Some(Receiver::Super), name: word, args },
+        Form::Call => Expr::Call {
+            receiver: None,
+            name: word,
+            args,
+        },
+        Form::CallOf => Expr::Call {
+            receiver: Some(Receiver::Of { object: b }),
+            name: word,
+            args,
+        },
+        Form::CallOfName => Expr::Call {
+            receiver: Some(Receiver::OfName { name }),
+            name: word,
+            args,
+        },
+        Form::CallOfSuper => Expr::Call {
+            receiver: Some(Receiver::Super),
+            name: word,
+            args,
+        },
         Form::New => Expr::New { name, args },
-        Form::NewArray => Expr::NewArray { base: Base::Named(name), dims: args, more: 1, init: None },
-        Form::NewList => Expr::NewArray { base: Base::Named(name), dims: Items::new(alloc), more: 2, init: Some(list) },
+        Form::NewArray => Expr::NewArray {
+            base: Base::Named(name),
+            dims: args,
+            more: 1,
+            init: None,
+        },
+        Form::NewList => Expr::NewArray {
+            base: Base::Named(name),
+            dims: Items::new(alloc),
+            more: 2,
+            init: Some(list),
+        },
     }
 }
 

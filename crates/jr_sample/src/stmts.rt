@@ -2,8 +2,8 @@
 use crate::exprs::{args, list, text, variable};
 use jr_base::{Boxed, Items, OutOfMemory, Text};
 use jr_tree::{
-    Base, Block, Catch, Declarator, Expr, ForInit, Group, Init, Param, Primitive, Stmt, SwitchLabel,
-    ThisOrSuper, TypeUse,
+    Base, Block, Catch, Declarator, Expr, ForInit, Group, Init, Param, Primitive, Stmt,
+    SwitchLabel, ThisOrSuper, TypeUse,
 };
 use std::alloc::Global;
 
@@ -90,13 +90,23 @@ pub fn block(alloc: Global) -> Result<Block, OutOfMemory> {
 
 fn groups(alloc: Global) -> Result<Items<Group>, OutOfMemory> {
     let mut labels = Items::new(alloc);
-    labels.push(SwitchLabel::Case { value: variable(alloc, "a")? })?;
+    labels.push(SwitchLabel::Case {
+        value: variable(alloc, "a")?,
+    })?;
     labels.push(SwitchLabel::Default)?;
     let mut groups = Items::new(alloc);
-    groups.push(Group { labels, stmts: block(alloc)?.stmts })?;
+    groups.push(Group {
+        labels,
+        stmts: block(alloc)?.stmts,
+    })?;
     let mut labels = Items::new(alloc);
-    labels.push(SwitchLabel::Case { value: variable(alloc, "b")? })?;
-    groups.push(Group { labels, stmts: Items::new(alloc) })?;
+    labels.push(SwitchLabel::Case {
+        value: variable(alloc, "b")?,
+    })?;
+    groups.push(Group {
+        labels,
+        stmts: Items::new(alloc),
+    })?;
     Ok(groups)
 }
 
@@ -108,13 +118,19 @@ fn catches(alloc: Global) -> Result<Items<Catch>, OutOfMemory> {
         dims: 1,
     };
     let mut catches = Items::new(alloc);
-    catches.push(Catch { param, body: block(alloc)? })?;
+    catches.push(Catch {
+        param,
+        body: block(alloc)?,
+    })?;
     Ok(catches)
 }
 
 /// `int`, and so many pairs of brackets.
 pub fn int(dims: usize) -> TypeUse {
-    TypeUse { base: Base::Primitive(Primitive::Int), dims }
+    TypeUse {
+        base: Base::Primitive(Primitive::Int),
+        dims,
+    }
 }
 
 /// `f(x, y)`
@@ -145,7 +161,9 @@ fn stmt_parts(alloc: Global, body: Boxed<Stmt>) -> Result<StmtParts, OutOfMemory
         body,
         other: Boxed::new(alloc, Stmt::Skip)?,
         block: block(alloc)?,
-        last: Block { stmts: Items::new(alloc) },
+        last: Block {
+            stmts: Items::new(alloc),
+        },
         groups: groups(alloc)?,
         catches: catches(alloc)?,
     })
@@ -168,16 +186,47 @@ fn made_stmt(alloc: Global, form: StmtForm, parts: StmtParts) -> Stmt {
     } = parts;
     match form {
         StmtForm::Nest => Stmt::Nest { block },
-        StmtForm::Local => Stmt::Local { is_final: true, ty, decls },
+        StmtForm::Local => Stmt::Local {
+            is_final: true,
+            ty,
+            decls,
+        },
         StmtForm::Skip => Stmt::Skip,
         StmtForm::Do => Stmt::Do { body, cond: value },
         StmtForm::While => Stmt::While { cond: value, body },
-        StmtForm::If => Stmt::If { cond: value, yes: body, no: None },
-        StmtForm::IfElse => Stmt::If { cond: value, yes: body, no: Some(other) },
+        StmtForm::If => Stmt::If {
+            cond: value,
+            yes: body,
+            no: None,
+        },
+        StmtForm::IfElse => Stmt::If {
+            cond: value,
+            yes: body,
+            no: Some(other),
+        },
         StmtForm::Eval => Stmt::Eval { value },
-        StmtForm::For => Stmt::For { first: Some(ForInit::Exprs { exprs: calls }), cond: None, update: Items::new(alloc), body },
-        StmtForm::ForLocals => Stmt::For { first: Some(ForInit::Locals { is_final: false, ty, decls }), cond: Some(value), update: calls, body },
-        StmtForm::ForEver => Stmt::For { first: None, cond: None, update: Items::new(alloc), body },
+        StmtForm::For => Stmt::For {
+            first: Some(ForInit::Exprs { exprs: calls }),
+            cond: None,
+            update: Items::new(alloc),
+            body,
+        },
+        StmtForm::ForLocals => Stmt::For {
+            first: Some(ForInit::Locals {
+                is_final: false,
+                ty,
+                decls,
+            }),
+            cond: Some(value),
+            update: calls,
+            body,
+        },
+        StmtForm::ForEver => Stmt::For {
+            first: None,
+            cond: None,
+            update: Items::new(alloc),
+            body,
+        },
         StmtForm::Switch => Stmt::Switch { value, groups },
         StmtForm::Labeled => Stmt::Labeled { label, body },
         StmtForm::Break => Stmt::Break { label: None },
@@ -187,11 +236,29 @@ fn made_stmt(alloc: Global, form: StmtForm, parts: StmtParts) -> Stmt {
         StmtForm::Return => Stmt::Return { value: None },
         StmtForm::ReturnValue => Stmt::Return { value: Some(value) },
         StmtForm::Throw => Stmt::Throw { value },
-        StmtForm::Try => Stmt::Try { body: block, catches: Items::new(alloc), last: None },
-        StmtForm::TryCatch => Stmt::Try { body: last, catches, last: None },
-        StmtForm::TryFinally => Stmt::Try { body: block, catches, last: Some(last) },
-        StmtForm::CallThis => Stmt::CtorCall { which: ThisOrSuper::This, args },
-        StmtForm::CallSuper => Stmt::CtorCall { which: ThisOrSuper::Super, args },
+        StmtForm::Try => Stmt::Try {
+            body: block,
+            catches: Items::new(alloc),
+            last: None,
+        },
+        StmtForm::TryCatch => Stmt::Try {
+            body: last,
+            catches,
+            last: None,
+        },
+        StmtForm::TryFinally => Stmt::Try {
+            body: block,
+            catches,
+            last: Some(last),
+        },
+        StmtForm::CallThis => Stmt::CtorCall {
+            which: ThisOrSuper::This,
+            args,
+        },
+        StmtForm::CallSuper => Stmt::CtorCall {
+            which: ThisOrSuper::Super,
+            args,
+        },
     }
 }
 
