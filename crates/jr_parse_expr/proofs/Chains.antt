@@ -183,7 +183,7 @@ module _ (room : ℕ) (inner : Lead → ℕ → Parser x.Expr) (list : Parser x.
           ended = tt;
         })
 
-    suffix_sound : (ts : List Kind) (left : x.Expr) (token : Kind) (us : List Kind) (q : Option (Parser x.Expr)) (p : Parser x.Expr) (r : x.Expr × List Kind) → Operand room ts (left, token ∷ us)
+    pub suffix_sound : (ts : List Kind) (left : x.Expr) (token : Kind) (us : List Kind) (q : Option (Parser x.Expr)) (p : Parser x.Expr) (r : x.Expr × List Kind) → Operand room ts (left, token ∷ us)
         → Suffixed room inner list left (symbol_of token) q → q ≡ Some p → expr_depth left ≤ room → p us ≡ Ok r → Operand room ts r
     suffix_sound ts left token us q p r found (Ended h n) s low g = absurd (none_some (sym n ∙ s))
     suffix_sound ts left token us q p r found (Selects h t n) s low g =

@@ -15,7 +15,10 @@ pub mod Chains
 pub mod Climbs
 pub mod Initializers
 pub mod ExprReads
+pub mod Free
+pub mod FreeReads
 pub mod EffectReads
+pub mod EffectFronts
 pub mod Readings
 pub mod Locals
 pub mod NameLocals

@@ -1,3 +1,5 @@
+use Rattle.jr_parse_expr.proofs.EffectFronts.{front_is}
+use Rattle.jr_parse_expr.proofs.CreationGrowths.{creation_grows}
 use Rattle.jr_parse_expr.proofs.Written.{written}
 use Rattle.jr_parse_expr.proofs.EffectReads.{effect_complete, effect_sound}
 use Rattle.jr_parse_expr.proofs.Readings.{exprs_complete, exprs_sound, inits_complete, inits_sound, one_reading}
