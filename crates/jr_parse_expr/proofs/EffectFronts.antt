@@ -177,6 +177,17 @@ module _ (room : ℕ) (inner : Lead → ℕ → Parser x.Expr) (list : Parser x.
             (by_sound (below room) under under_list low_reads low_lists (Some q) (token ∷ ts) r p h))
       ]
 
+  literal_ready : (token : Kind) (ts : List Kind) (r : x.Expr × List Kind) → cond {A = Outcome x.Expr} (is_plain_literal token) (within 1 room token (pure (x.Lit token)) ts) (Err (NoTree, token ∷ ts)) ≡ Ok r → Ready room r.0
+  literal_ready token ts r h =
+      elim (chosen (is_plain_literal token) _ _ _ h) [
+        | inr t ↦ absurd (err_ok t.1)
+        | inl t ↦
+            (elim (chosen (ltb room 1) _ _ _ t.1) [
+              | inl q ↦ absurd (err_ok q.1)
+              | inr q ↦ subst (λ (r : x.Expr × List Kind). Ready room r.0) (ok_is q.1) (Small (omega arith) (ltb-false room 1 q.0))
+            ])
+      ]
+
   first_ready : (ts : List Kind) (r : x.Expr × List Kind) → reader.effect_operand room inner list under under_list Nothing ts ≡ Ok r → Ready room r.0
   first_ready [] r h = absurd (err_ok h)
   first_ready (kind.Ident head ∷ ts) r h = named_ready room inner list (ltb room 1) head ts r refl h
@@ -195,21 +206,13 @@ module _ (room : ℕ) (inner : Lead → ℕ → Parser x.Expr) (list : Parser x.
             let a = bind_ok (under Nothing 0 ts) _ r t.1 in
             let b = bind_ok (expect y.CloseParen a.0.1) _ r a.2 in
             let found = low_reads.sound 0 ts a.0 (omega arith) a.1 in
-            subst (λ (r : x.Expr × List Kind). Ready room r.0) (ok_is b.2) (Small (omega arith) (go room some found.is.low)))
+            subst (λ (r : x.Expr × List Kind). Ready room r.0) (ok_is b.2) (Small (omega arith) (go room (expr_depth a.0.0) some found.is.low)))
       ] where
-        go : (n : ℕ) {e : x.Expr} → 2 ≤ n → expr_depth e ≤ below n → suc (expr_depth e) ≤ n
-        go zero some l = absurd (omega arith)
-        go (suc n) some l = omega arith
+        go : (n d : ℕ) → 2 ≤ n → d ≤ below n → suc d ≤ n
+        go zero d some l = absurd (omega arith)
+        go (suc n) d some l = omega arith
   first_ready (kind.Sym s ∷ ts) r h = step_ready room inner list s ts r h
-  first_ready (token ∷ ts) r h =
-      elim (chosen (is_plain_literal token) _ _ _ h) [
-        | inr t ↦ absurd (err_ok t.1)
-        | inl t ↦
-            (elim (chosen (ltb room 1) _ _ _ t.1) [
-              | inl q ↦ absurd (err_ok q.1)
-              | inr q ↦ subst (λ (r : x.Expr × List Kind). Ready room r.0) (ok_is q.1) (Small (omega arith) (ltb-false room 1 q.0))
-            ])
-      ]
+  first_ready (token ∷ ts) r h = literal_ready token ts r h
 
   -- parentheses, whatever follows
   paren_front : (ts : List Kind) (r : x.Expr × List Kind) → within 2 room (kind.Sym y.OpenParen) (under Nothing 0 >>= reader.closed) ts ≡ Ok r → Ready room r.0 → Front room (kind.Sym y.OpenParen ∷ ts) r

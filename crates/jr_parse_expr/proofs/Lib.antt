@@ -33,5 +33,7 @@ pub mod ParenGrowths
 pub mod OperandGrowths
 pub mod LevelGrowths
 pub mod AllGrowths
+pub mod EffectGrowths
+pub mod EffectChains
 pub mod Stuck
 pub mod Rules

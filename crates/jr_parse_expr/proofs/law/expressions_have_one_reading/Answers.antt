@@ -1,3 +1,5 @@
+use Rattle.jr_parse_expr.proofs.EffectChains.{goes_view}
+use Rattle.jr_parse_expr.proofs.EffectGrowths.{first_grows}
 use Rattle.jr_parse_expr.proofs.EffectFronts.{front_is}
 use Rattle.jr_parse_expr.proofs.CreationGrowths.{creation_grows}
 use Rattle.jr_parse_expr.proofs.Written.{written}
