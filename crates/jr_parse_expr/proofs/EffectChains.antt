@@ -1,6 +1,6 @@
 -- Where the rest of an expression that stands as a statement stops, what stands before begins one.
 use Rattle.std.proofs.Common.{◌≡◌, ℕ, zero, suc, ◌<◌, ◌≤◌, max, Bool, true, false, not, ◌&&◌, cond, ltb, List, [], ◌∷◌, ◌++◌, length, Option, Some, None, Ok, Err, refl, sym, ap, ◌∙◌, subst, ◌⊎◌, inl, inr, arith}
-use Rattle.std.proofs.lemmas.Bool.{and_parts, not-true, not_from_false, ltb-false, ltb-true}
+use Rattle.std.proofs.lemmas.Bool.{and_parts, and_right, true≢false, not-true, not_from_false, ltb-false, ltb-true}
 use Rattle.jr_base.specs.declared.text.Text.{Text}
 use Rattle.jr_base.specs.declared.kind.Kind.{Kind}
 use Rattle.jr_base.specs.declared.kind.Kind.TheVariants as kind
@@ -16,26 +16,26 @@ use Rattle.jr_parse_laws.specs.declared.fault.Fault.TheVariants.{NoTree, TooDeep
 use Rattle.jr_parse_laws.specs.Parsers.{Outcome, Parser, and_then, first, symbol_of, symbol_at, expect, identifier, pure}
 use Rattle.jr_parse_laws.proofs.Outcomes.{bind_ok, chosen, ok_is, err_ok, ok_err, err_is, some_is, Before, After, stops}
 use Rattle.jr_parse_laws.proofs.Exact.{identifier_token}
-use Rattle.jr_parse_expr.specs.Starts.{within, over}
+use Rattle.jr_parse_expr.specs.Starts.{within, over, begins_cast_operand, next_is}
 use Rattle.jr_parse_expr.specs.Names.{name_of}
 use Rattle.jr_parse_expr.specs.Exprs as reader
 use Rattle.jr_parse_expr.specs.Exprs.{Lead, Nothing, skipping, below}
 use Rattle.jr_parse_expr.specs.Writing.{write_all, write_expr}
 use Rattle.jr_parse_expr.specs.Follow.{symbol_next, has_suffix, is_tight, IsExpr, IsEffect}
 use Rattle.jr_parse_expr.proofs.Beginnings.{target_tight, target_not_least}
-use Rattle.jr_parse_expr.proofs.Loops.{Halt, halts, keeps}
-use Rattle.jr_parse_expr.proofs.Steps.{suffix_view, tight_is}
+use Rattle.jr_parse_expr.proofs.Loops.{Halt, stays, goes, halts, keeps}
+use Rattle.jr_parse_expr.proofs.Steps.{suffix_view, suffix_none, tight_is}
 use Rattle.jr_parse_expr.proofs.Asked.{ReadsExprs, ReadsLists, Operand, depth_pos}
 use Rattle.jr_parse_expr.proofs.Operands.{shaped_receiver, low_receiver, received}
 use Rattle.jr_parse_expr.proofs.Chains as chains
-use Rattle.jr_parse_expr.proofs.Chains.{symbol_is_of, suffix_sound}
+use Rattle.jr_parse_expr.proofs.Chains.{at_next, symbol_is_of, suffix_sound}
 use Rattle.jr_parse_expr.proofs.ExprReads.{last_of}
 use Rattle.jr_parse_expr.proofs.Growths.{Growing, leading_then, leading_expr, leading_one, grows, none_grows, deep_grows, sample, sample_is}
 use Rattle.jr_parse_expr.proofs.PartGrowths.{GrowsExprs, GrowsLists, missing}
 use Rattle.jr_parse_expr.proofs.LevelGrowths.{before_dot}
 use Rattle.jr_parse_expr.proofs.FreeReads.{Fronted, Whole, Left, front_sound, cast_free}
-use Rattle.jr_parse_expr.proofs.EffectReads.{below_le, to_below, take_up, operand_up, chain_up}
-use Rattle.jr_parse_expr.proofs.EffectFronts.{is_callable, Ready, Statement, Small, Callable, call_ready, front_is}
+use Rattle.jr_parse_expr.proofs.EffectReads.{below_le, to_below, take_up, none_down, operand_up}
+use Rattle.jr_parse_expr.proofs.EffectFronts.{Front, is_callable, Ready, Statement, Small, Callable, call_ready, front_is}
 use Rattle.jr_parse_expr.proofs.EffectGrowths.{Grown, a_step, with_more, effect_call_grows, first_grows}
 
 none_some : {A : Type 0} {a : A} → None ≡ Some a → ⊥
@@ -123,6 +123,17 @@ module _ (room : ℕ) (inner : Lead → ℕ → Parser x.Expr) (list : Parser x.
     unfolding reader.effect_suffixes
     effects_keep ts left us r found h =
         (keeps room inner list step (reader.effect_suffixes_from room inner list under under_list) (λ left ts. refl) (λ turns left ts. refl) raises (λ left us. Holds ts left us) (kept ts) (suc room) left us r found h).0
+
+    pub effects_go : (left : x.Expr) (token : Kind) (ts : List Kind) (p : Parser x.Expr) → reader.effect_suffix room inner list under under_list left (symbol_of token) ≡ Some p → expr_depth left ≤ room
+        → reader.effect_suffixes room inner list under under_list left (token ∷ ts) ≡ and_then (p ts) (reader.effect_suffixes room inner list under under_list)
+    unfolding reader.effect_suffixes
+    effects_go left token ts p h low = goes room inner list step (reader.effect_suffixes_from room inner list under under_list) (λ left ts. refl) (λ turns left ts. refl) raises left token ts p h low
+
+    effects_stay : (left : x.Expr) (ts : List Kind) → has_suffix left (symbol_next (first ts)) ≡ false → reader.effect_suffixes room inner list under under_list left ts ≡ Ok (left, ts)
+    unfolding reader.effect_suffixes
+    effects_stay left ts h =
+        stays room inner list step (reader.effect_suffixes_from room inner list under under_list) (λ left ts. refl) (λ turns left ts. refl) raises left ts
+        (none_down room inner list under under_list reads lists low_reads low_lists left (symbol_at ts) (suffix_none room inner list left (symbol_at ts) (ap (has_suffix left) (at_next ts) ∙ h)))
 
 -- ---- what was read becomes a statement
 
@@ -311,4 +322,60 @@ module _ (room : ℕ) (inner : Lead → ℕ → Parser x.Expr) (list : Parser x.
       elim (chosen (is_assignment op && is_target left) _ _ _ h) [
         | inl t ↦ (let p = and_parts (is_assignment op) (is_target left) t.0 in assign_grows ts left us op stop found ready here p.0 p.1 t.1)
         | inr t ↦ alone_grows ts left us stop found.written (fronts room left found.shaped found.not_least found.low ready) t.1
+      ]
+
+  -- ---- all of it
+
+  paren_end : (ts : List Kind) (inside : x.Expr) (us : List Kind) (o : Option Symbol) (stop : Fault × List Kind) → ts ≡ write_expr (x.Paren inside) us → Fronts room (x.Paren inside)
+      → reader.effect_end_by room inner list (x.Paren inside) o us ≡ Err stop → G ts stop
+  paren_end ts inside us None stop same f h = alone_grows ts (x.Paren inside) us stop same f h
+  paren_end ts inside us (Some op) stop same f h =
+      elim (chosen (is_assignment op && false) _ _ _ h) [
+        | inl t ↦ absurd (true≢false (sym t.0 ∙ and_right (is_assignment op) false refl))
+        | inr t ↦ alone_grows ts (x.Paren inside) us stop same f t.1
+      ]
+
+  abbrev Read : List Kind → x.Expr × List Kind → Type 0
+  Read ts r = reader.effect_operand room inner list under under_list Nothing ts ≡ Ok r
+
+  sound : (ts : List Kind) (r : x.Expr × List Kind) → Read ts r → Fronted room inner list reads lists ts r
+  sound ts r i = front_sound room inner list reads lists ts r (operand_up room inner list under under_list reads lists low_reads low_lists Nothing ts r i)
+
+  front : (ts : List Kind) (r : x.Expr × List Kind) → Read ts r → Front room ts r
+  front ts r i = front_is room inner list under under_list reads lists low_reads low_lists ts r i
+
+  behind_front : (ts : List Kind) (left : x.Expr) (us : List Kind) (stop : Fault × List Kind) → Read ts (left, us) → reader.effect_suffixes room inner list under under_list left us ≡ Err stop → G ts stop
+  behind_front ts left us stop i d =
+      elim (sound ts (left, us) i) [
+        | Whole found ↦ chain_grows ts left us stop found (front ts (left, us) i).ready d
+        | Left inside paren cast ↦ absurd (ok_err (sym (effects_stay room inner list under under_list reads lists low_reads low_lists left us (cast_free left (first us) cast)) ∙ d))
+      ]
+
+  behind_chain : (ts : List Kind) (left : x.Expr) (us : List Kind) (r : x.Expr × List Kind) (stop : Fault × List Kind) → Read ts (left, us) → reader.effect_suffixes room inner list under under_list left us ≡ Ok r
+      → reader.effect_end_by room inner list r.0 (symbol_at r.1) r.1 ≡ Err stop → G ts stop
+  behind_chain ts left us r stop i d h =
+      elim (sound ts (left, us) i) [
+        | Whole found ↦
+            (let holds = effects_keep room inner list under under_list reads lists low_reads low_lists ts left us r (found, (front ts (left, us) i).ready) d in
+            end_grows ts r.0 r.1 (symbol_at r.1) stop holds.0 holds.1 refl h)
+        | Left inside paren cast ↦
+            (let same = ok_is (sym (effects_stay room inner list under under_list reads lists low_reads low_lists left us (cast_free left (first us) cast)) ∙ d) in
+            let f = front ts (left, us) i in
+            let ended = subst (λ (r : x.Expr × List Kind). reader.effect_end_by room inner list r.0 (symbol_at r.1) r.1 ≡ Err stop) (sym same) h in
+            subst (λ (left : x.Expr). ts ≡ write_expr left us → Fronts room left → reader.effect_end_by room inner list left (symbol_at us) us ≡ Err stop → G ts stop) (sym paren)
+            (paren_end ts inside us (symbol_at us) stop) f.written (fronts room left f.shaped f.plain f.low f.ready) ended)
+      ]
+
+  pub effects_grow : (ts : List Kind) (stop : Fault × List Kind) → reader.effects room inner list under under_list Nothing ts ≡ Err stop → G ts stop
+  unfolding reader.effects reader.effect_end
+  effects_grow ts stop h =
+      elim (stops (and_then (reader.effect_operand room inner list under under_list Nothing ts) (reader.effect_suffixes room inner list under under_list)) (reader.effect_end room inner list) stop h) [
+        | Before e ↦
+            (elim (stops (reader.effect_operand room inner list under under_list Nothing ts) (reader.effect_suffixes room inner list under under_list) stop e) [
+              | Before i ↦ first_grows room inner list reads lists growths growing under under_list low_reads low_lists low_growths low_growing ts stop i
+              | After left us i d ↦ behind_front ts left us stop i d
+            ])
+        | After e rest g d ↦
+            (let a = bind_ok (reader.effect_operand room inner list under under_list Nothing ts) (reader.effect_suffixes room inner list under under_list) (e, rest) g in
+            behind_chain ts a.0.0 a.0.1 (e, rest) stop a.1 a.2 d)
       ]

@@ -30,7 +30,7 @@ use Rattle.jr_parse_expr.proofs.Creations.{by_sound, created_sound}
 use Rattle.jr_parse_expr.proofs.Operands.{operand_sound, prefix_sound}
 use Rattle.jr_parse_expr.proofs.Free.{free_operand}
 use Rattle.jr_parse_expr.proofs.FreeReads.{same_operand, Fronted, Whole, Left, front_sound}
-use Rattle.jr_parse_expr.proofs.EffectReads.{below_le, operand_up}
+use Rattle.jr_parse_expr.proofs.EffectReads.{below_le, is_plain, operand_up}
 
 abbrev pub is_callable : x.Expr → Bool
 is_callable (x.NameExpr n) = true
@@ -50,10 +50,6 @@ pub record Front (room : ℕ) (ts : List Kind) (r : x.Expr × List Kind) : Type 
   pub low : expr_depth r.0 ≤ suc room
   pub written : ts ≡ write_expr r.0 r.1
   pub ready : Ready room r.0
-
-abbrev is_plain : Dotted → Bool
-is_plain (Plain before last) = true
-is_plain (Enclosing before last) = false
 
 plain_only : (turns : ℕ) (before : List Text) (last : Text) (ts : List Kind) (r : Dotted × List Kind) → dotted_from false turns before last ts ≡ Ok r → is_plain r.0 ≡ true
 plain_only zero before last ts r h = subst (λ (r : Dotted × List Kind). is_plain r.0 ≡ true) (ok_is h) refl

@@ -121,7 +121,7 @@ module _ (room : ℕ) (inner : Lead → ℕ → Parser x.Expr) (list : Parser x.
 
 -- ---- a name at the head
 
-dotted_up : (b : Bool) (turns : ℕ) (before : List Text) (last : Text) (ts : List Kind) (r : Dotted × List Kind) → dotted_from b turns before last ts ≡ Ok r → dotted_from true turns before last ts ≡ Ok r
+pub dotted_up : (b : Bool) (turns : ℕ) (before : List Text) (last : Text) (ts : List Kind) (r : Dotted × List Kind) → dotted_from b turns before last ts ≡ Ok r → dotted_from true turns before last ts ≡ Ok r
 dotted_up true turns before last ts r h = h
 dotted_up false zero before last ts r h = h
 dotted_up false (suc turns) before last [] r h = h
@@ -131,7 +131,7 @@ dotted_up false (suc turns) before last (kind.Sym y.Dot ∷ kind.Word k.This ∷
 dotted_up false (suc turns) before last (kind.Sym y.Dot ∷ token ∷ ts) r h = h
 dotted_up false (suc turns) before last (token ∷ ts) r h = h
 
-abbrev is_plain : Dotted → Bool
+abbrev pub is_plain : Dotted → Bool
 is_plain (Plain before last) = true
 is_plain (Enclosing before last) = false
 
@@ -144,6 +144,10 @@ dotted_down (suc turns) before last (kind.Sym y.Dot ∷ kind.Word k.This ∷ ts)
     absurd (true≢false (sym p ∙ ap is_plain (sym (ap (λ (r : Dotted × List Kind). r.0) (ok_is h)))))
 dotted_down (suc turns) before last (kind.Sym y.Dot ∷ token ∷ ts) r p h = h
 dotted_down (suc turns) before last (token ∷ ts) r p h = h
+
+pub plain_dotted : (before : List Text) (last : Text) (ts : List Kind) (r : Dotted × List Kind) → is_plain r.0 ≡ true → dotted true before last ts ≡ Ok r → dotted false before last ts ≡ Ok r
+unfolding dotted
+plain_dotted before last ts r p h = dotted_down (length ts) before last ts r p h
 
 -- ---- both ways
 
@@ -427,7 +431,7 @@ module _ (room : ℕ) (inner : Lead → ℕ → Parser x.Expr) (list : Parser x.
       ]
   none_up left (Some s) h = h
 
-  none_down : (left : x.Expr) (o : Option Symbol) → suffix left o ≡ None → effect_suffix left o ≡ None
+  pub none_down : (left : x.Expr) (o : Option Symbol) → suffix left o ≡ None → effect_suffix left o ≡ None
   none_down left None h = refl
   none_down left (Some y.OpenBracket) h =
       elim (chosen (is_tight left 14 && not (is_new_array left)) _ _ _ h) [

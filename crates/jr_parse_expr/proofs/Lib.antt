@@ -35,5 +35,7 @@ pub mod LevelGrowths
 pub mod AllGrowths
 pub mod EffectGrowths
 pub mod EffectChains
+pub mod EffectLocals
+pub mod EffectStuck
 pub mod Stuck
 pub mod Rules
