@@ -12,20 +12,13 @@ import argparse
 import os
 import shutil
 import subprocess
-import tempfile
+import sys
 import time
 
 HERE = os.path.dirname(os.path.abspath(__file__))
+sys.path.insert(0, os.path.join(HERE, '..', 'tools'))
+from trial import make_folder  # noqa: E402
 OLD, NEW = 'class A { int a; }' * 55, 'class A { int b; }' * 55
-
-
-def make_folder(count):
-    folder = tempfile.mkdtemp()
-    os.mkdir(os.path.join(folder, 'f'))
-    for number in range(count):
-        with open(os.path.join(folder, 'f', f'F{10000 + number}.java'), 'w') as file:
-            file.write(OLD)
-    return folder
 
 
 def main():
@@ -37,7 +30,7 @@ def main():
         words = lambda folder: [given.trial, folder, str(count), OLD, NEW]
         least = None
         for _ in range(given.turns):
-            folder = make_folder(count)
+            folder = make_folder(count, OLD)
             start = time.perf_counter()
             subprocess.run(words(folder), stdout=subprocess.DEVNULL, check=True)
             took = time.perf_counter() - start
@@ -45,7 +38,7 @@ def main():
             shutil.rmtree(folder)
         line = f'{count:5} files: {least * 1000:8.1f} ms, {least * 1e6 / count:8.1f} us a file'
         if shutil.which('strace'):
-            folder = make_folder(count)
+            folder = make_folder(count, OLD)
             told = subprocess.run(['strace', '-c', '-e', 'trace=fsync,fdatasync', *words(folder)], stdout=subprocess.DEVNULL, stderr=subprocess.PIPE, check=False)
             rows = [row.split() for row in told.stderr.decode().splitlines()]
             line += f", {sum(int(row[3]) for row in rows if row and row[-1] in ('fsync', 'fdatasync'))} fsync"

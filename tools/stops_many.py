@@ -19,6 +19,8 @@ import sys
 import tempfile
 import time
 
+from trial import make_folder, path_of
+
 HERE = os.path.dirname(os.path.abspath(__file__))
 OLD, NEW = 'class A { int a; }' * 40, 'class A { int b; int c; }' * 50
 
@@ -71,21 +73,12 @@ def make_shim(folder):
     return library if done.returncode == 0 else None
 
 
-def make_folder(count):
-    folder = tempfile.mkdtemp()
-    os.mkdir(os.path.join(folder, 'f'))
-    for number in range(count):
-        with open(os.path.join(folder, 'f', f'F{10000 + number}.java'), 'w') as file:
-            file.write(OLD)
-    return folder
-
-
 def state(folder, count):
     """'old', 'new' or 'torn'."""
     kinds = set()
     for number in range(count):
         try:
-            with open(os.path.join(folder, 'f', f'F{10000 + number}.java')) as file:
+            with open(path_of(folder, number)) as file:
                 text = file.read()
         except FileNotFoundError:
             text = None
@@ -114,7 +107,7 @@ def main():
     place = tempfile.mkdtemp()
     shim = make_shim(place)
     words = lambda folder: [given.trial, folder, str(given.files), OLD, NEW]
-    folder = make_folder(given.files)
+    folder = make_folder(given.files, OLD)
     start = time.perf_counter()
     if run(words(folder)).wait() != 0 or state(folder, given.files) != 'new':
         sys.exit('the commit without a stop did not make the new files')
@@ -125,7 +118,7 @@ def main():
     seen = {how: {'old': 0, 'new': 0, 'torn': 0} for how in ('time', 'call', 'fault')}
     open_gates = 0
     for turn in range(given.stops):
-        folder = make_folder(given.files)
+        folder = make_folder(given.files, OLD)
         how = ('time', 'call', 'fault')[turn % 3] if shim is not None else 'time'
         if how == 'time':
             running = run(words(folder))

@@ -23,7 +23,7 @@ use Rattle.jr_defs.specs.Overloads.{Applicable, IsMostSpecific, Choice, Imported
 use Rattle.jr_defs.specs.Lookup.{SimpleCandidate, MemberBefore, TypeBefore, QualifiedCandidate, MethodLevel, ImportedMethod, MethodCandidate, NewLevel, CalledClass, Candidate, PackageBefore, ArrayBefore, IsPackageName, IsLength, MayBeLength, Otherwise, LookFor}
 use Rattle.jr_defs.specs.Correspondence.{IsDeclared, Alike, Carries, IsRead, IsCall, Corresponds, moved, moved_level, moved_types, moved_receiver}
 use Rattle.jr_defs.proofs.CarryMembers.{type_declared, member_named_over}
-use Rattle.jr_defs.proofs.CarryScope.{found_over, no_method}
+use Rattle.jr_defs.proofs.CarryScope.{in_scope_over, no_method}
 use Rattle.jr_defs.proofs.CarryOverloads.{SetsBoth, Both, flipped, most_over}
 use Rattle.jr_defs.proofs.CarryLookup.{simple_over, member_before_over, type_before_over, super_over_here, superclass_known, innermost_over, inner_over, level_method_over, applicables, choice_over, methods_of, constructors_of, imported_declared, imported_over, encloses_over}
 use Rattle.jr_defs.proofs.CarryAnswers.{LevelDeclared, IsKnown, candidate_known}
@@ -123,7 +123,7 @@ module _ (p : Rows) (t : Table) (K : ℕ → Type 0) (q : Rows) (u : Table) (L :
       (choice_over p t K q u L f g C D o o' s to from tt tt None all refl (to.asks.arguments_back tt all a) (ConstructorOf p c) (ConstructorOf q (f c))
       (constructors_of p t K q u L f g C D o o' s to from c k) c d k w)
   candidate_over s to from d _ (Candidate.own_class h) = Candidate.own_class (to.places.own_body d h)
-  candidate_over s to from d l (Candidate.labeled h) = Candidate.labeled (found_over p t q u f g C D to.carries from.carries o o' to.places from.places (to.imports tt) (from.imports tt) space.Label x d l (λ k. cc) h)
+  candidate_over s to from d _ (Candidate.labeled {depth = r} h) = Candidate.labeled (in_scope_over p t q u f g C D to.carries from.carries space.Label x o o' d r (λ k. cc) to.places (to.imports tt) h)
 
   -- ---- where there is none
 

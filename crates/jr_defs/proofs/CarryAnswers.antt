@@ -23,7 +23,7 @@ use Rattle.jr_defs.specs.Types.{NamesType}
 use Rattle.jr_defs.specs.Members.{MemberNamed}
 use Rattle.jr_defs.specs.Scope.{Depth, within}
 use Rattle.jr_defs.specs.Overloads.{Applicable, IsMostSpecific, IsPreferred, IsLeftOf, Choice, ImportedChoice}
-use Rattle.jr_defs.specs.Lookup.{Found, level_of, SimpleCandidate, MemberBefore, TypeBefore, QualifiedCandidate, MethodLevel, ImportedMethod, MethodCandidate, NewLevel, CalledClass, Candidate, PackageBefore, ArrayBefore, IsPackageName, IsLength, MayBePackage, MayBeLength, Otherwise, LookFor}
+use Rattle.jr_defs.specs.Lookup.{VisibleThrough, level_of, SimpleCandidate, MemberBefore, TypeBefore, QualifiedCandidate, MethodLevel, ImportedMethod, MethodCandidate, NewLevel, CalledClass, Candidate, PackageBefore, ArrayBefore, IsPackageName, IsLength, MayBePackage, MayBeLength, Otherwise, LookFor}
 use Rattle.jr_defs.specs.Correspondence.{IsDeclared, Alike, Carries, IsCall, Corresponds, moved, moved_level, moved_types, moved_receiver}
 use Rattle.jr_defs.proofs.Unique.{answer_unique}
 use Rattle.jr_defs.proofs.CarryMembers.{of_role, type_declared, member_declared}
@@ -63,7 +63,7 @@ pub record IsKnown (p : Rows) (d : ℕ) (level : Option ℕ) : Type 0 where
   pub row : IsDeclared p d
   pub through : LevelDeclared p level
 
-found_known : (p : Rows) (t : Table) (k : _) (x : Text) (o d : ℕ) (l : Option ℕ) → Found p t k x o d l → IsKnown p d l
+found_known : (p : Rows) (t : Table) (k : _) (x : Text) (o d : ℕ) (l : Option ℕ) → VisibleThrough p t k x o d l → IsKnown p d l
 found_known p t k x o d l h = record {
   row = scope_declared p t o d h.depth h.visible.in_scope.scope;
   through = level_declared p (role_at p d) h.depth l (depth_declared p t o d h.depth h.visible.in_scope.scope) h.through;
@@ -124,4 +124,4 @@ candidate_known p t K o x _ d _ (Candidate.constructor {c = c} {all = all} h a w
   through = tt;
 }
 candidate_known p t K o x _ d _ (Candidate.own_class h) = record { row = type_declared p d h.type; through = tt }
-candidate_known p t K o x _ d l (Candidate.labeled h) = found_known p t space.Label x o d l h
+candidate_known p t K o x _ d _ (Candidate.labeled {depth = r} h) = record { row = scope_declared p t o d r h.scope; through = tt }

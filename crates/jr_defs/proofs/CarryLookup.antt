@@ -155,7 +155,9 @@ module _ (p : Rows) (t : Table) (K : ℕ → Type 0) (q : Rows) (u : Table) (L :
     pub choice_over : (S S' : ℕ → Type 0) → SetsBoth p q f g S S' → (c m : ℕ) → C c → Choice p t c o receiver arguments S m
         → Choice q u (f c) o' (moved_receiver f receiver) (moved_types f arguments) S' (f m)
     choice_over S S' sets c m k h = left_of_over p t q u f g (Applicable p t o receiver arguments S) (Applicable q u o' (moved_receiver f receiver) (moved_types f arguments) S')
-        (applicables S S' sets) c (λ d e i j w. earlier_over p t q u f g C D to.carries from.carries (from.sees call') (to.sees call) c d e k i j w) m h
+        (applicables S S' sets) c (f c) (λ d e i j w. earlier_over p t q u f g C D to.carries from.carries (from.sees call') (to.sees call) c d e k i j w)
+        (λ d e i j w. subst (λ c. Earlier p t c (g d) (g e)) (to.carries.alike.back c (type_declared p c (to.carries.known c k)))
+        (earlier_over q u p t g f D C from.carries to.carries (to.sees call) (from.sees call') (f c) d e (to.carries.goes c k) i j w)) m h
 
   -- the methods of a name, and the constructors, of corresponding types
   pub methods_of : (x : Text) (c : ℕ) → IsCall s → C c → SetsBoth p q f g (MemberNamed p t space.Method x c) (MemberNamed q u space.Method x (f c))

@@ -12,7 +12,7 @@ use Rattle.jr_defs.specs.declared.referent.Space.{Space}
 use Rattle.jr_defs.specs.Referents.{Table}
 use Rattle.jr_defs.specs.Declarations.{IsOf, Declares, IsType, IsClass, IsInterface, IsInterfaceLabel, IsClassLabel, IsObject}
 use Rattle.jr_defs.specs.Enclosing.{DeclaredIn, BodyOf, IsMemberRole}
-use Rattle.jr_defs.specs.Modifiers.{written, access_of, IsPublic, IsProtected, IsPrivate, IsStatic, IsAbstract, InInterface}
+use Rattle.jr_defs.specs.Modifiers.{written, access_of, IsPublic, IsProtected, IsPrivate, IsStatic, IsAbstract, InInterface, IsDefaultInInterface}
 use Rattle.jr_defs.specs.Packages.{SamePackage}
 use Rattle.jr_defs.specs.Types.{SameSignature}
 use Rattle.jr_defs.specs.Supertypes.{Super, SuperAt, Above, AtOrAbove}
@@ -73,9 +73,18 @@ module _ (p q : Rows) (f g : ℕ → ℕ) (a : Alike p q f g) where
   pub in_interface_over : (d : ℕ) → InInterface p d → InInterface q (f d)
   in_interface_over d h = record { of_type = f h.of_type; interface = interface_over h.of_type h.interface; declared = a.declared h.of_type d h.declared }
 
+  default_over : (d : ℕ) → IsDeclared p d → IsDefaultInInterface p d → IsDefaultInInterface q (f d)
+  default_over d k h = record {
+    default = a.label_same d k ∙ h.default;
+    of_class = f h.of_class;
+    constructs = a.constructor h.of_class d h.constructs;
+    declared = in_interface_over h.of_class h.declared;
+  }
+
   pub public_over : (d : ℕ) → IsDeclared p d → IsPublic p d → IsPublic q (f d)
   public_over d k (inl h) = inl (subst (λ m. IsTrue m.is_public) (sym (a.access_same d k)) h)
-  public_over d k (inr h) = inr (in_interface_over d h)
+  public_over d k (inr (inl h)) = inr (inl (in_interface_over d h))
+  public_over d k (inr (inr h)) = inr (inr (default_over d k h))
 
   pub protected_over : (d : ℕ) → IsDeclared p d → IsProtected p d → IsProtected q (f d)
   protected_over d k h = subst (λ m. IsTrue m.is_protected) (sym (a.access_same d k)) h

@@ -175,30 +175,30 @@ module _ (p : Rows) (t : Table) (q : Rows) (u : Table) (f g : ℕ → ℕ) (M M'
   }
 
 module _ (p : Rows) (t : Table) (q : Rows) (u : Table) (f g : ℕ → ℕ) (M M' : ℕ → Type 0) (h : Both p t q u f g M M')
-    (c : ℕ) (earlier : (d e : ℕ) → IsDeclared p d → IsDeclared p e → Earlier p t c d e → Earlier q u (f c) (f d) (f e)) where
-  sooner : (S : ℕ → Type 0) (m k' : ℕ) → IsDeclared p m → IsDeclared p (g k') → f (g k') ≡ k' → (m ≡ g k') ⊎ Earlier p t c m (g k') → (f m ≡ k') ⊎ Earlier q u (f c) (f m) k'
+    (c c' : ℕ) (earlier : (d e : ℕ) → IsDeclared p d → IsDeclared p e → Earlier p t c d e → Earlier q u c' (f d) (f e)) where
+  sooner : (S : ℕ → Type 0) (m k' : ℕ) → IsDeclared p m → IsDeclared p (g k') → f (g k') ≡ k' → (m ≡ g k') ⊎ Earlier p t c m (g k') → (f m ≡ k') ⊎ Earlier q u c' (f m) k'
   sooner S m k' i j b (inl e) = inl (ap f e ∙ b)
-  sooner S m k' i j b (inr w) = inr (subst (Earlier q u (f c) (f m)) b (earlier m (g k') i j w))
+  sooner S m k' i j b (inr w) = inr (subst (Earlier q u c' (f m)) b (earlier m (g k') i j w))
 
   concrete_over : (m : ℕ) → M m → (IsAbstract p m → ⊥) → IsAbstract q (f m) → ⊥
   concrete_over m a no' w = let l = h.there.sets.there.are m a in
       no' (subst (IsAbstract p) (h.there.alike.back m l) (abstract_over q p g f h.back.alike (f m) (h.back.sets.there.are (f m) (h.there.sets.there.goes m a)) w))
 
-  first_returning : (m : ℕ) → IsFirst p t c (Returns p t M) m → IsFirst q u (f c) (Returns q u M') (f m)
+  first_returning : (m : ℕ) → IsFirst p t c (Returns p t M) m → IsFirst q u c' (Returns q u M') (f m)
   first_returning m w = record {
     candidate = returns_over p t q u f g M M' h m w.candidate;
     first = λ k' r'. let r = returns_over q u p t g f M' M (flipped p t q u f g M M' h) k' r' in
         sooner (Returns p t M) m k' (h.there.sets.there.are m w.candidate.candidate) (h.there.sets.there.are (g k') r.candidate) (is_back p t q u f g M M' h k' r'.candidate) (w.first (g k') r);
   }
 
-  first_of : (m : ℕ) → IsFirst p t c M m → IsFirst q u (f c) M' (f m)
+  first_of : (m : ℕ) → IsFirst p t c M m → IsFirst q u c' M' (f m)
   first_of m w = record {
     candidate = h.there.sets.there.goes m w.candidate;
     first = λ k' r'. let r = h.there.sets.back.goes k' r' in
         sooner M m k' (h.there.sets.there.are m w.candidate) (h.there.sets.there.are (g k') r) (is_back p t q u f g M M' h k' r') (w.first (g k') r);
   }
 
-  pub preferred_over : (m : ℕ) → IsPreferred p t c M m → IsPreferred q u (f c) M' (f m)
+  pub preferred_over : (m : ℕ) → IsPreferred p t c M m → IsPreferred q u c' M' (f m)
   preferred_over m (IsPreferred.concrete a no') = IsPreferred.concrete (h.there.sets.there.goes m a) (concrete_over m a no')
   preferred_over m (IsPreferred.returning all w) = IsPreferred.returning (abstract_all p t q u f g M M' h all) (first_returning m w)
   preferred_over m (IsPreferred.first all none' w) = IsPreferred.first (abstract_all p t q u f g M M' h all)
@@ -229,9 +229,11 @@ both_most p t q u f g A A' h =
       };
     }
 
-pub left_of_over : (p : Rows) (t : Table) (q : Rows) (u : Table) (f g : ℕ → ℕ) (A A' : ℕ → Type 0) → Both p t q u f g A A' → (c : ℕ)
-    → ((d e : ℕ) → IsDeclared p d → IsDeclared p e → Earlier p t c d e → Earlier q u (f c) (f d) (f e)) → (m : ℕ) → IsLeftOf p t c A m → IsLeftOf q u (f c) A' (f m)
-left_of_over p t q u f g A A' h c earlier m (IsLeftOf.chosen w) =
-    IsLeftOf.chosen (preferred_over p t q u f g (IsMostSpecific p t A) (IsMostSpecific q u A') (both_most p t q u f g A A' h) c earlier m w)
-left_of_over p t q u f g A A' h c earlier m (IsLeftOf.undecided none' a) =
-    IsLeftOf.undecided (λ k' w. none' (g k') (most_over q u p t g f A' A (flipped p t q u f g A A' h) k' w)) (h.there.sets.there.goes m a)
+pub left_of_over : (p : Rows) (t : Table) (q : Rows) (u : Table) (f g : ℕ → ℕ) (A A' : ℕ → Type 0) → Both p t q u f g A A' → (c c' : ℕ)
+    → ((d e : ℕ) → IsDeclared p d → IsDeclared p e → Earlier p t c d e → Earlier q u c' (f d) (f e))
+    → ((d e : ℕ) → IsDeclared q d → IsDeclared q e → Earlier q u c' d e → Earlier p t c (g d) (g e)) → (m : ℕ) → IsLeftOf p t c A m → IsLeftOf q u c' A' (f m)
+left_of_over p t q u f g A A' h c c' earlier back m (IsLeftOf.chosen w) =
+    IsLeftOf.chosen (preferred_over p t q u f g (IsMostSpecific p t A) (IsMostSpecific q u A') (both_most p t q u f g A A' h) c c' earlier m w)
+left_of_over p t q u f g A A' h c c' earlier back m (IsLeftOf.undecided none' a) =
+    IsLeftOf.undecided (λ k' w. none' (g k') (preferred_over q u p t g f (IsMostSpecific q u A') (IsMostSpecific p t A)
+    (both_most q u p t g f A' A (flipped p t q u f g A A' h)) c' c back k' w)) (h.there.sets.there.goes m a)

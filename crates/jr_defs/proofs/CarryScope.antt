@@ -9,9 +9,9 @@ use Rattle.jr_defs.specs.declared.referent.Space.{Space}
 use Rattle.jr_defs.specs.declared.referent.Space.TheVariants as space
 use Rattle.jr_defs.specs.Referents.{Table}
 use Rattle.jr_defs.specs.Declarations.{IsOf, Declares, IsType}
-use Rattle.jr_defs.specs.Scope.{Depth, on_demand, of_package, of_unit, within, rank, HasScope, InScope, Visible, Imported}
+use Rattle.jr_defs.specs.Scope.{Depth, on_demand, of_package, of_unit, imported, within, rank, IsNoFurther, InOneList, HasScope, InScope, Visible, Imported}
 use Rattle.jr_defs.specs.Imports.{SingleImport, StaticImport, OnDemandImport, OnDemandOf}
-use Rattle.jr_defs.specs.Lookup.{Found, level_of, NoneInScope}
+use Rattle.jr_defs.specs.Lookup.{VisibleThrough, level_of, NoneInScope}
 use Rattle.jr_defs.specs.Correspondence.{IsDeclared, Alike, Carries, Sees, Places, ImportsGo, IsRound, moved_depth, moved_level}
 use Rattle.jr_defs.proofs.CarryMembers.{of_role, type_declared, member_declared, role_over, member_over, declares_over}
 
@@ -27,9 +27,11 @@ rank_over f (within a) (within b) order h = let z = order (omega arith) in omega
 rank_over f (within a) on_demand order h = absurd (omega arith)
 rank_over f (within a) of_package order h = absurd (omega arith)
 rank_over f (within a) of_unit order h = absurd (omega arith)
+rank_over f (within a) imported order h = absurd (omega arith)
 rank_over f on_demand (within b) order h = omega arith
 rank_over f of_package (within b) order h = omega arith
 rank_over f of_unit (within b) order h = omega arith
+rank_over f imported (within b) order h = omega arith
 rank_over f on_demand on_demand order h = h
 rank_over f on_demand of_package order h = h
 rank_over f on_demand of_unit order h = h
@@ -39,6 +41,17 @@ rank_over f of_package of_unit order h = h
 rank_over f of_unit on_demand order h = h
 rank_over f of_unit of_package order h = h
 rank_over f of_unit of_unit order h = h
+rank_over f on_demand imported order h = h
+rank_over f of_package imported order h = h
+rank_over f of_unit imported order h = h
+rank_over f imported on_demand order h = h
+rank_over f imported of_package order h = h
+rank_over f imported of_unit order h = h
+rank_over f imported imported order h = h
+
+pub no_further_over : (f : ℕ → ℕ) (r s : Depth) → KeepsDepths f r s → IsNoFurther r s → IsNoFurther (moved_depth f r) (moved_depth f s)
+no_further_over f r s order (IsNoFurther.by_rank h) = IsNoFurther.by_rank (rank_over f r s order h)
+no_further_over f _ _ order IsNoFurther.of_one_package = IsNoFurther.of_one_package
 
 -- the row of the depth is that of a scope round the place
 abbrev pub DepthRound : Rows → ℕ → Depth → Type 0
@@ -62,9 +75,11 @@ keeps_depths p o f order (within a) (within b) h k = order a b h k
 keeps_depths p o f order (within a) on_demand h k = tt
 keeps_depths p o f order (within a) of_package h k = tt
 keeps_depths p o f order (within a) of_unit h k = tt
+keeps_depths p o f order (within a) imported h k = tt
 keeps_depths p o f order on_demand _ h k = tt
 keeps_depths p o f order of_package _ h k = tt
 keeps_depths p o f order of_unit _ h k = tt
+keeps_depths p o f order imported _ h k = tt
 
 -- the row of the depth declares something
 abbrev pub DepthDeclared : Rows → Depth → Type 0
@@ -75,6 +90,7 @@ pub depth_back : (p : Rows) (f g : ℕ → ℕ) → ((n : ℕ) → IsDeclared p 
 depth_back p f g back on_demand h = refl
 depth_back p f g back of_package h = refl
 depth_back p f g back of_unit h = refl
+depth_back p f g back imported h = refl
 depth_back p f g back (within s) h = ap (λ n. within n) (back s h)
 
 -- ---- what has a scope is declared
@@ -151,10 +167,12 @@ module _ (p : Rows) (t : Table) (q : Rows) (u : Table) (f g : ℕ → ℕ) (C D 
     in_scope = in_scope_over p t q u f g C D to from kind x o o' d r k at im h.in_scope;
     innermost = λ e' r' w.
         let v = in_scope_over q u p t g f D C from to kind x o' o e' r' k back im' w in
-        let z = h.innermost (g e') (moved_depth g r') v in
         let order = keeps_depths p o f at.order (moved_depth g r') r (depth_round p t o (g e') (moved_depth g r') v.scope) (depth_round p t o d r h.in_scope.scope) in
-        subst (λ s. rank s ≤ rank (moved_depth f r)) (depth_back q g f from.alike.back r' (depth_declared q u o' e' r' w.scope))
-        (rank_over f (moved_depth g r') r order z);
+        elim (h.innermost (g e') (moved_depth g r') v) [
+          | inl z ↦ inl (subst (λ s. IsNoFurther s (moved_depth f r)) (depth_back q g f from.alike.back r' (depth_declared q u o' e' r' w.scope))
+              (no_further_over f (moved_depth g r') r order z))
+          | inr l ↦ inr (subst (λ e. InOneList q e (f d)) (from.alike.back e' (scope_declared q u o' e' r' w.scope)) (to.alike.one_list (g e') d l))
+        ];
   }
 
   level_over : (a : Role) (r : Depth) → level_of a (moved_depth f r) ≡ moved_level f (level_of a r)
@@ -162,6 +180,7 @@ module _ (p : Rows) (t : Table) (q : Rows) (u : Table) (f g : ℕ → ℕ) (C D 
   level_over role.Field on_demand = refl
   level_over role.Field of_package = refl
   level_over role.Field of_unit = refl
+  level_over role.Field imported = refl
   level_over role.Nothing r = refl
   level_over role.Type r = refl
   level_over role.Method r = refl
@@ -170,7 +189,7 @@ module _ (p : Rows) (t : Table) (q : Rows) (u : Table) (f g : ℕ → ℕ) (C D 
   level_over role.Local r = refl
   level_over role.Label r = refl
 
-  pub found_over : (kind : Space) (x : Text) (d : ℕ) (level : Option ℕ) → IsNoMethod kind → Found p t kind x o d level → Found q u kind x o' (f d) (moved_level f level)
+  pub found_over : (kind : Space) (x : Text) (d : ℕ) (level : Option ℕ) → IsNoMethod kind → VisibleThrough p t kind x o d level → VisibleThrough q u kind x o' (f d) (moved_level f level)
   found_over kind x d level k h = record {
     depth = moved_depth f h.depth;
     visible = visible_over kind x d h.depth k h.visible;

@@ -22,9 +22,9 @@ use Rattle.jr_defs.specs.Types.{NamesType}
 use Rattle.jr_defs.specs.Supertypes.{SuperAt, Superclass}
 use Rattle.jr_defs.specs.Members.{MemberOf}
 use Rattle.jr_defs.specs.Imports.{ImportOf, ImportNames, SingleImport, ImportedBy, StaticImport, OnDemandOf, OnDemandImport}
-use Rattle.jr_defs.specs.Scope.{Depth, on_demand, of_package, of_unit, within, rank, HasScope, InScope, Visible, Imported}
+use Rattle.jr_defs.specs.Scope.{Depth, on_demand, of_package, of_unit, imported, within, rank, IsNoFurther, HasScope, InScope, Visible, Imported}
 use Rattle.jr_defs.specs.Constants.{HasConstantForm}
-use Rattle.jr_defs.specs.Lookup.{Found, SimpleCandidate, TypeBefore, QualifiedCandidate, Candidate, Otherwise, IsPackageName, LookFor, Look}
+use Rattle.jr_defs.specs.Lookup.{VisibleThrough, SimpleCandidate, TypeBefore, QualifiedCandidate, Candidate, Otherwise, IsPackageName, LookFor, Look}
 use Rattle.jr_defs.specs.Headers.{NamesHeader, IsIdentifierOf, IsFirstOf, depth_of, MayBring, IsLookedForIn, NameMeets, Meets, IsSettled}
 use Rattle.jr_defs.specs.Binding.{IsBound}
 use Rattle.jr_defs.specs.Laws.{SameHeaders}
@@ -147,11 +147,35 @@ type_declares p t K o x _ d _ k (Candidate.super_method h m w) = absurd k
 type_declares p t K o x _ d l k (Candidate.creation h n m w) = absurd k
 type_declares p t K o x _ d _ k (Candidate.constructor h m w) = absurd k
 type_declares p t K o x _ d _ k (Candidate.own_class h) = absurd k
-type_declares p t K o x _ d l k (Candidate.labeled h) = absurd k
+type_declares p t K o x _ d _ k (Candidate.labeled h) = absurd k
 
 pub target_declares : (p : Rows) (t : Table) → IsBound p t → (o d : ℕ) (l : Option ℕ) → SeeksType (sought_at p o) → t o ≡ Declared d l → Declares p space.Type (name p o) d
 target_declares p t a o d l seeks e = type_declares p t (HasConstantForm p t) o (name p o) (sought_at p o) d l seeks
     (candidate_of p t (HasConstantForm p t) o (name p o) (sought_at p o) (t o) d l e (a o))
+
+-- no type is a parameter, so what is in scope beside a visible type is no further in
+visible_bound : (p : Rows) (t : Table) (x : Text) (m d : ℕ) (r : Depth) → Visible p t space.Type x m d r → (e : ℕ) (q : Depth) → InScope p t space.Type x m e q → IsNoFurther q r
+visible_bound p t x m d r h e q w = elim (h.innermost e q w) [
+  | inl z ↦ z
+  | inr l ↦ absurd (subst (IsOf space.Type) l.second h.in_scope.declares.of_kind)
+]
+
+-- how far in something may be that is no further in than r
+abbrev reach : Depth → ℕ
+reach of_package = 2
+reach r = rank r
+
+reached : (q r : Depth) → IsNoFurther q r → rank q ≤ reach r
+reached q on_demand (IsNoFurther.by_rank h) = h
+reached q of_package (IsNoFurther.by_rank h) = omega arith
+reached q of_unit (IsNoFurther.by_rank h) = h
+reached q imported (IsNoFurther.by_rank h) = h
+reached q (within s) (IsNoFurther.by_rank h) = h
+reached _ _ IsNoFurther.of_one_package = omega arith
+
+low_reach : (q r : Depth) → IsNoFurther q r → rank r ≤ 1 → rank q ≤ 2
+low_reach q r (IsNoFurther.by_rank h) le = omega arith
+low_reach _ _ IsNoFurther.of_one_package le = omega arith
 
 -- ---- scopes at a place in a header
 
@@ -162,6 +186,10 @@ pub record ImportSame (p : Rows) (t u : Table) (i : ℕ) : Type 0 where
 
 abbrev pub IsBoundedBy : Rows → Table → ℕ → ℕ → Type 0
 IsBoundedBy p t m k = (e : ℕ) (q : Depth) → InScope p t space.Type (name p m) m e q → rank q ≤ k
+
+-- nothing in scope under this name shadows what is in so far
+abbrev IsUnshadowed : Rows → Table → ℕ → Depth → Type 0
+IsUnshadowed p t m r = (e : ℕ) (q : Depth) → InScope p t space.Type (name p m) m e q → IsNoFurther q r
 
 module _ (p : Rows) (t u : Table) (formed : IsFormed p) (a : IsBound p t) (b : IsBound p u) (m : ℕ)
     (around : (e : ℕ) → InBody p e m → Agreed p t u e) (looked : (i : ℕ) → IsLookedForIn p t m i → ImportSame p t u i) where
@@ -268,7 +296,7 @@ module _ (p : Rows) (t u : Table) (formed : IsFormed p) (a : IsBound p t) (b : I
   demanded_back d k bounded w (OnDemandOf.lang h) = OnDemandOf.lang h
 
   -- what is in scope so far in goes over, where nothing further in is in scope
-  scope_there : (d : ℕ) (r : Depth) → Declares p space.Type (name p m) d → IsBoundedBy p t m (rank r) → HasScope p t m d r → HasScope p u m d r
+  scope_there : (d : ℕ) (r : Depth) → Declares p space.Type (name p m) d → IsBoundedBy p t m (reach r) → HasScope p t m d r → HasScope p u m d r
   scope_there d _ k bounded (HasScope.local h) = HasScope.local h
   scope_there d _ k bounded (HasScope.parameter h) = HasScope.parameter h
   scope_there d _ k bounded (HasScope.labeled h) = HasScope.labeled h
@@ -286,7 +314,7 @@ module _ (p : Rows) (t u : Table) (formed : IsFormed p) (a : IsBound p t) (b : I
     };
   })
 
-  scope_back : (d : ℕ) (r : Depth) → Declares p space.Type (name p m) d → IsBoundedBy p t m (rank r) → HasScope p u m d r → HasScope p t m d r
+  scope_back : (d : ℕ) (r : Depth) → Declares p space.Type (name p m) d → IsBoundedBy p t m (reach r) → HasScope p u m d r → HasScope p t m d r
   scope_back d _ k bounded (HasScope.local h) = HasScope.local h
   scope_back d _ k bounded (HasScope.parameter h) = HasScope.parameter h
   scope_back d _ k bounded (HasScope.labeled h) = HasScope.labeled h
@@ -304,14 +332,11 @@ module _ (p : Rows) (t u : Table) (formed : IsFormed p) (a : IsBound p t) (b : I
     };
   })
 
-  widened : (k l : ℕ) → k ≤ l → IsBoundedBy p t m k → IsBoundedBy p t m l
-  widened k l le h e q w = let z = h e q w in omega arith
-
   low : (k : ℕ) → (2 ≤ k) ⊎ (k ≤ 1)
   low k = grind arith
 
   -- a bound under t is one under u
-  bound_there : (r : Depth) → IsBoundedBy p t m (rank r) → (e : ℕ) (q : Depth) → Declares p space.Type (name p m) e → HasScope p u m e q → rank q ≤ rank r
+  bound_there : (r : Depth) → IsUnshadowed p t m r → (e : ℕ) (q : Depth) → Declares p space.Type (name p m) e → HasScope p u m e q → IsNoFurther q r
   bound_there r h e _ k (HasScope.local w) = h e _ (record { scope = HasScope.local w; declares = k })
   bound_there r h e _ k (HasScope.parameter w) = h e _ (record { scope = HasScope.parameter w; declares = k })
   bound_there r h e _ k (HasScope.labeled w) = h e _ (record { scope = HasScope.labeled w; declares = k })
@@ -319,31 +344,30 @@ module _ (p : Rows) (t u : Table) (formed : IsFormed p) (a : IsBound p t) (b : I
   bound_there r h e _ k (HasScope.of_same_unit w) = h e _ (record { scope = HasScope.of_same_unit w; declares = k })
   bound_there r h e _ k (HasScope.of_same_package w) = h e _ (record { scope = HasScope.of_same_package w; declares = k })
   bound_there r h e _ k (HasScope.single w) = elim (low (rank r)) [
-    | inl g ↦ g
-    | inr g ↦ h e _ (record { scope = HasScope.single (single_back e w (same_single u b e (widened (rank r) 2 (omega arith) h) k w)); declares = k })
+    | inl g ↦ IsNoFurther.by_rank g
+    | inr g ↦ h e _ (record { scope = HasScope.single (single_back e w (same_single u b e (λ e q v. low_reach q r (h e q v) g) k w)); declares = k })
   ]
   bound_there r h e _ k (HasScope.static w) = elim (low (rank r)) [
-    | inl g ↦ g
-    | inr g ↦ h e _ (record { scope = HasScope.static (static_back e (no_type_method p (name p m) e k) w (same_static u e (widened (rank r) 2 (omega arith) h) k w)); declares = k })
+    | inl g ↦ IsNoFurther.by_rank g
+    | inr g ↦ h e _ (record { scope = HasScope.static (static_back e (no_type_method p (name p m) e k) w (same_static u e (λ e q v. low_reach q r (h e q v) g) k w)); declares = k })
   ]
-  bound_there r h e _ k (HasScope.demanded w) = omega arith
+  bound_there r h e _ k (HasScope.demanded w) = IsNoFurther.by_rank (omega arith)
 
   -- under a bound of u nothing of t is further in than the unit, unless u has it
-  inner_back : (r : Depth) → ((e : ℕ) (q : Depth) → InScope p u space.Type (name p m) m e q → rank q ≤ rank r) → rank r ≤ 1 → (e : ℕ) (q : Depth) → Declares p space.Type (name p m) e
+  inner_back : (r : Depth) → IsUnshadowed p u m r → rank r ≤ 1 → (e : ℕ) (q : Depth) → Declares p space.Type (name p m) e
       → HasScope p t m e q → rank q ≤ 2
-  inner_back r h lo e _ k (HasScope.local w) = let z = h e _ (record { scope = HasScope.local w; declares = k }) in omega arith
-  inner_back r h lo e _ k (HasScope.parameter w) = let z = h e _ (record { scope = HasScope.parameter w; declares = k }) in omega arith
-  inner_back r h lo e _ k (HasScope.labeled w) = let z = h e _ (record { scope = HasScope.labeled w; declares = k }) in omega arith
+  inner_back r h lo e _ k (HasScope.local w) = low_reach _ r (h e _ (record { scope = HasScope.local w; declares = k })) lo
+  inner_back r h lo e _ k (HasScope.parameter w) = low_reach _ r (h e _ (record { scope = HasScope.parameter w; declares = k })) lo
+  inner_back r h lo e _ k (HasScope.labeled w) = low_reach _ r (h e _ (record { scope = HasScope.labeled w; declares = k })) lo
   inner_back r h lo e _ k (HasScope.member {c = c} i w) =
-      let z = h e _ (record { scope = HasScope.member i (member_there p t u c e (around c i) (no_type_method p (name p m) e k) w); declares = k }) in omega arith
+      low_reach _ r (h e _ (record { scope = HasScope.member i (member_there p t u c e (around c i) (no_type_method p (name p m) e k) w); declares = k })) lo
   inner_back r h lo e _ k (HasScope.of_same_unit w) = omega arith
   inner_back r h lo e _ k (HasScope.of_same_package w) = omega arith
   inner_back r h lo e _ k (HasScope.single w) = omega arith
   inner_back r h lo e _ k (HasScope.static w) = omega arith
   inner_back r h lo e _ k (HasScope.demanded w) = omega arith
 
-  bound_back : (r : Depth) → ((e : ℕ) (q : Depth) → InScope p u space.Type (name p m) m e q → rank q ≤ rank r) → (e : ℕ) (q : Depth) → Declares p space.Type (name p m) e
-      → HasScope p t m e q → rank q ≤ rank r
+  bound_back : (r : Depth) → IsUnshadowed p u m r → (e : ℕ) (q : Depth) → Declares p space.Type (name p m) e → HasScope p t m e q → IsNoFurther q r
   bound_back r h e _ k (HasScope.local w) = h e _ (record { scope = HasScope.local w; declares = k })
   bound_back r h e _ k (HasScope.parameter w) = h e _ (record { scope = HasScope.parameter w; declares = k })
   bound_back r h e _ k (HasScope.labeled w) = h e _ (record { scope = HasScope.labeled w; declares = k })
@@ -351,31 +375,31 @@ module _ (p : Rows) (t u : Table) (formed : IsFormed p) (a : IsBound p t) (b : I
   bound_back r h e _ k (HasScope.of_same_unit w) = h e _ (record { scope = HasScope.of_same_unit w; declares = k })
   bound_back r h e _ k (HasScope.of_same_package w) = h e _ (record { scope = HasScope.of_same_package w; declares = k })
   bound_back r h e _ k (HasScope.single w) = elim (low (rank r)) [
-    | inl g ↦ g
+    | inl g ↦ IsNoFurther.by_rank g
     | inr g ↦ h e _ (record { scope = HasScope.single (single_there e w (same_single t a e (λ e' q' v. inner_back r h g e' q' v.declares v.scope) k w)); declares = k })
   ]
   bound_back r h e _ k (HasScope.static w) = elim (low (rank r)) [
-    | inl g ↦ g
+    | inl g ↦ IsNoFurther.by_rank g
     | inr g ↦ h e _ (record { scope = HasScope.static (static_there e (no_type_method p (name p m) e k) w (same_static t e (λ e' q' v. inner_back r h g e' q' v.declares v.scope) k w)); declares = k })
   ]
-  bound_back r h e _ k (HasScope.demanded w) = omega arith
+  bound_back r h e _ k (HasScope.demanded w) = IsNoFurther.by_rank (omega arith)
 
   visible_there : (d : ℕ) (r : Depth) → Visible p t space.Type (name p m) m d r → Visible p u space.Type (name p m) m d r
-  visible_there d r h = record {
-    in_scope = record { declares = h.in_scope.declares; scope = scope_there d r h.in_scope.declares h.innermost h.in_scope.scope };
-    innermost = λ e q w. bound_there r h.innermost e q w.declares w.scope;
+  visible_there d r h = let bounded : IsUnshadowed p t m r = λ e q w. visible_bound p t (name p m) m d r h e q w in record {
+    in_scope = record { declares = h.in_scope.declares; scope = scope_there d r h.in_scope.declares (λ e q w. reached q r (bounded e q w)) h.in_scope.scope };
+    innermost = λ e q w. inl (bound_there r bounded e q w.declares w.scope);
   }
 
   visible_back : (d : ℕ) (r : Depth) → Visible p u space.Type (name p m) m d r → Visible p t space.Type (name p m) m d r
-  visible_back d r h = let bounded : IsBoundedBy p t m (rank r) = λ e q w. bound_back r h.innermost e q w.declares w.scope in record {
-    in_scope = record { declares = h.in_scope.declares; scope = scope_back d r h.in_scope.declares bounded h.in_scope.scope };
-    innermost = bounded;
+  visible_back d r h = let bounded : IsUnshadowed p t m r = λ e q w. bound_back r (λ e q w. visible_bound p u (name p m) m d r h e q w) e q w.declares w.scope in record {
+    in_scope = record { declares = h.in_scope.declares; scope = scope_back d r h.in_scope.declares (λ e q w. reached q r (bounded e q w)) h.in_scope.scope };
+    innermost = λ e q w. inl (bounded e q w);
   }
 
-  found_there : (d : ℕ) (l : Option ℕ) → Found p t space.Type (name p m) m d l → Found p u space.Type (name p m) m d l
+  found_there : (d : ℕ) (l : Option ℕ) → VisibleThrough p t space.Type (name p m) m d l → VisibleThrough p u space.Type (name p m) m d l
   found_there d l h = record { depth = h.depth; visible = visible_there d h.depth h.visible; through = h.through }
 
-  found_back : (d : ℕ) (l : Option ℕ) → Found p u space.Type (name p m) m d l → Found p t space.Type (name p m) m d l
+  found_back : (d : ℕ) (l : Option ℕ) → VisibleThrough p u space.Type (name p m) m d l → VisibleThrough p t space.Type (name p m) m d l
   found_back d l h = record { depth = h.depth; visible = visible_back d h.depth h.visible; through = h.through }
 
   abbrev T : Sought → ℕ → Option ℕ → Type 0
@@ -399,7 +423,7 @@ module _ (p : Rows) (t u : Table) (formed : IsFormed p) (a : IsBound p t) (b : I
   simple_there _ d l k sc (Candidate.creation h n m w) = absurd k
   simple_there _ d _ k sc (Candidate.constructor h m w) = absurd k
   simple_there _ d _ k sc (Candidate.own_class h) = absurd k
-  simple_there _ d l k sc (Candidate.labeled h) = absurd k
+  simple_there _ d _ k sc (Candidate.labeled h) = absurd k
 
   simple_back : (s : Sought) (d : ℕ) (l : Option ℕ) → SeeksType s → IsScoped s → U s d l → T s d l
   simple_back _ d l k sc (Candidate.simple (SimpleCandidate.type h)) = Candidate.simple (SimpleCandidate.type (found_back d l h))
@@ -416,7 +440,7 @@ module _ (p : Rows) (t u : Table) (formed : IsFormed p) (a : IsBound p t) (b : I
   simple_back _ d l k sc (Candidate.creation h n m w) = absurd k
   simple_back _ d _ k sc (Candidate.constructor h m w) = absurd k
   simple_back _ d _ k sc (Candidate.own_class h) = absurd k
-  simple_back _ d l k sc (Candidate.labeled h) = absurd k
+  simple_back _ d _ k sc (Candidate.labeled h) = absurd k
 
   otherwise_there : (k : NameKind) (r : Referent) → Otherwise p t (HasConstantForm p t) m (name p m) (sought.Simple k) r → Otherwise p u (HasConstantForm p u) m (name p m) (sought.Simple k) r
   otherwise_there k _ (Otherwise.package_name (IsPackageName.simple h)) = Otherwise.package_name (IsPackageName.simple h)

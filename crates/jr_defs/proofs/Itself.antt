@@ -29,7 +29,7 @@ use Rattle.jr_defs.specs.Members.{MemberOf}
 use Rattle.jr_defs.specs.Imports.{ImportOf, ImportNames, SingleImport, ImportedBy, StaticImport, OnDemandOf, OnDemandImport}
 use Rattle.jr_defs.specs.Scope.{Imported, HasScope}
 use Rattle.jr_defs.specs.Headers.{NamesHeader}
-use Rattle.jr_defs.specs.Lookup.{Found, SimpleCandidate, TypeBefore, QualifiedCandidate, Candidate, Otherwise, LookFor, Look, PackageBefore}
+use Rattle.jr_defs.specs.Lookup.{VisibleThrough, SimpleCandidate, TypeBefore, QualifiedCandidate, Candidate, Otherwise, LookFor, Look, PackageBefore}
 use Rattle.jr_defs.specs.Laws.{SameHeaders}
 use Rattle.jr_defs.specs.Formed.{SeeksType, IsNameLabel, SeeksKind, NamesTypeFirst, IsFormed}
 use Rattle.jr_defs.specs.Correspondence.{IsDeclared, Alike, Carries, Sees, Places, ImportsGo, Asks, IsRead, IsScoped, IsCall, Corresponds, moved, moved_level, moved_element, moved_type, moved_types, moved_receiver}
@@ -82,6 +82,7 @@ alike p = record {
   back = λ n k. refl;
   declared = λ c d h. h;
   constructor = λ c k h. h;
+  one_list = λ d e h. h;
   access_same = λ d k. refl;
   same_package = λ m n i j h. h;
   of_path = λ path d h. h;

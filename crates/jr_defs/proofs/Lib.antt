@@ -13,3 +13,6 @@ pub mod OneBinding
 pub mod HeadersAgree
 pub mod Settling
 pub mod Worked
+pub mod Forming
+pub mod Cycles
+pub mod WorkedCycle

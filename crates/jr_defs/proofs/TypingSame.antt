@@ -78,7 +78,7 @@ module _ (p : Rows) (t u : Table) (formed : IsFormed p) (types : SameTypes p t u
     constant_same n v (ConstantOf.literal e k) = ConstantOf.literal e k
     constant_same n v (ConstantOf.reference {d = d} k e w) = ConstantOf.reference (form_same n k) (sym (names.at n (form_name n k)) ∙ e) (variable_same d v w)
     constant_same n v (ConstantOf.paren e i w) = ConstantOf.paren e i (constant_same (n + 1) v w)
-    constant_same n w (ConstantOf.cast {a = a} {v = v} e i j k c) = ConstantOf.cast e (type_at_same p t u formed types (n + 1) a i) j (constant_same (end p (n + 1)) v k) c
+    constant_same n w (ConstantOf.cast {a = a} {v = v} e b i j k c) = ConstantOf.cast e b (type_at_same p t u formed types (n + 1) a i) j (constant_same (end p (n + 1)) v k) c
     constant_same n w (ConstantOf.unary {v = v} e i k c) = ConstantOf.unary e i (constant_same (n + 1) v k) c
     constant_same n w (ConstantOf.binary {u = a} {v = v} e i j k l c) = ConstantOf.binary e i (constant_same (n + 1) a j) k (constant_same (end p (n + 1)) v l) c
     constant_same n w (ConstantOf.conditional {u = a} {v = v} e i j k l m o c) =
@@ -129,8 +129,8 @@ module _ (p : Rows) (t u : Table) (formed : IsFormed p) (h : SameHeaders p t u) 
 
   compound_same : (op : Symbol) (a b : RowType) → CompoundType p t op a b → CompoundType p u op a b
   compound_same op _ b (CompoundType.text e w i) = CompoundType.text e w i
-  compound_same op _ _ (CompoundType.primitive {a = a} {b = b} {r = r} w c) =
-      CompoundType.primitive (binary_same (class_of op) (plain a) (plain b) (plain r) w) (castable_same (plain r) (plain a) c)
+  compound_same op _ _ (CompoundType.primitive {a = a} {b = b} {r = r} i j w c) =
+      CompoundType.primitive i j (binary_same (class_of op) (plain a) (plain b) (plain r) w) (castable_same (plain r) (plain a) c)
 
   module _ (types : SameTypes p t u) (names : SameNames p t u) (types' : SameTypes p u t) (names' : SameNames p u t) where
     own_same : (m k : ℕ) (a b r : Element) → HasOwnType p t (HasConstantForm p t) m k a b r → HasOwnType p u (HasConstantForm p u) m k a b r

@@ -40,8 +40,7 @@ use Rattle.jr_defs.specs.Constants.{ConstantOf, HasConstantForm}
 use Rattle.jr_defs.specs.Conversions.{PromotesBoth}
 use Rattle.jr_defs.specs.Typing.{TypeOf, BinaryType, LiteralType}
 
-
-abbrev lang : d.CompilationUnit
+abbrev pub lang : d.CompilationUnit
 lang = d.UnitOf (Some (record { name = record { parts = codes "java" ∷ codes "lang" ∷ [] } })) [] (d.Class (modifier.Public ∷ []) (codes "Object") None [] d.no_members ∷ [])
 
 abbrev int_type : TypeUse
@@ -64,7 +63,7 @@ class_b = d.Class [] (codes "B") (Some (record { parts = codes "A" ∷ [] })) []
 
 abbrev class_a : d.TypeDecl
 class_a = d.Class [] (codes "A") None [] (d.more_members (d.Field [] int_type (s.DeclaratorOf (codes "x") 0 None ∷ []))
-  (d.more_members (d.Method [] (outcome.Of int_type) (codes "f") (param_y ∷ []) [] (Some return_x)) (d.more_members (d.Nested class_b) d.no_members)))
+    (d.more_members (d.Method [] (outcome.Of int_type) (codes "f") (param_y ∷ []) [] (Some return_x)) (d.more_members (d.Nested class_b) d.no_members)))
 
 abbrev p : Rows
 p = rows_from 0 0 0 (node is.Program (unit_labels lang (unit_labels (d.UnitOf None [] (class_a ∷ [])) none)) none)
@@ -105,7 +104,8 @@ default_constructor = record { constructor = refl; inside = body_a }
 x_in_scope : (t : Table) → InScope p t space.Variable (name p 23) 23 16 (within 10)
 x_in_scope t = record {
   scope = HasScope.member (record { body = 11; of_type = body_a; after = omega arith; before = omega arith }) (MemberOf.declared x_of_a);
-  declares = record { of_kind = tt; named = refl } }
+  declares = record { of_kind = tt; named = refl };
+}
 
 y_in_scope : InParameterScope p 19 23
 y_in_scope = record { parameter = refl; body = 21; block = refl; beside = refl; from = omega arith; before = omega arith }
@@ -121,7 +121,8 @@ same_package : SamePackage p 24 16
 same_package = record {
   path = [];
   first = record { unit = 9; holds = record { unit = refl; from = omega arith; before = omega arith }; has_path = refl };
-  second = record { unit = 9; holds = record { unit = refl; from = omega arith; before = omega arith }; has_path = refl } }
+  second = record { unit = 9; holds = record { unit = refl; from = omega arith; before = omega arith }; has_path = refl };
+}
 
 -- the types of uses, of the sum and of the parameters
 x_type : (t : Table) → HasType p t 16 (plain element.Int)
@@ -132,11 +133,11 @@ use_type t K e = TypeOf.variable e tt (x_type t)
 
 sum_type : (t : Table) (K : ℕ → Type 0) → t 34 ≡ Declared 16 (Some 24) → TypeOf p t K 33 (plain element.Int)
 sum_type t K e = TypeOf.binary {n = 33} refl (record { at = refl; inside = refl }) (use_type t K e) (record { at = refl; inside = refl }) (TypeOf.literal refl LiteralType.int)
-  (BinaryType.sum (PromotesBoth.int tt tt))
+    (BinaryType.sum (PromotesBoth.int tt tt))
 
 parameters_of_f : (t : Table) → Parameters p t 17 (plain element.Int ∷ [])
 parameters_of_f t = ParameterTypes.other refl (λ e. cc) (ParameterTypes.parameter refl refl (HasType.parameter refl (TypeAt.primitive refl))
-  (ParameterTypes.other refl (λ e. cc) (ParameterTypes.done (λ e. cc))))
+    (ParameterTypes.other refl (λ e. cc) (ParameterTypes.done (λ e. cc))))
 
 -- the literal is the constant 1
 one : (t : Table) → ConstantOf p t (HasConstantForm p t) 35 (c.Int (pos 1))

@@ -22,15 +22,22 @@ pub data IsOfHeader (p : Rows) (t : Table) (c o : ℕ) : Type 0 where
   own : {n : ℕ} → NamesHeader p c n → IsIdentifierOf p n o → IsOfHeader p t c o
   import : {n m i : ℕ} → NamesHeader p c n → IsFirstOf p n m → IsLookedForIn p t m i → IsIdentifierOf p (i + 1) o → IsOfHeader p t c o
 
--- the table has what lookup gives at the headers of settled types, and nothing else
-pub record OfSettled (p : Rows) (t : Table) : Type 0 where
-  pub looked : (c o : ℕ) → IsType p c → IsSettled p t c → IsOfHeader p t c o → Look p t (HasConstantForm p t) o (t o)
-  pub others : (o : ℕ) → (t o ≡ Unbound → ⊥) → (c : ℕ) × IsSettled p t c × IsOfHeader p t c o
+-- the table without what headers of types that are not settled name as supertypes
+pub record IsSettledPart (p : Rows) (t u : Table) : Type 0 where
+  pub kept : (o : ℕ) → ((c : ℕ) → NamesHeader p c o → IsSettled p t c) → u o ≡ t o
+  pub left_out : (c o : ℕ) → NamesHeader p c o → (IsSettled p t c → ⊥) → u o ≡ Unbound
+
+-- the table has what lookup gives at the headers of all types, with the headers of settled types alone, and nothing else
+pub record OfHeaders (p : Rows) (t : Table) : Type 0 where
+  pub settled_part : Table
+  pub part : IsSettledPart p t settled_part
+  pub looked : (c o : ℕ) → IsType p c → IsOfHeader p t c o → Look p settled_part (HasConstantForm p settled_part) o (t o)
+  pub others : (o : ℕ) → (t o ≡ Unbound → ⊥) → (c : ℕ) × IsType p c × IsOfHeader p t c o
 
 -- some type is not settled, so the header graph has a cycle
 pub record HasCycle (p : Rows) : Type 0 where
   pub table : Table
-  pub of_settled : OfSettled p table
+  pub of_headers : OfHeaders p table
   pub on : ℕ
   pub type : IsType p on
   pub unsettled : IsSettled p table on → ⊥
@@ -38,7 +45,7 @@ pub record HasCycle (p : Rows) : Type 0 where
 -- the first type, in the order of the program, that lies on a cycle
 pub record IsFirstOnCycle (p : Rows) (c : ℕ) : Type 0 where
   pub table : Table
-  pub of_settled : OfSettled p table
+  pub of_headers : OfHeaders p table
   pub type : IsType p c
   pub cycle : HeaderPath p table c c
   pub first : (e : ℕ) → IsType p e → HeaderPath p table e e → e < c → ⊥

@@ -1,5 +1,5 @@
--- Compiling: the files read, stand at their places, bind, and break no rule. Of the rules those of `Rules` are here.
-use Rattle.std.specs.Prelude.{◌≡◌, ℕ, Contains}
+-- Compiling: the files read, stand at their places, bind, and break no rule. Of the rules those on names and on members are here.
+use Rattle.std.specs.Prelude.{◌≡◌, ◌⊎◌, ℕ}
 use Rattle.jr_base.specs.Files.{FileMap}
 use Rattle.jr_rows.specs.Rows.{Rows}
 use Rattle.jr_defs.specs.declared.program.Program.{Program}
@@ -9,6 +9,7 @@ use Rattle.jr_defs.specs.Declarations.{IsOccurrence}
 use Rattle.jr_defs.specs.Binding.{IsBinding}
 use Rattle.jr_defs.specs.Program.{ProgramOf, IsWellPlaced, rows_of}
 use Rattle.jr_defs.specs.Rules.{Breaks}
+use Rattle.jr_defs.specs.MemberRules.{BreaksMembers}
 
 -- each occurrence refers to one thing
 abbrev pub AllFound : Rows → Table → Type 0
@@ -26,6 +27,9 @@ pub record CompilesBy (B : Rows → Table → ℕ → ℕ → Type 0) (found : F
   pub placed : IsWellPlaced program
   pub keeps : KeepsRules (rows_of program) t B
 
--- by the rules that stand so far: a later layer adds those on types, reachability and assignment
+-- the rules that stand so far: a later layer adds those on types, reachability and assignment
+abbrev pub BreaksAny : Rows → Table → ℕ → ℕ → Type 0
+BreaksAny p t rule place = Breaks p t rule place ⊎ BreaksMembers p t rule place
+
 abbrev pub Compiles : FileMap → Program → Table → Type 0
-Compiles = CompilesBy Breaks
+Compiles = CompilesBy BreaksAny

@@ -45,7 +45,7 @@ mutual
     literal : {n : ℕ} {token : Kind} {v : Const} → label p n ≡ is.Literal token → literal_value token ≡ Some v → ConstantOf p t K n v
     reference : {n d : ℕ} {level : Option ℕ} {v : Const} → K n → t n ≡ Declared d level → ConstantVariable p t K d v → ConstantOf p t K n v
     paren : {n : ℕ} {v : Const} → label p n ≡ is.Paren → parent p (n + 1) ≡ n → ConstantOf p t K (n + 1) v → ConstantOf p t K n v
-    cast : {n : ℕ} {a : RowType} {v w : Const} → label p n ≡ is.Cast → TypeAt p t (n + 1) a → parent p (end p (n + 1)) ≡ n → ConstantOf p t K (end p (n + 1)) v
+    cast : {n : ℕ} {a : RowType} {v w : Const} → label p n ≡ is.Cast → parent p (n + 1) ≡ n → TypeAt p t (n + 1) a → parent p (end p (n + 1)) ≡ n → ConstantOf p t K (end p (n + 1)) v
         → Converts p cast_to v w a → ConstantOf p t K n w
     unary : {n : ℕ} {op : Symbol} {v w : Const} → label p n ≡ is.Unary op → parent p (n + 1) ≡ n → ConstantOf p t K (n + 1) v → unary_value op v ≡ Some w
         → ConstantOf p t K n w

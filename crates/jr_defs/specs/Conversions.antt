@@ -26,6 +26,11 @@ abbrev pub IsNumeric : Element → Type 0
 IsNumeric element.Long = Unit {0}
 IsNumeric e = IsIntegral e
 
+-- boolean and the numeric types (JLS 4.2)
+abbrev pub IsPrimitive : Element → Type 0
+IsPrimitive element.Boolean = Unit {0}
+IsPrimitive e = IsNumeric e
+
 -- the type of one promoted operand, and of two (JLS 5.6.1, 5.6.2)
 pub data Promotes : Element → Element → Type 0 where
   int : {a : Element} → IsIntegral a → Promotes a element.Int

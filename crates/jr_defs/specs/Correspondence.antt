@@ -20,7 +20,7 @@ use Rattle.jr_defs.specs.Packages.{SamePackage, TypeOfPackage}
 use Rattle.jr_defs.specs.Types.{NamesType, HasType, Parameters}
 use Rattle.jr_defs.specs.Supertypes.{Super, SuperAt, Superclass}
 use Rattle.jr_defs.specs.Imports.{SingleImport, StaticImport, OnDemandImport}
-use Rattle.jr_defs.specs.Scope.{InLocalScope, InParameterScope, InLabelScope, TypeOfUnit, TypeOfOther, Imported, Depth, on_demand, of_package, of_unit, within}
+use Rattle.jr_defs.specs.Scope.{InLocalScope, InParameterScope, InLabelScope, InOneList, TypeOfUnit, TypeOfOther, Imported, Depth, on_demand, of_package, of_unit, imported, within}
 use Rattle.jr_defs.specs.Instances.{HasInstance}
 use Rattle.jr_defs.specs.Lookup.{Receiver, PackageBefore, ArrayBefore, Arguments}
 
@@ -56,6 +56,7 @@ abbrev pub moved_depth : (ℕ → ℕ) → Depth → Depth
 moved_depth f on_demand = on_demand
 moved_depth f of_package = of_package
 moved_depth f of_unit = of_unit
+moved_depth f imported = imported
 moved_depth f (within s) = within (f s)
 
 -- ---- what a search reads
@@ -95,6 +96,7 @@ pub record Alike (p q : Rows) (f g : ℕ → ℕ) : Type 0 where
   pub back : (n : ℕ) → IsDeclared p n → g (f n) ≡ n
   pub declared : (c d : ℕ) → DeclaredIn p c d → DeclaredIn q (f c) (f d)
   pub constructor : (c k : ℕ) → ConstructorOf p c k → ConstructorOf q (f c) (f k)
+  pub one_list : (d e : ℕ) → InOneList p d e → InOneList q (f d) (f e)
   pub access_same : (d : ℕ) → IsDeclared p d → access_of q (f d) ≡ access_of p d
   pub same_package : (m n : ℕ) → IsDeclared p m → IsDeclared p n → SamePackage p m n → SamePackage q (f m) (f n)
   pub of_path : (path : List Text) (d : ℕ) → TypeOfPackage p path d → TypeOfPackage q path (f d)

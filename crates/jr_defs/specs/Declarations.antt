@@ -65,14 +65,16 @@ pub record IsOccurrence (p : Rows) (o : ℕ) : Type 0 where
   pub seeks : sought_at p o ≡ sought.Nothing → ⊥
   pub above : label p o ≡ is.ImplicitCall → IsObject p (parent p (parent p (parent p o))) → ⊥
 
-abbrev pub IsQualifierLabel : Label → Type 0
-IsQualifierLabel (is.Name kind place.Qualifier is_qualified) = Unit {0}
-IsQualifierLabel _ = ⊥
+-- an identifier before a dot of a name, or the last one before the dot of a call
+abbrev pub IsBeforeDotLabel : Label → Type 0
+IsBeforeDotLabel (is.Name kind place.Qualifier is_qualified) = Unit {0}
+IsBeforeDotLabel (is.Name kind place.Receiver is_qualified) = Unit {0}
+IsBeforeDotLabel _ = ⊥
 
--- a qualifier that is a package or a type is part of a longer reference
+-- what stands before a dot and is a package or a type is part of a longer reference
 pub data IsPart (p : Rows) (t : Table) : ℕ → Type 0 where
-  of_package : {o : ℕ} → IsQualifierLabel (label p o) → t o ≡ Package → IsPart p t o
-  of_type : {o d : ℕ} {level : Option ℕ} → IsQualifierLabel (label p o) → t o ≡ Declared d level → IsType p d → IsPart p t o
+  of_package : {o : ℕ} → IsBeforeDotLabel (label p o) → t o ≡ Package → IsPart p t o
+  of_type : {o d : ℕ} {level : Option ℕ} → IsBeforeDotLabel (label p o) → t o ≡ Declared d level → IsType p d → IsPart p t o
 
 -- a reference, by its last identifier: an occurrence that is no part of a longer one
 pub record IsReference (p : Rows) (t : Table) (o : ℕ) : Type 0 where

@@ -46,10 +46,6 @@ pub record ConstructorOf (p : Rows) (c k : ℕ) : Type 0 where
   pub constructor : role_at p k ≡ role.Constructor
   pub inside : BodyOf p c (parent p k)
 
--- c is the type that declares the member or constructor d
-abbrev pub DeclaringType : Rows → ℕ → ℕ → Type 0
-DeclaringType p d c = DeclaredIn p c d ⊎ ConstructorOf p c d
-
 -- a type that its unit declares outside any other (JLS 7.6)
 pub record IsTopLevel (p : Rows) (c : ℕ) : Type 0 where
   pub type : IsType p c

@@ -14,7 +14,7 @@ use Rattle.jr_defs.specs.Enclosing.{DeclaredIn}
 use Rattle.jr_defs.specs.Packages.{InUnit}
 use Rattle.jr_defs.specs.Supertypes.{NamesSuperclass, NamesSuperinterface}
 use Rattle.jr_defs.specs.Imports.{ImportOf}
-use Rattle.jr_defs.specs.Scope.{Depth, InScope, rank, of_unit, on_demand}
+use Rattle.jr_defs.specs.Scope.{Depth, InScope, rank, imported, on_demand}
 
 -- the row n is the last identifier of a name in the header of c
 abbrev pub NamesHeader : Rows → ℕ → ℕ → Type 0
@@ -34,12 +34,7 @@ pub record IsFirstOf (p : Rows) (n m : ℕ) : Type 0 where
 -- how far in an import brings what it brings
 abbrev pub depth_of : ImportKind → Depth
 depth_of importing.OnDemand = on_demand
-depth_of _ = of_unit
-
--- the last identifier of an import: that of its name, or of the members that it imports
-abbrev pub last_of : ImportKind → Rows → ℕ → Text
-last_of importing.StaticSingle p i = name p i
-last_of _ p i = name p (i + 1)
+depth_of _ = imported
 
 -- an import on demand may bring any name, another only its last identifier
 pub data MayBring (p : Rows) (i : ℕ) (x : Text) : ImportKind → Type 0 where

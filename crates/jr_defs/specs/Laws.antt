@@ -1,15 +1,19 @@
 -- Laws of the definitions.
-use Rattle.std.specs.Prelude.{◌≡◌, ℕ, Bool, IsTrue, Option}
+use Rattle.std.specs.Prelude.{◌≡◌, ℕ, Bool, IsTrue, List, Option}
+use Rattle.std.specs.List.{AllByRecursion}
 use Rattle.jr_base.specs.declared.text.Text.{Text}
 use Rattle.jr_rows.specs.declared.label.Sought.{Sought}
-use Rattle.jr_rows.specs.Rows.{Rows}
+use Rattle.jr_tree.specs.declared.tree.Unit as declared_unit
+use Rattle.jr_tree.specs.Shape.{IsShaped}
+use Rattle.jr_rows.specs.Rows.{Rows, program_rows}
 use Rattle.jr_defs.specs.declared.referent.Referent.{Referent}
 use Rattle.jr_defs.specs.declared.referent.Referent.TheVariants.{Declared}
 use Rattle.jr_defs.specs.Referents.{Table}
-use Rattle.jr_defs.specs.Declarations.{IsType}
+use Rattle.jr_defs.specs.Declarations.{IsType, IsObject}
 use Rattle.jr_defs.specs.Lookup.{LookFor}
-use Rattle.jr_defs.specs.Headers.{NamesHeader}
-use Rattle.jr_defs.specs.Binding.{IsBound, IsBinding}
+use Rattle.jr_defs.specs.Enclosing.{DeclaredIn}
+use Rattle.jr_defs.specs.Headers.{NamesHeader, Meets, IsSettled}
+use Rattle.jr_defs.specs.Binding.{IsBound, IsBinding, OfHeaders, HasCycle}
 use Rattle.jr_defs.specs.Formed.{IsFormed}
 use Rattle.jr_defs.specs.Correspondence.{Corresponds, moved}
 
@@ -40,3 +44,24 @@ BindingsAgree = (p : Rows) (t u : Table) → IsFormed p → IsBound p t → IsBo
 -- a program has at most one binding
 abbrev pub OneBinding : Type 0
 OneBinding = (p : Rows) (t u : Table) → IsFormed p → IsBinding p t → IsBinding p u → (o : ℕ) → t o ≡ u o
+
+-- Object names nothing in its header, as in the prelude
+abbrev pub HasBareObject : Rows → Type 0
+HasBareObject p = (c n : ℕ) → IsObject p c → NamesHeader p c n → ⊥
+
+-- rows of shaped units are formed
+abbrev pub ProgramsAreFormed : Type 0
+ProgramsAreFormed = (units : List declared_unit.Unit) → AllByRecursion IsShaped units → HasBareObject (program_rows units) → IsFormed (program_rows units)
+
+-- so a program of shaped units has at most one binding
+abbrev pub OneBindingOfUnits : Type 0
+OneBindingOfUnits = (units : List declared_unit.Unit) (t u : Table) → AllByRecursion IsShaped units → HasBareObject (program_rows units)
+    → IsBinding (program_rows units) t → IsBinding (program_rows units) u → (o : ℕ) → t o ≡ u o
+
+-- two types whose headers meet each other are a cycle
+abbrev pub MutualHeadersAreCycle : Type 0
+MutualHeadersAreCycle = (p : Rows) (t : Table) (a b : ℕ) → OfHeaders p t → IsType p a → Meets p t a b → Meets p t b a → HasCycle p
+
+-- a type whose header names nothing is settled where its enclosing types are
+abbrev pub BareTypeIsSettled : Type 0
+BareTypeIsSettled = (p : Rows) (t : Table) (c : ℕ) → ((n : ℕ) → NamesHeader p c n → ⊥) → ((e : ℕ) → DeclaredIn p e c → IsSettled p t e) → IsSettled p t c

@@ -23,6 +23,7 @@ pub mod Prelude
 pub mod Program
 pub mod Numbers
 pub mod Rules
+pub mod MemberRules
 pub mod Compiling
 pub mod Formed
 pub mod Correspondence

@@ -41,7 +41,7 @@ level_of role.Field (within s) = Some s
 level_of _ _ = None
 
 -- visible at the place, with its level
-pub record Found (p : Rows) (t : Table) (k : Space) (x : Text) (o d : ℕ) (level : Option ℕ) : Type 0 where
+pub record VisibleThrough (p : Rows) (t : Table) (k : Space) (x : Text) (o d : ℕ) (level : Option ℕ) : Type 0 where
   pub depth : Depth
   pub visible : Visible p t k x o d depth
   pub through : level_of (role_at p d) depth ≡ level
@@ -52,11 +52,11 @@ NoneInScope p t k x o = (d : ℕ) (r : Depth) → InScope p t k x o d r → ⊥
 
 -- a simple name, by its kind; an ambiguous one is a variable if one is in scope, else a type (JLS 6.5.2)
 pub data SimpleCandidate (p : Rows) (t : Table) (x : Text) (o : ℕ) : NameKind → ℕ → Option ℕ → Type 0 where
-  variable : {d : ℕ} {level : Option ℕ} → Found p t space.Variable x o d level → SimpleCandidate p t x o kind.Variable d level
-  type : {d : ℕ} {level : Option ℕ} → Found p t space.Type x o d level → SimpleCandidate p t x o kind.Type d level
-  package_or_type : {d : ℕ} {level : Option ℕ} → Found p t space.Type x o d level → SimpleCandidate p t x o kind.PackageOrType d level
-  first_variable : {d : ℕ} {level : Option ℕ} → Found p t space.Variable x o d level → SimpleCandidate p t x o kind.Ambiguous d level
-  then_type : {d : ℕ} {level : Option ℕ} → NoneInScope p t space.Variable x o → Found p t space.Type x o d level → SimpleCandidate p t x o kind.Ambiguous d level
+  variable : {d : ℕ} {level : Option ℕ} → VisibleThrough p t space.Variable x o d level → SimpleCandidate p t x o kind.Variable d level
+  type : {d : ℕ} {level : Option ℕ} → VisibleThrough p t space.Type x o d level → SimpleCandidate p t x o kind.Type d level
+  package_or_type : {d : ℕ} {level : Option ℕ} → VisibleThrough p t space.Type x o d level → SimpleCandidate p t x o kind.PackageOrType d level
+  first_variable : {d : ℕ} {level : Option ℕ} → VisibleThrough p t space.Variable x o d level → SimpleCandidate p t x o kind.Ambiguous d level
+  then_type : {d : ℕ} {level : Option ℕ} → NoneInScope p t space.Variable x o → VisibleThrough p t space.Type x o d level → SimpleCandidate p t x o kind.Ambiguous d level
 
 -- ---- what stands before a dot
 
@@ -154,7 +154,7 @@ pub data CalledClass (p : Rows) (t : Table) (o : ℕ) : ThisOrSuper → ℕ → 
 
 -- ---- candidates
 
--- what the occurrence o may refer to, where it seeks so, with this name
+-- what the occurrence o may refer to, where it seeks so, with this name; labels do not shadow one another (JLS 14.7)
 pub data Candidate (p : Rows) (t : Table) (K : ℕ → Type 0) (o : ℕ) (x : Text) : Sought → ℕ → Option ℕ → Type 0 where
   simple : {k : NameKind} {d : ℕ} {level : Option ℕ} → SimpleCandidate p t x o k d level → Candidate p t K o x (sought.Simple k) d level
   qualified : {k : NameKind} {d : ℕ} → QualifiedCandidate p t K x o k d → Candidate p t K o x (sought.Qualified k) d None
@@ -170,7 +170,7 @@ pub data Candidate (p : Rows) (t : Table) (K : ℕ → Type 0) (o : ℕ) (x : Te
   constructor : {w : ThisOrSuper} {c d : ℕ} {all : List RowType} → CalledClass p t o w c → Arguments p t K o all → Choice p t c o None all (ConstructorOf p c) d
       → Candidate p t K o x (sought.ConstructorCall w) d None
   own_class : {c : ℕ} → BodyOf p c (parent p o) → Candidate p t K o x sought.OwnClass c None
-  labeled : {d : ℕ} {level : Option ℕ} → Found p t space.Label x o d level → Candidate p t K o x sought.Label d level
+  labeled : {d : ℕ} {depth : Depth} → InScope p t space.Label x o d depth → Candidate p t K o x sought.Label d None
 
 -- where there is none: a name that may be one of a package is that, `length` of an array is its length, and all else is not bound
 

@@ -33,9 +33,16 @@ pub record InInterface (p : Rows) (d : ℕ) : Type 0 where
   pub interface : IsInterface p of_type
   pub declared : DeclaredIn p of_type d
 
--- what an interface declares is public (JLS 9.3, 9.4, 9.5)
+-- the default constructor of a class that an interface declares
+pub record IsDefaultInInterface (p : Rows) (d : ℕ) : Type 0 where
+  pub default : label p d ≡ is.DefaultConstructor
+  pub of_class : ℕ
+  pub constructs : ConstructorOf p of_class d
+  pub declared : InInterface p of_class
+
+-- what an interface declares is public, and so is the default constructor of a class that it declares (JLS 8.8.9, 9.3, 9.4, 9.5)
 abbrev pub IsPublic : Rows → ℕ → Type 0
-IsPublic p d = IsTrue (access_of p d).is_public ⊎ InInterface p d
+IsPublic p d = IsTrue (access_of p d).is_public ⊎ InInterface p d ⊎ IsDefaultInInterface p d
 
 abbrev pub IsProtected : Rows → ℕ → Type 0
 IsProtected p d = IsTrue (access_of p d).is_protected

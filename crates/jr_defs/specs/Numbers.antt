@@ -108,7 +108,8 @@ pub record AreTargets (p : Rows) (t : Table) (targets : List (OccId × Target)) 
   pub every : (o : ℕ) → IsOccurrence p o → (occ : OccId) × (a : Target) × IsOccurrenceId p o occ × IsTarget p t o a × Contains targets (occ, a)
   pub only : (occ : OccId) (a : Target) → Contains targets (occ, a) → (o : ℕ) × IsOccurrenceId p o occ × IsTarget p t o a
 
--- occurrences by their units, then by their nodes, then by their parts
+-- occurrences by their units, then by their nodes, then by their parts; so the call in a default constructor, which is numbered by its class,
+-- comes before the names of the header of that class, and its row comes after theirs
 abbrev pub ComesBefore : OccId → OccId → Type 0
 ComesBefore a b = (a.at.cu.0 < b.at.cu.0) ⊎ ((a.at.cu.0 ≡ b.at.cu.0) × (a.at.node.0 < b.at.node.0))
     ⊎ ((a.at ≡ b.at) × (a.part < b.part))

@@ -82,10 +82,10 @@ pub data IsPreferred (p : Rows) (t : Table) (c : ℕ) (M : ℕ → Type 0) (m : 
   returning : AllAbstract p M → IsFirst p t c (Returns p t M) m → IsPreferred p t c M m
   first : AllAbstract p M → ((k : ℕ) → Returns p t M k → ⊥) → IsFirst p t c M m → IsPreferred p t c M m
 
--- what is left of the applicable ones A in the type c: the preferred one of the most specific, or all where none is most specific
+-- what is left of the applicable ones A in the type c: the preferred one of the most specific, or all where none is preferred
 pub data IsLeftOf (p : Rows) (t : Table) (c : ℕ) (A : ℕ → Type 0) (m : ℕ) : Type 0 where
   chosen : IsPreferred p t c (IsMostSpecific p t A) m → IsLeftOf p t c A m
-  undecided : ((k : ℕ) → IsMostSpecific p t A k → ⊥) → A m → IsLeftOf p t c A m
+  undecided : ((k : ℕ) → IsPreferred p t c (IsMostSpecific p t A) k → ⊥) → A m → IsLeftOf p t c A m
 
 -- the choice among the methods or constructors S of the type c, at the place o
 abbrev pub Choice : Rows → Table → ℕ → ℕ → Option RowType → List RowType → (ℕ → Type 0) → ℕ → Type 0

@@ -3,7 +3,7 @@ use Rattle.std.specs.Prelude.{◌≡◌, ◌⊎◌, ℕ}
 use Rattle.jr_rows.specs.declared.label.Role.TheVariants as role
 use Rattle.jr_rows.specs.Rows.{Rows, role_at}
 use Rattle.jr_defs.specs.Referents.{Table}
-use Rattle.jr_defs.specs.Declarations.{IsType, IsInterface}
+use Rattle.jr_defs.specs.Declarations.{IsType, IsClass, IsInterface}
 use Rattle.jr_defs.specs.Enclosing.{DeclaredIn}
 use Rattle.jr_defs.specs.Modifiers.{IsPublic, IsProtected, IsPrivate, IsStatic}
 use Rattle.jr_defs.specs.Packages.{SamePackage}
@@ -66,5 +66,6 @@ pub data Found (p : Rows) (t : Table) (c m : ℕ) : ℕ → Type 0 where
 
 -- an edge of dispatch: the class has the method, and a call of it finds f
 pub record Dispatches (p : Rows) (t : Table) (c m f : ℕ) : Type 0 where
+  pub class : IsClass p c
   pub has : Has p t c m
   pub found : Found p t c m f

@@ -6,6 +6,7 @@ use Rattle.jr_rows.specs.declared.label.Label.TheVariants as is
 use Rattle.jr_rows.specs.declared.label.Role.TheVariants as role
 use Rattle.jr_rows.specs.Rows.{Rows, label, parent, end, role_at}
 use Rattle.jr_defs.specs.declared.referent.Space.{Space}
+use Rattle.jr_defs.specs.declared.referent.Space.TheVariants as space
 use Rattle.jr_defs.specs.Referents.{Table}
 use Rattle.jr_defs.specs.Declarations.{Declares, IsType}
 use Rattle.jr_defs.specs.Enclosing.{InBody, IsTopLevel}
@@ -48,15 +49,22 @@ pub data Depth : Type 0 where
   on_demand : Depth
   of_package : Depth
   of_unit : Depth
+  imported : Depth
   within : ℕ → Depth
 
--- what is further in shadows: imports on demand shadow nothing, types of the package shadow them, types of the unit itself and of its
--- single imports shadow both, and all else goes by the row that it is declared in, or through (JLS 6.3.1, 7.5.1, 7.5.2)
+-- what is further in shadows: imports on demand shadow nothing, types of the package shadow them, what is imported by name shadows both,
+-- and all else goes by the row that it is declared in, or through (JLS 6.3.1, 7.5.1, 7.5.2)
 abbrev pub rank : Depth → ℕ
 rank on_demand = 0
 rank of_package = 1
 rank of_unit = 2
+rank imported = 2
 rank (within s) = 3 + s
+
+-- what is in so far as q does not shadow what is in so far as r: of the top-level types of one package none shadows another
+pub data IsNoFurther : Depth → Depth → Type 0 where
+  by_rank : {q r : Depth} → rank q ≤ rank r → IsNoFurther q r
+  of_one_package : IsNoFurther of_unit of_package
 
 -- a top-level type of the same package, and of the same unit or another
 pub record TypeOfUnit (p : Rows) (o d : ℕ) : Type 0 where
@@ -84,8 +92,8 @@ pub data HasScope (p : Rows) (t : Table) (o : ℕ) : ℕ → Depth → Type 0 wh
   member : {c d : ℕ} → InBody p c o → MemberOf p t c d → HasScope p t o d (within c)
   of_same_unit : {d : ℕ} → TypeOfUnit p o d → HasScope p t o d of_unit
   of_same_package : {d : ℕ} → TypeOfOther p o d → HasScope p t o d of_package
-  single : {d : ℕ} → Imported p (SingleImport p t) o d → HasScope p t o d of_unit
-  static : {d : ℕ} → Imported p (StaticImport p t) o d → HasScope p t o d of_unit
+  single : {d : ℕ} → Imported p (SingleImport p t) o d → HasScope p t o d imported
+  static : {d : ℕ} → Imported p (StaticImport p t) o d → HasScope p t o d imported
   demanded : {d : ℕ} → Imported p (OnDemandImport p t) o d → HasScope p t o d on_demand
 
 -- in scope at the place, under the name
@@ -93,7 +101,13 @@ pub record InScope (p : Rows) (t : Table) (kind : Space) (x : Text) (o d : ℕ) 
   pub scope : HasScope p t o d r
   pub declares : Declares p kind x d
 
--- the one declaration shadows the other where the scope of both holds the place (JLS 6.3.1)
+-- two parameters of one list: neither stands in the scope of the other, so neither shadows it (JLS 8.4.1)
+pub record InOneList (p : Rows) (d e : ℕ) : Type 0 where
+  pub first : role_at p d ≡ role.Parameter
+  pub second : role_at p e ≡ role.Parameter
+  pub beside : parent p d ≡ parent p e
+
+-- the one declaration shadows the other where the scope of both holds the place; labels shadow nothing (JLS 6.3.1, 14.7)
 pub record Shadows (p : Rows) (t : Table) (o d e : ℕ) : Type 0 where
   pub kind : Space
   pub x : Text
@@ -101,9 +115,11 @@ pub record Shadows (p : Rows) (t : Table) (o d e : ℕ) : Type 0 where
   pub outer : Depth
   pub first : InScope p t kind x o d inner
   pub second : InScope p t kind x o e outer
-  pub further : rank outer < rank inner
+  pub further : IsNoFurther inner outer → ⊥
+  pub no_label : kind ≡ space.Label → ⊥
+  pub apart : InOneList p d e → ⊥
 
 -- in scope, and not shadowed by another such
 pub record Visible (p : Rows) (t : Table) (kind : Space) (x : Text) (o d : ℕ) (r : Depth) : Type 0 where
   pub in_scope : InScope p t kind x o d r
-  pub innermost : (e : ℕ) (q : Depth) → InScope p t kind x o e q → rank q ≤ rank r
+  pub innermost : (e : ℕ) (q : Depth) → InScope p t kind x o e q → IsNoFurther q r ⊎ InOneList p e d

@@ -24,7 +24,7 @@ use Rattle.jr_defs.specs.Instances.{HasInstance}
 use Rattle.jr_defs.specs.Enclosing.{Innermost}
 use Rattle.jr_defs.specs.Operators.{fits}
 use Rattle.jr_defs.specs.Constants.{ConstantOf}
-use Rattle.jr_defs.specs.Conversions.{IsIntegral, IsNumeric, Promotes, PromotesBoth, IsReferenceOrNull, IsCastable}
+use Rattle.jr_defs.specs.Conversions.{IsIntegral, IsNumeric, IsPrimitive, Promotes, PromotesBoth, IsReferenceOrNull, IsCastable}
 
 -- the type of a literal (JLS 15.8.1)
 pub data LiteralType (p : Rows) : Kind → RowType → Type 0 where
@@ -117,7 +117,8 @@ operator_of _ = None
 -- result is cast back
 pub data CompoundType (p : Rows) (t : Table) (op : Symbol) : RowType → RowType → Type 0 where
   text : {s : ℕ} {b : RowType} → op ≡ y.Plus → IsString p s → (b ≡ plain element.Void → ⊥) → CompoundType p t op (class_type s) b
-  primitive : {a b r : Element} → BinaryType p t (class_of op) (plain a) (plain b) (plain r) → IsCastable p t (plain r) (plain a) → CompoundType p t op (plain a) (plain b)
+  primitive : {a b r : Element} → IsPrimitive a → IsPrimitive b → BinaryType p t (class_of op) (plain a) (plain b) (plain r)
+      → IsCastable p t (plain r) (plain a) → CompoundType p t op (plain a) (plain b)
 
 -- ---- the conditional operator (JLS 15.25)
 

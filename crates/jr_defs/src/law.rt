@@ -1,5 +1,5 @@
 // The laws of the definitions.
-ghost use Rattle.jr_defs.specs.Laws.{OneAnswer, LookCarries, BindingsAgree, OneBinding};
+ghost use Rattle.jr_defs.specs.Laws.{OneAnswer, LookCarries, BindingsAgree, OneBinding, OneBindingOfUnits, ProgramsAreFormed, MutualHeadersAreCycle, BareTypeIsSettled};
 
 /// Lookup has at most one answer.
 pub fn lookup_is_unique()
@@ -19,4 +19,24 @@ pub fn bindings_agree()
 /// A program has at most one binding.
 pub fn at_most_one_binding()
     ensures { OneBinding }
+{}
+
+/// The rows of shaped units are formed as the law of one binding asks.
+pub fn programs_are_formed()
+    ensures { ProgramsAreFormed }
+{}
+
+/// A program of shaped units has at most one binding.
+pub fn units_have_at_most_one_binding()
+    ensures { OneBindingOfUnits }
+{}
+
+/// Two types whose headers meet each other are a cycle (JLS 8.1.4).
+pub fn mutual_headers_are_a_cycle()
+    ensures { MutualHeadersAreCycle }
+{}
+
+/// A type whose header names nothing is settled where its enclosing types are.
+pub fn a_bare_type_is_settled()
+    ensures { BareTypeIsSettled }
 {}

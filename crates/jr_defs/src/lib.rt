@@ -5,8 +5,13 @@ mod law;
 mod program;
 mod referent;
 mod table;
+#[cfg(test)]
+mod tests;
 
-pub use law::{at_most_one_binding, bindings_agree, lookup_carries, lookup_is_unique};
+pub use law::{
+    at_most_one_binding, bindings_agree, lookup_carries, lookup_is_unique, programs_are_formed,
+    units_have_at_most_one_binding,
+};
 pub use program::{Program, UnitAt};
 pub use referent::{Element, Referent, RowType, Space};
 pub use table::{BindingTable, Headers, MemberTable, Supers, Target, TypeMembers};

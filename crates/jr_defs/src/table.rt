@@ -1,6 +1,9 @@
 // Tables of a program, by the numbers of its nodes.
 
-use jr_base::{DeclId, Items, OccId, TypeId};
+ghost use Rattle.std.specs.Prelude.{◌≡◌, IfOk};
+
+use jr_base::{Copied, DeclId, Items, OccId, OutOfMemory, TypeId};
+use std::alloc::Global;
 
 /// What an occurrence refers to.
 #[derive(Clone, Copy, Debug, PartialEq, Eq)]
@@ -53,4 +56,57 @@ pub struct MemberTable {
     pub members: Items<TypeMembers>,
     /// A class, a method that it has, and the method that a call of it finds there.
     pub found: Items<(TypeId, DeclId, DeclId)>,
+}
+
+impl BindingTable {
+    /// An equal table of its own.
+    pub fn copy(&self, alloc: Global) -> Result<BindingTable, OutOfMemory>
+        ensures { IfOk result (λ copy. copy ≡ self.now) }
+    {
+        Ok(BindingTable {
+            targets: Items::from_slice(alloc, self.targets.as_slice())?,
+        })
+    }
+}
+
+impl Copied for Supers {
+    fn copy(&self, alloc: Global) -> Result<Supers, OutOfMemory> {
+        Ok(Supers {
+            of: self.of,
+            supers: Items::from_slice(alloc, self.supers.as_slice())?,
+        })
+    }
+}
+
+impl Headers {
+    /// An equal table of its own.
+    pub fn copy(&self, alloc: Global) -> Result<Headers, OutOfMemory>
+        ensures { IfOk result (λ copy. copy ≡ self.now) }
+    {
+        Ok(Headers {
+            supers: self.supers.copy(alloc)?,
+        })
+    }
+}
+
+impl Copied for TypeMembers {
+    fn copy(&self, alloc: Global) -> Result<TypeMembers, OutOfMemory> {
+        Ok(TypeMembers {
+            of: self.of,
+            members: Items::from_slice(alloc, self.members.as_slice())?,
+        })
+    }
+}
+
+impl MemberTable {
+    /// An equal table of its own.
+    pub fn copy(&self, alloc: Global) -> Result<MemberTable, OutOfMemory>
+        ensures { IfOk result (λ copy. copy ≡ self.now) }
+    {
+        Ok(MemberTable {
+            supers: self.supers.copy(alloc)?,
+            members: self.members.copy(alloc)?,
+            found: Items::from_slice(alloc, self.found.as_slice())?,
+        })
+    }
 }

@@ -1,0 +1,17 @@
+pub mod Written
+pub mod Tokens
+pub mod Lists
+pub mod Variables
+pub mod Expressions
+pub mod Endings
+pub mod Named
+pub mod Blocks
+pub mod Groups
+pub mod Headers
+pub mod Statements
+pub mod Bodies
+pub mod Modifiers
+pub mod Members
+pub mod Units
+pub mod Imports
+pub mod Readings

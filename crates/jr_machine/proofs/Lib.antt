@@ -1,0 +1,15 @@
+pub mod RenamedValues
+pub mod RenamedParts
+pub mod RenamedStates
+pub mod RenamedClasses
+pub mod RenamedOperators
+pub mod RenamedControl
+pub mod RenamedPlaces
+pub mod RenamedArrays
+pub mod RenamedInitialization
+pub mod RenamedCalls
+pub mod RenamedFinishing
+pub mod RenamedExits
+pub mod RenamedSteps
+pub mod RenamedTwice
+pub mod RenamedTables

@@ -1,0 +1,17 @@
+"""Folders of Java files for the program `jr_commit_trial`."""
+import os
+import tempfile
+
+
+def path_of(folder, number):
+    return os.path.join(folder, 'f', f'F{10000 + number}.java')
+
+
+def make_folder(count, text):
+    """A new folder with so many files of this text."""
+    folder = tempfile.mkdtemp()
+    os.mkdir(os.path.join(folder, 'f'))
+    for number in range(count):
+        with open(path_of(folder, number), 'w') as file:
+            file.write(text)
+    return folder
