@@ -31,7 +31,7 @@ use Rattle.jr_parse_expr.proofs.Locals.{Again, Kept, Local, here, along, local_p
 use Rattle.jr_parse_expr.proofs.NameLocals.{name_local, looks_primitive, dotted_local}
 use Rattle.jr_parse_expr.proofs.ExprLocals.{NearExprs, bind, by_first, after_dotted_local, after_bracket_local, super_local, created_local, creation_by_local, closed_by, first_prefix, looks_symbol}
 use Rattle.jr_parse_expr.proofs.LevelLocals.{turn_kept, suffix_alike, first_prefix_local}
-use Rattle.jr_parse_expr.proofs.EffectReads.{dotted_up}
+use Rattle.jr_parse_expr.proofs.EffectReads.{any_dotted}
 use Rattle.jr_parse_expr.proofs.EffectChains as effects
 
 -- ---- one level less on both sides
@@ -66,16 +66,12 @@ refused_up (suc turns) before last (kind.Sym y.Dot ∷ kind.Word k.This ∷ ts) 
 refused_up (suc turns) before last (kind.Sym y.Dot ∷ token ∷ ts) w h = h
 refused_up (suc turns) before last (token ∷ ts) w h = absurd (ok_err h)
 
-more_dotted : (before : List Text) (last : Text) (ts : List Kind) (r : Dotted × List Kind) → dotted false before last ts ≡ Ok r → dotted true before last ts ≡ Ok r
-unfolding dotted
-more_dotted before last ts r h = dotted_up false (length ts) before last ts r h
-
 more_refused : (before : List Text) (last : Text) (ts w : List Kind) → dotted false before last ts ≡ Err (NoTree, w) → dotted true before last ts ≡ Err (NoTree, w)
 unfolding dotted
 more_refused before last ts w h = refused_up (length ts) before last ts w h
 
 dotted_wider : (room other : ℕ) (le : room ≤ other) → room < other → (before : List Text) (last : Text) (ts : List Kind) (o : Outcome Dotted) → Kept room other le (dotted false before last) ts o → Kept room other le (dotted true before last) ts o
-dotted_wider room other le less before last ts (Ok r) a = record { front = a.front; split = a.split; again = λ w e. more_dotted before last (a.front ++ w) (r.0, w) (a.again w e) }
+dotted_wider room other le less before last ts (Ok r) a = record { front = a.front; split = a.split; again = λ w e. any_dotted false before last (a.front ++ w) (r.0, w) (a.again w e) }
 dotted_wider room other le less before last ts (Err (NoTree, rest)) k = λ wider. let a = k wider in record { front = a.front; split = a.split; again = λ w e. more_refused before last (a.front ++ w) w (a.again w e) }
 dotted_wider room other le less before last ts (Err (TooDeep, rest)) k = λ wider. absurd (let same : other ≡ room = wider in omega arith)
 dotted_wider room other le less before last ts (Err (OutOfMemory, rest)) k = λ wider. absurd wider

@@ -29,7 +29,7 @@ use Rattle.jr_parse_expr.proofs.Free.{free_operand, free_effects, free_effect}
 use Rattle.jr_parse_expr.proofs.FreeReads.{free_complete, free_sound}
 use Rattle.jr_parse_expr.proofs.Loops.{Turned, Stayed, Went, turned}
 use Rattle.jr_parse_expr.proofs.Asked.{ReadsExprs, ReadsLists, depth_pos, list_depth_pos}
-use Rattle.jr_parse_expr.proofs.ExprReads.{all_read}
+use Rattle.jr_parse_expr.proofs.ExprReads.{chain_of, all_read}
 
 none_some : {A : Type 0} {a : A} → None ≡ Some a → ⊥
 none_some e = cc
@@ -121,7 +121,7 @@ module _ (room : ℕ) (inner : Lead → ℕ → Parser x.Expr) (list : Parser x.
 
 -- ---- a name at the head
 
-pub dotted_up : (b : Bool) (turns : ℕ) (before : List Text) (last : Text) (ts : List Kind) (r : Dotted × List Kind) → dotted_from b turns before last ts ≡ Ok r → dotted_from true turns before last ts ≡ Ok r
+dotted_up : (b : Bool) (turns : ℕ) (before : List Text) (last : Text) (ts : List Kind) (r : Dotted × List Kind) → dotted_from b turns before last ts ≡ Ok r → dotted_from true turns before last ts ≡ Ok r
 dotted_up true turns before last ts r h = h
 dotted_up false zero before last ts r h = h
 dotted_up false (suc turns) before last [] r h = h
@@ -148,6 +148,10 @@ dotted_down (suc turns) before last (token ∷ ts) r p h = h
 pub plain_dotted : (before : List Text) (last : Text) (ts : List Kind) (r : Dotted × List Kind) → is_plain r.0 ≡ true → dotted true before last ts ≡ Ok r → dotted false before last ts ≡ Ok r
 unfolding dotted
 plain_dotted before last ts r p h = dotted_down (length ts) before last ts r p h
+
+pub any_dotted : (b : Bool) (before : List Text) (last : Text) (ts : List Kind) (r : Dotted × List Kind) → dotted b before last ts ≡ Ok r → dotted true before last ts ≡ Ok r
+unfolding dotted
+any_dotted b before last ts r h = dotted_up b (length ts) before last ts r h
 
 -- ---- both ways
 
@@ -547,3 +551,16 @@ effect_complete room lead e rest ts is ended led same = from_free room lead ts (
 
 pub effect_sound : (room : ℕ) (lead : Lead) (ts : List Kind) (r : x.Expr × List Kind) → IsLed lead (first ts) → effect room lead ts ≡ Ok r → IsEffectRead room (write_lead lead ts) r
 effect_sound room lead ts r led h = free_sound room lead ts r led (to_free room lead ts r h)
+
+-- ---- a name at the head may have been read before
+
+pub effect_flagged : (room : ℕ) (head : Text) (ts : List Kind) → effect (suc room) Nothing (kind.Ident head ∷ ts) ≡ and_then (dotted (not (ltb room 1)) [] head ts) (λ d. effect (suc room) (Named d))
+unfolding effect reader.effects
+effect_flagged room head ts =
+    chain_of (dotted (not (ltb room 1)) [] head ts) (reader.after_dotted room (expr room) (list room)) (reader.effect_suffixes room (expr room) (list room) (expr (below room)) (list (below room)))
+    (reader.effect_end room (expr room) (list room))
+
+pub effect_named : (room : ℕ) (head : Text) (ts : List Kind) (r : x.Expr × List Kind) → effect (suc room) Nothing (kind.Ident head ∷ ts) ≡ Ok r → and_then (dotted true [] head ts) (λ d. effect (suc room) (Named d)) ≡ Ok r
+effect_named room head ts r h =
+    let d = bind_ok (dotted (not (ltb room 1)) [] head ts) (λ d. effect (suc room) (Named d)) r (sym (effect_flagged room head ts) ∙ h) in
+    ap (λ o. and_then o (λ d. effect (suc room) (Named d))) (any_dotted (not (ltb room 1)) [] head ts d.0 d.1) ∙ d.2

@@ -17,12 +17,12 @@ use Rattle.jr_parse_expr.specs.Exprs.{Lead, Nothing, Named, Indexed, This, Super
 use Rattle.jr_parse_expr.specs.Writing.{write_all, write_dotted, write_lead, write_expr}
 use Rattle.jr_parse_expr.specs.Follow.{IsEffect, IsLed}
 use Rattle.jr_parse_expr.specs.Laws.{HasEffectRoom, IsEffectStuck}
-use Rattle.jr_parse_expr.proofs.ExprReads.{chain_of, all_read, dotted_whole, last_of}
+use Rattle.jr_parse_expr.proofs.ExprReads.{all_read, dotted_whole, last_of}
 use Rattle.jr_parse_expr.proofs.Locals.{Local}
 use Rattle.jr_parse_expr.proofs.AllLocals.{all_local, wider_le, alone_by, raised}
 use Rattle.jr_parse_expr.proofs.Growths.{Growing}
 use Rattle.jr_parse_expr.proofs.AllGrowths.{all_grow}
-use Rattle.jr_parse_expr.proofs.EffectReads.{is_plain, plain_dotted}
+use Rattle.jr_parse_expr.proofs.EffectReads.{plain_dotted, effect_flagged}
 use Rattle.jr_parse_expr.proofs.EffectChains.{effects_go, effects_grow}
 use Rattle.jr_parse_expr.proofs.EffectLocals.{below_both, effects_local}
 
@@ -51,12 +51,6 @@ effect_local room other le le' lead ts =
 
 -- ---- what was read before may as well be read now
 
-effect_named : (room : ℕ) (head : Text) (ts : List Kind) → effect (suc room) Nothing (kind.Ident head ∷ ts) ≡ and_then (dotted (not (ltb room 1)) [] head ts) (λ d. effect (suc room) (Named d))
-unfolding effect reader.effects
-effect_named room head ts =
-    chain_of (dotted (not (ltb room 1)) [] head ts) (reader.after_dotted room (expr room) (list room)) (reader.effect_suffixes room (expr room) (list room) (expr (below room)) (list (below room)))
-    (reader.effect_end room (expr room) (list room))
-
 flagged : (room : ℕ) (head : Text) (us : List Kind) (d : Dotted) (ts : List Kind) (b : Bool) → ltb room 1 ≡ b → HasEffectRoom (Named d) (suc room) → dotted true [] head us ≡ Ok (d, ts) → dotted (not b) [] head us ≡ Ok (d, ts)
 flagged room head us d ts false e some h = h
 flagged room head us (Plain before last) ts true e some h = plain_dotted [] head us (Plain before last, ts) refl h
@@ -65,7 +59,7 @@ flagged room head us (Enclosing before last) ts true e some h = absurd (let s = 
 named_same : (room : ℕ) (d : Dotted) (ts : List Kind) → HasEffectRoom (Named d) (suc room) → IsLed (Named d) (first ts) → effect (suc room) Nothing (write_dotted d ts) ≡ effect (suc room) (Named d) ts
 named_same room d ts some led =
     let w = dotted_whole d ts led in
-    ap (effect (suc room) Nothing) w.2 ∙ effect_named room w.0 w.1 ∙ ap (λ o. and_then o (λ d. effect (suc room) (Named d))) (flagged room w.0 w.1 d ts (ltb room 1) refl some w.3)
+    ap (effect (suc room) Nothing) w.2 ∙ effect_flagged room w.0 w.1 ∙ ap (λ o. and_then o (λ d. effect (suc room) (Named d))) (flagged room w.0 w.1 d ts (ltb room 1) refl some w.3)
 
 effect_bracket : (room : ℕ) (before : List Text) (last : Text) (ts : List Kind) → 2 ≤ room
     → effect (suc room) (Named (Plain before last)) (kind.Sym y.OpenBracket ∷ ts) ≡ effect (suc room) (Indexed (name_of (before ++ last ∷ []))) ts
