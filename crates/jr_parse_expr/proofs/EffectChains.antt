@@ -108,9 +108,10 @@ module _ (room : ℕ) (inner : Lead → ℕ → Parser x.Expr) (list : Parser x.
 
     kept : (ts : List Kind) (left : x.Expr) (token : Kind) (us : List Kind) (p : Parser x.Expr) (e : x.Expr) (rest : List Kind) → Holds ts left (token ∷ us) → step left (token ∷ us) ≡ Some p → expr_depth left ≤ room → p us ≡ Ok (e, rest) → Holds ts e rest
     kept ts left token us p e rest holds s low h =
-        let t = take_up room inner list under under_list reads lists low_reads low_lists left (symbol_of token) p us (e, rest) s h in
-        (suffix_sound room inner list reads lists ts left token us (reader.suffix room inner list left (symbol_of token)) t.p (e, rest) holds.0 (suffix_view room inner list left (symbol_of token)) t.here low t.same,
-        ready_by left (symbol_of token) (step left (token ∷ us)) p us (e, rest) (goes_view left (symbol_of token)) s h)
+        let t = take_up room inner list under under_list reads lists low_reads low_lists left (symbol_of token) p us (e, rest) s h in (
+          suffix_sound room inner list reads lists ts left token us (reader.suffix room inner list left (symbol_of token)) t.p (e, rest) holds.0 (suffix_view room inner list left (symbol_of token)) t.here low t.same,
+          ready_by left (symbol_of token) (step left (token ∷ us)) p us (e, rest) (goes_view left (symbol_of token)) s h,
+        )
 
     effects_halt : (ts : List Kind) (left : x.Expr) (us : List Kind) (stop : Fault × List Kind) → Holds ts left us → reader.effect_suffixes room inner list under under_list left us ≡ Err stop
         → Halt room inner list step (reader.effect_suffixes_from room inner list under under_list) (λ left ts. refl) (λ turns left ts. refl) raises (λ left us. Holds ts left us) stop
