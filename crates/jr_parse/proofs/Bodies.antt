@@ -17,7 +17,7 @@ use Rattle.jr_tree.specs.Mirror.Exprs as x
 use Rattle.jr_tree.specs.Mirror.Stmts as s
 use Rattle.jr_parse_laws.specs.Parsers.{Parser, first, is_at}
 use Rattle.jr_parse_laws.proofs.Outcomes.{bind_ok, chosen, ok_is, err_ok}
-use Rattle.jr_parse_expr.specs.Exprs.{Lead, This, Super, arguments, effect_end, effects, super_member, suffixes, expr, list, effect}
+use Rattle.jr_parse_expr.specs.Exprs.{Lead, This, Super, arguments, effect_end, effects, super_member, effect_suffixes, expr, list, effect}
 use Rattle.jr_parse_expr.specs.Writing.{write_all, write_base, write_brackets, write_expr, write_exprs, write_lead}
 use Rattle.jr_parse_expr.specs.Follow.{IsLed}
 use Rattle.jr_parse_expr.proofs.Asked.{exprs_listed, depth_pos}
@@ -73,7 +73,7 @@ own (s.CtorCall called args) rest h = absurd h
 own a rest h = inr refl
 
 no_this_call : (room : ℕ) (ts : List Kind) (r : x.Expr × List Kind) → effect (suc room) This (kind.Sym y.OpenParen ∷ ts) ≡ Ok r → ⊥
-unfolding effect effects suffixes effect_end
+unfolding effect effects effect_suffixes effect_end
 no_this_call room ts r h = err_ok h
 
 no_super_call : (room : ℕ) (ts : List Kind) (r : x.Expr × List Kind) → effect (suc room) Super (kind.Sym y.OpenParen ∷ ts) ≡ Ok r → ⊥

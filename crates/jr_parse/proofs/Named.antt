@@ -17,11 +17,11 @@ use Rattle.jr_parse_laws.specs.Parsers.{Parser, and_then, first, is_at, begins_w
 use Rattle.jr_parse_laws.proofs.Outcomes.{bind_ok, chosen, ok_is, err_ok}
 use Rattle.jr_parse_expr.specs.Starts.{starts_expr}
 use Rattle.jr_parse_expr.specs.Names.{name_of, type_of, dims, Dotted, Plain, Enclosing, dotted}
-use Rattle.jr_parse_expr.specs.Exprs.{Lead, Nothing, Named, Indexed, after_dotted, after_bracket, suffixes, effect_end, effects, expr, list, effect}
+use Rattle.jr_parse_expr.specs.Exprs.{Lead, Nothing, Named, Indexed, after_dotted, after_bracket, effect_suffixes, effect_end, effects, below, expr, list, effect}
 use Rattle.jr_parse_expr.specs.Writing.{write_parts, write_all, write_brackets, write_type, write_expr, write_dotted, write_lead}
 use Rattle.jr_parse_expr.specs.Follow.{IsLed}
 use Rattle.jr_parse_expr.proofs.NameReads.{dims_read, dims_sound, dotted_name, dotted_end, dotted_sound, DottedEnds, has_parts}
-use Rattle.jr_parse_expr.proofs.ExprReads.{chain_of}
+use Rattle.jr_parse_expr.proofs.EffectReads.{effect_named}
 use Rattle.jr_parse.specs.Stmts as reader
 use Rattle.jr_parse.specs.Writing.{write_if, write_declarators, write_stmt}
 use Rattle.jr_parse.specs.Follow.{StmtEnds, IsStmt}
@@ -45,25 +45,21 @@ not_local false = refl
 
 -- ---- what an expression that begins with a name cannot go on with
 
-pub effect_named : (room : ℕ) (head : Text) (ts : List Kind) → effect (suc room) Nothing (kind.Ident head ∷ ts) ≡ and_then (dotted true [] head ts) (λ d. effect (suc room) (Named d))
-unfolding effect effects
-effect_named room head ts = chain_of (dotted true [] head ts) (after_dotted room (expr room) (list room)) (suffixes room (expr room) (list room)) (effect_end room (expr room) (list room))
-
 pub no_name : (room : ℕ) (before : List Text) (last variable : Text) (ts : List Kind) (r : x.Expr × List Kind) → effect (suc room) (Named (Plain before last)) (kind.Ident variable ∷ ts) ≡ Ok r → ⊥
-unfolding effect effects after_dotted suffixes effect_end
+unfolding effect effects after_dotted effect_suffixes effect_end
 no_name room before last variable ts r h = err_ok h
 
 no_colon : (room : ℕ) (before : List Text) (last : Text) (ts : List Kind) (r : x.Expr × List Kind) → effect (suc room) (Named (Plain before last)) (kind.Sym y.Colon ∷ ts) ≡ Ok r → ⊥
-unfolding effect effects after_dotted suffixes effect_end
+unfolding effect effects after_dotted effect_suffixes effect_end
 no_colon room before last ts r h = err_ok h
 
 pub no_close : (room : ℕ) (n : Name) (ts : List Kind) (r : x.Expr × List Kind) → effect (suc room) (Indexed n) (kind.Sym y.CloseBracket ∷ ts) ≡ Ok r → ⊥
 unfolding effect effects after_bracket
 no_close room n ts r h =
     let c = bind_ok _ (effect_end room (expr room) (list room)) r h in
-    let b = bind_ok _ (suffixes room (expr room) (list room)) c.0 c.1 in
-    let a = bind_ok (expr room Nothing 0 (kind.Sym y.CloseBracket ∷ ts)) _ b.0 b.1 in
-    let found = whole_sound room (kind.Sym y.CloseBracket ∷ ts) a.0 a.1 in
+    let b = bind_ok _ (effect_suffixes room (expr room) (list room) (expr (below room)) (list (below room))) c.0 c.1 in
+    let a = bind_ok (expr (below room) Nothing 0 (kind.Sym y.CloseBracket ∷ ts)) _ b.0 b.1 in
+    let found = whole_sound (below room) (kind.Sym y.CloseBracket ∷ ts) a.0 a.1 in
     let starts : starts_expr (first (kind.Sym y.CloseBracket ∷ ts)) ≡ true = subst (λ ts. starts_expr (first ts) ≡ true) (sym found.written) (whole_starts a.0.0 a.0.1 found.is) in
     cc
 
@@ -78,7 +74,7 @@ pub record NameRead (room : ℕ) (head : Text) (us : List Kind) (e : x.Expr) (re
 
 pub name_first : (room : ℕ) (head : Text) (us : List Kind) (e : x.Expr) (rest : List Kind) → kind.Ident head ∷ us ≡ write_expr e rest → effect (suc room) Nothing (kind.Ident head ∷ us) ≡ Ok (e, rest) → NameRead room head us e rest
 name_first room head us e rest same h =
-    let d = bind_ok (dotted true [] head us) (λ d. effect (suc room) (Named d)) (e, rest) (sym (effect_named room head us) ∙ h) in
+    let d = bind_ok (dotted true [] head us) (λ d. effect (suc room) (Named d)) (e, rest) (effect_named room head us (e, rest) h) in
     let found = dotted_sound true [] head us d.0 d.1 in
     record { d = d.0.0; ts = d.0.1; front = d.1; written = sym found.written ∙ same; ended = found.ended; more = d.2 }
 

@@ -200,7 +200,7 @@ down TooDeep room other h = omega arith
 down OutOfMemory room other h = h
 
 -- from a level's parts to the level
-raised : {A : Type 0} (room other : ℕ) (le : room ≤ other) (le' : suc room ≤ suc other) (q : Parser A) (ts : List Kind) (o : Outcome A) → Kept room other le q ts o → Kept (suc room) (suc other) le' q ts o
+pub raised : {A : Type 0} (room other : ℕ) (le : room ≤ other) (le' : suc room ≤ suc other) (q : Parser A) (ts : List Kind) (o : Outcome A) → Kept room other le q ts o → Kept (suc room) (suc other) le' q ts o
 raised room other le le' q ts (Ok r) a = a
 raised room other le le' q ts (Err stop) k = λ wider. k (down stop.0 room other wider)
 

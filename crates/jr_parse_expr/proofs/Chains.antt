@@ -62,13 +62,13 @@ module _ (room : ℕ) (inner : Lead → ℕ → Parser x.Expr) (list : Parser x.
   select_raises : (left : x.Expr) (ts : List Kind) (r : x.Expr × List Kind) → selected room inner list left ts ≡ Ok r → expr_depth left < expr_depth r.0
   select_raises left ts r h = let a = bind_ok (identifier ts) _ r h in call_raises left a.0.0 a.0.1 r a.2
 
-  index_raises : (left : x.Expr) (ts : List Kind) (r : x.Expr × List Kind) → indexed room inner list left ts ≡ Ok r → expr_depth left < expr_depth r.0
+  pub index_raises : (left : x.Expr) (ts : List Kind) (r : x.Expr × List Kind) → indexed room inner list left ts ≡ Ok r → expr_depth left < expr_depth r.0
   index_raises left ts r h =
       let a = bind_ok (inner Nothing 0 ts) _ r h in
       let b = bind_ok (expect y.CloseBracket a.0.1) _ r a.2 in
       subst (λ (r : x.Expr × List Kind). expr_depth left < expr_depth r.0) (ok_is b.2) (omega arith)
 
-  suffix_raises : (left : x.Expr) (o : Option Symbol) (q : Option (Parser x.Expr)) (p : Parser x.Expr) → Suffixed room inner list left o q → q ≡ Some p
+  pub suffix_raises : (left : x.Expr) (o : Option Symbol) (q : Option (Parser x.Expr)) (p : Parser x.Expr) → Suffixed room inner list left o q → q ≡ Some p
       → (us : List Kind) (e : x.Expr) (rest : List Kind) → p us ≡ Ok (e, rest) → expr_depth left < expr_depth e
   suffix_raises left o q p (Ended h n) s us e rest g = absurd (none_some (sym n ∙ s))
   suffix_raises left o q p (Selects h t n) s us e rest g = select_raises left us (e, rest) (ap (λ (p : Parser x.Expr). p us) (some_is (sym n ∙ s)) ∙ g)
@@ -183,7 +183,7 @@ module _ (room : ℕ) (inner : Lead → ℕ → Parser x.Expr) (list : Parser x.
           ended = tt;
         })
 
-    suffix_sound : (ts : List Kind) (left : x.Expr) (token : Kind) (us : List Kind) (q : Option (Parser x.Expr)) (p : Parser x.Expr) (r : x.Expr × List Kind) → Operand room ts (left, token ∷ us)
+    pub suffix_sound : (ts : List Kind) (left : x.Expr) (token : Kind) (us : List Kind) (q : Option (Parser x.Expr)) (p : Parser x.Expr) (r : x.Expr × List Kind) → Operand room ts (left, token ∷ us)
         → Suffixed room inner list left (symbol_of token) q → q ≡ Some p → expr_depth left ≤ room → p us ≡ Ok r → Operand room ts r
     suffix_sound ts left token us q p r found (Ended h n) s low g = absurd (none_some (sym n ∙ s))
     suffix_sound ts left token us q p r found (Selects h t n) s low g =

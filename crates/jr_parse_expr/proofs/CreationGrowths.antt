@@ -17,6 +17,7 @@ use Rattle.jr_parse_laws.specs.declared.fault.Fault.{Fault}
 use Rattle.jr_parse_laws.specs.declared.fault.Fault.TheVariants.{NoTree}
 use Rattle.jr_parse_laws.specs.Parsers.{Parser, is_at, expect, ◌>>◌}
 use Rattle.jr_parse_laws.proofs.Outcomes.{chosen, ok_err, err_is, is_symbol_is, Before, After, stops}
+use Rattle.jr_parse_laws.proofs.Stops.{leading_nothing}
 use Rattle.jr_parse_laws.proofs.Exact.{expect_sound}
 use Rattle.jr_parse_expr.specs.Starts.{within}
 use Rattle.jr_parse_expr.specs.Names.{name_of, primitive_at, dims, name}
@@ -32,16 +33,16 @@ use Rattle.jr_parse_expr.proofs.PartGrowths.{Within, GrowsExprs, GrowsLists, mis
 
 module _ (room : ℕ) (inner : Lead → ℕ → Parser x.Expr) (list : Parser x.InitList) (reads : ReadsExprs room inner) (lists : ReadsLists room list) (growths : GrowsExprs room inner) (growing : GrowsLists room list) where
   -- a creation begins so
-  abbrev Made : List Kind → Fault × List Kind → Type 0
-  Made ts stop = Growing (Within 12) write_expr (suc room) (kind.Word k.New ∷ ts) stop
+  abbrev pub Made : List Kind → Fault × List Kind → Type 0
+  Made ts stop = Growing (Within 14) write_expr (suc room) (kind.Word k.New ∷ ts) stop
 
-  a_new : (r : ℕ) (n : Name) → IsName n → IsExpr (suc r) 12 (x.New n x.no_exprs)
+  pub a_new : (r : ℕ) (n : Name) → IsName n → IsExpr (suc r) 14 (x.New n x.no_exprs)
   a_new r n is = record { shaped = (is, tt); fits = (omega arith, refl); low = omega arith }
 
-  empty_array : (r : ℕ) (b : Base) (more : ℕ) → IsBase b → 1 ≤ r → IsExpr (suc r) 12 (x.NewArray b x.no_exprs (suc more) (x.a_list (x.ListOf x.no_inits false)))
+  empty_array : (r : ℕ) (b : Base) (more : ℕ) → IsBase b → 1 ≤ r → IsExpr (suc r) 14 (x.NewArray b x.no_exprs (suc more) (x.a_list (x.ListOf x.no_inits false)))
   empty_array r b more is some = record { shaped = (is, tt, lt-ltb 0 (suc more) (omega arith), tt); fits = (omega arith, refl); low = omega arith }
 
-  sized_array : (r : ℕ) (b : Base) (size : x.Expr) (ds : x.Exprs) (more : ℕ) → IsBase b → IsExpr r 0 size → AreArgs r ds → IsExpr (suc r) 12 (x.NewArray b (x.more_exprs size ds) more x.no_list)
+  sized_array : (r : ℕ) (b : Base) (size : x.Expr) (ds : x.Exprs) (more : ℕ) → IsBase b → IsExpr r 0 size → AreArgs r ds → IsExpr (suc r) 14 (x.NewArray b (x.more_exprs size ds) more x.no_list)
   sized_array r b size ds more is one are =
       let low = one.low in
       let others : exprs_depth ds ≤ r = are.1 in
@@ -113,7 +114,7 @@ module _ (room : ℕ) (inner : Lead → ℕ → Parser x.Expr) (list : Parser x.
       ]
 
   -- an array with one size
-  tall_array : (b : Base) → IsBase b → IsExpr 2 12 (x.NewArray b (x.more_exprs sample x.no_exprs) 0 x.no_list)
+  tall_array : (b : Base) → IsBase b → IsExpr 2 14 (x.NewArray b (x.more_exprs sample x.no_exprs) 0 x.no_list)
   tall_array b is = sized_array 1 b sample x.no_exprs 0 is (record { shaped = tt; fits = (omega arith, refl); low = omega arith }) (tt, omega arith)
 
   -- behind a name, no token that can stand there
@@ -121,7 +122,7 @@ module _ (room : ℕ) (inner : Lead → ℕ → Parser x.Expr) (list : Parser x.
   name_none n us is =
       none_grows (suc room) us (λ z. kind.Word k.New ∷ write_name n z) (leading_then (leading_one (kind.Word k.New)) (leading_name n)) (x.New n x.no_exprs) (λ z. kind.Sym y.OpenParen ∷ kind.Sym y.CloseParen ∷ z) (λ z. refl) (a_new room n is)
 
-  created_grows : (n : Name) (us : List Kind) (stop : Fault × List Kind) → IsName n → next_token (reader.created_by room inner list n) us ≡ Err stop → Made (write_name n us) stop
+  pub created_grows : (n : Name) (us : List Kind) (stop : Fault × List Kind) → IsName n → next_token (reader.created_by room inner list n) us ≡ Err stop → Made (write_name n us) stop
   created_grows n [] stop is h = subst (Made (write_name n [])) (err_is h) (name_none n [] is)
   created_grows n (kind.Sym y.OpenParen ∷ us) stop is h =
       elim (stops (reader.arguments room inner list us) _ stop h) [
@@ -165,7 +166,7 @@ module _ (room : ℕ) (inner : Lead → ℕ → Parser x.Expr) (list : Parser x.
             ]))
       ]
 
-  by_grows : (o : Option Primitive) (ts : List Kind) (stop : Fault × List Kind) → primitive_at ts ≡ o → reader.creation_by room inner list o ts ≡ Err stop → Made ts stop
+  pub by_grows : (o : Option Primitive) (ts : List Kind) (stop : Fault × List Kind) → primitive_at ts ≡ o → reader.creation_by room inner list o ts ≡ Err stop → Made ts stop
   by_grows None ts stop p h =
       elim (stops (name ts) _ stop h) [
         | Before e ↦
@@ -176,6 +177,9 @@ module _ (room : ℕ) (inner : Lead → ℕ → Parser x.Expr) (list : Parser x.
   by_grows (Some q) [] stop p h = absurd (cc)
   by_grows (Some q) (token ∷ ts) stop p h = primitive_grows token q ts stop (primitive_kind_back token q p) h
 
-  pub creation_grows : (ts : List Kind) (stop : Fault × List Kind) → reader.creation room inner list ts ≡ Err stop → Made ts stop
+  pub creation_grows : (ts : List Kind) (stop : Fault × List Kind) → reader.creation room inner list ts ≡ Err stop → Growing (Within 12) write_expr (suc room) (kind.Word k.New ∷ ts) stop
   unfolding reader.creation
-  creation_grows ts stop h = by_grows (primitive_at ts) ts stop refl h
+  creation_grows ts stop h =
+      grows (suc room) (suc room) (kind.Word k.New ∷ ts) stop (λ z. z) leading_nothing (λ e. e) (λ z. z) (λ e z. refl) (λ r e is. (r, looser r e is)) (λ e is. looser (suc room) e is) (by_grows (primitive_at ts) ts stop refl h) where
+        looser : (r : ℕ) (e : x.Expr) → IsExpr r 14 e → IsExpr r 12 e
+        looser r e is = record { shaped = is.shaped; fits = (let t = is.fits.0 in omega arith, is.fits.1); low = is.low }

@@ -164,7 +164,7 @@ module _ (room : ℕ) (inner : Lead → ℕ → Parser x.Expr) (list : Parser x.
         ended = f.ended;
       })
 
-  created_sound : (n : Name) (ts us : List Kind) (r : x.Expr × List Kind) → IsName n → ts ≡ write_name n us → next_token (created_by room inner list n) us ≡ Ok r → Operand room (kind.Word k.New ∷ ts) r
+  pub created_sound : (n : Name) (ts us : List Kind) (r : x.Expr × List Kind) → IsName n → ts ≡ write_name n us → next_token (created_by room inner list n) us ≡ Ok r → Operand room (kind.Word k.New ∷ ts) r
   created_sound n ts [] r is e h = absurd (err_ok h)
   created_sound n ts (kind.Sym y.OpenParen ∷ us) r is e h =
       let a = bind_ok (arguments room inner list us) _ r h in
@@ -186,7 +186,7 @@ module _ (room : ℕ) (inner : Lead → ℕ → Parser x.Expr) (list : Parser x.
       ]
   created_sound n ts (token ∷ us) r is e h = absurd (err_ok h)
 
-  by_sound : (o : Option Primitive) (ts : List Kind) (r : x.Expr × List Kind) → primitive_at ts ≡ o → creation_by room inner list o ts ≡ Ok r → Operand room (kind.Word k.New ∷ ts) r
+  pub by_sound : (o : Option Primitive) (ts : List Kind) (r : x.Expr × List Kind) → primitive_at ts ≡ o → creation_by room inner list o ts ≡ Ok r → Operand room (kind.Word k.New ∷ ts) r
   by_sound None ts r g h =
       let n = bind_ok (name ts) _ r h in
       let found = name_sound ts n.0 n.1 in

@@ -231,7 +231,7 @@ module _ (room other : ℕ) (le : room ≤ other) where
         (λ u. local_if room other le (λ ts. next_is begins_cast_operand (first ts)) (reader.cast room inner list (base.Named n) (suc more)) (reader.cast other inner' list' (base.Named n) (suc more)) refuse refuse
         (looks_first room other le (next_is begins_cast_operand)) (cast_local (base.Named n) (suc more)) (local_refuse room other le)))
 
-    closed_local : (v : x.Expr) → L (reader.closed v) (reader.closed v)
+    pub closed_local : (v : x.Expr) → L (reader.closed v) (reader.closed v)
     closed_local v = bind (expect y.CloseParen) (expect y.CloseParen) (λ u. pure (x.Paren v)) (λ u. pure (x.Paren v)) (local_expect room other le y.CloseParen) (λ u. give (x.Paren v))
 
     led_closed : 1 ≤ room → (lead : Lead) → L (inner lead 0 >>= reader.closed) (inner' lead 0 >>= reader.closed)
@@ -338,7 +338,7 @@ module _ (room other : ℕ) (le : room ≤ other) where
         (local_skip room other le (reader.array room inner list (base.Named n)) (reader.array other inner' list' (base.Named n)) (array_local (base.Named n))) ts
     first_created_local n (Some token) ts = local_refuse room other le ts
 
-    created_local : (n : Name) → L (next_token (reader.created_by room inner list n)) (next_token (reader.created_by other inner' list' n))
+    pub created_local : (n : Name) → L (next_token (reader.created_by room inner list n)) (next_token (reader.created_by other inner' list' n))
     created_local n =
         by_first (first_created room inner list n) (first_created other inner' list' n) (next_token (reader.created_by room inner list n)) (next_token (reader.created_by other inner' list' n))
         (first_created_is room inner list n) (first_created_is other inner' list' n) (first_created_local n)
@@ -347,7 +347,7 @@ module _ (room other : ℕ) (le : room ≤ other) where
     primitive_array_local b =
         bind (expect y.OpenBracket) (expect y.OpenBracket) (λ u. reader.array room inner list b) (λ u. reader.array other inner' list' b) (local_expect room other le y.OpenBracket) (λ u. array_local b)
 
-    creation_by_local : (o : Option Primitive) → L (reader.creation_by room inner list o) (reader.creation_by other inner' list' o)
+    pub creation_by_local : (o : Option Primitive) → L (reader.creation_by room inner list o) (reader.creation_by other inner' list' o)
     creation_by_local None ts =
         bind name name (λ n. next_token (reader.created_by room inner list n)) (λ n. next_token (reader.created_by other inner' list' n)) (name_local room other le) created_local ts
     creation_by_local (Some p) ts =

@@ -45,7 +45,7 @@ module _ (room : ℕ) (inner : Lead → ℕ → Parser x.Expr) (list : Parser x.
 
   -- ---- behind an operand
 
-  before_dot : (ts : List Kind) (left : x.Expr) (token : Kind) (us : List Kind) → Operand room ts (left, token ∷ us) → token ≡ kind.Sym y.Dot → 14 ≤ level left → (((14 ≤ level left) × (not (is_least left) ≡ true)) × (not (is_name left) ≡ true))
+  pub before_dot : (ts : List Kind) (left : x.Expr) (token : Kind) (us : List Kind) → Operand room ts (left, token ∷ us) → token ≡ kind.Sym y.Dot → 14 ≤ level left → (((14 ≤ level left) × (not (is_least left) ≡ true)) × (not (is_name left) ≡ true))
   before_dot ts left token us found dot tight = ((tight, not_from_false _ found.not_least), not_from_false _ (no_name_before_dot left token found.ended dot))
 
   a_select : (r : ℕ) (left : x.Expr) (name : Text) → IsShapedExpr left → expr_depth left ≤ r → (((14 ≤ level left) × (not (is_least left) ≡ true)) × (not (is_name left) ≡ true)) → IsExpr (suc r) 12 (x.Select left name)

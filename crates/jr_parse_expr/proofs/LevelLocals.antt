@@ -88,12 +88,12 @@ module _ (room other : ℕ) (le : room ≤ other) (inner inner' : Lead → ℕ �
 
   -- ---- turns of a loop
 
-  abbrev Alike : Option (Parser x.Expr) → Option (Parser x.Expr) → Type 0
+  abbrev pub Alike : Option (Parser x.Expr) → Option (Parser x.Expr) → Type 0
   Alike None None = ⊤
   Alike (Some p) (Some q) = Local room other le p q
   Alike _ _ = ⊥
 
-  turn_kept : (left : x.Expr) (o o' : Option (Parser x.Expr)) (on on' : x.Expr → Parser x.Expr) (ts : List Kind) → Alike o o'
+  pub turn_kept : (left : x.Expr) (o o' : Option (Parser x.Expr)) (on on' : x.Expr → Parser x.Expr) (ts : List Kind) → Alike o o'
       → ((p : Parser x.Expr) → o ≡ Some p → expr_depth left ≤ room → (us : List Kind) (r : x.Expr × List Kind) → p us ≡ Ok r → Kept room other le (on' r.0) r.1 (on r.0 r.1))
       → Kept room other le (λ us. reader.turn other inner' list' left o' on' us) ts (reader.turn room inner list left o on ts)
   turn_kept left None None on on' ts a next = here room other le (λ us. Ok (left, us)) (λ w. Ok (left, w)) ts (λ w e. refl)
@@ -124,7 +124,7 @@ module _ (room other : ℕ) (le : room ≤ other) (inner inner' : Lead → ℕ �
   none_alike true p q one = tt
   none_alike false p q one = one
 
-  suffix_alike : (left : x.Expr) (o : Option Symbol) → Alike (reader.suffix room inner list left o) (reader.suffix other inner' list' left o)
+  pub suffix_alike : (left : x.Expr) (o : Option Symbol) → Alike (reader.suffix room inner list left o) (reader.suffix other inner' list' left o)
   suffix_alike left None = tt
   suffix_alike left (Some y.Dot) = some_alike (is_tight left 14) (reader.selected room inner list left) (reader.selected other inner' list' left) (selected_local left)
   suffix_alike left (Some y.OpenBracket) = some_alike (is_tight left 14 && not (is_new_array left)) (reader.indexed room inner list left) (reader.indexed other inner' list' left) (indexed_local left)

@@ -15,7 +15,10 @@ pub mod Chains
 pub mod Climbs
 pub mod Initializers
 pub mod ExprReads
+pub mod Free
+pub mod FreeReads
 pub mod EffectReads
+pub mod EffectFronts
 pub mod Readings
 pub mod Locals
 pub mod NameLocals
@@ -30,5 +33,9 @@ pub mod ParenGrowths
 pub mod OperandGrowths
 pub mod LevelGrowths
 pub mod AllGrowths
+pub mod EffectGrowths
+pub mod EffectChains
+pub mod EffectLocals
+pub mod EffectStuck
 pub mod Stuck
 pub mod Rules

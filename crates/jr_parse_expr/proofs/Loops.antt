@@ -24,7 +24,7 @@ module _ (room : ℕ) (inner : Lead → ℕ → Parser x.Expr) (list : Parser x.
     Stayed : o ≡ None → (left, ts) ≡ y → Turned left o on ts y
     Went : (p : Parser x.Expr) (k : Kind) (us : List Kind) → o ≡ Some p → ts ≡ k ∷ us → expr_depth left ≤ room → and_then (p us) on ≡ Ok y → Turned left o on ts y
 
-  turned : (left : x.Expr) (o : Option (Parser x.Expr)) (on : x.Expr → Parser x.Expr) (ts : List Kind) (y : x.Expr × List Kind) → turn room inner list left o on ts ≡ Ok y → Turned left o on ts y
+  pub turned : (left : x.Expr) (o : Option (Parser x.Expr)) (on : x.Expr → Parser x.Expr) (ts : List Kind) (y : x.Expr × List Kind) → turn room inner list left o on ts ≡ Ok y → Turned left o on ts y
   turned left None on ts y h = Stayed refl (ok_is h)
   turned left (Some p) on [] y h =
       elim (chosen (ltb room (expr_depth left)) _ _ _ h) [

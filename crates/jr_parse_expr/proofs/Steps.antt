@@ -21,7 +21,7 @@ module _ (room : ℕ) (inner : Lead → ℕ → Parser x.Expr) (list : Parser x.
     Indexes : o ≡ Some y.OpenBracket → 14 ≤ level left → is_new_array left ≡ false → r ≡ Some (indexed room inner list left) → Suffixed left o r
     Steps : (s : Symbol) → o ≡ Some s → is_step s ≡ true → 13 ≤ level left → r ≡ Some (pure (x.PostStep left s)) → Suffixed left o r
 
-  tight_is : (e : x.Expr) (least : ℕ) → not (ltb (level e) least) ≡ true → least ≤ level e
+  pub tight_is : (e : x.Expr) (least : ℕ) → not (ltb (level e) least) ≡ true → least ≤ level e
   tight_is e least h = ltb-false (level e) least (not-true _ h)
 
   select_view : (left : x.Expr) (b : Bool) → is_tight left 14 ≡ b → Suffixed left (Some y.Dot) (cond b (Some (selected room inner list left)) None)
@@ -32,7 +32,7 @@ module _ (room : ℕ) (inner : Lead → ℕ → Parser x.Expr) (list : Parser x.
   index_view left true h = let p = and_parts _ _ h in Indexes refl (tight_is left 14 p.0) (not-true _ p.1) refl
   index_view left false h = Ended h refl
 
-  step_view : (left : x.Expr) (s : Symbol) (b : Bool) → (is_step s && is_tight left 13) ≡ b → has_suffix left (Some s) ≡ (is_step s && is_tight left 13)
+  pub step_view : (left : x.Expr) (s : Symbol) (b : Bool) → (is_step s && is_tight left 13) ≡ b → has_suffix left (Some s) ≡ (is_step s && is_tight left 13)
       → Suffixed left (Some s) (cond b (Some (pure (x.PostStep left s))) None)
   step_view left s true h e = let p = and_parts _ _ h in Steps s refl p.0 (tight_is left 13 p.1) refl
   step_view left s false h e = Ended (e ∙ h) refl

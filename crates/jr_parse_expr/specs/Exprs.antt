@@ -275,19 +275,7 @@ module _ (room : ℕ) (inner : Lead → ℕ → Parser x.Expr) (list : Parser x.
   unfoldable pub operations : Lead → ℕ → Parser x.Expr
   operations lead least = operand lead >>= suffixes >>= climb least
 
-  -- ---- expressions that stand as statements (JLS 14.8)
-
-  abbrev pub effect_by : Kind → Parser x.Expr
-  effect_by (kind.Sym y.OpenParen) = within 1 room (kind.Sym y.OpenParen) (inner Nothing 0 >>= closed)
-  effect_by (kind.Sym s) = λ ts. if is_step s then prefix s ts else refuse (kind.Sym s ∷ ts)
-  effect_by token = operand_by token
-
-  abbrev pub effect_operand : Lead → Parser x.Expr
-  effect_operand Nothing = next_token effect_by
-  effect_operand (Named d) = after_dotted d
-  effect_operand (Indexed n) = after_bracket n
-  effect_operand This = pure (x.This None)
-  effect_operand Super = super_member
+  -- ---- how an expression that stands as a statement ends (JLS 14.8)
 
   -- the assignment that follows, if one does
   abbrev pub effect_end_by : x.Expr → Option Symbol → Parser x.Expr
@@ -298,9 +286,6 @@ module _ (room : ℕ) (inner : Lead → ℕ → Parser x.Expr) (list : Parser x.
 
   unfoldable pub effect_end : x.Expr → Parser x.Expr
   effect_end left ts = effect_end_by left (symbol_at ts) ts
-
-  unfoldable pub effects : Lead → Parser x.Expr
-  effects lead = effect_operand lead >>= suffixes >>= effect_end
 
   -- ---- initializers (JLS 8.3, 10.6)
 
@@ -331,6 +316,59 @@ module _ (room : ℕ) (inner : Lead → ℕ → Parser x.Expr) (list : Parser x.
     r ← items
     expect y.CloseBrace
     pure (x.ListOf (x.inits r.0) r.1)
+
+-- ---- expressions that stand as statements (JLS 14.8): what is none by itself is a part of one, and so has a level less
+
+abbrev pub below : ℕ → ℕ
+below zero = zero
+below (suc room) = room
+
+-- in room levels below the statement, where inner reads a part; low and low_list read the parts of what is no statement by itself
+module _ (room : ℕ) (inner : Lead → ℕ → Parser x.Expr) (list : Parser x.InitList) (low : Lead → ℕ → Parser x.Expr) (low_list : Parser x.InitList) where
+  -- an array is no statement
+  abbrev pub effect_created_by : Name → Kind → Parser x.Expr
+  effect_created_by n (kind.Sym y.OpenBracket) = created_by (below room) low low_list n (kind.Sym y.OpenBracket)
+  effect_created_by n token = created_by room inner list n token
+
+  abbrev pub effect_creation_by : Option Primitive → Parser x.Expr
+  effect_creation_by None = name >>= (λ n. next_token (effect_created_by n))
+  effect_creation_by (Some p) = creation_by (below room) low low_list (Some p)
+
+  abbrev pub effect_creation : Parser x.Expr
+  effect_creation ts = effect_creation_by (primitive_at ts) ts
+
+  abbrev pub effect_by : Kind → Parser x.Expr
+  effect_by (kind.Ident head) = dotted (not (nat_lt room 1)) [] head >>= after_dotted room inner list
+  effect_by (kind.Word k.This) = within 1 room (kind.Word k.This) (pure (x.This None))
+  effect_by (kind.Word k.Super) = super_member room inner list
+  effect_by (kind.Word k.New) = effect_creation
+  effect_by (kind.Sym y.OpenParen) = within 2 room (kind.Sym y.OpenParen) (low Nothing 0 >>= closed)
+  effect_by (kind.Sym s) = λ ts. if is_step s then prefix room inner list s ts else refuse (kind.Sym s ∷ ts)
+  effect_by token = λ ts. if is_plain_literal token then within 1 room token (pure (x.Lit token)) ts else refuse (token ∷ ts)
+
+  abbrev pub effect_operand : Lead → Parser x.Expr
+  effect_operand Nothing = next_token effect_by
+  effect_operand (Named d) = after_dotted room inner list d
+  effect_operand (Indexed n) = after_bracket (below room) low low_list n
+  effect_operand This = pure (x.This None)
+  effect_operand Super = super_member room inner list
+
+  -- an element of an array is no statement
+  abbrev pub effect_suffix : x.Expr → Option Symbol → Option (Parser x.Expr)
+  effect_suffix left (Some y.OpenBracket) =
+      if is_primary room inner list left && not (is_new_array left) then Some (within (suc (expr_depth left)) room (kind.Sym y.OpenBracket) (indexed (below room) low low_list left)) else None
+  effect_suffix left (Some s) = suffix room inner list left (Some s)
+  effect_suffix left None = None
+
+  abbrev pub effect_suffixes_from : ℕ → x.Expr → Parser x.Expr
+  effect_suffixes_from zero left ts = turn room inner list left (effect_suffix left (symbol_at ts)) (λ e. deep) ts
+  effect_suffixes_from (suc turns) left ts = turn room inner list left (effect_suffix left (symbol_at ts)) (effect_suffixes_from turns) ts
+
+  unfoldable pub effect_suffixes : x.Expr → Parser x.Expr
+  effect_suffixes = effect_suffixes_from (suc room)
+
+  unfoldable pub effects : Lead → Parser x.Expr
+  effects lead = effect_operand lead >>= effect_suffixes >>= effect_end room inner list
 
 -- ---- of at most so many levels
 
@@ -371,7 +409,7 @@ goes_on Super = next_is goes_on_super
 
 unfoldable pub effect : ℕ → Lead → Parser x.Expr
 effect zero lead = no_level (goes_on lead)
-effect (suc room) lead = effects room (expr room) (list room) lead
+effect (suc room) lead = effects room (expr room) (list room) (expr (below room)) (list (below room)) lead
 
 abbrev pub init : ℕ → Parser x.Init
 init room = init_of room (expr room) (list room)

@@ -8,7 +8,8 @@ use Rattle.jr_tree.specs.Tokens.{expr_tokens}
 use Rattle.jr_parse_laws.specs.declared.fault.Fault.{Fault}
 use Rattle.jr_parse_laws.specs.Parsers.{first}
 use Rattle.jr_parse_laws.specs.Viable.{Alike, Begun, Wider, Deeper}
-use Rattle.jr_parse_expr.specs.Exprs.{Lead, Indexed, expr, effect, init}
+use Rattle.jr_parse_expr.specs.Names.{Enclosing}
+use Rattle.jr_parse_expr.specs.Exprs.{Lead, Named, Indexed, This, expr, effect, init}
 use Rattle.jr_parse_expr.specs.Writing.{write_lead, write_expr, write_init}
 use Rattle.jr_parse_expr.specs.Follow.{Ends, EffectEnds, InitEnds, IsExpr, IsEffect, IsLed}
 
@@ -74,6 +75,22 @@ pub record IsExprStop (room least : ℕ) (lead : Lead) (ts : List Kind) (f : Fau
 abbrev pub IsExprStuck : Type 0
 IsExprStuck = (room least : ℕ) (lead : Lead) (ts : List Kind) (f : Fault) (rest : List Kind) → HasRoom lead room → least ≤ 12 → IsLed lead (first ts) → expr room lead least ts ≡ Err (f, rest)
     → IsExprStop room least lead ts f rest
+
+-- what the caller has read fits in so many levels, as a part of a statement
+abbrev pub HasEffectRoom : Lead → ℕ → Type 0
+HasEffectRoom (Named (Enclosing before last)) room = 2 ≤ room
+HasEffectRoom (Indexed n) room = 3 ≤ room
+HasEffectRoom This room = 2 ≤ room
+HasEffectRoom _ room = 1 ≤ room
+
+pub record IsEffectStop (room : ℕ) (lead : Lead) (ts : List Kind) (f : Fault) (rest : List Kind) : Type 0 where
+  pub viable : Begun (IsEffect room) write_expr rest (write_lead lead ts)
+  pub deeper : Deeper IsEffect write_expr f rest (write_lead lead ts)
+  pub alone : (other : ℕ) (w : List Kind) → Wider f room other → first rest ≡ first w → (us : List Kind) × Alike rest w ts us × (effect other lead us ≡ Err (f, w))
+
+abbrev pub IsEffectStuck : Type 0
+IsEffectStuck = (room : ℕ) (lead : Lead) (ts : List Kind) (f : Fault) (rest : List Kind) → HasEffectRoom lead room → IsLed lead (first ts) → effect room lead ts ≡ Err (f, rest)
+    → IsEffectStop room lead ts f rest
 
 abbrev pub IsInitOf : ℕ → x.Init → Type 0
 IsInitOf r i = IsShapedInit i × (init_depth i ≤ r)

@@ -1,5 +1,6 @@
 use Rattle.jr_parse_expr.proofs.Written.{written}
 use Rattle.jr_parse_expr.proofs.EffectReads.{effect_complete, effect_sound}
+use Rattle.jr_parse_expr.proofs.EffectStuck.{effects_stuck}
 use Rattle.jr_parse_expr.proofs.Readings.{exprs_complete, exprs_sound, inits_complete, inits_sound, one_reading}
 use Rattle.jr_parse_expr.proofs.Stuck.{exprs_stuck, inits_stuck}
 use Rattle.jr_parse_expr.proofs.law.expressions_have_one_reading.Goals as goal
@@ -33,3 +34,6 @@ returns-clause-stuck c = exprs_stuck
 
 pub returns-clause-inits_stuck : goal.returns-clause-inits_stuck
 returns-clause-inits_stuck c = inits_stuck
+
+pub returns-clause-effects_stuck : goal.returns-clause-effects_stuck
+returns-clause-effects_stuck c = effects_stuck
