@@ -207,3 +207,20 @@ pub fn unit(alloc: Global, member: Member) -> Result<Unit, OutOfMemory> {
         types,
     })
 }
+
+/// `class A { }`
+pub fn empty_class(alloc: Global) -> Result<Unit, OutOfMemory> {
+    let mut types = Items::new(alloc);
+    types.push(TypeDecl::Class {
+        mods: Items::new(alloc),
+        name: text(alloc, "A")?,
+        parent: None,
+        faces: Items::new(alloc),
+        body: Items::new(alloc),
+    })?;
+    Ok(Unit {
+        package: None,
+        imports: Items::new(alloc),
+        types,
+    })
+}

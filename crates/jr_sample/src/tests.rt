@@ -1,5 +1,5 @@
 // Trees are written out, copied and tested for shape and depth. The texts are written by hand from the grammar (JLS 18).
-use crate::decls::{MemberForm, member, unit};
+use crate::decls::{MemberForm, empty_class, member, unit};
 use crate::exprs::{Form, expr, variable};
 use crate::stmts::{StmtForm, stmt};
 use jr_base::{Boxed, Kind, OutOfMemory};
@@ -105,6 +105,15 @@ fn check_expr<R: Abort + AllocGlobal>(
         shaped,
         depth,
     )
+}
+
+#[test]
+fn an_empty_class(rt: HostRuntime) -> Result<(), Fail> {
+    let unit = empty_class(rt.alloc())?;
+    let expected = lexed(rt.alloc(), "class A { }")?;
+    let found = written(rt.alloc(), &unit)?;
+    assert_eq!(rt; found.as_str(), expected.as_str());
+    Ok(())
 }
 
 #[test]
