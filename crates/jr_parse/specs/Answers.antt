@@ -43,7 +43,3 @@ Answers most kinds (Ok unit) = IsReading most unit kinds
 Answers most kinds (Err (NoTree at)) = IsNoTree most kinds at
 Answers most kinds (Err (TooDeep at)) = IsTooDeep most kinds at
 Answers most kinds (Err OutOfMemory) = Unit {0}
-
--- units that are written alike are the same
-abbrev pub OneReading : Type 0
-OneReading = (a b : declared.Unit) → IsShaped a → IsShaped b → tokens_of a ≡ tokens_of b → a ≡ b

@@ -1,7 +1,1 @@
-pub mod Begins
-pub mod Stmts
-pub mod Decls
-pub mod Writing
-pub mod Follow
-pub mod Laws
 pub mod Answers

@@ -2,7 +2,5 @@
 #![tactic(auto)]
 
 mod fault;
-mod law;
 
 pub use fault::ParseFault;
-pub use law::{one_reading, statements_are_read, statements_are_written, units_are_read};
