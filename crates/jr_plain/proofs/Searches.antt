@@ -1,0 +1,136 @@
+-- What searches find.
+use Rattle.std.proofs.Common.{le_antisymm, ◌≡◌, ◌⊎◌, refl, sym, ◌∙◌, ap, subst, inl, inr, ⊎_elim, arith, ℕ, zero, suc, ◌+◌, ◌≤◌, ◌<◌, Bool, true, false, cond, if◌then◌else◌, not, ◌&&◌, ◌||◌, List, [], ◌∷◌, ◌++◌, length, filter, count_by, Option, Some, None, nat_eq, Decides, MatchOption}
+use Rattle.std.specs.List.{list_any}
+use Rattle.std.specs.Option.{option_or}
+use Rattle.std.proofs.lemmas.Bool.{false≢true, cases_Bool, cases_lt, cases_eq, or_cases, or_left, or_right, or_parts, and_parts, and_from, not-true, not_from_false, false_from_ne_true, eq-eqb, eqb-true}
+use Rattle.std.proofs.lemmas.Bool.Decides.{Decides-at, Decides-eqb}
+use Rattle.std.proofs.lemmas.List.Folds.{list_any-append}
+use Rattle.std.proofs.lemmas.Map.Views.{any-filter_same}
+use Rattle.jr_plain.specs.Search.{any_below, all_below, first_below, last_below, all_such, numbers, among, has, Lists, Finds, news, grown, least}
+use Rattle.jr_plain.proofs.Tests.{itself, like, both, either, opposite, never}
+
+-- ---- below a number
+
+module _ (test : ℕ → Bool) (P : ℕ → Type 0) (tells : (k : ℕ) → Decides (test k) (P k)) where
+  turned : {A B : Type 0} → A ⊎ B → B ⊎ A
+  turned (inl a) = inr a
+  turned (inr b) = inl b
+
+  one_more : (n : ℕ) → ((k : ℕ) × (k < n) × P k) ⊎ P n → (k : ℕ) × (k < suc n) × P k
+  one_more n (inl h) = let lt = h.1 in (h.0, omega arith, h.2)
+  one_more n (inr h) = (n, omega arith, h)
+
+  which : (n : ℕ) → (k : ℕ) × (k < suc n) × P k → ((k : ℕ) × (k < n) × P k) ⊎ P n
+  which n h = let lt = h.1 in ⊎_elim (λ e. inr (subst P e h.2)) (λ apart. inl (h.0, omega arith, h.2)) (cases_eq h.0 n)
+
+  pub any : (n : ℕ) → Decides (any_below n test) ((k : ℕ) × (k < n) × P k)
+  any zero = (λ h. absurd (false≢true h), λ h. let lt = h.1 in absurd (omega arith))
+  any (suc n) = like (either (any n) (tells n)) (one_more n) (which n)
+
+  each : (n : ℕ) → ((k : ℕ) → k < n → P k) × P n → (k : ℕ) → k < suc n → P k
+  each n h k lt = ⊎_elim (λ e. subst P (sym e) h.1) (λ apart. h.0 k (omega arith)) (cases_eq k n)
+
+  pub all : (n : ℕ) → Decides (all_below n test) ((k : ℕ) → k < n → P k)
+  all zero = (λ h k lt. absurd (omega arith), λ h. refl)
+  all (suc n) = like (both (all n) (tells n)) (each n) (λ h. (λ k lt. h k (omega arith), h n (omega arith)))
+
+  -- where only numbers below n are such
+  pub some : (n : ℕ) → ((k : ℕ) → P k → k < n) → Decides (any_below n test) ((k : ℕ) × P k)
+  some n within = like (any n) (λ h. (h.0, h.2)) (λ h. (h.0, within h.0 h.1, h.1))
+
+-- each number is such, where those from n on are
+pub every : {P : ℕ → Type 0} (n : ℕ) (test : ℕ → Bool) → ((k : ℕ) → Decides (test k) (P k)) → ((k : ℕ) → n ≤ k → P k) → Decides (all_below n test) ((k : ℕ) → P k)
+every {P} n test tells past = like (all test P tells n) (λ h k. ⊎_elim (λ lt. h k lt) (λ le. past k le) (cases_lt k n)) (λ h k lt. h k)
+
+-- ---- lists
+
+module _ {A : Type 0} (same : A → A → Bool) (tells : (a b : A) → Decides (same a b) (a ≡ b)) where
+  -- an item passes a test
+  pub some_item : (test : A → Bool) (xs : List A) → Decides (list_any test xs) ((x : A) × (among same xs x ≡ true) × (test x ≡ true))
+  some_item test [] = (λ h. absurd (false≢true h), λ h. absurd (false≢true h.1))
+  some_item test (y ∷ ys) = like (either (itself (test y)) (some_item test ys)) out into
+    where
+      out : (test y ≡ true) ⊎ ((x : A) × (among same ys x ≡ true) × (test x ≡ true)) → (x : A) × (among same (y ∷ ys) x ≡ true) × (test x ≡ true)
+      out (inl e) = (y, or_left (same y y) (among same ys y) ((tells y y).1 refl), e)
+      out (inr h) = (h.0, or_right (same y h.0) (among same ys h.0) h.1, h.2)
+
+      into : (x : A) × (among same (y ∷ ys) x ≡ true) × (test x ≡ true) → (test y ≡ true) ⊎ ((x : A) × (among same ys x ≡ true) × (test x ≡ true))
+      into h = ⊎_elim (λ s. inl (subst (λ z. test z ≡ true) (sym ((tells y h.0).0 s)) h.2)) (λ r. inr (h.0, r, h.2)) (or_cases (same y h.0) (among same ys h.0) h.1)
+
+  pub among_filter : (test : A → Bool) (xs : List A) (x : A) → Decides (among same (filter test xs) x) ((among same xs x ≡ true) × (test x ≡ true))
+  among_filter test xs x = Decides-at (among same (filter test xs) x) (test x && among same xs x) (any-filter_same (λ y. same y x) test (test x) (λ y e. ap test ((tells y x).0 e)) xs)
+      (like (both (itself (test x)) (itself (among same xs x))) (λ h. (h.1, h.0)) (λ h. (h.1, h.0)))
+
+  pub among_append : (xs ys : List A) (x : A) → Decides (among same (xs ++ ys) x) ((among same xs x ≡ true) ⊎ (among same ys x ≡ true))
+  among_append xs ys x = Decides-at (among same (xs ++ ys) x) (among same xs x || among same ys x) (list_any-append (λ y. same y x) xs ys) (either (itself (among same xs x)) (itself (among same ys x)))
+
+-- the numbers that pass, below n
+last_such : (b : Bool) (n k : ℕ) → Decides (has (if b then n ∷ [] else []) k) ((n ≡ k) × (b ≡ true))
+last_such true n k = like (either (Decides-eqb n k) never) (⊎_elim (λ e. (e, refl)) (λ h. absurd h)) (λ h. inl h.0)
+last_such false n k = like never (λ h. absurd h) (λ h. absurd (false≢true h.1))
+
+such_out : (test : ℕ → Bool) (n k : ℕ) → ((k < n) × (test k ≡ true)) ⊎ ((n ≡ k) × (test n ≡ true)) → (k < suc n) × (test k ≡ true)
+such_out test n k (inl h) = let lt = h.0 in (omega arith, h.1)
+such_out test n k (inr h) = let e = h.0 in (omega arith, subst (λ j. test j ≡ true) e h.1)
+
+such_into : (test : ℕ → Bool) (n k : ℕ) → (k < suc n) × (test k ≡ true) → ((k < n) × (test k ≡ true)) ⊎ ((n ≡ k) × (test n ≡ true))
+such_into test n k h = let lt = h.0 in ⊎_elim (λ e. inr (e, subst (λ j. test j ≡ true) (sym e) h.1)) (λ apart. inl (omega arith, h.1)) (cases_eq n k)
+
+pub such : (test : ℕ → Bool) (n : ℕ) → Lists (all_such n test) (λ k. (k < n) × (test k ≡ true))
+such test zero k = like never (λ h. absurd h) (λ h. let lt = h.0 in absurd (omega arith))
+such test (suc n) k = Decides-at _ _ (list_any-append (λ j. nat_eq j k) (all_such n test) (if test n then n ∷ [] else []))
+    (like (either (such test n k) (last_such (test n) n k)) (such_out test n k) (such_into test n k))
+
+module _ (test : ℕ → Bool) (P : ℕ → Type 0) (tells : (k : ℕ) → Decides (test k) (P k)) where
+  -- where only numbers below n are such
+  pub lists : (n : ℕ) → ((k : ℕ) → P k → k < n) → Lists (all_such n test) P
+  lists n within k = like (such test n k) (λ h. (tells k).0 h.1) (λ h. (within k h, (tells k).1 h))
+
+  -- an item that is such
+  pub some_of : {Q : ℕ → Type 0} (items : List ℕ) → Lists items Q → Decides (list_any test items) ((k : ℕ) × Q k × P k)
+  some_of items holds = like (some_item nat_eq Decides-eqb test items) (λ h. (h.0, (holds h.0).0 h.1, (tells h.0).0 h.2)) (λ h. (h.0, (holds h.0).1 h.1, (tells h.0).1 h.2))
+
+  abbrev Found : ℕ → Option ℕ → Type 0
+  Found n found = MatchOption found ((k : ℕ) → k < n → P k → ⊥) (λ k. (k < n) × P k)
+
+  found_more : (n : ℕ) (before : Option ℕ) (b : Bool) → Found n before → Decides b (P n) → Found (suc n) (option_or before (if b then Some n else None))
+  found_more n (Some k) b h d = let lt = h.0 in (omega arith, h.1)
+  found_more n None true h d = (omega arith, d.0 refl)
+  found_more n None false h d = λ k lt p. ⊎_elim (λ e. false≢true (d.1 (subst P e p))) (λ apart. h k (omega arith) p) (cases_eq k n)
+
+  found : (n : ℕ) → Found n (first_below n test)
+  found zero = λ k lt p. absurd (omega arith)
+  found (suc n) = found_more n (first_below n test) (test n) (found n) (tells n)
+
+  found_one : (n : ℕ) → ((k : ℕ) → P k → k < n) → ((j k : ℕ) → P j → P k → j ≡ k) → (before : Option ℕ) → Found n before → Finds before P
+  found_one n within one None h k = (λ e. absurd (none-some e), λ p. absurd (h k (within k p) p))
+  found_one n within one (Some j) h k = (λ e. subst P (some_one e) h.1, λ p. ap Some (one j k h.1 p))
+
+  -- the one that is such
+  pub finds : (n : ℕ) → ((k : ℕ) → P k → k < n) → ((j k : ℕ) → P j → P k → j ≡ k) → Finds (first_below n test) P
+  finds n within one = found_one n within one (first_below n test) (found n)
+
+  abbrev IsLast : ℕ → ℕ → Type 0
+  IsLast n k = P k × ((j : ℕ) → j < n → P j → j ≤ k)
+
+  abbrev Ended : ℕ → Option ℕ → Type 0
+  Ended n found = MatchOption found ((k : ℕ) → k < n → P k → ⊥) (λ k. (k < n) × IsLast n k)
+
+  ended_more : (n : ℕ) (before : Option ℕ) (b : Bool) → Ended n before → Decides b (P n) → Ended (suc n) (if b then Some n else before)
+  ended_more n before true h d = (omega arith, (d.0 refl, λ j lt p. omega arith))
+  ended_more n (Some k) false h d = let lt = h.0 in (omega arith, (h.1.0, λ j lt p. ⊎_elim (λ e. absurd (false≢true (d.1 (subst P e p)))) (λ apart. h.1.1 j (omega arith) p) (cases_eq j n)))
+  ended_more n None false h d = λ k lt p. ⊎_elim (λ e. false≢true (d.1 (subst P e p))) (λ apart. h k (omega arith) p) (cases_eq k n)
+
+  ended : (n : ℕ) → Ended n (last_below n test)
+  ended zero = λ k lt p. absurd (omega arith)
+  ended (suc n) = ended_more n (last_below n test) (test n) (ended n) (tells n)
+
+  last_one : (n : ℕ) → ((k : ℕ) → P k → k < n) → (before : Option ℕ) → Ended n before → Finds before (λ k. P k × ((j : ℕ) → P j → j ≤ k))
+  last_one n within None h k = (λ e. absurd (none-some e), λ p. absurd (h k (within k p.0) p.0))
+  last_one n within (Some i) h k =
+      (λ e. subst (λ k. P k × ((j : ℕ) → P j → j ≤ k)) (some_one e) (h.1.0, λ j p. h.1.1 j (within j p) p),
+       λ p. ap Some (le_antisymm (p.1 i h.1.0) (h.1.1 k (within k p.0) p.0)))
+
+  -- the last that is such
+  pub finds_last : (n : ℕ) → ((k : ℕ) → P k → k < n) → Finds (last_below n test) (λ k. P k × ((j : ℕ) → P j → j ≤ k))
+  finds_last n within = last_one n within (last_below n test) (ended n)

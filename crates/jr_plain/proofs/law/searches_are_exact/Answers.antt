@@ -1,0 +1,6 @@
+use Rattle.std.proofs.Common.{◌≡◌, true}
+use Rattle.jr_plain.proofs.Searches.{any}
+use Rattle.jr_plain.proofs.law.searches_are_exact.Goals as goal
+
+pub returns : goal.returns
+returns c = record { any = λ test n. any test (λ k. test k ≡ true) (λ k. (λ h. h, λ h. h)) n }
