@@ -6,6 +6,7 @@ use Rattle.std.proofs.lemmas.Bool.{false≢true, cases_Bool, cases_lt, cases_eq,
 use Rattle.std.proofs.lemmas.Bool.Decides.{Decides-at, Decides-eqb}
 use Rattle.std.proofs.lemmas.List.Folds.{list_any-append}
 use Rattle.std.proofs.lemmas.Map.Views.{any-filter_same}
+use Rattle.std.proofs.lemmas.Option.{none-some, same_Some}
 use Rattle.jr_plain.specs.Search.{any_below, all_below, first_below, last_below, all_such, numbers, among, has, Lists, Finds, news, grown, least}
 use Rattle.jr_plain.proofs.Tests.{itself, like, both, either, opposite, never}
 
@@ -103,8 +104,8 @@ module _ (test : ℕ → Bool) (P : ℕ → Type 0) (tells : (k : ℕ) → Decid
   found (suc n) = found_more n (first_below n test) (test n) (found n) (tells n)
 
   found_one : (n : ℕ) → ((k : ℕ) → P k → k < n) → ((j k : ℕ) → P j → P k → j ≡ k) → (before : Option ℕ) → Found n before → Finds before P
-  found_one n within one None h k = (λ e. absurd (none-some e), λ p. absurd (h k (within k p) p))
-  found_one n within one (Some j) h k = (λ e. subst P (some_one e) h.1, λ p. ap Some (one j k h.1 p))
+  found_one n within one None h k = (λ e. absurd (none-some k e), λ p. absurd (h k (within k p) p))
+  found_one n within one (Some j) h k = (λ e. subst P (same_Some _ _ e) h.1, λ p. ap Some (one j k h.1 p))
 
   -- the one that is such
   pub finds : (n : ℕ) → ((k : ℕ) → P k → k < n) → ((j k : ℕ) → P j → P k → j ≡ k) → Finds (first_below n test) P
@@ -126,9 +127,9 @@ module _ (test : ℕ → Bool) (P : ℕ → Type 0) (tells : (k : ℕ) → Decid
   ended (suc n) = ended_more n (last_below n test) (test n) (ended n) (tells n)
 
   last_one : (n : ℕ) → ((k : ℕ) → P k → k < n) → (before : Option ℕ) → Ended n before → Finds before (λ k. P k × ((j : ℕ) → P j → j ≤ k))
-  last_one n within None h k = (λ e. absurd (none-some e), λ p. absurd (h k (within k p.0) p.0))
+  last_one n within None h k = (λ e. absurd (none-some k e), λ p. absurd (h k (within k p.0) p.0))
   last_one n within (Some i) h k =
-      (λ e. subst (λ k. P k × ((j : ℕ) → P j → j ≤ k)) (some_one e) (h.1.0, λ j p. h.1.1 j (within j p) p),
+      (λ e. subst (λ k. P k × ((j : ℕ) → P j → j ≤ k)) (same_Some _ _ e) (h.1.0, λ j p. h.1.1 j (within j p) p),
        λ p. ap Some (le_antisymm (p.1 i h.1.0) (h.1.1 k (within k p.0) p.0)))
 
   -- the last that is such

@@ -1,5 +1,6 @@
 use Rattle.std.proofs.Common.{◌≡◌, true}
 use Rattle.jr_plain.proofs.Searches.{any}
+use Rattle.jr_plain.proofs.Least.{closed_below, sound_below}
 use Rattle.jr_plain.proofs.law.searches_are_exact.Goals as goal
 
 pub returns : goal.returns
