@@ -1,3 +1,6 @@
 pub mod Tests
 pub mod Searches
 pub mod Least
+pub mod Same
+pub mod Bounds
+pub mod Declared
