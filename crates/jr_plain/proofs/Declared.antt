@@ -1,5 +1,5 @@
 -- The tests of declarations and references tell what they are to tell.
-use Rattle.std.proofs.Common.{◌≡◌, ◌⊎◌, refl, sym, ap, inl, inr, ⊎_elim, ℕ, Bool, true, false, codes, nat_eq, bytes_eq, Decides}
+use Rattle.std.proofs.Common.{◌≡◌, ◌⊎◌, refl, sym, ap, subst, inl, inr, ⊎_elim, ℕ, Bool, true, false, codes, Option, nat_eq, bytes_eq, Decides}
 use Rattle.std.proofs.lemmas.Bool.{false≢true}
 use Rattle.std.proofs.lemmas.Bool.Decides.{Decides-eqb}
 use Rattle.std.proofs.lemmas.Slice.Eq.{bytes_eq-Decides}
@@ -84,13 +84,13 @@ before_dot_tells _ = never
 
 -- a package, or a declaration that is a type
 abbrev IsPackageOrType : Rows → Referent → Type 0
-IsPackageOrType p a = (a ≡ Package) ⊎ ((d : ℕ) × (level : Rattle.std.specs.Prelude.Option ℕ) × (a ≡ Declared d level) × IsType p d)
+IsPackageOrType p a = (a ≡ Package) ⊎ ((d : ℕ) × (level : Option ℕ) × (a ≡ Declared d level) × IsType p d)
 
 package_or_type_tells : (p : Rows) (a : Referent) → Decides (plain.is_package_or_type p a) (IsPackageOrType p a)
 package_or_type_tells p Package = (λ h. inl refl, λ h. refl)
-package_or_type_tells p (Declared d level) = like (type_tells p d) (λ h. inr (d, level, refl, h)) (⊎_elim (λ e. absurd (cc)) (λ h. let e = h.2 in Rattle.std.proofs.Common.subst (λ c. IsType p c) (sym (row_of e)) h.3))
+package_or_type_tells p (Declared d level) = like (type_tells p d) (λ h. inr (d, level, refl, h)) (⊎_elim (λ e. absurd (cc)) (λ h. let e = h.2 in subst (λ c. IsType p c) (sym (row_of e)) h.3))
   where
-    row_of : {a b : ℕ} {l m : Rattle.std.specs.Prelude.Option ℕ} → Declared a l ≡ Declared b m → a ≡ b
+    row_of : {a b : ℕ} {l m : Option ℕ} → Declared a l ≡ Declared b m → a ≡ b
     row_of e = cc
 package_or_type_tells p _ = (λ h. absurd (false≢true h), ⊎_elim (λ e. absurd (cc)) (λ h. let e = h.2 in absurd (cc)))
 

@@ -4,3 +4,6 @@ pub mod Least
 pub mod Same
 pub mod Bounds
 pub mod Declared
+pub mod Enclosed
+pub mod Modified
+pub mod Packaged
