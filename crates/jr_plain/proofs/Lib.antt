@@ -7,3 +7,4 @@ pub mod Declared
 pub mod Enclosed
 pub mod Modified
 pub mod Packaged
+pub mod Typed

@@ -4,3 +4,5 @@ pub mod Declarations
 pub mod Enclosing
 pub mod Modifiers
 pub mod Packages
+pub mod Types
+pub mod Supertypes

@@ -30,6 +30,11 @@ abbrev pub all_such : ℕ → (ℕ → Bool) → List ℕ
 all_such zero test = []
 all_such (suc n) test = all_such n test ++ (if test n then n ∷ [] else [])
 
+-- the items that each number below n has, in their order
+abbrev pub gathered : {A : Type 0} → ℕ → (ℕ → List A) → List A
+gathered zero of = []
+gathered (suc n) of = gathered n of ++ of n
+
 -- the numbers below n
 abbrev pub numbers : ℕ → List ℕ
 numbers n = all_such n (λ k. true)
