@@ -8,3 +8,4 @@ pub mod Enclosed
 pub mod Modified
 pub mod Packaged
 pub mod Typed
+pub mod Supertyped

@@ -13,7 +13,7 @@ use Rattle.jr_defs.specs.declared.referent.Element.TheVariants as element
 use Rattle.jr_defs.specs.declared.referent.RowType.{RowType}
 use Rattle.jr_defs.specs.declared.referent.Referent.{Referent}
 use Rattle.jr_defs.specs.declared.referent.Referent.TheVariants.{Unbound, Ambiguous, ArrayLength, Package, Declared}
-use Rattle.jr_plain.specs.Same.{same_role, same_path, same_level, same_element, same_type, same_types, same_referent}
+use Rattle.jr_plain.specs.Same.{same_role, same_path, same_level, same_pair, same_candidate, same_element, same_type, same_types, same_referent}
 use Rattle.jr_plain.proofs.Tests.{like, both}
 
 pub role_tells : (a b : Role) → Decides (same_role a b) (a ≡ b)
@@ -45,6 +45,12 @@ path_tells a b = list_tells bytes_eq bytes_eq-Decides a b
 
 pub level_tells : (a b : Option ℕ) → Decides (same_level a b) (a ≡ b)
 level_tells a b = option_tells nat_eq Decides-eqb a b
+
+pub pair_tells : (a b : ℕ × ℕ) → Decides (same_pair a b) (a ≡ b)
+pair_tells a b = like (both (Decides-eqb a.0 b.0) (Decides-eqb a.1 b.1)) (λ h. λ i. (h.0 i, h.1 i)) (λ e. (ap (λ c. c.0) e, ap (λ c. c.1) e))
+
+pub candidate_tells : (a b : ℕ × Option ℕ) → Decides (same_candidate a b) (a ≡ b)
+candidate_tells a b = like (both (Decides-eqb a.0 b.0) (level_tells a.1 b.1)) (λ h. λ i. (h.0 i, h.1 i)) (λ e. (ap (λ c. c.0) e, ap (λ c. c.1) e))
 
 pub element_tells : (a b : Element) → Decides (same_element a b) (a ≡ b)
 element_tells element.Boolean element.Boolean = (λ h. refl, λ e. refl)

@@ -7,7 +7,7 @@ use Rattle.std.proofs.lemmas.Bool.Decides.{Decides-at, Decides-eqb}
 use Rattle.std.proofs.lemmas.List.Folds.{list_any-append}
 use Rattle.std.proofs.lemmas.Map.Views.{any-filter_same}
 use Rattle.std.proofs.lemmas.Option.{none-some, same_Some}
-use Rattle.jr_plain.specs.Search.{any_below, all_below, first_below, last_below, all_such, numbers, among, has, Lists, Finds, news, grown, least}
+use Rattle.jr_plain.specs.Search.{any_below, all_below, first_below, last_below, all_such, gathered, numbers, among, has, Lists, Finds, news, grown, least}
 use Rattle.jr_plain.proofs.Tests.{itself, like, both, either, opposite, never}
 
 -- ---- below a number
@@ -64,6 +64,23 @@ module _ {A : Type 0} (same : A → A → Bool) (tells : (a b : A) → Decides (
 
   pub among_append : (xs ys : List A) (x : A) → Decides (among same (xs ++ ys) x) ((among same xs x ≡ true) ⊎ (among same ys x ≡ true))
   among_append xs ys x = Decides-at (among same (xs ++ ys) x) (among same xs x || among same ys x) (list_any-append (λ y. same y x) xs ys) (either (itself (among same xs x)) (itself (among same ys x)))
+
+  -- an item of one of the lists
+  pub gathered_tells : (of : ℕ → List A) (n : ℕ) (x : A) → Decides (among same (gathered n of) x) ((k : ℕ) × (k < n) × (among same (of k) x ≡ true))
+  gathered_tells of zero x = like never (λ h. absurd h) (λ h. let lt = h.1 in absurd (omega arith))
+  gathered_tells of (suc n) x = Decides-at _ _ (list_any-append (λ y. same y x) (gathered n of) (of n)) (like (either (gathered_tells of n x) (itself (among same (of n) x))) out into)
+    where
+      out : ((k : ℕ) × (k < n) × (among same (of k) x ≡ true)) ⊎ (among same (of n) x ≡ true) → (k : ℕ) × (k < suc n) × (among same (of k) x ≡ true)
+      out (inl h) = let lt = h.1 in (h.0, omega arith, h.2)
+      out (inr h) = (n, omega arith, h)
+
+      into : (k : ℕ) × (k < suc n) × (among same (of k) x ≡ true) → ((k : ℕ) × (k < n) × (among same (of k) x ≡ true)) ⊎ (among same (of n) x ≡ true)
+      into h = let lt = h.1 in ⊎_elim (λ e. inr (subst (λ k. among same (of k) x ≡ true) e h.2)) (λ apart. inl (h.0, omega arith, h.2)) (cases_eq h.0 n)
+
+  -- items that a test lets through
+  pub if_tells : {P : Type 0} (b : Bool) → Decides b P → (xs : List A) (x : A) → Decides (among same (if b then xs else []) x) (P × (among same xs x ≡ true))
+  if_tells true d xs x = (λ h. (d.0 refl, h), λ h. h.1)
+  if_tells false d xs x = like never (λ h. absurd h) (λ h. false≢true (d.1 h.0))
 
 -- the numbers that pass, below n
 last_such : (b : Bool) (n k : ℕ) → Decides (has (if b then n ∷ [] else []) k) ((n ≡ k) × (b ≡ true))

@@ -6,3 +6,6 @@ pub mod Modifiers
 pub mod Packages
 pub mod Types
 pub mod Supertypes
+pub mod Members
+pub mod Overriding
+pub mod Referents

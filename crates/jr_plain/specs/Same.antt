@@ -29,6 +29,14 @@ same_path = pointwise bytes_eq
 abbrev pub same_level : Option ℕ → Option ℕ → Bool
 same_level = option_eq nat_eq
 
+-- pairs of rows
+abbrev pub same_pair : ℕ × ℕ → ℕ × ℕ → Bool
+same_pair a b = nat_eq a.0 b.0 && nat_eq a.1 b.1
+
+-- declarations with the levels through which they are found
+abbrev pub same_candidate : ℕ × Option ℕ → ℕ × Option ℕ → Bool
+same_candidate a b = nat_eq a.0 b.0 && same_level a.1 b.1
+
 abbrev pub same_element : Element → Element → Bool
 same_element element.Boolean element.Boolean = true
 same_element element.Byte element.Byte = true

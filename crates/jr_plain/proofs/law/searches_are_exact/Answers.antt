@@ -5,6 +5,7 @@ use Rattle.jr_plain.proofs.Bounds.{type_below}
 use Rattle.jr_plain.proofs.Modified.{inner_tells}
 use Rattle.jr_plain.proofs.Packaged.{type_of_package_tells}
 use Rattle.jr_plain.proofs.Typed.{signature_tells}
+use Rattle.jr_plain.proofs.Supertyped.{subtype_tells}
 use Rattle.jr_plain.proofs.Searches.{any}
 use Rattle.jr_plain.proofs.Least.{closed_below, sound_below}
 use Rattle.jr_plain.proofs.law.searches_are_exact.Goals as goal
