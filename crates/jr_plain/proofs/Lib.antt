@@ -9,3 +9,6 @@ pub mod Modified
 pub mod Packaged
 pub mod Typed
 pub mod Supertyped
+pub mod Membership
+pub mod Answered
+pub mod Dispatched

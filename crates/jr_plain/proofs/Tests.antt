@@ -24,5 +24,7 @@ opposite {b} p = Decides-not b p
 pub like : {b : Bool} {P Q : Type 0} → Decides b P → (P → Q) → (Q → P) → Decides b Q
 like {b} p f g = Decides-like b f g p
 
-probe : (a b c : Bool) (A B C : Type 0) → Decides a A → Decides b B → Decides c C → Decides (a && b && not c) ((A × B) × (C → ⊥))
-probe a b c A B C p q r = both (both p q) (opposite r)
+-- where the one holds, the other does
+pub implies : {a b : Bool} {A B : Type 0} → Decides a A → Decides b B → Decides (not a || b) (A → B)
+implies {a = true} p q = (λ h a. q.0 h, λ f. q.1 (f (p.0 refl)))
+implies {a = false} p q = (λ h a. absurd (false≢true (p.1 a)), λ f. refl)
