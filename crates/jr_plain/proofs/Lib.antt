@@ -12,3 +12,7 @@ pub mod Supertyped
 pub mod Membership
 pub mod Answered
 pub mod Dispatched
+pub mod Imported
+pub mod Scoped
+pub mod Instanced
+pub mod Accessed

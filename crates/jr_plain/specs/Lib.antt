@@ -9,3 +9,8 @@ pub mod Supertypes
 pub mod Members
 pub mod Overriding
 pub mod Referents
+pub mod Lists
+pub mod Imports
+pub mod Scope
+pub mod Instances
+pub mod Access

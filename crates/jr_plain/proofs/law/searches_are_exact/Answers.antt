@@ -7,6 +7,10 @@ use Rattle.jr_plain.proofs.Packaged.{type_of_package_tells}
 use Rattle.jr_plain.proofs.Typed.{signature_tells}
 use Rattle.jr_plain.proofs.Supertyped.{subtype_tells}
 use Rattle.jr_plain.proofs.Membership.{member_tells}
+use Rattle.jr_plain.proofs.Imported.{on_demand_import_tells}
+use Rattle.jr_plain.proofs.Scoped.{visible_tells}
+use Rattle.jr_plain.proofs.Instanced.{instance_tells}
+use Rattle.jr_plain.proofs.Accessed.{accessible_tells}
 use Rattle.jr_plain.proofs.Answered.{answer_is}
 use Rattle.jr_plain.proofs.Dispatched.{dispatches_tells}
 use Rattle.jr_plain.proofs.Searches.{any}
