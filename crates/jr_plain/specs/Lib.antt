@@ -14,3 +14,4 @@ pub mod Imports
 pub mod Scope
 pub mod Instances
 pub mod Access
+pub mod Overloads
