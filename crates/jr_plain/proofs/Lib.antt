@@ -12,3 +12,4 @@ pub mod Supertyped
 pub mod Membership
 pub mod Answered
 pub mod Dispatched
+pub mod Worked

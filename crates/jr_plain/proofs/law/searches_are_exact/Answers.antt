@@ -9,6 +9,7 @@ use Rattle.jr_plain.proofs.Supertyped.{subtype_tells}
 use Rattle.jr_plain.proofs.Membership.{member_tells}
 use Rattle.jr_plain.proofs.Answered.{answer_is}
 use Rattle.jr_plain.proofs.Dispatched.{dispatches_tells}
+use Rattle.jr_plain.proofs.Worked.{members_of_b}
 use Rattle.jr_plain.proofs.Searches.{any}
 use Rattle.jr_plain.proofs.Least.{closed_below, sound_below}
 use Rattle.jr_plain.proofs.law.searches_are_exact.Goals as goal
