@@ -13,3 +13,4 @@ pub mod Membership
 pub mod Answered
 pub mod Dispatched
 pub mod Worked
+pub mod OneUnit
