@@ -5,6 +5,7 @@ use Rattle.std.proofs.lemmas.Bool.{false≢true, or_left, or_right, or_cases, an
 use Rattle.jr_defs.specs.declared.referent.Referent.{Referent}
 use Rattle.jr_defs.specs.declared.referent.Referent.TheVariants.{Ambiguous, Declared}
 use Rattle.jr_defs.specs.Referents.{IsAnswer}
+use Rattle.jr_defs.proofs.Unique.{IsOne, answer_unique}
 use Rattle.jr_plain.specs.Search.{among}
 use Rattle.jr_plain.specs.Same.{same_candidate}
 use Rattle.jr_plain.specs.Referents.{answer_of, is_candidate}
@@ -47,3 +48,8 @@ module _ (C : ℕ → Option ℕ → Type 0) (Otherwise : Referent → Type 0) w
   answer_is [] tells otherwise other =
       let never : (d : ℕ) (level : Option ℕ) → C d level → ⊥ = λ d level c. false≢true ((tells d level).1 c) in IsAnswer.none never (other never)
   answer_is (one ∷ more) tells otherwise other = answer_by one more tells (list_all (same_candidate one) more) refl
+
+  -- and it is the only one, where there is one answer for want of a candidate
+  pub answer_finds : (candidates : List (ℕ × Option ℕ)) → ((d : ℕ) (level : Option ℕ) → Decides (is_candidate candidates d level) (C d level)) → IsOne Otherwise
+      → (otherwise : Referent) → (((d : ℕ) (level : Option ℕ) → C d level → ⊥) → Otherwise otherwise) → (a : Referent) → IsAnswer C Otherwise a → a ≡ answer_of candidates otherwise
+  answer_finds candidates tells one otherwise other a h = answer_unique C Otherwise one a (answer_of candidates otherwise) h (answer_is candidates tells otherwise other)

@@ -3,8 +3,9 @@ use Rattle.std.proofs.Common.{le_trans, ◌≡◌, ◌⊎◌, refl, sym, ◌∙�
 use Rattle.std.specs.List.{list_any}
 use Rattle.std.proofs.lemmas.Bool.{false≢true, cases_Bool, or_left, or_right, or_cases, and_parts, and_from, not-true, not_from_false, not_from_true}
 use Rattle.std.proofs.lemmas.Bool.Decides.{Decides-eqb}
-use Rattle.jr_plain.specs.Search.{all_such, numbers, among, has, if_empty, news, grown, least, least_below}
-use Rattle.jr_plain.proofs.Searches.{among_filter, among_append, such}
+use Rattle.jr_plain.specs.Search.{any_below, all_such, numbers, among, has, if_empty, news, grown, least, least_below, Reaches, sources, reaches}
+use Rattle.jr_plain.proofs.Tests.{itself, both, either}
+use Rattle.jr_plain.proofs.Searches.{any, among_filter, among_append, such}
 
 fewer_step : (a b : Bool) (m n : ℕ) → (a ≡ true → b ≡ true) → m ≤ n → cond a 1 0 + m ≤ cond b 1 0 + n
 fewer_step true true m n h le = omega arith
@@ -125,3 +126,26 @@ module _ (n : ℕ) (follows : List ℕ → ℕ → Bool) where
   pub sound_below : (R : ℕ → Type 0) → ((set : List ℕ) → ((k : ℕ) → has set k ≡ true → R k) → (k : ℕ) → k < n → follows set k ≡ true → R k)
       → (k : ℕ) → has (least_below n follows) k ≡ true → R k
   sound_below R step = sound nat_eq Decides-eqb (numbers n) follows R (λ set holds k at h. step set holds k ((below n k).0 at) h)
+
+-- a graph whose edges leave numbers below n alone
+module _ (n : ℕ) (edge : ℕ → ℕ → Bool) (E : ℕ → ℕ → Type 0) (tells : (a b : ℕ) → Decides (edge a b) (E a b)) (from : (a b : ℕ) → E a b → a < n) where
+  source_tells : (b : ℕ) (set : List ℕ) (a : ℕ) → Decides (edge a b || any_below n (λ r. edge a r && has set r)) (E a b ⊎ ((r : ℕ) × (r < n) × (E a r × (has set r ≡ true))))
+  source_tells b set a = either (tells a b) (any (λ r. edge a r && has set r) (λ r. E a r × (has set r ≡ true)) (λ r. both (tells a r) (itself (has set r))) n)
+
+  reaches_out : (a b : ℕ) → reaches n edge a b ≡ true → Reaches E a b
+  reaches_out a b = sound_below n (λ set a. edge a b || any_below n (λ r. edge a r && has set r)) (λ a. Reaches E a b) step a
+    where
+      step : (set : List ℕ) → ((k : ℕ) → has set k ≡ true → Reaches E k b) → (k : ℕ) → k < n → (edge k b || any_below n (λ r. edge k r && has set r)) ≡ true → Reaches E k b
+      step set holds k lt h = ⊎_elim (λ e. Reaches.direct e) (λ r. Reaches.further r.2.0 (holds r.0 r.2.1)) ((source_tells b set k).0 h)
+
+  start_below : (a b : ℕ) → Reaches E a b → a < n
+  start_below a b (Reaches.direct e) = from a b e
+  start_below a b (Reaches.further {r = r} e more) = from a r e
+
+  reaches_into : (a b : ℕ) → Reaches E a b → reaches n edge a b ≡ true
+  reaches_into a b (Reaches.direct e) = closed_below n (λ set a. edge a b || any_below n (λ r. edge a r && has set r)) a (from a b e) ((source_tells b (sources n edge b) a).1 (inl e))
+  reaches_into a b (Reaches.further {r = r} e more) = closed_below n (λ set a. edge a b || any_below n (λ r. edge a r && has set r)) a (from a r e)
+      ((source_tells b (sources n edge b) a).1 (inr (r, start_below r b more, (e, reaches_into r b more))))
+
+  pub reaches_tells : (a b : ℕ) → Decides (reaches n edge a b) (Reaches E a b)
+  reaches_tells a b = (reaches_out a b, reaches_into a b)

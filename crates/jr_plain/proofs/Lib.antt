@@ -16,3 +16,7 @@ pub mod Imported
 pub mod Scoped
 pub mod Instanced
 pub mod Accessed
+pub mod Worked
+pub mod OneUnit
+pub mod Listed
+pub mod Overloaded

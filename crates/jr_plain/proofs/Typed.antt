@@ -116,7 +116,7 @@ has_type_finds p t d a = (has_type_out p t d (label p d) a refl, has_type_into p
 
 -- ---- parameters
 
-before_out : (found : Option RowType) (behind : Option (List RowType)) (all : List RowType) → before found behind ≡ Some all
+pub before_out : (found : Option RowType) (behind : Option (List RowType)) (all : List RowType) → before found behind ≡ Some all
     → (a : RowType) × (more : List RowType) × (found ≡ Some a) × (behind ≡ Some more) × ((a ∷ more) ≡ all)
 before_out (Some a) (Some more) all e = (a, more, refl, refl, same_Some (a ∷ more) all e)
 before_out (Some a) None all e = absurd (none-some all e)

@@ -6,7 +6,7 @@ use Rattle.jr_rows.specs.declared.label.Role.{Role}
 use Rattle.jr_rows.specs.declared.label.Role.TheVariants as role
 use Rattle.jr_rows.specs.Rows.{Rows, label, parent, end, role_at}
 use Rattle.jr_defs.specs.Enclosing.{holder}
-use Rattle.jr_plain.specs.Search.{any_below, last_below, all_such}
+use Rattle.jr_plain.specs.Search.{any_below, first_below, last_below, all_such}
 use Rattle.jr_plain.specs.Same.{same_role}
 use Rattle.jr_plain.specs.Declarations.{is_type}
 
@@ -64,6 +64,9 @@ is_top_level p c = is_type p c && is_unit (label p (parent p c))
 -- the top-level type k holds the place o
 abbrev pub is_in_top_level : Rows → ℕ → ℕ → Bool
 is_in_top_level p k o = is_top_level p k && nat_le k o && nat_lt o (end p k)
+
+abbrev pub top_level_of : Rows → ℕ → Option ℕ
+top_level_of p o = first_below (length p) (λ k. is_in_top_level p k o)
 
 -- both places stand in one top-level type
 abbrev pub is_same_top_level : Rows → ℕ → ℕ → Bool

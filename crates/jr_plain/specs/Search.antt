@@ -80,3 +80,15 @@ module _ {A : Type 0} (same : A → A → Bool) (all : List A) (follows : List A
 -- the least set of numbers below n that has all that follow from it
 abbrev pub least_below : ℕ → (List ℕ → ℕ → Bool) → List ℕ
 least_below n follows = least nat_eq (numbers n) follows
+
+-- b is reached from a by one edge or more
+pub data Reaches (E : ℕ → ℕ → Type 0) : ℕ → ℕ → Type 0 where
+  direct : {a b : ℕ} → E a b → Reaches E a b
+  further : {a r b : ℕ} → E a r → Reaches E r b → Reaches E a b
+
+-- the numbers below n from which b is reached
+abbrev pub sources : ℕ → (ℕ → ℕ → Bool) → ℕ → List ℕ
+sources n edge b = least_below n (λ set a. edge a b || any_below n (λ r. edge a r && has set r))
+
+abbrev pub reaches : ℕ → (ℕ → ℕ → Bool) → ℕ → ℕ → Bool
+reaches n edge a b = has (sources n edge b) a

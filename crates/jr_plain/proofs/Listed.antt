@@ -1,0 +1,119 @@
+-- What lists made of lists have, and the first number that passes.
+use Rattle.std.proofs.Common.{le_antisymm, ◌≡◌, ◌⊎◌, refl, sym, ap, subst, inl, inr, ⊎_elim, arith, ℕ, zero, suc, ◌+◌, ◌≤◌, ◌<◌, Bool, true, false, not, ◌&&◌, ◌||◌, if◌then◌else◌, List, [], ◌∷◌, ◌++◌, filter, map, Option, Some, None, nat_eq, Decides, MatchOption}
+use Rattle.std.specs.List.{list_any, list_all, flat_map}
+use Rattle.std.specs.Option.{option_or, option_map_or}
+use Rattle.std.proofs.lemmas.Bool.{false≢true, cases_lt, cases_eq, or_cases, or_left, or_right}
+use Rattle.std.proofs.lemmas.Bool.Decides.{Decides-eqb}
+use Rattle.std.proofs.lemmas.Option.{none-some, same_Some}
+use Rattle.jr_plain.specs.Search.{first_below, among, if_empty, has, Lists, Finds}
+use Rattle.jr_plain.specs.Same.{same_candidate}
+use Rattle.jr_plain.specs.Lists.{Has, or_else, at_level}
+use Rattle.jr_plain.proofs.Tests.{itself, never, both, either, like}
+use Rattle.jr_plain.proofs.Searches.{among_filter, among_append}
+use Rattle.jr_plain.proofs.Same.{candidate_tells}
+
+-- what is not refuted holds, where a test tells
+pub decided : {P : Type 0} (b : Bool) → Decides b P → ((P → ⊥) → ⊥) → P
+decided true d h = d.0 refl
+decided false d h = absurd (h (λ p. false≢true (d.1 p)))
+
+module _ {A : Type 0} (same : A → A → Bool) (tells : (a b : A) → Decides (same a b) (a ≡ b)) where
+  first_item : (x : A) (more : List A) → among same (x ∷ more) x ≡ true
+  first_item x more = or_left (same x x) (among same more x) ((tells x x).1 refl)
+
+  -- the first list, or the second where none is of the first
+  pub or_else_has : {P Q : A → Type 0} (first second : List A) → Has same first P → Has same second Q → Has same (or_else first second) (λ k. P k ⊎ (((j : A) → P j → ⊥) × Q k))
+  or_else_has [] second holds others k = like (others k) (λ q. inr (λ j h. false≢true ((holds j).1 h), q)) (⊎_elim (λ h. absurd (false≢true ((holds k).1 h))) (λ h. h.1))
+  or_else_has (x ∷ more) second holds others k = like (holds k) (λ h. inl h) (⊎_elim (λ h. h) (λ h. absurd (h.0 x ((holds x).0 (first_item x more)))))
+
+  pub filter_has : {P Q : A → Type 0} (test : A → Bool) → ((a : A) → Decides (test a) (Q a)) → (items : List A) → Has same items P → Has same (filter test items) (λ k. P k × Q k)
+  filter_has test tests items holds k = like (among_filter same tells test items k) (λ h. ((holds k).0 h.0, (tests k).0 h.1)) (λ h. ((holds k).1 h.0, (tests k).1 h.1))
+
+  pub append_has : {P Q : A → Type 0} (first second : List A) → Has same first P → Has same second Q → Has same (first ++ second) (λ k. P k ⊎ Q k)
+  append_has first second holds others k = like (among_append same tells first second k) (⊎_elim (λ h. inl ((holds k).0 h)) (λ h. inr ((others k).0 h)))
+      (⊎_elim (λ h. inl ((holds k).1 h)) (λ h. inr ((others k).1 h)))
+
+  pub none_has : Has same [] (λ k. ⊥)
+  none_has k = never
+
+  pub one_has : (a : A) → Has same (a ∷ []) (λ k. a ≡ k)
+  one_has a k = like (either (tells a k) never) (⊎_elim (λ e. e) (λ h. absurd h)) (λ e. inl e)
+
+  all_items : (test : A → Bool) (P : A → Type 0) → ((a : A) → Decides (test a) (P a)) → (xs : List A) → Decides (list_all test xs) ((k : A) → among same xs k ≡ true → P k)
+  all_items test P tests [] = (λ h k at. absurd (false≢true at), λ h. refl)
+  all_items test P tests (y ∷ ys) = like (both (tests y) (all_items test P tests ys))
+      (λ h k at. ⊎_elim (λ e. subst P ((tells y k).0 e) h.0) (λ r. h.1 k r) (or_cases (same y k) (among same ys k) at))
+      (λ h. (h y (first_item y ys), λ k r. h k (or_right (same y k) (among same ys k) r)))
+
+  -- each item is such
+  pub all_of : {Q : A → Type 0} (test : A → Bool) (P : A → Type 0) → ((a : A) → Decides (test a) (P a)) → (items : List A) → Has same items Q
+      → Decides (list_all test items) ((k : A) → Q k → P k)
+  all_of test P tests items holds = like (all_items test P tests items) (λ h k q. h k ((holds k).1 q)) (λ h k at. h k ((holds k).0 at))
+
+  -- what an option that is found has
+  pub found_has : {B : Type 0} (P : B → Type 0) (Q : B → A → Type 0) (of : B → List A) → ((b : B) → Has same (of b) (Q b)) → (found : Option B) → Finds found P
+      → Has same (option_map_or of found []) (λ k. (b : B) × P b × Q b k)
+  found_has P Q of each None finds k = like never (λ h. absurd h) (λ h. none-some h.0 ((finds h.0).1 h.1))
+  found_has P Q of each (Some b) finds k = like (each b k) (λ h. (b, (finds b).0 refl, h)) (λ h. subst (λ c. Q c k) (sym (same_Some b h.0 ((finds h.0).1 h.1))) h.2)
+
+  -- what the one list has, where a test lets it through
+  pub if_has : {P : Type 0} {Q : A → Type 0} (b : Bool) → Decides b P → (items : List A) → Has same items Q → Has same (if b then items else []) (λ k. P × Q k)
+  if_has true d items holds k = like (holds k) (λ h. (d.0 refl, h)) (λ h. h.1)
+  if_has false d items holds k = like never (λ h. absurd h) (λ h. false≢true (d.1 h.0))
+
+  pub has_like : {P Q : A → Type 0} (items : List A) → Has same items P → ((k : A) → P k → Q k) → ((k : A) → Q k → P k) → Has same items Q
+  has_like items holds f g k = like (holds k) (f k) (g k)
+
+-- an item of the list of some item
+module _ {A B : Type 0} (same : A → A → Bool) (tells : (a b : A) → Decides (same a b) (a ≡ b)) (same_b : B → B → Bool) (tells_b : (a b : B) → Decides (same_b a b) (a ≡ b)) (of : B → List A) where
+  flat_items : (xs : List B) (k : A) → Decides (among same (flat_map of xs) k) ((b : B) × (among same_b xs b ≡ true) × (among same (of b) k ≡ true))
+  flat_items [] k = (λ h. absurd (false≢true h), λ h. absurd (false≢true h.1))
+  flat_items (y ∷ ys) k = like (among_append same tells (of y) (flat_map of ys) k) out into
+    where
+      out : (among same (of y) k ≡ true) ⊎ (among same (flat_map of ys) k ≡ true) → (b : B) × (among same_b (y ∷ ys) b ≡ true) × (among same (of b) k ≡ true)
+      out (inl h) = (y, first_item same_b tells_b y ys, h)
+      out (inr h) = let r = (flat_items ys k).0 h in (r.0, or_right (same_b y r.0) (among same_b ys r.0) r.1, r.2)
+
+      into : (b : B) × (among same_b (y ∷ ys) b ≡ true) × (among same (of b) k ≡ true) → (among same (of y) k ≡ true) ⊎ (among same (flat_map of ys) k ≡ true)
+      into h = ⊎_elim (λ e. inl (subst (λ b. among same (of b) k ≡ true) (sym ((tells_b y h.0).0 e)) h.2)) (λ r. inr ((flat_items ys k).1 (h.0, r, h.2)))
+          (or_cases (same_b y h.0) (among same_b ys h.0) h.1)
+
+  pub flat_has : (P : B → Type 0) (Q : B → A → Type 0) → ((b : B) → Has same (of b) (Q b)) → (items : List B) → Has same_b items P
+      → Has same (flat_map of items) (λ k. (b : B) × P b × Q b k)
+  flat_has P Q each items holds k = like (flat_items items k) (λ h. (h.0, (holds h.0).0 h.1, (each h.0 k).0 h.2)) (λ h. (h.0, (holds h.0).1 h.1, (each h.0 k).1 h.2))
+
+-- declarations through one level
+pub at_level_has : {P : ℕ → Type 0} (level : Option ℕ) (items : List ℕ) → Lists items P → Has same_candidate (at_level level items) (λ k. P k.0 × (k.1 ≡ level))
+at_level_has level items holds k = like (by items) (λ h. ((holds k.0).0 h.0, h.1)) (λ h. ((holds k.0).1 h.0, h.1))
+  where
+    by : (items : List ℕ) → Decides (among same_candidate (at_level level items) k) ((has items k.0 ≡ true) × (k.1 ≡ level))
+    by [] = (λ h. absurd (false≢true h), λ h. absurd (false≢true h.0))
+    by (d ∷ more) = like (either (candidate_tells (d, level) k) (by more))
+        (⊎_elim (λ e. (or_left (nat_eq d k.0) (has more k.0) ((Decides-eqb d k.0).1 (ap (λ x. x.0) e)), sym (ap (λ x. x.1) e))) (λ h. (or_right (nat_eq d k.0) (has more k.0) h.0, h.1)))
+        (λ h. ⊎_elim (λ e. inl (λ i. ((Decides-eqb d k.0).0 e i, sym h.1 i))) (λ r. inr (r, h.1)) (or_cases (nat_eq d k.0) (has more k.0) h.0))
+
+-- ---- the first number that passes
+
+module _ (test : ℕ → Bool) (P : ℕ → Type 0) (tells : (k : ℕ) → Decides (test k) (P k)) where
+  abbrev pub IsFirst : ℕ → Type 0
+  IsFirst k = P k × ((j : ℕ) → P j → k ≤ j)
+
+  abbrev Begun : ℕ → Option ℕ → Type 0
+  Begun n found = MatchOption found ((k : ℕ) → k < n → P k → ⊥) (λ k. (k < n) × IsFirst k)
+
+  begun_more : (n : ℕ) (before : Option ℕ) (b : Bool) → Begun n before → Decides b (P n) → Begun (suc n) (option_or before (if b then Some n else None))
+  begun_more n (Some k) b h d = let lt = h.0 in (omega arith, h.1)
+  begun_more n None true h d = (omega arith, (d.0 refl, λ j p. ⊎_elim (λ lt. absurd (h j lt p)) (λ le. le) (cases_lt j n)))
+  begun_more n None false h d = λ k lt p. ⊎_elim (λ e. false≢true (d.1 (subst P e p))) (λ apart. h k (omega arith) p) (cases_eq k n)
+
+  begun : (n : ℕ) → Begun n (first_below n test)
+  begun zero = λ k lt p. absurd (omega arith)
+  begun (suc n) = begun_more n (first_below n test) (test n) (begun n) (tells n)
+
+  first_one : (n : ℕ) → ((k : ℕ) → P k → k < n) → (found : Option ℕ) → Begun n found → Finds found IsFirst
+  first_one n bound None h k = (λ e. absurd (none-some k e), λ p. absurd (h k (bound k p.0) p.0))
+  first_one n bound (Some i) h k = (λ e. subst IsFirst (same_Some _ _ e) h.1, λ p. ap Some (le_antisymm (h.1.1 k p.0) (p.1 i h.1.0)))
+
+  -- the first that is such
+  pub finds_first : (n : ℕ) → ((k : ℕ) → P k → k < n) → Finds (first_below n test) IsFirst
+  finds_first n bound = first_one n bound (first_below n test) (begun n)

@@ -1,0 +1,18 @@
+use Rattle.jr_plain.proofs.Enclosed.{in_body_tells, innermost_finds, declared_in_tells, declaring_finds, declared_lists, constructor_tells, constructed_finds, top_level_tells, in_top_level_tells, same_top_level_tells}
+use Rattle.jr_plain.proofs.OneUnit.{top_level_finds}
+use Rattle.jr_plain.proofs.law.enclosing_types_are_computed.Goals as goal
+
+pub returns : goal.returns
+returns c = record {
+  bodies = in_body_tells;
+  innermost = innermost_finds;
+  declared = declared_in_tells;
+  declaring = declaring_finds;
+  members = declared_lists;
+  constructors = constructor_tells;
+  constructed = constructed_finds;
+  top_level = top_level_tells;
+  in_top_level = in_top_level_tells;
+  same_top_level = same_top_level_tells;
+  one_top_level = λ p o local. top_level_finds p local o;
+}
