@@ -20,3 +20,4 @@ pub mod Worked
 pub mod OneUnit
 pub mod Listed
 pub mod Overloaded
+pub mod LookedUp

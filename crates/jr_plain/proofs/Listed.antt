@@ -5,11 +5,11 @@ use Rattle.std.specs.Option.{option_or, option_map_or}
 use Rattle.std.proofs.lemmas.Bool.{false≢true, cases_lt, cases_eq, or_cases, or_left, or_right}
 use Rattle.std.proofs.lemmas.Bool.Decides.{Decides-eqb}
 use Rattle.std.proofs.lemmas.Option.{none-some, same_Some}
-use Rattle.jr_plain.specs.Search.{first_below, among, if_empty, has, Lists, Finds}
+use Rattle.jr_plain.specs.Search.{first_below, gathered, among, if_empty, has, Lists, Finds}
 use Rattle.jr_plain.specs.Same.{same_candidate}
 use Rattle.jr_plain.specs.Lists.{Has, or_else, at_level}
 use Rattle.jr_plain.proofs.Tests.{itself, never, both, either, like}
-use Rattle.jr_plain.proofs.Searches.{among_filter, among_append}
+use Rattle.jr_plain.proofs.Searches.{among_filter, among_append, gathered_tells}
 use Rattle.jr_plain.proofs.Same.{candidate_tells}
 
 -- what is not refuted holds, where a test tells
@@ -61,22 +61,28 @@ module _ {A : Type 0} (same : A → A → Bool) (tells : (a b : A) → Decides (
   if_has true d items holds k = like (holds k) (λ h. (d.0 refl, h)) (λ h. h.1)
   if_has false d items holds k = like never (λ h. absurd h) (λ h. false≢true (d.1 h.0))
 
+  -- the items that each number below n has
+  pub gathered_has : (Q : ℕ → A → Type 0) (of : ℕ → List A) → ((k : ℕ) → Has same (of k) (Q k)) → (n : ℕ) → ((k : ℕ) (x : A) → Q k x → k < n) → Has same (gathered n of) (λ x. (k : ℕ) × Q k x)
+  gathered_has Q of each n bound x = like (gathered_tells same tells of n x) (λ h. (h.0, (each h.0 x).0 h.2)) (λ h. (h.0, bound h.0 x h.1, (each h.0 x).1 h.1))
+
   pub has_like : {P Q : A → Type 0} (items : List A) → Has same items P → ((k : A) → P k → Q k) → ((k : A) → Q k → P k) → Has same items Q
   has_like items holds f g k = like (holds k) (f k) (g k)
 
 -- an item of the list of some item
 module _ {A B : Type 0} (same : A → A → Bool) (tells : (a b : A) → Decides (same a b) (a ≡ b)) (same_b : B → B → Bool) (tells_b : (a b : B) → Decides (same_b a b) (a ≡ b)) (of : B → List A) where
-  flat_items : (xs : List B) (k : A) → Decides (among same (flat_map of xs) k) ((b : B) × (among same_b xs b ≡ true) × (among same (of b) k ≡ true))
-  flat_items [] k = (λ h. absurd (false≢true h), λ h. absurd (false≢true h.1))
-  flat_items (y ∷ ys) k = like (among_append same tells (of y) (flat_map of ys) k) out into
-    where
-      out : (among same (of y) k ≡ true) ⊎ (among same (flat_map of ys) k ≡ true) → (b : B) × (among same_b (y ∷ ys) b ≡ true) × (among same (of b) k ≡ true)
-      out (inl h) = (y, first_item same_b tells_b y ys, h)
-      out (inr h) = let r = (flat_items ys k).0 h in (r.0, or_right (same_b y r.0) (among same_b ys r.0) r.1, r.2)
+  abbrev InSome : List B → A → Type 0
+  InSome xs k = (b : B) × (among same_b xs b ≡ true) × (among same (of b) k ≡ true)
 
-      into : (b : B) × (among same_b (y ∷ ys) b ≡ true) × (among same (of b) k ≡ true) → (among same (of y) k ≡ true) ⊎ (among same (flat_map of ys) k ≡ true)
-      into h = ⊎_elim (λ e. inl (subst (λ b. among same (of b) k ≡ true) (sym ((tells_b y h.0).0 e)) h.2)) (λ r. inr ((flat_items ys k).1 (h.0, r, h.2)))
-          (or_cases (same_b y h.0) (among same_b ys h.0) h.1)
+  flat_out : (y : B) (ys : List B) (k : A) → (among same (of y) k ≡ true) ⊎ InSome ys k → InSome (y ∷ ys) k
+  flat_out y ys k (inl h) = (y, first_item same_b tells_b y ys, h)
+  flat_out y ys k (inr r) = (r.0, or_right (same_b y r.0) (among same_b ys r.0) r.1, r.2)
+
+  flat_into : (y : B) (ys : List B) (k : A) → InSome (y ∷ ys) k → (among same (of y) k ≡ true) ⊎ InSome ys k
+  flat_into y ys k h = ⊎_elim (λ e. inl (subst (λ b. among same (of b) k ≡ true) (sym ((tells_b y h.0).0 e)) h.2)) (λ r. inr (h.0, r, h.2)) (or_cases (same_b y h.0) (among same_b ys h.0) h.1)
+
+  flat_items : (xs : List B) (k : A) → Decides (among same (flat_map of xs) k) (InSome xs k)
+  flat_items [] k = (λ h. absurd (false≢true h), λ h. absurd (false≢true h.1))
+  flat_items (y ∷ ys) k = like (append_has same tells (of y) (flat_map of ys) (λ x. itself (among same (of y) x)) (flat_items ys) k) (flat_out y ys k) (flat_into y ys k)
 
   pub flat_has : (P : B → Type 0) (Q : B → A → Type 0) → ((b : B) → Has same (of b) (Q b)) → (items : List B) → Has same_b items P
       → Has same (flat_map of items) (λ k. (b : B) × P b × Q b k)

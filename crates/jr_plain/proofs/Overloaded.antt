@@ -40,14 +40,14 @@ use Rattle.jr_plain.proofs.Accessed.{accessible_tells}
 
 module _ (p : Rows) (t : Table) (K : ℕ → Type 0) (type_of : Types) (typed : (n : ℕ) → Finds (type_of n) (λ a. TypeOf p t K n a)) (n : ℕ) where
   takes : (k : ℕ) (a : RowType) (more : List RowType) (behind : Option (List RowType)) → parent p k ≡ n → TypeOf p t K k a → behind ≡ Some more
-      → plain.arguments_by p type_of n k behind ≡ Some (a ∷ more)
+      → plain.with_argument p type_of n k behind ≡ Some (a ∷ more)
   takes k a more behind up h e = ap (λ b. cond b (before (type_of k) behind) (Some [])) (eq-eqb (parent p k) n up) ∙ ap₂ before ((typed k a).1 h) e
 
-  ends : (k : ℕ) (behind : Option (List RowType)) → (parent p k ≡ n → ⊥) → plain.arguments_by p type_of n k behind ≡ Some []
+  ends : (k : ℕ) (behind : Option (List RowType)) → (parent p k ≡ n → ⊥) → plain.with_argument p type_of n k behind ≡ Some []
   ends k behind apart = ap (λ b. cond b (before (type_of k) behind) (Some [])) (ne_eqb (parent p k) n apart)
 
   step_out : (k : ℕ) (behind : Option (List RowType)) → ((more : List RowType) → behind ≡ Some more → ArgumentTypes p t K n (end p k) more)
-      → (all : List RowType) → plain.arguments_by p type_of n k behind ≡ Some all → ArgumentTypes p t K n k all
+      → (all : List RowType) → plain.with_argument p type_of n k behind ≡ Some all → ArgumentTypes p t K n k all
   step_out k behind rest all e = by (nat_eq (parent p k) n) (Decides-eqb (parent p k) n) e
     where
       by : (b : Bool) → Decides b (parent p k ≡ n) → cond b (before (type_of k) behind) (Some []) ≡ Some all → ArgumentTypes p t K n k all

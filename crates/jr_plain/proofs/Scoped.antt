@@ -1,5 +1,5 @@
 -- The tests of scope and shadowing tell what they are to tell.
-use Rattle.std.proofs.Common.{◌≡◌, ◌⊎◌, refl, sym, subst, inl, inr, ⊎_elim, arith, ℕ, zero, suc, ◌+◌, ◌≤◌, ◌<◌, Bool, true, false, not, ◌&&◌, ◌||◌, length, nat_eq, nat_lt, nat_le, Decides}
+use Rattle.std.proofs.Common.{◌≡◌, ◌⊎◌, refl, sym, subst, inl, inr, ⊎_elim, arith, ℕ, zero, suc, ◌+◌, ◌≤◌, ◌<◌, Bool, true, false, not, ◌&&◌, ◌||◌, List, length, nat_eq, nat_lt, nat_le, Decides}
 use Rattle.std.proofs.lemmas.Bool.{false≢true, cases_lt}
 use Rattle.std.proofs.lemmas.Bool.Decides.{Decides-eqb, Decides-ltb}
 use Rattle.jr_base.specs.declared.text.Text.{Text}
@@ -18,12 +18,13 @@ use Rattle.jr_defs.specs.Packages.{InUnit}
 use Rattle.jr_defs.specs.Members.{MemberOf}
 use Rattle.jr_defs.specs.Imports.{SingleImport, StaticImport, OnDemandImport, ImportsHold}
 use Rattle.jr_defs.specs.Scope.{block_end, InLocalScope, InParameterScope, InLabelScope, Depth, on_demand, of_package, of_unit, imported, within, rank, IsNoFurther, TypeOfUnit, TypeOfOther, Imported, HasScope, InScope, InOneList, Shadows, Visible}
-use Rattle.jr_plain.specs.Search.{any_below, all_below}
+use Rattle.jr_plain.specs.Search.{any_below, all_below, gathered}
+use Rattle.jr_plain.specs.Lists.{Has}
 use Rattle.jr_plain.specs.Packages.{is_in_unit}
 use Rattle.jr_plain.specs.Imports.{imports_hold, is_single_import, is_static_import, is_on_demand_import}
 use Rattle.jr_plain.specs.Scope as plain
 use Rattle.jr_plain.proofs.Tests.{itself, both, either, opposite, implies, like}
-use Rattle.jr_plain.proofs.Searches.{any, all, some, every}
+use Rattle.jr_plain.proofs.Searches.{any, all, some, every, gathered_tells}
 use Rattle.jr_plain.proofs.Same.{role_tells}
 use Rattle.jr_plain.proofs.Bounds.{bounded, unit_below}
 use Rattle.jr_plain.proofs.Declared.{declares_tells}
@@ -70,18 +71,24 @@ at_number of_unit = refl
 at_number imported = refl
 at_number (within s) = refl
 
+under : (p : Rows) (P : Depth → Type 0) → ((s : ℕ) → P (within s) → s < length p) → (r : Depth) → P r → number r < length p + 4
+under p P bound on_demand h = omega arith
+under p P bound of_package h = omega arith
+under p P bound of_unit h = omega arith
+under p P bound imported h = omega arith
+under p P bound (within s) h = let lt = bound s h in omega arith
+
+-- the items that each depth has
+pub each_depth_has : {A : Type 0} (same : A → A → Bool) (tells : (a b : A) → Decides (same a b) (a ≡ b)) (p : Rows) (Q : Depth → A → Type 0) (of : Depth → List A) → ((r : Depth) → Has same (of r) (Q r))
+    → ((s : ℕ) (x : A) → Q (within s) x → s < length p) → Has same (gathered (plain.depths p) (λ k. of (plain.depth_at k))) (λ x. (r : Depth) × Q r x)
+each_depth_has same tells p Q of each bound x = like (gathered_tells same tells (λ k. of (plain.depth_at k)) (plain.depths p) x) (λ h. (plain.depth_at h.0, (each (plain.depth_at h.0) x).0 h.2))
+    (λ h. (number h.0, under p (λ r. Q r x) (λ s. bound s x) h.0 h.1, (each (plain.depth_at (number h.0)) x).1 (subst (λ r. Q r x) (sym (at_number h.0)) h.1)))
+
 module _ (p : Rows) (test : Depth → Bool) (P : Depth → Type 0) (tells : (r : Depth) → Decides (test r) (P r)) where
   -- some depth is such, where only rows of the program are
   pub some_depth : ((s : ℕ) → P (within s) → s < length p) → Decides (any_below (plain.depths p) (λ k. test (plain.depth_at k))) ((r : Depth) × P r)
   some_depth bound = like (any (λ k. test (plain.depth_at k)) (λ k. P (plain.depth_at k)) (λ k. tells (plain.depth_at k)) (plain.depths p))
-      (λ h. (plain.depth_at h.0, h.2)) (λ h. (number h.0, under h.0 h.1, subst P (sym (at_number h.0)) h.1))
-    where
-      under : (r : Depth) → P r → number r < length p + 4
-      under on_demand h = omega arith
-      under of_package h = omega arith
-      under of_unit h = omega arith
-      under imported h = omega arith
-      under (within s) h = let lt = bound s h in omega arith
+      (λ h. (plain.depth_at h.0, h.2)) (λ h. (number h.0, under p P bound h.0 h.1, subst P (sym (at_number h.0)) h.1))
 
   -- each depth is such, where those past the rows are
   pub every_depth : ((s : ℕ) → length p ≤ s → P (within s)) → Decides (all_below (plain.depths p) (λ k. test (plain.depth_at k))) ((r : Depth) → P r)

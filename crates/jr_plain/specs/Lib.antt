@@ -15,3 +15,4 @@ pub mod Scope
 pub mod Instances
 pub mod Access
 pub mod Overloads
+pub mod Lookup

@@ -20,13 +20,13 @@ abbrev pub Types : Type 0
 Types = ℕ → Option RowType
 
 -- the types of the arguments of the call n from its child k on, where those behind k are known
-abbrev pub arguments_by : Rows → Types → ℕ → ℕ → Option (List RowType) → Option (List RowType)
-arguments_by p type_of n k behind = if nat_eq (parent p k) n then before (type_of k) behind else Some []
+abbrev pub with_argument : Rows → Types → ℕ → ℕ → Option (List RowType) → Option (List RowType)
+with_argument p type_of n k behind = if nat_eq (parent p k) n then before (type_of k) behind else Some []
 
 -- the types of the arguments of the call n, from its child k on; there are at most so many
 abbrev pub argument_types : Rows → Types → ℕ → ℕ → ℕ → Option (List RowType)
-argument_types p type_of n zero k = arguments_by p type_of n k None
-argument_types p type_of n (suc rounds) k = let behind = argument_types p type_of n rounds (end p k) in arguments_by p type_of n k behind
+argument_types p type_of n zero k = with_argument p type_of n k None
+argument_types p type_of n (suc rounds) k = let behind = argument_types p type_of n rounds (end p k) in with_argument p type_of n k behind
 
 -- each type is a subtype of the one at its place (JLS 15.12.2.2)
 abbrev pub are_subtypes : Rows → Table → List RowType → List RowType → Bool
