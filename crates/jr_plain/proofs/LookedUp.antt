@@ -148,7 +148,7 @@ module _ (p : Rows) (t : Table) (tree : IsTree p) where
               (each_depth_has same_candidate candidate_tells p (VisibleAt k x o d) (λ r. plain.visible_at p t k x o d r) (visible_at_has k x o d)
                   (λ s c h. depth_below p t tree k x o d s h.0.in_scope)))
           (length p) (λ d c h. declares_below p k x d h.0))
-      (λ c h. subst (λ e. VisibleThrough p t k x o e.0 e.1) h.1.1.2 (record { depth = h.1.1.0; visible = h.1.1.1; through = refl }))
+      (λ c h. subst (λ e. VisibleThrough p t k x o e.0 e.1) h.1.1.1.1 (record { depth = h.1.1.0; visible = h.1.1.1.0; through = refl }))
       (λ c h. (c.0, (h.visible.in_scope.declares, (h.depth, (h.visible, λ i. (c.0, h.through i))))))
 
   none_tells : (k : Space) (x : Text) (o : ℕ) → Decides (plain.none_in_scope p t k x o) (NoneInScope p t k x o)

@@ -2,6 +2,7 @@
 ghost use Rattle.std.specs.Prelude.{◌≡◌, ℕ, ◌<◌, ◌≤◌, Bool, true, List, length, Option, Decides};
 ghost use Rattle.jr_base.specs.declared.text.Text.{Text};
 ghost use Rattle.jr_rows.specs.Local.{IsLocal};
+ghost use Rattle.jr_rows.specs.declared.label.Sought.{Sought};
 ghost use Rattle.jr_rows.specs.Rows.{Rows};
 ghost use Rattle.jr_rows.specs.Tree.{IsTree};
 ghost use Rattle.jr_defs.specs.declared.referent.Referent.{Referent};
@@ -30,12 +31,14 @@ ghost use Rattle.jr_defs.specs.Access.{IsThrough, ByProtected, IsAccessible};
 ghost use Rattle.jr_defs.specs.Imports.{SingleImport, StaticImport, OnDemandImport, ImportsHold};
 ghost use Rattle.jr_defs.specs.Instances.{InStaticContext, InConstructorCall, HasInstance};
 ghost use Rattle.jr_defs.specs.Laws.{Picked};
+ghost use Rattle.jr_defs.specs.Lookup.{Candidate, Look};
 ghost use Rattle.jr_defs.specs.Overloads.{ArgumentTypes, IsApplicable, MoreSpecific, ResultFits, Earlier, Choice, ImportedChoice};
 ghost use Rattle.jr_defs.specs.Scope.{Depth, HasScope, InScope, Shadows, Visible};
 ghost use Rattle.jr_defs.specs.Typing.{TypeOf};
 ghost use Rattle.jr_plain.specs.Access.{is_through, is_by_protected, is_accessible};
 ghost use Rattle.jr_plain.specs.Imports.{is_single_import, is_static_import, is_on_demand_import, imports_hold};
 ghost use Rattle.jr_plain.specs.Instances.{is_in_static_context, is_in_constructor_call, has_instance};
+ghost use Rattle.jr_plain.specs.Lookup.{candidates, look};
 ghost use Rattle.jr_plain.specs.Overloads.{Types, argument_types, is_applicable, is_more_specific, is_result_fit, is_earlier, choice, imported_choice};
 ghost use Rattle.jr_plain.specs.Scope.{has_scope, is_in_scope, shadows, is_visible};
 
@@ -190,4 +193,14 @@ pub fn choices_are_computed()
         → Lists (choice p t c o receiver arguments methods) (Choice p t c o receiver arguments (λ m. has methods m ≡ true)) }
     ensures imported { (p : Rows) (t : Table) (o : ℕ) (arguments : List RowType) (methods : List ℕ) → IsTree p
         → Lists (imported_choice p t o arguments methods) (ImportedChoice p t o arguments (λ m. has methods m ≡ true)) }
+{}
+
+/// What occurrences refer to, where a function gives the types of expressions: the answer that is computed is one, and the only one.
+pub fn lookup_is_computed()
+    ensures candidates { (p : Rows) (t : Table) (k : ℕ → Bool) (type_of : Types) → IsTree p → ((n : ℕ) → Finds (type_of n) (λ a. TypeOf p t (Picked k) n a))
+        → (o : ℕ) (x : Text) (s : Sought) (d : ℕ) (level : Option ℕ) → Decides (is_candidate (candidates p t type_of o x s) d level) (Candidate p t (Picked k) o x s d level) }
+    ensures answer { (p : Rows) (t : Table) (k : ℕ → Bool) (type_of : Types) → IsTree p → ((n : ℕ) → Finds (type_of n) (λ a. TypeOf p t (Picked k) n a))
+        → (o : ℕ) → Look p t (Picked k) o (look p t type_of o) }
+    ensures only { (p : Rows) (t : Table) (k : ℕ → Bool) (type_of : Types) → IsTree p → ((n : ℕ) → Finds (type_of n) (λ a. TypeOf p t (Picked k) n a))
+        → (o : ℕ) (a : Referent) → Look p t (Picked k) o a → a ≡ look p t type_of o }
 {}
