@@ -10,10 +10,10 @@ use Rattle.jr_rows.specs.declared.label.Role.TheVariants as role
 use Rattle.jr_rows.specs.Rows.{Rows, label, parent, end, role_at}
 use Rattle.jr_defs.specs.Declarations.{IsType}
 use Rattle.jr_defs.specs.Enclosing.{BodyOf, InBody, Innermost, IsMemberRole, holder, DeclaredIn, ConstructorOf, IsTopLevel, InTopLevel, SameTopLevel}
-use Rattle.jr_plain.specs.Search.{Lists, Finds}
+use Rattle.jr_plain.specs.Search.{Finds}
 use Rattle.jr_plain.specs.Enclosing as plain
 use Rattle.jr_plain.proofs.Tests.{always, never, both, like}
-use Rattle.jr_plain.proofs.Searches.{some, lists, finds_last}
+use Rattle.jr_plain.proofs.Searches.{some, finds_last}
 use Rattle.jr_plain.proofs.Same.{role_tells}
 use Rattle.jr_plain.proofs.Bounds.{type_below, member_below, body_below}
 use Rattle.jr_plain.proofs.Declared.{type_tells}
@@ -47,7 +47,7 @@ innermost_finds p o c =
     let both_ways = finds_last (λ c. plain.is_in_body p c o) (λ c. InBody p c o) (λ c. in_body_tells p c o) (length p) (λ c h. in_body_below p c o h) c in
     (λ e. let h = both_ways.0 e in record { holds = h.0; innermost = h.1 }, λ h. both_ways.1 (h.holds, h.innermost))
 
-member_role_tells : (r : Role) → Decides (plain.is_member_role r) (IsMemberRole r)
+pub member_role_tells : (r : Role) → Decides (plain.is_member_role r) (IsMemberRole r)
 member_role_tells role.Type = always
 member_role_tells role.Field = always
 member_role_tells role.Method = always
@@ -70,9 +70,6 @@ declaring_finds p d = let c = parent p (holder (role_at p d) p d) in
 
 pub declared_below : (p : Rows) (c d : ℕ) → DeclaredIn p c d → d < length p
 declared_below p c d h = member_below p d h.member
-
-pub declared_lists : (p : Rows) (c : ℕ) → Lists (plain.declared_by p c) (λ d. DeclaredIn p c d)
-declared_lists p c = lists (λ d. plain.is_declared_in p c d) (λ d. DeclaredIn p c d) (λ d. declared_in_tells p c d) (length p) (λ d h. declared_below p c d h)
 
 pub constructor_tells : (p : Rows) (c k : ℕ) → Decides (plain.is_constructor_of p c k) (ConstructorOf p c k)
 constructor_tells p c k = like (both (role_tells (role_at p k) role.Constructor) (body_tells p c (parent p k))) (λ h. record { constructor = h.0; inside = h.1 }) (λ h. (h.constructor, h.inside))

@@ -1,5 +1,5 @@
 -- What searches find.
-use Rattle.std.proofs.Common.{le_antisymm, ◌≡◌, ◌⊎◌, refl, sym, ◌∙◌, ap, subst, inl, inr, ⊎_elim, arith, ℕ, zero, suc, ◌+◌, ◌≤◌, ◌<◌, Bool, true, false, cond, if◌then◌else◌, not, ◌&&◌, ◌||◌, List, [], ◌∷◌, ◌++◌, length, filter, count_by, Option, Some, None, nat_eq, Decides, MatchOption}
+use Rattle.std.proofs.Common.{le_antisymm, ◌≡◌, ◌⊎◌, refl, sym, ◌∙◌, ap, subst, inl, inr, ⊎_elim, arith, ℕ, zero, suc, ◌+◌, ◌≤◌, ◌<◌, Bool, true, false, cond, if◌then◌else◌, not, ◌&&◌, ◌||◌, List, [], ◌∷◌, ◌++◌, length, filter, flat_map, count_by, Option, Some, None, nat_eq, Decides, MatchOption}
 use Rattle.std.specs.List.{list_any}
 use Rattle.std.specs.Option.{option_or}
 use Rattle.std.proofs.lemmas.Bool.{false≢true, cases_Bool, cases_lt, cases_eq, or_cases, or_left, or_right, or_parts, and_parts, and_from, not-true, not_from_false, false_from_ne_true, eq-eqb, eqb-true}
@@ -152,3 +152,13 @@ module _ (test : ℕ → Bool) (P : ℕ → Type 0) (tells : (k : ℕ) → Decid
   -- the last that is such
   pub finds_last : (n : ℕ) → ((k : ℕ) → P k → k < n) → Finds (last_below n test) (λ k. P k × ((j : ℕ) → P j → j ≤ k))
   finds_last n within = last_one n within (last_below n test) (ended n)
+
+-- an item of one of the lists that the items of a list have
+module _ {A : Type 0} (same : A → A → Bool) where
+  any_flat : (f : ℕ → List A) (items : List ℕ) (y : A) → among same (flat_map f items) y ≡ list_any (λ x. among same (f x) y) items
+  any_flat f [] y = refl
+  any_flat f (x ∷ xs) y = list_any-append (λ z. same z y) (f x) (flat_map f xs) ∙ ap (λ b. among same (f x) y || b) (any_flat f xs y)
+
+  pub flat_of : {Q : ℕ → Type 0} (f : ℕ → List A) (items : List ℕ) → Lists items Q → (y : A) → Decides (among same (flat_map f items) y) ((x : ℕ) × Q x × (among same (f x) y ≡ true))
+  flat_of f items holds y = Decides-at _ _ (any_flat f items y)
+      (some_of (λ x. among same (f x) y) (λ x. among same (f x) y ≡ true) (λ x. itself (among same (f x) y)) items holds)

@@ -18,6 +18,7 @@ ghost use Rattle.jr_defs.specs.Supertypes.{SuperAt, Super, Superclass, Above, At
 ghost use Rattle.jr_defs.specs.Types.{NamesType, TypeAt, HasType, Parameters, SameSignature};
 ghost use Rattle.jr_plain.specs.Declarations.{declares, is_type, is_class, is_interface, is_variable, is_prelude, is_occurrence, is_part, is_reference};
 ghost use Rattle.jr_plain.specs.Enclosing.{is_in_body, innermost, is_declared_in, declaring_type, declared_by, is_constructor_of, constructed_class, is_top_level, is_in_top_level, top_level_of, is_same_top_level};
+ghost use Rattle.jr_plain.specs.Headed.{IsHeaded};
 ghost use Rattle.jr_plain.specs.Members.{is_left, can_inherit, is_member, members, is_member_named, members_named};
 ghost use Rattle.jr_plain.specs.Modifiers.{is_in_interface, is_public, is_protected, is_private, is_static, is_final, is_abstract, is_inner};
 ghost use Rattle.jr_plain.specs.Overriding.{overrides, has_method, implements, serves, is_found, dispatches};
@@ -56,7 +57,7 @@ pub fn enclosing_types_are_computed()
     ensures innermost { (p : Rows) (o : ℕ) → Finds (innermost p o) (λ c. Innermost p o c) }
     ensures declared { (p : Rows) (c d : ℕ) → Decides (is_declared_in p c d) (DeclaredIn p c d) }
     ensures declaring { (p : Rows) (d : ℕ) → Finds (declaring_type p d) (λ c. DeclaredIn p c d) }
-    ensures members { (p : Rows) (c : ℕ) → Lists (declared_by p c) (λ d. DeclaredIn p c d) }
+    ensures members { (p : Rows) (c : ℕ) → IsTree p → Lists (declared_by p c) (λ d. DeclaredIn p c d) }
     ensures constructors { (p : Rows) (c k : ℕ) → Decides (is_constructor_of p c k) (ConstructorOf p c k) }
     ensures constructed { (p : Rows) (k : ℕ) → Finds (constructed_class p k) (λ c. ConstructorOf p c k) }
     ensures top_level { (p : Rows) (c : ℕ) → Decides (is_top_level p c) (IsTopLevel p c) }
@@ -95,34 +96,34 @@ pub fn types_are_computed()
     ensures signatures { (p : Rows) (t : Table) (m k : ℕ) → IsTree p → Decides (is_same_signature p t m k) (SameSignature p t m k) }
 {}
 
-/// Supertypes and subtypes, whatever the table says, also where types are above themselves. That the rows are a tree bounds which types name others.
+/// Supertypes and subtypes, whatever the table says, also where types are above themselves.
 pub fn supertypes_are_computed()
-    ensures at { (p : Rows) (t : Table) (c n s : ℕ) → Decides (is_super_at p t c n s) (SuperAt p t c n s) }
-    ensures direct { (p : Rows) (t : Table) (c : ℕ) → Lists (supers p t c) (λ s. Super p t c s) }
-    ensures superclass { (p : Rows) (t : Table) (c : ℕ) → Lists (superclasses p t c) (λ s. Superclass p t c s) }
-    ensures above { (p : Rows) (t : Table) (c s : ℕ) → IsTree p → Decides (is_above p t c s) (Above p t c s) }
-    ensures at_or_above { (p : Rows) (t : Table) (c s : ℕ) → IsTree p → Decides (is_at_or_above p t c s) (AtOrAbove p t c s) }
-    ensures subtypes { (p : Rows) (t : Table) (a b : RowType) → IsTree p → Decides (is_subtype p t a b) (Subtype p t a b) }
+    ensures at { (p : Rows) (t : Table) (c n s : ℕ) → IsHeaded p → Decides (is_super_at p t c n s) (SuperAt p t c n s) }
+    ensures direct { (p : Rows) (t : Table) (c : ℕ) → IsHeaded p → Lists (supers p t c) (λ s. Super p t c s) }
+    ensures superclass { (p : Rows) (t : Table) (c : ℕ) → IsHeaded p → Lists (superclasses p t c) (λ s. Superclass p t c s) }
+    ensures above { (p : Rows) (t : Table) (c s : ℕ) → IsHeaded p → Decides (is_above p t c s) (Above p t c s) }
+    ensures at_or_above { (p : Rows) (t : Table) (c s : ℕ) → IsHeaded p → Decides (is_at_or_above p t c s) (AtOrAbove p t c s) }
+    ensures subtypes { (p : Rows) (t : Table) (a b : RowType) → IsHeaded p → Decides (is_subtype p t a b) (Subtype p t a b) }
 {}
 
 /// The members of types.
 pub fn members_are_computed()
-    ensures left { (p : Rows) (t : Table) (c d : ℕ) → IsTree p → Decides (is_left p t c d) (IsLeft p t c d) }
+    ensures left { (p : Rows) (t : Table) (c d : ℕ) → IsHeaded p → Decides (is_left p t c d) (IsLeft p t c d) }
     ensures inherited { (p : Rows) (c d : ℕ) → Decides (can_inherit p c d) (CanInherit p c d) }
-    ensures member { (p : Rows) (t : Table) (c d : ℕ) → IsTree p → Decides (is_member p t c d) (MemberOf p t c d) }
-    ensures members { (p : Rows) (t : Table) (c : ℕ) → IsTree p → Lists (members p t c) (λ d. MemberOf p t c d) }
-    ensures named { (p : Rows) (t : Table) (kind : Space) (x : Text) (c d : ℕ) → IsTree p → Decides (is_member_named p t kind x c d) (MemberNamed p t kind x c d) }
-    ensures all_named { (p : Rows) (t : Table) (kind : Space) (x : Text) (c : ℕ) → IsTree p → Lists (members_named p t kind x c) (λ d. MemberNamed p t kind x c d) }
+    ensures member { (p : Rows) (t : Table) (c d : ℕ) → IsHeaded p → Decides (is_member p t c d) (MemberOf p t c d) }
+    ensures members { (p : Rows) (t : Table) (c : ℕ) → IsHeaded p → Lists (members p t c) (λ d. MemberOf p t c d) }
+    ensures named { (p : Rows) (t : Table) (kind : Space) (x : Text) (c d : ℕ) → IsHeaded p → Decides (is_member_named p t kind x c d) (MemberNamed p t kind x c d) }
+    ensures all_named { (p : Rows) (t : Table) (kind : Space) (x : Text) (c : ℕ) → IsHeaded p → Lists (members_named p t kind x c) (λ d. MemberNamed p t kind x c d) }
 {}
 
 /// Overriding, and the method that a call finds in a class.
 pub fn overriding_is_computed()
-    ensures overriding { (p : Rows) (t : Table) (m k : ℕ) → IsTree p → Decides (overrides p t m k) (Overrides p t m k) }
-    ensures has { (p : Rows) (t : Table) (c m : ℕ) → IsTree p → Decides (has_method p t c m) (Has p t c m) }
-    ensures implementing { (p : Rows) (t : Table) (c f m : ℕ) → IsTree p → Decides (implements p t c f m) (Implements p t c f m) }
-    ensures serving { (p : Rows) (t : Table) (c m f : ℕ) → IsTree p → Decides (serves p t c m f) (Serves p t c m f) }
-    ensures found { (p : Rows) (t : Table) (c m f : ℕ) → IsTree p → Decides (is_found p t c m f) (Found p t c m f) }
-    ensures dispatch { (p : Rows) (t : Table) (c m f : ℕ) → IsTree p → Decides (dispatches p t c m f) (Dispatches p t c m f) }
+    ensures overriding { (p : Rows) (t : Table) (m k : ℕ) → IsHeaded p → Decides (overrides p t m k) (Overrides p t m k) }
+    ensures has { (p : Rows) (t : Table) (c m : ℕ) → IsHeaded p → Decides (has_method p t c m) (Has p t c m) }
+    ensures implementing { (p : Rows) (t : Table) (c f m : ℕ) → IsHeaded p → Decides (implements p t c f m) (Implements p t c f m) }
+    ensures serving { (p : Rows) (t : Table) (c m f : ℕ) → IsHeaded p → Decides (serves p t c m f) (Serves p t c m f) }
+    ensures found { (p : Rows) (t : Table) (c m f : ℕ) → IsHeaded p → Decides (is_found p t c m f) (Found p t c m f) }
+    ensures dispatch { (p : Rows) (t : Table) (c m f : ℕ) → IsHeaded p → Decides (dispatches p t c m f) (Dispatches p t c m f) }
 {}
 
 /// The answer of a list of candidates is an answer of their set. `other` is the answer for want of one.
