@@ -1,8 +1,7 @@
 -- In the rows of a tree, what is right below a row is found from child to child; so are the members that a body declares.
-use Rattle.std.proofs.Common.{◌≡◌, ◌⊎◌, refl, sym, ◌∙◌, ap, subst, inl, inr, ⊎_elim, arith, ℕ, zero, suc, ◌+◌, ◌≤◌, ◌<◌, Bool, true, false, cond, not, ◌&&◌, List, [], ◌∷◌, ◌++◌, length, filter, flat_map, nat_eq, Decides}
+use Rattle.std.proofs.Common.{◌≡◌, ◌⊎◌, refl, sym, ◌∙◌, ap, subst, inl, inr, ⊎_elim, arith, ℕ, zero, suc, ◌+◌, ◌≤◌, ◌<◌, Bool, true, false, cond, not, ◌&&◌, [], ◌∷◌, length, filter, flat_map, nat_eq, Decides}
 use Rattle.std.proofs.lemmas.Bool.{false≢true, cases_eq, cases_lt, cases_order}
 use Rattle.std.proofs.lemmas.Bool.Decides.{Decides-eqb}
-use Rattle.jr_rows.specs.declared.label.Label.TheVariants as is
 use Rattle.jr_rows.specs.declared.label.Role.{Role}
 use Rattle.jr_rows.specs.declared.label.Role.TheVariants as role
 use Rattle.jr_rows.specs.Labels.{role_of}
@@ -12,7 +11,7 @@ use Rattle.jr_defs.specs.Enclosing.{BodyOf, IsMemberRole, holder, DeclaredIn}
 use Rattle.jr_plain.specs.Search.{has, Lists}
 use Rattle.jr_plain.specs.Same.{same_role}
 use Rattle.jr_plain.specs.Enclosing.{is_body_of, is_member_role, children_from, children, declared_at, declared_by}
-use Rattle.jr_plain.proofs.Tests.{itself, never, both, either, opposite, like}
+use Rattle.jr_plain.proofs.Tests.{never, both, either, opposite, like}
 use Rattle.jr_plain.proofs.Searches.{among_append, among_filter, if_tells, flat_of}
 use Rattle.jr_plain.proofs.Same.{role_tells}
 use Rattle.jr_plain.proofs.Bounds.{parent_past, member_below, body_below}
@@ -48,8 +47,8 @@ module _ (p : Rows) (tree : IsTree p) where
           let high = tree.up k (omega arith) (omega arith) in
           let holds = tree.held k (omega arith) (omega arith) in
           ⊎_elim (λ e. let same = ap (end p) e in omega arith)
-              (⊎_elim (λ below. let over_j = tree.inner (parent p k) j below (omega arith) in omega arith) (λ behind. let ends = tree.apart j (parent p k) behind (omega arith) in omega arith))
-              (cases_order (parent p k) j)
+          (⊎_elim (λ below. let over_j = tree.inner (parent p k) j below (omega arith) in omega arith) (λ behind. let ends = tree.apart j (parent p k) behind (omega arith) in omega arith))
+          (cases_order (parent p k) j)
 
   -- the next child stands where this one ends
   next_child : (n k m : ℕ) → IsChild p n k → k < m → IsChild p n m → end p k ≤ m
@@ -94,7 +93,7 @@ module _ (p : Rows) (tree : IsTree p) where
       ((IsMemberRole (role_at p k) × (role_at p k ≡ role.Field → ⊥)) × (k ≡ d))
   own_tells k d = like
       (if_tells nat_eq Decides-eqb (is_member_role (role_at p k) && not (same_role (role_at p k) role.Field))
-          (both (member_role_tells (role_at p k)) (opposite (role_tells (role_at p k) role.Field))) (k ∷ []) d)
+      (both (member_role_tells (role_at p k)) (opposite (role_tells (role_at p k) role.Field))) (k ∷ []) d)
       (λ h. (h.0, ⊎_elim (λ e. e) (λ n. absurd n) ((either (Decides-eqb k d) never).0 h.1))) (λ h. (h.0, (either (Decides-eqb k d) never).1 (inl h.1)))
 
   fields_tell : (k d : ℕ) → Decides (has (filter (λ d. same_role (role_at p d) role.Field) (children p k)) d) (IsChild p k d × (role_at p d ≡ role.Field))
@@ -126,8 +125,10 @@ module _ (p : Rows) (tree : IsTree p) where
   from_body : (c b k d : ℕ) → BodyOf p c b → IsChild p b k → IsDeclaredAt k d → DeclaredIn p c d
   from_body c b k d body child (inl h) =
       let up = ap (parent p) (sym h.1) ∙ child.1 in
-      record { member = subst (λ x. IsMemberRole (role_at p x)) h.1 h.0.0;
-          inside = subst (λ x. BodyOf p c x) (sym (other_holder (role_at p d) d (λ e. h.0.1 (ap (role_at p) h.1 ∙ e)) ∙ up)) body }
+      record {
+        member = subst (λ x. IsMemberRole (role_at p x)) h.1 h.0.0;
+        inside = subst (λ x. BodyOf p c x) (sym (other_holder (role_at p d) d (λ e. h.0.1 (ap (role_at p) h.1 ∙ e)) ∙ up)) body;
+      }
   from_body c b k d body child (inr h) =
       record { member = subst IsMemberRole (sym h.1) tt; inside = subst (λ x. BodyOf p c x) (sym (field_holder (role_at p d) d h.1 ∙ (ap (parent p) h.0.1 ∙ child.1))) body }
 
@@ -139,9 +140,15 @@ module _ (p : Rows) (tree : IsTree p) where
 
       by : (x : Bool) → Decides x (role_at p d ≡ role.Field) → (b : ℕ) × BodyOf p c b × ((k : ℕ) × IsChild p b k × IsDeclaredAt k d)
       by true f = let body = subst (λ x. BodyOf p c x) (field_holder (role_at p d) d (f.0 refl)) h.inside in
-          let apart : parent p d ≡ 0 → ⊥ = λ e. body_not_root c (parent p (parent p d)) body (ap (parent p) e ∙ tree.root) in
-          (parent p (parent p d), body, (parent p d, row_of_child (parent p (parent p d)) (parent p d) (parent_below d lt) apart refl,
-              inr (row_of_child (parent p d) d lt (λ e. apart (ap (parent p) e ∙ tree.root)) refl, f.0 refl)))
+          let apart : parent p d ≡ 0 → ⊥ = λ e. body_not_root c (parent p (parent p d)) body (ap (parent p) e ∙ tree.root) in (
+            parent p (parent p d),
+            body,
+            (
+              parent p d,
+              row_of_child (parent p (parent p d)) (parent p d) (parent_below d lt) apart refl,
+              inr (row_of_child (parent p d) d lt (λ e. apart (ap (parent p) e ∙ tree.root)) refl, f.0 refl),
+            ),
+          )
       by false f = let other : role_at p d ≡ role.Field → ⊥ = λ e. false≢true (f.1 e) in
           let body = subst (λ x. BodyOf p c x) (other_holder (role_at p d) d other) h.inside in
           (parent p d, body, (d, row_of_child (parent p d) d lt (λ e. body_not_root c (parent p d) body (ap (parent p) e ∙ tree.root)) refl, inl ((h.member, other), refl)))

@@ -1,23 +1,23 @@
 -- Overriding and dispatch that are computed are those of the definition.
-use Rattle.std.proofs.Common.{◌≡◌, ◌⊎◌, refl, sym, subst, inl, inr, ⊎_elim, arith, ℕ, ◌≤◌, ◌<◌, Bool, true, false, cond, not, ◌&&◌, ◌||◌, List, [], ◌∷◌, length, flat_map, nat_eq, nat_le, Decides}
+use Rattle.std.proofs.Common.{◌≡◌, ◌⊎◌, refl, sym, subst, inl, inr, ⊎_elim, ℕ, ◌<◌, true, false, ◌&&◌, List, [], ◌∷◌, length, flat_map, Decides}
 use Rattle.std.specs.List.{list_any}
-use Rattle.std.proofs.lemmas.Bool.{or_left, cases_lt}
+use Rattle.std.proofs.lemmas.Bool.{or_left}
 use Rattle.std.proofs.lemmas.Bool.Decides.{Decides-eqb}
 use Rattle.jr_rows.specs.declared.label.Role.TheVariants as role
-use Rattle.jr_rows.specs.Rows.{Rows, parent, role_at}
+use Rattle.jr_rows.specs.Rows.{Rows, role_at}
 use Rattle.jr_defs.specs.Referents.{Table}
-use Rattle.jr_defs.specs.Declarations.{IsType, IsClass, IsInterface}
+use Rattle.jr_defs.specs.Declarations.{IsType, IsInterface}
 use Rattle.jr_defs.specs.Enclosing.{DeclaredIn, IsMemberRole}
 use Rattle.jr_defs.specs.Modifiers.{IsPublic, IsProtected, IsPrivate, IsStatic}
 use Rattle.jr_defs.specs.Packages.{SamePackage}
 use Rattle.jr_defs.specs.Supertypes.{Above, AtOrAbove, Superclass}
-use Rattle.jr_defs.specs.Members.{SameMethods, MemberOf}
+use Rattle.jr_defs.specs.Members.{MemberOf}
 use Rattle.jr_defs.specs.Overriding.{IsAboveMethod, Overrides, Has, Implements, Serves, ServesNot, FoundFrom, Found, Dispatches}
 use Rattle.jr_plain.specs.Search.{among, has, Lists}
 use Rattle.jr_plain.specs.Headed.{IsHeaded}
 use Rattle.jr_plain.specs.Same.{same_pair}
 use Rattle.jr_plain.specs.Declarations.{types, is_interface}
-use Rattle.jr_plain.specs.Enclosing.{is_declared_in, declaring_type, declared_by}
+use Rattle.jr_plain.specs.Enclosing.{declaring_type, declared_by}
 use Rattle.jr_plain.specs.Supertypes.{superclasses, is_above, is_at_or_above}
 use Rattle.jr_plain.specs.Members.{is_member}
 use Rattle.jr_plain.specs.Overriding as plain
@@ -72,7 +72,7 @@ module _ (p : Rows) (t : Table) (headed : IsHeaded p) where
       → Decides (plain.is_overriding p t set x) (IsAboveMethod p t x.0 x.1 × ((IsPublic p x.1 ⊎ IsProtected p x.1 ⊎ SamePackage p x.0 x.1) ⊎ Through set x.0 x.1))
   overriding_tells set x = both (above_method_tells x.0 x.1) (either (reachable_tells p x.0 x.1)
       (some_of (λ j. among same_pair set (x.0, j) && among same_pair set (j, x.1)) (λ j. (among same_pair set (x.0, j) ≡ true) × (among same_pair set (j, x.1) ≡ true))
-          (λ j. both (itself (among same_pair set (x.0, j))) (itself (among same_pair set (j, x.1)))) (plain.methods p) (methods_list p)))
+      (λ j. both (itself (among same_pair set (x.0, j))) (itself (among same_pair set (j, x.1)))) (plain.methods p) (methods_list p)))
 
   overrides_out : (m k : ℕ) → among same_pair (plain.overriding p t) (m, k) ≡ true → Overrides p t m k
   overrides_out m k = sound same_pair pair_tells (plain.method_pairs p) (plain.is_overriding p t) (λ x. Overrides p t x.0 x.1) step (m, k)
@@ -101,15 +101,15 @@ module _ (p : Rows) (t : Table) (headed : IsHeaded p) where
   pub has_method_tells : (c m : ℕ) → Decides (plain.has_method p t c m) (Has p t c m)
   has_method_tells c m = like
       (both (method_tells p m) (some_of (λ holder. is_at_or_above p t c holder && is_member p t holder m) (λ holder. AtOrAbove p t c holder × MemberOf p t holder m)
-          (λ holder. both (at_or_above_tells p t headed c holder) (member_tells p t headed holder m)) (types p) (types_list p)))
+      (λ holder. both (at_or_above_tells p t headed c holder) (member_tells p t headed holder m)) (types p) (types_list p)))
       (λ h. record { method = h.0; holder = h.1.0; above = h.1.2.0; member = h.1.2.1 })
       (λ h. (h.method, (h.holder, member_source p t headed h.holder m h.member, (h.above, h.member))))
 
   pub implements_tells : (c f m : ℕ) → Decides (plain.implements p t c f m) (Implements p t c f m)
   implements_tells c f m = like
       (both (both (both (same_methods_tells p t headed f m)
-          (found_tells (λ i. DeclaredIn p i m) (λ i. is_interface p i && is_above p t c i) (λ i. IsInterface p i × Above p t c i) (λ i. both (interface_tells p i) (above_tells p t headed c i)) (declaring_type p m)
-              (declaring_finds p m))) (public_tells p f)) (member_tells p t headed c f))
+      (found_tells (λ i. DeclaredIn p i m) (λ i. is_interface p i && is_above p t c i) (λ i. IsInterface p i × Above p t c i) (λ i. both (interface_tells p i) (above_tells p t headed c i)) (declaring_type p m)
+      (declaring_finds p m))) (public_tells p f)) (member_tells p t headed c f))
       (λ h. record { interface = h.0.0.1.0; is_interface = h.0.0.1.2.0; above = h.0.0.1.2.1; declared = h.0.0.1.1; member = h.1; public = h.0.1; signatures = h.0.0.0 })
       (λ h. (((h.signatures, (h.interface, h.declared, (h.is_interface, h.above))), h.public), h.member))
 
@@ -147,7 +147,7 @@ module _ (p : Rows) (t : Table) (headed : IsHeaded p) where
     found_by_tells : (set : List ℕ) (b : ℕ) → Decides (plain.is_found_by p t c m f set b) (FoundBy set b)
     found_by_tells set b = either (both (declared_in_tells p b f) (serves_tells c m f))
         (both (serves_not_tells c m b) (either (some_of (plain.is_found_at p m f set) (FoundAt set) (found_at_tells set) (superclasses p t b) (superclasses_list p t headed b))
-            (both (Decides-eqb f m) (opposite (some_superclass b)))))
+        (both (Decides-eqb f m) (opposite (some_superclass b)))))
 
     past_types : (s : ℕ) → (IsType p s → ⊥) → f ≡ m → FoundFrom p t c m s f
     past_types s apart e = subst (λ x. FoundFrom p t c m s x) (sym e) (FoundFrom.end (λ x d v. apart d.inside.type) (λ u h. apart (superclass_source p t headed s u h)))

@@ -1,5 +1,5 @@
 -- The tests of bodies, members and enclosing types tell what they are to tell.
-use Rattle.std.proofs.Common.{◌≡◌, refl, sym, ap, subst, ℕ, ◌≤◌, ◌<◌, Bool, true, false, ◌&&◌, cond, length, Option, Some, None, nat_eq, nat_lt, nat_le, Decides}
+use Rattle.std.proofs.Common.{◌≡◌, refl, sym, ap, subst, ℕ, ◌≤◌, ◌<◌, Bool, true, false, ◌&&◌, cond, length, Some, None, nat_lt, nat_le, Decides}
 use Rattle.std.proofs.lemmas.Bool.{false≢true, leb-true, le-leb}
 use Rattle.std.proofs.lemmas.Bool.Decides.{Decides-eqb, Decides-ltb}
 use Rattle.std.proofs.lemmas.Option.{cond_some}
@@ -8,7 +8,6 @@ use Rattle.jr_rows.specs.declared.label.Label.TheVariants as is
 use Rattle.jr_rows.specs.declared.label.Role.{Role}
 use Rattle.jr_rows.specs.declared.label.Role.TheVariants as role
 use Rattle.jr_rows.specs.Rows.{Rows, label, parent, end, role_at}
-use Rattle.jr_defs.specs.Declarations.{IsType}
 use Rattle.jr_defs.specs.Enclosing.{BodyOf, InBody, Innermost, IsMemberRole, holder, DeclaredIn, ConstructorOf, IsTopLevel, InTopLevel, SameTopLevel}
 use Rattle.jr_plain.specs.Search.{Finds}
 use Rattle.jr_plain.specs.Enclosing as plain
@@ -36,7 +35,7 @@ body_tells p c b = like (both (both (type_tells p c) (body_label_tells (label p 
 pub in_body_tells : (p : Rows) (c o : ℕ) → Decides (plain.is_in_body p c o) (InBody p c o)
 in_body_tells p c o = like
     (some (λ b. plain.is_body_of p c b && nat_lt b o && nat_lt o (end p b)) (λ b. (BodyOf p c b × (b < o)) × (o < end p b))
-        (λ b. both (both (body_tells p c b) (Decides-ltb b o)) (Decides-ltb o (end p b))) (length p) (λ b h. body_below p c b h.0.0))
+    (λ b. both (both (body_tells p c b) (Decides-ltb b o)) (Decides-ltb o (end p b))) (length p) (λ b h. body_below p c b h.0.0))
     (λ h. record { body = h.0; of_type = h.1.0.0; after = h.1.0.1; before = h.1.1 }) (λ h. (h.body, ((h.of_type, h.after), h.before)))
 
 pub in_body_below : (p : Rows) (c o : ℕ) → InBody p c o → c < length p
@@ -88,5 +87,5 @@ in_top_level_tells p k o = like (both (both (top_level_tells p k) (most k o)) (D
 pub same_top_level_tells : (p : Rows) (m n : ℕ) → Decides (plain.is_same_top_level p m n) (SameTopLevel p m n)
 same_top_level_tells p m n = like
     (some (λ k. plain.is_in_top_level p k m && plain.is_in_top_level p k n) (λ k. InTopLevel p k m × InTopLevel p k n)
-        (λ k. both (in_top_level_tells p k m) (in_top_level_tells p k n)) (length p) (λ k h. type_below p k h.0.top.type))
+    (λ k. both (in_top_level_tells p k m) (in_top_level_tells p k n)) (length p) (λ k h. type_below p k h.0.top.type))
     (λ h. record { top = h.0; first = h.1.0; second = h.1.1 }) (λ h. (h.top, (h.first, h.second)))

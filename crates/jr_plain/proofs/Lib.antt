@@ -16,3 +16,4 @@ pub mod Answered
 pub mod Dispatched
 pub mod Worked
 pub mod OneUnit
+pub mod Headed

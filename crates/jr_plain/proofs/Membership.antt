@@ -1,5 +1,5 @@
 -- The members that are computed are those that the definition gives.
-use Rattle.std.proofs.Common.{◌≡◌, ◌⊎◌, refl, inl, inr, ⊎_elim, ℕ, ◌≤◌, ◌<◌, arith, Bool, true, false, not, ◌&&◌, ◌||◌, List, length, bytes_eq, Decides}
+use Rattle.std.proofs.Common.{◌≡◌, ◌⊎◌, inl, inr, ⊎_elim, ℕ, ◌<◌, arith, true, not, ◌&&◌, ◌||◌, List, length, Decides}
 use Rattle.std.proofs.lemmas.Slice.Eq.{bytes_eq-Decides}
 use Rattle.jr_base.specs.declared.text.Text.{Text}
 use Rattle.jr_rows.specs.declared.label.Role.{Role}
@@ -7,17 +7,14 @@ use Rattle.jr_rows.specs.declared.label.Role.TheVariants as role
 use Rattle.jr_rows.specs.Rows.{Rows, label, name, role_at}
 use Rattle.jr_defs.specs.declared.referent.Space.{Space}
 use Rattle.jr_defs.specs.Referents.{Table}
-use Rattle.jr_defs.specs.Declarations.{Declares, IsType, IsInterface, IsObject}
+use Rattle.jr_defs.specs.Declarations.{IsType, IsInterface, IsObject}
 use Rattle.jr_defs.specs.Enclosing.{DeclaredIn, IsMemberRole}
-use Rattle.jr_defs.specs.Modifiers.{IsPublic, IsProtected, IsPrivate, IsStatic, InInterface}
-use Rattle.jr_defs.specs.Packages.{SamePackage}
 use Rattle.jr_defs.specs.Supertypes.{Super, AtOrAbove}
 use Rattle.jr_defs.specs.Members.{SameNamed, SameMethods, Replaces, IsLeft, CanInherit, Passes, IsObjectMethod, MemberOf, MemberNamed}
 use Rattle.jr_plain.specs.Search.{has, Lists}
 use Rattle.jr_plain.specs.Headed.{IsHeaded}
 use Rattle.jr_plain.specs.Declarations.{is_interface, is_object}
 use Rattle.jr_plain.specs.Enclosing.{declaring_type, declared_by}
-use Rattle.jr_plain.specs.Modifiers.{is_in_interface}
 use Rattle.jr_plain.specs.Supertypes.{supers, is_at_or_above}
 use Rattle.jr_plain.specs.Members as plain
 use Rattle.jr_plain.proofs.Tests.{itself, both, either, opposite, implies, like}
@@ -47,7 +44,7 @@ passes_tells p s d = like (implies (interface_tells p s) (in_interface_tells p d
 pub object_method_tells : (p : Rows) (d : ℕ) → Decides (plain.is_object_method p d) (IsObjectMethod p d)
 object_method_tells p d = like
     (both (both (both (role_tells (role_at p d) role.Method) (found_tells (λ c. DeclaredIn p c d) (is_object p) (λ c. IsObject p c) (object_tells p) (declaring_type p d) (declaring_finds p d)))
-        (public_tells p d)) (opposite (static_tells p d)))
+    (public_tells p d)) (opposite (static_tells p d)))
     (λ h. record { of_type = h.0.0.1.0; object = h.0.0.1.2; declared = h.0.0.1.1; method = h.0.0.0; public = h.0.1; instance = h.1 })
     (λ h. (((h.method, (h.of_type, h.declared, h.object)), h.public), h.instance))
 
@@ -87,7 +84,7 @@ module _ (p : Rows) (t : Table) (headed : IsHeaded p) where
   has_member_tells : (d : ℕ) (set : List ℕ) (c : ℕ) → Decides (plain.has_member p t d set c) ((DeclaredIn p c d ⊎ Inherits d set c) ⊎ OfObject d c)
   has_member_tells d set c = either (either (declared_in_tells p c d)
       (both (both (some_of (λ s. has set s && plain.passes p s d) (λ s. (has set s ≡ true) × Passes p s d) (λ s. both (itself (has set s)) (passes_tells p s d)) (supers p t c) (supers_list p t headed c))
-          (can_inherit_tells p c d)) (left_tells c d)))
+      (can_inherit_tells p c d)) (left_tells c d)))
       (both (both (interface_tells p c) (object_method_tells p d)) (left_above_tells c d))
 
   member_out : (d c : ℕ) → has (plain.holders p t d) c ≡ true → MemberOf p t c d

@@ -1,7 +1,6 @@
 -- The supertypes that are computed are those that are named, and the test of subtypes tells what it is to tell.
-use Rattle.std.proofs.Common.{◌≡◌, ◌⊎◌, refl, sym, ◌∙◌, ap, subst, inl, inr, ⊎_elim, arith, ℕ, zero, suc, ◌≤◌, ◌<◌, Bool, true, false, cond, not, ◌&&◌, ◌||◌, List, [], ◌∷◌, ◌++◌, length, flat_map, Option, nat_eq, Decides}
-use Rattle.std.specs.List.{list_any}
-use Rattle.std.proofs.lemmas.Bool.{false≢true, cases_eq, or_left, or_right, and_from, eq-eqb}
+use Rattle.std.proofs.Common.{◌≡◌, ◌⊎◌, refl, sym, ◌∙◌, ap, subst, inl, inr, ⊎_elim, arith, ℕ, zero, suc, ◌<◌, Bool, true, cond, ◌&&◌, ◌||◌, List, [], length, flat_map, Option, nat_eq, Decides}
+use Rattle.std.proofs.lemmas.Bool.{false≢true, or_left, or_right, and_from, eq-eqb}
 use Rattle.std.proofs.lemmas.Bool.Decides.{Decides-eqb}
 use Rattle.jr_rows.specs.declared.label.Label.{Label}
 use Rattle.jr_rows.specs.declared.label.Label.TheVariants as is
@@ -15,20 +14,20 @@ use Rattle.jr_defs.specs.declared.referent.RowType.{RowType}
 use Rattle.jr_defs.specs.declared.referent.Referent.{Referent}
 use Rattle.jr_defs.specs.declared.referent.Referent.TheVariants.{Declared}
 use Rattle.jr_defs.specs.Referents.{Table}
-use Rattle.jr_defs.specs.Declarations.{IsType, IsClass, IsClassLabel, IsInterface, IsInterfaceLabel, IsObject}
+use Rattle.jr_defs.specs.Declarations.{IsType, IsInterface, IsObject}
 use Rattle.jr_defs.specs.Headers.{NamesHeader}
-use Rattle.jr_defs.specs.Types.{array, plain, class_type as type_of_class}
+use Rattle.jr_defs.specs.Types.{array, plain}
 use Rattle.jr_defs.specs.Supertypes.{IsSuperclassLabel, IsSuperinterfaceLabel, NamesSuperclass, NamesSuperinterface, HasImpliedSuperclass, SuperAt, Super, Superclass, Above, AtOrAbove, Wider, Widens, IsReferenceType, Subtype}
-use Rattle.jr_plain.specs.Search.{all_such, has, least, Lists}
+use Rattle.jr_plain.specs.Search.{all_such, has, Lists}
 use Rattle.jr_plain.specs.Supertypes.{is_superclass_label, is_superinterface_label, names_superclass, names_superinterface, has_implied_superclass, declaration, is_super_at, implied_superclasses, supers, superclasses, is_lower, lower, is_above, is_at_or_above, widens, is_reference, is_reference_type, is_null, is_above_class, is_object_type, is_below, is_subtype}
 use Rattle.jr_plain.specs.Headed.{IsHeaded}
 use Rattle.jr_plain.specs.Same.{same_element}
-use Rattle.jr_plain.specs.Declarations.{types, is_class, is_interface, is_object}
+use Rattle.jr_plain.specs.Declarations.{is_object}
 use Rattle.jr_plain.specs.Enclosing.{children}
 use Rattle.jr_plain.proofs.Tests.{itself, always, never, both, either, opposite, like}
 use Rattle.jr_plain.proofs.Searches.{lists, some_of, among_append, if_tells, flat_of}
 use Rattle.jr_plain.proofs.Same.{element_tells}
-use Rattle.jr_plain.proofs.Bounds.{bounded, class_below, interface_below, type_below}
+use Rattle.jr_plain.proofs.Bounds.{bounded, type_below}
 use Rattle.jr_plain.proofs.Children.{IsChild, children_list, row_of_child}
 use Rattle.jr_plain.proofs.OfTypes.{closed_types, sound_types, class_type, interface_type}
 use Rattle.jr_plain.proofs.Declared.{class_tells, interface_tells, object_tells}
@@ -78,8 +77,8 @@ superinterface_child p headed c n h = header_child p headed c n (inr h) (superin
 pub implied_tells : (p : Rows) → IsHeaded p → (c : ℕ) → Decides (has_implied_superclass p c) (HasImpliedSuperclass p c)
 implied_tells p headed c = like
     (both (both (class_tells p c)
-        (opposite (some_of (λ n. names_superclass p c n) (λ n. NamesSuperclass p c n) (λ n. names_superclass_tells p c n) (children p c) (children_list p headed.tree c))))
-        (opposite (object_tells p c)))
+    (opposite (some_of (λ n. names_superclass p c n) (λ n. NamesSuperclass p c n) (λ n. names_superclass_tells p c n) (children p c) (children_list p headed.tree c))))
+    (opposite (object_tells p c)))
     (λ h. record { class = h.0.0; unnamed = λ n k. h.0.1 (n, superclass_child p headed c n k, k); below = h.1 }) (λ h. ((h.class, λ k. h.unnamed k.0 k.2), h.below))
 
 pub declaration_lists : (a : Referent) → Lists (declaration a) (λ s. (level : Option ℕ) × (a ≡ Declared s level))
@@ -129,7 +128,7 @@ module _ (p : Rows) (t : Table) (headed : IsHeaded p) where
   pub supers_list : (c : ℕ) → Lists (supers p t c) (λ s. Super p t c s)
   supers_list c s = like (among_append nat_eq Decides-eqb (implied_superclasses p c) (flat_map (λ n. cond (names_superclass p c n || names_superinterface p c n) (declaration (t n)) []) (children p c)) s)
       (⊎_elim (λ h. let k = (implied_lists p headed c s).0 h in record { place = c; at = SuperAt.implied k.0 k.1 })
-          (λ h. let k = (header_lists c s).0 h in record { place = k.0; at = ⊎_elim (λ n. SuperAt.class n k.3) (λ n. SuperAt.interface n k.3) k.2 }))
+      (λ h. let k = (header_lists c s).0 h in record { place = k.0; at = ⊎_elim (λ n. SuperAt.class n k.3) (λ n. SuperAt.interface n k.3) k.2 }))
       (λ h. from h.at)
     where
       from : {n : ℕ} → SuperAt p t c n s
@@ -288,7 +287,7 @@ module _ (p : Rows) (t : Table) (headed : IsHeaded p) where
   subtype_into _ _ (Subtype.array_object {s = s} o) = (object_tells p s).1 o
   subtype_into _ _ (Subtype.array_array {a = a} {b = b} {m = m} {n = n} x y h) =
       or_right (same_element a b && nat_eq m n) _ (and_from (is_reference m a && is_reference n b) (is_below p t a b m n)
-          (and_from (is_reference m a) (is_reference n b) (reference_into (array a m) x) (reference_into (array b n) y)) (subtype_into (array a m) (array b n) h))
+      (and_from (is_reference m a) (is_reference n b) (reference_into (array a m) x) (reference_into (array b n) y)) (subtype_into (array a m) (array b n) h))
 
   pub subtype_tells : (a b : RowType) → Decides (is_subtype p t a b) (Subtype p t a b)
   subtype_tells a b = (subtype_out a.element b.element a.dims b.dims, subtype_into a b)

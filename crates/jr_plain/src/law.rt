@@ -9,6 +9,7 @@ ghost use Rattle.jr_defs.specs.declared.referent.RowType.{RowType};
 ghost use Rattle.jr_defs.specs.declared.referent.Space.{Space};
 ghost use Rattle.jr_defs.specs.Declarations.{Declares, IsType, IsClass, IsInterface, IsVariable, IsPrelude, IsOccurrence, IsPart, IsReference};
 ghost use Rattle.jr_defs.specs.Enclosing.{InBody, Innermost, DeclaredIn, ConstructorOf, IsTopLevel, InTopLevel, SameTopLevel};
+ghost use Rattle.jr_defs.specs.Formed.{IsFormed};
 ghost use Rattle.jr_defs.specs.Members.{MemberOf, MemberNamed, IsLeft, CanInherit};
 ghost use Rattle.jr_defs.specs.Modifiers.{InInterface, IsPublic, IsProtected, IsPrivate, IsStatic, IsFinal, IsAbstract, IsInner};
 ghost use Rattle.jr_defs.specs.Overriding.{Overrides, Has, Implements, Serves, Found, Dispatches};
@@ -94,6 +95,12 @@ pub fn types_are_computed()
     ensures declared { (p : Rows) (t : Table) (d : ℕ) → Finds (type_of_declared p t d) (λ a. HasType p t d a) }
     ensures parameters { (p : Rows) (t : Table) (m : ℕ) → IsTree p → Finds (parameters p t m) (λ all. Parameters p t m all) }
     ensures signatures { (p : Rows) (t : Table) (m k : ℕ) → IsTree p → Decides (is_same_signature p t m k) (SameSignature p t m k) }
+{}
+
+/// What the laws on supertypes and members ask of rows is true of formed rows, and of rows that stand as their labels may.
+pub fn headers_stand_below_types()
+    ensures formed { (p : Rows) → IsFormed p → IsHeaded p }
+    ensures local { (p : Rows) → IsLocal p → IsHeaded p }
 {}
 
 /// Supertypes and subtypes, whatever the table says, also where types are above themselves.

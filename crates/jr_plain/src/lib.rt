@@ -7,6 +7,7 @@ mod law;
 
 pub use law::{
     answers_are_computed, declarations_are_computed, enclosing_types_are_computed,
-    members_are_computed, modifiers_are_computed, overriding_is_computed, packages_are_computed,
-    searches_are_exact, supertypes_are_computed, types_are_computed,
+    headers_stand_below_types, members_are_computed, modifiers_are_computed,
+    overriding_is_computed, packages_are_computed, searches_are_exact, supertypes_are_computed,
+    types_are_computed,
 };
