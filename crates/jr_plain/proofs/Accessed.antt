@@ -7,7 +7,6 @@ use Rattle.jr_rows.specs.declared.label.Role.TheVariants as role
 use Rattle.jr_rows.specs.declared.label.Sought.{Sought}
 use Rattle.jr_rows.specs.declared.label.Sought.TheVariants as sought
 use Rattle.jr_rows.specs.Rows.{Rows, role_at, sought_at}
-use Rattle.jr_rows.specs.Tree.{IsTree}
 use Rattle.jr_defs.specs.declared.referent.Element.{Element}
 use Rattle.jr_defs.specs.declared.referent.Element.TheVariants as element
 use Rattle.jr_defs.specs.declared.referent.RowType.{RowType}
@@ -19,6 +18,7 @@ use Rattle.jr_defs.specs.Packages.{SamePackage}
 use Rattle.jr_defs.specs.Types.{array}
 use Rattle.jr_defs.specs.Supertypes.{AtOrAbove}
 use Rattle.jr_defs.specs.Access.{IsLocalRole, NeedsNoObject, IsThrough, ByProtected, BySuperCall, IsAccessible}
+use Rattle.jr_plain.specs.Headed.{IsHeaded}
 use Rattle.jr_plain.specs.Search.{any_below}
 use Rattle.jr_plain.specs.Enclosing.{declaring_type}
 use Rattle.jr_plain.specs.Access as plain
@@ -52,15 +52,15 @@ pub by_super_call_tells : (p : Rows) (d o : ℕ) → Decides (plain.is_by_super_
 by_super_call_tells p d o = like (both (both (protected_tells p d) (role_tells (role_at p d) role.Constructor)) (super_call_tells (sought_at p o)))
     (λ h. record { protected = h.0.0; constructor = h.0.1; calls = h.1 }) (λ h. ((h.protected, h.constructor), h.calls))
 
-module _ (p : Rows) (t : Table) (tree : IsTree p) where
+module _ (p : Rows) (t : Table) (headed : IsHeaded p) where
   object_out : (s d dims : ℕ) (e : Element) → plain.is_object_of p t s dims e ≡ true → IsThrough p t s d (Some (array e dims))
-  object_out s d zero (element.Class c) h = IsThrough.object ((at_or_above_tells p t tree c s).0 h)
+  object_out s d zero (element.Class c) h = IsThrough.object ((at_or_above_tells p t headed c s).0 h)
   object_out s d zero _ h = absurd (false≢true h)
   object_out s d (suc dims) e h = absurd (false≢true h)
 
   object_into : (s d : ℕ) (a : RowType) → IsThrough p t s d (Some a) → NeedsNoObject p d ⊎ (plain.is_object_of p t s a.dims a.element ≡ true)
   object_into s d a (IsThrough.freely h) = inl h
-  object_into s d _ (IsThrough.object {c = c} h) = inr ((at_or_above_tells p t tree c s).1 h)
+  object_into s d _ (IsThrough.object {c = c} h) = inr ((at_or_above_tells p t headed c s).1 h)
 
   pub through_tells : (s d : ℕ) (receiver : Option RowType) → Decides (plain.is_through p t s d receiver) (IsThrough p t s d receiver)
   through_tells s d None = (λ h. IsThrough.without, λ h. refl)
@@ -73,7 +73,7 @@ module _ (p : Rows) (t : Table) (tree : IsTree p) where
   subclass_tells : (d o : ℕ) (receiver : Option RowType) (holder : ℕ)
       → Decides (any_below (length p) (λ s. plain.is_subclass_round p t d o receiver holder s)) (SubclassRound d o receiver holder)
   subclass_tells d o receiver holder = some (λ s. plain.is_subclass_round p t d o receiver holder s) (λ s. (InBody p s o × AtOrAbove p t s holder) × IsThrough p t s d receiver)
-      (λ s. both (both (in_body_tells p s o) (at_or_above_tells p t tree s holder)) (through_tells s d receiver)) (length p) (λ s h. in_body_below p s o h.0.0)
+      (λ s. both (both (in_body_tells p s o) (at_or_above_tells p t headed s holder)) (through_tells s d receiver)) (length p) (λ s h. in_body_below p s o h.0.0)
 
   pub by_protected_tells : (d o : ℕ) (receiver : Option RowType) → Decides (plain.is_by_protected p t d o receiver) (ByProtected p t d o receiver)
   by_protected_tells d o receiver = like

@@ -1,5 +1,5 @@
 -- The answer of a list of candidates.
-use Rattle.std.proofs.Common.{◌≡◌, ◌⊎◌, refl, sym, ◌∙◌, ap, subst, inl, inr, ⊎_elim, ℕ, Bool, true, false, cond, ◌&&◌, List, [], ◌∷◌, Option, Decides}
+use Rattle.std.proofs.Common.{◌≡◌, refl, sym, ◌∙◌, ap, subst, ⊎_elim, ℕ, Bool, true, false, cond, List, [], ◌∷◌, Option, Decides}
 use Rattle.std.specs.List.{list_all}
 use Rattle.std.proofs.lemmas.Bool.{false≢true, or_left, or_right, or_cases, and_cases, and_parts}
 use Rattle.jr_defs.specs.declared.referent.Referent.{Referent}
@@ -32,15 +32,15 @@ module _ (C : ℕ → Option ℕ → Type 0) (Otherwise : Referent → Type 0) w
 
       only : (d : ℕ) (other : Option ℕ) → C d other → (d ≡ one.0) × (other ≡ one.1)
       only d other c = let same = (candidate_tells one (d, other)).0
-              (⊎_elim (λ h. h) (λ h. each_item same_candidate candidate_tells (same_candidate one) more e (d, other) h)
-                  (or_cases (same_candidate one (d, other)) (among same_candidate more (d, other)) ((tells d other).1 c))) in
+          (⊎_elim (λ h. h) (λ h. each_item same_candidate candidate_tells (same_candidate one) more e (d, other) h)
+          (or_cases (same_candidate one (d, other)) (among same_candidate more (d, other)) ((tells d other).1 c))) in
           (ap (λ x. x.0) (sym same), ap (λ x. x.1) (sym same))
   answer_by one more tells false e =
       let h = some_fails same_candidate candidate_tells (same_candidate one) more e in
       IsAnswer.several one.0 h.0.0 one.1 h.0.1
-          ((tells one.0 one.1).0 (or_left (same_candidate one one) (among same_candidate more one) ((candidate_tells one one).1 refl)))
-          ((tells h.0.0 h.0.1).0 (or_right (same_candidate one h.0) (among same_candidate more h.0) h.1))
-          (λ k. false≢true (sym h.2 ∙ (candidate_tells one h.0).1 (λ i. (k.0 i, k.1 i))))
+      ((tells one.0 one.1).0 (or_left (same_candidate one one) (among same_candidate more one) ((candidate_tells one one).1 refl)))
+      ((tells h.0.0 h.0.1).0 (or_right (same_candidate one h.0) (among same_candidate more h.0) h.1))
+      (λ k. false≢true (sym h.2 ∙ (candidate_tells one h.0).1 (λ i. (k.0 i, k.1 i))))
 
   -- a list of all candidates gives the answer of their set
   pub answer_is : (candidates : List (ℕ × Option ℕ)) → ((d : ℕ) (level : Option ℕ) → Decides (is_candidate candidates d level) (C d level))

@@ -1,5 +1,5 @@
 -- A row past the end is empty, so what is not is a row of the program.
-use Rattle.std.proofs.Common.{◌≡◌, refl, sym, ap, subst, ⊎_elim, ℕ, ◌+◌, ◌≤◌, ◌<◌, [], length}
+use Rattle.std.proofs.Common.{◌≡◌, ap, subst, ⊎_elim, ℕ, ◌+◌, ◌≤◌, ◌<◌, [], length}
 use Rattle.std.proofs.lemmas.Bool.{cases_lt}
 use Rattle.std.proofs.lemmas.List.{get_or_past}
 use Rattle.jr_rows.specs.declared.label.Label.{Label}
@@ -7,9 +7,9 @@ use Rattle.jr_rows.specs.declared.label.Label.TheVariants as is
 use Rattle.jr_rows.specs.declared.label.Role.TheVariants as role
 use Rattle.jr_rows.specs.declared.row.Row.{Row}
 use Rattle.jr_rows.specs.Labels.{role_of}
-use Rattle.jr_rows.specs.Rows.{Rows, row, label, parent, end, role_at}
-use Rattle.jr_defs.specs.Declarations.{IsType, IsClass, IsClassLabel, IsInterface, IsInterfaceLabel, IsPrelude}
-use Rattle.jr_defs.specs.Enclosing.{IsMemberRole, BodyOf, InBody, DeclaredIn, ConstructorOf, IsTopLevel}
+use Rattle.jr_rows.specs.Rows.{Rows, row, label, parent, role_at}
+use Rattle.jr_defs.specs.Declarations.{IsType, IsClass, IsClassLabel, IsInterface, IsInterfaceLabel}
+use Rattle.jr_defs.specs.Enclosing.{IsMemberRole, BodyOf}
 
 abbrev pub empty_row : ℕ → Row
 empty_row n = record { label = is.Skip; name = []; parent = n; end = n + 1; previous = n }

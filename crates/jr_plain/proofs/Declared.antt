@@ -1,5 +1,5 @@
 -- The tests of declarations and references tell what they are to tell.
-use Rattle.std.proofs.Common.{◌≡◌, ◌⊎◌, refl, sym, ap, subst, inl, inr, ⊎_elim, ℕ, Bool, true, false, codes, Option, nat_eq, bytes_eq, Decides}
+use Rattle.std.proofs.Common.{◌≡◌, ◌⊎◌, refl, sym, subst, inl, inr, ⊎_elim, ℕ, codes, Option, Decides}
 use Rattle.std.proofs.lemmas.Bool.{false≢true}
 use Rattle.std.proofs.lemmas.Bool.Decides.{Decides-eqb}
 use Rattle.std.proofs.lemmas.Slice.Eq.{bytes_eq-Decides}
@@ -15,10 +15,9 @@ use Rattle.jr_rows.specs.Rows.{Rows, label, name, parent, role_at, sought_at}
 use Rattle.jr_defs.specs.declared.referent.Space.{Space}
 use Rattle.jr_defs.specs.declared.referent.Space.TheVariants as space
 use Rattle.jr_defs.specs.declared.referent.Referent.{Referent}
-use Rattle.jr_defs.specs.declared.referent.Referent.TheVariants.{Unbound, Ambiguous, ArrayLength, Package, Declared}
+use Rattle.jr_defs.specs.declared.referent.Referent.TheVariants.{Package, Declared}
 use Rattle.jr_defs.specs.Referents.{Table}
 use Rattle.jr_defs.specs.Declarations.{IsOf, Declares, IsType, IsClassLabel, IsInterfaceLabel, IsClass, IsInterface, IsVariable, IsPrelude, IsObject, IsString, IsOccurrence, IsBeforeDotLabel, IsPart, IsReference}
-use Rattle.jr_plain.specs.Same.{same_role}
 use Rattle.jr_plain.specs.Declarations as plain
 use Rattle.jr_plain.proofs.Same.{role_tells}
 use Rattle.jr_plain.proofs.Tests.{always, never, both, like, opposite}

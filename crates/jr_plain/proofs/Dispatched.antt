@@ -1,36 +1,38 @@
 -- Overriding and dispatch that are computed are those of the definition.
-use Rattle.std.proofs.Common.{◌≡◌, ◌⊎◌, refl, sym, subst, inl, inr, ⊎_elim, arith, ℕ, ◌≤◌, ◌<◌, Bool, true, false, cond, not, ◌&&◌, ◌||◌, List, [], ◌∷◌, length, nat_eq, nat_le, Decides}
+use Rattle.std.proofs.Common.{◌≡◌, ◌⊎◌, refl, sym, subst, inl, inr, ⊎_elim, ℕ, ◌<◌, true, false, ◌&&◌, List, [], ◌∷◌, length, flat_map, Decides}
 use Rattle.std.specs.List.{list_any}
-use Rattle.std.proofs.lemmas.Bool.{or_left, cases_lt}
+use Rattle.std.proofs.lemmas.Bool.{or_left}
 use Rattle.std.proofs.lemmas.Bool.Decides.{Decides-eqb}
 use Rattle.jr_rows.specs.declared.label.Role.TheVariants as role
-use Rattle.jr_rows.specs.Rows.{Rows, parent, role_at}
-use Rattle.jr_rows.specs.Tree.{IsTree}
+use Rattle.jr_rows.specs.Rows.{Rows, role_at}
 use Rattle.jr_defs.specs.Referents.{Table}
-use Rattle.jr_defs.specs.Declarations.{IsType, IsClass, IsInterface}
+use Rattle.jr_defs.specs.Declarations.{IsType, IsInterface}
 use Rattle.jr_defs.specs.Enclosing.{DeclaredIn, IsMemberRole}
 use Rattle.jr_defs.specs.Modifiers.{IsPublic, IsProtected, IsPrivate, IsStatic}
 use Rattle.jr_defs.specs.Packages.{SamePackage}
 use Rattle.jr_defs.specs.Supertypes.{Above, AtOrAbove, Superclass}
-use Rattle.jr_defs.specs.Members.{SameMethods, MemberOf}
+use Rattle.jr_defs.specs.Members.{MemberOf}
 use Rattle.jr_defs.specs.Overriding.{IsAboveMethod, Overrides, Has, Implements, Serves, ServesNot, FoundFrom, Found, Dispatches}
-use Rattle.jr_plain.specs.Search.{gathered, among, has, least}
+use Rattle.jr_plain.specs.Search.{among, has, Lists}
+use Rattle.jr_plain.specs.Headed.{IsHeaded}
 use Rattle.jr_plain.specs.Same.{same_pair}
-use Rattle.jr_plain.specs.Declarations.{is_interface}
-use Rattle.jr_plain.specs.Enclosing.{is_declared_in, declaring_type}
+use Rattle.jr_plain.specs.Declarations.{types, is_interface}
+use Rattle.jr_plain.specs.Enclosing.{declaring_type, declared_by}
 use Rattle.jr_plain.specs.Supertypes.{superclasses, is_above, is_at_or_above}
 use Rattle.jr_plain.specs.Members.{is_member}
 use Rattle.jr_plain.specs.Overriding as plain
-use Rattle.jr_plain.proofs.Tests.{itself, always, both, either, opposite, like}
-use Rattle.jr_plain.proofs.Searches.{any, some, every, some_of, gathered_tells, if_tells}
-use Rattle.jr_plain.proofs.Least.{closed, sound, closed_below, sound_below}
+use Rattle.jr_plain.proofs.Tests.{itself, always, both, either, opposite, like, decide}
+use Rattle.jr_plain.proofs.Searches.{lists, some_of, flat_of}
+use Rattle.jr_plain.proofs.Least.{closed, sound}
+use Rattle.jr_plain.proofs.OfTypes.{types_list, closed_types, sound_types}
 use Rattle.jr_plain.proofs.Same.{role_tells, pair_tells}
-use Rattle.jr_plain.proofs.Bounds.{class_below, type_below, member_below}
-use Rattle.jr_plain.proofs.Declared.{class_tells, interface_tells}
-use Rattle.jr_plain.proofs.Enclosed.{most, declared_in_tells, declaring_finds, declared_below}
+use Rattle.jr_plain.proofs.Bounds.{member_below}
+use Rattle.jr_plain.proofs.Declared.{type_tells, class_tells, interface_tells}
+use Rattle.jr_plain.proofs.Enclosed.{declared_in_tells, declaring_finds}
+use Rattle.jr_plain.proofs.Children.{declared_list}
 use Rattle.jr_plain.proofs.Modified.{found_tells, public_tells, protected_tells, private_tells, static_tells}
 use Rattle.jr_plain.proofs.Packaged.{same_package_tells}
-use Rattle.jr_plain.proofs.Supertyped.{superclasses_list, superclass_name_below, parent_below, above_tells, at_or_above_tells}
+use Rattle.jr_plain.proofs.Supertyped.{superclasses_list, superclass_source, above_tells, at_or_above_tells}
 use Rattle.jr_plain.proofs.Membership.{same_methods_tells, member_tells, member_source}
 
 abbrev IsMethod : Rows → ℕ → Type 0
@@ -45,36 +47,32 @@ method_below p m e = member_below p m (subst IsMemberRole (sym e) tt)
 reachable_tells : (p : Rows) (m k : ℕ) → Decides (plain.is_reachable p m k) (IsPublic p k ⊎ IsProtected p k ⊎ SamePackage p m k)
 reachable_tells p m k = either (public_tells p k) (either (protected_tells p k) (same_package_tells p m k))
 
+methods_list : (p : Rows) → Lists (plain.methods p) (λ m. IsMethod p m)
+methods_list p = lists (λ m. plain.is_method p m) (λ m. IsMethod p m) (method_tells p) (length p) (method_below p)
+
 -- each two methods are a pair
 pair_listed : (p : Rows) (m k : ℕ) → IsMethod p m → IsMethod p k → among same_pair (plain.method_pairs p) (m, k) ≡ true
-pair_listed p m k a b = (gathered_tells same_pair pair_tells (λ m. gathered (length p) (λ k. one m k)) (length p) (m, k)).1
-    (m, method_below p m a, (gathered_tells same_pair pair_tells (λ k. one m k) (length p) (m, k)).1 (k, method_below p k b, here))
-  where
-    one : ℕ → ℕ → List (ℕ × ℕ)
-    one m k = cond (plain.is_method p m && plain.is_method p k) ((m, k) ∷ []) []
+pair_listed p m k a b = (flat_of same_pair (λ m. flat_map (λ k. (m, k) ∷ []) (plain.methods p)) (plain.methods p) (methods_list p) (m, k)).1
+    (m, a, (flat_of same_pair (λ k. (m, k) ∷ []) (plain.methods p) (methods_list p) (m, k)).1 (k, b, or_left (same_pair (m, k) (m, k)) false ((pair_tells (m, k) (m, k)).1 refl)))
 
-    here : among same_pair (one m k) (m, k) ≡ true
-    here = (if_tells same_pair pair_tells (plain.is_method p m && plain.is_method p k) (both (method_tells p m) (method_tells p k)) ((m, k) ∷ []) (m, k)).1
-        ((a, b), or_left (same_pair (m, k) (m, k)) false ((pair_tells (m, k) (m, k)).1 refl))
-
-module _ (p : Rows) (t : Table) (tree : IsTree p) where
+module _ (p : Rows) (t : Table) (headed : IsHeaded p) where
   declared_below_tells : (m k : ℕ) → Decides (plain.is_declared_below p t m k) ((c : ℕ) × DeclaredIn p c m × ((s : ℕ) × DeclaredIn p s k × Above p t c s))
   declared_below_tells m k = found_tells (λ c. DeclaredIn p c m) _ (λ c. (s : ℕ) × DeclaredIn p s k × Above p t c s)
-      (λ c. found_tells (λ s. DeclaredIn p s k) (λ s. is_above p t c s) (λ s. Above p t c s) (λ s. above_tells p t tree c s) (declaring_type p k) (declaring_finds p k)) (declaring_type p m) (declaring_finds p m)
+      (λ c. found_tells (λ s. DeclaredIn p s k) (λ s. is_above p t c s) (λ s. Above p t c s) (λ s. above_tells p t headed c s) (declaring_type p k) (declaring_finds p k)) (declaring_type p m) (declaring_finds p m)
 
   pub above_method_tells : (m k : ℕ) → Decides (plain.is_above_method p t m k) (IsAboveMethod p t m k)
-  above_method_tells m k = like (both (both (both (same_methods_tells p t tree m k) (opposite (static_tells p m))) (opposite (private_tells p k))) (declared_below_tells m k))
+  above_method_tells m k = like (both (both (both (same_methods_tells p t headed m k) (opposite (static_tells p m))) (opposite (private_tells p k))) (declared_below_tells m k))
       (λ h. record { signatures = h.0.0.0; instance = h.0.0.1; type = h.1.0; declared = h.1.1; upper = h.1.2.0; declares = h.1.2.1; above = h.1.2.2; reached = h.0.1 })
       (λ h. (((h.signatures, h.instance), h.reached), (h.type, h.declared, (h.upper, h.declares, h.above))))
 
   abbrev Through : List (ℕ × ℕ) → ℕ → ℕ → Type 0
-  Through set m k = (j : ℕ) × (j < length p) × ((among same_pair set (m, j) ≡ true) × (among same_pair set (j, k) ≡ true))
+  Through set m k = (j : ℕ) × IsMethod p j × ((among same_pair set (m, j) ≡ true) × (among same_pair set (j, k) ≡ true))
 
   overriding_tells : (set : List (ℕ × ℕ)) (x : ℕ × ℕ)
       → Decides (plain.is_overriding p t set x) (IsAboveMethod p t x.0 x.1 × ((IsPublic p x.1 ⊎ IsProtected p x.1 ⊎ SamePackage p x.0 x.1) ⊎ Through set x.0 x.1))
   overriding_tells set x = both (above_method_tells x.0 x.1) (either (reachable_tells p x.0 x.1)
-      (any (λ j. among same_pair set (x.0, j) && among same_pair set (j, x.1)) (λ j. (among same_pair set (x.0, j) ≡ true) × (among same_pair set (j, x.1) ≡ true))
-          (λ j. both (itself (among same_pair set (x.0, j))) (itself (among same_pair set (j, x.1)))) (length p)))
+      (some_of (λ j. among same_pair set (x.0, j) && among same_pair set (j, x.1)) (λ j. (among same_pair set (x.0, j) ≡ true) × (among same_pair set (j, x.1) ≡ true))
+      (λ j. both (itself (among same_pair set (x.0, j))) (itself (among same_pair set (j, x.1)))) (plain.methods p) (methods_list p)))
 
   overrides_out : (m k : ℕ) → among same_pair (plain.overriding p t) (m, k) ≡ true → Overrides p t m k
   overrides_out m k = sound same_pair pair_tells (plain.method_pairs p) (plain.is_overriding p t) (λ x. Overrides p t x.0 x.1) step (m, k)
@@ -95,22 +93,23 @@ module _ (p : Rows) (t : Table) (tree : IsTree p) where
   overrides_into : (m k : ℕ) → Overrides p t m k → among same_pair (plain.overriding p t) (m, k) ≡ true
   overrides_into m k (Overrides.direct h r) = into_set m k h (inl r)
   overrides_into m k (Overrides.through {j = j} h a b) =
-      into_set m k h (inr (j, method_below p j (overrides_above m j a).signatures.second, (overrides_into m j a, overrides_into j k b)))
+      into_set m k h (inr (j, (overrides_above m j a).signatures.second, (overrides_into m j a, overrides_into j k b)))
 
   pub overrides_tells : (m k : ℕ) → Decides (plain.overrides p t m k) (Overrides p t m k)
   overrides_tells m k = (overrides_out m k, overrides_into m k)
 
   pub has_method_tells : (c m : ℕ) → Decides (plain.has_method p t c m) (Has p t c m)
   has_method_tells c m = like
-      (both (method_tells p m) (some (λ holder. is_at_or_above p t c holder && is_member p t holder m) (λ holder. AtOrAbove p t c holder × MemberOf p t holder m)
-          (λ holder. both (at_or_above_tells p t tree c holder) (member_tells p t tree holder m)) (length p) (λ holder h. member_source p t tree holder m h.1)))
-      (λ h. record { method = h.0; holder = h.1.0; above = h.1.1.0; member = h.1.1.1 }) (λ h. (h.method, (h.holder, (h.above, h.member))))
+      (both (method_tells p m) (some_of (λ holder. is_at_or_above p t c holder && is_member p t holder m) (λ holder. AtOrAbove p t c holder × MemberOf p t holder m)
+      (λ holder. both (at_or_above_tells p t headed c holder) (member_tells p t headed holder m)) (types p) (types_list p)))
+      (λ h. record { method = h.0; holder = h.1.0; above = h.1.2.0; member = h.1.2.1 })
+      (λ h. (h.method, (h.holder, member_source p t headed h.holder m h.member, (h.above, h.member))))
 
   pub implements_tells : (c f m : ℕ) → Decides (plain.implements p t c f m) (Implements p t c f m)
   implements_tells c f m = like
-      (both (both (both (same_methods_tells p t tree f m)
-          (found_tells (λ i. DeclaredIn p i m) (λ i. is_interface p i && is_above p t c i) (λ i. IsInterface p i × Above p t c i) (λ i. both (interface_tells p i) (above_tells p t tree c i)) (declaring_type p m)
-              (declaring_finds p m))) (public_tells p f)) (member_tells p t tree c f))
+      (both (both (both (same_methods_tells p t headed f m)
+      (found_tells (λ i. DeclaredIn p i m) (λ i. is_interface p i && is_above p t c i) (λ i. IsInterface p i × Above p t c i) (λ i. both (interface_tells p i) (above_tells p t headed c i)) (declaring_type p m)
+      (declaring_finds p m))) (public_tells p f)) (member_tells p t headed c f))
       (λ h. record { interface = h.0.0.1.0; is_interface = h.0.0.1.2.0; above = h.0.0.1.2.1; declared = h.0.0.1.1; member = h.1; public = h.0.1; signatures = h.0.0.0 })
       (λ h. (((h.signatures, (h.interface, h.declared, (h.is_interface, h.above))), h.public), h.member))
 
@@ -127,24 +126,19 @@ module _ (p : Rows) (t : Table) (tree : IsTree p) where
       into (Serves.implementing h) = inr h
 
   pub serves_not_tells : (c m b : ℕ) → Decides (plain.serves_not p t c m b) (ServesNot p t c m b)
-  serves_not_tells c m b = every {P = λ f. DeclaredIn p b f → Serves p t c m f → ⊥} (length p) (λ f. not (is_declared_in p b f && plain.serves p t c m f))
-      (λ f. like (opposite (both (declared_in_tells p b f) (serves_tells c m f))) (λ h x y. h (x, y)) (λ h k. h k.0 k.1))
-      (λ f le x y. let lt = declared_below p b f x in absurd (omega arith))
-
-  superclass_source : (b s : ℕ) → Superclass p t b s → b < length p
-  superclass_source b s (Superclass.named {n = n} h e) = let less = parent_below p tree n (superclass_name_below p b n h) in let up = h.inside in omega arith
-  superclass_source b s (Superclass.implied h o) = class_below p b h.class
+  serves_not_tells c m b = like (opposite (some_of (λ f. plain.serves p t c m f) (λ f. Serves p t c m f) (λ f. serves_tells c m f) (declared_by p b) (declared_list p headed.tree b)))
+      (λ h f x y. h (f, x, y)) (λ h k. h k.0 k.1 k.2)
 
   module _ (c m f : ℕ) where
-    -- the call finds f from s on, by the set or past the rows
+    -- the call finds f from s on, by the set or past the types
     abbrev FoundAt : List ℕ → ℕ → Type 0
-    FoundAt set s = (has set s ≡ true) ⊎ ((length p ≤ s) × (f ≡ m))
+    FoundAt set s = (has set s ≡ true) ⊎ ((IsType p s → ⊥) × (f ≡ m))
 
     found_at_tells : (set : List ℕ) (s : ℕ) → Decides (plain.is_found_at p m f set s) (FoundAt set s)
-    found_at_tells set s = either (itself (has set s)) (both (most (length p) s) (Decides-eqb f m))
+    found_at_tells set s = either (itself (has set s)) (both (opposite (type_tells p s)) (Decides-eqb f m))
 
     some_superclass : (b : ℕ) → Decides (list_any (λ s. true) (superclasses p t b)) ((s : ℕ) × Superclass p t b s)
-    some_superclass b = like (some_of (λ s. true) (λ s. Unit {0}) (λ s. always) (superclasses p t b) (superclasses_list p t b)) (λ h. (h.0, h.1)) (λ h. (h.0, h.1, tt))
+    some_superclass b = like (some_of (λ s. true) (λ s. Unit {0}) (λ s. always) (superclasses p t b) (superclasses_list p t headed b)) (λ h. (h.0, h.1)) (λ h. (h.0, h.1, tt))
 
     abbrev FoundBy : List ℕ → ℕ → Type 0
     FoundBy set b = (DeclaredIn p b f × Serves p t c m f)
@@ -152,34 +146,33 @@ module _ (p : Rows) (t : Table) (tree : IsTree p) where
 
     found_by_tells : (set : List ℕ) (b : ℕ) → Decides (plain.is_found_by p t c m f set b) (FoundBy set b)
     found_by_tells set b = either (both (declared_in_tells p b f) (serves_tells c m f))
-        (both (serves_not_tells c m b) (either (some_of (plain.is_found_at p m f set) (FoundAt set) (found_at_tells set) (superclasses p t b) (superclasses_list p t b))
-            (both (Decides-eqb f m) (opposite (some_superclass b)))))
+        (both (serves_not_tells c m b) (either (some_of (plain.is_found_at p m f set) (FoundAt set) (found_at_tells set) (superclasses p t b) (superclasses_list p t headed b))
+        (both (Decides-eqb f m) (opposite (some_superclass b)))))
 
-    past_rows : (s : ℕ) → length p ≤ s → f ≡ m → FoundFrom p t c m s f
-    past_rows s le e = subst (λ x. FoundFrom p t c m s x) (sym e)
-        (FoundFrom.end (λ x d v. let lt = type_below p s d.inside.type in absurd (omega arith)) (λ u h. let lt = superclass_source s u h in absurd (omega arith)))
+    past_types : (s : ℕ) → (IsType p s → ⊥) → f ≡ m → FoundFrom p t c m s f
+    past_types s apart e = subst (λ x. FoundFrom p t c m s x) (sym e) (FoundFrom.end (λ x d v. apart d.inside.type) (λ u h. apart (superclass_source p t headed s u h)))
 
     found_out : (b : ℕ) → has (plain.finders p t c m f) b ≡ true → FoundFrom p t c m b f
-    found_out = sound_below (length p) (plain.is_found_by p t c m f) (λ b. FoundFrom p t c m b f) step
+    found_out = sound_types p (plain.is_found_by p t c m f) (λ b. FoundFrom p t c m b f) step
       where
         from : (set : List ℕ) → ((k : ℕ) → has set k ≡ true → FoundFrom p t c m k f) → (b : ℕ) → FoundBy set b → FoundFrom p t c m b f
         from set holds b (inl h) = FoundFrom.here h.0 h.1
-        from set holds b (inr h) = ⊎_elim (λ k. FoundFrom.up h.0 k.1 (⊎_elim (holds k.0) (λ x. past_rows k.0 x.0 x.1) k.2))
+        from set holds b (inr h) = ⊎_elim (λ k. FoundFrom.up h.0 k.1 (⊎_elim (holds k.0) (λ x. past_types k.0 x.0 x.1) k.2))
             (λ k. subst (λ x. FoundFrom p t c m b x) (sym k.0) (FoundFrom.end h.0 (λ s u. k.1 (s, u)))) h.1
 
-        step : (set : List ℕ) → ((k : ℕ) → has set k ≡ true → FoundFrom p t c m k f) → (b : ℕ) → b < length p → plain.is_found_by p t c m f set b ≡ true → FoundFrom p t c m b f
-        step set holds b lt h = from set holds b ((found_by_tells set b).0 h)
+        step : (set : List ℕ) → ((k : ℕ) → has set k ≡ true → FoundFrom p t c m k f) → (b : ℕ) → IsType p b → plain.is_found_by p t c m f set b ≡ true → FoundFrom p t c m b f
+        step set holds b type h = from set holds b ((found_by_tells set b).0 h)
 
-    closed_found : (b : ℕ) → b < length p → FoundBy (plain.finders p t c m f) b → FoundAt (plain.finders p t c m f) b
-    closed_found b lt h = inl (closed_below (length p) (plain.is_found_by p t c m f) b lt ((found_by_tells (plain.finders p t c m f) b).1 h))
+    closed_found : (b : ℕ) → IsType p b → FoundBy (plain.finders p t c m f) b → FoundAt (plain.finders p t c m f) b
+    closed_found b type h = inl (closed_types p (plain.is_found_by p t c m f) b type ((found_by_tells (plain.finders p t c m f) b).1 h))
 
   found_into : (c m b f : ℕ) → FoundFrom p t c m b f → FoundAt c m f (plain.finders p t c m f) b
-  found_into c m b f (FoundFrom.here d v) = closed_found c m f b (type_below p b d.inside.type) (inl (d, v))
-  found_into c m b f (FoundFrom.up {s = s} none up more) = closed_found c m f b (superclass_source b s up) (inr (none, inl (s, up, found_into c m s f more)))
-  found_into c m b _ (FoundFrom.end none top) = ⊎_elim (λ lt. closed_found c m m b lt (inr (none, inr (refl, λ h. top h.0 h.1)))) (λ le. inr (le, refl)) (cases_lt b (length p))
+  found_into c m b f (FoundFrom.here d v) = closed_found c m f b d.inside.type (inl (d, v))
+  found_into c m b f (FoundFrom.up {s = s} none up more) = closed_found c m f b (superclass_source p t headed b s up) (inr (none, inl (s, up, found_into c m s f more)))
+  found_into c m b _ (FoundFrom.end none top) = ⊎_elim (λ type. closed_found c m m b type (inr (none, inr (refl, λ h. top h.0 h.1)))) (λ apart. inr (apart, refl)) (decide (type_tells p b))
 
   pub found_from_tells : (c m b f : ℕ) → Decides (plain.is_found_from p t c m b f) (FoundFrom p t c m b f)
-  found_from_tells c m b f = like (found_at_tells c m f (plain.finders p t c m f) b) (⊎_elim (found_out c m f b) (λ h. past_rows c m f b h.0 h.1)) (found_into c m b f)
+  found_from_tells c m b f = like (found_at_tells c m f (plain.finders p t c m f) b) (⊎_elim (found_out c m f b) (λ h. past_types c m f b h.0 h.1)) (found_into c m b f)
 
   pub find_tells : (c m f : ℕ) → Decides (plain.is_found p t c m f) (Found p t c m f)
   find_tells c m f = like (either (both (either (private_tells p m) (static_tells p m)) (Decides-eqb f m)) (both (opposite (either (private_tells p m) (static_tells p m))) (found_from_tells c m c f))) out into

@@ -1,5 +1,5 @@
 -- The tests of bodies, members and enclosing types tell what they are to tell.
-use Rattle.std.proofs.Common.{◌≡◌, refl, sym, ap, subst, ℕ, ◌≤◌, ◌<◌, Bool, true, false, ◌&&◌, cond, length, Option, Some, None, nat_eq, nat_lt, nat_le, Decides}
+use Rattle.std.proofs.Common.{◌≡◌, refl, sym, ap, subst, ℕ, ◌≤◌, ◌<◌, Bool, true, false, ◌&&◌, cond, length, Some, None, nat_lt, nat_le, Decides}
 use Rattle.std.proofs.lemmas.Bool.{false≢true, leb-true, le-leb}
 use Rattle.std.proofs.lemmas.Bool.Decides.{Decides-eqb, Decides-ltb}
 use Rattle.std.proofs.lemmas.Option.{cond_some}
@@ -8,12 +8,11 @@ use Rattle.jr_rows.specs.declared.label.Label.TheVariants as is
 use Rattle.jr_rows.specs.declared.label.Role.{Role}
 use Rattle.jr_rows.specs.declared.label.Role.TheVariants as role
 use Rattle.jr_rows.specs.Rows.{Rows, label, parent, end, role_at}
-use Rattle.jr_defs.specs.Declarations.{IsType}
 use Rattle.jr_defs.specs.Enclosing.{BodyOf, InBody, Innermost, IsMemberRole, holder, DeclaredIn, ConstructorOf, IsTopLevel, InTopLevel, SameTopLevel}
-use Rattle.jr_plain.specs.Search.{Lists, Finds}
+use Rattle.jr_plain.specs.Search.{Finds}
 use Rattle.jr_plain.specs.Enclosing as plain
 use Rattle.jr_plain.proofs.Tests.{always, never, both, like}
-use Rattle.jr_plain.proofs.Searches.{some, lists, finds_last}
+use Rattle.jr_plain.proofs.Searches.{some, finds_last}
 use Rattle.jr_plain.proofs.Same.{role_tells}
 use Rattle.jr_plain.proofs.Bounds.{type_below, member_below, body_below}
 use Rattle.jr_plain.proofs.Declared.{type_tells}
@@ -36,7 +35,7 @@ body_tells p c b = like (both (both (type_tells p c) (body_label_tells (label p 
 pub in_body_tells : (p : Rows) (c o : ℕ) → Decides (plain.is_in_body p c o) (InBody p c o)
 in_body_tells p c o = like
     (some (λ b. plain.is_body_of p c b && nat_lt b o && nat_lt o (end p b)) (λ b. (BodyOf p c b × (b < o)) × (o < end p b))
-        (λ b. both (both (body_tells p c b) (Decides-ltb b o)) (Decides-ltb o (end p b))) (length p) (λ b h. body_below p c b h.0.0))
+    (λ b. both (both (body_tells p c b) (Decides-ltb b o)) (Decides-ltb o (end p b))) (length p) (λ b h. body_below p c b h.0.0))
     (λ h. record { body = h.0; of_type = h.1.0.0; after = h.1.0.1; before = h.1.1 }) (λ h. (h.body, ((h.of_type, h.after), h.before)))
 
 pub in_body_below : (p : Rows) (c o : ℕ) → InBody p c o → c < length p
@@ -47,7 +46,7 @@ innermost_finds p o c =
     let both_ways = finds_last (λ c. plain.is_in_body p c o) (λ c. InBody p c o) (λ c. in_body_tells p c o) (length p) (λ c h. in_body_below p c o h) c in
     (λ e. let h = both_ways.0 e in record { holds = h.0; innermost = h.1 }, λ h. both_ways.1 (h.holds, h.innermost))
 
-member_role_tells : (r : Role) → Decides (plain.is_member_role r) (IsMemberRole r)
+pub member_role_tells : (r : Role) → Decides (plain.is_member_role r) (IsMemberRole r)
 member_role_tells role.Type = always
 member_role_tells role.Field = always
 member_role_tells role.Method = always
@@ -71,9 +70,6 @@ declaring_finds p d = let c = parent p (holder (role_at p d) p d) in
 pub declared_below : (p : Rows) (c d : ℕ) → DeclaredIn p c d → d < length p
 declared_below p c d h = member_below p d h.member
 
-pub declared_lists : (p : Rows) (c : ℕ) → Lists (plain.declared_by p c) (λ d. DeclaredIn p c d)
-declared_lists p c = lists (λ d. plain.is_declared_in p c d) (λ d. DeclaredIn p c d) (λ d. declared_in_tells p c d) (length p) (λ d h. declared_below p c d h)
-
 pub constructor_tells : (p : Rows) (c k : ℕ) → Decides (plain.is_constructor_of p c k) (ConstructorOf p c k)
 constructor_tells p c k = like (both (role_tells (role_at p k) role.Constructor) (body_tells p c (parent p k))) (λ h. record { constructor = h.0; inside = h.1 }) (λ h. (h.constructor, h.inside))
 
@@ -91,5 +87,5 @@ in_top_level_tells p k o = like (both (both (top_level_tells p k) (most k o)) (D
 pub same_top_level_tells : (p : Rows) (m n : ℕ) → Decides (plain.is_same_top_level p m n) (SameTopLevel p m n)
 same_top_level_tells p m n = like
     (some (λ k. plain.is_in_top_level p k m && plain.is_in_top_level p k n) (λ k. InTopLevel p k m × InTopLevel p k n)
-        (λ k. both (in_top_level_tells p k m) (in_top_level_tells p k n)) (length p) (λ k h. type_below p k h.0.top.type))
+    (λ k. both (in_top_level_tells p k m) (in_top_level_tells p k n)) (length p) (λ k h. type_below p k h.0.top.type))
     (λ h. record { top = h.0; first = h.1.0; second = h.1.1 }) (λ h. (h.top, (h.first, h.second)))

@@ -8,7 +8,6 @@ use Rattle.jr_rows.specs.declared.label.Label.TheVariants as is
 use Rattle.jr_rows.specs.declared.label.ImportKind.{ImportKind}
 use Rattle.jr_rows.specs.declared.label.ImportKind.TheVariants as importing
 use Rattle.jr_rows.specs.Rows.{Rows, label, name, parent}
-use Rattle.jr_rows.specs.Tree.{IsTree}
 use Rattle.jr_defs.specs.declared.referent.Referent.{Referent}
 use Rattle.jr_defs.specs.declared.referent.Referent.TheVariants.{Package, Declared}
 use Rattle.jr_defs.specs.Referents.{Table}
@@ -17,6 +16,7 @@ use Rattle.jr_defs.specs.Enclosing.{InTopLevel}
 use Rattle.jr_defs.specs.Packages.{spelled, TypeOfPackage}
 use Rattle.jr_defs.specs.Members.{MemberOf}
 use Rattle.jr_defs.specs.Imports.{java_lang, ImportOf, ImportNames, CanImport, SingleImport, ImportedBy, StaticImport, OnDemandOf, OnDemandImport, ImportsHold}
+use Rattle.jr_plain.specs.Headed.{IsHeaded}
 use Rattle.jr_plain.specs.Declarations.{is_type}
 use Rattle.jr_plain.specs.Enclosing.{is_in_top_level}
 use Rattle.jr_plain.specs.Supertypes.{declaration}
@@ -68,13 +68,13 @@ imports_hold_tells p u o = like
     (both (in_unit_tells p u o) (some (λ k. is_in_top_level p k o) (λ k. InTopLevel p k o) (λ k. in_top_level_tells p k o) (length p) (λ k h. type_below p k h.top.type)))
     (λ h. record { unit = h.0; top = h.1.0; inside = h.1.1 }) (λ h. (h.unit, (h.top, h.inside)))
 
-module _ (p : Rows) (t : Table) (tree : IsTree p) where
+module _ (p : Rows) (t : Table) (headed : IsHeaded p) where
   -- d is a member of the type that the import names
   abbrev MemberOfImport : ℕ → ℕ → Type 0
   MemberOfImport i d = (c : ℕ) × ((level : Option ℕ) × (t (i + 1) ≡ Declared c level)) × (IsType p c × MemberOf p t c d)
 
   member_of_import_tells : (i d : ℕ) → Decides (plain.is_member_of_import p t i d) (MemberOfImport i d)
-  member_of_import_tells i d = some_of (λ c. is_type p c && is_member p t c d) (λ c. IsType p c × MemberOf p t c d) (λ c. both (type_tells p c) (member_tells p t tree c d))
+  member_of_import_tells i d = some_of (λ c. is_type p c && is_member p t c d) (λ c. IsType p c × MemberOf p t c d) (λ c. both (type_tells p c) (member_tells p t headed c d))
       (declaration (t (i + 1))) (declaration_lists (t (i + 1)))
 
   pub imported_by_tells : (u i d : ℕ) → Decides (plain.is_imported_by p t u i d) (ImportedBy p t u i d)

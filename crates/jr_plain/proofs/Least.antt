@@ -1,9 +1,8 @@
 -- The least set: it has all that follows from it, and nothing else.
-use Rattle.std.proofs.Common.{le_trans, ◌≡◌, ◌⊎◌, refl, sym, ◌∙◌, ap, subst, inl, inr, ⊎_elim, arith, ℕ, zero, suc, ◌+◌, ◌≤◌, ◌<◌, Bool, true, false, cond, not, ◌&&◌, ◌||◌, List, [], ◌∷◌, ◌++◌, length, filter, nat_eq, Decides}
-use Rattle.std.specs.List.{list_any}
-use Rattle.std.proofs.lemmas.Bool.{false≢true, cases_Bool, or_left, or_right, or_cases, and_parts, and_from, not-true, not_from_false, not_from_true}
+use Rattle.std.proofs.Common.{◌≡◌, ◌⊎◌, refl, sym, ◌∙◌, ap, subst, inl, inr, ⊎_elim, arith, ℕ, zero, suc, ◌+◌, ◌≤◌, ◌<◌, Bool, true, false, cond, not, ◌&&◌, ◌||◌, List, [], ◌∷◌, ◌++◌, length, nat_eq, Decides}
+use Rattle.std.proofs.lemmas.Bool.{false≢true, cases_Bool, or_left, or_cases, and_parts, and_from, not-true, not_from_false, not_from_true}
 use Rattle.std.proofs.lemmas.Bool.Decides.{Decides-eqb}
-use Rattle.jr_plain.specs.Search.{any_below, all_such, numbers, among, has, if_empty, news, grown, least, least_below, Reaches, sources, reaches}
+use Rattle.jr_plain.specs.Search.{any_below, numbers, among, has, if_empty, news, grown, least, least_below, Reaches, sources, reaches}
 use Rattle.jr_plain.proofs.Tests.{itself, both, either}
 use Rattle.jr_plain.proofs.Searches.{any, among_filter, among_append, such}
 
@@ -71,7 +70,7 @@ module _ {A : Type 0} (same : A → A → Bool) (tells : (a b : A) → Decides (
       let is = (new_item set x).0 here in
       let out = (and_parts (follows set x) (not (among same set x)) is.1).1 in
       less (λ y. not (among same set y)) (λ y. not (among same (set ++ x ∷ more) y)) still same tells all x is.0
-          (not_from_true _ ((among_append same tells set (x ∷ more) x).1 (inr (or_left (same x x) (among same more x) ((tells x x).1 refl))))) out
+      (not_from_true _ ((among_append same tells set (x ∷ more) x).1 (inr (or_left (same x x) (among same more x) ((tells x x).1 refl))))) out
     where
       still : (y : A) → not (among same (set ++ x ∷ more) y) ≡ true → not (among same set y) ≡ true
       still y h = ⊎_elim (λ a. absurd (false≢true (sym (not-true _ h) ∙ (among_append same tells set (x ∷ more) y).1 (inl a)))) (λ n. not_from_false _ n) (cases_Bool (among same set y))

@@ -5,9 +5,11 @@ pub mod Same
 pub mod Bounds
 pub mod Declared
 pub mod Enclosed
+pub mod Children
 pub mod Modified
 pub mod Packaged
 pub mod Typed
+pub mod OfTypes
 pub mod Supertyped
 pub mod Membership
 pub mod Answered
@@ -21,3 +23,4 @@ pub mod OneUnit
 pub mod Listed
 pub mod Overloaded
 pub mod LookedUp
+pub mod Headed

@@ -17,7 +17,6 @@ use Rattle.jr_rows.specs.declared.label.NameKind.TheVariants as kind
 use Rattle.jr_rows.specs.declared.label.Sought.{Sought}
 use Rattle.jr_rows.specs.declared.label.Sought.TheVariants as sought
 use Rattle.jr_rows.specs.Rows.{Rows, label, name, parent, end, role_at, sought_at}
-use Rattle.jr_rows.specs.Tree.{IsTree}
 use Rattle.jr_defs.specs.declared.referent.Space.{Space}
 use Rattle.jr_defs.specs.declared.referent.Space.TheVariants as space
 use Rattle.jr_defs.specs.declared.referent.Element.{Element}
@@ -40,6 +39,7 @@ use Rattle.jr_defs.specs.Typing.{TypeOf}
 use Rattle.jr_defs.specs.Overloads.{Choice, ImportedChoice}
 use Rattle.jr_defs.specs.Lookup.{level_of, VisibleThrough, NoneInScope, SimpleCandidate, Receiver, PackageBefore, ArrayBefore, MemberBefore, TypeBefore, QualifiedCandidate, SuperOf, arguments_by, Arguments, MethodLevel, ImportedMethod, MethodCandidate, EnclosesNew, NewLevel, CalledClass, Candidate, MayBePackage, MayBeLength, IsPackageName, IsLength, Otherwise, LookFor, Look}
 use Rattle.jr_defs.proofs.TypesAgree.{otherwise_one}
+use Rattle.jr_plain.specs.Headed.{IsHeaded}
 use Rattle.jr_plain.specs.Search.{any_below, all_such, gathered, Lists, Finds}
 use Rattle.jr_plain.specs.Same.{same_candidate, same_type}
 use Rattle.jr_plain.specs.Lists.{Has, at_level}
@@ -131,14 +131,14 @@ may_be_length_tells (sought.Qualified kind.Ambiguous) = always
 may_be_length_tells sought.FieldOf = always
 may_be_length_tells _ = never
 
-module _ (p : Rows) (t : Table) (tree : IsTree p) where
+module _ (p : Rows) (t : Table) (headed : IsHeaded p) where
   -- ---- names without a dot
 
   abbrev VisibleAt : Space → Text → ℕ → ℕ → Depth → ℕ × Option ℕ → Type 0
   VisibleAt k x o d r c = Visible p t k x o d r × ((d, level_of (role_at p d) r) ≡ c)
 
   visible_at_has : (k : Space) (x : Text) (o d : ℕ) (r : Depth) → Has same_candidate (plain.visible_at p t k x o d r) (VisibleAt k x o d r)
-  visible_at_has k x o d r = if_has same_candidate candidate_tells (is_visible p t k x o d r) (visible_tells p t tree k x o d r) ((d, level_of (role_at p d) r) ∷ [])
+  visible_at_has k x o d r = if_has same_candidate candidate_tells (is_visible p t k x o d r) (visible_tells p t headed k x o d r) ((d, level_of (role_at p d) r) ∷ [])
       (one_has same_candidate candidate_tells (d, level_of (role_at p d) r))
 
   visible_through_has : (k : Space) (x : Text) (o : ℕ) → Has same_candidate (plain.visible_through p t k x o) (λ c. VisibleThrough p t k x o c.0 c.1)
@@ -146,15 +146,15 @@ module _ (p : Rows) (t : Table) (tree : IsTree p) where
       (gathered_has same_candidate candidate_tells (λ d c. Declares p k x d × ((r : Depth) × VisibleAt k x o d r c)) (λ d. if declares p k x d then gathered (depths p) (λ r. plain.visible_at p t k x o d (depth_at r)) else [])
           (λ d. if_has same_candidate candidate_tells (declares p k x d) (declares_tells p k x d) (gathered (depths p) (λ r. plain.visible_at p t k x o d (depth_at r)))
               (each_depth_has same_candidate candidate_tells p (VisibleAt k x o d) (λ r. plain.visible_at p t k x o d r) (visible_at_has k x o d)
-                  (λ s c h. depth_below p t tree k x o d s h.0.in_scope)))
+                  (λ s c h. depth_below p t headed k x o d s h.0.in_scope)))
           (length p) (λ d c h. declares_below p k x d h.0))
       (λ c h. subst (λ e. VisibleThrough p t k x o e.0 e.1) h.1.1.1.1 (record { depth = h.1.1.0; visible = h.1.1.1.0; through = refl }))
       (λ c h. (c.0, (h.visible.in_scope.declares, (h.depth, (h.visible, λ i. (c.0, h.through i))))))
 
   none_tells : (k : Space) (x : Text) (o : ℕ) → Decides (plain.none_in_scope p t k x o) (NoneInScope p t k x o)
   none_tells k x o = like
-      (opposite (some (λ d. is_somewhere_in_scope p t k x o d) (λ d. (r : Depth) × InScope p t k x o d r) (λ d. somewhere_tells p t tree k x o d) (length p)
-          (λ d h. in_scope_below p t tree k x o d h.0 h.1)))
+      (opposite (some (λ d. is_somewhere_in_scope p t k x o d) (λ d. (r : Depth) × InScope p t k x o d r) (λ d. somewhere_tells p t headed k x o d) (length p)
+          (λ d h. in_scope_below p t headed k x o d h.0 h.1)))
       (λ h d r k. h (d, (r, k))) (λ h k. h k.0 k.1.0 k.1.1)
 
   variable_into : {x : Text} {o d : ℕ} {level : Option ℕ} → SimpleCandidate p t x o kind.Variable d level → VisibleThrough p t space.Variable x o d level
@@ -199,7 +199,7 @@ module _ (p : Rows) (t : Table) (tree : IsTree p) where
   types_list x o d = like
       (append_has nat_eq Decides-eqb (option_map_or (λ c. members_named p t space.Type x c) (named_type p t o) [])
           (if plain.is_package_before p t o then all_such (length p) (λ d. plain.is_named_type_of_package p (spelled p (o + 1)) x d) else [])
-          (found_has nat_eq Decides-eqb (λ c. NamesType p t o c) (λ c d. MemberNamed p t space.Type x c d) (λ c. members_named p t space.Type x c) (λ c. members_named_list p t tree space.Type x c)
+          (found_has nat_eq Decides-eqb (λ c. NamesType p t o c) (λ c d. MemberNamed p t space.Type x c d) (λ c. members_named p t space.Type x c) (λ c. members_named_list p t headed space.Type x c)
               (named_type p t o) (named_finds p t o))
           (if_has nat_eq Decides-eqb (plain.is_package_before p t o) (package_before_tells p t o) (all_such (length p) (λ d. plain.is_named_type_of_package p (spelled p (o + 1)) x d))
               (lists (λ d. plain.is_named_type_of_package p (spelled p (o + 1)) x d) (λ d. TypeOfPackage p (spelled p (o + 1)) d × Declares p space.Type x d)
@@ -211,7 +211,7 @@ module _ (p : Rows) (t : Table) (tree : IsTree p) where
   supers_before_list : (o : ℕ) → Lists (plain.supers_before p t o) (λ s. SuperOf p t o s)
   supers_before_list o s = like
       (found_has nat_eq Decides-eqb (λ c. Innermost p o c) (λ c s. HasInstance p o c × Superclass p t c s) (λ c. if has_instance p o c then superclasses p t c else [])
-          (λ c. if_has nat_eq Decides-eqb (has_instance p o c) (instance_tells p o c) (superclasses p t c) (superclasses_list p t c)) (innermost p o) (innermost_finds p o) s)
+          (λ c. if_has nat_eq Decides-eqb (has_instance p o c) (instance_tells p o c) (superclasses p t c) (superclasses_list p t headed c)) (innermost p o) (innermost_finds p o) s)
       (λ h. record { class = h.0; innermost = h.1; instance = h.2.0; above = h.2.1 }) (λ h. (h.class, h.innermost, (h.instance, h.above)))
 
   -- ---- calls without a receiver
@@ -221,7 +221,7 @@ module _ (p : Rows) (t : Table) (tree : IsTree p) where
 
   level_tells : (x : Text) (o c : ℕ) → Decides (plain.is_method_level p t x o c) (SomeLevel x o c)
   level_tells x o c = both (in_body_tells p c o)
-      (some (λ d. is_member_named p t space.Method x c d) (λ d. MemberNamed p t space.Method x c d) (λ d. member_named_tells p t tree space.Method x c d) (length p)
+      (some (λ d. is_member_named p t space.Method x c d) (λ d. MemberNamed p t space.Method x c d) (λ d. member_named_tells p t headed space.Method x c d) (length p)
           (λ d h. declares_below p space.Method x d h.declares))
 
   method_level_finds : (x : Text) (o : ℕ) → Finds (plain.method_level p t x o) (λ c. MethodLevel p t x o c)
@@ -231,7 +231,7 @@ module _ (p : Rows) (t : Table) (tree : IsTree p) where
 
   imported_methods_list : (x : Text) (o : ℕ) → Lists (plain.imported_methods p t x o) (λ d. ImportedMethod p t x o d)
   imported_methods_list x o = lists (λ d. is_imported p (is_static_import p t) o d && declares p space.Method x d) (λ d. ImportedMethod p t x o d)
-      (λ d. like (both (imported_tells p (is_static_import p t) (StaticImport p t) (static_import_tells p t tree) o d) (declares_tells p space.Method x d)) (λ h. record { imported = h.0; declares = h.1 })
+      (λ d. like (both (imported_tells p (is_static_import p t) (StaticImport p t) (static_import_tells p t headed) o d) (declares_tells p space.Method x d)) (λ h. record { imported = h.0; declares = h.1 })
           (λ h. (h.imported, h.declares))) (length p) (λ d h. declares_below p space.Method x d h.declares)
 
   module _ (x : Text) (o : ℕ) (all : List RowType) where
@@ -257,11 +257,11 @@ module _ (p : Rows) (t : Table) (tree : IsTree p) where
     methods_by : (found : Option ℕ) → Finds found (λ c. MethodLevel p t x o c) → Has same_candidate (plain.methods_at p t x o all found) (λ k. MethodCandidate p t x o all k.0 k.1)
     methods_by (Some c) finds k = like
         (at_level_has (Some c) (choice p t c o None all (members_named p t space.Method x c))
-            (choice_list p t tree c o None all (MemberNamed p t space.Method x c) (members_named p t space.Method x c) (members_named_list p t tree space.Method x c)) k)
+            (choice_list p t headed c o None all (MemberNamed p t space.Method x c) (members_named p t space.Method x c) (members_named_list p t headed space.Method x c)) k)
         (method_out c ((finds c).0 refl) k) (method_into c (λ e h. same_Some c e ((finds e).1 h)) ((finds c).0 refl) k.0 k.1)
     methods_by None finds k = like
         (at_level_has None (imported_choice p t o all (plain.imported_methods p t x o))
-            (imported_choice_list p t tree o all (ImportedMethod p t x o) (plain.imported_methods p t x o) (imported_methods_list x o)) k)
+            (imported_choice_list p t headed o all (ImportedMethod p t x o) (plain.imported_methods p t x o) (imported_methods_list x o)) k)
         (imported_out none k) (imported_into none k.0 k.1)
       where
         none : (c : ℕ) → MethodLevel p t x o c → ⊥
@@ -273,7 +273,7 @@ module _ (p : Rows) (t : Table) (tree : IsTree p) where
   -- ---- creations
 
   encloses_finds : (o c : ℕ) → Finds (plain.enclosing_new p t o c) (λ e. EnclosesNew p t o c e)
-  encloses_finds o c e = let h = finds_last (λ e. is_in_body p e o && is_member p t e c) (λ e. InBody p e o × MemberOf p t e c) (λ e. both (in_body_tells p e o) (member_tells p t tree e c)) (length p)
+  encloses_finds o c e = let h = finds_last (λ e. is_in_body p e o && is_member p t e c) (λ e. InBody p e o × MemberOf p t e c) (λ e. both (in_body_tells p e o) (member_tells p t headed e c)) (length p)
           (λ e h. in_body_below p e o h.0) e in
       (λ e. let k = h.0 e in record { holds = k.0.0; member = k.0.1; innermost = λ f b m. k.1 f (b, m) }, λ k. h.1 ((k.holds, k.member), λ j m. k.innermost j m.0 m.1))
 
@@ -298,7 +298,7 @@ module _ (p : Rows) (t : Table) (tree : IsTree p) where
   creations_has o all c k = like
       (found_has same_candidate candidate_tells (λ level. NewLevel p t o c level) (λ level k. Choice p t c o None all (ConstructorOf p c) k.0 × (k.1 ≡ level))
           (λ level. at_level level (choice p t c o None all (plain.constructors_of p c)))
-          (λ level. at_level_has level (choice p t c o None all (plain.constructors_of p c)) (choice_list p t tree c o None all (ConstructorOf p c) (plain.constructors_of p c) (constructors_list p c)))
+          (λ level. at_level_has level (choice p t c o None all (plain.constructors_of p c)) (choice_list p t headed c o None all (ConstructorOf p c) (plain.constructors_of p c) (constructors_list p c)))
           (plain.new_level p t o c) (new_level_finds o c) k)
       (λ h. (subst (λ l. NewLevel p t o c l) (sym h.2.1) h.1, h.2.0)) (λ h. (k.1, h.0, (h.1, refl)))
 
@@ -310,16 +310,16 @@ module _ (p : Rows) (t : Table) (tree : IsTree p) where
       this_into : {c : ℕ} → CalledClass p t o which.This c → (e : ℕ) × Innermost p o e × (e ≡ c)
       this_into {c} (CalledClass.this h) = (c, h, refl)
   called_list o which.Super s = like
-      (found_has nat_eq Decides-eqb (λ c. Innermost p o c) (λ c s. Superclass p t c s) (λ c. superclasses p t c) (λ c. superclasses_list p t c) (innermost p o) (innermost_finds p o) s)
+      (found_has nat_eq Decides-eqb (λ c. Innermost p o c) (λ c s. Superclass p t c s) (λ c. superclasses p t c) (λ c. superclasses_list p t headed c) (innermost p o) (innermost_finds p o) s)
       (λ h. CalledClass.super h.1 h.2) super_into
     where
       super_into : {s : ℕ} → CalledClass p t o which.Super s → (c : ℕ) × Innermost p o c × Superclass p t c s
       super_into (CalledClass.super {c = c} h k) = (c, h, k)
 
   after_by : (l : Label) (o : ℕ) → o < arguments_by l p o
-  after_by (is.Call on.Expression) o = let h = tree.nested (o + 1) in omega arith
-  after_by (is.Call on.Name) o = let h = tree.nested (o + 1) in omega arith
-  after_by is.New o = let h = tree.nested (o + 1) in omega arith
+  after_by (is.Call on.Expression) o = let h = headed.tree.nested (o + 1) in omega arith
+  after_by (is.Call on.Name) o = let h = headed.tree.nested (o + 1) in omega arith
+  after_by is.New o = let h = headed.tree.nested (o + 1) in omega arith
   after_by _ o = omega arith
 
   module _ (K : ℕ → Type 0) (type_of : Types) (typed : (n : ℕ) → Finds (type_of n) (λ a. TypeOf p t K n a)) where
@@ -361,7 +361,7 @@ module _ (p : Rows) (t : Table) (tree : IsTree p) where
     members_before_list : (k : Space) (x : Text) (o : ℕ) → Lists (plain.members_before p t type_of k x o) (λ d. MemberBefore p t K k x o d)
     members_before_list k x o d = like
         (flat_has nat_eq Decides-eqb plain.same_before before_tells (λ r. members_named p t k x r.0) (λ r. Receiver p t K o r.0 r.1) (λ r d. MemberNamed p t k x r.0 d)
-            (λ r. members_named_list p t tree k x r.0) (plain.receivers p t type_of o) (receivers_has o) d)
+            (λ r. members_named_list p t headed k x r.0) (plain.receivers p t type_of o) (receivers_has o) d)
         (λ h. record { class = h.0.0; receiver = h.0.1; before = h.1; member = h.2 }) (λ h. ((h.class, h.receiver), h.before, h.member))
 
     field_into : {x : Text} {o d : ℕ} → QualifiedCandidate p t K x o kind.Variable d → MemberBefore p t K space.Variable x o d
@@ -393,7 +393,7 @@ module _ (p : Rows) (t : Table) (tree : IsTree p) where
     -- ---- candidates
 
     arguments_are : (o : ℕ) → Finds (plain.arguments p type_of o) (λ all. Arguments p t K o all)
-    arguments_are o = arguments_find p t K type_of typed o tree (arguments_by (label p o) p o) (after_by (label p o) o)
+    arguments_are o = arguments_find p t K type_of typed o headed.tree (arguments_by (label p o) p o) (after_by (label p o) o)
 
     with_arguments_has : (o : ℕ) (Q : List RowType → ℕ × Option ℕ → Type 0) (of : List RowType → plain.Candidates) → ((all : List RowType) → Has same_candidate (of all) (Q all))
         → Has same_candidate (plain.with_arguments p type_of o of) (λ k. (all : List RowType) × Arguments p t K o all × Q all k)
@@ -469,21 +469,21 @@ module _ (p : Rows) (t : Table) (tree : IsTree p) where
       ways_has sought.FieldOf = at_level_has None (plain.members_before p t type_of space.Variable x o) (members_before_list space.Variable x o)
       ways_has sought.SuperField = at_level_has None (flat_map (λ s. members_named p t space.Variable x s) (plain.supers_before p t o))
           (flat_has nat_eq Decides-eqb nat_eq Decides-eqb (λ s. members_named p t space.Variable x s) (λ s. SuperOf p t o s) (λ s d. MemberNamed p t space.Variable x s d)
-              (λ s. members_named_list p t tree space.Variable x s) (plain.supers_before p t o) (supers_before_list o))
+              (λ s. members_named_list p t headed space.Variable x s) (plain.supers_before p t o) (supers_before_list o))
       ways_has sought.Method = with_arguments_has o (λ all k. MethodCandidate p t x o all k.0 k.1) (λ all. plain.methods_at p t x o all (plain.method_level p t x o)) (λ all. methods_has x o all)
       ways_has sought.MethodOf = with_arguments_has o OfReceiver
           (λ all. at_level None (flat_map (λ r. choice p t r.0 o r.1 all (members_named p t space.Method x r.0)) (plain.receivers p t type_of o)))
           (λ all. at_level_has None (flat_map (λ r. choice p t r.0 o r.1 all (members_named p t space.Method x r.0)) (plain.receivers p t type_of o))
               (flat_has nat_eq Decides-eqb plain.same_before before_tells (λ r. choice p t r.0 o r.1 all (members_named p t space.Method x r.0)) (λ r. Receiver p t K o r.0 r.1)
                   (λ r d. Choice p t r.0 o r.1 all (MemberNamed p t space.Method x r.0) d)
-                  (λ r. choice_list p t tree r.0 o r.1 all (MemberNamed p t space.Method x r.0) (members_named p t space.Method x r.0) (members_named_list p t tree space.Method x r.0))
+                  (λ r. choice_list p t headed r.0 o r.1 all (MemberNamed p t space.Method x r.0) (members_named p t space.Method x r.0) (members_named_list p t headed space.Method x r.0))
                   (plain.receivers p t type_of o) (receivers_has o)))
       ways_has sought.SuperMethod = with_arguments_has o OfSuperMethod
           (λ all. at_level None (flat_map (λ s. choice p t s o None all (members_named p t space.Method x s)) (plain.supers_before p t o)))
           (λ all. at_level_has None (flat_map (λ s. choice p t s o None all (members_named p t space.Method x s)) (plain.supers_before p t o))
               (flat_has nat_eq Decides-eqb nat_eq Decides-eqb (λ s. choice p t s o None all (members_named p t space.Method x s)) (λ s. SuperOf p t o s)
                   (λ s d. Choice p t s o None all (MemberNamed p t space.Method x s) d)
-                  (λ s. choice_list p t tree s o None all (MemberNamed p t space.Method x s) (members_named p t space.Method x s) (members_named_list p t tree space.Method x s))
+                  (λ s. choice_list p t headed s o None all (MemberNamed p t space.Method x s) (members_named p t space.Method x s) (members_named_list p t headed space.Method x s))
                   (plain.supers_before p t o) (supers_before_list o)))
       ways_has sought.Creation = with_arguments_has o OfCreation (λ all. option_map_or (λ c. plain.creations p t o all c) (named_type p t o) [])
           (λ all. found_has same_candidate candidate_tells (λ c. NamesType p t o c) (λ c. Creates o all c) (λ c. plain.creations p t o all c) (λ c. creations_has o all c) (named_type p t o) (named_finds p t o))
@@ -492,12 +492,12 @@ module _ (p : Rows) (t : Table) (tree : IsTree p) where
           (λ all. at_level_has None (flat_map (λ c. choice p t c o None all (plain.constructors_of p c)) (plain.called_classes p t o w))
               (flat_has nat_eq Decides-eqb nat_eq Decides-eqb (λ c. choice p t c o None all (plain.constructors_of p c)) (λ c. CalledClass p t o w c)
                   (λ c d. Choice p t c o None all (ConstructorOf p c) d)
-                  (λ c. choice_list p t tree c o None all (ConstructorOf p c) (plain.constructors_of p c) (constructors_list p c)) (plain.called_classes p t o w) (called_list o w)))
+                  (λ c. choice_list p t headed c o None all (ConstructorOf p c) (plain.constructors_of p c) (constructors_list p c)) (plain.called_classes p t o w) (called_list o w)))
       ways_has sought.OwnClass = at_level_has None (all_such (length p) (λ c. is_body_of p c (parent p o)))
           (lists (λ c. is_body_of p c (parent p o)) (λ c. BodyOf p c (parent p o)) (λ c. body_tells p c (parent p o)) (length p) (λ c h. type_below p c h.type))
       ways_has sought.Label = at_level_has None (all_such (length p) (λ d. is_somewhere_in_scope p t space.Label x o d))
-          (lists (λ d. is_somewhere_in_scope p t space.Label x o d) (λ d. (r : Depth) × InScope p t space.Label x o d r) (λ d. somewhere_tells p t tree space.Label x o d) (length p)
-              (λ d h. in_scope_below p t tree space.Label x o d h.0 h.1))
+          (lists (λ d. is_somewhere_in_scope p t space.Label x o d) (λ d. (r : Depth) × InScope p t space.Label x o d r) (λ d. somewhere_tells p t headed space.Label x o d) (length p)
+              (λ d h. in_scope_below p t headed space.Label x o d h.0 h.1))
       ways_has sought.Nothing = λ c. never
 
       pub candidates_tell : (s : Sought) (d : ℕ) (level : Option ℕ) → Decides (is_candidate (plain.candidates p t type_of o x s) d level) (Candidate p t K o x s d level)

@@ -1,32 +1,30 @@
 -- The members that are computed are those that the definition gives.
-use Rattle.std.proofs.Common.{◌≡◌, ◌⊎◌, refl, inl, inr, ⊎_elim, ℕ, ◌≤◌, ◌<◌, arith, Bool, true, false, not, ◌&&◌, ◌||◌, List, length, bytes_eq, Decides}
+use Rattle.std.proofs.Common.{◌≡◌, ◌⊎◌, inl, inr, ⊎_elim, ℕ, ◌<◌, arith, true, not, ◌&&◌, ◌||◌, List, length, Decides}
 use Rattle.std.proofs.lemmas.Slice.Eq.{bytes_eq-Decides}
 use Rattle.jr_base.specs.declared.text.Text.{Text}
 use Rattle.jr_rows.specs.declared.label.Role.{Role}
 use Rattle.jr_rows.specs.declared.label.Role.TheVariants as role
-use Rattle.jr_rows.specs.Rows.{Rows, name, role_at}
-use Rattle.jr_rows.specs.Tree.{IsTree}
+use Rattle.jr_rows.specs.Rows.{Rows, label, name, role_at}
 use Rattle.jr_defs.specs.declared.referent.Space.{Space}
 use Rattle.jr_defs.specs.Referents.{Table}
-use Rattle.jr_defs.specs.Declarations.{Declares, IsInterface, IsObject}
-use Rattle.jr_defs.specs.Enclosing.{DeclaredIn}
-use Rattle.jr_defs.specs.Modifiers.{IsPublic, IsProtected, IsPrivate, IsStatic, InInterface}
-use Rattle.jr_defs.specs.Packages.{SamePackage}
+use Rattle.jr_defs.specs.Declarations.{IsType, IsInterface, IsObject}
+use Rattle.jr_defs.specs.Enclosing.{DeclaredIn, IsMemberRole}
 use Rattle.jr_defs.specs.Supertypes.{Super, AtOrAbove}
 use Rattle.jr_defs.specs.Members.{SameNamed, SameMethods, Replaces, IsLeft, CanInherit, Passes, IsObjectMethod, MemberOf, MemberNamed}
 use Rattle.jr_plain.specs.Search.{has, Lists}
+use Rattle.jr_plain.specs.Headed.{IsHeaded}
 use Rattle.jr_plain.specs.Declarations.{is_interface, is_object}
-use Rattle.jr_plain.specs.Enclosing.{is_declared_in, declaring_type}
-use Rattle.jr_plain.specs.Modifiers.{is_in_interface}
+use Rattle.jr_plain.specs.Enclosing.{declaring_type, declared_by}
 use Rattle.jr_plain.specs.Supertypes.{supers, is_at_or_above}
 use Rattle.jr_plain.specs.Members as plain
 use Rattle.jr_plain.proofs.Tests.{itself, both, either, opposite, implies, like}
 use Rattle.jr_plain.proofs.Searches.{every, lists, some_of}
-use Rattle.jr_plain.proofs.Least.{closed_below, sound_below}
+use Rattle.jr_plain.proofs.OfTypes.{closed_types, sound_types, interface_type}
 use Rattle.jr_plain.proofs.Same.{role_tells}
-use Rattle.jr_plain.proofs.Bounds.{type_below, interface_below}
+use Rattle.jr_plain.proofs.Bounds.{interface_below, member_below as row_below}
 use Rattle.jr_plain.proofs.Declared.{declares_tells, interface_tells, object_tells}
-use Rattle.jr_plain.proofs.Enclosed.{declared_in_tells, declaring_finds, declared_below}
+use Rattle.jr_plain.proofs.Enclosed.{declared_in_tells, declaring_finds, member_role_tells}
+use Rattle.jr_plain.proofs.Children.{declared_list}
 use Rattle.jr_plain.proofs.Modified.{found_tells, in_interface_tells, public_tells, protected_tells, private_tells, static_tells}
 use Rattle.jr_plain.proofs.Packaged.{same_package_tells}
 use Rattle.jr_plain.proofs.Typed.{signature_tells}
@@ -46,13 +44,13 @@ passes_tells p s d = like (implies (interface_tells p s) (in_interface_tells p d
 pub object_method_tells : (p : Rows) (d : ℕ) → Decides (plain.is_object_method p d) (IsObjectMethod p d)
 object_method_tells p d = like
     (both (both (both (role_tells (role_at p d) role.Method) (found_tells (λ c. DeclaredIn p c d) (is_object p) (λ c. IsObject p c) (object_tells p) (declaring_type p d) (declaring_finds p d)))
-        (public_tells p d)) (opposite (static_tells p d)))
+    (public_tells p d)) (opposite (static_tells p d)))
     (λ h. record { of_type = h.0.0.1.0; object = h.0.0.1.2; declared = h.0.0.1.1; method = h.0.0.0; public = h.0.1; instance = h.1 })
     (λ h. (((h.method, (h.of_type, h.declared, h.object)), h.public), h.instance))
 
-module _ (p : Rows) (t : Table) (tree : IsTree p) where
+module _ (p : Rows) (t : Table) (headed : IsHeaded p) where
   pub same_methods_tells : (e d : ℕ) → Decides (plain.are_same_methods p t e d) (SameMethods p t e d)
-  same_methods_tells e d = like (both (both (role_tells (role_at p e) role.Method) (role_tells (role_at p d) role.Method)) (signature_tells p t e d tree))
+  same_methods_tells e d = like (both (both (role_tells (role_at p e) role.Method) (role_tells (role_at p d) role.Method)) (signature_tells p t e d headed.tree))
       (λ h. record { first = h.0.0; second = h.0.1; signature = h.1 }) (λ h. ((h.first, h.second), h.signature))
 
   pub replaces_tells : (e d : ℕ) → Decides (plain.replaces p t e d) (Replaces p t e d)
@@ -68,13 +66,12 @@ module _ (p : Rows) (t : Table) (tree : IsTree p) where
       into (Replaces.method h) = inr h
 
   pub left_tells : (c d : ℕ) → Decides (plain.is_left p t c d) (IsLeft p t c d)
-  left_tells c d = every {P = λ e. DeclaredIn p c e → Replaces p t e d → ⊥} (length p) (λ e. not (is_declared_in p c e && plain.replaces p t e d))
-      (λ e. like (opposite (both (declared_in_tells p c e) (replaces_tells e d))) (λ h a b. h (a, b)) (λ h k. h k.0 k.1))
-      (λ e le a b. let lt = declared_below p c e a in absurd (omega arith))
+  left_tells c d = like (opposite (some_of (λ e. plain.replaces p t e d) (λ e. Replaces p t e d) (λ e. replaces_tells e d) (declared_by p c) (declared_list p headed.tree c)))
+      (λ h e a b. h (e, a, b)) (λ h k. h k.0 k.1 k.2)
 
   pub left_above_tells : (c d : ℕ) → Decides (plain.is_left_above p t c d) ((s : ℕ) → IsInterface p s → AtOrAbove p t c s → IsLeft p t s d)
   left_above_tells c d = every {P = λ s. IsInterface p s → AtOrAbove p t c s → IsLeft p t s d} (length p) (λ s. not (is_interface p s && is_at_or_above p t c s) || plain.is_left p t s d)
-      (λ s. like (implies (both (interface_tells p s) (at_or_above_tells p t tree c s)) (left_tells s d)) (λ h a b. h (a, b)) (λ h k. h k.0 k.1))
+      (λ s. like (implies (both (interface_tells p s) (at_or_above_tells p t headed c s)) (left_tells s d)) (λ h a b. h (a, b)) (λ h k. h k.0 k.1))
       (λ s le a b. let lt = interface_below p s a in absurd (omega arith))
 
   -- what makes d a member of c, where the set has supertypes of which it is one
@@ -86,40 +83,43 @@ module _ (p : Rows) (t : Table) (tree : IsTree p) where
 
   has_member_tells : (d : ℕ) (set : List ℕ) (c : ℕ) → Decides (plain.has_member p t d set c) ((DeclaredIn p c d ⊎ Inherits d set c) ⊎ OfObject d c)
   has_member_tells d set c = either (either (declared_in_tells p c d)
-      (both (both (some_of (λ s. has set s && plain.passes p s d) (λ s. (has set s ≡ true) × Passes p s d) (λ s. both (itself (has set s)) (passes_tells p s d)) (supers p t c) (supers_list p t c))
-          (can_inherit_tells p c d)) (left_tells c d)))
+      (both (both (some_of (λ s. has set s && plain.passes p s d) (λ s. (has set s ≡ true) × Passes p s d) (λ s. both (itself (has set s)) (passes_tells p s d)) (supers p t c) (supers_list p t headed c))
+      (can_inherit_tells p c d)) (left_tells c d)))
       (both (both (interface_tells p c) (object_method_tells p d)) (left_above_tells c d))
 
   member_out : (d c : ℕ) → has (plain.holders p t d) c ≡ true → MemberOf p t c d
-  member_out d = sound_below (length p) (plain.has_member p t d) (λ c. MemberOf p t c d) step
+  member_out d = sound_types p (plain.has_member p t d) (λ c. MemberOf p t c d) step
     where
       from : (set : List ℕ) → ((k : ℕ) → has set k ≡ true → MemberOf p t k d) → (c : ℕ) → (DeclaredIn p c d ⊎ Inherits d set c) ⊎ OfObject d c → MemberOf p t c d
       from set holds c (inl (inl h)) = MemberOf.declared h
       from set holds c (inl (inr h)) = MemberOf.inherited h.0.0.1 (holds h.0.0.0 h.0.0.2.0) h.0.0.2.1 h.0.1 h.1
       from set holds c (inr h) = MemberOf.of_object h.0.0 h.0.1 h.1
 
-      step : (set : List ℕ) → ((k : ℕ) → has set k ≡ true → MemberOf p t k d) → (c : ℕ) → c < length p → plain.has_member p t d set c ≡ true → MemberOf p t c d
-      step set holds c lt h = from set holds c ((has_member_tells d set c).0 h)
+      step : (set : List ℕ) → ((k : ℕ) → has set k ≡ true → MemberOf p t k d) → (c : ℕ) → IsType p c → plain.has_member p t d set c ≡ true → MemberOf p t c d
+      step set holds c type h = from set holds c ((has_member_tells d set c).0 h)
 
-  -- what has a member is a row
-  pub member_source : (c d : ℕ) → MemberOf p t c d → c < length p
-  member_source c d (MemberOf.declared h) = type_below p c h.inside.type
-  member_source c d (MemberOf.inherited {s = s} h more a b left) = super_source p t c s tree h
-  member_source c d (MemberOf.of_object i h left) = interface_below p c i
+  -- what has a member is a type
+  pub member_source : (c d : ℕ) → MemberOf p t c d → IsType p c
+  member_source c d (MemberOf.declared h) = h.inside.type
+  member_source c d (MemberOf.inherited {s = s} h more a b left) = super_source p t headed c s h
+  member_source c d (MemberOf.of_object i h left) = interface_type (label p c) i
 
   member_into : (c d : ℕ) → MemberOf p t c d → has (plain.holders p t d) c ≡ true
-  member_into c d (MemberOf.declared h) = closed_below (length p) (plain.has_member p t d) c (type_below p c h.inside.type) ((has_member_tells d (plain.holders p t d) c).1 (inl (inl h)))
+  member_into c d (MemberOf.declared h) = closed_types p (plain.has_member p t d) c h.inside.type ((has_member_tells d (plain.holders p t d) c).1 (inl (inl h)))
   member_into c d (MemberOf.inherited {s = s} h more a b left) =
-      closed_below (length p) (plain.has_member p t d) c (super_source p t c s tree h) ((has_member_tells d (plain.holders p t d) c).1 (inl (inr (((s, h, (member_into s d more, a)), b), left))))
-  member_into c d (MemberOf.of_object i h left) = closed_below (length p) (plain.has_member p t d) c (interface_below p c i) ((has_member_tells d (plain.holders p t d) c).1 (inr ((i, h), left)))
+      closed_types p (plain.has_member p t d) c (super_source p t headed c s h) ((has_member_tells d (plain.holders p t d) c).1 (inl (inr (((s, h, (member_into s d more, a)), b), left))))
+  member_into c d (MemberOf.of_object i h left) = closed_types p (plain.has_member p t d) c (interface_type (label p c) i) ((has_member_tells d (plain.holders p t d) c).1 (inr ((i, h), left)))
+
+  role_of_member : (c d : ℕ) → MemberOf p t c d → IsMemberRole (role_at p d)
+  role_of_member c d (MemberOf.declared h) = h.member
+  role_of_member c d (MemberOf.inherited {s = s} h more a b left) = role_of_member s d more
+  role_of_member c d (MemberOf.of_object i h left) = h.declared.member
 
   pub member_tells : (c d : ℕ) → Decides (plain.is_member p t c d) (MemberOf p t c d)
-  member_tells c d = (member_out d c, member_into c d)
+  member_tells c d = like (both (member_role_tells (role_at p d)) (itself (has (plain.holders p t d) c))) (λ h. member_out d c h.1) (λ h. (role_of_member c d h, member_into c d h))
 
   pub member_below : (c d : ℕ) → MemberOf p t c d → d < length p
-  member_below c d (MemberOf.declared h) = declared_below p c d h
-  member_below c d (MemberOf.inherited {s = s} h more a b left) = member_below s d more
-  member_below c d (MemberOf.of_object i h left) = declared_below p h.of_type d h.declared
+  member_below c d h = row_below p d (role_of_member c d h)
 
   pub members_list : (c : ℕ) → Lists (plain.members p t c) (λ d. MemberOf p t c d)
   members_list c = lists (λ d. plain.is_member p t c d) (λ d. MemberOf p t c d) (λ d. member_tells c d) (length p) (λ d h. member_below c d h)

@@ -1,5 +1,5 @@
 -- The tests of modifiers tell what they are to tell.
-use Rattle.std.proofs.Common.{◌≡◌, ◌⊎◌, refl, sym, subst, inl, inr, ⊎_elim, ℕ, Bool, true, false, not, ◌&&◌, ◌||◌, Option, Some, None, is_some, Decides}
+use Rattle.std.proofs.Common.{◌≡◌, ◌⊎◌, refl, sym, subst, inl, inr, ⊎_elim, ℕ, Bool, true, false, Option, Some, None, is_some, Decides}
 use Rattle.std.specs.Option.{option_map_or}
 use Rattle.std.proofs.lemmas.Bool.{false≢true}
 use Rattle.std.proofs.lemmas.Option.{none-some, same_Some}
@@ -7,7 +7,7 @@ use Rattle.jr_rows.specs.declared.label.Label.{Label}
 use Rattle.jr_rows.specs.declared.label.Label.TheVariants as is
 use Rattle.jr_rows.specs.declared.label.Role.TheVariants as role
 use Rattle.jr_rows.specs.Rows.{Rows, label, role_at}
-use Rattle.jr_defs.specs.Declarations.{IsType, IsClass, IsInterface}
+use Rattle.jr_defs.specs.Declarations.{IsType, IsInterface}
 use Rattle.jr_defs.specs.Enclosing.{DeclaredIn, ConstructorOf}
 use Rattle.jr_defs.specs.Modifiers.{written, access_of, final_variable, InInterface, IsDefaultInInterface, IsPublic, IsProtected, IsPrivate, IsStatic, IsFinal, IsAbstract, IsInner}
 use Rattle.jr_plain.specs.Search.{Finds}

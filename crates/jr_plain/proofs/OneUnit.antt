@@ -1,14 +1,14 @@
 -- In rows that stand as their labels may, a place stands in at most one unit, and in at most one top-level type.
-use Rattle.std.proofs.Common.{◌≡◌, ◌⊎◌, refl, sym, ◌∙◌, ap, subst, ⊎_elim, arith, ℕ, ◌≤◌, ◌<◌, length}
+use Rattle.std.proofs.Common.{◌≡◌, refl, ◌∙◌, ap, subst, ⊎_elim, arith, ℕ, ◌<◌, length}
 use Rattle.std.proofs.lemmas.Bool.{cases_eq, cases_order}
 use Rattle.jr_rows.specs.declared.label.Label.{Label}
 use Rattle.jr_rows.specs.declared.label.Label.TheVariants as is
 use Rattle.jr_rows.specs.declared.label.Role.TheVariants as role
 use Rattle.jr_rows.specs.Labels.{role_of}
-use Rattle.jr_rows.specs.Rows.{Rows, label, parent, end, role_at}
+use Rattle.jr_rows.specs.Rows.{Rows, label, parent, role_at}
 use Rattle.jr_rows.specs.Below.{Under}
 use Rattle.jr_rows.specs.Local.{IsLocal}
-use Rattle.jr_defs.specs.Enclosing.{IsTopLevel, InTopLevel}
+use Rattle.jr_defs.specs.Enclosing.{InTopLevel}
 use Rattle.jr_defs.specs.Packages.{InUnit}
 use Rattle.jr_plain.specs.Search.{Finds}
 use Rattle.jr_plain.specs.Enclosing.{is_in_top_level, top_level_of}
@@ -65,8 +65,8 @@ module _ (p : Rows) (local : IsLocal p) where
       let at_most = local.tree.inner k m lt (omega arith) in
       let up = local.tree.up m (type_below p m j.top.type) (omega arith) in
       ⊎_elim (type_not_unit k h.top.type (parent p m) j.top.inside)
-          (λ apart. let inner = local.tree.inner k (parent p m) (omega arith) (omega arith) in let top = unit_parent (parent p m) j.top.inside in type_not_root k h.top.type (omega arith))
-          (cases_eq k (parent p m))
+      (λ apart. let inner = local.tree.inner k (parent p m) (omega arith) (omega arith) in let top = unit_parent (parent p m) j.top.inside in type_not_root k h.top.type (omega arith))
+      (cases_eq k (parent p m))
 
   pub one_top_level : (o k m : ℕ) → InTopLevel p k o → InTopLevel p m o → k ≡ m
   one_top_level o k m h j = ⊎_elim (λ e. e) (⊎_elim (λ lt. absurd (not_nested k m o h j lt)) (λ lt. absurd (not_nested m k o j h lt))) (cases_order k m)

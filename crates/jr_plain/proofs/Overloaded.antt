@@ -16,6 +16,7 @@ use Rattle.jr_defs.specs.Members.{MemberOf}
 use Rattle.jr_defs.specs.Access.{IsAccessible}
 use Rattle.jr_defs.specs.Typing.{TypeOf}
 use Rattle.jr_defs.specs.Overloads.{ArgumentTypes, AllSubtypes, IsApplicable, Applicable, MoreSpecific, IsMostSpecific, ResultFits, FirstThrough, Earlier, AllAbstract, Returns, IsFirst, IsPreferred, IsLeftOf, Choice, ImportedChoice}
+use Rattle.jr_plain.specs.Headed.{IsHeaded}
 use Rattle.jr_plain.specs.Search.{has, Lists, Finds}
 use Rattle.jr_plain.specs.Lists.{or_else}
 use Rattle.jr_plain.specs.Modifiers.{is_abstract}
@@ -29,7 +30,7 @@ use Rattle.jr_plain.proofs.Searches.{some_of}
 use Rattle.jr_plain.proofs.Least.{closed_below, sound_below}
 use Rattle.jr_plain.proofs.Listed.{decided, or_else_has, filter_has, all_of, finds_first}
 use Rattle.jr_plain.proofs.Same.{type_tells}
-use Rattle.jr_plain.proofs.Bounds.{class_below, parent_past}
+use Rattle.jr_plain.proofs.Bounds.{class_below, parent_past, type_below}
 use Rattle.jr_plain.proofs.Modified.{found_tells, abstract_tells}
 use Rattle.jr_plain.proofs.Typed.{before_out, has_type_finds, parameters_find}
 use Rattle.jr_plain.proofs.Supertyped.{superclass_name_below, superinterface_name_below, super_at_tells, supers_list, super_source, reference_type_tells, subtype_tells}
@@ -74,7 +75,7 @@ module _ (p : Rows) (t : Table) (K : ℕ → Type 0) (type_of : Types) (typed : 
 
 -- ---- what is applicable
 
-module _ (p : Rows) (t : Table) (tree : IsTree p) where
+module _ (p : Rows) (t : Table) (headed : IsHeaded p) where
   short_first : {b : RowType} {bs : List RowType} → AllSubtypes p t [] (b ∷ bs) → ⊥
   short_first h = elim h [ ]
 
@@ -88,13 +89,13 @@ module _ (p : Rows) (t : Table) (tree : IsTree p) where
   subtypes_tell [] [] = (λ h. AllSubtypes.none, λ h. refl)
   subtypes_tell [] (b ∷ bs) = like never (λ h. absurd h) short_first
   subtypes_tell (a ∷ more) [] = like never (λ h. absurd h) short_second
-  subtypes_tell (a ∷ more) (b ∷ bs) = like (both (subtype_tells p t tree a b) (subtypes_tell more bs)) (λ h. AllSubtypes.more h.0 h.1) more_into
+  subtypes_tell (a ∷ more) (b ∷ bs) = like (both (subtype_tells p t headed a b) (subtypes_tell more bs)) (λ h. AllSubtypes.more h.0 h.1) more_into
 
   pub applicable_tells : (o : ℕ) (receiver : Option RowType) (arguments : List RowType) (m : ℕ)
       → Decides (plain.is_applicable p t o receiver arguments m) (IsApplicable p t o receiver arguments m)
   applicable_tells o receiver arguments m = like
-      (both (accessible_tells p t tree m o receiver) (found_tells (λ all. Parameters p t m all) (λ all. plain.are_subtypes p t arguments all) (λ all. AllSubtypes p t arguments all)
-          (subtypes_tell arguments) (parameters p t m) (parameters_find p t m tree)))
+      (both (accessible_tells p t headed m o receiver) (found_tells (λ all. Parameters p t m all) (λ all. plain.are_subtypes p t arguments all) (λ all. AllSubtypes p t arguments all)
+          (subtypes_tell arguments) (parameters p t m) (parameters_find p t m headed.tree)))
       (λ h. record { accessible = h.0; parameters = h.1.0; are = h.1.1; fit = h.1.2 }) (λ h. (h.accessible, (h.parameters, h.are, h.fit)))
 
   pub more_specific_tells : (m k : ℕ) → Decides (plain.is_more_specific p t m k) (MoreSpecific p t m k)
@@ -102,14 +103,14 @@ module _ (p : Rows) (t : Table) (tree : IsTree p) where
       (found_tells (λ first. Parameters p t m first) (λ first. option_map_or (λ second. plain.are_subtypes p t first second) (parameters p t k) false)
           (λ first. (second : List RowType) × Parameters p t k second × AllSubtypes p t first second)
           (λ first. found_tells (λ second. Parameters p t k second) (λ second. plain.are_subtypes p t first second) (λ second. AllSubtypes p t first second) (subtypes_tell first) (parameters p t k)
-              (parameters_find p t k tree)) (parameters p t m) (parameters_find p t m tree))
+              (parameters_find p t k headed.tree)) (parameters p t m) (parameters_find p t m headed.tree))
       (λ h. record { first = h.0; second = h.2.0; are = h.1; others = h.2.1; fit = h.2.2 }) (λ h. (h.first, h.are, (h.second, h.others, h.fit)))
 
   abbrev ResultTypeFits : RowType → RowType → Type 0
   ResultTypeFits a b = (a ≡ b) ⊎ ((IsReferenceType a × IsReferenceType b) × Subtype p t a b)
 
   result_type_tells : (a b : RowType) → Decides (plain.is_result_type_fit p t a b) (ResultTypeFits a b)
-  result_type_tells a b = either (type_tells a b) (both (both (reference_type_tells a) (reference_type_tells b)) (subtype_tells p t tree a b))
+  result_type_tells a b = either (type_tells a b) (both (both (reference_type_tells a) (reference_type_tells b)) (subtype_tells p t headed a b))
 
   pub result_tells : (m k : ℕ) → Decides (plain.is_result_fit p t m k) (ResultFits p t m k)
   result_tells m k = like
@@ -136,8 +137,8 @@ module _ (p : Rows) (t : Table) (tree : IsTree p) where
   HasAt c d n = (s : ℕ) × Super p t c s × (SuperAt p t c n s × MemberOf p t s d)
 
   has_at_tells : (c d n : ℕ) → Decides (list_any (λ s. plain.is_through_at p t c d n s) (supers p t c)) (HasAt c d n)
-  has_at_tells c d n = some_of (λ s. plain.is_through_at p t c d n s) (λ s. SuperAt p t c n s × MemberOf p t s d) (λ s. both (super_at_tells p t c n s) (member_tells p t tree s d)) (supers p t c)
-      (supers_list p t c)
+  has_at_tells c d n = some_of (λ s. plain.is_through_at p t c d n s) (λ s. SuperAt p t c n s × MemberOf p t s d) (λ s. both (super_at_tells p t headed c n s) (member_tells p t headed s d)) (supers p t c)
+      (supers_list p t headed c)
 
   abbrev FirstPlace : ℕ → ℕ → ℕ → Type 0
   FirstPlace c d n = HasAt c d n × ((j : ℕ) → HasAt c d j → n ≤ j)
@@ -162,7 +163,7 @@ module _ (p : Rows) (t : Table) (tree : IsTree p) where
     within_tells : (set : List ℕ) (c m n : ℕ) → Decides (plain.is_earlier_within p t d e set c m n) ((m ≡ n) × WithinBy set c n)
     within_tells set c m n = both (Decides-eqb m n)
         (some_of (λ s. (plain.is_through_at p t c d n s && is_member p t s e) && has set s) (λ s. ((SuperAt p t c n s × MemberOf p t s d) × MemberOf p t s e) × (has set s ≡ true))
-            (λ s. both (both (both (super_at_tells p t c n s) (member_tells p t tree s d)) (member_tells p t tree s e)) (itself (has set s))) (supers p t c) (supers_list p t c))
+            (λ s. both (both (both (super_at_tells p t headed c n s) (member_tells p t headed s d)) (member_tells p t headed s e)) (itself (has set s))) (supers p t c) (supers_list p t headed c))
 
     earlier_by_tells : (set : List ℕ) (c : ℕ) → Decides (plain.is_earlier_by p t d e set c) (EarlierBy set c)
     earlier_by_tells set c = found_tells (λ m. FirstPlace c d m) (λ m. option_map_or (λ n. nat_lt m n || plain.is_earlier_within p t d e set c m n) (plain.first_place p t c e) false)
@@ -185,7 +186,7 @@ module _ (p : Rows) (t : Table) (tree : IsTree p) where
 
     closed_earlier : (c s n : ℕ) → SuperAt p t c n s → EarlierBy (plain.earlier p t d e) c → plain.is_earlier p t c d e ≡ true
     closed_earlier c s n at h =
-        closed_below (length p) (plain.is_earlier_by p t d e) c (super_source p t c s tree (record { place = n; at = at })) ((earlier_by_tells (plain.earlier p t d e) c).1 h)
+        closed_below (length p) (plain.is_earlier_by p t d e) c (type_below p c (super_source p t headed c s (record { place = n; at = at }))) ((earlier_by_tells (plain.earlier p t d e) c).1 h)
 
   earlier_into : (c d e : ℕ) → Earlier p t c d e → plain.is_earlier p t c d e ≡ true
   earlier_into c d e (Earlier.by_place {m = m} {n = n} {r = r} {s = s} f g lt) =

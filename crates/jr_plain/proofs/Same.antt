@@ -1,5 +1,5 @@
 -- What tells roles, levels, types and referents apart.
-use Rattle.std.proofs.Common.{◌≡◌, refl, sym, ap, ap₂, ℕ, Bool, true, false, ◌&&◌, List, [], ◌∷◌, Option, Some, None, nat_eq, bytes_eq, Decides}
+use Rattle.std.proofs.Common.{◌≡◌, refl, ap, ap₂, ℕ, Bool, List, [], ◌∷◌, Option, Some, None, nat_eq, bytes_eq, Decides}
 use Rattle.std.specs.Option.{option_eq}
 use Rattle.std.specs.Cmp.Lexicographic.{pointwise}
 use Rattle.std.proofs.lemmas.Bool.{false≢true}

@@ -8,7 +8,6 @@ use Rattle.jr_rows.specs.declared.label.Label.TheVariants as is
 use Rattle.jr_rows.specs.declared.label.Role.TheVariants as role
 use Rattle.jr_rows.specs.Labels.{role_of}
 use Rattle.jr_rows.specs.Rows.{Rows, label, name, parent, end, role_at}
-use Rattle.jr_rows.specs.Tree.{IsTree}
 use Rattle.jr_defs.specs.declared.referent.Space.{Space}
 use Rattle.jr_defs.specs.declared.referent.Space.TheVariants as space
 use Rattle.jr_defs.specs.Referents.{Table}
@@ -18,6 +17,7 @@ use Rattle.jr_defs.specs.Packages.{InUnit}
 use Rattle.jr_defs.specs.Members.{MemberOf}
 use Rattle.jr_defs.specs.Imports.{SingleImport, StaticImport, OnDemandImport, ImportsHold}
 use Rattle.jr_defs.specs.Scope.{block_end, InLocalScope, InParameterScope, InLabelScope, Depth, on_demand, of_package, of_unit, imported, within, rank, IsNoFurther, TypeOfUnit, TypeOfOther, Imported, HasScope, InScope, InOneList, Shadows, Visible}
+use Rattle.jr_plain.specs.Headed.{IsHeaded}
 use Rattle.jr_plain.specs.Search.{any_below, all_below, gathered}
 use Rattle.jr_plain.specs.Lists.{Has}
 use Rattle.jr_plain.specs.Packages.{is_in_unit}
@@ -143,7 +143,7 @@ pub one_list_tells : (p : Rows) (d e : ℕ) → Decides (plain.is_in_one_list p 
 one_list_tells p d e = like (both (both (role_tells (role_at p d) role.Parameter) (role_tells (role_at p e) role.Parameter)) (Decides-eqb (parent p d) (parent p e)))
     (λ h. record { first = h.0.0; second = h.0.1; beside = h.1 }) (λ h. ((h.first, h.second), h.beside))
 
-module _ (p : Rows) (t : Table) (tree : IsTree p) where
+module _ (p : Rows) (t : Table) (headed : IsHeaded p) where
   -- what makes the scope of d hold the place, so far in as the row s
   abbrev Within : ℕ → ℕ → ℕ → Type 0
   Within o d s = ((d ≡ s) × ((InLocalScope p d o ⊎ InParameterScope p d o) ⊎ InLabelScope p d o)) ⊎ (InBody p s o × MemberOf p t s d)
@@ -173,15 +173,15 @@ module _ (p : Rows) (t : Table) (tree : IsTree p) where
 
   pub has_scope_tells : (o d : ℕ) (r : Depth) → Decides (plain.has_scope p t o d r) (HasScope p t o d r)
   has_scope_tells o d (within s) = like
-      (either (both (Decides-eqb d s) (either (either (local_scope_tells p d o) (parameter_scope_tells p d o)) (label_scope_tells p d o))) (both (in_body_tells p s o) (member_tells p t tree s d)))
+      (either (both (Decides-eqb d s) (either (either (local_scope_tells p d o) (parameter_scope_tells p d o)) (label_scope_tells p d o))) (both (in_body_tells p s o) (member_tells p t headed s d)))
       (within_out o d s) within_into
   has_scope_tells o d of_unit = like (type_of_unit_tells p o d) (λ h. HasScope.of_same_unit h) unit_into
   has_scope_tells o d of_package = like (type_of_other_tells p o d) (λ h. HasScope.of_same_package h) other_into
   has_scope_tells o d imported = like
-      (either (imported_tells p (is_single_import p t) (SingleImport p t) (single_import_tells p t) o d) (imported_tells p (is_static_import p t) (StaticImport p t) (static_import_tells p t tree) o d))
+      (either (imported_tells p (is_single_import p t) (SingleImport p t) (single_import_tells p t) o d) (imported_tells p (is_static_import p t) (StaticImport p t) (static_import_tells p t headed) o d))
       (⊎_elim (λ h. HasScope.single h) (λ h. HasScope.static h)) imported_into
   has_scope_tells o d on_demand =
-      like (imported_tells p (is_on_demand_import p t) (OnDemandImport p t) (on_demand_import_tells p t tree) o d) (λ h. HasScope.demanded h) demanded_into
+      like (imported_tells p (is_on_demand_import p t) (OnDemandImport p t) (on_demand_import_tells p t headed) o d) (λ h. HasScope.demanded h) demanded_into
 
   pub in_scope_tells : (kind : Space) (x : Text) (o d : ℕ) (r : Depth) → Decides (plain.is_in_scope p t kind x o d r) (InScope p t kind x o d r)
   in_scope_tells kind x o d r = like (both (declares_tells p kind x d) (has_scope_tells o d r)) (λ h. record { scope = h.1; declares = h.0 }) (λ h. (h.declares, h.scope))

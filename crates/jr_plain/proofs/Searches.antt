@@ -1,14 +1,14 @@
 -- What searches find.
-use Rattle.std.proofs.Common.{le_antisymm, ◌≡◌, ◌⊎◌, refl, sym, ◌∙◌, ap, subst, inl, inr, ⊎_elim, arith, ℕ, zero, suc, ◌+◌, ◌≤◌, ◌<◌, Bool, true, false, cond, if◌then◌else◌, not, ◌&&◌, ◌||◌, List, [], ◌∷◌, ◌++◌, length, filter, count_by, Option, Some, None, nat_eq, Decides, MatchOption}
+use Rattle.std.proofs.Common.{le_antisymm, ◌≡◌, ◌⊎◌, refl, sym, ◌∙◌, ap, subst, inl, inr, ⊎_elim, arith, ℕ, zero, suc, ◌≤◌, ◌<◌, Bool, true, false, if◌then◌else◌, ◌&&◌, ◌||◌, List, [], ◌∷◌, ◌++◌, filter, flat_map, Option, Some, None, nat_eq, Decides, MatchOption}
 use Rattle.std.specs.List.{list_any}
 use Rattle.std.specs.Option.{option_or}
-use Rattle.std.proofs.lemmas.Bool.{false≢true, cases_Bool, cases_lt, cases_eq, or_cases, or_left, or_right, or_parts, and_parts, and_from, not-true, not_from_false, false_from_ne_true, eq-eqb, eqb-true}
+use Rattle.std.proofs.lemmas.Bool.{false≢true, cases_lt, cases_eq, or_cases, or_left, or_right}
 use Rattle.std.proofs.lemmas.Bool.Decides.{Decides-at, Decides-eqb}
 use Rattle.std.proofs.lemmas.List.Folds.{list_any-append}
 use Rattle.std.proofs.lemmas.Map.Views.{any-filter_same}
 use Rattle.std.proofs.lemmas.Option.{none-some, same_Some}
-use Rattle.jr_plain.specs.Search.{any_below, all_below, first_below, last_below, all_such, gathered, numbers, among, has, Lists, Finds, news, grown, least}
-use Rattle.jr_plain.proofs.Tests.{itself, like, both, either, opposite, never}
+use Rattle.jr_plain.specs.Search.{any_below, all_below, first_below, last_below, all_such, gathered, among, has, Lists, Finds}
+use Rattle.jr_plain.proofs.Tests.{itself, like, both, either, never}
 
 -- ---- below a number
 
@@ -145,10 +145,21 @@ module _ (test : ℕ → Bool) (P : ℕ → Type 0) (tells : (k : ℕ) → Decid
 
   last_one : (n : ℕ) → ((k : ℕ) → P k → k < n) → (before : Option ℕ) → Ended n before → Finds before (λ k. P k × ((j : ℕ) → P j → j ≤ k))
   last_one n within None h k = (λ e. absurd (none-some k e), λ p. absurd (h k (within k p.0) p.0))
-  last_one n within (Some i) h k =
-      (λ e. subst (λ k. P k × ((j : ℕ) → P j → j ≤ k)) (same_Some _ _ e) (h.1.0, λ j p. h.1.1 j (within j p) p),
-       λ p. ap Some (le_antisymm (p.1 i h.1.0) (h.1.1 k (within k p.0) p.0)))
+  last_one n within (Some i) h k = (
+    λ e. subst (λ k. P k × ((j : ℕ) → P j → j ≤ k)) (same_Some _ _ e) (h.1.0, λ j p. h.1.1 j (within j p) p),
+    λ p. ap Some (le_antisymm (p.1 i h.1.0) (h.1.1 k (within k p.0) p.0)),
+  )
 
   -- the last that is such
   pub finds_last : (n : ℕ) → ((k : ℕ) → P k → k < n) → Finds (last_below n test) (λ k. P k × ((j : ℕ) → P j → j ≤ k))
   finds_last n within = last_one n within (last_below n test) (ended n)
+
+-- an item of one of the lists that the items of a list have
+module _ {A : Type 0} (same : A → A → Bool) where
+  any_flat : (f : ℕ → List A) (items : List ℕ) (y : A) → among same (flat_map f items) y ≡ list_any (λ x. among same (f x) y) items
+  any_flat f [] y = refl
+  any_flat f (x ∷ xs) y = list_any-append (λ z. same z y) (f x) (flat_map f xs) ∙ ap (λ b. among same (f x) y || b) (any_flat f xs y)
+
+  pub flat_of : {Q : ℕ → Type 0} (f : ℕ → List A) (items : List ℕ) → Lists items Q → (y : A) → Decides (among same (flat_map f items) y) ((x : ℕ) × Q x × (among same (f x) y ≡ true))
+  flat_of f items holds y = Decides-at _ _ (any_flat f items y)
+      (some_of (λ x. among same (f x) y) (λ x. among same (f x) y ≡ true) (λ x. itself (among same (f x) y)) items holds)

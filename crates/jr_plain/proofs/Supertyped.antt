@@ -1,31 +1,35 @@
 -- The supertypes that are computed are those that are named, and the test of subtypes tells what it is to tell.
-use Rattle.std.proofs.Common.{◌≡◌, ◌⊎◌, refl, sym, ◌∙◌, ap, subst, inl, inr, ⊎_elim, arith, ℕ, zero, suc, ◌≤◌, ◌<◌, Bool, true, false, cond, not, ◌&&◌, ◌||◌, List, [], ◌∷◌, ◌++◌, length, Option, nat_eq, Decides}
-use Rattle.std.specs.List.{list_any}
-use Rattle.std.proofs.lemmas.Bool.{false≢true, cases_eq, or_left, or_right, and_from, eq-eqb}
+use Rattle.std.proofs.Common.{◌≡◌, ◌⊎◌, refl, sym, ◌∙◌, ap, subst, inl, inr, ⊎_elim, arith, ℕ, zero, suc, ◌<◌, Bool, true, cond, ◌&&◌, ◌||◌, List, [], length, flat_map, Option, nat_eq, Decides}
+use Rattle.std.proofs.lemmas.Bool.{false≢true, or_left, or_right, and_from, eq-eqb}
 use Rattle.std.proofs.lemmas.Bool.Decides.{Decides-eqb}
 use Rattle.jr_rows.specs.declared.label.Label.{Label}
 use Rattle.jr_rows.specs.declared.label.Label.TheVariants as is
 use Rattle.jr_rows.specs.declared.label.NamePlace.TheVariants as place
-use Rattle.jr_rows.specs.Rows.{Rows, label, parent}
-use Rattle.jr_rows.specs.Tree.{IsTree}
+use Rattle.jr_rows.specs.declared.label.Role.TheVariants as role
+use Rattle.jr_rows.specs.Rows.{Rows, label, parent, role_at}
+use Rattle.jr_rows.specs.Labels.{role_of}
 use Rattle.jr_defs.specs.declared.referent.Element.{Element}
 use Rattle.jr_defs.specs.declared.referent.Element.TheVariants as element
 use Rattle.jr_defs.specs.declared.referent.RowType.{RowType}
 use Rattle.jr_defs.specs.declared.referent.Referent.{Referent}
 use Rattle.jr_defs.specs.declared.referent.Referent.TheVariants.{Declared}
 use Rattle.jr_defs.specs.Referents.{Table}
-use Rattle.jr_defs.specs.Declarations.{IsType, IsClass, IsInterface, IsObject}
-use Rattle.jr_defs.specs.Types.{array, plain, class_type}
+use Rattle.jr_defs.specs.Declarations.{IsType, IsInterface, IsObject}
+use Rattle.jr_defs.specs.Headers.{NamesHeader}
+use Rattle.jr_defs.specs.Types.{array, plain}
 use Rattle.jr_defs.specs.Supertypes.{IsSuperclassLabel, IsSuperinterfaceLabel, NamesSuperclass, NamesSuperinterface, HasImpliedSuperclass, SuperAt, Super, Superclass, Above, AtOrAbove, Wider, Widens, IsReferenceType, Subtype}
-use Rattle.jr_plain.specs.Search.{any_below, all_such, gathered, has, least_below, Lists}
+use Rattle.jr_plain.specs.Search.{all_such, has, Lists}
 use Rattle.jr_plain.specs.Supertypes.{is_superclass_label, is_superinterface_label, names_superclass, names_superinterface, has_implied_superclass, declaration, is_super_at, implied_superclasses, supers, superclasses, is_lower, lower, is_above, is_at_or_above, widens, is_reference, is_reference_type, is_null, is_above_class, is_object_type, is_below, is_subtype}
+use Rattle.jr_plain.specs.Headed.{IsHeaded}
 use Rattle.jr_plain.specs.Same.{same_element}
-use Rattle.jr_plain.specs.Declarations.{is_class, is_interface, is_object}
+use Rattle.jr_plain.specs.Declarations.{is_object}
+use Rattle.jr_plain.specs.Enclosing.{children}
 use Rattle.jr_plain.proofs.Tests.{itself, always, never, both, either, opposite, like}
-use Rattle.jr_plain.proofs.Searches.{some, lists, some_of, among_append, gathered_tells, if_tells}
-use Rattle.jr_plain.proofs.Least.{closed_below, sound_below}
+use Rattle.jr_plain.proofs.Searches.{lists, some_of, among_append, if_tells, flat_of}
 use Rattle.jr_plain.proofs.Same.{element_tells}
-use Rattle.jr_plain.proofs.Bounds.{bounded, class_below, interface_below, type_below}
+use Rattle.jr_plain.proofs.Bounds.{bounded, type_below}
+use Rattle.jr_plain.proofs.Children.{IsChild, children_list, row_of_child}
+use Rattle.jr_plain.proofs.OfTypes.{closed_types, sound_types, class_type, interface_type}
 use Rattle.jr_plain.proofs.Declared.{class_tells, interface_tells, object_tells}
 
 superclass_label_tells : (l : Label) → Decides (is_superclass_label l) (IsSuperclassLabel l)
@@ -49,11 +53,33 @@ superclass_name_below p c n h = bounded IsSuperclassLabel (λ h. h) p n h.names
 pub superinterface_name_below : (p : Rows) (c n : ℕ) → NamesSuperinterface p c n → n < length p
 superinterface_name_below p c n h = bounded IsSuperinterfaceLabel (λ h. h) p n h.names
 
-pub implied_tells : (p : Rows) (c : ℕ) → Decides (has_implied_superclass p c) (HasImpliedSuperclass p c)
-implied_tells p c = like
-    (both (both (class_tells p c) (opposite (some (λ n. names_superclass p c n) (λ n. NamesSuperclass p c n) (λ n. names_superclass_tells p c n) (length p) (λ n h. superclass_name_below p c n h))))
-        (opposite (object_tells p c)))
-    (λ h. record { class = h.0.0; unnamed = λ n k. h.0.1 (n, k); below = h.1 }) (λ h. ((h.class, λ k. h.unnamed k.0 k.1), h.below))
+superclass_role : (l : Label) → IsSuperclassLabel l → role_of l ≡ role.Nothing
+superclass_role (is.Name kind place.Superclass b) h = refl
+superclass_role _ h = absurd h
+
+superinterface_role : (l : Label) → IsSuperinterfaceLabel l → role_of l ≡ role.Nothing
+superinterface_role (is.Name kind place.Superinterface b) h = refl
+superinterface_role _ h = absurd h
+
+-- a name in a header stands right below its type
+header_child : (p : Rows) → IsHeaded p → (c n : ℕ) → NamesHeader p c n → n < length p → parent p n ≡ c → role_at p n ≡ role.Nothing → IsChild p c n
+header_child p headed c n h lt up nothing = row_of_child p headed.tree c n lt apart up
+  where
+    apart : n ≡ 0 → ⊥
+    apart e = let top = ap (parent p) e ∙ headed.tree.root in let same : n ≡ c = omega arith in let type = headed.header c n h in let at = ap (role_at p) same in cc
+
+pub superclass_child : (p : Rows) → IsHeaded p → (c n : ℕ) → NamesSuperclass p c n → IsChild p c n
+superclass_child p headed c n h = header_child p headed c n (inl h) (superclass_name_below p c n h) h.inside (superclass_role (label p n) h.names)
+
+pub superinterface_child : (p : Rows) → IsHeaded p → (c n : ℕ) → NamesSuperinterface p c n → IsChild p c n
+superinterface_child p headed c n h = header_child p headed c n (inr h) (superinterface_name_below p c n h) h.inside (superinterface_role (label p n) h.names)
+
+pub implied_tells : (p : Rows) → IsHeaded p → (c : ℕ) → Decides (has_implied_superclass p c) (HasImpliedSuperclass p c)
+implied_tells p headed c = like
+    (both (both (class_tells p c)
+    (opposite (some_of (λ n. names_superclass p c n) (λ n. NamesSuperclass p c n) (λ n. names_superclass_tells p c n) (children p c) (children_list p headed.tree c))))
+    (opposite (object_tells p c)))
+    (λ h. record { class = h.0.0; unnamed = λ n k. h.0.1 (n, superclass_child p headed c n k, k); below = h.1 }) (λ h. ((h.class, λ k. h.unnamed k.0 k.2), h.below))
 
 pub declaration_lists : (a : Referent) → Lists (declaration a) (λ s. (level : Option ℕ) × (a ≡ Declared s level))
 declaration_lists (Declared d level) s = like (either (Decides-eqb d s) never) (⊎_elim (λ e. (level, ap (λ x. Declared x level) e)) (λ h. absurd h)) (λ h. let e = h.1 in inl (row_of e))
@@ -62,9 +88,9 @@ declaration_lists (Declared d level) s = like (either (Decides-eqb d s) never) (
     row_of e = cc
 declaration_lists _ s = like never (λ h. absurd h) (λ h. let e = h.1 in absurd (cc))
 
-pub super_at_tells : (p : Rows) (t : Table) (c n s : ℕ) → Decides (is_super_at p t c n s) (SuperAt p t c n s)
-super_at_tells p t c n s = like
-    (either (both (either (names_superclass_tells p c n) (names_superinterface_tells p c n)) (declaration_lists (t n) s)) (both (both (Decides-eqb n c) (implied_tells p c)) (object_tells p s))) out into
+pub super_at_tells : (p : Rows) (t : Table) → IsHeaded p → (c n s : ℕ) → Decides (is_super_at p t c n s) (SuperAt p t c n s)
+super_at_tells p t headed c n s = like
+    (either (both (either (names_superclass_tells p c n) (names_superinterface_tells p c n)) (declaration_lists (t n) s)) (both (both (Decides-eqb n c) (implied_tells p headed c)) (object_tells p s))) out into
   where
     out : ((NamesSuperclass p c n ⊎ NamesSuperinterface p c n) × ((level : Option ℕ) × (t n ≡ Declared s level))) ⊎ (((n ≡ c) × HasImpliedSuperclass p c) × IsObject p s) → SuperAt p t c n s
     out (inl h) = ⊎_elim (λ k. SuperAt.class k h.1.1) (λ k. SuperAt.interface k h.1.1) h.0
@@ -78,104 +104,85 @@ super_at_tells p t c n s = like
 object_below : (p : Rows) (s : ℕ) → IsObject p s → s < length p
 object_below p s h = type_below p s h.type
 
-implied_lists : (p : Rows) (c : ℕ) → Lists (implied_superclasses p c) (λ s. HasImpliedSuperclass p c × IsObject p s)
-implied_lists p c s = let objects = lists (λ s. is_object p s) (λ s. IsObject p s) (λ s. object_tells p s) (length p) (λ s h. object_below p s h) s in
-    like (if_tells nat_eq Decides-eqb (has_implied_superclass p c) (implied_tells p c) (all_such (length p) (λ s. is_object p s)) s) (λ h. (h.0, objects.0 h.1)) (λ h. (h.0, objects.1 h.1))
+implied_lists : (p : Rows) → IsHeaded p → (c : ℕ) → Lists (implied_superclasses p c) (λ s. HasImpliedSuperclass p c × IsObject p s)
+implied_lists p headed c s = let objects = lists (λ s. is_object p s) (λ s. IsObject p s) (λ s. object_tells p s) (length p) (λ s h. object_below p s h) s in
+    like (if_tells nat_eq Decides-eqb (has_implied_superclass p c) (implied_tells p headed c) (all_such (length p) (λ s. is_object p s)) s) (λ h. (h.0, objects.0 h.1)) (λ h. (h.0, objects.1 h.1))
 
--- what the names that a test takes refer to
-named_lists : (p : Rows) (t : Table) (test : ℕ → Bool) (P : ℕ → Type 0) → ((n : ℕ) → Decides (test n) (P n)) → ((n : ℕ) → P n → n < length p)
-    → Lists (gathered (length p) (λ n. cond (test n) (declaration (t n)) [])) (λ s. (n : ℕ) × (level : Option ℕ) × P n × (t n ≡ Declared s level))
-named_lists p t test P tells within s = like (gathered_tells nat_eq Decides-eqb (λ n. cond (test n) (declaration (t n)) []) (length p) s) out into
+-- what the names right below c that a test takes refer to
+named_lists : (p : Rows) (t : Table) → IsHeaded p → (c : ℕ) (test : ℕ → Bool) (P : ℕ → Type 0) → ((n : ℕ) → Decides (test n) (P n)) → ((n : ℕ) → P n → IsChild p c n)
+    → Lists (flat_map (λ n. cond (test n) (declaration (t n)) []) (children p c)) (λ s. (n : ℕ) × (level : Option ℕ) × P n × (t n ≡ Declared s level))
+named_lists p t headed c test P tells child s = like (flat_of nat_eq (λ n. cond (test n) (declaration (t n)) []) (children p c) (children_list p headed.tree c) s) out into
   where
-    out : (n : ℕ) × (n < length p) × (has (cond (test n) (declaration (t n)) []) s ≡ true) → (n : ℕ) × (level : Option ℕ) × P n × (t n ≡ Declared s level)
+    out : (n : ℕ) × IsChild p c n × (has (cond (test n) (declaration (t n)) []) s ≡ true) → (n : ℕ) × (level : Option ℕ) × P n × (t n ≡ Declared s level)
     out h = let k = (if_tells nat_eq Decides-eqb (test h.0) (tells h.0) (declaration (t h.0)) s).0 h.2 in let e = (declaration_lists (t h.0) s).0 k.1 in (h.0, e.0, k.0, e.1)
 
-    into : (n : ℕ) × (level : Option ℕ) × P n × (t n ≡ Declared s level) → (n : ℕ) × (n < length p) × (has (cond (test n) (declaration (t n)) []) s ≡ true)
-    into h = (h.0, within h.0 h.2, (if_tells nat_eq Decides-eqb (test h.0) (tells h.0) (declaration (t h.0)) s).1 (h.2, (declaration_lists (t h.0) s).1 (h.1, h.3)))
+    into : (n : ℕ) × (level : Option ℕ) × P n × (t n ≡ Declared s level) → (n : ℕ) × IsChild p c n × (has (cond (test n) (declaration (t n)) []) s ≡ true)
+    into h = (h.0, child h.0 h.2, (if_tells nat_eq Decides-eqb (test h.0) (tells h.0) (declaration (t h.0)) s).1 (h.2, (declaration_lists (t h.0) s).1 (h.1, h.3)))
 
-pub supers_list : (p : Rows) (t : Table) (c : ℕ) → Lists (supers p t c) (λ s. Super p t c s)
-supers_list p t c s = like (among_append nat_eq Decides-eqb (implied_superclasses p c) named s) out into
-  where
-    named : List ℕ
-    named = gathered (length p) (λ n. cond (names_superclass p c n || names_superinterface p c n) (declaration (t n)) [])
+module _ (p : Rows) (t : Table) (headed : IsHeaded p) where
+  header_lists : (c : ℕ) → Lists (flat_map (λ n. cond (names_superclass p c n || names_superinterface p c n) (declaration (t n)) []) (children p c))
+      (λ s. (n : ℕ) × (level : Option ℕ) × (NamesSuperclass p c n ⊎ NamesSuperinterface p c n) × (t n ≡ Declared s level))
+  header_lists c = named_lists p t headed c (λ n. names_superclass p c n || names_superinterface p c n) (λ n. NamesSuperclass p c n ⊎ NamesSuperinterface p c n)
+      (λ n. either (names_superclass_tells p c n) (names_superinterface_tells p c n)) (λ n. ⊎_elim (superclass_child p headed c n) (superinterface_child p headed c n))
 
-    named_ones : Lists named (λ s. (n : ℕ) × (level : Option ℕ) × (NamesSuperclass p c n ⊎ NamesSuperinterface p c n) × (t n ≡ Declared s level))
-    named_ones = named_lists p t (λ n. names_superclass p c n || names_superinterface p c n) (λ n. NamesSuperclass p c n ⊎ NamesSuperinterface p c n)
-        (λ n. either (names_superclass_tells p c n) (names_superinterface_tells p c n)) (λ n. ⊎_elim (superclass_name_below p c n) (superinterface_name_below p c n))
-
-    out : (has (implied_superclasses p c) s ≡ true) ⊎ (has named s ≡ true) → Super p t c s
-    out (inl h) = let k = (implied_lists p c s).0 h in record { place = c; at = SuperAt.implied k.0 k.1 }
-    out (inr h) = let k = (named_ones s).0 h in record { place = k.0; at = ⊎_elim (λ n. SuperAt.class n k.3) (λ n. SuperAt.interface n k.3) k.2 }
-
-    from : {n : ℕ} → SuperAt p t c n s → (has (implied_superclasses p c) s ≡ true) ⊎ (has named s ≡ true)
-    from (SuperAt.class {n = n} {level = level} k e) = inr ((named_ones s).1 (n, level, inl k, e))
-    from (SuperAt.implied i o) = inl ((implied_lists p c s).1 (i, o))
-    from (SuperAt.interface {n = n} {level = level} k e) = inr ((named_ones s).1 (n, level, inr k, e))
-
-    into : Super p t c s → (has (implied_superclasses p c) s ≡ true) ⊎ (has named s ≡ true)
-    into h = from h.at
-
-pub superclasses_list : (p : Rows) (t : Table) (c : ℕ) → Lists (superclasses p t c) (λ s. Superclass p t c s)
-superclasses_list p t c s = like (among_append nat_eq Decides-eqb (implied_superclasses p c) named s) out into
-  where
-    named : List ℕ
-    named = gathered (length p) (λ n. cond (names_superclass p c n) (declaration (t n)) [])
-
-    named_ones : Lists named (λ s. (n : ℕ) × (level : Option ℕ) × NamesSuperclass p c n × (t n ≡ Declared s level))
-    named_ones = named_lists p t (λ n. names_superclass p c n) (λ n. NamesSuperclass p c n) (λ n. names_superclass_tells p c n) (λ n h. superclass_name_below p c n h)
-
-    out : (has (implied_superclasses p c) s ≡ true) ⊎ (has named s ≡ true) → Superclass p t c s
-    out (inl h) = let k = (implied_lists p c s).0 h in Superclass.implied k.0 k.1
-    out (inr h) = let k = (named_ones s).0 h in Superclass.named k.2 k.3
-
-    into : Superclass p t c s → (has (implied_superclasses p c) s ≡ true) ⊎ (has named s ≡ true)
-    into (Superclass.named {n = n} {level = level} k e) = inr ((named_ones s).1 (n, level, k, e))
-    into (Superclass.implied i o) = inl ((implied_lists p c s).1 (i, o))
-
--- ---- above
-
-pub parent_below : (p : Rows) → IsTree p → (n : ℕ) → n < length p → parent p n < length p
-parent_below p tree n lt = ⊎_elim (λ e. let root = ap (parent p) e ∙ tree.root in omega arith) (λ apart. let up = tree.up n lt (omega arith) in omega arith) (cases_eq n 0)
-
--- what has a supertype is a row
-pub super_source : (p : Rows) (t : Table) (c s : ℕ) → IsTree p → Super p t c s → c < length p
-super_source p t c s tree h = by h.at
-  where
-    up : (n : ℕ) → n < length p → parent p n ≡ c → c < length p
-    up n lt e = let less = parent_below p tree n lt in omega arith
-
-    by : {n : ℕ} → SuperAt p t c n s → c < length p
-    by (SuperAt.class {n = n} k e) = up n (superclass_name_below p c n k) k.inside
-    by (SuperAt.implied i o) = class_below p c i.class
-    by (SuperAt.interface {n = n} k e) = up n (superinterface_name_below p c n k) k.inside
-
-lower_tells : (p : Rows) (t : Table) (s : ℕ) (set : List ℕ) (c : ℕ)
-    → Decides (is_lower p t s set c) ((Super p t c s ⊎ ((r : ℕ) × Super p t c r × (has set r ≡ true))) ⊎ (IsInterface p c × IsObject p s))
-lower_tells p t s set c = either (either (supers_list p t c s) (some_of (has set) (λ r. has set r ≡ true) (λ r. itself (has set r)) (supers p t c) (supers_list p t c))) (both (interface_tells p c) (object_tells p s))
-
-module _ (p : Rows) (t : Table) where
-  above_out : (s c : ℕ) → has (lower p t s) c ≡ true → Above p t c s
-  above_out s = sound_below (length p) (is_lower p t s) (λ c. Above p t c s) step
+  pub supers_list : (c : ℕ) → Lists (supers p t c) (λ s. Super p t c s)
+  supers_list c s = like (among_append nat_eq Decides-eqb (implied_superclasses p c) (flat_map (λ n. cond (names_superclass p c n || names_superinterface p c n) (declaration (t n)) []) (children p c)) s)
+      (⊎_elim (λ h. let k = (implied_lists p headed c s).0 h in record { place = c; at = SuperAt.implied k.0 k.1 })
+      (λ h. let k = (header_lists c s).0 h in record { place = k.0; at = ⊎_elim (λ n. SuperAt.class n k.3) (λ n. SuperAt.interface n k.3) k.2 }))
+      (λ h. from h.at)
     where
-      step : (set : List ℕ) → ((k : ℕ) → has set k ≡ true → Above p t k s) → (k : ℕ) → k < length p → is_lower p t s set k ≡ true → Above p t k s
-      step set holds k lt h = ⊎_elim (⊎_elim (λ d. Above.direct d) (λ f. Above.further f.1 (holds f.0 f.2))) (λ o. Above.object o.0 o.1) ((lower_tells p t s set k).0 h)
+      from : {n : ℕ} → SuperAt p t c n s
+          → (has (implied_superclasses p c) s ≡ true) ⊎ (has (flat_map (λ n. cond (names_superclass p c n || names_superinterface p c n) (declaration (t n)) []) (children p c)) s ≡ true)
+      from (SuperAt.class {n = n} {level = level} k e) = inr ((header_lists c s).1 (n, level, inl k, e))
+      from (SuperAt.implied i o) = inl ((implied_lists p headed c s).1 (i, o))
+      from (SuperAt.interface {n = n} {level = level} k e) = inr ((header_lists c s).1 (n, level, inr k, e))
 
-  above_into : IsTree p → (c s : ℕ) → Above p t c s → has (lower p t s) c ≡ true
-  above_into tree c s (Above.direct h) = closed_below (length p) (is_lower p t s) c (super_source p t c s tree h) ((lower_tells p t s (lower p t s) c).1 (inl (inl h)))
-  above_into tree c s (Above.further {r = r} h more) =
-      closed_below (length p) (is_lower p t s) c (super_source p t c r tree h) ((lower_tells p t s (lower p t s) c).1 (inl (inr (r, h, above_into tree r s more))))
-  above_into tree c s (Above.object i o) = closed_below (length p) (is_lower p t s) c (interface_below p c i) ((lower_tells p t s (lower p t s) c).1 (inr (i, o)))
+  superclass_lists : (c : ℕ) → Lists (flat_map (λ n. cond (names_superclass p c n) (declaration (t n)) []) (children p c))
+      (λ s. (n : ℕ) × (level : Option ℕ) × NamesSuperclass p c n × (t n ≡ Declared s level))
+  superclass_lists c = named_lists p t headed c (λ n. names_superclass p c n) (λ n. NamesSuperclass p c n) (λ n. names_superclass_tells p c n) (superclass_child p headed c)
 
-  pub above_tells : IsTree p → (c s : ℕ) → Decides (is_above p t c s) (Above p t c s)
-  above_tells tree c s = (above_out s c, above_into tree c s)
+  pub superclasses_list : (c : ℕ) → Lists (superclasses p t c) (λ s. Superclass p t c s)
+  superclasses_list c s = like (among_append nat_eq Decides-eqb (implied_superclasses p c) (flat_map (λ n. cond (names_superclass p c n) (declaration (t n)) []) (children p c)) s)
+      (⊎_elim (λ h. let k = (implied_lists p headed c s).0 h in Superclass.implied k.0 k.1) (λ h. let k = (superclass_lists c s).0 h in Superclass.named k.2 k.3)) into
+    where
+      into : Superclass p t c s → (has (implied_superclasses p c) s ≡ true) ⊎ (has (flat_map (λ n. cond (names_superclass p c n) (declaration (t n)) []) (children p c)) s ≡ true)
+      into (Superclass.named {n = n} {level = level} k e) = inr ((superclass_lists c s).1 (n, level, k, e))
+      into (Superclass.implied i o) = inl ((implied_lists p headed c s).1 (i, o))
 
-  pub at_or_above_tells : IsTree p → (c s : ℕ) → Decides (is_at_or_above p t c s) (AtOrAbove p t c s)
-  at_or_above_tells tree c s = either (Decides-eqb c s) (above_tells tree c s)
+  -- what has a supertype is a type
+  pub super_source : (c s : ℕ) → Super p t c s → IsType p c
+  super_source c s h = by h.at
+    where
+      by : {n : ℕ} → SuperAt p t c n s → IsType p c
+      by (SuperAt.class {n = n} k e) = headed.header c n (inl k)
+      by (SuperAt.implied i o) = class_type (label p c) i.class
+      by (SuperAt.interface {n = n} k e) = headed.header c n (inr k)
 
-  pub above_source : IsTree p → (c s : ℕ) → Above p t c s → c < length p
-  above_source tree c s (Above.direct h) = super_source p t c s tree h
-  above_source tree c s (Above.further {r = r} h more) = super_source p t c r tree h
-  above_source tree c s (Above.object i o) = interface_below p c i
+  pub superclass_source : (c s : ℕ) → Superclass p t c s → IsType p c
+  superclass_source c s (Superclass.named {n = n} k e) = headed.header c n (inl k)
+  superclass_source c s (Superclass.implied i o) = class_type (label p c) i.class
+
+  -- ---- above
+
+  lower_tells : (s : ℕ) (set : List ℕ) (c : ℕ) → Decides (is_lower p t s set c) ((Super p t c s ⊎ ((r : ℕ) × Super p t c r × (has set r ≡ true))) ⊎ (IsInterface p c × IsObject p s))
+  lower_tells s set c = either (either (supers_list c s) (some_of (has set) (λ r. has set r ≡ true) (λ r. itself (has set r)) (supers p t c) (supers_list c))) (both (interface_tells p c) (object_tells p s))
+
+  above_out : (s c : ℕ) → has (lower p t s) c ≡ true → Above p t c s
+  above_out s = sound_types p (is_lower p t s) (λ c. Above p t c s) step
+    where
+      step : (set : List ℕ) → ((k : ℕ) → has set k ≡ true → Above p t k s) → (k : ℕ) → IsType p k → is_lower p t s set k ≡ true → Above p t k s
+      step set holds k type h = ⊎_elim (⊎_elim (λ d. Above.direct d) (λ f. Above.further f.1 (holds f.0 f.2))) (λ o. Above.object o.0 o.1) ((lower_tells s set k).0 h)
+
+  above_into : (c s : ℕ) → Above p t c s → has (lower p t s) c ≡ true
+  above_into c s (Above.direct h) = closed_types p (is_lower p t s) c (super_source c s h) ((lower_tells s (lower p t s) c).1 (inl (inl h)))
+  above_into c s (Above.further {r = r} h more) = closed_types p (is_lower p t s) c (super_source c r h) ((lower_tells s (lower p t s) c).1 (inl (inr (r, h, above_into r s more))))
+  above_into c s (Above.object i o) = closed_types p (is_lower p t s) c (interface_type (label p c) i) ((lower_tells s (lower p t s) c).1 (inr (i, o)))
+
+  pub above_tells : (c s : ℕ) → Decides (is_above p t c s) (Above p t c s)
+  above_tells c s = (above_out s c, above_into c s)
+
+  pub at_or_above_tells : (c s : ℕ) → Decides (is_at_or_above p t c s) (AtOrAbove p t c s)
+  at_or_above_tells c s = either (Decides-eqb c s) (above_tells c s)
 
 -- ---- types
 
@@ -238,21 +245,21 @@ null_tells : (e : Element) → Decides (is_null e) (e ≡ element.Null)
 null_tells element.Null = (λ h. refl, λ e. refl)
 null_tells _ = (λ h. absurd (false≢true h), λ e. absurd (cc))
 
-above_class_out : (p : Rows) (t : Table) (a b : Element) → IsTree p → is_above_class p t a b ≡ true → Subtype p t (plain a) (plain b)
-above_class_out p t (element.Class c) (element.Class s) tree h = Subtype.class ((above_tells p t tree c s).0 h)
-above_class_out p t _ _ tree h = absurd (false≢true h)
+above_class_out : (p : Rows) (t : Table) (a b : Element) → IsHeaded p → is_above_class p t a b ≡ true → Subtype p t (plain a) (plain b)
+above_class_out p t (element.Class c) (element.Class s) headed h = Subtype.class ((above_tells p t headed c s).0 h)
+above_class_out p t _ _ headed h = absurd (false≢true h)
 
 object_type_out : (p : Rows) (t : Table) (e b : Element) (dims : ℕ) → is_object_type p b ≡ true → Subtype p t (array e (suc dims)) (plain b)
 object_type_out p t e (element.Class s) dims h = Subtype.array_object ((object_tells p s).0 h)
 object_type_out p t e _ dims h = absurd (false≢true h)
 
-module _ (p : Rows) (t : Table) (tree : IsTree p) where
+module _ (p : Rows) (t : Table) (headed : IsHeaded p) where
   null_below : (a b : Element) (dims : ℕ) → a ≡ element.Null → IsReferenceType (array b dims) → Subtype p t (plain a) (array b dims)
   null_below a b dims e h = subst (λ x. Subtype p t (plain x) (array b dims)) (sym e) (Subtype.null h)
 
   subtype_out : (a b : Element) (m n : ℕ) → is_below p t a b m n ≡ true → Subtype p t (array a m) (array b n)
   subtype_out a b zero zero h = ⊎_elim
-      (⊎_elim (⊎_elim (λ e. subst (λ x. Subtype p t (plain a) (plain x)) e Subtype.same) (λ w. Subtype.primitive w)) (λ k. null_below a b zero k.0 (reference_out zero b k.1))) (above_class_out p t a b tree)
+      (⊎_elim (⊎_elim (λ e. subst (λ x. Subtype p t (plain a) (plain x)) e Subtype.same) (λ w. Subtype.primitive w)) (λ k. null_below a b zero k.0 (reference_out zero b k.1))) (above_class_out p t a b headed)
       ((either (either (either (element_tells a b) (widens_tells a b)) (both (null_tells a) (itself (is_reference zero b)))) (itself (is_above_class p t a b))).0 h)
   subtype_out a b zero (suc n) h = null_below a b (suc n) ((null_tells a).0 h) IsReferenceType.array_type
   subtype_out a b (suc m) zero h = object_type_out p t a b m h
@@ -276,11 +283,11 @@ module _ (p : Rows) (t : Table) (tree : IsTree p) where
   subtype_into _ _ (Subtype.primitive {a = a} {b = b} w) =
       or_left _ (is_above_class p t a b) (or_left _ (is_null a && is_reference zero b) (or_right (same_element a b) (widens a b) (widens_into a b w)))
   subtype_into _ b (Subtype.null h) = null_into b h
-  subtype_into _ _ (Subtype.class {c = c} {s = s} h) = or_right _ (is_above p t c s) ((above_tells p t tree c s).1 h)
+  subtype_into _ _ (Subtype.class {c = c} {s = s} h) = or_right _ (is_above p t c s) ((above_tells p t headed c s).1 h)
   subtype_into _ _ (Subtype.array_object {s = s} o) = (object_tells p s).1 o
   subtype_into _ _ (Subtype.array_array {a = a} {b = b} {m = m} {n = n} x y h) =
       or_right (same_element a b && nat_eq m n) _ (and_from (is_reference m a && is_reference n b) (is_below p t a b m n)
-          (and_from (is_reference m a) (is_reference n b) (reference_into (array a m) x) (reference_into (array b n) y)) (subtype_into (array a m) (array b n) h))
+      (and_from (is_reference m a) (is_reference n b) (reference_into (array a m) x) (reference_into (array b n) y)) (subtype_into (array a m) (array b n) h))
 
   pub subtype_tells : (a b : RowType) → Decides (is_subtype p t a b) (Subtype p t a b)
   subtype_tells a b = (subtype_out a.element b.element a.dims b.dims, subtype_into a b)

@@ -1,7 +1,7 @@
 -- A test tells whether something holds; how tests are put together.
-use Rattle.std.proofs.Common.{◌≡◌, ◌⊎◌, refl, ℕ, ◌≤◌, ◌<◌, Bool, true, false, not, ◌&&◌, ◌||◌, leb, ltb, nat_eq, Decides}
-use Rattle.std.proofs.lemmas.Bool.{false≢true, leb-true, le-leb}
-use Rattle.std.proofs.lemmas.Bool.Decides.{Decides-and, Decides-or, Decides-not, Decides-like, Decides-eqb, Decides-ltb}
+use Rattle.std.proofs.Common.{◌≡◌, ◌⊎◌, refl, inl, inr, Bool, true, false, not, ◌&&◌, ◌||◌, Decides}
+use Rattle.std.proofs.lemmas.Bool.{false≢true}
+use Rattle.std.proofs.lemmas.Bool.Decides.{Decides-and, Decides-or, Decides-not, Decides-like}
 
 pub itself : (b : Bool) → Decides b (b ≡ true)
 itself b = (λ h. h, λ h. h)
@@ -28,3 +28,7 @@ like {b} p f g = Decides-like b f g p
 pub implies : {a b : Bool} {A B : Type 0} → Decides a A → Decides b B → Decides (not a || b) (A → B)
 implies {a = true} p q = (λ h a. q.0 h, λ f. q.1 (f (p.0 refl)))
 implies {a = false} p q = (λ h a. absurd (false≢true (p.1 a)), λ f. refl)
+
+pub decide : {b : Bool} {P : Type 0} → Decides b P → P ⊎ (P → ⊥)
+decide {b = true} d = inl (d.0 refl)
+decide {b = false} d = inr (λ p. false≢true (d.1 p))

@@ -1,13 +1,11 @@
 -- The types that are computed are those that are written and declared.
-use Rattle.std.proofs.Common.{◌≡◌, ◌⊎◌, refl, sym, ◌∙◌, ap, ap₂, subst, inl, inr, ⊎_elim, arith, ℕ, zero, suc, ◌+◌, ◌≤◌, ◌<◌, Bool, true, false, cond, ◌&&◌, List, [], ◌∷◌, length, Option, Some, None, option_map, nat_eq, bytes_eq, Decides}
-use Rattle.std.proofs.lemmas.Bool.{false≢true, cases_eq, eq-eqb, ne_eqb, eqb-true, eqb-false}
+use Rattle.std.proofs.Common.{◌≡◌, refl, sym, ◌∙◌, ap, ap₂, subst, arith, ℕ, zero, suc, ◌+◌, ◌≤◌, ◌<◌, Bool, true, false, cond, List, [], ◌∷◌, length, Option, Some, None, option_map, nat_eq, Decides}
+use Rattle.std.proofs.lemmas.Bool.{false≢true, eq-eqb, ne_eqb, eqb-true}
 use Rattle.std.proofs.lemmas.Bool.Decides.{Decides-eqb}
 use Rattle.std.proofs.lemmas.Option.{none-some, same_Some, cond_some}
 use Rattle.std.proofs.lemmas.Slice.Eq.{bytes_eq-Decides}
-use Rattle.jr_tree.specs.declared.tree.Primitive.{Primitive}
 use Rattle.jr_rows.specs.declared.label.Label.{Label}
 use Rattle.jr_rows.specs.declared.label.Label.TheVariants as is
-use Rattle.jr_rows.specs.declared.label.Role.{Role}
 use Rattle.jr_rows.specs.declared.label.Role.TheVariants as role
 use Rattle.jr_rows.specs.Labels.{role_of}
 use Rattle.jr_rows.specs.Rows.{Rows, label, name, parent, end, role_at}
@@ -20,7 +18,7 @@ use Rattle.jr_defs.specs.Referents.{Table}
 use Rattle.jr_defs.specs.Declarations.{IsType}
 use Rattle.jr_defs.specs.Types.{element_of, array, plain, deeper, brackets_of, type_row, NamesType, TypeAt, HasType, ParameterTypes, Parameters, SameSignature}
 use Rattle.jr_plain.specs.Search.{Finds}
-use Rattle.jr_plain.specs.Same.{same_role, same_types}
+use Rattle.jr_plain.specs.Same.{same_role}
 use Rattle.jr_plain.specs.Declarations.{is_type}
 use Rattle.jr_plain.specs.Types.{referred_type, named_type, type_by, type_at, with_brackets, type_of_by, type_of_declared, before, parameters_by, parameters_from, parameters, are_same_types, is_same_signature}
 use Rattle.jr_plain.proofs.Tests.{both, like, never}

@@ -1,16 +1,15 @@
 -- What the functions compute on the rows of a small program:
 -- package java.lang; public class Object { }
 -- class A { int x; int f(int y) { return x; } class B extends A { int h() { return x + 1; } } }
-use Rattle.std.proofs.Common.{◌≡◌, refl, ℕ, Bool, true, false, cond, List, [], ◌∷◌, Option, Some, None, nat_eq}
+use Rattle.std.proofs.Common.{◌≡◌, refl, true, cond, [], ◌∷◌, Some, None, nat_eq}
 use Rattle.jr_defs.specs.declared.referent.Element.TheVariants as element
-use Rattle.jr_defs.specs.declared.referent.Referent.{Referent}
 use Rattle.jr_defs.specs.declared.referent.Referent.TheVariants.{Unbound, Declared}
 use Rattle.jr_defs.specs.Referents.{Table}
 use Rattle.jr_defs.specs.Types.{plain}
 use Rattle.jr_defs.proofs.Worked.{p}
 use Rattle.jr_plain.specs.Enclosing.{innermost}
 use Rattle.jr_plain.specs.Modifiers.{is_public}
-use Rattle.jr_plain.specs.Types.{type_of_declared, parameters}
+use Rattle.jr_plain.specs.Types.{parameters}
 use Rattle.jr_plain.specs.Supertypes.{supers, is_above}
 use Rattle.jr_plain.specs.Members.{members}
 use Rattle.jr_plain.specs.Overriding.{dispatches}
@@ -42,3 +41,13 @@ members_of_b = refl
 
 call_of_f : dispatches p table 24 17 17 ≡ true
 call_of_f = refl
+
+-- where B is its own superclass
+abbrev looped : Table
+looped n = cond (nat_eq n 25) (Declared 24 None) Unbound
+
+above_itself : is_above p looped 24 24 ≡ true
+above_itself = refl
+
+members_of_looped : members p looped 24 ≡ 29 ∷ []
+members_of_looped = refl

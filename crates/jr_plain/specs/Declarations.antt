@@ -1,5 +1,5 @@
 -- What rows declare, and which rows refer, as tests (JLS 6.1, 6.5).
-use Rattle.std.specs.Prelude.{ℕ, Bool, true, false, not, ◌&&◌, codes, nat_eq, bytes_eq}
+use Rattle.std.specs.Prelude.{ℕ, Bool, true, false, not, ◌&&◌, codes, List, length, nat_eq, bytes_eq}
 use Rattle.jr_base.specs.declared.text.Text.{Text}
 use Rattle.jr_rows.specs.declared.label.Label.{Label}
 use Rattle.jr_rows.specs.declared.label.Label.TheVariants as is
@@ -14,6 +14,7 @@ use Rattle.jr_defs.specs.declared.referent.Space.TheVariants as space
 use Rattle.jr_defs.specs.declared.referent.Referent.{Referent}
 use Rattle.jr_defs.specs.declared.referent.Referent.TheVariants.{Package, Declared}
 use Rattle.jr_defs.specs.Referents.{Table}
+use Rattle.jr_plain.specs.Search.{all_such}
 use Rattle.jr_plain.specs.Same.{same_role}
 
 abbrev pub is_of : Space → Role → Bool
@@ -31,6 +32,10 @@ declares p kind x d = is_of kind (role_at p d) && bytes_eq (name p d) x
 
 abbrev pub is_type : Rows → ℕ → Bool
 is_type p c = same_role (role_at p c) role.Type
+
+-- the types of the program
+abbrev pub types : Rows → List ℕ
+types p = all_such (length p) (λ c. is_type p c)
 
 abbrev pub is_class_label : Label → Bool
 is_class_label (is.Class modifiers is_member) = true

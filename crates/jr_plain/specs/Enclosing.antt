@@ -1,14 +1,23 @@
 -- Bodies, members and the types round a place, computed (JLS 8.1.6, 8.2, 9.1.4).
-use Rattle.std.specs.Prelude.{ℕ, Bool, true, false, ◌&&◌, if◌then◌else◌, List, length, Option, Some, None, nat_eq, nat_lt, nat_le}
+use Rattle.std.specs.Prelude.{ℕ, zero, suc, ◌+◌, Bool, true, false, not, ◌&&◌, if◌then◌else◌, List, [], ◌∷◌, ◌++◌, length, filter, flat_map, Option, Some, None, nat_eq, nat_lt, nat_le}
 use Rattle.jr_rows.specs.declared.label.Label.{Label}
 use Rattle.jr_rows.specs.declared.label.Label.TheVariants as is
 use Rattle.jr_rows.specs.declared.label.Role.{Role}
 use Rattle.jr_rows.specs.declared.label.Role.TheVariants as role
 use Rattle.jr_rows.specs.Rows.{Rows, label, parent, end, role_at}
 use Rattle.jr_defs.specs.Enclosing.{holder}
-use Rattle.jr_plain.specs.Search.{any_below, first_below, last_below, all_such}
+use Rattle.jr_plain.specs.Search.{any_below, first_below, last_below}
 use Rattle.jr_plain.specs.Same.{same_role}
 use Rattle.jr_plain.specs.Declarations.{is_type}
+
+-- the rows right below n from its child k on, at most so many
+abbrev pub children_from : Rows → ℕ → ℕ → ℕ → List ℕ
+children_from p n zero k = []
+children_from p n (suc rounds) k = let behind = children_from p n rounds (end p k) in if nat_eq (parent p k) n then k ∷ behind else []
+
+-- the rows right below n: the first stands behind n, each other one where the one before it ends
+abbrev pub children : Rows → ℕ → List ℕ
+children p n = children_from p n (length p) (n + 1)
 
 abbrev pub is_body : Label → Bool
 is_body is.Body = true
@@ -45,9 +54,14 @@ is_declared_in p c d = is_member_role (role_at p d) && is_body_of p c (holder (r
 abbrev pub declaring_type : Rows → ℕ → Option ℕ
 declaring_type p d = let c = parent p (holder (role_at p d) p d) in if is_declared_in p c d then Some c else None
 
+-- the members that the row k right below a body declares: itself, or the fields below it
+abbrev pub declared_at : Rows → ℕ → List ℕ
+declared_at p k =
+    (if is_member_role (role_at p k) && not (same_role (role_at p k) role.Field) then k ∷ [] else []) ++ filter (λ d. same_role (role_at p d) role.Field) (children p k)
+
 -- the members that the body of c declares
 abbrev pub declared_by : Rows → ℕ → List ℕ
-declared_by p c = all_such (length p) (λ d. is_declared_in p c d)
+declared_by p c = flat_map (λ b. if is_body_of p c b then flat_map (declared_at p) (children p b) else []) (children p c)
 
 -- k is a constructor of the class c (JLS 8.8)
 abbrev pub is_constructor_of : Rows → ℕ → ℕ → Bool

@@ -5,6 +5,7 @@ pub mod Enclosing
 pub mod Modifiers
 pub mod Packages
 pub mod Types
+pub mod Headed
 pub mod Supertypes
 pub mod Members
 pub mod Overriding

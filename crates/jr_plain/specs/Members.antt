@@ -1,5 +1,5 @@
 -- Members: what a type declares and what it inherits, computed (JLS 8.2, 8.3, 8.4.8, 8.5, 9.2).
-use Rattle.std.specs.Prelude.{ℕ, Bool, false, not, ◌&&◌, ◌||◌, List, length, bytes_eq}
+use Rattle.std.specs.Prelude.{ℕ, Bool, false, not, ◌&&◌, ◌||◌, List, length, nat_eq, bytes_eq}
 use Rattle.std.specs.List.{list_any}
 use Rattle.std.specs.Option.{option_map_or}
 use Rattle.jr_base.specs.declared.text.Text.{Text}
@@ -8,10 +8,10 @@ use Rattle.jr_rows.specs.declared.label.Role.TheVariants as role
 use Rattle.jr_rows.specs.Rows.{Rows, name, role_at}
 use Rattle.jr_defs.specs.declared.referent.Space.{Space}
 use Rattle.jr_defs.specs.Referents.{Table}
-use Rattle.jr_plain.specs.Search.{all_below, all_such, has, least_below}
+use Rattle.jr_plain.specs.Search.{all_below, all_such, has, least}
 use Rattle.jr_plain.specs.Same.{same_role}
-use Rattle.jr_plain.specs.Declarations.{declares, is_interface, is_object}
-use Rattle.jr_plain.specs.Enclosing.{is_declared_in, declaring_type}
+use Rattle.jr_plain.specs.Declarations.{declares, types, is_interface, is_object}
+use Rattle.jr_plain.specs.Enclosing.{is_member_role, is_declared_in, declaring_type, declared_by}
 use Rattle.jr_plain.specs.Modifiers.{is_public, is_protected, is_private, is_static, is_in_interface}
 use Rattle.jr_plain.specs.Packages.{is_same_package}
 use Rattle.jr_plain.specs.Types.{is_same_signature}
@@ -30,7 +30,7 @@ replaces p t e d = is_same_named p role.Field e d || is_same_named p role.Type e
 
 -- c does not declare a member that hides or overrides d
 abbrev pub is_left : Rows → Table → ℕ → ℕ → Bool
-is_left p t c d = all_below (length p) (λ e. not (is_declared_in p c e && replaces p t e d))
+is_left p t c d = not (list_any (λ e. replaces p t e d) (declared_by p c))
 
 -- not private, and without an access modifier only inside its package (JLS 8.2)
 abbrev pub can_inherit : Rows → ℕ → ℕ → Bool
@@ -57,11 +57,11 @@ has_member p t d set c = is_declared_in p c d || is_inherited p t d set c || (is
 
 -- the types of which d is a member
 abbrev pub holders : Rows → Table → ℕ → List ℕ
-holders p t d = least_below (length p) (has_member p t d)
+holders p t d = least nat_eq (types p) (has_member p t d)
 
 -- d is a member of the type c
 abbrev pub is_member : Rows → Table → ℕ → ℕ → Bool
-is_member p t c d = has (holders p t d) c
+is_member p t c d = is_member_role (role_at p d) && has (holders p t d) c
 
 -- the members of the type c
 abbrev pub members : Rows → Table → ℕ → List ℕ

@@ -1,5 +1,5 @@
 -- Searches over numbers and lists, and the least set that holds all that follows from it.
-use Rattle.std.specs.Prelude.{◌≡◌, ℕ, zero, suc, ◌<◌, Bool, true, false, not, ◌&&◌, ◌||◌, if◌then◌else◌, List, [], ◌∷◌, ◌++◌, length, filter, Option, Some, None, is_some, nat_eq, Decides}
+use Rattle.std.specs.Prelude.{◌≡◌, ℕ, zero, suc, Bool, true, false, not, ◌&&◌, ◌||◌, if◌then◌else◌, List, [], ◌∷◌, ◌++◌, length, filter, Option, Some, None, nat_eq, Decides}
 use Rattle.std.specs.List.{list_any}
 use Rattle.std.specs.Option.{option_or}
 

@@ -1,5 +1,5 @@
 -- Supertypes and subtyping, computed (JLS 8.1.4, 8.1.5, 9.1.3, 4.10).
-use Rattle.std.specs.Prelude.{ℕ, zero, suc, Bool, true, false, not, ◌&&◌, ◌||◌, if◌then◌else◌, List, [], ◌∷◌, ◌++◌, length, nat_eq}
+use Rattle.std.specs.Prelude.{ℕ, zero, suc, Bool, true, false, not, ◌&&◌, ◌||◌, if◌then◌else◌, List, [], ◌∷◌, ◌++◌, length, flat_map, nat_eq}
 use Rattle.std.specs.List.{list_any}
 use Rattle.jr_rows.specs.declared.label.Label.{Label}
 use Rattle.jr_rows.specs.declared.label.Label.TheVariants as is
@@ -11,9 +11,10 @@ use Rattle.jr_defs.specs.declared.referent.RowType.{RowType}
 use Rattle.jr_defs.specs.declared.referent.Referent.{Referent}
 use Rattle.jr_defs.specs.declared.referent.Referent.TheVariants.{Declared}
 use Rattle.jr_defs.specs.Referents.{Table}
-use Rattle.jr_plain.specs.Search.{any_below, all_such, gathered, has, least_below}
+use Rattle.jr_plain.specs.Search.{all_such, has, least}
 use Rattle.jr_plain.specs.Same.{same_element}
-use Rattle.jr_plain.specs.Declarations.{is_class, is_interface, is_object}
+use Rattle.jr_plain.specs.Declarations.{types, is_class, is_interface, is_object}
+use Rattle.jr_plain.specs.Enclosing.{children}
 
 abbrev pub is_superclass_label : Label → Bool
 is_superclass_label (is.Name kind place.Superclass is_qualified) = true
@@ -32,7 +33,7 @@ names_superinterface p c n = is_superinterface_label (label p n) && nat_eq (pare
 
 -- a class that names no superclass has Object; Object itself has none (JLS 8.1.4)
 abbrev pub has_implied_superclass : Rows → ℕ → Bool
-has_implied_superclass p c = is_class p c && not (any_below (length p) (λ n. names_superclass p c n)) && not (is_object p c)
+has_implied_superclass p c = is_class p c && not (list_any (λ n. names_superclass p c n) (children p c)) && not (is_object p c)
 
 -- the declaration to which a name refers
 abbrev pub declaration : Referent → List ℕ
@@ -44,17 +45,17 @@ abbrev pub is_super_at : Rows → Table → ℕ → ℕ → ℕ → Bool
 is_super_at p t c n s =
     ((names_superclass p c n || names_superinterface p c n) && has (declaration (t n)) s) || (nat_eq n c && has_implied_superclass p c && is_object p s)
 
--- Object where it is implied as a superclass
+-- Object, where it is implied as a superclass
 abbrev pub implied_superclasses : Rows → ℕ → List ℕ
 implied_superclasses p c = if has_implied_superclass p c then all_such (length p) (λ s. is_object p s) else []
 
 -- the direct supertypes, in their order
 abbrev pub supers : Rows → Table → ℕ → List ℕ
-supers p t c = implied_superclasses p c ++ gathered (length p) (λ n. if names_superclass p c n || names_superinterface p c n then declaration (t n) else [])
+supers p t c = implied_superclasses p c ++ flat_map (λ n. if names_superclass p c n || names_superinterface p c n then declaration (t n) else []) (children p c)
 
 -- the superclass
 abbrev pub superclasses : Rows → Table → ℕ → List ℕ
-superclasses p t c = implied_superclasses p c ++ gathered (length p) (λ n. if names_superclass p c n then declaration (t n) else [])
+superclasses p t c = implied_superclasses p c ++ flat_map (λ n. if names_superclass p c n then declaration (t n) else []) (children p c)
 
 -- s is strictly above c, where the set has types below s; Object is above every interface too (JLS 4.10.2)
 abbrev pub is_lower : Rows → Table → ℕ → List ℕ → ℕ → Bool
@@ -62,7 +63,7 @@ is_lower p t s set c = has (supers p t c) s || list_any (has set) (supers p t c)
 
 -- the types strictly below s
 abbrev pub lower : Rows → Table → ℕ → List ℕ
-lower p t s = least_below (length p) (is_lower p t s)
+lower p t s = least nat_eq (types p) (is_lower p t s)
 
 -- s is strictly above c
 abbrev pub is_above : Rows → Table → ℕ → ℕ → Bool

@@ -10,6 +10,7 @@ ghost use Rattle.jr_defs.specs.declared.referent.RowType.{RowType};
 ghost use Rattle.jr_defs.specs.declared.referent.Space.{Space};
 ghost use Rattle.jr_defs.specs.Declarations.{Declares, IsType, IsClass, IsInterface, IsVariable, IsPrelude, IsOccurrence, IsPart, IsReference};
 ghost use Rattle.jr_defs.specs.Enclosing.{InBody, Innermost, DeclaredIn, ConstructorOf, IsTopLevel, InTopLevel, SameTopLevel};
+ghost use Rattle.jr_defs.specs.Formed.{IsFormed};
 ghost use Rattle.jr_defs.specs.Members.{MemberOf, MemberNamed, IsLeft, CanInherit};
 ghost use Rattle.jr_defs.specs.Modifiers.{InInterface, IsPublic, IsProtected, IsPrivate, IsStatic, IsFinal, IsAbstract, IsInner};
 ghost use Rattle.jr_defs.specs.Overriding.{Overrides, Has, Implements, Serves, Found, Dispatches};
@@ -19,6 +20,7 @@ ghost use Rattle.jr_defs.specs.Supertypes.{SuperAt, Super, Superclass, Above, At
 ghost use Rattle.jr_defs.specs.Types.{NamesType, TypeAt, HasType, Parameters, SameSignature};
 ghost use Rattle.jr_plain.specs.Declarations.{declares, is_type, is_class, is_interface, is_variable, is_prelude, is_occurrence, is_part, is_reference};
 ghost use Rattle.jr_plain.specs.Enclosing.{is_in_body, innermost, is_declared_in, declaring_type, declared_by, is_constructor_of, constructed_class, is_top_level, is_in_top_level, top_level_of, is_same_top_level};
+ghost use Rattle.jr_plain.specs.Headed.{IsHeaded};
 ghost use Rattle.jr_plain.specs.Members.{is_left, can_inherit, is_member, members, is_member_named, members_named};
 ghost use Rattle.jr_plain.specs.Modifiers.{is_in_interface, is_public, is_protected, is_private, is_static, is_final, is_abstract, is_inner};
 ghost use Rattle.jr_plain.specs.Overriding.{overrides, has_method, implements, serves, is_found, dispatches};
@@ -71,7 +73,7 @@ pub fn enclosing_types_are_computed()
     ensures innermost { (p : Rows) (o : ℕ) → Finds (innermost p o) (λ c. Innermost p o c) }
     ensures declared { (p : Rows) (c d : ℕ) → Decides (is_declared_in p c d) (DeclaredIn p c d) }
     ensures declaring { (p : Rows) (d : ℕ) → Finds (declaring_type p d) (λ c. DeclaredIn p c d) }
-    ensures members { (p : Rows) (c : ℕ) → Lists (declared_by p c) (λ d. DeclaredIn p c d) }
+    ensures members { (p : Rows) (c : ℕ) → IsTree p → Lists (declared_by p c) (λ d. DeclaredIn p c d) }
     ensures constructors { (p : Rows) (c k : ℕ) → Decides (is_constructor_of p c k) (ConstructorOf p c k) }
     ensures constructed { (p : Rows) (k : ℕ) → Finds (constructed_class p k) (λ c. ConstructorOf p c k) }
     ensures top_level { (p : Rows) (c : ℕ) → Decides (is_top_level p c) (IsTopLevel p c) }
@@ -110,34 +112,40 @@ pub fn types_are_computed()
     ensures signatures { (p : Rows) (t : Table) (m k : ℕ) → IsTree p → Decides (is_same_signature p t m k) (SameSignature p t m k) }
 {}
 
-/// Supertypes and subtypes, whatever the table says, also where types are above themselves. That the rows are a tree bounds which types name others.
+/// What the laws on supertypes and members ask of rows is true of formed rows, and of rows that stand as their labels may.
+pub fn headers_stand_below_types()
+    ensures formed { (p : Rows) → IsFormed p → IsHeaded p }
+    ensures local { (p : Rows) → IsLocal p → IsHeaded p }
+{}
+
+/// Supertypes and subtypes, whatever the table says, also where types are above themselves.
 pub fn supertypes_are_computed()
-    ensures at { (p : Rows) (t : Table) (c n s : ℕ) → Decides (is_super_at p t c n s) (SuperAt p t c n s) }
-    ensures direct { (p : Rows) (t : Table) (c : ℕ) → Lists (supers p t c) (λ s. Super p t c s) }
-    ensures superclass { (p : Rows) (t : Table) (c : ℕ) → Lists (superclasses p t c) (λ s. Superclass p t c s) }
-    ensures above { (p : Rows) (t : Table) (c s : ℕ) → IsTree p → Decides (is_above p t c s) (Above p t c s) }
-    ensures at_or_above { (p : Rows) (t : Table) (c s : ℕ) → IsTree p → Decides (is_at_or_above p t c s) (AtOrAbove p t c s) }
-    ensures subtypes { (p : Rows) (t : Table) (a b : RowType) → IsTree p → Decides (is_subtype p t a b) (Subtype p t a b) }
+    ensures at { (p : Rows) (t : Table) (c n s : ℕ) → IsHeaded p → Decides (is_super_at p t c n s) (SuperAt p t c n s) }
+    ensures direct { (p : Rows) (t : Table) (c : ℕ) → IsHeaded p → Lists (supers p t c) (λ s. Super p t c s) }
+    ensures superclass { (p : Rows) (t : Table) (c : ℕ) → IsHeaded p → Lists (superclasses p t c) (λ s. Superclass p t c s) }
+    ensures above { (p : Rows) (t : Table) (c s : ℕ) → IsHeaded p → Decides (is_above p t c s) (Above p t c s) }
+    ensures at_or_above { (p : Rows) (t : Table) (c s : ℕ) → IsHeaded p → Decides (is_at_or_above p t c s) (AtOrAbove p t c s) }
+    ensures subtypes { (p : Rows) (t : Table) (a b : RowType) → IsHeaded p → Decides (is_subtype p t a b) (Subtype p t a b) }
 {}
 
 /// The members of types.
 pub fn members_are_computed()
-    ensures left { (p : Rows) (t : Table) (c d : ℕ) → IsTree p → Decides (is_left p t c d) (IsLeft p t c d) }
+    ensures left { (p : Rows) (t : Table) (c d : ℕ) → IsHeaded p → Decides (is_left p t c d) (IsLeft p t c d) }
     ensures inherited { (p : Rows) (c d : ℕ) → Decides (can_inherit p c d) (CanInherit p c d) }
-    ensures member { (p : Rows) (t : Table) (c d : ℕ) → IsTree p → Decides (is_member p t c d) (MemberOf p t c d) }
-    ensures members { (p : Rows) (t : Table) (c : ℕ) → IsTree p → Lists (members p t c) (λ d. MemberOf p t c d) }
-    ensures named { (p : Rows) (t : Table) (kind : Space) (x : Text) (c d : ℕ) → IsTree p → Decides (is_member_named p t kind x c d) (MemberNamed p t kind x c d) }
-    ensures all_named { (p : Rows) (t : Table) (kind : Space) (x : Text) (c : ℕ) → IsTree p → Lists (members_named p t kind x c) (λ d. MemberNamed p t kind x c d) }
+    ensures member { (p : Rows) (t : Table) (c d : ℕ) → IsHeaded p → Decides (is_member p t c d) (MemberOf p t c d) }
+    ensures members { (p : Rows) (t : Table) (c : ℕ) → IsHeaded p → Lists (members p t c) (λ d. MemberOf p t c d) }
+    ensures named { (p : Rows) (t : Table) (kind : Space) (x : Text) (c d : ℕ) → IsHeaded p → Decides (is_member_named p t kind x c d) (MemberNamed p t kind x c d) }
+    ensures all_named { (p : Rows) (t : Table) (kind : Space) (x : Text) (c : ℕ) → IsHeaded p → Lists (members_named p t kind x c) (λ d. MemberNamed p t kind x c d) }
 {}
 
 /// Overriding, and the method that a call finds in a class.
 pub fn overriding_is_computed()
-    ensures overriding { (p : Rows) (t : Table) (m k : ℕ) → IsTree p → Decides (overrides p t m k) (Overrides p t m k) }
-    ensures has { (p : Rows) (t : Table) (c m : ℕ) → IsTree p → Decides (has_method p t c m) (Has p t c m) }
-    ensures implementing { (p : Rows) (t : Table) (c f m : ℕ) → IsTree p → Decides (implements p t c f m) (Implements p t c f m) }
-    ensures serving { (p : Rows) (t : Table) (c m f : ℕ) → IsTree p → Decides (serves p t c m f) (Serves p t c m f) }
-    ensures found { (p : Rows) (t : Table) (c m f : ℕ) → IsTree p → Decides (is_found p t c m f) (Found p t c m f) }
-    ensures dispatch { (p : Rows) (t : Table) (c m f : ℕ) → IsTree p → Decides (dispatches p t c m f) (Dispatches p t c m f) }
+    ensures overriding { (p : Rows) (t : Table) (m k : ℕ) → IsHeaded p → Decides (overrides p t m k) (Overrides p t m k) }
+    ensures has { (p : Rows) (t : Table) (c m : ℕ) → IsHeaded p → Decides (has_method p t c m) (Has p t c m) }
+    ensures implementing { (p : Rows) (t : Table) (c f m : ℕ) → IsHeaded p → Decides (implements p t c f m) (Implements p t c f m) }
+    ensures serving { (p : Rows) (t : Table) (c m f : ℕ) → IsHeaded p → Decides (serves p t c m f) (Serves p t c m f) }
+    ensures found { (p : Rows) (t : Table) (c m f : ℕ) → IsHeaded p → Decides (is_found p t c m f) (Found p t c m f) }
+    ensures dispatch { (p : Rows) (t : Table) (c m f : ℕ) → IsHeaded p → Decides (dispatches p t c m f) (Dispatches p t c m f) }
 {}
 
 /// The answer of a list of candidates is an answer of their set. `other` is the answer for want of one.
@@ -149,17 +157,17 @@ pub fn answers_are_computed()
 /// What imports bring into scope, and where they hold.
 pub fn imports_are_computed()
     ensures single { (p : Rows) (t : Table) (u d : ℕ) → Decides (is_single_import p t u d) (SingleImport p t u d) }
-    ensures statics { (p : Rows) (t : Table) (u d : ℕ) → IsTree p → Decides (is_static_import p t u d) (StaticImport p t u d) }
-    ensures on_demand { (p : Rows) (t : Table) (u d : ℕ) → IsTree p → Decides (is_on_demand_import p t u d) (OnDemandImport p t u d) }
+    ensures statics { (p : Rows) (t : Table) (u d : ℕ) → IsHeaded p → Decides (is_static_import p t u d) (StaticImport p t u d) }
+    ensures on_demand { (p : Rows) (t : Table) (u d : ℕ) → IsHeaded p → Decides (is_on_demand_import p t u d) (OnDemandImport p t u d) }
     ensures hold { (p : Rows) (u o : ℕ) → Decides (imports_hold p u o) (ImportsHold p u o) }
 {}
 
 /// Scope and shadowing.
 pub fn scope_is_computed()
-    ensures scope { (p : Rows) (t : Table) (o d : ℕ) (r : Depth) → IsTree p → Decides (has_scope p t o d r) (HasScope p t o d r) }
-    ensures in_scope { (p : Rows) (t : Table) (kind : Space) (x : Text) (o d : ℕ) (r : Depth) → IsTree p → Decides (is_in_scope p t kind x o d r) (InScope p t kind x o d r) }
-    ensures shadowing { (p : Rows) (t : Table) (o d e : ℕ) → IsTree p → Decides (shadows p t o d e) (Shadows p t o d e) }
-    ensures visible { (p : Rows) (t : Table) (kind : Space) (x : Text) (o d : ℕ) (r : Depth) → IsTree p → Decides (is_visible p t kind x o d r) (Visible p t kind x o d r) }
+    ensures scope { (p : Rows) (t : Table) (o d : ℕ) (r : Depth) → IsHeaded p → Decides (has_scope p t o d r) (HasScope p t o d r) }
+    ensures in_scope { (p : Rows) (t : Table) (kind : Space) (x : Text) (o d : ℕ) (r : Depth) → IsHeaded p → Decides (is_in_scope p t kind x o d r) (InScope p t kind x o d r) }
+    ensures shadowing { (p : Rows) (t : Table) (o d e : ℕ) → IsHeaded p → Decides (shadows p t o d e) (Shadows p t o d e) }
+    ensures visible { (p : Rows) (t : Table) (kind : Space) (x : Text) (o d : ℕ) (r : Depth) → IsHeaded p → Decides (is_visible p t kind x o d r) (Visible p t kind x o d r) }
 {}
 
 /// Static contexts, and the classes that have an instance at a place.
@@ -171,9 +179,9 @@ pub fn instances_are_computed()
 
 /// What is accessible at a place.
 pub fn access_is_computed()
-    ensures through { (p : Rows) (t : Table) (s d : ℕ) (receiver : Option RowType) → IsTree p → Decides (is_through p t s d receiver) (IsThrough p t s d receiver) }
-    ensures protecteds { (p : Rows) (t : Table) (d o : ℕ) (receiver : Option RowType) → IsTree p → Decides (is_by_protected p t d o receiver) (ByProtected p t d o receiver) }
-    ensures access { (p : Rows) (t : Table) (d o : ℕ) (receiver : Option RowType) → IsTree p → Decides (is_accessible p t d o receiver) (IsAccessible p t d o receiver) }
+    ensures through { (p : Rows) (t : Table) (s d : ℕ) (receiver : Option RowType) → IsHeaded p → Decides (is_through p t s d receiver) (IsThrough p t s d receiver) }
+    ensures protecteds { (p : Rows) (t : Table) (d o : ℕ) (receiver : Option RowType) → IsHeaded p → Decides (is_by_protected p t d o receiver) (ByProtected p t d o receiver) }
+    ensures access { (p : Rows) (t : Table) (d o : ℕ) (receiver : Option RowType) → IsHeaded p → Decides (is_accessible p t d o receiver) (IsAccessible p t d o receiver) }
 {}
 
 /// The types of arguments, where a function gives the types of expressions.
@@ -184,23 +192,23 @@ pub fn arguments_are_computed()
 
 /// Which methods and constructors are applicable, the most specific of them, and the choice among them.
 pub fn choices_are_computed()
-    ensures applicable { (p : Rows) (t : Table) (o : ℕ) (receiver : Option RowType) (arguments : List RowType) (m : ℕ) → IsTree p
+    ensures applicable { (p : Rows) (t : Table) (o : ℕ) (receiver : Option RowType) (arguments : List RowType) (m : ℕ) → IsHeaded p
         → Decides (is_applicable p t o receiver arguments m) (IsApplicable p t o receiver arguments m) }
-    ensures more_specific { (p : Rows) (t : Table) (m k : ℕ) → IsTree p → Decides (is_more_specific p t m k) (MoreSpecific p t m k) }
-    ensures results { (p : Rows) (t : Table) (m k : ℕ) → IsTree p → Decides (is_result_fit p t m k) (ResultFits p t m k) }
-    ensures order { (p : Rows) (t : Table) (c d e : ℕ) → IsTree p → Decides (is_earlier p t c d e) (Earlier p t c d e) }
-    ensures choice { (p : Rows) (t : Table) (c o : ℕ) (receiver : Option RowType) (arguments : List RowType) (methods : List ℕ) → IsTree p
+    ensures more_specific { (p : Rows) (t : Table) (m k : ℕ) → IsHeaded p → Decides (is_more_specific p t m k) (MoreSpecific p t m k) }
+    ensures results { (p : Rows) (t : Table) (m k : ℕ) → IsHeaded p → Decides (is_result_fit p t m k) (ResultFits p t m k) }
+    ensures order { (p : Rows) (t : Table) (c d e : ℕ) → IsHeaded p → Decides (is_earlier p t c d e) (Earlier p t c d e) }
+    ensures choice { (p : Rows) (t : Table) (c o : ℕ) (receiver : Option RowType) (arguments : List RowType) (methods : List ℕ) → IsHeaded p
         → Lists (choice p t c o receiver arguments methods) (Choice p t c o receiver arguments (λ m. has methods m ≡ true)) }
-    ensures imported { (p : Rows) (t : Table) (o : ℕ) (arguments : List RowType) (methods : List ℕ) → IsTree p
+    ensures imported { (p : Rows) (t : Table) (o : ℕ) (arguments : List RowType) (methods : List ℕ) → IsHeaded p
         → Lists (imported_choice p t o arguments methods) (ImportedChoice p t o arguments (λ m. has methods m ≡ true)) }
 {}
 
 /// What occurrences refer to, where a function gives the types of expressions: the answer that is computed is one, and the only one.
 pub fn lookup_is_computed()
-    ensures candidates { (p : Rows) (t : Table) (k : ℕ → Bool) (type_of : Types) → IsTree p → ((n : ℕ) → Finds (type_of n) (λ a. TypeOf p t (Picked k) n a))
+    ensures candidates { (p : Rows) (t : Table) (k : ℕ → Bool) (type_of : Types) → IsHeaded p → ((n : ℕ) → Finds (type_of n) (λ a. TypeOf p t (Picked k) n a))
         → (o : ℕ) (x : Text) (s : Sought) (d : ℕ) (level : Option ℕ) → Decides (is_candidate (candidates p t type_of o x s) d level) (Candidate p t (Picked k) o x s d level) }
-    ensures answer { (p : Rows) (t : Table) (k : ℕ → Bool) (type_of : Types) → IsTree p → ((n : ℕ) → Finds (type_of n) (λ a. TypeOf p t (Picked k) n a))
+    ensures answer { (p : Rows) (t : Table) (k : ℕ → Bool) (type_of : Types) → IsHeaded p → ((n : ℕ) → Finds (type_of n) (λ a. TypeOf p t (Picked k) n a))
         → (o : ℕ) → Look p t (Picked k) o (look p t type_of o) }
-    ensures only { (p : Rows) (t : Table) (k : ℕ → Bool) (type_of : Types) → IsTree p → ((n : ℕ) → Finds (type_of n) (λ a. TypeOf p t (Picked k) n a))
+    ensures only { (p : Rows) (t : Table) (k : ℕ → Bool) (type_of : Types) → IsHeaded p → ((n : ℕ) → Finds (type_of n) (λ a. TypeOf p t (Picked k) n a))
         → (o : ℕ) (a : Referent) → Look p t (Picked k) o a → a ≡ look p t type_of o }
 {}

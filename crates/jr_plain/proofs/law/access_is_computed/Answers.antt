@@ -3,7 +3,7 @@ use Rattle.jr_plain.proofs.law.access_is_computed.Goals as goal
 
 pub returns : goal.returns
 returns c = record {
-  through = λ p t s d receiver tree. through_tells p t tree s d receiver;
-  protecteds = λ p t d o receiver tree. by_protected_tells p t tree d o receiver;
-  access = λ p t d o receiver tree. accessible_tells p t tree d o receiver;
+  through = λ p t s d receiver headed. through_tells p t headed s d receiver;
+  protecteds = λ p t d o receiver headed. by_protected_tells p t headed d o receiver;
+  access = λ p t d o receiver headed. accessible_tells p t headed d o receiver;
 }

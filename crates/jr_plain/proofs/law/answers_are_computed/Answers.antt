@@ -1,5 +1,5 @@
 use Rattle.std.proofs.Common.{◌≡◌, refl, true}
-use Rattle.jr_plain.proofs.Answered.{answer_is, answer_finds}
+use Rattle.jr_plain.proofs.Answered.{answer_is}
 use Rattle.jr_plain.proofs.law.answers_are_computed.Goals as goal
 
 pub returns : goal.returns

@@ -1,4 +1,5 @@
-use Rattle.jr_plain.proofs.Enclosed.{in_body_tells, innermost_finds, declared_in_tells, declaring_finds, declared_lists, constructor_tells, constructed_finds, top_level_tells, in_top_level_tells, same_top_level_tells}
+use Rattle.jr_plain.proofs.Enclosed.{in_body_tells, innermost_finds, declared_in_tells, declaring_finds, constructor_tells, constructed_finds, top_level_tells, in_top_level_tells, same_top_level_tells}
+use Rattle.jr_plain.proofs.Children.{declared_list}
 use Rattle.jr_plain.proofs.OneUnit.{top_level_finds}
 use Rattle.jr_plain.proofs.law.enclosing_types_are_computed.Goals as goal
 
@@ -8,7 +9,7 @@ returns c = record {
   innermost = innermost_finds;
   declared = declared_in_tells;
   declaring = declaring_finds;
-  members = declared_lists;
+  members = λ p k tree. declared_list p tree k;
   constructors = constructor_tells;
   constructed = constructed_finds;
   top_level = top_level_tells;

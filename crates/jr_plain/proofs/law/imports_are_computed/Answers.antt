@@ -4,7 +4,7 @@ use Rattle.jr_plain.proofs.law.imports_are_computed.Goals as goal
 pub returns : goal.returns
 returns c = record {
   single = single_import_tells;
-  statics = λ p t u d tree. static_import_tells p t tree u d;
-  on_demand = λ p t u d tree. on_demand_import_tells p t tree u d;
+  statics = λ p t u d headed. static_import_tells p t headed u d;
+  on_demand = λ p t u d headed. on_demand_import_tells p t headed u d;
   hold = imports_hold_tells;
 }

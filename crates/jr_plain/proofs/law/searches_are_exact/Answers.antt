@@ -2,7 +2,6 @@ use Rattle.std.proofs.Common.{◌≡◌, true}
 use Rattle.jr_plain.proofs.Tests.{itself}
 use Rattle.jr_plain.proofs.Searches.{any, all, such}
 use Rattle.jr_plain.proofs.Least.{closed_below, reaches_tells}
-use Rattle.jr_plain.proofs.Worked.{members_of_b}
 use Rattle.jr_plain.proofs.law.searches_are_exact.Goals as goal
 
 pub returns : goal.returns
