@@ -7,7 +7,7 @@ use Rattle.jr_tree.specs.declared.tree.ThisOrSuper.{ThisOrSuper}
 use Rattle.jr_rows.specs.declared.label.Label.{Label}
 use Rattle.jr_rows.specs.declared.label.Label.TheVariants as is
 use Rattle.jr_rows.specs.Rows.{Rows, label, parent, end}
-use Rattle.jr_defs.specs.Declarations.{IsInterface}
+use Rattle.jr_defs.specs.Declarations.{IsType, IsInterface}
 use Rattle.jr_defs.specs.Enclosing.{BodyOf, DeclaredIn, Innermost}
 use Rattle.jr_defs.specs.Modifiers.{IsInner}
 use Rattle.jr_defs.specs.Instances.{is_static_code, InStaticContext, InConstructorCall, HasInstance}
@@ -17,8 +17,8 @@ use Rattle.jr_plain.specs.Enclosing.{is_declared_in, innermost}
 use Rattle.jr_plain.specs.Modifiers.{is_inner}
 use Rattle.jr_plain.specs.Instances as plain
 use Rattle.jr_plain.proofs.Tests.{itself, both, either, opposite, like}
-use Rattle.jr_plain.proofs.Searches.{some}
-use Rattle.jr_plain.proofs.Least.{closed_below, sound_below}
+use Rattle.jr_plain.proofs.Searches.{some, some_of}
+use Rattle.jr_plain.proofs.OfTypes.{closed_types, sound_types}
 use Rattle.jr_plain.proofs.Bounds.{bounded, body_below, parent_past, type_below}
 use Rattle.jr_plain.proofs.Declared.{interface_tells}
 use Rattle.jr_plain.proofs.Enclosed.{most, body_tells, in_body_below, innermost_finds, declared_in_tells, declared_below}
@@ -69,29 +69,28 @@ innermost_tells p o c = found_is (λ e. Innermost p o e) (innermost p o) (innerm
 
 module _ (p : Rows) (o : ℕ) where
   abbrev InstanceBy : List ℕ → ℕ → Type 0
-  InstanceBy set c = (Innermost p o c × (InStaticContext p o → ⊥)) ⊎ ((b : ℕ) × (((has set b ≡ true) × IsInner p b) × DeclaredIn p c b))
+  InstanceBy set c = (Innermost p o c × (InStaticContext p o → ⊥)) ⊎ ((b : ℕ) × (has set b ≡ true) × (IsInner p b × DeclaredIn p c b))
 
   instance_by_tells : (set : List ℕ) (c : ℕ) → Decides (plain.has_instance_by p o set c) (InstanceBy set c)
   instance_by_tells set c = either (both (innermost_tells p o c) (opposite (static_context_tells p o)))
-      (some (λ b. has set b && is_inner p b && is_declared_in p c b) (λ b. ((has set b ≡ true) × IsInner p b) × DeclaredIn p c b)
-          (λ b. both (both (itself (has set b)) (inner_tells p b)) (declared_in_tells p c b)) (length p) (λ b h. declared_below p c b h.1))
+      (some_of (λ b. is_inner p b && is_declared_in p c b) (λ b. IsInner p b × DeclaredIn p c b) (λ b. both (inner_tells p b) (declared_in_tells p c b)) set (λ b. itself (has set b)))
 
   instance_out : (c : ℕ) → plain.has_instance p o c ≡ true → HasInstance p o c
-  instance_out = sound_below (length p) (plain.has_instance_by p o) (λ c. HasInstance p o c) step
+  instance_out = sound_types p (plain.has_instance_by p o) (λ c. HasInstance p o c) step
     where
       from : (set : List ℕ) → ((k : ℕ) → has set k ≡ true → HasInstance p o k) → (c : ℕ) → InstanceBy set c → HasInstance p o c
       from set holds c (inl h) = HasInstance.here h.0 h.1
-      from set holds c (inr h) = HasInstance.around (holds h.0 h.1.0.0) h.1.0.1 h.1.1
+      from set holds c (inr h) = HasInstance.around (holds h.0 h.1) h.2.0 h.2.1
 
-      step : (set : List ℕ) → ((k : ℕ) → has set k ≡ true → HasInstance p o k) → (c : ℕ) → c < length p → plain.has_instance_by p o set c ≡ true → HasInstance p o c
-      step set holds c lt h = from set holds c ((instance_by_tells set c).0 h)
+      step : (set : List ℕ) → ((k : ℕ) → has set k ≡ true → HasInstance p o k) → (c : ℕ) → IsType p c → plain.has_instance_by p o set c ≡ true → HasInstance p o c
+      step set holds c type h = from set holds c ((instance_by_tells set c).0 h)
 
-  closed_instance : (c : ℕ) → c < length p → InstanceBy (plain.instances p o) c → plain.has_instance p o c ≡ true
-  closed_instance c lt h = closed_below (length p) (plain.has_instance_by p o) c lt ((instance_by_tells (plain.instances p o) c).1 h)
+  closed_instance : (c : ℕ) → IsType p c → InstanceBy (plain.instances p o) c → plain.has_instance p o c ≡ true
+  closed_instance c type h = closed_types p (plain.has_instance_by p o) c type ((instance_by_tells (plain.instances p o) c).1 h)
 
   instance_into : (c : ℕ) → HasInstance p o c → plain.has_instance p o c ≡ true
-  instance_into c (HasInstance.here i out) = closed_instance c (in_body_below p c o i.holds) (inl (i, out))
-  instance_into c (HasInstance.around {b = b} h inner d) = closed_instance c (type_below p c d.inside.type) (inr (b, ((instance_into b h, inner), d)))
+  instance_into c (HasInstance.here i out) = closed_instance c i.holds.of_type.type (inl (i, out))
+  instance_into c (HasInstance.around {b = b} h inner d) = closed_instance c d.inside.type (inr (b, instance_into b h, (inner, d)))
 
   pub instance_tells : (c : ℕ) → Decides (plain.has_instance p o c) (HasInstance p o c)
   instance_tells c = (instance_out c, instance_into c)

@@ -24,3 +24,4 @@ pub mod Listed
 pub mod Overloaded
 pub mod LookedUp
 pub mod Headed
+pub mod WorkedLookup

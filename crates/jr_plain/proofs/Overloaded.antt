@@ -9,6 +9,7 @@ use Rattle.jr_rows.specs.Rows.{Rows, parent, end}
 use Rattle.jr_rows.specs.Tree.{IsTree}
 use Rattle.jr_defs.specs.declared.referent.RowType.{RowType}
 use Rattle.jr_defs.specs.Referents.{Table}
+use Rattle.jr_defs.specs.Declarations.{IsType}
 use Rattle.jr_defs.specs.Modifiers.{IsAbstract}
 use Rattle.jr_defs.specs.Types.{HasType, Parameters}
 use Rattle.jr_defs.specs.Supertypes.{IsReferenceType, Subtype, SuperAt, Super}
@@ -27,7 +28,7 @@ use Rattle.jr_plain.specs.Overloads as plain
 use Rattle.jr_plain.specs.Overloads.{Types}
 use Rattle.jr_plain.proofs.Tests.{itself, never, both, either, opposite, like}
 use Rattle.jr_plain.proofs.Searches.{some_of}
-use Rattle.jr_plain.proofs.Least.{closed_below, sound_below}
+use Rattle.jr_plain.proofs.OfTypes.{closed_types, sound_types}
 use Rattle.jr_plain.proofs.Listed.{decided, or_else_has, filter_has, all_of, finds_first}
 use Rattle.jr_plain.proofs.Same.{type_tells}
 use Rattle.jr_plain.proofs.Bounds.{class_below, parent_past, type_below}
@@ -173,7 +174,7 @@ module _ (p : Rows) (t : Table) (headed : IsHeaded p) where
         (plain.first_place p t c d) (first_place_finds c d)
 
     earlier_out : (c : ℕ) → plain.is_earlier p t c d e ≡ true → Earlier p t c d e
-    earlier_out = sound_below (length p) (plain.is_earlier_by p t d e) (λ c. Earlier p t c d e) step
+    earlier_out = sound_types p (plain.is_earlier_by p t d e) (λ c. Earlier p t c d e) step
       where
         from : (set : List ℕ) → ((k : ℕ) → has set k ≡ true → Earlier p t k d e) → (c : ℕ) → EarlierBy set c → Earlier p t c d e
         from set holds c h = let m = h.0 in let n = h.2.0 in let first = h.1 in let second = h.2.1 in ⊎_elim
@@ -181,12 +182,12 @@ module _ (p : Rows) (t : Table) (headed : IsHeaded p) where
             (λ k. Earlier.within (first_through c d n k.1.0 (subst (λ x. FirstPlace c d x) k.0 first) k.1.2.0.0.0 k.1.2.0.0.1) (first_through c e n k.1.0 second k.1.2.0.0.0 k.1.2.0.1)
                 (holds k.1.0 k.1.2.1)) h.2.2
 
-        step : (set : List ℕ) → ((k : ℕ) → has set k ≡ true → Earlier p t k d e) → (c : ℕ) → c < length p → plain.is_earlier_by p t d e set c ≡ true → Earlier p t c d e
-        step set holds c lt h = from set holds c ((earlier_by_tells set c).0 h)
+        step : (set : List ℕ) → ((k : ℕ) → has set k ≡ true → Earlier p t k d e) → (c : ℕ) → IsType p c → plain.is_earlier_by p t d e set c ≡ true → Earlier p t c d e
+        step set holds c type h = from set holds c ((earlier_by_tells set c).0 h)
 
     closed_earlier : (c s n : ℕ) → SuperAt p t c n s → EarlierBy (plain.earlier p t d e) c → plain.is_earlier p t c d e ≡ true
     closed_earlier c s n at h =
-        closed_below (length p) (plain.is_earlier_by p t d e) c (type_below p c (super_source p t headed c s (record { place = n; at = at }))) ((earlier_by_tells (plain.earlier p t d e) c).1 h)
+        closed_types p (plain.is_earlier_by p t d e) c (super_source p t headed c s (record { place = n; at = at })) ((earlier_by_tells (plain.earlier p t d e) c).1 h)
 
   earlier_into : (c d e : ℕ) → Earlier p t c d e → plain.is_earlier p t c d e ≡ true
   earlier_into c d e (Earlier.by_place {m = m} {n = n} {r = r} {s = s} f g lt) =

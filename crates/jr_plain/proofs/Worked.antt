@@ -15,7 +15,7 @@ use Rattle.jr_plain.specs.Members.{members}
 use Rattle.jr_plain.specs.Overriding.{dispatches}
 
 -- B extends A, and both uses of x refer to the field
-abbrev table : Table
+abbrev pub table : Table
 table n = cond (nat_eq n 25) (Declared 10 None) (cond (nat_eq n 23) (Declared 16 (Some 10)) (cond (nat_eq n 34) (Declared 16 (Some 24)) Unbound))
 
 around_use : innermost p 34 ≡ Some 24

@@ -6,9 +6,10 @@ use Rattle.std.specs.Cmp.Lexicographic.{pointwise}
 use Rattle.jr_rows.specs.Rows.{Rows, parent, end}
 use Rattle.jr_defs.specs.declared.referent.RowType.{RowType}
 use Rattle.jr_defs.specs.Referents.{Table}
-use Rattle.jr_plain.specs.Search.{any_below, first_below, has, least_below}
+use Rattle.jr_plain.specs.Search.{first_below, has, least}
 use Rattle.jr_plain.specs.Same.{same_type}
 use Rattle.jr_plain.specs.Lists.{or_else}
+use Rattle.jr_plain.specs.Declarations.{types}
 use Rattle.jr_plain.specs.Modifiers.{is_abstract}
 use Rattle.jr_plain.specs.Types.{type_of_declared, before, parameters}
 use Rattle.jr_plain.specs.Supertypes.{is_super_at, supers, is_reference_type, is_subtype}
@@ -77,7 +78,7 @@ is_earlier_by p t d e set c =
 
 -- the types that inherit d before e
 abbrev pub earlier : Rows → Table → ℕ → ℕ → List ℕ
-earlier p t d e = least_below (length p) (is_earlier_by p t d e)
+earlier p t d e = least nat_eq (types p) (is_earlier_by p t d e)
 
 abbrev pub is_earlier : Rows → Table → ℕ → ℕ → ℕ → Bool
 is_earlier p t c d e = has (earlier p t d e) c
