@@ -1,5 +1,6 @@
 // Reads the methods of a class token by token, with what the rules ask of each.
 ghost use Rattle.std.specs.Prelude.{◌≡◌, ◌++◌, IfOk};
+ghost use Rattle.std.specs.List.{list_all};
 ghost use Rattle.jr_thin.specs.Trees.{kinds_of};
 ghost use Rattle.jr_check.specs.Members.{start, course_after, opened, named, params_after, body_after, state_after, ended_in, settled, members_in, is_lawful};
 ghost use Rattle.jr_check.specs.Rules.{is_of_object};
@@ -170,11 +171,18 @@ fn is_of_object(name: &[u8]) -> bool
         || name == b"finalize".as_slice()
 }
 
-/// Whether the method keeps the rules that are its own: it ends in its one return statement, its expressions are not too
-/// deep, and it hides no method of Object (JLS 8.4.7, 8.4.8.2, 14.21).
-pub fn is_lawful(member: &Member) -> bool
+// Whether the method keeps the rules that are its own: it ends in its one return statement, its expressions are not too
+// deep, and it hides no method of Object (JLS 8.4.7, 8.4.8.2, 14.21).
+fn is_lawful(member: &Member) -> bool
     ensures { result ≡ is_lawful member.now }
 {
     member.is_sound
         && !(member.signature.params == 0 && is_of_object(member.signature.name.bytes()))
+}
+
+/// Whether each method keeps the rules that are its own.
+pub fn are_lawful(members: &[Member]) -> bool
+    ensures { result ≡ list_all is_lawful members.now }
+{
+    members.iter().all(is_lawful)
 }

@@ -6,7 +6,7 @@ ghost use Rattle.jr_check.specs.Small.{IsMethodProgram, IsFieldProgram, IsSmallP
 use crate::apart::are_apart;
 use crate::assigned::are_assigned;
 use crate::fields::fields_in;
-use crate::methods::{is_lawful, members_in};
+use crate::methods::{are_lawful, members_in};
 use jr_base::OutOfMemory;
 use jr_thin::{Class, class_in, tokens_of};
 use std::alloc::Global;
@@ -21,7 +21,7 @@ fn keeps_rules(alloc: Global, bytes: &[u8], class: &Class) -> Result<bool, OutOf
         return Ok(false);
     }
     let members = members_in(alloc, &class.tokens)?;
-    if !members.iter().all(is_lawful) {
+    if !are_lawful(&members) {
         return Ok(false);
     }
     are_apart(alloc, &members)
