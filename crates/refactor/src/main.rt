@@ -1,6 +1,7 @@
 //! Changes a folder of Java source, keeping what each name refers to.
 #![tactic(auto)]
 
+mod check;
 mod decide;
 mod hear;
 mod lines;
