@@ -1,5 +1,5 @@
 -- The methods that are read in the tokens of a class are those of its tree.
-use Rattle.std.proofs.Common.{◌≡◌, ℕ, ◌+◌, ◌<◌, ◌≤◌, Bool, true, false, ◌&&◌, leb, ltb, List, [], ◌∷◌, ◌++◌, map, length, suc, refl, sym, ap, ◌∙◌, arith, append_assoc}
+use Rattle.std.proofs.Common.{◌≡◌, ℕ, ◌+◌, ◌<◌, ◌≤◌, Bool, true, false, not, ◌&&◌, leb, ltb, List, [], ◌∷◌, ◌++◌, map, length, suc, refl, sym, ap, ◌∙◌, arith, append_assoc}
 use Rattle.std.specs.Prelude.{◌-◌, nat_lt}
 use Rattle.std.specs.List.{AllByRecursion, list_all}
 use Rattle.std.proofs.lemmas.Bool.{false≢true, and_parts, and_from, leb-true, le-leb, ltb-true, lt-ltb}
@@ -69,11 +69,11 @@ module _ (s : Signature) where
 
   statement : (c : Course) (st : Statement) (rest : List Kind) → members_from (Body s c) (statement_tokens st ++ rest) ≡ members_from (Body s (statement_course c st)) rest
   statement c (tree.Local x e) rest =
-      let after : Course = course c.returned (c.sound && Rattle.std.specs.Prelude.not c.returned) c.room in
+      let after : Course = course c.returned (c.sound && not c.returned) c.room in
       ap (members_from (Body s after)) (append_assoc (sum_tokens e) (kind.Sym symbol.Semicolon ∷ []) rest)
       ∙ sum after e (kind.Sym symbol.Semicolon ∷ rest)
   statement c (tree.Return e) rest =
-      let after : Course = course true (c.sound && Rattle.std.specs.Prelude.not c.returned) c.room in
+      let after : Course = course true (c.sound && not c.returned) c.room in
       ap (members_from (Body s after)) (append_assoc (sum_tokens e) (kind.Sym symbol.Semicolon ∷ []) rest)
       ∙ sum after e (kind.Sym symbol.Semicolon ∷ rest)
 

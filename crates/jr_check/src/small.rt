@@ -44,10 +44,10 @@ fn is_field_program(alloc: Global, bytes: &[u8]) -> Result<bool, OutOfMemory>
     let Some(tokens) = tokens_of(alloc, bytes)? else {
         return Ok(false);
     };
-    match fields_in(alloc, &tokens)? {
-        Some(fields) => are_apart(alloc, &fields),
-        None => Ok(false),
-    }
+    let Some(fields) = fields_in(alloc, &tokens)? else {
+        return Ok(false);
+    };
+    are_apart(alloc, &fields)
 }
 
 /// Whether the file is a program of one small class that keeps every rule of the language.

@@ -1,5 +1,5 @@
 use Rattle.std.proofs.Common.{◌≡◌, ◌↔◌, sym, ap, ◌∙◌, subst, length, List, true, map}
-use Rattle.std.specs.Prelude.{IsTrue, IfOk}
+use Rattle.std.specs.Prelude.{IsTrue}
 use Rattle.std.specs.List.{list_all}
 use Rattle.std.proofs.lemmas.Bool.{false≢true}
 use Rattle.std.proofs.lemmas.Result.{IfOk-weaker}
@@ -32,8 +32,8 @@ returns c =
     let members : c.in_ok-members.members.items ≡ members_in (kinds_of class.tokens.items) = rw c.deref-4.ensures.value at c.in_ok-members.ensures in
     let lawful : c.are_lawful.result ≡ list_all is_lawful (members_in (kinds_of class.tokens.items)) = c.are_lawful.ensures ∙ ap (list_all is_lawful) (c.deref-5.ensures.value ∙ members) in
     let same = c.deref-6.ensures.value ∙ members in
-    IfOk-weaker c.are_apart.result (λ yes_is. IsTrue yes_is ↔ AreApart (map (λ (m : Member). m.signature) c.deref-6.result.now)) (λ yes_is. IsTrue yes_is ↔ IsMethodProgram c.args.bytes.now)
-    (λ yes_is told. (
+    IfOk-weaker c.are_apart.result (λ holds. IsTrue holds ↔ AreApart (map (λ (m : Member). m.signature) c.deref-6.result.now)) (λ holds. IsTrue holds ↔ IsMethodProgram c.args.bytes.now)
+    (λ holds told. (
       λ h. keeps c.args.bytes.now class.tokens.items class.sites.items class.targets.items c.requires (assigned.0 c.if-not-are_assigned.false) (sym lawful ∙ c.if-not-are_lawful.false)
           (subst (λ (ms : List Member). AreApart (map (λ (m : Member). m.signature) ms)) same (told.0 h)),
       λ p. told.1 (subst (λ (ms : List Member). AreApart (map (λ (m : Member). m.signature) ms)) (sym same) (kept_apart c.args.bytes.now class.tokens.items class.sites.items class.targets.items c.requires p)),

@@ -13,5 +13,5 @@ returns-in-Batch-clause-any_moment g c words f r is told settled =
 pub returns-in-Check-clause-any_moment : goal.returns-in-Check-clause-any_moment
 returns-in-Check-clause-any_moment g c words f r is told settled =
     let S = g.S.Store in
-    weaker S.moment S.left_since c.args.store.now c.check.new.store (StandsForEither words r) (S.may_leave c.args.store.now) c.check.ensures.any_moment
+    weaker S.moment S.left_since c.args.store.now c.check-status.new.store (StandsForEither words r) (S.may_leave c.args.store.now) c.check-status.ensures.any_moment
     (λ image left. inl (settled_stands f r (S.may_leave c.args.store.now) settled image left))
