@@ -58,8 +58,8 @@ module _ (s : Signature) where
       ∙ operand after t (others_tokens ts ++ rest)
       ∙ others after ts rest
       ∙ from_course (sum_course after (length ts)) (sum_course c (suc (length ts))) rest
-          (ap (λ b. course c.returned b (c.room - 1 - length ts)) (one_more c.sound (length ts) c.room)
-          ∙ ap (λ r. course c.returned (c.sound && leb (suc (length ts)) c.room) r) (omega arith))
+      (ap (λ b. course c.returned b (c.room - 1 - length ts)) (one_more c.sound (length ts) c.room)
+      ∙ ap (λ r. course c.returned (c.sound && leb (suc (length ts)) c.room) r) (omega arith))
 
   sum : (c : Course) (e : Sum) (rest : List Kind) → members_from (Body s c) (sum_tokens e ++ rest) ≡ members_from (Body s (sum_course c (length e.others))) rest
   sum c e rest =

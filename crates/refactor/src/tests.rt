@@ -257,7 +257,8 @@ fn a_journal_is_read(rt: HostRuntime) -> Result<(), Fail> {
     let first = b"JRJ1\n\x00\x00\x00\x01F\x00\x00\x00\x06A.java\x00\x00\x00\x0bclass A { }END\n";
     let called = check_over(alloc, first)?;
     expect(&rt, &called, 0, "ok, files: 1\n", "class A { }");
-    let second = b"JRJ2\n\x00\x00\x00\x01\x00\x00\x00\x06A.javaF\x00\x00\x00\x12class A { int a; }F\x00\x00\x00\x12class A { int b; }END\n";
+    let second =
+        b"JRJ2\n\x00\x00\x00\x01\x00\x00\x00\x06A.javaF\x00\x00\x00\x12class A { int a; }F\x00\x00\x00\x12class A { int b; }END\n";
     let again = check_over(alloc, second)?;
     expect(&rt, &again, 0, "ok, files: 1\n", "class A { int a; }");
     let cut = check_over(alloc, b"JRJ2\n")?;

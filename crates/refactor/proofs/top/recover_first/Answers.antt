@@ -155,7 +155,7 @@ returns-in-Ok-clause-check g c words asks is_check =
     let recovered : Recovers told left = subst (Recovers told) (sym same) (recovers c.in-Ok.field-0 told found c.in-Ok.ensures.answer c.in-Ok.ensures.done c.recover.ensures.others) in
     let checks : Checks left middle after said.0 = subst (λ (t : Option Image). Checks t middle after said.0) (sym same) said.1 in
     let closed : (f r : Image) → told ≡ Some f → Restored f r → StartsRecover f kept → (image : Image) → outcomes image → (IsOpen image → ⊥) × SameFiles image r
-        = λ f r told_is restored start image l. c.in-Ok.ensures.after f r told_is restored start image (c.serve.ensures.check_crash is_check image l) in
+    = λ f r told_is restored start image l. c.in-Ok.ensures.after f r told_is restored start image (c.serve.ensures.check_crash is_check image l) in
     said_so words asked told left kept outcomes before after says recovered closed said.0 c.serve.result (O.contents c.args.out.now) (O.contents c.serve.new.out) (O.faults c.args.out.now) (O.faults c.serve.new.out)
     (checked_so words told left kept outcomes before after middle c.recover.ensures.later recovered (stands words asked told left kept outcomes before after says closed) said.0 checks) said.2
 
