@@ -1,6 +1,6 @@
 -- A table of signatures, and members that are apart.
 use denote.Ref.{Bor}
-use Rattle.std.proofs.Common.{◌≡◌, ℕ, ◌+◌, ◌<◌, List, [], length, map, get_or, Bool, true, false, cond, Some, None, Option, refl, sym, ap, subst, ◌∙◌, arith}
+use Rattle.std.proofs.Common.{◌≡◌, ℕ, ◌+◌, ◌<◌, List, length, map, Bool, true, false, cond, Some, None, Option, refl, sym, ap, subst, ◌∙◌, arith}
 use Rattle.std.specs.Prelude.{IsSome}
 use Rattle.std.specs.BTreeMap.{BTreeMap, Updates}
 use Rattle.std.specs.Cmp.{both_tied, unsigned_ties}

@@ -1,6 +1,5 @@
 -- The fields that are read in tokens are those of one class, and a class that is written out is read.
-use Rattle.std.proofs.Common.{◌≡◌, ℕ, List, [], ◌∷◌, ◌++◌, map, Bool, true, false, cond, Some, None, Option, refl, sym, ap, subst, ◌∙◌}
-use Rattle.std.specs.Prelude.{option_and_then, option_map}
+use Rattle.std.proofs.Common.{◌≡◌, ℕ, List, [], ◌∷◌, ◌++◌, map, cond, Some, None, Option, refl, sym, ap, subst, ◌∙◌}
 use Rattle.std.proofs.lemmas.Option.{option_and_then_some}
 use Rattle.jr_base.specs.declared.kind.Kind.{Kind}
 use Rattle.jr_base.specs.declared.kind.Kind.TheVariants as kind
@@ -14,7 +13,6 @@ use Rattle.jr_check.specs.Fields.{FieldClass, fields_tokens, field_class_tokens}
 use Rattle.jr_check.specs.Reading.{field_of, field_member, next, is_end, fields_here, fields_from, fields_in}
 use Rattle.jr_check.specs.declared.fields.Phase.{Phase}
 use Rattle.jr_check.specs.declared.fields.Phase.TheVariants.{Start, ClassName, ClassOpen, Field, FieldName, FieldEnd, End}
-use Rattle.jr_check.specs.declared.member.Signature.{Signature}
 use Rattle.jr_check.specs.declared.member.Member.{Member}
 
 -- ---- what is written is read

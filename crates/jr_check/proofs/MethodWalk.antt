@@ -1,8 +1,8 @@
 -- The methods that are read in the tokens of a class are those of its tree.
-use Rattle.std.proofs.Common.{◌≡◌, ℕ, ◌+◌, ◌<◌, ◌≤◌, Bool, true, false, not, ◌&&◌, leb, ltb, List, [], ◌∷◌, ◌++◌, map, length, suc, refl, sym, ap, ◌∙◌, arith, append_assoc}
+use Rattle.std.proofs.Common.{◌≡◌, ℕ, ◌+◌, ◌<◌, ◌≤◌, Bool, true, false, not, ◌&&◌, leb, List, [], ◌∷◌, ◌++◌, map, length, suc, refl, sym, ap, ◌∙◌, arith, append_assoc}
 use Rattle.std.specs.Prelude.{◌-◌, nat_lt}
 use Rattle.std.specs.List.{AllByRecursion, list_all}
-use Rattle.std.proofs.lemmas.Bool.{false≢true, and_parts, and_from, leb-true, le-leb, ltb-true, lt-ltb}
+use Rattle.std.proofs.lemmas.Bool.{and_parts, and_from, leb-true, le-leb, ltb-true, lt-ltb}
 use Rattle.std.proofs.lemmas.List.{append-nil}
 use Rattle.jr_base.specs.declared.kind.Kind.{Kind}
 use Rattle.jr_base.specs.declared.kind.Kind.TheVariants as kind
@@ -14,7 +14,6 @@ use Rattle.jr_check.specs.Rules.{IsLawful, signature_of}
 use Rattle.jr_check.specs.declared.member.Signature.{Signature}
 use Rattle.jr_check.specs.declared.member.Member.{Member}
 use Rattle.jr_check.specs.declared.methods.Course.{Course}
-use Rattle.jr_check.specs.declared.methods.State.{State}
 use Rattle.jr_check.specs.declared.methods.State.TheVariants.{Members, Params, Body}
 use Rattle.jr_check.proofs.Bodies.{sum_course, statement_course, body_course, member_of, lawful, is_lawful_of}
 

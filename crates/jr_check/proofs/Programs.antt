@@ -1,25 +1,24 @@
 -- From what was read and tested to programs that keep every rule, and back.
-use Rattle.std.proofs.Common.{◌≡◌, ◌⊎◌, inl, inr, ⊎_elim, ℕ, ◌<◌, Bool, true, false, List, length, map, Some, None, Option, refl, sym, ap, subst, ◌∙◌}
+use Rattle.std.proofs.Common.{◌≡◌, inl, inr, ℕ, ◌<◌, true, List, length, map, Some, None, Option, refl, sym, ap, subst, ◌∙◌}
 use Rattle.std.specs.Prelude.{slice_index_or}
 use Rattle.std.specs.List.{list_all}
 use Rattle.jr_base.specs.Reading.{Lex}
 use Rattle.jr_base.specs.declared.kind.Kind.{Kind}
 use Rattle.jr_base.specs.declared.token.Token.{Token}
-use Rattle.jr_thin.specs.Scopes.{is_declaration, Binds, IsTarget, IsBinding, KeepsRule}
+use Rattle.jr_thin.specs.Scopes.{IsTarget, IsBinding, KeepsRule}
 use Rattle.jr_thin.specs.Served.{AreTokens, IsRead, IsUnread}
-use Rattle.jr_thin.specs.Sites.{site_at, sites_of}
+use Rattle.jr_thin.specs.Sites.{sites_of}
 use Rattle.jr_thin.specs.Trees.{ThinClass, tokens_of, kinds_of}
 use Rattle.jr_thin.specs.declared.sites.Role.{Role}
 use Rattle.jr_thin.specs.declared.sites.Role.TheVariants.{Plain, Use}
 use Rattle.jr_thin.specs.declared.sites.Site.{Site}
 use Rattle.jr_thin.proofs.ScopeLemmas.{not_use, name_inside}
 use Rattle.jr_check.specs.Apart.{AreApart}
-use Rattle.jr_check.specs.Assigned.{IsAssigned, AreAssigned, IsTargetAssigned, AreTargetsAssigned}
-use Rattle.jr_check.specs.Fields.{FieldClass, field_class_tokens}
+use Rattle.jr_check.specs.Assigned.{IsAssigned, AreAssigned, AreTargetsAssigned}
 use Rattle.jr_check.specs.Members.{members_in, is_lawful}
 use Rattle.jr_check.specs.Reading.{fields_in, field_member}
-use Rattle.jr_check.specs.Rules.{KeepsRules, signature_of}
-use Rattle.jr_check.specs.Small.{IsMethodProgram, IsFieldProgram, IsSmallProgram}
+use Rattle.jr_check.specs.Rules.{signature_of}
+use Rattle.jr_check.specs.Small.{IsMethodProgram, IsFieldProgram}
 use Rattle.jr_check.specs.declared.member.Signature.{Signature}
 use Rattle.jr_check.specs.declared.member.Member.{Member}
 use Rattle.jr_check.proofs.Bodies.{member_of}

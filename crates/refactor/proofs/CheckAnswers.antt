@@ -2,7 +2,7 @@
 use Rattle.std.proofs.Common.{◌≡◌, ◌⊎◌, inl, inr, ℕ, ◌≤◌, List, Option, Some, refl, sym, ap, subst, ◌∙◌, arith}
 use Rattle.std.specs.Prelude.{IsSome}
 use Rattle.std.proofs.lemmas.Option.{same_Some}
-use Rattle.jr_commit.specs.Restoring.{IsOpen, Restored, RestoresTo, SameFiles, StartsRecover}
+use Rattle.jr_commit.specs.Restoring.{Restored, RestoresTo, SameFiles, StartsRecover}
 use Rattle.jr_request.specs.declared.command.Command.TheVariants.{Check}
 use Rattle.jr_store.specs.Image.{Image, Tells, Rose}
 use Rattle.refactor.specs.Answers.{IsFailure}

@@ -1,11 +1,10 @@
-use Rattle.std.proofs.Common.{◌≡◌, ◌↔◌, sym, ap, ◌∙◌, subst, length, List, true, map}
+use Rattle.std.proofs.Common.{◌≡◌, ◌↔◌, sym, ap, ◌∙◌, subst, List, map}
 use Rattle.std.specs.Prelude.{IsTrue}
 use Rattle.std.specs.List.{list_all}
 use Rattle.std.proofs.lemmas.Bool.{false≢true}
 use Rattle.std.proofs.lemmas.Result.{IfOk-weaker}
 use Rattle.jr_thin.specs.Trees.{kinds_of}
 use Rattle.jr_check.specs.Apart.{AreApart}
-use Rattle.jr_check.specs.Assigned.{AreTargetsAssigned}
 use Rattle.jr_check.specs.Members.{is_lawful, members_in}
 use Rattle.jr_check.specs.Small.{IsMethodProgram}
 use Rattle.jr_check.specs.declared.member.Member.{Member}

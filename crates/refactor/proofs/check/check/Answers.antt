@@ -1,4 +1,4 @@
-use Rattle.std.proofs.Common.{◌≡◌, ◌≤◌, length, subst, sym}
+use Rattle.std.proofs.Common.{◌≤◌, length}
 use Rattle.refactor.specs.Checking.{HoldsOne, IsAnswerOf}
 use Rattle.refactor.specs.Renaming.{ForTold}
 use Rattle.refactor.proofs.OneFile.{none_checked, some_checked}
