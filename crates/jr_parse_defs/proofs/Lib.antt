@@ -15,3 +15,5 @@ pub mod Members
 pub mod Units
 pub mod Imports
 pub mod Readings
+pub mod Nears
+pub mod PartNears
