@@ -17,3 +17,4 @@ pub mod Imports
 pub mod Readings
 pub mod Nears
 pub mod PartNears
+pub mod StmtNears

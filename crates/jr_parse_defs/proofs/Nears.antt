@@ -1,17 +1,18 @@
 -- Readers that read the same whatever stands behind, and with more levels: how they are put together.
-use Rattle.std.proofs.Common.{◌≡◌, ℕ, ◌≤◌, Bool, true, false, cond, ltb, List, [], ◌∷◌, Option, Some, None, Ok, Err, refl, sym, ap, ◌∙◌, subst, inl, inr, arith}
+use Rattle.std.proofs.Common.{◌≡◌, ℕ, zero, suc, ◌≤◌, Bool, true, false, cond, ltb, List, [], ◌∷◌, length, Option, Some, None, Ok, Err, refl, sym, ap, ◌∙◌, subst, inl, inr, arith}
 use Rattle.std.proofs.lemmas.Bool.{ltb-false, le-ltb}
 use Rattle.jr_base.specs.declared.kind.Kind.{Kind}
 use Rattle.jr_base.specs.declared.kind.Symbol.{Symbol}
 use Rattle.jr_base.specs.declared.kind.Symbol.TheVariants as y
 use Rattle.jr_base.specs.declared.kind.Keyword.{Keyword}
 use Rattle.jr_parse_laws.specs.declared.fault.Fault.TheVariants.{NoTree, TooDeep}
-use Rattle.jr_parse_laws.specs.Parsers.{Outcome, Parser, and_then, first, pure, refuse, is_at, is_at_word, is_word, expect, expect_word, identifier, begins_with, many, after_comma, commas, optional, ◌>>=◌, ◌>>◌}
+use Rattle.jr_parse_laws.specs.Parsers.{Outcome, Parser, and_then, first, pure, refuse, is_at, is_at_word, is_word, expect, expect_word, identifier, begins_with, many_from, many, after_comma, commas, optional, ◌>>=◌, ◌>>◌}
+use Rattle.jr_parse_laws.proofs.Outcomes.{and_then_alike}
 use Rattle.jr_parse_laws.proofs.Exact.{word_token}
 use Rattle.jr_parse_laws.proofs.Lists.{Shortens}
-use Rattle.jr_parse_expr.specs.Starts.{within}
+use Rattle.jr_parse_expr.specs.Starts.{within, over}
 use Rattle.jr_parse_expr.specs.Exprs.{next_token, skipping, any_commas}
-use Rattle.jr_parse_expr.proofs.Locals.{Kept, Local, along, at_token, local_pure, local_refuse, local_bind, local_skip, local_next, local_one, local_expect, local_identifier, Looks, on_kept, cond_local, local_if, looks_at, looks_first, kept_same, local_many}
+use Rattle.jr_parse_expr.proofs.Locals.{Kept, Local, along, at_token, local_pure, local_refuse, local_bind, local_skip, local_next, local_over, local_one, local_expect, local_identifier, Looks, on_kept, cond_local, local_if, looks_at, looks_first, kept_same, local_many}
 
 -- as a record, so that the readers are found
 pub record Near (room other : ℕ) (le : room ≤ other) {A : Type 0} (p q : Parser A) : Type 0 where
@@ -91,6 +92,9 @@ same_as {room = room} {other = other} {le = le} p p' q q' one two near = record 
 pub by_next : {room other : ℕ} {le : room ≤ other} {A : Type 0} (f g : Kind → Parser A) → ((token : Kind) (ts : List Kind) → Kept room other le (next_token g) (token ∷ ts) (f token ts)) → Near room other le (next_token f) (next_token g)
 by_next {room = room} {other = other} {le = le} f g one = record { kept = local_next room other le f g one }
 
+pub if_levels : {room other : ℕ} {le : room ≤ other} {A : Type 0} {p q : Parser A} (levels : ℕ) → Near room other le p q → Near room other le (over levels room p) (over levels other q)
+if_levels {room = room} {other = other} {le = le} {p = p} {q = q} levels one = record { kept = local_over room other le levels p q one.kept }
+
 -- a token that forces levels
 pub forced : {room other : ℕ} {le : room ≤ other} {A : Type 0} (p q q' : Parser A) (levels : ℕ) (token : Kind) (ts : List Kind) → ((us : List Kind) → q' (token ∷ us) ≡ within levels other token q us) → Near room other le p q
     → Kept room other le q' (token ∷ ts) (within levels room token p ts)
@@ -120,3 +124,26 @@ with_commas shorter shorter' one = then one (λ a. then (several (begins_with y.
 pub any_with_commas : {room other : ℕ} {le : room ≤ other} {A : Type 0} {p q : Parser A} (starts : Option Kind → Bool) → Shortens (after_comma p) → Shortens (after_comma q) → Near room other le p q
     → Near room other le (any_commas starts p) (any_commas starts q)
 any_with_commas starts shorter shorter' one = if_first starts (with_commas shorter shorter' one) (gives [])
+
+-- items that take a token where one begins
+abbrev pub guarded : {A : Type 0} → (Option Kind → Bool) → Parser A → Parser A
+guarded starts item ts = cond (starts (first ts)) (item ts) (refuse ts)
+
+guarded_turn : {A : Type 0} (b : Bool) (item : Parser A) (ts : List Kind) (f g : List Kind → Outcome (List A)) → ((rest : List Kind) → f rest ≡ g rest)
+    → cond b (and_then (cond b (item ts) (refuse ts)) (λ a rest. and_then (f rest) (λ all rest. Ok (a ∷ all, rest)))) (Ok ([], ts)) ≡ cond {A = Outcome (List A)} b (and_then (item ts) (λ a rest. and_then (g rest) (λ all rest. Ok (a ∷ all, rest)))) (Ok ([], ts))
+guarded_turn true item ts f g same = and_then_alike (item ts) _ _ (λ a rest. ap (λ o. and_then o (λ all rest. Ok (a ∷ all, rest))) (same rest))
+guarded_turn false item ts f g same = refl
+
+guarded_from : {A : Type 0} (starts : Option Kind → Bool) (item : Parser A) (turns : ℕ) (ts : List Kind) → many_from starts (guarded starts item) turns ts ≡ many_from starts item turns ts
+guarded_from starts item zero ts = refl
+guarded_from starts item (suc turns) ts =
+    guarded_turn (starts (first ts)) item ts (many_from starts (guarded starts item) turns) (many_from starts item turns) (guarded_from starts item turns)
+
+pub guarded_many : {A : Type 0} (starts : Option Kind → Bool) (item : Parser A) (ts : List Kind) → many starts (guarded starts item) ts ≡ many starts item ts
+unfolding many
+guarded_many starts item ts = guarded_from starts item (length ts) ts
+
+pub several_begun : {room other : ℕ} {le : room ≤ other} {A : Type 0} {p q : Parser A} (starts : Option Kind → Bool) → starts None ≡ false → Shortens (guarded starts p) → Shortens (guarded starts q) → Near room other le p q
+    → Near room other le (many starts p) (many starts q)
+several_begun {p = p} {q = q} starts silent shorter shorter' one =
+    same_as (many starts (guarded starts p)) (many starts p) (many starts (guarded starts q)) (many starts q) (guarded_many starts p) (guarded_many starts q) (several starts silent shorter shorter' (if_first starts one refuses))
