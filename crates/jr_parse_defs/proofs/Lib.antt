@@ -18,3 +18,6 @@ pub mod Readings
 pub mod Nears
 pub mod PartNears
 pub mod StmtNears
+pub mod BodyNears
+pub mod DeclNears
+pub mod UnitNears
