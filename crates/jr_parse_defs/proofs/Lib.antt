@@ -21,3 +21,4 @@ pub mod StmtNears
 pub mod BodyNears
 pub mod DeclNears
 pub mod UnitNears
+pub mod Grows
