@@ -22,3 +22,4 @@ pub mod BodyNears
 pub mod DeclNears
 pub mod UnitNears
 pub mod Grows
+pub mod PartGrows
