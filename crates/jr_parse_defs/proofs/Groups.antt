@@ -90,7 +90,7 @@ module _ (room : ℕ) (inner outer : Parser s.Stmt) (reads : ReadsOne room true 
     -- no label follows labels alone
     pub alone : has_stmt (stmts_of r.0) ≡ false → starts_label (first r.1) ≡ false
 
-  some_label : (ls : List s.SwitchLabel) (us ts : List Kind) → starts_label (first ts) ≡ true → ts ≡ write_labels ls us → starts_label (first us) ≡ false → not (is_empty ls) ≡ true
+  pub some_label : (ls : List s.SwitchLabel) (us ts : List Kind) → starts_label (first ts) ≡ true → ts ≡ write_labels ls us → starts_label (first us) ≡ false → not (is_empty ls) ≡ true
   some_label [] us ts starts same over = absurd (let g : starts_label (first ts) ≡ starts_label (first us) = ap (λ ts. starts_label (first ts)) same in cc)
   some_label (l ∷ ls) us ts starts same over = refl
 

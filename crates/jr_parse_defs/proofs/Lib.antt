@@ -23,3 +23,4 @@ pub mod DeclNears
 pub mod UnitNears
 pub mod Grows
 pub mod PartGrows
+pub mod StmtGrows

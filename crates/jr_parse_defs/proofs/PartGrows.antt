@@ -23,11 +23,11 @@ use Rattle.jr_tree.specs.Mirror.Exprs as x
 use Rattle.jr_tree.specs.Mirror.Stmts as s
 use Rattle.jr_parse_laws.specs.declared.fault.Fault.{Fault}
 use Rattle.jr_parse_laws.specs.declared.fault.Fault.TheVariants.{NoTree, TooDeep}
-use Rattle.jr_parse_laws.specs.Parsers.{Outcome, Parser, and_then, first, begins_with, many, after_comma}
+use Rattle.jr_parse_laws.specs.Parsers.{Outcome, Parser, and_then, first, begins_with, many, after_comma, optional}
 use Rattle.jr_parse_laws.proofs.Outcomes.{bind_ok, ok_err, err_is, Before, After, stops}
 use Rattle.jr_parse_laws.proofs.Stops.{Leading, leading_nothing}
 use Rattle.jr_parse_expr.specs.Starts.{begins_primary, begins_effect, is_plain_literal, starts_expr, starts_effect, next_is, no_level}
-use Rattle.jr_parse_expr.specs.Names.{name_of, type_of, type_use, Dotted, Plain, Enclosing, dotted_from, dotted}
+use Rattle.jr_parse_expr.specs.Names.{name_of, type_of, dims, type_use, Dotted, Plain, Enclosing, dotted_from, dotted}
 use Rattle.jr_parse_expr.specs.Exprs as exprs
 use Rattle.jr_parse_expr.specs.Exprs.{Lead, Nothing, Named, Indexed, This, Super, goes_on, goes_on_name, goes_on_primary, goes_on_super, below, any_commas, expr, list, effect, init}
 use Rattle.jr_parse_expr.specs.Writing.{write_parts, write_all, write_name, write_brackets, write_type, write_expr, write_exprs, write_others, write_init, write_lead}
@@ -445,3 +445,55 @@ typed_grow room f ts stop h more =
     (λ ds ws e d.
     let all = declarators_sound room vs (ds, ws) e in
     more b t ds ws found.is all.are (front ∙ ap (λ us. write_if b (kind.Word k.Final) (write_type t us)) all.written) d)))
+
+pub leading_typed : (v : Bool × TypeUse × List s.Declarator) → Leading (write_typed v)
+leading_typed v = leading_then (leading_if v.0 (kind.Word k.Final)) (leading_then (leading_type v.1) (leading_declarators v.2))
+
+-- ---- a parameter
+
+abbrev pub no_depth : Param → ℕ
+no_depth p = 0
+
+abbrev Parameter : ℕ → List Kind → Fault × List Kind → Type 0
+Parameter room ts stop = Growing (Low IsShapedParam no_depth) write_param room ts stop
+
+pub param_grow : (room : ℕ) (ts : List Kind) (stop : Fault × List Kind) → reader.param ts ≡ Err stop → Parameter room ts stop
+unfolding reader.param
+param_grow room ts stop h =
+    on h (λ e. absurd (finality_ok ts stop e))
+    (λ b us e d.
+    let final = finality_sound ts (b, us) e in
+    on d
+    (λ e. subst (λ ts. Parameter room ts stop) (sym final)
+    (part (leading_if b (kind.Word k.Final)) (λ t. reader.param_of b t [] 0) (λ z. kind.Ident [] ∷ z) (λ t z. refl) (λ t is. is) (λ t l. omega arith)
+    (seen {Shape = IsTypeUse} {depth = λ t. 0} room us stop (λ r t is. (is, omega arith)) (type_grows room us stop e))))
+    (λ t vs e d.
+    let found = type_sound us (t, vs) e in
+    let into = leading_then (leading_if b (kind.Word k.Final)) (leading_type t) in
+    subst (λ ts. Parameter room ts stop) (sym (final ∙ ap (write_if b (kind.Word k.Final)) found.written))
+    (ident_on vs (λ vs. Parameter room (write_if b (kind.Word k.Final) (write_type t vs)) stop) d
+    (λ g. gone g into (reader.param_of b t [] 0) (λ z. kind.Ident [] ∷ z) (λ z. refl) found.is (omega arith))
+    (λ n ws d. behind_name b t n found.is ws (last d (λ p us d. ok_err d)))))) where
+      behind_name : (b : Bool) (t : TypeUse) (n : Text) → IsTypeUse t → (ws : List Kind) → dims ws ≡ Err stop → Parameter room (write_if b (kind.Word k.Final) (write_type t (kind.Ident n ∷ ws))) stop
+      behind_name b t n is ws e =
+          let s = dims_stop ws stop e in
+          subst (λ ws. Parameter room (write_if b (kind.Word k.Final) (write_type t (kind.Ident n ∷ ws))) stop) (sym s.split)
+          (gone s.here (leading_then (leading_if b (kind.Word k.Final)) (leading_then (leading_type t) (leading_then (leading_one (kind.Ident n)) (leading_then (leading_brackets s.count) (leading_one (kind.Sym y.OpenBracket))))))
+          (reader.param_of b t n (suc s.count)) (λ z. kind.Sym y.CloseBracket ∷ z) (λ z. ap (λ ts. write_if b (kind.Word k.Final) (write_type t (kind.Ident n ∷ ts))) (brackets_more s.count z)) is (omega arith))
+
+-- ---- an expression that may be absent, and several with commas
+
+pub any_grow : (room : ℕ) → 1 ≤ room → (ts : List Kind) (stop : Fault × List Kind) → optional starts_expr (expr room Nothing 0) ts ≡ Err stop → Growing (Low IsWholeExpr expr_depth) write_expr room ts stop
+any_grow room some ts stop h = choose (starts_expr (first ts)) h (λ t g. whole_grow room some ts stop (last g (λ e us d. ok_err d))) (λ f g. absurd (ok_err g))
+
+pub updates_grow : (room : ℕ) → 1 ≤ room → (ts : List Kind) (stop : Fault × List Kind) → any_commas starts_effect (effect room Nothing) ts ≡ Err stop → Growing (Low AreStatementExprs exprs_depth) write_exprs room ts stop
+updates_grow room some ts stop h =
+    choose (starts_effect (first ts)) h
+    (λ t g. on g
+    (λ e. part leading_nothing (λ a. x.more_exprs a x.no_exprs) (λ z. z) (λ a z. refl) (λ a is. (is, tt)) (λ a l. omega arith) (effect_grow room Nothing some ts stop tt e))
+    (λ a us e d.
+    let found = found_effect room Nothing ts (a, us) tt e in
+    let low = found.low in
+    subst (λ ts. Growing (Low AreStatementExprs exprs_depth) write_exprs room ts stop) (sym found.written)
+    (part (leading_expr a) (λ all. x.more_exprs a all) (λ z. z) (λ all z. refl) (λ all is. (found.is, is)) (λ all l. omega arith) (others_grow room some us stop (last d (λ all us d. ok_err d))))))
+    (λ f g. absurd (ok_err g))

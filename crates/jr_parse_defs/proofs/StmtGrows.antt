@@ -1,0 +1,276 @@
+-- Where reading a statement stops, what stands before begins one.
+use Rattle.std.proofs.Common.{◌≡◌, ℕ, zero, suc, ◌≤◌, max, Bool, true, false, not, ◌&&◌, ◌||◌, cond, ltb, List, [], ◌∷◌, ◌++◌, length, Option, Some, None, Ok, Err, refl, sym, ap, ◌∙◌, subst, ◌⊎◌, inl, inr, arith}
+use Rattle.std.proofs.lemmas.Bool.{cases_lt, and_parts, or_parts, true≢false}
+use Rattle.std.specs.Prelude.{IfSome, IsTrue, ⊤}
+use Rattle.std.specs.List.{AllByRecursion}
+use Rattle.std.specs.Option.{option_map_or}
+use Rattle.jr_base.specs.declared.text.Text.{Text}
+use Rattle.jr_base.specs.declared.kind.Kind.{Kind}
+use Rattle.jr_base.specs.declared.kind.Kind.TheVariants as kind
+use Rattle.jr_base.specs.declared.kind.Symbol.{Symbol}
+use Rattle.jr_base.specs.declared.kind.Symbol.TheVariants as y
+use Rattle.jr_base.specs.declared.kind.Keyword.{Keyword}
+use Rattle.jr_base.specs.declared.kind.Keyword.TheVariants as k
+use Rattle.jr_tree.specs.declared.tree.Primitive.{Primitive}
+use Rattle.jr_tree.specs.declared.tree.Primitive.TheVariants as primitive
+use Rattle.jr_tree.specs.declared.tree.Base.TheVariants as base
+use Rattle.jr_tree.specs.declared.tree.TypeUse.{TypeUse}
+use Rattle.jr_tree.specs.declared.tree.Param.{Param}
+use Rattle.jr_tree.specs.Shape.{is_empty, is_local, takes_else, has_catch, has_stmt, group_fits, IsTypeUse, IsWholeExpr, IsStatementExpr, AreStatementExprs, IsShapedForInit, IsShapedLabel, IsShapedStmt, AreShapedStmts, IsShapedBlock, IsShapedCatch, AreShapedCatches, IsShapedGroup, AreShapedGroups}
+use Rattle.jr_tree.specs.Depth.{deepest, expr_depth, exprs_depth, for_init_depth, label_depth, stmt_depth, stmts_depth, block_depth, catch_depth, catches_depth, group_depth, groups_depth}
+use Rattle.jr_tree.specs.Tokens.{for_init_tokens, stmt_tokens, stmts_tokens, block_tokens, catch_tokens, label_tokens, group_tokens}
+use Rattle.jr_tree.specs.Words.{primitive_word, param_tokens}
+use Rattle.jr_tree.specs.Mirror.Exprs as x
+use Rattle.jr_tree.specs.Mirror.Stmts as s
+use Rattle.jr_parse_laws.specs.declared.fault.Fault.{Fault}
+use Rattle.jr_parse_laws.specs.declared.fault.Fault.TheVariants.{NoTree, TooDeep}
+use Rattle.jr_parse_laws.specs.Parsers.{Outcome, Parser, and_then, first, begins_with, is_at, is_at_word, pure, expect, many, many_from, after_comma, optional, ◌>>=◌, ◌>>◌}
+use Rattle.jr_parse_laws.proofs.Outcomes.{bind_ok, ok_is, ok_err, err_ok, err_is}
+use Rattle.jr_parse_laws.proofs.Stops.{Leading, leading_nothing}
+use Rattle.jr_parse_expr.specs.Starts.{begins_effect, starts_expr, starts_effect, next_is}
+use Rattle.jr_parse_expr.specs.Names.{name_of, type_of, primitive_of, type_use, dims, Dotted, Plain, Enclosing, dotted}
+use Rattle.jr_parse_expr.specs.Exprs.{Lead, Nothing, Named, Indexed, This, Super, goes_on_name, next_token, any_commas, expr, effect}
+use Rattle.jr_parse_expr.specs.Writing.{write_all, write_name, write_brackets, write_type, write_expr, write_exprs, write_dotted, write_lead}
+use Rattle.jr_parse_expr.specs.Follow.{IsLed}
+use Rattle.jr_parse_expr.proofs.NameReads.{has_parts, all_append, dims_sound, dotted_sound, DottedEnds}
+use Rattle.jr_parse_expr.proofs.NameGrowths.{leading_name, dims_stop, brackets_more, leading_brackets}
+use Rattle.jr_parse_expr.proofs.Growths.{Growing, leading_tokens, leading_then, leading_one, leading_expr, sample}
+use Rattle.jr_parse_expr.proofs.PartGrowths.{NoLevel, Deep, Refused}
+use Rattle.jr_parse_expr.proofs.AllGrowths.{no_level_is}
+use Rattle.jr_parse_defs.specs.Begins.{stmt_word, begins_stmt, begins_local, starts_block_stmt, starts_stmt, starts_label, is_catch}
+use Rattle.jr_parse_defs.specs.Stmts as reader
+use Rattle.jr_parse_defs.specs.Writing.{write_if, write_some, write_many, write_declarators, write_for_init, write_label, write_cond, write_ident, write_param, write_stmt, write_stmts, write_block, write_catch, write_catches, write_group, write_groups}
+use Rattle.jr_parse_defs.specs.Follow.{StmtEnds, IsStmt}
+use Rattle.jr_parse_defs.proofs.Written.{for_init_written, stmt_written, stmts_written, block_written, catch_written, label_written, param_written, group_written}
+use Rattle.jr_parse_defs.proofs.Lists.{list_sound, asunder}
+use Rattle.jr_parse_defs.proofs.Variables.{AreVariables, param_sound, declarators_sound}
+use Rattle.jr_parse_defs.proofs.Expressions.{whole_sound, condition_sound, any_sound, updates_sound, found_effect}
+use Rattle.jr_parse_defs.proofs.Named.{ReadsOne, not_local, write_locals_front}
+use Rattle.jr_parse_defs.proofs.Blocks as blocks
+use Rattle.jr_parse_defs.proofs.Blocks.{stmts_sound, block_sound, catches_sound, stmts_many, catches_many}
+use Rattle.jr_parse_defs.proofs.Groups as groups
+use Rattle.jr_parse_defs.proofs.Groups.{groups_sound}
+use Rattle.jr_parse_defs.proofs.Headers.{first_sound}
+use Rattle.jr_parse_defs.proofs.Statements.{label_name_sound, takes_none, stmt_reads}
+use Rattle.jr_parse_defs.proofs.Grows.{Low, part, gone, deeps, seen, on, last, symbol_on, word_on, ends_with, choose, at_symbol, at_word, forces, many_grow, one_of, leading_many}
+use Rattle.jr_parse_defs.proofs.PartGrows.{leading_cond, leading_exprs, leading_type, leading_declarators, leading_if, leading_typed, sample_whole, whole_starter, effect_starter, name_starter, call_named, call_is, call_depth, call_spelled, dotted_fault, whole_grow, condition_grow, no_whole, effect_grow, no_named, no_indexed, others_grow, a_type, variable, write_typed, typed_grow, behind_type, param_grow, no_depth, any_grow, updates_grow}
+use Rattle.jr_parse_defs.proofs.StmtNears.{Flagged, flagged, this_room, starts_some}
+
+-- ---- statements and what begins them
+
+abbrev pub StmtShape : Bool → s.Stmt → Type 0
+StmtShape declares a = IsShapedStmt a × IsTrue (declares || not (is_local a))
+
+abbrev pub Statement : Bool → ℕ → List Kind → Fault × List Kind → Type 0
+Statement declares room ts stop = Growing (Low (StmtShape declares) stmt_depth) write_stmt room ts stop
+
+pub record GrowsStmt (room : ℕ) (declares : Bool) (read : Parser s.Stmt) : Type 0 where
+  pub grow : 1 ≤ room → (ts : List Kind) (stop : Fault × List Kind) → read ts ≡ Err stop → Statement declares room ts stop
+  pub none : room ≤ 0 → (ts : List Kind) (stop : Fault × List Kind) → read ts ≡ Err stop → NoLevel (starts_some declares) ts stop
+
+-- a statement that begins with the token
+pub record StmtStarter (declares : Bool) (token : Kind) : Type 0 where
+  pub tree : s.Stmt
+  pub is : StmtShape declares tree
+  pub more : List Kind → List Kind
+  pub spelled : (z : List Kind) → write_stmt tree z ≡ token ∷ more z
+
+abbrev pub empty : s.Block
+empty = s.BlockOf s.no_stmts
+
+abbrev semi : List Kind → List Kind
+semi z = kind.Sym y.Semicolon ∷ z
+
+abbrev test : List Kind → List Kind
+test z = write_cond sample z
+
+effect_stmt : (declares : Bool) (token : Kind) → begins_effect token ≡ true → StmtStarter declares token
+effect_stmt declares token h = let e = effect_starter token h in record { tree = s.Eval e.tree; is = (e.is, not_local declares); more = λ z. e.more (semi z); spelled = λ z. e.spelled (semi z) }
+
+of_primitive : (p : Primitive) → StmtStarter true (kind.Word (primitive_word p))
+of_primitive p = record { tree = s.Local false (type_of (base.Primitive p) 0) (variable ∷ []); is = ((tt, refl, (tt, tt)), refl); more = λ z. kind.Ident [] ∷ semi z; spelled = λ z. refl }
+
+primitive_stmt : (w : Keyword) → begins_local (kind.Word w) ≡ true → StmtStarter true (kind.Word w)
+primitive_stmt k.Final h = record { tree = s.Local true a_type (variable ∷ []); is = ((refl, refl, (tt, tt)), refl); more = λ z. kind.Ident [] ∷ kind.Ident [] ∷ semi z; spelled = λ z. refl }
+primitive_stmt k.Boolean h = of_primitive primitive.Boolean
+primitive_stmt k.Byte h = of_primitive primitive.Byte
+primitive_stmt k.Short h = of_primitive primitive.Short
+primitive_stmt k.Char h = of_primitive primitive.Char
+primitive_stmt k.Int h = of_primitive primitive.Int
+primitive_stmt k.Long h = of_primitive primitive.Long
+primitive_stmt w h = absurd (cc)
+
+split : (b c : Bool) → (b || c) ≡ true → (b ≡ true) ⊎ (c ≡ true)
+split true c h = inl refl
+split false c h = inr h
+
+local_stmt : (token : Kind) → begins_local token ≡ true → StmtStarter true token
+local_stmt (kind.Word w) h = primitive_stmt w h
+local_stmt token h = absurd (cc)
+
+some_stmt : (declares : Bool) (token : Kind) → begins_stmt token ≡ true → StmtStarter declares token
+some_stmt declares (kind.Sym y.OpenBrace) h = record { tree = s.Nest empty; is = (tt, not_local declares); more = λ z. kind.Sym y.CloseBrace ∷ z; spelled = λ z. refl }
+some_stmt declares (kind.Sym y.Semicolon) h = record { tree = s.Skip; is = (tt, not_local declares); more = λ z. z; spelled = λ z. refl }
+some_stmt declares (kind.Word k.Do) h = record { tree = s.Do s.Skip sample; is = ((refl, tt, sample_whole), not_local declares); more = λ z. semi (kind.Word k.While ∷ test (semi z)); spelled = λ z. refl }
+some_stmt declares (kind.Word k.While) h = record { tree = s.While sample s.Skip; is = ((sample_whole, refl, tt), not_local declares); more = λ z. test (semi z); spelled = λ z. refl }
+some_stmt declares (kind.Word k.If) h = record { tree = s.If sample s.Skip s.no_stmt; is = ((sample_whole, refl, tt, tt), not_local declares); more = λ z. test (semi z); spelled = λ z. refl }
+some_stmt declares (kind.Word k.For) h = record {
+  tree = s.For None None x.no_exprs s.Skip;
+  is = ((tt, tt, tt, refl, tt), not_local declares);
+  more = λ z. kind.Sym y.OpenParen ∷ semi (semi (kind.Sym y.CloseParen ∷ semi z));
+  spelled = λ z. refl;
+}
+some_stmt declares (kind.Word k.Switch) h = record { tree = s.Switch sample s.no_groups; is = ((sample_whole, tt), not_local declares); more = λ z. test (kind.Sym y.OpenBrace ∷ kind.Sym y.CloseBrace ∷ z); spelled = λ z. refl }
+some_stmt declares (kind.Word k.Break) h = record { tree = s.Break None; is = (tt, not_local declares); more = semi; spelled = λ z. refl }
+some_stmt declares (kind.Word k.Continue) h = record { tree = s.Continue None; is = (tt, not_local declares); more = semi; spelled = λ z. refl }
+some_stmt declares (kind.Word k.Return) h = record { tree = s.Return None; is = (tt, not_local declares); more = semi; spelled = λ z. refl }
+some_stmt declares (kind.Word k.Throw) h = record { tree = s.Throw sample; is = (sample_whole, not_local declares); more = λ z. kind.Word k.This ∷ semi z; spelled = λ z. refl }
+some_stmt declares (kind.Word k.Try) h = record {
+  tree = s.Try empty s.no_catches (s.a_block empty);
+  is = ((tt, tt, tt, refl), not_local declares);
+  more = λ z. kind.Sym y.OpenBrace ∷ kind.Sym y.CloseBrace ∷ kind.Word k.Finally ∷ kind.Sym y.OpenBrace ∷ kind.Sym y.CloseBrace ∷ z;
+  spelled = λ z. refl;
+}
+some_stmt declares token h = effect_stmt declares token h
+
+pub stmt_starter : (declares : Bool) (token : Kind) → starts_some declares (Some token) ≡ true → StmtStarter declares token
+stmt_starter false token h = some_stmt false token h
+stmt_starter true token h =
+    elim (split (begins_stmt token) (begins_local token) h) [
+      | inl t ↦ some_stmt true token t
+      | inr t ↦ local_stmt token t
+    ]
+
+-- ---- leading statements
+
+pub leading_stmt : (a : s.Stmt) → Leading (write_stmt a)
+leading_stmt a = leading_tokens (write_stmt a) (stmt_tokens a) (stmt_written a)
+
+pub leading_block : (b : s.Block) → Leading (write_block b)
+leading_block b = leading_tokens (write_block b) (block_tokens b) (block_written b)
+
+leading_stmts : (all : s.Stmts) → Leading (write_stmts all)
+leading_stmts all = leading_tokens (write_stmts all) (stmts_tokens all) (stmts_written all)
+
+leading_catch : (c : s.Catch) → Leading (write_catch c)
+leading_catch c = leading_tokens (write_catch c) (catch_tokens c) (catch_written c)
+
+pub leading_param : (p : Param) → Leading (write_param p)
+leading_param p = leading_tokens (write_param p) (param_tokens p) (param_written p)
+
+leading_label : (l : s.SwitchLabel) → Leading (write_label l)
+leading_label l = leading_tokens (write_label l) (label_tokens l) (label_written l)
+
+leading_group : (g : s.Group) → Leading (write_group g)
+leading_group g = leading_tokens (write_group g) (group_tokens g) (group_written g)
+
+leading_first : (i : s.ForInit) → Leading (write_for_init i)
+leading_first i = leading_tokens (write_for_init i) (for_init_tokens i) (for_init_written i)
+
+pub leading_some : {A : Type 0} (write : A → List Kind → List Kind) → ((a : A) → Leading (write a)) → (o : Option A) → Leading (write_some write o)
+leading_some write each None = leading_nothing
+leading_some write each (Some a) = each a
+
+pub leading_word : (w : Keyword) → Leading (λ z. kind.Word w ∷ z)
+leading_word w = leading_one (kind.Word w)
+
+pub leading_symbol : (z : Symbol) → Leading (λ ts. kind.Sym z ∷ ts)
+leading_symbol z = leading_one (kind.Sym z)
+
+pub leading_names : (all : List Text) → Leading (write_all all)
+leading_names all = leading_name (name_of all)
+
+-- ---- blocks
+
+module _ (r : ℕ) (inner outer : Parser s.Stmt) (most : ℕ) (outers : ReadsOne most true outer) (grow_out : GrowsStmt most true outer) where
+  abbrev Listed : List Kind → Fault × List Kind → Type 0
+  Listed ts stop = Growing (Low (AllByRecursion IsShapedStmt) (deepest stmt_depth)) (write_many write_stmt) most ts stop
+
+  shapes : (all more : List s.Stmt) → AllByRecursion (IsStmt most true) all → AllByRecursion IsShapedStmt more → AllByRecursion IsShapedStmt (all ++ more)
+  shapes [] more are is = is
+  shapes (a ∷ all) more are is = (are.0.shaped, shapes all more are.1 is)
+
+  depths : (all : List s.Stmt) → AllByRecursion (IsStmt most true) all → deepest stmt_depth all ≤ most
+  depths [] are = omega arith
+  depths (a ∷ all) are = let l = are.0.low in let m = depths all are.1 in omega arith
+
+  no_stmt : (us : List Kind) (stop : Fault × List Kind) → starts_block_stmt (first us) ≡ true → NoLevel starts_block_stmt us stop → Listed us stop
+  no_stmt us stop starts (Refused f e) = absurd (true≢false (sym starts ∙ f))
+  no_stmt [] stop starts (Deep f e) = absurd (cc)
+  no_stmt (token ∷ us) stop starts (Deep f e) =
+      let a = stmt_starter true token starts in deeps e leading_nothing [] (λ z. z) (λ z. refl) tt (omega arith) (a.tree ∷ []) a.more a.spelled (a.is.0, tt)
+
+  one_stmt : (us : List Kind) (stop : Fault × List Kind) → starts_block_stmt (first us) ≡ true → outer us ≡ Err stop → Listed us stop
+  one_stmt us stop starts e =
+      elim (cases_lt 0 most) [
+        | inl some ↦ one_of {Shape = IsShapedStmt} (λ a is. (is, tt)) (part leading_nothing (λ a. a) (λ z. z) (λ a z. refl) (λ a is. is.0) (λ a l. l) (grow_out.grow some us stop e))
+        | inr none ↦ no_stmt us stop starts (grow_out.none none us stop e)
+      ]
+
+  pub stmts_grow : (ts : List Kind) (stop : Fault × List Kind) → reader.stmts r inner outer ts ≡ Err stop → Listed ts stop
+  unfolding reader.stmts
+  stmts_grow ts stop h =
+      many_grow stmt_depth starts_block_stmt outer refl (IsStmt most true) write_stmt (blocks.stmts_item r inner outer most outers) (blocks.stmt_longer most) most leading_stmt shapes depths ts stop h (λ us starts e. one_stmt us stop starts e)
+
+  as_stmts : (all : List s.Stmt) → AllByRecursion IsShapedStmt all → AreShapedStmts (s.stmts all)
+  as_stmts [] h = tt
+  as_stmts (a ∷ all) h = (h.0, as_stmts all h.1)
+
+  low_stmts : (all : List s.Stmt) → deepest stmt_depth all ≤ most → stmts_depth (s.stmts all) ≤ most
+  low_stmts [] l = omega arith
+  low_stmts (a ∷ all) l = let m = low_stmts all (omega arith) in omega arith
+
+  pub all_stmts_grow : (ts : List Kind) (stop : Fault × List Kind) → reader.stmts r inner outer ts ≡ Err stop → Growing (Low AreShapedStmts stmts_depth) write_stmts most ts stop
+  all_stmts_grow ts stop h = part leading_nothing s.stmts (λ z. z) (λ all z. sym (stmts_many all z)) as_stmts low_stmts (stmts_grow ts stop h)
+
+  pub block_grow : (ts : List Kind) (stop : Fault × List Kind) → reader.block r inner outer ts ≡ Err stop → Growing (Low IsShapedBlock block_depth) write_block most ts stop
+  unfolding reader.block
+  block_grow ts stop h =
+      symbol_on y.OpenBrace ts (λ ts. Growing (Low IsShapedBlock block_depth) write_block most ts stop) h
+      (λ g. gone g leading_nothing empty (λ z. kind.Sym y.OpenBrace ∷ kind.Sym y.CloseBrace ∷ z) (λ z. refl) tt (omega arith))
+      (λ u us d. on d
+      (λ e. part (leading_symbol y.OpenBrace) s.BlockOf (λ z. kind.Sym y.CloseBrace ∷ z) (λ all z. refl) (λ all is. is) (λ all l. l) (all_stmts_grow us stop e))
+      (λ all vs e d.
+      let found = stmts_sound r inner outer most outers us (all, vs) e in
+      subst (λ us. Growing (Low IsShapedBlock block_depth) write_block most (kind.Sym y.OpenBrace ∷ us) stop) (sym found.written)
+      (gone (ends_with y.CloseBrace vs d (λ u us d. ok_err d)) (leading_then (leading_symbol y.OpenBrace) (leading_stmts (s.stmts all))) (s.BlockOf (s.stmts all)) (λ z. kind.Sym y.CloseBrace ∷ z) (λ z. refl) found.shaped found.low)))
+
+  -- ---- handlers
+
+  catch_grow : (ts : List Kind) (stop : Fault × List Kind) → reader.catch_clause r inner outer ts ≡ Err stop → Growing (Low IsShapedCatch catch_depth) write_catch most ts stop
+  unfolding reader.catch_clause
+  catch_grow ts stop h =
+      let a_param = reader.param_of false a_type [] 0 in
+      let end : List Kind → List Kind = λ z. kind.Sym y.CloseParen ∷ kind.Sym y.OpenBrace ∷ kind.Sym y.CloseBrace ∷ z in
+      word_on k.Catch ts (λ ts. Growing (Low IsShapedCatch catch_depth) write_catch most ts stop) h
+      (λ g. gone g leading_nothing (s.CatchOf a_param empty) (λ z. kind.Word k.Catch ∷ kind.Sym y.OpenParen ∷ write_param a_param (end z)) (λ z. refl) (refl, tt) (omega arith))
+      (λ u us d. symbol_on y.OpenParen us (λ us. Growing (Low IsShapedCatch catch_depth) write_catch most (kind.Word k.Catch ∷ us) stop) d
+      (λ g. gone g (leading_word k.Catch) (s.CatchOf a_param empty) (λ z. kind.Sym y.OpenParen ∷ write_param a_param (end z)) (λ z. refl) (refl, tt) (omega arith))
+      (λ u us d.
+      let into = leading_then (leading_word k.Catch) (leading_symbol y.OpenParen) in
+      on d (λ e. part into (λ p. s.CatchOf p empty) end (λ p z. refl) (λ p is. (is, tt)) (λ p l. omega arith) (param_grow most us stop e))
+      (λ p vs e d.
+      let found = param_sound us (p, vs) e in
+      let named = leading_then into (leading_param p) in
+      subst (λ us. Growing (Low IsShapedCatch catch_depth) write_catch most (kind.Word k.Catch ∷ kind.Sym y.OpenParen ∷ us) stop) (sym found.1)
+      (symbol_on y.CloseParen vs (λ vs. Growing (Low IsShapedCatch catch_depth) write_catch most (kind.Word k.Catch ∷ kind.Sym y.OpenParen ∷ write_param p vs) stop) d
+      (λ g. gone g named (s.CatchOf p empty) end (λ z. refl) (found.0, tt) (omega arith))
+      (λ u ws d. part (leading_then named (leading_symbol y.CloseParen)) (λ b. s.CatchOf p b) (λ z. z) (λ b z. refl) (λ b is. (found.0, is)) (λ b l. l) (block_grow ws stop (last d (λ b us d. ok_err d))))))))
+
+  shaped_catches : (all more : List s.Catch) → AllByRecursion (blocks.FitsCatch r inner outer most outers) all → AllByRecursion IsShapedCatch more → AllByRecursion IsShapedCatch (all ++ more)
+  shaped_catches [] more are is = is
+  shaped_catches (a ∷ all) more are is = (are.0.0, shaped_catches all more are.1 is)
+
+  as_catches : (all : List s.Catch) → AllByRecursion IsShapedCatch all → AreShapedCatches (s.catches all)
+  as_catches [] h = tt
+  as_catches (a ∷ all) h = (h.0, as_catches all h.1)
+
+  low_catches : (all : List s.Catch) → deepest catch_depth all ≤ most → catches_depth (s.catches all) ≤ most
+  low_catches [] l = omega arith
+  low_catches (a ∷ all) l = let m = low_catches all (omega arith) in omega arith
+
+  pub catches_grow : (ts : List Kind) (stop : Fault × List Kind) → many (next_is is_catch) (reader.catch_clause r inner outer) ts ≡ Err stop → Growing (Low AreShapedCatches catches_depth) write_catches most ts stop
+  catches_grow ts stop h =
+      part leading_nothing s.catches (λ z. z) (λ all z. sym (catches_many r inner outer most outers all z)) as_catches low_catches
+      (many_grow catch_depth (next_is is_catch) (reader.catch_clause r inner outer) refl (blocks.FitsCatch r inner outer most outers) write_catch (blocks.catch_sound r inner outer most outers) (blocks.catch_longer r inner outer most outers) most leading_catch
+      shaped_catches (λ all are. (asunder IsShapedCatch catch_depth most all are).1) ts stop h (λ us starts e. one_of {Shape = IsShapedCatch} (λ a is. (is, tt)) (catch_grow us stop e)))
