@@ -18,14 +18,14 @@ use Rattle.jr_tree.specs.declared.tree.TypeUse.{TypeUse}
 use Rattle.jr_tree.specs.declared.tree.Param.{Param}
 use Rattle.jr_tree.specs.Shape.{is_empty, is_local, takes_else, has_catch, has_stmt, group_fits, IsTypeUse, IsWholeExpr, IsStatementExpr, AreStatementExprs, IsShapedForInit, IsShapedLabel, IsShapedStmt, AreShapedStmts, IsShapedBlock, IsShapedCatch, AreShapedCatches, IsShapedGroup, AreShapedGroups}
 use Rattle.jr_tree.specs.Depth.{deepest, expr_depth, exprs_depth, for_init_depth, label_depth, stmt_depth, stmts_depth, block_depth, catch_depth, catches_depth, group_depth, groups_depth}
-use Rattle.jr_tree.specs.Tokens.{for_init_tokens, stmt_tokens, stmts_tokens, block_tokens, catch_tokens, label_tokens, group_tokens}
+use Rattle.jr_tree.specs.Tokens.{for_init_tokens, stmt_tokens, stmts_tokens, block_tokens, catch_tokens, label_tokens, group_tokens, groups_tokens}
 use Rattle.jr_tree.specs.Words.{primitive_word, param_tokens}
 use Rattle.jr_tree.specs.Mirror.Exprs as x
 use Rattle.jr_tree.specs.Mirror.Stmts as s
 use Rattle.jr_parse_laws.specs.declared.fault.Fault.{Fault}
 use Rattle.jr_parse_laws.specs.declared.fault.Fault.TheVariants.{NoTree, TooDeep}
 use Rattle.jr_parse_laws.specs.Parsers.{Outcome, Parser, and_then, first, begins_with, is_at, is_at_word, pure, expect, many, many_from, after_comma, optional, ◌>>=◌, ◌>>◌}
-use Rattle.jr_parse_laws.proofs.Outcomes.{bind_ok, ok_is, ok_err, err_ok, err_is}
+use Rattle.jr_parse_laws.proofs.Outcomes.{bind_ok, and_then_alike, ok_is, ok_err, err_ok, err_is, chosen, Before, After, stops}
 use Rattle.jr_parse_laws.proofs.Stops.{Leading, leading_nothing}
 use Rattle.jr_parse_expr.specs.Starts.{begins_effect, starts_expr, starts_effect, next_is}
 use Rattle.jr_parse_expr.specs.Names.{name_of, type_of, primitive_of, type_use, dims, Dotted, Plain, Enclosing, dotted}
@@ -41,7 +41,7 @@ use Rattle.jr_parse_defs.specs.Begins.{stmt_word, begins_stmt, begins_local, sta
 use Rattle.jr_parse_defs.specs.Stmts as reader
 use Rattle.jr_parse_defs.specs.Writing.{write_if, write_some, write_many, write_declarators, write_for_init, write_label, write_cond, write_ident, write_param, write_stmt, write_stmts, write_block, write_catch, write_catches, write_group, write_groups}
 use Rattle.jr_parse_defs.specs.Follow.{StmtEnds, IsStmt}
-use Rattle.jr_parse_defs.proofs.Written.{for_init_written, stmt_written, stmts_written, block_written, catch_written, label_written, param_written, group_written}
+use Rattle.jr_parse_defs.proofs.Written.{for_init_written, stmt_written, stmts_written, block_written, catch_written, label_written, param_written, group_written, groups_written}
 use Rattle.jr_parse_defs.proofs.Lists.{list_sound, asunder}
 use Rattle.jr_parse_defs.proofs.Variables.{AreVariables, param_sound, declarators_sound}
 use Rattle.jr_parse_defs.proofs.Expressions.{whole_sound, condition_sound, any_sound, updates_sound, found_effect}
@@ -164,6 +164,9 @@ leading_label l = leading_tokens (write_label l) (label_tokens l) (label_written
 leading_group : (g : s.Group) → Leading (write_group g)
 leading_group g = leading_tokens (write_group g) (group_tokens g) (group_written g)
 
+leading_groups : (gs : s.Groups) → Leading (write_groups gs)
+leading_groups gs = leading_tokens (write_groups gs) (groups_tokens gs) (groups_written gs)
+
 leading_first : (i : s.ForInit) → Leading (write_for_init i)
 leading_first i = leading_tokens (write_for_init i) (for_init_tokens i) (for_init_written i)
 
@@ -274,6 +277,17 @@ module _ (r : ℕ) (inner outer : Parser s.Stmt) (most : ℕ) (outers : ReadsOne
       part leading_nothing s.catches (λ z. z) (λ all z. sym (catches_many r inner outer most outers all z)) as_catches low_catches
       (many_grow catch_depth (next_is is_catch) (reader.catch_clause r inner outer) refl (blocks.FitsCatch r inner outer most outers) write_catch (blocks.catch_sound r inner outer most outers) (blocks.catch_longer r inner outer most outers) most leading_catch
       shaped_catches (λ all are. (asunder IsShapedCatch catch_depth most all are).1) ts stop h (λ us starts e. one_of {Shape = IsShapedCatch} (λ a is. (is, tt)) (catch_grow us stop e)))
+
+-- ---- depths
+
+suc_le : (a r : ℕ) → a ≤ r → suc a ≤ suc r
+suc_le a r l = omega arith
+
+zero_le : (r : ℕ) → 0 ≤ r
+zero_le r = omega arith
+
+for_low : (i o u b r : ℕ) → i ≤ r → o ≤ r → u ≤ r → b ≤ r → suc (max i (max o (max u b))) ≤ suc r
+for_low i o u b r l m n k = omega arith
 
 -- ---- one level
 
@@ -449,3 +463,404 @@ module _ (room : ℕ) (inner outer : Parser s.Stmt) (reads : ReadsOne room false
       (λ n us e d.
       let found = dotted_sound (reader.has_this room) [] head ts (n, us) e in
       subst (λ ts. Goal declares ts stop) (sym found.written) (named_grow declares n us stop some found.ended (flagged (reader.has_this room) head ts (n, us) e) d))
+
+  -- ---- with a word in front, where there is a level
+
+  do_grow : 1 ≤ room → (declares : Bool) (ts : List Kind) (stop : Fault × List Kind) → reader.do_stmt room inner outer ts ≡ Err stop → Goal declares (kind.Word k.Do ∷ ts) stop
+  unfolding reader.do_stmt
+  do_grow some declares ts stop h =
+      let last_test : List Kind → List Kind = λ z. kind.Word k.While ∷ test (semi z) in
+      on h (λ e. part (leading_word k.Do) (λ a. s.Do a sample) last_test (λ a z. refl) (λ a is. ((is.1, is.0, sample_whole), not_local declares)) (λ a l. omega arith) (grow_in.grow some ts stop e))
+      (λ a us e d.
+      let body = reads.sound ts (a, us) e in
+      let low = body.is.low in
+      let into = leading_then (leading_word k.Do) (leading_stmt a) in
+      subst (λ ts. Goal declares (kind.Word k.Do ∷ ts) stop) (sym body.written)
+      (word_on k.While us (λ us. Goal declares (kind.Word k.Do ∷ write_stmt a us) stop) d
+      (λ g. gone g into (s.Do a sample) last_test (λ z. refl) ((body.is.allowed, body.is.shaped, sample_whole), not_local declares) (omega arith))
+      (λ u us d. on d
+      (λ e. part (leading_then into (leading_word k.While)) (λ c. s.Do a c) semi (λ c z. refl) (λ c is. ((body.is.allowed, body.is.shaped, is), not_local declares)) (λ c l. omega arith) (condition_grow room some us stop e))
+      (λ c vs e d.
+      let found = condition_sound room us (c, vs) e in
+      let low_test = found.low in
+      subst (λ us. Goal declares (kind.Word k.Do ∷ write_stmt a (kind.Word k.While ∷ us)) stop) (sym found.written)
+      (gone (ends_with y.Semicolon vs d (λ u us d. ok_err d)) (leading_then into (leading_then (leading_word k.While) (leading_cond c))) (s.Do a c) semi (λ z. refl) ((body.is.allowed, body.is.shaped, found.is), not_local declares) (omega arith))))))
+
+  while_grow : 1 ≤ room → (declares : Bool) (ts : List Kind) (stop : Fault × List Kind) → reader.while_stmt room inner outer ts ≡ Err stop → Goal declares (kind.Word k.While ∷ ts) stop
+  unfolding reader.while_stmt
+  while_grow some declares ts stop h =
+      on h (λ e. part (leading_word k.While) (λ c. s.While c s.Skip) semi (λ c z. refl) (λ c is. ((is, refl, tt), not_local declares)) (λ c l. omega arith) (condition_grow room some ts stop e))
+      (λ c us e d.
+      let found = condition_sound room ts (c, us) e in
+      let low = found.low in
+      subst (λ ts. Goal declares (kind.Word k.While ∷ ts) stop) (sym found.written)
+      (part (leading_then (leading_word k.While) (leading_cond c)) (λ a. s.While c a) (λ z. z) (λ a z. refl) (λ a is. ((found.is, is.1, is.0), not_local declares)) (λ a l. omega arith) (grow_in.grow some us stop (last d (λ a us d. ok_err d)))))
+
+  if_grow : 1 ≤ room → (declares : Bool) (ts : List Kind) (stop : Fault × List Kind) → reader.if_stmt room inner outer ts ≡ Err stop → Goal declares (kind.Word k.If ∷ ts) stop
+  unfolding reader.if_stmt
+  if_grow some declares ts stop h =
+      on h (λ e. part (leading_word k.If) (λ c. s.If c s.Skip s.no_stmt) semi (λ c z. refl) (λ c is. ((is, refl, tt, tt), not_local declares)) (λ c l. omega arith) (condition_grow room some ts stop e))
+      (λ c us e d.
+      let found = condition_sound room ts (c, us) e in
+      let low = found.low in
+      let into = leading_then (leading_word k.If) (leading_cond c) in
+      subst (λ ts. Goal declares (kind.Word k.If ∷ ts) stop) (sym found.written)
+      (on d (λ e. part into (λ a. s.If c a s.no_stmt) (λ z. z) (λ a z. refl) (λ a is. ((found.is, is.1, is.0, tt), not_local declares)) (λ a l. omega arith) (grow_in.grow some us stop e))
+      (λ a vs e d.
+      let body = reads.sound us (a, vs) e in
+      subst (λ us. Goal declares (kind.Word k.If ∷ write_cond c us) stop) (sym body.written) (else_grow c found.is low a body.is.shaped body.is.allowed body.is.low vs body.ended (last d (λ b us d. ok_err d)))))) where
+        else_grow : (c : x.Expr) → IsWholeExpr c → expr_depth c ≤ room → (a : s.Stmt) → IsShapedStmt a → IsTrue (not (is_local a)) → stmt_depth a ≤ room → (vs : List Kind) → StmtEnds a (first vs) → reader.otherwise room inner outer vs ≡ Err stop
+            → Goal declares (kind.Word k.If ∷ write_cond c (write_stmt a vs)) stop
+        else_grow c is low a shaped allowed low_a [] ended e = absurd (ok_err e)
+        else_grow c is low a shaped allowed low_a (kind.Word k.Else ∷ vs) ended e =
+            let into = leading_then (leading_word k.If) (leading_then (leading_cond c) (leading_then (leading_stmt a) (leading_word k.Else))) in
+            part into (λ b. s.If c a (s.a_stmt b)) (λ z. z) (λ b z. refl) (λ b is_b. ((is, allowed, shaped, (takes_none room inner outer reads outers a vs ended, is_b.1, is_b.0)), not_local declares)) (λ b l. omega arith)
+            (grow_in.grow some vs stop (last e (λ b us d. ok_err d)))
+        else_grow c is low a shaped allowed low_a (token ∷ vs) ended e = absurd (ok_err e)
+
+  label_ok : (ts : List Kind) (stop : Fault × List Kind) → reader.label ts ≡ Err stop → ⊥
+  label_ok [] stop h = ok_err h
+  label_ok (kind.Ident n ∷ ts) stop h = ok_err h
+  label_ok (token ∷ ts) stop h = ok_err h
+
+  leading_ident : (l : Option Text) → Leading (write_some write_ident l)
+  leading_ident l = leading_some write_ident (λ n. leading_one (kind.Ident n)) l
+
+  break_grow : (declares : Bool) (ts : List Kind) (stop : Fault × List Kind) → reader.break_stmt room inner outer ts ≡ Err stop → Goal declares (kind.Word k.Break ∷ ts) stop
+  break_grow declares ts stop h =
+      on h (λ e. absurd (label_ok ts stop e))
+      (λ l us e d.
+      subst (λ ts. Goal declares (kind.Word k.Break ∷ ts) stop) (sym (label_name_sound ts (l, us) e))
+      (gone (ends_with y.Semicolon us d (λ u us d. ok_err d)) (leading_then (leading_word k.Break) (leading_ident l)) (s.Break l) semi (λ z. refl) (tt, not_local declares) (omega arith)))
+
+  continue_grow : (declares : Bool) (ts : List Kind) (stop : Fault × List Kind) → reader.continue_stmt room inner outer ts ≡ Err stop → Goal declares (kind.Word k.Continue ∷ ts) stop
+  continue_grow declares ts stop h =
+      on h (λ e. absurd (label_ok ts stop e))
+      (λ l us e d.
+      subst (λ ts. Goal declares (kind.Word k.Continue ∷ ts) stop) (sym (label_name_sound ts (l, us) e))
+      (gone (ends_with y.Semicolon us d (λ u us d. ok_err d)) (leading_then (leading_word k.Continue) (leading_ident l)) (s.Continue l) semi (λ z. refl) (tt, not_local declares) (omega arith)))
+
+  no_value : (declares : Bool) (ts : List Kind) (stop : Fault × List Kind) → starts_expr (first ts) ≡ true → NoLevel starts_expr ts stop → Goal declares (kind.Word k.Return ∷ ts) stop
+  no_value declares ts stop starts (Refused f e) = absurd (true≢false (sym starts ∙ f))
+  no_value declares [] stop starts (Deep f e) = absurd (cc)
+  no_value declares (token ∷ ts) stop starts (Deep f e) =
+      let a = whole_starter token starts in
+      deeps e (leading_word k.Return) (s.Return None) semi (λ z. refl) (tt, not_local declares) (omega arith) (s.Return (Some a.tree)) (λ z. a.more (semi z)) (λ z. ap (λ ts. kind.Word k.Return ∷ ts) (a.spelled (semi z))) (a.is, not_local declares)
+
+  return_grow : (declares : Bool) (ts : List Kind) (stop : Fault × List Kind) → reader.return_stmt room inner outer ts ≡ Err stop → Goal declares (kind.Word k.Return ∷ ts) stop
+  return_grow declares ts stop h =
+      on h
+      (λ e. choose (starts_expr (first ts)) e
+      (λ t g.
+      let i = last g (λ v us d. ok_err d) in
+      elim (cases_lt 0 room) [
+        | inl some ↦ part (leading_word k.Return) (λ v. s.Return (Some v)) semi (λ v z. refl) (λ v is. (is, not_local declares)) (λ v l. suc_le (expr_depth v) room l) (whole_grow room some ts stop i)
+        | inr none ↦ no_value declares ts stop t (no_whole room none ts stop i)
+      ])
+      (λ f g. absurd (ok_err g)))
+      (λ v us e d.
+      let found = any_sound room ts (v, us) e in
+      let low = found.low in
+      subst (λ ts. Goal declares (kind.Word k.Return ∷ ts) stop) (sym found.written)
+      (gone (ends_with y.Semicolon us d (λ u us d. ok_err d)) (leading_then (leading_word k.Return) (leading_some write_expr leading_expr v)) (s.Return v) semi (λ z. refl) (found.is, not_local declares) (omega arith)))
+
+  throw_grow : 1 ≤ room → (declares : Bool) (ts : List Kind) (stop : Fault × List Kind) → reader.throw_stmt room inner outer ts ≡ Err stop → Goal declares (kind.Word k.Throw ∷ ts) stop
+  throw_grow some declares ts stop h =
+      on h (λ e. part (leading_word k.Throw) (λ v. s.Throw v) semi (λ v z. refl) (λ v is. (is, not_local declares)) (λ v l. omega arith) (whole_grow room some ts stop e))
+      (λ v us e d.
+      let found = whole_sound room ts (v, us) e in
+      let low = found.low in
+      subst (λ ts. Goal declares (kind.Word k.Throw ∷ ts) stop) (sym found.written)
+      (gone (ends_with y.Semicolon us d (λ u us d. ok_err d)) (leading_then (leading_word k.Throw) (leading_expr v)) (s.Throw v) semi (λ z. refl) (found.is, not_local declares) (omega arith)))
+
+  -- ---- for
+
+  abbrev First : List Kind → Fault × List Kind → Type 0
+  First ts stop = Growing (Low IsShapedForInit for_init_depth) write_for_init room ts stop
+
+  first_part : {ts : List Kind} {stop : Fault × List Kind} → Growing (Low IsStatementExpr expr_depth) write_expr room ts stop → First ts stop
+  first_part g = part leading_nothing (λ e. s.Exprs (x.more_exprs e x.no_exprs)) (λ z. z) (λ e z. refl) (λ e is. (refl, (is, tt))) (λ e l. omega arith) g
+
+  effects_grow : 1 ≤ room → (lead : Lead) (ts : List Kind) (stop : Fault × List Kind) → IsLed lead (first ts) → reader.first_effects room inner outer lead ts ≡ Err stop → (effect room lead ts ≡ Err stop → First (write_lead lead ts) stop)
+      → First (write_lead lead ts) stop
+  effects_grow some lead ts stop led h one =
+      on h one
+      (λ v us e d.
+      let found = found_effect room lead ts (v, us) led e in
+      let low = found.low in
+      subst (λ ts. First ts stop) (sym found.written)
+      (part (leading_expr v) (λ all. s.Exprs (x.more_exprs v all)) (λ z. z) (λ all z. refl) (λ all is. (refl, (found.is, is))) (λ all l. omega arith) (others_grow room some us stop (last d (λ all us d. ok_err d)))))
+
+  locals_part : {ts : List Kind} {stop : Fault × List Kind} → Typed room ts stop → First ts stop
+  locals_part g = part leading_nothing (λ v. s.Locals v.0 v.1 v.2) (λ z. z) (λ v z. refl) (λ v is. (is.0, is.1.0, is.1.1)) (λ v l. l) g
+
+  locals_grow : (t : TypeUse) (ts : List Kind) (stop : Fault × List Kind) → IsTypeUse t → reader.locals room inner outer false t ts ≡ Err stop → First (write_locals_front false t ts) stop
+  locals_grow t ts stop is h = locals_part (behind_type room false t is ts stop (last h (λ ds us d. ok_err d)))
+
+  -- a declaration of a variable of a class's type
+  abbrev a_first : List Text → Text → ℕ → s.ForInit
+  a_first before final pairs = s.Locals false (type_of (base.Named (name_of (before ++ final ∷ []))) pairs) (variable ∷ [])
+
+  first_is : (before : List Text) (final : Text) (pairs : ℕ) → IsShapedForInit (a_first before final pairs)
+  first_is before final pairs = (has_parts before final, refl, (tt, tt))
+
+  first_named_grow : 1 ≤ room → (before : List Text) (final : Text) (ts : List Kind) (stop : Fault × List Kind) → begins_with y.Dot (first ts) ≡ false → reader.first_effects room inner outer (Named (Plain before final)) ts ≡ Err stop
+      → First (write_all (before ++ final ∷ []) ts) stop
+  first_named_grow some before final ts stop dot h =
+      effects_grow some (Named (Plain before final)) ts stop dot h (λ e. first_part (effect_grow room (Named (Plain before final)) some ts stop dot e))
+
+  first_bracket_gone : (before : List Text) (final : Text) (ts : List Kind) (stop : Fault × List Kind) → NoLevel starts_expr ts stop → First (write_all (before ++ final ∷ []) (kind.Sym y.OpenBracket ∷ ts)) stop
+  first_bracket_gone before final ts stop (Refused f e) =
+      gone e (leading_then (leading_names (before ++ final ∷ [])) (leading_symbol y.OpenBracket)) (a_first before final 1) (λ z. kind.Sym y.CloseBracket ∷ kind.Ident [] ∷ z) (λ z. refl) (first_is before final 1) (omega arith)
+  first_bracket_gone before final [] stop (Deep f e) = absurd (cc)
+  first_bracket_gone before final (token ∷ ts) stop (Deep f e) =
+      let a = whole_starter token f in
+      deeps e (leading_then (leading_names (before ++ final ∷ [])) (leading_symbol y.OpenBracket)) (a_first before final 1) (λ z. kind.Sym y.CloseBracket ∷ kind.Ident [] ∷ z) (λ z. refl) (first_is before final 1) (omega arith)
+      (s.Exprs (x.more_exprs (x.PostStep (x.Index (x.NameExpr (name_of (before ++ final ∷ []))) a.tree) y.PlusPlus) x.no_exprs)) (λ z. a.more (kind.Sym y.CloseBracket ∷ kind.Sym y.PlusPlus ∷ z))
+      (λ z. ap (λ ts. write_all (before ++ final ∷ []) (kind.Sym y.OpenBracket ∷ ts)) (a.spelled (kind.Sym y.CloseBracket ∷ kind.Sym y.PlusPlus ∷ z)))
+      (refl, ((refl, (refl, (omega arith, refl), (((omega arith, refl), refl), has_parts before final, a.is.0, a.is.1))), tt))
+
+  first_bracketed_grow : 1 ≤ room → (before : List Text) (final : Text) (ts : List Kind) (stop : Fault × List Kind) → reader.first_bracketed room inner outer before final ts ≡ Err stop
+      → First (write_all (before ++ final ∷ []) (kind.Sym y.OpenBracket ∷ ts)) stop
+  first_bracketed_grow some before final ts stop h =
+      let n = name_of (before ++ final ∷ []) in
+      let front = leading_then (leading_names (before ++ final ∷ [])) (leading_symbol y.OpenBracket) in
+      at_symbol y.CloseBracket ts (λ ts. First (write_all (before ++ final ∷ []) (kind.Sym y.OpenBracket ∷ ts)) stop) h
+      (λ us g. on g
+      (λ e.
+      let d = dims_stop us stop e in
+      subst (λ us. First (write_all (before ++ final ∷ []) (kind.Sym y.OpenBracket ∷ kind.Sym y.CloseBracket ∷ us)) stop) (sym d.split)
+      (gone d.here (leading_then front (leading_then (leading_symbol y.CloseBracket) (leading_then (leading_brackets d.count) (leading_symbol y.OpenBracket)))) (a_first before final (suc (suc d.count)))
+      (λ z. kind.Sym y.CloseBracket ∷ kind.Ident [] ∷ z) (λ z. ap (λ ts. write_all (before ++ final ∷ []) (kind.Sym y.OpenBracket ∷ kind.Sym y.CloseBracket ∷ ts)) (brackets_more d.count (kind.Ident [] ∷ z)))
+      (first_is before final (suc (suc d.count))) (omega arith)))
+      (λ more vs e d.
+      subst (λ us. First (write_all (before ++ final ∷ []) (kind.Sym y.OpenBracket ∷ kind.Sym y.CloseBracket ∷ us)) stop) (sym (dims_sound us (more, vs) e).0)
+      (locals_grow (type_of (base.Named n) (suc more)) vs stop (has_parts before final) d)))
+      (λ f g. effects_grow some (Indexed n) ts stop (has_parts before final) g
+      (λ e. elim (cases_lt 2 room) [
+        | inl up ↦ first_part (effect_grow room (Indexed n) up ts stop (has_parts before final) e)
+        | inr low ↦ first_bracket_gone before final ts stop (no_indexed room low n ts stop e)
+      ]))
+
+  first_by_name_grow : 1 ≤ room → (d : Dotted) (ts : List Kind) (stop : Fault × List Kind) → DottedEnds d (first ts) → Flagged (reader.has_this room) d → reader.first_named room inner outer d ts ≡ Err stop → First (write_dotted d ts) stop
+  unfolding reader.first_named
+  first_by_name_grow some (Enclosing before final) ts stop ended flag h =
+      effects_grow some (Named (Enclosing before final)) ts stop tt h (λ e. first_part (effect_grow room (Named (Enclosing before final)) (this_room room flag) ts stop tt e))
+  first_by_name_grow some (Plain before final) [] stop ended flag h = first_named_grow some before final [] stop ended h
+  first_by_name_grow some (Plain before final) (kind.Ident v ∷ ts) stop ended flag h = locals_grow (type_of (base.Named (name_of (before ++ final ∷ []))) 0) (kind.Ident v ∷ ts) stop (has_parts before final) h
+  first_by_name_grow some (Plain before final) (kind.Sym y.OpenBracket ∷ ts) stop ended flag h = first_bracketed_grow some before final ts stop h
+  first_by_name_grow some (Plain before final) (token ∷ ts) stop ended flag h = first_named_grow some before final (token ∷ ts) stop ended h
+
+  first_name_grow : 1 ≤ room → (head : Text) (ts : List Kind) (stop : Fault × List Kind) → and_then (dotted (reader.has_this room) [] head ts) (reader.first_named room inner outer) ≡ Err stop → First (kind.Ident head ∷ ts) stop
+  first_name_grow some head ts stop h =
+      on h
+      (λ e.
+      let f = dotted_fault (reader.has_this room) head ts stop e in
+      let into = leading_then (leading_names (f.front ++ f.final ∷ [])) (leading_symbol y.Dot) in
+      let more : List Kind → List Kind = λ z. kind.Ident [] ∷ kind.Ident [] ∷ z in
+      subst (λ ts. First ts stop) (sym f.split)
+      (elim f.why [
+        | inl w ↦ gone w into (a_first (f.front ++ f.final ∷ []) [] 0) more (λ z. all_append f.front f.final ([] ∷ []) (kind.Ident [] ∷ z)) (first_is (f.front ++ f.final ∷ []) [] 0) (omega arith)
+        | inr w ↦
+            subst (λ rest. First (write_all (f.front ++ f.final ∷ []) (kind.Sym y.Dot ∷ rest)) stop) (sym w.1)
+            (deeps w.2 into (a_first (f.front ++ f.final ∷ []) [] 0) more (λ z. all_append f.front f.final ([] ∷ []) (kind.Ident [] ∷ z)) (first_is (f.front ++ f.final ∷ []) [] 0) (omega arith)
+            (s.Exprs (x.more_exprs (x.PostStep (x.This (Some (name_of (f.front ++ f.final ∷ [])))) y.PlusPlus) x.no_exprs)) (λ z. kind.Sym y.PlusPlus ∷ z) (λ z. refl) (refl, ((refl, (refl, (omega arith, refl), has_parts f.front f.final)), tt)))
+      ]))
+      (λ n us e d.
+      let found = dotted_sound (reader.has_this room) [] head ts (n, us) e in
+      subst (λ ts. First ts stop) (sym found.written) (first_by_name_grow some n us stop found.ended (flagged (reader.has_this room) head ts (n, us) e) d))
+
+  abbrev for_typed : Parser (Option s.ForInit)
+  for_typed = reader.finality >>= (λ is_final. type_use >>= (λ ty. reader.locals room inner outer is_final ty >>= (λ i. pure (Some i))))
+
+  flat_one : (b : Bool) (ty : TypeUse) (o : Outcome (List s.Declarator)) → and_then (and_then o (λ ds ts. Ok (s.Locals b ty ds, ts))) (λ i ts. Ok (Some i, ts)) ≡ and_then o (λ ds ts. Ok (Some (s.Locals b ty ds), ts))
+  flat_one b ty (Ok p) = refl
+  flat_one b ty (Err e) = refl
+
+  flat : (ts : List Kind) → for_typed ts ≡ and_then (reader.finality ts) (λ b ts. and_then (type_use ts) (λ ty ts. and_then (reader.declarators room ts) (λ ds ts. Ok (Some (s.Locals b ty ds), ts))))
+  flat ts = and_then_alike (reader.finality ts) _ _ (λ b us. and_then_alike (type_use us) _ _ (λ ty vs. flat_one b ty (reader.declarators room vs)))
+
+  for_other_grow : 1 ≤ room → (token : Kind) (ts : List Kind) (stop : Fault × List Kind)
+      → cond (begins_local token) (for_typed (token ∷ ts)) (cond (begins_effect token) (and_then (reader.first_effects room inner outer Nothing (token ∷ ts)) (λ i ts. Ok (Some i, ts))) (Ok (None, token ∷ ts))) ≡ Err stop → First (token ∷ ts) stop
+  for_other_grow some token ts stop h =
+      choose (begins_local token) h
+      (λ t g. locals_part (typed_grow room (λ b t ds. pure (Some (s.Locals b t ds))) (token ∷ ts) stop (sym (flat (token ∷ ts)) ∙ g) (λ b t ds us is are same d. absurd (ok_err d))))
+      (λ f g. choose (begins_effect token) g (λ t i. effects_grow some Nothing (token ∷ ts) stop tt (last i (λ a us d. ok_err d)) (λ e. first_part (effect_grow room Nothing some (token ∷ ts) stop tt e))) (λ f i. absurd (ok_err i)))
+
+  first_grow : 1 ≤ room → (ts : List Kind) (stop : Fault × List Kind) → reader.for_first room inner outer ts ≡ Err stop → First ts stop
+  unfolding reader.for_first
+  first_grow some [] stop h = absurd (ok_err h)
+  first_grow some (kind.Ident head ∷ ts) stop h = first_name_grow some head ts stop (last h (λ i us d. ok_err d))
+  first_grow some (token ∷ ts) stop h = for_other_grow some token ts stop h
+
+  abbrev close : List Kind → List Kind
+  close z = kind.Sym y.CloseParen ∷ semi z
+
+  abbrev header : Option s.ForInit → List Kind → List Kind
+  header i z = kind.Word k.For ∷ kind.Sym y.OpenParen ∷ write_some write_for_init i (semi z)
+
+  leading_header : (i : Option s.ForInit) → Leading (header i)
+  leading_header i = leading_then (leading_word k.For) (leading_then (leading_symbol y.OpenParen) (leading_then (leading_some write_for_init leading_first i) (leading_symbol y.Semicolon)))
+
+  module _ (some : 1 ≤ room) (declares : Bool) (i : Option s.ForInit) (init : IfSome i IsShapedForInit) (low_init : option_map_or for_init_depth i 0 ≤ room) where
+    for_is : (o : Option x.Expr) (u : x.Exprs) (b : s.Stmt) → IfSome o IsWholeExpr → AreStatementExprs u → StmtShape false b → StmtShape declares (s.For i o u b)
+    for_is o u b is_o is_u is_b = ((init, is_o, is_u, is_b.1, is_b.0), not_local declares)
+
+    for_depth : (o : Option x.Expr) (u : x.Exprs) (b : s.Stmt) → option_map_or expr_depth o 0 ≤ room → exprs_depth u ≤ room → stmt_depth b ≤ room → stmt_depth (s.For i o u b) ≤ suc room
+    for_depth o u b l m n = for_low (option_map_or for_init_depth i 0) (option_map_or expr_depth o 0) (exprs_depth u) (stmt_depth b) room low_init l m n
+
+    body_grow : (o : Option x.Expr) (u : x.Exprs) (us : List Kind) (stop : Fault × List Kind) → IfSome o IsWholeExpr → option_map_or expr_depth o 0 ≤ room → AreStatementExprs u → exprs_depth u ≤ room → inner us ≡ Err stop
+        → Goal declares (header i (write_some write_expr o (semi (write_exprs u (kind.Sym y.CloseParen ∷ us))))) stop
+    body_grow o u us stop is_o low_o is_u low_u e =
+        part (leading_then (leading_header i) (leading_then (leading_some write_expr leading_expr o) (leading_then (leading_symbol y.Semicolon) (leading_then (leading_exprs u) (leading_symbol y.CloseParen))))) (λ b. s.For i o u b) (λ z. z) (λ b z. refl)
+        (λ b is. for_is o u b is_o is_u is) (λ b l. for_depth o u b low_o low_u l) (grow_in.grow some us stop e)
+
+    update_grow : (o : Option x.Expr) (us : List Kind) (stop : Fault × List Kind) → IfSome o IsWholeExpr → option_map_or expr_depth o 0 ≤ room
+        → and_then (any_commas starts_effect (effect room Nothing) us) (λ update ts. and_then (expect y.CloseParen ts) (λ u ts. and_then (inner ts) (λ body ts. Ok (s.For i o (x.exprs update) body, ts)))) ≡ Err stop
+        → Goal declares (header i (write_some write_expr o (semi us))) stop
+    update_grow o us stop is_o low_o h =
+        let into = leading_then (leading_header i) (leading_then (leading_some write_expr leading_expr o) (leading_symbol y.Semicolon)) in
+        on h (λ e. part into (λ u. s.For i o u s.Skip) close (λ u z. refl) (λ u is. for_is o u s.Skip is_o is (tt, refl)) (λ u l. for_depth o u s.Skip low_o l some) (updates_grow room some us stop e))
+        (λ update vs e d.
+        let found = updates_sound room us (update, vs) e in
+        subst (λ us. Goal declares (header i (write_some write_expr o (semi us))) stop) (sym found.written)
+        (symbol_on y.CloseParen vs (λ vs. Goal declares (header i (write_some write_expr o (semi (write_exprs (x.exprs update) vs)))) stop) d
+        (λ g. gone g (leading_then into (leading_exprs (x.exprs update))) (s.For i o (x.exprs update) s.Skip) close (λ z. refl) (for_is o (x.exprs update) s.Skip is_o found.is (tt, refl)) (for_depth o (x.exprs update) s.Skip low_o found.low some))
+        (λ u ws d. body_grow o (x.exprs update) ws stop is_o low_o found.is found.low (last d (λ b us d. ok_err d)))))
+
+    tests_grow : (us : List Kind) (stop : Fault × List Kind)
+        → and_then (optional starts_expr (expr room Nothing 0) us) (λ c ts. and_then (expect y.Semicolon ts) (λ u ts. and_then (any_commas starts_effect (effect room Nothing) ts)
+        (λ update ts. and_then (expect y.CloseParen ts) (λ u ts. and_then (inner ts) (λ body ts. Ok (s.For i c (x.exprs update) body, ts)))))) ≡ Err stop → Goal declares (header i us) stop
+    tests_grow us stop h =
+        on h (λ e. part (leading_header i) (λ c. s.For i (Some c) x.no_exprs s.Skip) (λ z. semi (close z)) (λ c z. refl) (λ c is. for_is (Some c) x.no_exprs s.Skip is tt (tt, refl)) (λ c l. for_depth (Some c) x.no_exprs s.Skip l (zero_le room) some)
+        (any_grow room some us stop e))
+        (λ c vs e d.
+        let found = any_sound room us (c, vs) e in
+        subst (λ us. Goal declares (header i us) stop) (sym found.written)
+        (symbol_on y.Semicolon vs (λ vs. Goal declares (header i (write_some write_expr c vs)) stop) d
+        (λ g. gone g (leading_then (leading_header i) (leading_some write_expr leading_expr c)) (s.For i c x.no_exprs s.Skip) (λ z. semi (close z)) (λ z. refl) (for_is c x.no_exprs s.Skip found.is tt (tt, refl)) (for_depth c x.no_exprs s.Skip found.low (zero_le room) some))
+        (λ u ws d. update_grow c ws stop found.is found.low d)))
+
+  for_grow : 1 ≤ room → (declares : Bool) (ts : List Kind) (stop : Fault × List Kind) → reader.for_stmt room inner outer ts ≡ Err stop → Goal declares (kind.Word k.For ∷ ts) stop
+  unfolding reader.for_stmt
+  for_grow some declares ts stop h =
+      symbol_on y.OpenParen ts (λ ts. Goal declares (kind.Word k.For ∷ ts) stop) h
+      (λ g. gone g (leading_word k.For) (s.For None None x.no_exprs s.Skip) (λ z. kind.Sym y.OpenParen ∷ semi (semi (close z))) (λ z. refl) ((tt, tt, tt, refl, tt), not_local declares) (for_low 0 0 0 1 room (zero_le room) (zero_le room) (zero_le room) some))
+      (λ u us d.
+      let into = leading_then (leading_word k.For) (leading_symbol y.OpenParen) in
+      on d
+      (λ e. part into (λ i. s.For (Some i) None x.no_exprs s.Skip) (λ z. semi (semi (close z))) (λ i z. refl) (λ i is. ((is, tt, tt, refl, tt), not_local declares)) (λ i l. for_low (for_init_depth i) 0 0 1 room l (zero_le room) (zero_le room) some) (first_grow some us stop e))
+      (λ i vs e d.
+      let init = first_sound room inner outer us (i, vs) e in
+      subst (λ us. Goal declares (kind.Word k.For ∷ kind.Sym y.OpenParen ∷ us) stop) (sym init.written)
+      (symbol_on y.Semicolon vs (λ vs. Goal declares (kind.Word k.For ∷ kind.Sym y.OpenParen ∷ write_some write_for_init i vs) stop) d
+      (λ g. gone g (leading_then into (leading_some write_for_init leading_first i)) (s.For i None x.no_exprs s.Skip) (λ z. semi (semi (close z))) (λ z. refl) ((init.shaped, tt, tt, refl, tt), not_local declares)
+      (for_low (option_map_or for_init_depth i 0) 0 0 1 room init.low (zero_le room) (zero_le room) some))
+      (λ u us d. tests_grow some declares i init.shaped init.low us stop d))))
+
+  -- ---- switch
+
+  abbrev AreLabels : List s.SwitchLabel → Type 0
+  AreLabels ls = (not (is_empty ls) ≡ true) × AllByRecursion IsShapedLabel ls
+
+  abbrev Label : List Kind → Fault × List Kind → Type 0
+  Label ts stop = Growing (Low IsShapedLabel label_depth) write_label room ts stop
+
+  label_grow : 1 ≤ room → (ts : List Kind) (stop : Fault × List Kind) → starts_label (first ts) ≡ true → next_token (reader.label_by room inner outer) ts ≡ Err stop → Label ts stop
+  label_grow some [] stop starts h = absurd (cc)
+  label_grow some (kind.Word k.Case ∷ ts) stop starts h =
+      on h (λ e. part (leading_word k.Case) (λ v. s.Case v) (λ z. kind.Sym y.Colon ∷ z) (λ v z. refl) (λ v is. is) (λ v l. l) (whole_grow room some ts stop e))
+      (λ v us e d.
+      let found = whole_sound room ts (v, us) e in
+      subst (λ ts. Label (kind.Word k.Case ∷ ts) stop) (sym found.written)
+      (gone (ends_with y.Colon us d (λ u us d. ok_err d)) (leading_then (leading_word k.Case) (leading_expr v)) (s.Case v) (λ z. kind.Sym y.Colon ∷ z) (λ z. refl) found.is found.low))
+  label_grow some (kind.Word k.Default ∷ ts) stop starts h =
+      gone (ends_with y.Colon ts h (λ u us d. ok_err d)) (leading_word k.Default) s.Default (λ z. kind.Sym y.Colon ∷ z) (λ z. refl) tt (omega arith)
+  label_grow some (token ∷ ts) stop starts h = absurd (cc)
+
+  label_shapes_in : (all more : List s.SwitchLabel) → AllByRecursion (groups.FitsLabel room inner outer outers) all → AllByRecursion IsShapedLabel more → AllByRecursion IsShapedLabel (all ++ more)
+  label_shapes_in [] more are is = is
+  label_shapes_in (l ∷ all) more are is = (are.0.0, label_shapes_in all more are.1 is)
+
+  label_shapes : (all more : List s.SwitchLabel) → AllByRecursion (groups.FitsLabel room inner outer outers) all → AreLabels more → AreLabels (all ++ more)
+  label_shapes [] more are is = is
+  label_shapes (l ∷ all) more are is = (refl, (are.0.0, (label_shapes_in all more are.1 is.1)))
+
+  labels_grow : 1 ≤ room → (ts : List Kind) (stop : Fault × List Kind) → many starts_label (next_token (reader.label_by room inner outer)) ts ≡ Err stop → Growing (Low AreLabels (deepest label_depth)) (write_many write_label) room ts stop
+  labels_grow some ts stop h =
+      many_grow label_depth starts_label (next_token (reader.label_by room inner outer)) refl (groups.FitsLabel room inner outer outers) write_label (groups.label_sound room inner outer outers) (groups.label_longer room inner outer outers) room leading_label
+      label_shapes (λ all are. (asunder IsShapedLabel label_depth room all are).1) ts stop h (λ us starts e. one_of {Shape = IsShapedLabel} (λ a is. (refl, (is, tt))) (label_grow some us stop starts e))
+
+  abbrev AGroup : List Kind → Fault × List Kind → Type 0
+  AGroup ts stop = Growing (Low IsShapedGroup group_depth) write_group room ts stop
+
+  group_grow : 1 ≤ room → (ts : List Kind) (stop : Fault × List Kind) → starts_label (first ts) ≡ true → reader.group room inner outer ts ≡ Err stop → AGroup ts stop
+  unfolding reader.group
+  group_grow some ts stop starts h =
+      on h (λ e. part leading_nothing (λ ls. s.GroupOf ls s.no_stmts) (λ z. z) (λ ls z. refl) (λ ls is. (is.0, is.1, tt)) (λ ls l. omega arith) (labels_grow some ts stop e))
+      (λ ls us e d.
+      let are = list_sound starts_label (next_token (reader.label_by room inner outer)) refl (groups.FitsLabel room inner outer outers) write_label (groups.label_sound room inner outer outers) (groups.label_longer room inner outer outers) ts (ls, us) e in
+      let both = asunder IsShapedLabel label_depth room ls are.are in
+      let low = both.1 in
+      let one = groups.some_label room inner outer outers ls us ts starts are.written are.ended in
+      subst (λ ts. AGroup ts stop) (sym are.written)
+      (part (leading_many write_label leading_label ls) (λ all. s.GroupOf ls all) (λ z. z) (λ all z. refl) (λ all is. (one, both.0, is)) (λ all l. omega arith)
+      (all_stmts_grow room inner outer room outers grow_out us stop (last d (λ all us d. ok_err d)))))
+
+  abbrev Groups : List Kind → Fault × List Kind → Type 0
+  Groups ts stop = Growing (Low AreShapedGroups groups_depth) write_groups room ts stop
+
+  begun_groups : (turns : ℕ) (ts : List Kind) (stop : Fault × List Kind) → many_from starts_label (reader.group room inner outer) turns ts ≡ Err stop → starts_label (first ts) ≡ true
+  begun_groups zero ts stop h = absurd (ok_err h)
+  begun_groups (suc turns) ts stop h = choose (starts_label (first ts)) h (λ t g. t) (λ f g. absurd (ok_err g))
+
+  not_alone : (g : s.Group) (us : List Kind) (all : s.Groups) → (has_stmt (groups.stmts_of g) ≡ false → starts_label (first us) ≡ false) → starts_label (first us) ≡ true → group_fits g all ≡ true
+  not_alone (s.GroupOf ls s.no_stmts) us all alone starts = absurd (true≢false (sym starts ∙ alone refl))
+  not_alone (s.GroupOf ls (s.more_stmts a bs)) us all alone starts = refl
+
+  alone_last : (g : s.Group) → group_fits g s.no_groups ≡ true
+  alone_last (s.GroupOf ls s.no_stmts) = refl
+  alone_last (s.GroupOf ls (s.more_stmts a bs)) = refl
+
+  groups_from_grow : 1 ≤ room → (turns : ℕ) (ts : List Kind) (stop : Fault × List Kind) → many_from starts_label (reader.group room inner outer) turns ts ≡ Err stop → Groups ts stop
+  groups_from_grow some zero ts stop h = absurd (ok_err h)
+  groups_from_grow some (suc turns) ts stop h =
+      elim (chosen (starts_label (first ts)) _ _ _ h) [
+        | inr t ↦ absurd (ok_err t.1)
+        | inl t ↦
+            (elim (stops (reader.group room inner outer ts) _ stop t.1) [
+              | Before e ↦ part leading_nothing (λ g. s.more_groups g s.no_groups) (λ z. z) (λ g z. refl) (λ g is. (is, alone_last g, tt)) (λ g l. omega arith) (group_grow some ts stop t.0 e)
+              | After g us e d ↦
+                  (let found = groups.group_sound room inner outer outers ts (g, us) t.0 e in
+                  let low = groups.group_low room inner outer outers g found.low_labels found.low in
+                  let i = last d (λ all us d. ok_err d) in
+                  let starts = begun_groups turns us stop i in
+                  subst (λ ts. Groups ts stop) (sym found.written)
+                  (part (leading_group g) (λ all. s.more_groups g all) (λ z. z) (λ all z. refl) (λ all is. (found.shaped, not_alone g us all found.alone starts, is)) (λ all l. omega arith) (groups_from_grow some turns us stop i)))
+            ])
+      ]
+
+  groups_grow : 1 ≤ room → (ts : List Kind) (stop : Fault × List Kind) → many starts_label (reader.group room inner outer) ts ≡ Err stop → Groups ts stop
+  unfolding many
+  groups_grow some ts stop h = groups_from_grow some (length ts) ts stop h
+
+  switch_grow : 1 ≤ room → (declares : Bool) (ts : List Kind) (stop : Fault × List Kind) → reader.switch_stmt room inner outer ts ≡ Err stop → Goal declares (kind.Word k.Switch ∷ ts) stop
+  unfolding reader.switch_stmt
+  switch_grow some declares ts stop h =
+      let braces : List Kind → List Kind = λ z. kind.Sym y.OpenBrace ∷ kind.Sym y.CloseBrace ∷ z in
+      on h (λ e. part (leading_word k.Switch) (λ v. s.Switch v s.no_groups) braces (λ v z. refl) (λ v is. ((is, tt), not_local declares)) (λ v l. omega arith) (condition_grow room some ts stop e))
+      (λ v us e d.
+      let found = condition_sound room ts (v, us) e in
+      let low = found.low in
+      let into = leading_then (leading_word k.Switch) (leading_cond v) in
+      subst (λ ts. Goal declares (kind.Word k.Switch ∷ ts) stop) (sym found.written)
+      (symbol_on y.OpenBrace us (λ us. Goal declares (kind.Word k.Switch ∷ write_cond v us) stop) d
+      (λ g. gone g into (s.Switch v s.no_groups) braces (λ z. refl) ((found.is, tt), not_local declares) (omega arith))
+      (λ u us d. on d
+      (λ e. part (leading_then into (leading_symbol y.OpenBrace)) (λ gs. s.Switch v gs) (λ z. kind.Sym y.CloseBrace ∷ z) (λ gs z. refl) (λ gs is. ((found.is, is), not_local declares)) (λ gs l. omega arith) (groups_grow some us stop e))
+      (λ gs vs e d.
+      let all = groups_sound room inner outer outers us (gs, vs) e in
+      let low_all : groups_depth (s.groups gs) ≤ room = all.low in
+      subst (λ us. Goal declares (kind.Word k.Switch ∷ write_cond v (kind.Sym y.OpenBrace ∷ us)) stop) (sym all.written)
+      (gone (ends_with y.CloseBrace vs d (λ u us d. ok_err d)) (leading_then into (leading_then (leading_symbol y.OpenBrace) (leading_groups (s.groups gs)))) (s.Switch v (s.groups gs)) (λ z. kind.Sym y.CloseBrace ∷ z) (λ z. refl)
+      ((found.is, all.shaped), not_local declares) (omega arith))))))
