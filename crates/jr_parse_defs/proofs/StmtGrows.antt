@@ -18,7 +18,7 @@ use Rattle.jr_tree.specs.declared.tree.TypeUse.{TypeUse}
 use Rattle.jr_tree.specs.declared.tree.Param.{Param}
 use Rattle.jr_tree.specs.Shape.{is_empty, is_local, takes_else, has_catch, has_stmt, group_fits, IsTypeUse, IsWholeExpr, IsStatementExpr, AreStatementExprs, IsShapedForInit, IsShapedLabel, IsShapedStmt, AreShapedStmts, IsShapedBlock, IsShapedCatch, AreShapedCatches, IsShapedGroup, AreShapedGroups}
 use Rattle.jr_tree.specs.Depth.{deepest, expr_depth, exprs_depth, for_init_depth, label_depth, stmt_depth, stmts_depth, block_depth, catch_depth, catches_depth, group_depth, groups_depth}
-use Rattle.jr_tree.specs.Tokens.{for_init_tokens, stmt_tokens, stmts_tokens, block_tokens, catch_tokens, label_tokens, group_tokens, groups_tokens}
+use Rattle.jr_tree.specs.Tokens.{for_init_tokens, stmt_tokens, stmts_tokens, block_tokens, catch_tokens, catches_tokens, label_tokens, group_tokens, groups_tokens}
 use Rattle.jr_tree.specs.Words.{primitive_word, param_tokens}
 use Rattle.jr_tree.specs.Mirror.Exprs as x
 use Rattle.jr_tree.specs.Mirror.Stmts as s
@@ -41,7 +41,7 @@ use Rattle.jr_parse_defs.specs.Begins.{stmt_word, begins_stmt, begins_local, sta
 use Rattle.jr_parse_defs.specs.Stmts as reader
 use Rattle.jr_parse_defs.specs.Writing.{write_if, write_some, write_many, write_declarators, write_for_init, write_label, write_cond, write_ident, write_param, write_stmt, write_stmts, write_block, write_catch, write_catches, write_group, write_groups}
 use Rattle.jr_parse_defs.specs.Follow.{StmtEnds, IsStmt}
-use Rattle.jr_parse_defs.proofs.Written.{for_init_written, stmt_written, stmts_written, block_written, catch_written, label_written, param_written, group_written, groups_written}
+use Rattle.jr_parse_defs.proofs.Written.{for_init_written, stmt_written, stmts_written, block_written, catch_written, catches_written, label_written, param_written, group_written, groups_written}
 use Rattle.jr_parse_defs.proofs.Lists.{list_sound, asunder}
 use Rattle.jr_parse_defs.proofs.Variables.{AreVariables, param_sound, declarators_sound}
 use Rattle.jr_parse_defs.proofs.Expressions.{whole_sound, condition_sound, any_sound, updates_sound, found_effect}
@@ -864,3 +864,124 @@ module _ (room : ℕ) (inner outer : Parser s.Stmt) (reads : ReadsOne room false
       subst (λ us. Goal declares (kind.Word k.Switch ∷ write_cond v (kind.Sym y.OpenBrace ∷ us)) stop) (sym all.written)
       (gone (ends_with y.CloseBrace vs d (λ u us d. ok_err d)) (leading_then into (leading_then (leading_symbol y.OpenBrace) (leading_groups (s.groups gs)))) (s.Switch v (s.groups gs)) (λ z. kind.Sym y.CloseBrace ∷ z) (λ z. refl)
       ((found.is, all.shaped), not_local declares) (omega arith))))))
+
+  -- ---- try
+
+  abbrev braces : List Kind → List Kind
+  braces z = kind.Sym y.OpenBrace ∷ kind.Sym y.CloseBrace ∷ z
+
+  block_here : (ts : List Kind) (stop : Fault × List Kind) → reader.block room inner outer ts ≡ Err stop → Growing (Low IsShapedBlock block_depth) write_block room ts stop
+  block_here ts stop h = block_grow room inner outer room outers grow_out ts stop h
+
+  leading_catches : (cs : s.Catches) → Leading (write_catches cs)
+  leading_catches cs = leading_tokens (write_catches cs) (catches_tokens cs) (catches_written cs)
+
+  last_grow : (declares : Bool) (b : s.Block) (cs : s.Catches) → IsShapedBlock b → block_depth b ≤ room → AreShapedCatches cs → catches_depth cs ≤ room → (us : List Kind) (stop : Fault × List Kind)
+      → and_then (reader.block room inner outer us) (λ b ts. Ok (s.a_block b, ts)) ≡ Err stop → Goal declares (kind.Word k.Try ∷ write_block b (write_catches cs (kind.Word k.Finally ∷ us))) stop
+  last_grow declares b cs is low are low_cs us stop h =
+      part (leading_then (leading_word k.Try) (leading_then (leading_block b) (leading_then (leading_catches cs) (leading_word k.Finally)))) (λ l. s.Try b cs (s.a_block l)) (λ z. z) (λ l z. refl)
+      (λ l is_l. ((is, are, is_l, not_local (has_catch cs)), not_local declares)) (λ l n. omega arith) (block_here us stop (last h (λ b us d. ok_err d)))
+
+  finally_grow : (declares : Bool) (b : s.Block) (cs : List s.Catch) → IsShapedBlock b → block_depth b ≤ room → AreShapedCatches (s.catches cs) → catches_depth (s.catches cs) ≤ room → (us : List Kind) (stop : Fault × List Kind)
+      → reader.finally_part room inner outer cs us ≡ Err stop → Goal declares (kind.Word k.Try ∷ write_block b (write_catches (s.catches cs) us)) stop
+  finally_grow declares b [] is low are low_cs us stop h =
+      word_on k.Finally us (λ us. Goal declares (kind.Word k.Try ∷ write_block b us) stop) h
+      (λ g. gone g (leading_then (leading_word k.Try) (leading_block b)) (s.Try b s.no_catches (s.a_block empty)) (λ z. kind.Word k.Finally ∷ braces z) (λ z. refl) ((is, tt, tt, refl), not_local declares) (omega arith))
+      (λ u vs d. last_grow declares b s.no_catches is low tt low_cs vs stop d)
+  finally_grow declares b (c ∷ cs) is low are low_cs us stop h =
+      at_word k.Finally us (λ us. Goal declares (kind.Word k.Try ∷ write_block b (write_catches (s.catches (c ∷ cs)) us)) stop) h
+      (λ vs g. last_grow declares b (s.catches (c ∷ cs)) is low are low_cs vs stop g)
+      (λ f g. absurd (ok_err g))
+
+  try_grow : (declares : Bool) (ts : List Kind) (stop : Fault × List Kind) → reader.try_stmt room inner outer ts ≡ Err stop → Goal declares (kind.Word k.Try ∷ ts) stop
+  unfolding reader.try_stmt
+  try_grow declares ts stop h =
+      on h
+      (λ e. part (leading_word k.Try) (λ b. s.Try b s.no_catches (s.a_block empty)) (λ z. kind.Word k.Finally ∷ braces z) (λ b z. refl) (λ b is. ((is, tt, tt, refl), not_local declares)) (λ b l. omega arith) (block_here ts stop e))
+      (λ b us e d.
+      let body = block_sound room inner outer room outers ts (b, us) e in
+      let low = body.low in
+      subst (λ ts. Goal declares (kind.Word k.Try ∷ ts) stop) (sym body.written)
+      (on d
+      (λ e. part (leading_then (leading_word k.Try) (leading_block b)) (λ cs. s.Try b cs (s.a_block empty)) (λ z. kind.Word k.Finally ∷ braces z) (λ cs z. refl) (λ cs is. ((body.shaped, is, tt, not_local (has_catch cs)), not_local declares))
+      (λ cs l. omega arith) (catches_grow room inner outer room outers grow_out us stop e))
+      (λ cs vs e d.
+      let found = catches_sound room inner outer room outers us (cs, vs) e in
+      subst (λ us. Goal declares (kind.Word k.Try ∷ write_block b us) stop) (sym found.written)
+      (finally_grow declares b cs body.shaped body.low found.shaped found.low vs stop (last d (λ l us d. ok_err d))))))
+
+  -- ---- by the first token
+
+  forced_grow : (declares : Bool) (token : Kind) (ts : List Kind) (stop : Fault × List Kind) (o : Outcome s.Stmt) → begins_stmt token ≡ true → cond (ltb room 1) (Err (TooDeep, token ∷ ts)) o ≡ Err stop
+      → (1 ≤ room → o ≡ Err stop → Goal declares (token ∷ ts) stop) → Goal declares (token ∷ ts) stop
+  forced_grow declares token ts stop o starts h one =
+      forces room 1 token ts h (λ f e. let a = some_stmt declares token starts in deeps e leading_nothing s.Skip semi (λ z. refl) (tt, not_local declares) (omega arith) a.tree a.more a.spelled a.is) one
+
+  abbrev with_type : Parser s.Stmt
+  with_type = reader.finality >>= (λ is_final. type_use >>= reader.local room inner outer is_final)
+
+  with_type_grow : (ts : List Kind) (stop : Fault × List Kind) → with_type ts ≡ Err stop → Goal true ts stop
+  with_type_grow ts stop h =
+      local_part (typed_grow room (λ b t ds. expect y.Semicolon >> pure (s.Local b t ds)) ts stop h
+      (λ b t ds us is are same d. subst (λ ts. Typed room ts stop) (sym same) (gone (ends_with y.Semicolon us d (λ u us d. ok_err d)) (leading_typed (b, t, ds)) (b, t, ds) (λ z. z) (λ z. refl) (is, (are.0, are.1)) are.2)))
+
+  typed_goal : (declares : Bool) (ts : List Kind) (stop : Fault × List Kind) → declares ≡ true → with_type ts ≡ Err stop → Goal declares ts stop
+  typed_goal true ts stop may h = with_type_grow ts stop h
+  typed_goal false ts stop may h = absurd (cc)
+
+  other_grow : (declares : Bool) (token : Kind) (ts : List Kind) (stop : Fault × List Kind)
+      → cond (declares && begins_local token) (with_type (token ∷ ts)) (cond (begins_effect token) (cond (ltb room 1) (Err (TooDeep, token ∷ ts)) (reader.evaluated room inner outer Nothing (token ∷ ts))) (Err (NoTree, token ∷ ts))) ≡ Err stop
+      → Goal declares (token ∷ ts) stop
+  other_grow declares token ts stop h =
+      choose (declares && begins_local token) h
+      (λ t g. typed_goal declares (token ∷ ts) stop (and_parts declares (begins_local token) t).0 g)
+      (λ f g. choose (begins_effect token) g
+      (λ t i. forces room 1 token ts i
+      (λ f e. let a = effect_stmt declares token t in deeps e leading_nothing s.Skip semi (λ z. refl) (tt, not_local declares) (omega arith) a.tree a.more a.spelled a.is)
+      (λ some j. evaluated_grow declares Nothing (token ∷ ts) stop tt j (λ e. eval_part declares (effect_grow room Nothing some (token ∷ ts) stop tt e))))
+      (λ f i. gone (err_is i) leading_nothing s.Skip semi (λ z. refl) (tt, not_local declares) (omega arith)))
+
+  pub level_grow : (declares : Bool) (ts : List Kind) (stop : Fault × List Kind) → reader.stmt_of room inner outer declares ts ≡ Err stop → Goal declares ts stop
+  unfolding reader.stmt_of
+  level_grow declares [] stop h = gone (err_is h) leading_nothing s.Skip semi (λ z. refl) (tt, not_local declares) (omega arith)
+  level_grow declares (kind.Sym y.OpenBrace ∷ ts) stop h =
+      part leading_nothing s.Nest (λ z. z) (λ b z. refl) (λ b is. (is, not_local declares)) (λ b l. omega arith) (block_here (kind.Sym y.OpenBrace ∷ ts) stop (last h (λ b us d. ok_err d)))
+  level_grow declares (kind.Sym y.Semicolon ∷ ts) stop h = absurd (ok_err h)
+  level_grow declares (kind.Word k.Do ∷ ts) stop h = forced_grow declares (kind.Word k.Do) ts stop _ refl h (λ some g. do_grow some declares ts stop g)
+  level_grow declares (kind.Word k.While ∷ ts) stop h = forced_grow declares (kind.Word k.While) ts stop _ refl h (λ some g. while_grow some declares ts stop g)
+  level_grow declares (kind.Word k.If ∷ ts) stop h = forced_grow declares (kind.Word k.If) ts stop _ refl h (λ some g. if_grow some declares ts stop g)
+  level_grow declares (kind.Word k.For ∷ ts) stop h = forced_grow declares (kind.Word k.For) ts stop _ refl h (λ some g. for_grow some declares ts stop g)
+  level_grow declares (kind.Word k.Switch ∷ ts) stop h = forced_grow declares (kind.Word k.Switch) ts stop _ refl h (λ some g. switch_grow some declares ts stop g)
+  level_grow declares (kind.Word k.Throw ∷ ts) stop h = forced_grow declares (kind.Word k.Throw) ts stop _ refl h (λ some g. throw_grow some declares ts stop g)
+  level_grow declares (kind.Word k.Break ∷ ts) stop h = break_grow declares ts stop h
+  level_grow declares (kind.Word k.Continue ∷ ts) stop h = continue_grow declares ts stop h
+  level_grow declares (kind.Word k.Return ∷ ts) stop h = return_grow declares ts stop h
+  level_grow declares (kind.Word k.Try ∷ ts) stop h = try_grow declares ts stop h
+  level_grow true (kind.Ident head ∷ ts) stop h = from_name_grow true head ts stop (λ f. absurd (cc)) h
+  level_grow false (kind.Ident head ∷ ts) stop h = forced_grow false (kind.Ident head) ts stop _ refl h (λ some g. from_name_grow false head ts stop (λ f. some) g)
+  level_grow declares (token ∷ ts) stop h = other_grow declares token ts stop h
+
+-- ---- of any number of levels
+
+pub stmt_grow : (room : ℕ) (declares : Bool) → GrowsStmt room declares (reader.stmt room declares)
+unfolding reader.stmt
+stmt_grow zero true = record {
+  grow = λ some. absurd (omega arith);
+  none = λ none ts stop h. no_level_is starts_block_stmt ts stop h;
+}
+stmt_grow zero false = record {
+  grow = λ some. absurd (omega arith);
+  none = λ none ts stop h. no_level_is starts_stmt ts stop h;
+}
+stmt_grow (suc room) declares =
+    let reads = stmt_reads room false in
+    let outers = stmt_reads room true in
+    let grow_in = stmt_grow room false in
+    let grow_out = stmt_grow room true in
+    record {
+      grow = λ some ts stop h. level_grow room (reader.stmt room false) (reader.stmt room true) reads outers grow_in grow_out declares ts stop h;
+      none = λ none. absurd (omega arith);
+    }
+
+pub body_grow_at : (room : ℕ) (ts : List Kind) (stop : Fault × List Kind) → reader.body room ts ≡ Err stop → Growing (Low IsShapedBlock block_depth) write_block room ts stop
+body_grow_at room ts stop h = block_grow room (reader.stmt room false) (reader.stmt room true) room (stmt_reads room true) (stmt_grow room true) ts stop h
