@@ -311,7 +311,7 @@ pub ctors_complete : IsCtorBodyComplete
 ctors_complete zero b rest h low = bodies_complete zero b rest (empty_body b h low) low
 ctors_complete (suc room) b rest h low = ctor_read room b rest h low
 
-plain_body : (b : s.Block) → IsShapedBlock b → IsShapedCtorBody b
+pub plain_body : (b : s.Block) → IsShapedBlock b → IsShapedCtorBody b
 plain_body (s.BlockOf s.no_stmts) h = h
 plain_body (s.BlockOf (s.more_stmts (s.CtorCall called args) all)) h = absurd h.0
 plain_body (s.BlockOf (s.more_stmts a all)) h = h

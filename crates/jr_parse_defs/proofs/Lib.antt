@@ -24,3 +24,4 @@ pub mod UnitNears
 pub mod Grows
 pub mod PartGrows
 pub mod StmtGrows
+pub mod BodyGrows

@@ -149,7 +149,7 @@ leading_stmt a = leading_tokens (write_stmt a) (stmt_tokens a) (stmt_written a)
 pub leading_block : (b : s.Block) → Leading (write_block b)
 leading_block b = leading_tokens (write_block b) (block_tokens b) (block_written b)
 
-leading_stmts : (all : s.Stmts) → Leading (write_stmts all)
+pub leading_stmts : (all : s.Stmts) → Leading (write_stmts all)
 leading_stmts all = leading_tokens (write_stmts all) (stmts_tokens all) (stmts_written all)
 
 leading_catch : (c : s.Catch) → Leading (write_catch c)
@@ -215,11 +215,11 @@ module _ (r : ℕ) (inner outer : Parser s.Stmt) (most : ℕ) (outers : ReadsOne
   stmts_grow ts stop h =
       many_grow stmt_depth starts_block_stmt outer refl (IsStmt most true) write_stmt (blocks.stmts_item r inner outer most outers) (blocks.stmt_longer most) most leading_stmt shapes depths ts stop h (λ us starts e. one_stmt us stop starts e)
 
-  as_stmts : (all : List s.Stmt) → AllByRecursion IsShapedStmt all → AreShapedStmts (s.stmts all)
+  pub as_stmts : (all : List s.Stmt) → AllByRecursion IsShapedStmt all → AreShapedStmts (s.stmts all)
   as_stmts [] h = tt
   as_stmts (a ∷ all) h = (h.0, as_stmts all h.1)
 
-  low_stmts : (all : List s.Stmt) → deepest stmt_depth all ≤ most → stmts_depth (s.stmts all) ≤ most
+  pub low_stmts : (all : List s.Stmt) → deepest stmt_depth all ≤ most → stmts_depth (s.stmts all) ≤ most
   low_stmts [] l = omega arith
   low_stmts (a ∷ all) l = let m = low_stmts all (omega arith) in omega arith
 
@@ -280,10 +280,10 @@ module _ (r : ℕ) (inner outer : Parser s.Stmt) (most : ℕ) (outers : ReadsOne
 
 -- ---- depths
 
-suc_le : (a r : ℕ) → a ≤ r → suc a ≤ suc r
+pub suc_le : (a r : ℕ) → a ≤ r → suc a ≤ suc r
 suc_le a r l = omega arith
 
-zero_le : (r : ℕ) → 0 ≤ r
+pub zero_le : (r : ℕ) → 0 ≤ r
 zero_le r = omega arith
 
 for_low : (i o u b r : ℕ) → i ≤ r → o ≤ r → u ≤ r → b ≤ r → suc (max i (max o (max u b))) ≤ suc r
