@@ -25,3 +25,4 @@ pub mod Grows
 pub mod PartGrows
 pub mod StmtGrows
 pub mod BodyGrows
+pub mod DeclGrows

@@ -246,7 +246,7 @@ mutual
   member_written (d.Init is_static body) rest = ap (write_if is_static (kind.Word k.Static)) (block_written body rest) ∙ if_written is_static (kind.Word k.Static) (block_tokens body ++ rest) ∙ simp append_assoc refl
   member_written (d.Nested decl) rest = decl_written decl rest
 
-  members_written : (all : d.Members) (rest : List Kind) → write_members all rest ≡ members_tokens all ++ rest
+  pub members_written : (all : d.Members) (rest : List Kind) → write_members all rest ≡ members_tokens all ++ rest
   members_written d.no_members rest = refl
   members_written (d.more_members m all) rest = ap (write_member m) (members_written all rest) ∙ member_written m (members_tokens all ++ rest) ∙ simp append_assoc refl
 
