@@ -26,3 +26,4 @@ pub mod PartGrows
 pub mod StmtGrows
 pub mod BodyGrows
 pub mod DeclGrows
+pub mod UnitGrows

@@ -256,7 +256,7 @@ decls_written (t ∷ ts) rest = ap (write_decl t) (decls_written ts rest) ∙ de
 
 -- ---- units
 
-package_written : (p : PackageDecl) (rest : List Kind) → write_package p rest ≡ package_tokens p ++ rest
+pub package_written : (p : PackageDecl) (rest : List Kind) → write_package p rest ≡ package_tokens p ++ rest
 package_written p rest = ap (λ ts. kind.Word k.Package ∷ ts) (name_written p.name (kind.Sym y.Semicolon ∷ rest)) ∙ simp append_assoc refl
 
 pub import_written : (i : Import) (rest : List Kind) → write_import i rest ≡ import_tokens i ++ rest
