@@ -27,3 +27,4 @@ pub mod StmtGrows
 pub mod BodyGrows
 pub mod DeclGrows
 pub mod UnitGrows
+pub mod Stuck

@@ -1,6 +1,3 @@
-use Rattle.jr_parse_defs.proofs.UnitNears.{unit_near}
-use Rattle.jr_parse_defs.proofs.UnitGrows.{unit_grow}
-use Rattle.jr_parse_defs.proofs.Nears.{Near}
 use Rattle.jr_parse_defs.proofs.Bodies.{bodies_complete, bodies_sound, ctors_complete, ctors_sound}
 use Rattle.jr_parse_defs.proofs.Readings.{stmts_complete, stmts_are_sound}
 use Rattle.jr_parse_defs.proofs.law.statements_are_read.Goals as goal
