@@ -2,5 +2,7 @@
 #![tactic(auto)]
 
 mod fault;
+mod law;
 
 pub use fault::ParseFault;
+pub use law::units_are_answered;
