@@ -1,5 +1,5 @@
 -- What stands before a fault begins a tree: from parts to the whole, for trees with a shape and a depth.
-use Rattle.std.proofs.Common.{◌≡◌, ℕ, suc, ◌≤◌, max, Bool, true, false, cond, ltb, List, [], ◌∷◌, ◌++◌, length, Option, Some, None, Ok, Err, refl, sym, ap, ◌∙◌, subst, ◌⊎◌, inl, inr, arith}
+use Rattle.std.proofs.Common.{◌≡◌, ℕ, suc, ◌≤◌, max, Bool, true, false, ◌||◌, cond, ltb, List, [], ◌∷◌, ◌++◌, length, Option, Some, None, Ok, Err, refl, sym, ap, ◌∙◌, subst, ◌⊎◌, inl, inr, arith}
 use Rattle.std.proofs.lemmas.Bool.{ltb-false}
 use Rattle.std.specs.List.{AllByRecursion}
 use Rattle.jr_base.specs.declared.text.Text.{Text}
@@ -119,9 +119,22 @@ pub deepest_append : {A : Type 0} (depth : A → ℕ) (room : ℕ) (all more : L
 deepest_append depth room [] more l m = m
 deepest_append depth room (a ∷ all) more l m = let n = deepest_append depth room all more (omega arith) m in omega arith
 
-pub all_append : {A : Type 0} (P : A → Type 0) (all more : List A) → AllByRecursion P all → AllByRecursion P more → AllByRecursion P (all ++ more)
-all_append P [] more h g = g
-all_append P (a ∷ all) more h g = (h.0, all_append P all more h.1 g)
+-- items that were read, and then more
+pub shaped_append : {A : Type 0} {Is : A → Type 0} {Shape : A → Type 0} → ((a : A) → Is a → Shape a) → (all more : List A) → AllByRecursion Is all → AllByRecursion Shape more → AllByRecursion Shape (all ++ more)
+shaped_append shape [] more h g = g
+shaped_append shape (a ∷ all) more h g = (shape a h.0, shaped_append shape all more h.1 g)
+
+-- of trees without levels
+abbrev pub flat : {A : Type 0} → A → ℕ
+flat a = 0
+
+pub flat_list : {A : Type 0} (room : ℕ) (all : List A) → deepest flat all ≤ room
+flat_list room [] = omega arith
+flat_list room (a ∷ all) = let l = flat_list room all in omega arith
+
+pub either : (b c : Bool) → (b || c) ≡ true → (b ≡ true) ⊎ (c ≡ true)
+either true c h = inl refl
+either false c h = inr h
 
 -- where a list stops: Q says what list it is, and an item may be missing altogether where there is no level for it
 pub many_grow : {A : Type 0} {Q : List A → Type 0} (depth : A → ℕ) (starts : Option Kind → Bool) (item : Parser A) (silent : starts None ≡ false) (Is : A → Type 0) (write : A → List Kind → List Kind) (sound : Sound Is write item)

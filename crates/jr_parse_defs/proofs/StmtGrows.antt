@@ -52,8 +52,8 @@ use Rattle.jr_parse_defs.proofs.Groups as groups
 use Rattle.jr_parse_defs.proofs.Groups.{groups_sound}
 use Rattle.jr_parse_defs.proofs.Headers.{first_sound}
 use Rattle.jr_parse_defs.proofs.Statements.{label_name_sound, takes_none, stmt_reads}
-use Rattle.jr_parse_defs.proofs.Grows.{Low, part, gone, deeps, seen, on, last, symbol_on, word_on, ends_with, choose, at_symbol, at_word, forces, many_grow, one_of, leading_many}
-use Rattle.jr_parse_defs.proofs.PartGrows.{leading_cond, leading_exprs, leading_type, leading_declarators, leading_if, leading_typed, sample_whole, whole_starter, effect_starter, name_starter, call_named, call_is, call_depth, call_spelled, dotted_fault, whole_grow, condition_grow, no_whole, effect_grow, no_named, no_indexed, others_grow, a_type, variable, write_typed, Typed, typed_grow, behind_type, param_grow, no_depth, any_grow, updates_grow}
+use Rattle.jr_parse_defs.proofs.Grows.{Low, part, gone, deeps, seen, on, last, symbol_on, word_on, ends_with, choose, at_symbol, at_word, forces, many_grow, one_of, leading_many, shaped_append, either}
+use Rattle.jr_parse_defs.proofs.PartGrows.{leading_cond, leading_exprs, leading_type, leading_declarators, leading_if, leading_typed, sample_whole, whole_starter, effect_starter, name_starter, call_named, call_is, call_depth, call_spelled, dotted_fault, whole_grow, condition_grow, no_whole, effect_grow, no_named, no_indexed, others_grow, a_type, variable, write_typed, Typed, typed_grow, behind_type, param_grow, any_grow, updates_grow}
 use Rattle.jr_parse_defs.proofs.StmtNears.{Flagged, flagged, this_room, starts_some}
 
 -- ---- statements and what begins them
@@ -100,10 +100,6 @@ primitive_stmt k.Int h = of_primitive primitive.Int
 primitive_stmt k.Long h = of_primitive primitive.Long
 primitive_stmt w h = absurd (cc)
 
-split : (b c : Bool) → (b || c) ≡ true → (b ≡ true) ⊎ (c ≡ true)
-split true c h = inl refl
-split false c h = inr h
-
 local_stmt : (token : Kind) → begins_local token ≡ true → StmtStarter true token
 local_stmt (kind.Word w) h = primitive_stmt w h
 local_stmt token h = absurd (cc)
@@ -136,7 +132,7 @@ some_stmt declares token h = effect_stmt declares token h
 pub stmt_starter : (declares : Bool) (token : Kind) → starts_some declares (Some token) ≡ true → StmtStarter declares token
 stmt_starter false token h = some_stmt false token h
 stmt_starter true token h =
-    elim (split (begins_stmt token) (begins_local token) h) [
+    elim (either (begins_stmt token) (begins_local token) h) [
       | inl t ↦ some_stmt true token t
       | inr t ↦ local_stmt token t
     ]
@@ -189,10 +185,6 @@ module _ (r : ℕ) (inner outer : Parser s.Stmt) (most : ℕ) (outers : ReadsOne
   abbrev Listed : List Kind → Fault × List Kind → Type 0
   Listed ts stop = Growing (Low (AllByRecursion IsShapedStmt) (deepest stmt_depth)) (write_many write_stmt) most ts stop
 
-  shapes : (all more : List s.Stmt) → AllByRecursion (IsStmt most true) all → AllByRecursion IsShapedStmt more → AllByRecursion IsShapedStmt (all ++ more)
-  shapes [] more are is = is
-  shapes (a ∷ all) more are is = (are.0.shaped, shapes all more are.1 is)
-
   depths : (all : List s.Stmt) → AllByRecursion (IsStmt most true) all → deepest stmt_depth all ≤ most
   depths [] are = omega arith
   depths (a ∷ all) are = let l = are.0.low in let m = depths all are.1 in omega arith
@@ -213,7 +205,7 @@ module _ (r : ℕ) (inner outer : Parser s.Stmt) (most : ℕ) (outers : ReadsOne
   pub stmts_grow : (ts : List Kind) (stop : Fault × List Kind) → reader.stmts r inner outer ts ≡ Err stop → Listed ts stop
   unfolding reader.stmts
   stmts_grow ts stop h =
-      many_grow stmt_depth starts_block_stmt outer refl (IsStmt most true) write_stmt (blocks.stmts_item r inner outer most outers) (blocks.stmt_longer most) most leading_stmt shapes depths ts stop h (λ us starts e. one_stmt us stop starts e)
+      many_grow stmt_depth starts_block_stmt outer refl (IsStmt most true) write_stmt (blocks.stmts_item r inner outer most outers) (blocks.stmt_longer most) most leading_stmt (shaped_append (λ a is. is.shaped)) depths ts stop h (λ us starts e. one_stmt us stop starts e)
 
   pub as_stmts : (all : List s.Stmt) → AllByRecursion IsShapedStmt all → AreShapedStmts (s.stmts all)
   as_stmts [] h = tt
@@ -260,10 +252,6 @@ module _ (r : ℕ) (inner outer : Parser s.Stmt) (most : ℕ) (outers : ReadsOne
       (λ g. gone g named (s.CatchOf p empty) end (λ z. refl) (found.0, tt) (omega arith))
       (λ u ws d. part (leading_then named (leading_symbol y.CloseParen)) (λ b. s.CatchOf p b) (λ z. z) (λ b z. refl) (λ b is. (found.0, is)) (λ b l. l) (block_grow ws stop (last d (λ b us d. ok_err d))))))))
 
-  shaped_catches : (all more : List s.Catch) → AllByRecursion (blocks.FitsCatch r inner outer most outers) all → AllByRecursion IsShapedCatch more → AllByRecursion IsShapedCatch (all ++ more)
-  shaped_catches [] more are is = is
-  shaped_catches (a ∷ all) more are is = (are.0.0, shaped_catches all more are.1 is)
-
   as_catches : (all : List s.Catch) → AllByRecursion IsShapedCatch all → AreShapedCatches (s.catches all)
   as_catches [] h = tt
   as_catches (a ∷ all) h = (h.0, as_catches all h.1)
@@ -276,7 +264,7 @@ module _ (r : ℕ) (inner outer : Parser s.Stmt) (most : ℕ) (outers : ReadsOne
   catches_grow ts stop h =
       part leading_nothing s.catches (λ z. z) (λ all z. sym (catches_many r inner outer most outers all z)) as_catches low_catches
       (many_grow catch_depth (next_is is_catch) (reader.catch_clause r inner outer) refl (blocks.FitsCatch r inner outer most outers) write_catch (blocks.catch_sound r inner outer most outers) (blocks.catch_longer r inner outer most outers) most leading_catch
-      shaped_catches (λ all are. (asunder IsShapedCatch catch_depth most all are).1) ts stop h (λ us starts e. one_of {Shape = IsShapedCatch} (λ a is. (is, tt)) (catch_grow us stop e)))
+      (shaped_append (λ c is. is.0)) (λ all are. (asunder IsShapedCatch catch_depth most all are).1) ts stop h (λ us starts e. one_of {Shape = IsShapedCatch} (λ a is. (is, tt)) (catch_grow us stop e)))
 
 -- ---- depths
 
@@ -778,13 +766,9 @@ module _ (room : ℕ) (inner outer : Parser s.Stmt) (reads : ReadsOne room false
       gone (ends_with y.Colon ts h (λ u us d. ok_err d)) (leading_word k.Default) s.Default (λ z. kind.Sym y.Colon ∷ z) (λ z. refl) tt (omega arith)
   label_grow some (token ∷ ts) stop starts h = absurd (cc)
 
-  label_shapes_in : (all more : List s.SwitchLabel) → AllByRecursion (groups.FitsLabel room inner outer outers) all → AllByRecursion IsShapedLabel more → AllByRecursion IsShapedLabel (all ++ more)
-  label_shapes_in [] more are is = is
-  label_shapes_in (l ∷ all) more are is = (are.0.0, label_shapes_in all more are.1 is)
-
   label_shapes : (all more : List s.SwitchLabel) → AllByRecursion (groups.FitsLabel room inner outer outers) all → AreLabels more → AreLabels (all ++ more)
   label_shapes [] more are is = is
-  label_shapes (l ∷ all) more are is = (refl, (are.0.0, (label_shapes_in all more are.1 is.1)))
+  label_shapes (l ∷ all) more are is = (refl, (are.0.0, (shaped_append {Is = groups.FitsLabel room inner outer outers} (λ l is. is.0) all more are.1 is.1)))
 
   labels_grow : 1 ≤ room → (ts : List Kind) (stop : Fault × List Kind) → many starts_label (next_token (reader.label_by room inner outer)) ts ≡ Err stop → Growing (Low AreLabels (deepest label_depth)) (write_many write_label) room ts stop
   labels_grow some ts stop h =
