@@ -1,6 +1,6 @@
 -- Where reading a member or a declaration of a type stops, what stands before begins one.
-use Rattle.std.proofs.Common.{◌≡◌, ℕ, zero, suc, ◌≤◌, Bool, true, false, not, ◌||◌, cond, ltb, List, [], ◌∷◌, ◌++◌, length, Option, Some, None, Ok, Err, refl, sym, ap, ◌∙◌, subst, inl, inr, arith}
-use Rattle.std.proofs.lemmas.Bool.{cases_lt, ltb-true, true≢false}
+use Rattle.std.proofs.Common.{◌≡◌, ℕ, zero, suc, ◌≤◌, Bool, true, false, List, [], ◌∷◌, Option, Some, None, Ok, Err, refl, sym, ap, ◌∙◌, subst, inl, inr, arith}
+use Rattle.std.proofs.lemmas.Bool.{cases_lt, true≢false}
 use Rattle.std.specs.Prelude.{IfSome}
 use Rattle.std.specs.List.{AllByRecursion}
 use Rattle.std.specs.Option.{option_map_or}
@@ -20,42 +20,40 @@ use Rattle.jr_tree.specs.declared.tree.Modifier.{Modifier}
 use Rattle.jr_tree.specs.declared.tree.Modifier.TheVariants as modifier
 use Rattle.jr_tree.specs.declared.tree.ResultType.{ResultType}
 use Rattle.jr_tree.specs.declared.tree.ResultType.TheVariants as outcome
-use Rattle.jr_tree.specs.Words.{primitive_word, modifier_word, name_tokens, modifiers_tokens, result_tokens, names_after, parent_tokens, params_tokens}
-use Rattle.jr_tree.specs.Shape.{is_empty, IsName, IsTypeUse, IsShapedParam, IsShapedResult, IsShapedBlock, IsShapedCtorBody, IsShapedDecl, IsShapedMember, AreShapedMembers}
-use Rattle.jr_tree.specs.Depth.{deepest, block_depth, declarator_depth, decl_depth, member_depth, members_depth}
+use Rattle.jr_tree.specs.Words.{primitive_word, modifier_word, modifiers_tokens, result_tokens, names_after, parent_tokens, params_tokens}
+use Rattle.jr_tree.specs.Shape.{IsName, IsTypeUse, IsShapedParam, IsShapedResult, IsShapedBlock, IsShapedDecl, IsShapedMember, AreShapedMembers}
+use Rattle.jr_tree.specs.Depth.{deepest, block_depth, decl_depth, member_depth, members_depth}
 use Rattle.jr_tree.specs.Tokens.{member_tokens, members_tokens}
 use Rattle.jr_tree.specs.Mirror.Stmts as s
 use Rattle.jr_tree.specs.Mirror.Decls as d
 use Rattle.jr_parse_laws.specs.declared.fault.Fault.{Fault}
-use Rattle.jr_parse_laws.specs.declared.fault.Fault.TheVariants.{NoTree, TooDeep}
-use Rattle.jr_parse_laws.specs.Parsers.{Outcome, Parser, and_then, first, begins_with, is_at, identifier, expect, many, after_comma, commas, pure, ◌>>=◌}
-use Rattle.jr_parse_laws.proofs.Outcomes.{bind_ok, some_is, ok_is, ok_err, err_is, is_symbol_is}
+use Rattle.jr_parse_laws.specs.declared.fault.Fault.TheVariants.{NoTree}
+use Rattle.jr_parse_laws.specs.Parsers.{Parser, and_then, first, begins_with, is_at, identifier, many, after_comma, ◌>>=◌}
+use Rattle.jr_parse_laws.proofs.Outcomes.{bind_ok, ok_is, ok_err, err_is}
 use Rattle.jr_parse_laws.proofs.Stops.{Leading, leading_nothing}
-use Rattle.jr_parse_laws.proofs.Exact.{identifier_token}
-use Rattle.jr_parse_expr.specs.Names.{name_of, type_of, dims, primitive_of, primitive_kind, type_use, name, name_after}
-use Rattle.jr_parse_expr.specs.Exprs.{next_token, skipping, any_commas}
-use Rattle.jr_parse_expr.specs.Writing.{write_name, write_brackets, write_type}
+use Rattle.jr_parse_expr.specs.Names.{name_of, type_of, dims, primitive_kind, name}
+use Rattle.jr_parse_expr.specs.Exprs.{any_commas}
+use Rattle.jr_parse_expr.specs.Writing.{write_name, write_type}
 use Rattle.jr_parse_expr.proofs.NameReads.{name_sound, dims_sound, type_sound}
 use Rattle.jr_parse_expr.proofs.NameGrowths.{leading_name, name_grows, name_after_grows, dims_stop, brackets_more, leading_brackets, type_grows}
 use Rattle.jr_parse_expr.proofs.Growths.{Growing, leading_tokens, leading_then, leading_one}
 use Rattle.jr_parse_expr.proofs.PartGrowths.{NoLevel, Deep, Refused}
 use Rattle.jr_parse_expr.proofs.AllGrowths.{no_level_is}
-use Rattle.jr_parse_defs.specs.Begins.{some, modifier_of, modifier_kind, starts_modifier, begins_decl, starts_decl, begins_member, starts_member, starts_param}
-use Rattle.jr_parse_defs.specs.Stmts.{body, ctor_body, declarators_after, param}
+use Rattle.jr_parse_defs.specs.Begins.{some, modifier_kind, starts_modifier, begins_member, starts_member, starts_param}
+use Rattle.jr_parse_defs.specs.Stmts.{param}
 use Rattle.jr_parse_defs.specs.Decls as reader
-use Rattle.jr_parse_defs.specs.Writing.{write_if, write_many, write_after, write_declarators, write_param, write_block, write_modifier, write_modifiers, write_later_params, write_params, write_later_names, write_names_after, write_parent, write_result, write_body, write_decl, write_member, write_members}
+use Rattle.jr_parse_defs.specs.Writing.{write_if, write_many, write_after, write_param, write_modifier, write_modifiers, write_later_params, write_params, write_later_names, write_names_after, write_parent, write_result, write_body, write_decl, write_member, write_members}
 use Rattle.jr_parse_defs.proofs.Written.{modifiers_written, result_written, names_after_written, parent_written, params_written, member_written, members_written}
 use Rattle.jr_parse_defs.proofs.Lists.{list_sound, list_stop, asunder}
 use Rattle.jr_parse_defs.proofs.Variables.{param_sound, declarators_after_sound}
-use Rattle.jr_parse_defs.proofs.Bodies.{bodies_sound, ctors_sound}
 use Rattle.jr_parse_defs.proofs.Modifiers as modifiers
 use Rattle.jr_parse_defs.proofs.Modifiers.{modifiers_sound, names_after_sound, parent_sound, params_sound}
 use Rattle.jr_parse_defs.proofs.Members.{static_is}
 use Rattle.jr_parse_defs.proofs.Units as units
 use Rattle.jr_parse_defs.proofs.Units.{ReadsMember, both_read, members_many, members_sound}
 use Rattle.jr_parse_defs.proofs.Grows.{Low, part, gone, deeps, seen, on, last, symbol_on, ident_on, ends_with, choose, at_symbol, at_word, forces, many_grow, one_of, leading_many, shaped_append, flat, flat_list}
-use Rattle.jr_parse_defs.proofs.PartGrows.{leading_type, leading_declarators, leading_if, leading_after, AreDeclared, Variables, declarators_after_grow, later_item, a_type, variable, param_grow}
-use Rattle.jr_parse_defs.proofs.StmtGrows.{empty, suc_le, zero_le, leading_block, leading_param, leading_word, leading_symbol, body_grow_at}
+use Rattle.jr_parse_defs.proofs.PartGrows.{leading_type, leading_declarators, leading_if, leading_after, declarators_after_grow, later_item, a_type, variable, param_grow}
+use Rattle.jr_parse_defs.proofs.StmtGrows.{empty, suc_le, zero_le, leading_param, leading_word, leading_symbol, body_grow_at}
 use Rattle.jr_parse_defs.proofs.BodyGrows.{ctor_grow}
 
 -- ---- leading parts

@@ -1,11 +1,11 @@
 -- Readers that read the same whatever stands behind, and with more levels: how they are put together.
-use Rattle.std.proofs.Common.{◌≡◌, ℕ, zero, suc, ◌≤◌, Bool, true, false, cond, ltb, List, [], ◌∷◌, length, Option, Some, None, Ok, Err, refl, sym, ap, ◌∙◌, subst, inl, inr, arith}
+use Rattle.std.proofs.Common.{◌≡◌, ℕ, zero, suc, ◌≤◌, Bool, true, false, cond, ltb, List, [], ◌∷◌, length, Option, Some, None, Ok, Err, refl, ap, ◌∙◌, subst, arith}
 use Rattle.std.proofs.lemmas.Bool.{ltb-false, le-ltb}
 use Rattle.jr_base.specs.declared.kind.Kind.{Kind}
 use Rattle.jr_base.specs.declared.kind.Symbol.{Symbol}
 use Rattle.jr_base.specs.declared.kind.Symbol.TheVariants as y
 use Rattle.jr_base.specs.declared.kind.Keyword.{Keyword}
-use Rattle.jr_parse_laws.specs.declared.fault.Fault.TheVariants.{NoTree, TooDeep}
+use Rattle.jr_parse_laws.specs.declared.fault.Fault.TheVariants.{TooDeep}
 use Rattle.jr_parse_laws.specs.Parsers.{Outcome, Parser, and_then, first, pure, refuse, is_at, is_at_word, is_word, expect, expect_word, identifier, begins_with, many_from, many, after_comma, commas, optional, ◌>>=◌, ◌>>◌}
 use Rattle.jr_parse_laws.proofs.Outcomes.{and_then_alike}
 use Rattle.jr_parse_laws.proofs.Exact.{word_token}

@@ -1,9 +1,7 @@
 -- Where expressions, variables and parameters of statements stop, what stands before begins a tree.
-use Rattle.std.proofs.Common.{◌≡◌, ℕ, zero, suc, ◌≤◌, max, Bool, true, false, not, ◌||◌, cond, ltb, List, [], ◌∷◌, ◌++◌, length, Option, Some, None, Ok, Err, refl, sym, ap, ◌∙◌, subst, ◌⊎◌, inl, inr, arith}
-use Rattle.std.proofs.lemmas.Bool.{and_parts, or_parts, true≢false}
-use Rattle.std.specs.Prelude.{IfSome, ⊤}
+use Rattle.std.proofs.Common.{◌≡◌, ℕ, zero, suc, ◌≤◌, Bool, true, false, not, List, [], ◌∷◌, ◌++◌, length, Some, None, Ok, Err, refl, sym, ap, ◌∙◌, subst, ◌⊎◌, inl, inr, arith}
+use Rattle.std.proofs.lemmas.Bool.{and_parts}
 use Rattle.std.specs.List.{AllByRecursion}
-use Rattle.std.specs.Option.{option_map_or}
 use Rattle.jr_base.specs.declared.text.Text.{Text}
 use Rattle.jr_base.specs.declared.kind.Kind.{Kind}
 use Rattle.jr_base.specs.declared.kind.Kind.TheVariants as kind
@@ -12,30 +10,29 @@ use Rattle.jr_base.specs.declared.kind.Symbol.TheVariants as y
 use Rattle.jr_base.specs.declared.kind.Keyword.TheVariants as k
 use Rattle.jr_tree.specs.declared.tree.Name.{Name}
 use Rattle.jr_tree.specs.declared.tree.TypeUse.{TypeUse}
-use Rattle.jr_tree.specs.declared.tree.Param.{Param}
 use Rattle.jr_tree.specs.declared.tree.Base.TheVariants as base
 use Rattle.jr_tree.specs.Levels.{is_literal, is_least_kind, is_step, is_assignment}
-use Rattle.jr_tree.specs.Shape.{is_empty, IsWholeExpr, IsStatementExpr, AreStatementExprs, IsShapedInit, IsShapedDeclarator, IsShapedParam, IsTypeUse, AreShapedExprs}
+use Rattle.jr_tree.specs.Shape.{is_empty, IsWholeExpr, IsStatementExpr, AreStatementExprs, IsShapedInit, IsShapedDeclarator, IsShapedParam, IsTypeUse}
 use Rattle.jr_tree.specs.Depth.{deepest, expr_depth, exprs_depth, init_depth, declarator_depth}
-use Rattle.jr_tree.specs.Words.{type_tokens, brackets, name_tokens}
-use Rattle.jr_tree.specs.Tokens.{expr_tokens, exprs_tokens, declarator_tokens, declarators_tokens, cond_tokens}
+use Rattle.jr_tree.specs.Words.{type_tokens}
+use Rattle.jr_tree.specs.Tokens.{exprs_tokens, declarator_tokens, declarators_tokens, cond_tokens}
 use Rattle.jr_tree.specs.Mirror.Exprs as x
 use Rattle.jr_tree.specs.Mirror.Stmts as s
 use Rattle.jr_parse_laws.specs.declared.fault.Fault.{Fault}
 use Rattle.jr_parse_laws.specs.declared.fault.Fault.TheVariants.{NoTree, TooDeep}
-use Rattle.jr_parse_laws.specs.Parsers.{Outcome, Parser, and_then, first, begins_with, many, after_comma, optional}
+use Rattle.jr_parse_laws.specs.Parsers.{Parser, and_then, first, begins_with, many, after_comma, optional}
 use Rattle.jr_parse_laws.proofs.Outcomes.{bind_ok, ok_err, err_is, Before, After, stops}
 use Rattle.jr_parse_laws.proofs.Stops.{Leading, leading_nothing}
-use Rattle.jr_parse_expr.specs.Starts.{begins_primary, begins_effect, is_plain_literal, starts_expr, starts_effect, next_is, no_level}
-use Rattle.jr_parse_expr.specs.Names.{name_of, type_of, dims, type_use, Dotted, Plain, Enclosing, dotted_from, dotted}
+use Rattle.jr_parse_expr.specs.Starts.{begins_primary, begins_effect, is_plain_literal, starts_expr, starts_effect, next_is}
+use Rattle.jr_parse_expr.specs.Names.{name_of, type_of, dims, type_use, Plain, dotted_from, dotted}
 use Rattle.jr_parse_expr.specs.Exprs as exprs
 use Rattle.jr_parse_expr.specs.Exprs.{Lead, Nothing, Named, Indexed, This, Super, goes_on, goes_on_name, goes_on_primary, goes_on_super, below, any_commas, expr, list, effect, init}
-use Rattle.jr_parse_expr.specs.Writing.{write_parts, write_all, write_name, write_brackets, write_type, write_expr, write_exprs, write_others, write_init, write_lead}
+use Rattle.jr_parse_expr.specs.Writing.{write_all, write_brackets, write_type, write_expr, write_exprs, write_others, write_init, write_lead}
 use Rattle.jr_parse_expr.specs.Follow.{IsLed}
 use Rattle.jr_parse_expr.specs.Laws.{HasEffectRoom}
-use Rattle.jr_parse_expr.proofs.Written.{exprs_written, type_written, brackets_written}
+use Rattle.jr_parse_expr.proofs.Written.{exprs_written, type_written}
 use Rattle.jr_parse_expr.proofs.NameReads.{has_parts, parts_append, all_append, dims_sound, type_sound}
-use Rattle.jr_parse_expr.proofs.NameGrowths.{IsTypeIn, leading_name, dims_stop, brackets_more, leading_brackets, type_grows}
+use Rattle.jr_parse_expr.proofs.NameGrowths.{dims_stop, brackets_more, leading_brackets, type_grows}
 use Rattle.jr_parse_expr.proofs.Growths.{Growing, leading_tokens, leading_then, leading_one, leading_expr, sample, starter, or_second}
 use Rattle.jr_parse_expr.proofs.PartGrowths.{NoLevel, Deep, Refused}
 use Rattle.jr_parse_expr.proofs.AllGrowths.{all_grow, no_level_is}
@@ -43,15 +40,14 @@ use Rattle.jr_parse_expr.proofs.Stuck.{inits_stuck}
 use Rattle.jr_parse_expr.proofs.EffectStuck.{effects_stuck}
 use Rattle.jr_parse_expr.proofs.ExprReads.{no_level_err}
 use Rattle.jr_parse_defs.specs.Stmts as reader
-use Rattle.jr_parse_defs.specs.Writing.{write_if, write_many, write_after, write_cond, write_assigned, write_declarator, write_later, write_declarators, write_param}
-use Rattle.jr_parse_defs.proofs.Written.{cond_written, declarator_written, declarators_written, if_written}
-use Rattle.jr_parse_defs.proofs.Tokens.{within_sound}
+use Rattle.jr_parse_defs.specs.Writing.{write_if, write_many, write_after, write_cond, write_declarator, write_declarators, write_param}
+use Rattle.jr_parse_defs.proofs.Written.{cond_written, declarator_written, declarators_written}
 use Rattle.jr_parse_defs.proofs.Lists.{asunder}
 use Rattle.jr_parse_defs.proofs.Variables as variables
 use Rattle.jr_parse_defs.proofs.Variables.{AreVariables, declarator_after_sound, declarator_sound, declarators_sound, finality_sound}
 use Rattle.jr_parse_defs.proofs.Expressions as expressions
 use Rattle.jr_parse_defs.proofs.Expressions.{whole_sound, found_effect}
-use Rattle.jr_parse_defs.proofs.Grows.{Low, part, gone, deeps, seen, on, last, symbol_on, ident_on, ends_with, choose, at_symbol, at_word, forces, many_grow, one_of, leading_many, shaped_append, flat, either}
+use Rattle.jr_parse_defs.proofs.Grows.{Low, part, gone, deeps, seen, on, last, symbol_on, ident_on, ends_with, choose, at_word, forces, many_grow, one_of, shaped_append, flat, either}
 
 -- ---- leading parts
 

@@ -1,7 +1,7 @@
 -- Where reading a statement stops, what stands before begins one.
-use Rattle.std.proofs.Common.{◌≡◌, ℕ, zero, suc, ◌≤◌, max, Bool, true, false, not, ◌&&◌, ◌||◌, cond, ltb, List, [], ◌∷◌, ◌++◌, length, Option, Some, None, Ok, Err, refl, sym, ap, ◌∙◌, subst, ◌⊎◌, inl, inr, arith}
-use Rattle.std.proofs.lemmas.Bool.{cases_lt, ltb-true, and_parts, or_parts, true≢false}
-use Rattle.std.specs.Prelude.{IfSome, IsTrue, ⊤}
+use Rattle.std.proofs.Common.{◌≡◌, ℕ, zero, suc, ◌≤◌, max, Bool, true, false, not, ◌&&◌, ◌||◌, cond, ltb, List, [], ◌∷◌, ◌++◌, length, Option, Some, None, Ok, Err, refl, sym, ap, ◌∙◌, subst, inl, inr, arith}
+use Rattle.std.proofs.lemmas.Bool.{cases_lt, ltb-true, and_parts, true≢false}
+use Rattle.std.specs.Prelude.{IfSome, IsTrue}
 use Rattle.std.specs.List.{AllByRecursion}
 use Rattle.std.specs.Option.{option_map_or}
 use Rattle.jr_base.specs.declared.text.Text.{Text}
@@ -16,7 +16,7 @@ use Rattle.jr_tree.specs.declared.tree.Primitive.TheVariants as primitive
 use Rattle.jr_tree.specs.declared.tree.Base.TheVariants as base
 use Rattle.jr_tree.specs.declared.tree.TypeUse.{TypeUse}
 use Rattle.jr_tree.specs.declared.tree.Param.{Param}
-use Rattle.jr_tree.specs.Shape.{is_empty, is_local, takes_else, has_catch, has_stmt, group_fits, IsTypeUse, IsWholeExpr, IsStatementExpr, AreStatementExprs, IsShapedForInit, IsShapedLabel, IsShapedStmt, AreShapedStmts, IsShapedBlock, IsShapedCatch, AreShapedCatches, IsShapedGroup, AreShapedGroups}
+use Rattle.jr_tree.specs.Shape.{is_empty, is_local, has_catch, has_stmt, group_fits, IsTypeUse, IsWholeExpr, IsStatementExpr, AreStatementExprs, IsShapedForInit, IsShapedLabel, IsShapedStmt, AreShapedStmts, IsShapedBlock, IsShapedCatch, AreShapedCatches, IsShapedGroup, AreShapedGroups}
 use Rattle.jr_tree.specs.Depth.{deepest, expr_depth, exprs_depth, for_init_depth, label_depth, stmt_depth, stmts_depth, block_depth, catch_depth, catches_depth, group_depth, groups_depth}
 use Rattle.jr_tree.specs.Tokens.{for_init_tokens, stmt_tokens, stmts_tokens, block_tokens, catch_tokens, catches_tokens, label_tokens, group_tokens, groups_tokens}
 use Rattle.jr_tree.specs.Words.{primitive_word, param_tokens}
@@ -24,26 +24,26 @@ use Rattle.jr_tree.specs.Mirror.Exprs as x
 use Rattle.jr_tree.specs.Mirror.Stmts as s
 use Rattle.jr_parse_laws.specs.declared.fault.Fault.{Fault}
 use Rattle.jr_parse_laws.specs.declared.fault.Fault.TheVariants.{NoTree, TooDeep}
-use Rattle.jr_parse_laws.specs.Parsers.{Outcome, Parser, and_then, first, begins_with, is_at, is_at_word, pure, expect, many, many_from, after_comma, optional, ◌>>=◌, ◌>>◌}
-use Rattle.jr_parse_laws.proofs.Outcomes.{bind_ok, and_then_alike, ok_is, ok_err, err_ok, err_is, chosen, Before, After, stops}
+use Rattle.jr_parse_laws.specs.Parsers.{Outcome, Parser, and_then, first, begins_with, pure, expect, many, many_from, optional, ◌>>=◌, ◌>>◌}
+use Rattle.jr_parse_laws.proofs.Outcomes.{and_then_alike, ok_err, err_is, chosen, Before, After, stops}
 use Rattle.jr_parse_laws.proofs.Stops.{Leading, leading_nothing}
 use Rattle.jr_parse_expr.specs.Starts.{begins_effect, starts_expr, starts_effect, next_is}
-use Rattle.jr_parse_expr.specs.Names.{name_of, type_of, primitive_of, type_use, dims, Dotted, Plain, Enclosing, dotted}
-use Rattle.jr_parse_expr.specs.Exprs.{Lead, Nothing, Named, Indexed, This, Super, goes_on_name, next_token, any_commas, expr, effect}
-use Rattle.jr_parse_expr.specs.Writing.{write_all, write_name, write_brackets, write_type, write_expr, write_exprs, write_dotted, write_lead}
+use Rattle.jr_parse_expr.specs.Names.{name_of, type_of, type_use, Dotted, Plain, Enclosing, dotted}
+use Rattle.jr_parse_expr.specs.Exprs.{Lead, Nothing, Named, Indexed, goes_on_name, next_token, any_commas, expr, effect}
+use Rattle.jr_parse_expr.specs.Writing.{write_all, write_expr, write_exprs, write_dotted, write_lead}
 use Rattle.jr_parse_expr.specs.Follow.{IsLed}
 use Rattle.jr_parse_expr.proofs.NameReads.{has_parts, all_append, dims_sound, dotted_sound, DottedEnds}
 use Rattle.jr_parse_expr.proofs.NameGrowths.{leading_name, dims_stop, brackets_more, leading_brackets}
 use Rattle.jr_parse_expr.proofs.Growths.{Growing, leading_tokens, leading_then, leading_one, leading_expr, sample}
 use Rattle.jr_parse_expr.proofs.PartGrowths.{NoLevel, Deep, Refused}
 use Rattle.jr_parse_expr.proofs.AllGrowths.{no_level_is}
-use Rattle.jr_parse_defs.specs.Begins.{stmt_word, begins_stmt, begins_local, starts_block_stmt, starts_stmt, starts_label, is_catch}
+use Rattle.jr_parse_defs.specs.Begins.{begins_stmt, begins_local, starts_block_stmt, starts_stmt, starts_label, is_catch}
 use Rattle.jr_parse_defs.specs.Stmts as reader
-use Rattle.jr_parse_defs.specs.Writing.{write_if, write_some, write_many, write_declarators, write_for_init, write_label, write_cond, write_ident, write_param, write_stmt, write_stmts, write_block, write_catch, write_catches, write_group, write_groups}
+use Rattle.jr_parse_defs.specs.Writing.{write_some, write_many, write_for_init, write_label, write_cond, write_ident, write_param, write_stmt, write_stmts, write_block, write_catch, write_catches, write_group, write_groups}
 use Rattle.jr_parse_defs.specs.Follow.{StmtEnds, IsStmt}
 use Rattle.jr_parse_defs.proofs.Written.{for_init_written, stmt_written, stmts_written, block_written, catch_written, catches_written, label_written, param_written, group_written, groups_written}
 use Rattle.jr_parse_defs.proofs.Lists.{list_sound, asunder}
-use Rattle.jr_parse_defs.proofs.Variables.{AreVariables, param_sound, declarators_sound}
+use Rattle.jr_parse_defs.proofs.Variables.{param_sound, declarators_sound}
 use Rattle.jr_parse_defs.proofs.Expressions.{whole_sound, condition_sound, any_sound, updates_sound, found_effect}
 use Rattle.jr_parse_defs.proofs.Named.{ReadsOne, not_local, write_locals_front}
 use Rattle.jr_parse_defs.proofs.Blocks as blocks
@@ -52,8 +52,8 @@ use Rattle.jr_parse_defs.proofs.Groups as groups
 use Rattle.jr_parse_defs.proofs.Groups.{groups_sound}
 use Rattle.jr_parse_defs.proofs.Headers.{first_sound}
 use Rattle.jr_parse_defs.proofs.Statements.{label_name_sound, takes_none, stmt_reads}
-use Rattle.jr_parse_defs.proofs.Grows.{Low, part, gone, deeps, seen, on, last, symbol_on, word_on, ends_with, choose, at_symbol, at_word, forces, many_grow, one_of, leading_many, shaped_append, either}
-use Rattle.jr_parse_defs.proofs.PartGrows.{leading_cond, leading_exprs, leading_type, leading_declarators, leading_if, leading_typed, sample_whole, whole_starter, effect_starter, name_starter, call_named, call_is, call_depth, call_spelled, dotted_fault, whole_grow, condition_grow, no_whole, effect_grow, no_named, no_indexed, others_grow, a_type, variable, write_typed, Typed, typed_grow, behind_type, param_grow, any_grow, updates_grow}
+use Rattle.jr_parse_defs.proofs.Grows.{Low, part, gone, deeps, on, last, symbol_on, word_on, ends_with, choose, at_symbol, at_word, forces, many_grow, one_of, leading_many, shaped_append, either}
+use Rattle.jr_parse_defs.proofs.PartGrows.{leading_cond, leading_exprs, leading_typed, sample_whole, whole_starter, effect_starter, name_starter, call_named, call_is, call_depth, call_spelled, dotted_fault, whole_grow, condition_grow, no_whole, effect_grow, no_named, no_indexed, others_grow, a_type, variable, Typed, typed_grow, behind_type, param_grow, any_grow, updates_grow}
 use Rattle.jr_parse_defs.proofs.StmtNears.{Flagged, flagged, this_room, starts_some}
 
 -- ---- statements and what begins them

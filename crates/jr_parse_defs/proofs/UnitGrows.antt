@@ -1,5 +1,5 @@
 -- Where reading a unit stops, what stands before begins one.
-use Rattle.std.proofs.Common.{◌≡◌, ℕ, zero, suc, ◌≤◌, Bool, true, false, List, [], ◌∷◌, ◌++◌, length, Option, Some, None, Ok, Err, refl, sym, ap, ◌∙◌, subst, arith}
+use Rattle.std.proofs.Common.{◌≡◌, ℕ, zero, suc, ◌≤◌, List, [], ◌∷◌, ◌++◌, length, Option, Some, Err, refl, sym, ap, subst, arith}
 use Rattle.std.specs.Prelude.{IfSome}
 use Rattle.std.specs.List.{AllByRecursion}
 use Rattle.jr_base.specs.declared.text.Text.{Text}
@@ -17,7 +17,7 @@ use Rattle.jr_tree.specs.Tokens.{decl_tokens}
 use Rattle.jr_tree.specs.Mirror.Decls as d
 use Rattle.jr_parse_laws.specs.declared.fault.Fault.{Fault}
 use Rattle.jr_parse_laws.specs.declared.fault.Fault.TheVariants.{NoTree}
-use Rattle.jr_parse_laws.specs.Parsers.{first, many, ◌>>=◌}
+use Rattle.jr_parse_laws.specs.Parsers.{many, ◌>>=◌}
 use Rattle.jr_parse_laws.proofs.Outcomes.{ok_err, err_is}
 use Rattle.jr_parse_laws.proofs.Stops.{Leading, leading_nothing}
 use Rattle.jr_parse_expr.specs.Starts.{next_is}
@@ -33,9 +33,9 @@ use Rattle.jr_parse_defs.proofs.Written.{decl_written, import_written, package_w
 use Rattle.jr_parse_defs.proofs.Lists.{list_sound, asunder}
 use Rattle.jr_parse_defs.proofs.Imports as imports
 use Rattle.jr_parse_defs.proofs.Imports.{package_sound}
-use Rattle.jr_parse_defs.proofs.Grows.{Low, part, gone, on, last, word_on, ident_on, ends_with, at_word, many_grow, one_of, leading_many, shaped_append, flat, flat_list}
+use Rattle.jr_parse_defs.proofs.Grows.{Low, part, gone, on, word_on, ident_on, ends_with, at_word, many_grow, one_of, leading_many, shaped_append, flat, flat_list}
 use Rattle.jr_parse_defs.proofs.StmtGrows.{leading_some, leading_names, leading_word, leading_symbol}
-use Rattle.jr_parse_defs.proofs.DeclGrows.{AName, a_name_grow, decl_grow}
+use Rattle.jr_parse_defs.proofs.DeclGrows.{a_name_grow, decl_grow}
 
 leading_package : (p : PackageDecl) → Leading (write_package p)
 leading_package p = leading_tokens (write_package p) (package_tokens p) (package_written p)
