@@ -2,7 +2,5 @@
 #![tactic(auto)]
 
 mod fault;
-mod law;
 
 pub use fault::ParseFault;
-pub use law::units_are_answered;
