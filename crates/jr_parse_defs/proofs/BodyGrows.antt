@@ -36,7 +36,9 @@ use Rattle.jr_parse_defs.proofs.Statements.{stmt_reads}
 use Rattle.jr_parse_defs.proofs.Bodies.{front_sound, plain_body}
 use Rattle.jr_parse_defs.proofs.Grows.{Low, part, gone, deeps, seen, on, last, symbol_on, ends_with, choose, leading_many, many_append}
 use Rattle.jr_parse_defs.proofs.PartGrows.{leading_exprs, effect_grow, no_this, no_super}
-use Rattle.jr_parse_defs.proofs.StmtGrows.{empty, leading_stmt, leading_stmts, leading_word, leading_symbol, stmts_grow, as_stmts, low_stmts, stmt_grow, body_grow_at}
+use Rattle.jr_parse_defs.proofs.Starters.{empty, leading_stmt, leading_stmts, leading_word, leading_symbol}
+use Rattle.jr_parse_defs.proofs.BlockGrows.{stmts_grow, as_stmts, low_stmts}
+use Rattle.jr_parse_defs.proofs.StmtGrows.{stmt_grow, body_grow_at}
 
 -- an expression that goes on behind `this` with the token
 record ThisStarter (token : Kind) : Type 0 where

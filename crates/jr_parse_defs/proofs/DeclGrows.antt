@@ -53,12 +53,13 @@ use Rattle.jr_parse_defs.proofs.Units as units
 use Rattle.jr_parse_defs.proofs.Units.{ReadsMember, both_read, members_many, members_sound}
 use Rattle.jr_parse_defs.proofs.Grows.{Low, part, gone, deeps, seen, on, last, symbol_on, ident_on, ends_with, choose, at_symbol, at_word, forces, many_grow, one_of, leading_many, shaped_append, flat, flat_list}
 use Rattle.jr_parse_defs.proofs.PartGrows.{leading_type, leading_declarators, leading_if, leading_after, declarators_after_grow, later_item, a_type, variable, param_grow}
-use Rattle.jr_parse_defs.proofs.StmtGrows.{empty, suc_le, zero_le, leading_param, leading_word, leading_symbol, body_grow_at}
+use Rattle.jr_parse_defs.proofs.Starters.{empty, leading_param, leading_word, leading_symbol}
+use Rattle.jr_parse_defs.proofs.StmtGrows.{suc_le, zero_le, body_grow_at}
 use Rattle.jr_parse_defs.proofs.BodyGrows.{ctor_grow}
 
 -- ---- leading parts
 
-pub leading_modifiers : (ms : List Modifier) → Leading (write_modifiers ms)
+leading_modifiers : (ms : List Modifier) → Leading (write_modifiers ms)
 leading_modifiers ms = leading_tokens (write_modifiers ms) (modifiers_tokens ms) (modifiers_written ms)
 
 leading_result : (r : ResultType) → Leading (write_result r)
@@ -89,7 +90,7 @@ a_modifier : (ts : List Kind) (stop : Fault × List Kind) → starts_modifier (f
 a_modifier [] stop starts h = absurd (cc)
 a_modifier (token ∷ ts) stop starts h = one_modifier (modifier_kind token) token ts stop starts h
 
-pub modifiers_ok : (ts : List Kind) (stop : Fault × List Kind) → reader.modifiers ts ≡ Err stop → ⊥
+modifiers_ok : (ts : List Kind) (stop : Fault × List Kind) → reader.modifiers ts ≡ Err stop → ⊥
 unfolding reader.modifiers
 modifiers_ok ts stop h =
     let s = list_stop starts_modifier modifiers.one refl modifiers.Fine write_modifier modifiers.one_sound modifiers.one_longer ts stop h in
@@ -336,7 +337,7 @@ module _ (room : ℕ) (nested : List Modifier → Parser d.TypeDecl) (growing : 
   after_grow mods (kind.Ident head ∷ ts) stop h = identified_grow mods head ts stop h
   after_grow mods (token ∷ ts) stop h = member_type_grow mods (primitive_kind token) token (token ∷ ts) stop h
 
-  pub member_of_grow : (ts : List Kind) (stop : Fault × List Kind) → reader.member_of room nested ts ≡ Err stop → Goal ts stop
+  member_of_grow : (ts : List Kind) (stop : Fault × List Kind) → reader.member_of room nested ts ≡ Err stop → Goal ts stop
   unfolding reader.member_of
   member_of_grow ts stop h =
       on h (λ e. absurd (modifiers_ok ts stop e)) (λ mods us e next. let found = modifiers_sound ts (mods, us) e in subst (λ ts. Goal ts stop) (sym found.written) (after_grow mods us stop next))
@@ -468,7 +469,7 @@ module _ (room : ℕ) (inner : Parser d.Member) (reads : ReadsMember room inner)
   decl_gone : (mods : List Modifier) {ts : List Kind} {stop : Fault × List Kind} → (NoTree, ts) ≡ stop → Type_goal (write_modifiers mods ts) stop
   decl_gone mods e = gone e (leading_modifiers mods) (d.Class mods [] None [] d.no_members) (λ z. kind.Word k.Class ∷ kind.Ident [] ∷ braces z) (λ z. refl) (tt, tt, tt) (omega arith)
 
-  pub type_decl_grow : (mods : List Modifier) (ts : List Kind) (stop : Fault × List Kind) → reader.type_decl room inner mods ts ≡ Err stop → Type_goal (write_modifiers mods ts) stop
+  type_decl_grow : (mods : List Modifier) (ts : List Kind) (stop : Fault × List Kind) → reader.type_decl room inner mods ts ≡ Err stop → Type_goal (write_modifiers mods ts) stop
   unfolding reader.type_decl
   type_decl_grow mods [] stop h = decl_gone mods (err_is h)
   type_decl_grow mods (kind.Word k.Class ∷ ts) stop h = class_grow mods ts stop h

@@ -115,7 +115,7 @@ pub many_append : {A : Type 0} (write : A → List Kind → List Kind) (all more
 many_append write [] more z = refl
 many_append write (a ∷ all) more z = ap (write a) (many_append write all more z)
 
-pub deepest_append : {A : Type 0} (depth : A → ℕ) (room : ℕ) (all more : List A) → deepest depth all ≤ room → deepest depth more ≤ room → deepest depth (all ++ more) ≤ room
+deepest_append : {A : Type 0} (depth : A → ℕ) (room : ℕ) (all more : List A) → deepest depth all ≤ room → deepest depth more ≤ room → deepest depth (all ++ more) ≤ room
 deepest_append depth room [] more l m = m
 deepest_append depth room (a ∷ all) more l m = let n = deepest_append depth room all more (omega arith) m in omega arith
 

@@ -59,7 +59,7 @@ pub if_word : {room other : ℕ} {le : room ≤ other} {A : Type 0} {p p' q q' :
     → Near room other le (λ ts. cond (is_at_word w ts) (p ts) (q ts)) (λ ts. cond (is_at_word w ts) (p' ts) (q' ts))
 if_word {room = room} {other = other} {le = le} {p = p} {p' = p'} {q = q} {q' = q'} w one two = record { kept = local_if room other le (is_at_word w) p p' q q' (looks_word room other le w) one.kept two.kept }
 
-pub if_first : {room other : ℕ} {le : room ≤ other} {A : Type 0} {p p' q q' : Parser A} (h : Option Kind → Bool) → Near room other le p p' → Near room other le q q'
+if_first : {room other : ℕ} {le : room ≤ other} {A : Type 0} {p p' q q' : Parser A} (h : Option Kind → Bool) → Near room other le p p' → Near room other le q q'
     → Near room other le (λ ts. cond (h (first ts)) (p ts) (q ts)) (λ ts. cond (h (first ts)) (p' ts) (q' ts))
 if_first {room = room} {other = other} {le = le} {p = p} {p' = p'} {q = q} {q' = q'} h one two = record { kept = local_if room other le (λ ts. h (first ts)) p p' q q' (looks_first room other le h) one.kept two.kept }
 
@@ -139,7 +139,7 @@ guarded_from starts item zero ts = refl
 guarded_from starts item (suc turns) ts =
     guarded_turn (starts (first ts)) item ts (many_from starts (guarded starts item) turns) (many_from starts item turns) (guarded_from starts item turns)
 
-pub guarded_many : {A : Type 0} (starts : Option Kind → Bool) (item : Parser A) (ts : List Kind) → many starts (guarded starts item) ts ≡ many starts item ts
+guarded_many : {A : Type 0} (starts : Option Kind → Bool) (item : Parser A) (ts : List Kind) → many starts (guarded starts item) ts ≡ many starts item ts
 unfolding many
 guarded_many starts item ts = guarded_from starts item (length ts) ts
 

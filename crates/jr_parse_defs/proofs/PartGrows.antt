@@ -60,7 +60,7 @@ leading_exprs all = leading_tokens (write_exprs all) (exprs_tokens all) (exprs_w
 pub leading_type : (t : TypeUse) → Leading (write_type t)
 leading_type t = leading_tokens (write_type t) (type_tokens t) (type_written t)
 
-pub leading_declarator : (d : s.Declarator) → Leading (write_declarator d)
+leading_declarator : (d : s.Declarator) → Leading (write_declarator d)
 leading_declarator d = leading_tokens (write_declarator d) (declarator_tokens d) (declarator_written d)
 
 pub leading_declarators : (ds : List s.Declarator) → Leading (write_declarators ds)
@@ -361,7 +361,7 @@ variables_from room d us stop is low h =
     (leading_after write_declarator leading_declarator) (shaped_append (λ d is. is.0)) (λ all are. (asunder IsShapedDeclarator declarator_depth room all are).1) us stop h
     (λ us starts e. one_of (λ a is. (is, tt)) (later_item (reader.declarator room) room (declarator_grow room) us stop starts e)))
 
-pub declarators_grow : (room : ℕ) (ts : List Kind) (stop : Fault × List Kind) → reader.declarators room ts ≡ Err stop → Variables room ts stop
+declarators_grow : (room : ℕ) (ts : List Kind) (stop : Fault × List Kind) → reader.declarators room ts ≡ Err stop → Variables room ts stop
 declarators_grow room ts stop h =
     on h
     (λ e. part leading_nothing (λ d. d ∷ []) (λ z. z) (λ d z. refl) (λ d is. (refl, (is, tt))) (λ d l. omega arith) (declarator_grow room ts stop e))

@@ -199,7 +199,7 @@ module _ (room other : ℕ) (le : room ≤ other) where
   initializer_near : Near room other le (defs.initializer room) (defs.initializer other)
   initializer_near = if_at y.Assign assigned_near (gives None)
 
-  pub declarator_after_near : (v : Text) → Near room other le (defs.declarator_after room v) (defs.declarator_after other v)
+  declarator_after_near : (v : Text) → Near room other le (defs.declarator_after room v) (defs.declarator_after other v)
   unfolding defs.declarator_after
   declarator_after_near v = then dims_near (λ pairs. then initializer_near (λ i. gives (s.DeclaratorOf v pairs i)))
 

@@ -67,7 +67,7 @@ module _ (room other : ℕ) (le : room ≤ other) (r r' most most' : ℕ) (inner
       several starts_block_stmt refl (shortens_by (IsStmt most true) write_stmt outer (blocks.stmts_item r inner outer most outers) (blocks.stmt_longer most))
       (shortens_by (IsStmt most' true) write_stmt outer' (blocks.stmts_item r' inner' outer' most' outers') (blocks.stmt_longer most')) near_out
 
-  pub block_near : Near room other le (reader.block r inner outer) (reader.block r' inner' outer')
+  block_near : Near room other le (reader.block r inner outer) (reader.block r' inner' outer')
   unfolding reader.block
   block_near = then (symbol y.OpenBrace) (λ u. then stmts_near (λ all. then (symbol y.CloseBrace) (λ v. gives (s.BlockOf (s.stmts all)))))
 
@@ -149,7 +149,7 @@ module _ (room other : ℕ) (le : room ≤ other) (inner inner' outer outer' : P
       (reader.named room inner outer declares (Plain before last) ts)
       (on_kept room other le first (named_first declares before last) (looks_first room other le (λ o. o)) ts (reader.named room inner outer declares (Plain before last) ts) (plain_kept declares before last ts ended))
 
-  pub from_name_near : (declares : Bool) (head : Text)
+  from_name_near : (declares : Bool) (head : Text)
       → Near room other le (dotted (reader.has_this room) [] head >>= reader.named room inner outer declares) (dotted (reader.has_this other) [] head >>= reader.named other inner' outer' declares)
   from_name_near declares head = record {
     kept = λ ts. kept_bind room other le (dotted (reader.has_this other) [] head) (reader.named room inner outer declares) (reader.named other inner' outer' declares) ts (dotted (reader.has_this room) [] head ts)
@@ -404,7 +404,7 @@ module _ (room other : ℕ) (le : room ≤ other) (inner inner' outer outer' : P
   told_stmt r i o declares [] = refl
   told_stmt r i o declares (token ∷ ts) = refl
 
-  pub level_near : (declares : Bool) → Near room other le (reader.stmt_of room inner outer declares) (reader.stmt_of other inner' outer' declares)
+  level_near : (declares : Bool) → Near room other le (reader.stmt_of room inner outer declares) (reader.stmt_of other inner' outer' declares)
   level_near declares =
       same_as (told (reader.stmt_by room inner outer declares)) (reader.stmt_of room inner outer declares) (told (reader.stmt_by other inner' outer' declares)) (reader.stmt_of other inner' outer' declares)
       (told_stmt room inner outer declares) (told_stmt other inner' outer' declares) (by_token (reader.stmt_by room inner outer declares) (reader.stmt_by other inner' outer' declares) (stmt_kept declares))
@@ -465,7 +465,7 @@ unfolding reader.stmt
 stmt_zero true ts = refl
 stmt_zero false ts = refl
 
-pub stmt_refused : (room : ℕ) (declares : Bool) (ts : List Kind) → starts_some declares (first ts) ≡ false → reader.stmt room declares ts ≡ Err (NoTree, ts)
+stmt_refused : (room : ℕ) (declares : Bool) (ts : List Kind) → starts_some declares (first ts) ≡ false → reader.stmt room declares ts ≡ Err (NoTree, ts)
 unfolding reader.stmt
 stmt_refused zero true ts h = rw h refl
 stmt_refused zero false ts h = rw h refl

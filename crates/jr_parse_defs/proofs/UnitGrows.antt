@@ -34,7 +34,7 @@ use Rattle.jr_parse_defs.proofs.Lists.{list_sound, asunder}
 use Rattle.jr_parse_defs.proofs.Imports as imports
 use Rattle.jr_parse_defs.proofs.Imports.{package_sound}
 use Rattle.jr_parse_defs.proofs.Grows.{Low, part, gone, on, word_on, ident_on, ends_with, at_word, many_grow, one_of, leading_many, shaped_append, flat, flat_list}
-use Rattle.jr_parse_defs.proofs.StmtGrows.{leading_some, leading_names, leading_word, leading_symbol}
+use Rattle.jr_parse_defs.proofs.Starters.{leading_some, leading_names, leading_word, leading_symbol}
 use Rattle.jr_parse_defs.proofs.DeclGrows.{a_name_grow, decl_grow}
 
 leading_package : (p : PackageDecl) → Leading (write_package p)
