@@ -1,0 +1,5 @@
+pub mod SlotLemmas
+pub mod Levels
+pub mod Taking
+pub mod Joining
+pub mod Counting
