@@ -1,7 +1,10 @@
 -- What is done one at a time, counting down.
-use Rattle.std.proofs.Common.{◌≡◌, ℕ, zero, suc, ◌-◌, ◌<◌, List, ◌∷◌, length, refl, arith}
+use Rattle.std.proofs.Common.{◌≡◌, ℕ, zero, suc, ◌-◌, ◌<◌, List, ◌∷◌, length, refl, ap, arith}
 use Rattle.std.specs.Prelude.{slice_index_or, [], drop}
 use Rattle.jr_base.specs.declared.text.Text.{Text}
+use Rattle.jr_tree.specs.declared.tree.Expr as declared_expr
+use Rattle.jr_tree.specs.Mirror.Exprs.{plain_exprs}
+use Rattle.jr_rows.specs.Exprs.{count}
 use Rattle.jr_rows.specs.declared.label.NameKind.{NameKind}
 use Rattle.jr_rows.specs.declared.label.NamePlace.{NamePlace}
 use Rattle.jr_index.specs.declared.event.Event.TheVariants.{Open, Close}
@@ -17,3 +20,8 @@ opens_step meant at parts (suc n) h = let e : suc n - 1 ≡ n = omega arith in r
 pub closes_step : (n : ℕ) → 0 < n → closes n ≡ Close ∷ closes (n - 1)
 closes_step zero h = absurd (omega arith)
 closes_step (suc n) h = let e : suc n - 1 ≡ n = omega arith in rw e refl
+
+-- as many expressions as there were
+pub count_all : (all : List declared_expr.Expr) → length all ≡ count (plain_exprs all)
+count_all [] = refl
+count_all (e ∷ all) = ap suc (count_all all)

@@ -264,13 +264,14 @@ abbrev mutual
   pub decl_events : Bool → d.TypeDecl → Events
   decl_events is_member (d.Class mods name parent faces body) =
       Open (is.Class (modifiers_of mods) is_member) name
-      ∷ if_some (name_events kind.Type place.Superclass) parent ++ names_events place.Superinterface faces ++ body_events true body ++ Close ∷ []
+      ∷ if_some (name_events kind.Type place.Superclass) parent ++ names_events place.Superinterface faces ++ Open is.Body [] ∷ (default_constructor (not true || has_constructor body) ++ members_events body ++ Close ∷ []) ++ Close ∷ []
   decl_events is_member (d.Interface mods name faces body) =
-      Open (is.Interface (modifiers_of mods) is_member) name ∷ names_events place.Superinterface faces ++ body_events false body ++ Close ∷ []
+      Open (is.Interface (modifiers_of mods) is_member) name ∷ names_events place.Superinterface faces ++ Open is.Body [] ∷ (default_constructor (not false || has_constructor body) ++ members_events body ++ Close ∷ []) ++ Close ∷ []
   decl_events is_member d.Empty = leaf (is.EmptyDecl is_member)
 
-  pub body_events : Bool → d.Members → Events
-  body_events is_class all = Open is.Body [] ∷ default_constructor (not is_class || has_constructor all) ++ members_events all ++ Close ∷ []
+-- the body of a class or interface
+abbrev pub body_events : Bool → d.Members → Events
+body_events is_class all = Open is.Body [] ∷ default_constructor (not is_class || has_constructor all) ++ members_events all ++ Close ∷ []
 
 -- ---- units and programs (JLS 7.3)
 

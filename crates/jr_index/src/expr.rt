@@ -3,6 +3,8 @@ ghost use Rattle.std.specs.Prelude.{◌≡◌, ◌++◌, OnOk};
 ghost use Rattle.std.specs.Option.{option_map};
 ghost use Rattle.jr_tree.specs.Mirror.Exprs as m;
 ghost use Rattle.jr_index.specs.Events as e;
+ghost use Rattle.jr_rows.specs.Exprs as l;
+ghost use Rattle.jr_rows.specs.declared.label.Label.TheVariants as is;
 
 use crate::event::Event;
 use crate::words::{
@@ -10,7 +12,7 @@ use crate::words::{
 };
 use jr_base::OutOfMemory;
 use jr_rows::{Label, NameKind, NamePlace, ReceiverKind};
-use jr_tree::{Expr, Init, InitList, Name, Receiver};
+use jr_tree::{Base, Expr, Init, InitList, Name, Receiver};
 use std::alloc::Global;
 
 #[cycle(add_expr)]
@@ -119,12 +121,7 @@ pub fn add_expr(alloc: Global, out: &mut Vec<Event>, expr: &Expr) -> Result<(), 
             more,
             init,
         } => {
-            let label = Label::NewArray {
-                primitive: primitive_of(base),
-                lengths: dims.as_slice().len(),
-                more: *more,
-            };
-            begin(alloc, out, label)?;
+            begin(alloc, out, array_label(base, dims.as_slice(), *more))?;
             add_base(alloc, out, base)?;
             add_exprs(alloc, out, dims.as_slice())?;
             match init {
@@ -154,6 +151,18 @@ fn add_this(alloc: Global, out: &mut Vec<Event>, class: &Option<Name>) -> Result
             add_type_name(alloc, out, name)?;
             close(out)
         }
+    }
+}
+
+/// The label of a creation of an array with these lengths and so many more pairs of brackets.
+#[tactic(auto, using(crate::proofs::Counting::count_all))]
+fn array_label(base: &Base, lengths: &[Expr], more: usize) -> Label
+    ensures { result ≡ is.NewArray (l.primitive_of base.now) (l.count (m.plain_exprs lengths.now)) more }
+{
+    Label::NewArray {
+        primitive: primitive_of(base),
+        lengths: lengths.len(),
+        more,
     }
 }
 
