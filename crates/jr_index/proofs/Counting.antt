@@ -1,5 +1,5 @@
 -- What is done one at a time, counting down.
-use Rattle.std.proofs.Common.{◌≡◌, ℕ, zero, suc, ◌-◌, ◌<◌, List, ◌∷◌, length, refl, ap, arith}
+use Rattle.std.proofs.Common.{◌≡◌, ℕ, zero, suc, ◌-◌, ◌<◌, List, ◌∷◌, length, refl, arith}
 use Rattle.std.specs.Prelude.{slice_index_or, [], drop}
 use Rattle.jr_base.specs.declared.text.Text.{Text}
 use Rattle.jr_tree.specs.declared.tree.Expr as declared_expr
@@ -24,4 +24,4 @@ closes_step (suc n) h = let e : suc n - 1 ≡ n = omega arith in rw e refl
 -- as many expressions as there were
 pub count_all : (all : List declared_expr.Expr) → length all ≡ count (plain_exprs all)
 count_all [] = refl
-count_all (e ∷ all) = ap suc (count_all all)
+count_all (e ∷ all) = let h = count_all all in omega arith

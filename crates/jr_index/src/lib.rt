@@ -36,6 +36,7 @@ fn events_of(alloc: Global, program: &Program) -> Result<Vec<Event>, OutOfMemory
 }
 
 /// The rows of a program: row 0 is the program, and each row stands behind the one round it (preorder).
+#[tactic(auto, using(crate::proofs::Labels::built_program))]
 pub fn rows_of(alloc: Global, program: &Program) -> Result<Vec<Row>, OutOfMemory>
     ensures { IfOk result (λ rows. rows.items ≡ program_rows (map (λ u. u.unit) program.now.units)) }
 {
