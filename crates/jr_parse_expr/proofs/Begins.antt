@@ -1,5 +1,6 @@
 -- The readers of operands by how they begin are those by the token.
-use Rattle.std.proofs.Common.{◌≡◌, ℕ, zero, suc, ◌-◌, Bool, true, false, cond, List, ◌∷◌, [], Option, Some, None, Ok, refl, arith}
+use Rattle.std.proofs.Common.{◌≡◌, ℕ, zero, suc, ◌-◌, ◌<◌, ◌≤◌, Bool, true, false, cond, List, ◌∷◌, [], drop, Option, Some, None, Ok, Err, refl, ap, ◌∙◌, arith}
+use Rattle.std.proofs.lemmas.Bool.{le-ltb, lt-ltb}
 use Rattle.std.specs.Prelude.{nat_lt, ◌&&◌}
 use Rattle.jr_base.specs.declared.kind.Symbol.{Symbol}
 use Rattle.jr_base.specs.declared.kind.Symbol.TheVariants as y
@@ -12,6 +13,7 @@ use Rattle.jr_tree.specs.Depth.{expr_depth}
 use Rattle.jr_tree.specs.Levels.{is_assignment}
 use Rattle.jr_tree.specs.Mirror.Exprs as x
 use Rattle.jr_tree.specs.Shape.{is_target, is_statement}
+use Rattle.jr_parse_laws.specs.declared.fault.Fault.TheVariants.{NoTree, TooDeep}
 use Rattle.jr_parse_laws.specs.Parsers.{Parser, pure, refuse, deep, symbol_at}
 use Rattle.jr_parse_laws.proofs.Outcomes.{and_then_alike}
 use Rattle.jr_parse_expr.specs.Starts.{is_plain_literal, within, over}
@@ -87,8 +89,20 @@ module _ (room : ℕ) (inner : Lead → ℕ → Parser x.Expr) (list : Parser x.
   ended_by true left op token ts = refl
   ended_by false left op token ts = refl
 
-  pub end_is : (left : x.Expr) (ts : List Kind) → effect_end room inner list left ts ≡ effect_ended room inner list left (assignment_of left (symbol_at ts)) ts
+  end_is : (left : x.Expr) (ts : List Kind) → effect_end room inner list left ts ≡ effect_ended room inner list left (assignment_of left (symbol_at ts)) ts
   unfolding effect_end
   end_is left [] = refl
   end_is left (kind.Sym op ∷ ts) = ended_by (is_assignment op && is_target left) left op (kind.Sym op) ts
   end_is left (token ∷ ts) = refl
+
+  pub end_high : (left : x.Expr) (ts : List Kind) (op : Symbol) → assignment_of left (symbol_at ts) ≡ Some op → room < expr_depth left → effect_end room inner list left ts ≡ Err (TooDeep, ts)
+  end_high left ts op h high = end_is left ts ∙ ap (λ o. effect_ended room inner list left o ts) h ∙ rw (lt-ltb room (expr_depth left) high) refl
+
+  pub end_assigned : (left : x.Expr) (ts : List Kind) (op : Symbol) → assignment_of left (symbol_at ts) ≡ Some op → expr_depth left ≤ room → effect_end room inner list left ts ≡ assigned room inner list left op (drop 1 ts)
+  end_assigned left ts op h low = end_is left ts ∙ ap (λ o. effect_ended room inner list left o ts) h ∙ rw (le-ltb room (expr_depth left) low) refl
+
+  pub end_statement : (left : x.Expr) (ts : List Kind) → assignment_of left (symbol_at ts) ≡ None → is_statement left ≡ true → effect_end room inner list left ts ≡ Ok (left, ts)
+  end_statement left ts h s = end_is left ts ∙ ap (λ o. effect_ended room inner list left o ts) h ∙ rw s refl
+
+  pub end_refused : (left : x.Expr) (ts : List Kind) → assignment_of left (symbol_at ts) ≡ None → is_statement left ≡ false → effect_end room inner list left ts ≡ Err (NoTree, ts)
+  end_refused left ts h s = end_is left ts ∙ ap (λ o. effect_ended room inner list left o ts) h ∙ rw s refl
