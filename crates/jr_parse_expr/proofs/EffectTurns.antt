@@ -1,5 +1,5 @@
 -- What the loop over the suffixes of an expression that stands as a statement keeps: each turn adds a level.
-use Rattle.std.proofs.Common.{◌≡◌, ℕ, zero, suc, ◌-◌, ◌<◌, ◌≤◌, Bool, true, false, cond, ltb, List, [], ◌∷◌, drop, Option, Some, None, Ok, Err, refl, sym, ap, ◌∙◌, subst, inl, inr, arith}
+use Rattle.std.proofs.Common.{◌≡◌, ℕ, zero, suc, ◌<◌, ◌≤◌, Bool, true, false, cond, ltb, List, [], ◌∷◌, drop, Option, Some, None, Ok, Err, refl, sym, ap, ◌∙◌, subst, inl, inr, arith}
 use Rattle.std.specs.Option.{option_map}
 use Rattle.std.specs.Prelude.{nat_lt, not, ◌&&◌}
 use Rattle.std.proofs.lemmas.Bool.{cases_lt, le-ltb, lt-ltb}
@@ -22,7 +22,6 @@ use Rattle.jr_parse_expr.specs.Exprs as spec
 use Rattle.jr_parse_expr.specs.Exprs.{Lead, below}
 use Rattle.jr_parse_expr.specs.Steps.{suffix_of, suffixed}
 use Rattle.jr_parse_expr.specs.Begun.{levels_for, effect_suffixed}
-use Rattle.jr_parse_expr.proofs.Begins.{below_is}
 use Rattle.jr_parse_expr.proofs.Turning.{chain_more, chain_fails, chain_deep, chain_over, some_if, suffix_grows}
 
 chosen_some : {A : Type 0} (b : Bool) (a c : A) → cond b (Some a) None ≡ Some c → a ≡ c
@@ -76,32 +75,32 @@ module _ (room : ℕ) (inner : Lead → ℕ → Parser x.Expr) (list : Parser x.
   next turns left ts = ap (λ c. spec.turn room inner list left c (spec.effect_suffixes_from room inner list low low_list turns) ts) (suffix_is left (symbol_at ts))
 
   -- where there are levels, the test does nothing
-  tested_is : (low_room : ℕ) (left : x.Expr) (key : Suffix) (us : List Kind) → low_room ≡ room - 1 → levels_for (expr_depth left) key ≤ room
+  tested_is : (low_room : ℕ) (left : x.Expr) (key : Suffix) (us : List Kind) → levels_for (expr_depth left) key ≤ room
       → tested left key us ≡ effect_suffixed room inner list low_room low low_list left key us
-  tested_is low_room left s.Member us same h = refl
-  tested_is low_room left s.Index us same h = rw (le-ltb room (suc (expr_depth left)) h, below_is low_room room same) refl
-  tested_is low_room left (s.Step symbol) us same h = refl
+  tested_is low_room left s.Member us h = refl
+  tested_is low_room left s.Index us h = rw (le-ltb room (suc (expr_depth left)) h) refl
+  tested_is low_room left (s.Step symbol) us h = refl
 
   too_deep : (left : x.Expr) (ts : List Kind) → suffix_of left (symbol_at ts) ≡ Some s.Index → room < suc (expr_depth left) → tested left s.Index (drop 1 ts) ≡ Err (TooDeep, ts)
   too_deep left ts c high = rw (lt-ltb room (suc (expr_depth left)) high) (ap (λ ts. Err (TooDeep, ts)) (index_at left ts c))
 
-  pub effect_more : (low_room : ℕ) (left : x.Expr) (ts : List Kind) (key : Suffix) (e : x.Expr) (rest : List Kind) → low_room ≡ room - 1 → suffix_of left (symbol_at ts) ≡ Some key → levels_for (expr_depth left) key ≤ room
+  pub effect_more : (low_room : ℕ) (left : x.Expr) (ts : List Kind) (key : Suffix) (e : x.Expr) (rest : List Kind) → suffix_of left (symbol_at ts) ≡ Some key → levels_for (expr_depth left) key ≤ room
       → effect_suffixed room inner list low_room low low_list left key (drop 1 ts) ≡ Ok (e, rest)
       → (spec.effect_suffixes room inner list low low_list left ts ≡ spec.effect_suffixes room inner list low low_list e rest) × (expr_depth left < expr_depth e)
   unfolding spec.effect_suffixes
-  effect_more low_room left ts key e rest same c h r =
-      let read : tested left key (drop 1 ts) ≡ Ok (e, rest) = tested_is low_room left key (drop 1 ts) same h ∙ r in
+  effect_more low_room left ts key e rest c h r =
+      let read : tested left key (drop 1 ts) ≡ Ok (e, rest) = tested_is low_room left key (drop 1 ts) h ∙ r in
       (
         chain_more room inner list (λ left ts. suffix_of left (symbol_at ts)) tested (spec.effect_suffixes_from room inner list low low_list) last next ends grows left ts key e rest c (levels_low (expr_depth left) room key h) read,
         grows left key (drop 1 ts) e rest read,
       )
 
-  pub effect_fails : (low_room : ℕ) (left : x.Expr) (ts : List Kind) (key : Suffix) (f : Fault) (new : List Kind) → low_room ≡ room - 1 → suffix_of left (symbol_at ts) ≡ Some key → levels_for (expr_depth left) key ≤ room
+  pub effect_fails : (low_room : ℕ) (left : x.Expr) (ts : List Kind) (key : Suffix) (f : Fault) (new : List Kind) → suffix_of left (symbol_at ts) ≡ Some key → levels_for (expr_depth left) key ≤ room
       → Fails (effect_suffixed room inner list low_room low low_list left key (drop 1 ts)) f new → Fails (spec.effect_suffixes room inner list low low_list left ts) f new
   unfolding spec.effect_suffixes
-  effect_fails low_room left ts key f new same c h r =
+  effect_fails low_room left ts key f new c h r =
       chain_fails room inner list (λ left ts. suffix_of left (symbol_at ts)) tested (spec.effect_suffixes_from room inner list low low_list) last next ends grows left ts key f new c (levels_low (expr_depth left) room key h)
-      (subst (λ (o : Outcome x.Expr). Fails o f new) (sym (tested_is low_room left key (drop 1 ts) same h)) r)
+      (subst (λ (o : Outcome x.Expr). Fails o f new) (sym (tested_is low_room left key (drop 1 ts) h)) r)
 
   deep_by : (left : x.Expr) (ts : List Kind) (key : Suffix) → suffix_of left (symbol_at ts) ≡ Some key → room < levels_for (expr_depth left) key → spec.effect_suffixes_from room inner list low low_list (suc room) left ts ≡ Err (TooDeep, ts)
   deep_by left ts s.Member c high =
