@@ -5,7 +5,7 @@ use Rattle.jr_parse_laws.specs.declared.fault.Fault.{Fault}
 use Rattle.jr_parse_laws.specs.declared.fault.Fault.TheVariants.{NoTree, TooDeep}
 use Rattle.jr_parse_laws.specs.Parsers.{Outcome, Fails, deep, refuse, first}
 use Rattle.jr_parse_expr.specs.Starts.{no_level, starts_expr, starts_list}
-use Rattle.jr_parse_expr.specs.Exprs.{Lead, expr, list, effect, operations, effects, braces, goes_on}
+use Rattle.jr_parse_expr.specs.Exprs.{Lead, expr, list, effect, operations, effects, braces, below, goes_on}
 
 one_less : (room : ℕ) → 0 < room → room ≡ suc (room - 1)
 one_less room h = omega arith
@@ -30,9 +30,14 @@ pub effect_lowest : (room : ℕ) (lead : Lead) (ts : List Kind) → room ≡ 0 �
 unfolding effect
 effect_lowest room lead ts h = ap (λ n. effect n lead ts) h
 
-pub effect_below : (room : ℕ) (lead : Lead) (ts : List Kind) → 0 < room → effect room lead ts ≡ effects (room - 1) (expr (room - 1)) (list (room - 1)) lead ts
+pub effect_below : (room : ℕ) (lead : Lead) (ts : List Kind) → 0 < room
+    → effect room lead ts ≡ effects (room - 1) (expr (room - 1)) (list (room - 1)) (expr (below (room - 1))) (list (below (room - 1))) lead ts
 unfolding effect
 effect_below room lead ts h = ap (λ n. effect n lead ts) (one_less room h)
+
+pub below_is : (room : ℕ) → room - 1 ≡ below room
+below_is zero = refl
+below_is (suc room) = omega arith
 
 -- ---- where no level is left
 
