@@ -1,8 +1,8 @@
-// Each reader of expressions once, over tokens made by hand.
-use crate::{Lead, call_arguments, effect, expr, init, list};
+// Each reader once, over tokens made by hand.
+use crate::{Lead, call_arguments, dotted_name, effect, expr, init, list, type_use};
 use jr_base::{Kind, Span, Symbol, Text, Token};
 use jr_parse_laws::{Cursor, Fault};
-use jr_tree::{Expr, Init};
+use jr_tree::{Base, Expr, Init};
 use std::alloc::{AllocError, Global};
 use std::test::Fail;
 
@@ -11,6 +11,7 @@ fn kind(alloc: Global, byte: u8) -> Result<Kind, AllocError> {
         b'+' => Kind::Sym(Symbol::Plus),
         b'=' => Kind::Sym(Symbol::Assign),
         b',' => Kind::Sym(Symbol::Comma),
+        b'.' => Kind::Sym(Symbol::Dot),
         b'(' => Kind::Sym(Symbol::OpenParen),
         b')' => Kind::Sym(Symbol::CloseParen),
         b'{' => Kind::Sym(Symbol::OpenBrace),
@@ -28,6 +29,20 @@ fn tokens(alloc: Global, text: &str) -> Result<Vec<Token>, AllocError> {
         tokens.push(Token { kind, span })?;
     }
     Ok(tokens)
+}
+
+#[test]
+fn reads_names(rt: HostRuntime) -> Result<(), Fail> {
+    let tokens = tokens(rt.alloc(), "a.b")?;
+    let mut cursor = Cursor { rest: &tokens };
+    let read = type_use(rt.alloc(), &mut cursor);
+    assert!(rt; matches!(&read, Ok(ty) if matches!(&ty.base, Base::Named(name) if name.parts.len() == 2)));
+    let mut cursor = Cursor { rest: &tokens };
+    cursor.skip();
+    let head = Text::new(vec![in rt.alloc(); b'a']?);
+    let read = dotted_name(rt.alloc(), &mut cursor, true, head);
+    assert!(rt; matches!(&read, Ok(dotted) if dotted.before.len() == 1 && !dotted.has_this));
+    Ok(())
 }
 
 #[test]
