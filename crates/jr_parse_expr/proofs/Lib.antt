@@ -2,6 +2,7 @@ mod ArrayItems
 mod Begins
 mod Behind
 mod Depths
+mod EffectTurns
 pub mod Keeps
 mod Listing
 pub mod NameLaws

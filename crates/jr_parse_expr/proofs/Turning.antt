@@ -75,7 +75,7 @@ module _ (room : ℕ) (inner : Lead → ℕ → Parser x.Expr) (list : Parser x.
 
 -- ---- choices as data
 
-some_if : {A B : Type 0} (b : Bool) (f : A → B) (a : A) → cond b (Some (f a)) None ≡ option_map f (cond b (Some a) None)
+pub some_if : {A B : Type 0} (b : Bool) (f : A → B) (a : A) → cond b (Some (f a)) None ≡ option_map f (cond b (Some a) None)
 some_if true f a = refl
 some_if false f a = refl
 
@@ -90,7 +90,7 @@ either false u true f a c = refl
 either false u false f a c = refl
 
 module _ (room : ℕ) (inner : Lead → ℕ → Parser x.Expr) (list : Parser x.InitList) where
-  suffix_is : (left : x.Expr) (c : Option Symbol) → spec.suffix room inner list left c ≡ option_map (suffixed room inner list left) (suffix_of left c)
+  pub suffix_is : (left : x.Expr) (c : Option Symbol) → spec.suffix room inner list left c ≡ option_map (suffixed room inner list left) (suffix_of left c)
   suffix_is left (Some y.Dot) = some_if (not (nat_lt (level left) 14)) (suffixed room inner list left) s.Member
   suffix_is left (Some y.OpenBracket) = some_if (not (nat_lt (level left) 14) && not (is_new_array left)) (suffixed room inner list left) s.Index
   suffix_is left (Some symbol) = some_if (is_step symbol && not (nat_lt (level left) 13)) (suffixed room inner list left) (s.Step symbol)
@@ -120,7 +120,7 @@ module _ (room : ℕ) (inner : Lead → ℕ → Parser x.Expr) (list : Parser x.
         | inr c ↦ (let d = ap (λ (y : x.Expr × List Kind). expr_depth y.0) (ok_is c.1) in omega arith)
       ]
 
-  suffix_grows : (left : x.Expr) (key : Suffix) (us : List Kind) (e : x.Expr) (rest : List Kind) → suffixed room inner list left key us ≡ Ok (e, rest) → expr_depth left < expr_depth e
+  pub suffix_grows : (left : x.Expr) (key : Suffix) (us : List Kind) (e : x.Expr) (rest : List Kind) → suffixed room inner list left key us ≡ Ok (e, rest) → expr_depth left < expr_depth e
   suffix_grows left s.Member us e rest h = let a = bind_ok (identifier us) _ (e, rest) h in call_grows left a.0.0 a.0.1 e rest a.2
   suffix_grows left s.Index us e rest h =
       let a = bind_ok (inner Nothing 0 us) _ (e, rest) h in
@@ -142,7 +142,7 @@ module _ (room : ℕ) (inner : Lead → ℕ → Parser x.Expr) (list : Parser x.
       let a = bind_ok (inner Nothing (suc (binary_level op)) us) _ (e, rest) h in let d = ap (λ (y : x.Expr × List Kind). expr_depth y.0) (ok_is a.2) in omega arith
   operation_grows left o.Test us e rest h = let a = bind_ok (type_use us) _ (e, rest) h in let d = ap (λ (y : x.Expr × List Kind). expr_depth y.0) (ok_is a.2) in omega arith
 
-  suffix_ends : (left : x.Expr) → suffix_of left (symbol_at []) ≡ None
+  pub suffix_ends : (left : x.Expr) → suffix_of left (symbol_at []) ≡ None
   suffix_ends left = refl
 
   suffixes_last : (left : x.Expr) (ts : List Kind) → spec.suffixes_from room inner list zero left ts ≡ spec.turn room inner list left (option_map (suffixed room inner list left) (suffix_of left (symbol_at ts))) (λ e. deep) ts

@@ -1,19 +1,26 @@
 -- Operands by how they begin: the same readers as those by the token, over fewer cases.
-use Rattle.std.specs.Prelude.{ℕ, if◌then◌else◌, List, [], ◌∷◌, drop, Option, Some, None}
+use Rattle.std.specs.Prelude.{ℕ, suc, nat_lt, not, ◌&&◌, if◌then◌else◌, List, [], ◌∷◌, drop, Option, Some, None, Ok}
 use Rattle.jr_base.specs.declared.kind.Kind.{Kind}
 use Rattle.jr_base.specs.declared.kind.Kind.TheVariants as kind
 use Rattle.jr_base.specs.declared.kind.Symbol.{Symbol}
 use Rattle.jr_base.specs.declared.kind.Symbol.TheVariants as y
 use Rattle.jr_base.specs.declared.kind.Keyword.{Keyword}
 use Rattle.jr_base.specs.declared.kind.Keyword.TheVariants as k
-use Rattle.jr_tree.specs.Levels.{is_unary, is_step}
+use Rattle.jr_tree.specs.declared.tree.Name.{Name}
+use Rattle.jr_tree.specs.declared.tree.Primitive.{Primitive}
+use Rattle.jr_tree.specs.Depth.{expr_depth}
+use Rattle.jr_tree.specs.Levels.{is_assignment, is_unary, is_step}
 use Rattle.jr_tree.specs.Mirror.Exprs as x
-use Rattle.jr_parse_laws.specs.Parsers.{Parser, ◌>>=◌, pure, refuse}
+use Rattle.jr_tree.specs.Shape.{is_target, is_statement}
+use Rattle.jr_parse_laws.specs.Parsers.{Parser, ◌>>=◌, pure, refuse, first, is_at}
 use Rattle.jr_parse_expr.specs.declared.begin.OperandStart.{OperandStart}
 use Rattle.jr_parse_expr.specs.declared.begin.OperandStart.TheVariants as start
-use Rattle.jr_parse_expr.specs.Starts.{over}
-use Rattle.jr_parse_expr.specs.Exprs.{Lead, Nothing, super_member, creation, in_parens, negated}
-use Rattle.jr_parse_expr.specs.Steps.{literal, named_operand, inner_closed}
+use Rattle.jr_parse_expr.specs.declared.suffix.Suffix.{Suffix}
+use Rattle.jr_parse_expr.specs.declared.suffix.Suffix.TheVariants as suffix
+use Rattle.jr_parse_expr.specs.Starts.{is_plain_literal, next_is, over}
+use Rattle.jr_parse_expr.specs.Names.{dotted, name, primitive_at}
+use Rattle.jr_parse_expr.specs.Exprs.{Lead, Nothing, next_token, after_dotted, super_member, created_by, creation_by, creation, in_parens, negated, indexed, assigned}
+use Rattle.jr_parse_expr.specs.Steps.{literal, named_by, named_operand, inner_closed, suffixed}
 
 abbrev pub symbol_start : Symbol → OperandStart
 symbol_start y.OpenParen = start.Parenthesis
@@ -66,12 +73,49 @@ module _ (room : ℕ) (inner : Lead → ℕ → Parser x.Expr) (list : Parser x.
   abbrev pub new_operand : Parser x.Expr
   new_operand ts = begun_by (start_at ts) ts
 
-  -- the same for one that stands as a statement (JLS 14.8)
+  -- how an expression that stands as a statement ends, where it goes on with an assignment and where not
+  abbrev pub effect_ended : x.Expr → Option Symbol → Parser x.Expr
+  effect_ended left None ts = if is_statement left then Ok (left, ts) else refuse ts
+  effect_ended left (Some op) ts = over (expr_depth left) room (behind (assigned room inner list left op)) ts
+
+-- how an expression that stands as a statement goes on with an assignment, if it does (JLS 14.8, 15.26)
+abbrev pub assignment_of : x.Expr → Option Symbol → Option Symbol
+assignment_of left None = None
+assignment_of left (Some op) = if is_assignment op && is_target left then Some op else None
+
+-- how many levels below a statement are wanted for one of this height to go on so: an element of an array is no statement
+abbrev pub levels_for : ℕ → Suffix → ℕ
+levels_for height suffix.Index = suc height
+levels_for height key = height
+
+-- the same for an expression that stands as a statement, in low_room levels what is no statement by itself
+module _ (room : ℕ) (inner : Lead → ℕ → Parser x.Expr) (list : Parser x.InitList) (low_room : ℕ) (low : Lead → ℕ → Parser x.Expr) (low_list : Parser x.InitList) where
+  abbrev pub effect_named : Parser x.Expr
+  effect_named = named_by (λ head. dotted (not (nat_lt room 1)) [] head >>= after_dotted room inner list)
+
+  abbrev pub effect_created : Name → Parser x.Expr
+  effect_created n ts = if is_at y.OpenBracket ts then next_token (created_by low_room low low_list n) ts else next_token (created_by room inner list n) ts
+
+  abbrev pub effect_creation_by : Option Primitive → Parser x.Expr
+  effect_creation_by None = name >>= effect_created
+  effect_creation_by (Some p) = creation_by low_room low low_list (Some p)
+
+  abbrev pub effect_creation : Parser x.Expr
+  effect_creation ts = effect_creation_by (primitive_at ts) ts
+
+  abbrev pub effect_literal : Parser x.Expr
+  effect_literal ts = if next_is is_plain_literal (first ts) then over 1 room literal ts else refuse ts
+
+  -- at the token that one begins with
   abbrev pub effect_begun : OperandStart → Parser x.Expr
-  effect_begun start.Parenthesis = over 1 room (behind (inner_closed room inner list Nothing))
+  effect_begun start.Name = effect_named
+  effect_begun start.This = over 1 room (behind (pure (x.This None)))
+  effect_begun start.Super = behind (super_member room inner list)
+  effect_begun start.New = behind effect_creation
+  effect_begun start.Parenthesis = over 2 room (behind (inner_closed low_room low low_list Nothing))
   effect_begun start.Minus = refuse
-  effect_begun (start.Sign s) = λ ts. if is_step s then signed s ts else refuse ts
-  effect_begun begin = begun begin
+  effect_begun (start.Sign s) = λ ts. if is_step s then signed room inner list s ts else refuse ts
+  effect_begun start.Literal = effect_literal
 
   abbrev pub effect_begun_by : Option OperandStart → Parser x.Expr
   effect_begun_by None = refuse
@@ -79,3 +123,8 @@ module _ (room : ℕ) (inner : Lead → ℕ → Parser x.Expr) (list : Parser x.
 
   abbrev pub new_effect : Parser x.Expr
   new_effect ts = effect_begun_by (start_at ts) ts
+
+  -- behind the token that one goes on with
+  abbrev pub effect_suffixed : x.Expr → Suffix → Parser x.Expr
+  effect_suffixed left suffix.Index = indexed low_room low low_list left
+  effect_suffixed left key = suffixed room inner list left key

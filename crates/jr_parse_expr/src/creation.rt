@@ -1,9 +1,10 @@
 // Creations of objects and arrays (JLS 15.9, 15.10).
-ghost use Rattle.std.specs.Prelude.{◌≡◌, ◌≤◌, suc, true, map, IfOk};
+ghost use Rattle.std.specs.Prelude.{◌≡◌, ◌≤◌, suc, true, map, Some, IfOk};
 ghost use Rattle.jr_base.specs.declared.kind.Symbol.TheVariants as y;
 ghost use Rattle.jr_tree.specs.Mirror.Exprs.{plain_expr};
 ghost use Rattle.jr_parse_laws.specs.Parsers.{is_at, kinds};
 ghost use Rattle.jr_parse_expr.specs.Exprs as spec;
+ghost use Rattle.jr_parse_expr.specs.Names.{primitive_at as spec_primitive_at};
 ghost use Rattle.jr_parse_expr.specs.Nests.{Nests};
 ghost use Rattle.jr_parse_expr.specs.Steps.{with_sizes, ReadsSizes};
 ghost use Rattle.jr_parse_expr.specs.Views.{ReadsExpr};
@@ -15,7 +16,7 @@ use crate::measured::{Arguments, Measured};
 use crate::name::{dims_behind, name_after, primitive_at};
 use jr_base::Symbol;
 use jr_parse_laws::{Cursor, Fault};
-use jr_tree::{Base, Name};
+use jr_tree::{Base, Name, Primitive};
 use std::alloc::Global;
 
 /// The sizes of a new array, and how many empty pairs of brackets follow them.
@@ -94,7 +95,7 @@ impl<
     }
 
     /// What a name behind `new` makes, behind the name.
-    fn created(&self, cursor: &mut Cursor<'_>, name: Name) -> Result<Measured, Fault>
+    pub fn created(&self, cursor: &mut Cursor<'_>, name: Name) -> Result<Measured, Fault>
         requires { Nests self.now.room (F.pre self.now.expr) (F.post self.now.expr) (L.pre self.now.list) (L.post self.now.list) }
         ensures reads { ReadsExpr (spec.next_token (spec.created_by self.now.room (spec.expr self.now.room) (spec.list self.now.room) name) (kinds cursor.old)) result (kinds cursor.new) }
         ensures low { IfOk result (λ m. m.height ≤ suc self.now.room) }
@@ -116,6 +117,25 @@ impl<
         }
     }
 
+    /// An array of a primitive type, behind `new` and at the type.
+    pub fn primitive_array(
+        &self,
+        cursor: &mut Cursor<'_>,
+        primitive: Primitive,
+    ) -> Result<Measured, Fault>
+        requires nests { Nests self.now.room (F.pre self.now.expr) (F.post self.now.expr) (L.pre self.now.list) (L.post self.now.list) }
+        requires at { spec_primitive_at (kinds cursor.old) ≡ Some primitive }
+        ensures reads { ReadsExpr (spec.creation_by self.now.room (spec.expr self.now.room) (spec.list self.now.room) (Some primitive) (kinds cursor.old)) result (kinds cursor.new) }
+        ensures low { IfOk result (λ m. m.height ≤ suc self.now.room) }
+    {
+        if self.is_lowest() {
+            return Err(Fault::TooDeep);
+        }
+        cursor.skip();
+        cursor.expect(Symbol::OpenBracket)?;
+        self.array(cursor, Base::Primitive(primitive))
+    }
+
     /// A creation, behind `new`.
     #[tactic(auto, unfolding(crate::specs::Exprs::creation))]
     pub fn creation(&self, cursor: &mut Cursor<'_>) -> Result<Measured, Fault>
@@ -124,12 +144,7 @@ impl<
         ensures low { IfOk result (λ m. m.height ≤ suc self.now.room) }
     {
         if let Some(primitive) = primitive_at(cursor) {
-            if self.is_lowest() {
-                return Err(Fault::TooDeep);
-            }
-            cursor.skip();
-            cursor.expect(Symbol::OpenBracket)?;
-            return self.array(cursor, Base::Primitive(primitive));
+            return self.primitive_array(cursor, primitive);
         }
         let head = cursor.identifier(self.alloc)?;
         let name = name_after(self.alloc, cursor, head)?;

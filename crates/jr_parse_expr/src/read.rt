@@ -5,6 +5,7 @@ ghost use Rattle.jr_parse_laws.specs.Parsers.{Reads, first, kinds};
 ghost use Rattle.jr_parse_expr.specs.Exprs as spec;
 ghost use Rattle.jr_parse_expr.specs.Views.{plain_lead, ReadsExpr};
 
+use crate::effects::EffectGrammar;
 use crate::form::is_assignment;
 use crate::grammar::{Grammar, lowest, nested_expr, nested_list};
 use crate::lead::Lead;
@@ -128,11 +129,19 @@ pub fn effect(
     if room == 0 {
         return Err(lowest(goes_on(&lead, cursor)));
     }
-    let grammar = Grammar {
-        alloc,
-        room: room - 1,
-        expr: nested_expr,
-        list: nested_list,
+    let grammar = EffectGrammar {
+        inner: Grammar {
+            alloc,
+            room: room - 1,
+            expr: nested_expr,
+            list: nested_list,
+        },
+        low: Grammar {
+            alloc,
+            room: room.saturating_sub(2),
+            expr: nested_expr,
+            list: nested_list,
+        },
     };
     Ok(grammar.effects(cursor, lead)?.expr)
 }

@@ -30,7 +30,7 @@ pub enum Suffix {
 }
 
 /// How the operand goes on, if it does.
-fn suffix_at(cursor: &Cursor<'_>, left: &Expr) -> Option<Suffix>
+pub fn suffix_at(cursor: &Cursor<'_>, left: &Expr) -> Option<Suffix>
     ensures { result ≡ step.suffix_of (plain_expr left.now) (symbol_at (kinds cursor.now)) }
 {
     match cursor.symbol()? {
@@ -62,7 +62,7 @@ impl<
     }
 
     /// A place in an array, behind the open bracket (JLS 15.13).
-    fn indexed(&self, cursor: &mut Cursor<'_>, left: Measured) -> Result<Measured, Fault>
+    pub fn indexed(&self, cursor: &mut Cursor<'_>, left: Measured) -> Result<Measured, Fault>
         requires nests { Nests self.now.room (F.pre self.now.expr) (F.post self.now.expr) (L.pre self.now.list) (L.post self.now.list) }
         requires low { left.height ≤ self.now.room }
         ensures reads { ReadsExpr (spec.indexed self.now.room (spec.expr self.now.room) (spec.list self.now.room) (plain_expr left.expr) (kinds cursor.old)) result (kinds cursor.new) }
@@ -74,7 +74,7 @@ impl<
     }
 
     /// What goes on so, behind the token.
-    fn suffixed(
+    pub fn suffixed(
         &self,
         cursor: &mut Cursor<'_>,
         left: Measured,
