@@ -18,6 +18,8 @@ mod operator;
 mod read;
 mod start;
 mod suffix;
+#[cfg(test)]
+mod tests;
 
 pub use law::expressions_have_one_reading;
 pub use lead::Lead;
