@@ -69,6 +69,10 @@ module _ (room : ℕ) (inner : Lead → ℕ → Parser x.Expr) (list : Parser x.
   abbrev pub named_operand : Parser x.Expr
   named_operand = named_by (λ head. dotted true [] head >>= after_dotted room inner list)
 
+  -- a conditional, behind the colon
+  abbrev pub otherwise : x.Expr → x.Expr → Parser x.Expr
+  otherwise c a = inner Nothing 1 >>= (λ b. pure (x.Cond c a b))
+
   abbrev pub suffixed : x.Expr → Suffix → Parser x.Expr
   suffixed left s.Member = selected room inner list left
   suffixed left s.Index = indexed room inner list left

@@ -80,6 +80,22 @@ impl<
     {
         let yes = self.expr(cursor, Lead::Nothing, 0)?;
         cursor.expect(Symbol::Colon)?;
+        self.otherwise(cursor, cond, yes)
+    }
+
+    /// A conditional, behind the colon.
+    fn otherwise(
+        &self,
+        cursor: &mut Cursor<'_>,
+        cond: Measured,
+        yes: Measured,
+    ) -> Result<Measured, Fault>
+        requires nests { Nests self.now.room (F.pre self.now.expr) (F.post self.now.expr) (L.pre self.now.list) (L.post self.now.list) }
+        requires cond { cond.height ≤ self.now.room }
+        requires yes { yes.height ≤ self.now.room }
+        ensures reads { ReadsExpr (step.otherwise self.now.room (spec.expr self.now.room) (spec.list self.now.room) (plain_expr cond.expr) (plain_expr yes.expr) (kinds cursor.old)) result (kinds cursor.new) }
+        ensures low { IfOk result (λ m. m.height ≤ suc self.now.room) }
+    {
         let no = self.expr(cursor, Lead::Nothing, 1)?;
         Ok(Measured::cond(self.alloc, cond, yes, no)?)
     }
