@@ -89,8 +89,7 @@ module _ (room : ℕ) (inner : Lead → ℕ → Parser x.Expr) (list : Parser x.
       → (spec.effect_suffixes room inner list low low_list left ts ≡ spec.effect_suffixes room inner list low low_list e rest) × (expr_depth left < expr_depth e)
   unfolding spec.effect_suffixes
   effect_more low_room left ts key e rest c h r =
-      let read : tested left key (drop 1 ts) ≡ Ok (e, rest) = tested_is low_room left key (drop 1 ts) h ∙ r in
-      (
+      let read : tested left key (drop 1 ts) ≡ Ok (e, rest) = tested_is low_room left key (drop 1 ts) h ∙ r in (
         chain_more room inner list (λ left ts. suffix_of left (symbol_at ts)) tested (spec.effect_suffixes_from room inner list low low_list) last next ends grows left ts key e rest c (levels_low (expr_depth left) room key h) read,
         grows left key (drop 1 ts) e rest read,
       )
