@@ -33,7 +33,10 @@ effect_lowest room lead ts h = ap (λ n. effect n lead ts) h
 below_is : (room : ℕ) → 0 < room → below (room - 1) ≡ room - 2
 below_is zero h = absurd (omega arith)
 below_is (suc zero) h = refl
-below_is (suc (suc room)) h = omega arith
+below_is (suc (suc room)) h =
+    let one : suc (suc room) - 1 ≡ suc room = omega arith in
+    let two : suc (suc room) - 2 ≡ room = omega arith in
+    ap below one ∙ sym two
 
 -- the levels of the parts of what is no statement by itself are one less
 pub effect_below : (room low : ℕ) (lead : Lead) (ts : List Kind) → 0 < room → low ≡ room - 2

@@ -36,7 +36,9 @@ fn reads_names(rt: HostRuntime) -> Result<(), Fail> {
     let tokens = tokens(rt.alloc(), "a.b")?;
     let mut cursor = Cursor { rest: &tokens };
     let read = type_use(rt.alloc(), &mut cursor);
-    assert!(rt; matches!(&read, Ok(ty) if matches!(&ty.base, Base::Named(name) if name.parts.len() == 2)));
+    assert!(rt;
+        matches!(&read, Ok(ty) if matches!(&ty.base, Base::Named(name) if name.parts.len() == 2))
+    );
     let mut cursor = Cursor { rest: &tokens };
     cursor.skip();
     let head = Text::new(vec![in rt.alloc(); b'a']?);
@@ -50,7 +52,15 @@ fn reads_expressions(rt: HostRuntime) -> Result<(), Fail> {
     let tokens = tokens(rt.alloc(), "a+b,")?;
     let mut cursor = Cursor { rest: &tokens };
     let read = expr(rt.alloc(), &mut cursor, 2, Lead::Nothing, 0);
-    assert!(rt; matches!(&read, Ok(Expr::Binary { op: Symbol::Plus, .. })));
+    assert!(rt;
+        matches!(
+            &read,
+            Ok(Expr::Binary {
+                op: Symbol::Plus,
+                ..
+            })
+        )
+    );
     assert_eq!(rt; cursor.rest.len(), 1);
     let mut cursor = Cursor { rest: &tokens };
     let read = expr(rt.alloc(), &mut cursor, 1, Lead::Nothing, 0);
@@ -73,7 +83,14 @@ fn reads_initializers(rt: HostRuntime) -> Result<(), Fail> {
     let tokens = tokens(rt.alloc(), "a")?;
     let mut cursor = Cursor { rest: &tokens };
     let read = init(rt.alloc(), &mut cursor, 1);
-    assert!(rt; matches!(&read, Ok(Init::Value { value: Expr::NameExpr { .. } })));
+    assert!(rt;
+        matches!(
+            &read,
+            Ok(Init::Value {
+                value: Expr::NameExpr { .. }
+            })
+        )
+    );
     Ok(())
 }
 
@@ -91,7 +108,15 @@ fn reads_statements(rt: HostRuntime) -> Result<(), Fail> {
     let tokens = tokens(rt.alloc(), "a=f(b)")?;
     let mut cursor = Cursor { rest: &tokens };
     let read = effect(rt.alloc(), &mut cursor, 3, Lead::Nothing);
-    assert!(rt; matches!(&read, Ok(Expr::Assign { op: Symbol::Assign, .. })));
+    assert!(rt;
+        matches!(
+            &read,
+            Ok(Expr::Assign {
+                op: Symbol::Assign,
+                ..
+            })
+        )
+    );
     assert!(rt; cursor.rest.is_empty());
     Ok(())
 }
