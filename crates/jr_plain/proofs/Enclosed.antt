@@ -43,8 +43,8 @@ in_body_below p c o h = type_below p c h.of_type.type
 
 pub innermost_finds : (p : Rows) (o : ℕ) → Finds (plain.innermost p o) (λ c. Innermost p o c)
 innermost_finds p o c =
-    let both_ways = finds_last (λ c. plain.is_in_body p c o) (λ c. InBody p c o) (λ c. in_body_tells p c o) (length p) (λ c h. in_body_below p c o h) c in
-    (λ e. let h = both_ways.0 e in record { holds = h.0; innermost = h.1 }, λ h. both_ways.1 (h.holds, h.innermost))
+    let last = finds_last (λ c. plain.is_in_body p c o) (λ c. InBody p c o) (λ c. in_body_tells p c o) (length p) c in
+    (λ e. let h = last.0 e in record { holds = h.1; innermost = λ e i. h.2 e (in_body_below p e o i) i }, λ h. last.1 (in_body_below p c o h.holds, h.holds, λ e lt i. h.innermost e i))
 
 pub member_role_tells : (r : Role) → Decides (plain.is_member_role r) (IsMemberRole r)
 member_role_tells role.Type = always

@@ -1,5 +1,5 @@
 -- What searches find.
-use Rattle.std.proofs.Common.{le_antisymm, ◌≡◌, ◌⊎◌, refl, sym, ◌∙◌, ap, subst, inl, inr, ⊎_elim, arith, ℕ, zero, suc, ◌≤◌, ◌<◌, Bool, true, false, if◌then◌else◌, ◌&&◌, ◌||◌, List, [], ◌∷◌, ◌++◌, filter, flat_map, Option, Some, None, nat_eq, Decides, MatchOption}
+use Rattle.std.proofs.Common.{le_antisymm, le_of_eq, ◌≡◌, ◌⊎◌, refl, sym, ◌∙◌, ap, subst, inl, inr, ⊎_elim, arith, ℕ, zero, suc, ◌≤◌, ◌<◌, Bool, true, false, if◌then◌else◌, ◌&&◌, ◌||◌, List, [], ◌∷◌, ◌++◌, filter, flat_map, Option, Some, None, nat_eq, Decides, MatchOption}
 use Rattle.std.specs.List.{list_any}
 use Rattle.std.specs.Option.{option_or}
 use Rattle.std.proofs.lemmas.Bool.{false≢true, cases_lt, cases_eq, or_cases, or_left, or_right}
@@ -7,7 +7,7 @@ use Rattle.std.proofs.lemmas.Bool.Decides.{Decides-at, Decides-eqb}
 use Rattle.std.proofs.lemmas.List.Folds.{list_any-append}
 use Rattle.std.proofs.lemmas.Map.Views.{any-filter_same}
 use Rattle.std.proofs.lemmas.Option.{none-some, same_Some}
-use Rattle.jr_plain.specs.Search.{any_below, all_below, first_below, last_below, all_such, gathered, among, has, Lists, Finds}
+use Rattle.jr_plain.specs.Search.{any_below, all_below, first_below, last_below, all_such, gathered, IsFirst, IsLast, among, has, Lists, Finds}
 use Rattle.jr_plain.proofs.Tests.{itself, like, both, either, never}
 
 -- ---- below a number
@@ -108,51 +108,43 @@ module _ (test : ℕ → Bool) (P : ℕ → Type 0) (tells : (k : ℕ) → Decid
   pub some_of : {Q : ℕ → Type 0} (items : List ℕ) → Lists items Q → Decides (list_any test items) ((k : ℕ) × Q k × P k)
   some_of items holds = like (some_item nat_eq Decides-eqb test items) (λ h. (h.0, (holds h.0).0 h.1, (tells h.0).0 h.2)) (λ h. (h.0, (holds h.0).1 h.1, (tells h.0).1 h.2))
 
-  abbrev Found : ℕ → Option ℕ → Type 0
-  Found n found = MatchOption found ((k : ℕ) → k < n → P k → ⊥) (λ k. (k < n) × P k)
+  abbrev Found : (ℕ → ℕ → Type 0) → ℕ → Option ℕ → Type 0
+  Found Is n found = MatchOption found ((k : ℕ) → k < n → P k → ⊥) (λ k. Is n k)
 
-  found_more : (n : ℕ) (before : Option ℕ) (b : Bool) → Found n before → Decides b (P n) → Found (suc n) (option_or before (if b then Some n else None))
-  found_more n (Some k) b h d = let lt = h.0 in (omega arith, h.1)
-  found_more n None true h d = (omega arith, d.0 refl)
-  found_more n None false h d = λ k lt p. ⊎_elim (λ e. false≢true (d.1 (subst P e p))) (λ apart. h k (omega arith) p) (cases_eq k n)
+  found_one : (Is : ℕ → ℕ → Type 0) → ((n k : ℕ) → Is n k → (k < n) × P k) → ((n j k : ℕ) → Is n j → Is n k → j ≡ k) → (n : ℕ) (found : Option ℕ) → Found Is n found → Finds found (Is n)
+  found_one Is such one n None h k = (λ e. absurd (none-some k e), λ i. let w = such n k i in absurd (h k w.0 w.1))
+  found_one Is such one n (Some j) h k = (λ e. subst (Is n) (same_Some _ _ e) h, λ i. ap Some (one n j k h i))
 
-  found : (n : ℕ) → Found n (first_below n test)
-  found zero = λ k lt p. absurd (omega arith)
-  found (suc n) = found_more n (first_below n test) (test n) (found n) (tells n)
+  none_more : (n : ℕ) → Decides false (P n) → ((k : ℕ) → k < n → P k → ⊥) → (k : ℕ) → k < suc n → P k → ⊥
+  none_more n d h k lt p = ⊎_elim (λ e. false≢true (d.1 (subst P e p))) (λ apart. h k (omega arith) p) (cases_eq k n)
 
-  found_one : (n : ℕ) → ((k : ℕ) → P k → k < n) → ((j k : ℕ) → P j → P k → j ≡ k) → (before : Option ℕ) → Found n before → Finds before P
-  found_one n within one None h k = (λ e. absurd (none-some k e), λ p. absurd (h k (within k p) p))
-  found_one n within one (Some j) h k = (λ e. subst P (same_Some _ _ e) h.1, λ p. ap Some (one j k h.1 p))
+  first_more : (n : ℕ) (before : Option ℕ) (b : Bool) → Found (IsFirst P) n before → Decides b (P n) → Found (IsFirst P) (suc n) (option_or before (if b then Some n else None))
+  first_more n (Some k) b h d = let lt = h.0 in (omega arith, h.1, h.2)
+  first_more n None true h d = (omega arith, d.0 refl, λ j p. ⊎_elim (λ lt. absurd (h j lt p)) (λ le. le) (cases_lt j n))
+  first_more n None false h d = none_more n d h
+
+  first_found : (n : ℕ) → Found (IsFirst P) n (first_below n test)
+  first_found zero = λ k lt p. absurd (omega arith)
+  first_found (suc n) = first_more n (first_below n test) (test n) (first_found n) (tells n)
+
+  pub finds_first : (n : ℕ) → Finds (first_below n test) (IsFirst P n)
+  finds_first n = found_one (IsFirst P) (λ n k i. (i.0, i.1)) (λ n j k a b. le_antisymm (a.2 k b.1) (b.2 j a.1)) n (first_below n test) (first_found n)
 
   -- the one that is such
   pub finds : (n : ℕ) → ((k : ℕ) → P k → k < n) → ((j k : ℕ) → P j → P k → j ≡ k) → Finds (first_below n test) P
-  finds n within one = found_one n within one (first_below n test) (found n)
+  finds n within one k = (λ e. ((finds_first n k).0 e).1, λ p. (finds_first n k).1 (within k p, p, λ j h. le_of_eq (one k j p h)))
 
-  abbrev IsLast : ℕ → ℕ → Type 0
-  IsLast n k = P k × ((j : ℕ) → j < n → P j → j ≤ k)
+  last_more : (n : ℕ) (before : Option ℕ) (b : Bool) → Found (IsLast P) n before → Decides b (P n) → Found (IsLast P) (suc n) (if b then Some n else before)
+  last_more n before true h d = (omega arith, d.0 refl, λ j lt p. omega arith)
+  last_more n (Some k) false h d = let lt = h.0 in (omega arith, h.1, λ j lt p. ⊎_elim (λ e. absurd (false≢true (d.1 (subst P e p)))) (λ apart. h.2 j (omega arith) p) (cases_eq j n))
+  last_more n None false h d = none_more n d h
 
-  abbrev Ended : ℕ → Option ℕ → Type 0
-  Ended n found = MatchOption found ((k : ℕ) → k < n → P k → ⊥) (λ k. (k < n) × IsLast n k)
+  last_found : (n : ℕ) → Found (IsLast P) n (last_below n test)
+  last_found zero = λ k lt p. absurd (omega arith)
+  last_found (suc n) = last_more n (last_below n test) (test n) (last_found n) (tells n)
 
-  ended_more : (n : ℕ) (before : Option ℕ) (b : Bool) → Ended n before → Decides b (P n) → Ended (suc n) (if b then Some n else before)
-  ended_more n before true h d = (omega arith, (d.0 refl, λ j lt p. omega arith))
-  ended_more n (Some k) false h d = let lt = h.0 in (omega arith, (h.1.0, λ j lt p. ⊎_elim (λ e. absurd (false≢true (d.1 (subst P e p)))) (λ apart. h.1.1 j (omega arith) p) (cases_eq j n)))
-  ended_more n None false h d = λ k lt p. ⊎_elim (λ e. false≢true (d.1 (subst P e p))) (λ apart. h k (omega arith) p) (cases_eq k n)
-
-  ended : (n : ℕ) → Ended n (last_below n test)
-  ended zero = λ k lt p. absurd (omega arith)
-  ended (suc n) = ended_more n (last_below n test) (test n) (ended n) (tells n)
-
-  last_one : (n : ℕ) → ((k : ℕ) → P k → k < n) → (before : Option ℕ) → Ended n before → Finds before (λ k. P k × ((j : ℕ) → P j → j ≤ k))
-  last_one n within None h k = (λ e. absurd (none-some k e), λ p. absurd (h k (within k p.0) p.0))
-  last_one n within (Some i) h k = (
-    λ e. subst (λ k. P k × ((j : ℕ) → P j → j ≤ k)) (same_Some _ _ e) (h.1.0, λ j p. h.1.1 j (within j p) p),
-    λ p. ap Some (le_antisymm (p.1 i h.1.0) (h.1.1 k (within k p.0) p.0)),
-  )
-
-  -- the last that is such
-  pub finds_last : (n : ℕ) → ((k : ℕ) → P k → k < n) → Finds (last_below n test) (λ k. P k × ((j : ℕ) → P j → j ≤ k))
-  finds_last n within = last_one n within (last_below n test) (ended n)
+  pub finds_last : (n : ℕ) → Finds (last_below n test) (IsLast P n)
+  finds_last n = found_one (IsLast P) (λ n k i. (i.0, i.1)) (λ n j k a b. le_antisymm (b.2 j a.0 a.1) (a.2 k b.0 b.1)) n (last_below n test) (last_found n)
 
 -- an item of one of the lists that the items of a list have
 module _ {A : Type 0} (same : A → A → Bool) where

@@ -1,5 +1,5 @@
 -- Searches over numbers and lists, and the least set that holds all that follows from it.
-use Rattle.std.specs.Prelude.{◌≡◌, ℕ, zero, suc, Bool, true, false, not, ◌&&◌, ◌||◌, if◌then◌else◌, List, [], ◌∷◌, ◌++◌, length, filter, Option, Some, None, nat_eq, Decides}
+use Rattle.std.specs.Prelude.{◌≡◌, ℕ, zero, suc, ◌≤◌, ◌<◌, Bool, true, false, not, ◌&&◌, ◌||◌, if◌then◌else◌, List, [], ◌∷◌, ◌++◌, length, filter, Option, Some, None, nat_eq, Decides}
 use Rattle.std.specs.List.{list_any}
 use Rattle.std.specs.Option.{option_or}
 
@@ -55,6 +55,13 @@ Lists items P = (x : ℕ) → Decides (has items x) (P x)
 -- what is found is the one of which P holds
 abbrev pub Finds : {A : Type 0} → Option A → (A → Type 0) → Type 0
 Finds {A} found P = (x : A) → (found ≡ Some x → P x) × (P x → found ≡ Some x)
+
+-- k is the first, or the last, number below n of which P holds
+abbrev pub IsFirst : (ℕ → Type 0) → ℕ → ℕ → Type 0
+IsFirst P n k = (k < n) × P k × ((j : ℕ) → P j → k ≤ j)
+
+abbrev pub IsLast : (ℕ → Type 0) → ℕ → ℕ → Type 0
+IsLast P n k = (k < n) × P k × ((j : ℕ) → j < n → P j → j ≤ k)
 
 -- ---- least sets
 

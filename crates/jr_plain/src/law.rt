@@ -26,7 +26,7 @@ ghost use Rattle.jr_plain.specs.Modifiers.{is_in_interface, is_public, is_protec
 ghost use Rattle.jr_plain.specs.Overriding.{overrides, has_method, implements, serves, is_found, dispatches};
 ghost use Rattle.jr_plain.specs.Packages.{is_in_unit, unit_of, is_in_package, is_same_package, is_type_of_package};
 ghost use Rattle.jr_plain.specs.Referents.{answer_of, is_candidate};
-ghost use Rattle.jr_plain.specs.Search.{any_below, all_below, has, Lists, Finds, last_below, all_such, least_below, Reaches, reaches};
+ghost use Rattle.jr_plain.specs.Search.{any_below, all_below, first_below, IsFirst, IsLast, has, Lists, Finds, last_below, all_such, least_below, Reaches, reaches};
 ghost use Rattle.jr_plain.specs.Supertypes.{is_super_at, supers, superclasses, is_above, is_at_or_above, is_subtype};
 ghost use Rattle.jr_plain.specs.Types.{named_type, type_at, type_of_declared, parameters, is_same_signature};
 ghost use Rattle.jr_defs.specs.Access.{IsThrough, ByProtected, IsAccessible};
@@ -49,6 +49,8 @@ ghost use Rattle.jr_plain.specs.Scope.{has_scope, is_in_scope, shadows, is_visib
 pub fn searches_are_exact()
     ensures any { (test : ℕ → Bool) (n : ℕ) → Decides (any_below n test) ((k : ℕ) × (k < n) × (test k ≡ true)) }
     ensures all { (test : ℕ → Bool) (n : ℕ) → Decides (all_below n test) ((k : ℕ) → k < n → test k ≡ true) }
+    ensures first { (test : ℕ → Bool) (n : ℕ) → Finds (first_below n test) (IsFirst (λ k. test k ≡ true) n) }
+    ensures last { (test : ℕ → Bool) (n : ℕ) → Finds (last_below n test) (IsLast (λ k. test k ≡ true) n) }
     ensures such { (test : ℕ → Bool) (n : ℕ) → Lists (all_such n test) (λ k. (k < n) × (test k ≡ true)) }
     ensures closed { (n : ℕ) (follows : List ℕ → ℕ → Bool) (k : ℕ) → k < n → follows (least_below n follows) k ≡ true → has (least_below n follows) k ≡ true }
     ensures reached { (n : ℕ) (edge : ℕ → ℕ → Bool) → ((a b : ℕ) → edge a b ≡ true → a < n) → (a b : ℕ) → Decides (reaches n edge a b) (Reaches (λ a b. edge a b ≡ true) a b) }
