@@ -1,4 +1,4 @@
--- What lists made of lists have, and the first number that passes.
+-- What lists made of lists have.
 use Rattle.std.proofs.Common.{le_antisymm, ◌≡◌, ◌⊎◌, refl, sym, ap, subst, inl, inr, ⊎_elim, arith, ℕ, zero, suc, ◌+◌, ◌≤◌, ◌<◌, Bool, true, false, not, ◌&&◌, ◌||◌, if◌then◌else◌, List, [], ◌∷◌, ◌++◌, filter, map, Option, Some, None, nat_eq, Decides, MatchOption}
 use Rattle.std.specs.List.{list_any, list_all, flat_map}
 use Rattle.std.specs.Option.{option_or, option_map_or}
@@ -97,29 +97,3 @@ at_level_has level items holds k = like (by items) (λ h. ((holds k.0).0 h.0, h.
     by (d ∷ more) = like (either (candidate_tells (d, level) k) (by more))
         (⊎_elim (λ e. (or_left (nat_eq d k.0) (has more k.0) ((Decides-eqb d k.0).1 (ap (λ x. x.0) e)), sym (ap (λ x. x.1) e))) (λ h. (or_right (nat_eq d k.0) (has more k.0) h.0, h.1)))
         (λ h. ⊎_elim (λ e. inl (λ i. ((Decides-eqb d k.0).0 e i, sym h.1 i))) (λ r. inr (r, h.1)) (or_cases (nat_eq d k.0) (has more k.0) h.0))
-
--- ---- the first number that passes
-
-module _ (test : ℕ → Bool) (P : ℕ → Type 0) (tells : (k : ℕ) → Decides (test k) (P k)) where
-  abbrev pub IsFirst : ℕ → Type 0
-  IsFirst k = P k × ((j : ℕ) → P j → k ≤ j)
-
-  abbrev Begun : ℕ → Option ℕ → Type 0
-  Begun n found = MatchOption found ((k : ℕ) → k < n → P k → ⊥) (λ k. (k < n) × IsFirst k)
-
-  begun_more : (n : ℕ) (before : Option ℕ) (b : Bool) → Begun n before → Decides b (P n) → Begun (suc n) (option_or before (if b then Some n else None))
-  begun_more n (Some k) b h d = let lt = h.0 in (omega arith, h.1)
-  begun_more n None true h d = (omega arith, (d.0 refl, λ j p. ⊎_elim (λ lt. absurd (h j lt p)) (λ le. le) (cases_lt j n)))
-  begun_more n None false h d = λ k lt p. ⊎_elim (λ e. false≢true (d.1 (subst P e p))) (λ apart. h k (omega arith) p) (cases_eq k n)
-
-  begun : (n : ℕ) → Begun n (first_below n test)
-  begun zero = λ k lt p. absurd (omega arith)
-  begun (suc n) = begun_more n (first_below n test) (test n) (begun n) (tells n)
-
-  first_one : (n : ℕ) → ((k : ℕ) → P k → k < n) → (found : Option ℕ) → Begun n found → Finds found IsFirst
-  first_one n bound None h k = (λ e. absurd (none-some k e), λ p. absurd (h k (bound k p.0) p.0))
-  first_one n bound (Some i) h k = (λ e. subst IsFirst (same_Some _ _ e) h.1, λ p. ap Some (le_antisymm (h.1.1 k p.0) (p.1 i h.1.0)))
-
-  -- the first that is such
-  pub finds_first : (n : ℕ) → ((k : ℕ) → P k → k < n) → Finds (first_below n test) IsFirst
-  finds_first n bound = first_one n bound (first_below n test) (begun n)

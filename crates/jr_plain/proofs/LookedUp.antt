@@ -225,9 +225,9 @@ module _ (p : Rows) (t : Table) (headed : IsHeaded p) where
           (λ d h. declares_below p space.Method x d h.declares))
 
   method_level_finds : (x : Text) (o : ℕ) → Finds (plain.method_level p t x o) (λ c. MethodLevel p t x o c)
-  method_level_finds x o c = let h = finds_last (λ c. plain.is_method_level p t x o c) (SomeLevel x o) (level_tells x o) (length p) (λ c h. in_body_below p c o h.0) c in
-      (λ e. let k = h.0 e in record { holds = k.0.0; some = k.0.1.0; member = k.0.1.1; innermost = λ e d b m. k.1 e (b, (d, m)) },
-       λ k. h.1 ((k.holds, (k.some, k.member)), λ j m. k.innermost j m.1.0 m.0 m.1.1))
+  method_level_finds x o c = let h = finds_last (λ c. plain.is_method_level p t x o c) (SomeLevel x o) (level_tells x o) (length p) c in
+      (λ e. let k = h.0 e in record { holds = k.1.0; some = k.1.1.0; member = k.1.1.1; innermost = λ e d b m. k.2 e (in_body_below p e o b) (b, (d, m)) },
+       λ k. h.1 (in_body_below p c o k.holds, (k.holds, (k.some, k.member)), λ j lt m. k.innermost j m.1.0 m.0 m.1.1))
 
   imported_methods_list : (x : Text) (o : ℕ) → Lists (plain.imported_methods p t x o) (λ d. ImportedMethod p t x o d)
   imported_methods_list x o = lists (λ d. is_imported p (is_static_import p t) o d && declares p space.Method x d) (λ d. ImportedMethod p t x o d)
@@ -273,9 +273,10 @@ module _ (p : Rows) (t : Table) (headed : IsHeaded p) where
   -- ---- creations
 
   encloses_finds : (o c : ℕ) → Finds (plain.enclosing_new p t o c) (λ e. EnclosesNew p t o c e)
-  encloses_finds o c e = let h = finds_last (λ e. is_in_body p e o && is_member p t e c) (λ e. InBody p e o × MemberOf p t e c) (λ e. both (in_body_tells p e o) (member_tells p t headed e c)) (length p)
-          (λ e h. in_body_below p e o h.0) e in
-      (λ e. let k = h.0 e in record { holds = k.0.0; member = k.0.1; innermost = λ f b m. k.1 f (b, m) }, λ k. h.1 ((k.holds, k.member), λ j m. k.innermost j m.0 m.1))
+  encloses_finds o c e =
+      let h = finds_last (λ e. is_in_body p e o && is_member p t e c) (λ e. InBody p e o × MemberOf p t e c) (λ e. both (in_body_tells p e o) (member_tells p t headed e c)) (length p) e in
+      (λ found. let k = h.0 found in record { holds = k.1.0; member = k.1.1; innermost = λ f b m. k.2 f (in_body_below p f o b) (b, m) },
+       λ k. h.1 (in_body_below p e o k.holds, (k.holds, k.member), λ j lt m. k.innermost j m.0 m.1))
 
   new_level_finds : (o c : ℕ) → Finds (plain.new_level p t o c) (λ level. NewLevel p t o c level)
   new_level_finds o c level = (out (is_inner p c) (inner_tells p c) level, into (is_inner p c) (inner_tells p c) level)

@@ -27,9 +27,9 @@ use Rattle.jr_plain.specs.Members.{is_member}
 use Rattle.jr_plain.specs.Overloads as plain
 use Rattle.jr_plain.specs.Overloads.{Types}
 use Rattle.jr_plain.proofs.Tests.{itself, never, both, either, opposite, like}
-use Rattle.jr_plain.proofs.Searches.{some_of}
+use Rattle.jr_plain.proofs.Searches.{some_of, finds_first}
 use Rattle.jr_plain.proofs.OfTypes.{closed_types, sound_types}
-use Rattle.jr_plain.proofs.Listed.{decided, or_else_has, filter_has, all_of, finds_first}
+use Rattle.jr_plain.proofs.Listed.{decided, or_else_has, filter_has, all_of}
 use Rattle.jr_plain.proofs.Same.{type_tells}
 use Rattle.jr_plain.proofs.Bounds.{class_below, parent_past, type_below}
 use Rattle.jr_plain.proofs.Modified.{found_tells, abstract_tells}
@@ -145,8 +145,8 @@ module _ (p : Rows) (t : Table) (headed : IsHeaded p) where
   FirstPlace c d n = HasAt c d n × ((j : ℕ) → HasAt c d j → n ≤ j)
 
   first_place_finds : (c d : ℕ) → Finds (plain.first_place p t c d) (λ n. FirstPlace c d n)
-  first_place_finds c d = finds_first (λ n. list_any (λ s. plain.is_through_at p t c d n s) (supers p t c)) (λ n. HasAt c d n) (has_at_tells c d) (length p)
-      (λ n h. super_place_below c n h.0 h.2.0)
+  first_place_finds c d n = let h = finds_first (λ n. list_any (λ s. plain.is_through_at p t c d n s) (supers p t c)) (λ n. HasAt c d n) (has_at_tells c d) (length p) n in
+      (λ e. let k = h.0 e in (k.1, k.2), λ k. h.1 (super_place_below c n k.0.0 k.0.2.0, k.0, k.1))
 
   first_through : (c d n s : ℕ) → FirstPlace c d n → SuperAt p t c n s → MemberOf p t s d → FirstThrough p t c n s d
   first_through c d n s h at member = record { at = at; member = member; first = λ m r lt a b. let le = h.1 m (r, record { place = m; at = a }, (a, b)) in absurd (omega arith) }
