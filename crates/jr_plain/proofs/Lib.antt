@@ -25,3 +25,4 @@ pub mod Overloaded
 pub mod LookedUp
 pub mod Headed
 pub mod WorkedLookup
+pub mod WorkedCalls
