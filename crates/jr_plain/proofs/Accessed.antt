@@ -1,5 +1,5 @@
 -- The tests of access tell what they are to tell.
-use Rattle.std.proofs.Common.{◌≡◌, ◌⊎◌, refl, inl, inr, ⊎_elim, ℕ, zero, suc, ◌<◌, Bool, true, false, not, ◌&&◌, ◌||◌, length, Option, Some, None, Decides}
+use Rattle.std.proofs.Common.{◌≡◌, ◌⊎◌, refl, inl, inr, ⊎_elim, ℕ, zero, suc, true, length, Option, Some, None, Decides}
 use Rattle.std.proofs.lemmas.Bool.{false≢true}
 use Rattle.jr_tree.specs.declared.tree.ThisOrSuper.TheVariants as which
 use Rattle.jr_rows.specs.declared.label.Role.{Role}
@@ -78,7 +78,7 @@ module _ (p : Rows) (t : Table) (headed : IsHeaded p) where
   pub by_protected_tells : (d o : ℕ) (receiver : Option RowType) → Decides (plain.is_by_protected p t d o receiver) (ByProtected p t d o receiver)
   by_protected_tells d o receiver = like
       (both (protected_tells p d) (found_tells (λ c. DeclaredIn p c d) (λ holder. any_below (length p) (λ s. plain.is_subclass_round p t d o receiver holder s)) (SubclassRound d o receiver)
-          (subclass_tells d o receiver) (declaring_type p d) (declaring_finds p d)))
+      (subclass_tells d o receiver) (declaring_type p d) (declaring_finds p d)))
       (λ h. record { protected = h.0; holder = h.1.0; declared = h.1.1; subclass = h.1.2.0; body = h.1.2.1.0.0; above = h.1.2.1.0.1; through = h.1.2.1.1 })
       (λ h. (h.protected, (h.holder, h.declared, (h.subclass, ((h.body, h.above), h.through)))))
 
@@ -89,7 +89,7 @@ module _ (p : Rows) (t : Table) (headed : IsHeaded p) where
   pub accessible_tells : (d o : ℕ) (receiver : Option RowType) → Decides (plain.is_accessible p t d o receiver) (IsAccessible p t d o receiver)
   accessible_tells d o receiver = like
       (either (local_role_tells (role_at p d)) (either (public_tells p d) (either (both (private_tells p d) (same_top_level_tells p d o))
-          (either (both (opposite (private_tells p d)) (same_package_tells p d o)) (either (by_protected_tells d o receiver) (by_super_call_tells p d o)))))) out into
+      (either (both (opposite (private_tells p d)) (same_package_tells p d o)) (either (by_protected_tells d o receiver) (by_super_call_tells p d o)))))) out into
     where
       out : Ways d o receiver → IsAccessible p t d o receiver
       out (inl h) = IsAccessible.local h

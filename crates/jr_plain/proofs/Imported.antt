@@ -1,5 +1,5 @@
 -- The tests of imports tell what they are to tell.
-use Rattle.std.proofs.Common.{◌≡◌, ◌⊎◌, refl, sym, subst, inl, inr, ⊎_elim, ℕ, ◌+◌, ◌<◌, Bool, true, false, not, ◌&&◌, ◌||◌, length, Option, nat_eq, bytes_eq, Decides}
+use Rattle.std.proofs.Common.{◌≡◌, ◌⊎◌, refl, inl, inr, ⊎_elim, ℕ, ◌+◌, ◌<◌, ◌&&◌, length, Option, Decides}
 use Rattle.std.proofs.lemmas.Bool.{false≢true}
 use Rattle.std.proofs.lemmas.Bool.Decides.{Decides-eqb}
 use Rattle.std.proofs.lemmas.Slice.Eq.{bytes_eq-Decides}
@@ -22,7 +22,7 @@ use Rattle.jr_plain.specs.Enclosing.{is_in_top_level}
 use Rattle.jr_plain.specs.Supertypes.{declaration}
 use Rattle.jr_plain.specs.Members.{is_member}
 use Rattle.jr_plain.specs.Imports as plain
-use Rattle.jr_plain.proofs.Tests.{itself, both, either, opposite, like}
+use Rattle.jr_plain.proofs.Tests.{both, either, opposite, like}
 use Rattle.jr_plain.proofs.Searches.{some, some_of}
 use Rattle.jr_plain.proofs.Bounds.{bounded, type_below}
 use Rattle.jr_plain.proofs.Declared.{type_tells}
@@ -53,7 +53,7 @@ can_import_tells p u d = like (both (opposite (private_tells p d)) (either (publ
 pub single_import_tells : (p : Rows) (t : Table) (u d : ℕ) → Decides (plain.is_single_import p t u d) (SingleImport p t u d)
 single_import_tells p t u d = like
     (both (some (λ i. plain.is_import_of p u importing.Single i && plain.import_names p t i d) (λ i. ImportOf p u importing.Single i × ImportNames p t i d)
-        (λ i. both (import_of_tells p u importing.Single i) (import_names_tells p t i d)) (length p) (λ i h. import_below p u importing.Single i h.0)) (opposite (in_unit_tells p u d)))
+    (λ i. both (import_of_tells p u importing.Single i) (import_names_tells p t i d)) (length p) (λ i h. import_below p u importing.Single i h.0)) (opposite (in_unit_tells p u d)))
     (λ h. record { import = h.0.0; is_import = h.0.1.0; names = h.0.1.1; foreign = h.1 }) (λ h. ((h.import, (h.is_import, h.names)), h.foreign))
 
 package_tells : (a : Referent) → Decides (plain.is_package a) (a ≡ Package)
@@ -98,7 +98,7 @@ module _ (p : Rows) (t : Table) (headed : IsHeaded p) where
   pub on_demand_of_tells : (u d : ℕ) → Decides (plain.is_on_demand_of p t u d) (OnDemandOf p t u d)
   on_demand_of_tells u d = like
       (either (some (λ i. plain.is_demanded_by p t u i d) (λ i. DemandedBy u i d) (λ i. demanded_by_tells u i d) (length p) (λ i h. import_below p u importing.OnDemand i h.0))
-          (type_of_package_tells p java_lang d)) out into
+      (type_of_package_tells p java_lang d)) out into
     where
       out : ((i : ℕ) × DemandedBy u i d) ⊎ TypeOfPackage p java_lang d → OnDemandOf p t u d
       out (inl h) = ⊎_elim (λ k. OnDemandOf.of_package h.1.0 k.0 k.1)

@@ -1,5 +1,5 @@
 -- The tests of static contexts and of instances tell what they are to tell.
-use Rattle.std.proofs.Common.{◌≡◌, ◌⊎◌, refl, sym, subst, inl, inr, ⊎_elim, arith, ℕ, ◌≤◌, ◌<◌, Bool, true, false, not, ◌&&◌, ◌||◌, List, length, nat_eq, nat_lt, nat_le, Option, IsTrue, Decides}
+use Rattle.std.proofs.Common.{◌≡◌, ◌⊎◌, refl, sym, subst, inl, inr, ⊎_elim, arith, ℕ, ◌≤◌, ◌<◌, true, false, ◌&&◌, ◌||◌, List, length, nat_eq, nat_lt, Option, IsTrue, Decides}
 use Rattle.std.specs.Option.{option_map_or}
 use Rattle.std.proofs.lemmas.Bool.{false≢true, cases_lt}
 use Rattle.std.proofs.lemmas.Bool.Decides.{Decides-eqb, Decides-ltb}
@@ -19,9 +19,9 @@ use Rattle.jr_plain.specs.Instances as plain
 use Rattle.jr_plain.proofs.Tests.{itself, both, either, opposite, like}
 use Rattle.jr_plain.proofs.Searches.{some, some_of}
 use Rattle.jr_plain.proofs.OfTypes.{closed_types, sound_types}
-use Rattle.jr_plain.proofs.Bounds.{bounded, body_below, parent_past, type_below}
+use Rattle.jr_plain.proofs.Bounds.{bounded, body_below, parent_past}
 use Rattle.jr_plain.proofs.Declared.{interface_tells}
-use Rattle.jr_plain.proofs.Enclosed.{most, body_tells, in_body_below, innermost_finds, declared_in_tells, declared_below}
+use Rattle.jr_plain.proofs.Enclosed.{most, body_tells, innermost_finds, declared_in_tells}
 use Rattle.jr_plain.proofs.Modified.{found_tells, inner_tells}
 
 -- what is found is this number
@@ -58,8 +58,8 @@ call_label_tells _ = (λ h. absurd (false≢true h), λ h. let e = h.1 in absurd
 pub constructor_call_tells : (p : Rows) (o : ℕ) → Decides (plain.is_in_constructor_call p o) (InConstructorCall p o)
 constructor_call_tells p o = like
     (some (λ call. plain.is_call_of_constructor (label p call) && nat_lt call o && nat_lt o (end p call)) (λ call. (IsCallOfConstructor (label p call) × (call < o)) × (o < end p call))
-        (λ call. both (both (call_label_tells (label p call)) (Decides-ltb call o)) (Decides-ltb o (end p call))) (length p)
-        (λ call h. bounded IsCallOfConstructor (λ h. let e = h.1 in cc) p call h.0.0))
+    (λ call. both (both (call_label_tells (label p call)) (Decides-ltb call o)) (Decides-ltb o (end p call))) (length p)
+    (λ call h. bounded IsCallOfConstructor (λ h. let e = h.1 in cc) p call h.0.0))
     (λ h. record { call = h.0; target = h.1.0.0.0; calls = h.1.0.0.1; after = h.1.0.1; before = h.1.1 }) (λ h. (h.call, (((h.target, h.calls), h.after), h.before)))
 
 pub innermost_tells : (p : Rows) (o c : ℕ) → Decides (plain.is_innermost p o c) (Innermost p o c)

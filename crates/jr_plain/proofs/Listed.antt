@@ -1,11 +1,11 @@
 -- What lists made of lists have.
-use Rattle.std.proofs.Common.{le_antisymm, ◌≡◌, ◌⊎◌, refl, sym, ap, subst, inl, inr, ⊎_elim, arith, ℕ, zero, suc, ◌+◌, ◌≤◌, ◌<◌, Bool, true, false, not, ◌&&◌, ◌||◌, if◌then◌else◌, List, [], ◌∷◌, ◌++◌, filter, map, Option, Some, None, nat_eq, Decides, MatchOption}
-use Rattle.std.specs.List.{list_any, list_all, flat_map}
-use Rattle.std.specs.Option.{option_or, option_map_or}
-use Rattle.std.proofs.lemmas.Bool.{false≢true, cases_lt, cases_eq, or_cases, or_left, or_right}
+use Rattle.std.proofs.Common.{◌≡◌, ◌⊎◌, refl, sym, ap, subst, inl, inr, ⊎_elim, ℕ, ◌<◌, Bool, true, false, if◌then◌else◌, List, [], ◌∷◌, ◌++◌, filter, Option, Some, None, nat_eq, Decides}
+use Rattle.std.specs.List.{list_all, flat_map}
+use Rattle.std.specs.Option.{option_map_or}
+use Rattle.std.proofs.lemmas.Bool.{false≢true, or_cases, or_left, or_right}
 use Rattle.std.proofs.lemmas.Bool.Decides.{Decides-eqb}
 use Rattle.std.proofs.lemmas.Option.{none-some, same_Some}
-use Rattle.jr_plain.specs.Search.{first_below, gathered, among, if_empty, has, Lists, Finds}
+use Rattle.jr_plain.specs.Search.{gathered, among, has, Lists, Finds}
 use Rattle.jr_plain.specs.Same.{same_candidate}
 use Rattle.jr_plain.specs.Lists.{Has, or_else, at_level}
 use Rattle.jr_plain.proofs.Tests.{itself, never, both, either, like}

@@ -1,5 +1,5 @@
 -- Lookup that is computed is that of the definition.
-use Rattle.std.proofs.Common.{◌≡◌, ◌⊎◌, refl, sym, ◌∙◌, ap, subst, inl, inr, ⊎_elim, arith, ℕ, zero, suc, ◌+◌, ◌≤◌, ◌<◌, Bool, true, false, cond, not, ◌&&◌, ◌||◌, if◌then◌else◌, List, [], ◌∷◌, ◌++◌, length, codes, Option, Some, None, option_map, nat_eq, bytes_eq, Decides}
+use Rattle.std.proofs.Common.{◌≡◌, ◌⊎◌, refl, sym, ◌∙◌, ap, subst, inl, inr, ⊎_elim, arith, ℕ, zero, suc, ◌+◌, ◌<◌, Bool, true, false, cond, ◌&&◌, if◌then◌else◌, List, [], ◌∷◌, length, codes, Option, Some, None, option_map, nat_eq, Decides}
 use Rattle.std.specs.List.{flat_map}
 use Rattle.std.specs.Option.{option_map_or}
 use Rattle.std.proofs.lemmas.Bool.{false≢true}
@@ -16,7 +16,7 @@ use Rattle.jr_rows.specs.declared.label.NameKind.{NameKind}
 use Rattle.jr_rows.specs.declared.label.NameKind.TheVariants as kind
 use Rattle.jr_rows.specs.declared.label.Sought.{Sought}
 use Rattle.jr_rows.specs.declared.label.Sought.TheVariants as sought
-use Rattle.jr_rows.specs.Rows.{Rows, label, name, parent, end, role_at, sought_at}
+use Rattle.jr_rows.specs.Rows.{Rows, label, parent, role_at}
 use Rattle.jr_defs.specs.declared.referent.Space.{Space}
 use Rattle.jr_defs.specs.declared.referent.Space.TheVariants as space
 use Rattle.jr_defs.specs.declared.referent.Element.{Element}
@@ -33,14 +33,14 @@ use Rattle.jr_defs.specs.Types.{array, plain, class_type, NamesType}
 use Rattle.jr_defs.specs.Supertypes.{Superclass}
 use Rattle.jr_defs.specs.Members.{MemberOf, MemberNamed}
 use Rattle.jr_defs.specs.Imports.{StaticImport}
-use Rattle.jr_defs.specs.Scope.{Depth, within, Imported, InScope, Visible}
+use Rattle.jr_defs.specs.Scope.{Depth, InScope, Visible}
 use Rattle.jr_defs.specs.Instances.{HasInstance}
 use Rattle.jr_defs.specs.Typing.{TypeOf}
 use Rattle.jr_defs.specs.Overloads.{Choice, ImportedChoice}
-use Rattle.jr_defs.specs.Lookup.{level_of, VisibleThrough, NoneInScope, SimpleCandidate, Receiver, PackageBefore, ArrayBefore, MemberBefore, TypeBefore, QualifiedCandidate, SuperOf, arguments_by, Arguments, MethodLevel, ImportedMethod, MethodCandidate, EnclosesNew, NewLevel, CalledClass, Candidate, MayBePackage, MayBeLength, IsPackageName, IsLength, Otherwise, LookFor, Look}
+use Rattle.jr_defs.specs.Lookup.{level_of, VisibleThrough, NoneInScope, SimpleCandidate, Receiver, ArrayBefore, MemberBefore, TypeBefore, QualifiedCandidate, SuperOf, arguments_by, Arguments, MethodLevel, ImportedMethod, MethodCandidate, EnclosesNew, NewLevel, CalledClass, Candidate, MayBePackage, MayBeLength, IsPackageName, IsLength, Otherwise, LookFor}
 use Rattle.jr_defs.proofs.TypesAgree.{otherwise_one}
 use Rattle.jr_plain.specs.Headed.{IsHeaded}
-use Rattle.jr_plain.specs.Search.{any_below, all_such, gathered, Lists, Finds}
+use Rattle.jr_plain.specs.Search.{all_such, gathered, Lists, Finds}
 use Rattle.jr_plain.specs.Same.{same_candidate, same_type}
 use Rattle.jr_plain.specs.Lists.{Has, at_level}
 use Rattle.jr_plain.specs.Referents.{is_candidate}
@@ -55,7 +55,7 @@ use Rattle.jr_plain.specs.Scope.{depth_at, depths, is_imported, is_somewhere_in_
 use Rattle.jr_plain.specs.Instances.{has_instance}
 use Rattle.jr_plain.specs.Overloads.{Types, choice, imported_choice}
 use Rattle.jr_plain.specs.Lookup as plain
-use Rattle.jr_plain.proofs.Tests.{itself, always, never, both, either, opposite, like}
+use Rattle.jr_plain.proofs.Tests.{always, never, both, opposite, like}
 use Rattle.jr_plain.proofs.Searches.{some, lists, finds_last}
 use Rattle.jr_plain.proofs.Same.{candidate_tells, type_tells, option_tells}
 use Rattle.jr_plain.proofs.Listed.{or_else_has, append_has, one_has, found_has, if_has, gathered_has, has_like, flat_has, at_level_has}
@@ -66,7 +66,7 @@ use Rattle.jr_plain.proofs.Modified.{found_tells, inner_tells}
 use Rattle.jr_plain.proofs.Packaged.{type_of_package_tells}
 use Rattle.jr_plain.proofs.Typed.{named_finds, map_some}
 use Rattle.jr_plain.proofs.Supertyped.{superclasses_list}
-use Rattle.jr_plain.proofs.Membership.{member_tells, member_named_tells, members_named_list, member_below}
+use Rattle.jr_plain.proofs.Membership.{member_tells, member_named_tells, members_named_list}
 use Rattle.jr_plain.proofs.Imported.{refers_to_package_tells, static_import_tells}
 use Rattle.jr_plain.proofs.Scoped.{each_depth_has, imported_tells, declares_below, in_scope_below, depth_below, somewhere_tells, visible_tells}
 use Rattle.jr_plain.proofs.Instanced.{instance_tells}
@@ -104,7 +104,7 @@ objects_of_has p zero (element.Class c) r = like (one_has plain.same_before befo
 objects_of_has p zero e r = like never (λ h. absurd h) (no_object p e r (λ c e. cc))
 objects_of_has p (suc dims) e r = like
     (flat_has plain.same_before before_tells nat_eq Decides-eqb (λ c. plain.object c ∷ []) (λ c. IsObject p c) (λ c r. plain.object c ≡ r) (λ c. one_has plain.same_before before_tells (plain.object c))
-        (all_such (length p) (λ c. is_object p c)) (object_list p) r)
+    (all_such (length p) (λ c. is_object p c)) (object_list p) r)
     (λ h. inr (h.0, (e, dims, refl), h.1, h.2)) (some_object p e dims r)
 
 array_tells : (a : RowType) → Decides (plain.is_array a.dims) ((held : Element) × (dims : ℕ) × (a ≡ array held (suc dims)))
@@ -144,17 +144,17 @@ module _ (p : Rows) (t : Table) (headed : IsHeaded p) where
   visible_through_has : (k : Space) (x : Text) (o : ℕ) → Has same_candidate (plain.visible_through p t k x o) (λ c. VisibleThrough p t k x o c.0 c.1)
   visible_through_has k x o = has_like same_candidate candidate_tells (plain.visible_through p t k x o)
       (gathered_has same_candidate candidate_tells (λ d c. Declares p k x d × ((r : Depth) × VisibleAt k x o d r c)) (λ d. if declares p k x d then gathered (depths p) (λ r. plain.visible_at p t k x o d (depth_at r)) else [])
-          (λ d. if_has same_candidate candidate_tells (declares p k x d) (declares_tells p k x d) (gathered (depths p) (λ r. plain.visible_at p t k x o d (depth_at r)))
-              (each_depth_has same_candidate candidate_tells p (VisibleAt k x o d) (λ r. plain.visible_at p t k x o d r) (visible_at_has k x o d)
-                  (λ s c h. depth_below p t headed k x o d s h.0.in_scope)))
-          (length p) (λ d c h. declares_below p k x d h.0))
+      (λ d. if_has same_candidate candidate_tells (declares p k x d) (declares_tells p k x d) (gathered (depths p) (λ r. plain.visible_at p t k x o d (depth_at r)))
+      (each_depth_has same_candidate candidate_tells p (VisibleAt k x o d) (λ r. plain.visible_at p t k x o d r) (visible_at_has k x o d)
+      (λ s c h. depth_below p t headed k x o d s h.0.in_scope)))
+      (length p) (λ d c h. declares_below p k x d h.0))
       (λ c h. subst (λ e. VisibleThrough p t k x o e.0 e.1) h.1.1.1.1 (record { depth = h.1.1.0; visible = h.1.1.1.0; through = refl }))
       (λ c h. (c.0, (h.visible.in_scope.declares, (h.depth, (h.visible, λ i. (c.0, h.through i))))))
 
   none_tells : (k : Space) (x : Text) (o : ℕ) → Decides (plain.none_in_scope p t k x o) (NoneInScope p t k x o)
   none_tells k x o = like
       (opposite (some (λ d. is_somewhere_in_scope p t k x o d) (λ d. (r : Depth) × InScope p t k x o d r) (λ d. somewhere_tells p t headed k x o d) (length p)
-          (λ d h. in_scope_below p t headed k x o d h.0 h.1)))
+      (λ d h. in_scope_below p t headed k x o d h.0 h.1)))
       (λ h d r k. h (d, (r, k))) (λ h k. h k.0 k.1.0 k.1.1)
 
   variable_into : {x : Text} {o d : ℕ} {level : Option ℕ} → SimpleCandidate p t x o kind.Variable d level → VisibleThrough p t space.Variable x o d level
@@ -180,8 +180,8 @@ module _ (p : Rows) (t : Table) (headed : IsHeaded p) where
   simple_has x o kind.PackageOrType c = like (visible_through_has space.Type x o c) (λ h. SimpleCandidate.package_or_type h) package_into
   simple_has x o kind.Ambiguous c = like
       (append_has same_candidate candidate_tells (plain.visible_through p t space.Variable x o) (if plain.none_in_scope p t space.Variable x o then plain.visible_through p t space.Type x o else [])
-          (visible_through_has space.Variable x o)
-          (if_has same_candidate candidate_tells (plain.none_in_scope p t space.Variable x o) (none_tells space.Variable x o) (plain.visible_through p t space.Type x o) (visible_through_has space.Type x o)) c)
+      (visible_through_has space.Variable x o)
+      (if_has same_candidate candidate_tells (plain.none_in_scope p t space.Variable x o) (none_tells space.Variable x o) (plain.visible_through p t space.Type x o) (visible_through_has space.Type x o)) c)
       (⊎_elim (λ h. SimpleCandidate.first_variable h) (λ h. SimpleCandidate.then_type h.0 h.1)) ambiguous_into
   simple_has x o kind.Package c = like never (λ h. absurd h) no_simple
 
@@ -198,12 +198,12 @@ module _ (p : Rows) (t : Table) (headed : IsHeaded p) where
   types_list : (x : Text) (o : ℕ) → Lists (plain.types_before p t x o) (λ d. TypeBefore p t x o d)
   types_list x o d = like
       (append_has nat_eq Decides-eqb (option_map_or (λ c. members_named p t space.Type x c) (named_type p t o) [])
-          (if plain.is_package_before p t o then all_such (length p) (λ d. plain.is_named_type_of_package p (spelled p (o + 1)) x d) else [])
-          (found_has nat_eq Decides-eqb (λ c. NamesType p t o c) (λ c d. MemberNamed p t space.Type x c d) (λ c. members_named p t space.Type x c) (λ c. members_named_list p t headed space.Type x c)
-              (named_type p t o) (named_finds p t o))
-          (if_has nat_eq Decides-eqb (plain.is_package_before p t o) (package_before_tells p t o) (all_such (length p) (λ d. plain.is_named_type_of_package p (spelled p (o + 1)) x d))
-              (lists (λ d. plain.is_named_type_of_package p (spelled p (o + 1)) x d) (λ d. TypeOfPackage p (spelled p (o + 1)) d × Declares p space.Type x d)
-                  (λ d. both (type_of_package_tells p (spelled p (o + 1)) d) (declares_tells p space.Type x d)) (length p) (λ d h. declares_below p space.Type x d h.1))) d)
+      (if plain.is_package_before p t o then all_such (length p) (λ d. plain.is_named_type_of_package p (spelled p (o + 1)) x d) else [])
+      (found_has nat_eq Decides-eqb (λ c. NamesType p t o c) (λ c d. MemberNamed p t space.Type x c d) (λ c. members_named p t space.Type x c) (λ c. members_named_list p t headed space.Type x c)
+      (named_type p t o) (named_finds p t o))
+      (if_has nat_eq Decides-eqb (plain.is_package_before p t o) (package_before_tells p t o) (all_such (length p) (λ d. plain.is_named_type_of_package p (spelled p (o + 1)) x d))
+      (lists (λ d. plain.is_named_type_of_package p (spelled p (o + 1)) x d) (λ d. TypeOfPackage p (spelled p (o + 1)) d × Declares p space.Type x d)
+      (λ d. both (type_of_package_tells p (spelled p (o + 1)) d) (declares_tells p space.Type x d)) (length p) (λ d h. declares_below p space.Type x d h.1))) d)
       (⊎_elim (λ h. TypeBefore.member h.1 h.2) (λ h. TypeBefore.top (record { first = h.0.0; refers = h.0.1; spells = refl }) h.1.0 h.1.1)) types_into
 
   -- ---- super
@@ -211,7 +211,7 @@ module _ (p : Rows) (t : Table) (headed : IsHeaded p) where
   supers_before_list : (o : ℕ) → Lists (plain.supers_before p t o) (λ s. SuperOf p t o s)
   supers_before_list o s = like
       (found_has nat_eq Decides-eqb (λ c. Innermost p o c) (λ c s. HasInstance p o c × Superclass p t c s) (λ c. if has_instance p o c then superclasses p t c else [])
-          (λ c. if_has nat_eq Decides-eqb (has_instance p o c) (instance_tells p o c) (superclasses p t c) (superclasses_list p t headed c)) (innermost p o) (innermost_finds p o) s)
+      (λ c. if_has nat_eq Decides-eqb (has_instance p o c) (instance_tells p o c) (superclasses p t c) (superclasses_list p t headed c)) (innermost p o) (innermost_finds p o) s)
       (λ h. record { class = h.0; innermost = h.1; instance = h.2.0; above = h.2.1 }) (λ h. (h.class, h.innermost, (h.instance, h.above)))
 
   -- ---- calls without a receiver
@@ -222,17 +222,18 @@ module _ (p : Rows) (t : Table) (headed : IsHeaded p) where
   level_tells : (x : Text) (o c : ℕ) → Decides (plain.is_method_level p t x o c) (SomeLevel x o c)
   level_tells x o c = both (in_body_tells p c o)
       (some (λ d. is_member_named p t space.Method x c d) (λ d. MemberNamed p t space.Method x c d) (λ d. member_named_tells p t headed space.Method x c d) (length p)
-          (λ d h. declares_below p space.Method x d h.declares))
+      (λ d h. declares_below p space.Method x d h.declares))
 
   method_level_finds : (x : Text) (o : ℕ) → Finds (plain.method_level p t x o) (λ c. MethodLevel p t x o c)
-  method_level_finds x o c = let h = finds_last (λ c. plain.is_method_level p t x o c) (SomeLevel x o) (level_tells x o) (length p) c in
-      (λ e. let k = h.0 e in record { holds = k.1.0; some = k.1.1.0; member = k.1.1.1; innermost = λ e d b m. k.2 e (in_body_below p e o b) (b, (d, m)) },
-       λ k. h.1 (in_body_below p c o k.holds, (k.holds, (k.some, k.member)), λ j lt m. k.innermost j m.1.0 m.0 m.1.1))
+  method_level_finds x o c = let h = finds_last (λ c. plain.is_method_level p t x o c) (SomeLevel x o) (level_tells x o) (length p) c in (
+    λ e. let k = h.0 e in record { holds = k.1.0; some = k.1.1.0; member = k.1.1.1; innermost = λ e d b m. k.2 e (in_body_below p e o b) (b, (d, m)) },
+    λ k. h.1 (in_body_below p c o k.holds, (k.holds, (k.some, k.member)), λ j lt m. k.innermost j m.1.0 m.0 m.1.1),
+  )
 
   imported_methods_list : (x : Text) (o : ℕ) → Lists (plain.imported_methods p t x o) (λ d. ImportedMethod p t x o d)
   imported_methods_list x o = lists (λ d. is_imported p (is_static_import p t) o d && declares p space.Method x d) (λ d. ImportedMethod p t x o d)
       (λ d. like (both (imported_tells p (is_static_import p t) (StaticImport p t) (static_import_tells p t headed) o d) (declares_tells p space.Method x d)) (λ h. record { imported = h.0; declares = h.1 })
-          (λ h. (h.imported, h.declares))) (length p) (λ d h. declares_below p space.Method x d h.declares)
+      (λ h. (h.imported, h.declares))) (length p) (λ d h. declares_below p space.Method x d h.declares)
 
   module _ (x : Text) (o : ℕ) (all : List RowType) where
     abbrev AtLevel : ℕ → ℕ × Option ℕ → Type 0
@@ -257,11 +258,11 @@ module _ (p : Rows) (t : Table) (headed : IsHeaded p) where
     methods_by : (found : Option ℕ) → Finds found (λ c. MethodLevel p t x o c) → Has same_candidate (plain.methods_at p t x o all found) (λ k. MethodCandidate p t x o all k.0 k.1)
     methods_by (Some c) finds k = like
         (at_level_has (Some c) (choice p t c o None all (members_named p t space.Method x c))
-            (choice_list p t headed c o None all (MemberNamed p t space.Method x c) (members_named p t space.Method x c) (members_named_list p t headed space.Method x c)) k)
+        (choice_list p t headed c o None all (MemberNamed p t space.Method x c) (members_named p t space.Method x c) (members_named_list p t headed space.Method x c)) k)
         (method_out c ((finds c).0 refl) k) (method_into c (λ e h. same_Some c e ((finds e).1 h)) ((finds c).0 refl) k.0 k.1)
     methods_by None finds k = like
         (at_level_has None (imported_choice p t o all (plain.imported_methods p t x o))
-            (imported_choice_list p t headed o all (ImportedMethod p t x o) (plain.imported_methods p t x o) (imported_methods_list x o)) k)
+        (imported_choice_list p t headed o all (ImportedMethod p t x o) (plain.imported_methods p t x o) (imported_methods_list x o)) k)
         (imported_out none k) (imported_into none k.0 k.1)
       where
         none : (c : ℕ) → MethodLevel p t x o c → ⊥
@@ -274,9 +275,10 @@ module _ (p : Rows) (t : Table) (headed : IsHeaded p) where
 
   encloses_finds : (o c : ℕ) → Finds (plain.enclosing_new p t o c) (λ e. EnclosesNew p t o c e)
   encloses_finds o c e =
-      let h = finds_last (λ e. is_in_body p e o && is_member p t e c) (λ e. InBody p e o × MemberOf p t e c) (λ e. both (in_body_tells p e o) (member_tells p t headed e c)) (length p) e in
-      (λ found. let k = h.0 found in record { holds = k.1.0; member = k.1.1; innermost = λ f b m. k.2 f (in_body_below p f o b) (b, m) },
-       λ k. h.1 (in_body_below p e o k.holds, (k.holds, k.member), λ j lt m. k.innermost j m.0 m.1))
+      let h = finds_last (λ e. is_in_body p e o && is_member p t e c) (λ e. InBody p e o × MemberOf p t e c) (λ e. both (in_body_tells p e o) (member_tells p t headed e c)) (length p) e in (
+        λ found. let k = h.0 found in record { holds = k.1.0; member = k.1.1; innermost = λ f b m. k.2 f (in_body_below p f o b) (b, m) },
+        λ k. h.1 (in_body_below p e o k.holds, (k.holds, k.member), λ j lt m. k.innermost j m.0 m.1),
+      )
 
   new_level_finds : (o c : ℕ) → Finds (plain.new_level p t o c) (λ level. NewLevel p t o c level)
   new_level_finds o c level = (out (is_inner p c) (inner_tells p c) level, into (is_inner p c) (inner_tells p c) level)
@@ -298,9 +300,9 @@ module _ (p : Rows) (t : Table) (headed : IsHeaded p) where
   creations_has : (o : ℕ) (all : List RowType) (c : ℕ) → Has same_candidate (plain.creations p t o all c) (Creates o all c)
   creations_has o all c k = like
       (found_has same_candidate candidate_tells (λ level. NewLevel p t o c level) (λ level k. Choice p t c o None all (ConstructorOf p c) k.0 × (k.1 ≡ level))
-          (λ level. at_level level (choice p t c o None all (plain.constructors_of p c)))
-          (λ level. at_level_has level (choice p t c o None all (plain.constructors_of p c)) (choice_list p t headed c o None all (ConstructorOf p c) (plain.constructors_of p c) (constructors_list p c)))
-          (plain.new_level p t o c) (new_level_finds o c) k)
+      (λ level. at_level level (choice p t c o None all (plain.constructors_of p c)))
+      (λ level. at_level_has level (choice p t c o None all (plain.constructors_of p c)) (choice_list p t headed c o None all (ConstructorOf p c) (plain.constructors_of p c) (constructors_list p c)))
+      (plain.new_level p t o c) (new_level_finds o c) k)
       (λ h. (subst (λ l. NewLevel p t o c l) (sym h.2.1) h.1, h.2.0)) (λ h. (k.1, h.0, (h.1, refl)))
 
   called_list : (o : ℕ) (w : ThisOrSuper) → Lists (plain.called_classes p t o w) (λ c. CalledClass p t o w c)
@@ -345,24 +347,24 @@ module _ (p : Rows) (t : Table) (headed : IsHeaded p) where
     receivers_has : (o : ℕ) → Has plain.same_before (plain.receivers p t type_of o) (λ r. Receiver p t K o r.0 r.1)
     receivers_has o r = like
         (append_has plain.same_before before_tells (plain.objects_before p type_of o) (option_map_or (λ c. (c, None) ∷ []) (named_type p t o) [])
-            (if_has plain.same_before before_tells (nat_eq (parent p (o + 1)) o) (Decides-eqb (parent p (o + 1)) o) (option_map_or (λ a. plain.objects_of p a.dims a.element) (type_of (o + 1)) [])
-                (found_has plain.same_before before_tells (λ a. TypeOf p t K (o + 1) a) (λ a r. ObjectOf p a r) (λ a. plain.objects_of p a.dims a.element) (λ a. objects_of_has p a.dims a.element)
-                    (type_of (o + 1)) (typed (o + 1))))
-            (found_has plain.same_before before_tells (λ c. NamesType p t o c) (λ c r. (c, None) ≡ r) (λ c. (c, None) ∷ []) (λ c. one_has plain.same_before before_tells (c, None)) (named_type p t o)
-                (named_finds p t o)) r)
+        (if_has plain.same_before before_tells (nat_eq (parent p (o + 1)) o) (Decides-eqb (parent p (o + 1)) o) (option_map_or (λ a. plain.objects_of p a.dims a.element) (type_of (o + 1)) [])
+        (found_has plain.same_before before_tells (λ a. TypeOf p t K (o + 1) a) (λ a r. ObjectOf p a r) (λ a. plain.objects_of p a.dims a.element) (λ a. objects_of_has p a.dims a.element)
+        (type_of (o + 1)) (typed (o + 1))))
+        (found_has plain.same_before before_tells (λ c. NamesType p t o c) (λ c r. (c, None) ≡ r) (λ c. (c, None) ∷ []) (λ c. one_has plain.same_before before_tells (c, None)) (named_type p t o)
+        (named_finds p t o)) r)
         (receiver_out o r) (receiver_into o r.0 r.1)
 
     array_before_tells : (o : ℕ) → Decides (plain.is_array_before p type_of o) (ArrayBefore p t K o)
     array_before_tells o = like
         (both (Decides-eqb (parent p (o + 1)) o) (found_tells (λ a. TypeOf p t K (o + 1) a) (λ a. plain.is_array a.dims) (λ a. (held : Element) × (dims : ℕ) × (a ≡ array held (suc dims))) array_tells
-            (type_of (o + 1)) (typed (o + 1))))
+        (type_of (o + 1)) (typed (o + 1))))
         (λ h. record { first = h.0; held = h.1.2.0; dims = h.1.2.1; type = subst (λ a. TypeOf p t K (o + 1) a) h.1.2.2 h.1.1 })
         (λ h. (h.first, (array h.held (suc h.dims), h.type, (h.held, h.dims, refl))))
 
     members_before_list : (k : Space) (x : Text) (o : ℕ) → Lists (plain.members_before p t type_of k x o) (λ d. MemberBefore p t K k x o d)
     members_before_list k x o d = like
         (flat_has nat_eq Decides-eqb plain.same_before before_tells (λ r. members_named p t k x r.0) (λ r. Receiver p t K o r.0 r.1) (λ r d. MemberNamed p t k x r.0 d)
-            (λ r. members_named_list p t headed k x r.0) (plain.receivers p t type_of o) (receivers_has o) d)
+        (λ r. members_named_list p t headed k x r.0) (plain.receivers p t type_of o) (receivers_has o) d)
         (λ h. record { class = h.0.0; receiver = h.0.1; before = h.1; member = h.2 }) (λ h. ((h.class, h.receiver), h.before, h.member))
 
     field_into : {x : Text} {o d : ℕ} → QualifiedCandidate p t K x o kind.Variable d → MemberBefore p t K space.Variable x o d
@@ -470,35 +472,35 @@ module _ (p : Rows) (t : Table) (headed : IsHeaded p) where
       ways_has sought.FieldOf = at_level_has None (plain.members_before p t type_of space.Variable x o) (members_before_list space.Variable x o)
       ways_has sought.SuperField = at_level_has None (flat_map (λ s. members_named p t space.Variable x s) (plain.supers_before p t o))
           (flat_has nat_eq Decides-eqb nat_eq Decides-eqb (λ s. members_named p t space.Variable x s) (λ s. SuperOf p t o s) (λ s d. MemberNamed p t space.Variable x s d)
-              (λ s. members_named_list p t headed space.Variable x s) (plain.supers_before p t o) (supers_before_list o))
+          (λ s. members_named_list p t headed space.Variable x s) (plain.supers_before p t o) (supers_before_list o))
       ways_has sought.Method = with_arguments_has o (λ all k. MethodCandidate p t x o all k.0 k.1) (λ all. plain.methods_at p t x o all (plain.method_level p t x o)) (λ all. methods_has x o all)
       ways_has sought.MethodOf = with_arguments_has o OfReceiver
           (λ all. at_level None (flat_map (λ r. choice p t r.0 o r.1 all (members_named p t space.Method x r.0)) (plain.receivers p t type_of o)))
           (λ all. at_level_has None (flat_map (λ r. choice p t r.0 o r.1 all (members_named p t space.Method x r.0)) (plain.receivers p t type_of o))
-              (flat_has nat_eq Decides-eqb plain.same_before before_tells (λ r. choice p t r.0 o r.1 all (members_named p t space.Method x r.0)) (λ r. Receiver p t K o r.0 r.1)
-                  (λ r d. Choice p t r.0 o r.1 all (MemberNamed p t space.Method x r.0) d)
-                  (λ r. choice_list p t headed r.0 o r.1 all (MemberNamed p t space.Method x r.0) (members_named p t space.Method x r.0) (members_named_list p t headed space.Method x r.0))
-                  (plain.receivers p t type_of o) (receivers_has o)))
+          (flat_has nat_eq Decides-eqb plain.same_before before_tells (λ r. choice p t r.0 o r.1 all (members_named p t space.Method x r.0)) (λ r. Receiver p t K o r.0 r.1)
+          (λ r d. Choice p t r.0 o r.1 all (MemberNamed p t space.Method x r.0) d)
+          (λ r. choice_list p t headed r.0 o r.1 all (MemberNamed p t space.Method x r.0) (members_named p t space.Method x r.0) (members_named_list p t headed space.Method x r.0))
+          (plain.receivers p t type_of o) (receivers_has o)))
       ways_has sought.SuperMethod = with_arguments_has o OfSuperMethod
           (λ all. at_level None (flat_map (λ s. choice p t s o None all (members_named p t space.Method x s)) (plain.supers_before p t o)))
           (λ all. at_level_has None (flat_map (λ s. choice p t s o None all (members_named p t space.Method x s)) (plain.supers_before p t o))
-              (flat_has nat_eq Decides-eqb nat_eq Decides-eqb (λ s. choice p t s o None all (members_named p t space.Method x s)) (λ s. SuperOf p t o s)
-                  (λ s d. Choice p t s o None all (MemberNamed p t space.Method x s) d)
-                  (λ s. choice_list p t headed s o None all (MemberNamed p t space.Method x s) (members_named p t space.Method x s) (members_named_list p t headed space.Method x s))
-                  (plain.supers_before p t o) (supers_before_list o)))
+          (flat_has nat_eq Decides-eqb nat_eq Decides-eqb (λ s. choice p t s o None all (members_named p t space.Method x s)) (λ s. SuperOf p t o s)
+          (λ s d. Choice p t s o None all (MemberNamed p t space.Method x s) d)
+          (λ s. choice_list p t headed s o None all (MemberNamed p t space.Method x s) (members_named p t space.Method x s) (members_named_list p t headed space.Method x s))
+          (plain.supers_before p t o) (supers_before_list o)))
       ways_has sought.Creation = with_arguments_has o OfCreation (λ all. option_map_or (λ c. plain.creations p t o all c) (named_type p t o) [])
           (λ all. found_has same_candidate candidate_tells (λ c. NamesType p t o c) (λ c. Creates o all c) (λ c. plain.creations p t o all c) (λ c. creations_has o all c) (named_type p t o) (named_finds p t o))
       ways_has (sought.ConstructorCall w) = with_arguments_has o (OfCalled w)
           (λ all. at_level None (flat_map (λ c. choice p t c o None all (plain.constructors_of p c)) (plain.called_classes p t o w)))
           (λ all. at_level_has None (flat_map (λ c. choice p t c o None all (plain.constructors_of p c)) (plain.called_classes p t o w))
-              (flat_has nat_eq Decides-eqb nat_eq Decides-eqb (λ c. choice p t c o None all (plain.constructors_of p c)) (λ c. CalledClass p t o w c)
-                  (λ c d. Choice p t c o None all (ConstructorOf p c) d)
-                  (λ c. choice_list p t headed c o None all (ConstructorOf p c) (plain.constructors_of p c) (constructors_list p c)) (plain.called_classes p t o w) (called_list o w)))
+          (flat_has nat_eq Decides-eqb nat_eq Decides-eqb (λ c. choice p t c o None all (plain.constructors_of p c)) (λ c. CalledClass p t o w c)
+          (λ c d. Choice p t c o None all (ConstructorOf p c) d)
+          (λ c. choice_list p t headed c o None all (ConstructorOf p c) (plain.constructors_of p c) (constructors_list p c)) (plain.called_classes p t o w) (called_list o w)))
       ways_has sought.OwnClass = at_level_has None (all_such (length p) (λ c. is_body_of p c (parent p o)))
           (lists (λ c. is_body_of p c (parent p o)) (λ c. BodyOf p c (parent p o)) (λ c. body_tells p c (parent p o)) (length p) (λ c h. type_below p c h.type))
       ways_has sought.Label = at_level_has None (all_such (length p) (λ d. is_somewhere_in_scope p t space.Label x o d))
           (lists (λ d. is_somewhere_in_scope p t space.Label x o d) (λ d. (r : Depth) × InScope p t space.Label x o d r) (λ d. somewhere_tells p t headed space.Label x o d) (length p)
-              (λ d h. in_scope_below p t headed space.Label x o d h.0 h.1))
+          (λ d h. in_scope_below p t headed space.Label x o d h.0 h.1))
       ways_has sought.Nothing = λ c. never
 
       pub candidates_tell : (s : Sought) (d : ℕ) (level : Option ℕ) → Decides (is_candidate (plain.candidates p t type_of o x s) d level) (Candidate p t K o x s d level)

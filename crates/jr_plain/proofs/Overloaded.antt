@@ -14,7 +14,6 @@ use Rattle.jr_defs.specs.Modifiers.{IsAbstract}
 use Rattle.jr_defs.specs.Types.{HasType, Parameters}
 use Rattle.jr_defs.specs.Supertypes.{IsReferenceType, Subtype, SuperAt, Super}
 use Rattle.jr_defs.specs.Members.{MemberOf}
-use Rattle.jr_defs.specs.Access.{IsAccessible}
 use Rattle.jr_defs.specs.Typing.{TypeOf}
 use Rattle.jr_defs.specs.Overloads.{ArgumentTypes, AllSubtypes, IsApplicable, Applicable, MoreSpecific, IsMostSpecific, ResultFits, FirstThrough, Earlier, AllAbstract, Returns, IsFirst, IsPreferred, IsLeftOf, Choice, ImportedChoice}
 use Rattle.jr_plain.specs.Headed.{IsHeaded}
@@ -22,7 +21,7 @@ use Rattle.jr_plain.specs.Search.{has, Lists, Finds}
 use Rattle.jr_plain.specs.Lists.{or_else}
 use Rattle.jr_plain.specs.Modifiers.{is_abstract}
 use Rattle.jr_plain.specs.Types.{type_of_declared, before, parameters}
-use Rattle.jr_plain.specs.Supertypes.{supers, is_reference_type, is_subtype}
+use Rattle.jr_plain.specs.Supertypes.{supers}
 use Rattle.jr_plain.specs.Members.{is_member}
 use Rattle.jr_plain.specs.Overloads as plain
 use Rattle.jr_plain.specs.Overloads.{Types}
@@ -31,7 +30,7 @@ use Rattle.jr_plain.proofs.Searches.{some_of, finds_first}
 use Rattle.jr_plain.proofs.OfTypes.{closed_types, sound_types}
 use Rattle.jr_plain.proofs.Listed.{decided, or_else_has, filter_has, all_of}
 use Rattle.jr_plain.proofs.Same.{type_tells}
-use Rattle.jr_plain.proofs.Bounds.{class_below, parent_past, type_below}
+use Rattle.jr_plain.proofs.Bounds.{class_below, parent_past}
 use Rattle.jr_plain.proofs.Modified.{found_tells, abstract_tells}
 use Rattle.jr_plain.proofs.Typed.{before_out, has_type_finds, parameters_find}
 use Rattle.jr_plain.proofs.Supertyped.{superclass_name_below, superinterface_name_below, super_at_tells, supers_list, super_source, reference_type_tells, subtype_tells}
@@ -96,15 +95,15 @@ module _ (p : Rows) (t : Table) (headed : IsHeaded p) where
       → Decides (plain.is_applicable p t o receiver arguments m) (IsApplicable p t o receiver arguments m)
   applicable_tells o receiver arguments m = like
       (both (accessible_tells p t headed m o receiver) (found_tells (λ all. Parameters p t m all) (λ all. plain.are_subtypes p t arguments all) (λ all. AllSubtypes p t arguments all)
-          (subtypes_tell arguments) (parameters p t m) (parameters_find p t m headed.tree)))
+      (subtypes_tell arguments) (parameters p t m) (parameters_find p t m headed.tree)))
       (λ h. record { accessible = h.0; parameters = h.1.0; are = h.1.1; fit = h.1.2 }) (λ h. (h.accessible, (h.parameters, h.are, h.fit)))
 
   pub more_specific_tells : (m k : ℕ) → Decides (plain.is_more_specific p t m k) (MoreSpecific p t m k)
   more_specific_tells m k = like
       (found_tells (λ first. Parameters p t m first) (λ first. option_map_or (λ second. plain.are_subtypes p t first second) (parameters p t k) false)
-          (λ first. (second : List RowType) × Parameters p t k second × AllSubtypes p t first second)
-          (λ first. found_tells (λ second. Parameters p t k second) (λ second. plain.are_subtypes p t first second) (λ second. AllSubtypes p t first second) (subtypes_tell first) (parameters p t k)
-              (parameters_find p t k headed.tree)) (parameters p t m) (parameters_find p t m headed.tree))
+      (λ first. (second : List RowType) × Parameters p t k second × AllSubtypes p t first second)
+      (λ first. found_tells (λ second. Parameters p t k second) (λ second. plain.are_subtypes p t first second) (λ second. AllSubtypes p t first second) (subtypes_tell first) (parameters p t k)
+      (parameters_find p t k headed.tree)) (parameters p t m) (parameters_find p t m headed.tree))
       (λ h. record { first = h.0; second = h.2.0; are = h.1; others = h.2.1; fit = h.2.2 }) (λ h. (h.first, h.are, (h.second, h.others, h.fit)))
 
   abbrev ResultTypeFits : RowType → RowType → Type 0
@@ -116,8 +115,8 @@ module _ (p : Rows) (t : Table) (headed : IsHeaded p) where
   pub result_tells : (m k : ℕ) → Decides (plain.is_result_fit p t m k) (ResultFits p t m k)
   result_tells m k = like
       (found_tells (λ a. HasType p t m a) (λ a. option_map_or (λ b. plain.is_result_type_fit p t a b) (type_of_declared p t k) false) (λ a. (b : RowType) × HasType p t k b × ResultTypeFits a b)
-          (λ a. found_tells (λ b. HasType p t k b) (λ b. plain.is_result_type_fit p t a b) (λ b. ResultTypeFits a b) (result_type_tells a) (type_of_declared p t k) (has_type_finds p t k))
-          (type_of_declared p t m) (has_type_finds p t m)) out into
+      (λ a. found_tells (λ b. HasType p t k b) (λ b. plain.is_result_type_fit p t a b) (λ b. ResultTypeFits a b) (result_type_tells a) (type_of_declared p t k) (has_type_finds p t k))
+      (type_of_declared p t m) (has_type_finds p t m)) out into
     where
       out : (a : RowType) × HasType p t m a × ((b : RowType) × HasType p t k b × ResultTypeFits a b) → ResultFits p t m k
       out h = ⊎_elim (λ e. ResultFits.same h.1 (subst (λ x. HasType p t k x) (sym e) h.2.1)) (λ r. ResultFits.reference h.1 h.2.1 r.0.0 r.0.1 r.1) h.2.2
@@ -164,13 +163,13 @@ module _ (p : Rows) (t : Table) (headed : IsHeaded p) where
     within_tells : (set : List ℕ) (c m n : ℕ) → Decides (plain.is_earlier_within p t d e set c m n) ((m ≡ n) × WithinBy set c n)
     within_tells set c m n = both (Decides-eqb m n)
         (some_of (λ s. (plain.is_through_at p t c d n s && is_member p t s e) && has set s) (λ s. ((SuperAt p t c n s × MemberOf p t s d) × MemberOf p t s e) × (has set s ≡ true))
-            (λ s. both (both (both (super_at_tells p t headed c n s) (member_tells p t headed s d)) (member_tells p t headed s e)) (itself (has set s))) (supers p t c) (supers_list p t headed c))
+        (λ s. both (both (both (super_at_tells p t headed c n s) (member_tells p t headed s d)) (member_tells p t headed s e)) (itself (has set s))) (supers p t c) (supers_list p t headed c))
 
     earlier_by_tells : (set : List ℕ) (c : ℕ) → Decides (plain.is_earlier_by p t d e set c) (EarlierBy set c)
     earlier_by_tells set c = found_tells (λ m. FirstPlace c d m) (λ m. option_map_or (λ n. nat_lt m n || plain.is_earlier_within p t d e set c m n) (plain.first_place p t c e) false)
         (λ m. (n : ℕ) × FirstPlace c e n × ((m < n) ⊎ ((m ≡ n) × WithinBy set c n)))
         (λ m. found_tells (λ n. FirstPlace c e n) (λ n. nat_lt m n || plain.is_earlier_within p t d e set c m n) (λ n. (m < n) ⊎ ((m ≡ n) × WithinBy set c n))
-            (λ n. either (Decides-ltb m n) (within_tells set c m n)) (plain.first_place p t c e) (first_place_finds c e))
+        (λ n. either (Decides-ltb m n) (within_tells set c m n)) (plain.first_place p t c e) (first_place_finds c e))
         (plain.first_place p t c d) (first_place_finds c d)
 
     earlier_out : (c : ℕ) → plain.is_earlier p t c d e ≡ true → Earlier p t c d e
@@ -180,7 +179,7 @@ module _ (p : Rows) (t : Table) (headed : IsHeaded p) where
         from set holds c h = let m = h.0 in let n = h.2.0 in let first = h.1 in let second = h.2.1 in ⊎_elim
             (λ lt. Earlier.by_place (first_through c d m first.0.0 first first.0.2.0 first.0.2.1) (first_through c e n second.0.0 second second.0.2.0 second.0.2.1) lt)
             (λ k. Earlier.within (first_through c d n k.1.0 (subst (λ x. FirstPlace c d x) k.0 first) k.1.2.0.0.0 k.1.2.0.0.1) (first_through c e n k.1.0 second k.1.2.0.0.0 k.1.2.0.1)
-                (holds k.1.0 k.1.2.1)) h.2.2
+            (holds k.1.0 k.1.2.1)) h.2.2
 
         step : (set : List ℕ) → ((k : ℕ) → has set k ≡ true → Earlier p t k d e) → (c : ℕ) → IsType p c → plain.is_earlier_by p t d e set c ≡ true → Earlier p t c d e
         step set holds c type h = from set holds c ((earlier_by_tells set c).0 h)
@@ -209,20 +208,20 @@ module _ (p : Rows) (t : Table) (headed : IsHeaded p) where
   pub most_specific_list : (A : ℕ → Type 0) (methods : List ℕ) → Lists methods A → Lists (plain.most_specific p t methods) (IsMostSpecific p t A)
   most_specific_list A methods holds m = like
       (filter_has nat_eq Decides-eqb (λ m. list_all (λ k. plain.is_more_specific p t m k) methods)
-          (λ m. all_of nat_eq Decides-eqb (λ k. plain.is_more_specific p t m k) (λ k. MoreSpecific p t m k) (more_specific_tells m) methods holds) methods holds m)
+      (λ m. all_of nat_eq Decides-eqb (λ k. plain.is_more_specific p t m k) (λ k. MoreSpecific p t m k) (more_specific_tells m) methods holds) methods holds m)
       (λ h. record { applicable = h.0; most = h.1 }) (λ h. (h.applicable, h.most))
 
   returning_list : (M : ℕ → Type 0) (methods : List ℕ) → Lists methods M → Lists (plain.returning p t methods) (Returns p t M)
   returning_list M methods holds m = like
       (filter_has nat_eq Decides-eqb (λ m. list_all (λ k. plain.is_result_fit p t m k) methods)
-          (λ m. all_of nat_eq Decides-eqb (λ k. plain.is_result_fit p t m k) (λ k. ResultFits p t m k) (result_tells m) methods holds) methods holds m)
+      (λ m. all_of nat_eq Decides-eqb (λ k. plain.is_result_fit p t m k) (λ k. ResultFits p t m k) (result_tells m) methods holds) methods holds m)
       (λ h. record { candidate = h.0; fits = h.1 }) (λ h. (h.candidate, h.fits))
 
   firsts_list : (c : ℕ) (S : ℕ → Type 0) (methods : List ℕ) → Lists methods S → Lists (plain.firsts p t c methods) (IsFirst p t c S)
   firsts_list c S methods holds m = like
       (filter_has nat_eq Decides-eqb (λ m. list_all (λ k. nat_eq m k || plain.is_earlier p t c m k) methods)
-          (λ m. all_of nat_eq Decides-eqb (λ k. nat_eq m k || plain.is_earlier p t c m k) (λ k. (m ≡ k) ⊎ Earlier p t c m k) (λ k. either (Decides-eqb m k) (earlier_tells c m k)) methods holds)
-          methods holds m)
+      (λ m. all_of nat_eq Decides-eqb (λ k. nat_eq m k || plain.is_earlier p t c m k) (λ k. (m ≡ k) ⊎ Earlier p t c m k) (λ k. either (Decides-eqb m k) (earlier_tells c m k)) methods holds)
+      methods holds m)
       (λ h. record { candidate = h.0; first = h.1 }) (λ h. (h.candidate, h.first))
 
   module _ (c : ℕ) (M : ℕ → Type 0) where
@@ -252,15 +251,15 @@ module _ (p : Rows) (t : Table) (headed : IsHeaded p) where
     pub preferred_list : (methods : List ℕ) → Lists methods M → Lists (plain.preferred p t c methods) (IsPreferred p t c M)
     preferred_list methods holds m = like
         (or_else_has nat_eq Decides-eqb (filter (λ m. not (is_abstract p m)) methods) (plain.first_returning p t c methods)
-            (filter_has nat_eq Decides-eqb (λ m. not (is_abstract p m)) (λ m. opposite (abstract_tells p m)) methods holds)
-            (firsts_list c Returning (or_else (plain.returning p t methods) methods)
-                (or_else_has nat_eq Decides-eqb (plain.returning p t methods) methods (returning_list M methods holds) holds)) m)
+        (filter_has nat_eq Decides-eqb (λ m. not (is_abstract p m)) (λ m. opposite (abstract_tells p m)) methods holds)
+        (firsts_list c Returning (or_else (plain.returning p t methods) methods)
+        (or_else_has nat_eq Decides-eqb (plain.returning p t methods) methods (returning_list M methods holds) holds)) m)
         (preferred_out m) (preferred_into m)
 
   pub left_list : (c : ℕ) (A : ℕ → Type 0) (methods : List ℕ) → Lists methods A → Lists (plain.left_of p t c methods) (IsLeftOf p t c A)
   left_list c A methods holds m = like
       (or_else_has nat_eq Decides-eqb (plain.preferred p t c (plain.most_specific p t methods)) methods
-          (preferred_list c (IsMostSpecific p t A) (plain.most_specific p t methods) (most_specific_list A methods holds)) holds m)
+      (preferred_list c (IsMostSpecific p t A) (plain.most_specific p t methods) (most_specific_list A methods holds)) holds m)
       (⊎_elim (λ h. IsLeftOf.chosen h) (λ h. IsLeftOf.undecided h.0 h.1)) into
     where
       into : IsLeftOf p t c A m → IsPreferred p t c (IsMostSpecific p t A) m ⊎ (((k : ℕ) → IsPreferred p t c (IsMostSpecific p t A) k → ⊥) × A m)

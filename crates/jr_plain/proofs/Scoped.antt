@@ -1,5 +1,5 @@
 -- The tests of scope and shadowing tell what they are to tell.
-use Rattle.std.proofs.Common.{◌≡◌, ◌⊎◌, refl, sym, subst, inl, inr, ⊎_elim, arith, ℕ, zero, suc, ◌+◌, ◌≤◌, ◌<◌, Bool, true, false, not, ◌&&◌, ◌||◌, List, length, nat_eq, nat_lt, nat_le, Decides}
+use Rattle.std.proofs.Common.{◌≡◌, ◌⊎◌, refl, sym, subst, inl, inr, ⊎_elim, arith, ℕ, zero, suc, ◌+◌, ◌≤◌, ◌<◌, Bool, true, ◌&&◌, List, length, Decides}
 use Rattle.std.proofs.lemmas.Bool.{false≢true, cases_lt}
 use Rattle.std.proofs.lemmas.Bool.Decides.{Decides-eqb, Decides-ltb}
 use Rattle.jr_base.specs.declared.text.Text.{Text}
@@ -44,9 +44,9 @@ block_label_tells _ = (λ h. absurd (false≢true h), λ e. absurd (cc))
 pub parameter_scope_tells : (p : Rows) (d o : ℕ) → Decides (plain.is_in_parameter_scope p d o) (InParameterScope p d o)
 parameter_scope_tells p d o = like
     (both (role_tells (role_at p d) role.Parameter)
-        (some (λ b. plain.is_in_block_beside p d o b) (λ b. (((label p b ≡ is.Block) × (parent p b ≡ parent p d)) × (b ≤ o)) × (o < end p b))
-            (λ b. both (both (both (block_label_tells (label p b)) (Decides-eqb (parent p b) (parent p d))) (most b o)) (Decides-ltb o (end p b))) (length p)
-            (λ b h. bounded (λ l. l ≡ is.Block) (λ e. cc) p b h.0.0.0)))
+    (some (λ b. plain.is_in_block_beside p d o b) (λ b. (((label p b ≡ is.Block) × (parent p b ≡ parent p d)) × (b ≤ o)) × (o < end p b))
+    (λ b. both (both (both (block_label_tells (label p b)) (Decides-eqb (parent p b) (parent p d))) (most b o)) (Decides-ltb o (end p b))) (length p)
+    (λ b h. bounded (λ l. l ≡ is.Block) (λ e. cc) p b h.0.0.0)))
     (λ h. record { parameter = h.0; body = h.1.0; block = h.1.1.0.0.0; beside = h.1.1.0.0.1; from = h.1.1.0.1; before = h.1.1.1 })
     (λ h. (h.parameter, (h.body, (((h.block, h.beside), h.from), h.before))))
 
@@ -118,7 +118,7 @@ no_further_tells q r = like (either (most (rank q) (rank r)) (itself (plain.is_o
 pub type_of_unit_tells : (p : Rows) (o d : ℕ) → Decides (plain.is_type_of_unit p o d) (TypeOfUnit p o d)
 type_of_unit_tells p o d = like
     (both (top_level_tells p d) (some (λ u. is_in_unit p u o && is_in_unit p u d) (λ u. InUnit p u o × InUnit p u d) (λ u. both (in_unit_tells p u o) (in_unit_tells p u d)) (length p)
-        (λ u h. unit_below p u h.0.unit)))
+    (λ u h. unit_below p u h.0.unit)))
     (λ h. record { top = h.0; unit = h.1.0; first = h.1.1.0; second = h.1.1.1 }) (λ h. (h.top, (h.unit, (h.first, h.second))))
 
 pub type_of_other_tells : (p : Rows) (o d : ℕ) → Decides (plain.is_type_of_other p o d) (TypeOfOther p o d)
@@ -247,8 +247,8 @@ module _ (p : Rows) (t : Table) (headed : IsHeaded p) where
   pub visible_tells : (kind : Space) (x : Text) (o d : ℕ) (r : Depth) → Decides (plain.is_visible p t kind x o d r) (Visible p t kind x o d r)
   visible_tells kind x o d r = like
       (both (in_scope_tells kind x o d r) (every {P = λ e. (q : Depth) → InScope p t kind x o e q → IsNoFurther q r ⊎ InOneList p e d} (length p)
-          (λ e. all_below (plain.depths p) (λ q. plain.leaves_visible p t kind x o d r e (plain.depth_at q)))
-          (λ e. every_depth p (λ q. plain.leaves_visible p t kind x o d r e q) (λ q. InScope p t kind x o e q → IsNoFurther q r ⊎ InOneList p e d) (λ q. leaves_tells kind x o d r e q)
-              (λ s le h. let lt = depth_below kind x o e s h in absurd (omega arith)))
-          (λ e le q h. let lt = in_scope_below kind x o e q h in absurd (omega arith))))
+      (λ e. all_below (plain.depths p) (λ q. plain.leaves_visible p t kind x o d r e (plain.depth_at q)))
+      (λ e. every_depth p (λ q. plain.leaves_visible p t kind x o d r e q) (λ q. InScope p t kind x o e q → IsNoFurther q r ⊎ InOneList p e d) (λ q. leaves_tells kind x o d r e q)
+      (λ s le h. let lt = depth_below kind x o e s h in absurd (omega arith)))
+      (λ e le q h. let lt = in_scope_below kind x o e q h in absurd (omega arith))))
       (λ h. record { in_scope = h.0; innermost = h.1 }) (λ h. (h.in_scope, h.innermost))

@@ -1,7 +1,7 @@
 -- Lookup of calls on the rows of a small program:
 -- package java.lang; public class Object { }
 -- class A { int x; int f(long a) { return x; } int f(int b) { return f(this.x); } class B extends A { int h() { return super.f(x) + new B().f(1); } } }
-use Rattle.std.proofs.Common.{◌≡◌, refl, true, false, ℕ, cond, ◌||◌, nat_eq, List, Option, Some, None, [], ◌∷◌, codes, pos}
+use Rattle.std.proofs.Common.{◌≡◌, refl, false, cond, ◌||◌, nat_eq, List, Option, Some, None, [], ◌∷◌, codes, pos}
 use Rattle.jr_base.specs.declared.text.Text.{Text}
 use Rattle.jr_base.specs.declared.kind.Kind.TheVariants as token
 use Rattle.jr_base.specs.declared.kind.Symbol.TheVariants as y
@@ -49,7 +49,7 @@ parameter w = record { is_final = false; ty = of_type w; name = codes "a"; dims 
 abbrev class_b : d.TypeDecl
 class_b = d.Class [] (codes "B") (Some (named (codes "A"))) [] (d.more_members
     (method (codes "h") [] (x.Binary (x.Call (x.a_receiver x.Super) (codes "f") (one (x.NameExpr (named (codes "x")))))
-        y.Plus (x.Call (x.a_receiver (x.Of (x.New (named (codes "B")) x.no_exprs))) (codes "f") (one (x.Lit (token.Int (pos 1))))))) d.no_members)
+    y.Plus (x.Call (x.a_receiver (x.Of (x.New (named (codes "B")) x.no_exprs))) (codes "f") (one (x.Lit (token.Int (pos 1))))))) d.no_members)
 
 abbrev class_a : d.TypeDecl
 class_a = d.Class [] (codes "A") None [] (d.more_members (d.Field [] (of_type primitive.Int) (s.DeclaratorOf (codes "x") 0 None ∷ []))

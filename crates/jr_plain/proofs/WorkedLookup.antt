@@ -1,10 +1,7 @@
 -- What lookup gives on the rows of the small program of Worked, before the types of expressions matter.
-use Rattle.std.proofs.Common.{◌≡◌, refl, true, false, Some, None}
-use Rattle.jr_defs.specs.declared.referent.Space.TheVariants as space
+use Rattle.std.proofs.Common.{◌≡◌, refl, true, Some, None}
 use Rattle.jr_defs.specs.declared.referent.Referent.TheVariants.{Declared}
-use Rattle.jr_defs.specs.Scope.{within}
 use Rattle.jr_defs.proofs.Worked.{p}
-use Rattle.jr_plain.specs.Scope.{is_in_scope}
 use Rattle.jr_plain.specs.Instances.{has_instance}
 use Rattle.jr_plain.specs.Access.{is_accessible}
 use Rattle.jr_plain.specs.Lookup.{look}

@@ -1,5 +1,5 @@
 -- Lists made of lists, and one list in place of another.
-use Rattle.std.specs.Prelude.{ℕ, Bool, List, [], ◌∷◌, ◌++◌, map, Option, Decides}
+use Rattle.std.specs.Prelude.{ℕ, Bool, List, map, Option, Decides}
 use Rattle.jr_plain.specs.Search.{among, if_empty}
 
 -- the list has the items of which P holds

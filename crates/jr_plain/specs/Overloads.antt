@@ -1,5 +1,5 @@
 -- Which method or constructor a call chooses, computed (JLS 15.12.2, 8.4.8.4, 8.4.5).
-use Rattle.std.specs.Prelude.{ℕ, zero, suc, Bool, true, false, not, ◌&&◌, ◌||◌, if◌then◌else◌, List, [], length, filter, Option, Some, None, nat_eq, nat_lt}
+use Rattle.std.specs.Prelude.{ℕ, zero, suc, Bool, false, not, ◌&&◌, ◌||◌, if◌then◌else◌, List, [], length, filter, Option, Some, None, nat_eq, nat_lt}
 use Rattle.std.specs.List.{list_any, list_all}
 use Rattle.std.specs.Option.{option_map_or}
 use Rattle.std.specs.Cmp.Lexicographic.{pointwise}
