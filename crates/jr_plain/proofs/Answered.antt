@@ -1,7 +1,7 @@
 -- The answer of a list of candidates.
-use Rattle.std.proofs.Common.{◌≡◌, refl, sym, ◌∙◌, ap, subst, ⊎_elim, ℕ, Bool, true, false, cond, List, [], ◌∷◌, Option, Decides}
+use Rattle.std.proofs.Common.{◌≡◌, refl, sym, ◌∙◌, ap, ⊎_elim, ℕ, Bool, true, false, cond, List, [], ◌∷◌, Option, Decides}
 use Rattle.std.specs.List.{list_all}
-use Rattle.std.proofs.lemmas.Bool.{false≢true, or_left, or_right, or_cases, and_cases, and_parts}
+use Rattle.std.proofs.lemmas.Bool.{false≢true, or_left, or_right, or_cases, and_cases}
 use Rattle.jr_defs.specs.declared.referent.Referent.{Referent}
 use Rattle.jr_defs.specs.declared.referent.Referent.TheVariants.{Ambiguous, Declared}
 use Rattle.jr_defs.specs.Referents.{IsAnswer}
@@ -9,14 +9,10 @@ use Rattle.jr_defs.proofs.Unique.{IsOne, answer_unique}
 use Rattle.jr_plain.specs.Search.{among}
 use Rattle.jr_plain.specs.Same.{same_candidate}
 use Rattle.jr_plain.specs.Referents.{answer_of, is_candidate}
+use Rattle.jr_plain.proofs.Searches.{every_item}
 use Rattle.jr_plain.proofs.Same.{candidate_tells}
 
 module _ {A : Type 0} (same : A → A → Bool) (tells : (a b : A) → Decides (same a b) (a ≡ b)) (test : A → Bool) where
-  each_item : (xs : List A) → list_all test xs ≡ true → (x : A) → among same xs x ≡ true → test x ≡ true
-  each_item [] all x at = absurd (false≢true at)
-  each_item (y ∷ ys) all x at = let h = and_parts (test y) (list_all test ys) all in
-      ⊎_elim (λ e. subst (λ z. test z ≡ true) ((tells y x).0 e) h.0) (λ k. each_item ys h.1 x k) (or_cases (same y x) (among same ys x) at)
-
   some_fails : (xs : List A) → list_all test xs ≡ false → (x : A) × (among same xs x ≡ true) × (test x ≡ false)
   some_fails [] none = absurd (false≢true (sym none))
   some_fails (y ∷ ys) none = ⊎_elim (λ e. (y, or_left (same y y) (among same ys y) ((tells y y).1 refl), e))
@@ -32,7 +28,7 @@ module _ (C : ℕ → Option ℕ → Type 0) (Otherwise : Referent → Type 0) w
 
       only : (d : ℕ) (other : Option ℕ) → C d other → (d ≡ one.0) × (other ≡ one.1)
       only d other c = let same = (candidate_tells one (d, other)).0
-          (⊎_elim (λ h. h) (λ h. each_item same_candidate candidate_tells (same_candidate one) more e (d, other) h)
+          (⊎_elim (λ h. h) (λ h. (every_item same_candidate candidate_tells (same_candidate one) more).0 e (d, other) h)
           (or_cases (same_candidate one (d, other)) (among same_candidate more (d, other)) ((tells d other).1 c))) in
           (ap (λ x. x.0) (sym same), ap (λ x. x.1) (sym same))
   answer_by one more tells false e =

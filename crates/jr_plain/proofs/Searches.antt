@@ -1,6 +1,6 @@
 -- What searches find.
 use Rattle.std.proofs.Common.{le_antisymm, le_of_eq, ◌≡◌, ◌⊎◌, refl, sym, ◌∙◌, ap, subst, inl, inr, ⊎_elim, arith, ℕ, zero, suc, ◌≤◌, ◌<◌, Bool, true, false, if◌then◌else◌, ◌&&◌, ◌||◌, List, [], ◌∷◌, ◌++◌, filter, flat_map, Option, Some, None, nat_eq, Decides, MatchOption}
-use Rattle.std.specs.List.{list_any}
+use Rattle.std.specs.List.{list_any, list_all}
 use Rattle.std.specs.Option.{option_or}
 use Rattle.std.proofs.lemmas.Bool.{false≢true, cases_lt, cases_eq, or_cases, or_left, or_right}
 use Rattle.std.proofs.lemmas.Bool.Decides.{Decides-at, Decides-eqb}
@@ -58,6 +58,17 @@ module _ {A : Type 0} (same : A → A → Bool) (tells : (a b : A) → Decides (
       into : (x : A) × (among same (y ∷ ys) x ≡ true) × (test x ≡ true) → (test y ≡ true) ⊎ ((x : A) × (among same ys x ≡ true) × (test x ≡ true))
       into h = ⊎_elim (λ s. inl (subst (λ z. test z ≡ true) (sym ((tells y h.0).0 s)) h.2)) (λ r. inr (h.0, r, h.2)) (or_cases (same y h.0) (among same ys h.0) h.1)
 
+  -- each item passes a test
+  pub every_item : (test : A → Bool) (xs : List A) → Decides (list_all test xs) ((x : A) → among same xs x ≡ true → test x ≡ true)
+  every_item test [] = (λ h x at. absurd (false≢true at), λ h. refl)
+  every_item test (y ∷ ys) = like (both (itself (test y)) (every_item test ys)) out into
+    where
+      out : (test y ≡ true) × ((x : A) → among same ys x ≡ true → test x ≡ true) → (x : A) → among same (y ∷ ys) x ≡ true → test x ≡ true
+      out h x at = ⊎_elim (λ e. subst (λ z. test z ≡ true) ((tells y x).0 e) h.0) (λ k. h.1 x k) (or_cases (same y x) (among same ys x) at)
+
+      into : ((x : A) → among same (y ∷ ys) x ≡ true → test x ≡ true) → (test y ≡ true) × ((x : A) → among same ys x ≡ true → test x ≡ true)
+      into h = (h y (or_left (same y y) (among same ys y) ((tells y y).1 refl)), λ x at. h x (or_right (same y x) (among same ys x) at))
+
   pub among_filter : (test : A → Bool) (xs : List A) (x : A) → Decides (among same (filter test xs) x) ((among same xs x ≡ true) × (test x ≡ true))
   among_filter test xs x = Decides-at (among same (filter test xs) x) (test x && among same xs x) (any-filter_same (λ y. same y x) test (test x) (λ y e. ap test ((tells y x).0 e)) xs)
       (like (both (itself (test x)) (itself (among same xs x))) (λ h. (h.1, h.0)) (λ h. (h.1, h.0)))
@@ -107,6 +118,10 @@ module _ (test : ℕ → Bool) (P : ℕ → Type 0) (tells : (k : ℕ) → Decid
   -- an item that is such
   pub some_of : {Q : ℕ → Type 0} (items : List ℕ) → Lists items Q → Decides (list_any test items) ((k : ℕ) × Q k × P k)
   some_of items holds = like (some_item nat_eq Decides-eqb test items) (λ h. (h.0, (holds h.0).0 h.1, (tells h.0).0 h.2)) (λ h. (h.0, (holds h.0).1 h.1, (tells h.0).1 h.2))
+
+  -- each item is such
+  pub every_of : {Q : ℕ → Type 0} (items : List ℕ) → Lists items Q → Decides (list_all test items) ((k : ℕ) → Q k → P k)
+  every_of items holds = like (every_item nat_eq Decides-eqb test items) (λ h k q. (tells k).0 (h k ((holds k).1 q))) (λ h k at. (tells k).1 (h k ((holds k).0 at)))
 
   abbrev Found : (ℕ → ℕ → Type 0) → ℕ → Option ℕ → Type 0
   Found Is n found = MatchOption found ((k : ℕ) → k < n → P k → ⊥) (λ k. Is n k)
