@@ -1,21 +1,16 @@
 -- What lists made of lists have.
 use Rattle.std.proofs.Common.{◌≡◌, ◌⊎◌, refl, sym, ap, subst, inl, inr, ⊎_elim, ℕ, ◌<◌, Bool, true, false, if◌then◌else◌, List, [], ◌∷◌, ◌++◌, filter, Option, Some, None, nat_eq, Decides}
-use Rattle.std.specs.List.{list_all, flat_map}
+use Rattle.std.specs.List.{flat_map}
 use Rattle.std.specs.Option.{option_map_or}
 use Rattle.std.proofs.lemmas.Bool.{false≢true, or_cases, or_left, or_right}
-use Rattle.std.proofs.lemmas.Bool.Decides.{Decides-eqb}
+use Rattle.std.proofs.lemmas.Bool.Decides.{Decides-at, Decides-eqb}
 use Rattle.std.proofs.lemmas.Option.{none-some, same_Some}
 use Rattle.jr_plain.specs.Search.{gathered, among, has, Lists, Finds}
 use Rattle.jr_plain.specs.Same.{same_candidate}
 use Rattle.jr_plain.specs.Lists.{Has, or_else, at_level}
-use Rattle.jr_plain.proofs.Tests.{itself, never, both, either, like}
-use Rattle.jr_plain.proofs.Searches.{among_filter, among_append, gathered_tells}
+use Rattle.jr_plain.proofs.Tests.{never, either, like}
+use Rattle.jr_plain.proofs.Searches.{some_item, among_filter, among_append, gathered_tells, any_flat}
 use Rattle.jr_plain.proofs.Same.{candidate_tells}
-
--- what is not refuted holds, where a test tells
-pub decided : {P : Type 0} (b : Bool) → Decides b P → ((P → ⊥) → ⊥) → P
-decided true d h = d.0 refl
-decided false d h = absurd (h (λ p. false≢true (d.1 p)))
 
 module _ {A : Type 0} (same : A → A → Bool) (tells : (a b : A) → Decides (same a b) (a ≡ b)) where
   first_item : (x : A) (more : List A) → among same (x ∷ more) x ≡ true
@@ -33,22 +28,8 @@ module _ {A : Type 0} (same : A → A → Bool) (tells : (a b : A) → Decides (
   append_has first second holds others k = like (among_append same tells first second k) (⊎_elim (λ h. inl ((holds k).0 h)) (λ h. inr ((others k).0 h)))
       (⊎_elim (λ h. inl ((holds k).1 h)) (λ h. inr ((others k).1 h)))
 
-  pub none_has : Has same [] (λ k. ⊥)
-  none_has k = never
-
   pub one_has : (a : A) → Has same (a ∷ []) (λ k. a ≡ k)
   one_has a k = like (either (tells a k) never) (⊎_elim (λ e. e) (λ h. absurd h)) (λ e. inl e)
-
-  all_items : (test : A → Bool) (P : A → Type 0) → ((a : A) → Decides (test a) (P a)) → (xs : List A) → Decides (list_all test xs) ((k : A) → among same xs k ≡ true → P k)
-  all_items test P tests [] = (λ h k at. absurd (false≢true at), λ h. refl)
-  all_items test P tests (y ∷ ys) = like (both (tests y) (all_items test P tests ys))
-      (λ h k at. ⊎_elim (λ e. subst P ((tells y k).0 e) h.0) (λ r. h.1 k r) (or_cases (same y k) (among same ys k) at))
-      (λ h. (h y (first_item y ys), λ k r. h k (or_right (same y k) (among same ys k) r)))
-
-  -- each item is such
-  pub all_of : {Q : A → Type 0} (test : A → Bool) (P : A → Type 0) → ((a : A) → Decides (test a) (P a)) → (items : List A) → Has same items Q
-      → Decides (list_all test items) ((k : A) → Q k → P k)
-  all_of test P tests items holds = like (all_items test P tests items) (λ h k q. h k ((holds k).1 q)) (λ h k at. h k ((holds k).0 at))
 
   -- what an option that is found has
   pub found_has : {B : Type 0} (P : B → Type 0) (Q : B → A → Type 0) (of : B → List A) → ((b : B) → Has same (of b) (Q b)) → (found : Option B) → Finds found P
@@ -65,28 +46,12 @@ module _ {A : Type 0} (same : A → A → Bool) (tells : (a b : A) → Decides (
   pub gathered_has : (Q : ℕ → A → Type 0) (of : ℕ → List A) → ((k : ℕ) → Has same (of k) (Q k)) → (n : ℕ) → ((k : ℕ) (x : A) → Q k x → k < n) → Has same (gathered n of) (λ x. (k : ℕ) × Q k x)
   gathered_has Q of each n bound x = like (gathered_tells same tells of n x) (λ h. (h.0, (each h.0 x).0 h.2)) (λ h. (h.0, bound h.0 x h.1, (each h.0 x).1 h.1))
 
-  pub has_like : {P Q : A → Type 0} (items : List A) → Has same items P → ((k : A) → P k → Q k) → ((k : A) → Q k → P k) → Has same items Q
-  has_like items holds f g k = like (holds k) (f k) (g k)
-
 -- an item of the list of some item
 module _ {A B : Type 0} (same : A → A → Bool) (tells : (a b : A) → Decides (same a b) (a ≡ b)) (same_b : B → B → Bool) (tells_b : (a b : B) → Decides (same_b a b) (a ≡ b)) (of : B → List A) where
-  abbrev InSome : List B → A → Type 0
-  InSome xs k = (b : B) × (among same_b xs b ≡ true) × (among same (of b) k ≡ true)
-
-  flat_out : (y : B) (ys : List B) (k : A) → (among same (of y) k ≡ true) ⊎ InSome ys k → InSome (y ∷ ys) k
-  flat_out y ys k (inl h) = (y, first_item same_b tells_b y ys, h)
-  flat_out y ys k (inr r) = (r.0, or_right (same_b y r.0) (among same_b ys r.0) r.1, r.2)
-
-  flat_into : (y : B) (ys : List B) (k : A) → InSome (y ∷ ys) k → (among same (of y) k ≡ true) ⊎ InSome ys k
-  flat_into y ys k h = ⊎_elim (λ e. inl (subst (λ b. among same (of b) k ≡ true) (sym ((tells_b y h.0).0 e)) h.2)) (λ r. inr (h.0, r, h.2)) (or_cases (same_b y h.0) (among same_b ys h.0) h.1)
-
-  flat_items : (xs : List B) (k : A) → Decides (among same (flat_map of xs) k) (InSome xs k)
-  flat_items [] k = (λ h. absurd (false≢true h), λ h. absurd (false≢true h.1))
-  flat_items (y ∷ ys) k = like (append_has same tells (of y) (flat_map of ys) (λ x. itself (among same (of y) x)) (flat_items ys) k) (flat_out y ys k) (flat_into y ys k)
-
   pub flat_has : (P : B → Type 0) (Q : B → A → Type 0) → ((b : B) → Has same (of b) (Q b)) → (items : List B) → Has same_b items P
       → Has same (flat_map of items) (λ k. (b : B) × P b × Q b k)
-  flat_has P Q each items holds k = like (flat_items items k) (λ h. (h.0, (holds h.0).0 h.1, (each h.0 k).0 h.2)) (λ h. (h.0, (holds h.0).1 h.1, (each h.0 k).1 h.2))
+  flat_has P Q each items holds k = like (Decides-at _ _ (any_flat same of items k) (some_item same_b tells_b (λ b. among same (of b) k) items))
+      (λ h. (h.0, (holds h.0).0 h.1, (each h.0 k).0 h.2)) (λ h. (h.0, (holds h.0).1 h.1, (each h.0 k).1 h.2))
 
 -- declarations through one level
 pub at_level_has : {P : ℕ → Type 0} (level : Option ℕ) (items : List ℕ) → Lists items P → Has same_candidate (at_level level items) (λ k. P k.0 × (k.1 ≡ level))

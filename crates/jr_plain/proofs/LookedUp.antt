@@ -58,7 +58,7 @@ use Rattle.jr_plain.specs.Lookup as plain
 use Rattle.jr_plain.proofs.Tests.{always, never, both, opposite, like}
 use Rattle.jr_plain.proofs.Searches.{some, lists, finds_last}
 use Rattle.jr_plain.proofs.Same.{candidate_tells, type_tells, option_tells}
-use Rattle.jr_plain.proofs.Listed.{or_else_has, append_has, one_has, found_has, if_has, gathered_has, has_like, flat_has, at_level_has}
+use Rattle.jr_plain.proofs.Listed.{or_else_has, append_has, one_has, found_has, if_has, gathered_has, flat_has, at_level_has}
 use Rattle.jr_plain.proofs.Bounds.{type_below, constructor_below}
 use Rattle.jr_plain.proofs.Declared.{declares_tells, object_tells}
 use Rattle.jr_plain.proofs.Enclosed.{body_tells, in_body_tells, in_body_below, innermost_finds, constructor_tells}
@@ -142,14 +142,15 @@ module _ (p : Rows) (t : Table) (headed : IsHeaded p) where
       (one_has same_candidate candidate_tells (d, level_of (role_at p d) r))
 
   visible_through_has : (k : Space) (x : Text) (o : ℕ) → Has same_candidate (plain.visible_through p t k x o) (λ c. VisibleThrough p t k x o c.0 c.1)
-  visible_through_has k x o = has_like same_candidate candidate_tells (plain.visible_through p t k x o)
-      (gathered_has same_candidate candidate_tells (λ d c. Declares p k x d × ((r : Depth) × VisibleAt k x o d r c)) (λ d. if declares p k x d then gathered (depths p) (λ r. plain.visible_at p t k x o d (depth_at r)) else [])
+  visible_through_has k x o c = like
+      (gathered_has same_candidate candidate_tells (λ d c. Declares p k x d × ((r : Depth) × VisibleAt k x o d r c))
+      (λ d. if declares p k x d then gathered (depths p) (λ r. plain.visible_at p t k x o d (depth_at r)) else [])
       (λ d. if_has same_candidate candidate_tells (declares p k x d) (declares_tells p k x d) (gathered (depths p) (λ r. plain.visible_at p t k x o d (depth_at r)))
       (each_depth_has same_candidate candidate_tells p (VisibleAt k x o d) (λ r. plain.visible_at p t k x o d r) (visible_at_has k x o d)
       (λ s c h. depth_below p t headed k x o d s h.0.in_scope)))
-      (length p) (λ d c h. declares_below p k x d h.0))
-      (λ c h. subst (λ e. VisibleThrough p t k x o e.0 e.1) h.1.1.1.1 (record { depth = h.1.1.0; visible = h.1.1.1.0; through = refl }))
-      (λ c h. (c.0, (h.visible.in_scope.declares, (h.depth, (h.visible, λ i. (c.0, h.through i))))))
+      (length p) (λ d c h. declares_below p k x d h.0) c)
+      (λ h. subst (λ e. VisibleThrough p t k x o e.0 e.1) h.1.1.1.1 (record { depth = h.1.1.0; visible = h.1.1.1.0; through = refl }))
+      (λ h. (c.0, (h.visible.in_scope.declares, (h.depth, (h.visible, λ i. (c.0, h.through i))))))
 
   none_tells : (k : Space) (x : Text) (o : ℕ) → Decides (plain.none_in_scope p t k x o) (NoneInScope p t k x o)
   none_tells k x o = like

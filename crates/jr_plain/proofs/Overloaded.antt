@@ -25,10 +25,10 @@ use Rattle.jr_plain.specs.Supertypes.{supers}
 use Rattle.jr_plain.specs.Members.{is_member}
 use Rattle.jr_plain.specs.Overloads as plain
 use Rattle.jr_plain.specs.Overloads.{Types}
-use Rattle.jr_plain.proofs.Tests.{itself, never, both, either, opposite, like}
-use Rattle.jr_plain.proofs.Searches.{some_of, finds_first}
+use Rattle.jr_plain.proofs.Tests.{itself, never, both, either, opposite, decide, like}
+use Rattle.jr_plain.proofs.Searches.{some_of, every_of, finds_first}
 use Rattle.jr_plain.proofs.OfTypes.{closed_types, sound_types}
-use Rattle.jr_plain.proofs.Listed.{decided, or_else_has, filter_has, all_of}
+use Rattle.jr_plain.proofs.Listed.{or_else_has, filter_has}
 use Rattle.jr_plain.proofs.Same.{type_tells}
 use Rattle.jr_plain.proofs.Bounds.{class_below, parent_past}
 use Rattle.jr_plain.proofs.Modified.{found_tells, abstract_tells}
@@ -208,19 +208,19 @@ module _ (p : Rows) (t : Table) (headed : IsHeaded p) where
   pub most_specific_list : (A : ℕ → Type 0) (methods : List ℕ) → Lists methods A → Lists (plain.most_specific p t methods) (IsMostSpecific p t A)
   most_specific_list A methods holds m = like
       (filter_has nat_eq Decides-eqb (λ m. list_all (λ k. plain.is_more_specific p t m k) methods)
-      (λ m. all_of nat_eq Decides-eqb (λ k. plain.is_more_specific p t m k) (λ k. MoreSpecific p t m k) (more_specific_tells m) methods holds) methods holds m)
+      (λ m. every_of (λ k. plain.is_more_specific p t m k) (λ k. MoreSpecific p t m k) (more_specific_tells m) methods holds) methods holds m)
       (λ h. record { applicable = h.0; most = h.1 }) (λ h. (h.applicable, h.most))
 
   returning_list : (M : ℕ → Type 0) (methods : List ℕ) → Lists methods M → Lists (plain.returning p t methods) (Returns p t M)
   returning_list M methods holds m = like
       (filter_has nat_eq Decides-eqb (λ m. list_all (λ k. plain.is_result_fit p t m k) methods)
-      (λ m. all_of nat_eq Decides-eqb (λ k. plain.is_result_fit p t m k) (λ k. ResultFits p t m k) (result_tells m) methods holds) methods holds m)
+      (λ m. every_of (λ k. plain.is_result_fit p t m k) (λ k. ResultFits p t m k) (result_tells m) methods holds) methods holds m)
       (λ h. record { candidate = h.0; fits = h.1 }) (λ h. (h.candidate, h.fits))
 
   firsts_list : (c : ℕ) (S : ℕ → Type 0) (methods : List ℕ) → Lists methods S → Lists (plain.firsts p t c methods) (IsFirst p t c S)
   firsts_list c S methods holds m = like
       (filter_has nat_eq Decides-eqb (λ m. list_all (λ k. nat_eq m k || plain.is_earlier p t c m k) methods)
-      (λ m. all_of nat_eq Decides-eqb (λ k. nat_eq m k || plain.is_earlier p t c m k) (λ k. (m ≡ k) ⊎ Earlier p t c m k) (λ k. either (Decides-eqb m k) (earlier_tells c m k)) methods holds)
+      (λ m. every_of (λ k. nat_eq m k || plain.is_earlier p t c m k) (λ k. (m ≡ k) ⊎ Earlier p t c m k) (λ k. either (Decides-eqb m k) (earlier_tells c m k)) methods holds)
       methods holds m)
       (λ h. record { candidate = h.0; first = h.1 }) (λ h. (h.candidate, h.first))
 
@@ -237,7 +237,7 @@ module _ (p : Rows) (t : Table) (headed : IsHeaded p) where
     preferred_out m (inr h) = by h.1.candidate
       where
         all_abstract : AllAbstract p M
-        all_abstract k in_set = decided (is_abstract p k) (abstract_tells p k) (λ concrete. h.0 k (in_set, concrete))
+        all_abstract k in_set = ⊎_elim (λ a. a) (λ concrete. absurd (h.0 k (in_set, concrete))) (decide (abstract_tells p k))
 
         by : Returning m → IsPreferred p t c M m
         by (inl r) = IsPreferred.returning all_abstract (record { candidate = r; first = λ k x. h.1.first k (inl x) })

@@ -163,7 +163,7 @@ module _ (test : ℕ → Bool) (P : ℕ → Type 0) (tells : (k : ℕ) → Decid
 
 -- an item of one of the lists that the items of a list have
 module _ {A : Type 0} (same : A → A → Bool) where
-  any_flat : (f : ℕ → List A) (items : List ℕ) (y : A) → among same (flat_map f items) y ≡ list_any (λ x. among same (f x) y) items
+  pub any_flat : {B : Type 0} (f : B → List A) (items : List B) (y : A) → among same (flat_map f items) y ≡ list_any (λ x. among same (f x) y) items
   any_flat f [] y = refl
   any_flat f (x ∷ xs) y = list_any-append (λ z. same z y) (f x) (flat_map f xs) ∙ ap (λ b. among same (f x) y || b) (any_flat f xs y)
 
