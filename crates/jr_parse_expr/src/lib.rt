@@ -2,7 +2,15 @@
 #![tactic(auto)]
 
 mod law;
+mod lead;
 mod name;
+mod read;
+mod start;
 
 pub use law::expressions_have_one_reading;
-pub use name::{Dotted, dims, dotted_name, element, name_after, type_use};
+pub use lead::Lead;
+pub use name::{
+    Dotted, dims, dims_behind, dotted_name, element, name_after, primitive_at, type_use, whole_name,
+};
+pub use read::{call_arguments, effect, expr, init, list};
+pub use start::{starts_effect, starts_expr};
