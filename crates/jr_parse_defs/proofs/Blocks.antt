@@ -65,7 +65,7 @@ stmt_token a h = go (stmt_tokens a) (stmt_written a []) where
   go [] e = absurd (let starts = stmt_starts a [] h in let none : starts_block_stmt (first (write_stmt a [])) ≡ false = ap (λ ts. starts_block_stmt (first ts)) e in cc)
   go (t ∷ tokens) e = omega arith
 
-stmt_longer : (room : ℕ) (a : s.Stmt) (rest : List Kind) → IsStmt room true a → suc (length rest) ≤ length (write_stmt a rest)
+pub stmt_longer : (room : ℕ) (a : s.Stmt) (rest : List Kind) → IsStmt room true a → suc (length rest) ≤ length (write_stmt a rest)
 stmt_longer room a rest is =
     let one = stmt_token a is.shaped in
     rw (stmt_written a rest, length-append) (omega arith)

@@ -95,7 +95,7 @@ declarator_after_sound room name ts r h =
 declarator_read : (room : ℕ) (d : s.Declarator) (rest : List Kind) → IsShapedDeclarator d → declarator_depth d ≤ room → Apart (first rest) → declarator room (write_declarator d rest) ≡ Ok (d, rest)
 declarator_read room (s.DeclaratorOf name pairs i) rest s low apart = declarator_after_read room name pairs i rest s low apart
 
-declarator_sound : (room : ℕ) (ts : List Kind) (r : s.Declarator × List Kind) → declarator room ts ≡ Ok r → DeclaratorFound room ts r
+pub declarator_sound : (room : ℕ) (ts : List Kind) (r : s.Declarator × List Kind) → declarator room ts ≡ Ok r → DeclaratorFound room ts r
 declarator_sound room ts r h =
     let name = bind_ok (identifier ts) _ r h in
     subst (λ ts. DeclaratorFound room ts r) (sym (identifier_token.took ts name.0 name.1)) (declarator_after_sound room name.0.0 name.0.1 r name.2)

@@ -39,3 +39,5 @@ pub mod EffectLocals
 pub mod EffectStuck
 pub mod Stuck
 pub mod Rules
+pub mod Keeps
+pub mod Shorter

@@ -1,1 +1,3 @@
-
+pub mod Viewed
+pub mod Takes
+pub mod Begins

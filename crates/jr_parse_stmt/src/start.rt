@@ -9,6 +9,17 @@ use jr_base::{Keyword, Kind, Symbol};
 use jr_parse_expr::starts_effect;
 use jr_parse_laws::Cursor;
 
+/// A word behind which a statement or an expression must stand, which has a level less.
+#[derive(Clone, Copy)]
+pub enum PartWord {
+    Do,
+    While,
+    If,
+    For,
+    Switch,
+    Throw,
+}
+
 /// How a statement begins.
 #[derive(Clone, Copy)]
 pub enum StmtStart {
@@ -16,12 +27,7 @@ pub enum StmtStart {
     Block,
     /// `;`
     Skip,
-    Do,
-    While,
-    If,
-    For,
-    Switch,
-    Throw,
+    Part(PartWord),
     Break,
     Continue,
     Return,
@@ -48,12 +54,12 @@ fn word_start(word: Keyword) -> StmtStart
     ensures { result ≡ begun.word_start word }
 {
     match word {
-        Keyword::Do => StmtStart::Do,
-        Keyword::While => StmtStart::While,
-        Keyword::If => StmtStart::If,
-        Keyword::For => StmtStart::For,
-        Keyword::Switch => StmtStart::Switch,
-        Keyword::Throw => StmtStart::Throw,
+        Keyword::Do => StmtStart::Part(PartWord::Do),
+        Keyword::While => StmtStart::Part(PartWord::While),
+        Keyword::If => StmtStart::Part(PartWord::If),
+        Keyword::For => StmtStart::Part(PartWord::For),
+        Keyword::Switch => StmtStart::Part(PartWord::Switch),
+        Keyword::Throw => StmtStart::Part(PartWord::Throw),
         Keyword::Break => StmtStart::Break,
         Keyword::Continue => StmtStart::Continue,
         Keyword::Return => StmtStart::Return,
