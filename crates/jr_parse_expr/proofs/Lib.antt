@@ -41,3 +41,4 @@ pub mod Stuck
 pub mod Rules
 pub mod Keeps
 pub mod Shorter
+pub mod Rooms

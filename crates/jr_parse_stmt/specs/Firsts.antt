@@ -8,7 +8,7 @@ use Rattle.jr_tree.specs.declared.tree.Name.{Name}
 use Rattle.jr_tree.specs.declared.tree.Base.TheVariants as base
 use Rattle.jr_tree.specs.Mirror.Exprs as x
 use Rattle.jr_tree.specs.Mirror.Stmts as s
-use Rattle.jr_parse_laws.specs.Parsers.{Parser, ◌>>=◌, pure, first, many, begins_with, after_comma, expect, identifier, is_at, optional}
+use Rattle.jr_parse_laws.specs.Parsers.{Parser, ◌>>=◌, ◌>>◌, pure, first, many, begins_with, after_comma, expect, identifier, is_at, optional}
 use Rattle.jr_parse_expr.specs.Starts.{starts_expr, starts_effect, next_is}
 use Rattle.jr_parse_expr.specs.Names.{name_of, type_of, type_use, dims, dotted, Plain}
 use Rattle.jr_parse_expr.specs.Exprs.{Lead, Nothing, Named, Indexed, any_commas, expr, effect}
@@ -43,7 +43,8 @@ module _ (room : ℕ) (inner : Parser s.Stmt) (outer : Parser s.Stmt) where
   abbrev pub plain_first : List Text → Text → NameEnd → Parser s.ForInit
   plain_first before last end.Name = rule.locals room inner outer false (type_of (base.Named (name_of (before ++ last ∷ []))) 0)
   plain_first before last end.Bracket = behind (bracketed (name_of (before ++ last ∷ [])))
-  plain_first before last _ = rule.first_effects room inner outer (Named (Plain before last))
+  plain_first before last end.Colon = rule.first_effects room inner outer (Named (Plain before last))
+  plain_first before last end.Other = rule.first_effects room inner outer (Named (Plain before last))
 
   -- at an identifier
   abbrev pub from_name : Parser s.ForInit

@@ -79,8 +79,7 @@ pub fn ctor_body(alloc: Global, cursor: &mut Cursor<'_>, room: usize) -> Result<
     ensures { Reads plain_block (spec.ctor_body room (kinds cursor.old)) result (kinds cursor.new) }
 {
     if room == 0 {
-        body(alloc, cursor, room)
-    } else {
-        ctor_block(alloc, cursor, room)
+        return body(alloc, cursor, room);
     }
+    ctor_block(alloc, cursor, room)
 }

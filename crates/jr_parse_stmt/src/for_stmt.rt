@@ -1,5 +1,5 @@
 // Loops with a first part, a condition and an update (JLS 14.14.1).
-ghost use Rattle.std.specs.Prelude.{◌≡◌, ◌<◌, true, map};
+ghost use Rattle.std.specs.Prelude.{◌≡◌, ◌<◌, true, false, map};
 ghost use Rattle.std.specs.Option.{option_map};
 ghost use Rattle.jr_base.specs.declared.kind.Symbol.TheVariants as y;
 ghost use Rattle.jr_tree.specs.Mirror.Exprs.{plain_expr};
@@ -120,7 +120,8 @@ impl<F> Grammar<F> {
 
     /// Behind a name that may be a declaration's type or the head of an expression, by what comes next.
     fn plain_first(&self, cursor: &mut Cursor<'_>, dotted: Dotted) -> Result<ForInit, Fault>
-        requires { self.now.room < usize.MAX }
+        requires room { self.now.room < usize.MAX }
+        requires plain { dotted.has_this ≡ false }
         ensures { Reads plain_for (in_room parts.plain_first self.now.room dotted.before dotted.last (named.name_end (kinds cursor.old)) (kinds cursor.old)) result (kinds cursor.new) }
     {
         match name_end(cursor) {
@@ -133,7 +134,7 @@ impl<F> Grammar<F> {
                 let name = whole_name(dotted.before, dotted.last)?;
                 self.first_bracketed(cursor, name)
             }
-            _ => self.first_effects(cursor, Lead::Named(dotted)),
+            NameEnd::Colon | NameEnd::Other => self.first_effects(cursor, Lead::Named(dotted)),
         }
     }
 

@@ -1,5 +1,5 @@
 // Statements that begin with a name: a declaration, a label or an expression (JLS 14.4, 14.7, 14.8).
-ghost use Rattle.std.specs.Prelude.{◌≡◌, ◌<◌, true};
+ghost use Rattle.std.specs.Prelude.{◌≡◌, ◌<◌, true, false};
 ghost use Rattle.jr_tree.specs.declared.tree.Base.TheVariants as base;
 ghost use Rattle.jr_parse_expr.specs.Names.{type_of};
 ghost use Rattle.jr_base.specs.declared.kind.Symbol.TheVariants as y;
@@ -112,6 +112,37 @@ impl<F: Fn(Global, &mut Cursor<'_>, usize, bool) -> Result<Stmt, Fault>> Grammar
         Ok(Stmt::Labeled { label, body })
     }
 
+    /// At an identifier behind a name.
+    fn at_name(
+        &self,
+        cursor: &mut Cursor<'_>,
+        declares: bool,
+        dotted: Dotted,
+    ) -> Result<Stmt, Fault>
+        requires room { self.now.room < usize.MAX }
+        requires plain { dotted.has_this ≡ false }
+        ensures { Reads plain_stmt (in_room named.at_name self.now.room declares dotted.before dotted.last (kinds cursor.old)) result (kinds cursor.new) }
+    {
+        if !declares {
+            return self.evaluated(cursor, Lead::Named(dotted));
+        }
+        let name = whole_name(dotted.before, dotted.last)?;
+        self.local(cursor, false, named_type(name, 0))
+    }
+
+    /// At a colon behind a name, which is a label if it is simple.
+    fn at_colon(&self, cursor: &mut Cursor<'_>, dotted: Dotted) -> Result<Stmt, Fault>
+        requires nests { Nests self.now.room (F.pre self.now.stmt) (F.post self.now.stmt) }
+        requires plain { dotted.has_this ≡ false }
+        ensures { Reads plain_stmt (in_room named.at_colon self.now.room dotted.before dotted.last (kinds cursor.old)) result (kinds cursor.new) }
+    {
+        if dotted.before.is_empty() {
+            self.labeled(cursor, dotted.last)
+        } else {
+            self.evaluated(cursor, Lead::Named(dotted))
+        }
+    }
+
     /// Behind a name that may be a declaration's type, a label or the head of an expression, by what comes next.
     fn plain_named(
         &self,
@@ -121,19 +152,17 @@ impl<F: Fn(Global, &mut Cursor<'_>, usize, bool) -> Result<Stmt, Fault>> Grammar
     ) -> Result<Stmt, Fault>
         requires nests { Nests self.now.room (F.pre self.now.stmt) (F.post self.now.stmt) }
         requires room { self.now.room < usize.MAX }
+        requires plain { dotted.has_this ≡ false }
         ensures { Reads plain_stmt (in_room named.plain_named self.now.room declares dotted.before dotted.last (named.name_end (kinds cursor.old)) (kinds cursor.old)) result (kinds cursor.new) }
     {
         match name_end(cursor) {
-            NameEnd::Name if declares => {
-                let name = whole_name(dotted.before, dotted.last)?;
-                self.local(cursor, false, named_type(name, 0))
-            }
+            NameEnd::Name => self.at_name(cursor, declares, dotted),
             NameEnd::Bracket => {
                 let name = whole_name(dotted.before, dotted.last)?;
                 self.at_bracket(cursor, declares, name)
             }
-            NameEnd::Colon if dotted.before.is_empty() => self.labeled(cursor, dotted.last),
-            _ => self.evaluated(cursor, Lead::Named(dotted)),
+            NameEnd::Colon => self.at_colon(cursor, dotted),
+            NameEnd::Other => self.evaluated(cursor, Lead::Named(dotted)),
         }
     }
 
