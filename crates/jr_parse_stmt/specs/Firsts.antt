@@ -62,13 +62,21 @@ module _ (room : ℕ) (inner : Parser s.Stmt) (outer : Parser s.Stmt) where
       else (if starts_effect (first ts) then (rule.first_effects room inner outer Nothing >>= (λ i. pure (Some i))) ts
       else Ok (None, ts)))
 
+  -- behind all that stands in parentheses
+  abbrev pub for_body : Option s.ForInit → Option x.Expr → List x.Expr → Parser s.Stmt
+  for_body i c update = inner >>= (λ body. pure (s.For i c (x.exprs update) body))
+
+  -- behind the second semicolon
+  abbrev pub for_update : Option s.ForInit → Option x.Expr → Parser s.Stmt
+  for_update i c = do
+    update ← any_commas starts_effect (effect room Nothing)
+    expect y.CloseParen
+    for_body i c update
+
   -- behind the first part
-  abbrev pub for_behind : Option s.ForInit → Parser s.Stmt
-  for_behind i = do
+  abbrev pub for_cond : Option s.ForInit → Parser s.Stmt
+  for_cond i = do
     expect y.Semicolon
     c ← optional starts_expr (expr room Nothing 0)
     expect y.Semicolon
-    update ← any_commas starts_effect (effect room Nothing)
-    expect y.CloseParen
-    body ← inner
-    pure (s.For i c (x.exprs update) body)
+    for_update i c

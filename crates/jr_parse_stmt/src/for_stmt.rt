@@ -190,20 +190,17 @@ impl<F> Grammar<F> {
 }
 
 impl<F: Fn(Global, &mut Cursor<'_>, usize, bool) -> Result<Stmt, Fault>> Grammar<F> {
-    /// Behind the first part.
-    fn for_behind(
+    /// The part that is repeated, behind all that stands in parentheses.
+    fn for_body(
         &self,
         cursor: &mut Cursor<'_>,
         first: Option<ForInit>,
+        cond: Option<Expr>,
+        update: Items<Expr>,
     ) -> Result<Stmt, Fault>
         requires { Nests self.now.room (F.pre self.now.stmt) (F.post self.now.stmt) }
-        ensures { Reads plain_stmt (in_room parts.for_behind self.now.room (option_map plain_for first) (kinds cursor.old)) result (kinds cursor.new) }
+        ensures { Reads plain_stmt (in_room parts.for_body self.now.room (option_map plain_for first) (option_map plain_expr cond) (map plain_expr update) (kinds cursor.old)) result (kinds cursor.new) }
     {
-        cursor.expect(Symbol::Semicolon)?;
-        let cond = any_expr(self.alloc, cursor, self.room)?;
-        cursor.expect(Symbol::Semicolon)?;
-        let update = self.update(cursor)?;
-        cursor.expect(Symbol::CloseParen)?;
         let body = self.inner(cursor)?;
         Ok(Stmt::For {
             first,
@@ -211,6 +208,32 @@ impl<F: Fn(Global, &mut Cursor<'_>, usize, bool) -> Result<Stmt, Fault>> Grammar
             update,
             body,
         })
+    }
+
+    /// Behind the second semicolon.
+    fn for_update(
+        &self,
+        cursor: &mut Cursor<'_>,
+        first: Option<ForInit>,
+        cond: Option<Expr>,
+    ) -> Result<Stmt, Fault>
+        requires { Nests self.now.room (F.pre self.now.stmt) (F.post self.now.stmt) }
+        ensures { Reads plain_stmt (in_room parts.for_update self.now.room (option_map plain_for first) (option_map plain_expr cond) (kinds cursor.old)) result (kinds cursor.new) }
+    {
+        let update = self.update(cursor)?;
+        cursor.expect(Symbol::CloseParen)?;
+        self.for_body(cursor, first, cond, update)
+    }
+
+    /// Behind the first part.
+    fn for_cond(&self, cursor: &mut Cursor<'_>, first: Option<ForInit>) -> Result<Stmt, Fault>
+        requires { Nests self.now.room (F.pre self.now.stmt) (F.post self.now.stmt) }
+        ensures { Reads plain_stmt (in_room parts.for_cond self.now.room (option_map plain_for first) (kinds cursor.old)) result (kinds cursor.new) }
+    {
+        cursor.expect(Symbol::Semicolon)?;
+        let cond = any_expr(self.alloc, cursor, self.room)?;
+        cursor.expect(Symbol::Semicolon)?;
+        self.for_update(cursor, first, cond)
     }
 
     /// Behind `for`
@@ -222,6 +245,6 @@ impl<F: Fn(Global, &mut Cursor<'_>, usize, bool) -> Result<Stmt, Fault>> Grammar
     {
         cursor.expect(Symbol::OpenParen)?;
         let first = self.for_first(cursor)?;
-        self.for_behind(cursor, first)
+        self.for_cond(cursor, first)
     }
 }
