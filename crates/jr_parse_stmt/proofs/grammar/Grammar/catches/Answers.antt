@@ -1,6 +1,6 @@
-use Rattle.std.proofs.Common.{rules, ◌≡◌, ◌∙◌, true, false, Ok, [], ◌∷◌, ◌++◌, drop, refl}
+use Rattle.std.proofs.Common.{rules, ◌≡◌, ◌∙◌, true, false, Ok, [], ◌∷◌, ◌++◌, drop, map, refl, sym, subst}
 use Rattle.jr_tree.specs.Mirror.Stmts.{plain_catch}
-use Rattle.jr_parse_laws.specs.Parsers.{kinds, first}
+use Rattle.jr_parse_laws.specs.Parsers.{kinds, first, many, with_front}
 use Rattle.jr_parse_laws.proofs.Outcomes.{reads_err}
 use Rattle.jr_parse_expr.proofs.Shorter.{fewer_tokens}
 use Rattle.jr_parse_expr.specs.Starts.{next_is}
@@ -12,7 +12,9 @@ use Rattle.jr_parse_stmt.proofs.Takes.{catch_takes}
 use Rattle.jr_parse_stmt.proofs.grammar.Grammar.catches.Goals as goal
 
 pub catches-init : goal.catches-init
-catches-init g c = front_none _
+catches-init g c =
+    let o = many (next_is is_catch) (in_room spec.catch_clause c.args.self.now.room) (kinds c.args.cursor.now) in
+    subst (λ (all : _). o ≡ with_front (map plain_catch all) o) (sym c.new-all.ensures) (front_none o)
 
 pub returns-in_err-next : goal.returns-in_err-next
 returns-in_err-next g c =

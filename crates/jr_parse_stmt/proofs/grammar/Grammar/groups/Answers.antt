@@ -1,6 +1,6 @@
-use Rattle.std.proofs.Common.{rules, ◌≡◌, ◌∙◌, true, false, Ok, [], ◌∷◌, ◌++◌, drop, refl}
+use Rattle.std.proofs.Common.{rules, ◌≡◌, ◌∙◌, true, false, Ok, [], ◌∷◌, ◌++◌, drop, map, refl, sym, subst}
 use Rattle.jr_tree.specs.Mirror.Stmts.{plain_group}
-use Rattle.jr_parse_laws.specs.Parsers.{kinds, first}
+use Rattle.jr_parse_laws.specs.Parsers.{kinds, first, many, with_front}
 use Rattle.jr_parse_laws.proofs.Outcomes.{reads_err}
 use Rattle.jr_parse_expr.proofs.Shorter.{fewer_tokens}
 use Rattle.jr_parse_defs.specs.Begins.{starts_label}
@@ -11,7 +11,9 @@ use Rattle.jr_parse_stmt.proofs.Takes.{group_takes}
 use Rattle.jr_parse_stmt.proofs.grammar.Grammar.groups.Goals as goal
 
 pub groups-init : goal.groups-init
-groups-init g c = front_none _
+groups-init g c =
+    let o = many starts_label (in_room spec.group c.args.self.now.room) (kinds c.args.cursor.now) in
+    subst (λ (all : _). o ≡ with_front (map plain_group all) o) (sym c.new-all.ensures) (front_none o)
 
 pub returns-in_err-next : goal.returns-in_err-next
 returns-in_err-next g c =
