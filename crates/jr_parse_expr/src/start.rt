@@ -89,6 +89,16 @@ pub fn starts_cast_operand(cursor: &Cursor<'_>) -> bool
     }
 }
 
+/// Whether a literal comes next that stands anywhere.
+pub fn starts_plain_literal(cursor: &Cursor<'_>) -> bool
+    ensures { result ≡ spec.next_is spec.is_plain_literal (first (kinds cursor.now)) }
+{
+    match cursor.peek() {
+        Some(kind) => is_plain_literal(kind),
+        None => false,
+    }
+}
+
 /// Whether an expression comes next.
 pub fn starts_expr(cursor: &Cursor<'_>) -> bool
     ensures { result ≡ spec.starts_expr (first (kinds cursor.now)) }
