@@ -83,7 +83,7 @@ pub record DeclaratorFound (room : ℕ) (ts : List Kind) (r : s.Declarator × Li
   pub low : declarator_depth r.0 ≤ room
   pub written : ts ≡ write_declarator r.0 r.1
 
-declarator_after_sound : (room : ℕ) (name : Text) (ts : List Kind) (r : s.Declarator × List Kind) → declarator_after room name ts ≡ Ok r → DeclaratorFound room (kind.Ident name ∷ ts) r
+pub declarator_after_sound : (room : ℕ) (name : Text) (ts : List Kind) (r : s.Declarator × List Kind) → declarator_after room name ts ≡ Ok r → DeclaratorFound room (kind.Ident name ∷ ts) r
 unfolding declarator_after
 declarator_after_sound room name ts r h =
     let n = bind_ok (dims ts) _ r h in
@@ -102,16 +102,16 @@ declarator_sound room ts r h =
 
 -- ---- variables with commas
 
-abbrev Fits : ℕ → s.Declarator → Type 0
+abbrev pub Fits : ℕ → s.Declarator → Type 0
 Fits room d = IsShapedDeclarator d × (declarator_depth d ≤ room)
 
-later_sound : (room : ℕ) → Sound (Fits room) (write_after write_declarator) (after_comma (declarator room))
+pub later_sound : (room : ℕ) → Sound (Fits room) (write_after write_declarator) (after_comma (declarator room))
 later_sound room ts r h =
     let a = eats y.Comma ts _ r h in
     let found = declarator_sound room a.rest r a.more in
     ((found.shaped, found.low), a.written ∙ ap (λ us. kind.Sym y.Comma ∷ us) found.written)
 
-later_longer : (room : ℕ) (d : s.Declarator) (rest : List Kind) → Fits room d → suc (length rest) ≤ length (write_after write_declarator d rest)
+pub later_longer : (room : ℕ) (d : s.Declarator) (rest : List Kind) → Fits room d → suc (length rest) ≤ length (write_after write_declarator d rest)
 later_longer room d rest is = let l = longer_by (declarator_tokens d) rest (write_declarator d rest) (declarator_written d rest) in omega arith
 
 later_read : (room : ℕ) (ds : List s.Declarator) (rest : List Kind) → AllByRecursion (Fits room) ds
