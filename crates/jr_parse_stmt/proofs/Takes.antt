@@ -126,6 +126,6 @@ catch_takes room ts c rest starts h =
     let a = eats_word k.Catch ts _ (c, rest) h in
     let same = ap (λ (ts : List Kind). length ts) a.written in
     let more =
-        keeps_behind y.OpenParen _
-        (keeps_bind rule.param _ param_keeps (λ p. keeps_behind y.CloseParen _ (keeps_bind (in_room rule.block room) _ (block_keeps room) (λ b. keeps_pure (s.CatchOf p b))))) a.rest c rest a.more in
+    keeps_behind y.OpenParen _
+    (keeps_bind rule.param _ param_keeps (λ p. keeps_behind y.CloseParen _ (keeps_bind (in_room rule.block room) _ (block_keeps room) (λ b. keeps_pure (s.CatchOf p b))))) a.rest c rest a.more in
     omega arith

@@ -15,7 +15,11 @@ use std::alloc::Global;
 
 impl<F: Fn(Global, &mut Cursor<'_>, usize, bool) -> Result<Stmt, Fault>> Grammar<F> {
     /// Statements behind these, as long as one begins.
-    pub fn more_stmts(&self, cursor: &mut Cursor<'_>, front: Items<Stmt>) -> Result<Items<Stmt>, Fault>
+    pub fn more_stmts(
+        &self,
+        cursor: &mut Cursor<'_>,
+        front: Items<Stmt>,
+    ) -> Result<Items<Stmt>, Fault>
         requires { Nests self.now.room (F.pre self.now.stmt) (F.post self.now.stmt) }
         ensures { Reads (λ (all : _). map plain_stmt all) (with_front (map plain_stmt front) (many starts_block_stmt (spec.stmt self.now.room true) (kinds cursor.old))) result (kinds cursor.new) }
     {

@@ -14,11 +14,7 @@ use jr_tree::{Declarator, Init};
 use std::alloc::Global;
 
 /// What a variable is initialized with, if a sign of equality comes next.
-fn initializer(
-    alloc: Global,
-    cursor: &mut Cursor<'_>,
-    room: usize,
-) -> Result<Option<Init>, Fault>
+fn initializer(alloc: Global, cursor: &mut Cursor<'_>, room: usize) -> Result<Option<Init>, Fault>
     requires { room < usize.MAX }
     ensures { Reads (option_map plain_init) (spec.initializer room (kinds cursor.old)) result (kinds cursor.new) }
 {

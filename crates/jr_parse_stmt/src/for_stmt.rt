@@ -20,7 +20,9 @@ use crate::parameter::finality;
 use crate::simple::any_expr;
 use crate::start::starts_local;
 use jr_base::{Items, Kind, Symbol};
-use jr_parse_expr::{Dotted, Lead, dims_behind, dotted_name, effect, starts_effect, type_use, whole_name};
+use jr_parse_expr::{
+    Dotted, Lead, dims_behind, dotted_name, effect, starts_effect, type_use, whole_name,
+};
 use jr_parse_laws::{Cursor, Fault};
 use jr_tree::{Expr, ForInit, Name, Stmt, TypeUse};
 use std::alloc::Global;
@@ -79,12 +81,7 @@ impl<F> Grammar<F> {
     }
 
     /// A first part that declares variables, behind their type.
-    fn locals(
-        &self,
-        cursor: &mut Cursor<'_>,
-        is_final: bool,
-        ty: TypeUse,
-    ) -> Result<ForInit, Fault>
+    fn locals(&self, cursor: &mut Cursor<'_>, is_final: bool, ty: TypeUse) -> Result<ForInit, Fault>
         requires { self.now.room < usize.MAX }
         ensures { Reads plain_for (in_room spec.locals self.now.room is_final ty (kinds cursor.old)) result (kinds cursor.new) }
     {

@@ -77,12 +77,7 @@ impl<F> Grammar<F> {
     }
 
     /// At an open bracket behind a name.
-    fn at_bracket(
-        &self,
-        cursor: &mut Cursor<'_>,
-        declares: bool,
-        name: Name,
-    ) -> Result<Stmt, Fault>
+    fn at_bracket(&self, cursor: &mut Cursor<'_>, declares: bool, name: Name) -> Result<Stmt, Fault>
         requires { self.now.room < usize.MAX }
         ensures { Reads plain_stmt (in_room named.at_bracket self.now.room declares name (kinds cursor.old)) result (kinds cursor.new) }
     {

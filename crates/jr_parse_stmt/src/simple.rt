@@ -51,12 +51,7 @@ pub fn any_expr(alloc: Global, cursor: &mut Cursor<'_>, room: usize) -> Result<O
 
 impl<F> Grammar<F> {
     /// Variables of a type that was read.
-    pub fn local(
-        &self,
-        cursor: &mut Cursor<'_>,
-        is_final: bool,
-        ty: TypeUse,
-    ) -> Result<Stmt, Fault>
+    pub fn local(&self, cursor: &mut Cursor<'_>, is_final: bool, ty: TypeUse) -> Result<Stmt, Fault>
         requires { self.now.room < usize.MAX }
         ensures { Reads plain_stmt (in_room spec.local self.now.room is_final ty (kinds cursor.old)) result (kinds cursor.new) }
     {
