@@ -1,6 +1,8 @@
 //! The parser: the one tree that a list of tokens is, or the first token that no tree allows.
 #![tactic(auto)]
 
+mod begin;
 mod fault;
+mod lists;
 
 pub use fault::ParseFault;

@@ -1,0 +1,91 @@
+-- Members and declarations by how they begin: the same readers as those by the token, over fewer cases (JLS 7, 8, 9).
+use Rattle.std.specs.Prelude.{ℕ, Bool, true, false, if◌then◌else◌, List, [], ◌∷◌, drop, Option, Some, None}
+use Rattle.jr_base.specs.declared.kind.Kind.{Kind}
+use Rattle.jr_base.specs.declared.kind.Kind.TheVariants as kind
+use Rattle.jr_base.specs.declared.kind.Symbol.TheVariants as y
+use Rattle.jr_base.specs.declared.kind.Keyword.{Keyword}
+use Rattle.jr_base.specs.declared.kind.Keyword.TheVariants as k
+use Rattle.jr_tree.specs.declared.tree.Modifier.{Modifier}
+use Rattle.jr_tree.specs.declared.tree.ResultType.TheVariants as outcome
+use Rattle.jr_tree.specs.Mirror.Decls as d
+use Rattle.jr_parse_laws.specs.Parsers.{Parser, ◌>>=◌, pure, refuse, identifier}
+use Rattle.jr_parse_expr.specs.Names.{type_use}
+use Rattle.jr_parse_defs.specs.Begins.{modifier_kind}
+use Rattle.jr_parse_defs.specs.Decls.{class_decl, interface_decl, braced, method, identified, typed, nested_decl}
+use Rattle.jr_parse.specs.declared.begin.MemberStart.{MemberStart}
+use Rattle.jr_parse.specs.declared.begin.MemberStart.TheVariants as start
+use Rattle.jr_parse.specs.declared.begin.DeclStart.{DeclStart}
+use Rattle.jr_parse.specs.declared.begin.DeclStart.TheVariants as decl
+
+-- past the next token
+abbrev pub behind : {A : Type 0} → Parser A → Parser A
+behind p ts = p (drop 1 ts)
+
+abbrev pub modifier_at : List Kind → Option Modifier
+modifier_at [] = None
+modifier_at (token ∷ ts) = modifier_kind token
+
+-- ---- declarations of types
+
+abbrev pub decl_start : Kind → Option DeclStart
+decl_start (kind.Sym y.Semicolon) = Some decl.Semicolon
+decl_start (kind.Word k.Class) = Some decl.Class
+decl_start (kind.Word k.Interface) = Some decl.Interface
+decl_start _ = None
+
+abbrev pub decl_start_at : List Kind → Option DeclStart
+decl_start_at [] = None
+decl_start_at (token ∷ ts) = decl_start token
+
+module _ (room : ℕ) (inner : Parser d.Member) where
+  -- a semicolon has no modifiers
+  abbrev pub empty_decl : List Modifier → Parser d.TypeDecl
+  empty_decl [] = behind (pure d.Empty)
+  empty_decl (m ∷ mods) = refuse
+
+  abbrev pub begun_decl : List Modifier → Option DeclStart → Parser d.TypeDecl
+  begun_decl mods None = refuse
+  begun_decl mods (Some decl.Class) = behind (class_decl room inner mods)
+  begun_decl mods (Some decl.Interface) = behind (interface_decl room inner mods)
+  begun_decl mods (Some decl.Semicolon) = empty_decl mods
+
+-- ---- members
+
+abbrev pub member_start_of : Keyword → Option MemberStart
+member_start_of k.Void = Some start.Void
+member_start_of k.Boolean = Some start.Primitive
+member_start_of k.Byte = Some start.Primitive
+member_start_of k.Short = Some start.Primitive
+member_start_of k.Char = Some start.Primitive
+member_start_of k.Int = Some start.Primitive
+member_start_of k.Long = Some start.Primitive
+member_start_of _ = None
+
+abbrev pub member_start : Kind → Option MemberStart
+member_start (kind.Ident name) = Some start.Name
+member_start (kind.Sym y.OpenBrace) = Some start.Brace
+member_start (kind.Word w) = member_start_of w
+member_start _ = None
+
+abbrev pub member_start_at : List Kind → Option MemberStart
+member_start_at [] = None
+member_start_at (token ∷ ts) = member_start token
+
+-- whether a declaration of a type goes on behind the modifiers
+abbrev pub is_nested : List Modifier → Option DeclStart → Bool
+is_nested mods None = false
+is_nested mods (Some decl.Class) = true
+is_nested mods (Some decl.Interface) = true
+is_nested [] (Some decl.Semicolon) = true
+is_nested (m ∷ mods) (Some decl.Semicolon) = false
+
+module _ (room : ℕ) (nested : List Modifier → Parser d.TypeDecl) where
+  abbrev pub begun_member : List Modifier → Option MemberStart → Parser d.Member
+  begun_member mods None = refuse
+  begun_member mods (Some start.Brace) = braced room nested mods
+  begun_member mods (Some start.Void) = behind (identifier >>= method room nested mods outcome.Void)
+  begun_member mods (Some start.Name) = identifier >>= identified room nested mods
+  begun_member mods (Some start.Primitive) = type_use >>= typed room nested mods
+
+  abbrev pub begun : List Modifier → Parser d.Member
+  begun mods ts = if is_nested mods (decl_start_at ts) then nested_decl room nested mods ts else begun_member mods (member_start_at ts) ts
