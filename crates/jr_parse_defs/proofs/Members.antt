@@ -340,7 +340,7 @@ module _ (room : ℕ) (nested : List Modifier → Parser d.TypeDecl) (reads : Re
 
   nested_sound : (mods : List Modifier) (token : Kind) (ts : List Kind) (r : d.Member × List Kind) → reader.nested_decl room nested mods (token ∷ ts) ≡ Ok r → Read (write_modifiers mods (token ∷ ts)) r
   nested_sound mods token ts r h =
-      let t = bind_ok (nested mods (token ∷ ts)) _ r (within_sound room _ _ r h) in
+      let t = bind_ok (nested mods (token ∷ ts)) _ r (within_sound room 1 _ _ r h) in
       let found = reads.sound mods (token ∷ ts) t.0 t.1 in
       let low = found.low in
       subst (Read (write_modifiers mods (token ∷ ts))) (ok_is t.2)

@@ -61,7 +61,7 @@ initializer_sound room [] r h = subst (InitializerFound room []) (ok_is h) (reco
 initializer_sound room (token ∷ ts) r h =
     elim (chosen (is_at y.Assign (token ∷ ts)) _ _ _ h) [
       | inl t ↦
-          (let i = bind_ok (init room ts) _ r (within_sound room _ _ r t.1) in
+          (let i = bind_ok (init room ts) _ r (within_sound room 1 _ _ r t.1) in
           let found = inits_sound room ts i.0 i.1 in
           subst (InitializerFound room (token ∷ ts)) (ok_is i.2)
           (record { shaped = found.shaped; low = found.low; written = ap (λ token. token ∷ ts) (is_symbol_is y.Assign token t.0) ∙ ap (λ us. kind.Sym y.Assign ∷ us) found.written }))
