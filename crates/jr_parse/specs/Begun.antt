@@ -6,12 +6,13 @@ use Rattle.jr_base.specs.declared.kind.Symbol.TheVariants as y
 use Rattle.jr_base.specs.declared.kind.Keyword.{Keyword}
 use Rattle.jr_base.specs.declared.kind.Keyword.TheVariants as k
 use Rattle.jr_tree.specs.declared.tree.Modifier.{Modifier}
+use Rattle.jr_tree.specs.declared.tree.Modifier.TheVariants as modifier
 use Rattle.jr_tree.specs.declared.tree.ResultType.TheVariants as outcome
 use Rattle.jr_tree.specs.Mirror.Decls as d
 use Rattle.jr_parse_laws.specs.Parsers.{Parser, ◌>>=◌, pure, refuse, identifier}
 use Rattle.jr_parse_expr.specs.Names.{type_use}
 use Rattle.jr_parse_defs.specs.Begins.{modifier_kind}
-use Rattle.jr_parse_defs.specs.Decls.{class_decl, interface_decl, braced, method, identified, typed, nested_decl}
+use Rattle.jr_parse_defs.specs.Decls.{class_decl, interface_decl, initializer_block, method, identified, typed, nested_decl}
 use Rattle.jr_parse.specs.declared.begin.MemberStart.{MemberStart}
 use Rattle.jr_parse.specs.declared.begin.MemberStart.TheVariants as start
 use Rattle.jr_parse.specs.declared.begin.DeclStart.{DeclStart}
@@ -37,17 +38,24 @@ abbrev pub decl_start_at : List Kind → Option DeclStart
 decl_start_at [] = None
 decl_start_at (token ∷ ts) = decl_start token
 
-module _ (room : ℕ) (inner : Parser d.Member) where
-  -- a semicolon has no modifiers
-  abbrev pub empty_decl : List Modifier → Parser d.TypeDecl
-  empty_decl [] = behind (pure d.Empty)
-  empty_decl (m ∷ mods) = refuse
+-- whether there are no modifiers
+abbrev pub is_bare : List Modifier → Bool
+is_bare [] = true
+is_bare (m ∷ mods) = false
 
+-- a semicolon, which has no modifiers (JLS 7.6)
+abbrev pub empty_decl : List Modifier → Parser d.TypeDecl
+empty_decl mods ts = if is_bare mods then behind (pure d.Empty) ts else refuse ts
+
+module _ (room : ℕ) (inner : Parser d.Member) where
   abbrev pub begun_decl : List Modifier → Option DeclStart → Parser d.TypeDecl
   begun_decl mods None = refuse
   begun_decl mods (Some decl.Class) = behind (class_decl room inner mods)
   begun_decl mods (Some decl.Interface) = behind (interface_decl room inner mods)
   begun_decl mods (Some decl.Semicolon) = empty_decl mods
+
+  abbrev pub new_decl : List Modifier → Parser d.TypeDecl
+  new_decl mods ts = begun_decl mods (decl_start_at ts) ts
 
 -- ---- members
 
@@ -76,16 +84,30 @@ abbrev pub is_nested : List Modifier → Option DeclStart → Bool
 is_nested mods None = false
 is_nested mods (Some decl.Class) = true
 is_nested mods (Some decl.Interface) = true
-is_nested [] (Some decl.Semicolon) = true
-is_nested (m ∷ mods) (Some decl.Semicolon) = false
+is_nested mods (Some decl.Semicolon) = is_bare mods
+
+abbrev pub is_static : List Modifier → Bool
+is_static (modifier.Static ∷ []) = true
+is_static _ = false
 
 module _ (room : ℕ) (nested : List Modifier → Parser d.TypeDecl) where
+  -- an initializer has no modifier but `static` (JLS 8.6, 8.7)
+  abbrev pub braced : List Modifier → Parser d.Member
+  braced mods ts = if is_bare mods then initializer_block room nested false ts else (if is_static mods then initializer_block room nested true ts else refuse ts)
+
+  abbrev pub void_method : List Modifier → Parser d.Member
+  void_method mods = identifier >>= method room nested mods outcome.Void
+
   abbrev pub begun_member : List Modifier → Option MemberStart → Parser d.Member
   begun_member mods None = refuse
-  begun_member mods (Some start.Brace) = braced room nested mods
-  begun_member mods (Some start.Void) = behind (identifier >>= method room nested mods outcome.Void)
+  begun_member mods (Some start.Brace) = braced mods
+  begun_member mods (Some start.Void) = behind (void_method mods)
   begun_member mods (Some start.Name) = identifier >>= identified room nested mods
   begun_member mods (Some start.Primitive) = type_use >>= typed room nested mods
 
-  abbrev pub begun : List Modifier → Parser d.Member
-  begun mods ts = if is_nested mods (decl_start_at ts) then nested_decl room nested mods ts else begun_member mods (member_start_at ts) ts
+  -- a member that is no type
+  abbrev pub own_member : List Modifier → Parser d.Member
+  own_member mods ts = begun_member mods (member_start_at ts) ts
+
+  abbrev pub new_member : List Modifier → Parser d.Member
+  new_member mods ts = if is_nested mods (decl_start_at ts) then nested_decl room nested mods ts else own_member mods ts

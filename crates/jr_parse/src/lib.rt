@@ -4,5 +4,6 @@
 mod begin;
 mod fault;
 mod lists;
+mod member;
 
 pub use fault::ParseFault;

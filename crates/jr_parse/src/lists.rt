@@ -7,6 +7,7 @@ ghost use Rattle.jr_parse_expr.specs.Names as reader;
 ghost use Rattle.jr_parse_defs.specs.Begins as begins;
 ghost use Rattle.jr_parse_defs.specs.Decls as spec;
 ghost use Rattle.jr_parse_defs.specs.Stmts as stmts;
+ghost use Rattle.jr_parse.specs.Begun as begun;
 
 use crate::begin::{modifier_at, starts_param};
 use jr_base::{Items, Keyword, Symbol};
@@ -26,6 +27,20 @@ pub fn modifiers(alloc: Global, cursor: &mut Cursor<'_>) -> Result<Items<Modifie
         all.push(modifier)?;
     }
     Ok(all)
+}
+
+/// Whether there are no modifiers.
+pub fn is_bare(mods: &Items<Modifier>) -> bool
+    ensures { result ≡ begun.is_bare mods.now }
+{
+    matches!(mods.as_slice(), [])
+}
+
+/// Whether the modifiers are `static` alone.
+pub fn is_static(mods: &Items<Modifier>) -> bool
+    ensures { result ≡ begun.is_static mods.now }
+{
+    matches!(mods.as_slice(), [Modifier::Static])
 }
 
 /// A name (JLS 6.2).

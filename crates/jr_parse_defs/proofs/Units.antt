@@ -123,7 +123,7 @@ members_many : (all : List d.Member) (rest : List Kind) → write_many write_mem
 members_many [] rest = refl
 members_many (m ∷ all) rest = ap (write_member m) (members_many all rest)
 
-abbrev Fits : ℕ → d.Member → Type 0
+abbrev pub Fits : ℕ → d.Member → Type 0
 Fits room m = IsShapedMember m × (member_depth m ≤ room)
 
 members_fit : (room : ℕ) (all : d.Members) → AreShapedMembers all → members_depth all ≤ room → AllByRecursion (Fits room) (listed all)
@@ -138,7 +138,7 @@ fit_members room (m ∷ all) h =
     let others : members_depth (d.members all) ≤ room = more.1 in
     ((h.0.0, more.0), omega arith)
 
-member_longer : (room : ℕ) (m : d.Member) (rest : List Kind) → Fits room m → suc (length rest) ≤ length (write_member m rest)
+pub member_longer : (room : ℕ) (m : d.Member) (rest : List Kind) → Fits room m → suc (length rest) ≤ length (write_member m rest)
 member_longer room m rest is = longer_starts starts_member (member_tokens m) rest (write_member m []) (write_member m rest) refl (member_written m []) (member_starts m [] is.0) (member_written m rest)
 
 module _ (room : ℕ) (inner : Parser d.Member) (reads : ReadsMember room inner) where
