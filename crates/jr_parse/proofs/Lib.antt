@@ -1,1 +1,3 @@
-pub mod Turns
+mod Parts
+mod Starting
+mod Turns

@@ -2,8 +2,14 @@
 #![tactic(auto)]
 
 mod begin;
+mod declaration;
 mod fault;
+mod grammar;
+mod imports;
 mod lists;
 mod member;
+mod parser;
+mod unit;
 
 pub use fault::ParseFault;
+pub use parser::parse;
