@@ -70,11 +70,7 @@ impl<F: Fn(Global, &mut Cursor<'_>, usize) -> Result<Member, Fault>> Grammar<F> 
 
     /// A class, behind `class` (JLS 8.1).
     #[tactic(auto, unfolding(jr_parse_defs::specs::Decls::class_decl))]
-    fn class_decl(
-        &self,
-        cursor: &mut Cursor<'_>,
-        mods: Items<Modifier>,
-    ) -> Result<TypeDecl, Fault>
+    fn class_decl(&self, cursor: &mut Cursor<'_>, mods: Items<Modifier>) -> Result<TypeDecl, Fault>
         requires { Nests self.now.room (F.pre self.now.member) (F.post self.now.member) }
         ensures { Reads plain_decl (spec.class_decl self.now.room (spec.member self.now.room) mods (kinds cursor.old)) result (kinds cursor.new) }
     {

@@ -17,11 +17,7 @@ use jr_tree::{Base, Block, Member, Modifier, ResultType, TypeUse};
 use std::alloc::Global;
 
 /// The body of a method, or the semicolon in its place (JLS 8.4.7).
-fn method_body(
-    alloc: Global,
-    cursor: &mut Cursor<'_>,
-    room: usize,
-) -> Result<Option<Block>, Fault>
+fn method_body(alloc: Global, cursor: &mut Cursor<'_>, room: usize) -> Result<Option<Block>, Fault>
     requires { room < usize.MAX }
     ensures { Reads (option_map plain_block) (spec.method_body room (spec.decl room) (kinds cursor.old)) result (kinds cursor.new) }
 {
