@@ -1,3 +1,4 @@
+mod Answering
 mod Parts
 mod Starting
 mod Turns
