@@ -204,7 +204,7 @@ package_read : (p : Option PackageDecl) (rest : List Kind) → IfSome p IsShaped
 package_read None rest h none = rw none refl
 package_read (Some p) rest h none = rw (name_read p.name (semi rest) h refl) refl
 
-package_sound : (ts : List Kind) (r : Option PackageDecl × List Kind) → reader.package_decl ts ≡ Ok r → IfSome r.0 IsShapedPackage × (ts ≡ write_some write_package r.0 r.1)
+pub package_sound : (ts : List Kind) (r : Option PackageDecl × List Kind) → reader.package_decl ts ≡ Ok r → IfSome r.0 IsShapedPackage × (ts ≡ write_some write_package r.0 r.1)
 package_sound ts r h =
     elim (chosen (is_at_word k.Package ts) _ _ _ h) [
       | inl t ↦

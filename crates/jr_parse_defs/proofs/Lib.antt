@@ -15,3 +15,16 @@ pub mod Members
 pub mod Units
 pub mod Imports
 pub mod Readings
+pub mod Nears
+pub mod PartNears
+pub mod StmtNears
+pub mod BodyNears
+pub mod DeclNears
+pub mod UnitNears
+pub mod Grows
+pub mod PartGrows
+pub mod StmtGrows
+pub mod BodyGrows
+pub mod DeclGrows
+pub mod UnitGrows
+pub mod Stuck

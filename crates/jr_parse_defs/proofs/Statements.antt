@@ -42,7 +42,7 @@ label_name_read : (l : Option Text) (rest : List Kind) → reader.label (write_s
 label_name_read None rest = refl
 label_name_read (Some l) rest = refl
 
-label_name_sound : (ts : List Kind) (r : Option Text × List Kind) → reader.label ts ≡ Ok r → ts ≡ write_some write_ident r.0 r.1
+pub label_name_sound : (ts : List Kind) (r : Option Text × List Kind) → reader.label ts ≡ Ok r → ts ≡ write_some write_ident r.0 r.1
 label_name_sound [] r h = ap (λ (r : Option Text × List Kind). write_some write_ident r.0 r.1) (ok_is h)
 label_name_sound (kind.Ident name ∷ ts) r h = ap (λ (r : Option Text × List Kind). write_some write_ident r.0 r.1) (ok_is h)
 label_name_sound (token ∷ ts) r h = ap (λ (r : Option Text × List Kind). write_some write_ident r.0 r.1) (ok_is h)
@@ -122,7 +122,7 @@ module _ (room : ℕ) (inner outer : Parser s.Stmt) (reads : ReadsOne room false
     written : ts ≡ write_else r.0 r.1
     ended : (c : x.Expr) → StmtEnds (s.If c a r.0) (first r.1)
 
-  takes_none : (a : s.Stmt) (us : List Kind) → StmtEnds a (Some (kind.Word k.Else)) → not (takes_else a) ≡ true
+  pub takes_none : (a : s.Stmt) (us : List Kind) → StmtEnds a (Some (kind.Word k.Else)) → not (takes_else a) ≡ true
   takes_none a us ended =
       elim (cases_Bool (takes_else a)) [
         | inl t ↦ absurd (let h = no_else_after a (Some (kind.Word k.Else)) ended t in cc)

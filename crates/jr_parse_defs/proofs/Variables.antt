@@ -51,12 +51,12 @@ initializer_read room (Some i) rest s low apart =
     let low_init : init_depth i ≤ room = low in
     rw (le-ltb room 1 (omega arith), inits_complete room i rest s low_init (init_ends i (first rest) s apart.closes)) refl
 
-record InitializerFound (room : ℕ) (ts : List Kind) (r : Option x.Init × List Kind) : Type 0 where
-  shaped : IfSome r.0 IsShapedInit
-  low : option_map_or init_depth r.0 0 ≤ room
-  written : ts ≡ write_assigned r.0 r.1
+pub record InitializerFound (room : ℕ) (ts : List Kind) (r : Option x.Init × List Kind) : Type 0 where
+  pub shaped : IfSome r.0 IsShapedInit
+  pub low : option_map_or init_depth r.0 0 ≤ room
+  pub written : ts ≡ write_assigned r.0 r.1
 
-initializer_sound : (room : ℕ) (ts : List Kind) (r : Option x.Init × List Kind) → initializer room ts ≡ Ok r → InitializerFound room ts r
+pub initializer_sound : (room : ℕ) (ts : List Kind) (r : Option x.Init × List Kind) → initializer room ts ≡ Ok r → InitializerFound room ts r
 initializer_sound room [] r h = subst (InitializerFound room []) (ok_is h) (record { shaped = tt; low = omega arith; written = refl })
 initializer_sound room (token ∷ ts) r h =
     elim (chosen (is_at y.Assign (token ∷ ts)) _ _ _ h) [
@@ -83,7 +83,7 @@ pub record DeclaratorFound (room : ℕ) (ts : List Kind) (r : s.Declarator × Li
   pub low : declarator_depth r.0 ≤ room
   pub written : ts ≡ write_declarator r.0 r.1
 
-declarator_after_sound : (room : ℕ) (name : Text) (ts : List Kind) (r : s.Declarator × List Kind) → declarator_after room name ts ≡ Ok r → DeclaratorFound room (kind.Ident name ∷ ts) r
+pub declarator_after_sound : (room : ℕ) (name : Text) (ts : List Kind) (r : s.Declarator × List Kind) → declarator_after room name ts ≡ Ok r → DeclaratorFound room (kind.Ident name ∷ ts) r
 unfolding declarator_after
 declarator_after_sound room name ts r h =
     let n = bind_ok (dims ts) _ r h in
@@ -95,23 +95,23 @@ declarator_after_sound room name ts r h =
 declarator_read : (room : ℕ) (d : s.Declarator) (rest : List Kind) → IsShapedDeclarator d → declarator_depth d ≤ room → Apart (first rest) → declarator room (write_declarator d rest) ≡ Ok (d, rest)
 declarator_read room (s.DeclaratorOf name pairs i) rest s low apart = declarator_after_read room name pairs i rest s low apart
 
-declarator_sound : (room : ℕ) (ts : List Kind) (r : s.Declarator × List Kind) → declarator room ts ≡ Ok r → DeclaratorFound room ts r
+pub declarator_sound : (room : ℕ) (ts : List Kind) (r : s.Declarator × List Kind) → declarator room ts ≡ Ok r → DeclaratorFound room ts r
 declarator_sound room ts r h =
     let name = bind_ok (identifier ts) _ r h in
     subst (λ ts. DeclaratorFound room ts r) (sym (identifier_token.took ts name.0 name.1)) (declarator_after_sound room name.0.0 name.0.1 r name.2)
 
 -- ---- variables with commas
 
-abbrev Fits : ℕ → s.Declarator → Type 0
+abbrev pub Fits : ℕ → s.Declarator → Type 0
 Fits room d = IsShapedDeclarator d × (declarator_depth d ≤ room)
 
-later_sound : (room : ℕ) → Sound (Fits room) (write_after write_declarator) (after_comma (declarator room))
+pub later_sound : (room : ℕ) → Sound (Fits room) (write_after write_declarator) (after_comma (declarator room))
 later_sound room ts r h =
     let a = eats y.Comma ts _ r h in
     let found = declarator_sound room a.rest r a.more in
     ((found.shaped, found.low), a.written ∙ ap (λ us. kind.Sym y.Comma ∷ us) found.written)
 
-later_longer : (room : ℕ) (d : s.Declarator) (rest : List Kind) → Fits room d → suc (length rest) ≤ length (write_after write_declarator d rest)
+pub later_longer : (room : ℕ) (d : s.Declarator) (rest : List Kind) → Fits room d → suc (length rest) ≤ length (write_after write_declarator d rest)
 later_longer room d rest is = let l = longer_by (declarator_tokens d) rest (write_declarator d rest) (declarator_written d rest) in omega arith
 
 later_read : (room : ℕ) (ds : List s.Declarator) (rest : List Kind) → AllByRecursion (Fits room) ds

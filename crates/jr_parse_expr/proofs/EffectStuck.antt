@@ -26,7 +26,7 @@ use Rattle.jr_parse_expr.proofs.EffectReads.{plain_dotted, effect_flagged}
 use Rattle.jr_parse_expr.proofs.EffectChains.{effects_go, effects_grow}
 use Rattle.jr_parse_expr.proofs.EffectLocals.{below_both, effects_local}
 
-effect_grows : (room : ℕ) (ts : List Kind) (stop : Fault × List Kind) → effect (suc room) Nothing ts ≡ Err stop → Growing IsEffect write_expr (suc room) ts stop
+pub effect_grows : (room : ℕ) (ts : List Kind) (stop : Fault × List Kind) → effect (suc room) Nothing ts ≡ Err stop → Growing IsEffect write_expr (suc room) ts stop
 unfolding effect
 effect_grows room ts stop h =
     let reads = all_read room in
@@ -35,7 +35,7 @@ effect_grows room ts stop h =
     let low_grow = all_grow (below room) in
     effects_grow room (expr room) (list room) reads.exprs reads.lists grow.exprs grow.lists (expr (below room)) (list (below room)) low_reads.exprs low_reads.lists low_grow.exprs low_grow.lists ts stop h
 
-effect_local : (room other : ℕ) (le : room ≤ other) (le' : suc room ≤ suc other) (lead : Lead) → Local (suc room) (suc other) le' (effect (suc room) lead) (effect (suc other) lead)
+pub effect_local : (room other : ℕ) (le : room ≤ other) (le' : suc room ≤ suc other) (lead : Lead) → Local (suc room) (suc other) le' (effect (suc room) lead) (effect (suc other) lead)
 unfolding effect
 effect_local room other le le' lead ts =
     let down = below_both room other le in
@@ -80,7 +80,7 @@ super_same : (room : ℕ) (ts : List Kind) → effect (suc room) Nothing (kind.W
 unfolding effect reader.effects
 super_same room ts = refl
 
-lead_same : (room : ℕ) (lead : Lead) (ts : List Kind) → HasEffectRoom lead (suc room) → IsLed lead (first ts) → effect (suc room) Nothing (write_lead lead ts) ≡ effect (suc room) lead ts
+pub lead_same : (room : ℕ) (lead : Lead) (ts : List Kind) → HasEffectRoom lead (suc room) → IsLed lead (first ts) → effect (suc room) Nothing (write_lead lead ts) ≡ effect (suc room) lead ts
 lead_same room Nothing ts some led = refl
 lead_same room (Named d) ts some led = named_same room d ts some led
 lead_same room (Indexed n) ts some led =
