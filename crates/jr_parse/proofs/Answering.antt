@@ -6,24 +6,21 @@ use Rattle.jr_base.specs.declared.kind.Kind.{Kind}
 use Rattle.jr_tree.specs.declared.tree.Unit as declared
 use Rattle.jr_tree.specs.Mirror.Decls as d
 use Rattle.jr_tree.specs.Mirror.Decls.{plain_unit}
-use Rattle.jr_tree.specs.Shape.{IsShapedUnit}
-use Rattle.jr_tree.specs.Depth.{unit_depth}
 use Rattle.jr_tree.specs.Tokens.{unit_tokens, tokens_of}
 use Rattle.jr_tree.proofs.Same.Decls.{tree_unit, plain_tree_unit}
 use Rattle.jr_parse_laws.specs.declared.fault.Fault.{Fault}
 use Rattle.jr_parse_laws.specs.declared.fault.Fault.TheVariants.{NoTree, TooDeep, OutOfMemory}
 use Rattle.jr_parse_laws.specs.Parsers.{first}
-use Rattle.jr_parse_laws.specs.Viable.{Alike, Begun, Wider, Deeper}
+use Rattle.jr_parse_laws.specs.Viable.{Begun, Wider, Stuck}
 use Rattle.jr_parse_laws.proofs.Outcomes.{err_ok}
 use Rattle.jr_parse_defs.specs.Decls.{unit}
 use Rattle.jr_parse_defs.specs.Writing.{write_unit}
+use Rattle.jr_parse_defs.specs.Laws.{IsUnitOf}
+use Rattle.jr_parse_defs.proofs.Stuck.{units_stuck}
 use Rattle.jr_parse_defs.proofs.Imports.{units_complete, units_sound, written_whole}
 use Rattle.jr_parse.specs.Answers.{IsReading, Begins, IsFirstFault, IsNoTree, IsTooDeep}
 
 -- ---- trees and plain data
-
-abbrev pub IsUnitOf : ℕ → d.CompilationUnit → Type 0
-IsUnitOf room u = IsShapedUnit u × (unit_depth u ≤ room)
 
 record IsPlainReading (most : ℕ) (u : d.CompilationUnit) (ts : List Kind) : Type 0 where
   is : IsUnitOf most u
@@ -50,11 +47,8 @@ front_more ts front rest k e =
     let n : length ts - length (k ∷ rest) + 1 ≡ length front + 1 = omega (arith, ap (λ (l : List Kind). length l) e, length-append front (k ∷ rest)) in
     ap (λ n. take n ts) n ∙ ap (take (length front + 1)) e ∙ take-append-add front (k ∷ rest) 1 ∙ ap (λ (l : List Kind). front ++ k ∷ l) refl
 
--- where the reader of units stops, and why no unit begins so
-pub record UnitStop (room : ℕ) (ts : List Kind) (f : Fault) (rest : List Kind) : Type 0 where
-  pub viable : Begun (IsUnitOf room) write_unit rest ts
-  pub deeper : Deeper IsUnitOf write_unit f rest ts
-  pub alone : (other : ℕ) (w : List Kind) → Wider f room other → first rest ≡ first w → (us : List Kind) × Alike rest w ts us × (unit other us ≡ Err (f, w))
+abbrev UnitStop : ℕ → List Kind → Fault → List Kind → Type 0
+UnitStop = Stuck IsUnitOf write_unit unit
 
 -- a reading that begins as the tokens do up to the fault
 refuted : (room : ℕ) (ts : List Kind) (f : Fault) (rest : List Kind) → UnitStop room ts f rest
@@ -123,12 +117,8 @@ too_deep_at room ts (k ∷ rest) stuck =
       deeper = (stuck.deeper.0, subst (Begins stuck.deeper.0) (sym (front_more ts a.front rest k a.one)) (begins stuck.deeper.0 (a.front ++ k ∷ []) rest ts longer stuck.deeper.1));
     }
 
--- wanted of the reader of units
-unit_stops : (room : ℕ) (ts : List Kind) (f : Fault) (rest : List Kind) → 1 ≤ room → unit room ts ≡ Err (f, rest) → UnitStop room ts f rest
-unit_stops room ts f rest some h = ?
-
 pub no_tree : (most : ℕ) (ts rest : List Kind) → 1 ≤ most → unit most ts ≡ Err (NoTree, rest) → IsNoTree most ts (length ts - length rest)
-no_tree most ts rest some h = no_tree_at most ts rest (unit_stops most ts NoTree rest some h)
+no_tree most ts rest some h = no_tree_at most ts rest (units_stuck most ts NoTree rest some h)
 
 pub too_deep : (most : ℕ) (ts rest : List Kind) → 1 ≤ most → unit most ts ≡ Err (TooDeep, rest) → IsTooDeep most ts (length ts - length rest)
-too_deep most ts rest some h = too_deep_at most ts rest (unit_stops most ts TooDeep rest some h)
+too_deep most ts rest some h = too_deep_at most ts rest (units_stuck most ts TooDeep rest some h)
