@@ -83,28 +83,62 @@ fn units_are_read(rt: HostRuntime) -> Result<(), Fail> {
     check_rows(&rt, BROKEN_UNITS, "", "", Part::Whole)
 }
 
-/// So many parentheses round a name, as the value of a field.
-fn parenthesized(alloc: Global, pairs: usize) -> Result<String, AllocError> {
-    let mut text = String::from_str(alloc, "class C { T x = ")?;
-    for _ in 0..pairs {
-        text.push_str("(")?;
+/// So many of the openings, the middle, and as many of the closings, between two other texts.
+fn nested(
+    alloc: Global,
+    times: usize,
+    before: &str,
+    opening: &str,
+    middle: &str,
+    closing: &str,
+    after: &str,
+) -> Result<String, AllocError> {
+    let mut text = String::from_str(alloc, before)?;
+    for _ in 0..times {
+        text.push_str(opening)?;
     }
-    text.push_str("a")?;
-    for _ in 0..pairs {
-        text.push_str(")")?;
+    text.push_str(middle)?;
+    for _ in 0..times {
+        text.push_str(closing)?;
     }
-    text.push_str("; }")?;
+    text.push_str(after)?;
     Ok(text)
 }
 
-/// The class, the field and the name are one level each.
+/// Parentheses round a name, below a class and a field.
 #[test]
-fn depth_is_limited(rt: HostRuntime) -> Result<(), Fail> {
-    let low = parenthesized(rt.alloc(), 253)?;
+fn depth_of_expressions_is_limited(rt: HostRuntime) -> Result<(), Fail> {
+    let before = "class C { T x = ";
+    let low = nested(rt.alloc(), 253, before, "(", "a", ")", "; }")?;
     let found = answer(rt.alloc(), low.as_str(), Part::Whole)?;
     assert!(rt; found.starts_with("class/0/0/1 C field/0/1 type T x () () "));
-    let high = parenthesized(rt.alloc(), 254)?;
+    let high = nested(rt.alloc(), 254, before, "(", "a", ")", "; }")?;
     let found = answer(rt.alloc(), high.as_str(), Part::Whole)?;
     assert_eq!(rt; found.as_str(), "TooDeep(259)");
+    Ok(())
+}
+
+/// Blocks in the body of a method, below a class and the method.
+#[test]
+fn depth_of_statements_is_limited(rt: HostRuntime) -> Result<(), Fail> {
+    let before = "class C { void m() { ";
+    let low = nested(rt.alloc(), 254, before, "{ ", "", "} ", "} }")?;
+    let found = answer(rt.alloc(), low.as_str(), Part::Body)?;
+    assert!(rt; found.starts_with("nest block/1 nest block/1 "));
+    let high = nested(rt.alloc(), 255, before, "{ ", "", "} ", "} }")?;
+    let found = answer(rt.alloc(), high.as_str(), Part::Body)?;
+    assert_eq!(rt; found.as_str(), "TooDeep(262)");
+    Ok(())
+}
+
+/// Classes in classes, each two levels below the one round it.
+#[test]
+fn depth_of_declarations_is_limited(rt: HostRuntime) -> Result<(), Fail> {
+    let low = nested(rt.alloc(), 128, "", "class C { ", "", "} ", "")?;
+    let found = answer(rt.alloc(), low.as_str(), Part::Whole)?;
+    assert!(rt; found.starts_with("class/0/0/1 C nested class/0/0/1 C nested "));
+    let high = nested(rt.alloc(), 129, "", "class C { ", "", "} ", "")?;
+    let found = answer(rt.alloc(), high.as_str(), Part::Whole)?;
+    assert_eq!(rt; found.as_str(), "TooDeep(384)");
     Ok(())
 }
