@@ -37,7 +37,7 @@ stmts_fit : (room : ℕ) (all : s.Stmts) → AreShapedStmts all → stmts_depth 
 stmts_fit room s.no_stmts h low = tt
 stmts_fit room (s.more_stmts a all) h low = (record { shaped = h.0; allowed = refl; low = omega arith }, stmts_fit room all h.1 (omega arith))
 
-pub fit_stmts : (room : ℕ) (all : List s.Stmt) → AllByRecursion (IsStmt room true) all → AreShapedStmts (s.stmts all) × (stmts_depth (s.stmts all) ≤ room)
+fit_stmts : (room : ℕ) (all : List s.Stmt) → AllByRecursion (IsStmt room true) all → AreShapedStmts (s.stmts all) × (stmts_depth (s.stmts all) ≤ room)
 fit_stmts room [] h = (tt, omega arith)
 fit_stmts room (a ∷ all) h =
     let more = fit_stmts room all h.1 in
@@ -162,7 +162,7 @@ module _ (room : ℕ) (inner outer : Parser s.Stmt) (most : ℕ) (reads : ReadsO
         one_more (next_is is_catch) (reader.catch_clause room inner outer) refl FitsCatch write_catch catch_sound catch_longer c (write_catch c ts) ts more.0 rest refl (catch_read c ts (h.0, omega arith)) more.2,
       )
 
-  pub fit_catches : (all : List s.Catch) → AllByRecursion FitsCatch all → AreShapedCatches (s.catches all) × (catches_depth (s.catches all) ≤ most)
+  fit_catches : (all : List s.Catch) → AllByRecursion FitsCatch all → AreShapedCatches (s.catches all) × (catches_depth (s.catches all) ≤ most)
   fit_catches [] h = (tt, omega arith)
   fit_catches (c ∷ all) h =
       let more = fit_catches all h.1 in

@@ -238,12 +238,12 @@ module _ (room : ℕ) where
     pub written : (all : List s.Stmt) (rest : List Kind) → r.1 ≡ write_stmts (s.stmts all) rest → ts ≡ write_stmts (s.stmts (r.0 ++ all)) rest
 
   -- a statement's shape as a body's
-  pub as_body : (all : s.Stmts) → AreShapedStmts all → IsShapedCtorBody (s.BlockOf all)
+  as_body : (all : s.Stmts) → AreShapedStmts all → IsShapedCtorBody (s.BlockOf all)
   as_body s.no_stmts h = h
   as_body (s.more_stmts (s.CtorCall called args) all) h = absurd h.0
   as_body (s.more_stmts a all) h = h
 
-  pub none_found : (ts : List Kind) → FrontFound ts ([], ts)
+  none_found : (ts : List Kind) → FrontFound ts ([], ts)
   none_found ts = record { shaped = λ all h. as_body (s.stmts all) h; low = λ all l. l; written = λ all rest e. e }
 
   pub call_sound : (called : ThisOrSuper) (lead : Lead) (ts : List Kind) (r : s.Stmt × List Kind) → IsLed lead (first ts) → kind.Word (which_word called) ∷ ts ≡ write_lead lead ts → reader.ctor_call room inner outer called lead ts ≡ Ok r

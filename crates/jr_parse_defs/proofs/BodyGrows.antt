@@ -1,7 +1,6 @@
 -- Where reading the body of a constructor stops, what stands before begins one.
-use Rattle.std.proofs.Common.{◌≡◌, ℕ, zero, suc, ◌≤◌, Bool, true, false, List, [], ◌∷◌, ◌++◌, Some, None, Ok, Err, refl, sym, ap, ◌∙◌, subst, inl, inr, append-nil, arith}
+use Rattle.std.proofs.Common.{◌≡◌, ℕ, zero, suc, ◌≤◌, true, false, List, [], ◌∷◌, ◌++◌, Ok, Err, refl, sym, ap, ◌∙◌, subst, inl, inr, arith}
 use Rattle.std.proofs.lemmas.Bool.{cases_lt}
-use Rattle.std.specs.List.{AllByRecursion}
 use Rattle.jr_base.specs.declared.kind.Kind.{Kind}
 use Rattle.jr_base.specs.declared.kind.Kind.TheVariants as kind
 use Rattle.jr_base.specs.declared.kind.Symbol.{Symbol}
@@ -11,18 +10,17 @@ use Rattle.jr_tree.specs.declared.tree.ThisOrSuper.{ThisOrSuper}
 use Rattle.jr_tree.specs.declared.tree.ThisOrSuper.TheVariants as which
 use Rattle.jr_tree.specs.Words.{which_word}
 use Rattle.jr_tree.specs.Levels.{is_step}
-use Rattle.jr_tree.specs.Shape.{IsStatementExpr, AreShapedExprs, IsShapedStmt, IsShapedBlock, IsShapedCtorBody}
+use Rattle.jr_tree.specs.Shape.{IsStatementExpr, AreShapedExprs, IsShapedCtorBody}
 use Rattle.jr_tree.specs.Depth.{expr_depth, exprs_depth, block_depth}
 use Rattle.jr_tree.specs.Mirror.Exprs as x
 use Rattle.jr_tree.specs.Mirror.Stmts as s
 use Rattle.jr_parse_laws.specs.declared.fault.Fault.{Fault}
-use Rattle.jr_parse_laws.specs.declared.fault.Fault.TheVariants.{NoTree, TooDeep}
 use Rattle.jr_parse_laws.specs.Parsers.{Parser, and_then, first, is_at, expect}
 use Rattle.jr_parse_laws.proofs.Outcomes.{ok_err, is_symbol_is}
-use Rattle.jr_parse_laws.proofs.Stops.{Leading, leading_nothing}
+use Rattle.jr_parse_laws.proofs.Stops.{leading_nothing}
 use Rattle.jr_parse_expr.specs.Starts.{next_is}
 use Rattle.jr_parse_expr.specs.Exprs.{Lead, This, Super, goes_on_primary, goes_on_super, skipping, arguments, expr, list, effect}
-use Rattle.jr_parse_expr.specs.Writing.{write_expr, write_exprs, write_lead}
+use Rattle.jr_parse_expr.specs.Writing.{write_expr, write_lead}
 use Rattle.jr_parse_expr.specs.Follow.{IsLed}
 use Rattle.jr_parse_expr.proofs.Arguments.{arguments_sound}
 use Rattle.jr_parse_expr.proofs.ExprReads.{all_read}
@@ -38,7 +36,9 @@ use Rattle.jr_parse_defs.proofs.Statements.{stmt_reads}
 use Rattle.jr_parse_defs.proofs.Bodies.{front_sound, plain_body}
 use Rattle.jr_parse_defs.proofs.Grows.{Low, part, gone, deeps, seen, on, last, symbol_on, ends_with, choose, leading_many, many_append}
 use Rattle.jr_parse_defs.proofs.PartGrows.{leading_exprs, effect_grow, no_this, no_super}
-use Rattle.jr_parse_defs.proofs.StmtGrows.{empty, leading_stmt, leading_stmts, leading_word, leading_symbol, stmts_grow, as_stmts, low_stmts, stmt_grow, body_grow_at}
+use Rattle.jr_parse_defs.proofs.Starters.{empty, leading_stmt, leading_stmts, leading_word, leading_symbol}
+use Rattle.jr_parse_defs.proofs.BlockGrows.{stmts_grow, as_stmts, low_stmts}
+use Rattle.jr_parse_defs.proofs.StmtGrows.{stmt_grow, body_grow_at}
 
 -- an expression that goes on behind `this` with the token
 record ThisStarter (token : Kind) : Type 0 where

@@ -1,6 +1,5 @@
 -- The bodies of constructors are read the same whatever stands behind, and with more levels.
-use Rattle.std.proofs.Common.{◌≡◌, ℕ, zero, suc, ◌≤◌, Bool, true, false, cond, List, [], ◌∷◌, ◌++◌, length, Option, Some, None, Ok, Err, refl, sym, ap, ◌∙◌, subst, arith}
-use Rattle.std.specs.Prelude.{⊤}
+use Rattle.std.proofs.Common.{◌≡◌, ℕ, zero, suc, ◌≤◌, Bool, true, false, cond, List, [], ◌∷◌, ◌++◌, Option, Some, None, Ok, Err, refl, sym, ap, ◌∙◌, subst, arith}
 use Rattle.jr_base.specs.declared.kind.Kind.{Kind}
 use Rattle.jr_base.specs.declared.kind.Kind.TheVariants as kind
 use Rattle.jr_base.specs.declared.kind.Symbol.TheVariants as y
@@ -9,12 +8,12 @@ use Rattle.jr_tree.specs.declared.tree.ThisOrSuper.{ThisOrSuper}
 use Rattle.jr_tree.specs.declared.tree.ThisOrSuper.TheVariants as which
 use Rattle.jr_tree.specs.Mirror.Exprs as x
 use Rattle.jr_tree.specs.Mirror.Stmts as s
-use Rattle.jr_parse_laws.specs.declared.fault.Fault.TheVariants.{NoTree, TooDeep}
-use Rattle.jr_parse_laws.specs.Parsers.{Outcome, Parser, and_then, first, pure, expect, many, ◌>>=◌, ◌>>◌}
+use Rattle.jr_parse_laws.specs.declared.fault.Fault.TheVariants.{TooDeep}
+use Rattle.jr_parse_laws.specs.Parsers.{Parser, and_then, first, pure, expect, ◌>>=◌, ◌>>◌}
 use Rattle.jr_parse_laws.proofs.Lists.{many_turn}
-use Rattle.jr_parse_expr.specs.Exprs.{Lead, This, Super, arguments, skipping, expr, list}
+use Rattle.jr_parse_expr.specs.Exprs.{Lead, This, Super, arguments, expr, list}
 use Rattle.jr_parse_expr.proofs.ExprReads.{all_read}
-use Rattle.jr_parse_expr.proofs.Locals.{Kept, here, on_kept, looks_first, kept_same, kept_cond}
+use Rattle.jr_parse_expr.proofs.Locals.{Kept, on_kept, looks_first, kept_same}
 use Rattle.jr_parse_expr.proofs.AllLocals.{all_local}
 use Rattle.jr_parse_expr.proofs.ExprLocals.{arguments_local}
 use Rattle.jr_parse_defs.specs.Begins.{starts_block_stmt}

@@ -1,6 +1,6 @@
 -- Where reading a member or a declaration of a type stops, what stands before begins one.
-use Rattle.std.proofs.Common.{◌≡◌, ℕ, zero, suc, ◌≤◌, Bool, true, false, not, ◌||◌, cond, ltb, List, [], ◌∷◌, ◌++◌, length, Option, Some, None, Ok, Err, refl, sym, ap, ◌∙◌, subst, inl, inr, arith}
-use Rattle.std.proofs.lemmas.Bool.{cases_lt, ltb-true, true≢false}
+use Rattle.std.proofs.Common.{◌≡◌, ℕ, zero, suc, ◌≤◌, Bool, true, false, List, [], ◌∷◌, Option, Some, None, Ok, Err, refl, sym, ap, ◌∙◌, subst, inl, inr, arith}
+use Rattle.std.proofs.lemmas.Bool.{cases_lt, true≢false}
 use Rattle.std.specs.Prelude.{IfSome}
 use Rattle.std.specs.List.{AllByRecursion}
 use Rattle.std.specs.Option.{option_map_or}
@@ -20,47 +20,46 @@ use Rattle.jr_tree.specs.declared.tree.Modifier.{Modifier}
 use Rattle.jr_tree.specs.declared.tree.Modifier.TheVariants as modifier
 use Rattle.jr_tree.specs.declared.tree.ResultType.{ResultType}
 use Rattle.jr_tree.specs.declared.tree.ResultType.TheVariants as outcome
-use Rattle.jr_tree.specs.Words.{primitive_word, modifier_word, name_tokens, modifiers_tokens, result_tokens, names_after, parent_tokens, params_tokens}
-use Rattle.jr_tree.specs.Shape.{is_empty, IsName, IsTypeUse, IsShapedParam, IsShapedResult, IsShapedBlock, IsShapedCtorBody, IsShapedDecl, IsShapedMember, AreShapedMembers}
-use Rattle.jr_tree.specs.Depth.{deepest, block_depth, declarator_depth, decl_depth, member_depth, members_depth}
+use Rattle.jr_tree.specs.Words.{primitive_word, modifier_word, modifiers_tokens, result_tokens, names_after, parent_tokens, params_tokens}
+use Rattle.jr_tree.specs.Shape.{IsName, IsTypeUse, IsShapedParam, IsShapedResult, IsShapedBlock, IsShapedDecl, IsShapedMember, AreShapedMembers}
+use Rattle.jr_tree.specs.Depth.{deepest, block_depth, decl_depth, member_depth, members_depth}
 use Rattle.jr_tree.specs.Tokens.{member_tokens, members_tokens}
 use Rattle.jr_tree.specs.Mirror.Stmts as s
 use Rattle.jr_tree.specs.Mirror.Decls as d
 use Rattle.jr_parse_laws.specs.declared.fault.Fault.{Fault}
-use Rattle.jr_parse_laws.specs.declared.fault.Fault.TheVariants.{NoTree, TooDeep}
-use Rattle.jr_parse_laws.specs.Parsers.{Outcome, Parser, and_then, first, begins_with, is_at, identifier, expect, many, after_comma, commas, pure, ◌>>=◌}
-use Rattle.jr_parse_laws.proofs.Outcomes.{bind_ok, some_is, ok_is, ok_err, err_is, is_symbol_is}
+use Rattle.jr_parse_laws.specs.declared.fault.Fault.TheVariants.{NoTree}
+use Rattle.jr_parse_laws.specs.Parsers.{Parser, and_then, first, begins_with, is_at, identifier, many, after_comma, ◌>>=◌}
+use Rattle.jr_parse_laws.proofs.Outcomes.{bind_ok, ok_is, ok_err, err_is}
 use Rattle.jr_parse_laws.proofs.Stops.{Leading, leading_nothing}
-use Rattle.jr_parse_laws.proofs.Exact.{identifier_token}
-use Rattle.jr_parse_expr.specs.Names.{name_of, type_of, dims, primitive_of, primitive_kind, type_use, name, name_after}
-use Rattle.jr_parse_expr.specs.Exprs.{next_token, skipping, any_commas}
-use Rattle.jr_parse_expr.specs.Writing.{write_name, write_brackets, write_type}
+use Rattle.jr_parse_expr.specs.Names.{name_of, type_of, dims, primitive_kind, name}
+use Rattle.jr_parse_expr.specs.Exprs.{any_commas}
+use Rattle.jr_parse_expr.specs.Writing.{write_name, write_type}
 use Rattle.jr_parse_expr.proofs.NameReads.{name_sound, dims_sound, type_sound}
 use Rattle.jr_parse_expr.proofs.NameGrowths.{leading_name, name_grows, name_after_grows, dims_stop, brackets_more, leading_brackets, type_grows}
 use Rattle.jr_parse_expr.proofs.Growths.{Growing, leading_tokens, leading_then, leading_one}
 use Rattle.jr_parse_expr.proofs.PartGrowths.{NoLevel, Deep, Refused}
 use Rattle.jr_parse_expr.proofs.AllGrowths.{no_level_is}
-use Rattle.jr_parse_defs.specs.Begins.{some, modifier_of, modifier_kind, starts_modifier, begins_decl, starts_decl, begins_member, starts_member, starts_param}
-use Rattle.jr_parse_defs.specs.Stmts.{body, ctor_body, declarators_after, param}
+use Rattle.jr_parse_defs.specs.Begins.{some, modifier_kind, starts_modifier, begins_member, starts_member, starts_param}
+use Rattle.jr_parse_defs.specs.Stmts.{param}
 use Rattle.jr_parse_defs.specs.Decls as reader
-use Rattle.jr_parse_defs.specs.Writing.{write_if, write_many, write_after, write_declarators, write_param, write_block, write_modifier, write_modifiers, write_later_params, write_params, write_later_names, write_names_after, write_parent, write_result, write_body, write_decl, write_member, write_members}
+use Rattle.jr_parse_defs.specs.Writing.{write_if, write_many, write_after, write_param, write_modifier, write_modifiers, write_later_params, write_params, write_later_names, write_names_after, write_parent, write_result, write_body, write_decl, write_member, write_members}
 use Rattle.jr_parse_defs.proofs.Written.{modifiers_written, result_written, names_after_written, parent_written, params_written, member_written, members_written}
 use Rattle.jr_parse_defs.proofs.Lists.{list_sound, list_stop, asunder}
 use Rattle.jr_parse_defs.proofs.Variables.{param_sound, declarators_after_sound}
-use Rattle.jr_parse_defs.proofs.Bodies.{bodies_sound, ctors_sound}
 use Rattle.jr_parse_defs.proofs.Modifiers as modifiers
 use Rattle.jr_parse_defs.proofs.Modifiers.{modifiers_sound, names_after_sound, parent_sound, params_sound}
-use Rattle.jr_parse_defs.proofs.Members.{modifiers_of, write_bare, bare, ReadsDecl}
+use Rattle.jr_parse_defs.proofs.Members.{static_is}
 use Rattle.jr_parse_defs.proofs.Units as units
 use Rattle.jr_parse_defs.proofs.Units.{ReadsMember, both_read, members_many, members_sound}
-use Rattle.jr_parse_defs.proofs.Grows.{Low, part, gone, deeps, seen, on, last, symbol_on, ident_on, ends_with, choose, at_symbol, at_word, forces, many_grow, one_of, leading_many}
-use Rattle.jr_parse_defs.proofs.PartGrows.{leading_type, leading_declarators, leading_if, leading_after, AreDeclared, Variables, declarators_after_grow, later_item, a_type, variable, param_grow, no_depth}
-use Rattle.jr_parse_defs.proofs.StmtGrows.{empty, suc_le, zero_le, leading_block, leading_param, leading_word, leading_symbol, body_grow_at}
+use Rattle.jr_parse_defs.proofs.Grows.{Low, part, gone, deeps, seen, on, last, symbol_on, ident_on, ends_with, choose, at_symbol, at_word, forces, many_grow, one_of, leading_many, shaped_append, flat, flat_list}
+use Rattle.jr_parse_defs.proofs.PartGrows.{leading_type, leading_declarators, leading_if, leading_after, declarators_after_grow, later_item, a_type, variable, param_grow}
+use Rattle.jr_parse_defs.proofs.Starters.{empty, leading_param, leading_word, leading_symbol}
+use Rattle.jr_parse_defs.proofs.StmtGrows.{suc_le, zero_le, body_grow_at}
 use Rattle.jr_parse_defs.proofs.BodyGrows.{ctor_grow}
 
 -- ---- leading parts
 
-pub leading_modifiers : (ms : List Modifier) → Leading (write_modifiers ms)
+leading_modifiers : (ms : List Modifier) → Leading (write_modifiers ms)
 leading_modifiers ms = leading_tokens (write_modifiers ms) (modifiers_tokens ms) (modifiers_written ms)
 
 leading_result : (r : ResultType) → Leading (write_result r)
@@ -91,35 +90,24 @@ a_modifier : (ts : List Kind) (stop : Fault × List Kind) → starts_modifier (f
 a_modifier [] stop starts h = absurd (cc)
 a_modifier (token ∷ ts) stop starts h = one_modifier (modifier_kind token) token ts stop starts h
 
-pub modifiers_ok : (ts : List Kind) (stop : Fault × List Kind) → reader.modifiers ts ≡ Err stop → ⊥
+modifiers_ok : (ts : List Kind) (stop : Fault × List Kind) → reader.modifiers ts ≡ Err stop → ⊥
 unfolding reader.modifiers
 modifiers_ok ts stop h =
     let s = list_stop starts_modifier modifiers.one refl modifiers.Fine write_modifier modifiers.one_sound modifiers.one_longer ts stop h in
     a_modifier s.rest stop s.begun s.stopped
 
-abbrev level_less : {A : Type 0} → A → ℕ
-level_less a = 0
-
 abbrev pub AName : ℕ → List Kind → Fault × List Kind → Type 0
-AName room ts stop = Growing (Low IsName level_less) write_name room ts stop
+AName room ts stop = Growing (Low IsName flat) write_name room ts stop
 
 pub a_name_grow : (room : ℕ) (ts : List Kind) (stop : Fault × List Kind) → name ts ≡ Err stop → AName room ts stop
 a_name_grow room ts stop h = seen room ts stop (λ r n is. (is, omega arith)) (name_grows room ts stop h)
 
 abbrev NamesBehind : ℕ → Keyword → List Kind → Fault × List Kind → Type 0
-NamesBehind room w ts stop = Growing (Low (AllByRecursion IsName) level_less) (write_names_after w) room ts stop
+NamesBehind room w ts stop = Growing (Low (AllByRecursion IsName) flat) (write_names_after w) room ts stop
 
-name_shapes : (all more : List Name) → AllByRecursion IsName all → AllByRecursion IsName more → AllByRecursion IsName (all ++ more)
-name_shapes [] more are is = is
-name_shapes (n ∷ all) more are is = (are.0, name_shapes all more are.1 is)
-
-no_deeper : {A : Type 0} (room : ℕ) (all : List A) → deepest level_less all ≤ room
-no_deeper room [] = omega arith
-no_deeper room (a ∷ all) = let l = no_deeper room all in omega arith
-
-later_names_grow : (room : ℕ) (ts : List Kind) (stop : Fault × List Kind) → many (begins_with y.Comma) (after_comma name) ts ≡ Err stop → Growing (Low (AllByRecursion IsName) (deepest level_less)) write_later_names room ts stop
+later_names_grow : (room : ℕ) (ts : List Kind) (stop : Fault × List Kind) → many (begins_with y.Comma) (after_comma name) ts ≡ Err stop → Growing (Low (AllByRecursion IsName) (deepest flat)) write_later_names room ts stop
 later_names_grow room ts stop h =
-    many_grow level_less (begins_with y.Comma) (after_comma name) refl IsName (write_after write_name) modifiers.later_name_sound modifiers.later_name_longer room (leading_after write_name leading_name) name_shapes (λ all are. no_deeper room all) ts stop h
+    many_grow flat (begins_with y.Comma) (after_comma name) refl IsName (write_after write_name) modifiers.later_name_sound modifiers.later_name_longer room (leading_after write_name leading_name) (shaped_append (λ n is. is)) (λ all are. flat_list room all) ts stop h
     (λ us starts e. one_of {Shape = IsName} (λ n is. (is, tt)) (later_item name room (a_name_grow room) us stop starts e))
 
 names_grow : (room : ℕ) (w : Keyword) (ts : List Kind) (stop : Fault × List Kind) → reader.names_after w ts ≡ Err stop → NamesBehind room w ts stop
@@ -132,28 +120,20 @@ names_grow room w ts stop h =
     (part (leading_then (leading_word w) (leading_name n)) (λ ns. n ∷ ns) (λ z. z) (λ ns z. refl) (λ ns is. (found.0, is)) (λ ns l. omega arith) (later_names_grow room vs stop (last next (λ ns us next. ok_err next))))))
     (λ f g. absurd (ok_err g))
 
-parent_grow : (room : ℕ) (ts : List Kind) (stop : Fault × List Kind) → reader.parent ts ≡ Err stop → Growing (Low (λ (o : Option Name). IfSome o IsName) level_less) write_parent room ts stop
+parent_grow : (room : ℕ) (ts : List Kind) (stop : Fault × List Kind) → reader.parent ts ≡ Err stop → Growing (Low (λ (o : Option Name). IfSome o IsName) flat) write_parent room ts stop
 parent_grow room ts stop h =
-    at_word k.Extends ts (λ ts. Growing (Low (λ (o : Option Name). IfSome o IsName) level_less) write_parent room ts stop) h
+    at_word k.Extends ts (λ ts. Growing (Low (λ (o : Option Name). IfSome o IsName) flat) write_parent room ts stop) h
     (λ us g. part (leading_word k.Extends) (λ n. Some n) (λ z. z) (λ n z. refl) (λ n is. is) (λ n l. omega arith) (a_name_grow room us stop (last g (λ n us next. ok_err next))))
     (λ f g. absurd (ok_err g))
 
 -- ---- parameters
 
 abbrev Parameters : ℕ → List Kind → Fault × List Kind → Type 0
-Parameters room ts stop = Growing (Low (AllByRecursion IsShapedParam) level_less) write_params room ts stop
+Parameters room ts stop = Growing (Low (AllByRecursion IsShapedParam) flat) write_params room ts stop
 
-param_shapes : (all more : List Param) → AllByRecursion IsShapedParam all → AllByRecursion IsShapedParam more → AllByRecursion IsShapedParam (all ++ more)
-param_shapes [] more are is = is
-param_shapes (p ∷ all) more are is = (are.0, param_shapes all more are.1 is)
-
-no_param_deeper : (room : ℕ) (all : List Param) → deepest no_depth all ≤ room
-no_param_deeper room [] = omega arith
-no_param_deeper room (a ∷ all) = let l = no_param_deeper room all in omega arith
-
-later_params_grow : (room : ℕ) (ts : List Kind) (stop : Fault × List Kind) → many (begins_with y.Comma) (after_comma param) ts ≡ Err stop → Growing (Low (AllByRecursion IsShapedParam) (deepest no_depth)) write_later_params room ts stop
+later_params_grow : (room : ℕ) (ts : List Kind) (stop : Fault × List Kind) → many (begins_with y.Comma) (after_comma param) ts ≡ Err stop → Growing (Low (AllByRecursion IsShapedParam) (deepest flat)) write_later_params room ts stop
 later_params_grow room ts stop h =
-    many_grow no_depth (begins_with y.Comma) (after_comma param) refl IsShapedParam (write_after write_param) modifiers.later_param_sound modifiers.later_param_longer room (leading_after write_param leading_param) param_shapes (λ all are. no_param_deeper room all)
+    many_grow flat (begins_with y.Comma) (after_comma param) refl IsShapedParam (write_after write_param) modifiers.later_param_sound modifiers.later_param_longer room (leading_after write_param leading_param) (shaped_append (λ p is. is)) (λ all are. flat_list room all)
     ts stop h (λ us starts e. one_of {Shape = IsShapedParam} (λ p is. (is, tt)) (later_item param room (param_grow room) us stop starts e))
 
 -- the parameters before the closing parenthesis
@@ -296,7 +276,7 @@ module _ (room : ℕ) (nested : List Modifier → Parser d.TypeDecl) (growing : 
       choose (is_at y.OpenParen ts) h (λ t g. constructor_grow mods head ts stop g)
       (λ f g. on g
       (λ e. part (leading_modifiers mods) (λ n. d.Field mods (type_of (base.Named n) 0) (variable ∷ [])) (λ z. kind.Ident [] ∷ semi z) (λ n z. refl) (λ n is. (is, refl, (tt, tt))) (λ n l. omega arith)
-      (seen {Shape = IsName} {depth = level_less} room (kind.Ident head ∷ ts) stop (λ r n is. (is, omega arith)) (name_after_grows room head ts stop e)))
+      (seen {Shape = IsName} {depth = flat} room (kind.Ident head ∷ ts) stop (λ r n is. (is, omega arith)) (name_after_grows room head ts stop e)))
       (λ n us e next.
       let found = name_sound (kind.Ident head ∷ ts) (n, us) e in
       subst (λ ts. Goal (write_modifiers mods ts) stop) (sym found.1)
@@ -312,17 +292,13 @@ module _ (room : ℕ) (nested : List Modifier → Parser d.TypeDecl) (growing : 
   init_grow : (b : Bool) (ts : List Kind) (stop : Fault × List Kind) → reader.initializer_block room nested b ts ≡ Err stop → Goal (write_if b (kind.Word k.Static) ts) stop
   init_grow b ts stop h = part (leading_if b (kind.Word k.Static)) (λ body. d.Init b body) (λ z. z) (λ body z. refl) (λ body is. is) (λ body l. omega arith) (body_grow_at room ts stop (last h (λ b us next. ok_err next)))
 
-  static_is : (mods : List Modifier) → reader.is_static room nested mods ≡ true → mods ≡ modifier.Static ∷ []
-  static_is (modifier.Static ∷ []) h = refl
-  static_is mods h = absurd (cc)
-
   field_gone : (mods : List Modifier) {ts : List Kind} {stop : Fault × List Kind} → (NoTree, ts) ≡ stop → Goal (write_modifiers mods ts) stop
   field_gone mods e = gone e (leading_modifiers mods) (a_field mods) (λ z. kind.Ident [] ∷ kind.Ident [] ∷ semi z) (λ z. refl) (field_is mods) (omega arith)
 
   braced_grow : (mods : List Modifier) (ts : List Kind) (stop : Fault × List Kind) → reader.braced room nested mods ts ≡ Err stop → Goal (write_modifiers mods ts) stop
   braced_grow [] ts stop h = init_grow false ts stop h
   braced_grow (m ∷ mods) ts stop h =
-      choose (reader.is_static room nested (m ∷ mods)) h (λ t g. subst (λ mods. Goal (write_modifiers mods ts) stop) (sym (static_is (m ∷ mods) t)) (init_grow true ts stop g)) (λ f g. field_gone (m ∷ mods) (err_is g))
+      choose (reader.is_static room nested (m ∷ mods)) h (λ t g. subst (λ mods. Goal (write_modifiers mods ts) stop) (sym (static_is room nested (m ∷ mods) t)) (init_grow true ts stop g)) (λ f g. field_gone (m ∷ mods) (err_is g))
 
   void_grow : (mods : List Modifier) (ts : List Kind) (stop : Fault × List Kind) → and_then (identifier ts) (reader.method room nested mods outcome.Void) ≡ Err stop → Goal (write_modifiers mods (kind.Word k.Void ∷ ts)) stop
   void_grow mods ts stop h =
@@ -335,7 +311,7 @@ module _ (room : ℕ) (nested : List Modifier → Parser d.TypeDecl) (growing : 
   member_type_grow mods (Some p) token ts stop h =
       on h
       (λ e. part (leading_modifiers mods) (λ t. d.Field mods t (variable ∷ [])) (λ z. kind.Ident [] ∷ semi z) (λ t z. refl) (λ t is. (is, refl, (tt, tt))) (λ t l. omega arith)
-      (seen {Shape = IsTypeUse} {depth = level_less} room ts stop (λ r t is. (is, omega arith)) (type_grows room ts stop e)))
+      (seen {Shape = IsTypeUse} {depth = flat} room ts stop (λ r t is. (is, omega arith)) (type_grows room ts stop e)))
       (λ t us e next.
       let found = type_sound ts (t, us) e in
       subst (λ ts. Goal (write_modifiers mods ts) stop) (sym found.written) (typed_grow mods t us stop found.is next))
@@ -361,7 +337,7 @@ module _ (room : ℕ) (nested : List Modifier → Parser d.TypeDecl) (growing : 
   after_grow mods (kind.Ident head ∷ ts) stop h = identified_grow mods head ts stop h
   after_grow mods (token ∷ ts) stop h = member_type_grow mods (primitive_kind token) token (token ∷ ts) stop h
 
-  pub member_of_grow : (ts : List Kind) (stop : Fault × List Kind) → reader.member_of room nested ts ≡ Err stop → Goal ts stop
+  member_of_grow : (ts : List Kind) (stop : Fault × List Kind) → reader.member_of room nested ts ≡ Err stop → Goal ts stop
   unfolding reader.member_of
   member_of_grow ts stop h =
       on h (λ e. absurd (modifiers_ok ts stop e)) (λ mods us e next. let found = modifiers_sound ts (mods, us) e in subst (λ ts. Goal ts stop) (sym found.written) (after_grow mods us stop next))
@@ -425,10 +401,6 @@ module _ (room : ℕ) (inner : Parser d.Member) (reads : ReadsMember room inner)
         | inr none ↦ no_member us stop starts (growing.none none us stop e)
       ]
 
-  member_shapes : (all more : List d.Member) → AllByRecursion (units.Fits room) all → AllByRecursion IsShapedMember more → AllByRecursion IsShapedMember (all ++ more)
-  member_shapes [] more are is = is
-  member_shapes (m ∷ all) more are is = (are.0.0, member_shapes all more are.1 is)
-
   as_members : (all : List d.Member) → AllByRecursion IsShapedMember all → AreShapedMembers (d.members all)
   as_members [] h = tt
   as_members (m ∷ all) h = (h.0, as_members all h.1)
@@ -449,7 +421,7 @@ module _ (room : ℕ) (inner : Parser d.Member) (reads : ReadsMember room inner)
       (λ g. gone g leading_nothing d.no_members (λ z. braces z) (λ z. refl) tt (omega arith))
       (λ u us next. on next
       (λ e. part (leading_symbol y.OpenBrace) d.members (λ z. kind.Sym y.CloseBrace ∷ z) (λ all z. ap (λ ts. kind.Sym y.OpenBrace ∷ ts) (sym (members_many all (kind.Sym y.CloseBrace ∷ z)))) as_members low_members
-      (many_grow member_depth starts_member inner refl (units.Fits room) write_member (units.item room inner reads) (units.member_longer room) room leading_member member_shapes (λ all are. (asunder IsShapedMember member_depth room all are).1) us stop e
+      (many_grow member_depth starts_member inner refl (units.Fits room) write_member (units.item room inner reads) (units.member_longer room) room leading_member (shaped_append (λ m is. is.0)) (λ all are. (asunder IsShapedMember member_depth room all are).1) us stop e
       (λ us starts e. one_member us stop starts e)))
       (λ all vs e next.
       let found = list_sound starts_member inner refl (units.Fits room) write_member (units.item room inner reads) (units.member_longer room) us (all, vs) e in
@@ -497,7 +469,7 @@ module _ (room : ℕ) (inner : Parser d.Member) (reads : ReadsMember room inner)
   decl_gone : (mods : List Modifier) {ts : List Kind} {stop : Fault × List Kind} → (NoTree, ts) ≡ stop → Type_goal (write_modifiers mods ts) stop
   decl_gone mods e = gone e (leading_modifiers mods) (d.Class mods [] None [] d.no_members) (λ z. kind.Word k.Class ∷ kind.Ident [] ∷ braces z) (λ z. refl) (tt, tt, tt) (omega arith)
 
-  pub type_decl_grow : (mods : List Modifier) (ts : List Kind) (stop : Fault × List Kind) → reader.type_decl room inner mods ts ≡ Err stop → Type_goal (write_modifiers mods ts) stop
+  type_decl_grow : (mods : List Modifier) (ts : List Kind) (stop : Fault × List Kind) → reader.type_decl room inner mods ts ≡ Err stop → Type_goal (write_modifiers mods ts) stop
   unfolding reader.type_decl
   type_decl_grow mods [] stop h = decl_gone mods (err_is h)
   type_decl_grow mods (kind.Word k.Class ∷ ts) stop h = class_grow mods ts stop h

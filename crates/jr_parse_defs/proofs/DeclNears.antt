@@ -1,5 +1,5 @@
 -- Members and declarations of types are read the same whatever stands behind, and with more levels.
-use Rattle.std.proofs.Common.{◌≡◌, ℕ, zero, suc, ◌≤◌, Bool, true, false, ◌||◌, cond, ltb, List, [], ◌∷◌, ◌++◌, length, Option, Some, None, Ok, Err, refl, sym, ap, ◌∙◌, subst, arith}
+use Rattle.std.proofs.Common.{◌≡◌, ℕ, zero, suc, ◌≤◌, Bool, true, false, ◌||◌, List, [], ◌∷◌, Option, Some, None, Err, refl, ap, ◌∙◌, arith}
 use Rattle.std.proofs.lemmas.Bool.{or_parts}
 use Rattle.jr_base.specs.declared.text.Text.{Text}
 use Rattle.jr_base.specs.declared.kind.Kind.{Kind}
@@ -15,15 +15,14 @@ use Rattle.jr_tree.specs.declared.tree.ResultType.{ResultType}
 use Rattle.jr_tree.specs.declared.tree.ResultType.TheVariants as outcome
 use Rattle.jr_tree.specs.Shape.{IsName, IsShapedParam}
 use Rattle.jr_tree.specs.Mirror.Decls as d
-use Rattle.jr_parse_laws.specs.declared.fault.Fault.TheVariants.{NoTree, TooDeep}
-use Rattle.jr_parse_laws.specs.Parsers.{Outcome, Parser, and_then, first, pure, refuse, identifier, begins_with, after_comma, many, ◌>>=◌}
-use Rattle.jr_parse_laws.proofs.Outcomes.{one_first}
+use Rattle.jr_parse_laws.specs.declared.fault.Fault.TheVariants.{NoTree}
+use Rattle.jr_parse_laws.specs.Parsers.{Parser, and_then, first, pure, identifier, after_comma, ◌>>=◌}
 use Rattle.jr_parse_laws.proofs.Lists.{many_over}
-use Rattle.jr_parse_expr.specs.Starts.{no_level, within, over}
+use Rattle.jr_parse_expr.specs.Starts.{no_level, over}
 use Rattle.jr_parse_expr.specs.Names.{type_of, primitive_of, primitive_kind, name}
 use Rattle.jr_parse_expr.specs.Exprs.{next_token, skipping}
 use Rattle.jr_parse_expr.specs.Writing.{write_name}
-use Rattle.jr_parse_expr.proofs.Locals.{Kept, here, at_token}
+use Rattle.jr_parse_expr.proofs.Locals.{Kept, at_token}
 use Rattle.jr_parse_expr.proofs.AllLocals.{none_kept_by}
 use Rattle.jr_parse_defs.specs.Begins.{some, modifier_kind, starts_modifier, begins_decl, starts_decl, starts_member, starts_param}
 use Rattle.jr_parse_defs.specs.Stmts.{param}

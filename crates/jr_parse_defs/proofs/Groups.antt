@@ -126,11 +126,11 @@ module _ (room : ℕ) (inner outer : Parser s.Stmt) (reads : ReadsOne room true 
   groups_listed s.no_groups = refl
   groups_listed (s.more_groups g all) = ap (s.more_groups g) (groups_listed all)
 
-  pub group_starts : (g : s.Group) (rest : List Kind) → IsShapedGroup g → starts_label (first (write_group g rest)) ≡ true
+  group_starts : (g : s.Group) (rest : List Kind) → IsShapedGroup g → starts_label (first (write_group g rest)) ≡ true
   group_starts (s.GroupOf [] all) rest h = absurd (let e = h.0 in cc)
   group_starts (s.GroupOf (l ∷ ls) all) rest h = label_starts l (write_labels ls (write_stmts all rest))
 
-  pub group_longer : (g : s.Group) (rest : List Kind) → IsShapedGroup g → suc (length rest) ≤ length (write_group g rest)
+  group_longer : (g : s.Group) (rest : List Kind) → IsShapedGroup g → suc (length rest) ≤ length (write_group g rest)
   group_longer (s.GroupOf [] all) rest h = absurd (let e = h.0 in cc)
   group_longer (s.GroupOf (s.Case value ∷ ls) all) rest h =
       let g = s.GroupOf (s.Case value ∷ ls) all in longer_first (group_tokens g) rest (write_group g rest) (kind.Word k.Case) (group_written g rest) refl
@@ -189,7 +189,7 @@ module _ (room : ℕ) (inner outer : Parser s.Stmt) (reads : ReadsOne room true 
       ]
 
   -- a group of labels alone is the last
-  pub fits_before : (g : s.Group) (all : s.Groups) (us rest : List Kind) → AreShapedGroups all → us ≡ write_groups all rest → (has_stmt (stmts_of g) ≡ false → starts_label (first us) ≡ false) → group_fits g all ≡ true
+  fits_before : (g : s.Group) (all : s.Groups) (us rest : List Kind) → AreShapedGroups all → us ≡ write_groups all rest → (has_stmt (stmts_of g) ≡ false → starts_label (first us) ≡ false) → group_fits g all ≡ true
   fits_before (s.GroupOf ls (s.more_stmts a bs)) all us rest h same alone = refl
   fits_before (s.GroupOf ls s.no_stmts) s.no_groups us rest h same alone = refl
   fits_before (s.GroupOf ls s.no_stmts) (s.more_groups b all) us rest h same alone =

@@ -1,5 +1,5 @@
 -- What stands before a fault begins a tree: from parts to the whole, for trees with a shape and a depth.
-use Rattle.std.proofs.Common.{◌≡◌, ℕ, suc, ◌≤◌, max, Bool, true, false, cond, ltb, List, [], ◌∷◌, ◌++◌, length, Option, Some, None, Ok, Err, refl, sym, ap, ◌∙◌, subst, ◌⊎◌, inl, inr, arith}
+use Rattle.std.proofs.Common.{◌≡◌, ℕ, suc, ◌≤◌, Bool, true, false, ◌||◌, cond, ltb, List, [], ◌∷◌, ◌++◌, length, Option, None, Ok, Err, refl, sym, ap, subst, ◌⊎◌, inl, inr, arith}
 use Rattle.std.proofs.lemmas.Bool.{ltb-false}
 use Rattle.std.specs.List.{AllByRecursion}
 use Rattle.jr_base.specs.declared.text.Text.{Text}
@@ -11,7 +11,7 @@ use Rattle.jr_tree.specs.Depth.{deepest}
 use Rattle.jr_parse_laws.specs.declared.fault.Fault.{Fault}
 use Rattle.jr_parse_laws.specs.declared.fault.Fault.TheVariants.{NoTree, TooDeep}
 use Rattle.jr_parse_laws.specs.Parsers.{Outcome, Parser, and_then, first, expect, expect_word, identifier, is_at, is_at_word, many}
-use Rattle.jr_parse_laws.proofs.Outcomes.{chosen, ok_err, err_is, is_symbol_is, is_word_is, Before, After, stops}
+use Rattle.jr_parse_laws.proofs.Outcomes.{chosen, err_is, is_symbol_is, is_word_is, Before, After, stops}
 use Rattle.jr_parse_laws.proofs.Stops.{Leading, leading_nothing}
 use Rattle.jr_parse_laws.proofs.Exact.{symbol_token, word_token, identifier_token, expect_sound, word_sound}
 use Rattle.jr_parse_expr.specs.Exprs.{skipping}
@@ -115,13 +115,26 @@ pub many_append : {A : Type 0} (write : A → List Kind → List Kind) (all more
 many_append write [] more z = refl
 many_append write (a ∷ all) more z = ap (write a) (many_append write all more z)
 
-pub deepest_append : {A : Type 0} (depth : A → ℕ) (room : ℕ) (all more : List A) → deepest depth all ≤ room → deepest depth more ≤ room → deepest depth (all ++ more) ≤ room
+deepest_append : {A : Type 0} (depth : A → ℕ) (room : ℕ) (all more : List A) → deepest depth all ≤ room → deepest depth more ≤ room → deepest depth (all ++ more) ≤ room
 deepest_append depth room [] more l m = m
 deepest_append depth room (a ∷ all) more l m = let n = deepest_append depth room all more (omega arith) m in omega arith
 
-pub all_append : {A : Type 0} (P : A → Type 0) (all more : List A) → AllByRecursion P all → AllByRecursion P more → AllByRecursion P (all ++ more)
-all_append P [] more h g = g
-all_append P (a ∷ all) more h g = (h.0, all_append P all more h.1 g)
+-- items that were read, and then more
+pub shaped_append : {A : Type 0} {Is : A → Type 0} {Shape : A → Type 0} → ((a : A) → Is a → Shape a) → (all more : List A) → AllByRecursion Is all → AllByRecursion Shape more → AllByRecursion Shape (all ++ more)
+shaped_append shape [] more h g = g
+shaped_append shape (a ∷ all) more h g = (shape a h.0, shaped_append shape all more h.1 g)
+
+-- of trees without levels
+abbrev pub flat : {A : Type 0} → A → ℕ
+flat a = 0
+
+pub flat_list : {A : Type 0} (room : ℕ) (all : List A) → deepest flat all ≤ room
+flat_list room [] = omega arith
+flat_list room (a ∷ all) = let l = flat_list room all in omega arith
+
+pub either : (b c : Bool) → (b || c) ≡ true → (b ≡ true) ⊎ (c ≡ true)
+either true c h = inl refl
+either false c h = inr h
 
 -- where a list stops: Q says what list it is, and an item may be missing altogether where there is no level for it
 pub many_grow : {A : Type 0} {Q : List A → Type 0} (depth : A → ℕ) (starts : Option Kind → Bool) (item : Parser A) (silent : starts None ≡ false) (Is : A → Type 0) (write : A → List Kind → List Kind) (sound : Sound Is write item)

@@ -23,6 +23,11 @@ pub mod DeclNears
 pub mod UnitNears
 pub mod Grows
 pub mod PartGrows
+pub mod Starters
+pub mod BlockGrows
+pub mod NamedGrows
+pub mod HeaderGrows
+pub mod GroupGrows
 pub mod StmtGrows
 pub mod BodyGrows
 pub mod DeclGrows

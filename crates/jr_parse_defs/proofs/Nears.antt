@@ -1,11 +1,11 @@
 -- Readers that read the same whatever stands behind, and with more levels: how they are put together.
-use Rattle.std.proofs.Common.{◌≡◌, ℕ, zero, suc, ◌≤◌, Bool, true, false, cond, ltb, List, [], ◌∷◌, length, Option, Some, None, Ok, Err, refl, sym, ap, ◌∙◌, subst, inl, inr, arith}
+use Rattle.std.proofs.Common.{◌≡◌, ℕ, zero, suc, ◌≤◌, Bool, true, false, cond, ltb, List, [], ◌∷◌, length, Option, Some, None, Ok, Err, refl, ap, ◌∙◌, subst, arith}
 use Rattle.std.proofs.lemmas.Bool.{ltb-false, le-ltb}
 use Rattle.jr_base.specs.declared.kind.Kind.{Kind}
 use Rattle.jr_base.specs.declared.kind.Symbol.{Symbol}
 use Rattle.jr_base.specs.declared.kind.Symbol.TheVariants as y
 use Rattle.jr_base.specs.declared.kind.Keyword.{Keyword}
-use Rattle.jr_parse_laws.specs.declared.fault.Fault.TheVariants.{NoTree, TooDeep}
+use Rattle.jr_parse_laws.specs.declared.fault.Fault.TheVariants.{TooDeep}
 use Rattle.jr_parse_laws.specs.Parsers.{Outcome, Parser, and_then, first, pure, refuse, is_at, is_at_word, is_word, expect, expect_word, identifier, begins_with, many_from, many, after_comma, commas, optional, ◌>>=◌, ◌>>◌}
 use Rattle.jr_parse_laws.proofs.Outcomes.{and_then_alike}
 use Rattle.jr_parse_laws.proofs.Exact.{word_token}
@@ -59,7 +59,7 @@ pub if_word : {room other : ℕ} {le : room ≤ other} {A : Type 0} {p p' q q' :
     → Near room other le (λ ts. cond (is_at_word w ts) (p ts) (q ts)) (λ ts. cond (is_at_word w ts) (p' ts) (q' ts))
 if_word {room = room} {other = other} {le = le} {p = p} {p' = p'} {q = q} {q' = q'} w one two = record { kept = local_if room other le (is_at_word w) p p' q q' (looks_word room other le w) one.kept two.kept }
 
-pub if_first : {room other : ℕ} {le : room ≤ other} {A : Type 0} {p p' q q' : Parser A} (h : Option Kind → Bool) → Near room other le p p' → Near room other le q q'
+if_first : {room other : ℕ} {le : room ≤ other} {A : Type 0} {p p' q q' : Parser A} (h : Option Kind → Bool) → Near room other le p p' → Near room other le q q'
     → Near room other le (λ ts. cond (h (first ts)) (p ts) (q ts)) (λ ts. cond (h (first ts)) (p' ts) (q' ts))
 if_first {room = room} {other = other} {le = le} {p = p} {p' = p'} {q = q} {q' = q'} h one two = record { kept = local_if room other le (λ ts. h (first ts)) p p' q q' (looks_first room other le h) one.kept two.kept }
 
@@ -139,7 +139,7 @@ guarded_from starts item zero ts = refl
 guarded_from starts item (suc turns) ts =
     guarded_turn (starts (first ts)) item ts (many_from starts (guarded starts item) turns) (many_from starts item turns) (guarded_from starts item turns)
 
-pub guarded_many : {A : Type 0} (starts : Option Kind → Bool) (item : Parser A) (ts : List Kind) → many starts (guarded starts item) ts ≡ many starts item ts
+guarded_many : {A : Type 0} (starts : Option Kind → Bool) (item : Parser A) (ts : List Kind) → many starts (guarded starts item) ts ≡ many starts item ts
 unfolding many
 guarded_many starts item ts = guarded_from starts item (length ts) ts
 

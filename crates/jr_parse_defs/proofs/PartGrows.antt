@@ -1,9 +1,7 @@
 -- Where expressions, variables and parameters of statements stop, what stands before begins a tree.
-use Rattle.std.proofs.Common.{◌≡◌, ℕ, zero, suc, ◌≤◌, max, Bool, true, false, not, ◌||◌, cond, ltb, List, [], ◌∷◌, ◌++◌, length, Option, Some, None, Ok, Err, refl, sym, ap, ◌∙◌, subst, ◌⊎◌, inl, inr, arith}
-use Rattle.std.proofs.lemmas.Bool.{and_parts, or_parts, true≢false}
-use Rattle.std.specs.Prelude.{IfSome, ⊤}
+use Rattle.std.proofs.Common.{◌≡◌, ℕ, zero, suc, ◌≤◌, Bool, true, false, not, List, [], ◌∷◌, ◌++◌, length, Some, None, Ok, Err, refl, sym, ap, ◌∙◌, subst, ◌⊎◌, inl, inr, arith}
+use Rattle.std.proofs.lemmas.Bool.{and_parts}
 use Rattle.std.specs.List.{AllByRecursion}
-use Rattle.std.specs.Option.{option_map_or}
 use Rattle.jr_base.specs.declared.text.Text.{Text}
 use Rattle.jr_base.specs.declared.kind.Kind.{Kind}
 use Rattle.jr_base.specs.declared.kind.Kind.TheVariants as kind
@@ -12,46 +10,44 @@ use Rattle.jr_base.specs.declared.kind.Symbol.TheVariants as y
 use Rattle.jr_base.specs.declared.kind.Keyword.TheVariants as k
 use Rattle.jr_tree.specs.declared.tree.Name.{Name}
 use Rattle.jr_tree.specs.declared.tree.TypeUse.{TypeUse}
-use Rattle.jr_tree.specs.declared.tree.Param.{Param}
 use Rattle.jr_tree.specs.declared.tree.Base.TheVariants as base
 use Rattle.jr_tree.specs.Levels.{is_literal, is_least_kind, is_step, is_assignment}
-use Rattle.jr_tree.specs.Shape.{is_empty, IsWholeExpr, IsStatementExpr, AreStatementExprs, IsShapedInit, IsShapedDeclarator, IsShapedParam, IsTypeUse, AreShapedExprs}
+use Rattle.jr_tree.specs.Shape.{is_empty, IsWholeExpr, IsStatementExpr, AreStatementExprs, IsShapedInit, IsShapedDeclarator, IsShapedParam, IsTypeUse}
 use Rattle.jr_tree.specs.Depth.{deepest, expr_depth, exprs_depth, init_depth, declarator_depth}
-use Rattle.jr_tree.specs.Words.{type_tokens, brackets, name_tokens}
-use Rattle.jr_tree.specs.Tokens.{expr_tokens, exprs_tokens, declarator_tokens, declarators_tokens, cond_tokens}
+use Rattle.jr_tree.specs.Words.{type_tokens}
+use Rattle.jr_tree.specs.Tokens.{exprs_tokens, declarator_tokens, declarators_tokens, cond_tokens}
 use Rattle.jr_tree.specs.Mirror.Exprs as x
 use Rattle.jr_tree.specs.Mirror.Stmts as s
 use Rattle.jr_parse_laws.specs.declared.fault.Fault.{Fault}
 use Rattle.jr_parse_laws.specs.declared.fault.Fault.TheVariants.{NoTree, TooDeep}
-use Rattle.jr_parse_laws.specs.Parsers.{Outcome, Parser, and_then, first, begins_with, many, after_comma, optional}
+use Rattle.jr_parse_laws.specs.Parsers.{Parser, and_then, first, begins_with, many, after_comma, optional}
 use Rattle.jr_parse_laws.proofs.Outcomes.{bind_ok, ok_err, err_is, Before, After, stops}
 use Rattle.jr_parse_laws.proofs.Stops.{Leading, leading_nothing}
-use Rattle.jr_parse_expr.specs.Starts.{begins_primary, begins_effect, is_plain_literal, starts_expr, starts_effect, next_is, no_level}
-use Rattle.jr_parse_expr.specs.Names.{name_of, type_of, dims, type_use, Dotted, Plain, Enclosing, dotted_from, dotted}
+use Rattle.jr_parse_expr.specs.Starts.{begins_primary, begins_effect, is_plain_literal, starts_expr, starts_effect, next_is}
+use Rattle.jr_parse_expr.specs.Names.{name_of, type_of, dims, type_use, Plain, dotted_from, dotted}
 use Rattle.jr_parse_expr.specs.Exprs as exprs
 use Rattle.jr_parse_expr.specs.Exprs.{Lead, Nothing, Named, Indexed, This, Super, goes_on, goes_on_name, goes_on_primary, goes_on_super, below, any_commas, expr, list, effect, init}
-use Rattle.jr_parse_expr.specs.Writing.{write_parts, write_all, write_name, write_brackets, write_type, write_expr, write_exprs, write_others, write_init, write_lead}
+use Rattle.jr_parse_expr.specs.Writing.{write_all, write_brackets, write_type, write_expr, write_exprs, write_others, write_init, write_lead}
 use Rattle.jr_parse_expr.specs.Follow.{IsLed}
 use Rattle.jr_parse_expr.specs.Laws.{HasEffectRoom}
-use Rattle.jr_parse_expr.proofs.Written.{exprs_written, type_written, brackets_written}
+use Rattle.jr_parse_expr.proofs.Written.{exprs_written, type_written}
 use Rattle.jr_parse_expr.proofs.NameReads.{has_parts, parts_append, all_append, dims_sound, type_sound}
-use Rattle.jr_parse_expr.proofs.NameGrowths.{IsTypeIn, leading_name, dims_stop, brackets_more, leading_brackets, type_grows}
-use Rattle.jr_parse_expr.proofs.Growths.{Growing, leading_tokens, leading_then, leading_one, leading_expr, sample, starter}
+use Rattle.jr_parse_expr.proofs.NameGrowths.{dims_stop, brackets_more, leading_brackets, type_grows}
+use Rattle.jr_parse_expr.proofs.Growths.{Growing, leading_tokens, leading_then, leading_one, leading_expr, sample, starter, or_second}
 use Rattle.jr_parse_expr.proofs.PartGrowths.{NoLevel, Deep, Refused}
 use Rattle.jr_parse_expr.proofs.AllGrowths.{all_grow, no_level_is}
 use Rattle.jr_parse_expr.proofs.Stuck.{inits_stuck}
 use Rattle.jr_parse_expr.proofs.EffectStuck.{effects_stuck}
 use Rattle.jr_parse_expr.proofs.ExprReads.{no_level_err}
 use Rattle.jr_parse_defs.specs.Stmts as reader
-use Rattle.jr_parse_defs.specs.Writing.{write_if, write_many, write_after, write_cond, write_assigned, write_declarator, write_later, write_declarators, write_param}
-use Rattle.jr_parse_defs.proofs.Written.{cond_written, declarator_written, declarators_written, if_written}
-use Rattle.jr_parse_defs.proofs.Tokens.{within_sound}
+use Rattle.jr_parse_defs.specs.Writing.{write_if, write_many, write_after, write_cond, write_declarator, write_declarators, write_param}
+use Rattle.jr_parse_defs.proofs.Written.{cond_written, declarator_written, declarators_written}
 use Rattle.jr_parse_defs.proofs.Lists.{asunder}
 use Rattle.jr_parse_defs.proofs.Variables as variables
 use Rattle.jr_parse_defs.proofs.Variables.{AreVariables, declarator_after_sound, declarator_sound, declarators_sound, finality_sound}
 use Rattle.jr_parse_defs.proofs.Expressions as expressions
 use Rattle.jr_parse_defs.proofs.Expressions.{whole_sound, found_effect}
-use Rattle.jr_parse_defs.proofs.Grows.{Low, part, gone, deeps, seen, on, last, symbol_on, ident_on, ends_with, choose, at_symbol, at_word, forces, many_grow, one_of, leading_many}
+use Rattle.jr_parse_defs.proofs.Grows.{Low, part, gone, deeps, seen, on, last, symbol_on, ident_on, ends_with, choose, at_word, forces, many_grow, one_of, shaped_append, flat, either}
 
 -- ---- leading parts
 
@@ -64,7 +60,7 @@ leading_exprs all = leading_tokens (write_exprs all) (exprs_tokens all) (exprs_w
 pub leading_type : (t : TypeUse) → Leading (write_type t)
 leading_type t = leading_tokens (write_type t) (type_tokens t) (type_written t)
 
-pub leading_declarator : (d : s.Declarator) → Leading (write_declarator d)
+leading_declarator : (d : s.Declarator) → Leading (write_declarator d)
 leading_declarator d = leading_tokens (write_declarator d) (declarator_tokens d) (declarator_written d)
 
 pub leading_declarators : (ds : List s.Declarator) → Leading (write_declarators ds)
@@ -103,10 +99,6 @@ step_of : (token : Kind) → is_plain_literal token ≡ true → EffectStarter t
 step_of token h =
     let p = and_parts (is_literal token) (not (is_least_kind token)) h in
     record { tree = x.PostStep (x.Lit token) y.PlusPlus; is = (refl, (refl, (omega arith, p.1), p.0)); more = λ z. kind.Sym y.PlusPlus ∷ z; spelled = λ z. refl }
-
-or_second : (b c : Bool) → (b || c) ≡ true → b ≡ false → c ≡ true
-or_second true c h g = absurd (cc)
-or_second false c h g = h
 
 pub effect_starter : (token : Kind) → begins_effect token ≡ true → EffectStarter token
 effect_starter (kind.Ident n) h = record { tree = x.Call x.no_receiver n x.no_exprs; is = (refl, (tt, tt)); more = λ z. kind.Sym y.OpenParen ∷ kind.Sym y.CloseParen ∷ z; spelled = λ z. refl }
@@ -161,10 +153,6 @@ call_depth (part ∷ before) last = omega arith
 pub call_spelled : (before : List Text) (last : Text) (z : List Kind) → write_expr (call_named before last) z ≡ write_all (before ++ last ∷ []) (kind.Sym y.OpenParen ∷ kind.Sym y.CloseParen ∷ z)
 call_spelled [] last z = refl
 call_spelled (part ∷ before) last z = ap (λ ts. kind.Ident part ∷ ts) (sym (parts_append before (last ∷ []) (kind.Sym y.OpenParen ∷ kind.Sym y.CloseParen ∷ z)))
-
-either : (b c : Bool) → (b || c) ≡ true → (b ≡ true) ⊎ (c ≡ true)
-either true c h = inl refl
-either false c h = inr h
 
 pub name_starter : (before : List Text) (last : Text) (token : Kind) → goes_on_name token ≡ true → NameStarter before last token
 name_starter before last (kind.Sym y.OpenParen) h = record { tree = call_named before last; is = call_is before last; more = λ z. kind.Sym y.CloseParen ∷ z; spelled = call_spelled before last }
@@ -321,11 +309,8 @@ pub others_grow : (room : ℕ) → 1 ≤ room → (ts : List Kind) (stop : Fault
 others_grow room some ts stop h =
     part leading_nothing x.exprs (λ z. z) (λ all z. sym (others_many all z)) (λ all is. are_effects all is) (λ all l. effects_low room all l)
     (many_grow expr_depth (begins_with y.Comma) (after_comma (effect room Nothing)) refl (expressions.Fits room) (write_after write_expr) (expressions.later_sound room) (expressions.later_longer room) room (leading_after write_expr leading_expr)
-    (λ all more are is. all_so all more are is) (λ all are. (asunder IsStatementExpr expr_depth room all are).1) ts stop h
-    (λ us starts e. one_of (λ a is. (is, tt)) (later_item (effect room Nothing) room (λ ts stop e. effect_grow room Nothing some ts stop tt e) us stop starts e))) where
-      all_so : (all more : List x.Expr) → AllByRecursion (expressions.Fits room) all → AllByRecursion IsStatementExpr more → AllByRecursion IsStatementExpr (all ++ more)
-      all_so [] more are is = is
-      all_so (e ∷ all) more are is = (are.0.0, all_so all more are.1 is)
+    (shaped_append (λ e is. is.0)) (λ all are. (asunder IsStatementExpr expr_depth room all are).1) ts stop h
+    (λ us starts e. one_of (λ a is. (is, tt)) (later_item (effect room Nothing) room (λ ts stop e. effect_grow room Nothing some ts stop tt e) us stop starts e)))
 
 -- ---- variables
 
@@ -373,13 +358,10 @@ variables_from : (room : ℕ) (d : s.Declarator) (us : List Kind) (stop : Fault 
 variables_from room d us stop is low h =
     part (leading_declarator d) (λ ds. d ∷ ds) (λ z. z) (λ ds z. refl) (λ ds all. (refl, (is, all))) (λ ds l. omega arith)
     (many_grow declarator_depth (begins_with y.Comma) (after_comma (reader.declarator room)) refl (variables.Fits room) (write_after write_declarator) (variables.later_sound room) (variables.later_longer room) room
-    (leading_after write_declarator leading_declarator) (λ all more are is. all_so all more are is) (λ all are. (asunder IsShapedDeclarator declarator_depth room all are).1) us stop h
-    (λ us starts e. one_of (λ a is. (is, tt)) (later_item (reader.declarator room) room (declarator_grow room) us stop starts e))) where
-      all_so : (all more : List s.Declarator) → AllByRecursion (variables.Fits room) all → AllByRecursion IsShapedDeclarator more → AllByRecursion IsShapedDeclarator (all ++ more)
-      all_so [] more are is = is
-      all_so (e ∷ all) more are is = (are.0.0, all_so all more are.1 is)
+    (leading_after write_declarator leading_declarator) (shaped_append (λ d is. is.0)) (λ all are. (asunder IsShapedDeclarator declarator_depth room all are).1) us stop h
+    (λ us starts e. one_of (λ a is. (is, tt)) (later_item (reader.declarator room) room (declarator_grow room) us stop starts e)))
 
-pub declarators_grow : (room : ℕ) (ts : List Kind) (stop : Fault × List Kind) → reader.declarators room ts ≡ Err stop → Variables room ts stop
+declarators_grow : (room : ℕ) (ts : List Kind) (stop : Fault × List Kind) → reader.declarators room ts ≡ Err stop → Variables room ts stop
 declarators_grow room ts stop h =
     on h
     (λ e. part leading_nothing (λ d. d ∷ []) (λ z. z) (λ d z. refl) (λ d is. (refl, (is, tt))) (λ d l. omega arith) (declarator_grow room ts stop e))
@@ -428,7 +410,7 @@ behind_type room b t is ts stop h =
 type_missing : (room : ℕ) (b : Bool) (ts : List Kind) (stop : Fault × List Kind) → type_use ts ≡ Err stop → Typed room (write_if b (kind.Word k.Final) ts) stop
 type_missing room b ts stop h =
     part (leading_if b (kind.Word k.Final)) (λ t. (b, t, variable ∷ [])) (λ z. kind.Ident [] ∷ z) (λ t z. refl) (λ t is. (is, (refl, (tt, tt)))) (λ t l. omega arith)
-    (seen {Shape = IsTypeUse} {depth = λ t. 0} room ts stop (λ r t is. (is, omega arith)) (type_grows room ts stop h))
+    (seen {Shape = IsTypeUse} {depth = flat} room ts stop (λ r t is. (is, omega arith)) (type_grows room ts stop h))
 
 pub typed_grow : {B : Type 0} (room : ℕ) (f : Bool → TypeUse → List s.Declarator → Parser B) (ts : List Kind) (stop : Fault × List Kind)
     → and_then (reader.finality ts) (λ b ts. and_then (type_use ts) (λ t ts. and_then (reader.declarators room ts) (f b t))) ≡ Err stop
@@ -451,11 +433,8 @@ leading_typed v = leading_then (leading_if v.0 (kind.Word k.Final)) (leading_the
 
 -- ---- a parameter
 
-abbrev pub no_depth : Param → ℕ
-no_depth p = 0
-
 abbrev Parameter : ℕ → List Kind → Fault × List Kind → Type 0
-Parameter room ts stop = Growing (Low IsShapedParam no_depth) write_param room ts stop
+Parameter room ts stop = Growing (Low IsShapedParam flat) write_param room ts stop
 
 pub param_grow : (room : ℕ) (ts : List Kind) (stop : Fault × List Kind) → reader.param ts ≡ Err stop → Parameter room ts stop
 unfolding reader.param
@@ -466,7 +445,7 @@ param_grow room ts stop h =
     on d
     (λ e. subst (λ ts. Parameter room ts stop) (sym final)
     (part (leading_if b (kind.Word k.Final)) (λ t. reader.param_of b t [] 0) (λ z. kind.Ident [] ∷ z) (λ t z. refl) (λ t is. is) (λ t l. omega arith)
-    (seen {Shape = IsTypeUse} {depth = λ t. 0} room us stop (λ r t is. (is, omega arith)) (type_grows room us stop e))))
+    (seen {Shape = IsTypeUse} {depth = flat} room us stop (λ r t is. (is, omega arith)) (type_grows room us stop e))))
     (λ t vs e d.
     let found = type_sound us (t, vs) e in
     let into = leading_then (leading_if b (kind.Word k.Final)) (leading_type t) in

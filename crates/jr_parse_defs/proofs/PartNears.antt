@@ -1,5 +1,5 @@
 -- Expressions, variables and parameters in statements are read the same whatever stands behind, and with more levels.
-use Rattle.std.proofs.Common.{◌≡◌, ℕ, zero, suc, ◌<◌, ◌≤◌, Bool, true, false, not, ◌&&◌, cond, ltb, List, [], ◌∷◌, ◌++◌, length, Option, Some, None, Ok, Err, refl, sym, ap, ◌∙◌, subst, arith}
+use Rattle.std.proofs.Common.{◌≡◌, ℕ, zero, suc, ◌≤◌, Bool, true, false, cond, ltb, List, [], ◌∷◌, ◌++◌, Some, None, Err, refl, sym, ap, ◌∙◌, subst, arith}
 use Rattle.std.proofs.lemmas.Bool.{or_parts}
 use Rattle.jr_base.specs.declared.text.Text.{Text}
 use Rattle.jr_base.specs.declared.kind.Kind.{Kind}
@@ -12,11 +12,11 @@ use Rattle.jr_tree.specs.Levels.{is_assignment, is_step}
 use Rattle.jr_tree.specs.Mirror.Exprs as x
 use Rattle.jr_tree.specs.Mirror.Stmts as s
 use Rattle.jr_parse_laws.specs.declared.fault.Fault.TheVariants.{NoTree, TooDeep}
-use Rattle.jr_parse_laws.specs.Parsers.{Outcome, Parser, and_then, first, pure, refuse, begins_with, identifier, many, after_comma, commas, optional, ◌>>=◌}
+use Rattle.jr_parse_laws.specs.Parsers.{Outcome, Parser, and_then, first, pure, begins_with, many, after_comma, ◌>>=◌}
 use Rattle.std.specs.Prelude.{⊤}
 use Rattle.jr_parse_laws.proofs.Lists.{Shortens}
 use Rattle.jr_parse_expr.specs.Starts.{begins_effect, begins_primary, is_plain_literal, starts_expr, starts_effect, next_is, no_level, within}
-use Rattle.jr_parse_expr.specs.Names.{name_of, dims, name, name_after, type_use, Dotted, Plain, Enclosing, dotted}
+use Rattle.jr_parse_expr.specs.Names.{name_of, dims, name, name_after, type_use, Plain, dotted}
 use Rattle.jr_parse_expr.specs.Exprs as reader
 use Rattle.jr_parse_expr.specs.Exprs.{Lead, Nothing, Named, Indexed, This, Super, goes_on, goes_on_name, goes_on_primary, goes_on_super, below, next_token, any_commas, expr, list, effect, init}
 use Rattle.jr_parse_expr.proofs.Locals.{Kept, here}
@@ -26,7 +26,7 @@ use Rattle.jr_parse_expr.proofs.AllLocals.{all_local, none_kept_by, expr_refused
 use Rattle.jr_parse_expr.proofs.EffectLocals.{flag_local}
 use Rattle.jr_parse_expr.proofs.EffectStuck.{effect_local}
 use Rattle.jr_parse_defs.specs.Stmts as defs
-use Rattle.jr_parse_defs.proofs.Nears.{Near, by_next, then, gives, symbol, ident, skips, if_at, if_word, several, perhaps, behind_comma, with_commas, any_with_commas, forced}
+use Rattle.jr_parse_defs.proofs.Nears.{Near, by_next, then, gives, symbol, ident, skips, if_at, if_word, several, behind_comma, with_commas, any_with_commas, forced}
 use Rattle.jr_parse_defs.proofs.Lists.{shortens_by}
 use Rattle.jr_parse_defs.specs.Writing.{write_after, write_declarator}
 use Rattle.jr_parse_expr.specs.Writing.{write_expr}
@@ -199,7 +199,7 @@ module _ (room other : ℕ) (le : room ≤ other) where
   initializer_near : Near room other le (defs.initializer room) (defs.initializer other)
   initializer_near = if_at y.Assign assigned_near (gives None)
 
-  pub declarator_after_near : (v : Text) → Near room other le (defs.declarator_after room v) (defs.declarator_after other v)
+  declarator_after_near : (v : Text) → Near room other le (defs.declarator_after room v) (defs.declarator_after other v)
   unfolding defs.declarator_after
   declarator_after_near v = then dims_near (λ pairs. then initializer_near (λ i. gives (s.DeclaratorOf v pairs i)))
 

@@ -1,6 +1,6 @@
 -- Statements are read the same whatever stands behind, and with more levels.
-use Rattle.std.proofs.Common.{◌≡◌, ℕ, zero, suc, ◌≤◌, Bool, true, false, not, ◌&&◌, ◌||◌, cond, ltb, List, [], ◌∷◌, ◌++◌, length, Option, Some, None, Ok, Err, refl, sym, ap, ◌∙◌, subst, inl, inr, arith}
-use Rattle.std.proofs.lemmas.Bool.{or_parts, le-ltb}
+use Rattle.std.proofs.Common.{◌≡◌, ℕ, zero, suc, ◌≤◌, Bool, true, false, ◌&&◌, cond, ltb, List, [], ◌∷◌, ◌++◌, length, Option, Some, None, Ok, Err, refl, sym, subst, arith}
+use Rattle.std.proofs.lemmas.Bool.{or_parts}
 use Rattle.std.specs.Prelude.{⊤}
 use Rattle.jr_base.specs.declared.text.Text.{Text}
 use Rattle.jr_base.specs.declared.kind.Kind.{Kind}
@@ -13,10 +13,9 @@ use Rattle.jr_tree.specs.declared.tree.TypeUse.{TypeUse}
 use Rattle.jr_tree.specs.Mirror.Exprs as x
 use Rattle.jr_tree.specs.Mirror.Stmts as s
 use Rattle.jr_parse_laws.specs.declared.fault.Fault.TheVariants.{NoTree, TooDeep}
-use Rattle.jr_parse_laws.specs.Parsers.{Outcome, Parser, and_then, first, pure, refuse, expect, begins_with, many, after_comma, ◌>>=◌, ◌>>◌}
-use Rattle.jr_parse_laws.proofs.Outcomes.{chosen, ok_is, ok_err, err_ok, no_first, one_first}
-use Rattle.jr_parse_laws.proofs.Lists.{Shortens}
-use Rattle.jr_parse_expr.specs.Starts.{begins_effect, starts_expr, starts_effect, next_is, no_level, within, over}
+use Rattle.jr_parse_laws.specs.Parsers.{Parser, first, pure, refuse, expect, begins_with, many, after_comma, ◌>>=◌, ◌>>◌}
+use Rattle.jr_parse_laws.proofs.Outcomes.{ok_is, err_ok, no_first, one_first}
+use Rattle.jr_parse_expr.specs.Starts.{begins_effect, starts_expr, next_is, no_level, within, over}
 use Rattle.jr_parse_expr.specs.Names.{name_of, type_of, type_use, Dotted, Plain, Enclosing, dotted_from, dotted}
 use Rattle.jr_parse_expr.specs.Exprs.{Lead, Nothing, Named, Indexed, next_token, skipping, expr, effect}
 use Rattle.jr_parse_expr.proofs.NameReads.{DottedEnds, dotted_sound}
@@ -24,14 +23,14 @@ use Rattle.jr_parse_expr.proofs.Locals.{Kept, Local, here, at_token, kept_bind, 
 use Rattle.jr_parse_expr.proofs.AllLocals.{none_kept_by, raised}
 use Rattle.jr_parse_defs.specs.Begins.{stmt_word, begins_stmt, begins_local, begins_block_stmt, starts_stmt, starts_block_stmt, starts_label, is_catch}
 use Rattle.jr_parse_defs.specs.Stmts as reader
-use Rattle.jr_parse_defs.specs.Writing.{write_stmt, write_catch, write_label, write_group}
+use Rattle.jr_parse_defs.specs.Writing.{write_stmt, write_catch, write_label}
 use Rattle.jr_parse_defs.specs.Follow.{IsStmt}
 use Rattle.jr_parse_defs.proofs.Lists.{shortens_by}
 use Rattle.jr_parse_defs.proofs.Named.{ReadsOne}
 use Rattle.jr_parse_defs.proofs.Blocks as blocks
 use Rattle.jr_parse_defs.proofs.Groups as groups
 use Rattle.jr_parse_defs.proofs.Statements.{stmt_reads}
-use Rattle.jr_parse_defs.proofs.Nears.{Near, then, gives, refuses, symbol, word, ident, skips, if_at, if_word, if_first, if_so, if_levels, told, by_token, by_next, same_as, forced, passed, several, several_begun, perhaps, guarded}
+use Rattle.jr_parse_defs.proofs.Nears.{Near, then, gives, refuses, symbol, word, skips, if_at, if_word, if_so, if_levels, told, by_token, by_next, same_as, forced, passed, several, several_begun, perhaps}
 use Rattle.jr_parse_defs.proofs.PartNears.{Unnamed, effect_up, effect_near, named_kept, whole_near, dims_near, type_near, dotted_near, declarators_near, finality_near, param_near, condition_near, others_near, updates_near}
 
 -- ---- a name with `this` behind it was read where it may
@@ -68,7 +67,7 @@ module _ (room other : ℕ) (le : room ≤ other) (r r' most most' : ℕ) (inner
       several starts_block_stmt refl (shortens_by (IsStmt most true) write_stmt outer (blocks.stmts_item r inner outer most outers) (blocks.stmt_longer most))
       (shortens_by (IsStmt most' true) write_stmt outer' (blocks.stmts_item r' inner' outer' most' outers') (blocks.stmt_longer most')) near_out
 
-  pub block_near : Near room other le (reader.block r inner outer) (reader.block r' inner' outer')
+  block_near : Near room other le (reader.block r inner outer) (reader.block r' inner' outer')
   unfolding reader.block
   block_near = then (symbol y.OpenBrace) (λ u. then stmts_near (λ all. then (symbol y.CloseBrace) (λ v. gives (s.BlockOf (s.stmts all)))))
 
@@ -150,7 +149,7 @@ module _ (room other : ℕ) (le : room ≤ other) (inner inner' outer outer' : P
       (reader.named room inner outer declares (Plain before last) ts)
       (on_kept room other le first (named_first declares before last) (looks_first room other le (λ o. o)) ts (reader.named room inner outer declares (Plain before last) ts) (plain_kept declares before last ts ended))
 
-  pub from_name_near : (declares : Bool) (head : Text)
+  from_name_near : (declares : Bool) (head : Text)
       → Near room other le (dotted (reader.has_this room) [] head >>= reader.named room inner outer declares) (dotted (reader.has_this other) [] head >>= reader.named other inner' outer' declares)
   from_name_near declares head = record {
     kept = λ ts. kept_bind room other le (dotted (reader.has_this other) [] head) (reader.named room inner outer declares) (reader.named other inner' outer' declares) ts (dotted (reader.has_this room) [] head ts)
@@ -405,7 +404,7 @@ module _ (room other : ℕ) (le : room ≤ other) (inner inner' outer outer' : P
   told_stmt r i o declares [] = refl
   told_stmt r i o declares (token ∷ ts) = refl
 
-  pub level_near : (declares : Bool) → Near room other le (reader.stmt_of room inner outer declares) (reader.stmt_of other inner' outer' declares)
+  level_near : (declares : Bool) → Near room other le (reader.stmt_of room inner outer declares) (reader.stmt_of other inner' outer' declares)
   level_near declares =
       same_as (told (reader.stmt_by room inner outer declares)) (reader.stmt_of room inner outer declares) (told (reader.stmt_by other inner' outer' declares)) (reader.stmt_of other inner' outer' declares)
       (told_stmt room inner outer declares) (told_stmt other inner' outer' declares) (by_token (reader.stmt_by room inner outer declares) (reader.stmt_by other inner' outer' declares) (stmt_kept declares))
@@ -466,7 +465,7 @@ unfolding reader.stmt
 stmt_zero true ts = refl
 stmt_zero false ts = refl
 
-pub stmt_refused : (room : ℕ) (declares : Bool) (ts : List Kind) → starts_some declares (first ts) ≡ false → reader.stmt room declares ts ≡ Err (NoTree, ts)
+stmt_refused : (room : ℕ) (declares : Bool) (ts : List Kind) → starts_some declares (first ts) ≡ false → reader.stmt room declares ts ≡ Err (NoTree, ts)
 unfolding reader.stmt
 stmt_refused zero true ts h = rw h refl
 stmt_refused zero false ts h = rw h refl

@@ -1,5 +1,5 @@
 -- Where reading a unit stops, what stands before begins one.
-use Rattle.std.proofs.Common.{◌≡◌, ℕ, zero, suc, ◌≤◌, Bool, true, false, List, [], ◌∷◌, ◌++◌, length, Option, Some, None, Ok, Err, refl, sym, ap, ◌∙◌, subst, arith}
+use Rattle.std.proofs.Common.{◌≡◌, ℕ, zero, suc, ◌≤◌, List, [], ◌∷◌, ◌++◌, length, Option, Some, Err, refl, sym, ap, subst, arith}
 use Rattle.std.specs.Prelude.{IfSome}
 use Rattle.std.specs.List.{AllByRecursion}
 use Rattle.jr_base.specs.declared.text.Text.{Text}
@@ -17,7 +17,7 @@ use Rattle.jr_tree.specs.Tokens.{decl_tokens}
 use Rattle.jr_tree.specs.Mirror.Decls as d
 use Rattle.jr_parse_laws.specs.declared.fault.Fault.{Fault}
 use Rattle.jr_parse_laws.specs.declared.fault.Fault.TheVariants.{NoTree}
-use Rattle.jr_parse_laws.specs.Parsers.{first, many, ◌>>=◌}
+use Rattle.jr_parse_laws.specs.Parsers.{many, ◌>>=◌}
 use Rattle.jr_parse_laws.proofs.Outcomes.{ok_err, err_is}
 use Rattle.jr_parse_laws.proofs.Stops.{Leading, leading_nothing}
 use Rattle.jr_parse_expr.specs.Starts.{next_is}
@@ -33,9 +33,9 @@ use Rattle.jr_parse_defs.proofs.Written.{decl_written, import_written, package_w
 use Rattle.jr_parse_defs.proofs.Lists.{list_sound, asunder}
 use Rattle.jr_parse_defs.proofs.Imports as imports
 use Rattle.jr_parse_defs.proofs.Imports.{package_sound}
-use Rattle.jr_parse_defs.proofs.Grows.{Low, part, gone, on, last, word_on, ident_on, ends_with, at_word, many_grow, one_of, leading_many}
-use Rattle.jr_parse_defs.proofs.StmtGrows.{leading_some, leading_names, leading_word, leading_symbol}
-use Rattle.jr_parse_defs.proofs.DeclGrows.{AName, a_name_grow, decl_grow}
+use Rattle.jr_parse_defs.proofs.Grows.{Low, part, gone, on, word_on, ident_on, ends_with, at_word, many_grow, one_of, leading_many, shaped_append, flat, flat_list}
+use Rattle.jr_parse_defs.proofs.Starters.{leading_some, leading_names, leading_word, leading_symbol}
+use Rattle.jr_parse_defs.proofs.DeclGrows.{a_name_grow, decl_grow}
 
 leading_package : (p : PackageDecl) → Leading (write_package p)
 leading_package p = leading_tokens (write_package p) (package_tokens p) (package_written p)
@@ -51,12 +51,9 @@ semi z = kind.Sym y.Semicolon ∷ z
 
 -- ---- imports
 
-abbrev no_level : Import → ℕ
-no_level i = 0
-
 module _ (room : ℕ) where
   abbrev AnImport : List Kind → Fault × List Kind → Type 0
-  AnImport ts stop = Growing (Low IsShapedImport no_level) write_import room ts stop
+  AnImport ts stop = Growing (Low IsShapedImport flat) write_import room ts stop
 
   abbrev from : List Text → Text → List Kind → List Kind
   from before final ts = kind.Word k.Import ∷ write_all (before ++ final ∷ []) ts
@@ -143,29 +140,17 @@ module _ (room : ℕ) where
       (gone (ends_with y.Semicolon vs next (λ u us next. ok_err next)) (leading_then (leading_word k.Package) (leading_name n)) (d.UnitOf (Some (reader.package_of n)) [] []) semi (λ z. refl) (found.0, tt, tt) (omega arith))))
       (λ f g. absurd (ok_err g))
 
-  import_shapes : (all more : List Import) → AllByRecursion IsShapedImport all → AllByRecursion IsShapedImport more → AllByRecursion IsShapedImport (all ++ more)
-  import_shapes [] more are is = is
-  import_shapes (i ∷ all) more are is = (are.0, import_shapes all more are.1 is)
-
-  import_low : (all : List Import) → deepest no_level all ≤ room
-  import_low [] = omega arith
-  import_low (i ∷ all) = let l = import_low all in omega arith
-
   imports_grow : (p : Option PackageDecl) → IfSome p IsShapedPackage → (ts : List Kind) (stop : Fault × List Kind) → many (next_is is_import) reader.import_decl ts ≡ Err stop → AUnit (write_some write_package p ts) stop
   imports_grow p is ts stop h =
       part (leading_some write_package leading_package p) (λ all. d.UnitOf p all []) (λ z. z) (λ all z. refl) (λ all are. (is, are, tt)) (λ all l. omega arith)
-      (many_grow no_level (next_is is_import) reader.import_decl refl IsShapedImport write_import imports.import_sound imports.import_longer room leading_import import_shapes (λ all are. import_low all) ts stop h
+      (many_grow flat (next_is is_import) reader.import_decl refl IsShapedImport write_import imports.import_sound imports.import_longer room leading_import (shaped_append (λ i is. is)) (λ all are. flat_list room all) ts stop h
       (λ us starts e. one_of {Shape = IsShapedImport} (λ i is. (is, tt)) (import_grow us stop e)))
-
-  decl_shapes : (all more : List d.TypeDecl) → AllByRecursion (imports.Fits room) all → AllByRecursion IsShapedDecl more → AllByRecursion IsShapedDecl (all ++ more)
-  decl_shapes [] more are is = is
-  decl_shapes (t ∷ all) more are is = (are.0.0, decl_shapes all more are.1 is)
 
   types_grow : 1 ≤ room → (p : Option PackageDecl) (all : List Import) → IfSome p IsShapedPackage → AllByRecursion IsShapedImport all → (ts : List Kind) (stop : Fault × List Kind)
       → many starts_decl (reader.modifiers >>= reader.decl room) ts ≡ Err stop → AUnit (write_some write_package p (write_imports all ts)) stop
   types_grow some p all is are ts stop h =
       part (leading_then (leading_some write_package leading_package p) (leading_many write_import leading_import all)) (λ types. d.UnitOf p all types) (λ z. z) (λ types z. refl) (λ types types_are. (is, are, types_are)) (λ types l. l)
-      (many_grow decl_depth starts_decl (reader.modifiers >>= reader.decl room) refl (imports.Fits room) write_decl (imports.decl_item room) (imports.decl_longer room) room leading_decl decl_shapes
+      (many_grow decl_depth starts_decl (reader.modifiers >>= reader.decl room) refl (imports.Fits room) write_decl (imports.decl_item room) (imports.decl_longer room) room leading_decl (shaped_append (λ t is. is.0))
       (λ all are. (asunder IsShapedDecl decl_depth room all are).1) ts stop h (λ us starts e. one_of {Shape = IsShapedDecl} (λ t is. (is, tt)) (decl_grow room some us stop e)))
 
   ended_grow : (p : Option PackageDecl) (all : List Import) (types : List d.TypeDecl) → IfSome p IsShapedPackage → AllByRecursion IsShapedImport all → AllByRecursion IsShapedDecl types → deepest decl_depth types ≤ room → (ts : List Kind) (stop : Fault × List Kind)

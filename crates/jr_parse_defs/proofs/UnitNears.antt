@@ -1,5 +1,5 @@
 -- Imports and units are read the same whatever stands behind, and with more levels.
-use Rattle.std.proofs.Common.{◌≡◌, ℕ, zero, suc, ◌≤◌, List, [], ◌∷◌, ◌++◌, length, Some, None, Ok, Err, refl, sym, ap, ◌∙◌, subst, arith}
+use Rattle.std.proofs.Common.{◌≡◌, ℕ, zero, suc, ◌≤◌, List, [], ◌∷◌, ◌++◌, length, Some, None, Ok, Err, refl, arith}
 use Rattle.jr_base.specs.declared.text.Text.{Text}
 use Rattle.jr_base.specs.declared.kind.Kind.{Kind}
 use Rattle.jr_base.specs.declared.kind.Kind.TheVariants as kind
@@ -10,11 +10,10 @@ use Rattle.jr_tree.specs.declared.tree.Import.TheVariants as import
 use Rattle.jr_tree.specs.Shape.{IsShapedImport}
 use Rattle.jr_tree.specs.Mirror.Decls as d
 use Rattle.jr_parse_laws.specs.declared.fault.Fault.TheVariants.{NoTree}
-use Rattle.jr_parse_laws.specs.Parsers.{Parser, first, pure, refuse, expect, identifier, many, ◌>>=◌, ◌>>◌}
+use Rattle.jr_parse_laws.specs.Parsers.{Parser, pure, expect, ◌>>=◌, ◌>>◌}
 use Rattle.jr_parse_laws.proofs.Outcomes.{no_first, one_first}
 use Rattle.jr_parse_expr.specs.Starts.{next_is}
 use Rattle.jr_parse_expr.specs.Names.{name_of}
-use Rattle.jr_parse_expr.specs.Exprs.{skipping}
 use Rattle.jr_parse_expr.proofs.Locals.{Kept, Local, here, along, at_token}
 use Rattle.jr_parse_defs.specs.Begins.{starts_decl, is_import}
 use Rattle.jr_parse_defs.specs.Decls as reader

@@ -90,7 +90,7 @@ decl_starts (d.Class mods n parent faces body) rest = decl_modifiers mods _ refl
 decl_starts (d.Interface mods n faces body) rest = decl_modifiers mods _ refl
 decl_starts d.Empty rest = refl
 
-pub member_starts : (m : d.Member) (rest : List Kind) → IsShapedMember m → starts_member (first (write_member m rest)) ≡ true
+member_starts : (m : d.Member) (rest : List Kind) → IsShapedMember m → starts_member (first (write_member m rest)) ≡ true
 member_starts (d.Field mods t ds) rest h = member_modifiers mods _ (type_member t _ h.0)
 member_starts (d.Method mods outcome.Void n ps thrown b) rest h = member_modifiers mods _ refl
 member_starts (d.Method mods (outcome.Of t) n ps thrown b) rest h = member_modifiers mods _ (type_member t _ h.0)
@@ -130,7 +130,7 @@ members_fit : (room : ℕ) (all : d.Members) → AreShapedMembers all → member
 members_fit room d.no_members h low = tt
 members_fit room (d.more_members m all) h low = ((h.0, omega arith), members_fit room all h.1 (omega arith))
 
-pub fit_members : (room : ℕ) (all : List d.Member) → AllByRecursion (Fits room) all → AreShapedMembers (d.members all) × (members_depth (d.members all) ≤ room)
+fit_members : (room : ℕ) (all : List d.Member) → AllByRecursion (Fits room) all → AreShapedMembers (d.members all) × (members_depth (d.members all) ≤ room)
 fit_members room [] h = (tt, omega arith)
 fit_members room (m ∷ all) h =
     let more = fit_members room all h.1 in

@@ -51,12 +51,12 @@ initializer_read room (Some i) rest s low apart =
     let low_init : init_depth i ≤ room = low in
     rw (le-ltb room 1 (omega arith), inits_complete room i rest s low_init (init_ends i (first rest) s apart.closes)) refl
 
-pub record InitializerFound (room : ℕ) (ts : List Kind) (r : Option x.Init × List Kind) : Type 0 where
-  pub shaped : IfSome r.0 IsShapedInit
-  pub low : option_map_or init_depth r.0 0 ≤ room
-  pub written : ts ≡ write_assigned r.0 r.1
+record InitializerFound (room : ℕ) (ts : List Kind) (r : Option x.Init × List Kind) : Type 0 where
+  shaped : IfSome r.0 IsShapedInit
+  low : option_map_or init_depth r.0 0 ≤ room
+  written : ts ≡ write_assigned r.0 r.1
 
-pub initializer_sound : (room : ℕ) (ts : List Kind) (r : Option x.Init × List Kind) → initializer room ts ≡ Ok r → InitializerFound room ts r
+initializer_sound : (room : ℕ) (ts : List Kind) (r : Option x.Init × List Kind) → initializer room ts ≡ Ok r → InitializerFound room ts r
 initializer_sound room [] r h = subst (InitializerFound room []) (ok_is h) (record { shaped = tt; low = omega arith; written = refl })
 initializer_sound room (token ∷ ts) r h =
     elim (chosen (is_at y.Assign (token ∷ ts)) _ _ _ h) [

@@ -26,11 +26,11 @@ use Rattle.jr_parse_defs.specs.Writing.{write_if, write_some, write_assigned, wr
 
 -- ---- parts
 
-pub if_written : (b : Bool) (token : Kind) (rest : List Kind) → write_if b token rest ≡ if_true b (token ∷ []) ++ rest
+if_written : (b : Bool) (token : Kind) (rest : List Kind) → write_if b token rest ≡ if_true b (token ∷ []) ++ rest
 if_written true token rest = refl
 if_written false token rest = refl
 
-pub some_written : {A : Type 0} (write : A → List Kind → List Kind) (tokens : A → List Kind) → ((a : A) (rest : List Kind) → write a rest ≡ tokens a ++ rest) → (o : Option A) (rest : List Kind)
+some_written : {A : Type 0} (write : A → List Kind → List Kind) (tokens : A → List Kind) → ((a : A) (rest : List Kind) → write a rest ≡ tokens a ++ rest) → (o : Option A) (rest : List Kind)
     → write_some write o rest ≡ if_some tokens o ++ rest
 some_written write tokens h None rest = refl
 some_written write tokens h (Some a) rest = h a rest
@@ -42,7 +42,7 @@ assigned_written (Some i) rest = ap (λ ts. kind.Sym y.Assign ∷ ts) (init_writ
 pub declarator_written : (d : s.Declarator) (rest : List Kind) → write_declarator d rest ≡ declarator_tokens d ++ rest
 declarator_written (s.DeclaratorOf name dims init) rest = simp append_assoc (rw (assigned_written init rest) (ap (λ ts. kind.Ident name ∷ ts) (brackets_written dims _)))
 
-pub later_written : (ds : List s.Declarator) (rest : List Kind) → write_later ds rest ≡ after_declarator ds ++ rest
+later_written : (ds : List s.Declarator) (rest : List Kind) → write_later ds rest ≡ after_declarator ds ++ rest
 later_written [] rest = refl
 later_written (d ∷ ds) rest = simp append_assoc (rw (later_written ds rest) (ap (λ ts. kind.Sym y.Comma ∷ ts) (declarator_written d _)))
 
@@ -65,7 +65,7 @@ pub label_written : (l : s.SwitchLabel) (rest : List Kind) → write_label l res
 label_written (s.Case value) rest = simp append_assoc (ap (λ ts. kind.Word k.Case ∷ ts) (written value (kind.Sym y.Colon ∷ rest)))
 label_written s.Default rest = refl
 
-pub labels_written : (ls : List s.SwitchLabel) (rest : List Kind) → write_labels ls rest ≡ labels_tokens ls ++ rest
+labels_written : (ls : List s.SwitchLabel) (rest : List Kind) → write_labels ls rest ≡ labels_tokens ls ++ rest
 labels_written [] rest = refl
 labels_written (l ∷ ls) rest = simp append_assoc (rw (labels_written ls rest) (label_written l _))
 

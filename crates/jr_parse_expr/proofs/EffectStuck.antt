@@ -26,7 +26,7 @@ use Rattle.jr_parse_expr.proofs.EffectReads.{plain_dotted, effect_flagged}
 use Rattle.jr_parse_expr.proofs.EffectChains.{effects_go, effects_grow}
 use Rattle.jr_parse_expr.proofs.EffectLocals.{below_both, effects_local}
 
-pub effect_grows : (room : ℕ) (ts : List Kind) (stop : Fault × List Kind) → effect (suc room) Nothing ts ≡ Err stop → Growing IsEffect write_expr (suc room) ts stop
+effect_grows : (room : ℕ) (ts : List Kind) (stop : Fault × List Kind) → effect (suc room) Nothing ts ≡ Err stop → Growing IsEffect write_expr (suc room) ts stop
 unfolding effect
 effect_grows room ts stop h =
     let reads = all_read room in
@@ -80,7 +80,7 @@ super_same : (room : ℕ) (ts : List Kind) → effect (suc room) Nothing (kind.W
 unfolding effect reader.effects
 super_same room ts = refl
 
-pub lead_same : (room : ℕ) (lead : Lead) (ts : List Kind) → HasEffectRoom lead (suc room) → IsLed lead (first ts) → effect (suc room) Nothing (write_lead lead ts) ≡ effect (suc room) lead ts
+lead_same : (room : ℕ) (lead : Lead) (ts : List Kind) → HasEffectRoom lead (suc room) → IsLed lead (first ts) → effect (suc room) Nothing (write_lead lead ts) ≡ effect (suc room) lead ts
 lead_same room Nothing ts some led = refl
 lead_same room (Named d) ts some led = named_same room d ts some led
 lead_same room (Indexed n) ts some led =
