@@ -1,5 +1,5 @@
 -- The readers of members and declarations by how they begin are those by the token, at each number of levels.
-use Rattle.std.proofs.Common.{◌≡◌, ℕ, zero, suc, ◌-◌, ◌<◌, Bool, true, false, cond, List, [], ◌∷◌, Option, refl, sym, ap, ◌∙◌, subst, arith}
+use Rattle.std.proofs.Common.{◌≡◌, ℕ, suc, ◌-◌, ◌<◌, Bool, true, false, cond, List, [], ◌∷◌, Option, refl, sym, ap, ◌∙◌, subst, arith}
 use Rattle.jr_base.specs.declared.kind.Kind.{Kind}
 use Rattle.jr_base.specs.declared.kind.Kind.TheVariants as kind
 use Rattle.jr_base.specs.declared.kind.Symbol.TheVariants as y
@@ -9,7 +9,7 @@ use Rattle.jr_tree.specs.declared.tree.Modifier.TheVariants as modifier
 use Rattle.jr_tree.specs.Mirror.Decls as d
 use Rattle.jr_parse_laws.specs.declared.fault.Fault.{Fault}
 use Rattle.jr_parse_laws.specs.declared.fault.Fault.TheVariants.{NoTree, TooDeep}
-use Rattle.jr_parse_laws.specs.Parsers.{Outcome, Parser, Fails, and_then, deep, refuse, first}
+use Rattle.jr_parse_laws.specs.Parsers.{Parser, Fails, and_then, deep, refuse, first}
 use Rattle.jr_parse_laws.proofs.Outcomes.{and_then_alike}
 use Rattle.jr_parse_expr.specs.Starts.{no_level}
 use Rattle.jr_parse_defs.specs.Begins.{starts_member, starts_decl}

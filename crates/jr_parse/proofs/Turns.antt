@@ -1,17 +1,14 @@
 -- What the loops over modifiers, names, parameters, imports, members and declarations keep.
-use Rattle.std.proofs.Common.{◌≡◌, ℕ, suc, ◌+◌, ◌<◌, ◌≤◌, true, false, List, [], ◌∷◌, ◌++◌, drop, length, map, Option, Some, None, Ok, Err, refl, sym, ap, ◌∙◌, length-append, arith}
+use Rattle.std.proofs.Common.{◌≡◌, ℕ, ◌<◌, true, false, List, [], ◌∷◌, ◌++◌, drop, length, map, Option, Some, None, Ok, Err, refl, sym, ap, ◌∙◌, length-append, arith}
 use Rattle.std.proofs.lemmas.List.{map-append, length-map}
 use Rattle.jr_base.specs.declared.kind.Kind.{Kind}
 use Rattle.jr_base.specs.declared.kind.Symbol.{Symbol}
 use Rattle.jr_base.specs.declared.token.Token.{Token}
 use Rattle.jr_tree.specs.declared.tree.Modifier.{Modifier}
-use Rattle.jr_tree.specs.declared.tree.Name.{Name}
-use Rattle.jr_tree.specs.declared.tree.Param.{Param}
-use Rattle.jr_tree.specs.Mirror.Decls as d
 use Rattle.jr_tree.specs.Words.{name_tokens, param_tokens}
 use Rattle.jr_parse_laws.specs.declared.cursor.Cursor.{Cursor}
 use Rattle.jr_parse_laws.specs.declared.fault.Fault.{Fault}
-use Rattle.jr_parse_laws.specs.Parsers.{Outcome, Parser, and_then, first, is_at, kinds, many, with_front, Fails, ◌>>=◌}
+use Rattle.jr_parse_laws.specs.Parsers.{Outcome, Parser, first, is_at, kinds, many, with_front, Fails, ◌>>=◌}
 use Rattle.jr_parse_laws.proofs.Outcomes.{err_ok, ok_is}
 use Rattle.jr_parse_laws.proofs.Lists.{Shortens, front_more, front_fails, front_done}
 use Rattle.jr_parse_laws.proofs.Turns.{Keeps}

@@ -5,7 +5,7 @@ use Rattle.jr_base.specs.declared.kind.Symbol.TheVariants as y
 use Rattle.jr_tree.specs.declared.tree.Name.{Name}
 use Rattle.jr_tree.specs.declared.tree.Import.{Import}
 use Rattle.jr_tree.specs.declared.tree.Import.TheVariants as import
-use Rattle.jr_parse_laws.specs.Parsers.{Parser, ◌>>◌, ◌>>=◌, pure, refuse, expect}
+use Rattle.jr_parse_laws.specs.Parsers.{Parser, ◌>>◌, pure, refuse, expect}
 use Rattle.jr_parse_expr.specs.Names.{name_of}
 use Rattle.jr_parse_defs.specs.Decls.{imported_from, static_from}
 

@@ -1,4 +1,4 @@
-use Rattle.std.proofs.Common.{rules, ◌≡◌, ◌∙◌, sym, ap, refl, true, false, Ok, List, [], ◌∷◌, ◌++◌}
+use Rattle.std.proofs.Common.{rules, ◌≡◌, ◌∙◌, sym, ap, refl, true, false, List, [], ◌∷◌, ◌++◌}
 use Rattle.jr_tree.specs.declared.tree.Import.{Import}
 use Rattle.jr_parse_laws.specs.Parsers.{first, kinds, many, with_front}
 use Rattle.jr_parse_laws.proofs.Outcomes.{reads_err}

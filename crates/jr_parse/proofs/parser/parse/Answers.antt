@@ -1,11 +1,8 @@
-use Rattle.std.proofs.Common.{◌≡◌, ◌∙◌, ℕ, ◌-◌, sym, ap, subst, lit≤, List, length, map, Err}
-use Rattle.jr_base.specs.declared.kind.Kind.{Kind}
+use Rattle.std.proofs.Common.{◌≡◌, lit≤, map, Err}
 use Rattle.jr_base.specs.declared.token.Token.{Token}
-use Rattle.jr_parse_laws.specs.Parsers.{Reads, kinds}
+use Rattle.jr_parse_laws.specs.Parsers.{kinds}
 use Rattle.jr_parse_laws.specs.declared.fault.Fault.TheVariants.{NoTree, TooDeep}
-use Rattle.jr_tree.specs.Mirror.Decls.{plain_unit}
 use Rattle.jr_parse_defs.specs.Decls as spec
-use Rattle.jr_parse.specs.Answers.{IsNoTree, IsTooDeep}
 use Rattle.jr_parse.proofs.Answering.{reading, no_tree, too_deep}
 use Rattle.jr_parse.proofs.parser.parse.Goals as goal
 

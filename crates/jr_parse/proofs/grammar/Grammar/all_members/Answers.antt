@@ -1,4 +1,4 @@
-use Rattle.std.proofs.Common.{rules, ◌≡◌, ◌∙◌, sym, ap, refl, true, false, Ok, List, [], ◌∷◌, ◌++◌, map}
+use Rattle.std.proofs.Common.{rules, ◌≡◌, ◌∙◌, sym, ap, refl, true, false, List, [], ◌∷◌, ◌++◌, map}
 use Rattle.jr_tree.specs.declared.tree.Member.{Member}
 use Rattle.jr_tree.specs.Mirror.Decls.{plain_member}
 use Rattle.jr_parse_laws.specs.Parsers.{first, kinds, many, with_front}
