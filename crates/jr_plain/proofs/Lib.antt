@@ -26,3 +26,4 @@ pub mod LookedUp
 pub mod Headed
 pub mod WorkedLookup
 pub mod WorkedCalls
+pub mod Converted

@@ -241,7 +241,7 @@ reference_into _ IsReferenceType.array_type = refl
 pub reference_type_tells : (a : RowType) → Decides (is_reference_type a) (IsReferenceType a)
 reference_type_tells a = (reference_out a.dims a.element, reference_into a)
 
-null_tells : (e : Element) → Decides (is_null e) (e ≡ element.Null)
+pub null_tells : (e : Element) → Decides (is_null e) (e ≡ element.Null)
 null_tells element.Null = (λ h. refl, λ e. refl)
 null_tells _ = (λ h. absurd (false≢true h), λ e. absurd (cc))
 

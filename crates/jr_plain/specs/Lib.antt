@@ -17,3 +17,4 @@ pub mod Instances
 pub mod Access
 pub mod Overloads
 pub mod Lookup
+pub mod Conversions
