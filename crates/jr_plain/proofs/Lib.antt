@@ -27,3 +27,7 @@ pub mod Headed
 pub mod WorkedLookup
 pub mod WorkedCalls
 pub mod Converted
+pub mod Finding
+pub mod Operated
+pub mod Chosen
+pub mod Expressions

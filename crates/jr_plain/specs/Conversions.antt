@@ -16,6 +16,11 @@ use Rattle.jr_plain.specs.Supertypes.{is_reference_type, is_null, is_subtype}
 abbrev pub Constants : Type 0
 Constants = ℕ → Option Const
 
+-- what two give, where both are there
+abbrev pub of_two : {A B C : Type 0} → (A → B → Option C) → Option A → Option B → Option C
+of_two f (Some a) (Some b) = f a b
+of_two f _ _ = None
+
 abbrev pub is_boolean : Element → Bool
 is_boolean element.Boolean = true
 is_boolean _ = false

@@ -18,3 +18,4 @@ pub mod Access
 pub mod Overloads
 pub mod Lookup
 pub mod Conversions
+pub mod Typing

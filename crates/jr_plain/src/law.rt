@@ -36,13 +36,19 @@ ghost use Rattle.jr_defs.specs.Laws.{Picked};
 ghost use Rattle.jr_defs.specs.Lookup.{Candidate, Look};
 ghost use Rattle.jr_defs.specs.Overloads.{ArgumentTypes, IsApplicable, MoreSpecific, ResultFits, Earlier, Choice, ImportedChoice};
 ghost use Rattle.jr_defs.specs.Scope.{Depth, HasScope, InScope, Shadows, Visible};
-ghost use Rattle.jr_defs.specs.Typing.{TypeOf};
+ghost use Rattle.jr_defs.specs.Typing.{LiteralType, OperatorClass, BinaryType, TypeOf};
 ghost use Rattle.jr_plain.specs.Access.{is_through, is_by_protected, is_accessible};
 ghost use Rattle.jr_plain.specs.Imports.{is_single_import, is_static_import, is_on_demand_import, imports_hold};
 ghost use Rattle.jr_plain.specs.Instances.{is_in_static_context, is_in_constructor_call, has_instance};
 ghost use Rattle.jr_plain.specs.Lookup.{candidates, look};
 ghost use Rattle.jr_plain.specs.Overloads.{Types, argument_types, is_applicable, is_more_specific, is_result_fit, is_earlier, choice, imported_choice};
 ghost use Rattle.jr_plain.specs.Scope.{has_scope, is_in_scope, shadows, is_visible};
+ghost use Rattle.jr_base.specs.declared.kind.Kind.{Kind};
+ghost use Rattle.jr_defs.specs.declared.referent.Element.{Element};
+ghost use Rattle.jr_defs.specs.Constants.{ConstantOf};
+ghost use Rattle.jr_defs.specs.Conversions.{Promotes, PromotesBoth, IsCastable, IsAssignable};
+ghost use Rattle.jr_plain.specs.Conversions.{Constants, promoted_type, promoted_both, is_castable, is_assignable};
+ghost use Rattle.jr_plain.specs.Typing.{IsTypable, literal_type, binary_type, expression_types};
 
 /// What searches below a number find. A least set has all that follows from it, and nothing of which this does not hold; a number reaches another by edges as
 /// its definition says, also where the graph has cycles.
@@ -213,4 +219,21 @@ pub fn lookup_is_computed()
         → (o : ℕ) → Look p t (Picked k) o (look p t type_of o) }
     ensures only { (p : Rows) (t : Table) (k : ℕ → Bool) (type_of : Types) → IsHeaded p → ((n : ℕ) → Finds (type_of n) (λ a. TypeOf p t (Picked k) n a))
         → (o : ℕ) (a : Referent) → Look p t (Picked k) o a → a ≡ look p t type_of o }
+{}
+
+/// Promotion, casts, and assignment where a function gives the values of constants.
+pub fn conversions_are_computed()
+    ensures promotion { (a : Element) → Finds (promoted_type a) (λ r. Promotes a r) }
+    ensures both { (a b : Element) → Finds (promoted_both a b) (λ r. PromotesBoth a b r) }
+    ensures casts { (p : Rows) (t : Table) (a b : RowType) → IsHeaded p → Decides (is_castable p t a b) (IsCastable p t a b) }
+    ensures assignment { (p : Rows) (t : Table) (k : ℕ → Bool) (constant : Constants) (n : ℕ) (a b : RowType) → IsHeaded p
+        → Finds (constant n) (λ v. ConstantOf p t (Picked k) n v) → Decides (is_assignable p t constant n a b) (IsAssignable p t (Picked k) n a b) }
+{}
+
+/// The types of literals, operators and expressions, where a function gives the values of constants.
+pub fn expression_types_are_computed()
+    ensures literals { (p : Rows) (t : Table) (token : Kind) → IsTypable p t → Finds (literal_type p token) (λ a. LiteralType p token a) }
+    ensures operators { (p : Rows) (t : Table) (op : OperatorClass) (a b : RowType) → IsTypable p t → Finds (binary_type p t op a b) (λ r. BinaryType p t op a b r) }
+    ensures types { (p : Rows) (t : Table) (k : ℕ → Bool) (constant : Constants) → IsTypable p t → ((n : ℕ) → Finds (constant n) (λ v. ConstantOf p t (Picked k) n v))
+        → (n : ℕ) → Finds (expression_types p t constant n) (λ a. TypeOf p t (Picked k) n a) }
 {}
