@@ -25,11 +25,11 @@ lost_step false false m n e h le = absurd (false≢true h)
 
 module _ {A : Type 0} where
   -- how many items pass
-  abbrev passing : (A → Bool) → List A → ℕ
+  abbrev pub passing : (A → Bool) → List A → ℕ
   passing f [] = 0
   passing f (x ∷ xs) = cond (f x) 1 0 + passing f xs
 
-  passing_most : (f : A → Bool) (xs : List A) → passing f xs ≤ length xs
+  pub passing_most : (f : A → Bool) (xs : List A) → passing f xs ≤ length xs
   passing_most f [] = omega arith
   passing_most f (x ∷ xs) = step (f x) (passing_most f xs)
     where
@@ -44,7 +44,7 @@ module _ {A : Type 0} where
 
     module _ (same : A → A → Bool) (tells : (a b : A) → Decides (same a b) (a ≡ b)) where
       -- an item that one test takes and the other does not
-      less : (xs : List A) (x : A) → among same xs x ≡ true → g x ≡ false → f x ≡ true → passing g xs < passing f xs
+      pub less : (xs : List A) (x : A) → among same xs x ≡ true → g x ≡ false → f x ≡ true → passing g xs < passing f xs
       less [] x at out into = absurd (false≢true at)
       less (y ∷ ys) x at out into = ⊎_elim
           (λ e. let is = (tells y x).0 e in lost_step (g y) (f y) (passing g ys) (passing f ys) (ap g is ∙ out) (ap f is ∙ into) (fewer ys))

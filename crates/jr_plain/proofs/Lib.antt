@@ -31,3 +31,5 @@ pub mod Finding
 pub mod Operated
 pub mod Chosen
 pub mod Expressions
+pub mod Valued
+pub mod WorkedTypes

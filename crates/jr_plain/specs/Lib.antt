@@ -19,3 +19,4 @@ pub mod Overloads
 pub mod Lookup
 pub mod Conversions
 pub mod Typing
+pub mod Constants

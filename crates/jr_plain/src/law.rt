@@ -45,7 +45,10 @@ ghost use Rattle.jr_plain.specs.Overloads.{Types, argument_types, is_applicable,
 ghost use Rattle.jr_plain.specs.Scope.{has_scope, is_in_scope, shadows, is_visible};
 ghost use Rattle.jr_base.specs.declared.kind.Kind.{Kind};
 ghost use Rattle.jr_defs.specs.declared.referent.Element.{Element};
-ghost use Rattle.jr_defs.specs.Constants.{ConstantOf};
+ghost use Rattle.jr_defs.specs.Operators.{cast_to, assigned_to};
+ghost use Rattle.jr_defs.specs.Constants.{Converts, ConstantOf, HasConstantForm};
+ghost use Rattle.jr_ty.specs.declared.constant.Const.{Const};
+ghost use Rattle.jr_plain.specs.Constants.{converted_as, constants, has_constant_form};
 ghost use Rattle.jr_defs.specs.Conversions.{Promotes, PromotesBoth, IsCastable, IsAssignable};
 ghost use Rattle.jr_plain.specs.Conversions.{Constants, promoted_type, promoted_both, is_castable, is_assignable};
 ghost use Rattle.jr_plain.specs.Typing.{IsTypable, literal_type, binary_type, expression_types};
@@ -236,4 +239,13 @@ pub fn expression_types_are_computed()
     ensures operators { (p : Rows) (t : Table) (op : OperatorClass) (a b : RowType) → IsTypable p t → Finds (binary_type p t op a b) (λ r. BinaryType p t op a b r) }
     ensures types { (p : Rows) (t : Table) (k : ℕ → Bool) (constant : Constants) → IsTypable p t → ((n : ℕ) → Finds (constant n) (λ v. ConstantOf p t (Picked k) n v))
         → (n : ℕ) → Finds (expression_types p t constant n) (λ a. TypeOf p t (Picked k) n a) }
+{}
+
+/// The values of constant expressions, the form of references that may be constant, and with both the types of expressions.
+pub fn constants_are_computed()
+    ensures conversions { (p : Rows) (e : RowType) (v : Const) → Finds (converted_as p assigned_to e v) (λ w. Converts p assigned_to v w e) }
+    ensures casts { (p : Rows) (e : RowType) (v : Const) → Finds (converted_as p cast_to e v) (λ w. Converts p cast_to v w e) }
+    ensures constants { (p : Rows) (t : Table) (k : ℕ → Bool) → IsTypable p t → (n : ℕ) → Finds (constants p t k n) (λ v. ConstantOf p t (Picked k) n v) }
+    ensures form { (p : Rows) (t : Table) (n : ℕ) → Decides (has_constant_form p t n) (HasConstantForm p t n) }
+    ensures types { (p : Rows) (t : Table) (k : ℕ → Bool) → IsTypable p t → (n : ℕ) → Finds (expression_types p t (constants p t k) n) (λ a. TypeOf p t (Picked k) n a) }
 {}
