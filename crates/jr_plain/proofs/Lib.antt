@@ -33,3 +33,4 @@ pub mod Chosen
 pub mod Expressions
 pub mod Valued
 pub mod WorkedTypes
+pub mod Typables

@@ -8,7 +8,7 @@ ghost use Rattle.jr_rows.specs.Tree.{IsTree};
 ghost use Rattle.jr_defs.specs.declared.referent.Referent.{Referent};
 ghost use Rattle.jr_defs.specs.declared.referent.RowType.{RowType};
 ghost use Rattle.jr_defs.specs.declared.referent.Space.{Space};
-ghost use Rattle.jr_defs.specs.Declarations.{Declares, IsType, IsClass, IsInterface, IsVariable, IsPrelude, IsOccurrence, IsPart, IsReference};
+ghost use Rattle.jr_defs.specs.Declarations.{Declares, IsType, IsClass, IsInterface, IsString, IsVariable, IsPrelude, IsOccurrence, IsPart, IsReference};
 ghost use Rattle.jr_defs.specs.Enclosing.{InBody, Innermost, DeclaredIn, ConstructorOf, IsTopLevel, InTopLevel, SameTopLevel};
 ghost use Rattle.jr_defs.specs.Formed.{IsFormed};
 ghost use Rattle.jr_defs.specs.Members.{MemberOf, MemberNamed, IsLeft, CanInherit};
@@ -239,6 +239,12 @@ pub fn expression_types_are_computed()
     ensures operators { (p : Rows) (t : Table) (op : OperatorClass) (a b : RowType) → IsTypable p t → Finds (binary_type p t op a b) (λ r. BinaryType p t op a b r) }
     ensures types { (p : Rows) (t : Table) (k : ℕ → Bool) (constant : Constants) → IsTypable p t → ((n : ℕ) → Finds (constant n) (λ v. ConstantOf p t (Picked k) n v))
         → (n : ℕ) → Finds (expression_types p t constant n) (λ a. TypeOf p t (Picked k) n a) }
+{}
+
+/// Where a table agrees with lookup, names and fields alone refer to variables.
+pub fn looked_up_tables_are_typable()
+    ensures typable { (p : Rows) (t : Table) (k : ℕ → Bool) → IsHeaded p → ((s d : ℕ) → IsString p s → IsString p d → s ≡ d)
+        → ((d s : ℕ) → Above p t d s → Above p t s d → d ≡ s) → ((n : ℕ) → Look p t (Picked k) n (t n)) → IsTypable p t }
 {}
 
 /// The values of constant expressions, the form of references that may be constant, and with both the types of expressions.
