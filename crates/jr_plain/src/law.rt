@@ -8,7 +8,7 @@ ghost use Rattle.jr_rows.specs.Tree.{IsTree};
 ghost use Rattle.jr_defs.specs.declared.referent.Referent.{Referent};
 ghost use Rattle.jr_defs.specs.declared.referent.RowType.{RowType};
 ghost use Rattle.jr_defs.specs.declared.referent.Space.{Space};
-ghost use Rattle.jr_defs.specs.Declarations.{Declares, IsType, IsClass, IsInterface, IsString, IsVariable, IsPrelude, IsOccurrence, IsPart, IsReference};
+ghost use Rattle.jr_defs.specs.Declarations.{Declares, IsType, IsClass, IsInterface, IsObject, IsString, IsVariable, IsPrelude, IsOccurrence, IsPart, IsReference};
 ghost use Rattle.jr_defs.specs.Enclosing.{InBody, Innermost, DeclaredIn, ConstructorOf, IsTopLevel, InTopLevel, SameTopLevel};
 ghost use Rattle.jr_defs.specs.Formed.{IsFormed};
 ghost use Rattle.jr_defs.specs.Members.{MemberOf, MemberNamed, IsLeft, CanInherit};
@@ -45,6 +45,8 @@ ghost use Rattle.jr_plain.specs.Overloads.{Types, argument_types, is_applicable,
 ghost use Rattle.jr_plain.specs.Scope.{has_scope, is_in_scope, shadows, is_visible};
 ghost use Rattle.jr_base.specs.declared.kind.Kind.{Kind};
 ghost use Rattle.jr_defs.specs.declared.referent.Element.{Element};
+ghost use Rattle.jr_defs.specs.Headers.{NamesHeader, IsSettled};
+ghost use Rattle.jr_defs.specs.declared.referent.Referent.TheVariants.{Declared};
 ghost use Rattle.jr_defs.specs.Operators.{cast_to, assigned_to};
 ghost use Rattle.jr_defs.specs.Constants.{Converts, ConstantOf, HasConstantForm};
 ghost use Rattle.jr_ty.specs.declared.constant.Const.{Const};
@@ -245,6 +247,13 @@ pub fn expression_types_are_computed()
 pub fn looked_up_tables_are_typable()
     ensures typable { (p : Rows) (t : Table) (k : ℕ → Bool) → IsHeaded p → ((s d : ℕ) → IsString p s → IsString p d → s ≡ d)
         → ((d s : ℕ) → Above p t d s → Above p t s d → d ≡ s) → ((n : ℕ) → Look p t (Picked k) n (t n)) → IsTypable p t }
+    ensures acyclic { (p : Rows) (t : Table) → IsFormed p → ((c n s : ℕ) (level : Option ℕ) → NamesHeader p c n → t n ≡ Declared s level → IsType p s)
+        → ((o e : ℕ) → IsObject p o → IsObject p e → o ≡ e) → ((c : ℕ) → IsType p c → IsSettled p t c) → (d s : ℕ) → Above p t d s → Above p t s d → d ≡ s }
+{}
+
+/// In a table in which expressions have one type, lookup has an answer everywhere, and it is computed.
+pub fn lookup_has_an_answer()
+    ensures answer { (p : Rows) (t : Table) (k : ℕ → Bool) → IsTypable p t → (o : ℕ) → Look p t (Picked k) o (look p t (expression_types p t (constants p t k)) o) }
 {}
 
 /// The values of constant expressions, the form of references that may be constant, and with both the types of expressions.
