@@ -1,70 +1,108 @@
 // The core with its look-ups (JLS 8, 15.12.4.4).
-ghost use Rattle.std.specs.Prelude.{◌≡◌, length, map};
+ghost use Rattle.std.specs.Prelude.{◌≡◌, IfOk, OnOk, Some, if◌then◌else◌, length, map};
 ghost use Rattle.std.specs.Option.{option_copied, option_map};
+ghost use Rattle.std.specs.BTreeMap.{get};
+ghost use Rattle.jr_base.specs.declared.ids.DeclId.{DeclId as Decl};
 ghost use Rattle.jr_core.specs.Mirror.{plain_core, plain_body};
+ghost use Rattle.jr_machine_defs.specs.Values.{same_decl};
 ghost use Rattle.jr_machine_defs.specs.Classes.{class_among, body_among, found_among, class_in, body_in, found_in};
+ghost use Rattle.jr_machine_ops.specs.Indices.{decl_cmp, class_of_decl, IsIndex};
 
-use crate::variables::{same_decl, same_type};
-use jr_base::{DeclId, TypeId};
+use jr_base::{DeclId, OutOfMemory, TypeId};
 use jr_core::{Body, Class, Core};
+use std::alloc::Global;
+use std::collections::BTreeMap;
 use std::marker::Model;
 
-/// The core of the program that runs.
+/// A class or an interface, with the methods that are found in it by those that are called.
+#[derive(Drop)]
+struct Indexed<'a> {
+    class: &'a Class,
+    found: BTreeMap<DeclId, DeclId>,
+    ghost all_found: { (method : Decl) → get decl_cmp found method ≡ found_among class.now.found method },
+}
+
+/// The core of the program that runs, with its classes and bodies by their declarations.
 #[derive(Drop)]
 pub struct Program<'a> {
     core: &'a Core,
+    classes: BTreeMap<DeclId, Indexed<'a>>,
+    bodies: BTreeMap<DeclId, &'a Body>,
 }
 
 impl<'a> Model for Program<'a> {
-    ghost use Rattle.jr_core.specs.Mirror.{Core, plain_core};
+    ghost use Rattle.jr_core.specs.Mirror.{Core, plain_core, plain_body};
     ghost use Rattle.jr_machine_defs.specs.Codes.{code_of_core};
+    ghost use Rattle.jr_machine_defs.specs.Classes.{body_in, class_among};
+    ghost use Rattle.jr_machine_ops.specs.Indices.{class_of_decl, IsIndex};
 
     ghost Value = { Core };
 
     ghost coded = { code_of_core };
 
     ghost view = { λ p. plain_core p.core.now };
+
+    ghost invariant = { λ p. IsIndex p.classes (λ c. c.class.now) (λ d. class_among p.core.now.classes (class_of_decl d)) × IsIndex p.bodies (λ b. plain_body b.now) (body_in (plain_core p.core.now)) };
 }
 
-fn class_among<'a>(classes: &'a [Class], id: TypeId) -> Option<&'a Class>
-    ensures { option_copied result ≡ class_among classes.entry.now id }
+/// Gives the declaration this value.
+fn put<V: Drop>(index: &mut BTreeMap<DeclId, V>, decl: DeclId, value: V) -> Result<(), OutOfMemory>
+    ensures { OnOk result ((other : Decl) → get decl_cmp index.new other ≡ (if same_decl decl other then Some value.entry else get decl_cmp index.old other)) }
 {
-    for class in classes {
-        if same_type(class.id, id) {
-            return Some(class);
-        }
-    }
-    None
+    index.insert(decl, value)?;
+    Ok(())
 }
 
-fn body_among<'a>(bodies: &'a [Body], decl: DeclId) -> Option<&'a Body>
-    ensures { option_map (λ b. plain_body b.now) result ≡ body_among (map plain_body bodies.entry.now) decl }
+/// The methods that are found, by those that are called.
+fn index_found(alloc: Global, found: &[(DeclId, DeclId)]) -> Result<BTreeMap<DeclId, DeclId>, OutOfMemory>
+    ensures { IfOk result (λ index. (method : Decl) → get decl_cmp index method ≡ found_among found.now method) }
 {
-    for body in bodies {
-        if same_decl(body.decl, decl) {
-            return Some(body);
-        }
+    let mut index = BTreeMap::new(alloc);
+    let mut left = found.len();
+    while left > 0 {
+        left -= 1;
+        put(&mut index, found[left].0, found[left].1)?;
     }
-    None
+    Ok(index)
 }
 
-fn found_among(found: &[(DeclId, DeclId)], method: DeclId) -> Option<DeclId>
-    ensures { result ≡ found_among found.now method }
+/// The classes by their declarations; of two with one declaration the first.
+fn index_classes<'a>(alloc: Global, classes: &'a [Class]) -> Result<BTreeMap<DeclId, Indexed<'a>>, OutOfMemory>
+    ensures { IfOk result (λ index. IsIndex index (λ c. c.class.now) (λ d. class_among classes.entry.now (class_of_decl d))) }
 {
-    for pair in found {
-        if same_decl(pair.0, method) {
-            return Some(pair.1);
-        }
+    let mut index = BTreeMap::new(alloc);
+    let mut left = classes.len();
+    while left > 0 {
+        left -= 1;
+        let class = &classes[left];
+        let found = index_found(alloc, class.found.as_slice())?;
+        put(&mut index, class.id.0, Indexed { class, found })?;
     }
-    None
+    Ok(index)
+}
+
+/// The bodies by their declarations; of two with one declaration the first.
+fn index_bodies<'a>(alloc: Global, bodies: &'a [Body]) -> Result<BTreeMap<DeclId, &'a Body>, OutOfMemory>
+    ensures { IfOk result (λ index. IsIndex index (λ b. plain_body b.now) (body_among (map plain_body bodies.entry.now))) }
+{
+    let mut index = BTreeMap::new(alloc);
+    let mut left = bodies.len();
+    while left > 0 {
+        left -= 1;
+        let body = &bodies[left];
+        put(&mut index, body.decl, body)?;
+    }
+    Ok(index)
 }
 
 impl<'a> Program<'a> {
     /// The core, with its look-ups.
-    pub fn new(core: &'a Core) -> Program<'a>
-        ensures { result ≡ plain_core core.entry.now }
+    pub fn new(alloc: Global, core: &'a Core) -> Result<Program<'a>, OutOfMemory>
+        ensures { IfOk result (λ program. program ≡ plain_core core.entry.now) }
     {
-        Program { core }
+        let classes = index_classes(alloc, core.classes.as_slice())?;
+        let bodies = index_bodies(alloc, core.bodies.as_slice())?;
+        Ok(Program { core, classes, bodies })
     }
 
     /// How many classes the core has.
@@ -78,23 +116,26 @@ impl<'a> Program<'a> {
     pub fn class(&self, id: TypeId) -> Option<&'a Class>
         ensures { option_copied result ≡ class_in self.now id }
     {
-        class_among(self.core.classes.as_slice(), id)
+        match self.classes.get(&id.0) {
+            None => None,
+            Some(indexed) => Some(indexed.class),
+        }
     }
 
     /// The body of this declaration.
     pub fn body(&self, decl: DeclId) -> Option<&'a Body>
         ensures { option_map (λ b. plain_body b.now) result ≡ body_in self.now decl }
     {
-        body_among(self.core.bodies.as_slice(), decl)
+        self.bodies.get(&decl).copied()
     }
 
     /// The method that a call of this one runs on an instance of the class (JLS 15.12.4.4).
     pub fn found(&self, class: TypeId, method: DeclId) -> Option<DeclId>
         ensures { result ≡ found_in self.now class method }
     {
-        match self.class(class) {
+        match self.classes.get(&class.0) {
             None => None,
-            Some(class) => found_among(class.found.as_slice(), method),
+            Some(indexed) => indexed.found.get(&method).copied(),
         }
     }
 }
