@@ -102,7 +102,7 @@ pub fn run(alloc: Global, core: &Core, start: DeclId, n: u64) -> Result<Ran, Out
         method: start,
         args,
     };
-    let program = Program::new(core);
+    let program = Program::new(alloc, core)?;
     let state = start_with(alloc, &strings, &call)?;
     run_from(alloc, &program, state, n)
 }
