@@ -17,4 +17,4 @@ both_equal Equal b = refl
 both_equal Greater b = refl
 
 pub equal_decls : (a b : DeclId) → is_eq (decl_cmp a b) ≡ same_decl a b
-equal_decls a b = rw (both_equal, both_equal, equal_numbers, equal_numbers, equal_numbers) ?
+equal_decls a b = rw (both_equal, both_equal, equal_numbers, equal_numbers, equal_numbers) refl

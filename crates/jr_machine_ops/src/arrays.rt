@@ -103,7 +103,8 @@ fn push_arrays<'a>(cells: &mut Cells<Cell<'a>>, alloc: Global, ty: &'a Ty, count
         (Ty::Array(item), [size, rest @ ..]) => {
             if rest.len() > 0 {
                 let total = push_next(cells, alloc, item.get(), count, *size)?;
-                push_arrays(cells, alloc, item.get(), total, rest)
+                push_arrays(cells, alloc, item.get(), total, rest)?;
+                Ok(())
             } else {
                 push_leaves(cells, alloc, item.get(), count, *size)
             }

@@ -30,6 +30,15 @@ pub struct Program<'a> {
     bodies: BTreeMap<DeclId, &'a Body>,
 }
 
+impl<'a> Indexed<'a> {
+    /// The method that a call of this one runs.
+    fn found(&self, method: DeclId) -> Option<DeclId>
+        ensures { result ≡ found_among self.now.class.now.found method }
+    {
+        self.found.get(&method).copied()
+    }
+}
+
 impl<'a> Model for Program<'a> {
     ghost use Rattle.jr_core.specs.Mirror.{Core, plain_core, plain_body};
     ghost use Rattle.jr_machine_defs.specs.Codes.{code_of_core};
@@ -47,7 +56,7 @@ impl<'a> Model for Program<'a> {
 
 /// Gives the declaration this value.
 fn put<V: Drop>(index: &mut BTreeMap<DeclId, V>, decl: DeclId, value: V) -> Result<(), OutOfMemory>
-    ensures { OnOk result ((other : Decl) → get decl_cmp index.new other ≡ (if same_decl decl other then Some value.entry else get decl_cmp index.old other)) }
+    ensures { OnOk result ((other : Decl) → get decl_cmp index.new other ≡ (if same_decl decl other then Some value else get decl_cmp index.old other)) }
 {
     index.insert(decl, value)?;
     Ok(())
@@ -135,7 +144,7 @@ impl<'a> Program<'a> {
     {
         match self.classes.get(&class.0) {
             None => None,
-            Some(indexed) => indexed.found.get(&method).copied(),
+            Some(indexed) => indexed.found(method),
         }
     }
 }

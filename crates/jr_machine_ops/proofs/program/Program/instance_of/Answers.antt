@@ -20,8 +20,8 @@ loop-level-preserved c =
     let core = c.args.self.now in
     let heap = c.args.heap.now in
     let same : same_type c.loop-level.current c.args.class ≡ false = cc in
-    let out : outer_class (class_in core c.loop-level.current) ≡ Some c.in_ok-current.current = cc in
-    let found : outer_of heap c.loop-level.object ≡ Some c.in_ok-object.object = cc in
+    let out : outer_class (class_in core c.loop-level.current) ≡ Some c.in_ok-current.current = sym (c.outer_class.ensures ∙ ap outer_class c.class.ensures) ∙ c.in_ok-current.was in
+    let found : outer_of heap c.loop-level.object ≡ Some c.in_ok-object.object = sym c.outer_of.ensures ∙ c.in_ok-object.was in
     let left : c.class_count-levels.result - (c.loop-level.level + 1) ≡ c.class_count-levels.result - c.loop-level.level - 1 = omega arith in
     ap (λ n. instance_at core heap n c.args.class (Some c.in_ok-current.current) (Some c.in_ok-object.object)) left
     ∙ (sym (outer_next core heap (c.class_count-levels.result - c.loop-level.level) c.args.class c.loop-level.current c.in_ok-current.current c.loop-level.object c.in_ok-object.object (omega arith) same out found)
