@@ -1,6 +1,7 @@
 -- One item more of those that are counted.
-use Rattle.std.proofs.Common.{◌≡◌, refl, ap, sym, ◌∙◌, ℕ, zero, suc, ◌+◌, ◌-◌, ◌*◌, ◌<◌, List, [], ◌∷◌, ◌++◌, length, length-append, append_assoc, sub-one, arith}
+use Rattle.std.proofs.Common.{◌≡◌, refl, ap, sym, ◌∙◌, ℕ, zero, suc, ◌+◌, ◌-◌, ◌*◌, ◌<◌, ◌≤◌, take, drop, get_or, List, [], ◌∷◌, ◌++◌, length, length-append, append_assoc, sub-one, arith}
 use Rattle.std.specs.Prelude.{replicate}
+use Rattle.std.proofs.lemmas.List.{take_all}
 use Rattle.jr_ty.specs.Mirror as t
 use Rattle.jr_core.specs.declared.code.Code as declared_code
 use Rattle.jr_core.specs.Mirror.{plain_codes}
@@ -39,8 +40,20 @@ pub levels_join : (old : List Cell) (item : t.Ty) (count size : ℕ) (rest : Lis
     ≡ old ++ arrays (t.Array item) (length old) count (size ∷ rest)
 levels_join old item count size rest some =
     let same : length (old ++ arrays_of_arrays item (length old + count) size count) ≡ length old + count =
-        length-append old (arrays_of_arrays item (length old + count) size count) ∙ ap (λ n. length old + n) (length_level item (length old + count) size count) in
+    length-append old (arrays_of_arrays item (length old + count) size count) ∙ ap (λ n. length old + n) (length_level item (length old + count) size count) in
     rw (same, deep_arrays item (length old) count size rest some) (append_assoc old (arrays_of_arrays item (length old + count) size count) (arrays item (length old + count) (count * size) rest))
+
+-- a list that is not empty, cut behind its first item
+pub split_first : (sizes : List ℕ) → 1 ≤ length sizes → sizes ≡ get_or sizes 0 0 ∷ take (length sizes - 1) (drop 1 sizes)
+split_first [] some = absurd (omega arith)
+split_first (x ∷ all) some = ap (λ l. x ∷ l) (sym (take_all (length (x ∷ all) - 1) all (omega arith)))
+
+-- the arrays of the first dimension, and then those that they refer to
+pub deeper : (old mid new : List Cell) (ty item : t.Ty) (count size total : ℕ) (sizes rest : List ℕ) → ty ≡ t.Array item → sizes ≡ size ∷ rest → 0 < length rest → total ≡ count * size
+    → mid ≡ old ++ arrays_of_arrays item (length old + count) size count → new ≡ mid ++ arrays item (length mid) total rest
+    → new ≡ old ++ arrays ty (length old) count sizes
+deeper old mid new ty item count size total sizes rest array split some product level below =
+    rw (below, level, product, array, split) (levels_join old item count size rest some)
 
 pub count_length : (all : List declared_code.Code) → codes_count (plain_codes all) ≡ length all
 count_length [] = refl

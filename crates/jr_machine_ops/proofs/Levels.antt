@@ -1,5 +1,5 @@
 -- One level up, and one object out.
-use Rattle.std.proofs.Common.{◌≡◌, refl, ap, ◌∙◌, ℕ, zero, suc, ◌-◌, ◌<◌, Bool, true, false, List, [], Option, Some, None, sub-one, arith}
+use Rattle.std.proofs.Common.{◌≡◌, refl, ap, ◌∙◌, ℕ, zero, suc, ◌-◌, ◌<◌, Bool, true, false, List, [], ◌∷◌, length, Option, Some, None, sub-one, arith}
 use Rattle.jr_base.specs.declared.ids.TypeId.{TypeId}
 use Rattle.jr_core.specs.Mirror.{Core}
 use Rattle.jr_machine_defs.specs.declared.value.Value.{Value}
@@ -13,10 +13,14 @@ pub above_step : (core : Core) (levels : ℕ) (these : List TypeId) (high : Type
 above_step core zero these high up h = absurd (omega arith)
 above_step core (suc levels) these high up h = rw (h, sub-one) refl
 
+above_empty : (core : Core) (levels : ℕ) (high : TypeId) → is_above core levels [] high ≡ false
+above_empty core zero high = refl
+above_empty core (suc levels) high = above_empty core levels high
+
 -- nothing is above no class
-pub above_none : (core : Core) (levels : ℕ) (high : TypeId) → is_above core levels [] high ≡ false
-above_none core zero high = refl
-above_none core (suc levels) high = above_none core levels high
+pub above_none : (core : Core) (levels : ℕ) (these : List TypeId) (high : TypeId) → length these ≡ 0 → is_above core levels these high ≡ false
+above_none core levels [] high none = above_empty core levels high
+above_none core levels (x ∷ all) high none = absurd (omega arith)
 
 pub outer_step : (core : Core) (heap : List Cell) (levels : ℕ) (class current : TypeId) (object : Value) → 0 < levels → same_type current class ≡ false
     → instance_at core heap levels class (Some current) (Some object) ≡ instance_at core heap (levels - 1) class (outer_class (class_in core current)) (outer_of heap object)

@@ -15,7 +15,10 @@ use jr_ty::Ty;
 use std::alloc::Global;
 
 /// The values from the top down.
-fn items_of<'a>(alloc: Global, mut values: Stack<Value<'a>>) -> Result<Items<Value<'a>>, OutOfMemory>
+fn items_of<'a>(
+    alloc: Global,
+    mut values: Stack<Value<'a>>,
+) -> Result<Items<Value<'a>>, OutOfMemory>
     ensures { IfOk result (λ items. items ≡ values.entry) }
 {
     let mut items = Items::new(alloc);
@@ -53,7 +56,13 @@ fn references<'a>(alloc: Global, first: usize, size: usize) -> Result<Items<Valu
 
 /// Adds so many arrays of default values.
 #[tactic(auto, using(crate::proofs::Counting::replicate_step, crate::proofs::Counting::append_one))]
-fn push_leaves<'a>(cells: &mut Cells<Cell<'a>>, alloc: Global, item: &'a Ty, count: usize, size: usize) -> Result<(), OutOfMemory>
+fn push_leaves<'a>(
+    cells: &mut Cells<Cell<'a>>,
+    alloc: Global,
+    item: &'a Ty,
+    count: usize,
+    size: usize,
+) -> Result<(), OutOfMemory>
     ensures { OnOk result (cells.new ≡ cells.old ++ replicate count (cell.Array (plain_ty item.entry.now) (replicate size (default_of (plain_ty item.entry.now))))) }
 {
     for i in 0..count {
@@ -68,7 +77,14 @@ fn push_leaves<'a>(cells: &mut Cells<Cell<'a>>, alloc: Global, item: &'a Ty, cou
 
 /// Adds so many arrays of references to the cells that follow.
 #[tactic(auto, using(crate::proofs::Counting::arrays_step, crate::proofs::Counting::append_one))]
-fn push_level<'a>(cells: &mut Cells<Cell<'a>>, alloc: Global, item: &'a Ty, first: usize, size: usize, count: usize) -> Result<(), OutOfMemory>
+fn push_level<'a>(
+    cells: &mut Cells<Cell<'a>>,
+    alloc: Global,
+    item: &'a Ty,
+    first: usize,
+    size: usize,
+    count: usize,
+) -> Result<(), OutOfMemory>
     ensures { OnOk result (cells.new ≡ cells.old ++ arrays_of_arrays (plain_ty item.entry.now) first size count) }
 {
     let mut at = first;
@@ -84,7 +100,13 @@ fn push_level<'a>(cells: &mut Cells<Cell<'a>>, alloc: Global, item: &'a Ty, firs
 }
 
 /// Adds so many arrays of references to the cells that follow them, and gives how many cells these are.
-fn push_next<'a>(cells: &mut Cells<Cell<'a>>, alloc: Global, item: &'a Ty, count: usize, size: usize) -> Result<usize, OutOfMemory>
+fn push_next<'a>(
+    cells: &mut Cells<Cell<'a>>,
+    alloc: Global,
+    item: &'a Ty,
+    count: usize,
+    size: usize,
+) -> Result<usize, OutOfMemory>
     ensures total { IfOk result (λ total. total ≡ count * size) }
     ensures cells { OnOk result (cells.new ≡ cells.old ++ arrays_of_arrays (plain_ty item.entry.now) (length cells.old + count) size count) }
 {
@@ -95,8 +117,13 @@ fn push_next<'a>(cells: &mut Cells<Cell<'a>>, alloc: Global, item: &'a Ty, count
 }
 
 /// Adds so many arrays of a type with these dimensions: first these arrays, then those that they refer to.
-#[tactic(auto, using(crate::proofs::Counting::levels_join))]
-fn push_arrays<'a>(cells: &mut Cells<Cell<'a>>, alloc: Global, ty: &'a Ty, count: usize, sizes: &[usize]) -> Result<(), OutOfMemory>
+fn push_arrays<'a>(
+    cells: &mut Cells<Cell<'a>>,
+    alloc: Global,
+    ty: &'a Ty,
+    count: usize,
+    sizes: &[usize],
+) -> Result<(), OutOfMemory>
     ensures { OnOk result (cells.new ≡ cells.old ++ arrays (plain_ty ty.entry.now) (length cells.old) count sizes.now) }
 {
     match (ty, sizes) {
@@ -152,7 +179,12 @@ fn sizes_of(alloc: Global, mut dims: Stack<Value>) -> Result<Sizes, OutOfMemory>
 }
 
 /// The array with these components (JLS 10.6).
-pub fn make_array<'a>(state: &mut State<'a>, alloc: Global, ty: &'a Ty, items: Stack<Value<'a>>) -> Result<bool, OutOfMemory>
+pub fn make_array<'a>(
+    state: &mut State<'a>,
+    alloc: Global,
+    ty: &'a Ty,
+    items: Stack<Value<'a>>,
+) -> Result<bool, OutOfMemory>
     ensures { IfOk result (λ went. Follows (makes_array (plain_ty ty.entry.now) items.entry state.old) went state.old state.new) }
 {
     match ty {
@@ -169,7 +201,12 @@ pub fn make_array<'a>(state: &mut State<'a>, alloc: Global, ty: &'a Ty, items: S
     }
 }
 
-fn make_sized<'a>(state: &mut State<'a>, alloc: Global, ty: &'a Ty, sizes: &[usize]) -> Result<bool, OutOfMemory>
+fn make_sized<'a>(
+    state: &mut State<'a>,
+    alloc: Global,
+    ty: &'a Ty,
+    sizes: &[usize],
+) -> Result<bool, OutOfMemory>
     ensures { IfOk result (λ went. Follows (makes_fit (plain_ty ty.entry.now) sizes.now state.old) went state.old state.new) }
 {
     if sizes.is_empty() || !is_array_of(ty, sizes) {
@@ -181,7 +218,12 @@ fn make_sized<'a>(state: &mut State<'a>, alloc: Global, ty: &'a Ty, sizes: &[usi
 }
 
 /// The array with these dimensions (JLS 15.10.1).
-pub fn make_arrays<'a>(state: &mut State<'a>, alloc: Global, ty: &'a Ty, dims: Stack<Value<'a>>) -> Result<bool, OutOfMemory>
+pub fn make_arrays<'a>(
+    state: &mut State<'a>,
+    alloc: Global,
+    ty: &'a Ty,
+    dims: Stack<Value<'a>>,
+) -> Result<bool, OutOfMemory>
     ensures { IfOk result (λ went. Follows (makes_arrays (plain_ty ty.entry.now) dims.entry state.old) went state.old state.new) }
 {
     match sizes_of(alloc, dims)? {

@@ -13,7 +13,11 @@ use std::alloc::Global;
 
 /// Takes so many values off, the uppermost last; none where there are fewer.
 #[tactic(auto, using(crate::proofs::Taking::taken_step, crate::proofs::Taking::taken_none))]
-pub fn take<'a>(values: &mut Stack<Value<'a>>, alloc: Global, count: usize) -> Result<Option<Stack<Value<'a>>>, OutOfMemory>
+pub fn take<'a>(
+    values: &mut Stack<Value<'a>>,
+    alloc: Global,
+    count: usize,
+) -> Result<Option<Stack<Value<'a>>>, OutOfMemory>
     ensures { IfOk result (λ taken. Takes count values.old taken values.new) }
 {
     let mut args = Stack::new(alloc);
@@ -42,7 +46,11 @@ pub fn push<'a>(state: &mut State<'a>, value: Value<'a>) -> Result<bool, OutOfMe
 }
 
 /// Gives a local variable a value.
-pub fn set_local<'a>(state: &mut State<'a>, local: DeclId, value: Value<'a>) -> Result<(), OutOfMemory>
+pub fn set_local<'a>(
+    state: &mut State<'a>,
+    local: DeclId,
+    value: Value<'a>,
+) -> Result<(), OutOfMemory>
     ensures { OnOk result (state.new ≡ set_local local value.entry state.old) }
 {
     assign(&mut state.frame.locals, local, value)
@@ -65,12 +73,19 @@ pub fn raise<'a>(state: &mut State<'a>, alloc: Global, fault: Fault) -> Result<b
         outer: Value::Null,
         fields: Items::new(alloc),
     })?;
-    state.frame.work.push(Work::Exiting(Exit::Throw(Value::Ref(at))))?;
+    state
+        .frame
+        .work
+        .push(Work::Exiting(Exit::Throw(Value::Ref(at))))?;
     Ok(true)
 }
 
 /// Pushes what an operation gives.
-pub fn settle<'a>(state: &mut State<'a>, alloc: Global, outcome: Outcome<'a>) -> Result<bool, OutOfMemory>
+pub fn settle<'a>(
+    state: &mut State<'a>,
+    alloc: Global,
+    outcome: Outcome<'a>,
+) -> Result<bool, OutOfMemory>
     ensures { IfOk result (λ went. Follows (settled outcome.entry state.old) went state.old state.new) }
 {
     match outcome {
@@ -90,7 +105,11 @@ pub fn settle<'a>(state: &mut State<'a>, alloc: Global, outcome: Outcome<'a>) ->
 }
 
 /// The value that an operation gives, to go on with.
-pub fn give<'a>(state: &mut State<'a>, alloc: Global, outcome: Outcome<'a>) -> Result<Given<'a>, OutOfMemory>
+pub fn give<'a>(
+    state: &mut State<'a>,
+    alloc: Global,
+    outcome: Outcome<'a>,
+) -> Result<Given<'a>, OutOfMemory>
     ensures { IfOk result (λ given. Gives outcome.entry state.old given state.new) }
 {
     match outcome {

@@ -34,7 +34,13 @@ fn outer_class(class: Option<&Class>) -> Option<TypeId>
 impl<'a> Program<'a> {
     /// The instance of a class, from that of the current class outwards (JLS 8.1.3, 15.8.4).
     #[tactic(auto, using(crate::proofs::Levels::outer_step))]
-    pub fn instance_of(&self, heap: &[Cell<'a>], class: TypeId, current: TypeId, object: &Value<'a>) -> Option<Value<'a>>
+    pub fn instance_of(
+        &self,
+        heap: &[Cell<'a>],
+        class: TypeId,
+        current: TypeId,
+        object: &Value<'a>,
+    ) -> Option<Value<'a>>
         ensures { result ≡ instance_of self.now heap.now class current object.now }
     {
         let mut current = current;

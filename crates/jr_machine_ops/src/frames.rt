@@ -17,7 +17,11 @@ use std::alloc::Global;
 use std::mem;
 
 /// Puts the code of a member on top, if it is static or not as asked.
-fn push_body<'a>(work: &mut Stack<Work<'a>>, is_static: bool, body: Option<&'a Body>) -> Result<(), OutOfMemory>
+fn push_body<'a>(
+    work: &mut Stack<Work<'a>>,
+    is_static: bool,
+    body: Option<&'a Body>,
+) -> Result<(), OutOfMemory>
     ensures { OnOk result (work.new ≡ body_work is_static (option_map (λ b. plain_body b.now) body.entry) ++ work.old) }
 {
     match body {
@@ -34,7 +38,12 @@ fn push_body<'a>(work: &mut Stack<Work<'a>>, is_static: bool, body: Option<&'a B
 
 /// Puts the code of these members on top, the first of them uppermost.
 #[tactic(auto, using(crate::proofs::Joining::append_three, crate::proofs::Joining::members_more))]
-fn push_members<'a>(work: &mut Stack<Work<'a>>, program: &Program<'a>, is_static: bool, members: &[DeclId]) -> Result<(), OutOfMemory>
+fn push_members<'a>(
+    work: &mut Stack<Work<'a>>,
+    program: &Program<'a>,
+    is_static: bool,
+    members: &[DeclId],
+) -> Result<(), OutOfMemory>
     ensures { OnOk result (work.new ≡ members_work program.now is_static members.now ++ work.old) }
 {
     let mut left = members.len();
@@ -46,7 +55,12 @@ fn push_members<'a>(work: &mut Stack<Work<'a>>, program: &Program<'a>, is_static
 }
 
 /// Puts the initializers of a class on top, static ones or others.
-pub fn push_class<'a>(work: &mut Stack<Work<'a>>, program: &Program<'a>, is_static: bool, class: Option<&Class>) -> Result<(), OutOfMemory>
+pub fn push_class<'a>(
+    work: &mut Stack<Work<'a>>,
+    program: &Program<'a>,
+    is_static: bool,
+    class: Option<&Class>,
+) -> Result<(), OutOfMemory>
     ensures { OnOk result (work.new ≡ class_work program.now is_static (option_copied class.entry) ++ work.old) }
 {
     match class {
@@ -56,7 +70,11 @@ pub fn push_class<'a>(work: &mut Stack<Work<'a>>, program: &Program<'a>, is_stat
 }
 
 /// Puts the initialization of a class on top, if it has not begun.
-fn push_begin<'a>(work: &mut Stack<Work<'a>>, begun: &[TypeId], class: Option<TypeId>) -> Result<(), OutOfMemory>
+fn push_begin<'a>(
+    work: &mut Stack<Work<'a>>,
+    begun: &[TypeId],
+    class: Option<TypeId>,
+) -> Result<(), OutOfMemory>
     ensures { OnOk result (work.new ≡ begin_work begun.now class ++ work.old) }
 {
     match class {
@@ -71,7 +89,11 @@ fn push_begin<'a>(work: &mut Stack<Work<'a>>, begun: &[TypeId], class: Option<Ty
     }
 }
 
-fn push_parent<'a>(work: &mut Stack<Work<'a>>, begun: &[TypeId], class: Option<&Class>) -> Result<(), OutOfMemory>
+fn push_parent<'a>(
+    work: &mut Stack<Work<'a>>,
+    begun: &[TypeId],
+    class: Option<&Class>,
+) -> Result<(), OutOfMemory>
     ensures { OnOk result (work.new ≡ parent_work begun.now (option_copied class.entry) ++ work.old) }
 {
     match class {
@@ -81,7 +103,11 @@ fn push_parent<'a>(work: &mut Stack<Work<'a>>, begun: &[TypeId], class: Option<&
 }
 
 /// The parameters with the arguments as their values.
-fn slots_of<'a>(alloc: Global, params: &[DeclId], mut args: Stack<Value<'a>>) -> Result<Items<Slot<'a>>, OutOfMemory>
+fn slots_of<'a>(
+    alloc: Global,
+    params: &[DeclId],
+    mut args: Stack<Value<'a>>,
+) -> Result<Items<Slot<'a>>, OutOfMemory>
     ensures { IfOk result (λ slots. slots ≡ slots_of params.now args.entry) }
 {
     let mut slots = Items::new(alloc);
@@ -103,38 +129,56 @@ fn put_frame<'a>(state: &mut State<'a>, frame: Frame<'a>) -> Result<(), OutOfMem
 }
 
 /// Puts a frame for this body on.
-pub fn enter<'a>(state: &mut State<'a>, alloc: Global, body: &'a Body, purpose: Purpose, this: Value<'a>, args: Stack<Value<'a>>) -> Result<(), OutOfMemory>
+pub fn enter<'a>(
+    state: &mut State<'a>,
+    alloc: Global,
+    body: &'a Body,
+    purpose: Purpose,
+    this: Value<'a>,
+    args: Stack<Value<'a>>,
+) -> Result<(), OutOfMemory>
     ensures { OnOk result (state.new ≡ enters (plain_body body.entry.now) purpose this.entry args.entry state.old) }
 {
     let mut work = Stack::new(alloc);
     push_codes(&mut work, body.code.as_slice())?;
     let locals = slots_of(alloc, body.params.as_slice(), args)?;
-    put_frame(state, Frame {
-        purpose,
-        class: body.class,
-        this,
-        locals,
-        work,
-        values: Stack::new(alloc),
-    })
+    put_frame(
+        state,
+        Frame {
+            purpose,
+            class: body.class,
+            this,
+            locals,
+            work,
+            values: Stack::new(alloc),
+        },
+    )
 }
 
 /// Begins the initialization of a class (JLS 12.4.2).
-pub fn begin<'a>(state: &mut State<'a>, alloc: Global, program: &Program<'a>, class: TypeId) -> Result<(), OutOfMemory>
+pub fn begin<'a>(
+    state: &mut State<'a>,
+    alloc: Global,
+    program: &Program<'a>,
+    class: TypeId,
+) -> Result<(), OutOfMemory>
     ensures { OnOk result (state.new ≡ begins program.now class state.old) }
 {
     let mut work = Stack::new(alloc);
     push_class(&mut work, program, true, program.class(class))?;
     push_parent(&mut work, state.begun.as_slice(), program.class(class))?;
     state.begun.push(class)?;
-    put_frame(state, Frame {
-        purpose: Purpose::Initializer(class),
-        class,
-        this: Value::Null,
-        locals: Items::new(alloc),
-        work,
-        values: Stack::new(alloc),
-    })
+    put_frame(
+        state,
+        Frame {
+            purpose: Purpose::Initializer(class),
+            class,
+            this: Value::Null,
+            locals: Items::new(alloc),
+            work,
+            values: Stack::new(alloc),
+        },
+    )
 }
 
 fn static_class(body: Option<&Body>) -> Option<TypeId>
@@ -142,7 +186,11 @@ fn static_class(body: Option<&Body>) -> Option<TypeId>
 {
     match body {
         None => None,
-        Some(body) => if body.is_static { Some(body.class) } else { None },
+        Some(body) => if body.is_static {
+            Some(body.class)
+        } else {
+            None
+        },
     }
 }
 
@@ -195,6 +243,10 @@ pub fn first_use(begun: &[TypeId], class: Option<TypeId>) -> Option<TypeId>
 {
     match class {
         None => None,
-        Some(class) => if is_among(begun, class) { None } else { Some(class) },
+        Some(class) => if is_among(begun, class) {
+            None
+        } else {
+            Some(class)
+        },
     }
 }

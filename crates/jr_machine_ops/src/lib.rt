@@ -23,7 +23,10 @@ pub use conversions::{cast_back, converted_to, stepped};
 pub use frames::{begin, enter, first_use, push_class};
 pub use natives::native_call;
 pub use operators::{number_of, number_value, on_bools, on_numbers, unary};
-pub use prelude::{char_at_method, decl_at, equals_method, fault_class, length_method, object_class, print_method, string_class, to_string_method, type_at};
+pub use prelude::{
+    char_at_method, decl_at, equals_method, fault_class, length_method, object_class, print_method,
+    string_class, to_string_method, type_at,
+};
 pub use program::Program;
 pub use references::{binary, compound};
 pub use subtypes::{class_of_object, is_among};

@@ -67,7 +67,10 @@ fn equals_of(heap: &[Cell], units: Option<&[u16]>, arg: Option<Value>) -> Outcom
     ensures { result ≡ equals_of heap.now (option_copied units.entry) arg.entry }
 {
     match (units, arg) {
-        (Some(units), Some(other)) => Outcome::Gives(Value::Bool(equals_units(units, units_of(heap, &other)))),
+        (Some(units), Some(other)) => Outcome::Gives(Value::Bool(equals_units(
+            units,
+            units_of(heap, &other),
+        ))),
         _ => Outcome::Unfit,
     }
 }
@@ -88,7 +91,13 @@ fn prints<'a>(state: &mut State<'a>, arg: Option<Value<'a>>) -> Result<bool, Out
 }
 
 /// A call of a native method; one that the machine does not do itself ends the run.
-pub fn native_call<'a>(state: &mut State<'a>, alloc: Global, method: DeclId, receiver: &Value<'a>, args: Stack<Value<'a>>) -> Result<bool, OutOfMemory>
+pub fn native_call<'a>(
+    state: &mut State<'a>,
+    alloc: Global,
+    method: DeclId,
+    receiver: &Value<'a>,
+    args: Stack<Value<'a>>,
+) -> Result<bool, OutOfMemory>
     ensures { IfOk result (λ went. Follows (native_call method receiver.now args.entry state.old) went state.old state.new) }
 {
     if same_decl(method, length_method()) {

@@ -155,7 +155,10 @@ fn shifted_by(op: BinaryOp, left: Number, right: Number) -> Outcome<'static>
 fn is_shift(op: BinaryOp) -> bool
     ensures { result ≡ is_shift op }
 {
-    matches!(op, BinaryOp::ShiftLeft | BinaryOp::ShiftRight | BinaryOp::ShiftRightUnsigned)
+    matches!(
+        op,
+        BinaryOp::ShiftLeft | BinaryOp::ShiftRight | BinaryOp::ShiftRightUnsigned
+    )
 }
 
 fn arithmetic_of(op: BinaryOp, pair: Pair) -> Outcome<'static>

@@ -63,7 +63,10 @@ fn put<V: Drop>(index: &mut BTreeMap<DeclId, V>, decl: DeclId, value: V) -> Resu
 }
 
 /// The methods that are found, by those that are called.
-fn index_found(alloc: Global, found: &[(DeclId, DeclId)]) -> Result<BTreeMap<DeclId, DeclId>, OutOfMemory>
+fn index_found(
+    alloc: Global,
+    found: &[(DeclId, DeclId)],
+) -> Result<BTreeMap<DeclId, DeclId>, OutOfMemory>
     ensures { IfOk result (λ index. (method : Decl) → get decl_cmp index method ≡ found_among found.now method) }
 {
     let mut index = BTreeMap::new(alloc);
@@ -76,7 +79,10 @@ fn index_found(alloc: Global, found: &[(DeclId, DeclId)]) -> Result<BTreeMap<Dec
 }
 
 /// The classes by their declarations; of two with one declaration the first.
-fn index_classes<'a>(alloc: Global, classes: &'a [Class]) -> Result<BTreeMap<DeclId, Indexed<'a>>, OutOfMemory>
+fn index_classes<'a>(
+    alloc: Global,
+    classes: &'a [Class],
+) -> Result<BTreeMap<DeclId, Indexed<'a>>, OutOfMemory>
     ensures { IfOk result (λ index. IsIndex index (λ c. c.class.now) (λ d. class_among classes.entry.now (class_of_decl d))) }
 {
     let mut index = BTreeMap::new(alloc);
@@ -91,7 +97,10 @@ fn index_classes<'a>(alloc: Global, classes: &'a [Class]) -> Result<BTreeMap<Dec
 }
 
 /// The bodies by their declarations; of two with one declaration the first.
-fn index_bodies<'a>(alloc: Global, bodies: &'a [Body]) -> Result<BTreeMap<DeclId, &'a Body>, OutOfMemory>
+fn index_bodies<'a>(
+    alloc: Global,
+    bodies: &'a [Body],
+) -> Result<BTreeMap<DeclId, &'a Body>, OutOfMemory>
     ensures { IfOk result (λ index. IsIndex index (λ b. plain_body b.now) (body_among (map plain_body bodies.entry.now))) }
 {
     let mut index = BTreeMap::new(alloc);
@@ -111,7 +120,11 @@ impl<'a> Program<'a> {
     {
         let classes = index_classes(alloc, core.classes.as_slice())?;
         let bodies = index_bodies(alloc, core.bodies.as_slice())?;
-        Ok(Program { core, classes, bodies })
+        Ok(Program {
+            core,
+            classes,
+            bodies,
+        })
     }
 
     /// How many classes the core has.

@@ -35,7 +35,13 @@ fn compared(is_equal: bool, same: Option<bool>) -> Outcome<'static>
 }
 
 /// An operator on two references.
-fn on_references<'a>(alloc: Global, heap: &[Cell<'a>], op: BinaryOp, left: &Value<'a>, right: &Value<'a>) -> Result<Outcome<'a>, OutOfMemory>
+fn on_references<'a>(
+    alloc: Global,
+    heap: &[Cell<'a>],
+    op: BinaryOp,
+    left: &Value<'a>,
+    right: &Value<'a>,
+) -> Result<Outcome<'a>, OutOfMemory>
     ensures { IfOk result (λ outcome. outcome ≡ on_references heap.now op left.now right.now) }
 {
     match op {
@@ -47,7 +53,13 @@ fn on_references<'a>(alloc: Global, heap: &[Cell<'a>], op: BinaryOp, left: &Valu
 }
 
 /// An operator on two values that are not both numbers.
-fn on_others<'a>(alloc: Global, heap: &[Cell<'a>], op: BinaryOp, left: &Value<'a>, right: &Value<'a>) -> Result<Outcome<'a>, OutOfMemory>
+fn on_others<'a>(
+    alloc: Global,
+    heap: &[Cell<'a>],
+    op: BinaryOp,
+    left: &Value<'a>,
+    right: &Value<'a>,
+) -> Result<Outcome<'a>, OutOfMemory>
     ensures { IfOk result (λ outcome. outcome ≡ on_others heap.now op left.now right.now) }
 {
     match (left, right) {
@@ -57,7 +69,13 @@ fn on_others<'a>(alloc: Global, heap: &[Cell<'a>], op: BinaryOp, left: &Value<'a
 }
 
 /// `left op right`.
-pub fn binary<'a>(alloc: Global, heap: &[Cell<'a>], op: BinaryOp, left: &Value<'a>, right: &Value<'a>) -> Result<Outcome<'a>, OutOfMemory>
+pub fn binary<'a>(
+    alloc: Global,
+    heap: &[Cell<'a>],
+    op: BinaryOp,
+    left: &Value<'a>,
+    right: &Value<'a>,
+) -> Result<Outcome<'a>, OutOfMemory>
     ensures { IfOk result (λ outcome. outcome ≡ binary heap.now op left.now right.now) }
 {
     match (number_of(left), number_of(right)) {
@@ -67,7 +85,13 @@ pub fn binary<'a>(alloc: Global, heap: &[Cell<'a>], op: BinaryOp, left: &Value<'
 }
 
 /// `old op= value`.
-pub fn compound<'a>(alloc: Global, heap: &[Cell<'a>], op: BinaryOp, old: &Value<'a>, value: &Value<'a>) -> Result<Outcome<'a>, OutOfMemory>
+pub fn compound<'a>(
+    alloc: Global,
+    heap: &[Cell<'a>],
+    op: BinaryOp,
+    old: &Value<'a>,
+    value: &Value<'a>,
+) -> Result<Outcome<'a>, OutOfMemory>
     ensures { IfOk result (λ outcome. outcome ≡ compound heap.now op old.now value.now) }
 {
     let outcome = binary(alloc, heap, op, old, value)?;

@@ -77,7 +77,7 @@ impl<'a> Program<'a> {
         Ok(())
     }
 
-    #[tactic(auto, using(crate::proofs::Levels::above_step))]
+    #[tactic(auto, using(crate::proofs::Levels::above_step, crate::proofs::Levels::above_none))]
     /// Whether the second is among the classes and interfaces above the first, or is the first.
     fn is_above(&self, alloc: Global, low: TypeId, high: TypeId) -> Result<bool, OutOfMemory>
         ensures { IfOk result (λ answer. answer ≡ is_above self.now (length self.now.classes) (low ∷ []) high) }
@@ -91,6 +91,9 @@ impl<'a> Program<'a> {
             }
             let mut above = Items::new(alloc);
             self.add_supers_of(&mut above, these.as_slice())?;
+            if above.as_slice().is_empty() {
+                return Ok(false);
+            }
             these = above;
         }
         Ok(false)
@@ -107,7 +110,12 @@ impl<'a> Program<'a> {
     }
 
     /// The first catch that takes an object of this class (JLS 11.3).
-    pub fn catch_for(&self, alloc: Global, class: TypeId, catches: &'a [Catch]) -> Result<Option<&'a Catch>, OutOfMemory>
+    pub fn catch_for(
+        &self,
+        alloc: Global,
+        class: TypeId,
+        catches: &'a [Catch],
+    ) -> Result<Option<&'a Catch>, OutOfMemory>
         ensures { IfOk result (λ found. option_map (λ c. m.plain_catch c.now) found ≡ catch_for self.now class (m.plain_catches catches.entry.now)) }
     {
         for catch in catches {
@@ -159,7 +167,13 @@ impl<'a> Program<'a> {
     }
 
     /// `value instanceof ty`, of a value that is not null (JLS 15.20.2).
-    pub fn is_instance(&self, alloc: Global, heap: &[Cell<'a>], value: &Value<'a>, ty: &Ty) -> Result<bool, OutOfMemory>
+    pub fn is_instance(
+        &self,
+        alloc: Global,
+        heap: &[Cell<'a>],
+        value: &Value<'a>,
+        ty: &Ty,
+    ) -> Result<bool, OutOfMemory>
         ensures { IfOk result (λ answer. answer ≡ is_instance self.now heap.now value.now (plain_ty ty.now)) }
     {
         match value {

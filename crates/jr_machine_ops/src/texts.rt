@@ -9,7 +9,9 @@ use jr_machine_defs::{Cell, Outcome, Value};
 use std::alloc::Global;
 
 static NULL_TEXT: [u16; 4] = [110, 117, 108, 108];
+
 static TRUE_TEXT: [u16; 4] = [116, 114, 117, 101];
+
 static FALSE_TEXT: [u16; 5] = [102, 97, 108, 115, 101];
 
 /// The units of what stands in the heap, where it is a string.
@@ -55,7 +57,11 @@ pub fn append(units: &mut Vec<u16>, more: &[u16]) -> Result<(), OutOfMemory>
 }
 
 /// Two strings put together (JLS 15.18.1.2).
-pub fn joined(alloc: Global, left: Option<&[u16]>, right: Option<&[u16]>) -> Result<Outcome<'static>, OutOfMemory>
+pub fn joined(
+    alloc: Global,
+    left: Option<&[u16]>,
+    right: Option<&[u16]>,
+) -> Result<Outcome<'static>, OutOfMemory>
     ensures { IfOk result (λ outcome. outcome ≡ joined (option_copied left.entry) (option_copied right.entry)) }
 {
     let (Some(left), Some(right)) = (left, right) else {

@@ -49,7 +49,11 @@ pub fn value_of<'s, 'a>(slots: &'s [Slot<'a>], key: DeclId) -> Option<&'s Value<
 
 /// Gives the variable this value.
 #[tactic(auto, using(crate::proofs::SlotLemmas::assigned_in_place, crate::proofs::SlotLemmas::assigned_at_end))]
-pub fn assign<'a>(slots: &mut Items<Slot<'a>>, key: DeclId, value: Value<'a>) -> Result<(), OutOfMemory>
+pub fn assign<'a>(
+    slots: &mut Items<Slot<'a>>,
+    key: DeclId,
+    value: Value<'a>,
+) -> Result<(), OutOfMemory>
     ensures { OnOk result (slots.new ≡ assigned slots.old key value.entry) }
 {
     let at = slot_index(slots.as_slice(), key);
