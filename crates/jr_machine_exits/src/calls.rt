@@ -4,6 +4,8 @@ ghost use Rattle.jr_core.specs.Mirror as m;
 ghost use Rattle.jr_core.specs.Mirror.{plain_body};
 ghost use Rattle.jr_machine_defs.specs.Calls.{runs, dispatches, calls_on, calls, creates, creates_any, constructs};
 ghost use Rattle.jr_machine_defs.specs.Follows.{Follows};
+ghost use Rattle.jr_machine_defs.specs.Places.{without_receiver};
+ghost use Rattle.jr_machine_defs.specs.declared.value.Value.TheVariants as v;
 
 use jr_base::{Boxed, DeclId, Items, OutOfMemory, TypeId};
 use jr_core::{Body, Code};
@@ -51,15 +53,22 @@ pub fn call_on<'a>(state: &mut State<'a>, alloc: Global, program: &Program<'a>, 
     }
 }
 
+/// A call of a static method; its receiver is not used (JLS 15.12.4.1).
+fn call_static<'a>(state: &mut State<'a>, alloc: Global, body: &'a Body, receiver: &Option<Boxed<Code>>, args: Stack<Value<'a>>) -> Result<bool, OutOfMemory>
+    ensures { IfOk result (λ went. Follows (without_receiver (m.plain_any_code receiver.now) state.old (runs (plain_body body.entry.now) v.Null args.entry)) went state.old state.new) }
+{
+    if !drop_receiver(state, receiver) {
+        return Ok(false);
+    }
+    run_body(state, alloc, body, Value::Null, args)
+}
+
 /// A call, with its arguments (JLS 15.12.4).
 pub fn call<'a>(state: &mut State<'a>, alloc: Global, program: &Program<'a>, body: &'a Body, receiver: &Option<Boxed<Code>>, is_super: bool, args: Stack<Value<'a>>) -> Result<bool, OutOfMemory>
     ensures { IfOk result (λ went. Follows (calls program.now (Some (plain_body body.entry.now)) (m.plain_any_code receiver.now) is_super args.entry state.old) went state.old state.new) }
 {
     if body.is_static {
-        if !drop_receiver(state, receiver) {
-            return Ok(false);
-        }
-        return run_body(state, alloc, body, Value::Null, args);
+        return call_static(state, alloc, body, receiver, args);
     }
     if is_super {
         let this = state.frame.this.copy();
