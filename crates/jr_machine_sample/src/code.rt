@@ -1,12 +1,37 @@
 // Parts of programs, and runs of them.
 
-use jr_base::{Boxed, DeclId, Items, OutOfMemory, TypeId, Units};
+use jr_base::{Boxed, CuId, DeclId, Items, NodeAt, NodeId, OutOfMemory, TypeId, Units};
 use jr_core::{BinaryOp, Body, Class, Code, Core};
 use jr_machine::run;
 use jr_machine_defs::Ran;
-use jr_machine_ops::{decl_at, print_method, string_class};
 use jr_ty::{Const, Ty};
 use std::alloc::Global;
+
+/// The declaration at this node of this unit.
+pub fn decl_at(unit: u32, node: u32) -> DeclId {
+    DeclId {
+        at: NodeAt {
+            cu: CuId(unit),
+            node: NodeId(node),
+        },
+        part: 0,
+    }
+}
+
+/// A class of `java.lang`.
+pub fn class_at(node: u32) -> TypeId {
+    TypeId(decl_at(0, node))
+}
+
+/// `PrintStream.print`
+fn print_method() -> DeclId {
+    decl_at(1, 4)
+}
+
+/// `String`
+fn string_class() -> TypeId {
+    class_at(25)
+}
 
 /// The class of the program.
 pub fn program_class() -> TypeId {

@@ -1,14 +1,22 @@
 // What stands beside each program is what `java` 17 prints of it.
-use crate::code::{assign, binary, boxed, core_of, declare, eval, give, index, int, one, print, printed, program_class, run_main, run_second, shown, text, two, var};
+use crate::code::{assign, binary, boxed, class_at, core_of, decl_at, declare, eval, give, index, int, one, print, printed, program_class, run_main, run_second, shown, text, two, var};
 use jr_base::{Boxed, Items, OutOfMemory};
 use jr_core::{BinaryOp, Code, Group, StepOp, SwitchLabel};
 use jr_machine::run;
-use jr_machine_defs::{Fault, Ran, RunEnd};
-use jr_machine_ops::{decl_at, fault_class};
+use jr_machine_defs::{Ran, RunEnd};
 use jr_ty::Ty;
 use std::alloc::Global;
 use std::process::Abort;
 use std::test::Fail;
+
+/// `ArithmeticException` in the prelude.
+const ARITHMETIC: u32 = 118;
+
+/// `NullPointerException` in the prelude.
+const NULL_POINTER: u32 = 130;
+
+/// `ArrayIndexOutOfBoundsException` in the prelude.
+const ARRAY_INDEX: u32 = 214;
 
 impl From<OutOfMemory> for Fail {
     fn from(_: OutOfMemory) -> Fail {
@@ -99,7 +107,7 @@ fn an_array_is_checked_after_the_value(rt: HostRuntime) -> Result<(), Fail> {
     let alloc = rt.alloc();
     let null = stores(alloc, Code::Lit { value: None })?;
     assert!(rt; printed(&null, "12"));
-    assert!(rt; null.end == RunEnd::Uncaught(fault_class(Fault::NullPointer)));
+    assert!(rt; null.end == RunEnd::Uncaught(class_at(NULL_POINTER)));
     let small = Code::NewArray {
         ty: Ty::Array(Boxed::new(alloc, Ty::Int)?),
         dims: one(alloc, int(1))?,
@@ -107,7 +115,7 @@ fn an_array_is_checked_after_the_value(rt: HostRuntime) -> Result<(), Fail> {
     };
     let bounds = stores(alloc, small)?;
     assert!(rt; printed(&bounds, "12"));
-    assert!(rt; bounds.end == RunEnd::Uncaught(fault_class(Fault::ArrayIndex)));
+    assert!(rt; bounds.end == RunEnd::Uncaught(class_at(ARRAY_INDEX)));
     Ok(())
 }
 
@@ -118,7 +126,7 @@ fn division_by_zero_is_thrown(rt: HostRuntime) -> Result<(), Fail> {
     let fails = eval(alloc, binary(alloc, int(1), BinaryOp::Divide, int(0))?)?;
     let ran = run_main(alloc, two(alloc, print(alloc, int(7))?, fails)?)?;
     assert!(rt; printed(&ran, "7"));
-    assert!(rt; ran.end == RunEnd::Uncaught(fault_class(Fault::Arithmetic)));
+    assert!(rt; ran.end == RunEnd::Uncaught(class_at(ARITHMETIC)));
     Ok(())
 }
 
