@@ -1,8 +1,10 @@
 // A run.
 ghost use Rattle.std.specs.Prelude.{◌≡◌, IfOk};
+ghost use Rattle.jr_ty.specs.Mirror as t;
 ghost use Rattle.jr_ty.specs.Mirror.{plain_ty};
+ghost use Rattle.jr_machine_defs.specs.Prelude.{string_class};
 ghost use Rattle.jr_core.specs.Mirror.{plain_code, plain_core};
-ghost use Rattle.jr_machine_defs.specs.Steps.{is_running, start_with, IsRunFrom, IsRun};
+ghost use Rattle.jr_machine_defs.specs.Steps.{is_running, start_call, start_with, IsRunFrom, IsRun};
 ghost use Rattle.jr_machine_defs.specs.Follows.{Advances};
 
 use crate::steps::step;
@@ -97,18 +99,32 @@ fn run_call<'a>(alloc: Global, core: &'a Core, item: &'a Ty, call: &'a Code, n: 
     run_from(alloc, &program, state, n)
 }
 
-/// A run of at most `n` steps, from a call of the start method on a new array of strings of length 0 (JLS 12.1.4).
-pub fn run(alloc: Global, core: &Core, start: DeclId, n: u64) -> Result<Ran, OutOfMemory>
-    ensures { IfOk result (λ ran. IsRun (plain_core core.now) start n ran) }
+/// The type of strings.
+fn strings() -> Ty
+    ensures { plain_ty result ≡ t.Class string_class }
 {
-    let strings = Ty::Class(string_class());
+    Ty::Class(string_class())
+}
+
+/// The static call that a run begins with; its argument is there already.
+fn start_call(alloc: Global, start: DeclId) -> Result<Code, OutOfMemory>
+    ensures { IfOk result (λ call. plain_code call ≡ start_call start) }
+{
     let mut args = Items::new(alloc);
     args.push(Code::Lit { value: None })?;
-    let call = Code::Call {
+    Ok(Code::Call {
         receiver: None,
         is_super: false,
         method: start,
         args,
-    };
+    })
+}
+
+/// A run of at most `n` steps, from a call of the start method on a new array of strings of length 0 (JLS 12.1.4).
+pub fn run(alloc: Global, core: &Core, start: DeclId, n: u64) -> Result<Ran, OutOfMemory>
+    ensures { IfOk result (λ ran. IsRun (plain_core core.now) start n ran) }
+{
+    let strings = strings();
+    let call = start_call(alloc, start)?;
     run_call(alloc, core, &strings, &call, n)
 }
