@@ -10,7 +10,9 @@ ghost use Rattle.jr_machine_defs.specs.Follows.{Advances};
 use crate::steps::step;
 use jr_base::{DeclId, Items, OutOfMemory};
 use jr_core::{Code, Core};
-use jr_machine_defs::{Cell, Cells, CodeRef, Frame, Printed, Purpose, Ran, RunEnd, Stack, State, TyRef, Value, Work};
+use jr_machine_defs::{
+    Cell, Cells, CodeRef, Frame, Printed, Purpose, Ran, RunEnd, Stack, State, TyRef, Value, Work,
+};
 use jr_machine_ops::{Program, object_class, string_class};
 use jr_ty::Ty;
 use std::alloc::Global;
@@ -54,7 +56,11 @@ fn start_with<'a>(alloc: Global, item: &'a Ty, call: &'a Code) -> Result<State<'
 
 /// One step; false where no line covers the top item.
 #[tactic(auto, using(crate::proofs::Running::advances))]
-fn advance<'a>(state: &mut State<'a>, alloc: Global, program: &Program<'a>) -> Result<bool, OutOfMemory>
+fn advance<'a>(
+    state: &mut State<'a>,
+    alloc: Global,
+    program: &Program<'a>,
+) -> Result<bool, OutOfMemory>
     ensures { IfOk result (λ went. Advances program.now went state.old state.new) }
 {
     step(state, alloc, program)
@@ -74,7 +80,12 @@ fn into_ran<'a>(state: State<'a>, end: RunEnd, steps: u64) -> Ran
 }
 
 /// A run of at most so many steps from a state.
-fn run_from<'a>(alloc: Global, program: &Program<'a>, mut state: State<'a>, n: u64) -> Result<Ran, OutOfMemory>
+fn run_from<'a>(
+    alloc: Global,
+    program: &Program<'a>,
+    mut state: State<'a>,
+    n: u64,
+) -> Result<Ran, OutOfMemory>
     ensures { IfOk result (λ ran. IsRunFrom program.now state.entry n ran) }
 {
     for i in 0..n {
@@ -91,7 +102,13 @@ fn run_from<'a>(alloc: Global, program: &Program<'a>, mut state: State<'a>, n: u
 }
 
 /// A run of at most so many steps from a call.
-fn run_call<'a>(alloc: Global, core: &'a Core, item: &'a Ty, call: &'a Code, n: u64) -> Result<Ran, OutOfMemory>
+fn run_call<'a>(
+    alloc: Global,
+    core: &'a Core,
+    item: &'a Ty,
+    call: &'a Code,
+    n: u64,
+) -> Result<Ran, OutOfMemory>
     ensures { IfOk result (λ ran. IsRunFrom (plain_core core.entry.now) (start_with (plain_ty item.entry.now) (plain_code call.entry.now)) n ran) }
 {
     let program = Program::new(alloc, core)?;
