@@ -58,16 +58,16 @@ unfolding rule.ctor_block rule.stmts block_at
 block_is room ts =
     and_then_alike (expect y.OpenBrace ts)
     (λ u us. and_then (rule.ctor_first room (rule.stmt room false) (rule.stmt (suc room) true) us) (λ front vs. and_then (many starts_block_stmt (rule.stmt (suc room) true) vs)
-        (λ all ws. and_then (expect y.CloseBrace ws) (λ v. pure (s.BlockOf (s.stmts (front ++ all)))))))
+    (λ all ws. and_then (expect y.CloseBrace ws) (λ v. pure (s.BlockOf (s.stmts (front ++ all)))))))
     (λ u us. and_then (in_room rule.ctor_first room us) (λ front vs. and_then (more_stmts (suc room) front vs)
-        (λ all ws. and_then (expect y.CloseBrace ws) (λ v. pure (s.BlockOf (s.stmts all))))))
+    (λ all ws. and_then (expect y.CloseBrace ws) (λ v. pure (s.BlockOf (s.stmts all))))))
     (λ u us.
     ap (λ o. and_then o (λ front vs. and_then (many starts_block_stmt (rule.stmt (suc room) true) vs) (λ all ws. and_then (expect y.CloseBrace ws) (λ v. pure (s.BlockOf (s.stmts (front ++ all)))))))
     (first_any room (rule.stmt room false) (rule.stmt (suc room) true) (rule.stmt room false) (rule.stmt room true) us)
     ∙ and_then_alike (in_room rule.ctor_first room us)
-      (λ front vs. and_then (many starts_block_stmt (rule.stmt (suc room) true) vs) (λ all ws. and_then (expect y.CloseBrace ws) (λ v. pure (s.BlockOf (s.stmts (front ++ all))))))
-      (λ front vs. and_then (more_stmts (suc room) front vs) (λ all ws. and_then (expect y.CloseBrace ws) (λ v. pure (s.BlockOf (s.stmts all)))))
-      (λ front vs. sym (fronted front (many starts_block_stmt (rule.stmt (suc room) true) vs) (λ all ts. and_then (expect y.CloseBrace ts) (λ u. pure (s.BlockOf (s.stmts all)))))))
+    (λ front vs. and_then (many starts_block_stmt (rule.stmt (suc room) true) vs) (λ all ws. and_then (expect y.CloseBrace ws) (λ v. pure (s.BlockOf (s.stmts (front ++ all))))))
+    (λ front vs. and_then (more_stmts (suc room) front vs) (λ all ws. and_then (expect y.CloseBrace ws) (λ v. pure (s.BlockOf (s.stmts all)))))
+    (λ front vs. sym (fronted front (many starts_block_stmt (rule.stmt (suc room) true) vs) (λ all ts. and_then (expect y.CloseBrace ts) (λ u. pure (s.BlockOf (s.stmts all)))))))
 
 block_here : (room : ℕ) (ts : List Kind) → block_at (room - 1) room ts ≡ ctor_block room ts
 unfolding block_at
