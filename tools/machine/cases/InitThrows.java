@@ -1,0 +1,18 @@
+package cases;
+
+/** A throw out of the initialization of a class ends the run. */
+class InitThrows {
+    static class Failing {
+        static int zero = 0;
+        static int n = 1 / zero;
+    }
+
+    public static void main(String[] args) {
+        System.out.println("before");
+        try {
+            System.out.println(Failing.n);
+        } finally {
+            System.out.print("");
+        }
+    }
+}
