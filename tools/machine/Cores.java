@@ -258,7 +258,7 @@ class Cores {
                 put("if_else");
             }
         } else if (tree instanceof JCExpressionStatement effect) {
-            effect(effect.expr);
+            effect(effect);
         } else if (tree instanceof JCForLoop loop) {
             forLoop(loop);
         } else if (tree instanceof JCReturn back) {
@@ -276,11 +276,11 @@ class Cores {
         }
     }
 
-    private void effect(JCExpression tree) {
-        if (TreeInfo.skipParens(tree) instanceof JCMethodInvocation call && TreeInfo.isSelfCall(call)) {
-            constructorCall(call);
+    private void effect(JCExpressionStatement tree) {
+        if (TreeInfo.isSelfCall(tree)) {
+            constructorCall((JCMethodInvocation) tree.expr);
         } else {
-            expression(tree);
+            expression(tree.expr);
             put("eval");
         }
     }
@@ -320,13 +320,14 @@ class Cores {
     private void switchStatement(JCSwitch tree) {
         expression(tree.selector);
         for (JCCase group : tree.cases) {
+            int count = statements(group.stats);
             for (JCExpression label : group.getExpressions()) {
                 put("case", ((Number) label.type.constValue()).intValue());
             }
             if (group.getExpressions().isEmpty()) {
                 put("default");
             }
-            put("group", statements(group.stats));
+            put("group", count);
         }
         put("switch", tree.cases.size());
     }

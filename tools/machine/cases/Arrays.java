@@ -14,7 +14,7 @@ class Arrays {
         System.out.println(b.length + " " + b[2][2] + " " + b[1].length + " " + (b[3] == null));
         long[] l = {1, 'a', f(2)};
         System.out.println(l[0] + l[1] + l[2]);
-        System.out.println(new boolean[1][0].length + " " + new boolean[1][1][0][0] + " " + new char[] {'x'}[0]);
+        System.out.println(new boolean[1][0].length + " " + (new boolean[1][1])[0][0] + " " + new char[] {'x'}[0]);
         byte[] bytes = {1, -1};
         bytes[0] = 127;
         System.out.println(bytes[0] + bytes[1]);
