@@ -72,7 +72,6 @@ fn into_ran<'a>(state: State<'a>, end: RunEnd, steps: u64) -> Ran
 }
 
 /// A run of at most so many steps from a state.
-#[tactic(auto, using(crate::proofs::Running::runs_on, crate::proofs::Running::stays_ended, crate::proofs::Running::stays_stuck))]
 fn run_from<'a>(alloc: Global, program: &Program<'a>, mut state: State<'a>, n: u64) -> Result<Ran, OutOfMemory>
     ensures { IfOk result (λ ran. IsRunFrom program.now state.entry n ran) }
 {
@@ -89,6 +88,15 @@ fn run_from<'a>(alloc: Global, program: &Program<'a>, mut state: State<'a>, n: u
     Ok(into_ran(state, end, n))
 }
 
+/// A run of at most so many steps from a call.
+fn run_call<'a>(alloc: Global, core: &'a Core, item: &'a Ty, call: &'a Code, n: u64) -> Result<Ran, OutOfMemory>
+    ensures { IfOk result (λ ran. IsRunFrom (plain_core core.entry.now) (start_with (plain_ty item.entry.now) (plain_code call.entry.now)) n ran) }
+{
+    let program = Program::new(alloc, core)?;
+    let state = start_with(alloc, item, call)?;
+    run_from(alloc, &program, state, n)
+}
+
 /// A run of at most `n` steps, from a call of the start method on a new array of strings of length 0 (JLS 12.1.4).
 pub fn run(alloc: Global, core: &Core, start: DeclId, n: u64) -> Result<Ran, OutOfMemory>
     ensures { IfOk result (λ ran. IsRun (plain_core core.now) start n ran) }
@@ -102,7 +110,5 @@ pub fn run(alloc: Global, core: &Core, start: DeclId, n: u64) -> Result<Ran, Out
         method: start,
         args,
     };
-    let program = Program::new(alloc, core)?;
-    let state = start_with(alloc, &strings, &call)?;
-    run_from(alloc, &program, state, n)
+    run_call(alloc, core, &strings, &call, n)
 }

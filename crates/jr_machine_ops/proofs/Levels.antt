@@ -1,5 +1,5 @@
 -- One level up, and one object out.
-use Rattle.std.proofs.Common.{◌≡◌, refl, ap, ◌∙◌, ℕ, zero, suc, ◌-◌, ◌<◌, Bool, true, false, List, [], ◌∷◌, length, Option, Some, None, sub-one, arith}
+use Rattle.std.proofs.Common.{◌≡◌, refl, ap, ◌∙◌, ℕ, zero, suc, ◌-◌, ◌<◌, true, false, List, [], ◌∷◌, length, Some, None, sub-one, arith}
 use Rattle.jr_base.specs.declared.ids.TypeId.{TypeId}
 use Rattle.jr_core.specs.Mirror.{Core}
 use Rattle.jr_machine_defs.specs.declared.value.Value.{Value}

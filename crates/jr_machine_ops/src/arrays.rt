@@ -1,5 +1,5 @@
 // Creation of arrays (JLS 15.10, 10.6).
-ghost use Rattle.std.specs.Prelude.{◌≡◌, ◌+◌, ◌*◌, ◌++◌, [], ◌∷◌, IfOk, OnOk, false, length, replicate};
+ghost use Rattle.std.specs.Prelude.{◌≡◌, ◌+◌, ◌*◌, ◌++◌, [], IfOk, OnOk, false, length, replicate};
 ghost use Rattle.jr_ty.specs.Mirror.{plain_ty};
 ghost use Rattle.jr_machine_defs.specs.Values.{default_of};
 ghost use Rattle.jr_machine_defs.specs.Arrays.{makes_array, references, arrays_of_arrays, arrays, is_array_of, makes_fit, makes_arrays, sizes_from};

@@ -1,7 +1,7 @@
 // Objects that enclose others (JLS 8.1.3).
 ghost use Rattle.std.specs.Prelude.{◌≡◌};
 ghost use Rattle.std.specs.Option.{option_copied};
-ghost use Rattle.jr_machine_defs.specs.Control.{outer_of, outer_class, instance_at, instance_of};
+ghost use Rattle.jr_machine_defs.specs.Control.{outer_of, outer_class, instance_of};
 
 use crate::program::Program;
 use crate::variables::same_type;

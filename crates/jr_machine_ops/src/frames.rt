@@ -1,9 +1,7 @@
 // Initialization of classes, and frames that are put on (JLS 12.4, 12.5, 15.12.4).
-ghost use Rattle.std.specs.Prelude.{◌≡◌, [], ◌∷◌, ◌++◌, OnOk, IfOk};
+ghost use Rattle.std.specs.Prelude.{◌≡◌, ◌∷◌, ◌++◌, OnOk, IfOk};
 ghost use Rattle.std.specs.Option.{option_copied, option_map};
-ghost use Rattle.jr_core.specs.Mirror as m;
 ghost use Rattle.jr_core.specs.Mirror.{plain_body, plain_code};
-ghost use Rattle.jr_machine_defs.specs.Classes.{body_in, class_in};
 ghost use Rattle.jr_machine_defs.specs.Initialization.{body_work, members_work, class_work, begin_work, parent_work, begins, static_class, class_of_body, target_class, assigned_class, used_class, first_use};
 ghost use Rattle.jr_machine_defs.specs.Calls.{slots_of, enters};
 

@@ -19,16 +19,13 @@ mod variables;
 pub use arrays::{make_array, make_arrays, place_in};
 pub use changes::{drop_receiver, give, push, push_value, raise, set_local, settle, take, throw};
 pub use codes::{push_codes, push_eval};
-pub use conversions::{cast_back, converted_to, stepped};
+pub use conversions::{converted_to, stepped};
 pub use frames::{begin, enter, first_use, push_class};
 pub use natives::native_call;
-pub use operators::{number_of, number_value, on_bools, on_numbers, unary};
-pub use prelude::{
-    char_at_method, decl_at, equals_method, fault_class, length_method, object_class, print_method,
-    string_class, to_string_method, type_at,
-};
+pub use operators::{number_of, unary};
+pub use prelude::{object_class, string_class, to_string_method};
 pub use program::Program;
 pub use references::{binary, compound};
 pub use subtypes::{class_of_object, is_among};
-pub use texts::{append, int_of_count, joined, shown, text_of, units_of};
+pub use texts::{int_of_count, text_of, units_of};
 pub use variables::{assign, default_of, same_decl, same_type, value_of};

@@ -1,6 +1,6 @@
 // Operators on references, and on any operands (JLS 15.18.1, 15.21.3, 15.26.2).
 ghost use Rattle.std.specs.Prelude.{◌≡◌, IfOk};
-ghost use Rattle.jr_machine_defs.specs.Operators.{same_object, compared, on_references, on_others, on_any, binary, compound, number_of};
+ghost use Rattle.jr_machine_defs.specs.Operators.{same_object, compared, on_references, on_others, binary, compound, number_of};
 
 use crate::conversions::cast_back;
 use crate::operators::{number_of, on_bools, on_numbers};

@@ -77,8 +77,8 @@ impl<'a> Program<'a> {
         Ok(())
     }
 
-    #[tactic(auto, using(crate::proofs::Levels::above_step, crate::proofs::Levels::above_none))]
     /// Whether the second is among the classes and interfaces above the first, or is the first.
+    #[tactic(auto, using(crate::proofs::Levels::above_step, crate::proofs::Levels::above_none))]
     fn is_above(&self, alloc: Global, low: TypeId, high: TypeId) -> Result<bool, OutOfMemory>
         ensures { IfOk result (λ answer. answer ≡ is_above self.now (length self.now.classes) (low ∷ []) high) }
     {

@@ -1,5 +1,5 @@
 // Look-ups and assignments of variables (JLS 4.12.3).
-ghost use Rattle.std.specs.Prelude.{◌≡◌, ◌≤◌, ◌<◌, length, OnOk};
+ghost use Rattle.std.specs.Prelude.{◌≡◌, OnOk};
 ghost use Rattle.std.specs.Option.{option_copied};
 ghost use Rattle.jr_machine_defs.specs.Values.{same_decl, same_type, value_of, assigned, default_of};
 ghost use Rattle.jr_machine_defs.specs.Finding.{slot_index};

@@ -49,7 +49,7 @@ many_stmts : (all : s.Stmts) (rest : List Kind) → write_stmts all rest ≡ wri
 many_stmts s.no_stmts rest = refl
 many_stmts (s.more_stmts a all) rest = ap (write_stmt a) (many_stmts all rest)
 
-stmts_many : (all : List s.Stmt) (rest : List Kind) → write_many write_stmt all rest ≡ write_stmts (s.stmts all) rest
+pub stmts_many : (all : List s.Stmt) (rest : List Kind) → write_many write_stmt all rest ≡ write_stmts (s.stmts all) rest
 stmts_many [] rest = refl
 stmts_many (a ∷ all) rest = ap (write_stmt a) (stmts_many all rest)
 
@@ -65,7 +65,7 @@ stmt_token a h = go (stmt_tokens a) (stmt_written a []) where
   go [] e = absurd (let starts = stmt_starts a [] h in let none : starts_block_stmt (first (write_stmt a [])) ≡ false = ap (λ ts. starts_block_stmt (first ts)) e in cc)
   go (t ∷ tokens) e = omega arith
 
-stmt_longer : (room : ℕ) (a : s.Stmt) (rest : List Kind) → IsStmt room true a → suc (length rest) ≤ length (write_stmt a rest)
+pub stmt_longer : (room : ℕ) (a : s.Stmt) (rest : List Kind) → IsStmt room true a → suc (length rest) ≤ length (write_stmt a rest)
 stmt_longer room a rest is =
     let one = stmt_token a is.shaped in
     rw (stmt_written a rest, length-append) (omega arith)
@@ -73,7 +73,7 @@ stmt_longer room a rest is =
 -- ---- blocks
 
 module _ (room : ℕ) (inner outer : Parser s.Stmt) (most : ℕ) (reads : ReadsOne most true outer) where
-  stmts_item : Sound (IsStmt most true) write_stmt outer
+  pub stmts_item : Sound (IsStmt most true) write_stmt outer
   stmts_item ts r h = let found = reads.sound ts r h in (found.is, found.written)
 
   pub stmts_read : (all : s.Stmts) (rest : List Kind) → AreShapedStmts all → stmts_depth all ≤ most → starts_block_stmt (first rest) ≡ false → Calm (first rest)
@@ -119,14 +119,14 @@ module _ (room : ℕ) (inner outer : Parser s.Stmt) (most : ℕ) (reads : ReadsO
 
   -- ---- handlers
 
-  abbrev FitsCatch : s.Catch → Type 0
+  abbrev pub FitsCatch : s.Catch → Type 0
   FitsCatch c = IsShapedCatch c × (catch_depth c ≤ most)
 
   catch_read : (c : s.Catch) (rest : List Kind) → FitsCatch c → reader.catch_clause room inner outer (write_catch c rest) ≡ Ok (c, rest)
   unfolding reader.catch_clause
   catch_read (s.CatchOf p b) rest is = rw (param_read p (kind.Sym y.CloseParen ∷ write_block b rest) is.0.0 refl, block_read b rest is.0.1 is.1) refl
 
-  catch_sound : Sound FitsCatch write_catch (reader.catch_clause room inner outer)
+  pub catch_sound : Sound FitsCatch write_catch (reader.catch_clause room inner outer)
   unfolding reader.catch_clause
   catch_sound ts r h =
       let a = eats_word k.Catch ts _ r h in
@@ -143,7 +143,7 @@ module _ (room : ℕ) (inner outer : Parser s.Stmt) (most : ℕ) (reads : ReadsO
             (b.written ∙ ap (λ us. kind.Sym y.OpenParen ∷ us) (is_param.1 ∙ ap (write_param p.0.0) (c.written ∙ ap (λ us. kind.Sym y.CloseParen ∷ us) found.written))),
       )
 
-  catch_longer : (c : s.Catch) (rest : List Kind) → FitsCatch c → suc (length rest) ≤ length (write_catch c rest)
+  pub catch_longer : (c : s.Catch) (rest : List Kind) → FitsCatch c → suc (length rest) ≤ length (write_catch c rest)
   catch_longer (s.CatchOf p b) rest is = longer_first (catch_tokens (s.CatchOf p b)) rest (write_catch (s.CatchOf p b) rest) (kind.Word k.Catch) (catch_written (s.CatchOf p b) rest) refl
 
   abbrev listed_catches : s.Catches → List s.Catch
@@ -170,7 +170,7 @@ module _ (room : ℕ) (inner outer : Parser s.Stmt) (most : ℕ) (reads : ReadsO
       let others : catches_depth (s.catches all) ≤ most = more.1 in
       ((h.0.0, more.0), omega arith)
 
-  catches_many : (all : List s.Catch) (rest : List Kind) → write_many write_catch all rest ≡ write_catches (s.catches all) rest
+  pub catches_many : (all : List s.Catch) (rest : List Kind) → write_many write_catch all rest ≡ write_catches (s.catches all) rest
   catches_many [] rest = refl
   catches_many (c ∷ all) rest = ap (write_catch c) (catches_many all rest)
 

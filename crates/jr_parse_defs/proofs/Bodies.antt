@@ -42,7 +42,7 @@ bodies_sound room ts read h =
 
 -- ---- the first statement of a constructor's body
 
-abbrev is_own : Option Kind → Bool
+abbrev pub is_own : Option Kind → Bool
 is_own (Some (kind.Word k.This)) = true
 is_own (Some (kind.Word k.Super)) = true
 is_own _ = false
@@ -232,10 +232,10 @@ module _ (room : ℕ) where
   -- ---- what is read is written
 
   -- the statement that was read first, if one was
-  record FrontFound (ts : List Kind) (r : List s.Stmt × List Kind) : Type 0 where
-    shaped : (all : List s.Stmt) → AreShapedStmts (s.stmts all) → IsShapedCtorBody (s.BlockOf (s.stmts (r.0 ++ all)))
-    low : (all : List s.Stmt) → stmts_depth (s.stmts all) ≤ suc room → stmts_depth (s.stmts (r.0 ++ all)) ≤ suc room
-    written : (all : List s.Stmt) (rest : List Kind) → r.1 ≡ write_stmts (s.stmts all) rest → ts ≡ write_stmts (s.stmts (r.0 ++ all)) rest
+  pub record FrontFound (ts : List Kind) (r : List s.Stmt × List Kind) : Type 0 where
+    pub shaped : (all : List s.Stmt) → AreShapedStmts (s.stmts all) → IsShapedCtorBody (s.BlockOf (s.stmts (r.0 ++ all)))
+    pub low : (all : List s.Stmt) → stmts_depth (s.stmts all) ≤ suc room → stmts_depth (s.stmts (r.0 ++ all)) ≤ suc room
+    pub written : (all : List s.Stmt) (rest : List Kind) → r.1 ≡ write_stmts (s.stmts all) rest → ts ≡ write_stmts (s.stmts (r.0 ++ all)) rest
 
   -- a statement's shape as a body's
   as_body : (all : s.Stmts) → AreShapedStmts all → IsShapedCtorBody (s.BlockOf all)
@@ -246,7 +246,7 @@ module _ (room : ℕ) where
   none_found : (ts : List Kind) → FrontFound ts ([], ts)
   none_found ts = record { shaped = λ all h. as_body (s.stmts all) h; low = λ all l. l; written = λ all rest e. e }
 
-  call_sound : (called : ThisOrSuper) (lead : Lead) (ts : List Kind) (r : s.Stmt × List Kind) → IsLed lead (first ts) → kind.Word (which_word called) ∷ ts ≡ write_lead lead ts → reader.ctor_call room inner outer called lead ts ≡ Ok r
+  pub call_sound : (called : ThisOrSuper) (lead : Lead) (ts : List Kind) (r : s.Stmt × List Kind) → IsLed lead (first ts) → kind.Word (which_word called) ∷ ts ≡ write_lead lead ts → reader.ctor_call room inner outer called lead ts ≡ Ok r
       → FrontFound (kind.Word (which_word called) ∷ ts) (r.0 ∷ [], r.1)
   call_sound called lead ts r fits same h =
       elim (chosen (is_at y.OpenParen ts) _ _ _ h) [
@@ -272,7 +272,7 @@ module _ (room : ℕ) where
             })
       ]
 
-  front_sound : (ts : List Kind) (r : List s.Stmt × List Kind) → reader.ctor_first room inner outer ts ≡ Ok r → FrontFound ts r
+  pub front_sound : (ts : List Kind) (r : List s.Stmt × List Kind) → reader.ctor_first room inner outer ts ≡ Ok r → FrontFound ts r
   unfolding reader.ctor_first
   front_sound [] r h = subst (FrontFound []) (ok_is h) (none_found [])
   front_sound (kind.Word k.This ∷ ts) r h =
@@ -311,7 +311,7 @@ pub ctors_complete : IsCtorBodyComplete
 ctors_complete zero b rest h low = bodies_complete zero b rest (empty_body b h low) low
 ctors_complete (suc room) b rest h low = ctor_read room b rest h low
 
-plain_body : (b : s.Block) → IsShapedBlock b → IsShapedCtorBody b
+pub plain_body : (b : s.Block) → IsShapedBlock b → IsShapedCtorBody b
 plain_body (s.BlockOf s.no_stmts) h = h
 plain_body (s.BlockOf (s.more_stmts (s.CtorCall called args) all)) h = absurd h.0
 plain_body (s.BlockOf (s.more_stmts a all)) h = h

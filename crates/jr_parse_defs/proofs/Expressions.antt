@@ -152,16 +152,16 @@ pub record EffectFound (room : ℕ) (ts : List Kind) (r : x.Expr × List Kind) :
 pub found_effect : (room : ℕ) (lead : Lead) (ts : List Kind) (r : x.Expr × List Kind) → IsLed lead (first ts) → effect room lead ts ≡ Ok r → EffectFound room (write_lead lead ts) r
 found_effect room lead ts r fits h = let found = effect_sound room lead ts r fits h in record { is = found.is.is; low = found.is.low; written = found.written }
 
-abbrev Fits : ℕ → x.Expr → Type 0
+abbrev pub Fits : ℕ → x.Expr → Type 0
 Fits room e = IsStatementExpr e × (expr_depth e ≤ room)
 
-later_sound : (room : ℕ) → Sound (Fits room) (write_after write_expr) (after_comma (effect room Nothing))
+pub later_sound : (room : ℕ) → Sound (Fits room) (write_after write_expr) (after_comma (effect room Nothing))
 later_sound room ts r h =
     let a = eats y.Comma ts _ r h in
     let found = found_effect room Nothing a.rest r tt a.more in
     ((found.is, found.low), a.written ∙ ap (λ us. kind.Sym y.Comma ∷ us) found.written)
 
-later_longer : (room : ℕ) (e : x.Expr) (rest : List Kind) → Fits room e → suc (length rest) ≤ length (write_after write_expr e rest)
+pub later_longer : (room : ℕ) (e : x.Expr) (rest : List Kind) → Fits room e → suc (length rest) ≤ length (write_after write_expr e rest)
 later_longer room e rest is = let l = longer e rest in omega arith
 
 closes_comma : (o : Option Kind) → begins_with y.Comma o ≡ true → Closes o

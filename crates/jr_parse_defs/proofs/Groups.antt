@@ -1,5 +1,5 @@
 -- Reading the groups of a switch is exact in both directions.
-use Rattle.std.proofs.Common.{◌≡◌, ℕ, zero, suc, ◌≤◌, true, false, not, List, [], ◌∷◌, length, Ok, refl, ap, ◌∙◌, subst, inl, inr, arith}
+use Rattle.std.proofs.Common.{◌≡◌, ℕ, zero, suc, ◌≤◌, true, false, not, cond, List, [], ◌∷◌, length, Ok, refl, ap, ◌∙◌, subst, inl, inr, arith}
 use Rattle.std.specs.List.{AllByRecursion}
 use Rattle.jr_base.specs.declared.kind.Kind.{Kind}
 use Rattle.jr_base.specs.declared.kind.Kind.TheVariants as kind
@@ -9,8 +9,9 @@ use Rattle.jr_tree.specs.Shape.{is_empty, has_stmt, group_fits, IsShapedLabel, I
 use Rattle.jr_tree.specs.Depth.{deepest, label_depth, stmts_depth, group_depth, groups_depth}
 use Rattle.jr_tree.specs.Tokens.{group_tokens, label_tokens}
 use Rattle.jr_tree.specs.Mirror.Stmts as s
-use Rattle.jr_parse_laws.specs.Parsers.{Parser, first, many, many_from}
+use Rattle.jr_parse_laws.specs.Parsers.{Parser, first, refuse, many, many_from}
 use Rattle.jr_parse_laws.proofs.Outcomes.{bind_ok, chosen, ok_is, err_ok}
+use Rattle.jr_parse_laws.proofs.Lists.{Shortens}
 use Rattle.jr_parse_expr.specs.Exprs.{Nothing, next_token, expr}
 use Rattle.jr_parse_expr.specs.Writing.{write_expr}
 use Rattle.jr_parse_defs.specs.Begins.{starts_block_stmt, starts_label}
@@ -24,26 +25,26 @@ use Rattle.jr_parse_defs.proofs.Endings.{Calm, calm_label, stmt_no_label, label_
 use Rattle.jr_parse_defs.proofs.Named.{ReadsOne}
 use Rattle.jr_parse_defs.proofs.Blocks.{stmts_listed, longer_first, stmts_read, stmts_sound}
 
-abbrev labels_of : s.Group → List s.SwitchLabel
+abbrev pub labels_of : s.Group → List s.SwitchLabel
 labels_of (s.GroupOf labels all) = labels
 
-abbrev stmts_of : s.Group → s.Stmts
+abbrev pub stmts_of : s.Group → s.Stmts
 stmts_of (s.GroupOf labels all) = all
 
 -- ---- labels
 
 module _ (room : ℕ) (inner outer : Parser s.Stmt) (reads : ReadsOne room true outer) where
-  abbrev FitsLabel : s.SwitchLabel → Type 0
+  abbrev pub FitsLabel : s.SwitchLabel → Type 0
   FitsLabel l = IsShapedLabel l × (label_depth l ≤ room)
 
-  abbrev label : Parser s.SwitchLabel
+  abbrev pub label : Parser s.SwitchLabel
   label = next_token (reader.label_by room inner outer)
 
   label_read : (l : s.SwitchLabel) (rest : List Kind) → FitsLabel l → label (write_label l rest) ≡ Ok (l, rest)
   label_read (s.Case value) rest is = rw (whole room value (kind.Sym y.Colon ∷ rest) is.0 is.1 (record { cast = refl; none = refl })) refl
   label_read s.Default rest is = refl
 
-  label_sound : Sound FitsLabel write_label label
+  pub label_sound : Sound FitsLabel write_label label
   label_sound [] r h = absurd (err_ok h)
   label_sound (kind.Word k.Case ∷ ts) r h =
       let e = bind_ok (expr room Nothing 0 ts) _ r h in
@@ -56,7 +57,7 @@ module _ (room : ℕ) (inner outer : Parser s.Stmt) (reads : ReadsOne room true 
       subst (λ (r : s.SwitchLabel × List Kind). FitsLabel r.0 × (kind.Word k.Default ∷ ts ≡ write_label r.0 r.1)) (ok_is a.more) ((tt, omega arith), ap (λ us. kind.Word k.Default ∷ us) a.written)
   label_sound (token ∷ ts) r h = absurd (err_ok h)
 
-  label_longer : (l : s.SwitchLabel) (rest : List Kind) → FitsLabel l → suc (length rest) ≤ length (write_label l rest)
+  pub label_longer : (l : s.SwitchLabel) (rest : List Kind) → FitsLabel l → suc (length rest) ≤ length (write_label l rest)
   label_longer (s.Case value) rest is = longer_first (label_tokens (s.Case value)) rest (write_label (s.Case value) rest) (kind.Word k.Case) (label_written (s.Case value) rest) refl
   label_longer s.Default rest is = omega arith
 
@@ -89,7 +90,7 @@ module _ (room : ℕ) (inner outer : Parser s.Stmt) (reads : ReadsOne room true 
     -- no label follows labels alone
     pub alone : has_stmt (stmts_of r.0) ≡ false → starts_label (first r.1) ≡ false
 
-  some_label : (ls : List s.SwitchLabel) (us ts : List Kind) → starts_label (first ts) ≡ true → ts ≡ write_labels ls us → starts_label (first us) ≡ false → not (is_empty ls) ≡ true
+  pub some_label : (ls : List s.SwitchLabel) (us ts : List Kind) → starts_label (first ts) ≡ true → ts ≡ write_labels ls us → starts_label (first us) ≡ false → not (is_empty ls) ≡ true
   some_label [] us ts starts same over = absurd (let g : starts_label (first ts) ≡ starts_label (first us) = ap (λ ts. starts_label (first ts)) same in cc)
   some_label (l ∷ ls) us ts starts same over = refl
 
@@ -97,7 +98,7 @@ module _ (room : ℕ) (inner outer : Parser s.Stmt) (reads : ReadsOne room true 
   label_after s.no_stmts us rest same over h = subst (λ us. starts_label (first us) ≡ false) same over
   label_after (s.more_stmts a all) us rest same over h = absurd (cc)
 
-  group_sound : (ts : List Kind) (r : s.Group × List Kind) → starts_label (first ts) ≡ true → reader.group room inner outer ts ≡ Ok r → GroupFound ts r
+  pub group_sound : (ts : List Kind) (r : s.Group × List Kind) → starts_label (first ts) ≡ true → reader.group room inner outer ts ≡ Ok r → GroupFound ts r
   unfolding reader.group
   group_sound ts r starts h =
       let ls = bind_ok (many starts_label label ts) _ r h in
@@ -176,6 +177,17 @@ module _ (room : ℕ) (inner outer : Parser s.Stmt) (reads : ReadsOne room true 
     pub low : groups_depth (s.groups r.0) ≤ room
     pub written : ts ≡ write_groups (s.groups r.0) r.1
 
+  pub groups_shorten : Shortens (λ ts. cond (starts_label (first ts)) (reader.group room inner outer ts) (refuse ts))
+  groups_shorten ts g rest h =
+      elim (chosen (starts_label (first ts)) _ _ _ h) [
+        | inl t ↦
+            (let found = group_sound ts (g, rest) t.0 t.1 in
+            let l = group_longer g rest found.shaped in
+            let same = ap (λ (ts : List Kind). length ts) found.written in
+            omega arith)
+        | inr t ↦ absurd (err_ok t.1)
+      ]
+
   -- a group of labels alone is the last
   fits_before : (g : s.Group) (all : s.Groups) (us rest : List Kind) → AreShapedGroups all → us ≡ write_groups all rest → (has_stmt (stmts_of g) ≡ false → starts_label (first us) ≡ false) → group_fits g all ≡ true
   fits_before (s.GroupOf ls (s.more_stmts a bs)) all us rest h same alone = refl
@@ -183,7 +195,7 @@ module _ (room : ℕ) (inner outer : Parser s.Stmt) (reads : ReadsOne room true 
   fits_before (s.GroupOf ls s.no_stmts) (s.more_groups b all) us rest h same alone =
       absurd (let over = alone refl in let starts = group_starts b (write_groups all rest) h.0 in let g : starts_label (first us) ≡ starts_label (first (write_group b (write_groups all rest))) = ap (λ ts. starts_label (first ts)) same in cc)
 
-  group_low : (g : s.Group) → deepest label_depth (labels_of g) ≤ room → stmts_depth (stmts_of g) ≤ room → group_depth g ≤ room
+  pub group_low : (g : s.Group) → deepest label_depth (labels_of g) ≤ room → stmts_depth (stmts_of g) ≤ room → group_depth g ≤ room
   group_low (s.GroupOf ls all) a b = omega arith
 
   groups_from_sound : (turns : ℕ) (ts : List Kind) (r : List s.Group × List Kind) → length ts ≤ turns → many_from starts_label (reader.group room inner outer) turns ts ≡ Ok r → GroupsFound ts r

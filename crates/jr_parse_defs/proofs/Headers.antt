@@ -136,9 +136,9 @@ module _ (room : ℕ) (inner outer : Parser s.Stmt) where
   unfolding reader.for_first
   first_sound [] r h = subst (FirstFound []) (ok_is h) (record { shaped = tt; low = omega arith; written = refl })
   first_sound (kind.Ident head ∷ ts) r h =
-      let i = bind_ok (and_then (dotted true [] head ts) (reader.first_named room inner outer)) _ r h in
-      let d = bind_ok (dotted true [] head ts) (reader.first_named room inner outer) i.0 i.1 in
-      let found = dotted_sound true [] head ts d.0 d.1 in
+      let i = bind_ok (and_then (dotted (reader.has_this room) [] head ts) (reader.first_named room inner outer)) _ r h in
+      let d = bind_ok (dotted (reader.has_this room) [] head ts) (reader.first_named room inner outer) i.0 i.1 in
+      let found = dotted_sound (reader.has_this room) [] head ts d.0 d.1 in
       some_found (kind.Ident head ∷ ts) i.0 r (subst (λ ts. InitFound ts i.0) (sym found.written) (named_sound d.0.0 d.0.1 i.0 found.ended d.2)) i.2
   first_sound (token ∷ ts) r h = other_sound token ts r h
 
@@ -178,7 +178,7 @@ module _ (room : ℕ) (inner outer : Parser s.Stmt) where
         → reader.for_first room inner outer (write_all all (write_brackets pairs (write_declarators ds (semi rest)))) ≡ Ok (Some (s.Locals false (type_of (base.Named (name_of all)) pairs) ds), semi rest)
     of_parts [] some = absurd (cc)
     of_parts (head ∷ all) some =
-        let d = dotted_name true [] head all (write_brackets pairs (write_declarators ds (semi rest))) (no_dot pairs ds rest are) in
+        let d = dotted_name (reader.has_this room) [] head all (write_brackets pairs (write_declarators ds (semi rest))) (no_dot pairs ds rest are) in
         rw (d.read, variable_read (name_of (head ∷ all)) d.front d.last pairs ds rest are (ap name_of d.parts)) refl
 
   final_read : (t : TypeUse) (ds : List s.Declarator) (rest : List Kind) → IsTypeUse t → AreVariables room ds
@@ -214,7 +214,8 @@ module _ (room : ℕ) (inner outer : Parser s.Stmt) where
       let m = pred_of e low in
       let n = name_first m.0 head us e _ same (subst (λ room. effect room Nothing (kind.Ident head ∷ us) ≡ Ok (e, write_others es (semi rest))) m.1 h) in
       let more = subst (λ room. effect room (Named n.d) n.ts ≡ Ok (e, write_others es (semi rest))) (sym m.1) n.more in
-      rw (n.front, from_named n.d n.ts e es rest m.0 m.1 is low are low_es n.written more) refl
+      let front = ap (λ room. dotted (reader.has_this room) [] head us) m.1 ∙ n.front in
+      rw (front, from_named n.d n.ts e es rest m.0 m.1 is low are low_es n.written more) refl
   effects_from (token ∷ us) e es rest is low are low_es same starts h =
       ap (λ b. cond b (and_then (reader.finality (token ∷ us)) (λ b ts. and_then (type_use ts) (λ t ts. and_then (reader.locals room inner outer b t ts) (λ i ts. Ok (Some i, ts)))))
       (cond (begins_effect token) (and_then (reader.first_effects room inner outer Nothing (token ∷ us)) (λ i ts. Ok (Some i, ts))) (Ok (None, token ∷ us)))) (no_local_effect token starts)

@@ -151,7 +151,7 @@ import_read (import.Single n) rest h = single_name n.parts rest h
 import_read (import.OnDemand n) rest h = demand_name n.parts rest h
 import_read (import.StaticSingle n member) rest h = static_name n.parts member rest h
 
-import_sound : Sound IsShapedImport write_import reader.import_decl
+pub import_sound : Sound IsShapedImport write_import reader.import_decl
 unfolding reader.import_decl
 import_sound ts r h =
     let w = eats_word k.Import ts _ r h in
@@ -167,7 +167,7 @@ import_sound ts r h =
           (found.shaped, w.written ∙ ap (λ us. kind.Word k.Import ∷ us) (identifier_token.took w.rest n.0 n.1) ∙ found.written))
     ]
 
-import_longer : (i : Import) (rest : List Kind) → IsShapedImport i → suc (length rest) ≤ length (write_import i rest)
+pub import_longer : (i : Import) (rest : List Kind) → IsShapedImport i → suc (length rest) ≤ length (write_import i rest)
 import_longer (import.Single n) rest h = let i = import.Single n in longer_first (import_tokens i) rest (write_import i rest) (kind.Word k.Import) (import_written i rest) refl
 import_longer (import.OnDemand n) rest h = let i = import.OnDemand n in longer_first (import_tokens i) rest (write_import i rest) (kind.Word k.Import) (import_written i rest) refl
 import_longer (import.StaticSingle n member) rest h = let i = import.StaticSingle n member in longer_first (import_tokens i) rest (write_import i rest) (kind.Word k.Import) (import_written i rest) refl
@@ -204,7 +204,7 @@ package_read : (p : Option PackageDecl) (rest : List Kind) → IfSome p IsShaped
 package_read None rest h none = rw none refl
 package_read (Some p) rest h none = rw (name_read p.name (semi rest) h refl) refl
 
-package_sound : (ts : List Kind) (r : Option PackageDecl × List Kind) → reader.package_decl ts ≡ Ok r → IfSome r.0 IsShapedPackage × (ts ≡ write_some write_package r.0 r.1)
+pub package_sound : (ts : List Kind) (r : Option PackageDecl × List Kind) → reader.package_decl ts ≡ Ok r → IfSome r.0 IsShapedPackage × (ts ≡ write_some write_package r.0 r.1)
 package_sound ts r h =
     elim (chosen (is_at_word k.Package ts) _ _ _ h) [
       | inl t ↦
@@ -219,13 +219,13 @@ package_sound ts r h =
 
 -- ---- declarations of a unit
 
-abbrev Fits : ℕ → d.TypeDecl → Type 0
+abbrev pub Fits : ℕ → d.TypeDecl → Type 0
 Fits room t = IsShapedDecl t × (decl_depth t ≤ room)
 
-decl_item : (room : ℕ) → Sound (Fits room) write_decl (reader.modifiers >>= reader.decl room)
+pub decl_item : (room : ℕ) → Sound (Fits room) write_decl (reader.modifiers >>= reader.decl room)
 decl_item room ts r h = let found = decls_sound room ts r h in ((found.shaped, found.low), found.written)
 
-decl_longer : (room : ℕ) (t : d.TypeDecl) (rest : List Kind) → Fits room t → suc (length rest) ≤ length (write_decl t rest)
+pub decl_longer : (room : ℕ) (t : d.TypeDecl) (rest : List Kind) → Fits room t → suc (length rest) ≤ length (write_decl t rest)
 decl_longer room t rest is = longer_starts starts_decl (decl_tokens t) rest (write_decl t []) (write_decl t rest) refl (decl_written t []) (decl_starts t []) (decl_written t rest)
 
 decls_read : (room : ℕ) (ts : List d.TypeDecl) → AllByRecursion IsShapedDecl ts → deepest decl_depth ts ≤ room → many starts_decl (reader.modifiers >>= reader.decl room) (write_decls ts []) ≡ Ok (ts, [])

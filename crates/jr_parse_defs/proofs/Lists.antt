@@ -1,10 +1,12 @@
 -- Lists of items as long as one begins: what is written is read, and what is read is written.
-use Rattle.std.proofs.Common.{◌≡◌, ℕ, suc, ◌≤◌, Bool, true, false, List, [], ◌∷◌, length, Option, None, Ok, refl, ap, ◌∙◌, arith}
+use Rattle.std.proofs.Common.{◌≡◌, ℕ, suc, ◌≤◌, Bool, true, false, List, [], ◌∷◌, length, Option, None, Ok, Err, refl, ap, ◌∙◌, arith}
 use Rattle.std.specs.List.{AllByRecursion}
 use Rattle.jr_base.specs.declared.kind.Kind.{Kind}
 use Rattle.jr_tree.specs.Depth.{deepest}
 use Rattle.jr_parse_laws.specs.Parsers.{first, Parser, many}
 use Rattle.jr_parse_laws.proofs.Lists.{Shortens, many_over, many_turn}
+use Rattle.jr_parse_laws.specs.declared.fault.Fault.{Fault}
+use Rattle.jr_parse_expr.proofs.Growths as g
 use Rattle.jr_parse_expr.proofs.Repeats.{AreAll, write_each, many_sound}
 use Rattle.jr_parse_defs.specs.Writing.{write_many}
 
@@ -76,3 +78,27 @@ module _ {A : Type 0} (starts : Option Kind → Bool) (item : Parser A) (silent 
   list_sound ts r h =
       let found = many_sound starts item silent shorter Is write sound ts r h in
       record { are = each_is r.0 found.are; written = found.written ∙ each_written r.0 r.1; ended = found.ended }
+
+  -- ---- where a list stops
+
+  -- the items before the one that stops
+  pub record ListStop (ts : List Kind) (stop : Fault × List Kind) : Type 0 where
+    pub all : List A
+    pub are : AllByRecursion Is all
+    pub rest : List Kind
+    pub split : ts ≡ write_many write all rest
+    pub begun : starts (first rest) ≡ true
+    pub stopped : item rest ≡ Err stop
+
+  stopped_is : (all : List A) → g.AllAre starts item shorter Is write sound all → AllByRecursion Is all
+  stopped_is [] h = tt
+  stopped_is (a ∷ all) h = (h.0, stopped_is all h.1)
+
+  stopped_written : (all : List A) (rest : List Kind) → g.write_all starts item shorter Is write sound all rest ≡ write_many write all rest
+  stopped_written [] rest = refl
+  stopped_written (a ∷ all) rest = ap (write a) (stopped_written all rest)
+
+  pub list_stop : (ts : List Kind) (stop : Fault × List Kind) → many starts item ts ≡ Err stop → ListStop ts stop
+  list_stop ts stop h =
+      let s = g.many_stopped starts item shorter Is write sound ts stop h in
+      record { all = s.all; are = stopped_is s.all s.are; rest = s.rest; split = s.split ∙ stopped_written s.all s.rest; begun = s.begun; stopped = s.stopped }

@@ -79,6 +79,10 @@ pub record ReadsDecl (room : ℕ) (nested : List Modifier → Parser d.TypeDecl)
 
 -- ---- members
 
+pub static_is : (room : ℕ) (nested : List Modifier → Parser d.TypeDecl) (mods : List Modifier) → reader.is_static room nested mods ≡ true → mods ≡ modifier.Static ∷ []
+static_is room nested (modifier.Static ∷ []) h = refl
+static_is room nested mods h = absurd (cc)
+
 module _ (room : ℕ) (nested : List Modifier → Parser d.TypeDecl) (reads : ReadsDecl room nested) where
   abbrev Read : List Kind → d.Member × List Kind → Type 0
   Read = IsMemberRead (suc room)
@@ -326,21 +330,17 @@ module _ (room : ℕ) (nested : List Modifier → Parser d.TypeDecl) (reads : Re
       let low = found.low in
       subst (Read (write_if b (kind.Word k.Static) ts)) (ok_is a.2) (record { shaped = found.shaped; low = omega arith; written = ap (write_if b (kind.Word k.Static)) found.written })
 
-  static_is : (mods : List Modifier) → reader.is_static room nested mods ≡ true → mods ≡ modifier.Static ∷ []
-  static_is (modifier.Static ∷ []) h = refl
-  static_is mods h = absurd (cc)
-
   braced_sound : (mods : List Modifier) (ts : List Kind) (r : d.Member × List Kind) → reader.braced room nested mods ts ≡ Ok r → Read (write_modifiers mods ts) r
   braced_sound [] ts r h = init_sound false ts r h
   braced_sound (m ∷ mods) ts r h =
       elim (chosen (reader.is_static room nested (m ∷ mods)) _ _ _ h) [
-        | inl t ↦ subst (λ mods. Read (write_modifiers mods ts) r) (sym (static_is (m ∷ mods) t.0)) (init_sound true ts r t.1)
+        | inl t ↦ subst (λ mods. Read (write_modifiers mods ts) r) (sym (static_is room nested (m ∷ mods) t.0)) (init_sound true ts r t.1)
         | inr t ↦ absurd (err_ok t.1)
       ]
 
   nested_sound : (mods : List Modifier) (token : Kind) (ts : List Kind) (r : d.Member × List Kind) → reader.nested_decl room nested mods (token ∷ ts) ≡ Ok r → Read (write_modifiers mods (token ∷ ts)) r
   nested_sound mods token ts r h =
-      let t = bind_ok (nested mods (token ∷ ts)) _ r (within_sound room _ _ r h) in
+      let t = bind_ok (nested mods (token ∷ ts)) _ r (within_sound room 1 _ _ r h) in
       let found = reads.sound mods (token ∷ ts) t.0 t.1 in
       let low = found.low in
       subst (Read (write_modifiers mods (token ∷ ts))) (ok_is t.2)

@@ -31,7 +31,7 @@ use Rattle.jr_parse_defs.proofs.Variables.{param_read, param_sound, param_begins
 
 -- ---- modifiers
 
-abbrev one : Parser Modifier
+abbrev pub one : Parser Modifier
 one = next_token (λ token. reader.modifier_by (modifier_kind token) token)
 
 here : (m : Modifier) → modifier_kind (kind.Word (modifier_word m)) ≡ Some m
@@ -64,14 +64,14 @@ by_sound : (o : Option Modifier) (token : Kind) (ts : List Kind) (r : Modifier �
 by_sound None token ts r g h = absurd (err_ok h)
 by_sound (Some m) token ts r g h = ap (λ token. token ∷ ts) (back token m g) ∙ ap (λ (r : Modifier × List Kind). write_modifier r.0 r.1) (ok_is h)
 
-abbrev Fine : Modifier → Type 0
+abbrev pub Fine : Modifier → Type 0
 Fine m = Unit {0}
 
-one_sound : Sound Fine write_modifier one
+pub one_sound : Sound Fine write_modifier one
 one_sound [] r h = absurd (err_ok h)
 one_sound (token ∷ ts) r h = (tt, by_sound (modifier_kind token) token ts r refl h)
 
-one_longer : (m : Modifier) (rest : List Kind) → Fine m → suc (length rest) ≤ length (write_modifier m rest)
+pub one_longer : (m : Modifier) (rest : List Kind) → Fine m → suc (length rest) ≤ length (write_modifier m rest)
 one_longer m rest is = omega arith
 
 one_starts : (m : Modifier) (rest : List Kind) → Fine m → starts_modifier (first (write_modifier m rest)) ≡ true
@@ -106,13 +106,13 @@ pub record Ended (o : Option Kind) : Type 0 where
   pub no_dot : begins_with y.Dot o ≡ false
   pub no_comma : begins_with y.Comma o ≡ false
 
-later_name_sound : Sound IsName (write_after write_name) (after_comma name)
+pub later_name_sound : Sound IsName (write_after write_name) (after_comma name)
 later_name_sound ts r h =
     let a = eats y.Comma ts _ r h in
     let found = name_sound a.rest r a.more in
     (found.0, a.written ∙ ap (λ us. kind.Sym y.Comma ∷ us) found.1)
 
-later_name_longer : (n : Name) (rest : List Kind) → IsName n → suc (length rest) ≤ length (write_after write_name n rest)
+pub later_name_longer : (n : Name) (rest : List Kind) → IsName n → suc (length rest) ≤ length (write_after write_name n rest)
 later_name_longer n rest is = let l = longer_by (name_tokens n) rest (write_name n rest) (name_written n rest) in omega arith
 
 comma_no_dot : (o : Option Kind) → begins_with y.Comma o ≡ true → begins_with y.Dot o ≡ false
@@ -170,13 +170,13 @@ parent_sound ts r h =
 
 -- ---- parameters
 
-later_param_sound : Sound IsShapedParam (write_after write_param) (after_comma param)
+pub later_param_sound : Sound IsShapedParam (write_after write_param) (after_comma param)
 later_param_sound ts r h =
     let a = eats y.Comma ts _ r h in
     let found = param_sound a.rest r a.more in
     (found.0, a.written ∙ ap (λ us. kind.Sym y.Comma ∷ us) found.1)
 
-later_param_longer : (p : Param) (rest : List Kind) → IsShapedParam p → suc (length rest) ≤ length (write_after write_param p rest)
+pub later_param_longer : (p : Param) (rest : List Kind) → IsShapedParam p → suc (length rest) ≤ length (write_after write_param p rest)
 later_param_longer p rest is = let l = longer_by (param_tokens p) rest (write_param p rest) (param_written p rest) in omega arith
 
 comma_no_bracket : (o : Option Kind) → begins_with y.Comma o ≡ true → begins_with y.OpenBracket o ≡ false

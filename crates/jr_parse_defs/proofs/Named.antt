@@ -1,6 +1,6 @@
 -- Reading a statement from a name on, which is a declaration, a label or an expression, is exact in both directions.
-use Rattle.std.proofs.Common.{◌≡◌, ℕ, zero, suc, ◌≤◌, Bool, true, false, ◌&&◌, ◌||◌, List, [], ◌∷◌, ◌++◌, Ok, refl, sym, ap, ◌∙◌, subst, inl, inr, arith}
-use Rattle.std.proofs.lemmas.Bool.{and_parts, le-ltb}
+use Rattle.std.proofs.Common.{◌≡◌, ℕ, zero, suc, ◌≤◌, Bool, true, false, not, ltb, ◌||◌, List, [], ◌∷◌, ◌++◌, Ok, refl, sym, ap, ◌∙◌, subst, inl, inr, arith}
+use Rattle.std.proofs.lemmas.Bool.{le-ltb}
 use Rattle.jr_base.specs.declared.text.Text.{Text}
 use Rattle.jr_base.specs.declared.kind.Kind.{Kind}
 use Rattle.jr_base.specs.declared.kind.Kind.TheVariants as kind
@@ -21,7 +21,8 @@ use Rattle.jr_parse_expr.specs.Exprs.{Lead, Nothing, Named, Indexed, after_dotte
 use Rattle.jr_parse_expr.specs.Writing.{write_parts, write_all, write_brackets, write_type, write_expr, write_dotted, write_lead}
 use Rattle.jr_parse_expr.specs.Follow.{IsLed}
 use Rattle.jr_parse_expr.proofs.NameReads.{dims_read, dims_sound, dotted_name, dotted_end, dotted_sound, DottedEnds, has_parts}
-use Rattle.jr_parse_expr.proofs.EffectReads.{effect_named}
+use Rattle.jr_parse_expr.proofs.ExprReads.{no_level_err}
+use Rattle.jr_parse_expr.proofs.EffectReads.{effect_flagged}
 use Rattle.jr_parse_defs.specs.Stmts as reader
 use Rattle.jr_parse_defs.specs.Writing.{write_if, write_declarators, write_stmt}
 use Rattle.jr_parse_defs.specs.Follow.{StmtEnds, IsStmt}
@@ -67,16 +68,20 @@ no_close room n ts r h =
 pub record NameRead (room : ℕ) (head : Text) (us : List Kind) (e : x.Expr) (rest : List Kind) : Type 0 where
   pub d : Dotted
   pub ts : List Kind
-  pub front : dotted true [] head us ≡ Ok (d, ts)
+  pub front : dotted (reader.has_this (suc room)) [] head us ≡ Ok (d, ts)
   pub written : write_dotted d ts ≡ write_expr e rest
   pub ended : DottedEnds d (first ts)
   pub more : effect (suc room) (Named d) ts ≡ Ok (e, rest)
 
+same_flag : (room : ℕ) → not (ltb room 1) ≡ reader.has_this (suc room)
+same_flag zero = refl
+same_flag (suc room) = rw (le-ltb (suc room) 1 (omega arith), le-ltb (suc (suc room)) 2 (omega arith)) refl
+
 pub name_first : (room : ℕ) (head : Text) (us : List Kind) (e : x.Expr) (rest : List Kind) → kind.Ident head ∷ us ≡ write_expr e rest → effect (suc room) Nothing (kind.Ident head ∷ us) ≡ Ok (e, rest) → NameRead room head us e rest
 name_first room head us e rest same h =
-    let d = bind_ok (dotted true [] head us) (λ d. effect (suc room) (Named d)) (e, rest) (effect_named room head us (e, rest) h) in
-    let found = dotted_sound true [] head us d.0 d.1 in
-    record { d = d.0.0; ts = d.0.1; front = d.1; written = sym found.written ∙ same; ended = found.ended; more = d.2 }
+    let d = bind_ok (dotted (not (ltb room 1)) [] head us) (λ d. effect (suc room) (Named d)) (e, rest) (sym (effect_flagged room head us) ∙ h) in
+    let found = dotted_sound (not (ltb room 1)) [] head us d.0 d.1 in
+    record { d = d.0.0; ts = d.0.1; front = ap (λ b. dotted b [] head us) (sym (same_flag room)) ∙ d.1; written = sym found.written ∙ same; ended = found.ended; more = d.2 }
 
 module _ (room : ℕ) (inner outer : Parser s.Stmt) where
   evaluated_by : (lead : Lead) (ts : List Kind) (e : x.Expr) (rest : List Kind) → effect room lead ts ≡ Ok (e, kind.Sym y.Semicolon ∷ rest) → reader.evaluated room inner outer lead ts ≡ Ok (s.Eval e, rest)
@@ -108,12 +113,11 @@ module _ (room : ℕ) (inner outer : Parser s.Stmt) where
       })
 
   -- behind a name and an open bracket
-  bracketed_by : (declares : Bool) (before : List Text) (last : Text) (ts : List Kind) (e : x.Expr) (rest : List Kind) → ((us : List Kind) → ts ≡ kind.Sym y.CloseBracket ∷ us → ⊥)
-      → effect room (Indexed (name_of (before ++ last ∷ []))) ts ≡ Ok (e, kind.Sym y.Semicolon ∷ rest) → reader.bracketed room inner outer declares before last ts ≡ Ok (s.Eval e, rest)
-  bracketed_by true before last [] e rest never h = evaluated_by (Indexed (name_of (before ++ last ∷ []))) [] e rest h
-  bracketed_by true before last (kind.Sym y.CloseBracket ∷ ts) e rest never h = absurd (never ts refl)
-  bracketed_by true before last (token ∷ ts) e rest never h = evaluated_by (Indexed (name_of (before ++ last ∷ []))) (token ∷ ts) e rest h
-  bracketed_by false before last ts e rest never h = evaluated_by (Indexed (name_of (before ++ last ∷ []))) ts e rest h
+  bracketed_by : (before : List Text) (last : Text) (ts : List Kind) (e : x.Expr) (rest : List Kind) → ((us : List Kind) → ts ≡ kind.Sym y.CloseBracket ∷ us → ⊥)
+      → effect room (Indexed (name_of (before ++ last ∷ []))) ts ≡ Ok (e, kind.Sym y.Semicolon ∷ rest) → reader.bracketed room inner outer before last ts ≡ Ok (s.Eval e, rest)
+  bracketed_by before last [] e rest never h = evaluated_by (Indexed (name_of (before ++ last ∷ []))) [] e rest h
+  bracketed_by before last (kind.Sym y.CloseBracket ∷ ts) e rest never h = absurd (never ts refl)
+  bracketed_by before last (token ∷ ts) e rest never h = evaluated_by (Indexed (name_of (before ++ last ∷ []))) (token ∷ ts) e rest h
 
   labeled_sound : ReadsOne room false inner → (declares : Bool) (label : Text) (ts : List Kind) (r : s.Stmt × List Kind) → reader.labeled room inner outer label ts ≡ Ok r
       → IsStmtRead (suc room) declares (kind.Ident label ∷ kind.Sym y.Colon ∷ ts) r
@@ -130,20 +134,19 @@ module _ (room : ℕ) (inner outer : Parser s.Stmt) where
 
   -- ---- what is read is written
 
-  bracketed_sound : (declares : Bool) (before : List Text) (last : Text) (ts : List Kind) (r : s.Stmt × List Kind) → reader.bracketed room inner outer declares before last ts ≡ Ok r
-      → IsStmtRead (suc room) declares (write_all (before ++ last ∷ []) (kind.Sym y.OpenBracket ∷ ts)) r
-  bracketed_sound declares before last ts r h =
-      elim (chosen (declares && is_at y.CloseBracket ts) _ _ _ h) [
+  bracketed_sound : (before : List Text) (last : Text) (ts : List Kind) (r : s.Stmt × List Kind) → reader.bracketed room inner outer before last ts ≡ Ok r
+      → IsStmtRead (suc room) true (write_all (before ++ last ∷ []) (kind.Sym y.OpenBracket ∷ ts)) r
+  bracketed_sound before last ts r h =
+      elim (chosen (is_at y.CloseBracket ts) _ _ _ h) [
         | inl t ↦
-            (let both = and_parts declares (is_at y.CloseBracket ts) t.0 in
-            let a = skipped y.CloseBracket _ ts r both.1 t.1 in
+            (let a = skipped y.CloseBracket _ ts r t.0 t.1 in
             let n = bind_ok (dims a.0) _ r a.2 in
             let found = dims_sound a.0 n.0 n.1 in
             let ty = type_of (base.Named (name_of (before ++ last ∷ []))) (suc n.0.0) in
-            let made = local_sound declares false ty n.0.1 r both.0 (has_parts before last) n.2 in
-            subst (λ ts. IsStmtRead (suc room) declares (write_all (before ++ last ∷ []) (kind.Sym y.OpenBracket ∷ ts)) r)
+            let made = local_sound true false ty n.0.1 r refl (has_parts before last) n.2 in
+            subst (λ ts. IsStmtRead (suc room) true (write_all (before ++ last ∷ []) (kind.Sym y.OpenBracket ∷ ts)) r)
             (sym (a.1 ∙ ap (λ us. kind.Sym y.CloseBracket ∷ us) found.0)) made)
-        | inr t ↦ evaluated_sound declares (Indexed (name_of (before ++ last ∷ []))) ts r (has_parts before last) t.1
+        | inr t ↦ evaluated_sound true (Indexed (name_of (before ++ last ∷ []))) ts r (has_parts before last) t.1
       ]
 
   pub named_sound : ReadsOne room false inner → (declares : Bool) (d : Dotted) (ts : List Kind) (r : s.Stmt × List Kind) → DottedEnds d (first ts) → reader.named room inner outer declares d ts ≡ Ok r
@@ -154,22 +157,35 @@ module _ (room : ℕ) (inner outer : Parser s.Stmt) where
   named_sound reads true (Plain before last) (kind.Ident variable ∷ ts) r ended h =
       let ty = type_of (base.Named (name_of (before ++ last ∷ []))) 0 in
       local_sound true false ty (kind.Ident variable ∷ ts) r refl (has_parts before last) h
-  named_sound reads true (Plain before last) (kind.Sym y.OpenBracket ∷ ts) r ended h = bracketed_sound true before last ts r h
-  named_sound reads false (Plain before last) (kind.Sym y.OpenBracket ∷ ts) r ended h = bracketed_sound false before last ts r h
-  named_sound reads true (Plain [] last) (kind.Sym y.Colon ∷ ts) r ended h = labeled_sound reads true last ts r (within_sound room _ _ r h)
-  named_sound reads false (Plain [] last) (kind.Sym y.Colon ∷ ts) r ended h = labeled_sound reads false last ts r (within_sound room _ _ r h)
+  named_sound reads true (Plain before last) (kind.Sym y.OpenBracket ∷ ts) r ended h = bracketed_sound before last ts r h
+  named_sound reads false (Plain before last) (kind.Sym y.OpenBracket ∷ ts) r ended h = evaluated_sound false (Indexed (name_of (before ++ last ∷ []))) ts r (has_parts before last) (within_sound room 3 _ _ r h)
+  named_sound reads true (Plain [] last) (kind.Sym y.Colon ∷ ts) r ended h = labeled_sound reads true last ts r (within_sound room 1 _ _ r h)
+  named_sound reads false (Plain [] last) (kind.Sym y.Colon ∷ ts) r ended h = labeled_sound reads false last ts r (within_sound room 1 _ _ r h)
   named_sound reads true (Plain before last) (token ∷ ts) r ended h = evaluated_sound true (Named (Plain before last)) (token ∷ ts) r ended h
   named_sound reads false (Plain before last) (token ∷ ts) r ended h = evaluated_sound false (Named (Plain before last)) (token ∷ ts) r ended h
+
+-- what is read in brackets behind a name has a level, and two are round it
+no_part : (room : ℕ) (n : Name) (ts : List Kind) (r : x.Expr × List Kind) → below room ≡ 0 → effect (suc room) (Indexed n) ts ≡ Ok r → ⊥
+unfolding effect effects after_bracket expr
+no_part room n ts r none h =
+    let c = bind_ok _ (effect_end room (expr room) (list room)) r h in
+    let b = bind_ok _ (effect_suffixes room (expr room) (list room) (expr (below room)) (list (below room))) c.0 c.1 in
+    let a = bind_ok (expr (below room) Nothing 0 ts) _ b.0 b.1 in
+    no_level_err starts_expr ts a.0 (subst (λ room. expr room Nothing 0 ts ≡ Ok a.0) none a.1)
+
+room_in_brackets : (room : ℕ) (n : Name) (ts : List Kind) (r : x.Expr × List Kind) → effect room (Indexed n) ts ≡ Ok r → 3 ≤ room
+unfolding effect
+room_in_brackets zero n ts r h = absurd (no_level_err starts_expr ts r h)
+room_in_brackets (suc zero) n ts r h = absurd (no_part 0 n ts r refl h)
+room_in_brackets (suc (suc zero)) n ts r h = absurd (no_part 1 n ts r refl h)
+room_in_brackets (suc (suc (suc room))) n ts r h = omega arith
 
 -- ---- what is written is read
 
 module _ (room : ℕ) (inner outer : Parser s.Stmt) (reads : ReadsOne (suc room) false inner) where
-  from_bracket : (declares : Bool) (before : List Text) (last : Text) (ts : List Kind) (e : x.Expr) (rest : List Kind) → IsStatementExpr e → expr_depth e ≤ suc room
-      → write_all (before ++ last ∷ []) (kind.Sym y.OpenBracket ∷ ts) ≡ write_expr e (kind.Sym y.Semicolon ∷ rest) → reader.bracketed (suc room) inner outer declares before last ts ≡ Ok (s.Eval e, rest)
-  from_bracket declares before last ts e rest is low same =
-      let n = name_of (before ++ last ∷ []) in
-      let read = led (suc room) (Indexed n) e (kind.Sym y.Semicolon ∷ rest) ts is low closes_semicolon (has_parts before last) same in
-      bracketed_by (suc room) inner outer declares before last ts e rest (λ us g. no_close room n us _ (ap (effect (suc room) (Indexed n)) (sym g) ∙ read)) read
+  from_bracket : (before : List Text) (last : Text) (ts : List Kind) (e : x.Expr) (rest : List Kind) → IsStatementExpr e → expr_depth e ≤ suc room
+      → write_all (before ++ last ∷ []) (kind.Sym y.OpenBracket ∷ ts) ≡ write_expr e (kind.Sym y.Semicolon ∷ rest) → effect (suc room) (Indexed (name_of (before ++ last ∷ []))) ts ≡ Ok (e, kind.Sym y.Semicolon ∷ rest)
+  from_bracket before last ts e rest is low same = led (suc room) (Indexed (name_of (before ++ last ∷ []))) e (kind.Sym y.Semicolon ∷ rest) ts is low closes_semicolon (has_parts before last) same
 
   dotted_read : (declares : Bool) (d : Dotted) (ts : List Kind) (e : x.Expr) (rest : List Kind) → IsStatementExpr e → expr_depth e ≤ suc room → write_dotted d ts ≡ write_expr e (kind.Sym y.Semicolon ∷ rest)
       → effect (suc room) (Named d) ts ≡ Ok (e, kind.Sym y.Semicolon ∷ rest) → reader.named (suc room) inner outer declares d ts ≡ Ok (s.Eval e, rest)
@@ -178,24 +194,31 @@ module _ (room : ℕ) (inner outer : Parser s.Stmt) (reads : ReadsOne (suc room)
   dotted_read declares (Plain before last) [] e rest is low same h = evaluated_by (suc room) inner outer (Named (Plain before last)) [] e rest h
   dotted_read declares (Plain before last) (kind.Ident variable ∷ ts) e rest is low same h = absurd (no_name room before last variable ts _ h)
   dotted_read declares (Plain before last) (kind.Sym y.Colon ∷ ts) e rest is low same h = absurd (no_colon room before last ts _ h)
-  dotted_read true (Plain before last) (kind.Sym y.OpenBracket ∷ ts) e rest is low same h = from_bracket true before last ts e rest is low same
-  dotted_read false (Plain before last) (kind.Sym y.OpenBracket ∷ ts) e rest is low same h = from_bracket false before last ts e rest is low same
+  dotted_read true (Plain before last) (kind.Sym y.OpenBracket ∷ ts) e rest is low same h =
+      let n = name_of (before ++ last ∷ []) in
+      let read = from_bracket before last ts e rest is low same in
+      bracketed_by (suc room) inner outer before last ts e rest (λ us g. no_close room n us _ (ap (effect (suc room) (Indexed n)) (sym g) ∙ read)) read
+  dotted_read false (Plain before last) (kind.Sym y.OpenBracket ∷ ts) e rest is low same h =
+      let n = name_of (before ++ last ∷ []) in
+      let read = from_bracket before last ts e rest is low same in
+      let some = room_in_brackets (suc room) n ts _ read in
+      rw (le-ltb (suc room) 3 some) (evaluated_by (suc room) inner outer (Indexed n) ts e rest read)
   dotted_read true (Plain before last) (token ∷ ts) e rest is low same h = evaluated_by (suc room) inner outer (Named (Plain before last)) (token ∷ ts) e rest h
   dotted_read false (Plain before last) (token ∷ ts) e rest is low same h = evaluated_by (suc room) inner outer (Named (Plain before last)) (token ∷ ts) e rest h
 
   -- an expression
   pub named_read : (declares : Bool) (head : Text) (us : List Kind) (e : x.Expr) (rest : List Kind) → IsStatementExpr e → expr_depth e ≤ suc room → kind.Ident head ∷ us ≡ write_expr e (kind.Sym y.Semicolon ∷ rest)
-      → and_then (dotted true [] head us) (reader.named (suc room) inner outer declares) ≡ Ok (s.Eval e, rest)
+      → and_then (dotted (reader.has_this (suc room)) [] head us) (reader.named (suc room) inner outer declares) ≡ Ok (s.Eval e, rest)
   named_read declares head us e rest is low same =
       let n = name_first room head us e (kind.Sym y.Semicolon ∷ rest) same (led (suc room) Nothing e (kind.Sym y.Semicolon ∷ rest) (kind.Ident head ∷ us) is low closes_semicolon tt same) in
       rw n.front (dotted_read declares n.d n.ts e rest is low n.written n.more)
 
   -- a label
   pub label_read : (declares : Bool) (label : Text) (body : s.Stmt) (rest : List Kind) → IsStmt (suc room) false body → StmtEnds body (first rest)
-      → and_then (dotted true [] label (kind.Sym y.Colon ∷ write_stmt body rest)) (reader.named (suc room) inner outer declares) ≡ Ok (s.Labeled label body, rest)
+      → and_then (dotted (reader.has_this (suc room)) [] label (kind.Sym y.Colon ∷ write_stmt body rest)) (reader.named (suc room) inner outer declares) ≡ Ok (s.Labeled label body, rest)
   unfolding reader.named
-  label_read true label body rest is ended = rw (dotted_end true [] label (kind.Sym y.Colon ∷ write_stmt body rest) refl, le-ltb (suc room) 1 (omega arith), reads.complete body rest is ended) refl
-  label_read false label body rest is ended = rw (dotted_end true [] label (kind.Sym y.Colon ∷ write_stmt body rest) refl, le-ltb (suc room) 1 (omega arith), reads.complete body rest is ended) refl
+  label_read true label body rest is ended = rw (dotted_end _ [] label (kind.Sym y.Colon ∷ write_stmt body rest) refl, le-ltb (suc room) 1 (omega arith), reads.complete body rest is ended) refl
+  label_read false label body rest is ended = rw (dotted_end _ [] label (kind.Sym y.Colon ∷ write_stmt body rest) refl, le-ltb (suc room) 1 (omega arith), reads.complete body rest is ended) refl
 
 -- a declaration of variables of a class's type
 module _ (room : ℕ) (inner outer : Parser s.Stmt) where

@@ -42,7 +42,7 @@ label_name_read : (l : Option Text) (rest : List Kind) → reader.label (write_s
 label_name_read None rest = refl
 label_name_read (Some l) rest = refl
 
-label_name_sound : (ts : List Kind) (r : Option Text × List Kind) → reader.label ts ≡ Ok r → ts ≡ write_some write_ident r.0 r.1
+pub label_name_sound : (ts : List Kind) (r : Option Text × List Kind) → reader.label ts ≡ Ok r → ts ≡ write_some write_ident r.0 r.1
 label_name_sound [] r h = ap (λ (r : Option Text × List Kind). write_some write_ident r.0 r.1) (ok_is h)
 label_name_sound (kind.Ident name ∷ ts) r h = ap (λ (r : Option Text × List Kind). write_some write_ident r.0 r.1) (ok_is h)
 label_name_sound (token ∷ ts) r h = ap (λ (r : Option Text × List Kind). write_some write_ident r.0 r.1) (ok_is h)
@@ -122,7 +122,7 @@ module _ (room : ℕ) (inner outer : Parser s.Stmt) (reads : ReadsOne room false
     written : ts ≡ write_else r.0 r.1
     ended : (c : x.Expr) → StmtEnds (s.If c a r.0) (first r.1)
 
-  takes_none : (a : s.Stmt) (us : List Kind) → StmtEnds a (Some (kind.Word k.Else)) → not (takes_else a) ≡ true
+  pub takes_none : (a : s.Stmt) (us : List Kind) → StmtEnds a (Some (kind.Word k.Else)) → not (takes_else a) ≡ true
   takes_none a us ended =
       elim (cases_Bool (takes_else a)) [
         | inl t ↦ absurd (let h = no_else_after a (Some (kind.Word k.Else)) ended t in cc)
@@ -390,7 +390,7 @@ module _ (room : ℕ) (inner outer : Parser s.Stmt) (reads : ReadsOne room false
         | inl t ↦ typed_sound declares (token ∷ ts) r (and_parts declares (begins_local token) t.0).0 t.1
         | inr t ↦
             elim (chosen (begins_effect token) _ _ _ t.1) [
-              | inl u ↦ evaluated_sound room inner outer declares Nothing (token ∷ ts) r tt (within_sound room _ _ r u.1)
+              | inl u ↦ evaluated_sound room inner outer declares Nothing (token ∷ ts) r tt (within_sound room 1 _ _ r u.1)
               | inr u ↦ absurd (err_ok u.1)
             ]
       ]
@@ -407,18 +407,18 @@ module _ (room : ℕ) (inner outer : Parser s.Stmt) (reads : ReadsOne room false
   level_sound declares (kind.Sym y.OpenBrace ∷ ts) r h = nest_sound declares (kind.Sym y.OpenBrace ∷ ts) r h
   level_sound declares (kind.Sym y.Semicolon ∷ ts) r h =
       subst (Read declares (kind.Sym y.Semicolon ∷ ts)) (ok_is h) (record { is = record { shaped = tt; allowed = not_local declares; low = omega arith }; written = refl; ended = tt })
-  level_sound declares (kind.Word k.Do ∷ ts) r h = do_sound declares ts r (within_sound room _ _ r h)
-  level_sound declares (kind.Word k.While ∷ ts) r h = while_sound declares ts r (within_sound room _ _ r h)
-  level_sound declares (kind.Word k.If ∷ ts) r h = if_sound declares ts r (within_sound room _ _ r h)
-  level_sound declares (kind.Word k.For ∷ ts) r h = for_sound declares ts r (within_sound room _ _ r h)
-  level_sound declares (kind.Word k.Switch ∷ ts) r h = switch_sound declares ts r (within_sound room _ _ r h)
-  level_sound declares (kind.Word k.Throw ∷ ts) r h = throw_sound declares ts r (within_sound room _ _ r h)
+  level_sound declares (kind.Word k.Do ∷ ts) r h = do_sound declares ts r (within_sound room 1 _ _ r h)
+  level_sound declares (kind.Word k.While ∷ ts) r h = while_sound declares ts r (within_sound room 1 _ _ r h)
+  level_sound declares (kind.Word k.If ∷ ts) r h = if_sound declares ts r (within_sound room 1 _ _ r h)
+  level_sound declares (kind.Word k.For ∷ ts) r h = for_sound declares ts r (within_sound room 1 _ _ r h)
+  level_sound declares (kind.Word k.Switch ∷ ts) r h = switch_sound declares ts r (within_sound room 1 _ _ r h)
+  level_sound declares (kind.Word k.Throw ∷ ts) r h = throw_sound declares ts r (within_sound room 1 _ _ r h)
   level_sound declares (kind.Word k.Break ∷ ts) r h = break_sound declares ts r h
   level_sound declares (kind.Word k.Continue ∷ ts) r h = continue_sound declares ts r h
   level_sound declares (kind.Word k.Return ∷ ts) r h = return_sound declares ts r h
   level_sound declares (kind.Word k.Try ∷ ts) r h = try_sound declares ts r h
   level_sound true (kind.Ident head ∷ ts) r h = from_name true _ head ts r h
-  level_sound false (kind.Ident head ∷ ts) r h = from_name false true head ts r (within_sound room _ _ r h)
+  level_sound false (kind.Ident head ∷ ts) r h = from_name false _ head ts r (within_sound room 1 _ _ r h)
   level_sound declares (token ∷ ts) r h = other_sound declares token ts r h
 
 -- ---- what is written is read

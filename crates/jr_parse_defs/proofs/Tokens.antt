@@ -35,9 +35,9 @@ pub skipped_word : {B : Type 0} (w : Keyword) (p : Parser B) (ts : List Kind) (r
 skipped_word w p [] r h g = absurd (cc)
 skipped_word w p (token ∷ us) r h g = (us, ap (λ token. token ∷ us) (is_word_is w token h), g)
 
-pub within_sound : {A : Type 0} (room : ℕ) (stop : Fault × List Kind) (o : Outcome A) (r : A × List Kind) → cond (ltb room 1) (Err stop) o ≡ Ok r → o ≡ Ok r
-within_sound room stop o r h =
-    elim (chosen (ltb room 1) _ _ _ h) [
+pub within_sound : {A : Type 0} (room levels : ℕ) (stop : Fault × List Kind) (o : Outcome A) (r : A × List Kind) → cond (ltb room levels) (Err stop) o ≡ Ok r → o ≡ Ok r
+within_sound room levels stop o r h =
+    elim (chosen (ltb room levels) _ _ _ h) [
       | inl t ↦ absurd (err_ok t.1)
       | inr t ↦ t.1
     ]

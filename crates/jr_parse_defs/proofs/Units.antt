@@ -119,11 +119,11 @@ many_members : (all : d.Members) (rest : List Kind) → write_members all rest �
 many_members d.no_members rest = refl
 many_members (d.more_members m all) rest = ap (write_member m) (many_members all rest)
 
-members_many : (all : List d.Member) (rest : List Kind) → write_many write_member all rest ≡ write_members (d.members all) rest
+pub members_many : (all : List d.Member) (rest : List Kind) → write_many write_member all rest ≡ write_members (d.members all) rest
 members_many [] rest = refl
 members_many (m ∷ all) rest = ap (write_member m) (members_many all rest)
 
-abbrev Fits : ℕ → d.Member → Type 0
+abbrev pub Fits : ℕ → d.Member → Type 0
 Fits room m = IsShapedMember m × (member_depth m ≤ room)
 
 members_fit : (room : ℕ) (all : d.Members) → AreShapedMembers all → members_depth all ≤ room → AllByRecursion (Fits room) (listed all)
@@ -138,11 +138,11 @@ fit_members room (m ∷ all) h =
     let others : members_depth (d.members all) ≤ room = more.1 in
     ((h.0.0, more.0), omega arith)
 
-member_longer : (room : ℕ) (m : d.Member) (rest : List Kind) → Fits room m → suc (length rest) ≤ length (write_member m rest)
+pub member_longer : (room : ℕ) (m : d.Member) (rest : List Kind) → Fits room m → suc (length rest) ≤ length (write_member m rest)
 member_longer room m rest is = longer_starts starts_member (member_tokens m) rest (write_member m []) (write_member m rest) refl (member_written m []) (member_starts m [] is.0) (member_written m rest)
 
 module _ (room : ℕ) (inner : Parser d.Member) (reads : ReadsMember room inner) where
-  item : Sound (Fits room) write_member inner
+  pub item : Sound (Fits room) write_member inner
   item ts r h = let found = reads.sound ts r h in ((found.shaped, found.low), found.written)
 
   members_read : (all : d.Members) (rest : List Kind) → AreShapedMembers all → members_depth all ≤ room → reader.members room inner (kind.Sym y.OpenBrace ∷ write_members all (kind.Sym y.CloseBrace ∷ rest)) ≡ Ok (all, rest)
@@ -153,12 +153,12 @@ module _ (room : ℕ) (inner : Parser d.Member) (reads : ReadsMember room inner)
       (listed all) ts (members_fit room all h low) refl tt in
       rw read (ap (λ all. Ok (all, rest)) (members_listed all))
 
-  record MembersFound (ts : List Kind) (r : d.Members × List Kind) : Type 0 where
-    shaped : AreShapedMembers r.0
-    low : members_depth r.0 ≤ room
-    written : ts ≡ kind.Sym y.OpenBrace ∷ write_members r.0 (kind.Sym y.CloseBrace ∷ r.1)
+  pub record MembersFound (ts : List Kind) (r : d.Members × List Kind) : Type 0 where
+    pub shaped : AreShapedMembers r.0
+    pub low : members_depth r.0 ≤ room
+    pub written : ts ≡ kind.Sym y.OpenBrace ∷ write_members r.0 (kind.Sym y.CloseBrace ∷ r.1)
 
-  members_sound : (ts : List Kind) (r : d.Members × List Kind) → reader.members room inner ts ≡ Ok r → MembersFound ts r
+  pub members_sound : (ts : List Kind) (r : d.Members × List Kind) → reader.members room inner ts ≡ Ok r → MembersFound ts r
   members_sound ts r h =
       let a = eats y.OpenBrace ts _ r h in
       let all = bind_ok (many starts_member inner a.rest) _ r a.more in
@@ -257,11 +257,11 @@ member_depth_pos : (m : d.Member) → 1 ≤ member_depth m
 member_depth_pos (d.Nested t) = omega arith
 member_depth_pos m = omega arith
 
-record ReadsBoth (room : ℕ) : Type 0 where
-  member : ReadsMember room (reader.member room)
-  decl : ReadsDecl room (reader.decl room)
+pub record ReadsBoth (room : ℕ) : Type 0 where
+  pub member : ReadsMember room (reader.member room)
+  pub decl : ReadsDecl room (reader.decl room)
 
-both_read : (room : ℕ) → ReadsBoth room
+pub both_read : (room : ℕ) → ReadsBoth room
 unfolding reader.member reader.decl
 both_read zero = record {
   member = record {

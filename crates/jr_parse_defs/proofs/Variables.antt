@@ -61,7 +61,7 @@ initializer_sound room [] r h = subst (InitializerFound room []) (ok_is h) (reco
 initializer_sound room (token ∷ ts) r h =
     elim (chosen (is_at y.Assign (token ∷ ts)) _ _ _ h) [
       | inl t ↦
-          (let i = bind_ok (init room ts) _ r (within_sound room _ _ r t.1) in
+          (let i = bind_ok (init room ts) _ r (within_sound room 1 _ _ r t.1) in
           let found = inits_sound room ts i.0 i.1 in
           subst (InitializerFound room (token ∷ ts)) (ok_is i.2)
           (record { shaped = found.shaped; low = found.low; written = ap (λ token. token ∷ ts) (is_symbol_is y.Assign token t.0) ∙ ap (λ us. kind.Sym y.Assign ∷ us) found.written }))
@@ -83,7 +83,7 @@ pub record DeclaratorFound (room : ℕ) (ts : List Kind) (r : s.Declarator × Li
   pub low : declarator_depth r.0 ≤ room
   pub written : ts ≡ write_declarator r.0 r.1
 
-declarator_after_sound : (room : ℕ) (name : Text) (ts : List Kind) (r : s.Declarator × List Kind) → declarator_after room name ts ≡ Ok r → DeclaratorFound room (kind.Ident name ∷ ts) r
+pub declarator_after_sound : (room : ℕ) (name : Text) (ts : List Kind) (r : s.Declarator × List Kind) → declarator_after room name ts ≡ Ok r → DeclaratorFound room (kind.Ident name ∷ ts) r
 unfolding declarator_after
 declarator_after_sound room name ts r h =
     let n = bind_ok (dims ts) _ r h in
@@ -95,23 +95,23 @@ declarator_after_sound room name ts r h =
 declarator_read : (room : ℕ) (d : s.Declarator) (rest : List Kind) → IsShapedDeclarator d → declarator_depth d ≤ room → Apart (first rest) → declarator room (write_declarator d rest) ≡ Ok (d, rest)
 declarator_read room (s.DeclaratorOf name pairs i) rest s low apart = declarator_after_read room name pairs i rest s low apart
 
-declarator_sound : (room : ℕ) (ts : List Kind) (r : s.Declarator × List Kind) → declarator room ts ≡ Ok r → DeclaratorFound room ts r
+pub declarator_sound : (room : ℕ) (ts : List Kind) (r : s.Declarator × List Kind) → declarator room ts ≡ Ok r → DeclaratorFound room ts r
 declarator_sound room ts r h =
     let name = bind_ok (identifier ts) _ r h in
     subst (λ ts. DeclaratorFound room ts r) (sym (identifier_token.took ts name.0 name.1)) (declarator_after_sound room name.0.0 name.0.1 r name.2)
 
 -- ---- variables with commas
 
-abbrev Fits : ℕ → s.Declarator → Type 0
+abbrev pub Fits : ℕ → s.Declarator → Type 0
 Fits room d = IsShapedDeclarator d × (declarator_depth d ≤ room)
 
-later_sound : (room : ℕ) → Sound (Fits room) (write_after write_declarator) (after_comma (declarator room))
+pub later_sound : (room : ℕ) → Sound (Fits room) (write_after write_declarator) (after_comma (declarator room))
 later_sound room ts r h =
     let a = eats y.Comma ts _ r h in
     let found = declarator_sound room a.rest r a.more in
     ((found.shaped, found.low), a.written ∙ ap (λ us. kind.Sym y.Comma ∷ us) found.written)
 
-later_longer : (room : ℕ) (d : s.Declarator) (rest : List Kind) → Fits room d → suc (length rest) ≤ length (write_after write_declarator d rest)
+pub later_longer : (room : ℕ) (d : s.Declarator) (rest : List Kind) → Fits room d → suc (length rest) ≤ length (write_after write_declarator d rest)
 later_longer room d rest is = let l = longer_by (declarator_tokens d) rest (write_declarator d rest) (declarator_written d rest) in omega arith
 
 later_read : (room : ℕ) (ds : List s.Declarator) (rest : List Kind) → AllByRecursion (Fits room) ds

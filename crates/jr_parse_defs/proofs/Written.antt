@@ -46,7 +46,7 @@ later_written : (ds : List s.Declarator) (rest : List Kind) → write_later ds r
 later_written [] rest = refl
 later_written (d ∷ ds) rest = simp append_assoc (rw (later_written ds rest) (ap (λ ts. kind.Sym y.Comma ∷ ts) (declarator_written d _)))
 
-declarators_written : (ds : List s.Declarator) (rest : List Kind) → write_declarators ds rest ≡ declarators_tokens ds ++ rest
+pub declarators_written : (ds : List s.Declarator) (rest : List Kind) → write_declarators ds rest ≡ declarators_tokens ds ++ rest
 declarators_written [] rest = refl
 declarators_written (d ∷ ds) rest = simp append_assoc (rw (later_written ds rest) (declarator_written d _))
 
@@ -57,7 +57,7 @@ locals_written b ty ds rest =
     ∙ if_written b (kind.Word k.Final) (type_tokens ty ++ (declarators_tokens ds ++ rest))
     ∙ simp append_assoc refl
 
-for_init_written : (i : s.ForInit) (rest : List Kind) → write_for_init i rest ≡ for_init_tokens i ++ rest
+pub for_init_written : (i : s.ForInit) (rest : List Kind) → write_for_init i rest ≡ for_init_tokens i ++ rest
 for_init_written (s.Locals b ty ds) rest = locals_written b ty ds rest
 for_init_written (s.Exprs es) rest = exprs_written es rest
 
@@ -69,7 +69,7 @@ labels_written : (ls : List s.SwitchLabel) (rest : List Kind) → write_labels l
 labels_written [] rest = refl
 labels_written (l ∷ ls) rest = simp append_assoc (rw (labels_written ls rest) (label_written l _))
 
-cond_written : (c : x.Expr) (rest : List Kind) → write_cond c rest ≡ cond_tokens c ++ rest
+pub cond_written : (c : x.Expr) (rest : List Kind) → write_cond c rest ≡ cond_tokens c ++ rest
 cond_written c rest = simp append_assoc (ap (λ ts. kind.Sym y.OpenParen ∷ ts) (written c (kind.Sym y.CloseParen ∷ rest)))
 
 ident_written : (l : Option Text) (rest : List Kind) → write_some write_ident l rest ≡ if_some ident l ++ rest
@@ -154,17 +154,17 @@ mutual
   stmts_written s.no_stmts rest = refl
   stmts_written (s.more_stmts a all) rest = ap (write_stmt a) (stmts_written all rest) ∙ stmt_written a (stmts_tokens all ++ rest) ∙ simp append_assoc refl
 
-  groups_written : (all : s.Groups) (rest : List Kind) → write_groups all rest ≡ groups_tokens all ++ rest
+  pub groups_written : (all : s.Groups) (rest : List Kind) → write_groups all rest ≡ groups_tokens all ++ rest
   groups_written s.no_groups rest = refl
   groups_written (s.more_groups g all) rest = ap (write_group g) (groups_written all rest) ∙ group_written g (groups_tokens all ++ rest) ∙ simp append_assoc refl
 
-  catches_written : (all : s.Catches) (rest : List Kind) → write_catches all rest ≡ catches_tokens all ++ rest
+  pub catches_written : (all : s.Catches) (rest : List Kind) → write_catches all rest ≡ catches_tokens all ++ rest
   catches_written s.no_catches rest = refl
   catches_written (s.more_catches c all) rest = ap (write_catch c) (catches_written all rest) ∙ catch_written c (catches_tokens all ++ rest) ∙ simp append_assoc refl
 
 -- ---- parts of declarations
 
-modifiers_written : (ms : List Modifier) (rest : List Kind) → write_modifiers ms rest ≡ modifiers_tokens ms ++ rest
+pub modifiers_written : (ms : List Modifier) (rest : List Kind) → write_modifiers ms rest ≡ modifiers_tokens ms ++ rest
 modifiers_written [] rest = refl
 modifiers_written (m ∷ ms) rest = ap (λ ts. kind.Word (modifier_word m) ∷ ts) (modifiers_written ms rest)
 
@@ -173,7 +173,7 @@ later_params_written [] rest = refl
 later_params_written (p ∷ ps) rest =
     ap (λ ts. kind.Sym y.Comma ∷ write_param p ts) (later_params_written ps rest) ∙ ap (λ ts. kind.Sym y.Comma ∷ ts) (param_written p _) ∙ simp append_assoc refl
 
-params_written : (ps : List Param) (rest : List Kind) → write_params ps rest ≡ params_tokens ps ++ rest
+pub params_written : (ps : List Param) (rest : List Kind) → write_params ps rest ≡ params_tokens ps ++ rest
 params_written [] rest = refl
 params_written (p ∷ ps) rest =
     ap (λ ts. kind.Sym y.OpenParen ∷ write_param p ts) (later_params_written ps (kind.Sym y.CloseParen ∷ rest)) ∙ ap (λ ts. kind.Sym y.OpenParen ∷ ts) (param_written p _) ∙ simp append_assoc refl
@@ -183,16 +183,16 @@ later_names_written [] rest = refl
 later_names_written (n ∷ ns) rest =
     ap (λ ts. kind.Sym y.Comma ∷ write_name n ts) (later_names_written ns rest) ∙ ap (λ ts. kind.Sym y.Comma ∷ ts) (name_written n _) ∙ simp append_assoc refl
 
-names_after_written : (w : Keyword) (ns : List Name) (rest : List Kind) → write_names_after w ns rest ≡ names_after w ns ++ rest
+pub names_after_written : (w : Keyword) (ns : List Name) (rest : List Kind) → write_names_after w ns rest ≡ names_after w ns ++ rest
 names_after_written w [] rest = refl
 names_after_written w (n ∷ ns) rest =
     ap (λ ts. kind.Word w ∷ write_name n ts) (later_names_written ns rest) ∙ ap (λ ts. kind.Word w ∷ ts) (name_written n _) ∙ simp append_assoc refl
 
-parent_written : (p : Option Name) (rest : List Kind) → write_parent p rest ≡ parent_tokens p ++ rest
+pub parent_written : (p : Option Name) (rest : List Kind) → write_parent p rest ≡ parent_tokens p ++ rest
 parent_written None rest = refl
 parent_written (Some n) rest = ap (λ ts. kind.Word k.Extends ∷ ts) (name_written n rest)
 
-result_written : (r : ResultType) (rest : List Kind) → write_result r rest ≡ result_tokens r ++ rest
+pub result_written : (r : ResultType) (rest : List Kind) → write_result r rest ≡ result_tokens r ++ rest
 result_written outcome.Void rest = refl
 result_written (outcome.Of ty) rest = type_written ty rest
 
@@ -246,7 +246,7 @@ mutual
   member_written (d.Init is_static body) rest = ap (write_if is_static (kind.Word k.Static)) (block_written body rest) ∙ if_written is_static (kind.Word k.Static) (block_tokens body ++ rest) ∙ simp append_assoc refl
   member_written (d.Nested decl) rest = decl_written decl rest
 
-  members_written : (all : d.Members) (rest : List Kind) → write_members all rest ≡ members_tokens all ++ rest
+  pub members_written : (all : d.Members) (rest : List Kind) → write_members all rest ≡ members_tokens all ++ rest
   members_written d.no_members rest = refl
   members_written (d.more_members m all) rest = ap (write_member m) (members_written all rest) ∙ member_written m (members_tokens all ++ rest) ∙ simp append_assoc refl
 
@@ -256,7 +256,7 @@ decls_written (t ∷ ts) rest = ap (write_decl t) (decls_written ts rest) ∙ de
 
 -- ---- units
 
-package_written : (p : PackageDecl) (rest : List Kind) → write_package p rest ≡ package_tokens p ++ rest
+pub package_written : (p : PackageDecl) (rest : List Kind) → write_package p rest ≡ package_tokens p ++ rest
 package_written p rest = ap (λ ts. kind.Word k.Package ∷ ts) (name_written p.name (kind.Sym y.Semicolon ∷ rest)) ∙ simp append_assoc refl
 
 pub import_written : (i : Import) (rest : List Kind) → write_import i rest ≡ import_tokens i ++ rest

@@ -1,5 +1,5 @@
--- What the laws of reading statements, declarations and units say: what is written is read, and what is read is written (JLS 7, 8, 9, 14, 18).
-use Rattle.std.specs.Prelude.{◌≡◌, ℕ, ◌≤◌, Bool, List, [], ◌++◌, Ok}
+-- What the laws of reading statements, declarations and units say: what is written is read, what is read is written, and reading stops at the first token that no tree allows (JLS 7, 8, 9, 14, 18).
+use Rattle.std.specs.Prelude.{◌≡◌, ℕ, ◌≤◌, Bool, List, [], ◌++◌, Ok, Err}
 use Rattle.jr_base.specs.declared.kind.Kind.{Kind}
 use Rattle.jr_tree.specs.declared.tree.Unit as declared
 use Rattle.jr_tree.specs.Mirror.Stmts as s
@@ -7,7 +7,9 @@ use Rattle.jr_tree.specs.Mirror.Decls as d
 use Rattle.jr_tree.specs.Shape.{IsShaped, IsShapedBlock, IsShapedCtorBody, IsShapedDecl, IsShapedMember, IsShapedUnit}
 use Rattle.jr_tree.specs.Depth.{block_depth, decl_depth, member_depth, unit_depth}
 use Rattle.jr_tree.specs.Tokens.{tokens_of, stmt_tokens, unit_tokens}
+use Rattle.jr_parse_laws.specs.declared.fault.Fault.{Fault}
 use Rattle.jr_parse_laws.specs.Parsers.{first, ◌>>=◌}
+use Rattle.jr_parse_laws.specs.Viable.{Stuck}
 use Rattle.jr_parse_defs.specs.Stmts.{stmt, body, ctor_body}
 use Rattle.jr_parse_defs.specs.Decls.{modifiers, member, decl, unit}
 use Rattle.jr_parse_defs.specs.Writing.{write_stmt, write_block, write_decl, write_member, write_unit}
@@ -95,6 +97,46 @@ IsUnitComplete = (room : ℕ) (u : d.CompilationUnit) → IsShapedUnit u → uni
 
 abbrev pub IsUnitSound : Type 0
 IsUnitSound = (room : ℕ) (ts : List Kind) (read : d.CompilationUnit × List Kind) → unit room ts ≡ Ok read → IsUnitRead room ts read
+
+-- ---- where a reader stops, what stands before the fault begins a tree, a deeper tree goes on where a level is missing, and the fault is the same whatever follows its token,
+-- at each number of levels where no tree goes on
+
+abbrev pub IsBlockOf : ℕ → s.Block → Type 0
+IsBlockOf room b = IsShapedBlock b × (block_depth b ≤ room)
+
+abbrev pub IsCtorBlockOf : ℕ → s.Block → Type 0
+IsCtorBlockOf room b = IsShapedCtorBody b × (block_depth b ≤ room)
+
+abbrev pub IsMemberOf : ℕ → d.Member → Type 0
+IsMemberOf room m = IsShapedMember m × (member_depth m ≤ room)
+
+abbrev pub IsDeclOf : ℕ → d.TypeDecl → Type 0
+IsDeclOf room t = IsShapedDecl t × (decl_depth t ≤ room)
+
+abbrev pub IsUnitOf : ℕ → d.CompilationUnit → Type 0
+IsUnitOf room u = IsShapedUnit u × (unit_depth u ≤ room)
+
+-- a statement, where there is a level for one
+abbrev pub IsStmtStuck : Type 0
+IsStmtStuck = (room : ℕ) (declares : Bool) (ts : List Kind) (f : Fault) (rest : List Kind) → 1 ≤ room → stmt room declares ts ≡ Err (f, rest)
+    → Stuck (λ r. IsStmt r declares) write_stmt (λ r. stmt r declares) room ts f rest
+
+abbrev pub IsBodyStuck : Type 0
+IsBodyStuck = (room : ℕ) (ts : List Kind) (f : Fault) (rest : List Kind) → body room ts ≡ Err (f, rest) → Stuck IsBlockOf write_block body room ts f rest
+
+abbrev pub IsCtorBodyStuck : Type 0
+IsCtorBodyStuck = (room : ℕ) (ts : List Kind) (f : Fault) (rest : List Kind) → ctor_body room ts ≡ Err (f, rest) → Stuck IsCtorBlockOf write_block ctor_body room ts f rest
+
+abbrev pub IsMemberStuck : Type 0
+IsMemberStuck = (room : ℕ) (ts : List Kind) (f : Fault) (rest : List Kind) → 1 ≤ room → member room ts ≡ Err (f, rest) → Stuck IsMemberOf write_member member room ts f rest
+
+abbrev pub IsDeclStuck : Type 0
+IsDeclStuck = (room : ℕ) (ts : List Kind) (f : Fault) (rest : List Kind) → 1 ≤ room → (modifiers >>= decl room) ts ≡ Err (f, rest) → Stuck IsDeclOf write_decl (λ r. modifiers >>= decl r) room ts f rest
+
+abbrev pub IsUnitStuck : Type 0
+IsUnitStuck = (room : ℕ) (ts : List Kind) (f : Fault) (rest : List Kind) → 1 ≤ room → unit room ts ≡ Err (f, rest) → Stuck IsUnitOf write_unit unit room ts f rest
+
+-- ---- one reading
 
 -- units that are written alike are the same
 abbrev pub OneReading : Type 0

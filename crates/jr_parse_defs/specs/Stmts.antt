@@ -1,5 +1,5 @@
 -- Reading statements (JLS 14). Each reader takes no token that no tree allows there.
-use Rattle.std.specs.Prelude.{ℕ, zero, suc, Bool, true, false, ◌&&◌, not, if◌then◌else◌, List, [], ◌∷◌, ◌++◌, Option, Some, None, Ok}
+use Rattle.std.specs.Prelude.{ℕ, zero, suc, Bool, true, false, ◌&&◌, not, nat_lt, if◌then◌else◌, List, [], ◌∷◌, ◌++◌, Option, Some, None, Ok}
 use Rattle.jr_base.specs.declared.text.Text.{Text}
 use Rattle.jr_base.specs.declared.kind.Kind.{Kind}
 use Rattle.jr_base.specs.declared.kind.Kind.TheVariants as kind
@@ -64,6 +64,10 @@ param = do
 
 -- ---- statements
 
+-- whether an expression that stands as a statement may begin with `this`: it is more than that word
+abbrev pub has_this : ℕ → Bool
+has_this room = not (nat_lt room 2)
+
 abbrev pub condition : ℕ → Parser x.Expr
 condition room = do
   expect y.OpenParen
@@ -104,10 +108,10 @@ module _ (room : ℕ) (inner : Parser s.Stmt) (outer : Parser s.Stmt) where
 
   -- ---- from a name on: a declaration, a label or an expression (JLS 14.4, 14.7, 14.8)
 
-  -- behind a name and an open bracket
-  abbrev pub bracketed : Bool → List Text → Text → Parser s.Stmt
-  bracketed declares before last ts =
-      if declares && is_at y.CloseBracket ts
+  -- behind a name and an open bracket, where a declaration may stand
+  abbrev pub bracketed : List Text → Text → Parser s.Stmt
+  bracketed before last ts =
+      if is_at y.CloseBracket ts
       then skipping (dims >>= (λ more. local false (type_of (base.Named (name_of (before ++ last ∷ []))) (suc more)))) ts
       else evaluated (Indexed (name_of (before ++ last ∷ []))) ts
 
@@ -116,7 +120,8 @@ module _ (room : ℕ) (inner : Parser s.Stmt) (outer : Parser s.Stmt) where
 
   abbrev pub named_by : Bool → List Text → Text → Kind → Parser s.Stmt
   named_by true before last (kind.Ident variable) = local false (type_of (base.Named (name_of (before ++ last ∷ []))) 0)
-  named_by declares before last (kind.Sym y.OpenBracket) = skipping (bracketed declares before last)
+  named_by true before last (kind.Sym y.OpenBracket) = skipping (bracketed before last)
+  named_by false before last (kind.Sym y.OpenBracket) = skipping (within 3 room (kind.Sym y.OpenBracket) (evaluated (Indexed (name_of (before ++ last ∷ [])))))
   named_by declares [] last (kind.Sym y.Colon) = next_token (λ token. within 1 room token (labeled last))
   named_by declares before last token = evaluated (Named (Plain before last))
 
@@ -195,7 +200,7 @@ module _ (room : ℕ) (inner : Parser s.Stmt) (outer : Parser s.Stmt) where
   first_named (Enclosing before last) ts = first_effects (Named (Enclosing before last)) ts
 
   abbrev pub for_first_by : Kind → Parser (Option s.ForInit)
-  for_first_by (kind.Ident head) = skipping (dotted true [] head >>= first_named >>= (λ i. pure (Some i)))
+  for_first_by (kind.Ident head) = skipping (dotted (has_this room) [] head >>= first_named >>= (λ i. pure (Some i)))
   for_first_by token = λ ts.
       if begins_local token then (finality >>= (λ is_final. type_use >>= (λ ty. locals is_final ty >>= (λ i. pure (Some i))))) ts
       else (if starts_effect (Some token) then (first_effects Nothing >>= (λ i. pure (Some i))) ts else Ok (None, ts))
@@ -278,12 +283,8 @@ module _ (room : ℕ) (inner : Parser s.Stmt) (outer : Parser s.Stmt) where
   stmt_by declares (kind.Word k.Continue) = skipping continue_stmt
   stmt_by declares (kind.Word k.Return) = skipping return_stmt
   stmt_by declares (kind.Word k.Try) = skipping try_stmt
-  stmt_by true (kind.Ident head) = skipping (dotted (not (is_zero room)) [] head >>= named true)
-    where
-      is_zero : ℕ → Bool
-      is_zero zero = true
-      is_zero (suc n) = false
-  stmt_by false (kind.Ident head) = skipping (within 1 room (kind.Ident head) (dotted true [] head >>= named false))
+  stmt_by true (kind.Ident head) = skipping (dotted (has_this room) [] head >>= named true)
+  stmt_by false (kind.Ident head) = skipping (within 1 room (kind.Ident head) (dotted (has_this room) [] head >>= named false))
   stmt_by declares token = λ ts.
       if declares && begins_local token then (finality >>= (λ is_final. type_use >>= local is_final)) ts
       else (if starts_effect (Some token) then next_token (λ token us. within 1 room token (λ vs. evaluated Nothing (token ∷ vs)) us) ts else refuse ts)

@@ -219,7 +219,7 @@ module _ (room : ℕ) (inner : Lead → ℕ → Parser x.Expr) (list : Parser x.
 
 -- ---- of any number of levels
 
-no_level_is : {A : Type 0} (starts : Option Kind → Bool) (ts : List Kind) (stop : Fault × List Kind) → no_level {A = A} starts ts ≡ Err stop → NoLevel starts ts stop
+pub no_level_is : {A : Type 0} (starts : Option Kind → Bool) (ts : List Kind) (stop : Fault × List Kind) → no_level {A = A} starts ts ≡ Err stop → NoLevel starts ts stop
 no_level_is starts ts stop h =
     elim (chosen (starts (first ts)) _ _ _ h) [
       | inl t ↦ Deep t.0 (err_is t.1)

@@ -171,7 +171,7 @@ module _ (room other : ℕ) (le : room ≤ other) (inner inner' : Lead → ℕ �
 -- ---- of any number of levels
 
 -- where no level is left
-none_kept_by : {A : Type 0} (other : ℕ) (le : zero ≤ other) (starts : Option Kind → Bool) (q : ℕ → Parser A) (ts : List Kind) (b : Bool) → starts (first ts) ≡ b → ((w : List Kind) → q zero w ≡ no_level starts w)
+pub none_kept_by : {A : Type 0} (other : ℕ) (le : zero ≤ other) (starts : Option Kind → Bool) (q : ℕ → Parser A) (ts : List Kind) (b : Bool) → starts (first ts) ≡ b → ((w : List Kind) → q zero w ≡ no_level starts w)
     → ((w : List Kind) → starts (first w) ≡ false → q other w ≡ Err (NoTree, w)) → Kept zero other le (q other) ts (cond b (Err (TooDeep, ts)) (Err (NoTree, ts)))
 none_kept_by other le starts q ts true h low refused = λ wider. here zero other le (q other) (λ w. Err (TooDeep, w)) ts (λ w e. let n : other ≡ zero = wider in ap (λ n. q n w) n ∙ low w ∙ rw (sym (ap starts e) ∙ h) refl)
 none_kept_by other le starts q ts false h low refused = λ wider. here zero other le (q other) (λ w. Err (NoTree, w)) ts (λ w e. refused w (sym (ap starts e) ∙ h))
@@ -180,7 +180,7 @@ expr_zero : (lead : Lead) (least : ℕ) (w : List Kind) → expr zero lead least
 unfolding expr
 expr_zero lead least w = refl
 
-expr_refused : (other least : ℕ) (w : List Kind) → starts_expr (first w) ≡ false → expr other Nothing least w ≡ Err (NoTree, w)
+pub expr_refused : (other least : ℕ) (w : List Kind) → starts_expr (first w) ≡ false → expr other Nothing least w ≡ Err (NoTree, w)
 unfolding expr
 expr_refused zero least w h = rw h refl
 expr_refused (suc other) least w h = level_refused other (expr other) (list other) least w h

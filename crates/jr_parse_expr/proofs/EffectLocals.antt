@@ -76,12 +76,12 @@ dotted_wider room other le less before last ts (Err (NoTree, rest)) k = λ wider
 dotted_wider room other le less before last ts (Err (TooDeep, rest)) k = λ wider. absurd (let same : other ≡ room = wider in omega arith)
 dotted_wider room other le less before last ts (Err (OutOfMemory, rest)) k = λ wider. absurd wider
 
-flag_local : (room other : ℕ) (le : room ≤ other) (before : List Text) (last : Text) (b b' : Bool) → ltb room 1 ≡ b → ltb other 1 ≡ b' → Local room other le (dotted (not b) before last) (dotted (not b') before last)
-flag_local room other le before last true true e f ts = dotted_local room other le false before last ts
-flag_local room other le before last false false e f ts = dotted_local room other le true before last ts
-flag_local room other le before last true false e f ts =
-    dotted_wider room other le (let l = ltb-false other 1 f in let s : room < 1 = ltb-true room 1 e in omega arith) before last ts (dotted false before last ts) (dotted_local room other le false before last ts)
-flag_local room other le before last false true e f ts = absurd (let l = ltb-false room 1 e in let s : other < 1 = ltb-true other 1 f in omega arith)
+pub flag_local : (room other : ℕ) (le : room ≤ other) (levels : ℕ) (before : List Text) (last : Text) (b b' : Bool) → ltb room levels ≡ b → ltb other levels ≡ b' → Local room other le (dotted (not b) before last) (dotted (not b') before last)
+flag_local room other le levels before last true true e f ts = dotted_local room other le false before last ts
+flag_local room other le levels before last false false e f ts = dotted_local room other le true before last ts
+flag_local room other le levels before last true false e f ts =
+    dotted_wider room other le (let l = ltb-false other levels f in let s : room < levels = ltb-true room levels e in omega arith) before last ts (dotted false before last ts) (dotted_local room other le false before last ts)
+flag_local room other le levels before last false true e f ts = absurd (let l = ltb-false room levels e in let s : other < levels = ltb-true other levels f in omega arith)
 
 -- ---- the readers that take a token, as told by that token
 
@@ -192,7 +192,7 @@ module _ (room other : ℕ) (le : room ≤ other) (le' : below room ≤ below ot
   first_effect_local None ts = local_refuse room other le ts
   first_effect_local (Some (kind.Ident head)) ts =
       local_skip room other le (dotted (not (ltb room 1)) [] head >>= reader.after_dotted room inner list) (dotted (not (ltb other 1)) [] head >>= reader.after_dotted other inner' list')
-      (then (dotted (not (ltb room 1)) [] head) (dotted (not (ltb other 1)) [] head) (reader.after_dotted room inner list) (reader.after_dotted other inner' list') (flag_local room other le [] head (ltb room 1) (ltb other 1) refl refl)
+      (then (dotted (not (ltb room 1)) [] head) (dotted (not (ltb other 1)) [] head) (reader.after_dotted room inner list) (reader.after_dotted other inner' list') (flag_local room other le 1 [] head (ltb room 1) (ltb other 1) refl refl)
       (after_dotted_local room other le inner inner' list list' reads reads' near near_list)) ts
   first_effect_local (Some (kind.Word k.This)) ts =
       local_over room other le 1 (skipping (pure (x.This None))) (skipping (pure (x.This None))) (local_skip room other le (pure (x.This None)) (pure (x.This None)) (local_pure room other le (x.This None))) ts

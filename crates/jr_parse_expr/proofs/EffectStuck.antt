@@ -35,7 +35,7 @@ effect_grows room ts stop h =
     let low_grow = all_grow (below room) in
     effects_grow room (expr room) (list room) reads.exprs reads.lists grow.exprs grow.lists (expr (below room)) (list (below room)) low_reads.exprs low_reads.lists low_grow.exprs low_grow.lists ts stop h
 
-effect_local : (room other : ℕ) (le : room ≤ other) (le' : suc room ≤ suc other) (lead : Lead) → Local (suc room) (suc other) le' (effect (suc room) lead) (effect (suc other) lead)
+pub effect_local : (room other : ℕ) (le : room ≤ other) (le' : suc room ≤ suc other) (lead : Lead) → Local (suc room) (suc other) le' (effect (suc room) lead) (effect (suc other) lead)
 unfolding effect
 effect_local room other le le' lead ts =
     let down = below_both room other le in

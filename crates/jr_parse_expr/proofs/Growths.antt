@@ -106,7 +106,7 @@ literal_starter token h =
     let p = and_parts (is_literal token) (not (is_least_kind token)) h in
     record { tree = x.Lit token; levels = 1; is = record { shaped = p.0; fits = (omega arith, p.1); low = omega arith }; more = λ z. z; spelled = λ z. refl }
 
-or_second : (b c : Bool) → (b || c) ≡ true → b ≡ false → c ≡ true
+pub or_second : (b c : Bool) → (b || c) ≡ true → b ≡ false → c ≡ true
 or_second true c h g = absurd (cc)
 or_second false c h g = h
 

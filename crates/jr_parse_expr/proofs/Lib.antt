@@ -1,3 +1,10 @@
+mod ArrayItems
+mod Begins
+mod Behind
+mod Depths
+mod EffectTurns
+pub mod Keeps
+mod Listing
 pub mod NameLaws
 pub mod Written
 pub mod Beginnings
@@ -39,3 +46,6 @@ pub mod EffectLocals
 pub mod EffectStuck
 pub mod Stuck
 pub mod Rules
+mod Rooms
+mod Shorter
+mod Turning

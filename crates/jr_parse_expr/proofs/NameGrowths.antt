@@ -75,7 +75,7 @@ parts_stop ts stop h =
 abbrev pub IsNameIn : ℕ → Name → Type 0
 IsNameIn r n = IsName n
 
-name_after_grows : (room : ℕ) (head : Text) (ts : List Kind) (stop : Fault × List Kind) → name_after head ts ≡ Err stop → Growing IsNameIn write_name room (kind.Ident head ∷ ts) stop
+pub name_after_grows : (room : ℕ) (head : Text) (ts : List Kind) (stop : Fault × List Kind) → name_after head ts ≡ Err stop → Growing IsNameIn write_name room (kind.Ident head ∷ ts) stop
 unfolding name_after
 name_after_grows room head ts stop h =
     elim (stops (with_front (head ∷ []) (parts ts)) _ stop h) [

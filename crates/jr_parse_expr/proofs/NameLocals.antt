@@ -23,7 +23,7 @@ module _ (room other : ℕ) (le : room ≤ other) where
   parts_local : Local room other le parts parts
   parts_local = local_many room other le (begins_with y.Dot) (expect y.Dot >> identifier) (expect y.Dot >> identifier) refl (behind_shortens y.Dot identifier identifier_keeps) (behind_shortens y.Dot identifier identifier_keeps) part_local
 
-  after_local : (head : Text) → Local room other le (name_after head) (name_after head)
+  pub after_local : (head : Text) → Local room other le (name_after head) (name_after head)
   unfolding name_after
   after_local head =
       local_bind room other le (λ ts. with_front (head ∷ []) (parts ts)) (λ ts. with_front (head ∷ []) (parts ts)) (λ all. pure (name_of all)) (λ all. pure (name_of all))

@@ -5,3 +5,6 @@ pub mod Views
 pub mod Writing
 pub mod Follow
 pub mod Laws
+pub mod Begun
+pub mod Nests
+pub mod Steps

@@ -1,8 +1,28 @@
 //! Readers of names, types and expressions.
 #![tactic(auto)]
 
+mod begin;
+mod cast;
+mod creation;
+mod effects;
+mod form;
+mod grammar;
+mod inits;
 mod law;
+mod lead;
+mod listed;
+mod measured;
 mod name;
+mod operand;
+mod operator;
+mod read;
+mod start;
+mod suffix;
+#[cfg(test)]
+mod tests;
 
 pub use law::expressions_have_one_reading;
+pub use lead::Lead;
 pub use name::{Dotted, dims, dotted_name, element, name_after, type_use};
+pub use read::{call_arguments, effect, expr, init, list};
+pub use start::{starts_effect, starts_expr};

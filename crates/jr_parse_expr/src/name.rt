@@ -1,13 +1,14 @@
 // Readers of names, types and pairs of brackets (JLS 4, 6.2).
-ghost use Rattle.std.specs.Prelude.{◌≡◌, [], ◌∷◌, ◌++◌, IfOk};
-ghost use Rattle.jr_parse_laws.specs.Parsers.{Reads, kinds};
+ghost use Rattle.std.specs.Prelude.{◌≡◌, ◌+◌, ◌≤◌, ◌<◌, true, [], ◌∷◌, ◌++◌, drop, length, IfOk};
+ghost use Rattle.jr_base.specs.declared.kind.Symbol.TheVariants as y;
+ghost use Rattle.jr_parse_laws.specs.Parsers.{Reads, is_at, kinds};
 ghost use Rattle.jr_parse_expr.specs.Names as spec;
 ghost use Rattle.jr_parse_expr.specs.Views.{plain_dotted};
 
 use jr_base::{Items, Keyword, Kind, Symbol, Text, Token};
 use jr_parse_laws::{Cursor, Fault};
 use jr_tree::{Base, Name, Primitive, TypeUse};
-use std::alloc::Global;
+use std::alloc::{AllocError, Global};
 
 /// A name at the head of an expression: its identifiers, the last one apart, and whether `this` stands behind them.
 #[derive(Drop)]
@@ -20,7 +21,8 @@ pub struct Dotted {
 /// Pairs of brackets, and how many.
 #[tactic(auto, unfolding(crate::specs::Names::dims))]
 pub fn dims(cursor: &mut Cursor<'_>) -> Result<usize, Fault>
-    ensures { Reads (λ (n : _). n) (spec.dims (kinds cursor.old)) result (kinds cursor.new) }
+    ensures reads { Reads (λ (n : _). n) (spec.dims (kinds cursor.old)) result (kinds cursor.new) }
+    ensures few { IfOk result (λ n. n + length cursor.new.rest.now ≤ length cursor.old.rest.now) }
 {
     let mut pairs = 0;
     'pairs: while cursor.is_at(Symbol::OpenBracket) {
@@ -29,6 +31,16 @@ pub fn dims(cursor: &mut Cursor<'_>) -> Result<usize, Fault>
         pairs += 1;
     }
     Ok(pairs)
+}
+
+/// Pairs of brackets behind an open bracket and at the close bracket of its pair, and how many; with that pair there is one more.
+pub fn dims_behind(cursor: &mut Cursor<'_>) -> Result<usize, Fault>
+    requires { is_at y.CloseBracket (kinds cursor.old) ≡ true }
+    ensures reads { Reads (λ (n : _). n) (spec.dims (drop 1 (kinds cursor.old))) result (kinds cursor.new) }
+    ensures few { IfOk result (λ n. n < usize.MAX) }
+{
+    cursor.skip();
+    dims(cursor)
 }
 
 /// A name, behind its first identifier.
@@ -45,8 +57,17 @@ pub fn name_after(alloc: Global, cursor: &mut Cursor<'_>, head: Text) -> Result<
     Ok(Name { parts })
 }
 
+/// The name of these identifiers.
+pub fn whole_name(before: Items<Text>, last: Text) -> Result<Name, AllocError>
+    ensures { IfOk result (λ n. n ≡ spec.name_of (before ++ last ∷ [])) }
+{
+    let mut parts = before;
+    parts.push(last)?;
+    Ok(Name { parts })
+}
+
 /// The primitive type that comes next.
-fn primitive_at(cursor: &Cursor<'_>) -> Option<Primitive>
+pub fn primitive_at(cursor: &Cursor<'_>) -> Option<Primitive>
     ensures { result ≡ spec.primitive_at (kinds cursor.now) }
 {
     match cursor.peek() {

@@ -64,7 +64,7 @@ pub enum ReceiverKind {
 }
 
 /// What a row is.
-#[derive(Drop)]
+#[derive(Debug, Drop)]
 pub enum Label {
     Program,
     /// JLS 7.3

@@ -85,11 +85,11 @@ abbrev Params : List Kind → Type 0
 Params ks = (xs : List (List ℕ)) × (rest : List Kind) × Opening rest × (ks ≡ params_tokens xs ++ kind.Sym symbol.CloseParen ∷ rest)
 
 -- after this
-abbrev After : Kind → (List Kind → Type 0) → List Kind → Type 0
+abbrev pub After : Kind → (List Kind → Type 0) → List Kind → Type 0
 After k P ks = (rest : List Kind) × P rest × (ks ≡ k ∷ rest)
 
 -- after a name
-abbrev AfterName : (List Kind → Type 0) → List Kind → Type 0
+abbrev pub AfterName : (List Kind → Type 0) → List Kind → Type 0
 AfterName P ks = (x : List ℕ) × (rest : List Kind) × P rest × (ks ≡ kind.Ident x ∷ rest)
 
 -- what may follow in a phase
@@ -187,7 +187,7 @@ Onward None phase k ks = Unit {0}
 Onward (Some s) phase k ks = Follows s.phase ks → Follows phase (k ∷ ks)
 
 -- the same at an equal token
-headed : (P : List Kind → Type 0) (k other : Kind) (ks : List Kind) → k ≡ other → P (other ∷ ks) → P (k ∷ ks)
+pub headed : (P : List Kind → Type 0) (k other : Kind) (ks : List Kind) → k ≡ other → P (other ∷ ks) → P (k ∷ ks)
 headed P k other ks same holds = subst (λ h. P (h ∷ ks)) (sym same) holds
 
 step : (phase : Phase) (t : Terminal) (k : Kind) (ks : List Kind) → IsKind t k → Onward (next phase t) phase k ks
@@ -225,7 +225,7 @@ at_end : (phase : Phase) (sites : List Site) → cond (is_end phase) (Some []) N
 at_end End sites is = refl
 at_end phase sites is = absurd (none_some sites is)
 
-mapped : {A B : Type 0} (f : A → B) (o : Option A) (y : B) → option_map f o ≡ Some y → (x : A) × (o ≡ Some x)
+pub mapped : {A B : Type 0} (f : A → B) (o : Option A) (y : B) → option_map f o ≡ Some y → (x : A) × (o ≡ Some x)
 mapped f None y is = absurd (none_some y is)
 mapped f (Some x) y is = (x, refl)
 

@@ -7,9 +7,9 @@ use crate::sites::{Role, Site};
 use jr_base::{Keyword, Kind, OutOfMemory, Symbol, Text, Token};
 use std::alloc::Global;
 
-// What a token is to the grammar of the class.
+/// What a token is to the grammar of the class.
 #[derive(Clone, Copy)]
-enum Terminal {
+pub enum Terminal {
     Class,
     Static,
     Int,
@@ -88,7 +88,8 @@ fn symbol_terminal(symbol: Symbol) -> Terminal
     }
 }
 
-fn terminal_of(kind: &Kind) -> Terminal
+/// What the token is to the grammar of the class.
+pub fn terminal_of(kind: &Kind) -> Terminal
     ensures { result ≡ terminal_of kind.now }
 {
     match kind {

@@ -19,8 +19,8 @@ pub struct Class {
     pub targets: Vec<Option<usize>>,
 }
 
-// The tokens of a text, where it has some.
-fn tokens_of(alloc: Global, bytes: &[u8]) -> Result<Option<Vec<Token>>, OutOfMemory>
+/// The tokens of a text, where it has some (JLS 3.2).
+pub fn tokens_of(alloc: Global, bytes: &[u8]) -> Result<Option<Vec<Token>>, OutOfMemory>
     requires { length bytes.now < 2 ^ 32 }
     ensures { IfOk result (λ found. MatchOption found ((tokens : List Token) → Lex bytes.now tokens → ⊥)
         (λ tokens. AreTokens bytes.now tokens.items)) }

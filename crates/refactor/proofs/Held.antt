@@ -26,7 +26,7 @@ second_there : (p q : List ℕ) (rest : List (List ℕ)) → Contains (p ∷ q �
 second_there p q rest = (1, omega arith, refl)
 
 -- the one file is the one that is listed
-listed : (files : Image) (file : List ℕ) (paths : List (List ℕ)) → IsDistinct bytes_eq paths → AreJava paths → Lists (Some files) 2 paths → IsOnly files file → IsSome (files file) → paths ≡ file ∷ []
+pub listed : (files : Image) (file : List ℕ) (paths : List (List ℕ)) → IsDistinct bytes_eq paths → AreJava paths → Lists (Some files) 2 paths → IsOnly files file → IsSome (files file) → paths ≡ file ∷ []
 unfolding IsDistinct
 listed files file [] distinct java lists only there = nothing (lists.1 (omega arith) file only.0 there)
   where
@@ -39,7 +39,7 @@ listed files file (p ∷ q ∷ rest) distinct java lists only there =
     absurd (false≢true (sym distinct.0.0 ∙ (bytes_eq-Decides p q).1 (p_is ∙ sym q_is)))
 
 -- one that is listed alone is the one file
-only_listed : (files : Image) (file : List ℕ) → AreJava (file ∷ []) → Lists (Some files) 2 (file ∷ []) → IsOnly files file
+pub only_listed : (files : Image) (file : List ℕ) → AreJava (file ∷ []) → Lists (Some files) 2 (file ∷ []) → IsOnly files file
 only_listed files file java lists = (java.0, λ path is there. here path (lists.1 (omega arith) path is there))
   where
     at : (path : List ℕ) (k : ℕ) → k < 1 → get_or (file ∷ []) k path ≡ path → path ≡ file
@@ -49,7 +49,7 @@ only_listed files file java lists = (java.0, λ path is there. here path (lists.
     here : (path : List ℕ) → Contains (file ∷ []) path → path ≡ file
     here path (k, below, is) = at path k below is
 
-some_there : (files : Image) (file bytes : List ℕ) → files file ≡ Some bytes → IsSome (files file)
+pub some_there : (files : Image) (file bytes : List ℕ) → files file ≡ Some bytes → IsSome (files file)
 some_there files file bytes is = subst IsSome (sym is) refl
 
 pub not_listed : (told : Option Image) (file : List ℕ) (paths : List (List ℕ)) → IsDistinct bytes_eq paths → AreJava paths → Lists told 2 paths → (paths ≡ file ∷ [] → ⊥) → ForTold told (λ files. IsHeld files file None)
@@ -78,17 +78,18 @@ take_few zero xs few = absurd (omega arith)
 take_few (suc n) [] few = refl
 take_few (suc n) (x ∷ xs) few = ap (λ rest. x ∷ rest) (take_few n xs (omega arith))
 
-whole_read : (found : Option (List ℕ)) (bytes : List ℕ) → Some bytes ≡ option_map (take 65537) found → length bytes ≤ 65536 → found ≡ Some bytes
-whole_read None bytes read size = absurd (some_none bytes read)
-whole_read (Some whole) bytes read size =
-    let e : bytes ≡ take 65537 whole = same_some _ _ read in
-    ap Some (sym (take_few 65537 whole (omega (arith, ap length e))) ∙ sym e)
+-- what is shorter than what is asked for is the whole
+pub whole_read : (n : ℕ) (found : Option (List ℕ)) (bytes : List ℕ) → Some bytes ≡ option_map (take n) found → length bytes < n → found ≡ Some bytes
+whole_read n None bytes read size = absurd (some_none bytes read)
+whole_read n (Some whole) bytes read size =
+    let e : bytes ≡ take n whole = same_some _ _ read in
+    ap Some (sym (take_few n whole (omega (arith, ap length e))) ∙ sym e)
 
 pub holds_it : (told : Option Image) (file bytes : List ℕ) (paths : List (List ℕ)) → AreJava paths → Lists told 2 paths → paths ≡ file ∷ [] → Reads told file 65537 (Some bytes) → length bytes ≤ 65536 → ForTold told (λ files. IsHeld files file (Some bytes))
 holds_it None file bytes paths java lists is read size = tt
 holds_it (Some files) file bytes paths java lists is read size = record {
   only = only_listed files file (subst AreJava is java) (subst (Lists (Some files) 2) is lists);
-  there = whole_read (files file) bytes read size;
+  there = whole_read 65537 (files file) bytes read (omega arith);
   small = size;
 }
 
@@ -97,8 +98,8 @@ pub first_is : (paths : List (List ℕ)) (file x : List ℕ) → paths ≡ file 
 first_is paths file x is e = e ∙ ap (λ (ps : List (List ℕ)). get_or ps 0 x) is
 
 -- what is read after the listing is what stood before it
-pub read_again : (told again : Option Image) (file path : List ℕ) (found : Option (Vec ℕ Global)) (bytes : Vec ℕ Global) → again ≡ told → path ≡ file → found ≡ Some bytes → Reads again path 65537 (option_map (λ v. v.items) found) → Reads told file 65537 (Some bytes.items)
-read_again told again file path found bytes same file_is is read =
-    subst (λ (t : Option Image). Reads t file 65537 (Some bytes.items)) same
-    (subst (λ (p : List ℕ). Reads again p 65537 (Some bytes.items)) file_is
-    (subst (λ (o : Option (Vec ℕ Global)). Reads again path 65537 (option_map (λ v. v.items) o)) is read))
+pub read_again : (n : ℕ) (told again : Option Image) (file path : List ℕ) (found : Option (Vec ℕ Global)) (bytes : Vec ℕ Global) → again ≡ told → path ≡ file → found ≡ Some bytes → Reads again path n (option_map (λ v. v.items) found) → Reads told file n (Some bytes.items)
+read_again n told again file path found bytes same file_is is read =
+    subst (λ (t : Option Image). Reads t file n (Some bytes.items)) same
+    (subst (λ (p : List ℕ). Reads again p n (Some bytes.items)) file_is
+    (subst (λ (o : Option (Vec ℕ Global)). Reads again path n (option_map (λ v. v.items) o)) is read))

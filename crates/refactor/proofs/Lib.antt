@@ -6,4 +6,7 @@ mod Single
 mod Carried
 mod Chosen
 mod Exact
+mod PlainAnswers
 mod BatchAnswers
+mod CheckAnswers
+mod OneFile

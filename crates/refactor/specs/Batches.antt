@@ -1,5 +1,5 @@
 -- The answers to a batch, of which no request is served yet.
-use Rattle.std.specs.Prelude.{◌≡◌, ◌⊎◌, ℕ, List, Option, Some, Result, Ok, Err}
+use Rattle.std.specs.Prelude.{◌≡◌, ℕ, List, Option, Some, Result, Ok, Err}
 use Rattle.jr_base.specs.declared.request.Request.{Request}
 use Rattle.jr_batch.specs.Input.{ForInput, IsInputAnswer}
 use Rattle.jr_batch.specs.declared.fault.BatchFault.{BatchFault}
@@ -7,11 +7,10 @@ use Rattle.jr_batch.specs.declared.fault.BatchFault.TheVariants as fault
 use Rattle.jr_request.specs.Words.{command_of}
 use Rattle.jr_request.specs.declared.command.Command.TheVariants.{Batch}
 use Rattle.jr_store.specs.Image.{Image, Rose}
-use Rattle.refactor.specs.Answers.{Answers, IsFailure}
-use Rattle.refactor.specs.Recovering.{Recovers}
-use Rattle.refactor.specs.declared.status.Phase.TheVariants.{Recovering}
+use Rattle.refactor.specs.Answers.{IsFailure}
+use Rattle.refactor.specs.Plain.{AnswersPlain}
 use Rattle.refactor.specs.declared.status.Status.{Status}
-use Rattle.refactor.specs.declared.status.Status.TheVariants.{BadRequest, StoreFault, SourceFault, TooLarge, OutOfMemory, BadJournal, NotYet}
+use Rattle.refactor.specs.declared.status.Status.TheVariants.{BadRequest, SourceFault, TooLarge, OutOfMemory, NotYet}
 
 -- the words ask for the requests of the input
 abbrev pub AsksBatch : List (List ℕ) → Type 0
@@ -28,10 +27,7 @@ Hears told quiet loud other = ⊥
 
 -- When each answer to a batch comes. The input is read once recovery has found the files, and they are left so.
 abbrev pub AnswersBatch : List (List ℕ) → Option Image → Option Image → (Image → Type 0) → ℕ → ℕ → Option (List ℕ) → ℕ → ℕ → Status → Type 0
-AnswersBatch words told left outcomes before after heard quiet loud BadJournal = Answers words told left outcomes before after BadJournal
-AnswersBatch words told left outcomes before after heard quiet loud (StoreFault Recovering) = Answers words told left outcomes before after (StoreFault Recovering)
-AnswersBatch words told left outcomes before after heard quiet loud OutOfMemory = (left ≡ told) ⊎ Recovers told left
-AnswersBatch words told left outcomes before after heard quiet loud other = Recovers told left × Hears heard quiet loud other
+AnswersBatch words told left outcomes before after heard quiet loud status = AnswersPlain words told left outcomes before after (Hears heard quiet loud) status
 
 -- the answer of the call that is the answer of its input
 abbrev pub status_of : Result (List Request) BatchFault → Status

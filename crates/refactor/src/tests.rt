@@ -107,12 +107,28 @@ fn a_rename_is_refused(rt: HostRuntime) -> Result<(), Fail> {
     let bad = call(alloc, OLD, ". rename A.java x b", 1, 0)?;
     expect(&rt, &bad, 1, "bad words\n", OLD);
     // Only the gate is read: the second call of the store would fail.
-    let check = call(alloc, OLD, ". check", 2, 0)?;
-    expect(&rt, &check, 20, "not yet\n", OLD);
+    let inline = call(alloc, OLD, ". inline A.java 27", 2, 0)?;
+    expect(&rt, &inline, 20, "not yet\n", OLD);
     let elsewhere = call(alloc, OLD, ". rename B.java 27 b", 0, 0)?;
     expect(&rt, &elsewhere, 20, "not yet\n", OLD);
     let keyword = call(alloc, OLD, ". rename A.java 27 int", 0, 0)?;
     expect(&rt, &keyword, 20, "not yet\n", OLD);
+    Ok(())
+}
+
+#[test]
+fn a_check_is_made(rt: HostRuntime) -> Result<(), Fail> {
+    let alloc = rt.alloc();
+    // Nothing is written: the fourth call of the store would fail.
+    let sound = call(alloc, OLD, ". check", 4, 0)?;
+    expect(&rt, &sound, 0, "ok, files: 1\n", OLD);
+    let twice = "class A { static int f() { return 1; return 2; } }";
+    let refused = call(alloc, twice, ". check", 0, 0)?;
+    expect(&rt, &refused, 20, "not yet\n", twice);
+    for failing in [2, 3] {
+        let reading = call(alloc, OLD, ". check", failing, 0)?;
+        expect(&rt, &reading, 7, "store fault: reading\n", OLD);
+    }
     Ok(())
 }
 
@@ -184,7 +200,7 @@ fn a_large_batch_is_refused(rt: HostRuntime) -> Result<(), Fail> {
 fn call_again(alloc: Global, store: &mut MemStore) -> Result<Called, Fail> {
     let mut input = MemSource::new(Vec::new(alloc), Vec::new(alloc));
     let mut out = MemSink::new(alloc, Vec::new(alloc))?;
-    let words = words_of(alloc, ". rename A.java 1 a")?;
+    let words = words_of(alloc, ". check")?;
     let status = refactor(alloc, &words, store, &mut input, &mut out);
     Ok(Called {
         number: status.number(),
@@ -203,18 +219,50 @@ fn a_stop_is_recovered_from(rt: HostRuntime) -> Result<(), Fail> {
     let mut store = store_of(alloc, OLD, 9)?;
     let status = refactor(alloc, &words, &mut store, &mut input, &mut out);
     assert_eq!(rt; status.number(), 7);
-    expect(&rt, &call_again(alloc, &mut store)?, 20, "not yet\n", OLD);
+    let recovered = call_again(alloc, &mut store)?;
+    expect(&rt, &recovered, 0, "ok, files: 1\n", OLD);
     let mut whole = store_of(alloc, OLD, 0)?;
     let done = refactor(alloc, &words, &mut whole, &mut input, &mut out);
     assert_eq!(rt; done.number(), 0);
     for stop in 4..12u64 {
         for pick in 0..4u64 {
             let again = call_again(alloc, &mut whole.image(alloc, stop, pick)?)?;
-            assert_eq!(rt; again.number, 20);
+            assert_eq!(rt; again.number, 0);
             let left = again.left.as_slice();
             assert!(rt; left == OLD.as_bytes() || left == NEW.as_bytes());
         }
     }
+    Ok(())
+}
+
+// The answer to a check where an earlier run was stopped: the gate is open, and this is the journal.
+fn check_over(alloc: Global, journal: &[u8]) -> Result<Called, Fail> {
+    let mut files = Files::new(alloc);
+    files.insert(Path::parse(alloc, b".refactor-gate")?, b"1".to_vec(alloc)?)?;
+    files.insert(
+        Path::parse(alloc, b".refactor-journal")?,
+        journal.to_vec(alloc)?,
+    )?;
+    files.insert(
+        Path::parse(alloc, b"A.java")?,
+        OLD.as_bytes().to_vec(alloc)?,
+    )?;
+    let mut store = MemStore::new(alloc, files, Vec::new(alloc))?;
+    call_again(alloc, &mut store)
+}
+
+#[test]
+fn a_journal_is_read(rt: HostRuntime) -> Result<(), Fail> {
+    let alloc = rt.alloc();
+    let first = b"JRJ1\n\x00\x00\x00\x01F\x00\x00\x00\x06A.java\x00\x00\x00\x0bclass A { }END\n";
+    let called = check_over(alloc, first)?;
+    expect(&rt, &called, 0, "ok, files: 1\n", "class A { }");
+    let second =
+        b"JRJ2\n\x00\x00\x00\x01\x00\x00\x00\x06A.javaF\x00\x00\x00\x12class A { int a; }F\x00\x00\x00\x12class A { int b; }END\n";
+    let again = check_over(alloc, second)?;
+    expect(&rt, &again, 0, "ok, files: 1\n", "class A { int a; }");
+    let cut = check_over(alloc, b"JRJ2\n")?;
+    expect(&rt, &cut, 11, "bad journal\n", OLD);
     Ok(())
 }
 

@@ -12,6 +12,7 @@ ghost use Rattle.jr_thin.specs.Renaming.{Serves, IsRenaming};
 ghost use Rattle.jr_thin.specs.declared.answers.Renaming.{Renaming};
 ghost use Rattle.refactor.specs.Answers.{AnswersFound, Answers, Reports, IsReported, reported, Outcome, IsFailure, IsServedAnswer};
 ghost use Rattle.refactor.specs.Batches.{AsksBatch, Hears, AnswersBatch, status_of, IsBatchFailure};
+ghost use Rattle.refactor.specs.Checking.{AsksCheck, Checks, AnswersCheck, IsCheckedSo};
 ghost use Rattle.refactor.specs.Crash.{StandsForEither, Survives, IsSettled, SurvivesSettled};
 ghost use Rattle.refactor.specs.Exact.{IsAnswered};
 ghost use Rattle.refactor.specs.Line.{line_of};
@@ -21,6 +22,7 @@ ghost use Rattle.refactor.specs.Performing.{IsTaken, Commits, Reported};
 ghost use Rattle.refactor.specs.declared.status.Status.{Status};
 ghost use Rattle.refactor.specs.declared.status.Status.TheVariants.{BadJournal, BadWords, NotYet};
 
+use crate::check::check;
 use crate::decide::{Decision, decide};
 use crate::hear::hear;
 use crate::lines::line_of;
@@ -103,7 +105,7 @@ fn obey<S: Store, O: Sink>(alloc: Global, command: &Command, store: &mut S, out:
     }
 }
 
-// Reads a batch, or does what another command asks for, on the files found.
+// Reads a batch, checks the files, or does what another command asks for, on the files found.
 fn serve<S: Store, I: Source, O: Sink>(
     alloc: Global,
     command: &Command,
@@ -111,12 +113,16 @@ fn serve<S: Store, I: Source, O: Sink>(
     input: &mut I,
     out: &mut O,
 ) -> Status
-    ensures answer { (words : List (List ℕ)) → command_of words ≡ Some command.now → (command.now ≡ Command.Batch → ⊥) →
+    ensures answer { (words : List (List ℕ)) → command_of words ≡ Some command.now → (command.now ≡ Command.Batch → ⊥) → (command.now ≡ Command.Check → ⊥) →
         Reported words (λ status. AnswersFound words (S.files store.old) (S.files store.new) (S.may_leave store.new) (S.faults store.old) (S.faults store.new) status
         × SurvivesSettled words (S.files store.old) (S.may_leave store.old) (S.may_leave store.new) status) result (O.contents out.old) (O.contents out.new) (O.faults out.old) (O.faults out.new) }
     ensures batch { command.now ≡ Command.Batch → (status : Status) × Hears (I.left input.old) (I.faults input.old) (I.faults input.new) status
         × IsReported status [] result (O.contents out.old) (O.contents out.new) (O.faults out.old) (O.faults out.new) }
     ensures kept { command.now ≡ Command.Batch → store.new ≡ store.old }
+    ensures check { command.now ≡ Command.Check → (status : Status) × Checks (S.files store.old) (S.faults store.old) (S.faults store.new) status
+        × IsReported status [] result (O.contents out.old) (O.contents out.new) (O.faults out.old) (O.faults out.new) }
+    ensures check_files { command.now ≡ Command.Check → S.files store.new ≡ S.files store.old }
+    ensures check_crash { command.now ≡ Command.Check → (c : Image) → S.may_leave store.new c → S.may_leave store.old c }
     ensures any_moment { (words : List (List ℕ)) (f r : Image) → command_of words ≡ Some command.now → S.files store.old ≡ Some f → IsSettled f r (S.may_leave store.old) →
         LeavesOnly S.moment S.left_since store.old store.new (StandsForEither words r) }
     ensures unread { (command.now ≡ Command.Batch → ⊥) → input.new ≡ input.old }
@@ -125,6 +131,10 @@ fn serve<S: Store, I: Source, O: Sink>(
     match command {
         Command::Batch => {
             let status = hear(alloc, input);
+            report(alloc, status, &[], out)
+        }
+        Command::Check => {
+            let status = check(alloc, store);
             report(alloc, status, &[], out)
         }
         _ => obey(alloc, command, store, out),
@@ -149,11 +159,14 @@ fn recover_first<S: Store, I: Source, O: Sink>(
     input: &mut I,
     out: &mut O,
 ) -> Status
-    ensures answer { (words : List (List ℕ)) → command_of words ≡ Some command.now → NeedsFiles command.now → (command.now ≡ Command.Batch → ⊥) →
+    ensures answer { (words : List (List ℕ)) → command_of words ≡ Some command.now → NeedsFiles command.now → (command.now ≡ Command.Batch → ⊥) → (command.now ≡ Command.Check → ⊥) →
         Reported words (λ status. Answers words (S.files store.old) (S.files store.new) (S.may_leave store.new) (S.faults store.old) (S.faults store.new) status
         × Survives words (S.files store.old) (S.may_leave store.old) (S.may_leave store.new) status) result (O.contents out.old) (O.contents out.new) (O.faults out.old) (O.faults out.new) }
     ensures batch { (words : List (List ℕ)) → AsksBatch words → command.now ≡ Command.Batch →
         Reported words (λ status. AnswersBatch words (S.files store.old) (S.files store.new) (S.may_leave store.new) (S.faults store.old) (S.faults store.new) (I.left input.old) (I.faults input.old) (I.faults input.new) status
+        × Survives words (S.files store.old) (S.may_leave store.old) (S.may_leave store.new) status) result (O.contents out.old) (O.contents out.new) (O.faults out.old) (O.faults out.new) }
+    ensures check { (words : List (List ℕ)) → AsksCheck words → command.now ≡ Command.Check →
+        Reported words (λ status. AnswersCheck words (S.files store.old) (S.files store.new) (S.may_leave store.new) (S.faults store.old) (S.faults store.new) status
         × Survives words (S.files store.old) (S.may_leave store.old) (S.may_leave store.new) status) result (O.contents out.old) (O.contents out.new) (O.faults out.old) (O.faults out.new) }
     ensures any_moment { (words : List (List ℕ)) (f r : Image) → command_of words ≡ Some command.now → S.files store.old ≡ Some f → Restored f r →
         StartsRecover f (S.may_leave store.old) → LeavesOnly S.moment S.left_since store.old store.new (StandsForEither words r) }
@@ -182,9 +195,11 @@ fn perform<S: Store, I: Source, O: Sink>(
     input: &mut I,
     out: &mut O,
 ) -> Status
-    ensures answer { (AsksBatch words.now → ⊥) → Reported words.now (λ status. Answers words.now (S.files store.old) (S.files store.new) (S.may_leave store.new) (S.faults store.old) (S.faults store.new) status
+    ensures answer { (AsksBatch words.now → ⊥) → (AsksCheck words.now → ⊥) → Reported words.now (λ status. Answers words.now (S.files store.old) (S.files store.new) (S.may_leave store.new) (S.faults store.old) (S.faults store.new) status
         × Survives words.now (S.files store.old) (S.may_leave store.old) (S.may_leave store.new) status) result (O.contents out.old) (O.contents out.new) (O.faults out.old) (O.faults out.new) }
     ensures batch { AsksBatch words.now → Reported words.now (λ status. AnswersBatch words.now (S.files store.old) (S.files store.new) (S.may_leave store.new) (S.faults store.old) (S.faults store.new) (I.left input.old) (I.faults input.old) (I.faults input.new) status
+        × Survives words.now (S.files store.old) (S.may_leave store.old) (S.may_leave store.new) status) result (O.contents out.old) (O.contents out.new) (O.faults out.old) (O.faults out.new) }
+    ensures check { AsksCheck words.now → Reported words.now (λ status. AnswersCheck words.now (S.files store.old) (S.files store.new) (S.may_leave store.new) (S.faults store.old) (S.faults store.new) status
         × Survives words.now (S.files store.old) (S.may_leave store.old) (S.may_leave store.new) status) result (O.contents out.old) (O.contents out.new) (O.faults out.old) (O.faults out.new) }
     ensures any_moment { (f r : Image) → S.files store.old ≡ Some f → Restored f r → StartsRecover f (S.may_leave store.old) →
         LeavesOnly S.moment S.left_since store.old store.new (StandsForEither words.now r) }
@@ -206,7 +221,7 @@ fn perform<S: Store, I: Source, O: Sink>(
 /// Does what the words ask for, and writes one line.
 ///
 /// The first word is the folder, which is not read here. Every command but `demo` begins with recovery. Only a rename
-/// is served, in a store with one `.java` file of at most 65,536 bytes. The input of a batch is read after recovery. Want of memory may be answered at any time
+/// is served, in a store with one `.java` file of at most 65,536 bytes, and a check, of one of at most 1,048,576 bytes. The input of a batch is read after recovery. Want of memory may be answered at any time
 /// before the first write of the commit, unless recovery has begun to write and not ended.
 pub fn refactor<S: Store, I: Source, O: Sink>(
     alloc: Global,
@@ -217,11 +232,15 @@ pub fn refactor<S: Store, I: Source, O: Sink>(
 ) -> Status
     // Each answer has its cause, the files left are those that it says, and a crash leaves such files. A rename that is
     // done is the requested change.
-    ensures answer { (AsksBatch words.now → ⊥) → Outcome words.now (λ status. Answers words.now (S.files store.old) (S.files store.new) (S.may_leave store.new) (S.faults store.old) (S.faults store.new) status
+    ensures answer { (AsksBatch words.now → ⊥) → (AsksCheck words.now → ⊥) → Outcome words.now (λ status. Answers words.now (S.files store.old) (S.files store.new) (S.may_leave store.new) (S.faults store.old) (S.faults store.new) status
         × Survives words.now (S.files store.old) (S.may_leave store.old) (S.may_leave store.new) status) (O.contents out.old) (O.contents out.new) (O.faults out.old) (O.faults out.new) result }
 
     // So has each answer to a batch: what the input comes to.
     ensures batch { AsksBatch words.now → Outcome words.now (λ status. AnswersBatch words.now (S.files store.old) (S.files store.new) (S.may_leave store.new) (S.faults store.old) (S.faults store.new) (I.left input.old) (I.faults input.old) (I.faults input.new) status
+        × Survives words.now (S.files store.old) (S.may_leave store.old) (S.may_leave store.new) status) (O.contents out.old) (O.contents out.new) (O.faults out.old) (O.faults out.new) result }
+
+    // So has each answer to a check: whether the one file is a small program that compiles.
+    ensures check { AsksCheck words.now → Outcome words.now (λ status. AnswersCheck words.now (S.files store.old) (S.files store.new) (S.may_leave store.new) (S.faults store.old) (S.faults store.new) status
         × Survives words.now (S.files store.old) (S.may_leave store.old) (S.may_leave store.new) status) (O.contents out.old) (O.contents out.new) (O.faults out.old) (O.faults out.new) result }
 
     // A rename that is served gets one of the answers to a rename, unless memory runs out or a fault is counted.
@@ -235,7 +254,7 @@ pub fn refactor<S: Store, I: Source, O: Sink>(
 
     // Where no rename of such a file is asked for, the command is not served yet.
     ensures not_served { (files found : Image) → S.files store.old ≡ Some files → Restored files found → IsSome (command_of words.now)
-        → (AsksBatch words.now → ⊥) → ((file : List ℕ) (at : ℕ) (name bytes : List ℕ) → AsksRename words.now file at name → Holds found file bytes → ⊥)
+        → (AsksBatch words.now → ⊥) → (AsksCheck words.now → ⊥) → ((file : List ℕ) (at : ℕ) (name bytes : List ℕ) → AsksRename words.now file at name → Holds found file bytes → ⊥)
         → (result ≡ NotYet) ⊎ IsFailure (S.faults store.old) (S.faults store.new) (O.faults out.old) (O.faults out.new) result }
 
     // Nor is one that needs no files.
@@ -254,6 +273,10 @@ pub fn refactor<S: Store, I: Source, O: Sink>(
     ensures batch_exact { (files found : Image) (bytes : List ℕ) (answer : Result (List Request) BatchFault) → S.files store.old ≡ Some files → Restored files found → AsksBatch words.now
         → I.left input.old ≡ Some bytes → IsInputAnswer bytes answer
         → (result ≡ status_of answer) ⊎ IsBatchFailure (S.faults store.old) (S.faults store.new) (O.faults out.old) (O.faults out.new) (I.faults input.old) (I.faults input.new) result }
+
+    // A check gets the one answer that the files have, and leaves them.
+    ensures check_exact { (files found : Image) → S.files store.old ≡ Some files → Restored files found → AsksCheck words.now
+        → IsCheckedSo found (S.files store.new) result ⊎ IsFailure (S.faults store.old) (S.faults store.new) (O.faults out.old) (O.faults out.new) result }
 
     // A crash at any moment of the call leaves an image of the files found or of those of the change.
     ensures any_moment { (f r : Image) → S.files store.old ≡ Some f → Restored f r → StartsRecover f (S.may_leave store.old) →

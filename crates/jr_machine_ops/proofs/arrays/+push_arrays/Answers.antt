@@ -1,4 +1,4 @@
-use Rattle.std.proofs.Common.{◌≡◌, ◌-◌, ap, sym, ◌∙◌, length, take, drop, get_or, rules}
+use Rattle.std.proofs.Common.{◌≡◌, ◌-◌, ap, sym, ◌∙◌, length, take, drop, get_or}
 use Rattle.jr_ty.specs.declared.ty.Ty.TheVariants.{rolls-Array}
 use Rattle.jr_ty.specs.declared.ty.Ty.TheOpen.{Ty-F}
 use Rattle.jr_ty.specs.declared.ty.Ty.TheFolds.{fold-roll-Ty}

@@ -1,4 +1,4 @@
-use Rattle.std.proofs.Common.{◌≡◌, ◌≤◌, length, drop, map}
+use Rattle.std.proofs.Common.{◌≤◌, length, drop, map}
 use Rattle.jr_core.specs.Mirror.{plain_body}
 use Rattle.jr_machine_defs.specs.Classes.{body_among}
 use Rattle.jr_machine_ops.specs.Indices.{IsIndex}

@@ -1,4 +1,4 @@
-use Rattle.std.proofs.Common.{◌≡◌, ◌≤◌, length, drop, map}
+use Rattle.std.proofs.Common.{◌≤◌, length, drop}
 use Rattle.jr_machine_defs.specs.Classes.{class_among}
 use Rattle.jr_machine_ops.specs.Indices.{class_of_decl, IsIndex}
 use Rattle.jr_machine_ops.proofs.program.index_classes.Given as goal

@@ -1,4 +1,4 @@
-use Rattle.std.proofs.Common.{◌≡◌, ap, ◌∙◌, cond, Some}
+use Rattle.std.proofs.Common.{ap, ◌∙◌, cond, Some}
 use Rattle.std.specs.BTreeMap.{get}
 use Rattle.jr_machine_ops.specs.Indices.{decl_cmp}
 use Rattle.jr_machine_ops.proofs.Indexing.{equal_decls}

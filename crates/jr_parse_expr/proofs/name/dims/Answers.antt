@@ -7,8 +7,8 @@ use Rattle.jr_parse_laws.proofs.Outcomes.{reads_err}
 use Rattle.jr_parse_expr.proofs.NameLaws.{dims_more, dims_fails, dims_done, closed_shorter}
 use Rattle.jr_parse_expr.proofs.name.dims.Goals as goal
 
-pub returns-in_err-expect : goal.returns-in_err-expect
-returns-in_err-expect c =
+pub returns-in_err-expect-clause-reads : goal.returns-in_err-expect-clause-reads
+returns-in_err-expect-clause-reads c =
     let begins : is_at y.OpenBracket (kinds c.pairs.cursor) ≡ true = cc in
     rw c.pairs.invariant.same
     (reads_err _ _ c.from_residual.result c.in_err-expect.field-0.0 (kinds c.expect.new.self) (search rules)
@@ -28,7 +28,7 @@ pairs-preserved c =
           omega arith;
     }
 
-pub returns : goal.returns
-returns c =
+pub returns-clause-reads : goal.returns-clause-reads
+returns-clause-reads c =
     let over : is_at y.OpenBracket (kinds c.pairs.cursor) ≡ false = cc in
     c.pairs.invariant.same ∙ dims_done c.pairs.pairs (kinds c.pairs.cursor) over

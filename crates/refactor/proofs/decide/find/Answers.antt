@@ -13,14 +13,14 @@ pub returns-then-len-gt65536-clause-held : goal.returns-then-len-gt65536-clause-
 returns-then-len-gt65536-clause-held g c =
     let just : c.in_ok-paths.paths.items ≡ c.args.file.now ∷ [] = sym c.deref.ensures.value ∙ c.is_just.ensures.0 c.if-not-is_just.false in
     large _ c.args.file.now c.in-Some.bytes.items
-    (read_again _ _ c.args.file.now _ c.in_ok-bytes.field-0 c.in-Some.bytes c.in_ok-paths.ensures.told (first_is _ _ _ just c.index.ensures) c.in-Some.is c.in_ok-bytes.ensures.bytes)
+    (read_again 65537 _ _ c.args.file.now _ c.in_ok-bytes.field-0 c.in-Some.bytes c.in_ok-paths.ensures.told (first_is _ _ _ just c.index.ensures) c.in-Some.is c.in_ok-bytes.ensures.bytes)
     (omega (arith, c.len.ensures, c.in-Some.bytes.ok.0))
 
 pub returns-clause-held : goal.returns-clause-held
 returns-clause-held g c =
     let just : c.in_ok-paths.paths.items ≡ c.args.file.now ∷ [] = sym c.deref.ensures.value ∙ c.is_just.ensures.0 c.if-not-is_just.false in
     holds_it _ c.args.file.now c.in-Some.bytes.items _ c.in_ok-paths.ensures.java c.in_ok-paths.ensures.listed just
-    (read_again _ _ c.args.file.now _ c.in_ok-bytes.field-0 c.in-Some.bytes c.in_ok-paths.ensures.told (first_is _ _ _ just c.index.ensures) c.in-Some.is c.in_ok-bytes.ensures.bytes)
+    (read_again 65537 _ _ c.args.file.now _ c.in_ok-bytes.field-0 c.in-Some.bytes c.in_ok-paths.ensures.told (first_is _ _ _ just c.index.ensures) c.in-Some.is c.in_ok-bytes.ensures.bytes)
     (omega (arith, c.len.ensures, c.in-Some.bytes.ok.0))
 
 pub returns-in_err-paths-clause-any_moment : goal.returns-in_err-paths-clause-any_moment

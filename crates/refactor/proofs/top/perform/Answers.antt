@@ -1,14 +1,18 @@
 use Rattle.std.proofs.Common.{◌≡◌, ◌∙◌, Some, inl, refl, sym, ap, subst, IsSome}
 use Rattle.std.proofs.lemmas.Option.{same_Some, none-some}
-use Rattle.jr_request.specs.declared.command.Command.TheVariants.{Batch}
+use Rattle.jr_request.specs.declared.command.Command.TheVariants.{Batch, Check}
+use Rattle.refactor.specs.Batches.{Hears}
+use Rattle.refactor.specs.Checking.{Checks}
 use Rattle.refactor.specs.Recovering.{NeedsFiles}
-use Rattle.refactor.proofs.BatchAnswers.{untaken, no_memory}
+use Rattle.refactor.proofs.BatchAnswers.{untaken, batch_plain}
+use Rattle.refactor.proofs.CheckAnswers.{check_plain}
+use Rattle.refactor.proofs.PlainAnswers.{no_memory}
 use Rattle.refactor.specs.declared.status.Status.TheVariants.{BadWords, OutOfMemory, NotYet}
 use Rattle.refactor.proofs.Carried.{early, stays_here, no_recovery}
 use Rattle.refactor.proofs.top.perform.Goals as goal
 
 pub returns-in-Err-BadWords-clause-answer : goal.returns-in-Err-BadWords-clause-answer
-returns-in-Err-BadWords-clause-answer g c never =
+returns-in-Err-BadWords-clause-answer g c no_batch no_check =
     let S = g.S.Store in
     let O = g.O.Sink in
     let s = c.args.store.now in
@@ -16,7 +20,7 @@ returns-in-Err-BadWords-clause-answer g c never =
     refl (λ image left. left) (refl, rw c.in-Err-BadWords.field-0-is at c.in-Err-BadWords.ensures) (λ found image stands. stands) refl c.report.ensures
 
 pub returns-in-Err-clause-answer : goal.returns-in-Err-clause-answer
-returns-in-Err-clause-answer g c never =
+returns-in-Err-clause-answer g c no_batch no_check =
     let S = g.S.Store in
     let O = g.O.Sink in
     let s = c.args.store.now in
@@ -24,7 +28,7 @@ returns-in-Err-clause-answer g c never =
     refl (λ image left. left) (inl refl) (λ found image stands. stands) refl c.report-in-Err.ensures
 
 pub returns-then-not-needs_files-clause-answer : goal.returns-then-not-needs_files-clause-answer
-returns-then-not-needs_files-clause-answer g c never =
+returns-then-not-needs_files-clause-answer g c no_batch no_check =
     let S = g.S.Store in
     let O = g.O.Sink in
     let s = c.args.store.now in
@@ -33,8 +37,9 @@ returns-then-not-needs_files-clause-answer g c never =
     (λ found image stands. stands) refl c.report-then-not-needs_files.ensures
 
 pub returns-clause-answer : goal.returns-clause-answer
-returns-clause-answer g c never =
-    c.recover_first.ensures.answer c.args.words.now c.in-Ok.ensures (c.needs_files.ensures.0 c.if-not-needs_files.false) (λ batch. never (c.in-Ok.ensures ∙ ap Some batch))
+returns-clause-answer g c no_batch no_check =
+    c.recover_first.ensures.answer c.args.words.now c.in-Ok.ensures (c.needs_files.ensures.0 c.if-not-needs_files.false) (λ batch. no_batch (c.in-Ok.ensures ∙ ap Some batch))
+    (λ check. no_check (c.in-Ok.ensures ∙ ap Some check))
 
 pub returns-clause-any_moment : goal.returns-clause-any_moment
 returns-clause-any_moment g c f r told restored start = c.recover_first.ensures.any_moment c.args.words.now f r c.in-Ok.ensures told restored start
@@ -65,7 +70,7 @@ returns-in-Err-clause-batch g c asks =
     let I = g.I.Source in
     let s = c.args.store.now in
     let i = c.args.input.now in
-    no_memory c.args.words.now asks (S.files s) (S.files s) (S.may_leave s) (S.may_leave s) (S.faults s) (S.faults s) (I.left i) (I.faults i) (I.faults i)
+    no_memory c.args.words.now (batch_plain c.args.words.now asks) (S.files s) (S.files s) (S.may_leave s) (S.may_leave s) (S.faults s) (S.faults s) (Hears (I.left i) (I.faults i) (I.faults i))
     c.report-in-Err.result (O.contents c.args.out.now) (O.contents c.report-in-Err.new.out) (O.faults c.args.out.now) (O.faults c.report-in-Err.new.out) refl (λ image left. left) c.report-in-Err.ensures
 
 pub returns-then-not-needs_files-clause-batch : goal.returns-then-not-needs_files-clause-batch
@@ -76,6 +81,32 @@ returns-then-not-needs_files-clause-batch g c asks =
 
 pub returns-clause-batch : goal.returns-clause-batch
 returns-clause-batch g c asks = c.recover_first.ensures.batch c.args.words.now asks (same_Some _ _ (sym c.in-Ok.ensures ∙ asks))
+
+-- ---- a check
+
+pub returns-in-Err-BadWords-clause-check : goal.returns-in-Err-BadWords-clause-check
+returns-in-Err-BadWords-clause-check g c asks =
+    let none = rw c.in-Err-BadWords.field-0-is at c.in-Err-BadWords.ensures in
+    absurd (none-some Check (sym none ∙ asks))
+
+pub returns-in-Err-clause-check : goal.returns-in-Err-clause-check
+returns-in-Err-clause-check g c asks =
+    let S = g.S.Store in
+    let O = g.O.Sink in
+    let s = c.args.store.now in
+    no_memory c.args.words.now (check_plain c.args.words.now asks) (S.files s) (S.files s) (S.may_leave s) (S.may_leave s) (S.faults s) (S.faults s) (Checks (S.files s) (S.faults s) (S.faults s))
+    c.report-in-Err.result (O.contents c.args.out.now) (O.contents c.report-in-Err.new.out) (O.faults c.args.out.now) (O.faults c.report-in-Err.new.out) refl (λ image left. left) c.report-in-Err.ensures
+
+pub returns-then-not-needs_files-clause-check : goal.returns-then-not-needs_files-clause-check
+returns-then-not-needs_files-clause-check g c asks =
+    let same : c.in-Ok.command ≡ Check = same_Some _ _ (sym c.in-Ok.ensures ∙ asks) in
+    let none : NeedsFiles c.in-Ok.command → ⊥ = λ needs. cc (c.if-not-needs_files.true, c.needs_files.ensures.1 needs) in
+    absurd (none (subst NeedsFiles (sym same) tt))
+
+pub returns-clause-check : goal.returns-clause-check
+returns-clause-check g c asks = c.recover_first.ensures.check c.args.words.now asks (same_Some _ _ (sym c.in-Ok.ensures ∙ asks))
+
+-- ---- the input
 
 pub returns-clause-unread : goal.returns-clause-unread
 returns-clause-unread g c never = c.recover_first.ensures.unread (λ batch. never (c.in-Ok.ensures ∙ ap Some batch))

@@ -1,19 +1,26 @@
-use Rattle.std.proofs.Common.{inl, refl, ap}
+use Rattle.std.proofs.Common.{◌≡◌, Option, Some, inl, refl, sym, ap, subst}
 use Rattle.std.specs.Prelude.{Err}
+use Rattle.jr_commit.specs.Restoring.{IsOpen, Restored, SameFiles, StartsRecover}
+use Rattle.jr_store.specs.Image.{Image}
+use Rattle.refactor.specs.Batches.{Hears}
+use Rattle.refactor.specs.Checking.{Checks}
 use Rattle.refactor.specs.Crash.{StandsForEither}
-use Rattle.refactor.proofs.BatchAnswers.{untaken, no_memory, journal, failed, heard_so}
+use Rattle.refactor.specs.Recovering.{Recovers}
+use Rattle.refactor.proofs.BatchAnswers.{untaken, batch_plain, heard_so}
+use Rattle.refactor.proofs.CheckAnswers.{check_plain, checked_so}
+use Rattle.refactor.proofs.PlainAnswers.{no_memory, journal, failed, stands, said_so}
 use Rattle.refactor.proofs.Carried.{weaker, carried, early, recovers, settled, still_told, recovery_failed, bad_journal, all_run}
 use Rattle.refactor.specs.declared.status.Status.TheVariants.{OutOfMemory}
 use Rattle.refactor.proofs.top.recover_first.Goals as goal
 
 pub returns-in-Ok-clause-answer : goal.returns-in-Ok-clause-answer
-returns-in-Ok-clause-answer g c words is needs never =
+returns-in-Ok-clause-answer g c words is needs no_batch no_check =
     let S = g.S.Store in
     let O = g.O.Sink in
     carried words c.args.command.now is needs (S.files c.args.store.now) (S.files c.recover.new.store) (S.files c.serve.new.store) (S.may_leave c.args.store.now) (S.may_leave c.recover.new.store) (S.may_leave c.serve.new.store)
     (S.faults c.args.store.now) (S.faults c.recover.new.store) (S.faults c.serve.new.store) c.recover.ensures.later
     (recovers c.in-Ok.field-0 (S.files c.args.store.now) (S.files c.recover.new.store) c.in-Ok.ensures.answer c.in-Ok.ensures.done c.recover.ensures.others) c.in-Ok.ensures.after
-    c.serve.result (O.contents c.args.out.now) (O.contents c.serve.new.out) (O.faults c.args.out.now) (O.faults c.serve.new.out) (c.serve.ensures.answer words is never)
+    c.serve.result (O.contents c.args.out.now) (O.contents c.serve.new.out) (O.faults c.args.out.now) (O.faults c.serve.new.out) (c.serve.ensures.answer words is no_batch no_check)
 
 pub returns-in-Ok-clause-any_moment : goal.returns-in-Ok-clause-any_moment
 returns-in-Ok-clause-any_moment g c words f r is told restored start =
@@ -25,7 +32,7 @@ returns-in-Ok-clause-any_moment g c words f r is told restored start =
     (settled (S.files c.args.store.now) (S.files c.recover.new.store) (S.may_leave c.recover.new.store) f there.0 r found told there.1 restored (c.in-Ok.ensures.after f r told restored start)))
 
 pub returns-in-Err-Failed-clause-answer : goal.returns-in-Err-Failed-clause-answer
-returns-in-Err-Failed-clause-answer g c words is needs never =
+returns-in-Err-Failed-clause-answer g c words is needs no_batch no_check =
     let S = g.S.Store in
     let O = g.O.Sink in
     recovery_failed words (S.files c.args.store.now) (S.files c.recover.new.store) (S.may_leave c.args.store.now) (S.may_leave c.recover.new.store) (S.faults c.args.store.now) (S.faults c.recover.new.store) c.args.command.now is needs
@@ -41,7 +48,7 @@ returns-in-Err-Failed-clause-any_moment g c words f r is told restored start =
     weaker S.moment S.left_since c.args.store.now c.recover.new.store (StandsForEither words r) _ (c.recover.ensures.any_moment f r told restored start) (λ image l. inl l)
 
 pub returns-in-Err-BadJournal-clause-answer : goal.returns-in-Err-BadJournal-clause-answer
-returns-in-Err-BadJournal-clause-answer g c words is needs never =
+returns-in-Err-BadJournal-clause-answer g c words is needs no_batch no_check =
     let S = g.S.Store in
     let O = g.O.Sink in
     let same = c.in-Err-BadJournal.ensures.unchanged (ap Err c.in-Err-BadJournal.field-0-is) in
@@ -54,7 +61,7 @@ returns-in-Err-BadJournal-clause-any_moment g c words f r is told restored start
     weaker S.moment S.left_since c.args.store.now c.recover.new.store (StandsForEither words r) _ (c.recover.ensures.any_moment f r told restored start) (λ image l. inl l)
 
 pub returns-in-Err-OutOfMemory-clause-answer : goal.returns-in-Err-OutOfMemory-clause-answer
-returns-in-Err-OutOfMemory-clause-answer g c words is needs never =
+returns-in-Err-OutOfMemory-clause-answer g c words is needs no_batch no_check =
     let S = g.S.Store in
     let O = g.O.Sink in
     let same = c.in-Err-OutOfMemory.ensures.unchanged_memory (ap Err c.in-Err-OutOfMemory.field-0-is) in
@@ -75,11 +82,21 @@ returns-in-Ok-clause-batch g c words asks is_batch =
     let I = g.I.Source in
     let told = S.files c.args.store.now in
     let left = S.files c.recover.new.store in
-    let heard = c.serve.ensures.batch is_batch in
+    let kept = S.may_leave c.args.store.now in
+    let outcomes = S.may_leave c.recover.new.store in
+    let before = S.faults c.args.store.now in
+    let after = S.faults c.recover.new.store in
+    let heard = I.left c.args.input.now in
+    let quiet = I.faults c.args.input.now in
+    let loud = I.faults c.serve.new.input in
+    let says = Hears heard quiet loud in
+    let asked = batch_plain words asks in
+    let said = c.serve.ensures.batch is_batch in
+    let recovered = recovers c.in-Ok.field-0 told left c.in-Ok.ensures.answer c.in-Ok.ensures.done c.recover.ensures.others in
+    let closed = c.in-Ok.ensures.after in
     rw (c.serve.ensures.kept is_batch)
-    (heard_so words asks told left (S.may_leave c.args.store.now) (S.may_leave c.recover.new.store) (S.faults c.args.store.now) (S.faults c.recover.new.store)
-    (I.left c.args.input.now) (I.faults c.args.input.now) (I.faults c.serve.new.input) (recovers c.in-Ok.field-0 told left c.in-Ok.ensures.answer c.in-Ok.ensures.done c.recover.ensures.others) c.in-Ok.ensures.after
-    heard.0 c.serve.result (O.contents c.args.out.now) (O.contents c.serve.new.out) (O.faults c.args.out.now) (O.faults c.serve.new.out) heard.1 heard.2)
+    (said_so words asked told left kept outcomes before after says recovered closed said.0 c.serve.result (O.contents c.args.out.now) (O.contents c.serve.new.out) (O.faults c.args.out.now) (O.faults c.serve.new.out)
+    (heard_so words told left kept outcomes before after heard quiet loud recovered (stands words asked told left kept outcomes before after says closed) said.0 said.1) said.2)
 
 pub returns-in-Err-Failed-clause-batch : goal.returns-in-Err-Failed-clause-batch
 returns-in-Err-Failed-clause-batch g c words asks is_batch =
@@ -87,8 +104,8 @@ returns-in-Err-Failed-clause-batch g c words asks is_batch =
     let O = g.O.Sink in
     let I = g.I.Source in
     let i = c.args.input.now in
-    failed words asks (S.files c.args.store.now) (S.files c.recover.new.store) (S.may_leave c.args.store.now) (S.may_leave c.recover.new.store) (S.faults c.args.store.now) (S.faults c.recover.new.store)
-    (I.left i) (I.faults i) (I.faults i)
+    failed words (batch_plain words asks) (S.files c.args.store.now) (S.files c.recover.new.store) (S.may_leave c.args.store.now) (S.may_leave c.recover.new.store) (S.faults c.args.store.now) (S.faults c.recover.new.store)
+    (Hears (I.left i) (I.faults i) (I.faults i))
     c.write_line.result (O.contents c.args.out.now) (O.contents c.write_line.new.out) (O.faults c.args.out.now) (O.faults c.write_line.new.out) c.recover.ensures.others (c.in-Err-Failed.ensures.failed (ap Err c.in-Err-Failed.field-0-is))
     (λ f r told restored start image l.
     let run = c.recover.ensures.any_moment f r told restored start in
@@ -102,8 +119,8 @@ returns-in-Err-BadJournal-clause-batch g c words asks is_batch =
     let I = g.I.Source in
     let i = c.args.input.now in
     let same = c.in-Err-BadJournal.ensures.unchanged (ap Err c.in-Err-BadJournal.field-0-is) in
-    journal words asks (S.files c.args.store.now) (S.files c.recover.new.store) (S.may_leave c.args.store.now) (S.may_leave c.recover.new.store) (S.faults c.args.store.now) (S.faults c.recover.new.store)
-    (I.left i) (I.faults i) (I.faults i)
+    journal words (batch_plain words asks) (S.files c.args.store.now) (S.files c.recover.new.store) (S.may_leave c.args.store.now) (S.may_leave c.recover.new.store) (S.faults c.args.store.now) (S.faults c.recover.new.store)
+    (Hears (I.left i) (I.faults i) (I.faults i))
     c.report.result (O.contents c.args.out.now) (O.contents c.report.new.out) (O.faults c.args.out.now) (O.faults c.report.new.out) same.0 same.1 (c.in-Err-BadJournal.ensures.bad (ap Err c.in-Err-BadJournal.field-0-is)) c.report.ensures
 
 pub returns-in-Err-OutOfMemory-clause-batch : goal.returns-in-Err-OutOfMemory-clause-batch
@@ -113,9 +130,66 @@ returns-in-Err-OutOfMemory-clause-batch g c words asks is_batch =
     let I = g.I.Source in
     let i = c.args.input.now in
     let same = c.in-Err-OutOfMemory.ensures.unchanged_memory (ap Err c.in-Err-OutOfMemory.field-0-is) in
-    no_memory words asks (S.files c.args.store.now) (S.files c.recover.new.store) (S.may_leave c.args.store.now) (S.may_leave c.recover.new.store) (S.faults c.args.store.now) (S.faults c.recover.new.store)
-    (I.left i) (I.faults i) (I.faults i)
+    no_memory words (batch_plain words asks) (S.files c.args.store.now) (S.files c.recover.new.store) (S.may_leave c.args.store.now) (S.may_leave c.recover.new.store) (S.faults c.args.store.now) (S.faults c.recover.new.store)
+    (Hears (I.left i) (I.faults i) (I.faults i))
     c.report-in-Err-OutOfMemory.result (O.contents c.args.out.now) (O.contents c.report-in-Err-OutOfMemory.new.out) (O.faults c.args.out.now) (O.faults c.report-in-Err-OutOfMemory.new.out) same.0 same.1 c.report-in-Err-OutOfMemory.ensures
+
+-- ---- a check
+
+pub returns-in-Ok-clause-check : goal.returns-in-Ok-clause-check
+returns-in-Ok-clause-check g c words asks is_check =
+    let S = g.S.Store in
+    let O = g.O.Sink in
+    let told = S.files c.args.store.now in
+    let found = S.files c.recover.new.store in
+    let left = S.files c.serve.new.store in
+    let kept = S.may_leave c.args.store.now in
+    let outcomes = S.may_leave c.serve.new.store in
+    let before = S.faults c.args.store.now in
+    let middle = S.faults c.recover.new.store in
+    let after = S.faults c.serve.new.store in
+    let says = Checks left before after in
+    let asked = check_plain words asks in
+    let said = c.serve.ensures.check is_check in
+    let same : left ≡ found = c.serve.ensures.check_files is_check in
+    let recovered : Recovers told left = subst (Recovers told) (sym same) (recovers c.in-Ok.field-0 told found c.in-Ok.ensures.answer c.in-Ok.ensures.done c.recover.ensures.others) in
+    let checks : Checks left middle after said.0 = subst (λ (t : Option Image). Checks t middle after said.0) (sym same) said.1 in
+    let closed : (f r : Image) → told ≡ Some f → Restored f r → StartsRecover f kept → (image : Image) → outcomes image → (IsOpen image → ⊥) × SameFiles image r
+    = λ f r told_is restored start image l. c.in-Ok.ensures.after f r told_is restored start image (c.serve.ensures.check_crash is_check image l) in
+    said_so words asked told left kept outcomes before after says recovered closed said.0 c.serve.result (O.contents c.args.out.now) (O.contents c.serve.new.out) (O.faults c.args.out.now) (O.faults c.serve.new.out)
+    (checked_so words told left kept outcomes before after middle c.recover.ensures.later recovered (stands words asked told left kept outcomes before after says closed) said.0 checks) said.2
+
+pub returns-in-Err-Failed-clause-check : goal.returns-in-Err-Failed-clause-check
+returns-in-Err-Failed-clause-check g c words asks is_check =
+    let S = g.S.Store in
+    let O = g.O.Sink in
+    failed words (check_plain words asks) (S.files c.args.store.now) (S.files c.recover.new.store) (S.may_leave c.args.store.now) (S.may_leave c.recover.new.store) (S.faults c.args.store.now) (S.faults c.recover.new.store)
+    (Checks (S.files c.recover.new.store) (S.faults c.args.store.now) (S.faults c.recover.new.store))
+    c.write_line.result (O.contents c.args.out.now) (O.contents c.write_line.new.out) (O.faults c.args.out.now) (O.faults c.write_line.new.out) c.recover.ensures.others (c.in-Err-Failed.ensures.failed (ap Err c.in-Err-Failed.field-0-is))
+    (λ f r told restored start image l.
+    let run = c.recover.ensures.any_moment f r told restored start in
+    run.each image (g.met.S.Store.counts_now c.recover.new.store (S.moment c.args.store.now) image run.later l))
+    c.write_line.ensures
+
+pub returns-in-Err-BadJournal-clause-check : goal.returns-in-Err-BadJournal-clause-check
+returns-in-Err-BadJournal-clause-check g c words asks is_check =
+    let S = g.S.Store in
+    let O = g.O.Sink in
+    let same = c.in-Err-BadJournal.ensures.unchanged (ap Err c.in-Err-BadJournal.field-0-is) in
+    journal words (check_plain words asks) (S.files c.args.store.now) (S.files c.recover.new.store) (S.may_leave c.args.store.now) (S.may_leave c.recover.new.store) (S.faults c.args.store.now) (S.faults c.recover.new.store)
+    (Checks (S.files c.recover.new.store) (S.faults c.args.store.now) (S.faults c.recover.new.store))
+    c.report.result (O.contents c.args.out.now) (O.contents c.report.new.out) (O.faults c.args.out.now) (O.faults c.report.new.out) same.0 same.1 (c.in-Err-BadJournal.ensures.bad (ap Err c.in-Err-BadJournal.field-0-is)) c.report.ensures
+
+pub returns-in-Err-OutOfMemory-clause-check : goal.returns-in-Err-OutOfMemory-clause-check
+returns-in-Err-OutOfMemory-clause-check g c words asks is_check =
+    let S = g.S.Store in
+    let O = g.O.Sink in
+    let same = c.in-Err-OutOfMemory.ensures.unchanged_memory (ap Err c.in-Err-OutOfMemory.field-0-is) in
+    no_memory words (check_plain words asks) (S.files c.args.store.now) (S.files c.recover.new.store) (S.may_leave c.args.store.now) (S.may_leave c.recover.new.store) (S.faults c.args.store.now) (S.faults c.recover.new.store)
+    (Checks (S.files c.recover.new.store) (S.faults c.args.store.now) (S.faults c.recover.new.store))
+    c.report-in-Err-OutOfMemory.result (O.contents c.args.out.now) (O.contents c.report-in-Err-OutOfMemory.new.out) (O.faults c.args.out.now) (O.faults c.report-in-Err-OutOfMemory.new.out) same.0 same.1 c.report-in-Err-OutOfMemory.ensures
+
+-- ---- the input
 
 pub returns-in-Err-Failed-clause-taken : goal.returns-in-Err-Failed-clause-taken
 returns-in-Err-Failed-clause-taken g c bytes is = untaken bytes (g.I.Source.left c.args.input.now) is

@@ -1,33 +1,44 @@
 use Rattle.std.proofs.Common.{◌≡◌, ◌⊎◌, ◌∙◌, sym}
 use Rattle.std.proofs.lemmas.Option.{none-some}
-use Rattle.jr_request.specs.declared.command.Command.TheVariants.{Batch}
-use Rattle.refactor.proofs.BatchAnswers.{outcome as batch_outcome, unreadable as batch_unreadable, exact as batch_answer, by_batch, no_batch}
+use Rattle.jr_request.specs.declared.command.Command.TheVariants.{Batch, Check}
+use Rattle.refactor.proofs.BatchAnswers.{batch_plain, exact as batch_answer, no_batch}
+use Rattle.refactor.proofs.CheckAnswers.{check_plain, exact as check_answer, no_check}
+use Rattle.refactor.proofs.PlainAnswers.{outcome as plain_outcome, unreadable as plain_unreadable, by_batch, by_check}
 use Rattle.refactor.proofs.Exact.{bad_words, needs_no_files, not_served, unreadable, exact}
 use Rattle.refactor.proofs.Outcomes.{outcome, complete}
 use Rattle.refactor.specs.Answers.{IsFailure}
+use Rattle.refactor.specs.Batches.{Hears}
+use Rattle.refactor.specs.Checking.{Checks}
 use Rattle.refactor.specs.declared.status.Status.TheVariants.{BadJournal}
 use Rattle.refactor.proofs.top.refactor.Goals as goal
 
 pub returns-clause-answer : goal.returns-clause-answer
-returns-clause-answer g c never =
+returns-clause-answer g c never none =
     let S = g.S.Store in
     outcome c.args.words.now (S.files c.args.store.now) (S.files c.perform.new.store) (S.may_leave c.args.store.now) (S.may_leave c.perform.new.store) (S.faults c.args.store.now) (S.faults c.perform.new.store)
-    (g.O.Sink.contents c.args.out.now) (g.O.Sink.contents c.perform.new.out) (g.O.Sink.faults c.args.out.now) (g.O.Sink.faults c.perform.new.out) c.perform.result (c.perform.ensures.answer never)
+    (g.O.Sink.contents c.args.out.now) (g.O.Sink.contents c.perform.new.out) (g.O.Sink.faults c.args.out.now) (g.O.Sink.faults c.perform.new.out) c.perform.result (c.perform.ensures.answer never none)
 
 pub returns-clause-batch : goal.returns-clause-batch
 returns-clause-batch g c asks =
     let S = g.S.Store in
     let I = g.I.Source in
-    batch_outcome c.args.words.now asks (S.files c.args.store.now) (S.files c.perform.new.store) (S.may_leave c.args.store.now) (S.may_leave c.perform.new.store) (S.faults c.args.store.now) (S.faults c.perform.new.store)
-    (I.left c.args.input.now) (I.faults c.args.input.now) (I.faults c.perform.new.input)
-    (g.O.Sink.contents c.args.out.now) (g.O.Sink.contents c.perform.new.out) (g.O.Sink.faults c.args.out.now) (g.O.Sink.faults c.perform.new.out) c.perform.result (c.perform.ensures.batch asks)
+    plain_outcome c.args.words.now (batch_plain c.args.words.now asks) (S.files c.args.store.now) (S.files c.perform.new.store) (S.may_leave c.args.store.now) (S.may_leave c.perform.new.store) (S.faults c.args.store.now) (S.faults c.perform.new.store)
+    (Hears (I.left c.args.input.now) (I.faults c.args.input.now) (I.faults c.perform.new.input))
+    (g.O.Sink.contents c.args.out.now) (g.O.Sink.contents c.perform.new.out) (g.O.Sink.faults c.args.out.now) (g.O.Sink.faults c.perform.new.out) (λ never. never) c.perform.result (c.perform.ensures.batch asks)
+
+pub returns-clause-check : goal.returns-clause-check
+returns-clause-check g c asks =
+    let S = g.S.Store in
+    plain_outcome c.args.words.now (check_plain c.args.words.now asks) (S.files c.args.store.now) (S.files c.perform.new.store) (S.may_leave c.args.store.now) (S.may_leave c.perform.new.store) (S.faults c.args.store.now) (S.faults c.perform.new.store)
+    (Checks (S.files c.perform.new.store) (S.faults c.args.store.now) (S.faults c.perform.new.store))
+    (g.O.Sink.contents c.args.out.now) (g.O.Sink.contents c.perform.new.out) (g.O.Sink.faults c.args.out.now) (g.O.Sink.faults c.perform.new.out) (λ never. never) c.perform.result (c.perform.ensures.check asks)
 
 pub returns-clause-complete : goal.returns-clause-complete
 returns-clause-complete g c files found told restored file at name bytes asks holds serves =
     let S = g.S.Store in
     complete c.args.words.now (S.files c.args.store.now) (S.files c.perform.new.store) (S.may_leave c.args.store.now) (S.may_leave c.perform.new.store) (S.faults c.args.store.now) (S.faults c.perform.new.store)
     (g.O.Sink.contents c.args.out.now) (g.O.Sink.contents c.perform.new.out) (g.O.Sink.faults c.args.out.now) (g.O.Sink.faults c.perform.new.out)
-    files found told restored file at name bytes asks holds serves c.perform.result (c.perform.ensures.answer (no_batch c.args.words.now file at name asks))
+    files found told restored file at name bytes asks holds serves c.perform.result (c.perform.ensures.answer (no_batch c.args.words.now file at name asks) (no_check c.args.words.now file at name asks))
 
 pub returns-clause-read_back : goal.returns-clause-read_back
 returns-clause-read_back g c f r h told restored start is =
@@ -40,47 +51,62 @@ returns-clause-exact g c files found told restored file at name bytes comes_to a
     let S = g.S.Store in
     exact c.args.words.now (S.files c.args.store.now) (S.files c.perform.new.store) (S.may_leave c.args.store.now) (S.may_leave c.perform.new.store) (S.faults c.args.store.now) (S.faults c.perform.new.store)
     (g.O.Sink.contents c.args.out.now) (g.O.Sink.contents c.perform.new.out) (g.O.Sink.faults c.args.out.now) (g.O.Sink.faults c.perform.new.out)
-    files found told restored file at name bytes asks holds c.args.alloc comes_to renames c.perform.result (c.perform.ensures.answer (no_batch c.args.words.now file at name asks))
+    files found told restored file at name bytes asks holds c.args.alloc comes_to renames c.perform.result (c.perform.ensures.answer (no_batch c.args.words.now file at name asks) (no_check c.args.words.now file at name asks))
 
 pub returns-clause-not_served : goal.returns-clause-not_served
-returns-clause-not_served g c files found told restored some never none =
+returns-clause-not_served g c files found told restored some no_batch no_check none =
     let S = g.S.Store in
     not_served c.args.words.now (S.files c.args.store.now) (S.files c.perform.new.store) (S.may_leave c.args.store.now) (S.may_leave c.perform.new.store) (S.faults c.args.store.now) (S.faults c.perform.new.store)
     (g.O.Sink.contents c.args.out.now) (g.O.Sink.contents c.perform.new.out) (g.O.Sink.faults c.args.out.now) (g.O.Sink.faults c.perform.new.out)
-    files found told restored none c.perform.result (c.perform.ensures.answer never) some
+    files found told restored none c.perform.result (c.perform.ensures.answer no_batch no_check) some
 
 pub returns-clause-needs_no_files : goal.returns-clause-needs_no_files
 returns-clause-needs_no_files g c some never =
     let S = g.S.Store in
     needs_no_files c.args.words.now (S.files c.args.store.now) (S.files c.perform.new.store) (S.may_leave c.args.store.now) (S.may_leave c.perform.new.store) (S.faults c.args.store.now) (S.faults c.perform.new.store)
     (g.O.Sink.contents c.args.out.now) (g.O.Sink.contents c.perform.new.out) (g.O.Sink.faults c.args.out.now) (g.O.Sink.faults c.perform.new.out)
-    c.perform.result (c.perform.ensures.answer (λ batch. never (Batch, batch, tt))) some never
+    c.perform.result (c.perform.ensures.answer (λ batch. never (Batch, batch, tt)) (λ check. never (Check, check, tt))) some never
 
 pub returns-clause-bad_words : goal.returns-clause-bad_words
 returns-clause-bad_words g c none =
     let S = g.S.Store in
     bad_words c.args.words.now (S.files c.args.store.now) (S.files c.perform.new.store) (S.may_leave c.args.store.now) (S.may_leave c.perform.new.store) (S.faults c.args.store.now) (S.faults c.perform.new.store)
     (g.O.Sink.contents c.args.out.now) (g.O.Sink.contents c.perform.new.out) (g.O.Sink.faults c.args.out.now) (g.O.Sink.faults c.perform.new.out)
-    c.perform.result (c.perform.ensures.answer (λ batch. none-some Batch (sym none ∙ batch))) none
+    c.perform.result (c.perform.ensures.answer (λ batch. none-some Batch (sym none ∙ batch)) (λ check. none-some Check (sym none ∙ check))) none
 
 pub returns-clause-bad_journal : goal.returns-clause-bad_journal
 returns-clause-bad_journal g c files told none asks =
     let S = g.S.Store in
+    let O = g.O.Sink in
     let I = g.I.Source in
-    by_batch c.args.words.now ((c.perform.result ≡ BadJournal) ⊎ IsFailure (S.faults c.args.store.now) (S.faults c.perform.new.store) (g.O.Sink.faults c.args.out.now) (g.O.Sink.faults c.perform.new.out) c.perform.result) asks
-    (λ batch. batch_unreadable c.args.words.now batch (S.files c.args.store.now) (S.files c.perform.new.store) (S.may_leave c.args.store.now) (S.may_leave c.perform.new.store) (S.faults c.args.store.now) (S.faults c.perform.new.store)
-    (I.left c.args.input.now) (I.faults c.args.input.now) (I.faults c.perform.new.input)
-    (g.O.Sink.contents c.args.out.now) (g.O.Sink.contents c.perform.new.out) (g.O.Sink.faults c.args.out.now) (g.O.Sink.faults c.perform.new.out)
-    files told none c.perform.result (c.perform.ensures.batch batch))
-    (λ other. unreadable c.args.words.now (S.files c.args.store.now) (S.files c.perform.new.store) (S.may_leave c.args.store.now) (S.may_leave c.perform.new.store) (S.faults c.args.store.now) (S.faults c.perform.new.store)
-    (g.O.Sink.contents c.args.out.now) (g.O.Sink.contents c.perform.new.out) (g.O.Sink.faults c.args.out.now) (g.O.Sink.faults c.perform.new.out)
-    c.perform.result (c.perform.ensures.answer other) files told none asks)
+    let words = c.args.words.now in
+    let before = c.args.store.now in
+    let after = c.perform.new.store in
+    let old = O.contents c.args.out.now in
+    let new = O.contents c.perform.new.out in
+    let fewer = O.faults c.args.out.now in
+    let more = O.faults c.perform.new.out in
+    by_batch words ((c.perform.result ≡ BadJournal) ⊎ IsFailure (S.faults before) (S.faults after) fewer more c.perform.result) asks
+    (λ batch. plain_unreadable words (batch_plain words batch) (S.files before) (S.files after) (S.may_leave before) (S.may_leave after) (S.faults before) (S.faults after)
+    (Hears (I.left c.args.input.now) (I.faults c.args.input.now) (I.faults c.perform.new.input)) old new fewer more files told none c.perform.result (c.perform.ensures.batch batch))
+    (λ no_batch. by_check words ((c.perform.result ≡ BadJournal) ⊎ IsFailure (S.faults before) (S.faults after) fewer more c.perform.result) asks
+    (λ check. plain_unreadable words (check_plain words check) (S.files before) (S.files after) (S.may_leave before) (S.may_leave after) (S.faults before) (S.faults after)
+    (Checks (S.files after) (S.faults before) (S.faults after)) old new fewer more files told none c.perform.result (c.perform.ensures.check check))
+    (λ no_check. unreadable words (S.files before) (S.files after) (S.may_leave before) (S.may_leave after) (S.faults before) (S.faults after) old new fewer more
+    c.perform.result (c.perform.ensures.answer no_batch no_check) files told none asks))
 
 pub returns-clause-batch_exact : goal.returns-clause-batch_exact
 returns-clause-batch_exact g c files found bytes answer told restored asks heard q =
     let S = g.S.Store in
     let I = g.I.Source in
-    batch_answer c.args.words.now asks (S.files c.args.store.now) (S.files c.perform.new.store) (S.may_leave c.args.store.now) (S.may_leave c.perform.new.store) (S.faults c.args.store.now) (S.faults c.perform.new.store)
+    batch_answer c.args.words.now (S.files c.args.store.now) (S.files c.perform.new.store) (S.may_leave c.args.store.now) (S.may_leave c.perform.new.store) (S.faults c.args.store.now) (S.faults c.perform.new.store)
     (I.left c.args.input.now) (I.faults c.args.input.now) (I.faults c.perform.new.input)
     (g.O.Sink.contents c.args.out.now) (g.O.Sink.contents c.perform.new.out) (g.O.Sink.faults c.args.out.now) (g.O.Sink.faults c.perform.new.out)
     c.args.alloc files found told restored bytes answer heard q c.perform.result (c.perform.ensures.batch asks)
+
+pub returns-clause-check_exact : goal.returns-clause-check_exact
+returns-clause-check_exact g c files found told restored asks =
+    let S = g.S.Store in
+    check_answer c.args.words.now (S.files c.args.store.now) (S.files c.perform.new.store) (S.may_leave c.args.store.now) (S.may_leave c.perform.new.store) (S.faults c.args.store.now) (S.faults c.perform.new.store)
+    (g.O.Sink.contents c.args.out.now) (g.O.Sink.contents c.perform.new.out) (g.O.Sink.faults c.args.out.now) (g.O.Sink.faults c.perform.new.out)
+    files found told restored c.perform.result (c.perform.ensures.check asks)

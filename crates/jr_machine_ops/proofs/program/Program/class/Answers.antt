@@ -1,4 +1,4 @@
-use Rattle.std.proofs.Common.{◌≡◌, ap, ◌∙◌}
+use Rattle.std.proofs.Common.{ap, ◌∙◌}
 use Rattle.jr_machine_defs.specs.Classes.{class_in}
 use Rattle.jr_machine_ops.proofs.program.Program.class.Goals as goal
 

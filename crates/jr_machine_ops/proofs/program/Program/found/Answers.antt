@@ -1,4 +1,4 @@
-use Rattle.std.proofs.Common.{◌≡◌, ap, ◌∙◌}
+use Rattle.std.proofs.Common.{ap, ◌∙◌}
 use Rattle.std.specs.Option.{option_and_then}
 use Rattle.jr_core.specs.declared.bodies.Class.{Class}
 use Rattle.jr_machine_defs.specs.Classes.{class_in, found_among}

@@ -1,4 +1,4 @@
-use Rattle.std.proofs.Common.{◌≡◌, refl, ap, sym, ◌∙◌, ◌+◌, ◌-◌, true, false, length, Some, arith}
+use Rattle.std.proofs.Common.{◌≡◌, ap, sym, ◌∙◌, ◌+◌, ◌-◌, true, false, length, Some, arith}
 use Rattle.jr_machine_defs.specs.Values.{same_type}
 use Rattle.jr_machine_defs.specs.Classes.{class_in}
 use Rattle.jr_machine_defs.specs.Control.{outer_of, outer_class, instance_at}

@@ -1,0 +1,6 @@
+pub mod ApartLemmas
+pub mod AssignedLemmas
+pub mod Bodies
+pub mod FieldWalk
+pub mod MethodWalk
+pub mod Programs

@@ -1,0 +1,6 @@
+use Rattle.std.proofs.Common.{◌≡◌, ◌++◌, drop}
+use Rattle.jr_index.specs.Events as e
+use Rattle.jr_index.proofs.words.add_imports.Given as goal
+
+abbrev pub invariant-loop-import : goal.invariant-loop-import
+invariant-loop-import l = l.out.items ++ e.imports_events (drop l.import-index l.imports) ≡ l.initial.out.items ++ e.imports_events (l.imports)

@@ -1,0 +1,6 @@
+use Rattle.std.proofs.Common.{◌≡◌, ◌++◌, drop}
+use Rattle.jr_index.specs.Events as e
+use Rattle.jr_index.proofs.words.add_type_names.Given as goal
+
+abbrev pub invariant-loop-name : goal.invariant-loop-name
+invariant-loop-name l = l.out.items ++ e.names_events l.place (drop l.name-index l.names) ≡ l.initial.out.items ++ e.names_events l.place (l.names)
