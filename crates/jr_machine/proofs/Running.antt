@@ -1,12 +1,15 @@
 -- Runs that go on, and runs that stay as they are.
-use Rattle.std.proofs.Common.{◌≡◌, refl, ap, sym, ◌∙◌, ℕ, zero, suc, ◌+◌, ◌-◌, ◌<◌, ◌≤◌, Bool, true, false, if◌then◌else◌, Some, None, sub-one, arith}
-use Rattle.jr_core.specs.Mirror.{Core}
+use Rattle.std.proofs.Common.{◌≡◌, refl, ap, sym, ◌∙◌, subst, ℕ, zero, suc, ◌+◌, ◌-◌, ◌<◌, ◌≤◌, Bool, true, false, if◌then◌else◌, Some, None, sub-one, arith}
+use Rattle.jr_base.specs.declared.ids.DeclId.{DeclId}
+use Rattle.jr_ty.specs.Mirror as t
+use Rattle.jr_core.specs.Mirror.{Code, Core}
+use Rattle.jr_machine_defs.specs.Prelude.{string_class}
 use Rattle.jr_machine_defs.specs.declared.state.RunEnd.{RunEnd}
 use Rattle.jr_machine_defs.specs.declared.state.RunEnd.TheVariants as ends
 use Rattle.jr_machine_defs.specs.declared.state.Ran.{Ran}
 use Rattle.jr_machine_defs.specs.declared.state.State.{State}
 use Rattle.jr_machine_defs.specs.States.{Next}
-use Rattle.jr_machine_defs.specs.Steps.{next, step, after, steps_made, is_running, IsRunFrom}
+use Rattle.jr_machine_defs.specs.Steps.{next, step, after, steps_made, is_running, start_call, start_with, IsRunFrom, IsRun}
 use Rattle.jr_machine_defs.specs.Follows.{Follows, Advances, AdvancesTo}
 
 advances_to : (n : Next) (went : Bool) (old new : State) → Follows n went old new → AdvancesTo n went old new
@@ -120,3 +123,10 @@ pub none_made : (core : Core) (s : State) (n : ℕ) → IsOnTheWay core s n 0 s
 none_made core s n =
     let all : n - 0 ≡ n = omega arith in
     record { state = ap (λ k. after core k s) all; steps = ap (λ k. 0 + steps_made core k s) all ∙ omega arith }
+
+pub starts_run : (core : Core) (start : DeclId) (item : t.Ty) (call : Code) (n : ℕ) (ran : Ran) → item ≡ t.Class string_class → call ≡ start_call start
+    → IsRunFrom core (start_with item call) n ran → IsRun core start n ran
+starts_run core start item call n ran a b h =
+    let P : t.Ty → Type 0 = λ i. IsRunFrom core (start_with i call) n ran in
+    let Q : Code → Type 0 = λ k. IsRunFrom core (start_with (t.Class string_class) k) n ran in
+    subst Q b (subst P a h)

@@ -18,8 +18,15 @@ ghost use Rattle.jr_machine_defs.specs.Follows.{Follows, TakesArgs};
 use jr_base::{Boxed, DeclId, Items, OutOfMemory, TypeId};
 use jr_core::{BinaryOp, Code, Group, StepOp, UnaryOp};
 use jr_machine_defs::{Cell, Exit, Fault, Number, Outcome, Stack, State, Value, Work};
-use jr_machine_exits::{call, call_on, chosen, construct, create_any, length_of, push_after_body, push_any, push_groups, read_field, read_item, store};
-use jr_machine_ops::{Program, binary, compound, converted_to, make_array, make_arrays, number_of, push, push_codes, push_eval, raise, set_local, settle, stepped, take, text_of, throw, to_string_method, unary, units_of};
+use jr_machine_exits::{
+    call, call_on, chosen, construct, create_any, length_of, push_after_body, push_any,
+    push_groups, read_field, read_item, store,
+};
+use jr_machine_ops::{
+    Program, binary, compound, converted_to, make_array, make_arrays, number_of, push, push_codes,
+    push_eval, raise, set_local, settle, stepped, take, text_of, throw, to_string_method, unary,
+    units_of,
+};
 use jr_ty::Ty;
 use std::alloc::Global;
 
@@ -31,7 +38,12 @@ fn one_of<'a>(is_post: bool, old: Value<'a>, new: &Value<'a>) -> Value<'a>
 }
 
 /// A plain assignment, with its value (JLS 15.26.1).
-fn assign_plain<'a>(state: &mut State<'a>, alloc: Global, program: &Program<'a>, target: &Code) -> Result<bool, OutOfMemory>
+fn assign_plain<'a>(
+    state: &mut State<'a>,
+    alloc: Global,
+    program: &Program<'a>,
+    target: &Code,
+) -> Result<bool, OutOfMemory>
     ensures { IfOk result (λ went. Follows (assigns program.now (plain_code target.now) None state.old) went state.old state.new) }
 {
     let Some(value) = state.frame.values.pop() else {
@@ -42,7 +54,13 @@ fn assign_plain<'a>(state: &mut State<'a>, alloc: Global, program: &Program<'a>,
 }
 
 /// Stores what an operation gives, and pushes it.
-fn store_outcome<'a>(state: &mut State<'a>, alloc: Global, program: &Program<'a>, target: &Code, outcome: Outcome<'a>) -> Result<bool, OutOfMemory>
+fn store_outcome<'a>(
+    state: &mut State<'a>,
+    alloc: Global,
+    program: &Program<'a>,
+    target: &Code,
+    outcome: Outcome<'a>,
+) -> Result<bool, OutOfMemory>
     ensures { IfOk result (λ went. Follows (with_outcome outcome.entry state.old (λ new s. store program.now (plain_code target.now) new new s)) went state.old state.new) }
 {
     match outcome {
@@ -53,7 +71,14 @@ fn store_outcome<'a>(state: &mut State<'a>, alloc: Global, program: &Program<'a>
         Outcome::Makes(units) => {
             let at = state.heap.len();
             state.heap.push(Cell::Text { units })?;
-            store(state, alloc, program, target, Value::Ref(at), Value::Ref(at))
+            store(
+                state,
+                alloc,
+                program,
+                target,
+                Value::Ref(at),
+                Value::Ref(at),
+            )
         }
         Outcome::Throws(fault) => raise(state, alloc, fault),
         Outcome::Unfit => Ok(false),
@@ -61,7 +86,13 @@ fn store_outcome<'a>(state: &mut State<'a>, alloc: Global, program: &Program<'a>
 }
 
 /// A compound assignment, with its value (JLS 15.26.2).
-fn assign_compound<'a>(state: &mut State<'a>, alloc: Global, program: &Program<'a>, target: &Code, op: BinaryOp) -> Result<bool, OutOfMemory>
+fn assign_compound<'a>(
+    state: &mut State<'a>,
+    alloc: Global,
+    program: &Program<'a>,
+    target: &Code,
+    op: BinaryOp,
+) -> Result<bool, OutOfMemory>
     ensures { IfOk result (λ went. Follows (assigns program.now (plain_code target.now) (Some op) state.old) went state.old state.new) }
 {
     let Some(value) = state.frame.values.pop() else {
@@ -74,7 +105,13 @@ fn assign_compound<'a>(state: &mut State<'a>, alloc: Global, program: &Program<'
     store_outcome(state, alloc, program, target, outcome)
 }
 
-fn assign_any<'a>(state: &mut State<'a>, alloc: Global, program: &Program<'a>, target: &Code, op: Option<BinaryOp>) -> Result<bool, OutOfMemory>
+fn assign_any<'a>(
+    state: &mut State<'a>,
+    alloc: Global,
+    program: &Program<'a>,
+    target: &Code,
+    op: Option<BinaryOp>,
+) -> Result<bool, OutOfMemory>
     ensures { IfOk result (λ went. Follows (assigns program.now (plain_code target.now) op state.old) went state.old state.new) }
 {
     match op {
@@ -84,7 +121,15 @@ fn assign_any<'a>(state: &mut State<'a>, alloc: Global, program: &Program<'a>, t
 }
 
 /// Stores what a step gives, and pushes that or the old value.
-fn store_stepped<'a>(state: &mut State<'a>, alloc: Global, program: &Program<'a>, target: &Code, outcome: Outcome<'a>, old: Value<'a>, is_post: bool) -> Result<bool, OutOfMemory>
+fn store_stepped<'a>(
+    state: &mut State<'a>,
+    alloc: Global,
+    program: &Program<'a>,
+    target: &Code,
+    outcome: Outcome<'a>,
+    old: Value<'a>,
+    is_post: bool,
+) -> Result<bool, OutOfMemory>
     ensures { IfOk result (λ went. Follows (with_outcome outcome.entry state.old (λ new s. store program.now (plain_code target.now) new (if is_post then old.entry else new) s)) went state.old state.new) }
 {
     match outcome {
@@ -104,7 +149,14 @@ fn store_stepped<'a>(state: &mut State<'a>, alloc: Global, program: &Program<'a>
 }
 
 /// `++` and `--`, which give the new value or the old one (JLS 15.14, 15.15).
-fn step_target<'a>(state: &mut State<'a>, alloc: Global, program: &Program<'a>, target: &Code, op: StepOp, is_post: bool) -> Result<bool, OutOfMemory>
+fn step_target<'a>(
+    state: &mut State<'a>,
+    alloc: Global,
+    program: &Program<'a>,
+    target: &Code,
+    op: StepOp,
+    is_post: bool,
+) -> Result<bool, OutOfMemory>
     ensures { IfOk result (λ went. Follows (steps program.now (plain_code target.now) op is_post state.old) went state.old state.new) }
 {
     let Some(old) = state.frame.values.pop() else {
@@ -114,7 +166,12 @@ fn step_target<'a>(state: &mut State<'a>, alloc: Global, program: &Program<'a>, 
     store_stepped(state, alloc, program, target, outcome, old, is_post)
 }
 
-fn branch<'a>(state: &mut State<'a>, value: Value<'a>, first: &'a Code, second: &'a Code) -> Result<bool, OutOfMemory>
+fn branch<'a>(
+    state: &mut State<'a>,
+    value: Value<'a>,
+    first: &'a Code,
+    second: &'a Code,
+) -> Result<bool, OutOfMemory>
     ensures { IfOk result (λ went. Follows (branches (w.Eval (plain_code first.entry.now) ∷ []) (w.Eval (plain_code second.entry.now) ∷ []) value.entry state.old) went state.old state.new) }
 {
     match value {
@@ -140,7 +197,12 @@ fn choose<'a>(state: &mut State<'a>, first: &'a Code, second: &'a Code) -> Resul
     }
 }
 
-fn branch_stmt<'a>(state: &mut State<'a>, value: Value<'a>, first: &'a Code, second: &'a Option<Boxed<Code>>) -> Result<bool, OutOfMemory>
+fn branch_stmt<'a>(
+    state: &mut State<'a>,
+    value: Value<'a>,
+    first: &'a Code,
+    second: &'a Option<Boxed<Code>>,
+) -> Result<bool, OutOfMemory>
     ensures { IfOk result (λ went. Follows (branches (w.Eval (plain_code first.entry.now) ∷ []) (eval_any (m.plain_any_code second.entry.now)) value.entry state.old) went state.old state.new) }
 {
     match value {
@@ -157,7 +219,11 @@ fn branch_stmt<'a>(state: &mut State<'a>, value: Value<'a>, first: &'a Code, sec
 }
 
 /// One of two statements goes on (JLS 14.9).
-fn choose_stmt<'a>(state: &mut State<'a>, first: &'a Code, second: &'a Option<Boxed<Code>>) -> Result<bool, OutOfMemory>
+fn choose_stmt<'a>(
+    state: &mut State<'a>,
+    first: &'a Code,
+    second: &'a Option<Boxed<Code>>,
+) -> Result<bool, OutOfMemory>
     ensures { IfOk result (λ went. Follows (with_one state.old.frame.values state.old (branches (w.Eval (plain_code first.entry.now) ∷ []) (eval_any (m.plain_any_code second.entry.now)))) went state.old state.new) }
 {
     match state.frame.values.pop() {
@@ -166,7 +232,11 @@ fn choose_stmt<'a>(state: &mut State<'a>, first: &'a Code, second: &'a Option<Bo
     }
 }
 
-fn and_also_of<'a>(state: &mut State<'a>, value: Value<'a>, right: &'a Code) -> Result<bool, OutOfMemory>
+fn and_also_of<'a>(
+    state: &mut State<'a>,
+    value: Value<'a>,
+    right: &'a Code,
+) -> Result<bool, OutOfMemory>
     ensures { IfOk result (λ went. Follows (and_also (plain_code right.entry.now) value.entry state.old) went state.old state.new) }
 {
     match value {
@@ -191,7 +261,11 @@ fn and_also<'a>(state: &mut State<'a>, right: &'a Code) -> Result<bool, OutOfMem
     }
 }
 
-fn or_else_of<'a>(state: &mut State<'a>, value: Value<'a>, right: &'a Code) -> Result<bool, OutOfMemory>
+fn or_else_of<'a>(
+    state: &mut State<'a>,
+    value: Value<'a>,
+    right: &'a Code,
+) -> Result<bool, OutOfMemory>
     ensures { IfOk result (λ went. Follows (or_else (plain_code right.entry.now) value.entry state.old) went state.old state.new) }
 {
     match value {
@@ -216,7 +290,11 @@ fn or_else<'a>(state: &mut State<'a>, right: &'a Code) -> Result<bool, OutOfMemo
     }
 }
 
-fn finish_binary<'a>(state: &mut State<'a>, alloc: Global, op: BinaryOp) -> Result<bool, OutOfMemory>
+fn finish_binary<'a>(
+    state: &mut State<'a>,
+    alloc: Global,
+    op: BinaryOp,
+) -> Result<bool, OutOfMemory>
     ensures { IfOk result (λ went. Follows (with_two state.old.frame.values state.old (λ a b s. settled (binary s.heap op a b) s)) went state.old state.new) }
 {
     let Some(right) = state.frame.values.pop() else {
@@ -239,7 +317,13 @@ fn finish_unary<'a>(state: &mut State<'a>, alloc: Global, op: UnaryOp) -> Result
     settle(state, alloc, outcome)
 }
 
-fn test_of<'a>(state: &mut State<'a>, alloc: Global, program: &Program<'a>, ty: &Ty, value: Value<'a>) -> Result<bool, OutOfMemory>
+fn test_of<'a>(
+    state: &mut State<'a>,
+    alloc: Global,
+    program: &Program<'a>,
+    ty: &Ty,
+    value: Value<'a>,
+) -> Result<bool, OutOfMemory>
     ensures { IfOk result (λ went. Follows (tests program.now (plain_ty ty.now) value.entry state.old) went state.old state.new) }
 {
     match value {
@@ -252,7 +336,12 @@ fn test_of<'a>(state: &mut State<'a>, alloc: Global, program: &Program<'a>, ty: 
 }
 
 /// `value instanceof ty` (JLS 15.20.2).
-fn test<'a>(state: &mut State<'a>, alloc: Global, program: &Program<'a>, ty: &Ty) -> Result<bool, OutOfMemory>
+fn test<'a>(
+    state: &mut State<'a>,
+    alloc: Global,
+    program: &Program<'a>,
+    ty: &Ty,
+) -> Result<bool, OutOfMemory>
     ensures { IfOk result (λ went. Follows (with_one state.old.frame.values state.old (tests program.now (plain_ty ty.now))) went state.old state.new) }
 {
     match state.frame.values.pop() {
@@ -262,7 +351,13 @@ fn test<'a>(state: &mut State<'a>, alloc: Global, program: &Program<'a>, ty: &Ty
 }
 
 /// A narrowing conversion of references is checked (JLS 5.1.5).
-fn cast_object<'a>(state: &mut State<'a>, alloc: Global, program: &Program<'a>, ty: &Ty, value: Value<'a>) -> Result<bool, OutOfMemory>
+fn cast_object<'a>(
+    state: &mut State<'a>,
+    alloc: Global,
+    program: &Program<'a>,
+    ty: &Ty,
+    value: Value<'a>,
+) -> Result<bool, OutOfMemory>
     ensures { IfOk result (λ went. Follows (casts_object program.now (plain_ty ty.now) value.entry state.old) went state.old state.new) }
 {
     match value {
@@ -277,19 +372,31 @@ fn cast_object<'a>(state: &mut State<'a>, alloc: Global, program: &Program<'a>, 
     }
 }
 
-fn cast_value<'a>(state: &mut State<'a>, alloc: Global, program: &Program<'a>, ty: &Ty, value: Value<'a>) -> Result<bool, OutOfMemory>
+fn cast_value<'a>(
+    state: &mut State<'a>,
+    alloc: Global,
+    program: &Program<'a>,
+    ty: &Ty,
+    value: Value<'a>,
+) -> Result<bool, OutOfMemory>
     ensures { IfOk result (λ went. Follows (casts program.now (plain_ty ty.now) value.entry state.old) went state.old state.new) }
 {
     match ty {
         Ty::Class(_) | Ty::Array(_) => cast_object(state, alloc, program, ty, value),
-        Ty::Boolean | Ty::Byte | Ty::Short | Ty::Char | Ty::Int | Ty::Long | Ty::Null | Ty::Void => {
-            let outcome = converted_to(ty, &value);
-            settle(state, alloc, outcome)
-        }
+        Ty::Boolean | Ty::Byte | Ty::Short | Ty::Char | Ty::Int | Ty::Long | Ty::Null | Ty::Void =>
+            {
+                let outcome = converted_to(ty, &value);
+                settle(state, alloc, outcome)
+            }
     }
 }
 
-fn cast<'a>(state: &mut State<'a>, alloc: Global, program: &Program<'a>, ty: &Ty) -> Result<bool, OutOfMemory>
+fn cast<'a>(
+    state: &mut State<'a>,
+    alloc: Global,
+    program: &Program<'a>,
+    ty: &Ty,
+) -> Result<bool, OutOfMemory>
     ensures { IfOk result (λ went. Follows (with_one state.old.frame.values state.old (casts program.now (plain_ty ty.now))) went state.old state.new) }
 {
     match state.frame.values.pop() {
@@ -309,17 +416,34 @@ fn read_length<'a>(state: &mut State<'a>, alloc: Global) -> Result<bool, OutOfMe
 }
 
 /// An object that is no string is shown by its `toString` (JLS 5.1.11).
-fn show_other<'a>(state: &mut State<'a>, alloc: Global, program: &Program<'a>, value: Value<'a>) -> Result<bool, OutOfMemory>
+fn show_other<'a>(
+    state: &mut State<'a>,
+    alloc: Global,
+    program: &Program<'a>,
+    value: Value<'a>,
+) -> Result<bool, OutOfMemory>
     ensures { IfOk result (λ went. Follows (shows_object program.now None value.entry state.old) went state.old state.new) }
 {
     match value {
         Value::Null => push(state, Value::Null),
-        value => call_on(state, alloc, program, to_string_method(), value, Stack::new(alloc)),
+        value => call_on(
+            state,
+            alloc,
+            program,
+            to_string_method(),
+            value,
+            Stack::new(alloc),
+        ),
     }
 }
 
 /// An object is shown by its `toString` (JLS 5.1.11, 15.18.1.1).
-fn show_object<'a>(state: &mut State<'a>, alloc: Global, program: &Program<'a>, value: Value<'a>) -> Result<bool, OutOfMemory>
+fn show_object<'a>(
+    state: &mut State<'a>,
+    alloc: Global,
+    program: &Program<'a>,
+    value: Value<'a>,
+) -> Result<bool, OutOfMemory>
     ensures { IfOk result (λ went. Follows (shows_object program.now (units_of state.old.heap value.entry) value.entry state.old) went state.old state.new) }
 {
     match units_of(state.heap.as_slice(), &value) {
@@ -328,7 +452,11 @@ fn show_object<'a>(state: &mut State<'a>, alloc: Global, program: &Program<'a>, 
     }
 }
 
-fn show<'a>(state: &mut State<'a>, alloc: Global, program: &Program<'a>) -> Result<bool, OutOfMemory>
+fn show<'a>(
+    state: &mut State<'a>,
+    alloc: Global,
+    program: &Program<'a>,
+) -> Result<bool, OutOfMemory>
     ensures { IfOk result (λ went. Follows (with_one state.old.frame.values state.old (λ a s. shows program.now (text_of a) a s)) went state.old state.new) }
 {
     let Some(value) = state.frame.values.pop() else {
@@ -340,17 +468,30 @@ fn show<'a>(state: &mut State<'a>, alloc: Global, program: &Program<'a>) -> Resu
     }
 }
 
-fn push_instance<'a>(state: &mut State<'a>, program: &Program<'a>, class: TypeId) -> Result<bool, OutOfMemory>
+fn push_instance<'a>(
+    state: &mut State<'a>,
+    program: &Program<'a>,
+    class: TypeId,
+) -> Result<bool, OutOfMemory>
     ensures { IfOk result (λ went. Follows (pushes_any (instance_of program.now state.old.heap class state.old.frame.class state.old.frame.this) state.old) went state.old state.new) }
 {
-    match program.instance_of(state.heap.as_slice(), class, state.frame.class, &state.frame.this) {
+    match program.instance_of(
+        state.heap.as_slice(),
+        class,
+        state.frame.class,
+        &state.frame.this,
+    ) {
         None => Ok(false),
         Some(value) => push(state, value),
     }
 }
 
 /// A declared local gets its initial value, if it has one (JLS 14.4).
-fn declare<'a>(state: &mut State<'a>, local: DeclId, init: &Option<Boxed<Code>>) -> Result<bool, OutOfMemory>
+fn declare<'a>(
+    state: &mut State<'a>,
+    local: DeclId,
+    init: &Option<Boxed<Code>>,
+) -> Result<bool, OutOfMemory>
     ensures { IfOk result (λ went. Follows (declares local (m.plain_any_code init.now) state.old) went state.old state.new) }
 {
     match init {
@@ -365,7 +506,12 @@ fn declare<'a>(state: &mut State<'a>, local: DeclId, init: &Option<Boxed<Code>>)
     }
 }
 
-fn repeat_of<'a>(state: &mut State<'a>, value: Value<'a>, code: &'a Code, body: &'a Code) -> Result<bool, OutOfMemory>
+fn repeat_of<'a>(
+    state: &mut State<'a>,
+    value: Value<'a>,
+    code: &'a Code,
+    body: &'a Code,
+) -> Result<bool, OutOfMemory>
     ensures { IfOk result (λ went. Follows (branches (w.Eval (plain_code body.entry.now) ∷ w.AfterBody (plain_code code.entry.now) ∷ []) [] value.entry state.old) went state.old state.new) }
 {
     match value {
@@ -419,12 +565,18 @@ fn switch<'a>(state: &mut State<'a>, groups: &'a [Group]) -> Result<bool, OutOfM
 }
 
 /// A return, with its value, if it has one (JLS 14.17).
-fn finish_return<'a>(state: &mut State<'a>, value: &Option<Boxed<Code>>) -> Result<bool, OutOfMemory>
+fn finish_return<'a>(
+    state: &mut State<'a>,
+    value: &Option<Boxed<Code>>,
+) -> Result<bool, OutOfMemory>
     ensures { IfOk result (λ went. Follows (returns (m.plain_any_code value.now) state.old) went state.old state.new) }
 {
     match value {
         None => {
-            state.frame.work.push(Work::Exiting(Exit::Return(Value::Void)))?;
+            state
+                .frame
+                .work
+                .push(Work::Exiting(Exit::Return(Value::Void)))?;
             Ok(true)
         }
         Some(_) => match state.frame.values.pop() {
@@ -437,7 +589,11 @@ fn finish_return<'a>(state: &mut State<'a>, value: &Option<Boxed<Code>>) -> Resu
     }
 }
 
-fn throw_any<'a>(state: &mut State<'a>, alloc: Global, value: Value<'a>) -> Result<bool, OutOfMemory>
+fn throw_any<'a>(
+    state: &mut State<'a>,
+    alloc: Global,
+    value: Value<'a>,
+) -> Result<bool, OutOfMemory>
     ensures { IfOk result (λ went. Follows (throws_any value.entry state.old) went state.old state.new) }
 {
     match value {
@@ -460,7 +616,10 @@ fn finish_throw<'a>(state: &mut State<'a>, alloc: Global) -> Result<bool, OutOfM
 }
 
 /// The `finally` of a `try` that completed normally (JLS 14.20.2).
-pub fn finish_try<'a>(state: &mut State<'a>, last: &'a Option<Items<Code>>) -> Result<bool, OutOfMemory>
+pub fn finish_try<'a>(
+    state: &mut State<'a>,
+    last: &'a Option<Items<Code>>,
+) -> Result<bool, OutOfMemory>
     ensures { IfOk result (λ went. Follows (Some (add_work (finally_work (m.plain_any_codes last.entry.now)) state.old)) went state.old state.new) }
 {
     match last {
@@ -473,7 +632,15 @@ pub fn finish_try<'a>(state: &mut State<'a>, last: &'a Option<Items<Code>>) -> R
 }
 
 /// A call, after its arguments (JLS 15.12.4).
-fn finish_call<'a>(state: &mut State<'a>, alloc: Global, program: &Program<'a>, receiver: &Option<Boxed<Code>>, is_super: bool, method: DeclId, args: &[Code]) -> Result<bool, OutOfMemory>
+fn finish_call<'a>(
+    state: &mut State<'a>,
+    alloc: Global,
+    program: &Program<'a>,
+    receiver: &Option<Boxed<Code>>,
+    is_super: bool,
+    method: DeclId,
+    args: &[Code],
+) -> Result<bool, OutOfMemory>
     ensures { IfOk result (λ went. Follows (with_some (codes_count (plain_codes args.now)) [] state.old.frame.values state.old (calls program.now (body_in program.now method) (m.plain_any_code receiver.now) is_super)) went state.old state.new) }
 {
     let Some(args) = take_args(state, alloc, args)? else {
@@ -486,7 +653,14 @@ fn finish_call<'a>(state: &mut State<'a>, alloc: Global, program: &Program<'a>, 
 }
 
 /// A creation, after its arguments (JLS 15.9.4).
-fn finish_new<'a>(state: &mut State<'a>, alloc: Global, program: &Program<'a>, outer: &Option<Boxed<Code>>, ctor: DeclId, args: &[Code]) -> Result<bool, OutOfMemory>
+fn finish_new<'a>(
+    state: &mut State<'a>,
+    alloc: Global,
+    program: &Program<'a>,
+    outer: &Option<Boxed<Code>>,
+    ctor: DeclId,
+    args: &[Code],
+) -> Result<bool, OutOfMemory>
     ensures { IfOk result (λ went. Follows (with_some (codes_count (plain_codes args.now)) [] state.old.frame.values state.old (creates_any (body_in program.now ctor) (m.plain_any_code outer.now))) went state.old state.new) }
 {
     let Some(args) = take_args(state, alloc, args)? else {
@@ -499,7 +673,14 @@ fn finish_new<'a>(state: &mut State<'a>, alloc: Global, program: &Program<'a>, o
 }
 
 /// A call of a constructor, after its arguments (JLS 8.8.7).
-fn finish_ctor<'a>(state: &mut State<'a>, alloc: Global, program: &Program<'a>, is_super: bool, ctor: DeclId, args: &[Code]) -> Result<bool, OutOfMemory>
+fn finish_ctor<'a>(
+    state: &mut State<'a>,
+    alloc: Global,
+    program: &Program<'a>,
+    is_super: bool,
+    ctor: DeclId,
+    args: &[Code],
+) -> Result<bool, OutOfMemory>
     ensures { IfOk result (λ went. Follows (with_some (codes_count (plain_codes args.now)) [] state.old.frame.values state.old (constructs program.now (body_in program.now ctor) is_super)) went state.old state.new) }
 {
     let Some(args) = take_args(state, alloc, args)? else {
@@ -512,7 +693,13 @@ fn finish_ctor<'a>(state: &mut State<'a>, alloc: Global, program: &Program<'a>, 
 }
 
 /// A creation of an array, after its dimensions or its items (JLS 15.10, 10.6).
-fn finish_array<'a>(state: &mut State<'a>, alloc: Global, ty: &'a Ty, dims: &[Code], init: &Option<Items<Code>>) -> Result<bool, OutOfMemory>
+fn finish_array<'a>(
+    state: &mut State<'a>,
+    alloc: Global,
+    ty: &'a Ty,
+    dims: &[Code],
+    init: &Option<Items<Code>>,
+) -> Result<bool, OutOfMemory>
     ensures { IfOk result (λ went. Follows (creates_array (plain_ty ty.entry.now) (plain_codes dims.now) (m.plain_any_codes init.now) state.old) went state.old state.new) }
 {
     match init {
@@ -529,14 +716,23 @@ fn finish_array<'a>(state: &mut State<'a>, alloc: Global, ty: &'a Ty, dims: &[Co
 
 /// Takes the values of these arguments off.
 #[tactic(auto, using(jr_machine_ops::proofs::Counting::count_length))]
-fn take_args<'a>(state: &mut State<'a>, alloc: Global, args: &[Code]) -> Result<Option<Stack<Value<'a>>>, OutOfMemory>
+fn take_args<'a>(
+    state: &mut State<'a>,
+    alloc: Global,
+    args: &[Code],
+) -> Result<Option<Stack<Value<'a>>>, OutOfMemory>
     ensures { IfOk result (λ taken. TakesArgs (plain_codes args.now) state.old taken state.new) }
 {
     take(&mut state.frame.values, alloc, args.len())
 }
 
 /// The finishing item of this code acts.
-pub fn finish<'a>(state: &mut State<'a>, alloc: Global, program: &Program<'a>, code: &'a Code) -> Result<bool, OutOfMemory>
+pub fn finish<'a>(
+    state: &mut State<'a>,
+    alloc: Global,
+    program: &Program<'a>,
+    code: &'a Code,
+) -> Result<bool, OutOfMemory>
     ensures { IfOk result (λ went. Follows (finishes program.now (plain_code code.entry.now) state.old) went state.old state.new) }
 {
     match code {
@@ -548,14 +744,48 @@ pub fn finish<'a>(state: &mut State<'a>, alloc: Global, program: &Program<'a>, c
         Code::IsA { ty, .. } => test(state, alloc, program, ty),
         Code::Unary { op, .. } => finish_unary(state, alloc, *op),
         Code::Cast { ty, .. } => cast(state, alloc, program, ty),
-        Code::PreStep { op, target } => step_target(state, alloc, program, target.get(), *op, false),
-        Code::PostStep { target, op } => step_target(state, alloc, program, target.get(), *op, true),
+        Code::PreStep { op, target } => step_target(
+            state,
+            alloc,
+            program,
+            target.get(),
+            *op,
+            false,
+        ),
+        Code::PostStep { target, op } => step_target(
+            state,
+            alloc,
+            program,
+            target.get(),
+            *op,
+            true,
+        ),
         Code::This { class } => push_instance(state, program, *class),
         Code::FieldAt { on, field } => read_field(state, alloc, program, on, *field),
         Code::Length { .. } => read_length(state, alloc),
         Code::Index { .. } => read_item(state, alloc),
-        Code::Call { receiver, is_super, method, args } => finish_call(state, alloc, program, receiver, *is_super, *method, args.as_slice()),
-        Code::New { outer, ctor, args } => finish_new(state, alloc, program, outer, *ctor, args.as_slice()),
+        Code::Call {
+            receiver,
+            is_super,
+            method,
+            args,
+        } => finish_call(
+            state,
+            alloc,
+            program,
+            receiver,
+            *is_super,
+            *method,
+            args.as_slice(),
+        ),
+        Code::New { outer, ctor, args } => finish_new(
+            state,
+            alloc,
+            program,
+            outer,
+            *ctor,
+            args.as_slice(),
+        ),
         Code::NewArray { ty, dims, init } => finish_array(state, alloc, ty, dims.as_slice(), init),
         Code::Show { .. } => show(state, alloc, program),
         Code::Local { local, init } => declare(state, *local, init),
@@ -569,7 +799,13 @@ pub fn finish<'a>(state: &mut State<'a>, alloc: Global, program: &Program<'a>, c
         Code::Return { value } => finish_return(state, value),
         Code::Throw { .. } => finish_throw(state, alloc),
         Code::Try { last, .. } => finish_try(state, last),
-        Code::CtorCall { is_super, ctor, args } => finish_ctor(state, alloc, program, *is_super, *ctor, args.as_slice()),
-        Code::Lit { .. } | Code::Var { .. } | Code::Break { .. } | Code::Continue { .. } => Ok(false),
+        Code::CtorCall {
+            is_super,
+            ctor,
+            args,
+        } => finish_ctor(state, alloc, program, *is_super, *ctor, args.as_slice()),
+        Code::Lit { .. } | Code::Var { .. } | Code::Break { .. } | Code::Continue { .. } => Ok(
+            false,
+        ),
     }
 }

@@ -11,7 +11,9 @@ use crate::finishing::{finish, finish_try};
 use jr_base::{OutOfMemory, TypeId};
 use jr_core::Code;
 use jr_machine_defs::{CodeRef, RunEnd, State, Value, Work};
-use jr_machine_exits::{exit, leave, literal, push_finish, push_parts, push_target_parts, push_turn, read_old};
+use jr_machine_exits::{
+    exit, leave, literal, push_finish, push_parts, push_target_parts, push_turn, read_old,
+};
 use jr_machine_ops::{Program, begin, first_use, push, value_of};
 use std::alloc::Global;
 
@@ -36,7 +38,12 @@ fn evaluate<'a>(state: &mut State<'a>, code: &'a Code) -> Result<bool, OutOfMemo
 }
 
 /// The finishing item of code acts, or first the class that it uses is initialized.
-fn finish_first<'a>(state: &mut State<'a>, alloc: Global, program: &Program<'a>, code: &'a Code) -> Result<bool, OutOfMemory>
+fn finish_first<'a>(
+    state: &mut State<'a>,
+    alloc: Global,
+    program: &Program<'a>,
+    code: &'a Code,
+) -> Result<bool, OutOfMemory>
     ensures { IfOk result (λ went. Follows (acts program.now (w.Finish (plain_code code.entry.now)) state.old) went state.old state.new) }
 {
     match first_use(state.begun.as_slice(), program.used_class(code)) {
@@ -50,7 +57,12 @@ fn finish_first<'a>(state: &mut State<'a>, alloc: Global, program: &Program<'a>,
 }
 
 /// The old value of a target is read, or first the class that it uses is initialized.
-fn read_old_first<'a>(state: &mut State<'a>, alloc: Global, program: &Program<'a>, target: &'a Code) -> Result<bool, OutOfMemory>
+fn read_old_first<'a>(
+    state: &mut State<'a>,
+    alloc: Global,
+    program: &Program<'a>,
+    target: &'a Code,
+) -> Result<bool, OutOfMemory>
     ensures { IfOk result (λ went. Follows (acts program.now (w.ReadOld (plain_code target.entry.now)) state.old) went state.old state.new) }
 {
     match first_use(state.begun.as_slice(), program.target_class(target)) {
@@ -99,7 +111,12 @@ fn run_finally<'a>(state: &mut State<'a>, code: &'a Code) -> Result<bool, OutOfM
     }
 }
 
-fn begin_any<'a>(state: &mut State<'a>, alloc: Global, program: &Program<'a>, class: Option<TypeId>) -> Result<bool, OutOfMemory>
+fn begin_any<'a>(
+    state: &mut State<'a>,
+    alloc: Global,
+    program: &Program<'a>,
+    class: Option<TypeId>,
+) -> Result<bool, OutOfMemory>
     ensures { IfOk result (λ went. Follows (Some (begins_any program.now class state.old)) went state.old state.new) }
 {
     match class {
@@ -112,7 +129,12 @@ fn begin_any<'a>(state: &mut State<'a>, alloc: Global, program: &Program<'a>, cl
 }
 
 /// An item of work, taken off, acts.
-fn act<'a>(state: &mut State<'a>, alloc: Global, program: &Program<'a>, item: Work<'a>) -> Result<bool, OutOfMemory>
+fn act<'a>(
+    state: &mut State<'a>,
+    alloc: Global,
+    program: &Program<'a>,
+    item: Work<'a>,
+) -> Result<bool, OutOfMemory>
     ensures { IfOk result (λ went. Follows (acts program.now item.entry state.old) went state.old state.new) }
 {
     match item {
@@ -133,7 +155,11 @@ fn act<'a>(state: &mut State<'a>, alloc: Global, program: &Program<'a>, item: Wo
 }
 
 /// One step; false where the run has ended or no line covers the top item.
-pub fn step<'a>(state: &mut State<'a>, alloc: Global, program: &Program<'a>) -> Result<bool, OutOfMemory>
+pub fn step<'a>(
+    state: &mut State<'a>,
+    alloc: Global,
+    program: &Program<'a>,
+) -> Result<bool, OutOfMemory>
     ensures { IfOk result (λ went. Follows (next program.now state.old) went state.old state.new) }
 {
     match state.end {

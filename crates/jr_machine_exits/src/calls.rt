@@ -10,11 +10,19 @@ ghost use Rattle.jr_machine_defs.specs.declared.value.Value.TheVariants as v;
 use jr_base::{Boxed, DeclId, Items, OutOfMemory, TypeId};
 use jr_core::{Body, Code};
 use jr_machine_defs::{Cell, Fault, Purpose, Stack, State, Value};
-use jr_machine_ops::{Program, class_of_object, drop_receiver, enter, native_call, push_class, push_value, raise};
+use jr_machine_ops::{
+    Program, class_of_object, drop_receiver, enter, native_call, push_class, push_value, raise,
+};
 use std::alloc::Global;
 
 /// Runs a method.
-fn run_body<'a>(state: &mut State<'a>, alloc: Global, body: &'a Body, this: Value<'a>, args: Stack<Value<'a>>) -> Result<bool, OutOfMemory>
+fn run_body<'a>(
+    state: &mut State<'a>,
+    alloc: Global,
+    body: &'a Body,
+    this: Value<'a>,
+    args: Stack<Value<'a>>,
+) -> Result<bool, OutOfMemory>
     ensures { IfOk result (λ went. Follows (runs (plain_body body.entry.now) this.entry args.entry state.old) went state.old state.new) }
 {
     if body.is_native {
@@ -25,7 +33,15 @@ fn run_body<'a>(state: &mut State<'a>, alloc: Global, body: &'a Body, this: Valu
 }
 
 /// Runs the method that is found in the receiver's class (JLS 15.12.4.4).
-fn dispatch<'a>(state: &mut State<'a>, alloc: Global, program: &Program<'a>, class: Option<TypeId>, method: DeclId, receiver: Value<'a>, args: Stack<Value<'a>>) -> Result<bool, OutOfMemory>
+fn dispatch<'a>(
+    state: &mut State<'a>,
+    alloc: Global,
+    program: &Program<'a>,
+    class: Option<TypeId>,
+    method: DeclId,
+    receiver: Value<'a>,
+    args: Stack<Value<'a>>,
+) -> Result<bool, OutOfMemory>
     ensures { IfOk result (λ went. Follows (dispatches program.now class method receiver.entry args.entry state.old) went state.old state.new) }
 {
     let Some(class) = class else {
@@ -41,7 +57,14 @@ fn dispatch<'a>(state: &mut State<'a>, alloc: Global, program: &Program<'a>, cla
 }
 
 /// Calls a method on an object; null is checked.
-pub fn call_on<'a>(state: &mut State<'a>, alloc: Global, program: &Program<'a>, method: DeclId, receiver: Value<'a>, args: Stack<Value<'a>>) -> Result<bool, OutOfMemory>
+pub fn call_on<'a>(
+    state: &mut State<'a>,
+    alloc: Global,
+    program: &Program<'a>,
+    method: DeclId,
+    receiver: Value<'a>,
+    args: Stack<Value<'a>>,
+) -> Result<bool, OutOfMemory>
     ensures { IfOk result (λ went. Follows (calls_on program.now method receiver.entry args.entry state.old) went state.old state.new) }
 {
     match receiver {
@@ -54,7 +77,13 @@ pub fn call_on<'a>(state: &mut State<'a>, alloc: Global, program: &Program<'a>, 
 }
 
 /// A call of a static method; its receiver is not used (JLS 15.12.4.1).
-fn call_static<'a>(state: &mut State<'a>, alloc: Global, body: &'a Body, receiver: &Option<Boxed<Code>>, args: Stack<Value<'a>>) -> Result<bool, OutOfMemory>
+fn call_static<'a>(
+    state: &mut State<'a>,
+    alloc: Global,
+    body: &'a Body,
+    receiver: &Option<Boxed<Code>>,
+    args: Stack<Value<'a>>,
+) -> Result<bool, OutOfMemory>
     ensures { IfOk result (λ went. Follows (without_receiver (m.plain_any_code receiver.now) state.old (runs (plain_body body.entry.now) v.Null args.entry)) went state.old state.new) }
 {
     if !drop_receiver(state, receiver) {
@@ -64,7 +93,15 @@ fn call_static<'a>(state: &mut State<'a>, alloc: Global, body: &'a Body, receive
 }
 
 /// A call, with its arguments (JLS 15.12.4).
-pub fn call<'a>(state: &mut State<'a>, alloc: Global, program: &Program<'a>, body: &'a Body, receiver: &Option<Boxed<Code>>, is_super: bool, args: Stack<Value<'a>>) -> Result<bool, OutOfMemory>
+pub fn call<'a>(
+    state: &mut State<'a>,
+    alloc: Global,
+    program: &Program<'a>,
+    body: &'a Body,
+    receiver: &Option<Boxed<Code>>,
+    is_super: bool,
+    args: Stack<Value<'a>>,
+) -> Result<bool, OutOfMemory>
     ensures { IfOk result (λ went. Follows (calls program.now (Some (plain_body body.entry.now)) (m.plain_any_code receiver.now) is_super args.entry state.old) went state.old state.new) }
 {
     if body.is_static {
@@ -81,7 +118,13 @@ pub fn call<'a>(state: &mut State<'a>, alloc: Global, program: &Program<'a>, bod
 }
 
 /// A new object, on which the constructor runs (JLS 15.9.4).
-fn create<'a>(state: &mut State<'a>, alloc: Global, body: &'a Body, outer: Value<'a>, args: Stack<Value<'a>>) -> Result<bool, OutOfMemory>
+fn create<'a>(
+    state: &mut State<'a>,
+    alloc: Global,
+    body: &'a Body,
+    outer: Value<'a>,
+    args: Stack<Value<'a>>,
+) -> Result<bool, OutOfMemory>
     ensures { IfOk result (λ went. Follows (creates (plain_body body.entry.now) outer.entry args.entry state.old) went state.old state.new) }
 {
     let at = state.heap.len();
@@ -91,12 +134,25 @@ fn create<'a>(state: &mut State<'a>, alloc: Global, body: &'a Body, outer: Value
         fields: Items::new(alloc),
     })?;
     push_value(state, Value::Ref(at))?;
-    enter(state, alloc, body, Purpose::Constructor, Value::Ref(at), args)?;
+    enter(
+        state,
+        alloc,
+        body,
+        Purpose::Constructor,
+        Value::Ref(at),
+        args,
+    )?;
     Ok(true)
 }
 
 /// A creation, with its arguments.
-pub fn create_any<'a>(state: &mut State<'a>, alloc: Global, body: &'a Body, outer: &Option<Boxed<Code>>, args: Stack<Value<'a>>) -> Result<bool, OutOfMemory>
+pub fn create_any<'a>(
+    state: &mut State<'a>,
+    alloc: Global,
+    body: &'a Body,
+    outer: &Option<Boxed<Code>>,
+    args: Stack<Value<'a>>,
+) -> Result<bool, OutOfMemory>
     ensures { IfOk result (λ went. Follows (creates_any (Some (plain_body body.entry.now)) (m.plain_any_code outer.now) args.entry state.old) went state.old state.new) }
 {
     match outer {
@@ -109,7 +165,14 @@ pub fn create_any<'a>(state: &mut State<'a>, alloc: Global, body: &'a Body, oute
 }
 
 /// A call of a constructor of the same class or of the superclass (JLS 12.5).
-pub fn construct<'a>(state: &mut State<'a>, alloc: Global, program: &Program<'a>, body: &'a Body, is_super: bool, args: Stack<Value<'a>>) -> Result<bool, OutOfMemory>
+pub fn construct<'a>(
+    state: &mut State<'a>,
+    alloc: Global,
+    program: &Program<'a>,
+    body: &'a Body,
+    is_super: bool,
+    args: Stack<Value<'a>>,
+) -> Result<bool, OutOfMemory>
     ensures { IfOk result (λ went. Follows (constructs program.now (Some (plain_body body.entry.now)) is_super args.entry state.old) went state.old state.new) }
 {
     let this = state.frame.this.copy();

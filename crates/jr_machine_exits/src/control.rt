@@ -106,7 +106,10 @@ pub fn push_groups<'a>(stack: &mut Stack<Work<'a>>, groups: &'a [Group]) -> Resu
 }
 
 /// Puts the labels directly round a loop back, and then what follows its body (JLS 14.16).
-pub fn push_relabeled<'a>(stack: &mut Stack<Work<'a>>, mut code: &'a Code) -> Result<(), OutOfMemory>
+pub fn push_relabeled<'a>(
+    stack: &mut Stack<Work<'a>>,
+    mut code: &'a Code,
+) -> Result<(), OutOfMemory>
     ensures { OnOk result (stack.new ≡ relabeled (plain_code code.entry.now) stack.old) }
 {
     while let Code::Labeled { body, .. } = code {
@@ -115,4 +118,3 @@ pub fn push_relabeled<'a>(stack: &mut Stack<Work<'a>>, mut code: &'a Code) -> Re
     }
     push_after_body(stack, code)
 }
-

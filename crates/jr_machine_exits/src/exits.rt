@@ -16,7 +16,11 @@ use jr_machine_ops::{Program, class_of_object, push, push_codes, same_decl, set_
 use std::alloc::Global;
 
 /// Puts the `finally` round a catch on top, if there is one.
-fn push_after_catch<'a>(stack: &mut Stack<Work<'a>>, code: &'a Code, last: &Option<Items<Code>>) -> Result<(), OutOfMemory>
+fn push_after_catch<'a>(
+    stack: &mut Stack<Work<'a>>,
+    code: &'a Code,
+    last: &Option<Items<Code>>,
+) -> Result<(), OutOfMemory>
     ensures { OnOk result (stack.new ≡ after_catch (plain_code code.entry.now) (m.plain_any_codes last.now) ++ stack.old) }
 {
     match last {
@@ -35,7 +39,11 @@ fn go_on<'a>(state: &mut State<'a>, leaving: Exit<'a>) -> Result<bool, OutOfMemo
 
 /// A `finally` runs first, and then the completion goes on (JLS 14.20.2).
 #[tactic(auto, using(jr_machine_ops::proofs::Counting::append_one))]
-fn go_through<'a>(state: &mut State<'a>, last: &'a Option<Items<Code>>, leaving: Exit<'a>) -> Result<bool, OutOfMemory>
+fn go_through<'a>(
+    state: &mut State<'a>,
+    last: &'a Option<Items<Code>>,
+    leaving: Exit<'a>,
+) -> Result<bool, OutOfMemory>
     ensures { IfOk result (λ went. Follows (through_finally (m.plain_any_codes last.entry.now) leaving.entry state.old) went state.old state.new) }
 {
     state.frame.work.push(Work::Exiting(leaving))?;
@@ -49,7 +57,11 @@ fn go_through<'a>(state: &mut State<'a>, last: &'a Option<Items<Code>>, leaving:
 }
 
 /// A break ends at a loop, and a continue goes on there (JLS 14.15, 14.16).
-fn at_loop<'a>(state: &mut State<'a>, code: &'a Code, leaving: Exit<'a>) -> Result<bool, OutOfMemory>
+fn at_loop<'a>(
+    state: &mut State<'a>,
+    code: &'a Code,
+    leaving: Exit<'a>,
+) -> Result<bool, OutOfMemory>
     ensures { IfOk result (λ went. Follows (at_loop (plain_code code.entry.now) leaving.entry state.old) went state.old state.new) }
 {
     match leaving {
@@ -78,7 +90,12 @@ fn at_switch<'a>(state: &mut State<'a>, leaving: Exit<'a>) -> Result<bool, OutOf
 }
 
 /// A break with this label ends here, and a continue goes on with the loop (JLS 14.7, 14.15, 14.16).
-fn at_label<'a>(state: &mut State<'a>, label: DeclId, code: &'a Code, leaving: Exit<'a>) -> Result<bool, OutOfMemory>
+fn at_label<'a>(
+    state: &mut State<'a>,
+    label: DeclId,
+    code: &'a Code,
+    leaving: Exit<'a>,
+) -> Result<bool, OutOfMemory>
     ensures { IfOk result (λ went. Follows (at_label label (plain_code code.entry.now) leaving.entry state.old) went state.old state.new) }
 {
     match leaving {
@@ -104,7 +121,13 @@ fn at_label<'a>(state: &mut State<'a>, label: DeclId, code: &'a Code, leaving: E
 
 /// The catch gets the thrown object and runs, and then the `finally` (JLS 14.20.1).
 #[tactic(auto, using(jr_machine_ops::proofs::Joining::append_three))]
-fn run_catch<'a>(state: &mut State<'a>, code: &'a Code, last: &'a Option<Items<Code>>, catch: &'a Catch, value: Value<'a>) -> Result<bool, OutOfMemory>
+fn run_catch<'a>(
+    state: &mut State<'a>,
+    code: &'a Code,
+    last: &'a Option<Items<Code>>,
+    catch: &'a Catch,
+    value: Value<'a>,
+) -> Result<bool, OutOfMemory>
     ensures { IfOk result (λ went. Follows (caught (plain_code code.entry.now) (m.plain_any_codes last.entry.now) (Some (m.plain_catch catch.entry.now)) value.entry state.old) went state.old state.new) }
 {
     push_after_catch(&mut state.frame.work, code, last)?;
@@ -113,7 +136,15 @@ fn run_catch<'a>(state: &mut State<'a>, code: &'a Code, last: &'a Option<Items<C
     Ok(true)
 }
 
-fn throw_to<'a>(state: &mut State<'a>, alloc: Global, program: &Program<'a>, code: &'a Code, catches: &'a [Catch], last: &'a Option<Items<Code>>, value: Value<'a>) -> Result<bool, OutOfMemory>
+fn throw_to<'a>(
+    state: &mut State<'a>,
+    alloc: Global,
+    program: &Program<'a>,
+    code: &'a Code,
+    catches: &'a [Catch],
+    last: &'a Option<Items<Code>>,
+    value: Value<'a>,
+) -> Result<bool, OutOfMemory>
     ensures { IfOk result (λ went. Follows (thrown_to program.now (plain_code code.entry.now) (m.plain_catches catches.entry.now) (m.plain_any_codes last.entry.now) (class_of_object state.old.heap value.entry) value.entry state.old) went state.old state.new) }
 {
     let Some(class) = class_of_object(state.heap.as_slice(), &value) else {
@@ -125,7 +156,15 @@ fn throw_to<'a>(state: &mut State<'a>, alloc: Global, program: &Program<'a>, cod
     }
 }
 
-fn at_try<'a>(state: &mut State<'a>, alloc: Global, program: &Program<'a>, code: &'a Code, catches: &'a [Catch], last: &'a Option<Items<Code>>, leaving: Exit<'a>) -> Result<bool, OutOfMemory>
+fn at_try<'a>(
+    state: &mut State<'a>,
+    alloc: Global,
+    program: &Program<'a>,
+    code: &'a Code,
+    catches: &'a [Catch],
+    last: &'a Option<Items<Code>>,
+    leaving: Exit<'a>,
+) -> Result<bool, OutOfMemory>
     ensures { IfOk result (λ went. Follows (at_try program.now (plain_code code.entry.now) (m.plain_catches catches.entry.now) (m.plain_any_codes last.entry.now) leaving.entry state.old) went state.old state.new) }
 {
     match leaving {
@@ -136,17 +175,35 @@ fn at_try<'a>(state: &mut State<'a>, alloc: Global, program: &Program<'a>, code:
     }
 }
 
-fn at_finishing<'a>(state: &mut State<'a>, alloc: Global, program: &Program<'a>, code: &'a Code, leaving: Exit<'a>) -> Result<bool, OutOfMemory>
+fn at_finishing<'a>(
+    state: &mut State<'a>,
+    alloc: Global,
+    program: &Program<'a>,
+    code: &'a Code,
+    leaving: Exit<'a>,
+) -> Result<bool, OutOfMemory>
     ensures { IfOk result (λ went. Follows (at_finishing program.now (plain_code code.entry.now) leaving.entry state.old) went state.old state.new) }
 {
     match code {
         Code::Labeled { label, .. } => at_label(state, *label, code, leaving),
-        Code::Try { catches, last, .. } => at_try(state, alloc, program, code, catches.as_slice(), last, leaving),
+        Code::Try { catches, last, .. } => at_try(
+            state,
+            alloc,
+            program,
+            code,
+            catches.as_slice(),
+            last,
+            leaving,
+        ),
         _ => go_on(state, leaving),
     }
 }
 
-fn at_finally<'a>(state: &mut State<'a>, code: &'a Code, leaving: Exit<'a>) -> Result<bool, OutOfMemory>
+fn at_finally<'a>(
+    state: &mut State<'a>,
+    code: &'a Code,
+    leaving: Exit<'a>,
+) -> Result<bool, OutOfMemory>
     ensures { IfOk result (λ went. Follows (at_finally (plain_code code.entry.now) leaving.entry state.old) went state.old state.new) }
 {
     match code {
@@ -156,7 +213,13 @@ fn at_finally<'a>(state: &mut State<'a>, code: &'a Code, leaving: Exit<'a>) -> R
 }
 
 /// An item of work is taken off by a completion (JLS 14.1).
-fn unwind<'a>(state: &mut State<'a>, alloc: Global, program: &Program<'a>, leaving: Exit<'a>, item: Work<'a>) -> Result<bool, OutOfMemory>
+fn unwind<'a>(
+    state: &mut State<'a>,
+    alloc: Global,
+    program: &Program<'a>,
+    leaving: Exit<'a>,
+    item: Work<'a>,
+) -> Result<bool, OutOfMemory>
     ensures { IfOk result (λ went. Follows (unwinds program.now leaving.entry item.entry state.old) went state.old state.new) }
 {
     match item {
@@ -219,7 +282,12 @@ fn leave_by<'a>(state: &mut State<'a>, leaving: Exit<'a>) -> Result<bool, OutOfM
 }
 
 /// A completion takes the next item off, or the frame (JLS 14.1).
-pub fn exit<'a>(state: &mut State<'a>, alloc: Global, program: &Program<'a>, leaving: Exit<'a>) -> Result<bool, OutOfMemory>
+pub fn exit<'a>(
+    state: &mut State<'a>,
+    alloc: Global,
+    program: &Program<'a>,
+    leaving: Exit<'a>,
+) -> Result<bool, OutOfMemory>
     ensures { IfOk result (λ went. Follows (exits program.now leaving.entry state.old.frame.work state.old) went state.old state.new) }
 {
     match state.frame.work.pop() {

@@ -1,6 +1,5 @@
 // What code is replaced by (JLS 14, 15.7).
 ghost use Rattle.std.specs.Prelude.{◌≡◌, [], ◌∷◌, ◌++◌, OnOk};
-
 ghost use Rattle.jr_core.specs.Mirror as m;
 ghost use Rattle.jr_core.specs.Mirror.{plain_code, plain_codes};
 ghost use Rattle.jr_machine_defs.specs.declared.work.Work.TheVariants as w;
@@ -44,7 +43,10 @@ pub fn push_after_body<'a>(stack: &mut Stack<Work<'a>>, code: &'a Code) -> Resul
 }
 
 /// Puts code on top, if there is some.
-pub fn push_any<'a>(stack: &mut Stack<Work<'a>>, code: &'a Option<Boxed<Code>>) -> Result<(), OutOfMemory>
+pub fn push_any<'a>(
+    stack: &mut Stack<Work<'a>>,
+    code: &'a Option<Boxed<Code>>,
+) -> Result<(), OutOfMemory>
     ensures { OnOk result (stack.new ≡ eval_any (m.plain_any_code code.entry.now) ++ stack.old) }
 {
     match code {
@@ -54,7 +56,11 @@ pub fn push_any<'a>(stack: &mut Stack<Work<'a>>, code: &'a Option<Boxed<Code>>) 
 }
 
 /// Puts one part and the finishing item on top.
-fn push_one<'a>(stack: &mut Stack<Work<'a>>, part: &'a Code, code: &'a Code) -> Result<(), OutOfMemory>
+fn push_one<'a>(
+    stack: &mut Stack<Work<'a>>,
+    part: &'a Code,
+    code: &'a Code,
+) -> Result<(), OutOfMemory>
     ensures { OnOk result (stack.new ≡ w.Eval (plain_code part.entry.now) ∷ w.Finish (plain_code code.entry.now) ∷ stack.old) }
 {
     push_finish(stack, code)?;
@@ -62,7 +68,12 @@ fn push_one<'a>(stack: &mut Stack<Work<'a>>, part: &'a Code, code: &'a Code) -> 
 }
 
 /// Puts two parts and the finishing item on top.
-fn push_two<'a>(stack: &mut Stack<Work<'a>>, first: &'a Code, second: &'a Code, code: &'a Code) -> Result<(), OutOfMemory>
+fn push_two<'a>(
+    stack: &mut Stack<Work<'a>>,
+    first: &'a Code,
+    second: &'a Code,
+    code: &'a Code,
+) -> Result<(), OutOfMemory>
     ensures { OnOk result (stack.new ≡ w.Eval (plain_code first.entry.now) ∷ w.Eval (plain_code second.entry.now) ∷ w.Finish (plain_code code.entry.now) ∷ stack.old) }
 {
     push_one(stack, second, code)?;
@@ -70,7 +81,11 @@ fn push_two<'a>(stack: &mut Stack<Work<'a>>, first: &'a Code, second: &'a Code, 
 }
 
 /// Puts these parts and the finishing item on top.
-fn push_all<'a>(stack: &mut Stack<Work<'a>>, codes: &'a [Code], code: &'a Code) -> Result<(), OutOfMemory>
+fn push_all<'a>(
+    stack: &mut Stack<Work<'a>>,
+    codes: &'a [Code],
+    code: &'a Code,
+) -> Result<(), OutOfMemory>
     ensures { OnOk result (stack.new ≡ evals (plain_codes codes.entry.now) ++ w.Finish (plain_code code.entry.now) ∷ stack.old) }
 {
     push_finish(stack, code)?;
@@ -78,7 +93,11 @@ fn push_all<'a>(stack: &mut Stack<Work<'a>>, codes: &'a [Code], code: &'a Code) 
 }
 
 /// Puts a part, if there is one, and the finishing item on top.
-fn push_maybe<'a>(stack: &mut Stack<Work<'a>>, part: &'a Option<Boxed<Code>>, code: &'a Code) -> Result<(), OutOfMemory>
+fn push_maybe<'a>(
+    stack: &mut Stack<Work<'a>>,
+    part: &'a Option<Boxed<Code>>,
+    code: &'a Code,
+) -> Result<(), OutOfMemory>
     ensures { OnOk result (stack.new ≡ eval_any (m.plain_any_code part.entry.now) ++ w.Finish (plain_code code.entry.now) ∷ stack.old) }
 {
     push_finish(stack, code)?;
@@ -86,7 +105,12 @@ fn push_maybe<'a>(stack: &mut Stack<Work<'a>>, part: &'a Option<Boxed<Code>>, co
 }
 
 /// Puts a part, if there is one, then others, and the finishing item on top.
-fn push_maybe_all<'a>(stack: &mut Stack<Work<'a>>, part: &'a Option<Boxed<Code>>, codes: &'a [Code], code: &'a Code) -> Result<(), OutOfMemory>
+fn push_maybe_all<'a>(
+    stack: &mut Stack<Work<'a>>,
+    part: &'a Option<Boxed<Code>>,
+    codes: &'a [Code],
+    code: &'a Code,
+) -> Result<(), OutOfMemory>
     ensures { OnOk result (stack.new ≡ eval_any (m.plain_any_code part.entry.now) ++ (evals (plain_codes codes.entry.now) ++ w.Finish (plain_code code.entry.now) ∷ stack.old)) }
 {
     push_all(stack, codes, code)?;
@@ -113,7 +137,11 @@ fn push_old_target<'a>(stack: &mut Stack<Work<'a>>, target: &'a Code) -> Result<
     }
 }
 
-fn push_assign_target<'a>(stack: &mut Stack<Work<'a>>, op: Option<BinaryOp>, target: &'a Code) -> Result<(), OutOfMemory>
+fn push_assign_target<'a>(
+    stack: &mut Stack<Work<'a>>,
+    op: Option<BinaryOp>,
+    target: &'a Code,
+) -> Result<(), OutOfMemory>
     ensures { OnOk result (stack.new ≡ assign_target op (plain_code target.entry.now) ++ stack.old) }
 {
     match op {
@@ -123,7 +151,10 @@ fn push_assign_target<'a>(stack: &mut Stack<Work<'a>>, op: Option<BinaryOp>, tar
 }
 
 /// Puts the parts of a target on top.
-pub fn push_target_parts<'a>(stack: &mut Stack<Work<'a>>, target: &'a Code) -> Result<(), OutOfMemory>
+pub fn push_target_parts<'a>(
+    stack: &mut Stack<Work<'a>>,
+    target: &'a Code,
+) -> Result<(), OutOfMemory>
     ensures { OnOk result (stack.new ≡ target_parts (plain_code target.entry.now) ++ stack.old) }
 {
     match target {
@@ -137,7 +168,12 @@ pub fn push_target_parts<'a>(stack: &mut Stack<Work<'a>>, target: &'a Code) -> R
 }
 
 /// Puts the condition of a loop and the loop itself on top, or where it has no condition its body.
-fn push_for_turn<'a>(stack: &mut Stack<Work<'a>>, code: &'a Code, cond: &'a Option<Boxed<Code>>, body: &'a Code) -> Result<(), OutOfMemory>
+fn push_for_turn<'a>(
+    stack: &mut Stack<Work<'a>>,
+    code: &'a Code,
+    cond: &'a Option<Boxed<Code>>,
+    body: &'a Code,
+) -> Result<(), OutOfMemory>
     ensures { OnOk result (stack.new ≡ for_turn (plain_code code.entry.now) (m.plain_any_code cond.entry.now) (plain_code body.entry.now) ++ stack.old) }
 {
     match cond {
@@ -150,7 +186,12 @@ fn push_for_turn<'a>(stack: &mut Stack<Work<'a>>, code: &'a Code, cond: &'a Opti
 }
 
 /// Puts the parts of a creation of an array and its finishing item on top.
-fn push_new_array<'a>(stack: &mut Stack<Work<'a>>, dims: &'a Items<Code>, init: &'a Option<Items<Code>>, code: &'a Code) -> Result<(), OutOfMemory>
+fn push_new_array<'a>(
+    stack: &mut Stack<Work<'a>>,
+    dims: &'a Items<Code>,
+    init: &'a Option<Items<Code>>,
+    code: &'a Code,
+) -> Result<(), OutOfMemory>
     ensures { OnOk result (stack.new ≡ new_array_parts (plain_codes dims.entry.now) (m.plain_any_codes init.entry.now) ++ w.Finish (plain_code code.entry.now) ∷ stack.old) }
 {
     match init {
@@ -160,7 +201,13 @@ fn push_new_array<'a>(stack: &mut Stack<Work<'a>>, dims: &'a Items<Code>, init: 
 }
 
 /// Puts the target, the value and the finishing item of an assignment on top.
-fn push_assign<'a>(stack: &mut Stack<Work<'a>>, target: &'a Code, op: Option<BinaryOp>, value: &'a Code, code: &'a Code) -> Result<(), OutOfMemory>
+fn push_assign<'a>(
+    stack: &mut Stack<Work<'a>>,
+    target: &'a Code,
+    op: Option<BinaryOp>,
+    value: &'a Code,
+    code: &'a Code,
+) -> Result<(), OutOfMemory>
     ensures { OnOk result (stack.new ≡ assign_target op (plain_code target.entry.now) ++ w.Eval (plain_code value.entry.now) ∷ w.Finish (plain_code code.entry.now) ∷ stack.old) }
 {
     push_one(stack, value, code)?;
@@ -168,7 +215,11 @@ fn push_assign<'a>(stack: &mut Stack<Work<'a>>, target: &'a Code, op: Option<Bin
 }
 
 /// Puts the target and the finishing item of a step on top.
-fn push_step<'a>(stack: &mut Stack<Work<'a>>, target: &'a Code, code: &'a Code) -> Result<(), OutOfMemory>
+fn push_step<'a>(
+    stack: &mut Stack<Work<'a>>,
+    target: &'a Code,
+    code: &'a Code,
+) -> Result<(), OutOfMemory>
     ensures { OnOk result (stack.new ≡ old_target (plain_code target.entry.now) ++ w.Finish (plain_code code.entry.now) ∷ stack.old) }
 {
     push_finish(stack, code)?;
@@ -176,7 +227,13 @@ fn push_step<'a>(stack: &mut Stack<Work<'a>>, target: &'a Code, code: &'a Code) 
 }
 
 /// Puts what a `for` begins with on top.
-fn push_for<'a>(stack: &mut Stack<Work<'a>>, first: &'a [Code], code: &'a Code, cond: &'a Option<Boxed<Code>>, body: &'a Code) -> Result<(), OutOfMemory>
+fn push_for<'a>(
+    stack: &mut Stack<Work<'a>>,
+    first: &'a [Code],
+    code: &'a Code,
+    cond: &'a Option<Boxed<Code>>,
+    body: &'a Code,
+) -> Result<(), OutOfMemory>
     ensures { OnOk result (stack.new ≡ evals (plain_codes first.entry.now) ++ (for_turn (plain_code code.entry.now) (m.plain_any_code cond.entry.now) (plain_code body.entry.now) ++ stack.old)) }
 {
     push_for_turn(stack, code, cond, body)?;
@@ -184,7 +241,11 @@ fn push_for<'a>(stack: &mut Stack<Work<'a>>, first: &'a [Code], code: &'a Code, 
 }
 
 /// Puts the body of a `do` on top, and what follows it.
-fn push_do<'a>(stack: &mut Stack<Work<'a>>, body: &'a Code, code: &'a Code) -> Result<(), OutOfMemory>
+fn push_do<'a>(
+    stack: &mut Stack<Work<'a>>,
+    body: &'a Code,
+    code: &'a Code,
+) -> Result<(), OutOfMemory>
     ensures { OnOk result (stack.new ≡ w.Eval (plain_code body.entry.now) ∷ w.AfterBody (plain_code code.entry.now) ∷ stack.old) }
 {
     push_after_body(stack, code)?;
@@ -208,7 +269,13 @@ pub fn push_parts<'a>(stack: &mut Stack<Work<'a>>, code: &'a Code) -> Result<(),
     ensures { OnOk result (stack.new ≡ parts (plain_code code.entry.now) ++ stack.old) }
 {
     match code {
-        Code::Assign { target, op, value } => push_assign(stack, target.get(), *op, value.get(), code),
+        Code::Assign { target, op, value } => push_assign(
+            stack,
+            target.get(),
+            *op,
+            value.get(),
+            code,
+        ),
         Code::Cond { cond, .. } => push_one(stack, cond.get(), code),
         Code::AndAlso { left, .. } => push_one(stack, left.get(), code),
         Code::OrElse { left, .. } => push_one(stack, left.get(), code),
@@ -235,7 +302,12 @@ pub fn push_parts<'a>(stack: &mut Stack<Work<'a>>, code: &'a Code) -> Result<(),
         Code::While { cond, .. } => push_one(stack, cond.get(), code),
         Code::If { cond, .. } => push_one(stack, cond.get(), code),
         Code::Eval { value } => push_one(stack, value.get(), code),
-        Code::For { first, cond, body, .. } => push_for(stack, first.as_slice(), code, cond, body.get()),
+        Code::For {
+            first,
+            cond,
+            body,
+            ..
+        } => push_for(stack, first.as_slice(), code, cond, body.get()),
         Code::Switch { value, .. } => push_one(stack, value.get(), code),
         Code::Labeled { body, .. } => push_one(stack, body.get(), code),
         Code::Break { label } => push_break(stack, *label),
@@ -254,7 +326,12 @@ pub fn push_turn<'a>(stack: &mut Stack<Work<'a>>, code: &'a Code) -> Result<(), 
     match code {
         Code::While { cond, .. } => push_one(stack, cond.get(), code),
         Code::Do { cond, .. } => push_one(stack, cond.get(), code),
-        Code::For { cond, update, body, .. } => push_for(stack, update.as_slice(), code, cond, body.get()),
+        Code::For {
+            cond,
+            update,
+            body,
+            ..
+        } => push_for(stack, update.as_slice(), code, cond, body.get()),
         _ => Ok(()),
     }
 }

@@ -11,7 +11,10 @@ ghost use Rattle.jr_machine_defs.specs.Follows.{Follows};
 use jr_base::{Boxed, DeclId, OutOfMemory, Units};
 use jr_core::{Body, Code};
 use jr_machine_defs::{Cell, Fault, Given, Outcome, Placed, Slot, State, Value};
-use jr_machine_ops::{Program, assign, default_of, drop_receiver, give, int_of_count, place_in, push, push_value, raise, set_local, settle, value_of};
+use jr_machine_ops::{
+    Program, assign, default_of, drop_receiver, give, int_of_count, place_in, push, push_value,
+    raise, set_local, settle, value_of,
+};
 use jr_ty::Ty;
 use std::alloc::Global;
 
@@ -89,7 +92,9 @@ pub fn length_of<'a>(heap: &[Cell<'a>], array: &Value<'a>) -> Outcome<'a>
     match array {
         Value::Null => Outcome::Throws(Fault::NullPointer),
         Value::Ref(at) => match heap.get(*at) {
-            Some(Cell::Array { items, .. }) => Outcome::Gives(Value::Int(int_of_count(items.len()))),
+            Some(Cell::Array { items, .. }) => Outcome::Gives(Value::Int(int_of_count(
+                items.len(),
+            ))),
             Some(Cell::Object { .. }) | Some(Cell::Text { .. }) | None => Outcome::Unfit,
         },
         _ => Outcome::Unfit,
@@ -104,7 +109,11 @@ fn hole(alloc: Global) -> Cell<'static> {
 }
 
 /// An object with a field set.
-fn with_field_set<'a>(cell: Cell<'a>, field: DeclId, value: Value<'a>) -> Result<Option<Cell<'a>>, OutOfMemory>
+fn with_field_set<'a>(
+    cell: Cell<'a>,
+    field: DeclId,
+    value: Value<'a>,
+) -> Result<Option<Cell<'a>>, OutOfMemory>
     ensures { IfOk result (λ set. set ≡ with_field_set field value.entry (Some cell.entry)) }
 {
     match cell {
@@ -140,7 +149,13 @@ fn with_item_set<'a>(cell: Cell<'a>, place: usize, value: Value<'a>) -> Option<C
 }
 
 /// Whether the value may stand in an array of such components (JLS 10.10).
-fn fits_item<'a>(program: &Program<'a>, alloc: Global, heap: &[Cell<'a>], item: &Ty, value: &Value<'a>) -> Result<bool, OutOfMemory>
+fn fits_item<'a>(
+    program: &Program<'a>,
+    alloc: Global,
+    heap: &[Cell<'a>],
+    item: &Ty,
+    value: &Value<'a>,
+) -> Result<bool, OutOfMemory>
     ensures { IfOk result (λ answer. answer ≡ fits_item program.now heap.now (plain_ty item.now) value.now) }
 {
     match value {
@@ -150,7 +165,14 @@ fn fits_item<'a>(program: &Program<'a>, alloc: Global, heap: &[Cell<'a>], item: 
 }
 
 /// Where the value goes in an array; the bounds and the store are checked.
-fn item_place<'a>(program: &Program<'a>, alloc: Global, heap: &[Cell<'a>], array: usize, index: i32, value: &Value<'a>) -> Result<Placed, OutOfMemory>
+fn item_place<'a>(
+    program: &Program<'a>,
+    alloc: Global,
+    heap: &[Cell<'a>],
+    array: usize,
+    index: i32,
+    value: &Value<'a>,
+) -> Result<Placed, OutOfMemory>
     ensures { IfOk result (λ place. place ≡ item_place program.now heap.now (slice_get heap.now array) index value.now) }
 {
     match heap.get(array) {
@@ -170,7 +192,14 @@ fn item_place<'a>(program: &Program<'a>, alloc: Global, heap: &[Cell<'a>], array
 
 /// Stores into a field of an object; null is checked.
 #[tactic(auto, using(crate::proofs::Setting::set_twice))]
-fn set_field<'a>(state: &mut State<'a>, alloc: Global, field: DeclId, value: Value<'a>, gives: Value<'a>, object: Value<'a>) -> Result<bool, OutOfMemory>
+fn set_field<'a>(
+    state: &mut State<'a>,
+    alloc: Global,
+    field: DeclId,
+    value: Value<'a>,
+    gives: Value<'a>,
+    object: Value<'a>,
+) -> Result<bool, OutOfMemory>
     ensures { IfOk result (λ went. Follows (set_field field value.entry gives.entry object.entry state.old) went state.old state.new) }
 {
     match object {
@@ -193,7 +222,14 @@ fn set_field<'a>(state: &mut State<'a>, alloc: Global, field: DeclId, value: Val
 }
 
 #[tactic(auto, using(crate::proofs::Setting::set_twice))]
-fn place<'a>(state: &mut State<'a>, alloc: Global, goes: Placed, array: usize, value: Value<'a>, gives: Value<'a>) -> Result<bool, OutOfMemory>
+fn place<'a>(
+    state: &mut State<'a>,
+    alloc: Global,
+    goes: Placed,
+    array: usize,
+    value: Value<'a>,
+    gives: Value<'a>,
+) -> Result<bool, OutOfMemory>
     ensures { IfOk result (λ went. Follows (placed goes array value.entry gives.entry state.old) went state.old state.new) }
 {
     match goes {
@@ -216,7 +252,15 @@ fn place<'a>(state: &mut State<'a>, alloc: Global, goes: Placed, array: usize, v
 }
 
 /// Stores into a component of an array; null, the bounds and the store are checked.
-fn set_item<'a>(state: &mut State<'a>, alloc: Global, program: &Program<'a>, array: Value<'a>, index: Value<'a>, value: Value<'a>, gives: Value<'a>) -> Result<bool, OutOfMemory>
+fn set_item<'a>(
+    state: &mut State<'a>,
+    alloc: Global,
+    program: &Program<'a>,
+    array: Value<'a>,
+    index: Value<'a>,
+    value: Value<'a>,
+    gives: Value<'a>,
+) -> Result<bool, OutOfMemory>
     ensures { IfOk result (λ went. Follows (set_item program.now array.entry index.entry value.entry gives.entry state.old) went state.old state.new) }
 {
     match (array, index) {
@@ -229,14 +273,27 @@ fn set_item<'a>(state: &mut State<'a>, alloc: Global, program: &Program<'a>, arr
     }
 }
 
-fn set_static<'a>(state: &mut State<'a>, field: DeclId, value: Value<'a>, gives: Value<'a>) -> Result<bool, OutOfMemory>
+fn set_static<'a>(
+    state: &mut State<'a>,
+    field: DeclId,
+    value: Value<'a>,
+    gives: Value<'a>,
+) -> Result<bool, OutOfMemory>
     ensures { IfOk result (λ went. Follows (set_static field value.entry gives.entry state.old) went state.old state.new) }
 {
     assign(&mut state.statics, field, value)?;
     push(state, gives)
 }
 
-fn store_field<'a>(state: &mut State<'a>, alloc: Global, body: &Body, on: &Option<Boxed<Code>>, field: DeclId, value: Value<'a>, gives: Value<'a>) -> Result<bool, OutOfMemory>
+fn store_field<'a>(
+    state: &mut State<'a>,
+    alloc: Global,
+    body: &Body,
+    on: &Option<Boxed<Code>>,
+    field: DeclId,
+    value: Value<'a>,
+    gives: Value<'a>,
+) -> Result<bool, OutOfMemory>
     ensures { IfOk result (λ went. Follows (store_field (Some (plain_body body.now)) (m.plain_any_code on.now) field value.entry gives.entry state.old) went state.old state.new) }
 {
     if body.is_static {
@@ -251,7 +308,13 @@ fn store_field<'a>(state: &mut State<'a>, alloc: Global, body: &Body, on: &Optio
     set_field(state, alloc, field, value, gives, object)
 }
 
-fn store_item<'a>(state: &mut State<'a>, alloc: Global, program: &Program<'a>, value: Value<'a>, gives: Value<'a>) -> Result<bool, OutOfMemory>
+fn store_item<'a>(
+    state: &mut State<'a>,
+    alloc: Global,
+    program: &Program<'a>,
+    value: Value<'a>,
+    gives: Value<'a>,
+) -> Result<bool, OutOfMemory>
     ensures { IfOk result (λ went. Follows (with_two state.old.frame.values state.old (λ array index s. set_item program.now array index value.entry gives.entry s)) went state.old state.new) }
 {
     let Some(index) = state.frame.values.pop() else {
@@ -264,7 +327,14 @@ fn store_item<'a>(state: &mut State<'a>, alloc: Global, program: &Program<'a>, v
 }
 
 /// Stores a value in a target, and pushes what the assignment gives (JLS 15.26).
-pub fn store<'a>(state: &mut State<'a>, alloc: Global, program: &Program<'a>, target: &Code, value: Value<'a>, gives: Value<'a>) -> Result<bool, OutOfMemory>
+pub fn store<'a>(
+    state: &mut State<'a>,
+    alloc: Global,
+    program: &Program<'a>,
+    target: &Code,
+    value: Value<'a>,
+    gives: Value<'a>,
+) -> Result<bool, OutOfMemory>
     ensures { IfOk result (λ went. Follows (store program.now (plain_code target.now) value.entry gives.entry state.old) went state.old state.new) }
 {
     match target {
@@ -281,7 +351,12 @@ pub fn store<'a>(state: &mut State<'a>, alloc: Global, program: &Program<'a>, ta
     }
 }
 
-fn read_instance<'a>(state: &mut State<'a>, alloc: Global, body: &Body, field: DeclId) -> Result<bool, OutOfMemory>
+fn read_instance<'a>(
+    state: &mut State<'a>,
+    alloc: Global,
+    body: &Body,
+    field: DeclId,
+) -> Result<bool, OutOfMemory>
     ensures { IfOk result (λ went. Follows (with_one state.old.frame.values state.old (λ object s. settled (field_of (plain_body body.now) field s.heap object) s)) went state.old state.new) }
 {
     let Some(object) = state.frame.values.pop() else {
@@ -292,7 +367,13 @@ fn read_instance<'a>(state: &mut State<'a>, alloc: Global, body: &Body, field: D
 }
 
 /// Reads a field (JLS 15.11).
-pub fn read_field<'a>(state: &mut State<'a>, alloc: Global, program: &Program<'a>, on: &Option<Boxed<Code>>, field: DeclId) -> Result<bool, OutOfMemory>
+pub fn read_field<'a>(
+    state: &mut State<'a>,
+    alloc: Global,
+    program: &Program<'a>,
+    on: &Option<Boxed<Code>>,
+    field: DeclId,
+) -> Result<bool, OutOfMemory>
     ensures { IfOk result (λ went. Follows (read_field (body_in program.now field) (m.plain_any_code on.now) field state.old) went state.old state.new) }
 {
     let Some(body) = program.body(field) else {
@@ -322,7 +403,12 @@ pub fn read_item<'a>(state: &mut State<'a>, alloc: Global) -> Result<bool, OutOf
     settle(state, alloc, outcome)
 }
 
-fn read_old_field<'a>(state: &mut State<'a>, alloc: Global, body: &Body, field: DeclId) -> Result<bool, OutOfMemory>
+fn read_old_field<'a>(
+    state: &mut State<'a>,
+    alloc: Global,
+    body: &Body,
+    field: DeclId,
+) -> Result<bool, OutOfMemory>
     ensures { IfOk result (λ went. Follows (read_old_field (Some (plain_body body.now)) field state.old) went state.old state.new) }
 {
     if body.is_static {
@@ -363,7 +449,12 @@ fn read_old_item<'a>(state: &mut State<'a>, alloc: Global) -> Result<bool, OutOf
 }
 
 /// Reads the old value of a target, after the checks, and keeps the target's own operands (JLS 15.26.2).
-pub fn read_old<'a>(state: &mut State<'a>, alloc: Global, program: &Program<'a>, target: &Code) -> Result<bool, OutOfMemory>
+pub fn read_old<'a>(
+    state: &mut State<'a>,
+    alloc: Global,
+    program: &Program<'a>,
+    target: &Code,
+) -> Result<bool, OutOfMemory>
     ensures { IfOk result (λ went. Follows (read_old program.now (plain_code target.now) state.old) went state.old state.new) }
 {
     match target {

@@ -82,7 +82,12 @@ pub fn binary(alloc: Global, left: Code, op: BinaryOp, right: Code) -> Result<Co
 }
 
 /// `target op= value`
-pub fn assign(alloc: Global, target: Code, op: Option<BinaryOp>, value: Code) -> Result<Code, OutOfMemory> {
+pub fn assign(
+    alloc: Global,
+    target: Code,
+    op: Option<BinaryOp>,
+    value: Code,
+) -> Result<Code, OutOfMemory> {
     Ok(Code::Assign {
         target: boxed(alloc, target)?,
         op,
@@ -180,7 +185,11 @@ fn body(alloc: Global, node: u32, code: Items<Code>) -> Body {
 
 /// The method `f`.
 fn shows(alloc: Global) -> Result<Body, OutOfMemory> {
-    let mut shows = body(alloc, 4, two(alloc, print(alloc, var(100))?, give(alloc, var(100))?)?);
+    let mut shows = body(
+        alloc,
+        4,
+        two(alloc, print(alloc, var(100))?, give(alloc, var(100))?)?,
+    );
     shows.params.push(local(100))?;
     Ok(shows)
 }
@@ -222,7 +231,12 @@ fn classes(alloc: Global) -> Result<Items<Class>, OutOfMemory> {
 }
 
 /// The program with this method `main`, this static initializer and this method `g`.
-pub fn core_of(alloc: Global, main: Items<Code>, first: Items<Code>, second: Items<Code>) -> Result<Core, OutOfMemory> {
+pub fn core_of(
+    alloc: Global,
+    main: Items<Code>,
+    first: Items<Code>,
+    second: Items<Code>,
+) -> Result<Core, OutOfMemory> {
     let mut bodies = Items::new(alloc);
     bodies.push(printing(alloc))?;
     bodies.push(body(alloc, 2, main))?;
@@ -255,5 +269,8 @@ pub fn printed(ran: &Ran, ascii: &str) -> bool {
     if units.len() != bytes.len() {
         return false;
     }
-    units.iter().zip(bytes).all(|(unit, byte)| *unit == u16::from(*byte))
+    units
+        .iter()
+        .zip(bytes)
+        .all(|(unit, byte)| *unit == u16::from(*byte))
 }

@@ -1,5 +1,8 @@
 // What stands beside each program is what `java` 17 prints of it.
-use crate::code::{assign, binary, boxed, class_at, core_of, decl_at, declare, eval, give, index, int, one, print, printed, program_class, run_main, run_second, shown, text, two, var};
+use crate::code::{
+    assign, binary, boxed, class_at, core_of, decl_at, declare, eval, give, index, int, one, print,
+    printed, program_class, run_main, run_second, shown, text, two, var,
+};
 use jr_base::{Boxed, Items, OutOfMemory};
 use jr_core::{BinaryOp, Code, Group, StepOp, SwitchLabel};
 use jr_machine::run;
@@ -25,7 +28,12 @@ impl From<OutOfMemory> for Fail {
 }
 
 /// A program that prints a value and ends.
-fn prints_value(rt: &impl Abort, alloc: Global, value: Code, ascii: &str) -> Result<(), OutOfMemory> {
+fn prints_value(
+    rt: &impl Abort,
+    alloc: Global,
+    value: Code,
+    ascii: &str,
+) -> Result<(), OutOfMemory> {
     let ran = run_main(alloc, one(alloc, print(alloc, value)?)?)?;
     assert!(rt; printed(&ran, ascii), "{ascii}");
     assert!(rt; ran.end == RunEnd::Ended);
@@ -49,9 +57,19 @@ fn operators_wrap_and_mask(rt: HostRuntime) -> Result<(), Fail> {
 #[test]
 fn strings_are_put_together(rt: HostRuntime) -> Result<(), Fail> {
     let alloc = rt.alloc();
-    let null = binary(alloc, text(alloc, "a")?, BinaryOp::Add, Code::Lit { value: None })?;
+    let null = binary(
+        alloc,
+        text(alloc, "a")?,
+        BinaryOp::Add,
+        Code::Lit { value: None },
+    )?;
     prints_value(&rt, alloc, null, "anull")?;
-    let same = binary(alloc, text(alloc, "ab")?, BinaryOp::Equal, text(alloc, "ab")?)?;
+    let same = binary(
+        alloc,
+        text(alloc, "ab")?,
+        BinaryOp::Equal,
+        text(alloc, "ab")?,
+    )?;
     prints_value(&rt, alloc, same, "true")?;
     let made = binary(alloc, text(alloc, "a")?, BinaryOp::Add, text(alloc, "b")?)?;
     let other = binary(alloc, made, BinaryOp::Equal, text(alloc, "ab")?)?;
@@ -65,7 +83,12 @@ fn operands_go_from_left_to_right(rt: HostRuntime) -> Result<(), Fail> {
     let alloc = rt.alloc();
     let left = shown(alloc, int(1))?;
     let right = shown(alloc, int(2))?;
-    prints_value(&rt, alloc, binary(alloc, left, BinaryOp::Subtract, right)?, "12-1")?;
+    prints_value(
+        &rt,
+        alloc,
+        binary(alloc, left, BinaryOp::Subtract, right)?,
+        "12-1",
+    )?;
     Ok(())
 }
 
@@ -75,7 +98,10 @@ fn the_old_value_is_read_first(rt: HostRuntime) -> Result<(), Fail> {
     let alloc = rt.alloc();
     let inner = assign(alloc, var(1), None, int(7))?;
     let outer = assign(alloc, var(1), Some(BinaryOp::Add), inner)?;
-    let ran = run_main(alloc, two(alloc, declare(alloc, 1, int(5))?, print(alloc, outer)?)?)?;
+    let ran = run_main(
+        alloc,
+        two(alloc, declare(alloc, 1, int(5))?, print(alloc, outer)?)?,
+    )?;
     assert!(rt; printed(&ran, "12"));
     Ok(())
 }
@@ -89,7 +115,10 @@ fn a_step_gives_the_old_value(rt: HostRuntime) -> Result<(), Fail> {
         op: StepOp::Increment,
     };
     let sum = binary(alloc, step, BinaryOp::Add, var(1))?;
-    let ran = run_main(alloc, two(alloc, declare(alloc, 1, int(1))?, print(alloc, sum)?)?)?;
+    let ran = run_main(
+        alloc,
+        two(alloc, declare(alloc, 1, int(1))?, print(alloc, sum)?)?,
+    )?;
     assert!(rt; printed(&ran, "3"));
     Ok(())
 }
@@ -135,7 +164,12 @@ fn division_by_zero_is_thrown(rt: HostRuntime) -> Result<(), Fail> {
 fn a_throw_out_of_an_initialization_ends_the_run(rt: HostRuntime) -> Result<(), Fail> {
     let alloc = rt.alloc();
     let fails = eval(alloc, binary(alloc, int(1), BinaryOp::Divide, int(0))?)?;
-    let core = core_of(alloc, one(alloc, print(alloc, int(7))?)?, one(alloc, fails)?, Items::new(alloc))?;
+    let core = core_of(
+        alloc,
+        one(alloc, print(alloc, int(7))?)?,
+        one(alloc, fails)?,
+        Items::new(alloc),
+    )?;
     let ran = run(alloc, &core, decl_at(2, 2), 1000)?;
     assert!(rt; printed(&ran, ""));
     assert!(rt; ran.end == RunEnd::InitFailed(program_class()));

@@ -19,5 +19,5 @@ returns-in-Call c =
     let view = ap plain_code c.in-Call.is ∙ call_view c.in-Call.receiver c.in-Call.is_super c.in-Call.method c.in-Call.args in
     let P : Code → Type 0 = λ x. IfOk c.finish_call.result (λ went. Follows (finishes core x s) went s new) in
     let Q : List declared_code.Code → Type 0 = λ a. IfOk c.finish_call.result (λ went.
-        Follows (with_some (codes_count (plain_codes a)) [] s.frame.values s (calls core (body_in core c.in-Call.method) (plain_any_code c.in-Call.receiver) c.in-Call.is_super)) went s new) in
+    Follows (with_some (codes_count (plain_codes a)) [] s.frame.values s (calls core (body_in core c.in-Call.method) (plain_any_code c.in-Call.receiver) c.in-Call.is_super)) went s new) in
     subst P (sym view) (subst Q c.as_slice.ensures c.finish_call.ensures)
