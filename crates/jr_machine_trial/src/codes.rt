@@ -11,7 +11,7 @@ use std::alloc::Global;
 /// The units of a string, which are written as numbers.
 pub fn text(alloc: Global, line: &Line<'_>) -> Result<Code, ReadError> {
     let mut units = Vec::new(alloc);
-    for word in line.words_from(1) {
+    for word in line.words().iter().skip(1) {
         match word.parse::<u16>() {
             Ok(unit) => units.push(unit)?,
             Err(_) => return Err(ReadError::BadLine),

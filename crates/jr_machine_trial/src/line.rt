@@ -46,12 +46,9 @@ impl<'t> Line<'t> {
         }
     }
 
-    /// The words from this place on.
-    pub fn words_from(&self, at: usize) -> &[&'t str] {
-        match self.words.get(at..) {
-            Some(words) => words,
-            None => &[],
-        }
+    /// All words.
+    pub fn words(&self) -> &[&'t str] {
+        &self.words
     }
 
     pub fn decl(&self, at: usize) -> Option<DeclId> {
