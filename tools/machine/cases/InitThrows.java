@@ -9,10 +9,6 @@ class InitThrows {
 
     public static void main(String[] args) {
         System.out.println("before");
-        try {
-            System.out.println(Failing.n);
-        } finally {
-            System.out.print("");
-        }
+        System.out.println(Failing.n);
     }
 }
