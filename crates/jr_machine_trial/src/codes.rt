@@ -53,10 +53,18 @@ fn bare(word: &str) -> Option<Code> {
 fn named(line: &Line<'_>) -> Option<Code> {
     let decl = line.decl(1)?;
     match line.word(0) {
-        "this" => Some(Code::This { class: line.class(1)? }),
+        "this" => Some(Code::This {
+            class: line.class(1)?,
+        }),
         "var" => Some(Code::Var { local: decl }),
-        "field" => Some(Code::FieldAt { on: None, field: decl }),
-        "declare" => Some(Code::Local { local: decl, init: None }),
+        "field" => Some(Code::FieldAt {
+            on: None,
+            field: decl,
+        }),
+        "declare" => Some(Code::Local {
+            local: decl,
+            init: None,
+        }),
         "break_to" => Some(Code::Break { label: Some(decl) }),
         "continue_to" => Some(Code::Continue { label: Some(decl) }),
         _ => None,
@@ -77,15 +85,33 @@ pub fn leaf(line: &Line<'_>) -> Option<Code> {
 /// Code with one operand.
 pub fn of_one(line: &Line<'_>, value: Boxed<Code>) -> Option<Code> {
     match line.word(0) {
-        "unary" => Some(Code::Unary { op: unary_op(line.word(1))?, value }),
-        "pre" => Some(Code::PreStep { op: step_op(line.word(1))?, target: value }),
-        "post" => Some(Code::PostStep { target: value, op: step_op(line.word(1))? }),
-        "field_of" => Some(Code::FieldAt { on: Some(value), field: line.decl(1)? }),
+        "unary" => Some(Code::Unary {
+            op: unary_op(line.word(1))?,
+            value,
+        }),
+        "pre" => Some(Code::PreStep {
+            op: step_op(line.word(1))?,
+            target: value,
+        }),
+        "post" => Some(Code::PostStep {
+            target: value,
+            op: step_op(line.word(1))?,
+        }),
+        "field_of" => Some(Code::FieldAt {
+            on: Some(value),
+            field: line.decl(1)?,
+        }),
         "length" => Some(Code::Length { array: value }),
         "show" => Some(Code::Show { value }),
-        "local" => Some(Code::Local { local: line.decl(1)?, init: Some(value) }),
+        "local" => Some(Code::Local {
+            local: line.decl(1)?,
+            init: Some(value),
+        }),
         "eval" => Some(Code::Eval { value }),
-        "labeled" => Some(Code::Labeled { label: line.decl(1)?, body: value }),
+        "labeled" => Some(Code::Labeled {
+            label: line.decl(1)?,
+            body: value,
+        }),
         "return_value" => Some(Code::Return { value: Some(value) }),
         "throw" => Some(Code::Throw { value }),
         _ => None,
@@ -95,24 +121,58 @@ pub fn of_one(line: &Line<'_>, value: Boxed<Code>) -> Option<Code> {
 /// Code with two operands, in the order of the text.
 pub fn of_two(line: &Line<'_>, left: Boxed<Code>, right: Boxed<Code>) -> Option<Code> {
     match line.word(0) {
-        "assign" => Some(Code::Assign { target: left, op: None, value: right }),
-        "compound" => Some(Code::Assign { target: left, op: Some(binary_op(line.word(1))?), value: right }),
+        "assign" => Some(Code::Assign {
+            target: left,
+            op: None,
+            value: right,
+        }),
+        "compound" => Some(Code::Assign {
+            target: left,
+            op: Some(binary_op(line.word(1))?),
+            value: right,
+        }),
         "and_also" => Some(Code::AndAlso { left, right }),
         "or_else" => Some(Code::OrElse { left, right }),
-        "binary" => Some(Code::Binary { left, op: binary_op(line.word(1))?, right }),
-        "index" => Some(Code::Index { array: left, at: right }),
-        "do" => Some(Code::Do { body: left, cond: right }),
-        "while" => Some(Code::While { cond: left, body: right }),
-        "if" => Some(Code::If { cond: left, yes: right, no: None }),
+        "binary" => Some(Code::Binary {
+            left,
+            op: binary_op(line.word(1))?,
+            right,
+        }),
+        "index" => Some(Code::Index {
+            array: left,
+            at: right,
+        }),
+        "do" => Some(Code::Do {
+            body: left,
+            cond: right,
+        }),
+        "while" => Some(Code::While {
+            cond: left,
+            body: right,
+        }),
+        "if" => Some(Code::If {
+            cond: left,
+            yes: right,
+            no: None,
+        }),
         _ => None,
     }
 }
 
 /// Code with three operands.
-pub fn of_three(line: &Line<'_>, cond: Boxed<Code>, yes: Boxed<Code>, no: Boxed<Code>) -> Option<Code> {
+pub fn of_three(
+    line: &Line<'_>,
+    cond: Boxed<Code>,
+    yes: Boxed<Code>,
+    no: Boxed<Code>,
+) -> Option<Code> {
     match line.word(0) {
         "cond" => Some(Code::Cond { cond, yes, no }),
-        "if_else" => Some(Code::If { cond, yes, no: Some(no) }),
+        "if_else" => Some(Code::If {
+            cond,
+            yes,
+            no: Some(no),
+        }),
         _ => None,
     }
 }
@@ -134,12 +194,34 @@ pub fn has_receiver(line: &Line<'_>) -> bool {
 /// Code with a list of operands, behind one more where there is one.
 pub fn of_list(line: &Line<'_>, first: Option<Boxed<Code>>, args: Items<Code>) -> Option<Code> {
     match line.word(0) {
-        "call" | "call_on" => Some(Code::Call { receiver: first, is_super: false, method: line.decl(2)?, args }),
-        "super_call" => Some(Code::Call { receiver: None, is_super: true, method: line.decl(2)?, args }),
-        "new" | "new_in" => Some(Code::New { outer: first, ctor: line.decl(2)?, args }),
+        "call" | "call_on" => Some(Code::Call {
+            receiver: first,
+            is_super: false,
+            method: line.decl(2)?,
+            args,
+        }),
+        "super_call" => Some(Code::Call {
+            receiver: None,
+            is_super: true,
+            method: line.decl(2)?,
+            args,
+        }),
+        "new" | "new_in" => Some(Code::New {
+            outer: first,
+            ctor: line.decl(2)?,
+            args,
+        }),
         "nest" => Some(Code::Nest { stmts: args }),
-        "this_ctor" => Some(Code::CtorCall { is_super: false, ctor: line.decl(2)?, args }),
-        "super_ctor" => Some(Code::CtorCall { is_super: true, ctor: line.decl(2)?, args }),
+        "this_ctor" => Some(Code::CtorCall {
+            is_super: false,
+            ctor: line.decl(2)?,
+            args,
+        }),
+        "super_ctor" => Some(Code::CtorCall {
+            is_super: true,
+            ctor: line.decl(2)?,
+            args,
+        }),
         _ => None,
     }
 }
@@ -147,8 +229,16 @@ pub fn of_list(line: &Line<'_>, first: Option<Boxed<Code>>, args: Items<Code>) -
 /// A new array of a type, of dimensions or of items.
 pub fn of_array(alloc: Global, line: &Line<'_>, ty: Ty, list: Items<Code>) -> Code {
     if line.word(0) == "array_of" {
-        Code::NewArray { ty, dims: Items::new(alloc), init: Some(list) }
+        Code::NewArray {
+            ty,
+            dims: Items::new(alloc),
+            init: Some(list),
+        }
     } else {
-        Code::NewArray { ty, dims: list, init: None }
+        Code::NewArray {
+            ty,
+            dims: list,
+            init: None,
+        }
     }
 }

@@ -48,8 +48,21 @@ impl Parts {
 
     /// The class of these parts.
     pub fn into_class(self, id: TypeId) -> Class {
-        let Parts { parent, faces, outer, members, found } = self;
-        Class { id, parent, faces, outer, members, found }
+        let Parts {
+            parent,
+            faces,
+            outer,
+            members,
+            found,
+        } = self;
+        Class {
+            id,
+            parent,
+            faces,
+            outer,
+            members,
+            found,
+        }
     }
 }
 

@@ -1,6 +1,8 @@
 // Reading of a core.
 
-use crate::codes::{has_receiver, leaf, of_array, of_list, of_one, of_three, of_two, of_typed, text};
+use crate::codes::{
+    has_receiver, leaf, of_array, of_list, of_one, of_three, of_two, of_typed, text,
+};
 use crate::error::ReadError;
 use crate::heads::{Parts, body};
 use crate::line::Line;
@@ -168,7 +170,12 @@ impl Reader {
             _ => None,
         };
         let first = take(alloc, &mut self.codes, line.count(1))?;
-        self.put(Some(Code::For { first, cond, update, body }))
+        self.put(Some(Code::For {
+            first,
+            cond,
+            update,
+            body,
+        }))
     }
 
     fn label(&mut self, line: &Line<'_>) -> Result<(), ReadError> {
@@ -219,7 +226,11 @@ impl Reader {
         };
         let catches = take(alloc, &mut self.catches, line.count(2))?;
         let body = take(alloc, &mut self.codes, line.count(1))?;
-        self.put(Some(Code::Try { body, catches, last }))
+        self.put(Some(Code::Try {
+            body,
+            catches,
+            last,
+        }))
     }
 
     fn read_class(&mut self, alloc: Global, line: &Line<'_>) -> Result<(), ReadError> {
@@ -258,7 +269,13 @@ impl Reader {
     fn read_start(&mut self, alloc: Global, line: &Line<'_>) -> Result<(), ReadError> {
         let name = String::from_str(alloc, line.word(1))?;
         match (line.decl(2), line.word(3).parse::<u64>()) {
-            (Some(method), Ok(steps)) => Ok(self.starts.push(Start { name, method, steps })?),
+            (Some(method), Ok(steps)) => Ok(
+                self.starts.push(Start {
+                    name,
+                    method,
+                    steps,
+                })?,
+            ),
             _ => Err(ReadError::BadLine),
         }
     }

@@ -36,10 +36,35 @@ pub enum Shape {
 /// The shape of the instruction of this name. All other names are leaves.
 pub fn shape_of(word: &str) -> Shape {
     match word {
-        "unary" | "pre" | "post" | "field_of" | "length" | "show" | "local" | "eval" | "labeled" | "return_value" | "throw" => Shape::One,
-        "assign" | "compound" | "and_also" | "or_else" | "binary" | "index" | "do" | "while" | "if" => Shape::Two,
+        "unary"
+        | "pre"
+        | "post"
+        | "field_of"
+        | "length"
+        | "show"
+        | "local"
+        | "eval"
+        | "labeled"
+        | "return_value"
+        | "throw" => Shape::One,
+        "assign"
+        | "compound"
+        | "and_also"
+        | "or_else"
+        | "binary"
+        | "index"
+        | "do"
+        | "while"
+        | "if" => Shape::Two,
         "cond" | "if_else" => Shape::Three,
-        "call" | "call_on" | "super_call" | "new" | "new_in" | "nest" | "this_ctor" | "super_ctor" => Shape::List,
+        "call"
+        | "call_on"
+        | "super_call"
+        | "new"
+        | "new_in"
+        | "nest"
+        | "this_ctor"
+        | "super_ctor" => Shape::List,
         "type" => Shape::Type,
         "cast" | "is_a" => Shape::Typed,
         "new_array" | "array_of" => Shape::Array,
