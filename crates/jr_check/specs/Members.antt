@@ -22,14 +22,14 @@ course_after c terminal.Int = record { returned = c.returned; sound = c.sound &&
 course_after c terminal.Return = record { returned = true; sound = c.sound && not c.returned; room = c.room }
 course_after c terminal.Plus = record { returned = c.returned; sound = c.sound && nat_lt 0 c.room; room = c.room - 1 }
 course_after c terminal.Semicolon = record { returned = c.returned; sound = c.sound; room = 252 }
-course_after c other = c
+course_after c _ = c
 
 abbrev pub member_of_body : Signature → Course → Member
 member_of_body signature c = record { signature = signature; is_sound = c.sound && c.returned }
 
 abbrev pub opened : Terminal → State
 opened terminal.Static = Header
-opened other = Members
+opened _ = Members
 
 abbrev pub named : Kind → State
 named (kind.Ident name) = Params (record { name = name; params = 0 })
@@ -38,7 +38,7 @@ named other = Header
 abbrev pub params_after : Signature → Terminal → State
 params_after signature terminal.Name = Params (record { name = signature.name; params = signature.params + 1 })
 params_after signature terminal.CloseParen = Body signature start
-params_after signature other = Params signature
+params_after signature _ = Params signature
 
 abbrev pub body_after : Signature → Course → Terminal → State
 body_after signature c terminal.CloseBrace = Ended (member_of_body signature c)

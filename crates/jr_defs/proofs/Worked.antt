@@ -65,7 +65,7 @@ abbrev class_a : d.TypeDecl
 class_a = d.Class [] (codes "A") None [] (d.more_members (d.Field [] int_type (s.DeclaratorOf (codes "x") 0 None ∷ []))
     (d.more_members (d.Method [] (outcome.Of int_type) (codes "f") (param_y ∷ []) [] (Some return_x)) (d.more_members (d.Nested class_b) d.no_members)))
 
-abbrev p : Rows
+abbrev pub p : Rows
 p = rows_from 0 0 0 (node is.Program (unit_labels lang (unit_labels (d.UnitOf None [] (class_a ∷ [])) none)) none)
 
 -- A is row 10, its field x row 16, its method f row 17, the use of x in f row 23; B is row 24, its superclass's name row 25, the sum in h

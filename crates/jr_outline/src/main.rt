@@ -8,15 +8,14 @@ mod outline;
 
 use outline::{Outline, outline_of};
 use std::alloc::Global;
-use std::io;
 use std::process::ExitCode;
-use std::str;
+use std::{io, str};
 
 fn print(rt: &HostRuntime, outline: &Outline) -> io::Result<()> {
     match outline {
         Outline::Rows(rows) => {
             for row in rows.as_slice() {
-                    let name = match str::from_utf8(row.name.bytes()) {
+                let name = match str::from_utf8(row.name.bytes()) {
                     Ok("") | Err(_) => "-",
                     Ok(name) => name,
                 };

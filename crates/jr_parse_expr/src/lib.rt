@@ -23,6 +23,8 @@ mod tests;
 
 pub use law::expressions_have_one_reading;
 pub use lead::Lead;
-pub use name::{Dotted, dims, dotted_name, element, name_after, type_use};
+pub use name::{
+    Dotted, dims, dims_behind, dotted_name, element, name_after, primitive_at, type_use, whole_name,
+};
 pub use read::{call_arguments, effect, expr, init, list};
 pub use start::{starts_effect, starts_expr};
