@@ -8,6 +8,7 @@ mod outline;
 
 use outline::{Outline, outline_of};
 use std::alloc::Global;
+use std::io::Read;
 use std::process::ExitCode;
 use std::{io, str};
 
@@ -29,20 +30,31 @@ fn print(rt: &HostRuntime, outline: &Outline) -> io::Result<()> {
     println!(rt; ".")
 }
 
-fn run(rt: &HostRuntime, alloc: Global) -> io::Result<()> {
+/// Whether all was printed.
+#[derive(Clone, Copy)]
+enum Ending {
+    Whole,
+    Broken,
+}
+
+fn run(rt: &HostRuntime, alloc: Global) -> io::Result<Ending> {
     let mut bytes = Vec::new(alloc);
-    rt.stdin().read_to_end(&mut bytes)?;
+    let mut input = rt.reader();
+    input.read_to_end(&mut bytes)?;
     let mut rest = bytes.as_slice();
     while let Some(end) = rest.iter().position(|byte| *byte == 0) {
-        print(rt, &outline_of(alloc, &rest[..end])?)?;
+        let Ok(outline) = outline_of(alloc, &rest[..end]) else {
+            return Ok(Ending::Broken);
+        };
+        print(rt, &outline)?;
         rest = &rest[end + 1..];
     }
-    Ok(())
+    Ok(Ending::Whole)
 }
 
 fn main(rt: HostRuntime) -> ExitCode {
     match run(&rt, rt.alloc()) {
-        Ok(()) => ExitCode::from(0),
-        Err(_) => ExitCode::from(1),
+        Ok(Ending::Whole) => ExitCode::from(0),
+        _ => ExitCode::from(1),
     }
 }

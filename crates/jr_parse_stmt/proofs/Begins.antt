@@ -1,12 +1,14 @@
 -- The readers of statements by how they begin, or by what stands behind a name, are those by the token.
-use Rattle.std.proofs.Common.{◌≡◌, ℕ, Bool, true, false, List, [], ◌∷◌, refl}
+use Rattle.std.proofs.Common.{◌≡◌, ℕ, Bool, true, false, List, [], ◌∷◌, map, Ok, refl}
 use Rattle.jr_base.specs.declared.text.Text.{Text}
 use Rattle.jr_base.specs.declared.kind.Kind.{Kind}
 use Rattle.jr_base.specs.declared.kind.Kind.TheVariants as kind
 use Rattle.jr_base.specs.declared.kind.Symbol.TheVariants as y
 use Rattle.jr_base.specs.declared.kind.Keyword.TheVariants as k
 use Rattle.jr_tree.specs.Mirror.Stmts as s
-use Rattle.jr_parse_laws.specs.Parsers.{Parser}
+use Rattle.jr_tree.specs.Mirror.Stmts.{plain_catch}
+use Rattle.jr_tree.specs.declared.tree.Catch.{Catch}
+use Rattle.jr_parse_laws.specs.Parsers.{Parser, is_at_word}
 use Rattle.jr_parse_expr.specs.Names.{Plain}
 use Rattle.jr_parse_defs.specs.Stmts as rule
 use Rattle.jr_parse_stmt.specs.Begun.{kind_start, start_at, begun, begun_by}
@@ -79,6 +81,12 @@ module _ (room : ℕ) (inner : Parser s.Stmt) (outer : Parser s.Stmt) where
   unfolding rule.named
   named_is_plain declares before last [] = refl
   named_is_plain declares before last (token ∷ ts) = named_goes declares before last token ts
+
+  -- ---- behind the handlers of a `try`
+
+  pub no_finally : (cs : List Catch) (ts : List Kind) → (cs ≡ [] → ⊥) → is_at_word k.Finally ts ≡ false → rule.finally_part room inner outer (map plain_catch cs) ts ≡ Ok (s.no_block, ts)
+  no_finally [] ts some h = absurd (some refl)
+  no_finally (c ∷ cs) ts some h = rw h refl
 
   -- ---- the first part of a `for`
 

@@ -13,7 +13,7 @@ use Rattle.jr_parse_expr.proofs.Rooms.{lowest_fails}
 use Rattle.jr_parse_defs.specs.Begins.{starts_block_stmt, starts_stmt}
 use Rattle.jr_parse_defs.specs.Stmts as rule
 use Rattle.jr_parse_stmt.specs.Nests.{in_room}
-use Rattle.jr_parse_stmt.specs.Bodies.{ctor_block}
+use Rattle.jr_parse_stmt.specs.Bodies.{more_stmts, ctor_block}
 use Rattle.jr_parse_stmt.proofs.Viewed.{fronted}
 
 one_less : (room : ℕ) → 0 < room → suc (room - 1) ≡ room
@@ -47,15 +47,34 @@ module _ (room : ℕ) (inner outer inner' outer' : Parser s.Stmt) where
   first_any [] = refl
   first_any (token ∷ ts) = first_by_any token (token ∷ ts)
 
-block_is : (room : ℕ) (ts : List Kind) → rule.ctor_block room (rule.stmt room false) (rule.stmt (suc room) true) ts ≡ ctor_block (suc room) ts
-unfolding rule.ctor_block rule.stmts
+-- the body, with the levels of its first statement
+block_at : ℕ → ℕ → Parser s.Block
+block_at below room ts =
+    and_then (expect y.OpenBrace ts) (λ u us. and_then (in_room rule.ctor_first below us) (λ front vs. and_then (more_stmts room front vs)
+    (λ all ws. and_then (expect y.CloseBrace ws) (λ v. pure (s.BlockOf (s.stmts all))))))
+
+block_is : (room : ℕ) (ts : List Kind) → rule.ctor_block room (rule.stmt room false) (rule.stmt (suc room) true) ts ≡ block_at room (suc room) ts
+unfolding rule.ctor_block rule.stmts block_at
 block_is room ts =
-    and_then_alike (expect y.OpenBrace ts) _ _
+    and_then_alike (expect y.OpenBrace ts)
+    (λ u us. and_then (rule.ctor_first room (rule.stmt room false) (rule.stmt (suc room) true) us) (λ front vs. and_then (many starts_block_stmt (rule.stmt (suc room) true) vs)
+    (λ all ws. and_then (expect y.CloseBrace ws) (λ v. pure (s.BlockOf (s.stmts (front ++ all)))))))
+    (λ u us. and_then (in_room rule.ctor_first room us) (λ front vs. and_then (more_stmts (suc room) front vs)
+    (λ all ws. and_then (expect y.CloseBrace ws) (λ v. pure (s.BlockOf (s.stmts all))))))
     (λ u us.
-    ap (λ o. and_then o (λ front ts. and_then (many starts_block_stmt (rule.stmt (suc room) true) ts) (λ all ts. and_then (expect y.CloseBrace ts) (λ u. pure (s.BlockOf (s.stmts (front ++ all)))))))
+    ap (λ o. and_then o (λ front vs. and_then (many starts_block_stmt (rule.stmt (suc room) true) vs) (λ all ws. and_then (expect y.CloseBrace ws) (λ v. pure (s.BlockOf (s.stmts (front ++ all)))))))
     (first_any room (rule.stmt room false) (rule.stmt (suc room) true) (rule.stmt room false) (rule.stmt room true) us)
-    ∙ and_then_alike (in_room rule.ctor_first room us) _ _
+    ∙ and_then_alike (in_room rule.ctor_first room us)
+    (λ front vs. and_then (many starts_block_stmt (rule.stmt (suc room) true) vs) (λ all ws. and_then (expect y.CloseBrace ws) (λ v. pure (s.BlockOf (s.stmts (front ++ all))))))
+    (λ front vs. and_then (more_stmts (suc room) front vs) (λ all ws. and_then (expect y.CloseBrace ws) (λ v. pure (s.BlockOf (s.stmts all)))))
     (λ front vs. sym (fronted front (many starts_block_stmt (rule.stmt (suc room) true) vs) (λ all ts. and_then (expect y.CloseBrace ts) (λ u. pure (s.BlockOf (s.stmts all)))))))
 
+block_here : (room : ℕ) (ts : List Kind) → block_at (room - 1) room ts ≡ ctor_block room ts
+unfolding block_at
+block_here room ts = refl
+
 pub ctor_below : (room : ℕ) (ts : List Kind) → 0 < room → rule.ctor_body room ts ≡ ctor_block room ts
-ctor_below room ts h = subst (λ n. rule.ctor_body n ts ≡ ctor_block n ts) (one_less room h) (block_is (room - 1) ts)
+ctor_below zero ts h = absurd (omega arith)
+ctor_below (suc room) ts h =
+    let e : room ≡ suc room - 1 = omega arith in
+    block_is room ts ∙ ap (λ n. block_at n (suc room) ts) e ∙ block_here (suc room) ts

@@ -36,6 +36,7 @@ impl<F> Grammar<F> {
     }
 
     /// The first statement, if it begins with `this` or `super`.
+    #[tactic(auto, unfolding(jr_parse_defs::specs::Stmts::ctor_first))]
     fn ctor_first(&self, cursor: &mut Cursor<'_>) -> Result<Items<Stmt>, Fault>
         requires { self.now.room < usize.MAX }
         ensures { Reads (λ (all : _). map plain_stmt all) (in_room spec.ctor_first self.now.room (kinds cursor.old)) result (kinds cursor.new) }

@@ -44,6 +44,7 @@ impl<F: Fn(Global, &mut Cursor<'_>, usize, bool) -> Result<Stmt, Fault>> Grammar
     }
 
     /// The block that is run at the end, which must stand behind a block without handlers.
+    #[tactic(auto, using(crate::proofs::Begins::no_finally))]
     fn finally_part(
         &self,
         cursor: &mut Cursor<'_>,
