@@ -1,5 +1,5 @@
 -- The type of the conditional operator is the one that is computed.
-use Rattle.std.proofs.Common.{◌≡◌, ◌⊎◌, refl, sym, ◌∙◌, ap, subst, inl, inr, ⊎_elim, ℕ, zero, suc, Bool, true, false, cond, not, ◌&&◌, ◌||◌, Option, Some, None, option_map, nat_eq, Decides}
+use Rattle.std.proofs.Common.{◌≡◌, ◌⊎◌, refl, sym, ◌∙◌, ap, subst, inl, inr, ⊎_elim, ℕ, zero, suc, Bool, true, false, cond, ◌&&◌, Option, Some, None, option_map, Decides}
 use Rattle.std.proofs.lemmas.Bool.{false≢true}
 use Rattle.std.proofs.lemmas.Bool.Decides.{Decides-eqb}
 use Rattle.std.proofs.lemmas.Option.{none-some, same_Some}
@@ -10,18 +10,18 @@ use Rattle.jr_defs.specs.declared.referent.Element.{Element}
 use Rattle.jr_defs.specs.declared.referent.Element.TheVariants as element
 use Rattle.jr_defs.specs.declared.referent.RowType.{RowType}
 use Rattle.jr_defs.specs.Referents.{Table}
-use Rattle.jr_defs.specs.Types.{array, plain, class_type}
+use Rattle.jr_defs.specs.Types.{array, plain}
 use Rattle.jr_defs.specs.Supertypes.{Above, IsReferenceType, Subtype}
 use Rattle.jr_defs.specs.Operators.{fits}
 use Rattle.jr_defs.specs.Constants.{ConstantOf}
 use Rattle.jr_defs.specs.Conversions.{IsNumeric, PromotesBoth}
 use Rattle.jr_defs.specs.Typing.{IsSmall, FitsConstant, HasOwnType, ConditionalType}
 use Rattle.jr_plain.specs.Search.{Finds}
-use Rattle.jr_plain.specs.Same.{same_element, same_type}
-use Rattle.jr_plain.specs.Supertypes.{is_reference, is_reference_type, is_null, is_below, is_subtype, is_above}
+use Rattle.jr_plain.specs.Same.{same_type}
+use Rattle.jr_plain.specs.Supertypes.{is_reference, is_reference_type, is_null, is_below, is_subtype}
 use Rattle.jr_plain.specs.Conversions.{Constants, is_void, promoted_both, is_plain}
 use Rattle.jr_plain.specs.Typing.{IsTypable, from_plain, is_small, is_int_that_fits, is_fit, own_type, or_promoted, number_type, wider_type, mixed_type, conditional_type}
-use Rattle.jr_plain.proofs.Tests.{itself, always, never, both, either, opposite, like, decide}
+use Rattle.jr_plain.proofs.Tests.{itself, never, both, either, like, decide}
 use Rattle.jr_plain.proofs.Same.{element_tells, type_tells}
 use Rattle.jr_plain.proofs.Supertyped.{null_tells, reference_type_tells, above_tells, subtype_tells}
 use Rattle.jr_plain.proofs.Converted.{then_yes, then_no, void_tells, both_finds, is_plain_one}
@@ -258,11 +258,14 @@ module _ (p : Rows) (t : Table) (typable : IsTypable p t) where
       void_type_tells a = is_plain_one element.Void is_void void_tells a
 
       pub conditional_finds : (a b : RowType) → Finds (conditional_type p t constant m k a b) (λ r. ConditionalType p t K m k a b r)
-      conditional_finds a b r = (by (same_type a b) (type_tells a b) (is_plain is_void a) (void_type_tells a), λ h. ⊎_elim
-          (λ e. let q = alike h e in then_yes (same_type a b) (cond (is_plain is_void a) None (Some a)) _ (type_tells a b) e
-          ∙ (then_no (is_plain is_void a) None (Some a) (void_type_tells a) q.1 ∙ ap Some q.0))
-          (λ apart. then_no (same_type a b) (cond (is_plain is_void a) None (Some a)) _ (type_tells a b) apart ∙ mixed_into apart h)
-          (decide (type_tells a b)))
+      conditional_finds a b r = (
+        by (same_type a b) (type_tells a b) (is_plain is_void a) (void_type_tells a),
+        λ h. ⊎_elim
+            (λ e. let q = alike h e in then_yes (same_type a b) (cond (is_plain is_void a) None (Some a)) _ (type_tells a b) e
+            ∙ (then_no (is_plain is_void a) None (Some a) (void_type_tells a) q.1 ∙ ap Some q.0))
+            (λ apart. then_no (same_type a b) (cond (is_plain is_void a) None (Some a)) _ (type_tells a b) apart ∙ mixed_into apart h)
+            (decide (type_tells a b)),
+      )
         where
           by : (x : Bool) → Decides x (a ≡ b) → (v : Bool) → Decides v (a ≡ plain element.Void) → cond x (cond v None (Some a)) (mixed_type p t constant m k a b) ≡ Some r → ConditionalType p t K m k a b r
           by true d true g e = absurd (none-some r e)

@@ -1,5 +1,5 @@
 -- The tests of promotion, casts and assignment tell what they are to tell.
-use Rattle.std.proofs.Common.{◌≡◌, ◌⊎◌, refl, sym, ◌∙◌, ap, subst, inl, inr, ⊎_elim, ℕ, zero, suc, Bool, true, false, cond, not, ◌&&◌, ◌||◌, Option, Some, None, is_some, Decides}
+use Rattle.std.proofs.Common.{◌≡◌, ◌⊎◌, refl, sym, ◌∙◌, ap, subst, inl, inr, ⊎_elim, ℕ, zero, suc, Bool, true, false, cond, ◌&&◌, Option, Some, None, is_some, Decides}
 use Rattle.std.proofs.lemmas.Bool.{false≢true}
 use Rattle.std.proofs.lemmas.Option.{none-some, same_Some}
 use Rattle.jr_ty.specs.declared.constant.Const.{Const}
@@ -10,13 +10,13 @@ use Rattle.jr_defs.specs.declared.referent.RowType.{RowType}
 use Rattle.jr_defs.specs.Referents.{Table}
 use Rattle.jr_defs.specs.Declarations.{IsClass, IsInterface}
 use Rattle.jr_defs.specs.Modifiers.{IsFinal}
-use Rattle.jr_defs.specs.Types.{array, plain, class_type}
+use Rattle.jr_defs.specs.Types.{array, plain}
 use Rattle.jr_defs.specs.Supertypes.{IsReferenceType, Subtype}
 use Rattle.jr_defs.specs.Operators.{assigned_to}
 use Rattle.jr_defs.specs.Constants.{ConstantOf}
 use Rattle.jr_defs.specs.Conversions.{IsIntegral, IsNumeric, IsPrimitive, Promotes, PromotesBoth, IsReferenceOrNull, IsCastable, IsAssignable}
 use Rattle.jr_plain.specs.Search.{Finds}
-use Rattle.jr_plain.specs.Supertypes.{is_reference_type, is_null, is_subtype}
+use Rattle.jr_plain.specs.Supertypes.{is_null}
 use Rattle.jr_plain.specs.Headed.{IsHeaded}
 use Rattle.jr_plain.specs.Conversions.{Constants, is_boolean, is_void, is_integral, is_long, is_numeric, is_primitive, promoted_type, promoted_both, plain_at, plain_of, passes, is_plain, is_reference_or_null, is_related, is_castable_class, is_castable_from, is_castable, fits_as, is_fitting, is_assignable}
 use Rattle.jr_plain.proofs.Tests.{itself, always, never, both, either, opposite, like}
@@ -244,7 +244,7 @@ module _ (p : Rows) (t : Table) (headed : IsHeaded p) where
     fitting_by a b (Some x) (Some w) i j = like (both (both (integral_tells x) (integral_tells w)) (fits_by w (constant n) known))
         (λ h. (x, w, (i x).0 refl, (j w).0 refl, h))
         (λ h. let e = same_Some x h.0 ((i h.0).1 h.2) in let f = same_Some w h.1 ((j h.1).1 h.3) in
-            ((subst IsIntegral (sym e) h.4.0.0, subst IsIntegral (sym f) h.4.0.1), subst FitsAs (sym f) h.4.1))
+        ((subst IsIntegral (sym e) h.4.0.0, subst IsIntegral (sym f) h.4.0.1), subst FitsAs (sym f) h.4.1))
     fitting_by a b (Some x) None i j = like never (λ h. absurd h) (λ h. none-some h.1 ((j h.1).1 h.3))
     fitting_by a b None _ i j = like never (λ h. absurd h) (λ h. none-some h.0 ((i h.0).1 h.2))
 

@@ -1,11 +1,10 @@
 -- The types of expressions are those that are computed.
-use Rattle.std.proofs.Common.{◌≡◌, ◌⊎◌, refl, sym, ◌∙◌, ap, subst, inl, inr, ⊎_elim, arith, ℕ, zero, suc, ◌+◌, ◌≤◌, ◌<◌, Bool, true, false, cond, length, Option, Some, None, option_map, option_and_then, nat_eq, Decides}
-use Rattle.std.proofs.lemmas.Bool.{false≢true, cases_lt}
+use Rattle.std.proofs.Common.{◌≡◌, ◌⊎◌, refl, sym, ◌∙◌, ap, subst, inl, inr, ⊎_elim, arith, ℕ, zero, suc, ◌+◌, ◌≤◌, ◌<◌, true, false, length, Option, Some, None, option_and_then, nat_eq, Decides}
+use Rattle.std.proofs.lemmas.Bool.{false≢true}
 use Rattle.std.proofs.lemmas.Bool.Decides.{Decides-eqb}
 use Rattle.std.proofs.lemmas.Option.{none-some, same_Some}
 use Rattle.jr_base.specs.declared.kind.Symbol.{Symbol}
 use Rattle.jr_base.specs.declared.kind.Symbol.TheVariants as y
-use Rattle.jr_tree.specs.declared.tree.Primitive.{Primitive}
 use Rattle.jr_rows.specs.declared.label.Label.{Label}
 use Rattle.jr_rows.specs.declared.label.Label.TheVariants as is
 use Rattle.jr_rows.specs.declared.label.Role.TheVariants as role
@@ -22,7 +21,7 @@ use Rattle.jr_defs.specs.Instances.{HasInstance}
 use Rattle.jr_defs.specs.Types.{array, plain, class_type, element_of, NamesType, TypeAt, HasType}
 use Rattle.jr_defs.specs.Constants.{ConstantOf}
 use Rattle.jr_defs.specs.Conversions.{IsNumeric, IsReferenceOrNull}
-use Rattle.jr_defs.specs.Typing.{LiteralType, class_of, BinaryType, UnaryType, operator_of, CompoundType, ConditionalType, First, Second, Third, TypeOf}
+use Rattle.jr_defs.specs.Typing.{LiteralType, class_of, BinaryType, UnaryType, operator_of, CompoundType, ConditionalType, TypeOf}
 use Rattle.jr_plain.specs.Search.{Finds}
 use Rattle.jr_plain.specs.Same.{same_role}
 use Rattle.jr_plain.specs.Declarations.{is_variable}
@@ -31,10 +30,9 @@ use Rattle.jr_plain.specs.Instances.{has_instance}
 use Rattle.jr_plain.specs.Overloads.{Types}
 use Rattle.jr_plain.specs.Types.{named_type, type_at, type_of_declared}
 use Rattle.jr_plain.specs.Conversions.{Constants, of_two, is_boolean, is_numeric, plain_of, is_plain, is_reference_or_null}
-use Rattle.jr_plain.specs.Typing.{IsVariableLabel, IsTypable, literal_type, binary_type, unary_type, is_compound, conditional_type, child, first, second, third, variable_type, result_type, this_type, item_at, item_type, tested_type, unary_of, stepped_type, chosen_type, is_assign, compound_type, assigned_type, typed_by, typed_within, expression_types}
-use Rattle.jr_plain.proofs.Tests.{like}
+use Rattle.jr_plain.specs.Typing.{IsVariableLabel, IsTypable, binary_type, unary_type, is_compound, conditional_type, child, first, second, third, variable_type, result_type, this_type, item_at, item_type, tested_type, unary_of, stepped_type, chosen_type, is_assign, compound_type, assigned_type, typed_by, typed_within, expression_types}
 use Rattle.jr_plain.proofs.Same.{role_tells}
-use Rattle.jr_plain.proofs.Bounds.{label_past, parent_past}
+use Rattle.jr_plain.proofs.Bounds.{label_past}
 use Rattle.jr_plain.proofs.Declared.{variable_tells}
 use Rattle.jr_plain.proofs.Enclosed.{innermost_finds}
 use Rattle.jr_plain.proofs.Instanced.{instance_tells}
@@ -89,9 +87,11 @@ module _ (p : Rows) (t : Table) (typable : IsTypable p t) (K : ℕ → Type 0) (
   declared_row e = cc
 
   variable_finds : (at : Referent) → Finds (variable_type p t at) (λ a. VariableAt at a)
-  variable_finds (Declared d level) a = let g = guard_finds (is_variable p d) (type_of_declared p t d) (variable_tells p d) (has_type_finds p t d) a in
-      (λ e. let h = g.0 e in inl (d, level, refl, h.0, h.1), ⊎_elim
-      (λ h. let q = declared_row h.2 in g.1 (subst (λ x. IsVariable p x) (sym q) h.3, subst (λ x. HasType p t x a) (sym q) h.4)) (λ h. let e = h.0 in absurd (cc)))
+  variable_finds (Declared d level) a = let g = guard_finds (is_variable p d) (type_of_declared p t d) (variable_tells p d) (has_type_finds p t d) a in (
+    λ e. let h = g.0 e in inl (d, level, refl, h.0, h.1),
+    ⊎_elim
+        (λ h. let q = declared_row h.2 in g.1 (subst (λ x. IsVariable p x) (sym q) h.3, subst (λ x. HasType p t x a) (sym q) h.4)) (λ h. let e = h.0 in absurd (cc)),
+  )
   variable_finds ArrayLength a = (λ e. inr (refl, same_Some (plain element.Int) a e), ⊎_elim (λ h. let e = h.2 in absurd (cc)) (λ h. ap Some h.1))
   variable_finds _ a = (λ e. absurd (none-some a e), ⊎_elim (λ h. let e = h.2 in absurd (cc)) (λ h. let e = h.0 in absurd (cc)))
 
@@ -99,9 +99,10 @@ module _ (p : Rows) (t : Table) (typable : IsTypable p t) (K : ℕ → Type 0) (
   ResultAt at a = (d : ℕ) × (level : Option ℕ) × (at ≡ Declared d level) × (role_at p d ≡ role.Method) × HasType p t d a
 
   result_finds : (at : Referent) → Finds (result_type p t at) (λ a. ResultAt at a)
-  result_finds (Declared d level) a = let g = guard_finds (same_role (role_at p d) role.Method) (type_of_declared p t d) (role_tells (role_at p d) role.Method) (has_type_finds p t d) a in
-      (λ e. let h = g.0 e in (d, level, refl, h.0, h.1),
-      λ h. let q = declared_row h.2 in g.1 (subst (λ x. role_at p x ≡ role.Method) (sym q) h.3, subst (λ x. HasType p t x a) (sym q) h.4))
+  result_finds (Declared d level) a = let g = guard_finds (same_role (role_at p d) role.Method) (type_of_declared p t d) (role_tells (role_at p d) role.Method) (has_type_finds p t d) a in (
+    λ e. let h = g.0 e in (d, level, refl, h.0, h.1),
+    λ h. let q = declared_row h.2 in g.1 (subst (λ x. role_at p x ≡ role.Method) (sym q) h.3, subst (λ x. HasType p t x a) (sym q) h.4),
+  )
   result_finds _ a = (λ e. absurd (none-some a e), λ h. let e = h.2 in absurd (cc))
 
   this_finds : (n d : ℕ) → Finds (this_type p n d) (λ a. HasInstance p n d × (class_type d ≡ a))

@@ -34,5 +34,7 @@ module _ {A : Type 0} where
         → (found : Option A) (other : Option B) → Finds found P → Finds other Q → Finds (of_two f found other) (λ r. (a : A) × (b : B) × P a × Q b × F a b r)
     two_finds F f each None other i j r = (λ e. absurd (none-some r e), λ h. absurd (none-some h.0 ((i h.0).1 h.2)))
     two_finds F f each (Some a) None i j r = (λ e. absurd (none-some r e), λ h. absurd (none-some h.1 ((j h.1).1 h.3)))
-    two_finds F f each (Some a) (Some b) i j r = (λ e. (a, b, (i a).0 refl, (j b).0 refl, (each a b r).0 e),
-        λ h. (each a b r).1 (subst (λ x. F x b r) (sym (same_Some a h.0 ((i h.0).1 h.2))) (subst (λ x. F h.0 x r) (sym (same_Some b h.1 ((j h.1).1 h.3))) h.4)))
+    two_finds F f each (Some a) (Some b) i j r = (
+      λ e. (a, b, (i a).0 refl, (j b).0 refl, (each a b r).0 e),
+      λ h. (each a b r).1 (subst (λ x. F x b r) (sym (same_Some a h.0 ((i h.0).1 h.2))) (subst (λ x. F h.0 x r) (sym (same_Some b h.1 ((j h.1).1 h.3))) h.4)),
+    )

@@ -1,41 +1,35 @@
 -- The types that operators give are those that are computed.
-use Rattle.std.proofs.Common.{◌≡◌, ◌⊎◌, refl, sym, ◌∙◌, ap, ap₂, subst, inl, inr, ⊎_elim, ℕ, zero, suc, Bool, true, false, cond, not, ◌&&◌, ◌||◌, length, Option, Some, None, option_map, option_and_then, nat_eq, Decides}
+use Rattle.std.proofs.Common.{◌≡◌, ◌⊎◌, refl, sym, ◌∙◌, ap, ap₂, subst, inl, inr, ⊎_elim, ℕ, zero, Bool, true, false, cond, not, ◌&&◌, length, Option, Some, None, option_map, Decides}
 use Rattle.std.proofs.lemmas.Bool.{false≢true}
-use Rattle.std.proofs.lemmas.Bool.Decides.{Decides-eqb}
 use Rattle.std.proofs.lemmas.Option.{none-some, same_Some}
 use Rattle.jr_base.specs.declared.kind.Kind.{Kind}
 use Rattle.jr_base.specs.declared.kind.Kind.TheVariants as token
 use Rattle.jr_base.specs.declared.kind.Keyword.TheVariants as word
 use Rattle.jr_base.specs.declared.kind.Symbol.{Symbol}
 use Rattle.jr_base.specs.declared.kind.Symbol.TheVariants as y
-use Rattle.jr_ty.specs.declared.constant.Const.{Const}
-use Rattle.jr_ty.specs.declared.constant.Const.TheVariants as c
 use Rattle.jr_rows.specs.Rows.{Rows}
 use Rattle.jr_defs.specs.declared.referent.Element.{Element}
 use Rattle.jr_defs.specs.declared.referent.Element.TheVariants as element
 use Rattle.jr_defs.specs.declared.referent.RowType.{RowType}
 use Rattle.jr_defs.specs.Referents.{Table}
 use Rattle.jr_defs.specs.Declarations.{IsString}
-use Rattle.jr_defs.specs.Types.{array, plain, class_type}
-use Rattle.jr_defs.specs.Supertypes.{Above, IsReferenceType, Subtype}
-use Rattle.jr_defs.specs.Operators.{fits}
-use Rattle.jr_defs.specs.Constants.{ConstantOf}
+use Rattle.jr_defs.specs.Types.{plain, class_type}
+use Rattle.jr_defs.specs.Supertypes.{IsReferenceType}
 use Rattle.jr_defs.specs.Conversions.{IsIntegral, IsNumeric, IsPrimitive, Promotes, PromotesBoth, IsReferenceOrNull, IsCastable}
-use Rattle.jr_defs.specs.Typing.{LiteralType, OperatorClass, plus, arithmetic, shift, comparison, equality, bitwise, logical, other, class_of, IsComparable, BinaryType, UnaryType, CompoundType, IsSmall, FitsConstant, HasOwnType, ConditionalType}
+use Rattle.jr_defs.specs.Typing.{LiteralType, OperatorClass, plus, arithmetic, shift, comparison, equality, bitwise, logical, other, class_of, IsComparable, BinaryType, UnaryType, CompoundType}
 use Rattle.jr_plain.specs.Search.{first_below, Finds}
-use Rattle.jr_plain.specs.Same.{same_element, same_type}
 use Rattle.jr_plain.specs.Declarations.{is_string}
-use Rattle.jr_plain.specs.Supertypes.{is_reference, is_reference_type, is_null, is_below, is_subtype}
-use Rattle.jr_plain.specs.Conversions.{Constants, is_boolean, is_void, is_numeric, is_primitive, promoted_type, promoted_both, plain_of, is_plain, is_reference_or_null, is_castable}
-use Rattle.jr_plain.specs.Typing.{IsTypable, string_type, literal_type, is_string_element, is_string_type, is_comparable, of_plain, from_plain, shift_type, comparison_type, logical_type, bitwise_type, sum_type, binary_type, unary_type, is_plus, is_cast_back, is_compound, is_small, is_int_that_fits, is_fit, own_type, or_promoted, number_type, wider_type, mixed_type, conditional_type}
-use Rattle.jr_plain.proofs.Tests.{itself, always, never, both, either, opposite, like, decide}
+use Rattle.jr_plain.specs.Supertypes.{is_reference}
+use Rattle.jr_plain.specs.Conversions.{is_boolean, is_void, is_numeric, is_primitive, promoted_type, promoted_both, plain_of, is_plain}
+use Rattle.jr_plain.specs.Typing.{IsTypable, literal_type, is_string_element, is_string_type, is_comparable, of_plain, from_plain, shift_type, comparison_type, logical_type, bitwise_type, sum_type, binary_type, unary_type, is_plus, is_cast_back, is_compound}
+use Rattle.jr_plain.proofs.Tests.{never, both, either, opposite, like, decide}
 use Rattle.jr_plain.proofs.Searches.{finds}
-use Rattle.jr_plain.proofs.Same.{element_tells, type_tells}
+use Rattle.jr_plain.proofs.Same.{type_tells}
 use Rattle.jr_plain.proofs.Bounds.{type_below}
 use Rattle.jr_plain.proofs.Declared.{string_tells}
-use Rattle.jr_plain.proofs.Supertyped.{null_tells, reference_type_tells, above_tells, subtype_tells}
+use Rattle.jr_plain.proofs.Supertyped.{reference_type_tells}
 use Rattle.jr_plain.proofs.Converted.{then_yes, then_no, boolean_tells, void_tells, numeric_tells, primitive_tells, promoted_finds, both_finds, plain_finds, is_plain_tells, is_plain_one, reference_or_null_tells, castable_tells}
-use Rattle.jr_plain.proofs.Finding.{some_finds, none_finds, like_finds, guard_finds, map_finds}
+use Rattle.jr_plain.proofs.Finding.{some_finds, guard_finds, map_finds}
 
 -- ---- two plain types
 
@@ -49,8 +43,10 @@ module _ (f : Element → Element → Option Element) (F : Element → Element �
   of_plain_out a b r None _ i j e = absurd (none-some r e)
 
   pub from_plain_finds : (a b : RowType) → Finds (from_plain f a b) (λ r. FromPlain a b r)
-  from_plain_finds a b r = (of_plain_out a b r (plain_of a) (plain_of b) (plain_finds a) (plain_finds b),
-      λ h. ap₂ (from_plain f) h.3 h.4 ∙ (ap (option_map plain) ((finds_f h.0 h.1 h.2).1 h.5) ∙ ap Some h.6))
+  from_plain_finds a b r = (
+    of_plain_out a b r (plain_of a) (plain_of b) (plain_finds a) (plain_finds b),
+    λ h. ap₂ (from_plain f) h.3 h.4 ∙ (ap (option_map plain) ((finds_f h.0 h.1 h.2).1 h.5) ∙ ap Some h.6),
+  )
 
   pub plain_out : (B : RowType → RowType → RowType → Type 0) → ((x w z : Element) → F x w z → B (plain x) (plain w) (plain z)) → (a b r : RowType) → FromPlain a b r → B a b r
   plain_out B give a b r h = subst (λ u. B u b r) (sym h.3) (subst (λ v. B (plain h.0) v r) (sym h.4) (subst (λ q. B (plain h.0) (plain h.1) q) h.6 (give h.0 h.1 h.2 h.5)))
@@ -299,7 +295,7 @@ module _ (p : Rows) (t : Table) (typable : IsTypable p t) where
   compound_out op a b (inr h) =
       let z = binary_plain h.1.1 in
       let whole : BinaryType p t (class_of op) (plain h.0.0.0) (plain h.0.1.0) (plain z.0) =
-          subst (λ x. BinaryType p t (class_of op) (plain h.0.0.0) (plain h.0.1.0) x) z.1 (subst (λ x. BinaryType p t (class_of op) (plain h.0.0.0) x h.1.0) h.0.1.1 (subst (λ x. BinaryType p t (class_of op) x b h.1.0) h.0.0.1 h.1.1)) in
+      subst (λ x. BinaryType p t (class_of op) (plain h.0.0.0) (plain h.0.1.0) x) z.1 (subst (λ x. BinaryType p t (class_of op) (plain h.0.0.0) x h.1.0) h.0.1.1 (subst (λ x. BinaryType p t (class_of op) x b h.1.0) h.0.0.1 h.1.1)) in
       let back : IsCastable p t (plain z.0) (plain h.0.0.0) = subst (λ x. IsCastable p t x (plain h.0.0.0)) z.1 (subst (λ x. IsCastable p t h.1.0 x) h.0.0.1 h.1.2) in
       subst (λ x. CompoundType p t op x b) (sym h.0.0.1) (subst (λ x. CompoundType p t op (plain h.0.0.0) x) (sym h.0.1.1) (CompoundType.primitive h.0.0.2 h.0.1.2 whole back))
 

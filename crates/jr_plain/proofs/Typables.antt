@@ -10,7 +10,7 @@ use Rattle.jr_rows.specs.declared.label.Role.TheVariants as role
 use Rattle.jr_rows.specs.declared.label.Sought.{Sought}
 use Rattle.jr_rows.specs.declared.label.Sought.TheVariants as sought
 use Rattle.jr_rows.specs.Labels.{sought_by}
-use Rattle.jr_rows.specs.Rows.{Rows, label, name, sought_at, role_at}
+use Rattle.jr_rows.specs.Rows.{Rows, label, role_at}
 use Rattle.jr_defs.specs.declared.referent.RowType.{RowType}
 use Rattle.jr_defs.specs.declared.referent.Referent.{Referent}
 use Rattle.jr_defs.specs.declared.referent.Referent.TheVariants.{ArrayLength, Declared}
@@ -20,7 +20,7 @@ use Rattle.jr_defs.specs.Declarations.{IsOf, Declares, IsType, IsObject, IsStrin
 use Rattle.jr_defs.specs.Supertypes.{SuperAt, Above}
 use Rattle.jr_defs.specs.Headers.{NamesHeader, NameMeets, Meets, IsSettled}
 use Rattle.jr_defs.specs.Formed.{IsFormed}
-use Rattle.jr_defs.specs.Overloads.{IsMostSpecific, Applicable, IsPreferred, Choice, IsLeftOf, ImportedChoice}
+use Rattle.jr_defs.specs.Overloads.{Applicable, IsPreferred, IsLeftOf, ImportedChoice}
 use Rattle.jr_defs.specs.Lookup.{MethodCandidate, Candidate, MayBeLength, Otherwise, Look}
 use Rattle.jr_plain.specs.Search.{Reaches}
 use Rattle.jr_plain.specs.Headed.{IsHeaded}

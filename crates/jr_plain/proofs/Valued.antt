@@ -1,5 +1,5 @@
 -- The values of constant expressions are those that are computed.
-use Rattle.std.proofs.Common.{◌≡◌, ◌⊎◌, refl, sym, ◌∙◌, ap, subst, inl, inr, ⊎_elim, arith, ℕ, zero, suc, ◌+◌, ◌≤◌, ◌<◌, Bool, true, false, cond, not, List, [], ◌∷◌, ◌++◌, length, length-append, Option, Some, None, is_some, nat_eq, Decides}
+use Rattle.std.proofs.Common.{◌≡◌, ◌⊎◌, refl, sym, ◌∙◌, ap, subst, inl, inr, ⊎_elim, arith, ℕ, zero, suc, ◌+◌, ◌≤◌, ◌<◌, Bool, true, false, cond, not, [], ◌∷◌, ◌++◌, length, length-append, Option, Some, None, is_some, nat_eq, Decides}
 use Rattle.std.proofs.lemmas.Bool.{false≢true, cases_eq}
 use Rattle.std.proofs.lemmas.Bool.Decides.{Decides-eqb}
 use Rattle.std.proofs.lemmas.Option.{none-some, same_Some}
@@ -75,9 +75,10 @@ value_label_tells _ = (λ h. absurd (false≢true h), λ e. absurd (cc))
 chosen_finds : {P Q S : Const → Type 0} (test first second : Option Const) → Finds test P → Finds first Q → Finds second S
     → Finds (chosen_value test first second) (λ w. (b : Bool) × P (c.Bool b) × ((u : Const) × (v : Const) × Q u × S v × (chosen b u v ≡ Some w)))
 chosen_finds {P} {Q} {S} (Some (c.Bool b)) first second h i j w =
-    let g = two_finds (λ u v w. chosen b u v ≡ Some w) (chosen b) (λ u v. itself_finds (chosen b u v)) first second i j w in
-    (λ e. (b, (h (c.Bool b)).0 refl, g.0 e),
-    λ q. g.1 (subst (λ x. (u : Const) × (v : Const) × Q u × S v × (chosen x u v ≡ Some w)) (sym (test_of ((h (c.Bool q.0)).1 q.1))) q.2))
+    let g = two_finds (λ u v w. chosen b u v ≡ Some w) (chosen b) (λ u v. itself_finds (chosen b u v)) first second i j w in (
+      λ e. (b, (h (c.Bool b)).0 refl, g.0 e),
+      λ q. g.1 (subst (λ x. (u : Const) × (v : Const) × Q u × S v × (chosen x u v ≡ Some w)) (sym (test_of ((h (c.Bool q.0)).1 q.1))) q.2),
+    )
   where
     test_of : {x z : Bool} → Some (c.Bool x) ≡ Some (c.Bool z) → x ≡ z
     test_of e = cc
@@ -129,8 +130,10 @@ module _ (p : Rows) (t : Table) (k : ℕ → Bool) where
     declared_row e = cc
 
     referred_finds : (at : Referent) → Finds (referred_value p t values at) (λ w. Referred R at w)
-    referred_finds (Declared d level) w = (λ e. (d, level, refl, (variable_finds d w).0 e),
-        λ h. (variable_finds d w).1 (subst (λ x. VariableWay R x w) (sym (declared_row h.2)) h.3))
+    referred_finds (Declared d level) w = (
+      λ e. (d, level, refl, (variable_finds d w).0 e),
+      λ h. (variable_finds d w).1 (subst (λ x. VariableWay R x w) (sym (declared_row h.2)) h.3),
+    )
     referred_finds _ w = (λ e. absurd (none-some w e), λ h. let e = h.2 in absurd (cc))
 
     reference_finds : (n : ℕ) → Finds (cond (k n) (referred_value p t values (t n)) None) (λ w. (k n ≡ true) × Referred R (t n) w)

@@ -1,5 +1,5 @@
 -- Types and constants on the rows of a small program.
-use Rattle.std.proofs.Common.{◌≡◌, refl, ℕ, Some, None, pos}
+use Rattle.std.proofs.Common.{◌≡◌, refl, Some, None, pos}
 use Rattle.jr_ty.specs.declared.constant.Const.TheVariants as c
 use Rattle.jr_defs.specs.declared.referent.Element.TheVariants as element
 use Rattle.jr_defs.specs.Types.{plain}
