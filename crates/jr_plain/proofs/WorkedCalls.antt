@@ -57,7 +57,7 @@ class_a = d.Class [] (codes "A") None [] (d.more_members (d.Field [] (of_type pr
     (d.more_members (method (codes "f") (parameter primitive.Int) (x.Call x.no_receiver (codes "f") (one (x.Select (x.This None) (codes "x")))))
     (d.more_members (d.Nested class_b) d.no_members))))
 
-abbrev calls : Rows
+abbrev pub calls : Rows
 calls = rows_from 0 0 0 (node is.Program (unit_labels lang (unit_labels (d.UnitOf None [] (class_a ∷ [])) none)) none)
 
 -- B names A, and the creation names B
