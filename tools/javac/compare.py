@@ -1,7 +1,7 @@
 #!/usr/bin/env python3
 """Holds the parser against javac's: random sources in the profile, and such with a token dropped, doubled, swapped or replaced.
 
-  compare.py --bin PATH [--count N] [--seed N] [--depth N]   PATH is the built program jr_parse_trial; javac and java are on the path
+  compare.py --bin PATH [--count N] [--seed N] [--depth N]   PATH is the built program jr_outline; javac and java are on the path
 
 Each source goes to both. javac's tree is printed by Outlines.java, ours from the rows of the tree, both as one outline. Reported are sources that
 one takes and the other refuses, and those whose outlines differ. A source that javac takes and whose tree has a form that the profile leaves
