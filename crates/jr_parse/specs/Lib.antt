@@ -1,4 +1,1 @@
 pub mod Answers
-pub mod Begun
-pub mod Importing
-pub mod Nests

@@ -1,4 +1,0 @@
-mod Answering
-mod Parts
-mod Starting
-mod Turns

@@ -1,4 +1,0 @@
-pub mod Viewed
-pub mod Takes
-pub mod Begins
-pub mod Rooms
