@@ -1,1 +1,4 @@
 pub mod Answers
+pub mod Begun
+pub mod Importing
+pub mod Nests

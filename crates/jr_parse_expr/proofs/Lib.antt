@@ -1,7 +1,6 @@
 mod ArrayItems
 mod Begins
 mod Behind
-mod Depths
 mod EffectTurns
 pub mod Keeps
 mod Listing
@@ -46,6 +45,6 @@ pub mod EffectLocals
 pub mod EffectStuck
 pub mod Stuck
 pub mod Rules
-mod Rooms
-mod Shorter
+pub mod Rooms
+pub mod Shorter
 mod Turning

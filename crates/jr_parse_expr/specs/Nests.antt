@@ -6,8 +6,8 @@ use Rattle.jr_parse_laws.specs.declared.cursor.Cursor.{Cursor}
 use Rattle.jr_parse_laws.specs.declared.fault.Fault.{Fault}
 use Rattle.jr_parse_laws.specs.Parsers.{kinds}
 use Rattle.jr_parse_expr.specs.declared.lead.Lead.{Lead}
-use Rattle.jr_parse_expr.specs.declared.measured.Measured.{Measured}
-use Rattle.jr_parse_expr.specs.declared.listed.MeasuredList.{MeasuredList}
+use Rattle.jr_parse_parts.specs.declared.measured.Measured.{Measured}
+use Rattle.jr_parse_parts.specs.declared.listed.MeasuredList.{MeasuredList}
 use Rattle.jr_parse_expr.specs.Exprs.{expr, list}
 use Rattle.jr_parse_expr.specs.Views.{plain_lead, ReadsExpr, ReadsList}
 

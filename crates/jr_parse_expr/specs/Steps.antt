@@ -12,7 +12,7 @@ use Rattle.jr_tree.specs.Shape.{level, is_target, is_new_array}
 use Rattle.jr_parse_laws.specs.declared.fault.Fault.{Fault}
 use Rattle.jr_parse_laws.specs.Parsers.{Outcome, Parser, Reads, ◌>>=◌, and_then, pure, refuse, many, begins_with, after_comma}
 use Rattle.jr_parse_expr.specs.declared.creation.Sizes.{Sizes}
-use Rattle.jr_parse_expr.specs.declared.listed.ListItems.{ListItems}
+use Rattle.jr_parse_parts.specs.declared.listed.ListItems.{ListItems}
 use Rattle.jr_parse_expr.specs.declared.suffix.Suffix.{Suffix}
 use Rattle.jr_parse_expr.specs.declared.suffix.Suffix.TheVariants as s
 use Rattle.jr_parse_expr.specs.declared.operator.Operation.{Operation}

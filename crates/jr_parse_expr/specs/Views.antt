@@ -7,10 +7,10 @@ use Rattle.jr_parse_laws.specs.Parsers.{Outcome, Reads}
 use Rattle.jr_parse_expr.specs.declared.name.Dotted as declared
 use Rattle.jr_parse_expr.specs.declared.lead.Lead as declared_lead
 use Rattle.jr_parse_expr.specs.declared.lead.Lead.TheVariants as lead
-use Rattle.jr_parse_expr.specs.declared.measured.Measured.{Measured}
-use Rattle.jr_parse_expr.specs.declared.measured.Arguments.{Arguments}
-use Rattle.jr_parse_expr.specs.declared.listed.MeasuredList.{MeasuredList}
-use Rattle.jr_parse_expr.specs.declared.listed.MeasuredInit.{MeasuredInit}
+use Rattle.jr_parse_parts.specs.declared.measured.Measured.{Measured}
+use Rattle.jr_parse_parts.specs.declared.measured.Arguments.{Arguments}
+use Rattle.jr_parse_parts.specs.declared.listed.MeasuredList.{MeasuredList}
+use Rattle.jr_parse_parts.specs.declared.listed.MeasuredInit.{MeasuredInit}
 use Rattle.jr_parse_expr.specs.Names.{Dotted, Plain, Enclosing}
 use Rattle.jr_parse_expr.specs.Exprs.{Lead, Nothing, Named, Indexed, This, Super}
 

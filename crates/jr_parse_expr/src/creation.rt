@@ -11,11 +11,10 @@ ghost use Rattle.jr_parse_expr.specs.Views.{ReadsExpr};
 
 use crate::grammar::Grammar;
 use crate::lead::Lead;
-use crate::listed::MeasuredList;
-use crate::measured::{Arguments, Measured};
 use crate::name::{dims_behind, name_after, primitive_at};
 use jr_base::Symbol;
 use jr_parse_laws::{Cursor, Fault};
+use jr_parse_parts::{Arguments, Measured, MeasuredList};
 use jr_tree::{Base, Name, Primitive};
 use std::alloc::Global;
 

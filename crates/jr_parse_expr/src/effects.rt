@@ -9,16 +9,14 @@ ghost use Rattle.jr_parse_expr.specs.Nests.{Nests};
 ghost use Rattle.jr_parse_expr.specs.Views.{plain_lead, ReadsExpr};
 
 use crate::begin::{OperandStart, operand_start};
-use crate::form::{is_assignment, is_statement, is_target};
 use crate::grammar::Grammar;
 use crate::lead::Lead;
-use crate::listed::MeasuredList;
-use crate::measured::Measured;
 use crate::name::{dotted_name, name_after, primitive_at};
 use crate::start::{is_step, starts_plain_literal};
 use crate::suffix::{Suffix, suffix_at};
 use jr_base::Symbol;
 use jr_parse_laws::{Cursor, Fault};
+use jr_parse_parts::{Measured, MeasuredList, is_assignment, is_statement, is_target};
 use jr_tree::{Expr, Name};
 use std::alloc::Global;
 

@@ -5,21 +5,16 @@ mod begin;
 mod cast;
 mod creation;
 mod effects;
-mod form;
 mod grammar;
 mod inits;
 mod law;
 mod lead;
-mod listed;
-mod measured;
 mod name;
 mod operand;
 mod operator;
 mod read;
 mod start;
 mod suffix;
-#[cfg(test)]
-mod tests;
 
 pub use law::expressions_have_one_reading;
 pub use lead::Lead;

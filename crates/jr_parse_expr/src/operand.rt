@@ -12,14 +12,32 @@ ghost use Rattle.jr_parse_expr.specs.Views.{plain_dotted, plain_lead, ReadsExpr,
 use crate::begin::{OperandStart, operand_start};
 use crate::grammar::Grammar;
 use crate::lead::Lead;
-use crate::listed::MeasuredList;
-use crate::measured::{Arguments, Measured, Receiving};
 use crate::name::{Dotted, dotted_name, whole_name};
 use crate::start::{is_least_kind, is_plain_literal, is_step, is_unary, starts_expr};
-use jr_base::{Symbol, Text};
+use jr_base::{Items, Symbol, Text};
 use jr_parse_laws::{Cursor, Fault};
-use jr_tree::Name;
+use jr_parse_parts::{Arguments, Measured, MeasuredList, Receiving};
+use jr_tree::{Name, Receiver};
 use std::alloc::Global;
+
+/// Nothing, where the name has no other identifiers before it; otherwise those.
+fn named_receiver(before: Items<Text>) -> Receiving
+    ensures receiver { plain_any_receiver result.receiver ≡ spec.receiver_of before }
+    ensures height { result.height ≡ 0 }
+{
+    if before.is_empty() {
+        return Receiving {
+            receiver: None,
+            height: 0,
+        };
+    }
+    Receiving {
+        receiver: Some(Receiver::OfName {
+            name: Name { parts: before },
+        }),
+        height: 0,
+    }
+}
 
 impl<
     F: Fn(Global, &mut Cursor<'_>, usize, Lead, u8) -> Result<Measured, Fault>,
@@ -105,7 +123,7 @@ impl<
         }
         if cursor.is_at(Symbol::OpenParen) {
             cursor.skip();
-            return self.call(cursor, Receiving::named(dotted.before), dotted.last);
+            return self.call(cursor, named_receiver(dotted.before), dotted.last);
         }
         Ok(Measured::name(whole_name(dotted.before, dotted.last)?))
     }

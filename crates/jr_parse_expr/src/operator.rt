@@ -8,14 +8,12 @@ ghost use Rattle.jr_parse_expr.specs.Nests.{Nests};
 ghost use Rattle.jr_parse_expr.specs.Steps as step;
 ghost use Rattle.jr_parse_expr.specs.Views.{plain_lead, ReadsExpr};
 
-use crate::form::{binary_level, is_assignment, is_target, level};
 use crate::grammar::Grammar;
 use crate::lead::Lead;
-use crate::listed::MeasuredList;
-use crate::measured::Measured;
 use crate::name::type_use;
 use jr_base::{Keyword, Kind, Symbol};
 use jr_parse_laws::{Cursor, Fault};
+use jr_parse_parts::{Measured, MeasuredList, binary_level, is_assignment, is_target, level};
 use jr_tree::Expr;
 use std::alloc::Global;
 

@@ -7,14 +7,12 @@ ghost use Rattle.jr_parse_expr.specs.Nests.{Nests};
 ghost use Rattle.jr_parse_expr.specs.Steps as step;
 ghost use Rattle.jr_parse_expr.specs.Views.{ReadsExpr};
 
-use crate::form::{is_new_array, level};
 use crate::grammar::Grammar;
 use crate::lead::Lead;
-use crate::listed::MeasuredList;
-use crate::measured::{Measured, Receiving};
 use crate::start::is_step;
 use jr_base::Symbol;
 use jr_parse_laws::{Cursor, Fault};
+use jr_parse_parts::{Measured, MeasuredList, Receiving, is_new_array, level};
 use jr_tree::Expr;
 use std::alloc::Global;
 

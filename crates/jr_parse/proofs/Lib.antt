@@ -1,0 +1,4 @@
+mod Answering
+mod Parts
+mod Starting
+mod Turns

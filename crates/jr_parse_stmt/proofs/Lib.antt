@@ -1,0 +1,4 @@
+pub mod Viewed
+pub mod Takes
+pub mod Begins
+pub mod Rooms

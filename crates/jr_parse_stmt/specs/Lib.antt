@@ -1,0 +1,5 @@
+pub mod Begun
+pub mod Nests
+pub mod Named
+pub mod Firsts
+pub mod Bodies
