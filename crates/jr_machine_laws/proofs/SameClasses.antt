@@ -1,5 +1,5 @@
 -- Look-ups, subtypes, catches and enclosing instances in cores that are the same.
-use Rattle.std.proofs.Common.{◌≡◌, refl, ap, ◌∙◌, ℕ, zero, suc, Bool, ◌||◌, cond, List, [], ◌∷◌, length, Option, Some, None}
+use Rattle.std.proofs.Common.{◌≡◌, refl, ap, ◌∙◌, ℕ, zero, suc, ◌||◌, cond, List, [], ◌∷◌, length, Option, Some, None}
 use Rattle.std.specs.Option.{option_and_then}
 use Rattle.jr_base.specs.declared.ids.DeclId.{DeclId}
 use Rattle.jr_base.specs.declared.ids.TypeId.{TypeId}
@@ -13,7 +13,7 @@ use Rattle.jr_machine_defs.specs.Prelude.{object_class}
 use Rattle.jr_machine_defs.specs.Values.{same_type}
 use Rattle.jr_machine_defs.specs.Classes.{class_in, found_in, found_among, is_among, with_others, with_parent, with_supers, with_supers_of, is_above, is_below, is_subtype, is_of, is_instance, type_of_object}
 use Rattle.jr_machine_defs.specs.Control.{catch_for, outer_of, outer_class, instance_at, instance_of}
-use Rattle.jr_machine_laws.specs.SameCore.{AlikeClass, AlikeClasses, SameCore}
+use Rattle.jr_machine_laws.specs.SameCore.{AlikeClasses, SameCore}
 
 -- ---- what is read of a class
 

@@ -1,6 +1,5 @@
 -- What the finishing items and the exits of code do in cores that are the same.
-use Rattle.std.proofs.Common.{◌≡◌, refl, ap, ◌∙◌, ℕ, Bool, true, false, cond, List, [], ◌∷◌, Option, Some, None}
-use Rattle.jr_base.specs.declared.ids.DeclId.{DeclId}
+use Rattle.std.proofs.Common.{◌≡◌, refl, ap, ℕ, Bool, true, false, cond, List, [], Option, Some, None}
 use Rattle.jr_base.specs.declared.ids.TypeId.{TypeId}
 use Rattle.jr_ty.specs.Mirror as t
 use Rattle.jr_core.specs.declared.operators.BinaryOp.{BinaryOp}
@@ -16,12 +15,12 @@ use Rattle.jr_machine_defs.specs.declared.work.Work.TheVariants as w
 use Rattle.jr_machine_defs.specs.declared.outcome.Fault.TheVariants as fault
 use Rattle.jr_machine_defs.specs.declared.state.State.{State}
 use Rattle.jr_machine_defs.specs.Prelude.{to_string_method}
-use Rattle.jr_machine_defs.specs.Classes.{body_in, class_of_object}
+use Rattle.jr_machine_defs.specs.Classes.{class_of_object}
 use Rattle.jr_machine_defs.specs.Strings.{text_of, units_of}
 use Rattle.jr_machine_defs.specs.Operators.{number_of, compound, stepped}
 use Rattle.jr_machine_defs.specs.Parts.{codes_count}
-use Rattle.jr_machine_defs.specs.Places.{read_field, store}
-use Rattle.jr_machine_defs.specs.Calls.{calls, creates_any, constructs}
+use Rattle.jr_machine_defs.specs.Places.{read_field}
+use Rattle.jr_machine_defs.specs.Calls.{creates_any}
 use Rattle.jr_machine_defs.specs.Finishing.{assigns, steps, tests, casts_object, casts, shows_object, shows, pushes_any, finishes}
 use Rattle.jr_machine_defs.specs.Exits.{caught, thrown_to, at_try, at_finishing, unwinds}
 use Rattle.jr_machine_defs.specs.States.{with_one, with_two, with_some, with_outcome, push_value, raises}

@@ -1,9 +1,9 @@
 -- That cores are the same is an equivalence.
-use Rattle.std.proofs.Common.{◌≡◌, refl, sym, ◌∙◌, subst, List, Option, Some, None}
+use Rattle.std.proofs.Common.{◌≡◌, refl, sym, ◌∙◌, subst, Option, Some, None}
 use Rattle.jr_core.specs.declared.bodies.Class.{Class}
 use Rattle.jr_core.specs.Mirror.{Core}
-use Rattle.jr_machine_defs.specs.Classes.{class_in, body_in}
-use Rattle.jr_machine_laws.specs.SameCore.{AlikeClass, AlikeClasses, SameCore}
+use Rattle.jr_machine_defs.specs.Classes.{class_in}
+use Rattle.jr_machine_laws.specs.SameCore.{AlikeClasses, SameCore}
 
 alike_refl : (x : Option Class) → AlikeClasses x x
 alike_refl None = tt

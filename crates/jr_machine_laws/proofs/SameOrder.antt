@@ -11,9 +11,9 @@ use Rattle.jr_core.specs.declared.bodies.Class.{Class}
 use Rattle.jr_core.specs.Mirror.{Body, Core}
 use Rattle.jr_machine_defs.specs.Values.{same_decl, same_type}
 use Rattle.jr_machine_defs.specs.Classes.{class_among, body_among, found_among, class_in, body_in}
-use Rattle.jr_machine_defs.proofs.RenamedValues.{decl_from_same, image_on, cond_same}
+use Rattle.jr_machine_defs.proofs.RenamedValues.{decl_from_same, image_on}
 use Rattle.jr_machine_laws.specs.SameCore.{AlikeClass, AlikeClasses, SameCore, IsKeyed, FindsOne}
-use Rattle.jr_machine_laws.proofs.SameLaws.{alike_from, alike_trans, itself}
+use Rattle.jr_machine_laws.proofs.SameLaws.{alike_from}
 
 -- ---- the first item that passes a test
 
@@ -109,7 +109,7 @@ pub methods_permuted : (found others : List (DeclId × DeclId)) → FindsOne fou
 methods_permuted found others one p method =
     pair_found found method
     ∙ ap (option_map second) (found_permuted (λ pair. same_decl pair.0 method) found others p
-      (λ x y c d e h. one x y c d (decl_from_same x.0 method e ∙ sym (decl_from_same y.0 method h))))
+    (λ x y c d e h. one x y c d (decl_from_same x.0 method e ∙ sym (decl_from_same y.0 method h))))
     ∙ sym (pair_found others method)
 
 -- ---- each class in its place

@@ -16,12 +16,12 @@ use Rattle.jr_machine_defs.specs.declared.heap.Cell.TheVariants as cell
 use Rattle.jr_machine_defs.specs.declared.state.Purpose.TheVariants as purpose
 use Rattle.jr_machine_defs.specs.declared.state.State.{State}
 use Rattle.jr_machine_defs.specs.declared.work.Work.{Work}
-use Rattle.jr_machine_defs.specs.Classes.{class_in, body_in, found_in, class_of_object}
+use Rattle.jr_machine_defs.specs.Classes.{class_in, body_in, class_of_object}
 use Rattle.jr_machine_defs.specs.Places.{place_in, fits_item, fitting, place_of, item_place, placed, set_item, without_receiver, store_field, store, read_old_field, read_old}
 use Rattle.jr_machine_defs.specs.Initialization.{body_work, members_work, class_work, begin_work, parent_work, begins, static_class, class_of_body, target_class, assigned_class, used_class}
 use Rattle.jr_machine_defs.specs.Calls.{enters, runs, runs_any, dispatches, calls_on, calls, constructs}
 use Rattle.jr_machine_defs.specs.States.{with_one, with_two, add_work}
-use Rattle.jr_machine_laws.specs.SameCore.{AlikeClass, AlikeClasses, SameCore}
+use Rattle.jr_machine_laws.specs.SameCore.{AlikeClasses, SameCore}
 use Rattle.jr_machine_laws.proofs.SameClasses.{found_in_same, is_instance_same}
 
 parent_work_of : (begun : List TypeId) (x y : Option Class) → AlikeClasses x y → parent_work begun x ≡ parent_work begun y

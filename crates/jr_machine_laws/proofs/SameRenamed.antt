@@ -1,5 +1,5 @@
 -- Renaming and cores that are the same.
-use Rattle.std.proofs.Common.{◌≡◌, refl, sym, ap, ◌∙◌, subst, ℕ, Bool, true, false, cond, List, [], ◌∷◌, map, length, Option, Some, None}
+use Rattle.std.proofs.Common.{◌≡◌, refl, sym, ap, ◌∙◌, subst, ℕ, Bool, true, false, cond, List, [], ◌∷◌, map, Option, Some, None}
 use Rattle.std.specs.List.{find}
 use Rattle.std.specs.Option.{option_map}
 use Rattle.std.proofs.lemmas.List.{length-map}
@@ -16,9 +16,9 @@ use Rattle.jr_machine_defs.proofs.RenamedValues.{decl_from_same, cond_image, sam
 use Rattle.jr_machine_defs.proofs.RenamedClasses.{class_in_renamed, body_in_renamed}
 use Rattle.jr_machine_defs.proofs.RenamedSteps.{printed_renamed, answer_renamed}
 use Rattle.jr_machine_defs.proofs.RenamedTwice.{twice_core}
-use Rattle.jr_machine_laws.specs.SameCore.{AlikeClass, AlikeClasses, SameCore}
+use Rattle.jr_machine_laws.specs.SameCore.{AlikeClasses, SameCore}
 use Rattle.jr_machine_laws.proofs.SameLaws.{joined}
-use Rattle.jr_machine_laws.proofs.SameOrder.{class_found, body_found, pair_found, type_from_same}
+use Rattle.jr_machine_laws.proofs.SameOrder.{class_found, body_found, type_from_same}
 use Rattle.jr_machine_laws.proofs.SameSteps.{printed_same, run_same}
 
 -- ---- keys that a renamed look-up finds
@@ -55,13 +55,13 @@ module _ (f : DeclId → DeclId) (p : IsRenaming f) where
   class_image : (a : Core) (id : TypeId) (c : Class) → class_in (renamed_core f a) id ≡ Some c → IsImage (renamed_type f) id
   class_image a id c e =
       let x : (c : Class) × (same_type (renamed_class f c).id id ≡ true) =
-          image_found (λ c. same_type c.id id) (renamed_class f) a.classes c (sym (class_found (map (renamed_class f) a.classes) id) ∙ e) in
+      image_found (λ c. same_type c.id id) (renamed_class f) a.classes c (sym (class_found (map (renamed_class f) a.classes) id) ∙ e) in
       (x.0.id, type_from_same (renamed_type f x.0.id) id x.1)
 
   body_image : (a : Core) (decl : DeclId) (b : Body) → body_in (renamed_core f a) decl ≡ Some b → IsImage f decl
   body_image a decl b e =
       let x : (b : Body) × (same_decl (renamed_body f b).decl decl ≡ true) =
-          image_found (λ b. same_decl b.decl decl) (renamed_body f) a.bodies b (sym (body_found (map (renamed_body f) a.bodies) decl) ∙ e) in
+      image_found (λ b. same_decl b.decl decl) (renamed_body f) a.bodies b (sym (body_found (map (renamed_body f) a.bodies) decl) ∙ e) in
       (x.0.decl, decl_from_same (f x.0.decl) decl x.1)
 
   -- ---- found methods

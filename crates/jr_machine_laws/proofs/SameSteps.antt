@@ -1,5 +1,5 @@
 -- Steps and runs in cores that are the same.
-use Rattle.std.proofs.Common.{◌≡◌, refl, sym, ap, ◌∙◌, ℕ, zero, suc, ◌+◌, cond, List, [], ◌∷◌, Option, Some, None}
+use Rattle.std.proofs.Common.{◌≡◌, refl, ap, ◌∙◌, ℕ, zero, suc, ◌+◌, cond, List, [], ◌∷◌, Option, Some, None}
 use Rattle.std.specs.Prelude.{unwrap_or}
 use Rattle.jr_base.specs.declared.ids.DeclId.{DeclId}
 use Rattle.jr_base.specs.declared.ids.TypeId.{TypeId}
@@ -10,10 +10,10 @@ use Rattle.jr_machine_defs.specs.declared.work.Work.TheVariants as w
 use Rattle.jr_machine_defs.specs.declared.state.RunEnd.{RunEnd}
 use Rattle.jr_machine_defs.specs.declared.state.State.{State}
 use Rattle.jr_machine_defs.specs.declared.state.Ran.{Ran}
-use Rattle.jr_machine_defs.specs.Initialization.{begins, used_class, target_class, first_use}
+use Rattle.jr_machine_defs.specs.Initialization.{used_class, target_class, first_use}
 use Rattle.jr_machine_defs.specs.Places.{read_old}
 use Rattle.jr_machine_defs.specs.Finishing.{finishes}
-use Rattle.jr_machine_defs.specs.Steps.{after_first_use, begins_any, exits, acts, acts_any, is_running, next, step, start_of, after, steps_made, printed_of, IsRunFrom, IsRun}
+use Rattle.jr_machine_defs.specs.Steps.{after_first_use, begins_any, exits, acts, acts_any, is_running, next, step, start_of, after, steps_made, printed_of, IsRunFrom}
 use Rattle.jr_machine_defs.specs.States.{Next, with_work, add_work}
 use Rattle.jr_machine_laws.specs.SameCore.{SameCore}
 use Rattle.jr_machine_laws.proofs.SamePlaces.{read_old_same, begins_same, target_class_same, used_class_same}
