@@ -1,6 +1,6 @@
 -- The order of classes, of bodies, and of found methods does not matter.
 use Rattle.std.proofs.Common.{◌≡◌, refl, sym, ap, ◌∙◌, subst, ℕ, zero, suc, ◌<◌, Bool, true, false, cond, List, [], ◌∷◌, map, length, Option, Some, None, get_or, arith}
-use Rattle.std.specs.List.{Contains, find}
+use Rattle.std.specs.List.{Contains, IsDistinct, find}
 use Rattle.std.specs.List.Sorted.{IsPermutation}
 use Rattle.std.specs.Option.{option_map}
 use Rattle.std.proofs.lemmas.List.Sorted.{Contains-permutation, IsPermutation-sym, length_permutation}
@@ -12,7 +12,8 @@ use Rattle.jr_core.specs.Mirror.{Body, Core}
 use Rattle.jr_machine_defs.specs.Values.{same_decl, same_type}
 use Rattle.jr_machine_defs.specs.Classes.{class_among, body_among, found_among, class_in, body_in}
 use Rattle.jr_machine_defs.proofs.RenamedValues.{decl_from_same, image_on}
-use Rattle.jr_machine_laws.specs.SameCore.{AlikeClass, AlikeClasses, SameCore, IsKeyed, FindsOne}
+use Rattle.jr_machine_laws.specs.SameCore.{AlikeClass, AlikeClasses, SameCore, id_of, decl_of, called, IsKeyed}
+use Rattle.jr_machine_laws.proofs.SameKeys.{decl_decides, type_from_same, type_decides, one_item}
 use Rattle.jr_machine_laws.proofs.SameLaws.{alike_from}
 
 -- ---- the first item that passes a test
@@ -78,24 +79,20 @@ pub pair_found : (all : List (DeclId × DeclId)) (method : DeclId) → found_amo
 pair_found [] method = refl
 pair_found (pair ∷ all) method = image_on (option_map second) (same_decl pair.0 method) (Some pair) (find (λ pair. same_decl pair.0 method) all) refl (pair_found all method)
 
-abbrev type_by : DeclId → TypeId
-type_by d = record { 0 = d }
-
-pub type_from_same : (a b : TypeId) → same_type a b ≡ true → a ≡ b
-type_from_same a b h = ap type_by (decl_from_same a.0 b.0 h)
-
 -- ---- permutations
 
 class_permuted : (a b : Core) → IsKeyed a → IsPermutation a.classes b.classes → (id : TypeId) → class_in a id ≡ class_in b id
 class_permuted a b keyed p id =
     class_found a.classes id
-    ∙ found_permuted (λ c. same_type c.id id) a.classes b.classes p (λ c d x y e h. keyed.classes c d x y (type_from_same c.id id e ∙ sym (type_from_same d.id id h)))
+    ∙ found_permuted (λ c. same_type c.id id) a.classes b.classes p
+      (λ c d x y e h. one_item same_type type_decides id_of a.classes keyed.classes c d x y (type_from_same c.id id e ∙ sym (type_from_same d.id id h)))
     ∙ sym (class_found b.classes id)
 
 body_permuted : (a b : Core) → IsKeyed a → IsPermutation a.bodies b.bodies → (decl : DeclId) → body_in a decl ≡ body_in b decl
 body_permuted a b keyed p decl =
     body_found a.bodies decl
-    ∙ found_permuted (λ b. same_decl b.decl decl) a.bodies b.bodies p (λ c d x y e h. keyed.bodies c d x y (decl_from_same c.decl decl e ∙ sym (decl_from_same d.decl decl h)))
+    ∙ found_permuted (λ b. same_decl b.decl decl) a.bodies b.bodies p
+      (λ c d x y e h. one_item same_decl decl_decides decl_of a.bodies keyed.bodies c d x y (decl_from_same c.decl decl e ∙ sym (decl_from_same d.decl decl h)))
     ∙ sym (body_found b.bodies decl)
 
 pub core_permuted : (a b : Core) → IsKeyed a → IsPermutation a.classes b.classes → IsPermutation a.bodies b.bodies → SameCore a b
@@ -105,11 +102,11 @@ core_permuted a b keyed p q = record {
   count = sym (length_permutation a.classes b.classes p);
 }
 
-pub methods_permuted : (found others : List (DeclId × DeclId)) → FindsOne found → IsPermutation found others → (method : DeclId) → found_among found method ≡ found_among others method
+pub methods_permuted : (found others : List (DeclId × DeclId)) → IsDistinct same_decl (map called found) → IsPermutation found others → (method : DeclId) → found_among found method ≡ found_among others method
 methods_permuted found others one p method =
     pair_found found method
     ∙ ap (option_map second) (found_permuted (λ pair. same_decl pair.0 method) found others p
-    (λ x y c d e h. one x y c d (decl_from_same x.0 method e ∙ sym (decl_from_same y.0 method h))))
+    (λ x y c d e h. one_item same_decl decl_decides called found one x y c d (decl_from_same x.0 method e ∙ sym (decl_from_same y.0 method h))))
     ∙ sym (pair_found others method)
 
 -- ---- each class in its place

@@ -18,7 +18,8 @@ use Rattle.jr_machine_defs.proofs.RenamedSteps.{printed_renamed, answer_renamed}
 use Rattle.jr_machine_defs.proofs.RenamedTwice.{twice_core}
 use Rattle.jr_machine_laws.specs.SameCore.{AlikeClasses, SameCore}
 use Rattle.jr_machine_laws.proofs.SameLaws.{joined}
-use Rattle.jr_machine_laws.proofs.SameOrder.{class_found, body_found, type_from_same}
+use Rattle.jr_machine_laws.proofs.SameKeys.{type_from_same}
+use Rattle.jr_machine_laws.proofs.SameOrder.{class_found, body_found}
 use Rattle.jr_machine_laws.proofs.SameSteps.{printed_same, run_same}
 
 -- ---- keys that a renamed look-up finds

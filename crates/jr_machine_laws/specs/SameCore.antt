@@ -1,10 +1,11 @@
 -- Cores as finite maps: when two cores have the same look-ups, in whatever order their classes and bodies stand (JLS 8, 12.4, 15.12.4.4).
-use Rattle.std.specs.Prelude.{◌≡◌, List, length, Option, Some, None}
-use Rattle.std.specs.List.{Contains}
+use Rattle.std.specs.Prelude.{◌≡◌, List, map, length, Option, Some, None}
+use Rattle.std.specs.List.{IsDistinct}
 use Rattle.jr_base.specs.declared.ids.DeclId.{DeclId}
 use Rattle.jr_base.specs.declared.ids.TypeId.{TypeId}
 use Rattle.jr_core.specs.declared.bodies.Class.{Class}
 use Rattle.jr_core.specs.Mirror.{Body, Core}
+use Rattle.jr_machine_defs.specs.Values.{same_decl, same_type}
 use Rattle.jr_machine_defs.specs.Classes.{class_in, body_in, found_among}
 
 -- two classes with the same supertypes, enclosing class and members, in which each call finds the same method (JLS 8.1, 15.12.4.4)
@@ -28,11 +29,16 @@ pub record SameCore (a b : Core) : Type 0 where
   pub bodies : (decl : DeclId) → body_in a decl ≡ body_in b decl
   pub count : length a.classes ≡ length b.classes
 
--- no two different classes have one id, and no two different bodies are of one declaration
-pub record IsKeyed (core : Core) : Type 0 where
-  pub classes : (c d : Class) → Contains core.classes c → Contains core.classes d → c.id ≡ d.id → c ≡ d
-  pub bodies : (b c : Body) → Contains core.bodies b → Contains core.bodies c → b.decl ≡ c.decl → b ≡ c
+abbrev pub id_of : Class → TypeId
+id_of c = c.id
 
--- no method has two different methods that a call of it runs
-abbrev pub FindsOne : List (DeclId × DeclId) → Type 0
-FindsOne found = (x y : DeclId × DeclId) → Contains found x → Contains found y → x.0 ≡ y.0 → x ≡ y
+abbrev pub decl_of : Body → DeclId
+decl_of b = b.decl
+
+abbrev pub called : DeclId × DeclId → DeclId
+called pair = pair.0
+
+-- a core that is two finite maps: no two classes have one id, and no two bodies are of one declaration
+pub record IsKeyed (core : Core) : Type 0 where
+  pub classes : IsDistinct same_type (map id_of core.classes)
+  pub bodies : IsDistinct same_decl (map decl_of core.bodies)

@@ -1,16 +1,18 @@
 // The laws of cores with the same look-ups.
 ghost use Rattle.std.specs.Prelude.{◌≡◌, ℕ, List, map};
-ghost use Rattle.std.specs.List.{Contains};
+ghost use Rattle.std.specs.List.{Contains, IsDistinct};
 ghost use Rattle.std.specs.List.Sorted.{IsPermutation};
 ghost use Rattle.jr_base.specs.declared.ids.DeclId.{DeclId};
+ghost use Rattle.jr_base.specs.declared.ids.TypeId.{TypeId};
 ghost use Rattle.jr_core.specs.declared.bodies.Class.{Class};
 ghost use Rattle.jr_core.specs.Mirror.{Core};
 ghost use Rattle.jr_machine_defs.specs.declared.state.Ran.{Ran};
 ghost use Rattle.jr_machine_defs.specs.declared.state.State.{State};
-ghost use Rattle.jr_machine_defs.specs.Classes.{found_among};
+ghost use Rattle.jr_machine_defs.specs.Classes.{class_in, body_in, found_among};
 ghost use Rattle.jr_machine_defs.specs.Renamed.{IsRenaming, renamed_core, renamed_ran};
 ghost use Rattle.jr_machine_defs.specs.Steps.{next, step, after, steps_made, printed_of, IsRun};
-ghost use Rattle.jr_machine_laws.specs.SameCore.{AlikeClass, SameCore, IsKeyed, FindsOne};
+ghost use Rattle.jr_machine_defs.specs.Values.{same_decl};
+ghost use Rattle.jr_machine_laws.specs.SameCore.{AlikeClass, AlikeClasses, SameCore, IsKeyed, called};
 
 /// Two cores with alike classes, the same bodies and as many classes make the same steps from each state. So a run of a method prints the same in both,
 /// makes as many steps, and ends in the same way.
@@ -30,11 +32,12 @@ pub fn same_cores_are_an_equivalence()
     ensures joined { (a b c : Core) → SameCore a b → SameCore b c → SameCore a c }
 {}
 
-/// Where no id and no declaration stands twice, the order of classes and of bodies does not matter. Nor does the order of the methods that calls in a class
-/// find, and classes may be replaced by alike ones in their places.
+/// Of cores that are two finite maps the look-ups tell all, the number of classes too, and the order of classes and of bodies does not matter. Nor does the order
+/// of the methods that calls in a class find, and classes may be replaced by alike ones in their places.
 pub fn order_does_not_matter()
+    ensures maps { (a b : Core) → IsKeyed a → IsKeyed b → ((id : TypeId) → AlikeClasses (class_in a id) (class_in b id)) → ((decl : DeclId) → body_in a decl ≡ body_in b decl) → SameCore a b }
     ensures core { (a b : Core) → IsKeyed a → IsPermutation a.classes b.classes → IsPermutation a.bodies b.bodies → SameCore a b }
-    ensures found { (found others : List (DeclId × DeclId)) → FindsOne found → IsPermutation found others → (method : DeclId) → found_among found method ≡ found_among others method }
+    ensures found { (found others : List (DeclId × DeclId)) → IsDistinct same_decl (map called found) → IsPermutation found others → (method : DeclId) → found_among found method ≡ found_among others method }
     ensures each { (a : Core) (f : Class → Class) → ((c : Class) → Contains a.classes c → ((f c).id ≡ c.id) × AlikeClass c (f c)) → SameCore a (record a { classes = map f a.classes }) }
 {}
 
