@@ -1,7 +1,7 @@
 -- Items with keys, of which none stands twice, and the number of items that a look-up by key determines.
-use Rattle.std.proofs.Common.{◌≡◌, ◌⊎◌, refl, inl, inr, sym, ap, ◌∙◌, subst, ℕ, ◌<◌, Bool, true, false, ◌||◌, cond, List, [], ◌∷◌, map, length, Option, Some, None, Decides, get_or, arith}
+use Rattle.std.proofs.Common.{◌≡◌, ◌⊎◌, refl, inl, inr, sym, ap, ◌∙◌, ℕ, ◌<◌, Bool, true, false, ◌||◌, cond, List, [], ◌∷◌, map, length, Option, Some, None, Decides, get_or, arith}
 use Rattle.std.specs.Cmp.{IsEquivalence}
-use Rattle.std.specs.List.{Contains, IsDistinct, list_any}
+use Rattle.std.specs.List.{Contains, IsDistinct, AllByRecursion, list_any}
 use Rattle.std.specs.Option.{is_some}
 use Rattle.std.specs.Set.{is_member}
 use Rattle.std.proofs.lemmas.Bool.{cases_order}
@@ -12,11 +12,12 @@ use Rattle.std.proofs.lemmas.Map.Made.{length-from_same_keys}
 use Rattle.jr_base.specs.declared.ids.DeclId.{DeclId}
 use Rattle.jr_base.specs.declared.ids.TypeId.{TypeId}
 use Rattle.jr_core.specs.declared.bodies.Class.{Class}
-use Rattle.jr_core.specs.Mirror.{Core}
+use Rattle.jr_core.specs.Mirror.{Body, Core}
 use Rattle.jr_machine_defs.specs.Values.{same_decl, same_type}
 use Rattle.jr_machine_defs.specs.Classes.{class_among, class_in, body_in}
-use Rattle.jr_machine_defs.proofs.RenamedValues.{decl_from_same, same_from_decl}
-use Rattle.jr_machine_laws.specs.SameCore.{AlikeClasses, SameCore, id_of, IsKeyed}
+use Rattle.jr_machine_defs.specs.Renamed.{IsRenaming, renamed_class, renamed_body, renamed_core}
+use Rattle.jr_machine_defs.proofs.RenamedValues.{decl_from_same, same_from_decl, same_renamed, same_type_renamed}
+use Rattle.jr_machine_laws.specs.SameCore.{AlikeClasses, SameCore, id_of, decl_of, IsKeyed}
 
 -- ---- the tests of keys
 
@@ -68,6 +69,25 @@ module _ {X K : Type 0} (eq : K → K → Bool) (same : (a b : K) → Decides (e
       at (inl h) = sym c.2 ∙ (ap (λ k. get_or xs k x) h ∙ (get_or_default xs d.0 x y d.1 ∙ d.2))
       at (inr (inl h)) = absurd (apart x y c.0 d.0 h d.1 c.2 d.2 e)
       at (inr (inr h)) = absurd (apart y x d.0 c.0 h c.1 d.2 c.2 (sym e))
+
+-- ---- items that are replaced
+
+-- where the test of two keys is as before, no key stands twice, as before
+module _ {X K : Type 0} (eq : K → K → Bool) (key : X → K) (h : X → X) (kept : (x y : X) → eq (key (h x)) (key (h y)) ≡ eq (key x) (key y)) where
+  apart_kept : (x : X) (xs : List X) → AllByRecursion (λ k. eq (key x) k ≡ false) (map key xs) → AllByRecursion (λ k. eq (key (h x)) k ≡ false) (map key (map h xs))
+  apart_kept x [] all = tt
+  apart_kept x (y ∷ xs) all = (kept x y ∙ all.0, apart_kept x xs all.1)
+
+  distinct_kept : (xs : List X) → IsDistinct eq (map key xs) → IsDistinct eq (map key (map h xs))
+  unfolding IsDistinct
+  distinct_kept [] distinct = tt
+  distinct_kept (x ∷ xs) distinct = (apart_kept x xs distinct.0, distinct_kept xs distinct.1)
+
+pub keyed_renamed : (f : DeclId → DeclId) → IsRenaming f → (a : Core) → IsKeyed a → IsKeyed (renamed_core f a)
+keyed_renamed f p a keyed = record {
+  classes = distinct_kept same_type id_of (renamed_class f) (λ c d. same_type_renamed f p c.id d.id) a.classes keyed.classes;
+  bodies = distinct_kept same_decl decl_of (renamed_body f) (λ b c. same_renamed f p b.decl c.decl) a.bodies keyed.bodies;
+}
 
 -- ---- as many classes
 

@@ -43,10 +43,10 @@ module _ {X : Type 0} (test : X → Bool) where
   misses (x ∷ xs) y h k low is passes = misses_on (test x) x xs y refl h (misses xs y) k low is passes
 
   missed : (xs ys : List X) (y : X) → IsPermutation xs ys → find test xs ≡ None → find test ys ≡ Some y → ⊥
-  missed xs ys y p none some =
-      let met : Contains ys y × (test y ≡ true) = meets ys y some in
+  missed xs ys y p e h =
+      let met : Contains ys y × (test y ≡ true) = meets ys y h in
       let back : Contains xs y = Contains-permutation ys xs y (IsPermutation-sym xs ys p) met.0 in
-      misses xs y none back.0 back.1 back.2 met.1
+      misses xs y e back.0 back.1 back.2 met.1
 
   permuted_on : (xs ys : List X) (u v : Option X) → find test xs ≡ u → find test ys ≡ v → IsPermutation xs ys
       → ((x y : X) → Contains xs x → Contains xs y → test x ≡ true → test y ≡ true → x ≡ y) → u ≡ v
@@ -85,14 +85,14 @@ class_permuted : (a b : Core) → IsKeyed a → IsPermutation a.classes b.classe
 class_permuted a b keyed p id =
     class_found a.classes id
     ∙ found_permuted (λ c. same_type c.id id) a.classes b.classes p
-      (λ c d x y e h. one_item same_type type_decides id_of a.classes keyed.classes c d x y (type_from_same c.id id e ∙ sym (type_from_same d.id id h)))
+    (λ c d x y e h. one_item same_type type_decides id_of a.classes keyed.classes c d x y (type_from_same c.id id e ∙ sym (type_from_same d.id id h)))
     ∙ sym (class_found b.classes id)
 
 body_permuted : (a b : Core) → IsKeyed a → IsPermutation a.bodies b.bodies → (decl : DeclId) → body_in a decl ≡ body_in b decl
 body_permuted a b keyed p decl =
     body_found a.bodies decl
     ∙ found_permuted (λ b. same_decl b.decl decl) a.bodies b.bodies p
-      (λ c d x y e h. one_item same_decl decl_decides decl_of a.bodies keyed.bodies c d x y (decl_from_same c.decl decl e ∙ sym (decl_from_same d.decl decl h)))
+    (λ c d x y e h. one_item same_decl decl_decides decl_of a.bodies keyed.bodies c d x y (decl_from_same c.decl decl e ∙ sym (decl_from_same d.decl decl h)))
     ∙ sym (body_found b.bodies decl)
 
 pub core_permuted : (a b : Core) → IsKeyed a → IsPermutation a.classes b.classes → IsPermutation a.bodies b.bodies → SameCore a b

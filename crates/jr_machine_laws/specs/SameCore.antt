@@ -1,5 +1,5 @@
 -- Cores as finite maps: when two cores have the same look-ups, in whatever order their classes and bodies stand (JLS 8, 12.4, 15.12.4.4).
-use Rattle.std.specs.Prelude.{◌≡◌, List, map, length, Option, Some, None}
+use Rattle.std.specs.Prelude.{◌≡◌, map, length, Option, Some, None}
 use Rattle.std.specs.List.{IsDistinct}
 use Rattle.jr_base.specs.declared.ids.DeclId.{DeclId}
 use Rattle.jr_base.specs.declared.ids.TypeId.{TypeId}
@@ -23,12 +23,13 @@ AlikeClasses None (Some d) = ⊥
 AlikeClasses (Some c) None = ⊥
 AlikeClasses (Some c) (Some d) = AlikeClass c d
 
--- two cores with alike classes, the same bodies, and as many classes
+-- two cores with alike classes, the same bodies, and as many classes; they may differ in the order of classes, of bodies, and of the methods that calls find
 pub record SameCore (a b : Core) : Type 0 where
   pub classes : (id : TypeId) → AlikeClasses (class_in a id) (class_in b id)
   pub bodies : (decl : DeclId) → body_in a decl ≡ body_in b decl
   pub count : length a.classes ≡ length b.classes
 
+-- the keys of classes, of bodies, and of the methods that calls find
 abbrev pub id_of : Class → TypeId
 id_of c = c.id
 

@@ -45,6 +45,7 @@ pub fn order_does_not_matter()
 /// many steps, and ends in the same way; and what is so reached in two steps is reached in one.
 pub fn renamings_keep_same_cores()
     ensures renamed { (f : DeclId → DeclId) (a b : Core) → IsRenaming f → SameCore a b → SameCore (renamed_core f a) (renamed_core f b) }
+    ensures keyed { (f : DeclId → DeclId) (a : Core) → IsRenaming f → IsKeyed a → IsKeyed (renamed_core f a) }
     ensures printed { (f : DeclId → DeclId) (a b : Core) (start : DeclId) (n : ℕ) → IsRenaming f → SameCore (renamed_core f a) b → printed_of b (f start) n ≡ printed_of a start n }
     ensures run { (f : DeclId → DeclId) (a b : Core) (start : DeclId) (n : ℕ) (ran : Ran) → IsRenaming f → SameCore (renamed_core f a) b → IsRun a start n ran → IsRun b (f start) n (renamed_ran f ran) }
     ensures twice { (f g : DeclId → DeclId) (a b c : Core) → IsRenaming g → SameCore (renamed_core f a) b → SameCore (renamed_core g b) c → SameCore (renamed_core (λ d. g (f d)) a) c }
