@@ -12,7 +12,7 @@ use Rattle.std.proofs.lemmas.Map.Made.{length-from_same_keys}
 use Rattle.jr_base.specs.declared.ids.DeclId.{DeclId}
 use Rattle.jr_base.specs.declared.ids.TypeId.{TypeId}
 use Rattle.jr_core.specs.declared.bodies.Class.{Class}
-use Rattle.jr_core.specs.Mirror.{Body, Core}
+use Rattle.jr_core.specs.Mirror.{Core}
 use Rattle.jr_machine_defs.specs.Values.{same_decl, same_type}
 use Rattle.jr_machine_defs.specs.Classes.{class_among, class_in, body_in}
 use Rattle.jr_machine_defs.specs.Renamed.{IsRenaming, renamed_class, renamed_body, renamed_core}
