@@ -25,7 +25,7 @@ pub fn same_cores_step_alike()
     ensures run { (a b : Core) (start : DeclId) (n : ℕ) (ran : Ran) → SameCore a b → IsRun a start n ran → IsRun b start n ran }
 {}
 
-/// Each core is the same as itself; where one is the same as another, so is the other as the one; and what is the same as that is the same as the first.
+/// That two cores are the same is reflexive, symmetric and transitive.
 pub fn same_cores_are_an_equivalence()
     ensures itself { (a : Core) → SameCore a a }
     ensures turned { (a b : Core) → SameCore a b → SameCore b a }
