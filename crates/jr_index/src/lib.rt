@@ -9,6 +9,7 @@ mod building;
 mod decl;
 mod event;
 mod expr;
+mod index;
 mod stmt;
 mod words;
 
@@ -16,6 +17,7 @@ use crate::building::rows_of_events;
 use crate::decl::add_unit;
 use crate::words::{begin, close};
 use event::Event;
+pub use index::{Index, NodeOfRow};
 use jr_base::OutOfMemory;
 use jr_defs::Program;
 use jr_rows::{Label, Row};
