@@ -1,12 +1,11 @@
 -- The tables of an index: how many nodes stand before each row, and the rows of the units.
-use Rattle.std.proofs.Common.{◌≡◌, ℕ, zero, suc, ◌+◌, ◌-◌, ◌<◌, ◌≤◌, ◌⊎◌, inl, inr, List, [], ◌∷◌, ◌++◌, length, refl, sym, ◌∙◌, ap, subst, arith, length-append}
+use Rattle.std.proofs.Common.{◌≡◌, ℕ, zero, suc, ◌+◌, ◌<◌, ◌≤◌, ◌⊎◌, inl, inr, List, [], ◌∷◌, ◌++◌, length, refl, sym, ◌∙◌, ap, subst, arith, length-append}
 use Rattle.std.proofs.Math.ListN.{get_or, get_or-append}
 use Rattle.std.proofs.Math.Seq.{get_or-append_seam}
 use Rattle.std.proofs.lemmas.List.{get_or_past}
 use Rattle.jr_rows.specs.declared.label.Label.{Label}
 use Rattle.jr_rows.specs.declared.label.Label.TheVariants as is
-use Rattle.jr_rows.specs.Labels.{nodes_of}
-use Rattle.jr_rows.specs.Rows.{Rows, row, label, parent, end, nodes_before}
+use Rattle.jr_rows.specs.Rows.{Rows, label, parent, nodes_before}
 use Rattle.jr_rows.specs.Below.{Under}
 use Rattle.jr_rows.specs.Local.{IsLocal}
 use Rattle.jr_defs.specs.Numbers.{units_before, one_if_unit}
@@ -93,9 +92,9 @@ unit_found p (suc n) u lt e =
           (let w = ends_in_unit (label p n) (unit_rows p n) n (ap (label p) same ∙ e) in let o = w.0 in
           (omega arith, subst (λ j. get_or (unit_rows p (suc n)) j 0 ≡ n) s w.1))
     ]
-    where
-      earlier : (u < n) ⊎ (n ≡ u)
-      earlier = let w : (u < n) ⊎ (n ≤ u) = grind arith in elim w [ inl l ↦ inl l | inr g ↦ inr (omega arith) ]
+  where
+    earlier : (u < n) ⊎ (n ≡ u)
+    earlier = let w : (u < n) ⊎ (n ≤ u) = grind arith in elim w [ inl l ↦ inl l | inr g ↦ inr (omega arith) ]
 
 -- ---- one unit holds a row
 

@@ -1,16 +1,15 @@
 -- A node's row is found by the tables, and where they find none there is none.
-use Rattle.std.proofs.Common.{◌≡◌, ℕ, zero, suc, ◌+◌, ◌-◌, ◌*◌, ◌<◌, ◌≤◌, ◌⊎◌, inl, inr, List, length, refl, sym, ◌∙◌, ap, subst, arith}
+use Rattle.std.proofs.Common.{◌≡◌, ℕ, suc, ◌+◌, ◌-◌, ◌<◌, ◌≤◌, List, length, refl, sym, ◌∙◌, ap, subst, arith}
 use Rattle.std.proofs.Math.ListN.{get_or}
 use Rattle.jr_base.specs.declared.ids.NodeAt.{NodeAt}
 use Rattle.jr_rows.specs.declared.label.Label.TheVariants as is
 use Rattle.jr_rows.specs.Labels.{nodes_of}
-use Rattle.jr_rows.specs.Rows.{Rows, label, parent, end, nodes_before}
+use Rattle.jr_rows.specs.Rows.{Rows, label, end, nodes_before}
 use Rattle.jr_defs.specs.Numbers.{units_before}
-use Rattle.jr_defs.specs.Packages.{InUnit}
 use Rattle.jr_index.specs.NodeRows.{IsNodeOf, IsNowhere, IsIndex}
 use Rattle.jr_index.proofs.Numbering.{nodes_rise, length_counts, counts_at, length_units, IsUnitRow, unit_at, unit_found, unit_there}
 
-next_count : (p : Rows) (n : ℕ) → nodes_before p (n + 1) ≡ nodes_before p n + nodes_of (label p n)
+pub next_count : (p : Rows) (n : ℕ) → nodes_before p (n + 1) ≡ nodes_before p n + nodes_of (label p n)
 next_count p n = let e : suc n ≡ n + 1 = omega arith in subst (λ k. nodes_before p k ≡ nodes_before p n + nodes_of (label p n)) e refl
 
 -- what the tables say of a unit
@@ -69,20 +68,24 @@ module _ (p : Rows) (nodes units : List ℕ) (index : IsIndex p nodes units) whe
     pub known : at.cu.0 < length units
     pub below : at.node.0 < get_or nodes (end p (get_or units at.cu.0 0)) 0 - get_or nodes (get_or units at.cu.0 0) 0
 
+  -- it is the unit of the node
+  pub named : (at : NodeAt) (n nth : ℕ) (w : IsNodeOf p n nth at) → (at.cu.0 < length units) × (get_or units at.cu.0 0 ≡ w.unit)
+  named at n nth w =
+      let in_unit = w.in_unit in
+      let held = w.holds in
+      let stands = unit_found p (length p) w.unit (unit_there p index.local w.unit held.unit) held.unit in
+      let many = unit_count in
+      let fewer = stands.0 in
+      (omega arith, ap (λ (k : ℕ). get_or units k 0) in_unit ∙ ap (λ (all : List ℕ). get_or all (units_before p w.unit) 0) index.starts ∙ stands.1)
+
   pub counted : (at : NodeAt) (n nth : ℕ) → IsNodeOf p n nth at → Counted at
   counted at n nth w =
       let u = w.unit in
-      let in_unit = w.in_unit in
       let held = w.holds in
       let before = held.before in
       let there = unit_there p index.local u held.unit in
-      let stands = unit_found p (length p) u there held.unit in
-      let many = unit_count in
-      let fewer = stands.0 in
-      let known : at.cu.0 < length units = omega arith in
-      let named : get_or units at.cu.0 0 ≡ u
-      = ap (λ (k : ℕ). get_or units k 0) in_unit ∙ ap (λ (all : List ℕ). get_or all (units_before p u) 0) index.starts ∙ stands.1 in
       let ends = index.local.tree.last u there in
+      let nested = index.local.tree.nested u in
       let first = node_count u (omega arith) in
       let last = node_count (end p u) ends in
       let rise = nodes_rise p (n + 1) (end p u) (omega arith) in
@@ -90,7 +93,8 @@ module _ (p : Rows) (nodes units : List ℕ) (index : IsIndex p nodes units) whe
       let of_row = w.counted in
       let number = w.is_node in
       let below : at.node.0 < get_or nodes (end p u) 0 - get_or nodes u 0 = omega arith in
-      record { known = known; below = subst (λ v. at.node.0 < get_or nodes (end p v) 0 - get_or nodes v 0) (sym named) below }
+      let unit = named at n nth w in
+      record { known = unit.0; below = subst (λ v. at.node.0 < get_or nodes (end p v) 0 - get_or nodes v 0) (sym unit.1) below }
 
   pub unknown_unit : (at : NodeAt) → length units ≤ at.cu.0 → IsNowhere p at
   unknown_unit at h n nth w = let k = (counted at n nth w).known in absurd (omega arith)

@@ -9,7 +9,7 @@ use Rattle.jr_rows.specs.Labels.{nodes_of}
 use Rattle.jr_rows.specs.Rows.{Rows, label, parent, nodes_before}
 use Rattle.jr_rows.specs.Local.{IsLocal}
 use Rattle.jr_defs.specs.Packages.{InUnit}
-use Rattle.jr_defs.specs.Numbers.{units_before}
+use Rattle.jr_defs.specs.Numbers.{units_before, offset, IsNodeAt}
 
 -- of the nodes that the row n stands for, the one with so many before it
 pub record IsNodeOf (p : Rows) (n nth : ℕ) (at : NodeAt) : Type 0 where
@@ -45,6 +45,10 @@ pub data IsParentNode (p : Rows) (at up : NodeAt) : Type 0 where
   same_row : {n : ℕ} → IsNodeOf p n 1 at → IsNodeOf p n 0 up → IsParentNode p at up
   row_over : {n m : ℕ} → IsNodeOf p n 0 at → IsNearest p (parent p n) m → IsNodeOf p m (over_nth (label p m) (nat_eq n (m + 1))) up
       → IsParentNode p at up
+
+-- the law: the node of a row's declaration or occurrence is one of those that the row stands for
+abbrev pub NodesAreNumbered : Type 0
+NodesAreNumbered = (p : Rows) (n : ℕ) (at : NodeAt) → IsNodeOf p n (offset (label p n)) at → IsNodeAt p n at
 
 -- ---- the tables
 

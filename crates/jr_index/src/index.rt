@@ -5,7 +5,7 @@ ghost use Rattle.jr_tree.specs.Shape.{IsShaped};
 ghost use Rattle.jr_rows.specs.Labels.{nodes_of};
 ghost use Rattle.jr_rows.specs.Rows.{row, end, label, program_rows};
 ghost use Rattle.jr_rows.specs.Tree.{IsTree};
-ghost use Rattle.jr_index.specs.NodeRows.{IsNodeOf, IsNowhere, IsNearest, IsParentNode, over_nth, counts, unit_rows};
+ghost use Rattle.jr_index.specs.NodeRows.{IsIndex, IsNodeOf, IsNowhere, IsNearest, IsParentNode, over_nth, counts, unit_rows};
 
 use crate::rows_of;
 use jr_base::{NodeAt, NodeId, OutOfMemory};
@@ -68,18 +68,7 @@ impl Index {
     pub fn find(&self, node: NodeAt) -> Option<NodeOfRow>
         ensures { MatchOption result (IsNowhere self.now node) (λ found. IsNodeOf self.now found.row found.nth node) }
     {
-        let unit = *self.units.get(node.cu.0 as usize)?;
-        let end = row_at(&self.rows, unit).end;
-        let first = self.nodes[unit as usize];
-        if node.node.0 >= self.nodes[end as usize] - first {
-            return None;
-        }
-        let number = first + node.node.0;
-        let row = place_of(&self.nodes, unit, end, number);
-        Some(NodeOfRow {
-            row,
-            nth: number - self.nodes[row as usize],
-        })
+        find_row(&self.rows, &self.nodes, &self.units, node)
     }
 
     /// The node right above a node. `None` for the node of a unit, and where the program has no such node.
@@ -90,18 +79,52 @@ impl Index {
         if node.node.0 == 0 {
             return None;
         }
-        let number = if found.nth > 0 {
-            node.node.0 - 1
-        } else {
-            let unit = self.units[node.cu.0 as usize];
-            let over = nearest(&self.rows, unit, row_at(&self.rows, found.row).parent);
-            let nth = nth_over(&row_at(&self.rows, over).label, found.row == over + 1);
-            self.nodes[over as usize] + nth - self.nodes[unit as usize]
-        };
-        Some(NodeAt {
-            cu: node.cu,
-            node: NodeId(number),
-        })
+        if found.nth > 0 {
+            return Some(NodeAt {
+                cu: node.cu,
+                node: NodeId(node.node.0 - 1),
+            });
+        }
+        Some(above_first(&self.rows, &self.nodes, &self.units, node, found.row))
+    }
+}
+
+// The row that stands for a node, by the tables.
+fn find_row(rows: &[Row], nodes: &[u32], units: &[u32], node: NodeAt) -> Option<NodeOfRow>
+    requires { IsIndex rows.now nodes.now units.now }
+    ensures { MatchOption result (IsNowhere rows.now node) (λ found. IsNodeOf rows.now found.row found.nth node) }
+{
+    let known = node.cu.0 as usize;
+    if known >= units.len() {
+        return None;
+    }
+    let unit = units[known];
+    let end = row_at(rows, unit).end;
+    let first = nodes[unit as usize];
+    if node.node.0 >= nodes[end as usize] - first {
+        return None;
+    }
+    let number = first + node.node.0;
+    let row = place_of(nodes, unit, end, number);
+    Some(NodeOfRow {
+        row,
+        nth: number - nodes[row as usize],
+    })
+}
+
+// The node right above the first node of a row.
+fn above_first(rows: &[Row], nodes: &[u32], units: &[u32], node: NodeAt, row: u32) -> NodeAt
+    requires index { IsIndex rows.now nodes.now units.now }
+    requires first { IsNodeOf rows.now row 0 node }
+    requires inside { 0 < node.node.0 }
+    ensures { IsParentNode rows.now node result }
+{
+    let unit = units[node.cu.0 as usize];
+    let over = nearest(rows, unit, row_at(rows, row).parent);
+    let nth = nth_over(&row_at(rows, over).label, row == over + 1);
+    NodeAt {
+        cu: node.cu,
+        node: NodeId(nodes[over as usize] - nodes[unit as usize] + nth),
     }
 }
 

@@ -10,6 +10,7 @@ mod decl;
 mod event;
 mod expr;
 mod index;
+mod law;
 mod stmt;
 mod words;
 
@@ -22,6 +23,7 @@ use jr_base::OutOfMemory;
 use jr_defs::Program;
 use jr_rows::{Label, Row};
 use jr_tree::Unit;
+pub use law::nodes_are_numbered;
 use std::alloc::Global;
 
 /// The labels of a program, as they open and close.
