@@ -1,3 +1,4 @@
 pub mod Events
 pub mod Building
 pub mod Views
+pub mod NodeRows

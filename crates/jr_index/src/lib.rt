@@ -9,6 +9,8 @@ mod building;
 mod decl;
 mod event;
 mod expr;
+mod index;
+mod law;
 mod stmt;
 mod words;
 
@@ -16,10 +18,12 @@ use crate::building::rows_of_events;
 use crate::decl::add_unit;
 use crate::words::{begin, close};
 use event::Event;
+pub use index::{Index, NodeOfRow};
 use jr_base::OutOfMemory;
 use jr_defs::Program;
 use jr_rows::{Label, Row};
 use jr_tree::Unit;
+pub use law::nodes_are_numbered;
 use std::alloc::Global;
 
 /// The labels of a program, as they open and close.
