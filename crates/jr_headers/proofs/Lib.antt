@@ -1,0 +1,4 @@
+pub mod Headed
+pub mod Settled
+pub mod Graphs
+pub mod Cyclic

@@ -1,0 +1,131 @@
+-- Which types are settled, and the graph of headers, as tests (JLS 8.1.4, 8.1.5, 9.1.3).
+use Rattle.std.specs.Prelude.{ℕ, suc, ◌+◌, Bool, true, false, not, ◌&&◌, ◌||◌, List, length, nat_eq, nat_lt, nat_le, bytes_eq}
+use Rattle.std.specs.List.{list_all}
+use Rattle.jr_base.specs.declared.text.Text.{Text}
+use Rattle.jr_rows.specs.declared.label.ImportKind.{ImportKind}
+use Rattle.jr_rows.specs.declared.label.ImportKind.TheVariants as importing
+use Rattle.jr_rows.specs.declared.label.Sought.{Sought}
+use Rattle.jr_rows.specs.declared.label.Sought.TheVariants as sought
+use Rattle.jr_rows.specs.Rows.{Rows, name, end, sought_at}
+use Rattle.jr_defs.specs.declared.referent.Space.TheVariants as space
+use Rattle.jr_defs.specs.Referents.{Table}
+use Rattle.jr_defs.specs.Scope.{Depth, rank}
+use Rattle.jr_defs.specs.Headers.{depth_of}
+use Rattle.jr_plain.specs.Search.{any_below, all_below, has, least_below, reaches}
+use Rattle.jr_plain.specs.Declarations.{is_type}
+use Rattle.jr_plain.specs.Enclosing.{is_declared_in}
+use Rattle.jr_plain.specs.Packages.{is_in_unit}
+use Rattle.jr_plain.specs.Supertypes.{names_superclass, names_superinterface, declaration}
+use Rattle.jr_plain.specs.Imports.{is_import_of}
+use Rattle.jr_plain.specs.Scope.{depths, depth_at, is_in_scope}
+
+-- the row n is the last identifier of a name in the header of c
+abbrev pub names_header : Rows → ℕ → ℕ → Bool
+names_header p c n = names_superclass p c n || names_superinterface p c n
+
+-- the row m is an identifier of the name at n
+abbrev pub is_identifier_of : Rows → ℕ → ℕ → Bool
+is_identifier_of p n m = nat_le n m && nat_lt m (end p n)
+
+abbrev pub is_simple : Sought → Bool
+is_simple (sought.Simple kind) = true
+is_simple _ = false
+
+-- the row m is the first identifier of the name at n
+abbrev pub is_first_of : Rows → ℕ → ℕ → Bool
+is_first_of p n m = nat_eq (end p n) (m + 1) && is_simple (sought_at p m)
+
+-- an import on demand may bring any name, another only its last identifier
+abbrev pub may_bring : Rows → ℕ → Text → ImportKind → Bool
+may_bring p i x importing.OnDemand = true
+may_bring p i x importing.Single = bytes_eq (name p (i + 1)) x
+may_bring p i x importing.StaticSingle = bytes_eq (name p i) x
+
+-- d is not in scope under the name of m so far in as q, or q is no further in than r
+abbrev pub is_no_deeper : Rows → Table → ℕ → Depth → ℕ → Depth → Bool
+is_no_deeper p t m r d q = not (is_in_scope p t space.Type (name p m) m d q) || nat_le (rank q) (rank r)
+
+-- nothing is in scope under the name of m further in than r
+abbrev pub is_unshadowed : Rows → Table → ℕ → Depth → Bool
+is_unshadowed p t m r = all_below (length p) (λ d. all_below (depths p) (λ k. is_no_deeper p t m r d (depth_at k)))
+
+-- the identifier m is looked for in the import i of its unit, which has this form
+abbrev pub is_looked_for_by : Rows → Table → ℕ → ℕ → ImportKind → Bool
+is_looked_for_by p t m i form =
+    any_below (length p) (λ u. is_in_unit p u m && is_import_of p u form i) && may_bring p i (name p m) form && is_unshadowed p t m (depth_of form)
+
+abbrev pub is_looked_for_in : Rows → Table → ℕ → ℕ → Bool
+is_looked_for_in p t m i = is_looked_for_by p t m i importing.Single || is_looked_for_by p t m i importing.OnDemand || is_looked_for_by p t m i importing.StaticSingle
+
+-- m is the first identifier of the name at n, and the row k an identifier of an import where that is looked for
+abbrev pub is_place_through : Rows → Table → ℕ → ℕ → ℕ → Bool
+is_place_through p t n k m = is_first_of p n m && any_below (length p) (λ i. is_looked_for_in p t m i && is_identifier_of p (i + 1) k)
+
+-- the row k is an identifier of the name at n, or of such an import
+abbrev pub is_place : Rows → Table → ℕ → ℕ → Bool
+is_place p t n k = is_identifier_of p n k || any_below (end p n) (λ m. is_place_through p t n k m)
+
+-- such rows stand before this number; the table may have an entry at the number behind the last row
+abbrev pub places : Rows → ℕ
+places p = suc (length p)
+
+-- the row k refers to the type s
+abbrev pub refers_to_type : Rows → Table → ℕ → ℕ → Bool
+refers_to_type p t k s = has (declaration (t k)) s && is_type p s
+
+-- the name at n, in a header, meets the type s
+abbrev pub name_meets : Rows → Table → ℕ → ℕ → Bool
+name_meets p t n s = any_below (places p) (λ k. is_place p t n k && refers_to_type p t k s)
+
+-- a name in the header of c meets the type s
+abbrev pub meets : Rows → Table → ℕ → ℕ → Bool
+meets p t c s = any_below (length p) (λ n. names_header p c n && name_meets p t n s)
+
+-- the enclosing type of c is in the set, and all that its header meets
+abbrev pub is_settled_by : Rows → Table → List ℕ → ℕ → Bool
+is_settled_by p t set c = all_below (length p) (λ e. not (is_declared_in p e c) || has set e) && all_below (length p) (λ s. not (meets p t c s) || has set s)
+
+-- the rows that are settled: the least set to which a row belongs where its enclosing type does, and all that its header meets
+abbrev pub settled : Rows → Table → List ℕ
+settled p t = least_below (length p) (λ set c. is_settled_by p t set c)
+
+abbrev pub is_settled : Rows → Table → ℕ → Bool
+is_settled p t c = let set = settled p t in is_settled_by p t set c
+
+-- ---- the graph
+
+-- the name n in the header of c meets the type s at the place k
+abbrev pub meets_at : Rows → Table → ℕ → ℕ → ℕ → ℕ → Bool
+meets_at p t c n k s = names_header p c n && refers_to_type p t k s && is_place p t n k
+
+-- identifiers of one name come by falling rows, all else by rising ones
+abbrev pub comes_before : Rows → ℕ → ℕ → ℕ → ℕ → Bool
+comes_before p n k m j = nat_lt n m || (nat_eq n m && (nat_le (end p k) j || (nat_lt j k && nat_lt k (end p j))))
+
+-- what the row j refers to, if that is a type, is settled
+abbrev pub is_settled_at : Rows → Table → ℕ → Bool
+is_settled_at p t j = list_all (λ r. not (is_type p r) || is_settled p t r) (declaration (t j))
+
+-- where the header of c has the name m, and the row j comes before the place k of the name n, what j refers to is settled
+abbrev pub is_settled_if_before : Rows → Table → ℕ → ℕ → ℕ → ℕ → ℕ → Bool
+is_settled_if_before p t c n k m j = not (names_header p c m && is_place p t m j && comes_before p m j n k) || is_settled_at p t j
+
+-- all types are settled that the header of c meets before the name n at the place k
+abbrev pub is_settled_before : Rows → Table → ℕ → ℕ → ℕ → Bool
+is_settled_before p t c n k = all_below (length p) (λ m. all_below (places p) (λ j. is_settled_if_before p t c n k m j))
+
+-- the type around c, if there is one, is settled
+abbrev pub is_settled_around : Rows → Table → ℕ → Bool
+is_settled_around p t c = all_below (length p) (λ e. not (is_declared_in p e c) || is_settled p t e)
+
+-- an edge of the header graph
+abbrev pub header_edge : Rows → Table → ℕ → ℕ → Bool
+header_edge p t c s = is_declared_in p s c || (is_settled_around p t c
+    && any_below (length p) (λ n. any_below (places p) (λ k. meets_at p t c n k s && is_settled_before p t c n k)))
+
+abbrev pub header_path : Rows → Table → ℕ → ℕ → Bool
+header_path p t a b = reaches (length p) (header_edge p t) a b
+
+-- an identifier in the header of the type, or in an import where the first identifier of one is looked for
+abbrev pub is_of_header : Rows → Table → ℕ → ℕ → Bool
+is_of_header p t c o = any_below (length p) (λ n. names_header p c n && is_place p t n o)

@@ -1,0 +1,35 @@
+// Each plain function of headers computes what its definition says.
+ghost use Rattle.std.specs.Prelude.{ℕ, ◌<◌, ◌↔◌, Decides};
+ghost use Rattle.jr_rows.specs.Rows.{Rows};
+ghost use Rattle.jr_defs.specs.Referents.{Table};
+ghost use Rattle.jr_defs.specs.Declarations.{IsType};
+ghost use Rattle.jr_defs.specs.Headers.{NamesHeader, IsIdentifierOf, IsFirstOf, IsLookedForIn, NameMeets, Meets, IsSettled, ComesBefore, HeaderEdge, HeaderPath};
+ghost use Rattle.jr_defs.specs.Binding.{IsOfHeader, HasCycle, IsFirstOnCycle};
+ghost use Rattle.jr_plain.specs.Headed.{IsHeaded};
+ghost use Rattle.jr_headers.specs.Headers.{names_header, is_identifier_of, is_first_of, is_looked_for_in, name_meets, meets, is_settled, comes_before, header_edge, header_path, is_of_header};
+
+/// Which names stand in headers, and what they meet.
+pub fn headers_are_computed()
+    ensures header { (p : Rows) (c n : ℕ) → Decides (names_header p c n) (NamesHeader p c n) }
+    ensures identifiers { (p : Rows) (n m : ℕ) → Decides (is_identifier_of p n m) (IsIdentifierOf p n m) }
+    ensures first { (p : Rows) (n m : ℕ) → Decides (is_first_of p n m) (IsFirstOf p n m) }
+    ensures looked_for { (p : Rows) (t : Table) (m i : ℕ) → IsHeaded p → Decides (is_looked_for_in p t m i) (IsLookedForIn p t m i) }
+    ensures name_meets { (p : Rows) (t : Table) (c n s : ℕ) → IsHeaded p → NamesHeader p c n → Decides (name_meets p t n s) (NameMeets p t n s) }
+    ensures meets { (p : Rows) (t : Table) (c s : ℕ) → IsHeaded p → Decides (meets p t c s) (Meets p t c s) }
+    ensures of_header { (p : Rows) (t : Table) (c o : ℕ) → IsHeaded p → Decides (is_of_header p t c o) (IsOfHeader p t c o) }
+{}
+
+/// Settled types, and the graph of headers.
+pub fn header_graph_is_computed()
+    ensures settled { (p : Rows) (t : Table) (c : ℕ) → IsHeaded p → Decides (is_settled p t c) (IsSettled p t c) }
+    ensures order { (p : Rows) (n k m j : ℕ) → Decides (comes_before p n k m j) (ComesBefore p n k m j) }
+    ensures edges { (p : Rows) (t : Table) (c s : ℕ) → IsHeaded p → Decides (header_edge p t c s) (HeaderEdge p t c s) }
+    ensures paths { (p : Rows) (t : Table) (a b : ℕ) → IsHeaded p → Decides (header_path p t a b) (HeaderPath p t a b) }
+{}
+
+/// A type that is not settled stands before a cycle of headers, and a settled one on none: so where some type is not settled, one is the first on a cycle.
+pub fn unsettled_types_are_cycles()
+    ensures unsettled { (p : Rows) (t : Table) (c : ℕ) → IsHeaded p → IsType p c → (IsSettled p t c → ⊥) → (x : ℕ) × IsType p x × HeaderPath p t x x }
+    ensures settled { (p : Rows) (t : Table) (c : ℕ) → IsSettled p t c → HeaderPath p t c c → ⊥ }
+    ensures first { (p : Rows) → IsHeaded p → HasCycle p ↔ (c : ℕ) × IsFirstOnCycle p c }
+{}
