@@ -2,3 +2,4 @@ pub mod Headed
 pub mod Settled
 pub mod Graphs
 pub mod Cyclic
+pub mod Scopes
