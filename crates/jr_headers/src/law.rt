@@ -1,10 +1,11 @@
 // Each plain function of headers computes what its definition says.
-ghost use Rattle.std.specs.Prelude.{ℕ, ◌<◌, ◌↔◌, Decides};
+ghost use Rattle.std.specs.Prelude.{◌≡◌, ℕ, ◌<◌, ◌↔◌, Decides};
 ghost use Rattle.jr_rows.specs.Rows.{Rows};
 ghost use Rattle.jr_defs.specs.Referents.{Table};
 ghost use Rattle.jr_defs.specs.Declarations.{IsType};
 ghost use Rattle.jr_defs.specs.Headers.{NamesHeader, IsIdentifierOf, IsFirstOf, IsLookedForIn, NameMeets, Meets, IsSettled, ComesBefore, HeaderEdge, HeaderPath};
-ghost use Rattle.jr_defs.specs.Binding.{IsOfHeader, HasCycle, IsFirstOnCycle};
+ghost use Rattle.jr_defs.specs.Binding.{IsBinding, OfHeaders, IsOfHeader, HasCycle, IsFirstOnCycle};
+ghost use Rattle.jr_defs.specs.Formed.{IsFormed};
 ghost use Rattle.jr_plain.specs.Headed.{IsHeaded};
 ghost use Rattle.jr_headers.specs.Headers.{names_header, is_identifier_of, is_first_of, is_looked_for_in, name_meets, meets, is_settled, comes_before, header_edge, header_path, is_of_header};
 
@@ -32,4 +33,12 @@ pub fn unsettled_types_are_cycles()
     ensures unsettled { (p : Rows) (t : Table) (c : ℕ) → IsHeaded p → IsType p c → (IsSettled p t c → ⊥) → (x : ℕ) × IsType p x × HeaderPath p t x x }
     ensures settled { (p : Rows) (t : Table) (c : ℕ) → IsSettled p t c → HeaderPath p t c c → ⊥ }
     ensures first { (p : Rows) → IsHeaded p → HasCycle p ↔ (c : ℕ) × IsFirstOnCycle p c }
+{}
+
+/// Tables of headers agree on the headers of settled types, with each other and with a binding: the same types are settled under all of them, and beside a
+/// binding no type is left unsettled.
+pub fn headers_are_one()
+    ensures settled { (p : Rows) (t u : Table) (c : ℕ) → IsFormed p → OfHeaders p t → OfHeaders p u → IsType p c → IsSettled p t c → IsSettled p u c }
+    ensures names { (p : Rows) (t u : Table) (c n : ℕ) → IsFormed p → OfHeaders p t → OfHeaders p u → IsSettled p t c → NamesHeader p c n → t n ≡ u n }
+    ensures binding { (p : Rows) (t : Table) → IsFormed p → IsBinding p t → HasCycle p → ⊥ }
 {}
