@@ -5,3 +5,8 @@ pub mod Cyclic
 pub mod Scopes
 pub mod Names
 pub mod Pairs
+pub mod Looked
+pub mod Rounding
+pub mod Converging
+pub mod Found
+pub mod Restricted

@@ -1,19 +1,17 @@
 -- Two tables of headers agree on the headers of settled types, and so the same types are settled under them.
-use Rattle.std.proofs.Common.{◌≡◌, ◌⊎◌, ℕ, ◌+◌, ◌<◌, ◌≤◌, refl, sym, ◌∙◌, subst, inl, inr, ⊎_elim, arith, Option}
+use Rattle.std.proofs.Common.{◌≡◌, ◌⊎◌, ℕ, ◌+◌, ◌<◌, refl, sym, ◌∙◌, subst, inl, inr, arith, Option}
 use Rattle.jr_rows.specs.declared.label.Label.TheVariants as is
 use Rattle.jr_rows.specs.declared.label.ImportKind.{ImportKind}
 use Rattle.jr_rows.specs.declared.label.NameKind.{NameKind}
 use Rattle.jr_rows.specs.declared.label.Sought.{Sought}
 use Rattle.jr_rows.specs.declared.label.Sought.TheVariants as sought
-use Rattle.jr_rows.specs.Rows.{Rows, label, end, name, parent, sought_at}
-use Rattle.jr_defs.specs.declared.referent.Referent.TheVariants.{Unbound, Declared}
-use Rattle.jr_defs.specs.declared.referent.Space.TheVariants as space
+use Rattle.jr_rows.specs.Rows.{Rows, label, name, parent, sought_at}
+use Rattle.jr_defs.specs.declared.referent.Referent.TheVariants.{Declared}
 use Rattle.jr_defs.specs.Referents.{Table}
-use Rattle.jr_defs.specs.Declarations.{Declares, IsType, IsObject}
+use Rattle.jr_defs.specs.Declarations.{IsType, IsObject}
 use Rattle.jr_defs.specs.Enclosing.{InBody, DeclaredIn}
 use Rattle.jr_defs.specs.Types.{NamesType}
 use Rattle.jr_defs.specs.Supertypes.{SuperAt}
-use Rattle.jr_defs.specs.Imports.{ImportNames}
 use Rattle.jr_defs.specs.Scope.{rank}
 use Rattle.jr_defs.specs.Constants.{HasConstantForm}
 use Rattle.jr_defs.specs.Lookup.{Look}
@@ -35,8 +33,16 @@ pub record Pair (p : Rows) (x y : Table) : Type 0 where
 
 module _ (p : Rows) (formed : IsFormed p) where
   -- what refers to a row where a type is looked for refers to a type
-  look_type : (y : Table) (K : ℕ → Type 0) (x : Table) (o d : ℕ) (l : Option ℕ) → SeeksType (sought_at p o) → Look p y K o (x o) → x o ≡ Declared d l → IsType p d
+  pub look_type : (y : Table) (K : ℕ → Type 0) (x : Table) (o d : ℕ) (l : Option ℕ) → SeeksType (sought_at p o) → Look p y K o (x o) → x o ≡ Declared d l → IsType p d
   look_type y K x o d l seeks w e = type_role p (name p o) d (look_declares p y K o d l (x o) seeks w e)
+
+  pub object_agreed : (r s : Table) (c : ℕ) → IsObject p c → Agreed p r s c
+  object_agreed r s c o = agreed o.type (λ n h. absurd (formed.object_bare c n o h)) (λ n d w. none_above n d w)
+    where
+      none_above : (n d : ℕ) → SuperAt p r c n d → Agreed p r s d
+      none_above n d (SuperAt.class h e) = absurd (formed.object_bare c n o (inl h))
+      none_above _ d (SuperAt.implied h e) = absurd (h.below o)
+      none_above n d (SuperAt.interface h e) = absurd (formed.object_bare c n o (inr h))
 
   module _ (x y : Table) (a : Pair p x y) where
     inner_kept : (n m : ℕ) → SeeksType (sought_at p n) → IsIdentifierOf p n m → n < m → y m ≡ x m
@@ -64,14 +70,6 @@ module _ (p : Rows) (formed : IsFormed p) where
       pub entries : Agreed p x u c
       pub kept : Agreed p x y c
       pub seen : Agreed p y v c
-
-    object_agreed : (r s : Table) (c : ℕ) → IsObject p c → Agreed p r s c
-    object_agreed r s c o = agreed o.type (λ n h. absurd (formed.object_bare c n o h)) (λ n d w. none_above n d w)
-      where
-        none_above : (n d : ℕ) → SuperAt p r c n d → Agreed p r s d
-        none_above n d (SuperAt.class h e) = absurd (formed.object_bare c n o (inl h))
-        none_above _ d (SuperAt.implied h e) = absurd (h.below o)
-        none_above n d (SuperAt.interface h e) = absurd (formed.object_bare c n o (inr h))
 
     -- the header of a type, where what it meets is done, and all round it
     module _ (c : ℕ) (type : IsType p c) (own : IsSettled p x c) (outer : (e : ℕ) → InBody p e c → Done e) (met : (s : ℕ) → IsType p s → Meets p x c s → Done s) where

@@ -1,13 +1,14 @@
 // Each plain function of headers computes what its definition says.
-ghost use Rattle.std.specs.Prelude.{◌≡◌, ℕ, ◌<◌, ◌↔◌, Decides};
+ghost use Rattle.std.specs.Prelude.{◌≡◌, ℕ, ◌↔◌, IsTrue, Decides};
 ghost use Rattle.jr_rows.specs.Rows.{Rows};
-ghost use Rattle.jr_defs.specs.Referents.{Table};
+ghost use Rattle.jr_defs.specs.Referents.{Table, entries};
 ghost use Rattle.jr_defs.specs.Declarations.{IsType};
 ghost use Rattle.jr_defs.specs.Headers.{NamesHeader, IsIdentifierOf, IsFirstOf, IsLookedForIn, NameMeets, Meets, IsSettled, ComesBefore, HeaderEdge, HeaderPath};
 ghost use Rattle.jr_defs.specs.Binding.{IsBinding, OfHeaders, IsOfHeader, HasCycle, IsFirstOnCycle};
 ghost use Rattle.jr_defs.specs.Formed.{IsFormed};
 ghost use Rattle.jr_plain.specs.Headed.{IsHeaded};
 ghost use Rattle.jr_headers.specs.Headers.{names_header, is_identifier_of, is_first_of, is_looked_for_in, name_meets, meets, is_settled, comes_before, header_edge, header_path, is_of_header};
+ghost use Rattle.jr_headers.specs.Rounds.{header_table, has_settled_headers};
 
 /// Which names stand in headers, and what they meet.
 pub fn headers_are_computed()
@@ -41,4 +42,13 @@ pub fn headers_are_one()
     ensures settled { (p : Rows) (t u : Table) (c : ℕ) → IsFormed p → OfHeaders p t → OfHeaders p u → IsType p c → IsSettled p t c → IsSettled p u c }
     ensures names { (p : Rows) (t u : Table) (c n : ℕ) → IsFormed p → OfHeaders p t → OfHeaders p u → IsSettled p t c → NamesHeader p c n → t n ≡ u n }
     ensures binding { (p : Rows) (t : Table) → IsFormed p → IsBinding p t → HasCycle p → ⊥ }
+{}
+
+/// The table of headers that is computed: it is the one under which all types are settled, where a program has one, and it tells whether there is one. A program
+/// that has a binding has one, and the binding has its entries in headers.
+pub fn settled_headers_are_computed()
+    ensures found { (p : Rows) (t : Table) → IsFormed p → OfHeaders p t → ((c : ℕ) → IsType p c → IsSettled p t c) → (o : ℕ) → entries (header_table p) o ≡ t o }
+    ensures decided { (p : Rows) → IsFormed p → Decides (has_settled_headers p) ((t : Table) × OfHeaders p t × ((c : ℕ) → IsType p c → IsSettled p t c)) }
+    ensures bound { (p : Rows) (t : Table) (c n : ℕ) → IsFormed p → IsBinding p t → NamesHeader p c n → entries (header_table p) n ≡ t n }
+    ensures binding { (p : Rows) (t : Table) → IsFormed p → IsBinding p t → IsTrue (has_settled_headers p) }
 {}
