@@ -10,12 +10,12 @@ use Rattle.jr_defs.specs.Enclosing.{DeclaredIn}
 use Rattle.jr_defs.specs.Headers.{NamesHeader, IsIdentifierOf, IsFirstOf, IsLookedForIn, NameMeets, Meets, IsSettled, ComesBefore, HeaderEdge, HeaderPath}
 use Rattle.jr_defs.specs.Binding.{HasCycle, IsFirstOnCycle}
 use Rattle.jr_plain.specs.Headed.{IsHeaded}
-use Rattle.jr_plain.specs.Search.{any_below}
+use Rattle.jr_plain.specs.Search.{any_below, IsFirst, Finds}
 use Rattle.jr_plain.specs.Declarations.{is_type}
 use Rattle.jr_plain.specs.Enclosing.{is_declared_in}
 use Rattle.jr_plain.specs.Supertypes.{declaration}
 use Rattle.jr_plain.proofs.Tests.{both, opposite, decide}
-use Rattle.jr_plain.proofs.Searches.{some, some_of}
+use Rattle.jr_plain.proofs.Searches.{some, some_of, finds_first}
 use Rattle.jr_plain.proofs.Declared.{type_tells}
 use Rattle.jr_plain.proofs.Enclosed.{declared_in_tells}
 use Rattle.jr_plain.proofs.Supertyped.{declaration_lists}
@@ -178,6 +178,9 @@ module _ (p : Rows) (t : Table) (headed : IsHeaded p) where
       → (x : ℕ) × IsType p x × HeaderPath p t x x × ((e : ℕ) → IsType p e → HeaderPath p t e e → e < x → ⊥)
   first_on_cycle c k no' = let w = unsettled_cycle c k no' in let f = earliest (λ x. IsType p x × HeaderPath p t x x) on_cycle w.0 (w.1, w.2) in
       (f.0, f.1.0, f.1.1, λ e y way lt. let le = f.2 e (y, way) in omega arith)
+
+  pub first_on_cycle_finds : Finds (plain.first_on_cycle p t) (IsFirst (λ c. IsType p c × HeaderPath p t c c) (length p))
+  first_on_cycle_finds = finds_first (λ c. is_type p c && plain.header_path p t c c) (λ c. IsType p c × HeaderPath p t c c) (λ c. both (type_tells p c) (path_tells p t headed c c)) (length p)
 
 pub cycles_have_first : (p : Rows) → IsHeaded p → HasCycle p ↔ (c : ℕ) × IsFirstOnCycle p c
 cycles_have_first p headed = (λ h. first h, λ h. record { table = h.1.table; of_headers = h.1.of_headers; on = h.0; type = h.1.type; unsettled = λ s. settled_on_none p h.1.table h.0 s h.1.cycle })

@@ -10,3 +10,4 @@ pub mod Rounding
 pub mod Converging
 pub mod Found
 pub mod Restricted
+pub mod Worked

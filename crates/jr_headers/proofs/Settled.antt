@@ -1,5 +1,6 @@
 -- The tests of settled types and of the header graph tell what they are to tell.
-use Rattle.std.proofs.Common.{◌≡◌, ◌⊎◌, inl, inr, ⊎_elim, arith, ℕ, ◌<◌, Bool, true, not, ◌&&◌, ◌||◌, List, length, Option, Decides}
+use Rattle.std.proofs.Common.{◌≡◌, ◌⊎◌, refl, inl, inr, ⊎_elim, arith, ℕ, ◌<◌, Bool, true, false, not, ◌&&◌, ◌||◌, List, length, Option, Decides}
+use Rattle.std.proofs.lemmas.Bool.{false≢true}
 use Rattle.jr_rows.specs.Rows.{Rows}
 use Rattle.jr_defs.specs.declared.referent.Referent.TheVariants.{Declared}
 use Rattle.jr_defs.specs.Referents.{Table}
@@ -35,18 +36,23 @@ around_below p e c h = type_below p e h.inside.type
 pub met_below : (p : Rows) (t : Table) (c s : ℕ) → Meets p t c s → s < length p
 met_below p t c s h = type_below p s (met_type p t c s h)
 
+-- where the one holds, the other does, and it is asked only there
+pub implies_then : {a b : Bool} {A B : Type 0} → Decides a A → (A → Decides b B) → Decides (not a || b) (A → B)
+implies_then {a = true} p q = let h = p.0 refl in (λ e k. (q h).0 e, λ f. (q h).1 (f h))
+implies_then {a = false} p q = (λ e k. absurd (false≢true (p.1 k)), λ f. refl)
+
 module _ (p : Rows) (t : Table) (headed : IsHeaded p) where
   -- all types round c, and all that its header meets, are such
   abbrev By : (ℕ → Type 0) → ℕ → Type 0
   By S c = ((e : ℕ) → DeclaredIn p e c → S e) × ((s : ℕ) → Meets p t c s → S s)
 
-  around_tells : (test : ℕ → Bool) (S : ℕ → Type 0) → ((k : ℕ) → Decides (test k) (S k)) → (c : ℕ)
+  around_tells : (test : ℕ → Bool) (S : ℕ → Type 0) → ((k : ℕ) → IsType p k → Decides (test k) (S k)) → (c : ℕ)
       → Decides (all_below (length p) (λ e. not (is_declared_in p e c) || test e)) ((e : ℕ) → DeclaredIn p e c → S e)
-  around_tells test S tells c = every {P = λ e. DeclaredIn p e c → S e} (length p) (λ e. not (is_declared_in p e c) || test e) (λ e. implies (declared_in_tells p e c) (tells e))
+  around_tells test S tells c = every {P = λ e. DeclaredIn p e c → S e} (length p) (λ e. not (is_declared_in p e c) || test e) (λ e. implies_then (declared_in_tells p e c) (λ d. tells e d.inside.type))
       (λ e le d. let lt = around_below p e c d in absurd (omega arith))
 
   by_tells : (set : List ℕ) (c : ℕ) → Decides (plain.is_settled_by p t set c) (By (λ x. has set x ≡ true) c)
-  by_tells set c = both (around_tells (has set) (λ x. has set x ≡ true) (λ x. itself (has set x)) c)
+  by_tells set c = both (around_tells (has set) (λ x. has set x ≡ true) (λ x k. itself (has set x)) c)
       (every {P = λ s. Meets p t c s → has set s ≡ true} (length p) (λ s. not (plain.meets p t c s) || has set s) (λ s. implies (meets_tells p t headed c s) (itself (has set s)))
       (λ s le m. let lt = met_below p t c s m in absurd (omega arith)))
 
@@ -64,6 +70,10 @@ module _ (p : Rows) (t : Table) (headed : IsHeaded p) where
   pub settled_tells : (c : ℕ) → Decides (plain.is_settled p t c) (IsSettled p t c)
   settled_tells c = like (by_tells (plain.settled p t) c) (λ w. IsSettled.settled (λ e d. settled_out e (w.0 e d)) (λ s m. settled_out s (w.1 s m))) (one_more c)
 
+  -- of types the set alone tells
+  pub type_settled_tells : (c : ℕ) → IsType p c → Decides (has (plain.settled p t) c) (IsSettled p t c)
+  type_settled_tells c k = (settled_out c, λ s. settled_into c s (type_below p c k))
+
   -- ---- the graph
 
   pub meets_at_tells : (c n k s : ℕ) → Decides (plain.meets_at p t c n k s) (MeetsAt p t c n k s)
@@ -73,8 +83,8 @@ module _ (p : Rows) (t : Table) (headed : IsHeaded p) where
   abbrev SettledAt : ℕ → Type 0
   SettledAt j = (r : ℕ) → (level : Option ℕ) × (t j ≡ Declared r level) → IsType p r → IsSettled p t r
 
-  settled_at_tells : (j : ℕ) → Decides (plain.is_settled_at p t j) (SettledAt j)
-  settled_at_tells j = every_of (λ r. not (is_type p r) || plain.is_settled p t r) (λ r. IsType p r → IsSettled p t r) (λ r. implies (type_tells p r) (settled_tells r))
+  settled_at_tells : (j : ℕ) → Decides (plain.is_settled_at p t (plain.settled p t) j) (SettledAt j)
+  settled_at_tells j = every_of (λ r. not (is_type p r) || has (plain.settled p t) r) (λ r. IsType p r → IsSettled p t r) (λ r. implies_then (type_tells p r) (type_settled_tells r))
       (declaration (t j)) (declaration_lists (t j))
 
   abbrev Earlier : ℕ → ℕ → ℕ → ℕ → ℕ → Type 0
@@ -83,9 +93,9 @@ module _ (p : Rows) (t : Table) (headed : IsHeaded p) where
   abbrev SettledBefore : ℕ → ℕ → ℕ → Type 0
   SettledBefore c n k = (m j : ℕ) → Earlier c n k m j → SettledAt j
 
-  settled_before_tells : (c n k : ℕ) → Decides (plain.is_settled_before p t c n k) (SettledBefore c n k)
-  settled_before_tells c n k = every {P = λ m. (j : ℕ) → Earlier c n k m j → SettledAt j} (length p) (λ m. all_below (plain.places p) (λ j. plain.is_settled_if_before p t c n k m j))
-      (λ m. every {P = λ j. Earlier c n k m j → SettledAt j} (plain.places p) (λ j. plain.is_settled_if_before p t c n k m j)
+  settled_before_tells : (c n k : ℕ) → Decides (plain.is_settled_before p t (plain.settled p t) c n k) (SettledBefore c n k)
+  settled_before_tells c n k = every {P = λ m. (j : ℕ) → Earlier c n k m j → SettledAt j} (length p) (λ m. all_below (plain.places p) (λ j. plain.is_settled_if_before p t (plain.settled p t) c n k m j))
+      (λ m. every {P = λ j. Earlier c n k m j → SettledAt j} (plain.places p) (λ j. plain.is_settled_if_before p t (plain.settled p t) c n k m j)
       (λ j. implies (both (both (names_header_tells p c m) (place_tells p t headed m j)) (comes_before_tells p m j n k)) (settled_at_tells j))
       (λ j le h. let lt = place_below p t headed m j (header_below p c m h.0.0) h.0.1 in absurd (omega arith)))
       (λ m le j h. let lt = header_below p c m h.0.0 in absurd (omega arith))
@@ -93,13 +103,13 @@ module _ (p : Rows) (t : Table) (headed : IsHeaded p) where
   abbrev ByHeader : ℕ → ℕ → ℕ → ℕ → Type 0
   ByHeader c s n k = MeetsAt p t c n k s × SettledBefore c n k
 
-  at_tells : (c s n k : ℕ) → Decides (plain.meets_at p t c n k s && plain.is_settled_before p t c n k) (ByHeader c s n k)
+  at_tells : (c s n k : ℕ) → Decides (plain.meets_at p t c n k s && plain.is_settled_before p t (plain.settled p t) c n k) (ByHeader c s n k)
   at_tells c s n k = both (meets_at_tells c n k s) (settled_before_tells c n k)
 
   pub edge_tells : (c s : ℕ) → Decides (plain.header_edge p t c s) (HeaderEdge p t c s)
-  edge_tells c s = like (either (declared_in_tells p s c) (both (around_tells (plain.is_settled p t) (IsSettled p t) settled_tells c)
-      (some (λ n. any_below (plain.places p) (λ k. plain.meets_at p t c n k s && plain.is_settled_before p t c n k)) (λ n. (k : ℕ) × ByHeader c s n k)
-      (λ n. some (λ k. plain.meets_at p t c n k s && plain.is_settled_before p t c n k) (ByHeader c s n) (at_tells c s n) (plain.places p)
+  edge_tells c s = like (either (declared_in_tells p s c) (both (around_tells (has (plain.settled p t)) (IsSettled p t) type_settled_tells c)
+      (some (λ n. any_below (plain.places p) (λ k. plain.meets_at p t c n k s && plain.is_settled_before p t (plain.settled p t) c n k)) (λ n. (k : ℕ) × ByHeader c s n k)
+      (λ n. some (λ k. plain.meets_at p t c n k s && plain.is_settled_before p t (plain.settled p t) c n k) (ByHeader c s n) (at_tells c s n) (plain.places p)
       (λ k h. place_below p t headed n k (header_below p c n h.0.header) h.0.place)) (length p) (λ n h. header_below p c n h.1.0.header)))) out into
     where
       out : DeclaredIn p s c ⊎ (((e : ℕ) → DeclaredIn p e c → IsSettled p t e) × ((n : ℕ) × ((k : ℕ) × ByHeader c s n k))) → HeaderEdge p t c s

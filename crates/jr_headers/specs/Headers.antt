@@ -1,5 +1,5 @@
 -- Which types are settled, and the graph of headers, as tests (JLS 8.1.4, 8.1.5, 9.1.3).
-use Rattle.std.specs.Prelude.{ℕ, suc, ◌+◌, Bool, true, false, not, ◌&&◌, ◌||◌, List, length, nat_eq, nat_lt, nat_le, bytes_eq}
+use Rattle.std.specs.Prelude.{ℕ, suc, ◌+◌, Bool, true, false, not, ◌&&◌, ◌||◌, List, length, nat_eq, nat_lt, nat_le, bytes_eq, Option}
 use Rattle.std.specs.List.{list_all}
 use Rattle.jr_base.specs.declared.text.Text.{Text}
 use Rattle.jr_rows.specs.declared.label.ImportKind.{ImportKind}
@@ -11,7 +11,7 @@ use Rattle.jr_defs.specs.declared.referent.Space.TheVariants as space
 use Rattle.jr_defs.specs.Referents.{Table}
 use Rattle.jr_defs.specs.Scope.{Depth, rank}
 use Rattle.jr_defs.specs.Headers.{depth_of}
-use Rattle.jr_plain.specs.Search.{any_below, all_below, has, least_below, reaches}
+use Rattle.jr_plain.specs.Search.{any_below, all_below, first_below, has, least_below, reaches}
 use Rattle.jr_plain.specs.Declarations.{is_type}
 use Rattle.jr_plain.specs.Enclosing.{is_declared_in}
 use Rattle.jr_plain.specs.Packages.{is_in_unit}
@@ -102,29 +102,36 @@ meets_at p t c n k s = names_header p c n && refers_to_type p t k s && is_place 
 abbrev pub comes_before : Rows → ℕ → ℕ → ℕ → ℕ → Bool
 comes_before p n k m j = nat_lt n m || (nat_eq n m && (nat_le (end p k) j || (nat_lt j k && nat_lt k (end p j))))
 
--- what the row j refers to, if that is a type, is settled
-abbrev pub is_settled_at : Rows → Table → ℕ → Bool
-is_settled_at p t j = list_all (λ r. not (is_type p r) || is_settled p t r) (declaration (t j))
+-- what the row j refers to, if that is a type, is in the set of settled types
+abbrev pub is_settled_at : Rows → Table → List ℕ → ℕ → Bool
+is_settled_at p t set j = list_all (λ r. not (is_type p r) || has set r) (declaration (t j))
 
 -- where the header of c has the name m, and the row j comes before the place k of the name n, what j refers to is settled
-abbrev pub is_settled_if_before : Rows → Table → ℕ → ℕ → ℕ → ℕ → ℕ → Bool
-is_settled_if_before p t c n k m j = not (names_header p c m && is_place p t m j && comes_before p m j n k) || is_settled_at p t j
+abbrev pub is_settled_if_before : Rows → Table → List ℕ → ℕ → ℕ → ℕ → ℕ → ℕ → Bool
+is_settled_if_before p t set c n k m j = not (names_header p c m && is_place p t m j && comes_before p m j n k) || is_settled_at p t set j
 
 -- all types are settled that the header of c meets before the name n at the place k
-abbrev pub is_settled_before : Rows → Table → ℕ → ℕ → ℕ → Bool
-is_settled_before p t c n k = all_below (length p) (λ m. all_below (places p) (λ j. is_settled_if_before p t c n k m j))
+abbrev pub is_settled_before : Rows → Table → List ℕ → ℕ → ℕ → ℕ → Bool
+is_settled_before p t set c n k = all_below (length p) (λ m. all_below (places p) (λ j. is_settled_if_before p t set c n k m j))
 
 -- the type around c, if there is one, is settled
-abbrev pub is_settled_around : Rows → Table → ℕ → Bool
-is_settled_around p t c = all_below (length p) (λ e. not (is_declared_in p e c) || is_settled p t e)
+abbrev pub is_settled_around : Rows → List ℕ → ℕ → Bool
+is_settled_around p set c = all_below (length p) (λ e. not (is_declared_in p e c) || has set e)
 
--- an edge of the header graph
+-- an edge of the header graph, where these types are settled
+abbrev pub is_edge : Rows → Table → List ℕ → ℕ → ℕ → Bool
+is_edge p t set c s = is_declared_in p s c || (is_settled_around p set c
+    && any_below (length p) (λ n. any_below (places p) (λ k. meets_at p t c n k s && is_settled_before p t set c n k)))
+
 abbrev pub header_edge : Rows → Table → ℕ → ℕ → Bool
-header_edge p t c s = is_declared_in p s c || (is_settled_around p t c
-    && any_below (length p) (λ n. any_below (places p) (λ k. meets_at p t c n k s && is_settled_before p t c n k)))
+header_edge p t c s = let set = settled p t in is_edge p t set c s
 
 abbrev pub header_path : Rows → Table → ℕ → ℕ → Bool
-header_path p t a b = reaches (length p) (header_edge p t) a b
+header_path p t a b = let set = settled p t in reaches (length p) (is_edge p t set) a b
+
+-- the first type that stands on a cycle
+abbrev pub first_on_cycle : Rows → Table → Option ℕ
+first_on_cycle p t = let set = settled p t in first_below (length p) (λ c. is_type p c && reaches (length p) (is_edge p t set) c c)
 
 -- an identifier in the header of the type, or in an import where the first identifier of one is looked for
 abbrev pub is_of_header : Rows → Table → ℕ → ℕ → Bool

@@ -1,5 +1,5 @@
 // Each plain function of headers computes what its definition says.
-ghost use Rattle.std.specs.Prelude.{◌≡◌, ℕ, ◌↔◌, IsTrue, Decides};
+ghost use Rattle.std.specs.Prelude.{◌≡◌, ℕ, ◌↔◌, IsTrue, length, Decides};
 ghost use Rattle.jr_rows.specs.Rows.{Rows};
 ghost use Rattle.jr_defs.specs.Referents.{Table, entries};
 ghost use Rattle.jr_defs.specs.Declarations.{IsType};
@@ -7,7 +7,8 @@ ghost use Rattle.jr_defs.specs.Headers.{NamesHeader, IsIdentifierOf, IsFirstOf, 
 ghost use Rattle.jr_defs.specs.Binding.{IsBinding, OfHeaders, IsOfHeader, HasCycle, IsFirstOnCycle};
 ghost use Rattle.jr_defs.specs.Formed.{IsFormed};
 ghost use Rattle.jr_plain.specs.Headed.{IsHeaded};
-ghost use Rattle.jr_headers.specs.Headers.{names_header, is_identifier_of, is_first_of, is_looked_for_in, name_meets, meets, is_settled, comes_before, header_edge, header_path, is_of_header};
+ghost use Rattle.jr_plain.specs.Search.{IsFirst, Finds};
+ghost use Rattle.jr_headers.specs.Headers.{names_header, is_identifier_of, is_first_of, is_looked_for_in, name_meets, meets, is_settled, comes_before, header_edge, header_path, first_on_cycle, is_of_header};
 ghost use Rattle.jr_headers.specs.Rounds.{header_table, has_settled_headers};
 
 /// Which names stand in headers, and what they meet.
@@ -34,6 +35,7 @@ pub fn unsettled_types_are_cycles()
     ensures unsettled { (p : Rows) (t : Table) (c : ℕ) → IsHeaded p → IsType p c → (IsSettled p t c → ⊥) → (x : ℕ) × IsType p x × HeaderPath p t x x }
     ensures settled { (p : Rows) (t : Table) (c : ℕ) → IsSettled p t c → HeaderPath p t c c → ⊥ }
     ensures first { (p : Rows) → IsHeaded p → HasCycle p ↔ (c : ℕ) × IsFirstOnCycle p c }
+    ensures computed { (p : Rows) (t : Table) → IsHeaded p → Finds (first_on_cycle p t) (IsFirst (λ c. IsType p c × HeaderPath p t c c) (length p)) }
 {}
 
 /// Tables of headers agree on the headers of settled types, with each other and with a binding: the same types are settled under all of them, and beside a
