@@ -2,7 +2,7 @@
 use Rattle.std.proofs.Common.{◌≡◌, ◌⊎◌, refl, sym, ◌∙◌, ap, subst, inl, inr, ⊎_elim, arith, ℕ, suc, ◌+◌, ◌≤◌, ◌<◌, Bool, true, false, cond, not, ◌&&◌, ◌||◌, length, Decides}
 use Rattle.std.proofs.Math.Path.{fun_ext}
 use Rattle.std.proofs.lemmas.Bool.{false≢true, cases_lt}
-use Rattle.jr_rows.specs.Rows.{Rows, name, sought_at}
+use Rattle.jr_rows.specs.Rows.{Rows, name, parent, sought_at}
 use Rattle.jr_defs.specs.declared.referent.Referent.TheVariants.{Unbound}
 use Rattle.jr_defs.specs.Referents.{Table, entries}
 use Rattle.jr_defs.specs.Declarations.{IsType}
@@ -10,25 +10,26 @@ use Rattle.jr_defs.specs.Enclosing.{InBody}
 use Rattle.jr_defs.specs.Constants.{HasConstantForm}
 use Rattle.jr_defs.specs.Lookup.{Look}
 use Rattle.jr_defs.specs.Headers.{NamesHeader, IsFirstOf, IsLookedForIn, IsSettled}
-use Rattle.jr_defs.specs.Binding.{IsBinding, IsOfHeader, OfHeaders}
+use Rattle.jr_defs.specs.Binding.{IsBinding, IsOfHeader, IsSettledPart, OfHeaders}
 use Rattle.jr_defs.specs.Formed.{SeeksType, IsFormed}
 use Rattle.jr_defs.proofs.Unique.{answer_unique}
 use Rattle.jr_defs.proofs.TypesAgree.{otherwise_one}
 use Rattle.jr_defs.proofs.Cycles.{settled_part_whole}
 use Rattle.jr_defs.proofs.HeadersAgree.{Agreed, ImportSame}
 use Rattle.jr_plain.specs.Headed.{IsHeaded}
-use Rattle.jr_plain.specs.Search.{all_below}
+use Rattle.jr_plain.specs.Search.{all_below, has}
 use Rattle.jr_plain.specs.Same.{same_referent}
 use Rattle.jr_plain.specs.Declarations.{is_type}
-use Rattle.jr_plain.proofs.Tests.{both, either, implies, like, decide}
+use Rattle.jr_plain.proofs.Tests.{both, either, opposite, implies, like, decide}
 use Rattle.jr_plain.proofs.Searches.{some, every}
 use Rattle.jr_plain.proofs.Same.{referent_tells}
 use Rattle.jr_plain.proofs.Bounds.{type_below}
 use Rattle.jr_plain.proofs.Declared.{type_tells}
 use Rattle.jr_plain.proofs.Headed.{headed_from_formed}
-use Rattle.jr_headers.specs.Headers.{is_settled, is_of_header}
+use Rattle.jr_headers.specs.Headers.{names_header, is_of_header, settled}
 use Rattle.jr_headers.specs.Rounds as plain
-use Rattle.jr_headers.proofs.Settled.{settled_tells, of_header_tells}
+use Rattle.jr_headers.proofs.Settled.{implies_then, type_settled_tells, settled_tells, of_header_tells}
+use Rattle.jr_headers.proofs.Headed.{both_then, names_header_tells}
 use Rattle.jr_headers.proofs.Scopes.{looked_there, looked_back}
 use Rattle.jr_headers.proofs.Names.{itself_identifier, import_seeks}
 use Rattle.jr_headers.proofs.Pairs.{Pair, bound_pair, headers_pair}
@@ -130,14 +131,64 @@ module _ (p : Rows) (formed : IsFormed p) where
   -- ---- whether a table is one of headers, with all types settled
 
   module _ (t : Table) (past : (o : ℕ) → length p ≤ o → t o ≡ Unbound) where
-    all_settled_tells : Decides (all_below (length p) (λ c. not (is_type p c) || is_settled p t c)) ((c : ℕ) → IsType p c → IsSettled p t c)
-    all_settled_tells = every {P = λ c. IsType p c → IsSettled p t c} (length p) (λ c. not (is_type p c) || is_settled p t c) (λ c. implies (type_tells p c) (settled_tells p t headed c))
-        (λ c le k. let lt = type_below p c k in absurd (omega arith))
+    all_settled_tells : Decides (all_below (length p) (λ c. not (is_type p c) || has (settled p t) c)) ((c : ℕ) → IsType p c → IsSettled p t c)
+    all_settled_tells = every {P = λ c. IsType p c → IsSettled p t c} (length p) (λ c. not (is_type p c) || has (settled p t) c)
+        (λ c. implies_then (type_tells p c) (type_settled_tells p t headed c)) (λ c le k. let lt = type_below p c k in absurd (omega arith))
 
-    looked_tells : Decides (all_below (length p) (λ c. all_below (length p) (λ o. plain.is_as_looked_up p t c o))) ((c o : ℕ) → IsType p c × IsOfHeader p t c o → t o ≡ plain.look_type p t o)
-    looked_tells = every {P = λ c. (o : ℕ) → IsType p c × IsOfHeader p t c o → t o ≡ plain.look_type p t o} (length p) (λ c. all_below (length p) (λ o. plain.is_as_looked_up p t c o))
-        (λ c. every {P = λ o. IsType p c × IsOfHeader p t c o → t o ≡ plain.look_type p t o} (length p) (λ o. plain.is_as_looked_up p t c o)
-        (λ o. implies (both (type_tells p c) (of_header_tells p t headed c o)) (referent_tells (t o) (plain.look_type p t o)))
+    -- the settled part
+
+    abbrev LeftOut : ℕ → Type 0
+    LeftOut o = (c : ℕ) × NamesHeader p c o × (IsSettled p t c → ⊥)
+
+    above_it : (c o : ℕ) → NamesHeader p c o → parent p o ≡ c
+    above_it c o (inl w) = w.inside
+    above_it c o (inr w) = w.inside
+
+    left_out_tells : (o : ℕ) → Decides (names_header p (parent p o) o && not (has (settled p t) (parent p o))) (LeftOut o)
+    left_out_tells o = like (both_then (names_header_tells p (parent p o) o) (λ h. opposite (type_settled_tells p t headed (parent p o) (formed.header (parent p o) o h))))
+        (λ h. (parent p o, h.0, h.1))
+        (λ h. let e = above_it h.0 o h.1 in (subst (λ c. NamesHeader p c o) (sym e) h.1, subst (λ c. IsSettled p t c → ⊥) (sym e) h.2))
+
+    part_row : (o : ℕ) → entries (plain.settled_part p t) o ≡ plain.without_others p t (settled p t) o
+    part_row o = ⊎_elim (λ lt. entries_listed (plain.without_others p t (settled p t)) (length p) 0 o lt ∙ ap (plain.without_others p t (settled p t)) first)
+        (λ le. entries_past (plain.without_others p t (settled p t)) (length p) 0 o le ∙ sym (none (names_header p (parent p o) o && not (has (settled p t) (parent p o))) (past o le)))
+        (cases_lt o (length p))
+      where
+        first : 0 + o ≡ o
+        first = omega arith
+
+        none : (b : Bool) → t o ≡ Unbound → cond b Unbound (t o) ≡ Unbound
+        none true e = refl
+        none false e = e
+
+    part_kept : (o : ℕ) → (LeftOut o → ⊥) → entries (plain.settled_part p t) o ≡ t o
+    part_kept o no' = part_row o ∙ by (names_header p (parent p o) o && not (has (settled p t) (parent p o))) (left_out_tells o)
+      where
+        by : (b : Bool) → Decides b (LeftOut o) → cond b Unbound (t o) ≡ t o
+        by true d = absurd (no' (d.0 refl))
+        by false d = refl
+
+    part_left_out : (o : ℕ) → LeftOut o → entries (plain.settled_part p t) o ≡ Unbound
+    part_left_out o h = part_row o ∙ ap (λ b. cond b Unbound (t o)) ((left_out_tells o).1 h)
+
+    part_is : IsSettledPart p t (entries (plain.settled_part p t))
+    part_is = record { kept = λ o h. part_kept o (λ w. w.2 (h w.0 w.1)); left_out = λ c o h no'. part_left_out o (c, h, no') }
+
+    part_only : (u : Table) → IsSettledPart p t u → u ≡ entries (plain.settled_part p t)
+    part_only u h = fun_ext (λ o. ⊎_elim (λ w. h.left_out w.0 o w.1 w.2 ∙ sym (part_left_out o w)) (λ no'. h.kept o (λ c k. settled_or_not c o no' k) ∙ sym (part_kept o no')) (decide (left_out_tells o)))
+      where
+        settled_or_not : (c o : ℕ) → (LeftOut o → ⊥) → NamesHeader p c o → IsSettled p t c
+        settled_or_not c o no' k = ⊎_elim (λ s. s) (λ out. absurd (no' (c, k, out))) (decide (settled_tells p t headed c))
+
+    -- what is looked up under it
+
+    looked_tells : Decides (all_below (length p) (λ c. all_below (length p) (λ o. plain.is_as_looked_up p t (entries (plain.settled_part p t)) c o)))
+        ((c o : ℕ) → IsType p c × IsOfHeader p t c o → t o ≡ plain.look_type p (entries (plain.settled_part p t)) o)
+    looked_tells = every {P = λ c. (o : ℕ) → IsType p c × IsOfHeader p t c o → t o ≡ plain.look_type p (entries (plain.settled_part p t)) o} (length p)
+        (λ c. all_below (length p) (λ o. plain.is_as_looked_up p t (entries (plain.settled_part p t)) c o))
+        (λ c. every {P = λ o. IsType p c × IsOfHeader p t c o → t o ≡ plain.look_type p (entries (plain.settled_part p t)) o} (length p)
+        (λ o. plain.is_as_looked_up p t (entries (plain.settled_part p t)) c o)
+        (λ o. implies (both (type_tells p c) (of_header_tells p t headed c o)) (referent_tells (t o) (plain.look_type p (entries (plain.settled_part p t)) o)))
         (λ o le h. let lt = of_header_row t c o h.1 in absurd (omega arith)))
         (λ c le o h. let lt = type_below p c h.0 in absurd (omega arith))
 
@@ -145,26 +196,29 @@ module _ (p : Rows) (formed : IsFormed p) where
     others_tell = every {P = λ o. (t o ≡ Unbound) ⊎ OfSome t o} (length p) (λ o. same_referent (t o) Unbound || plain.is_of_some_header p t o)
         (λ o. either (referent_tells (t o) Unbound) (of_some_tells t o)) (λ o le. inl (past o le))
 
-    pub settles_tells : Decides (plain.is_header_table p t) (Settles p t)
-    settles_tells = like (both (both all_settled_tells looked_tells) others_tell) out (λ h. ((h.1, into h.0 h.1), λ o. other h.0 o))
+    pub of_headers_tells : Decides (plain.is_of_headers p t) (OfHeaders p t)
+    of_headers_tells = like (both looked_tells others_tell) out (λ h. (into h, λ o. other h o))
       where
-        out : (((c : ℕ) → IsType p c → IsSettled p t c) × ((c o : ℕ) → IsType p c × IsOfHeader p t c o → t o ≡ plain.look_type p t o)) × ((o : ℕ) → (t o ≡ Unbound) ⊎ OfSome t o) → Settles p t
-        out h = (
-          record {
-            settled_part = t;
-            part = record { kept = λ o k. refl; left_out = λ c o k no'. absurd (no' (h.0.0 c (formed.header c o k))) };
-            looked = λ c o k w. subst (Look p t (HasConstantForm p t) o) (sym (h.0.1 c o (k, w))) (look_type_is p t headed o (HasConstantForm p t) (of_header_seeks t c o w));
-            others = λ o no'. ⊎_elim (λ e. absurd (no' e)) (λ w. w) (h.1 o);
-          },
-          h.0.0,
-        )
+        out : ((c o : ℕ) → IsType p c × IsOfHeader p t c o → t o ≡ plain.look_type p (entries (plain.settled_part p t)) o) × ((o : ℕ) → (t o ≡ Unbound) ⊎ OfSome t o) → OfHeaders p t
+        out h = record {
+          settled_part = entries (plain.settled_part p t);
+          part = part_is;
+          looked = λ c o k w. subst (Look p (entries (plain.settled_part p t)) (HasConstantForm p (entries (plain.settled_part p t))) o) (sym (h.0 c o (k, w)))
+              (look_type_is p (entries (plain.settled_part p t)) headed o (HasConstantForm p (entries (plain.settled_part p t))) (of_header_seeks t c o w));
+          others = λ o no'. ⊎_elim (λ e. absurd (no' e)) (λ w. w) (h.1 o);
+        }
 
-        into : (h : OfHeaders p t) → ((c : ℕ) → IsType p c → IsSettled p t c) → (c o : ℕ) → IsType p c × IsOfHeader p t c o → t o ≡ plain.look_type p t o
-        into h all c o w = answer_unique _ _ (otherwise_one p t (HasConstantForm p t) o (name p o) (sought_at p o)) (t o) (plain.look_type p t o)
-            (subst (λ y. Look p y (HasConstantForm p y) o (t o)) (whole t h all) (h.looked c o w.0 w.1)) (look_type_is p t headed o (HasConstantForm p t) (of_header_seeks t c o w.1))
+        into : OfHeaders p t → (c o : ℕ) → IsType p c × IsOfHeader p t c o → t o ≡ plain.look_type p (entries (plain.settled_part p t)) o
+        into h c o w = answer_unique _ _ (otherwise_one p (entries (plain.settled_part p t)) (HasConstantForm p (entries (plain.settled_part p t))) o (name p o) (sought_at p o)) (t o)
+            (plain.look_type p (entries (plain.settled_part p t)) o)
+            (subst (λ u. Look p u (HasConstantForm p u) o (t o)) (part_only h.settled_part h.part) (h.looked c o w.0 w.1))
+            (look_type_is p (entries (plain.settled_part p t)) headed o (HasConstantForm p (entries (plain.settled_part p t))) (of_header_seeks t c o w.1))
 
         other : OfHeaders p t → (o : ℕ) → (t o ≡ Unbound) ⊎ OfSome t o
         other h o = ⊎_elim (λ e. inl e) (λ no'. inr (h.others o no')) (decide (referent_tells (t o) Unbound))
+
+    pub settles_tells : Decides (plain.is_header_table p t) (Settles p t)
+    settles_tells = like (both all_settled_tells of_headers_tells) (λ h. (h.1, h.0)) (λ h. (h.1, h.0))
 
   pub has_settled_tells : Decides (plain.has_settled_headers p) ((t : Table) × Settles p t)
   has_settled_tells = like (settles_tells (entries (plain.header_table p)) (λ o le. entries_past (plain.kept p (entries (plain.last_round p))) (length p) 0 o le))

@@ -11,3 +11,4 @@ pub mod Converging
 pub mod Found
 pub mod Restricted
 pub mod Worked
+pub mod Cut

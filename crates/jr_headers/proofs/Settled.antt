@@ -93,33 +93,44 @@ module _ (p : Rows) (t : Table) (headed : IsHeaded p) where
   abbrev SettledBefore : ℕ → ℕ → ℕ → Type 0
   SettledBefore c n k = (m j : ℕ) → Earlier c n k m j → SettledAt j
 
-  settled_before_tells : (c n k : ℕ) → Decides (plain.is_settled_before p t (plain.settled p t) c n k) (SettledBefore c n k)
-  settled_before_tells c n k = every {P = λ m. (j : ℕ) → Earlier c n k m j → SettledAt j} (length p) (λ m. all_below (plain.places p) (λ j. plain.is_settled_if_before p t (plain.settled p t) c n k m j))
-      (λ m. every {P = λ j. Earlier c n k m j → SettledAt j} (plain.places p) (λ j. plain.is_settled_if_before p t (plain.settled p t) c n k m j)
+  settled_in_before_tells : (c n k m : ℕ) → Decides (plain.is_settled_in_before p t (plain.settled p t) c n k m) (NamesHeader p c m → (j : ℕ) → Earlier c n k m j → SettledAt j)
+  settled_in_before_tells c n k m = implies_then (names_header_tells p c m)
+      (λ w. every {P = λ j. Earlier c n k m j → SettledAt j} (plain.places p) (λ j. plain.is_settled_if_before p t (plain.settled p t) c n k m j)
       (λ j. implies (both (both (names_header_tells p c m) (place_tells p t headed m j)) (comes_before_tells p m j n k)) (settled_at_tells j))
       (λ j le h. let lt = place_below p t headed m j (header_below p c m h.0.0) h.0.1 in absurd (omega arith)))
-      (λ m le j h. let lt = header_below p c m h.0.0 in absurd (omega arith))
+
+  settled_before_tells : (c n k : ℕ) → Decides (plain.is_settled_before p t (plain.settled p t) c n k) (SettledBefore c n k)
+  settled_before_tells c n k = like
+      (every {P = λ m. NamesHeader p c m → (j : ℕ) → Earlier c n k m j → SettledAt j} (length p) (λ m. plain.is_settled_in_before p t (plain.settled p t) c n k m)
+      (settled_in_before_tells c n k) (λ m le h. let lt = header_below p c m h in absurd (omega arith)))
+      (λ f m j h. f m h.0.0 j h) (λ f m h j e. f m j e)
 
   abbrev ByHeader : ℕ → ℕ → ℕ → ℕ → Type 0
   ByHeader c s n k = MeetsAt p t c n k s × SettledBefore c n k
 
-  at_tells : (c s n k : ℕ) → Decides (plain.meets_at p t c n k s && plain.is_settled_before p t (plain.settled p t) c n k) (ByHeader c s n k)
+  at_tells : (c s n k : ℕ) → Decides (plain.is_edge_at p t (plain.settled p t) c s n k) (ByHeader c s n k)
   at_tells c s n k = both (meets_at_tells c n k s) (settled_before_tells c n k)
+
+  edge_by_tells : (c s n : ℕ) → Decides (plain.is_edge_by p t (plain.settled p t) c s n) (NamesHeader p c n × ((k : ℕ) × ByHeader c s n k))
+  edge_by_tells c s n = both (names_header_tells p c n)
+      (some (λ k. plain.is_edge_at p t (plain.settled p t) c s n k) (ByHeader c s n) (at_tells c s n) (plain.places p)
+      (λ k h. place_below p t headed n k (header_below p c n h.0.header) h.0.place))
+
+  abbrev EdgeBy : ℕ → ℕ → Type 0
+  EdgeBy c s = DeclaredIn p s c ⊎ (((e : ℕ) → DeclaredIn p e c → IsSettled p t e) × ((n : ℕ) × (NamesHeader p c n × ((k : ℕ) × ByHeader c s n k))))
 
   pub edge_tells : (c s : ℕ) → Decides (plain.header_edge p t c s) (HeaderEdge p t c s)
   edge_tells c s = like (either (declared_in_tells p s c) (both (around_tells (has (plain.settled p t)) (IsSettled p t) type_settled_tells c)
-      (some (λ n. any_below (plain.places p) (λ k. plain.meets_at p t c n k s && plain.is_settled_before p t (plain.settled p t) c n k)) (λ n. (k : ℕ) × ByHeader c s n k)
-      (λ n. some (λ k. plain.meets_at p t c n k s && plain.is_settled_before p t (plain.settled p t) c n k) (ByHeader c s n) (at_tells c s n) (plain.places p)
-      (λ k h. place_below p t headed n k (header_below p c n h.0.header) h.0.place)) (length p) (λ n h. header_below p c n h.1.0.header)))) out into
+      (some (λ n. plain.is_edge_by p t (plain.settled p t) c s n) (λ n. NamesHeader p c n × ((k : ℕ) × ByHeader c s n k)) (edge_by_tells c s) (length p) (λ n h. header_below p c n h.0)))) out into
     where
-      out : DeclaredIn p s c ⊎ (((e : ℕ) → DeclaredIn p e c → IsSettled p t e) × ((n : ℕ) × ((k : ℕ) × ByHeader c s n k))) → HeaderEdge p t c s
+      out : EdgeBy c s → HeaderEdge p t c s
       out (inl d) = HeaderEdge.outwards d
-      out (inr h) = HeaderEdge.header h.0 h.1.1.1.0 (λ m j r w b. h.1.1.1.1 m j ((w.header, w.place), b) r (w.level, w.refers) w.type)
+      out (inr h) = HeaderEdge.header h.0 h.1.1.1.1.0 (λ m j r w b. h.1.1.1.1.1 m j ((w.header, w.place), b) r (w.level, w.refers) w.type)
 
-      into : {s : ℕ} → HeaderEdge p t c s → DeclaredIn p s c ⊎ (((e : ℕ) → DeclaredIn p e c → IsSettled p t e) × ((n : ℕ) × ((k : ℕ) × ByHeader c s n k)))
+      into : {s : ℕ} → HeaderEdge p t c s → EdgeBy c s
       into (HeaderEdge.outwards d) = inl d
       into (HeaderEdge.header {n = n} {k = k} around w before) =
-          inr (around, (n, (k, (w, λ m j b r e y. before m j r (record { header = b.0.0; level = e.0; refers = e.1; type = y; place = b.0.1 }) b.1))))
+          inr (around, (n, (w.header, (k, (w, λ m j b r e y. before m j r (record { header = b.0.0; level = e.0; refers = e.1; type = y; place = b.0.1 }) b.1)))))
 
   pub edge_below : (c s : ℕ) → HeaderEdge p t c s → c < length p
   edge_below c _ (HeaderEdge.outwards {e = e} d) = declared_below p e c d

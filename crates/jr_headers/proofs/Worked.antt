@@ -10,7 +10,7 @@ use Rattle.jr_defs.specs.declared.referent.Referent.TheVariants.{Unbound, Declar
 use Rattle.jr_defs.specs.Referents.{entries}
 use Rattle.jr_defs.proofs.Worked.{p, lang}
 use Rattle.jr_headers.specs.Headers.{meets, is_settled, header_edge, header_path}
-use Rattle.jr_headers.specs.Rounds.{round, header_table, has_settled_headers}
+use Rattle.jr_headers.specs.Rounds.{round, header_table, has_settled_headers, cycle_of}
 
 abbrev class_a : d.TypeDecl
 class_a = d.Class [] (codes "A") (Some (record { parts = codes "B" ∷ [] })) [] d.no_members
@@ -29,3 +29,24 @@ a_meets_b = refl
 
 a_unsettled : is_settled q (entries (round q [])) 10 ≡ false
 a_unsettled = refl
+
+a_edge : header_edge q (entries (round q [])) 10 15 ≡ true
+a_edge = refl
+
+a_path : header_path q (entries (round q [])) 10 10 ≡ true
+a_path = refl
+
+settled_b : entries (header_table p) 25 ≡ Declared 10 None
+settled_b = refl
+
+settled_p : has_settled_headers p ≡ true
+settled_p = refl
+
+unsettled_q : has_settled_headers q ≡ false
+unsettled_q = refl
+
+cycle_q : cycle_of q ≡ Some 10
+cycle_q = refl
+
+no_cycle_p : cycle_of p ≡ None
+no_cycle_p = refl

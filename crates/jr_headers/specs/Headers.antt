@@ -110,18 +110,29 @@ is_settled_at p t set j = list_all (λ r. not (is_type p r) || has set r) (decla
 abbrev pub is_settled_if_before : Rows → Table → List ℕ → ℕ → ℕ → ℕ → ℕ → ℕ → Bool
 is_settled_if_before p t set c n k m j = not (names_header p c m && is_place p t m j && comes_before p m j n k) || is_settled_at p t set j
 
+-- all types are settled that the name m in the header of c meets before the name n at the place k
+abbrev pub is_settled_in_before : Rows → Table → List ℕ → ℕ → ℕ → ℕ → ℕ → Bool
+is_settled_in_before p t set c n k m = let each = all_below (places p) (λ j. is_settled_if_before p t set c n k m j) in not (names_header p c m) || each
+
 -- all types are settled that the header of c meets before the name n at the place k
 abbrev pub is_settled_before : Rows → Table → List ℕ → ℕ → ℕ → ℕ → Bool
-is_settled_before p t set c n k = all_below (length p) (λ m. all_below (places p) (λ j. is_settled_if_before p t set c n k m j))
+is_settled_before p t set c n k = all_below (length p) (λ m. is_settled_in_before p t set c n k m)
 
 -- the type around c, if there is one, is settled
 abbrev pub is_settled_around : Rows → List ℕ → ℕ → Bool
 is_settled_around p set c = all_below (length p) (λ e. not (is_declared_in p e c) || has set e)
 
+-- the name n in the header of c meets the type s at the place k, and before that settled types alone
+abbrev pub is_edge_at : Rows → Table → List ℕ → ℕ → ℕ → ℕ → ℕ → Bool
+is_edge_at p t set c s n k = let before = is_settled_before p t set c n k in meets_at p t c n k s && before
+
+-- so at some place
+abbrev pub is_edge_by : Rows → Table → List ℕ → ℕ → ℕ → ℕ → Bool
+is_edge_by p t set c s n = let some = any_below (places p) (λ k. is_edge_at p t set c s n k) in names_header p c n && some
+
 -- an edge of the header graph, where these types are settled
 abbrev pub is_edge : Rows → Table → List ℕ → ℕ → ℕ → Bool
-is_edge p t set c s = is_declared_in p s c || (is_settled_around p set c
-    && any_below (length p) (λ n. any_below (places p) (λ k. meets_at p t c n k s && is_settled_before p t set c n k)))
+is_edge p t set c s = let by_header = any_below (length p) (λ n. is_edge_by p t set c s n) in is_declared_in p s c || (is_settled_around p set c && by_header)
 
 abbrev pub header_edge : Rows → Table → ℕ → ℕ → Bool
 header_edge p t c s = let set = settled p t in is_edge p t set c s
@@ -131,7 +142,7 @@ header_path p t a b = let set = settled p t in reaches (length p) (is_edge p t s
 
 -- the first type that stands on a cycle
 abbrev pub first_on_cycle : Rows → Table → Option ℕ
-first_on_cycle p t = let set = settled p t in first_below (length p) (λ c. is_type p c && reaches (length p) (is_edge p t set) c c)
+first_on_cycle p t = let set = settled p t in first_below (length p) (λ c. let round = reaches (length p) (is_edge p t set) c c in is_type p c && round)
 
 -- an identifier in the header of the type, or in an import where the first identifier of one is looked for
 abbrev pub is_of_header : Rows → Table → ℕ → ℕ → Bool

@@ -1,6 +1,8 @@
 // Each plain function of headers computes what its definition says.
-ghost use Rattle.std.specs.Prelude.{◌≡◌, ℕ, ◌↔◌, IsTrue, length, Decides};
+ghost use Rattle.std.specs.Prelude.{◌≡◌, ℕ, ◌≤◌, ◌↔◌, IsTrue, List, length, Some, Decides};
 ghost use Rattle.jr_rows.specs.Rows.{Rows};
+ghost use Rattle.jr_defs.specs.declared.referent.Referent.{Referent};
+ghost use Rattle.jr_defs.specs.declared.referent.Referent.TheVariants.{Unbound};
 ghost use Rattle.jr_defs.specs.Referents.{Table, entries};
 ghost use Rattle.jr_defs.specs.Declarations.{IsType};
 ghost use Rattle.jr_defs.specs.Headers.{NamesHeader, IsIdentifierOf, IsFirstOf, IsLookedForIn, NameMeets, Meets, IsSettled, ComesBefore, HeaderEdge, HeaderPath};
@@ -9,7 +11,7 @@ ghost use Rattle.jr_defs.specs.Formed.{IsFormed};
 ghost use Rattle.jr_plain.specs.Headed.{IsHeaded};
 ghost use Rattle.jr_plain.specs.Search.{IsFirst, Finds};
 ghost use Rattle.jr_headers.specs.Headers.{names_header, is_identifier_of, is_first_of, is_looked_for_in, name_meets, meets, is_settled, comes_before, header_edge, header_path, first_on_cycle, is_of_header};
-ghost use Rattle.jr_headers.specs.Rounds.{header_table, has_settled_headers};
+ghost use Rattle.jr_headers.specs.Rounds.{is_of_headers, header_table, has_settled_headers, headers_of, cycle_of};
 
 /// Which names stand in headers, and what they meet.
 pub fn headers_are_computed()
@@ -53,4 +55,13 @@ pub fn settled_headers_are_computed()
     ensures decided { (p : Rows) → IsFormed p → Decides (has_settled_headers p) ((t : Table) × OfHeaders p t × ((c : ℕ) → IsType p c → IsSettled p t c)) }
     ensures bound { (p : Rows) (t : Table) (c n : ℕ) → IsFormed p → IsBinding p t → NamesHeader p c n → entries (header_table p) n ≡ t n }
     ensures binding { (p : Rows) (t : Table) → IsFormed p → IsBinding p t → IsTrue (has_settled_headers p) }
+{}
+
+/// Whether a table is one of headers, also where some types are not settled under it. Of the tables that rounds find in such a program each is one, and so the
+/// first type on its cycles is one of the program.
+pub fn headers_are_told()
+    ensures tables { (p : Rows) (t : Table) → IsFormed p → ((o : ℕ) → length p ≤ o → t o ≡ Unbound) → Decides (is_of_headers p t) (OfHeaders p t) }
+    ensures found { (p : Rows) (all : List Referent) → IsFormed p → headers_of p ≡ Some all → OfHeaders p (entries all) }
+    ensures settled { (p : Rows) (t : Table) → IsFormed p → OfHeaders p t → ((c : ℕ) → IsType p c → IsSettled p t c) → headers_of p ≡ Some (header_table p) }
+    ensures cycle { (p : Rows) (c : ℕ) → IsFormed p → cycle_of p ≡ Some c → IsFirstOnCycle p c }
 {}
