@@ -1,5 +1,5 @@
 -- What is found where some type is not settled: a table of headers, and the first type on a cycle.
-use Rattle.std.proofs.Common.{◌≡◌, refl, sym, ◌∙◌, ap, subst, arith, ℕ, suc, ◌≤◌, ◌<◌, Bool, true, false, cond, List, [], length, Option, Some, None, Decides}
+use Rattle.std.proofs.Common.{◌≡◌, refl, ap, subst, arith, ℕ, suc, ◌≤◌, Bool, true, false, cond, List, [], length, Option, Some, None, Decides}
 use Rattle.std.specs.Option.{option_and_then}
 use Rattle.std.proofs.lemmas.Option.{none-some, same_Some}
 use Rattle.jr_rows.specs.Rows.{Rows}

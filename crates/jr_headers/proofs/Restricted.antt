@@ -1,28 +1,21 @@
 -- A binding, at headers alone, is a table of headers under which all types are settled.
-use Rattle.std.proofs.Common.{◌≡◌, ◌⊎◌, refl, sym, ◌∙◌, ap, subst, inl, inr, ⊎_elim, arith, ℕ, ◌+◌, ◌≤◌, ◌<◌, Bool, true, false, cond, length, Option, Decides}
-use Rattle.std.proofs.lemmas.Bool.{false≢true}
-use Rattle.jr_rows.specs.declared.label.Label.TheVariants as is
-use Rattle.jr_rows.specs.declared.label.ImportKind.{ImportKind}
+use Rattle.std.proofs.Common.{◌≡◌, ◌⊎◌, refl, sym, ◌∙◌, ap, subst, inl, inr, ⊎_elim, arith, ℕ, ◌+◌, Bool, true, false, cond, Option, Decides}
 use Rattle.jr_rows.specs.declared.label.Sought.{Sought}
 use Rattle.jr_rows.specs.declared.label.Sought.TheVariants as sought
-use Rattle.jr_rows.specs.Rows.{Rows, label, parent, sought_at}
+use Rattle.jr_rows.specs.Rows.{Rows, sought_at}
 use Rattle.jr_defs.specs.declared.referent.Referent.TheVariants.{Unbound, Declared}
 use Rattle.jr_defs.specs.Referents.{Table}
 use Rattle.jr_defs.specs.Declarations.{IsType}
-use Rattle.jr_defs.specs.Enclosing.{InBody, DeclaredIn}
-use Rattle.jr_defs.specs.Types.{NamesType}
+use Rattle.jr_defs.specs.Enclosing.{InBody}
 use Rattle.jr_defs.specs.Supertypes.{SuperAt}
-use Rattle.jr_defs.specs.Scope.{rank}
 use Rattle.jr_defs.specs.Constants.{HasConstantForm}
 use Rattle.jr_defs.specs.Lookup.{Look}
 use Rattle.jr_defs.specs.Headers.{NamesHeader, IsIdentifierOf, IsFirstOf, IsLookedForIn, NameMeets, Meets, IsSettled}
 use Rattle.jr_defs.specs.Binding.{IsBinding, IsOfHeader}
 use Rattle.jr_defs.specs.Formed.{SeeksType, IsFormed}
 use Rattle.jr_defs.specs.Correspondence.{IsScoped}
-use Rattle.jr_defs.proofs.Itself.{SameFirst}
 use Rattle.jr_defs.proofs.HeadersAgree.{Agreed, agreed, ImportSame}
 use Rattle.jr_headers.specs.Rounds.{kept, is_of_some_header, look_type}
-use Rattle.jr_headers.proofs.Settled.{met_type}
 use Rattle.jr_headers.proofs.Scopes.{EndsSo, looked_there, looked_back, first_same}
 use Rattle.jr_headers.proofs.Names.{name_same, look_declares, itself_identifier, import_seeks, next_identifier, import_identifier_same}
 use Rattle.jr_headers.proofs.Pairs as pairs

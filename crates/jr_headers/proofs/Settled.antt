@@ -9,7 +9,7 @@ use Rattle.jr_defs.specs.Enclosing.{DeclaredIn}
 use Rattle.jr_defs.specs.Headers.{NamesHeader, NameMeets, Meets, IsSettled, MeetsAt, ComesBefore, HeaderEdge, HeaderPath}
 use Rattle.jr_defs.specs.Binding.{IsOfHeader}
 use Rattle.jr_plain.specs.Headed.{IsHeaded}
-use Rattle.jr_plain.specs.Search.{any_below, all_below, has, Reaches}
+use Rattle.jr_plain.specs.Search.{all_below, has, Reaches}
 use Rattle.jr_plain.specs.Declarations.{is_type}
 use Rattle.jr_plain.specs.Enclosing.{is_declared_in}
 use Rattle.jr_plain.specs.Supertypes.{declaration}

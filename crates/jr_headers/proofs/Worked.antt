@@ -6,7 +6,7 @@ use Rattle.jr_rows.specs.declared.label.Label.TheVariants as is
 use Rattle.jr_rows.specs.Forest.{none, node}
 use Rattle.jr_rows.specs.Decls.{unit_labels}
 use Rattle.jr_rows.specs.Rows.{Rows, rows_from}
-use Rattle.jr_defs.specs.declared.referent.Referent.TheVariants.{Unbound, Declared}
+use Rattle.jr_defs.specs.declared.referent.Referent.TheVariants.{Declared}
 use Rattle.jr_defs.specs.Referents.{entries}
 use Rattle.jr_defs.proofs.Worked.{p, lang}
 use Rattle.jr_headers.specs.Headers.{meets, is_settled, header_edge, header_path}
