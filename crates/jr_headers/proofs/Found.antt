@@ -49,7 +49,7 @@ module _ (p : Rows) (formed : IsFormed p) where
   OfSome t o = (c : ℕ) × IsType p c × IsOfHeader p t c o
 
   pub of_some_tells : (t : Table) (o : ℕ) → Decides (plain.is_of_some_header p t o) (OfSome t o)
-  of_some_tells t o = like (some (λ c. is_type p c && is_of_header p t c o) (λ c. IsType p c × IsOfHeader p t c o) (λ c. both (type_tells p c) (of_header_tells p t headed c o)) (length p)
+  of_some_tells t o = like (some (λ c. plain.is_of_type_header p t o c) (λ c. IsType p c × IsOfHeader p t c o) (λ c. both (type_tells p c) (of_header_tells p t headed c o)) (length p)
       (λ c h. type_below p c h.0)) (λ h. (h.0, h.1.0, h.1.1)) (λ h. (h.0, (h.1, h.2)))
 
   of_header_row : (t : Table) (c o : ℕ) → IsOfHeader p t c o → o < length p
@@ -192,8 +192,8 @@ module _ (p : Rows) (formed : IsFormed p) where
         (λ o le h. let lt = of_header_row t c o h.1 in absurd (omega arith)))
         (λ c le o h. let lt = type_below p c h.0 in absurd (omega arith))
 
-    others_tell : Decides (all_below (length p) (λ o. same_referent (t o) Unbound || plain.is_of_some_header p t o)) ((o : ℕ) → (t o ≡ Unbound) ⊎ OfSome t o)
-    others_tell = every {P = λ o. (t o ≡ Unbound) ⊎ OfSome t o} (length p) (λ o. same_referent (t o) Unbound || plain.is_of_some_header p t o)
+    others_tell : Decides (all_below (length p) (λ o. plain.is_nothing_else p t o)) ((o : ℕ) → (t o ≡ Unbound) ⊎ OfSome t o)
+    others_tell = every {P = λ o. (t o ≡ Unbound) ⊎ OfSome t o} (length p) (λ o. plain.is_nothing_else p t o)
         (λ o. either (referent_tells (t o) Unbound) (of_some_tells t o)) (λ o le. inl (past o le))
 
     pub of_headers_tells : Decides (plain.is_of_headers p t) (OfHeaders p t)

@@ -51,9 +51,12 @@ module _ (p : Rows) (t : Table) (headed : IsHeaded p) where
   around_tells test S tells c = every {P = λ e. DeclaredIn p e c → S e} (length p) (λ e. not (is_declared_in p e c) || test e) (λ e. implies_then (declared_in_tells p e c) (λ d. tells e d.inside.type))
       (λ e le d. let lt = around_below p e c d in absurd (omega arith))
 
+  met_tells : (c s : ℕ) → Decides (is_type p s && plain.meets p t c s) (Meets p t c s)
+  met_tells c s = like (both (type_tells p s) (meets_tells p t headed c s)) (λ h. h.1) (λ h. (met_type p t c s h, h))
+
   by_tells : (set : List ℕ) (c : ℕ) → Decides (plain.is_settled_by p t set c) (By (λ x. has set x ≡ true) c)
   by_tells set c = both (around_tells (has set) (λ x. has set x ≡ true) (λ x k. itself (has set x)) c)
-      (every {P = λ s. Meets p t c s → has set s ≡ true} (length p) (λ s. not (plain.meets p t c s) || has set s) (λ s. implies (meets_tells p t headed c s) (itself (has set s)))
+      (every {P = λ s. Meets p t c s → has set s ≡ true} (length p) (λ s. plain.is_in_if_met p t set c s) (λ s. implies (met_tells c s) (itself (has set s)))
       (λ s le m. let lt = met_below p t c s m in absurd (omega arith)))
 
   settled_out : (c : ℕ) → has (plain.settled p t) c ≡ true → IsSettled p t c
@@ -88,7 +91,7 @@ module _ (p : Rows) (t : Table) (headed : IsHeaded p) where
       (declaration (t j)) (declaration_lists (t j))
 
   abbrev Earlier : ℕ → ℕ → ℕ → ℕ → ℕ → Type 0
-  Earlier c n k m j = (NamesHeader p c m × Place p t headed m j) × ComesBefore p m j n k
+  Earlier c n k m j = (NamesHeader p c m × ComesBefore p m j n k) × Place p t headed m j
 
   abbrev SettledBefore : ℕ → ℕ → ℕ → Type 0
   SettledBefore c n k = (m j : ℕ) → Earlier c n k m j → SettledAt j
@@ -96,8 +99,8 @@ module _ (p : Rows) (t : Table) (headed : IsHeaded p) where
   settled_in_before_tells : (c n k m : ℕ) → Decides (plain.is_settled_in_before p t (plain.settled p t) c n k m) (NamesHeader p c m → (j : ℕ) → Earlier c n k m j → SettledAt j)
   settled_in_before_tells c n k m = implies_then (names_header_tells p c m)
       (λ w. every {P = λ j. Earlier c n k m j → SettledAt j} (plain.places p) (λ j. plain.is_settled_if_before p t (plain.settled p t) c n k m j)
-      (λ j. implies (both (both (names_header_tells p c m) (place_tells p t headed m j)) (comes_before_tells p m j n k)) (settled_at_tells j))
-      (λ j le h. let lt = place_below p t headed m j (header_below p c m h.0.0) h.0.1 in absurd (omega arith)))
+      (λ j. implies (both (both (names_header_tells p c m) (comes_before_tells p m j n k)) (place_tells p t headed m j)) (settled_at_tells j))
+      (λ j le h. let lt = place_below p t headed m j (header_below p c m h.0.0) h.1 in absurd (omega arith)))
 
   settled_before_tells : (c n k : ℕ) → Decides (plain.is_settled_before p t (plain.settled p t) c n k) (SettledBefore c n k)
   settled_before_tells c n k = like
@@ -125,12 +128,12 @@ module _ (p : Rows) (t : Table) (headed : IsHeaded p) where
     where
       out : EdgeBy c s → HeaderEdge p t c s
       out (inl d) = HeaderEdge.outwards d
-      out (inr h) = HeaderEdge.header h.0 h.1.1.1.1.0 (λ m j r w b. h.1.1.1.1.1 m j ((w.header, w.place), b) r (w.level, w.refers) w.type)
+      out (inr h) = HeaderEdge.header h.0 h.1.1.1.1.0 (λ m j r w b. h.1.1.1.1.1 m j ((w.header, b), w.place) r (w.level, w.refers) w.type)
 
       into : {s : ℕ} → HeaderEdge p t c s → EdgeBy c s
       into (HeaderEdge.outwards d) = inl d
       into (HeaderEdge.header {n = n} {k = k} around w before) =
-          inr (around, (n, (w.header, (k, (w, λ m j b r e y. before m j r (record { header = b.0.0; level = e.0; refers = e.1; type = y; place = b.0.1 }) b.1)))))
+          inr (around, (n, (w.header, (k, (w, λ m j b r e y. before m j r (record { header = b.0.0; level = e.0; refers = e.1; type = y; place = b.1 }) b.0.1)))))
 
   pub edge_below : (c s : ℕ) → HeaderEdge p t c s → c < length p
   edge_below c _ (HeaderEdge.outwards {e = e} d) = declared_below p e c d
@@ -148,7 +151,7 @@ module _ (p : Rows) (t : Table) (headed : IsHeaded p) where
   path_tells a b = like (reaches_tells (length p) (plain.header_edge p t) (HeaderEdge p t) edge_tells edge_below a b) (path_out a b) (path_into a b)
 
   pub of_header_tells : (c o : ℕ) → Decides (plain.is_of_header p t c o) (IsOfHeader p t c o)
-  of_header_tells c o = like (some (λ n. plain.names_header p c n && plain.is_place p t n o) (λ n. NamesHeader p c n × Place p t headed n o)
+  of_header_tells c o = like (some (λ n. plain.is_of_name p t c o n) (λ n. NamesHeader p c n × Place p t headed n o)
       (λ n. both (names_header_tells p c n) (place_tells p t headed n o)) (length p) (λ n h. header_below p c n h.0)) out into
     where
       out : (n : ℕ) × (NamesHeader p c n × Place p t headed n o) → IsOfHeader p t c o

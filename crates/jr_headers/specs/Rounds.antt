@@ -56,9 +56,13 @@ enough p (suc n) = enough p n + (suc (length p) + suc (length p))
 abbrev pub last_round : Rows → List Referent
 last_round p = rounds p (enough p (suc (length p))) []
 
+-- the row o belongs to the header of c, which is a type
+abbrev pub is_of_type_header : Rows → Table → ℕ → ℕ → Bool
+is_of_type_header p t o c = let of = is_of_header p t c o in is_type p c && of
+
 -- the row o belongs to the header of some type
 abbrev pub is_of_some_header : Rows → Table → ℕ → Bool
-is_of_some_header p t o = any_below (length p) (λ c. is_type p c && is_of_header p t c o)
+is_of_some_header p t o = any_below (length p) (λ c. is_of_type_header p t o c)
 
 -- the table, at rows of headers alone
 abbrev pub kept : Rows → Table → ℕ → Referent
@@ -80,16 +84,20 @@ settled_part p t = let set = settled p t in listed (length p) 0 (without_others 
 
 -- the row o belongs to no header of c, or refers to what lookup gives under the other table
 abbrev pub is_as_looked_up : Rows → Table → Table → ℕ → ℕ → Bool
-is_as_looked_up p t part c o = not (is_type p c && is_of_header p t c o) || same_referent (t o) (look_type p part o)
+is_as_looked_up p t part c o = let same = same_referent (t o) (look_type p part o) in not (is_of_type_header p t o c) || same
+
+-- nothing stands at the row o, or it belongs to a header
+abbrev pub is_nothing_else : Rows → Table → ℕ → Bool
+is_nothing_else p t o = let some = is_of_some_header p t o in same_referent (t o) Unbound || some
 
 -- the table has what lookup gives at headers, with the headers of settled types alone, and nothing else
 abbrev pub is_of_headers : Rows → Table → Bool
 is_of_headers p t = let part = settled_part p t in all_below (length p) (λ c. all_below (length p) (λ o. is_as_looked_up p t (entries part) c o))
-    && all_below (length p) (λ o. same_referent (t o) Unbound || is_of_some_header p t o)
+    && all_below (length p) (λ o. is_nothing_else p t o)
 
 -- and all types are settled under it
 abbrev pub is_header_table : Rows → Table → Bool
-is_header_table p t = let set = settled p t in all_below (length p) (λ c. not (is_type p c) || has set c) && is_of_headers p t
+is_header_table p t = let set = settled p t in let rest = is_of_headers p t in all_below (length p) (λ c. not (is_type p c) || has set c) && rest
 
 -- the program has a table of headers under which all types are settled
 abbrev pub has_settled_headers : Rows → Bool
