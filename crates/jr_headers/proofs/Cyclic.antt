@@ -128,7 +128,7 @@ module _ (p : Rows) (t : Table) (headed : IsHeaded p) where
       let bad : Bad c a.0 d.0 = d.1.0 in (
         bad.1.0,
         bad.1.2,
-        HeaderEdge.header around (record { header = bad.0.0; level = bad.1.1.0; refers = bad.1.1.1; type = bad.1.2.0; place = bad.0.1 })
+        HeaderEdge.header {n = a.0} {k = d.0} {s = bad.1.0} around (record { header = bad.0.0; level = bad.1.1.0; refers = bad.1.1.1; type = bad.1.2.0; place = bad.0.1 })
             (λ m j r w before. ⊎_elim (λ s. s)
             (λ no'. absurd (none_before c a.0 d.0 b.0 m j a.2 b.2 d.2 d.1.1 before ((w.header, w.place), (r, (w.level, w.refers), (w.type, no'))))) (settled_or_not r)),
       )

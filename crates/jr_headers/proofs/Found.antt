@@ -18,7 +18,6 @@ use Rattle.jr_defs.proofs.Cycles.{settled_part_whole}
 use Rattle.jr_defs.proofs.HeadersAgree.{Agreed, ImportSame}
 use Rattle.jr_plain.specs.Headed.{IsHeaded}
 use Rattle.jr_plain.specs.Search.{all_below, has}
-use Rattle.jr_plain.specs.Same.{same_referent}
 use Rattle.jr_plain.specs.Declarations.{is_type}
 use Rattle.jr_plain.proofs.Tests.{both, either, opposite, implies, like, decide}
 use Rattle.jr_plain.proofs.Searches.{some, every}
@@ -26,7 +25,7 @@ use Rattle.jr_plain.proofs.Same.{referent_tells}
 use Rattle.jr_plain.proofs.Bounds.{type_below}
 use Rattle.jr_plain.proofs.Declared.{type_tells}
 use Rattle.jr_plain.proofs.Headed.{headed_from_formed}
-use Rattle.jr_headers.specs.Headers.{names_header, is_of_header, settled}
+use Rattle.jr_headers.specs.Headers.{names_header, settled}
 use Rattle.jr_headers.specs.Rounds as plain
 use Rattle.jr_headers.proofs.Settled.{implies_then, type_settled_tells, settled_tells, of_header_tells}
 use Rattle.jr_headers.proofs.Headed.{both_then, names_header_tells}

@@ -19,13 +19,10 @@ use Rattle.jr_defs.specs.Imports.{ImportOf}
 use Rattle.jr_defs.specs.Scope.{Depth, rank, InScope}
 use Rattle.jr_defs.specs.Headers.{NamesHeader, IsIdentifierOf, IsFirstOf, depth_of, MayBring, IsLookedForIn, NameMeets, Meets, ComesBefore}
 use Rattle.jr_plain.specs.Headed.{IsHeaded}
-use Rattle.jr_plain.specs.Packages.{is_in_unit}
-use Rattle.jr_plain.specs.Imports.{is_import_of}
-use Rattle.jr_plain.specs.Search.{any_below, all_below}
-use Rattle.jr_plain.specs.Scope.{depths, depth_at}
+use Rattle.jr_plain.specs.Search.{any_below}
 use Rattle.jr_plain.proofs.Tests.{both, either, implies, like}
 use Rattle.jr_plain.proofs.Searches.{some, every}
-use Rattle.jr_plain.proofs.Bounds.{row_past, unit_below}
+use Rattle.jr_plain.proofs.Bounds.{row_past}
 use Rattle.jr_plain.proofs.Declared.{declares_tells, type_tells}
 use Rattle.jr_plain.proofs.Enclosed.{most}
 use Rattle.jr_plain.proofs.Packaged.{in_unit_tells}
