@@ -1,0 +1,15 @@
+pub mod Headed
+pub mod Settled
+pub mod Graphs
+pub mod Cyclic
+pub mod Scopes
+pub mod Names
+pub mod Pairs
+pub mod Looked
+pub mod Rounding
+pub mod Converging
+pub mod Found
+pub mod Restricted
+pub mod Worked
+pub mod Cut
+pub mod Missing

@@ -1,0 +1,123 @@
+-- What rounds of looking up give: each row under what was found in the round before.
+use Rattle.std.proofs.Common.{◌≡◌, refl, sym, ◌∙◌, ap, subst, inl, inr, arith, ℕ, zero, suc, ◌+◌, ◌≤◌, ◌<◌, Bool, true, false, cond, ◌&&◌, ◌||◌, List, [], length, Decides}
+use Rattle.std.specs.Cmp.Lexicographic.{pointwise}
+use Rattle.std.proofs.lemmas.Bool.{false≢true, or_left, or_right}
+use Rattle.jr_rows.specs.declared.label.Label.{Label}
+use Rattle.jr_rows.specs.declared.label.Label.TheVariants as is
+use Rattle.jr_rows.specs.declared.label.ImportKind.{ImportKind}
+use Rattle.jr_rows.specs.Rows.{Rows, label, parent}
+use Rattle.jr_defs.specs.declared.referent.Referent.{Referent}
+use Rattle.jr_defs.specs.declared.referent.Referent.TheVariants.{Unbound}
+use Rattle.jr_defs.specs.Referents.{Table, entries}
+use Rattle.jr_defs.specs.Lookup.{Look}
+use Rattle.jr_defs.specs.Headers.{NamesHeader, IsIdentifierOf}
+use Rattle.jr_defs.specs.Formed.{IsFormed}
+use Rattle.jr_plain.specs.Headed.{IsHeaded}
+use Rattle.jr_plain.specs.Same.{same_referent}
+use Rattle.jr_plain.proofs.Headed.{headed_from_formed}
+use Rattle.jr_plain.proofs.Tests.{both}
+use Rattle.jr_plain.proofs.Searches.{some}
+use Rattle.jr_plain.proofs.Same.{list_tells, referent_tells}
+use Rattle.jr_headers.specs.Rounds as plain
+use Rattle.jr_headers.specs.Headers.{names_header, is_identifier_of}
+use Rattle.jr_headers.proofs.Headed.{names_header_tells, header_below, identifier_tells}
+use Rattle.jr_headers.proofs.Names.{look_declares, itself_identifier, import_row, import_seeks, in_import}
+use Rattle.jr_headers.proofs.Scopes.{EndsSo}
+use Rattle.jr_headers.proofs.Looked.{look_type_is}
+
+-- ---- lists of rows
+
+pub entries_listed : (f : ℕ → Referent) (n k j : ℕ) → j < n → entries (plain.listed n k f) j ≡ f (k + j)
+entries_listed f zero k j lt = absurd (omega arith)
+entries_listed f (suc n) k zero lt = let e : k ≡ k + 0 = omega arith in ap f e
+entries_listed f (suc n) k (suc j) lt = let e : suc k + j ≡ k + suc j = omega arith in entries_listed f n (suc k) j (omega arith) ∙ ap f e
+
+pub entries_past : (f : ℕ → Referent) (n k j : ℕ) → n ≤ j → entries (plain.listed n k f) j ≡ Unbound
+entries_past f zero k j le = refl
+entries_past f (suc n) k zero le = absurd (omega arith)
+entries_past f (suc n) k (suc j) le = entries_past f n (suc k) j (omega arith)
+
+-- rounds from nothing on
+abbrev pub again : Rows → ℕ → List Referent
+again p zero = []
+again p (suc n) = plain.round p (again p n)
+
+-- rounds that do not stop
+abbrev repeated : Rows → ℕ → List Referent → List Referent
+repeated p zero all = all
+repeated p (suc n) all = repeated p n (plain.round p all)
+
+repeated_fixed : (p : Rows) (n : ℕ) (all : List Referent) → plain.round p all ≡ all → repeated p n all ≡ all
+repeated_fixed p zero all e = refl
+repeated_fixed p (suc n) all e = ap (repeated p n) e ∙ repeated_fixed p n all e
+
+rounds_repeat : (p : Rows) (n : ℕ) (all : List Referent) → plain.rounds p n all ≡ repeated p n all
+rounds_repeat p zero all = refl
+rounds_repeat p (suc n) all = by (pointwise same_referent all (plain.round p all)) refl (rounds_repeat p n (plain.round p all))
+  where
+    by : (b : Bool) → pointwise same_referent all (plain.round p all) ≡ b → plain.rounds p n (plain.round p all) ≡ repeated p n (plain.round p all)
+        → cond b all (plain.rounds p n (plain.round p all)) ≡ repeated p n (plain.round p all)
+    by true e rest = let f = (list_tells same_referent referent_tells all (plain.round p all)).0 e in sym (ap (repeated p n) (sym f) ∙ repeated_fixed p n all (sym f))
+    by false e rest = rest
+
+repeated_again : (p : Rows) (n m : ℕ) → repeated p n (again p m) ≡ again p (n + m)
+repeated_again p zero m = let e : m ≡ 0 + m = omega arith in ap (again p) e
+repeated_again p (suc n) m = let e : n + suc m ≡ suc n + m = omega arith in repeated_again p n (suc m) ∙ ap (again p) e
+
+pub rounds_again : (p : Rows) (n : ℕ) → plain.rounds p n [] ≡ again p n
+rounds_again p n = let e : n + 0 ≡ n = omega arith in rounds_repeat p n [] ∙ repeated_again p n 0 ∙ ap (again p) e
+
+-- ---- the rows that are looked up
+
+import_tells : (l : Label) → Decides (plain.is_import l) ((form : ImportKind) × (l ≡ is.Import form))
+import_tells (is.Import form) = (λ h. (form, refl), λ h. refl)
+import_tells _ = (λ h. absurd (false≢true h), λ h. let e = h.1 in absurd (cc))
+
+module _ (p : Rows) (formed : IsFormed p) where
+  headed : IsHeaded p
+  headed = headed_from_formed p formed
+
+  in_header_tells : (o : ℕ) → Decides (plain.is_in_header p o) ((n : ℕ) × (NamesHeader p (parent p n) n × IsIdentifierOf p n o))
+  in_header_tells o = some (λ n. names_header p (parent p n) n && is_identifier_of p n o) (λ n. NamesHeader p (parent p n) n × IsIdentifierOf p n o)
+      (λ n. both (names_header_tells p (parent p n) n) (identifier_tells p n o)) (length p) (λ n h. header_below p (parent p n) n h.0)
+
+  in_import_tells : (o : ℕ) → Decides (plain.is_in_import p o) ((i : ℕ) × (((form : ImportKind) × (label p i ≡ is.Import form)) × IsIdentifierOf p (i + 1) o))
+  in_import_tells o = some (λ i. plain.is_import (label p i) && is_identifier_of p (i + 1) o) (λ i. ((form : ImportKind) × (label p i ≡ is.Import form)) × IsIdentifierOf p (i + 1) o)
+      (λ i. both (import_tells (label p i)) (identifier_tells p (i + 1) o)) (length p) (λ i h. import_row p formed i h.0.0 h.0.1)
+
+  pub header_row : (c n o : ℕ) → NamesHeader p c n → IsIdentifierOf p n o → o < length p
+  header_row c n o h i = let z = formed.tree.last n (header_below p c n h) in let y = i.before in omega arith
+
+  pub import_place : (i o : ℕ) (form : ImportKind) → label p i ≡ is.Import form → IsIdentifierOf p (i + 1) o → o < length p
+  import_place i o form e h = let z = (in_import p formed i o form e h).1 in let y = formed.tree.last i (import_row p formed i form e) in omega arith
+
+  -- the table after so many rounds
+  abbrev pub after : ℕ → Table
+  after k = entries (again p k)
+
+  after_row : (k o : ℕ) → o < length p → (plain.is_in_header p o || plain.is_in_import p o) ≡ true → after (suc k) o ≡ plain.look_type p (after k) o
+  after_row k o lt e = entries_listed (plain.looked_up p (after k)) (length p) 0 o lt ∙ ap (plain.looked_up p (after k)) first ∙ ap (λ b. cond b (plain.look_type p (after k) o) Unbound) e
+    where
+      first : 0 + o ≡ o
+      first = omega arith
+
+  pub header_looked : (K : ℕ → Type 0) (k c n o : ℕ) → NamesHeader p c n → IsIdentifierOf p n o → Look p (after k) K o (after (suc k) o)
+  header_looked K k c n o h i = subst (Look p (after k) K o) (sym (after_row k o (header_row c n o h i) (or_left (plain.is_in_header p o) (plain.is_in_import p o) test)))
+      (look_type_is p (after k) headed o K (formed.identifier n o (formed.header_name c n h) i))
+    where
+      own : NamesHeader p c n → NamesHeader p (parent p n) n
+      own (inl w) = inl (record { names = w.names; inside = refl })
+      own (inr w) = inr (record { names = w.names; inside = refl })
+
+      test : plain.is_in_header p o ≡ true
+      test = (in_header_tells o).1 (n, (own h, i))
+
+  pub import_looked : (K : ℕ → Type 0) (k i o : ℕ) (form : ImportKind) → label p i ≡ is.Import form → IsIdentifierOf p (i + 1) o → Look p (after k) K o (after (suc k) o)
+  import_looked K k i o form e h = subst (Look p (after k) K o)
+      (sym (after_row k o (import_place i o form e h) (or_right (plain.is_in_header p o) (plain.is_in_import p o) ((in_import_tells o).1 (i, ((form, e), h))))))
+      (look_type_is p (after k) headed o K (formed.identifier (i + 1) o (import_seeks p formed i form e) h))
+
+  pub after_named : (k : ℕ) → EndsSo p (after k)
+  after_named zero i d form e w = let z = w.refers in absurd (cc)
+  after_named (suc k) i d form e w = look_declares p (after k) (λ n. ⊥) (i + 1) d w.level (after (suc k) (i + 1)) (import_seeks p formed i form e)
+      (import_looked (λ n. ⊥) k i (i + 1) form e (itself_identifier p formed (i + 1))) w.refers

@@ -1,0 +1,67 @@
+// Each plain function of headers computes what its definition says.
+ghost use Rattle.std.specs.Prelude.{◌≡◌, ℕ, ◌≤◌, ◌↔◌, IsTrue, List, length, Some, Decides};
+ghost use Rattle.jr_rows.specs.Rows.{Rows};
+ghost use Rattle.jr_defs.specs.declared.referent.Referent.{Referent};
+ghost use Rattle.jr_defs.specs.declared.referent.Referent.TheVariants.{Unbound};
+ghost use Rattle.jr_defs.specs.Referents.{Table, entries};
+ghost use Rattle.jr_defs.specs.Declarations.{IsType};
+ghost use Rattle.jr_defs.specs.Headers.{NamesHeader, IsIdentifierOf, IsFirstOf, IsLookedForIn, NameMeets, Meets, IsSettled, ComesBefore, HeaderEdge, HeaderPath};
+ghost use Rattle.jr_defs.specs.Binding.{IsBinding, OfHeaders, IsOfHeader, HasCycle, IsFirstOnCycle};
+ghost use Rattle.jr_defs.specs.Formed.{IsFormed};
+ghost use Rattle.jr_plain.specs.Headed.{IsHeaded};
+ghost use Rattle.jr_plain.specs.Search.{IsFirst, Finds};
+ghost use Rattle.jr_headers.specs.Headers.{names_header, is_identifier_of, is_first_of, is_looked_for_in, name_meets, meets, is_settled, comes_before, header_edge, header_path, first_on_cycle, is_of_header};
+ghost use Rattle.jr_headers.specs.Rounds.{is_of_headers, header_table, has_settled_headers, headers_of, cycle_of};
+
+/// Which names stand in headers, and what they meet.
+pub fn headers_are_computed()
+    ensures header { (p : Rows) (c n : ℕ) → Decides (names_header p c n) (NamesHeader p c n) }
+    ensures identifiers { (p : Rows) (n m : ℕ) → Decides (is_identifier_of p n m) (IsIdentifierOf p n m) }
+    ensures first { (p : Rows) (n m : ℕ) → Decides (is_first_of p n m) (IsFirstOf p n m) }
+    ensures looked_for { (p : Rows) (t : Table) (m i : ℕ) → IsHeaded p → Decides (is_looked_for_in p t m i) (IsLookedForIn p t m i) }
+    ensures name_meets { (p : Rows) (t : Table) (c n s : ℕ) → IsHeaded p → NamesHeader p c n → Decides (name_meets p t n s) (NameMeets p t n s) }
+    ensures meets { (p : Rows) (t : Table) (c s : ℕ) → IsHeaded p → Decides (meets p t c s) (Meets p t c s) }
+    ensures of_header { (p : Rows) (t : Table) (c o : ℕ) → IsHeaded p → Decides (is_of_header p t c o) (IsOfHeader p t c o) }
+{}
+
+/// Settled types, and the graph of headers.
+pub fn header_graph_is_computed()
+    ensures settled { (p : Rows) (t : Table) (c : ℕ) → IsHeaded p → Decides (is_settled p t c) (IsSettled p t c) }
+    ensures order { (p : Rows) (n k m j : ℕ) → Decides (comes_before p n k m j) (ComesBefore p n k m j) }
+    ensures edges { (p : Rows) (t : Table) (c s : ℕ) → IsHeaded p → Decides (header_edge p t c s) (HeaderEdge p t c s) }
+    ensures paths { (p : Rows) (t : Table) (a b : ℕ) → IsHeaded p → Decides (header_path p t a b) (HeaderPath p t a b) }
+{}
+
+/// A type that is not settled stands before a cycle of headers, and a settled one on none: so where some type is not settled, one is the first on a cycle.
+pub fn unsettled_types_are_cycles()
+    ensures unsettled { (p : Rows) (t : Table) (c : ℕ) → IsHeaded p → IsType p c → (IsSettled p t c → ⊥) → (x : ℕ) × IsType p x × HeaderPath p t x x }
+    ensures settled { (p : Rows) (t : Table) (c : ℕ) → IsSettled p t c → HeaderPath p t c c → ⊥ }
+    ensures first { (p : Rows) → IsHeaded p → HasCycle p ↔ (c : ℕ) × IsFirstOnCycle p c }
+    ensures computed { (p : Rows) (t : Table) → IsHeaded p → Finds (first_on_cycle p t) (IsFirst (λ c. IsType p c × HeaderPath p t c c) (length p)) }
+{}
+
+/// Tables of headers agree on the headers of settled types, with each other and with a binding: the same types are settled under all of them, and beside a
+/// binding no type is left unsettled.
+pub fn headers_are_one()
+    ensures settled { (p : Rows) (t u : Table) (c : ℕ) → IsFormed p → OfHeaders p t → OfHeaders p u → IsType p c → IsSettled p t c → IsSettled p u c }
+    ensures names { (p : Rows) (t u : Table) (c n : ℕ) → IsFormed p → OfHeaders p t → OfHeaders p u → IsSettled p t c → NamesHeader p c n → t n ≡ u n }
+    ensures binding { (p : Rows) (t : Table) → IsFormed p → IsBinding p t → HasCycle p → ⊥ }
+{}
+
+/// The table of headers that is computed: it is the one under which all types are settled, where a program has one, and it tells whether there is one. A program
+/// that has a binding has one, and the binding has its entries in headers.
+pub fn settled_headers_are_computed()
+    ensures found { (p : Rows) (t : Table) → IsFormed p → OfHeaders p t → ((c : ℕ) → IsType p c → IsSettled p t c) → (o : ℕ) → entries (header_table p) o ≡ t o }
+    ensures decided { (p : Rows) → IsFormed p → Decides (has_settled_headers p) ((t : Table) × OfHeaders p t × ((c : ℕ) → IsType p c → IsSettled p t c)) }
+    ensures bound { (p : Rows) (t : Table) (c n : ℕ) → IsFormed p → IsBinding p t → NamesHeader p c n → entries (header_table p) n ≡ t n }
+    ensures binding { (p : Rows) (t : Table) → IsFormed p → IsBinding p t → IsTrue (has_settled_headers p) }
+{}
+
+/// Whether a table is one of headers, also where some types are not settled under it. Of the tables that rounds find in such a program each is one, and so the
+/// first type on its cycles is one of the program.
+pub fn headers_are_told()
+    ensures tables { (p : Rows) (t : Table) → IsFormed p → ((o : ℕ) → length p ≤ o → t o ≡ Unbound) → Decides (is_of_headers p t) (OfHeaders p t) }
+    ensures found { (p : Rows) (all : List Referent) → IsFormed p → headers_of p ≡ Some all → OfHeaders p (entries all) }
+    ensures settled { (p : Rows) (t : Table) → IsFormed p → OfHeaders p t → ((c : ℕ) → IsType p c → IsSettled p t c) → headers_of p ≡ Some (header_table p) }
+    ensures cycle { (p : Rows) (c : ℕ) → IsFormed p → cycle_of p ≡ Some c → IsFirstOnCycle p c }
+{}
