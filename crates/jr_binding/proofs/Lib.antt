@@ -1,0 +1,9 @@
+pub mod Deciding
+pub mod Looking
+pub mod Saying
+pub mod Making
+pub mod Inside
+pub mod Given
+pub mod Staged
+pub mod Brought
+pub mod Existing

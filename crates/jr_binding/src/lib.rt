@@ -1,0 +1,6 @@
+//! A program whose headers are settled has a binding, and a plain function computes it from the entries of the headers.
+#![tactic(auto)]
+
+mod law;
+
+pub use law::a_binding_exists;
