@@ -19,7 +19,6 @@ use Rattle.jr_defs.specs.Formed.{SeeksType, NamesTypeFirst, IsFormed}
 use Rattle.jr_defs.proofs.CarryMembers.{interface_type, above_over}
 use Rattle.jr_defs.proofs.Itself.{same, super_wide, carries}
 use Rattle.jr_defs.proofs.HeadersAgree.{type_role}
-use Rattle.jr_defs.proofs.Settling.{settled_part_whole}
 use Rattle.jr_plain.specs.Typing.{IsTypable, IsVariableLabel}
 use Rattle.jr_plain.proofs.Headed.{headed_from_formed}
 use Rattle.jr_plain.proofs.Typables.{acyclic_from_settled}
@@ -44,7 +43,7 @@ above_known p v formed d s (Above.object i o) = interface_type p d i
 module _ (p : Rows) (t : Table) (formed : IsFormed p) (headers : HasSettledHeaders p t) where
   -- with all types settled the settled part is the table
   part_is : headers.of_headers.settled_part ≡ t
-  part_is = λ i o. settled_part_whole p t headers.of_headers.settled_part formed headers.settled headers.of_headers.part o i
+  part_is = λ i o. headers.of_headers.part.kept o (λ c h. headers.settled c (formed.header c o h)) i
 
   pub looked_there : (c o : ℕ) → IsType p c → IsOfHeader p t c o → Look p t (HasConstantForm p t) o (t o)
   looked_there c o k h = subst (λ v. Look p v (HasConstantForm p v) o (t o)) part_is (headers.of_headers.looked c o k h)
@@ -82,7 +81,7 @@ module _ (p : Rows) (t : Table) (formed : IsFormed p) (headers : HasSettledHeade
 
   module _ (prelude : HasOnePrelude p) where
     above_given : (v : Table) → ((n : ℕ) → stage_of p n ≡ 0 → v n ≡ t n) → (d s : ℕ) → IsType p d → Above p v d s → Above p t d s
-    above_given v a d s k h = above_over p v p t same same (IsType p) (IsType p) (carries p v t (headers_same v t a (λ n e. refl))) (carries p t v (headers_same t v (λ n e. refl) a)) d s k h
+    above_given v a d s k h = above_over p v p t same same (IsType p) (IsType p) (carries p v t (headers_same v t a (λ n e. refl))) d s k h
 
     acyclic_in : (v : Table) → ((n : ℕ) → stage_of p n ≡ 0 → v n ≡ t n) → (d s : ℕ) → Above p v d s → Above p v s d → d ≡ s
     acyclic_in v a d s up down = acyclic_from_settled p t formed given_type prelude.one_object headers.settled d s

@@ -41,61 +41,61 @@ type_same p v u K L o a seeks h imports back first look = answer_same p v u K L 
     (type_search p u v L K o seeks (turned_headers p v u h) back (λ w. sym (first w))) look
 
 -- the type of a name reads the table there alone
-name_typing : (p : Rows) (v u : Table) (K L : ℕ → Type 0) (formed : IsFormed p) (types : SameTypes p v u) (n : ℕ) (a : RowType) → IsNameLabel (label p n) → v n ≡ u n
-    → TypeOf p v K n a → TypeOf p u L n a
-name_typing p v u K L formed types n a k e (TypeOf.literal w x) = absurd (subst IsNameLabel w k)
-name_typing p v u K L formed types n a k e (TypeOf.variable {d = d} w v x) = TypeOf.variable (sym e ∙ w) v (has_type_same p v u formed types d a x)
-name_typing p v u K L formed types n _ k e (TypeOf.length w) = TypeOf.length (sym e ∙ w)
-name_typing p v u K L formed types n a k e (TypeOf.call w x y z) = absurd (subst IsNameLabel w k)
-name_typing p v u K L formed types n _ k e (TypeOf.created w x) = absurd (subst IsNameLabel w k)
-name_typing p v u K L formed types n _ k e (TypeOf.primitives w) = absurd (subst IsNameLabel w k)
-name_typing p v u K L formed types n _ k e (TypeOf.objects w x) = absurd (subst IsNameLabel w k)
-name_typing p v u K L formed types n a k e (TypeOf.cast w x y) = absurd (subst IsNameLabel w k)
-name_typing p v u K L formed types n a k e (TypeOf.paren w x y) = absurd (subst IsNameLabel w k)
-name_typing p v u K L formed types n _ k e (TypeOf.this w x y) = absurd (subst IsNameLabel w k)
-name_typing p v u K L formed types n _ k e (TypeOf.this_of w x y) = absurd (subst IsNameLabel w k)
-name_typing p v u K L formed types n _ k e (TypeOf.index w x y) = absurd (subst IsNameLabel w k)
-name_typing p v u K L formed types n _ k e (TypeOf.is_a w x y z) = absurd (subst IsNameLabel w k)
-name_typing p v u K L formed types n _ k e (TypeOf.unary w x y z) = absurd (subst IsNameLabel w k)
-name_typing p v u K L formed types n _ k e (TypeOf.pre_step w x y z) = absurd (subst IsNameLabel w k)
-name_typing p v u K L formed types n _ k e (TypeOf.post_step w x y z) = absurd (subst IsNameLabel w k)
-name_typing p v u K L formed types n a k e (TypeOf.binary w x y z v r) = absurd (subst IsNameLabel w k)
-name_typing p v u K L formed types n a k e (TypeOf.conditional w x y z v r s q) = absurd (subst IsNameLabel w k)
-name_typing p v u K L formed types n a k e (TypeOf.assigned w x y) = absurd (subst IsNameLabel w k)
-name_typing p v u K L formed types n a k e (TypeOf.compound w x y z v r s) = absurd (subst IsNameLabel w k)
+name_typing : (p : Rows) (t u : Table) (K L : ℕ → Type 0) (formed : IsFormed p) (types : SameTypes p t u) (n : ℕ) (a : RowType) → IsNameLabel (label p n) → t n ≡ u n
+    → TypeOf p t K n a → TypeOf p u L n a
+name_typing p t u K L formed types n a k e (TypeOf.literal w x) = absurd (subst IsNameLabel w k)
+name_typing p t u K L formed types n a k e (TypeOf.variable {d = d} w v x) = TypeOf.variable (sym e ∙ w) v (has_type_same p t u formed types d a x)
+name_typing p t u K L formed types n _ k e (TypeOf.length w) = TypeOf.length (sym e ∙ w)
+name_typing p t u K L formed types n a k e (TypeOf.call w x y z) = absurd (subst IsNameLabel w k)
+name_typing p t u K L formed types n _ k e (TypeOf.created w x) = absurd (subst IsNameLabel w k)
+name_typing p t u K L formed types n _ k e (TypeOf.primitives w) = absurd (subst IsNameLabel w k)
+name_typing p t u K L formed types n _ k e (TypeOf.objects w x) = absurd (subst IsNameLabel w k)
+name_typing p t u K L formed types n a k e (TypeOf.cast w x y) = absurd (subst IsNameLabel w k)
+name_typing p t u K L formed types n a k e (TypeOf.paren w x y) = absurd (subst IsNameLabel w k)
+name_typing p t u K L formed types n _ k e (TypeOf.this w x y) = absurd (subst IsNameLabel w k)
+name_typing p t u K L formed types n _ k e (TypeOf.this_of w x y) = absurd (subst IsNameLabel w k)
+name_typing p t u K L formed types n _ k e (TypeOf.index w x y) = absurd (subst IsNameLabel w k)
+name_typing p t u K L formed types n _ k e (TypeOf.is_a w x y z) = absurd (subst IsNameLabel w k)
+name_typing p t u K L formed types n _ k e (TypeOf.unary w x y z) = absurd (subst IsNameLabel w k)
+name_typing p t u K L formed types n _ k e (TypeOf.pre_step w x y z) = absurd (subst IsNameLabel w k)
+name_typing p t u K L formed types n _ k e (TypeOf.post_step w x y z) = absurd (subst IsNameLabel w k)
+name_typing p t u K L formed types n a k e (TypeOf.binary w x y z v r) = absurd (subst IsNameLabel w k)
+name_typing p t u K L formed types n a k e (TypeOf.conditional w x y z v r s q) = absurd (subst IsNameLabel w k)
+name_typing p t u K L formed types n a k e (TypeOf.assigned w x y) = absurd (subst IsNameLabel w k)
+name_typing p t u K L formed types n a k e (TypeOf.compound w x y z v r s) = absurd (subst IsNameLabel w k)
 
 module _ (p : Rows) (t u : Table) (formed : IsFormed p) (prelude : HasOnePrelude p) (headers : HasSettledHeaders p t)
     (given : (n : ℕ) → stage_of p n ≡ 0 → u n ≡ t n) (made : (o : ℕ) → o < length p → 0 < stage_of p o → Made p (AgreesWith p t) u o) where
   -- in the table under which the row o is looked up
   module _ (o : ℕ) (inside : o < length p) (later : 0 < stage_of p o) where
-    abbrev M : Made p (AgreesWith p t) u o
-    M = made o inside later
+    abbrev state : Made p (AgreesWith p t) u o
+    state = made o inside later
 
     abbrev v : Table
-    v = M.under
+    v = state.under
 
     found : Look p v (HasConstantForm p v) o (u o)
-    found = subst (Look p v (HasConstantForm p v) o) (sym M.made) (looked_up_is p v (typable_in p t formed headers prelude v M.sound) o)
+    found = subst (Look p v (HasConstantForm p v) o) (sym state.made) (looked_up_is p v (typable_in p t formed headers prelude v state.sound) o)
 
     same_headers : SameHeaders p v u
-    same_headers = headers_same p t formed headers v u M.sound.given given
+    same_headers = headers_same p t formed headers v u state.sound.given given
 
     -- what stands behind, and is in no later stage, is there already
     first_there : (parent p (o + 1) ≡ o → stage_of p (o + 1) ≤ stage_of p o) → SameFirst p v u o
-    first_there le e = M.after (o + 1) (le e) (omega arith)
+    first_there le e = state.after (o + 1) (le e) (omega arith)
 
     imports_there : 1 < stage_of p o → SameImportNames p v u
     imports_there lt = record {
-      at = λ i form e. M.before (i + 1) (let z = import_stage p (i + 1)
+      at = λ i form e. state.before (i + 1) (let z = import_stage p (i + 1)
           (record { import = i; form = form; is_import = e; after = omega arith; before = formed.import_name i form e })
           (formed.first_name i (subst NamesTypeFirst (sym e) NamesTypeFirst.import)) in omega arith);
     }
 
     types_there : 2 < stage_of p o → SameTypes p v u
-    types_there lt = record { at = λ n seeks. M.before n (let z = type_stage p n seeks in omega arith) }
+    types_there lt = record { at = λ n seeks. state.before n (let z = type_stage p n seeks in omega arith) }
 
     names_there : 3 < stage_of p o → SameNames p v u
-    names_there lt = record { at = λ n k. M.before n (let z = name_stage p n k in omega arith) }
+    names_there lt = record { at = λ n k. state.before n (let z = name_stage p n k in omega arith) }
 
     -- ---- the stages
 
@@ -133,7 +133,7 @@ module _ (p : Rows) (t u : Table) (formed : IsFormed p) (prelude : HasOnePrelude
         name_typing p u v (HasConstantForm p u) (HasConstantForm p v) formed (turned_types p v u types) m a i (sym (name_there m i lt)) x)
       where
         name_there : (m : ℕ) → IsNameLabel (label p m) → o < m → v m ≡ u m
-        name_there m i lt = M.after m (let z = name_stage p m i in omega arith) lt
+        name_there m i lt = state.after m (let z = name_stage p m i in omega arith) lt
 
     other_found : stage_of p o ≡ 4 → Look p u (HasConstantForm p u) o (u o)
     other_found e = let types = types_there (omega arith) in let names = names_there (omega arith) in
@@ -142,7 +142,7 @@ module _ (p : Rows) (t u : Table) (formed : IsFormed p) (prelude : HasOnePrelude
         (λ m a w lt x. typing_same p u v formed (turned_headers p v u same_headers) (turned_types p v u types) (names_back names) types names (o + 1) (λ i le. sym (behind i (omega arith))) m a (omega arith) x)
       where
         behind : (m : ℕ) → o < m → v m ≡ u m
-        behind m lt = M.after m (let z = last_stage p m in omega arith) lt
+        behind m lt = state.after m (let z = last_stage p m in omega arith) lt
 
         names_back : SameNames p v u → SameNames p u v
         names_back names = record { at = λ n k. sym (names.at n k) }
