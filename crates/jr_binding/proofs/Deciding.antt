@@ -1,7 +1,7 @@
 -- What the stage of a row says of it.
-use Rattle.std.proofs.Common.{◌≡◌, ◌⊎◌, refl, sym, ap, subst, inl, inr, ⊎_elim, arith, ℕ, zero, suc, ◌+◌, ◌≤◌, ◌<◌, Bool, true, false, ◌&&◌, ◌||◌, cond, length, nat_eq, nat_lt, nat_le, Decides}
-use Rattle.std.proofs.lemmas.Bool.{false≢true, cases_lt}
-use Rattle.std.proofs.lemmas.Bool.Decides.{Decides-eqb, Decides-ltb}
+use Rattle.std.proofs.Common.{◌≡◌, refl, inl, inr, ⊎_elim, arith, ℕ, ◌≤◌, ◌<◌, Bool, true, false, ◌&&◌, length, nat_lt, nat_le, Decides}
+use Rattle.std.proofs.lemmas.Bool.{false≢true}
+use Rattle.std.proofs.lemmas.Bool.Decides.{Decides-ltb}
 use Rattle.jr_rows.specs.declared.label.Label.{Label}
 use Rattle.jr_rows.specs.declared.label.Label.TheVariants as is
 use Rattle.jr_rows.specs.declared.label.ImportKind.{ImportKind}
@@ -10,10 +10,9 @@ use Rattle.jr_rows.specs.declared.label.Sought.{Sought}
 use Rattle.jr_rows.specs.declared.label.Sought.TheVariants as sought
 use Rattle.jr_rows.specs.Rows.{Rows, label, parent, end, sought_at}
 use Rattle.jr_rows.specs.Tree.{IsTree}
-use Rattle.jr_defs.specs.Supertypes.{NamesSuperclass, NamesSuperinterface}
 use Rattle.jr_defs.specs.Headers.{NamesHeader, IsIdentifierOf}
 use Rattle.jr_defs.specs.Formed.{SeeksType, IsNameLabel}
-use Rattle.jr_plain.proofs.Tests.{always, never, both, either, like, decide}
+use Rattle.jr_plain.proofs.Tests.{always, never, both, either, like}
 use Rattle.jr_plain.proofs.Searches.{some}
 use Rattle.jr_plain.proofs.Bounds.{bounded}
 use Rattle.jr_plain.proofs.Enclosed.{most}

@@ -1,9 +1,8 @@
 -- The table that the stages make is a binding with the given headers.
-use Rattle.std.proofs.Common.{◌≡◌, ◌⊎◌, refl, sym, ◌∙◌, ap, subst, inl, inr, ⊎_elim, arith, ℕ, suc, zero, ◌+◌, ◌≤◌, ◌<◌, length, Option}
-use Rattle.std.proofs.lemmas.Bool.{cases_lt, cases_eq}
+use Rattle.std.proofs.Common.{◌≡◌, ◌⊎◌, refl, sym, ◌∙◌, ap, subst, inl, inr, ⊎_elim, arith, ℕ, suc, zero, ◌+◌, ◌≤◌, ◌<◌, length}
+use Rattle.std.proofs.lemmas.Bool.{cases_lt}
 use Rattle.jr_rows.specs.declared.label.Label.TheVariants as is
 use Rattle.jr_rows.specs.declared.label.ImportKind.{ImportKind}
-use Rattle.jr_rows.specs.declared.label.NameKind.{NameKind}
 use Rattle.jr_rows.specs.declared.label.Sought.{Sought}
 use Rattle.jr_rows.specs.declared.label.Sought.TheVariants as sought
 use Rattle.jr_rows.specs.Labels.{sought_by}
@@ -11,12 +10,10 @@ use Rattle.jr_rows.specs.Rows.{Rows, label, name, parent, end, sought_at}
 use Rattle.jr_rows.specs.Tree.{IsTree}
 use Rattle.jr_defs.specs.declared.referent.Referent.{Referent}
 use Rattle.jr_defs.specs.declared.referent.Referent.TheVariants.{Unbound, Ambiguous, ArrayLength, Package, Declared}
-use Rattle.jr_defs.specs.declared.referent.Space.TheVariants as space
 use Rattle.jr_defs.specs.Referents.{Table, none}
-use Rattle.jr_defs.specs.Declarations.{Declares, IsType}
-use Rattle.jr_defs.specs.Enclosing.{DeclaredIn}
+use Rattle.jr_defs.specs.Declarations.{IsType}
 use Rattle.jr_defs.specs.Constants.{HasConstantForm}
-use Rattle.jr_defs.specs.Lookup.{Candidate, Otherwise, LookFor, Look}
+use Rattle.jr_defs.specs.Lookup.{Otherwise, LookFor, Look}
 use Rattle.jr_defs.specs.Headers.{NamesHeader, IsIdentifierOf, IsFirstOf, IsLookedForIn, NameMeets, Meets, IsSettled}
 use Rattle.jr_defs.specs.Binding.{IsBinding, IsOfHeader}
 use Rattle.jr_defs.specs.Laws.{SameHeaders}
@@ -24,11 +21,12 @@ use Rattle.jr_defs.specs.Formed.{SeeksType, NamesTypeFirst, IsFormed}
 use Rattle.jr_defs.specs.Correspondence.{IsScoped}
 use Rattle.jr_defs.proofs.Unique.{answer_unique}
 use Rattle.jr_defs.proofs.Itself.{turned_headers, carries, SameFirst, type_search_in}
-use Rattle.jr_defs.proofs.TypesAgree.{otherwise_one, below_seeks, no_imports}
+use Rattle.jr_defs.proofs.TypesAgree.{otherwise_one, no_imports}
+use Rattle.jr_defs.proofs.Settling.{one_binding}
 use Rattle.jr_plain.proofs.Bounds.{label_past}
 use Rattle.jr_binding.specs.Bound.{stage_of, bound}
-use Rattle.jr_binding.specs.Laws.{HasOnePrelude, HasSettledHeaders}
-use Rattle.jr_binding.proofs.Deciding.{InHeader, InImport, header_below, over_it, header_stage, stage_header, import_stage, last_stage, names_header_stage}
+use Rattle.jr_binding.specs.Laws.{HasOnePrelude, HasSettledHeaders, IsOnlyBinding}
+use Rattle.jr_binding.proofs.Deciding.{InHeader, header_below, over_it, header_stage, stage_header, last_stage, names_header_stage}
 use Rattle.jr_binding.proofs.Inside.{next_identifier, next_in_header}
 use Rattle.jr_binding.proofs.Saying.{type_target}
 use Rattle.jr_binding.proofs.Making.{Made, through_makes, through_past, through_given}
@@ -197,3 +195,6 @@ module _ (p : Rows) (t : Table) (formed : IsFormed p) (prelude : HasOnePrelude p
 
   pub bound_is_binding : IsBinding p u
   bound_is_binding = record { settled = λ c k. still_settled c (headers.settled c k); bound = each_found }
+
+  pub only_binding : IsOnlyBinding p u
+  only_binding = record { binding = bound_is_binding; only = λ w b. one_binding p w u formed b bound_is_binding }

@@ -1,21 +1,19 @@
 -- What given headers say, and the tables that agree with them: in each of those expressions have one type.
-use Rattle.std.proofs.Common.{◌≡◌, ◌⊎◌, refl, sym, ◌∙◌, ap, subst, inl, inr, arith, ℕ, suc, zero, ◌+◌, ◌≤◌, ◌<◌, length, Option}
+use Rattle.std.proofs.Common.{◌≡◌, refl, sym, ◌∙◌, ap, subst, inl, inr, arith, ℕ, ◌<◌, Option}
 use Rattle.std.proofs.lemmas.Bool.{cases_eq}
-use Rattle.jr_rows.specs.declared.label.Label.TheVariants as is
-use Rattle.jr_rows.specs.declared.label.ImportKind.{ImportKind}
-use Rattle.jr_rows.specs.Rows.{Rows, label, name, parent, end, sought_at}
+use Rattle.jr_rows.specs.Rows.{Rows, label, name, sought_at}
 use Rattle.jr_defs.specs.declared.referent.Referent.{Referent}
-use Rattle.jr_defs.specs.declared.referent.Referent.TheVariants.{Unbound, Ambiguous, ArrayLength, Package, Declared}
+use Rattle.jr_defs.specs.declared.referent.Referent.TheVariants.{Unbound, ArrayLength, Declared}
 use Rattle.jr_defs.specs.declared.referent.Space.TheVariants as space
 use Rattle.jr_defs.specs.Referents.{Table}
 use Rattle.jr_defs.specs.Declarations.{Declares, IsType, IsVariable}
 use Rattle.jr_defs.specs.Supertypes.{Above}
-use Rattle.jr_defs.specs.Headers.{NamesHeader, IsIdentifierOf, IsSettled}
-use Rattle.jr_defs.specs.Binding.{IsOfHeader, OfHeaders}
+use Rattle.jr_defs.specs.Headers.{NamesHeader}
+use Rattle.jr_defs.specs.Binding.{IsOfHeader}
 use Rattle.jr_defs.specs.Constants.{HasConstantForm}
 use Rattle.jr_defs.specs.Lookup.{Look}
 use Rattle.jr_defs.specs.Laws.{SameHeaders}
-use Rattle.jr_defs.specs.Formed.{SeeksType, NamesTypeFirst, IsFormed}
+use Rattle.jr_defs.specs.Formed.{SeeksType, IsFormed}
 use Rattle.jr_defs.proofs.CarryMembers.{interface_type, above_over}
 use Rattle.jr_defs.proofs.Itself.{same, super_wide, carries}
 use Rattle.jr_defs.proofs.HeadersAgree.{type_role}

@@ -1,12 +1,16 @@
 -- The law that a program with settled headers has a binding.
-use Rattle.std.specs.Prelude.{◌≡◌, ℕ}
-use Rattle.jr_rows.specs.Rows.{Rows}
+use Rattle.std.specs.Prelude.{◌≡◌, ℕ, List}
+use Rattle.std.specs.List.{AllByRecursion}
+use Rattle.jr_tree.specs.declared.tree.Unit as declared_unit
+use Rattle.jr_tree.specs.Shape.{IsShaped}
+use Rattle.jr_rows.specs.Rows.{Rows, program_rows}
 use Rattle.jr_rows.specs.Tree.{IsTree}
 use Rattle.jr_defs.specs.Referents.{Table}
 use Rattle.jr_defs.specs.Declarations.{IsType, IsObject, IsString}
 use Rattle.jr_defs.specs.Headers.{NamesHeader, IsSettled}
 use Rattle.jr_defs.specs.Binding.{IsBinding, OfHeaders}
 use Rattle.jr_defs.specs.Formed.{IsFormed}
+use Rattle.jr_defs.specs.Laws.{HasBareObject}
 use Rattle.jr_binding.specs.Bound.{bound}
 
 -- the program has at most one Object and one String, as the prelude has
@@ -31,3 +35,13 @@ BoundKeepsHeaders = (p : Rows) (t : Table) (c n : ℕ) → IsTree p → NamesHea
 abbrev pub HasBinding : Type 0
 HasBinding = (p : Rows) (t : Table) → IsFormed p → HasOnePrelude p → HasSettledHeaders p t
     → (u : Table) × IsBinding p u × ((c n : ℕ) → NamesHeader p c n → u n ≡ t n)
+
+-- the table is the binding of the program: the only one
+pub record IsOnlyBinding (p : Rows) (u : Table) : Type 0 where
+  pub binding : IsBinding p u
+  pub only : (w : Table) → IsBinding p w → (o : ℕ) → w o ≡ u o
+
+-- a program of shaped units with settled headers has one binding, and it is computed
+abbrev pub OneBindingComputed : Type 0
+OneBindingComputed = (units : List declared_unit.Unit) (t : Table) → AllByRecursion IsShaped units → HasBareObject (program_rows units) → HasOnePrelude (program_rows units)
+    → HasSettledHeaders (program_rows units) t → IsOnlyBinding (program_rows units) (bound (program_rows units) t)

@@ -1,9 +1,18 @@
 // A binding exists.
-ghost use Rattle.jr_binding.specs.Laws.{BoundIsBinding, BoundKeepsHeaders, HasBinding};
+ghost use Rattle.jr_binding.specs.Laws.{BoundIsBinding, BoundKeepsHeaders, HasBinding, OneBindingComputed};
 
-/// Where headers are given under which each type is settled, the program has a binding with the same headers, and `bound` computes it.
-pub fn a_binding_exists()
+/// Where headers are given under which each type is settled, `bound` computes a binding with the same headers.
+pub fn the_binding_is_computed()
     ensures binding { BoundIsBinding }
     ensures kept { BoundKeepsHeaders }
-    ensures exists { HasBinding }
+{}
+
+/// So there is a binding with the given headers.
+pub fn a_binding_exists()
+    ensures { HasBinding }
+{}
+
+/// A program of shaped units with settled headers has one binding, and it is the one that is computed.
+pub fn units_have_one_binding()
+    ensures { OneBindingComputed }
 {}

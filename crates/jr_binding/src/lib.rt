@@ -3,4 +3,4 @@
 
 mod law;
 
-pub use law::a_binding_exists;
+pub use law::{a_binding_exists, the_binding_is_computed, units_have_one_binding};
