@@ -7,3 +7,4 @@ pub mod Given
 pub mod Staged
 pub mod Brought
 pub mod Existing
+pub mod Worked
