@@ -8,3 +8,4 @@ pub mod Staged
 pub mod Brought
 pub mod Existing
 pub mod Worked
+pub mod WorkedBinding
