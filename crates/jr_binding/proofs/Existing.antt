@@ -3,25 +3,21 @@ use Rattle.std.proofs.Common.{◌≡◌, ◌⊎◌, refl, sym, ◌∙◌, ap, su
 use Rattle.std.proofs.lemmas.Bool.{cases_lt}
 use Rattle.jr_rows.specs.declared.label.Label.TheVariants as is
 use Rattle.jr_rows.specs.declared.label.ImportKind.{ImportKind}
-use Rattle.jr_rows.specs.declared.label.Sought.{Sought}
-use Rattle.jr_rows.specs.declared.label.Sought.TheVariants as sought
 use Rattle.jr_rows.specs.Labels.{sought_by}
 use Rattle.jr_rows.specs.Rows.{Rows, label, name, parent, end, sought_at}
 use Rattle.jr_rows.specs.Tree.{IsTree}
 use Rattle.jr_defs.specs.declared.referent.Referent.{Referent}
 use Rattle.jr_defs.specs.declared.referent.Referent.TheVariants.{Unbound, Ambiguous, ArrayLength, Package, Declared}
 use Rattle.jr_defs.specs.Referents.{Table, none}
-use Rattle.jr_defs.specs.Declarations.{IsType}
 use Rattle.jr_defs.specs.Constants.{HasConstantForm}
 use Rattle.jr_defs.specs.Lookup.{Otherwise, LookFor, Look}
 use Rattle.jr_defs.specs.Headers.{NamesHeader, IsIdentifierOf, IsFirstOf, IsLookedForIn, NameMeets, Meets, IsSettled}
 use Rattle.jr_defs.specs.Binding.{IsBinding, IsOfHeader}
 use Rattle.jr_defs.specs.Laws.{SameHeaders}
-use Rattle.jr_defs.specs.Formed.{SeeksType, NamesTypeFirst, IsFormed}
-use Rattle.jr_defs.specs.Correspondence.{IsScoped}
+use Rattle.jr_defs.specs.Formed.{IsFormed}
 use Rattle.jr_defs.proofs.Unique.{answer_unique}
-use Rattle.jr_defs.proofs.Itself.{turned_headers, carries, SameFirst, type_search_in}
-use Rattle.jr_defs.proofs.TypesAgree.{otherwise_one, no_imports}
+use Rattle.jr_defs.proofs.Itself.{SameFirst}
+use Rattle.jr_defs.proofs.TypesAgree.{otherwise_one}
 use Rattle.jr_defs.proofs.Settling.{one_binding}
 use Rattle.jr_plain.proofs.Bounds.{label_past}
 use Rattle.jr_binding.specs.Bound.{stage_of, bound}
@@ -31,8 +27,9 @@ use Rattle.jr_binding.proofs.Inside.{next_identifier, next_in_header}
 use Rattle.jr_binding.proofs.Saying.{type_target}
 use Rattle.jr_binding.proofs.Making.{Made, through_makes, through_past, through_given}
 use Rattle.jr_binding.proofs.Given.{AgreesWith, looked_there, given_target, given_agrees, headers_same, keeps_agreeing}
-use Rattle.jr_binding.proofs.Staged.{answer_same, type_same, stage_found}
-use Rattle.jr_binding.proofs.Brought.{ImportTargets, first_found, looked_back}
+use Rattle.jr_binding.proofs.Staged.{stage_found}
+use Rattle.jr_binding.proofs.Brought.{ImportTargets, looked_back}
+use Rattle.jr_binding.proofs.HeaderRows.{import_seeks, whole_name, within_rows, import_row, header_row}
 
 pub bound_given : (p : Rows) (t : Table) (n : ℕ) → stage_of p n ≡ 0 → bound p t n ≡ t n
 unfolding bound
@@ -72,29 +69,16 @@ module _ (p : Rows) (t : Table) (formed : IsFormed p) (prelude : HasOnePrelude p
   first_or : (n : ℕ) → (stage_of p n ≡ 0) ⊎ (0 < stage_of p n)
   first_or n = grind arith
 
-  import_seeks : (i : ℕ) (form : ImportKind) → label p i ≡ is.Import form → SeeksType (sought_at p (i + 1))
-  import_seeks i form e = formed.first_name i (subst NamesTypeFirst (sym e) NamesTypeFirst.import)
-
-  import_below : (i : ℕ) (form : ImportKind) → label p i ≡ is.Import form → i < length p
-  import_below i form e = ⊎_elim (λ lt. lt) (λ le. let z = sym e ∙ label_past p i le in cc) (cases_lt i (length p))
-
   -- ---- imports in which the first identifier of a name in a header is looked for
 
   module _ (i : ℕ) (form : ImportKind) (e : label p i ≡ is.Import form) where
-    inside : (k : ℕ) → IsIdentifierOf p (i + 1) k → k < end p i
-    inside k w = let z = formed.import_name i form e in let y = formed.tree.apart i (i + 1) (omega arith) z in let x = w.before in omega arith
-
-    within_rows : (k : ℕ) → IsIdentifierOf p (i + 1) k → k < length p
-    within_rows k w = let z = inside k w in let y = formed.tree.last i (import_below i form e) in omega arith
-
     module _ (there : (k : ℕ) → IsIdentifierOf p (i + 1) k → Look p t (HasConstantForm p t) k (t k)) where
       identifier_same : (k : ℕ) → IsIdentifierOf p (i + 1) k → SameFirst p t u k → t k ≡ u k
       identifier_same k w first = elim (first_or k) [
         | inl z ↦ sym (given k z)
         | inr later ↦ answer_unique _ _ (otherwise_one p u (HasConstantForm p u) k (name p k) (sought_at p k)) (t k) (u k)
-            (type_same p t u (HasConstantForm p t) (HasConstantForm p u) k (t k) (formed.identifier (i + 1) k (import_seeks i form e) w) same_headers
-            (no_imports p formed t u i k form e (let z = w.from in omega arith) (inside k w)) (no_imports p formed u t i k form e (let z = w.from in omega arith) (inside k w)) first (there k w))
-            (row_found k (within_rows k w) later)
+            (import_row p formed i form e t u same_headers k w first (t k) (there k w))
+            (row_found k (within_rows p formed i form e k w) later)
       ]
 
       identifiers_from : (j o : ℕ) → end p (i + 1) ≤ o + j → (k : ℕ) → o ≤ k → IsIdentifierOf p (i + 1) k → t k ≡ u k
@@ -106,27 +90,24 @@ module _ (p : Rows) (t : Table) (formed : IsFormed p) (prelude : HasOnePrelude p
       import_same k w = identifiers_from (end p (i + 1)) 0 (omega arith) k (omega arith) w
 
   given_targets : ImportTargets p t
-  given_targets i d form level e r = given_target p t formed headers (i + 1) d level (import_seeks i form e) r
+  given_targets i d form level e r = given_target p t formed headers (i + 1) d level (import_seeks p formed i form e) r
 
   bound_targets : ImportTargets p u
   bound_targets i d form level e r = elim (first_or (i + 1)) [
     | inl z ↦ given_targets i d form level e (sym (given (i + 1) z) ∙ r)
-    | inr later ↦ type_target p u (HasConstantForm p u) (i + 1) d (u (i + 1)) level (import_seeks i form e) r
-        (row_found (i + 1) (within_rows i form e (i + 1) (record { from = omega arith; before = formed.tree.nested (i + 1) })) later)
+    | inr later ↦ type_target p u (HasConstantForm p u) (i + 1) d (u (i + 1)) level (import_seeks p formed i form e) r
+        (row_found (i + 1) (within_rows p formed i form e (i + 1) (whole_name p formed i form e)) later)
   ]
 
   -- ---- rows in headers
 
   module _ (c n : ℕ) (header : NamesHeader p c n) where
-    seeks : SeeksType (sought_at p n)
-    seeks = formed.header_name c n header
-
     looked_import : (m i : ℕ) → IsFirstOf p n m → IsLookedForIn p t m i → (k : ℕ) → IsIdentifierOf p (i + 1) k → t k ≡ u k
     looked_import m i first w k x = import_same i w.form w.import.import
         (λ k y. looked_there p t formed headers c k (formed.header c n header) (IsOfHeader.import header first w y)) k x
 
     first_import : (m i : ℕ) → IsFirstOf p n m → IsLookedForIn p t m i → t (i + 1) ≡ u (i + 1)
-    first_import m i first w = looked_import m i first w (i + 1) (record { from = omega arith; before = formed.tree.nested (i + 1) })
+    first_import m i first w = looked_import m i first w (i + 1) (whole_name p formed i w.form w.import.import)
 
     -- ---- each type is settled
 
@@ -137,21 +118,10 @@ module _ (p : Rows) (t : Table) (formed : IsFormed p) (prelude : HasOnePrelude p
         NameMeets.import first l x (looked_import m i first l k x ∙ e) y
 
     module _ (m : ℕ) (w : IsIdentifierOf p n m) (here : u m ≡ t m) (next : SameFirst p t u m) where
-      there : Look p t (HasConstantForm p t) m (t m)
-      there = looked_there p t formed headers c m (formed.header c n header) (IsOfHeader.own header w)
-
-      by_sought : (s : Sought) → sought_at p m ≡ s → SeeksType s → Look p u (HasConstantForm p u) m (t m)
-      by_sought (sought.Simple k) e z = first_found p t u same_headers given_targets bound_targets m
-          (λ i v. first_import m i (record { last = formed.first_last n m k seeks w e; kind = k; simple = e }) v) k (t m) e z there
-      by_sought (sought.Qualified k) e z = answer_same p t u (HasConstantForm p t) (HasConstantForm p u) (IsType p) m (t m)
-          (type_search_in p t u (HasConstantForm p t) (HasConstantForm p u) (IsType p) m (subst SeeksType (sym e) z) (carries p t u same_headers) (λ c x. x.of_type.type)
-          (λ sc. absurd (subst IsScoped e sc)) next (λ c x. x.type))
-          (type_search_in p u t (HasConstantForm p u) (HasConstantForm p t) (IsType p) m (subst SeeksType (sym e) z) (carries p u t (turned_headers p t u same_headers)) (λ c x. x.of_type.type)
-          (λ sc. absurd (subst IsScoped e sc)) (λ x. sym (next x)) (λ c x. x.type)) there
-      by_sought _ e z = absurd z
-
       identifier_found : Look p u (HasConstantForm p u) m (u m)
-      identifier_found = subst (Look p u (HasConstantForm p u) m) (sym here) (by_sought (sought_at p m) refl (formed.identifier n m seeks w))
+      identifier_found = subst (Look p u (HasConstantForm p u) m) (sym here)
+          (header_row p formed t u same_headers given_targets bound_targets c n m header w (λ i f l. first_import m i f l) next (t m)
+          (looked_there p t formed headers c m (formed.header c n header) (IsOfHeader.own header w)))
 
   header_found : (m : ℕ) → stage_of p m ≡ 0 → Look p u (HasConstantForm p u) m (u m)
   header_found m e = by (stage_header p m e)
@@ -164,7 +134,7 @@ module _ (p : Rows) (t : Table) (formed : IsFormed p) (prelude : HasOnePrelude p
 
   not_past : (c o : ℕ) → length p ≤ o → IsOfHeader p t c o → ⊥
   not_past c o le (IsOfHeader.own {n = n} h w) = let z = formed.tree.last n (header_below p c n h) in let y = w.before in absurd (omega arith)
-  not_past c o le (IsOfHeader.import {i = i} h f w x) = let z = within_rows i w.form w.import.import o x in absurd (omega arith)
+  not_past c o le (IsOfHeader.import {i = i} h f w x) = let z = within_rows p formed i w.form w.import.import o x in absurd (omega arith)
 
   unbound_past : (o : ℕ) → length p ≤ o → (a : Referent) → t o ≡ a → a ≡ Unbound
   unbound_past o le Unbound e = refl

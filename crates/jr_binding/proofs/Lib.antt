@@ -6,6 +6,8 @@ pub mod Inside
 pub mod Given
 pub mod Staged
 pub mod Brought
+pub mod HeaderRows
 pub mod Existing
+pub mod Taken
 pub mod Worked
 pub mod WorkedBinding

@@ -1,14 +1,15 @@
 -- The law that a program with settled headers has a binding.
-use Rattle.std.specs.Prelude.{◌≡◌, ℕ, List}
+use Rattle.std.specs.Prelude.{◌≡◌, ℕ, Bool, if◌then◌else◌, List, Decides}
 use Rattle.std.specs.List.{AllByRecursion}
 use Rattle.jr_tree.specs.declared.tree.Unit as declared_unit
 use Rattle.jr_tree.specs.Shape.{IsShaped}
 use Rattle.jr_rows.specs.Rows.{Rows, program_rows}
 use Rattle.jr_rows.specs.Tree.{IsTree}
+use Rattle.jr_defs.specs.declared.referent.Referent.TheVariants.{Unbound}
 use Rattle.jr_defs.specs.Referents.{Table}
 use Rattle.jr_defs.specs.Declarations.{IsType, IsObject, IsString}
 use Rattle.jr_defs.specs.Headers.{NamesHeader, IsSettled}
-use Rattle.jr_defs.specs.Binding.{IsBinding, OfHeaders}
+use Rattle.jr_defs.specs.Binding.{IsBinding, IsOfHeader, OfHeaders}
 use Rattle.jr_defs.specs.Formed.{IsFormed}
 use Rattle.jr_defs.specs.Laws.{HasBareObject}
 use Rattle.jr_binding.specs.Bound.{bound}
@@ -45,3 +46,18 @@ pub record IsOnlyBinding (p : Rows) (u : Table) : Type 0 where
 abbrev pub OneBindingComputed : Type 0
 OneBindingComputed = (units : List declared_unit.Unit) (t : Table) → AllByRecursion IsShaped units → HasBareObject (program_rows units) → HasOnePrelude (program_rows units)
     → HasSettledHeaders (program_rows units) t → IsOnlyBinding (program_rows units) (bound (program_rows units) t)
+
+-- the row is in the header of some type, or in an import where the first identifier of one is looked for
+pub record IsInHeaders (p : Rows) (u : Table) (o : ℕ) : Type 0 where
+  pub of_type : ℕ
+  pub type : IsType p of_type
+  pub in_header : IsOfHeader p u of_type o
+
+-- the entries of the rows that a test picks, and no others
+abbrev pub entries_where : (ℕ → Bool) → Table → Table
+entries_where test u o = if test o then u o else Unbound
+
+-- settled headers are no more than a binding has: they are its entries in headers
+abbrev pub BindingHasSettledHeaders : Type 0
+BindingHasSettledHeaders = (p : Rows) (u : Table) (test : ℕ → Bool) → IsFormed p → IsBinding p u → ((o : ℕ) → Decides (test o) (IsInHeaders p u o))
+    → HasSettledHeaders p (entries_where test u)

@@ -1,5 +1,5 @@
 // A binding exists.
-ghost use Rattle.jr_binding.specs.Laws.{BoundIsBinding, BoundKeepsHeaders, HasBinding, OneBindingComputed};
+ghost use Rattle.jr_binding.specs.Laws.{BoundIsBinding, BoundKeepsHeaders, HasBinding, OneBindingComputed, BindingHasSettledHeaders};
 
 /// Where headers are given under which each type is settled, `bound` computes a binding with the same headers.
 pub fn the_binding_is_computed()
@@ -15,4 +15,9 @@ pub fn a_binding_exists()
 /// A program of shaped units with settled headers has one binding, and it is the one that is computed.
 pub fn units_have_one_binding()
     ensures { OneBindingComputed }
+{}
+
+/// The entries of a binding in headers are settled headers: no program with a binding lacks them.
+pub fn a_binding_has_settled_headers()
+    ensures { BindingHasSettledHeaders }
 {}

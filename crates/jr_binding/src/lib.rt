@@ -3,4 +3,7 @@
 
 mod law;
 
-pub use law::{a_binding_exists, the_binding_is_computed, units_have_one_binding};
+pub use law::{
+    a_binding_exists, a_binding_has_settled_headers, the_binding_is_computed,
+    units_have_one_binding,
+};
