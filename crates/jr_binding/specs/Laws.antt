@@ -57,7 +57,7 @@ pub record IsInHeaders (p : Rows) (u : Table) (o : ℕ) : Type 0 where
 abbrev pub entries_where : (ℕ → Bool) → Table → Table
 entries_where test u o = if test o then u o else Unbound
 
--- settled headers are no more than a binding has: they are its entries in headers
+-- settled headers are no more than a binding has: its entries in headers, where a test tells which those are
 abbrev pub BindingHasSettledHeaders : Type 0
 BindingHasSettledHeaders = (p : Rows) (u : Table) (test : ℕ → Bool) → IsFormed p → IsBinding p u → ((o : ℕ) → Decides (test o) (IsInHeaders p u o))
     → HasSettledHeaders p (entries_where test u)

@@ -17,7 +17,7 @@ pub fn units_have_one_binding()
     ensures { OneBindingComputed }
 {}
 
-/// The entries of a binding in headers are settled headers: no program with a binding lacks them.
+/// The entries of a binding in headers, picked by a test that tells them, are settled headers.
 pub fn a_binding_has_settled_headers()
     ensures { BindingHasSettledHeaders }
 {}
