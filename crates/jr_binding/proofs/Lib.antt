@@ -1,0 +1,13 @@
+pub mod Deciding
+pub mod Looking
+pub mod Saying
+pub mod Making
+pub mod Inside
+pub mod Given
+pub mod Staged
+pub mod Brought
+pub mod HeaderRows
+pub mod Existing
+pub mod Taken
+pub mod Worked
+pub mod WorkedBinding
