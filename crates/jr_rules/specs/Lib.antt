@@ -1,0 +1,9 @@
+pub mod Typed
+pub mod Objects
+pub mod Initializing
+pub mod Operands
+pub mod Statements
+pub mod Places
+pub mod Creations
+pub mod TypeRules
+pub mod Compiling

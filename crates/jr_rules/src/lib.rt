@@ -1,0 +1,6 @@
+//! The rules of compiling on types and static contexts, with plain functions that tell where each is broken.
+#![tactic(auto)]
+
+mod law;
+
+pub use law::{placeholder};
