@@ -7,3 +7,11 @@ pub mod Places
 pub mod Creations
 pub mod TypeRules
 pub mod Compiling
+pub mod TypedTests
+pub mod ObjectTests
+pub mod InitializingTests
+pub mod OperandTests
+pub mod StatementTests
+pub mod PlaceTests
+pub mod CreationTests
+pub mod Computed
