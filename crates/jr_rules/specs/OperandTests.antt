@@ -49,11 +49,14 @@ abbrev pub is_paren : Label → Bool
 is_paren is.Paren = true
 is_paren _ = false
 
+-- the expression n denotes a variable, where it is known whether what it has in parentheses does
+abbrev pub denotes_by : Rows → Table → ℕ → Bool → Bool
+denotes_by p t n inner = found (declared_row (t n)) (λ d. is_variable p d) || (is_index (label p n) || (is_paren (label p n) && nat_eq (parent p (n + 1)) n && inner))
+
 -- an expression, in at most so many parentheses, that denotes a variable
 abbrev pub denotes_within : Rows → Table → ℕ → ℕ → Bool
 denotes_within p t zero n = false
-denotes_within p t (suc rounds) n = let inner = denotes_within p t rounds (n + 1) in
-    found (declared_row (t n)) (λ d. is_variable p d) || (is_index (label p n) || (is_paren (label p n) && nat_eq (parent p (n + 1)) n && inner))
+denotes_within p t (suc rounds) n = let inner = denotes_within p t rounds (n + 1) in denotes_by p t n inner
 
 abbrev pub denotes_variable : Rows → Table → ℕ → Bool
 denotes_variable p t n = denotes_within p t (length p) n

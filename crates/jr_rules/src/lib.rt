@@ -3,4 +3,4 @@
 
 mod law;
 
-pub use law::{placeholder};
+pub use law::{contexts_are_tested};
