@@ -1,3 +1,6 @@
 pub mod Kids
 pub mod Objects
 pub mod Initializing
+pub mod Known
+pub mod Operands
+pub mod Creations

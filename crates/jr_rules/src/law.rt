@@ -2,13 +2,33 @@
 ghost use Rattle.std.specs.Prelude.{ℕ, Decides};
 ghost use Rattle.jr_rows.specs.Rows.{Rows};
 ghost use Rattle.jr_defs.specs.Referents.{Table};
+ghost use Rattle.jr_plain.specs.Typing.{IsTypable};
 ghost use Rattle.jr_rules.specs.Objects.{LacksObject};
 ghost use Rattle.jr_rules.specs.Initializing.{IsUsedTooEarly};
+ghost use Rattle.jr_rules.specs.Creations.{CallsItselfRound, AbstractIsUsed};
+ghost use Rattle.jr_rules.specs.Operands.{OperandsDoNotFit, IsNoVariable, CastIsNotAllowed, BranchesAreUnrelated};
 ghost use Rattle.jr_rules.specs.ObjectTests.{lacks_object};
 ghost use Rattle.jr_rules.specs.InitializingTests.{is_used_too_early};
+ghost use Rattle.jr_rules.specs.CreationTests.{calls_itself_round, abstract_is_used};
+ghost use Rattle.jr_rules.specs.OperandTests.{operands_do_not_fit, is_no_variable, cast_is_not_allowed, branches_are_unrelated};
+ghost use Rattle.jr_rules.specs.Computed.{values, types};
 
 /// Where static contexts and initializers use what is not there, or not yet.
 pub fn contexts_are_tested()
     ensures objects { (p : Rows) (t : Table) (o : ℕ) → Decides (lacks_object p t o) (LacksObject p t o) }
     ensures early { (p : Rows) (t : Table) (o : ℕ) → Decides (is_used_too_early p t o) (IsUsedTooEarly p t o) }
+{}
+
+/// Constructors that call themselves round, and abstract classes and methods that are used.
+pub fn creations_are_tested()
+    ensures rounds { (p : Rows) (t : Table) (k : ℕ) → Decides (calls_itself_round p t k) (CallsItselfRound p t k) }
+    ensures abstracts { (p : Rows) (t : Table) (n : ℕ) → Decides (abstract_is_used p t n) (AbstractIsUsed p t n) }
+{}
+
+/// Operands, what is assigned to, casts and branches.
+pub fn operands_are_tested()
+    ensures operands { (p : Rows) (t : Table) (n : ℕ) → IsTypable p t → Decides (operands_do_not_fit p t (values p t) (types p t) n) (OperandsDoNotFit p t n) }
+    ensures variables { (p : Rows) (t : Table) (n : ℕ) → IsTypable p t → Decides (is_no_variable p t n) (IsNoVariable p t n) }
+    ensures casts { (p : Rows) (t : Table) (n : ℕ) → IsTypable p t → Decides (cast_is_not_allowed p t (types p t) n) (CastIsNotAllowed p t n) }
+    ensures branches { (p : Rows) (t : Table) (n : ℕ) → IsTypable p t → Decides (branches_are_unrelated p t (types p t) n) (BranchesAreUnrelated p t n) }
 {}
