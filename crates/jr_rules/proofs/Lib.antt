@@ -4,3 +4,5 @@ pub mod Initializing
 pub mod Known
 pub mod Operands
 pub mod Creations
+pub mod Statements
+pub mod Switches

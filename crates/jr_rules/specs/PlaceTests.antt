@@ -24,15 +24,16 @@ abbrev pub is_list : Label → Bool
 is_list is.List = true
 is_list _ = false
 
--- the type of what the row m holds in an initializer, where that of a list is known
-abbrev pub held_type : Rows → Table → Types → ℕ → Option RowType → Option RowType
-held_type p t type_of m of_list =
-    if is_list (label p m) then option_and_then item_type of_list else (if is_new_array (label p m) then type_of m else (if is_variable p m then type_of_declared p t m else None))
+-- the type of what the row m, of this label, holds as an initializer, where that of a list is known
+abbrev pub held_by : Rows → Table → Types → ℕ → Option RowType → Label → Option RowType
+held_by p t type_of m of_list is.List = option_and_then item_type of_list
+held_by p t type_of m of_list (is.NewArray base lengths more) = type_of m
+held_by p t type_of m of_list _ = if is_variable p m then type_of_declared p t m else None
 
 -- the type that the initializer n stands for, in at most so many lists
 abbrev pub initializer_within : Rows → Table → Types → ℕ → ℕ → Option RowType
 initializer_within p t type_of zero n = None
-initializer_within p t type_of (suc rounds) n = let outer = initializer_within p t type_of rounds (parent p n) in held_type p t type_of (parent p n) outer
+initializer_within p t type_of (suc rounds) n = let outer = initializer_within p t type_of rounds (parent p n) in held_by p t type_of (parent p n) outer (label p (parent p n))
 
 abbrev pub initializer_type : Rows → Table → Types → ℕ → Option RowType
 initializer_type p t type_of n = initializer_within p t type_of (length p) n

@@ -7,6 +7,8 @@ ghost use Rattle.jr_rules.specs.Objects.{LacksObject};
 ghost use Rattle.jr_rules.specs.Initializing.{IsUsedTooEarly};
 ghost use Rattle.jr_rules.specs.Creations.{CallsItselfRound, AbstractIsUsed};
 ghost use Rattle.jr_rules.specs.Operands.{OperandsDoNotFit, IsNoVariable, CastIsNotAllowed, BranchesAreUnrelated};
+ghost use Rattle.jr_rules.specs.Statements.{IsNotThrowable, ConditionIsNotBoolean, SwitchDoesNotFit, ReturnDoesNotFit, HasNoTarget};
+ghost use Rattle.jr_rules.specs.StatementTests.{is_not_throwable, condition_is_not_boolean, switch_does_not_fit, return_does_not_fit, has_no_target};
 ghost use Rattle.jr_rules.specs.ObjectTests.{lacks_object};
 ghost use Rattle.jr_rules.specs.InitializingTests.{is_used_too_early};
 ghost use Rattle.jr_rules.specs.CreationTests.{calls_itself_round, abstract_is_used};
@@ -31,4 +33,13 @@ pub fn operands_are_tested()
     ensures variables { (p : Rows) (t : Table) (n : ℕ) → IsTypable p t → Decides (is_no_variable p t n) (IsNoVariable p t n) }
     ensures casts { (p : Rows) (t : Table) (n : ℕ) → IsTypable p t → Decides (cast_is_not_allowed p t (types p t) n) (CastIsNotAllowed p t n) }
     ensures branches { (p : Rows) (t : Table) (n : ℕ) → IsTypable p t → Decides (branches_are_unrelated p t (types p t) n) (BranchesAreUnrelated p t n) }
+{}
+
+/// Thrown classes, conditions, switches, returns and jumps.
+pub fn statements_are_tested()
+    ensures throws { (p : Rows) (t : Table) (n : ℕ) → IsTypable p t → Decides (is_not_throwable p t (types p t) n) (IsNotThrowable p t n) }
+    ensures conditions { (p : Rows) (t : Table) (n : ℕ) → IsTypable p t → Decides (condition_is_not_boolean p (types p t) n) (ConditionIsNotBoolean p t n) }
+    ensures switches { (p : Rows) (t : Table) (n : ℕ) → IsTypable p t → Decides (switch_does_not_fit p t (values p t) (types p t) n) (SwitchDoesNotFit p t n) }
+    ensures returning { (p : Rows) (t : Table) (n : ℕ) → IsTypable p t → Decides (return_does_not_fit p t (values p t) (types p t) n) (ReturnDoesNotFit p t n) }
+    ensures jumps { (p : Rows) (t : Table) (n : ℕ) → Decides (has_no_target p t n) (HasNoTarget p t n) }
 {}

@@ -1,0 +1,152 @@
+-- The tests of values and their places, of void calls and of arrays tell what they are to tell.
+use Rattle.std.proofs.Common.{◌≡◌, ◌⊎◌, refl, sym, ◌∙◌, ap, subst, inl, inr, ⊎_elim, arith, ℕ, zero, suc, ◌+◌, ◌<◌, ◌≤◌, Bool, true, false, not, cond, ◌&&◌, length, nat_eq, Option, Some, None, option_and_then, Decides}
+use Rattle.std.proofs.lemmas.Bool.{false≢true, cases_lt, cases_eq}
+use Rattle.std.proofs.lemmas.Bool.Decides.{Decides-eqb}
+use Rattle.std.proofs.lemmas.Option.{none-some, same_Some}
+use Rattle.jr_base.specs.declared.kind.Symbol.TheVariants as y
+use Rattle.jr_rows.specs.declared.label.Label.{Label}
+use Rattle.jr_rows.specs.declared.label.Label.TheVariants as is
+use Rattle.jr_rows.specs.declared.label.ReceiverKind.{ReceiverKind}
+use Rattle.jr_rows.specs.Labels.{role_of}
+use Rattle.jr_rows.specs.Rows.{Rows, label, parent, end}
+use Rattle.jr_defs.specs.declared.referent.Element.{Element}
+use Rattle.jr_defs.specs.declared.referent.Element.TheVariants as element
+use Rattle.jr_defs.specs.declared.referent.RowType.{RowType}
+use Rattle.jr_defs.specs.declared.referent.Space.TheVariants as space
+use Rattle.jr_defs.specs.Referents.{Table}
+use Rattle.jr_defs.specs.Declarations.{IsOf, IsVariable}
+use Rattle.jr_defs.specs.Types.{array, plain, HasType}
+use Rattle.jr_defs.specs.Constants.{HasConstantForm, ConstantOf}
+use Rattle.jr_defs.specs.Conversions.{IsAssignable}
+use Rattle.jr_plain.specs.Search.{Finds}
+use Rattle.jr_plain.specs.Declarations.{is_variable}
+use Rattle.jr_plain.specs.Types.{type_of_declared}
+use Rattle.jr_plain.specs.Constants.{is_value}
+use Rattle.jr_plain.specs.Conversions.{Constants, is_void, is_plain, is_assignable}
+use Rattle.jr_plain.specs.Overloads.{Types}
+use Rattle.jr_plain.specs.Typing.{IsTypable, first, item_at, item_type}
+use Rattle.jr_plain.proofs.Tests.{always, never, both, either, opposite, like}
+use Rattle.jr_plain.proofs.Bounds.{parent_past, label_past}
+use Rattle.jr_plain.proofs.Declared.{variable_tells}
+use Rattle.jr_plain.proofs.Modified.{found_tells}
+use Rattle.jr_plain.proofs.Typed.{has_type_finds}
+use Rattle.jr_plain.proofs.Converted.{void_tells, is_plain_one, assignable_tells}
+use Rattle.jr_plain.proofs.Finding.{guard_finds, then_finds}
+use Rattle.jr_rules.specs.Typed.{Typed, FirstOf, IsIntLike}
+use Rattle.jr_rules.specs.Statements.{IsCondition}
+use Rattle.jr_rules.specs.Places.{IsNewArray, Initializes, PlaceOf, ValueDoesNotFit, DropsValues, IsFor, StandsAlone, VoidIsUsed, ArrayDoesNotFit}
+use Rattle.jr_rules.specs.TypedTests.{is_int_like, found}
+use Rattle.jr_rules.specs.InitializingTests.{is_plain_assignment}
+use Rattle.jr_rules.specs.OperandTests.{is_index}
+use Rattle.jr_rules.specs.StatementTests.{is_condition}
+use Rattle.jr_rules.specs.PlaceTests as tested
+use Rattle.jr_rules.proofs.Kids.{both_found_tells, int_like_tells, first_finds}
+use Rattle.jr_rules.proofs.Initializing.{plain_assignment_tells}
+use Rattle.jr_rules.proofs.Operands.{index_label_tells}
+use Rattle.jr_rules.proofs.Statements.{condition_tells}
+
+-- ---- labels
+
+new_array_tells : (l : Label) → Decides (tested.is_new_array l) (IsNewArray l)
+new_array_tells (is.NewArray base lengths more) = always
+new_array_tells _ = never
+
+list_tells : (l : Label) → Decides (tested.is_list l) (l ≡ is.List)
+list_tells is.List = (λ h. refl, λ e. refl)
+list_tells _ = (λ h. absurd (false≢true h), λ e. absurd (cc))
+
+value_label_tells : (l : Label) → Decides (is_value l) (l ≡ is.Value)
+value_label_tells is.Value = (λ h. refl, λ e. refl)
+value_label_tells _ = (λ h. absurd (false≢true h), λ e. absurd (cc))
+
+drops_values_tells : (l : Label) → Decides (tested.drops_values l) (DropsValues l)
+drops_values_tells is.Eval = always
+drops_values_tells is.ForExprs = always
+drops_values_tells _ = never
+
+for_tells : (l : Label) → Decides (tested.is_for l) (IsFor l)
+for_tells (is.For has_first has_condition) = always
+for_tells _ = never
+
+call_tells : (l : Label) → Decides (tested.is_call l) ((receiver : ReceiverKind) × (l ≡ is.Call receiver))
+call_tells (is.Call receiver) = (λ h. (receiver, refl), λ h. refl)
+call_tells _ = (λ h. absurd (false≢true h), λ h. let e = h.1 in absurd (cc))
+
+-- ---- the type of items
+
+abbrev Item : RowType → RowType → Type 0
+Item a r = (e : Element) × (dims : ℕ) × (a ≡ array e (suc dims)) × (array e dims ≡ r)
+
+item_at_finds : (dims : ℕ) (e : Element) → Finds (item_at dims e) (λ r. Item (array e dims) r)
+item_at_finds zero e r = (λ h. absurd (none-some r h), λ h. let q = ap (λ a. a.dims) h.2 in absurd (omega arith))
+item_at_finds (suc dims) e r = (λ h. (e, dims, refl, same_Some (array e dims) r h), λ h. ap (λ a. item_at a.dims a.element) h.2 ∙ ap Some h.3)
+
+stands_alone_tells : (p : Rows) (n : ℕ) → Decides (tested.stands_alone p n) (StandsAlone p n)
+stands_alone_tells p n = like (either (drops_values_tells (label p (parent p n))) (both (for_tells (label p (parent p n))) (opposite (condition_tells p n))))
+    (⊎_elim (λ h. StandsAlone.as_statement h) (λ h. StandsAlone.as_update h.0 h.1)) into
+  where
+    into : StandsAlone p n → DropsValues (label p (parent p n)) ⊎ (IsFor (label p (parent p n)) × (IsCondition p n → ⊥))
+    into (StandsAlone.as_statement h) = inl h
+    into (StandsAlone.as_update h k) = inr (h, k)
+
+module _ (p : Rows) (t : Table) (typable : IsTypable p t) (type_of : Types) (typed : (n : ℕ) → Finds (type_of n) (λ a. Typed p t n a)) where
+  -- ---- initializers
+
+  -- how a row of each label holds an initializer of the type
+  abbrev HeldBy : ℕ → Option RowType → Label → RowType → Type 0
+  HeldBy m of_list is.List r = (a : RowType) × (of_list ≡ Some a) × Item a r
+  HeldBy m of_list (is.NewArray base lengths more) r = Typed p t m r
+  HeldBy m of_list _ r = IsVariable p m × HasType p t m r
+
+  held_finds : (m : ℕ) (of_list : Option RowType) (l : Label) → Finds (tested.held_by p t type_of m of_list l) (λ r. HeldBy m of_list l r)
+  held_finds m of_list is.List = then_finds item_type of_list (λ a. (λ h. h, λ h. h)) (λ a. item_at_finds a.dims a.element)
+  held_finds m of_list (is.NewArray base lengths more) = typed m
+  held_finds m of_list _ = guard_finds (is_variable p m) (type_of_declared p t m) (variable_tells p m) (has_type_finds p t m)
+
+  held_out : (n : ℕ) (of_list : Option RowType) (l : Label) (r : RowType) → ((a : RowType) → of_list ≡ Some a → Initializes p t (parent p n) a) → label p (parent p n) ≡ l
+      → HeldBy (parent p n) of_list l r → Initializes p t n r
+  held_out n of_list is.List r outer at h = subst (λ x. Initializes p t n x) h.2.3 (Initializes.of_item at (subst (λ x. Initializes p t (parent p n) x) h.2.2 (outer h.0 h.1)))
+  held_out n of_list (is.NewArray base lengths more) r outer at h = Initializes.of_creation (subst IsNewArray (sym at) tt) h
+  held_out n of_list _ r outer at h = Initializes.of_variable h.0 h.1
+
+  variable_in : (m : ℕ) (of_list : Option RowType) (l : Label) (r : RowType) → IsOf space.Variable (role_of l) → IsVariable p m × HasType p t m r → HeldBy m of_list l r
+  variable_in m of_list is.List r v h = absurd v
+  variable_in m of_list (is.NewArray base lengths more) r v h = absurd v
+  variable_in m of_list _ r v h = h
+
+  array_in : (m : ℕ) (of_list : Option RowType) (l : Label) (r : RowType) → IsNewArray l → Typed p t m r → HeldBy m of_list l r
+  array_in m of_list (is.NewArray base lengths more) r v h = h
+  array_in m of_list _ r v h = absurd v
+
+  -- row 0 is its own parent, so as a list it holds no initializer
+  no_root : {n : ℕ} {a : RowType} → Initializes p t n a → parent p n ≡ 0 → label p 0 ≡ is.List → ⊥
+  no_root (Initializes.of_variable v h) e at = subst (λ l. IsOf space.Variable (role_of l)) at (subst (λ m. IsVariable p m) e v)
+  no_root (Initializes.of_creation v h) e at = subst IsNewArray at (subst (λ m. IsNewArray (label p m)) e v)
+  no_root (Initializes.of_item up h) e at = no_root h (ap (parent p) e ∙ typable.headed.tree.root) at
+
+  initializer_out : (rounds n : ℕ) (r : RowType) → tested.initializer_within p t type_of rounds n ≡ Some r → Initializes p t n r
+  initializer_out zero n r h = absurd (none-some r h)
+  initializer_out (suc rounds) n r h = held_out n (tested.initializer_within p t type_of rounds (parent p n)) (label p (parent p n)) r (λ a e. initializer_out rounds (parent p n) a e) refl
+      ((held_finds (parent p n) (tested.initializer_within p t type_of rounds (parent p n)) (label p (parent p n)) r).0 h)
+
+  -- the list round an initializer stands before it
+  list_before : (n : ℕ) {a : RowType} → label p (parent p n) ≡ is.List → Initializes p t (parent p n) a → parent p n < n
+  list_before n at h = ⊎_elim (λ lt. ⊎_elim (λ e. absurd (root e)) (λ apart. typable.headed.tree.up n lt (omega arith)) (cases_eq n 0)) (λ le. absurd (past le)) (cases_lt n (length p))
+    where
+      root : n ≡ 0 → ⊥
+      root e = let up = ap (parent p) e ∙ typable.headed.tree.root in no_root h (ap (parent p) up ∙ typable.headed.tree.root) (subst (λ m. label p m ≡ is.List) up at)
+
+      past : length p ≤ n → ⊥
+      past le = let here = label_past p n le in let e = subst (λ m. label p m ≡ is.List) (parent_past p n le) at in cc
+
+  initializer_in : (rounds n : ℕ) (r : RowType) → n < rounds → Initializes p t n r → tested.initializer_within p t type_of rounds n ≡ Some r
+  initializer_in zero n r lt h = absurd (omega arith)
+  initializer_in (suc rounds) n r lt h = (held_finds (parent p n) (tested.initializer_within p t type_of rounds (parent p n)) (label p (parent p n)) r).1
+      (by (λ a before k. initializer_in rounds (parent p n) a (omega arith) k) h)
+    where
+      by : {r : RowType} → ((a : RowType) → parent p n < n → Initializes p t (parent p n) a → tested.initializer_within p t type_of rounds (parent p n) ≡ Some a) → Initializes p t n r
+          → HeldBy (parent p n) (tested.initializer_within p t type_of rounds (parent p n)) (label p (parent p n)) r
+      by {r} outer (Initializes.of_variable v h) = variable_in (parent p n) (tested.initializer_within p t type_of rounds (parent p n)) (label p (parent p n)) r v (v, h)
+      by {r} outer (Initializes.of_creation v h) = array_in (parent p n) (tested.initializer_within p t type_of rounds (parent p n)) (label p (parent p n)) r v h
+      by {r} outer (Initializes.of_item {dims = dims} {e = e} at h) = subst (λ l. HeldBy (parent p n) (tested.initializer_within p t type_of rounds (parent p n)) l (array e dims)) (sym at)
+          (array e (suc dims), outer (array e (suc dims)) (list_before n at h) h, (e, dims, refl, refl))
