@@ -6,3 +6,4 @@ pub mod Operands
 pub mod Creations
 pub mod Statements
 pub mod Switches
+pub mod Places

@@ -30,7 +30,7 @@ use Rattle.jr_plain.proofs.Bounds.{parent_past, label_past}
 use Rattle.jr_plain.proofs.Declared.{variable_tells}
 use Rattle.jr_plain.proofs.Modified.{found_tells}
 use Rattle.jr_plain.proofs.Typed.{has_type_finds}
-use Rattle.jr_plain.proofs.Converted.{void_tells, is_plain_one, assignable_tells}
+use Rattle.jr_plain.proofs.Converted.{then_yes, then_no, void_tells, is_plain_one, assignable_tells}
 use Rattle.jr_plain.proofs.Finding.{guard_finds, then_finds}
 use Rattle.jr_rules.specs.Typed.{Typed, FirstOf, IsIntLike}
 use Rattle.jr_rules.specs.Statements.{IsCondition}
@@ -137,16 +137,108 @@ module _ (p : Rows) (t : Table) (typable : IsTypable p t) (type_of : Types) (typ
       root e = let up = ap (parent p) e ∙ typable.headed.tree.root in no_root h (ap (parent p) up ∙ typable.headed.tree.root) (subst (λ m. label p m ≡ is.List) up at)
 
       past : length p ≤ n → ⊥
-      past le = let here = label_past p n le in let e = subst (λ m. label p m ≡ is.List) (parent_past p n le) at in cc
+      past le = let here = label_past p n le in let e = subst (λ m. label p m ≡ is.List) (parent_past p n le) at in let g = sym here ∙ e in cc
+
+  held_in : (rounds : ℕ) {n : ℕ} {r : RowType} → ((a : RowType) → label p (parent p n) ≡ is.List → Initializes p t (parent p n) a → tested.initializer_within p t type_of rounds (parent p n) ≡ Some a)
+      → Initializes p t n r → HeldBy (parent p n) (tested.initializer_within p t type_of rounds (parent p n)) (label p (parent p n)) r
+  held_in rounds outer (Initializes.of_variable {n = n} {a = a} v h) = variable_in (parent p n) (tested.initializer_within p t type_of rounds (parent p n)) (label p (parent p n)) a v (v, h)
+  held_in rounds outer (Initializes.of_creation {n = n} {a = a} v h) = array_in (parent p n) (tested.initializer_within p t type_of rounds (parent p n)) (label p (parent p n)) a v h
+  held_in rounds outer (Initializes.of_item {n = n} {dims = dims} {e = e} at h) =
+      subst (λ l. HeldBy (parent p n) (tested.initializer_within p t type_of rounds (parent p n)) l (array e dims)) (sym at)
+      (array e (suc dims), outer (array e (suc dims)) at h, (e, dims, refl, refl))
 
   initializer_in : (rounds n : ℕ) (r : RowType) → n < rounds → Initializes p t n r → tested.initializer_within p t type_of rounds n ≡ Some r
   initializer_in zero n r lt h = absurd (omega arith)
   initializer_in (suc rounds) n r lt h = (held_finds (parent p n) (tested.initializer_within p t type_of rounds (parent p n)) (label p (parent p n)) r).1
-      (by (λ a before k. initializer_in rounds (parent p n) a (omega arith) k) h)
+      (held_in rounds (λ a at k. let before = list_before n at k in initializer_in rounds (parent p n) a (omega arith) k) h)
+
+  -- an initializer is a row
+  initializer_row : {n : ℕ} {r : RowType} → Initializes p t n r → length p ≤ n → ⊥
+  initializer_row (Initializes.of_variable {n = n} v h) le = subst (λ l. IsOf space.Variable (role_of l)) (label_past p n le) (subst (λ m. IsVariable p m) (parent_past p n le) v)
+  initializer_row (Initializes.of_creation {n = n} v h) le = subst IsNewArray (label_past p n le) (subst (λ m. IsNewArray (label p m)) (parent_past p n le) v)
+  initializer_row (Initializes.of_item {n = n} at h) le = let here = label_past p n le in let e = subst (λ m. label p m ≡ is.List) (parent_past p n le) at in skip_list here e
     where
-      by : {r : RowType} → ((a : RowType) → parent p n < n → Initializes p t (parent p n) a → tested.initializer_within p t type_of rounds (parent p n) ≡ Some a) → Initializes p t n r
-          → HeldBy (parent p n) (tested.initializer_within p t type_of rounds (parent p n)) (label p (parent p n)) r
-      by {r} outer (Initializes.of_variable v h) = variable_in (parent p n) (tested.initializer_within p t type_of rounds (parent p n)) (label p (parent p n)) r v (v, h)
-      by {r} outer (Initializes.of_creation v h) = array_in (parent p n) (tested.initializer_within p t type_of rounds (parent p n)) (label p (parent p n)) r v h
-      by {r} outer (Initializes.of_item {dims = dims} {e = e} at h) = subst (λ l. HeldBy (parent p n) (tested.initializer_within p t type_of rounds (parent p n)) l (array e dims)) (sym at)
-          (array e (suc dims), outer (array e (suc dims)) (list_before n at h) h, (e, dims, refl, refl))
+      skip_list : {l : Label} → l ≡ is.Skip → l ≡ is.List → ⊥
+      skip_list e f = let g = sym e ∙ f in cc
+
+  pub initializer_finds : (n : ℕ) → Finds (tested.initializer_type p t type_of n) (λ a. Initializes p t n a)
+  initializer_finds n a = (initializer_out (length p) n a, λ h. initializer_in (length p) n a (⊎_elim (λ lt. lt) (λ le. absurd (initializer_row h le)) (cases_lt n (length p))) h)
+
+  -- ---- values in their places
+
+  abbrev IsRight : ℕ → Type 0
+  IsRight n = (label p (parent p n) ≡ is.Assign y.Assign) × (n ≡ end p (parent p n + 1))
+
+  right_tells : (n : ℕ) → Decides (is_plain_assignment (label p (parent p n)) && nat_eq n (end p (parent p n + 1))) (IsRight n)
+  right_tells n = both (plain_assignment_tells (label p (parent p n))) (Decides-eqb n (end p (parent p n + 1)))
+
+  place_out : (n : ℕ) (a : RowType) (b : Bool) → Decides b (IsRight n) → (d : Bool) → Decides d (label p (parent p n) ≡ is.Value)
+      → cond b (first p type_of (parent p n)) (cond d (tested.initializer_type p t type_of (parent p n)) None) ≡ Some a → PlaceOf p t n a
+  place_out n a true r d v e = let h = r.0 refl in PlaceOf.assigned_to h.0 h.1 ((first_finds p t type_of typed (parent p n) a).0 e)
+  place_out n a false r true v e = PlaceOf.initial (v.0 refl) ((initializer_finds (parent p n) a).0 e)
+  place_out n a false r false v e = absurd (none-some a e)
+
+  no_value : {l : Label} → l ≡ is.Value → l ≡ is.Assign y.Assign → ⊥
+  no_value e f = let g = sym e ∙ f in cc
+
+  place_in : (n : ℕ) (a : RowType) → PlaceOf p t n a → tested.place_type p t type_of n ≡ Some a
+  place_in n a (PlaceOf.assigned_to at e h) =
+      then_yes (is_plain_assignment (label p (parent p n)) && nat_eq n (end p (parent p n + 1))) (first p type_of (parent p n)) _ (right_tells n) (at, e) ∙ (first_finds p t type_of typed (parent p n) a).1 h
+  place_in n a (PlaceOf.initial at h) =
+      then_no (is_plain_assignment (label p (parent p n)) && nat_eq n (end p (parent p n + 1))) (first p type_of (parent p n)) _ (right_tells n) (λ k. no_value at k.0)
+      ∙ (then_yes (is_value (label p (parent p n))) (tested.initializer_type p t type_of (parent p n)) None (value_label_tells (label p (parent p n))) at ∙ (initializer_finds (parent p n) a).1 h)
+
+  place_finds : (n : ℕ) → Finds (tested.place_type p t type_of n) (λ a. PlaceOf p t n a)
+  place_finds n a = (place_out n a (is_plain_assignment (label p (parent p n)) && nat_eq n (end p (parent p n + 1))) (right_tells n) (is_value (label p (parent p n))) (value_label_tells (label p (parent p n))), place_in n a)
+
+  module _ (constant : Constants) (known : (n : ℕ) → Finds (constant n) (λ v. ConstantOf p t (HasConstantForm p t) n v)) where
+    pub value_does_not_fit_tells : (n : ℕ) → Decides (tested.value_does_not_fit p t constant type_of n) (ValueDoesNotFit p t n)
+    value_does_not_fit_tells n = like
+        (both_found_tells (λ a. PlaceOf p t n a) (λ b. Typed p t n b) (λ a b. not (is_assignable p t constant n b a)) (λ a b. IsAssignable p t (HasConstantForm p t) n b a → ⊥)
+        (λ a b. opposite (assignable_tells p t typable.headed (HasConstantForm p t) constant n (known n) b a)) (tested.place_type p t type_of n) (type_of n) (place_finds n) (typed n))
+        (λ h. record { place = h.0; type = h.2.0; stands = h.1; typed = h.2.1; not_assignable = h.2.2 })
+        (λ h. (h.place, h.stands, (h.type, h.typed, h.not_assignable)))
+
+  -- ---- void calls
+
+  pub void_used_tells : (n : ℕ) → Decides (tested.void_is_used p type_of n) (VoidIsUsed p t n)
+  void_used_tells n = like
+      (both (both (call_tells (label p n)) (found_tells (λ a. Typed p t n a) (λ a. is_plain is_void a) (λ a. a ≡ plain element.Void) (λ a. is_plain_one element.Void is_void void_tells a) (type_of n) (typed n)))
+      (opposite (stands_alone_tells p n)))
+      (λ h. record { receiver = h.0.0.0; call = h.0.0.1; void = subst (λ a. Typed p t n a) h.0.1.2 h.0.1.1; used = h.1 })
+      (λ h. (((h.receiver, h.call), (plain element.Void, h.void, refl)), h.used))
+
+  -- ---- arrays
+
+  abbrev NoInt : ℕ → Type 0
+  NoInt n = (a : RowType) × Typed p t n a × (IsIntLike a → ⊥)
+
+  no_int_tells : (n : ℕ) → Decides (found (type_of n) (λ a. not (is_int_like a))) (NoInt n)
+  no_int_tells n = found_tells (λ a. Typed p t n a) (λ a. not (is_int_like a)) (λ a. IsIntLike a → ⊥) (λ a. opposite (int_like_tells a)) (type_of n) (typed n)
+
+  abbrev Arrays : ℕ → Type 0
+  Arrays n = (((label p (parent p n) ≡ is.Index) × (n ≡ end p (parent p n + 1))) × NoInt n)
+      ⊎ ((((label p (parent p n) ≡ is.Index) × (n ≡ parent p n + 1)) × ((a : RowType) × Typed p t n a × (a.dims ≡ 0)))
+      ⊎ ((IsNewArray (label p (parent p n)) × NoInt n) ⊎ ((label p n ≡ is.List) × ((a : RowType) × Initializes p t n a × (a.dims ≡ 0)))))
+
+  arrays_tell : (n : ℕ) → Decides (tested.array_does_not_fit p t type_of n) (Arrays n)
+  arrays_tell n = either (both (both (index_label_tells (label p (parent p n))) (Decides-eqb n (end p (parent p n + 1)))) (no_int_tells n))
+      (either (both (both (index_label_tells (label p (parent p n))) (Decides-eqb n (parent p n + 1)))
+      (found_tells (λ a. Typed p t n a) (λ a. nat_eq a.dims 0) (λ a. a.dims ≡ 0) (λ a. Decides-eqb a.dims 0) (type_of n) (typed n)))
+      (either (both (new_array_tells (label p (parent p n))) (no_int_tells n))
+      (both (list_tells (label p n)) (found_tells (λ a. Initializes p t n a) (λ a. nat_eq a.dims 0) (λ a. a.dims ≡ 0) (λ a. Decides-eqb a.dims 0) (tested.initializer_type p t type_of n) (initializer_finds n)))))
+
+  arrays_out : (n : ℕ) → Arrays n → ArrayDoesNotFit p t n
+  arrays_out n (inl h) = ArrayDoesNotFit.of_index h.0.0 h.0.1 h.1.1 h.1.2
+  arrays_out n (inr (inl h)) = ArrayDoesNotFit.of_indexed h.0.0 h.0.1 h.1.1 h.1.2
+  arrays_out n (inr (inr (inl h))) = ArrayDoesNotFit.of_length h.0 h.1.1 h.1.2
+  arrays_out n (inr (inr (inr h))) = ArrayDoesNotFit.of_list h.0 h.1.1 h.1.2
+
+  arrays_in : (n : ℕ) → ArrayDoesNotFit p t n → Arrays n
+  arrays_in n (ArrayDoesNotFit.of_index {a = a} at e h out) = inl ((at, e), (a, h, out))
+  arrays_in n (ArrayDoesNotFit.of_indexed {a = a} at e h z) = inr (inl ((at, e), (a, h, z)))
+  arrays_in n (ArrayDoesNotFit.of_length {a = a} at h out) = inr (inr (inl (at, (a, h, out))))
+  arrays_in n (ArrayDoesNotFit.of_list {a = a} at h z) = inr (inr (inr (at, (a, h, z))))
+
+  pub array_tells : (n : ℕ) → Decides (tested.array_does_not_fit p t type_of n) (ArrayDoesNotFit p t n)
+  array_tells n = like (arrays_tell n) (arrays_out n) (arrays_in n)

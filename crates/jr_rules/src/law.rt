@@ -9,6 +9,8 @@ ghost use Rattle.jr_rules.specs.Creations.{CallsItselfRound, AbstractIsUsed};
 ghost use Rattle.jr_rules.specs.Operands.{OperandsDoNotFit, IsNoVariable, CastIsNotAllowed, BranchesAreUnrelated};
 ghost use Rattle.jr_rules.specs.Statements.{IsNotThrowable, ConditionIsNotBoolean, SwitchDoesNotFit, ReturnDoesNotFit, HasNoTarget};
 ghost use Rattle.jr_rules.specs.StatementTests.{is_not_throwable, condition_is_not_boolean, switch_does_not_fit, return_does_not_fit, has_no_target};
+ghost use Rattle.jr_rules.specs.Places.{ValueDoesNotFit, VoidIsUsed, ArrayDoesNotFit};
+ghost use Rattle.jr_rules.specs.PlaceTests.{value_does_not_fit, void_is_used, array_does_not_fit};
 ghost use Rattle.jr_rules.specs.ObjectTests.{lacks_object};
 ghost use Rattle.jr_rules.specs.InitializingTests.{is_used_too_early};
 ghost use Rattle.jr_rules.specs.CreationTests.{calls_itself_round, abstract_is_used};
@@ -42,4 +44,11 @@ pub fn statements_are_tested()
     ensures switches { (p : Rows) (t : Table) (n : ℕ) → IsTypable p t → Decides (switch_does_not_fit p t (values p t) (types p t) n) (SwitchDoesNotFit p t n) }
     ensures returning { (p : Rows) (t : Table) (n : ℕ) → IsTypable p t → Decides (return_does_not_fit p t (values p t) (types p t) n) (ReturnDoesNotFit p t n) }
     ensures jumps { (p : Rows) (t : Table) (n : ℕ) → Decides (has_no_target p t n) (HasNoTarget p t n) }
+{}
+
+/// Values and their places, void calls and arrays.
+pub fn places_are_tested()
+    ensures values { (p : Rows) (t : Table) (n : ℕ) → IsTypable p t → Decides (value_does_not_fit p t (values p t) (types p t) n) (ValueDoesNotFit p t n) }
+    ensures voids { (p : Rows) (t : Table) (n : ℕ) → IsTypable p t → Decides (void_is_used p (types p t) n) (VoidIsUsed p t n) }
+    ensures arrays { (p : Rows) (t : Table) (n : ℕ) → IsTypable p t → Decides (array_does_not_fit p t (types p t) n) (ArrayDoesNotFit p t n) }
 {}
