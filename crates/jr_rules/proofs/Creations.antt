@@ -12,6 +12,7 @@ use Rattle.jr_defs.specs.declared.referent.Referent.TheVariants.{Declared}
 use Rattle.jr_defs.specs.Referents.{Table}
 use Rattle.jr_defs.specs.Modifiers.{IsAbstract}
 use Rattle.jr_defs.specs.Types.{NamesType}
+use Rattle.jr_plain.specs.Search.{Reaches}
 use Rattle.jr_plain.specs.Modifiers.{is_abstract}
 use Rattle.jr_plain.specs.Types.{named_type}
 use Rattle.jr_plain.proofs.Tests.{both, either, like}
@@ -54,8 +55,14 @@ module _ (p : Rows) (t : Table) where
       })
       (λ h. (h.constructor, (h.call, ((h.calls, h.inside), (b, (h.level, h.refers), refl)))))
 
+  from_constructor : {k b : ℕ} → Reaches (CallsByThis p t) k b → role_at p k ≡ role.Constructor
+  from_constructor (Reaches.direct h) = h.constructor
+  from_constructor (Reaches.further h more) = h.constructor
+
   pub calls_itself_tells : (k : ℕ) → Decides (plain.calls_itself_round p t k) (CallsItselfRound p t k)
-  calls_itself_tells k = reaches_tells (length p) (plain.calls_by_this p t) (CallsByThis p t) calls_tell (λ a b h. constructor_below p a h.constructor) k k
+  calls_itself_tells k = like
+      (both (role_tells (role_at p k) role.Constructor) (reaches_tells (length p) (plain.calls_by_this p t) (CallsByThis p t) calls_tell (λ a b h. constructor_below p a h.constructor) k k))
+      (λ h. h.1) (λ h. (from_constructor h, h))
 
   abbrev Abstracts : ℕ → Type 0
   Abstracts n = ((label p n ≡ is.New) × ((c : ℕ) × NamesType p t n c × IsAbstract p c))

@@ -7,3 +7,4 @@ pub mod Creations
 pub mod Statements
 pub mod Switches
 pub mod Places
+pub mod AllRules

@@ -25,7 +25,7 @@ calls_by_this p t a b = same_role (role_at p a) role.Constructor
 
 -- by such calls the constructor comes back to itself
 abbrev pub calls_itself_round : Rows → Table → ℕ → Bool
-calls_itself_round p t k = reaches (length p) (calls_by_this p t) k k
+calls_itself_round p t k = let around = reaches (length p) (calls_by_this p t) k k in same_role (role_at p k) role.Constructor && around
 
 abbrev pub is_super_call : Label → Bool
 is_super_call (is.Call on.Super) = true

@@ -15,7 +15,8 @@ ghost use Rattle.jr_rules.specs.ObjectTests.{lacks_object};
 ghost use Rattle.jr_rules.specs.InitializingTests.{is_used_too_early};
 ghost use Rattle.jr_rules.specs.CreationTests.{calls_itself_round, abstract_is_used};
 ghost use Rattle.jr_rules.specs.OperandTests.{operands_do_not_fit, is_no_variable, cast_is_not_allowed, branches_are_unrelated};
-ghost use Rattle.jr_rules.specs.Computed.{values, types};
+ghost use Rattle.jr_rules.specs.TypeRules.{BreaksTypes};
+ghost use Rattle.jr_rules.specs.Computed.{values, types, breaks_types};
 
 /// Where static contexts and initializers use what is not there, or not yet.
 pub fn contexts_are_tested()
@@ -51,4 +52,9 @@ pub fn places_are_tested()
     ensures values { (p : Rows) (t : Table) (n : ℕ) → IsTypable p t → Decides (value_does_not_fit p t (values p t) (types p t) n) (ValueDoesNotFit p t n) }
     ensures voids { (p : Rows) (t : Table) (n : ℕ) → IsTypable p t → Decides (void_is_used p (types p t) n) (VoidIsUsed p t n) }
     ensures arrays { (p : Rows) (t : Table) (n : ℕ) → IsTypable p t → Decides (array_does_not_fit p t (types p t) n) (ArrayDoesNotFit p t n) }
+{}
+
+/// Each rule on types and static contexts, by its number, at each row.
+pub fn type_rules_are_tested()
+    ensures rules { (p : Rows) (t : Table) (rule n : ℕ) → IsTypable p t → Decides (breaks_types p t rule n) (BreaksTypes p t rule n) }
 {}
