@@ -81,10 +81,6 @@ continue_tells false (is.Continue false) = (λ h. refl, λ e. refl)
 continue_tells true _ = (λ h. absurd (false≢true h), λ e. absurd (cc))
 continue_tells false _ = (λ h. absurd (false≢true h), λ e. absurd (cc))
 
-labeled_tells : (l : Label) → Decides (tested.is_labeled l) (l ≡ is.Labeled)
-labeled_tells is.Labeled = (λ h. refl, λ e. refl)
-labeled_tells _ = (λ h. absurd (false≢true h), λ e. absurd (cc))
-
 -- ---- switches
 
 same_switch_tells : (p : Rows) (m n : ℕ) → Decides (tested.is_same_switch p m n) (switch_of p m ≡ switch_of p n)
@@ -167,30 +163,8 @@ inside_tells p P test tells never_skip o = like
     (λ s. both (both (tells (label p s)) (Decides-ltb s o)) (Decides-ltb o (end p s))) (length p) (λ s h. bounded P never_skip p s h.0.0))
     (λ h. (h.0, record { statement = h.1.0.0; after = h.1.0.1; before = h.1.1 })) (λ h. let k = h.1 in (h.0, ((k.statement, k.after), k.before)))
 
-module _ (p : Rows) where
-  abbrev LabelStep : ℕ → Type 0 → Type 0
-  LabelStep d Inner = (parent p (d + 1) ≡ d) × (IsLoop (label p (d + 1)) ⊎ ((label p (d + 1) ≡ is.Labeled) × Inner))
-
-  label_out : (d : ℕ) → LabelStep d (LabelsLoop p (d + 1)) → LabelsLoop p d
-  label_out d (up, inl h) = LabelsLoop.before_loop up h
-  label_out d (up, inr h) = LabelsLoop.before_label up h.0 h.1
-
-  label_in : (d : ℕ) → LabelsLoop p d → LabelStep d (LabelsLoop p (d + 1))
-  label_in _ (LabelsLoop.before_loop up h) = (up, inl h)
-  label_in _ (LabelsLoop.before_label up at h) = (up, inr (at, h))
-
-  -- a row that is not its own parent is not past the end
-  child_row : (d : ℕ) → length p ≤ d → parent p (d + 1) ≡ d → ⊥
-  child_row d le up = let e = parent_past p (d + 1) (omega arith) in absurd (omega arith)
-
-  labels_tell : (rounds d : ℕ) → length p ≤ d + rounds → Decides (tested.labels_within p rounds d) (LabelsLoop p d)
-  labels_tell zero d le = like never (λ h. absurd h) (λ h. let up = (label_in d h).0 in child_row d (omega arith) up)
-  labels_tell (suc rounds) d le = like
-      (both (Decides-eqb (parent p (d + 1)) d) (either (loop_tells (label p (d + 1))) (both (labeled_tells (label p (d + 1))) (labels_tell rounds (d + 1) (omega arith)))))
-      (label_out d) (label_in d)
-
-  labels_loop_tells : (d : ℕ) → Decides (tested.labels_loop p d) (LabelsLoop p d)
-  labels_loop_tells d = labels_tell (length p) d (omega arith)
+labels_loop_tells : (p : Rows) (d : ℕ) → Decides (tested.labels_loop p d) (LabelsLoop p d)
+labels_loop_tells p d = like (both (Decides-eqb (parent p (d + 1)) d) (loop_tells (label p (d + 1)))) (λ h. record { inside = h.0; loop = h.1 }) (λ h. (h.inside, h.loop))
 
 module _ (p : Rows) (t : Table) where
   abbrev Jumps : ℕ → Type 0

@@ -1,5 +1,5 @@
 -- Rules 23, 28, 29, 31 and 34, computed: thrown classes, conditions, switches, returns and jumps (JLS 8.4.6, 14.9 to 14.18, 14.20).
-use Rattle.std.specs.Prelude.{ℕ, zero, suc, ◌+◌, Bool, true, false, not, ◌&&◌, ◌||◌, ℤ, length, codes, if◌then◌else◌, Option, None, option_map, option_and_then, is_some, nat_eq, nat_lt, bytes_eq}
+use Rattle.std.specs.Prelude.{ℕ, ◌+◌, Bool, true, false, not, ◌&&◌, ◌||◌, ℤ, length, codes, if◌then◌else◌, Option, None, option_map, option_and_then, is_some, nat_eq, nat_lt, bytes_eq}
 use Rattle.std.specs.Ordering.{int_eq}
 use Rattle.jr_ty.specs.declared.constant.Const.{Const}
 use Rattle.jr_ty.specs.declared.constant.Const.TheVariants as c
@@ -182,18 +182,9 @@ is_continue with_label (is.Continue true) = with_label
 is_continue with_label (is.Continue false) = not with_label
 is_continue with_label _ = false
 
-abbrev pub is_labeled : Label → Bool
-is_labeled is.Labeled = true
-is_labeled _ = false
-
--- the label d stands before a loop, with at most so many labels between
-abbrev pub labels_within : Rows → ℕ → ℕ → Bool
-labels_within p zero d = false
-labels_within p (suc rounds) d = let inner = labels_within p rounds (d + 1) in
-    nat_eq (parent p (d + 1)) d && (is_loop (label p (d + 1)) || (is_labeled (label p (d + 1)) && inner))
-
+-- the label d stands right before a loop
 abbrev pub labels_loop : Rows → ℕ → Bool
-labels_loop p d = labels_within p (length p) d
+labels_loop p d = nat_eq (parent p (d + 1)) d && is_loop (label p (d + 1))
 
 -- a `break` in no loop or switch, a `continue` in no loop or to a label of none
 abbrev pub has_no_target : Rows → Table → ℕ → Bool

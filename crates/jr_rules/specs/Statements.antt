@@ -132,10 +132,10 @@ pub record IsRound (p : Rows) (P : Label → Type 0) (o s : ℕ) : Type 0 where
   pub after : s < o
   pub before : o < end p s
 
--- the label d stands before a loop, perhaps with other labels between (JLS 14.16)
-pub data LabelsLoop (p : Rows) : ℕ → Type 0 where
-  before_loop : {d : ℕ} → parent p (d + 1) ≡ d → IsLoop (label p (d + 1)) → LabelsLoop p d
-  before_label : {d : ℕ} → parent p (d + 1) ≡ d → label p (d + 1) ≡ is.Labeled → LabelsLoop p (d + 1) → LabelsLoop p d
+-- the label d stands right before a loop (JLS 14.16)
+pub record LabelsLoop (p : Rows) (d : ℕ) : Type 0 where
+  pub inside : parent p (d + 1) ≡ d
+  pub loop : IsLoop (label p (d + 1))
 
 -- rule 34: a `break` in no loop or switch, a `continue` in no loop or to a label of none
 pub data HasNoTarget (p : Rows) (t : Table) (n : ℕ) : Type 0 where
