@@ -8,3 +8,5 @@ pub mod Statements
 pub mod Switches
 pub mod Places
 pub mod AllRules
+pub mod Trees
+pub mod Worked

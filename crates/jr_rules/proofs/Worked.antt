@@ -225,7 +225,7 @@ returning = program ((d.Class (modifier.Abstract ∷ []) (codes "A") None [] (me
 abbrev returning_table : Table
 returning_table = table_of ((21, Declared 7 None) ∷ (50, Declared 5 None) ∷ (53, Declared 20 None) ∷ (54, Declared 18 None) ∷ (56, Declared 18 None) ∷ (59, Declared 20 None) ∷ (65, Declared 22 None) ∷ (66, Declared 24 None) ∷ (69, Declared 5 None) ∷ (72, Declared 58 None) ∷ (73, Declared 55 None) ∷ (75, Declared 18 None) ∷ [])
 
-result_kept : broken returning returning_table 27 ≡ []
+pub result_kept : broken returning returning_table 27 ≡ []
 result_kept = refl
 
 result_missing : broken returning returning_table 32 ≡ 31 ∷ []
