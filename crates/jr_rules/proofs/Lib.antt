@@ -10,3 +10,4 @@ pub mod Places
 pub mod AllRules
 pub mod Trees
 pub mod Worked
+pub mod Completeness

@@ -15,3 +15,4 @@ pub mod StatementTests
 pub mod PlaceTests
 pub mod CreationTests
 pub mod Computed
+pub mod Completeness

@@ -16,6 +16,11 @@ ghost use Rattle.jr_rules.specs.InitializingTests.{is_used_too_early};
 ghost use Rattle.jr_rules.specs.CreationTests.{calls_itself_round, abstract_is_used};
 ghost use Rattle.jr_rules.specs.OperandTests.{operands_do_not_fit, is_no_variable, cast_is_not_allowed, branches_are_unrelated};
 ghost use Rattle.jr_rules.specs.TypeRules.{BreaksTypes};
+ghost use Rattle.jr_rules.specs.Completeness.{HasTypedParts, IsTypedOrBreaks};
+ghost use Rattle.jr_rules.specs.Compiling.{Compiles};
+ghost use Rattle.jr_base.specs.Files.{FileMap};
+ghost use Rattle.jr_defs.specs.declared.program.Program.{Program};
+ghost use Rattle.jr_defs.specs.Compiling as names;
 ghost use Rattle.jr_rules.specs.Computed.{values, types, breaks_types};
 
 /// Where static contexts and initializers use what is not there, or not yet.
@@ -57,4 +62,14 @@ pub fn places_are_tested()
 /// Each rule on types and static contexts, by its number, at each row.
 pub fn type_rules_are_tested()
     ensures rules { (p : Rows) (t : Table) (rule n : ℕ) → IsTypable p t → Decides (breaks_types p t rule n) (BreaksTypes p t rule n) }
+{}
+
+/// The rules leave no operator, index, test or `this` without a type where its parts have theirs: it has one, or a rule is broken at it or at its first part.
+pub fn expressions_have_types_or_break_rules()
+    ensures typed { (p : Rows) (t : Table) (n : ℕ) → IsTypable p t → HasTypedParts p t n → IsTypedOrBreaks p t n }
+{}
+
+/// Files that compile by all these rules compile by those on names and members.
+pub fn compiling_keeps_rules_of_names()
+    ensures fewer { (found : FileMap) (program : Program) (t : Table) → Compiles found program t → names.Compiles found program t }
 {}
