@@ -1,17 +1,13 @@
 -- An expression whose parts have types has one, or a rule is broken there.
-use Rattle.std.proofs.Common.{◌≡◌, ◌⊎◌, refl, sym, ◌∙◌, ap, subst, inl, inr, ⊎_elim, ℕ, zero, suc, ◌+◌, true, false, is_some, Decides}
-use Rattle.jr_base.specs.declared.kind.Symbol.TheVariants as y
-use Rattle.jr_rows.specs.declared.label.Label.{Label}
+use Rattle.std.proofs.Common.{◌≡◌, ◌⊎◌, refl, sym, ◌∙◌, ap, subst, inl, inr, ⊎_elim, ℕ, zero, suc, ◌+◌}
 use Rattle.jr_rows.specs.declared.label.Label.TheVariants as is
-use Rattle.jr_rows.specs.Rows.{Rows, label, parent, end}
+use Rattle.jr_rows.specs.Rows.{Rows, label, end}
 use Rattle.jr_defs.specs.declared.referent.Element.{Element}
 use Rattle.jr_defs.specs.declared.referent.Element.TheVariants as element
 use Rattle.jr_defs.specs.declared.referent.RowType.{RowType}
 use Rattle.jr_defs.specs.Referents.{Table}
-use Rattle.jr_defs.specs.Enclosing.{Innermost}
-use Rattle.jr_defs.specs.Types.{array, plain, class_type, NamesType}
-use Rattle.jr_defs.specs.Supertypes.{IsReferenceType, Subtype}
-use Rattle.jr_defs.specs.Conversions.{IsReferenceOrNull}
+use Rattle.jr_defs.specs.Types.{array, plain, class_type}
+use Rattle.jr_defs.specs.Supertypes.{IsReferenceType}
 use Rattle.jr_defs.specs.Constants.{HasConstantForm}
 use Rattle.jr_defs.specs.Instances.{HasInstance}
 use Rattle.jr_defs.specs.Typing.{TypeOf, ConditionalType}
@@ -29,7 +25,7 @@ use Rattle.jr_rules.specs.Statements.{TestsFirst, IsCondition}
 use Rattle.jr_rules.specs.Places.{ArrayDoesNotFit}
 use Rattle.jr_rules.specs.TypeRules.{BreaksTypes}
 use Rattle.jr_rules.specs.Computed.{types}
-use Rattle.jr_rules.specs.Completeness.{HasTypedParts, BreaksThere, IsTypedOrBreaks}
+use Rattle.jr_rules.specs.Completeness.{HasTypedParts, IsTypedOrBreaks}
 use Rattle.jr_rules.proofs.Known.{types_find}
 
 module _ (p : Rows) (t : Table) (typable : IsTypable p t) where

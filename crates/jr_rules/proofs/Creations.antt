@@ -1,5 +1,5 @@
 -- The tests of constructors that call themselves round and of abstract classes and methods tell what they are to tell.
-use Rattle.std.proofs.Common.{◌≡◌, ◌⊎◌, refl, sym, subst, inl, inr, ℕ, ◌<◌, true, false, ◌&&◌, length, nat_eq, Option, Decides}
+use Rattle.std.proofs.Common.{◌≡◌, ◌⊎◌, refl, subst, inl, inr, ℕ, ◌&&◌, length, nat_eq, Option, Decides}
 use Rattle.std.proofs.lemmas.Bool.{false≢true}
 use Rattle.std.proofs.lemmas.Bool.Decides.{Decides-eqb}
 use Rattle.jr_tree.specs.declared.tree.ThisOrSuper.TheVariants as which
@@ -50,7 +50,11 @@ module _ (p : Rows) (t : Table) where
       (some (λ call. plain.is_this_call (label p call) && nat_eq (parent p (parent p call)) a && found (declared_row (t call)) (λ d. nat_eq d b)) (CallAt a b) (call_at_tells a b) (length p)
       (λ call h. bounded (λ l. l ≡ is.ConstructorCall which.This) (λ e. cc) p call h.0.0)))
       (λ h. record {
-        constructor = h.0; call = h.1.0; calls = h.1.1.0.0; inside = h.1.1.0.1; level = h.1.1.1.1.0;
+        constructor = h.0;
+        call = h.1.0;
+        calls = h.1.1.0.0;
+        inside = h.1.1.0.1;
+        level = h.1.1.1.1.0;
         refers = subst (λ d. t h.1.0 ≡ Declared d h.1.1.1.1.0) h.1.1.1.2 h.1.1.1.1.1;
       })
       (λ h. (h.constructor, (h.call, ((h.calls, h.inside), (b, (h.level, h.refers), refl)))))

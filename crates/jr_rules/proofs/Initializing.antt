@@ -1,5 +1,5 @@
 -- The test of fields that an initializer reads too early tells what it is to tell.
-use Rattle.std.proofs.Common.{◌≡◌, ◌⊎◌, refl, sym, ◌∙◌, ap, subst, ℕ, ◌+◌, ◌<◌, true, false, ◌&&◌, length, Option, Decides}
+use Rattle.std.proofs.Common.{◌≡◌, refl, ap, ℕ, ◌+◌, ◌&&◌, length, Option, Decides}
 use Rattle.std.proofs.lemmas.Bool.{false≢true}
 use Rattle.std.proofs.lemmas.Bool.Decides.{Decides-eqb, Decides-ltb}
 use Rattle.jr_base.specs.declared.kind.Symbol.{Symbol}
@@ -22,7 +22,7 @@ use Rattle.jr_plain.proofs.Same.{role_tells}
 use Rattle.jr_plain.proofs.Enclosed.{innermost_finds, declared_in_tells}
 use Rattle.jr_plain.proofs.Modified.{found_tells, static_tells}
 use Rattle.jr_plain.proofs.Instanced.{static_context_tells}
-use Rattle.jr_rules.specs.Initializing.{IsSimple, IsInitializing, InInitializer, IsAssignedTo, AreAlike, IsEarly, IsUsedTooEarly}
+use Rattle.jr_rules.specs.Initializing.{IsSimple, IsInitializing, IsAssignedTo, AreAlike, IsEarly, IsUsedTooEarly}
 use Rattle.jr_rules.specs.TypedTests.{declared_row}
 use Rattle.jr_rules.specs.InitializingTests as plain
 use Rattle.jr_rules.proofs.Kids.{declared_finds, Round, round_tells, member_row}

@@ -1,7 +1,7 @@
 -- What is found of children and referents, and which member holds a place.
-use Rattle.std.proofs.Common.{◌≡◌, ◌⊎◌, refl, sym, ap, ⊎_elim, arith, ℕ, ◌+◌, ◌≤◌, ◌<◌, Bool, true, false, length, Option, Some, None, nat_eq, Decides}
+use Rattle.std.proofs.Common.{◌≡◌, ap, ⊎_elim, arith, ℕ, ◌+◌, ◌≤◌, ◌<◌, Bool, false, length, Option, Some, nat_eq, Decides}
 use Rattle.std.specs.Option.{option_map_or}
-use Rattle.std.proofs.lemmas.Bool.{false≢true, cases_lt}
+use Rattle.std.proofs.lemmas.Bool.{cases_lt}
 use Rattle.std.proofs.lemmas.Bool.Decides.{Decides-eqb, Decides-ltb}
 use Rattle.std.proofs.lemmas.Option.{none-some, same_Some}
 use Rattle.jr_rows.specs.Rows.{Rows, parent, end}

@@ -1,5 +1,5 @@
 -- The test of objects that are wanted and not there tells what it is to tell.
-use Rattle.std.proofs.Common.{◌≡◌, ◌⊎◌, refl, sym, ap, subst, inl, inr, ℕ, true, false, not, ◌&&◌, Option, Some, None, is_some, Decides}
+use Rattle.std.proofs.Common.{◌≡◌, ◌⊎◌, refl, sym, ap, subst, inl, inr, ℕ, true, false, not, Option, Some, Decides}
 use Rattle.std.proofs.lemmas.Bool.{false≢true}
 use Rattle.std.proofs.lemmas.Option.{none-some, same_Some}
 use Rattle.jr_rows.specs.declared.label.Label.{Label}
@@ -17,7 +17,6 @@ use Rattle.jr_defs.specs.Enclosing.{Innermost}
 use Rattle.jr_defs.specs.Types.{NamesType}
 use Rattle.jr_defs.specs.Rules.{IsBehindDot}
 use Rattle.jr_plain.specs.Search.{Finds}
-use Rattle.jr_plain.specs.Enclosing.{innermost}
 use Rattle.jr_plain.specs.Types.{named_type}
 use Rattle.jr_plain.proofs.Tests.{always, never, both, either, opposite, like}
 use Rattle.jr_plain.proofs.Enclosed.{innermost_finds}
@@ -26,7 +25,7 @@ use Rattle.jr_plain.proofs.Instanced.{constructor_call_tells, innermost_tells, i
 use Rattle.jr_plain.proofs.Typed.{named_finds}
 use Rattle.jr_plain.proofs.Finding.{some_finds, none_finds, guard_finds, like_finds}
 use Rattle.jr_rules.specs.Objects.{IsFieldOrMethod, IsInstanceMember, IsBySuper, NeedsObject, MayUse, LacksObject}
-use Rattle.jr_rules.specs.TypedTests.{declared_row, found}
+use Rattle.jr_rules.specs.TypedTests.{declared_row}
 use Rattle.jr_rules.specs.ObjectTests as plain
 use Rattle.jr_rules.proofs.Kids.{declared_finds}
 

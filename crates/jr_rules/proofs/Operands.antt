@@ -1,6 +1,6 @@
 -- The tests of operands, of what is assigned to, of casts and of branches tell what they are to tell.
-use Rattle.std.proofs.Common.{◌≡◌, ◌⊎◌, refl, sym, ap, subst, inl, inr, ⊎_elim, arith, ℕ, zero, suc, ◌+◌, ◌<◌, ◌≤◌, Bool, true, false, not, ◌&&◌, length, Option, Some, None, is_some, Decides}
-use Rattle.std.proofs.lemmas.Bool.{false≢true, cases_lt}
+use Rattle.std.proofs.Common.{◌≡◌, ◌⊎◌, refl, inl, inr, arith, ℕ, zero, suc, ◌+◌, ◌≤◌, Bool, not, ◌&&◌, length, Option, is_some, Decides}
+use Rattle.std.proofs.lemmas.Bool.{false≢true}
 use Rattle.std.proofs.lemmas.Bool.Decides.{Decides-eqb}
 use Rattle.jr_base.specs.declared.kind.Symbol.{Symbol}
 use Rattle.jr_base.specs.declared.kind.Symbol.TheVariants as y
@@ -17,7 +17,6 @@ use Rattle.jr_defs.specs.Conversions.{IsReferenceOrNull, IsCastable}
 use Rattle.jr_defs.specs.Typing.{ConditionalType}
 use Rattle.jr_plain.specs.Search.{Finds}
 use Rattle.jr_plain.specs.Declarations.{is_variable}
-use Rattle.jr_plain.specs.Supertypes.{is_reference_type}
 use Rattle.jr_plain.specs.Conversions.{Constants, is_reference_or_null, is_castable}
 use Rattle.jr_plain.specs.Overloads.{Types}
 use Rattle.jr_plain.specs.Typing.{IsTypable, IsVariableLabel, first, second, third, conditional_type, is_assign}

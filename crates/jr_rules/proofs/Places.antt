@@ -1,5 +1,5 @@
 -- The tests of values and their places, of void calls and of arrays tell what they are to tell.
-use Rattle.std.proofs.Common.{◌≡◌, ◌⊎◌, refl, sym, ◌∙◌, ap, subst, inl, inr, ⊎_elim, arith, ℕ, zero, suc, ◌+◌, ◌<◌, ◌≤◌, Bool, true, false, not, cond, ◌&&◌, length, nat_eq, Option, Some, None, option_and_then, Decides}
+use Rattle.std.proofs.Common.{◌≡◌, ◌⊎◌, refl, sym, ◌∙◌, ap, subst, inl, inr, ⊎_elim, arith, ℕ, zero, suc, ◌+◌, ◌<◌, ◌≤◌, Bool, true, false, not, cond, ◌&&◌, length, nat_eq, Option, Some, None, Decides}
 use Rattle.std.proofs.lemmas.Bool.{false≢true, cases_lt, cases_eq}
 use Rattle.std.proofs.lemmas.Bool.Decides.{Decides-eqb}
 use Rattle.std.proofs.lemmas.Option.{none-some, same_Some}
@@ -32,13 +32,11 @@ use Rattle.jr_plain.proofs.Modified.{found_tells}
 use Rattle.jr_plain.proofs.Typed.{has_type_finds}
 use Rattle.jr_plain.proofs.Converted.{then_yes, then_no, void_tells, is_plain_one, assignable_tells}
 use Rattle.jr_plain.proofs.Finding.{guard_finds, then_finds}
-use Rattle.jr_rules.specs.Typed.{Typed, FirstOf, IsIntLike}
+use Rattle.jr_rules.specs.Typed.{Typed, IsIntLike}
 use Rattle.jr_rules.specs.Statements.{IsCondition}
 use Rattle.jr_rules.specs.Places.{IsNewArray, Initializes, PlaceOf, ValueDoesNotFit, DropsValues, IsFor, StandsAlone, VoidIsUsed, ArrayDoesNotFit}
 use Rattle.jr_rules.specs.TypedTests.{is_int_like, found}
 use Rattle.jr_rules.specs.InitializingTests.{is_plain_assignment}
-use Rattle.jr_rules.specs.OperandTests.{is_index}
-use Rattle.jr_rules.specs.StatementTests.{is_condition}
 use Rattle.jr_rules.specs.PlaceTests as tested
 use Rattle.jr_rules.proofs.Kids.{both_found_tells, int_like_tells, first_finds}
 use Rattle.jr_rules.proofs.Initializing.{plain_assignment_tells}

@@ -1,5 +1,5 @@
 -- The tests of thrown classes, conditions and returns tell what they are to tell.
-use Rattle.std.proofs.Common.{◌≡◌, ◌⊎◌, refl, sym, ◌∙◌, ap, subst, inl, inr, ⊎_elim, ℕ, ◌+◌, ◌<◌, Bool, true, false, not, ◌&&◌, length, codes, nat_eq, Option, Some, None, option_map, Decides}
+use Rattle.std.proofs.Common.{◌≡◌, ◌⊎◌, refl, sym, inl, inr, ⊎_elim, ℕ, ◌+◌, Bool, true, false, not, ◌&&◌, length, codes, Option, Decides}
 use Rattle.std.proofs.lemmas.Bool.{false≢true}
 use Rattle.std.proofs.lemmas.Bool.Decides.{Decides-eqb}
 use Rattle.jr_rows.specs.declared.label.Label.{Label}
@@ -39,7 +39,7 @@ use Rattle.jr_plain.proofs.Supertyped.{subtype_tells}
 use Rattle.jr_plain.proofs.Converted.{boolean_tells, is_plain_one, assignable_tells}
 use Rattle.jr_rules.specs.Typed.{Typed, FirstOf, InMember}
 use Rattle.jr_rules.specs.Statements.{IsThrowable, IsMethodOrConstructor, IsNotThrowable, TestsFirst, TestsSecond, IsCondition, ConditionIsNotBoolean, GivesNothing, GivesResult, ReturnDoesNotFit}
-use Rattle.jr_rules.specs.TypedTests.{declared_row, found, both_found}
+use Rattle.jr_rules.specs.TypedTests.{declared_row}
 use Rattle.jr_rules.specs.StatementTests as plain
 use Rattle.jr_rules.proofs.Kids.{declared_finds, both_found_tells, first_finds, Round, round_tells, member_row}
 

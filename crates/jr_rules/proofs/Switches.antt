@@ -1,5 +1,5 @@
 -- The tests of switches and of jumps tell what they are to tell.
-use Rattle.std.proofs.Common.{◌≡◌, ◌⊎◌, refl, sym, ap, subst, inl, inr, ⊎_elim, arith, ℕ, zero, suc, ◌+◌, ◌<◌, ◌≤◌, Bool, true, false, not, ◌&&◌, length, nat_eq, nat_lt, cond, Option, Some, None, option_and_then, Decides}
+use Rattle.std.proofs.Common.{◌≡◌, ◌⊎◌, refl, sym, ap, subst, inl, inr, ℕ, ◌+◌, ◌<◌, Bool, true, false, not, ◌&&◌, length, nat_lt, Option, Some, option_and_then, Decides}
 use Rattle.std.proofs.lemmas.Bool.{false≢true}
 use Rattle.std.proofs.lemmas.Bool.Decides.{Decides-eqb, Decides-ltb, Decides-int_eq}
 use Rattle.std.proofs.lemmas.Slice.Eq.{bytes_eq-Decides}
@@ -16,14 +16,14 @@ use Rattle.jr_defs.specs.Types.{plain}
 use Rattle.jr_defs.specs.Operators.{assigned_to}
 use Rattle.jr_defs.specs.Constants.{HasConstantForm, ConstantOf, Constant}
 use Rattle.jr_defs.specs.Conversions.{IsAssignable}
-use Rattle.jr_plain.specs.Search.{any_below, Finds}
+use Rattle.jr_plain.specs.Search.{Finds}
 use Rattle.jr_plain.specs.Conversions.{Constants, of_two, plain_of, is_assignable}
 use Rattle.jr_plain.specs.Overloads.{Types}
 use Rattle.jr_plain.specs.Typing.{IsTypable, first}
 use Rattle.jr_plain.proofs.Tests.{always, never, both, either, opposite, like}
 use Rattle.jr_plain.proofs.Searches.{any, some}
-use Rattle.jr_plain.proofs.Bounds.{bounded, parent_past}
-use Rattle.jr_plain.proofs.Modified.{found_tells, some_tells}
+use Rattle.jr_plain.proofs.Bounds.{bounded}
+use Rattle.jr_plain.proofs.Modified.{found_tells}
 use Rattle.jr_plain.proofs.Converted.{plain_finds, assignable_tells}
 use Rattle.jr_plain.proofs.Finding.{like_finds, guard_finds, then_finds, two_finds}
 use Rattle.jr_rules.specs.Typed.{Typed, FirstOf, IsIntLike}

@@ -1,12 +1,11 @@
 -- Trees of small programs, put together from lists, and their rows and tables.
-use Rattle.std.proofs.Common.{ℕ, Bool, true, false, cond, nat_eq, List, [], ◌∷◌, Option, Some, None, codes}
+use Rattle.std.proofs.Common.{ℕ, false, cond, nat_eq, List, [], ◌∷◌, Option, Some, None, codes}
 use Rattle.jr_base.specs.declared.text.Text.{Text}
 use Rattle.jr_tree.specs.declared.tree.Base.TheVariants as base
 use Rattle.jr_tree.specs.declared.tree.TypeUse.{TypeUse}
 use Rattle.jr_tree.specs.declared.tree.Primitive.{Primitive}
 use Rattle.jr_tree.specs.declared.tree.Modifier.{Modifier}
 use Rattle.jr_tree.specs.declared.tree.Modifier.TheVariants as modifier
-use Rattle.jr_tree.specs.declared.tree.PackageDecl.{PackageDecl}
 use Rattle.jr_tree.specs.declared.tree.Param.{Param}
 use Rattle.jr_tree.specs.declared.tree.Name.{Name}
 use Rattle.jr_tree.specs.Mirror.Exprs as x

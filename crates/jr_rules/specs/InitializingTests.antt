@@ -1,6 +1,5 @@
 -- Rule 12, computed: a field that an initializer reads too early (JLS 8.3.2.3).
 use Rattle.std.specs.Prelude.{ℕ, Bool, true, false, not, ◌&&◌, ◌||◌, ◌+◌, length, nat_eq, nat_lt}
-use Rattle.jr_base.specs.declared.kind.Symbol.TheVariants as y
 use Rattle.jr_rows.specs.declared.label.Label.{Label}
 use Rattle.jr_rows.specs.declared.label.Label.TheVariants as is
 use Rattle.jr_rows.specs.declared.label.Role.TheVariants as role

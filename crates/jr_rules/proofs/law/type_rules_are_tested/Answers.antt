@@ -1,5 +1,4 @@
 use Rattle.jr_rules.proofs.AllRules.{breaks_types_tells}
-use Rattle.jr_rules.proofs.Worked.{result_kept}
 use Rattle.jr_rules.proofs.law.type_rules_are_tested.Goals as goal
 
 pub returns : goal.returns
