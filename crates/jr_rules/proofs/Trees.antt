@@ -47,6 +47,9 @@ list_of all = x.Listed (x.ListOf (inits all) false)
 
 -- ---- statements
 
+abbrev pub parameter : TypeUse → Text → Param
+parameter ty part = record { is_final = false; ty = ty; name = part; dims = 0 }
+
 abbrev pub stmts : List s.Stmt → s.Stmts
 stmts [] = s.no_stmts
 stmts (a ∷ all) = s.more_stmts a (stmts all)
@@ -56,6 +59,10 @@ block all = s.BlockOf (stmts all)
 
 abbrev pub local : TypeUse → Text → Option x.Init → s.Stmt
 local ty part init = s.Local false ty (s.DeclaratorOf part 0 init ∷ [])
+
+-- a block with one catch
+abbrev pub catching : s.Block → TypeUse → Text → s.Block → s.Stmt
+catching body ty part handler = s.Try body (s.more_catches (s.CatchOf (parameter ty part) handler) s.no_catches) s.no_block
 
 abbrev pub group : List s.SwitchLabel → List s.Stmt → s.Group
 group labels all = s.GroupOf labels (stmts all)
@@ -68,9 +75,6 @@ groups (g ∷ all) = s.more_groups g (groups all)
 
 abbrev pub field : List Modifier → TypeUse → Text → Option x.Init → d.Member
 field mods ty part init = d.Field mods ty (s.DeclaratorOf part 0 init ∷ [])
-
-abbrev pub parameter : TypeUse → Text → Param
-parameter ty part = record { is_final = false; ty = ty; name = part; dims = 0 }
 
 abbrev pub members : List d.Member → d.Members
 members [] = d.no_members

@@ -1,5 +1,5 @@
 -- What the test of the rules on types and static contexts finds in small programs, each behind a package java.lang with Object, String and Throwable.
-use Rattle.std.proofs.Common.{◌≡◌, refl, false, [], ◌∷◌, Some, None, codes, pos}
+use Rattle.std.proofs.Common.{◌≡◌, refl, false, true, [], ◌∷◌, Some, None, codes, pos}
 use Rattle.jr_base.specs.declared.kind.Kind.TheVariants as token
 use Rattle.jr_base.specs.declared.kind.Keyword.TheVariants as word
 use Rattle.jr_base.specs.declared.kind.Symbol.TheVariants as y
@@ -14,14 +14,14 @@ use Rattle.jr_tree.specs.Mirror.Decls as d
 use Rattle.jr_rows.specs.Rows.{Rows}
 use Rattle.jr_defs.specs.declared.referent.Referent.TheVariants.{Declared}
 use Rattle.jr_defs.specs.Referents.{Table}
-use Rattle.jr_rules.proofs.Trees.{name, dotted, of_type, of_class, exprs, list_of, block, local, group, groups, field, parameter, members, program, table_of, broken}
+use Rattle.jr_rules.proofs.Trees.{name, dotted, of_type, of_class, exprs, list_of, block, local, catching, group, groups, field, parameter, members, program, table_of, broken}
 
--- class A { int x; static int s = s; int f() { return x; } static int g() { return x; } int h() { return A.x; } A(int i) { this(this.x, 1); } A(int i, int j) { this(1); } int a = b, b; { b = 1; b++; } }
+-- class A { int x; static int s = s; int f() { return x; } static int g() { return x; } int h() { return A.x; } A(int i) { this(this.x, 1); } A(int i, int j) { this(1); } A(long l) { this(1); } int a = b, b; { b = 1; b++; } }
 abbrev contexts : Rows
-contexts = program ((d.Class [] (codes "A") None [] (members ((field [] (of_type primitive.Int 0) (codes "x") None) ∷ (field (modifier.Static ∷ []) (of_type primitive.Int 0) (codes "s") (Some (x.Value (x.NameExpr (name (codes "s")))))) ∷ (d.Method [] (outcome.Of (of_type primitive.Int 0)) (codes "f") [] [] (Some (block ((s.Return (Some (x.NameExpr (name (codes "x"))))) ∷ [])))) ∷ (d.Method (modifier.Static ∷ []) (outcome.Of (of_type primitive.Int 0)) (codes "g") [] [] (Some (block ((s.Return (Some (x.NameExpr (name (codes "x"))))) ∷ [])))) ∷ (d.Method [] (outcome.Of (of_type primitive.Int 0)) (codes "h") [] [] (Some (block ((s.Return (Some (x.NameExpr (dotted (codes "A") (codes "x"))))) ∷ [])))) ∷ (d.Constructor [] (codes "A") ((parameter (of_type primitive.Int 0) (codes "i")) ∷ []) [] (block ((s.CtorCall which.This (exprs ((x.Select (x.This None) (codes "x")) ∷ (x.Lit (token.Int (pos 1))) ∷ []))) ∷ []))) ∷ (d.Constructor [] (codes "A") ((parameter (of_type primitive.Int 0) (codes "i2")) ∷ (parameter (of_type primitive.Int 0) (codes "j")) ∷ []) [] (block ((s.CtorCall which.This (exprs ((x.Lit (token.Int (pos 1))) ∷ []))) ∷ []))) ∷ (field [] (of_type primitive.Int 0) (codes "a") (Some (x.Value (x.NameExpr (name (codes "b")))))) ∷ (field [] (of_type primitive.Int 0) (codes "b") None) ∷ (d.Init false (block ((s.Eval (x.Assign (x.NameExpr (name (codes "b"))) y.Assign (x.Lit (token.Int (pos 1))))) ∷ (s.Eval (x.PostStep (x.NameExpr (name (codes "b"))) y.PlusPlus)) ∷ []))) ∷ []))) ∷ [])
+contexts = program ((d.Class [] (codes "A") None [] (members ((field [] (of_type primitive.Int 0) (codes "x") None) ∷ (field (modifier.Static ∷ []) (of_type primitive.Int 0) (codes "s") (Some (x.Value (x.NameExpr (name (codes "s")))))) ∷ (d.Method [] (outcome.Of (of_type primitive.Int 0)) (codes "f") [] [] (Some (block ((s.Return (Some (x.NameExpr (name (codes "x"))))) ∷ [])))) ∷ (d.Method (modifier.Static ∷ []) (outcome.Of (of_type primitive.Int 0)) (codes "g") [] [] (Some (block ((s.Return (Some (x.NameExpr (name (codes "x"))))) ∷ [])))) ∷ (d.Method [] (outcome.Of (of_type primitive.Int 0)) (codes "h") [] [] (Some (block ((s.Return (Some (x.NameExpr (dotted (codes "A") (codes "x"))))) ∷ [])))) ∷ (d.Constructor [] (codes "A") ((parameter (of_type primitive.Int 0) (codes "i")) ∷ []) [] (block ((s.CtorCall which.This (exprs ((x.Select (x.This None) (codes "x")) ∷ (x.Lit (token.Int (pos 1))) ∷ []))) ∷ []))) ∷ (d.Constructor [] (codes "A") ((parameter (of_type primitive.Int 0) (codes "i2")) ∷ (parameter (of_type primitive.Int 0) (codes "j")) ∷ []) [] (block ((s.CtorCall which.This (exprs ((x.Lit (token.Int (pos 1))) ∷ []))) ∷ []))) ∷ (d.Constructor [] (codes "A") ((parameter (of_type primitive.Long 0) (codes "l")) ∷ []) [] (block ((s.CtorCall which.This (exprs ((x.Lit (token.Int (pos 1))) ∷ []))) ∷ []))) ∷ (field [] (of_type primitive.Int 0) (codes "a") (Some (x.Value (x.NameExpr (name (codes "b")))))) ∷ (field [] (of_type primitive.Int 0) (codes "b") None) ∷ (d.Init false (block ((s.Eval (x.Assign (x.NameExpr (name (codes "b"))) y.Assign (x.Lit (token.Int (pos 1))))) ∷ (s.Eval (x.PostStep (x.NameExpr (name (codes "b"))) y.PlusPlus)) ∷ []))) ∷ []))) ∷ [])
 
 abbrev contexts_table : Table
-contexts_table = table_of ((27, Declared 25 (Some 18)) ∷ (32, Declared 22 (Some 18)) ∷ (37, Declared 22 (Some 18)) ∷ (42, Declared 22 None) ∷ (43, Declared 18 None) ∷ (44, Declared 18 None) ∷ (48, Declared 52 None) ∷ (49, Declared 22 None) ∷ (52, Declared 18 None) ∷ (58, Declared 44 None) ∷ (64, Declared 67 (Some 18)) ∷ (72, Declared 67 (Some 18)) ∷ (76, Declared 67 (Some 18)) ∷ [])
+contexts_table = table_of ((27, Declared 25 (Some 18)) ∷ (32, Declared 22 (Some 18)) ∷ (37, Declared 22 (Some 18)) ∷ (42, Declared 22 None) ∷ (43, Declared 18 None) ∷ (44, Declared 18 None) ∷ (48, Declared 52 None) ∷ (49, Declared 22 None) ∷ (52, Declared 18 None) ∷ (58, Declared 44 None) ∷ (60, Declared 18 None) ∷ (64, Declared 44 None) ∷ (70, Declared 73 (Some 18)) ∷ (78, Declared 73 (Some 18)) ∷ (82, Declared 73 (Some 18)) ∷ [])
 
 read_while_initialized : broken contexts contexts_table 27 ≡ 12 ∷ []
 read_while_initialized = refl
@@ -44,14 +44,39 @@ calls_itself = refl
 calls_itself_too : broken contexts contexts_table 52 ≡ 22 ∷ []
 calls_itself_too = refl
 
-read_before_declared : broken contexts contexts_table 64 ≡ 12 ∷ []
+calls_into_the_round : broken contexts contexts_table 60 ≡ []
+calls_into_the_round = refl
+
+read_before_declared : broken contexts contexts_table 70 ≡ 12 ∷ []
 read_before_declared = refl
 
-assigned_before_declared : broken contexts contexts_table 72 ≡ []
+assigned_before_declared : broken contexts contexts_table 78 ≡ []
 assigned_before_declared = refl
 
-read_after_declared : broken contexts contexts_table 75 ≡ []
+read_after_declared : broken contexts contexts_table 81 ≡ []
 read_after_declared = refl
+
+-- class A { int x; class I { int y; I(int i) { } I(I j) { this(x); } I(long l) { this(y); } } static Object k() { return new I(1); } Object m() { return new I(1); } static class S { int f() { return x; } } }
+abbrev inner : Rows
+inner = program ((d.Class [] (codes "A") None [] (members ((field [] (of_type primitive.Int 0) (codes "x") None) ∷ (d.Nested (d.Class [] (codes "I") None [] (members ((field [] (of_type primitive.Int 0) (codes "y") None) ∷ (d.Constructor [] (codes "I") ((parameter (of_type primitive.Int 0) (codes "i")) ∷ []) [] (block [])) ∷ (d.Constructor [] (codes "I") ((parameter (of_class (codes "I") 0) (codes "j")) ∷ []) [] (block ((s.CtorCall which.This (exprs ((x.NameExpr (name (codes "x"))) ∷ []))) ∷ []))) ∷ (d.Constructor [] (codes "I") ((parameter (of_type primitive.Long 0) (codes "l")) ∷ []) [] (block ((s.CtorCall which.This (exprs ((x.NameExpr (name (codes "y"))) ∷ []))) ∷ []))) ∷ [])))) ∷ (d.Method (modifier.Static ∷ []) (outcome.Of (of_class (codes "Object") 0)) (codes "k") [] [] (Some (block ((s.Return (Some (x.New (name (codes "I")) (exprs ((x.Lit (token.Int (pos 1))) ∷ []))))) ∷ [])))) ∷ (d.Method [] (outcome.Of (of_class (codes "Object") 0)) (codes "m") [] [] (Some (block ((s.Return (Some (x.New (name (codes "I")) (exprs ((x.Lit (token.Int (pos 1))) ∷ []))))) ∷ [])))) ∷ (d.Nested (d.Class (modifier.Static ∷ []) (codes "S") None [] (members ((d.Method [] (outcome.Of (of_type primitive.Int 0)) (codes "f") [] [] (Some (block ((s.Return (Some (x.NameExpr (name (codes "x"))))) ∷ [])))) ∷ [])))) ∷ []))) ∷ [])
+
+abbrev inner_table : Table
+inner_table = table_of ((21, Declared 7 None) ∷ (30, Declared 25 None) ∷ (31, Declared 7 None) ∷ (35, Declared 25 None) ∷ (38, Declared 25 None) ∷ (40, Declared 30 None) ∷ (41, Declared 24 (Some 18)) ∷ (42, Declared 25 None) ∷ (46, Declared 30 None) ∷ (47, Declared 29 (Some 25)) ∷ (50, Declared 5 None) ∷ (53, Declared 30 (Some 18)) ∷ (54, Declared 25 None) ∷ (58, Declared 5 None) ∷ (61, Declared 30 (Some 18)) ∷ (62, Declared 25 None) ∷ (67, Declared 7 None) ∷ (72, Declared 24 (Some 18)) ∷ [])
+
+outer_member_in_call_of_constructor : broken inner inner_table 41 ≡ []
+outer_member_in_call_of_constructor = refl
+
+own_member_in_call_of_constructor : broken inner inner_table 47 ≡ 11 ∷ []
+own_member_in_call_of_constructor = refl
+
+inner_created_in_static : broken inner inner_table 53 ≡ 11 ∷ []
+inner_created_in_static = refl
+
+inner_created : broken inner inner_table 61 ≡ []
+inner_created = refl
+
+instance_member_in_static_class : broken inner inner_table 72 ≡ 11 ∷ []
+instance_member_in_static_class = refl
 
 -- class A { void f(Object o, int i, long l, boolean b, int[] a) { o += "a"; l += i; b = i + b == l; i++; 5++; a.length; (A) o; (String) this; o instanceof A; i instanceof A; b ? o : i; b ? this : "a"; b ? o : this; } } (as statements of their own)
 abbrev operands : Rows
@@ -114,12 +139,12 @@ boolean_as_condition = refl
 long_as_condition : broken operands operands_table 110 ≡ 28 ∷ []
 long_as_condition = refl
 
--- class A { byte b = 100, c = 200; int[] a = { 1, 2L }, d = { { 1 } }; void m() { } void n() { m(); int i = m(); b = i; a[i] = a[2L]; i[0]; new int[i]; new int[2L]; } }
+-- class A { byte b = 100, c = 200; int[] a = { 1, 2L }, d = { { 1 } }; void m() { } void n() { m(); for (m(); m(); m()) ; int i = m(); b = i; a[i] = a[2L]; i[0]; new int[i]; new int[2L]; } }
 abbrev places : Rows
-places = program ((d.Class [] (codes "A") None [] (members ((field [] (of_type primitive.Byte 0) (codes "b") (Some (x.Value (x.Lit (token.Int (pos 100)))))) ∷ (field [] (of_type primitive.Byte 0) (codes "c") (Some (x.Value (x.Lit (token.Int (pos 200)))))) ∷ (field [] (of_type primitive.Int 1) (codes "a") (Some (list_of ((x.Value (x.Lit (token.Int (pos 1)))) ∷ (x.Value (x.Lit (token.Long (pos 2)))) ∷ [])))) ∷ (field [] (of_type primitive.Int 1) (codes "d") (Some (list_of ((list_of ((x.Value (x.Lit (token.Int (pos 1)))) ∷ [])) ∷ [])))) ∷ (d.Method [] outcome.Void (codes "m") [] [] (Some (block []))) ∷ (d.Method [] outcome.Void (codes "n") [] [] (Some (block ((s.Eval (x.Call x.no_receiver (codes "m") (exprs []))) ∷ (local (of_type primitive.Int 0) (codes "i") (Some (x.Value (x.Call x.no_receiver (codes "m") (exprs []))))) ∷ (s.Eval (x.Assign (x.NameExpr (name (codes "b"))) y.Assign (x.NameExpr (name (codes "i"))))) ∷ (s.Eval (x.Assign (x.NameExpr (name (codes "i"))) y.Assign (x.NameExpr (name (codes "b"))))) ∷ (s.Eval (x.Index (x.NameExpr (name (codes "a"))) (x.NameExpr (name (codes "i"))))) ∷ (s.Eval (x.Index (x.NameExpr (name (codes "a"))) (x.Lit (token.Long (pos 2))))) ∷ (s.Eval (x.Index (x.NameExpr (name (codes "i"))) (x.Lit (token.Int (pos 0))))) ∷ (s.Eval (x.NewArray (base.Primitive primitive.Int) (exprs ((x.NameExpr (name (codes "b"))) ∷ [])) 0 x.no_list)) ∷ (s.Eval (x.NewArray (base.Primitive primitive.Int) (exprs ((x.Lit (token.Long (pos 2))) ∷ [])) 0 x.no_list)) ∷ [])))) ∷ []))) ∷ [])
+places = program ((d.Class [] (codes "A") None [] (members ((field [] (of_type primitive.Byte 0) (codes "b") (Some (x.Value (x.Lit (token.Int (pos 100)))))) ∷ (field [] (of_type primitive.Byte 0) (codes "c") (Some (x.Value (x.Lit (token.Int (pos 200)))))) ∷ (field [] (of_type primitive.Int 1) (codes "a") (Some (list_of ((x.Value (x.Lit (token.Int (pos 1)))) ∷ (x.Value (x.Lit (token.Long (pos 2)))) ∷ [])))) ∷ (field [] (of_type primitive.Int 1) (codes "d") (Some (list_of ((list_of ((x.Value (x.Lit (token.Int (pos 1)))) ∷ [])) ∷ [])))) ∷ (d.Method [] outcome.Void (codes "m") [] [] (Some (block []))) ∷ (d.Method [] outcome.Void (codes "n") [] [] (Some (block ((s.Eval (x.Call x.no_receiver (codes "m") (exprs []))) ∷ (s.For (Some (s.Exprs (exprs ((x.Call x.no_receiver (codes "m") (exprs [])) ∷ [])))) (Some (x.Call x.no_receiver (codes "m") (exprs []))) (exprs ((x.Call x.no_receiver (codes "m") (exprs [])) ∷ [])) s.Skip) ∷ (local (of_type primitive.Int 0) (codes "i") (Some (x.Value (x.Call x.no_receiver (codes "m") (exprs []))))) ∷ (s.Eval (x.Assign (x.NameExpr (name (codes "b"))) y.Assign (x.NameExpr (name (codes "i"))))) ∷ (s.Eval (x.Assign (x.NameExpr (name (codes "i"))) y.Assign (x.NameExpr (name (codes "b"))))) ∷ (s.Eval (x.Index (x.NameExpr (name (codes "a"))) (x.NameExpr (name (codes "i"))))) ∷ (s.Eval (x.Index (x.NameExpr (name (codes "a"))) (x.Lit (token.Long (pos 2))))) ∷ (s.Eval (x.Index (x.NameExpr (name (codes "i"))) (x.Lit (token.Int (pos 0))))) ∷ (s.Eval (x.NewArray (base.Primitive primitive.Int) (exprs ((x.NameExpr (name (codes "b"))) ∷ [])) 0 x.no_list)) ∷ (s.Eval (x.NewArray (base.Primitive primitive.Int) (exprs ((x.Lit (token.Long (pos 2))) ∷ [])) 0 x.no_list)) ∷ [])))) ∷ []))) ∷ [])
 
 abbrev places_table : Table
-places_table = table_of ((21, Declared 7 None) ∷ (52, Declared 47 (Some 18)) ∷ (57, Declared 47 (Some 18)) ∷ (60, Declared 24 (Some 18)) ∷ (61, Declared 55 None) ∷ (64, Declared 55 None) ∷ (65, Declared 24 (Some 18)) ∷ (68, Declared 34 (Some 18)) ∷ (69, Declared 55 None) ∷ (72, Declared 34 (Some 18)) ∷ (76, Declared 55 None) ∷ (80, Declared 24 (Some 18)) ∷ [])
+places_table = table_of ((21, Declared 7 None) ∷ (52, Declared 47 (Some 18)) ∷ (55, Declared 47 (Some 18)) ∷ (56, Declared 47 (Some 18)) ∷ (57, Declared 47 (Some 18)) ∷ (63, Declared 47 (Some 18)) ∷ (66, Declared 24 (Some 18)) ∷ (67, Declared 61 None) ∷ (70, Declared 61 None) ∷ (71, Declared 24 (Some 18)) ∷ (74, Declared 34 (Some 18)) ∷ (75, Declared 61 None) ∷ (78, Declared 34 (Some 18)) ∷ (82, Declared 61 None) ∷ (86, Declared 24 (Some 18)) ∷ [])
 
 constant_fits : broken places places_table 26 ≡ []
 constant_fits = refl
@@ -142,39 +167,48 @@ list_for_int = refl
 void_alone : broken places places_table 52 ≡ []
 void_alone = refl
 
-void_as_value : broken places places_table 57 ≡ 25 ∷ 30 ∷ []
+void_before_loop : broken places places_table 55 ≡ []
+void_before_loop = refl
+
+void_as_condition : broken places places_table 56 ≡ 28 ∷ 30 ∷ []
+void_as_condition = refl
+
+void_as_update : broken places places_table 57 ≡ []
+void_as_update = refl
+
+void_as_value : broken places places_table 63 ≡ 25 ∷ 30 ∷ []
 void_as_value = refl
 
-narrower_place : broken places places_table 61 ≡ 25 ∷ []
+narrower_place : broken places places_table 67 ≡ 25 ∷ []
 narrower_place = refl
 
-wider_place : broken places places_table 65 ≡ []
+wider_place : broken places places_table 71 ≡ []
 wider_place = refl
 
-array_indexed : broken places places_table 68 ≡ []
+array_indexed : broken places places_table 74 ≡ []
 array_indexed = refl
 
-int_as_index : broken places places_table 69 ≡ []
+int_as_index : broken places places_table 75 ≡ []
 int_as_index = refl
 
-long_as_index : broken places places_table 73 ≡ 33 ∷ []
+long_as_index : broken places places_table 79 ≡ 33 ∷ []
 long_as_index = refl
 
-int_indexed : broken places places_table 76 ≡ 33 ∷ []
+int_indexed : broken places places_table 82 ≡ 33 ∷ []
 int_indexed = refl
 
-byte_as_length : broken places places_table 80 ≡ []
+byte_as_length : broken places places_table 86 ≡ []
 byte_as_length = refl
 
-long_as_length : broken places places_table 83 ≡ 33 ∷ []
+long_as_length : broken places places_table 89 ≡ 33 ∷ []
 long_as_length = refl
 
--- class A { void f(int i, long l, boolean b) { switch (i) { case 97: case 98: case 'a': case i: default: break; } switch (l) { } while (b) { continue; break; } continue; break; w: while (b) continue w; v: if (b) continue v; throw this; throw null; } }
+-- class A { void f(int i, long l, boolean b) { switch (i) { case 97: case 98: case 'a': case i: default: break; } switch (l) { } while (b) { continue; break; } continue; break; w: while (b) continue w; v: if (b) continue v; throw this; throw null; try { } catch (Throwable e) { } try { } catch (A e) { } } }
 abbrev statements : Rows
-statements = program ((d.Class [] (codes "A") None [] (members ((d.Method [] outcome.Void (codes "f") ((parameter (of_type primitive.Int 0) (codes "i")) ∷ (parameter (of_type primitive.Long 0) (codes "l")) ∷ (parameter (of_type primitive.Boolean 0) (codes "b")) ∷ []) [] (Some (block ((s.Switch (x.NameExpr (name (codes "i"))) (groups ((group ((s.Case (x.Lit (token.Int (pos 97)))) ∷ (s.Case (x.Lit (token.Int (pos 98)))) ∷ (s.Case (x.Lit (token.Char 97))) ∷ (s.Case (x.NameExpr (name (codes "i")))) ∷ s.Default ∷ []) ((s.Break None) ∷ [])) ∷ []))) ∷ (s.Switch (x.NameExpr (name (codes "l"))) (groups [])) ∷ (s.While (x.NameExpr (name (codes "b"))) (s.Nest (block ((s.Continue None) ∷ [])))) ∷ (s.Continue None) ∷ (s.Break None) ∷ (s.Labeled (codes "w") (s.While (x.NameExpr (name (codes "b"))) (s.Continue (Some (codes "w"))))) ∷ (s.Labeled (codes "v") (s.If (x.NameExpr (name (codes "b"))) (s.Continue (Some (codes "v"))) s.no_stmt)) ∷ (s.Throw (x.This None)) ∷ (s.Throw (x.Lit (token.Word word.Null))) ∷ [])))) ∷ []))) ∷ [])
+statements = program ((d.Class [] (codes "A") None [] (members ((d.Method [] outcome.Void (codes "f") ((parameter (of_type primitive.Int 0) (codes "i")) ∷ (parameter (of_type primitive.Long 0) (codes "l")) ∷ (parameter (of_type primitive.Boolean 0) (codes "b")) ∷ []) [] (Some (block ((s.Switch (x.NameExpr (name (codes "i"))) (groups ((group ((s.Case (x.Lit (token.Int (pos 97)))) ∷ (s.Case (x.Lit (token.Int (pos 98)))) ∷ (s.Case (x.Lit (token.Char 97))) ∷ (s.Case (x.NameExpr (name (codes "i")))) ∷ s.Default ∷ []) ((s.Break None) ∷ [])) ∷ []))) ∷ (s.Switch (x.NameExpr (name (codes "l"))) (groups [])) ∷ (s.While (x.NameExpr (name (codes "b"))) (s.Nest (block ((s.Continue None) ∷ [])))) ∷ (s.Continue None) ∷ (s.Break None) ∷ (s.Labeled (codes "w") (s.While (x.NameExpr (name (codes "b"))) (s.Continue (Some (codes "w"))))) ∷ (s.Labeled (codes "v") (s.If (x.NameExpr (name (codes "b"))) (s.Continue (Some (codes "v"))) s.no_stmt)) ∷ (s.Throw (x.This None)) ∷ (s.Throw (x.Lit (token.Word word.Null))) ∷ (catching (block []) (of_class (codes "Throwable") 0) (codes "e") (block [])) ∷ (catching (block []) (of_class (codes "A") 0) (codes "e") (block [])) ∷ [])))) ∷ []))) ∷ [])
 
 abbrev statements_table : Table
-statements_table = table_of ((21, Declared 7 None) ∷ (31, Declared 23 None) ∷ (40, Declared 23 None) ∷ (44, Declared 25 None) ∷ (46, Declared 27 None) ∷ (54, Declared 27 None) ∷ (55, Declared 52 None) ∷ (58, Declared 27 None) ∷ (59, Declared 56 None) ∷ [])
+statements_table = table_of ((21, Declared 7 None) ∷ (31, Declared 23 None) ∷ (40, Declared 23 None) ∷ (44, Declared 25 None) ∷ (46, Declared 27 None) ∷ (54, Declared 27 None) ∷ (55, Declared 52 None) ∷ (58, Declared 27 None) ∷ (59, Declared 56 None) ∷ (69, Declared 13 None) ∷ (76, Declared 18 None) ∷ [])
 
 case_kept : broken statements statements_table 35 ≡ []
 case_kept = refl
@@ -217,6 +251,12 @@ other_class_thrown = refl
 
 null_thrown : broken statements statements_table 62 ≡ []
 null_thrown = refl
+
+throwable_caught : broken statements statements_table 67 ≡ []
+throwable_caught = refl
+
+other_class_caught : broken statements statements_table 74 ≡ 23 ∷ []
+other_class_caught = refl
 
 -- abstract class A { abstract int m(); int f() { return 1; } int g() { return; } void h() { return 1; } void k() { return; } byte l() { return 300; } { return; } Object n() { return new A(); } void t() throws A { } void u() throws Throwable { } } class B extends A { int m() { return super.m() + super.f(); } Object o() { return new B(); } }
 abbrev returning : Rows
