@@ -1,5 +1,5 @@
 -- What the test of the rules on types and static contexts finds in small programs, each behind a package java.lang with Object, String and Throwable.
-use Rattle.std.proofs.Common.{◌≡◌, refl, false, true, [], ◌∷◌, Some, None, codes, pos}
+use Rattle.std.proofs.Common.{◌≡◌, refl, false, [], ◌∷◌, Some, None, codes, pos}
 use Rattle.jr_base.specs.declared.kind.Kind.TheVariants as token
 use Rattle.jr_base.specs.declared.kind.Keyword.TheVariants as word
 use Rattle.jr_base.specs.declared.kind.Symbol.TheVariants as y
