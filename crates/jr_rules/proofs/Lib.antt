@@ -11,3 +11,4 @@ pub mod AllRules
 pub mod Trees
 pub mod Worked
 pub mod Completeness
+pub mod Kept

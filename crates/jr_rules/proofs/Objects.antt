@@ -47,7 +47,7 @@ pub new_tells : (l : Label) → Decides (plain.is_new l) (l ≡ is.New)
 new_tells is.New = (λ h. refl, λ e. refl)
 new_tells _ = (λ h. absurd (false≢true h), λ e. absurd (cc))
 
-may_use_tells : (p : Rows) (o c : ℕ) → Decides (plain.may_use p o c) (MayUse p o c)
+pub may_use_tells : (p : Rows) (o c : ℕ) → Decides (plain.may_use p o c) (MayUse p o c)
 may_use_tells p o c = like (both (instance_tells p o c) (opposite (both (constructor_call_tells p o) (innermost_tells p o c))))
     (λ h. record { there = h.0; complete = λ i k. h.1 (i, k) }) (λ h. (h.there, λ k. h.complete k.0 k.1))
 

@@ -111,7 +111,7 @@ module _ (p : Rows) (t : Table) (typable : IsTypable p t) where
   denoting_row (DenotesVariable.component e) at = cc
   denoting_row (DenotesVariable.in_parentheses e up h) at = cc
 
-  denotes_tells : (rounds n : ℕ) → length p ≤ n + rounds → Decides (plain.denotes_within p t rounds n) (DenotesVariable p t n)
+  pub denotes_tells : (rounds n : ℕ) → length p ≤ n + rounds → Decides (plain.denotes_within p t rounds n) (DenotesVariable p t n)
   denotes_tells zero n le = like never (λ h. absurd h) (λ h. denoting_row h (label_past p n (omega arith)))
   denotes_tells (suc rounds) n le = like (denotes_step n (plain.denotes_within p t rounds (n + 1)) (DenotesVariable p t (n + 1)) (denotes_tells rounds (n + 1) (omega arith))) (denotes_out n) (denotes_in n)
 

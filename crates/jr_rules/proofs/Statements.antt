@@ -112,7 +112,7 @@ condition_tells p n = like
 module _ (p : Rows) (t : Table) (typable : IsTypable p t) where
   -- ---- thrown classes
 
-  throwable_tells : (a : RowType) → Decides (plain.is_throwable p t a) (IsThrowable p t a)
+  pub throwable_tells : (a : RowType) → Decides (plain.is_throwable p t a) (IsThrowable p t a)
   throwable_tells a = like
       (some (λ c. is_prelude p (codes "Throwable") c && is_subtype p t a (class_type c)) (λ c. IsPrelude p (codes "Throwable") c × Subtype p t a (class_type c))
       (λ c. both (prelude_tells p (codes "Throwable") c) (subtype_tells p t typable.headed a (class_type c))) (length p) (λ c h. let k = h.0 in type_below p c k.type))

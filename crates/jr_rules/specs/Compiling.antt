@@ -14,3 +14,7 @@ BreaksAll p t rule place = BreaksAny p t rule place ⊎ BreaksTypes p t rule pla
 -- the files compile, by these rules
 abbrev pub Compiles : FileMap → Program → Table → Type 0
 Compiles = CompilesBy BreaksAll
+
+-- no rule on types or static contexts is broken
+abbrev pub KeepsTypes : Rows → Table → Type 0
+KeepsTypes p t = (rule place : ℕ) → BreaksTypes p t rule place → ⊥

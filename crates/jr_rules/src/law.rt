@@ -1,15 +1,22 @@
 // Each plain function tells where its rule is broken.
-ghost use Rattle.std.specs.Prelude.{ℕ, Decides};
-ghost use Rattle.jr_rows.specs.Rows.{Rows};
+ghost use Rattle.std.specs.Prelude.{◌≡◌, ℕ, ◌+◌, Decides};
+ghost use Rattle.jr_rows.specs.Rows.{Rows, label, parent};
+ghost use Rattle.jr_rows.specs.declared.label.Label.TheVariants as is;
+ghost use Rattle.jr_defs.specs.declared.referent.Element.TheVariants as element;
+ghost use Rattle.jr_defs.specs.declared.referent.RowType.{RowType};
+ghost use Rattle.jr_defs.specs.Types.{plain, HasType};
+ghost use Rattle.jr_defs.specs.Constants.{HasConstantForm};
+ghost use Rattle.jr_defs.specs.Conversions.{IsCastable, IsAssignable};
+ghost use Rattle.jr_rules.specs.Typed.{Typed, FirstOf, SecondOf, TypeBelow, InMember};
 ghost use Rattle.jr_defs.specs.Referents.{Table};
 ghost use Rattle.jr_plain.specs.Typing.{IsTypable};
-ghost use Rattle.jr_rules.specs.Objects.{LacksObject};
+ghost use Rattle.jr_rules.specs.Objects.{NeedsObject, MayUse, LacksObject};
 ghost use Rattle.jr_rules.specs.Initializing.{IsUsedTooEarly};
 ghost use Rattle.jr_rules.specs.Creations.{CallsItselfRound, AbstractIsUsed};
-ghost use Rattle.jr_rules.specs.Operands.{OperandsDoNotFit, IsNoVariable, CastIsNotAllowed, BranchesAreUnrelated};
-ghost use Rattle.jr_rules.specs.Statements.{IsNotThrowable, ConditionIsNotBoolean, SwitchDoesNotFit, ReturnDoesNotFit, HasNoTarget};
+ghost use Rattle.jr_rules.specs.Operands.{DenotesVariable, ChangesFirst, OperandsDoNotFit, IsNoVariable, CastIsNotAllowed, BranchesAreUnrelated};
+ghost use Rattle.jr_rules.specs.Statements.{IsThrowable, IsCondition, GivesResult, IsNotThrowable, ConditionIsNotBoolean, SwitchDoesNotFit, ReturnDoesNotFit, HasNoTarget};
 ghost use Rattle.jr_rules.specs.StatementTests.{is_not_throwable, condition_is_not_boolean, switch_does_not_fit, return_does_not_fit, has_no_target};
-ghost use Rattle.jr_rules.specs.Places.{ValueDoesNotFit, VoidIsUsed, ArrayDoesNotFit};
+ghost use Rattle.jr_rules.specs.Places.{PlaceOf, ValueDoesNotFit, VoidIsUsed, ArrayDoesNotFit};
 ghost use Rattle.jr_rules.specs.PlaceTests.{value_does_not_fit, void_is_used, array_does_not_fit};
 ghost use Rattle.jr_rules.specs.ObjectTests.{lacks_object};
 ghost use Rattle.jr_rules.specs.InitializingTests.{is_used_too_early};
@@ -17,7 +24,7 @@ ghost use Rattle.jr_rules.specs.CreationTests.{calls_itself_round, abstract_is_u
 ghost use Rattle.jr_rules.specs.OperandTests.{operands_do_not_fit, is_no_variable, cast_is_not_allowed, branches_are_unrelated};
 ghost use Rattle.jr_rules.specs.TypeRules.{BreaksTypes};
 ghost use Rattle.jr_rules.specs.Completeness.{HasTypedParts, IsTypedOrBreaks};
-ghost use Rattle.jr_rules.specs.Compiling.{Compiles};
+ghost use Rattle.jr_rules.specs.Compiling.{Compiles, KeepsTypes};
 ghost use Rattle.jr_base.specs.Files.{FileMap};
 ghost use Rattle.jr_defs.specs.declared.program.Program.{Program};
 ghost use Rattle.jr_defs.specs.Compiling as names;
@@ -72,4 +79,19 @@ pub fn expressions_have_types_or_break_rules()
 /// Files that compile by all these rules compile by those on names and members.
 pub fn compiling_keeps_rules_of_names()
     ensures fewer { (found : FileMap) (program : Program) (t : Table) → Compiles found program t → names.Compiles found program t }
+{}
+
+/// In a program that keeps the rules on types there is an object wherever one is needed, conditions are boolean, values fit their places and results, casts are allowed, what changes
+/// is a variable, and what is thrown is Throwable or below.
+pub fn kept_rules_hold()
+    ensures objects { (p : Rows) (t : Table) (o c : ℕ) → KeepsTypes p t → NeedsObject p t o c → MayUse p o c }
+    ensures conditions { (p : Rows) (t : Table) (n : ℕ) (a : RowType) → KeepsTypes p t → IsCondition p n → Typed p t n a → a ≡ plain element.Boolean }
+    ensures values { (p : Rows) (t : Table) (n : ℕ) (a b : RowType) → IsTypable p t → KeepsTypes p t → PlaceOf p t n a → Typed p t n b
+        → IsAssignable p t (HasConstantForm p t) n b a }
+    ensures results { (p : Rows) (t : Table) (n c m : ℕ) (a b : RowType) → IsTypable p t → KeepsTypes p t → label p n ≡ is.Return → InMember p n c m → GivesResult (label p m)
+        → HasType p t m a → FirstOf p t n b → IsAssignable p t (HasConstantForm p t) (n + 1) b a }
+    ensures casts { (p : Rows) (t : Table) (n : ℕ) (a b : RowType) → IsTypable p t → KeepsTypes p t → label p n ≡ is.Cast → TypeBelow p t n (n + 1) b → SecondOf p t n a
+        → IsCastable p t a b }
+    ensures variables { (p : Rows) (t : Table) (n : ℕ) → IsTypable p t → KeepsTypes p t → ChangesFirst (label p (parent p n)) → n ≡ parent p n + 1 → DenotesVariable p t n }
+    ensures thrown { (p : Rows) (t : Table) (n : ℕ) (a : RowType) → IsTypable p t → KeepsTypes p t → label p n ≡ is.Throw → FirstOf p t n a → IsThrowable p t a }
 {}
