@@ -1,0 +1,14 @@
+pub mod Kids
+pub mod Objects
+pub mod Initializing
+pub mod Known
+pub mod Operands
+pub mod Creations
+pub mod Statements
+pub mod Switches
+pub mod Places
+pub mod AllRules
+pub mod Trees
+pub mod Worked
+pub mod Completeness
+pub mod Kept
