@@ -1,0 +1,3 @@
+pub mod Lang
+pub mod Begins
+pub mod Laws
