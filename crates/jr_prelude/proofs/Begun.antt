@@ -1,9 +1,11 @@
 -- What follows where a program begins with the rows of java.lang.
-use Rattle.std.proofs.Common.{◌≡◌, ◌⊎◌, ⊎_elim, inl, inr, ℕ, zero, suc, ◌+◌, ◌<◌, ◌≤◌, Bool, true, false, not, ◌||◌, ◌&&◌, ◌==◌, [], ◌∷◌, length, get_or, refl, sym, ◌∙◌, ap, subst, arith, codes}
+use Rattle.std.proofs.Common.{◌≡◌, ◌⊎◌, ⊎_elim, inl, inr, ℕ, zero, suc, ◌+◌, ◌<◌, ◌≤◌, Bool, true, false, not, ◌||◌, ◌&&◌, ◌==◌, nat_lt, if◌then◌else◌, List, [], ◌∷◌, Option, Some, None, length, get_or, refl, sym, ◌∙◌, ap, subst, arith, codes}
+use Rattle.std.specs.List.{list_all}
 use Rattle.std.specs.Str.{bytes_eq}
-use Rattle.std.proofs.lemmas.Bool.{ltb-true}
+use Rattle.std.proofs.lemmas.Bool.{false≢true, ltb-true, eqb-true}
 use Rattle.std.proofs.lemmas.Bool.Decides.{nat_tests}
 use Rattle.std.proofs.lemmas.List.{get_or_past}
+use Rattle.std.proofs.lemmas.Option.{none-some}
 use Rattle.std.proofs.lemmas.Slice.Eq.{bytes_eq-Decides}
 use Rattle.jr_base.specs.declared.text.Text.{Text}
 use Rattle.jr_rows.specs.declared.label.Label.{Label}
@@ -14,13 +16,15 @@ use Rattle.jr_rows.specs.declared.label.Role.TheVariants as role
 use Rattle.jr_rows.specs.declared.row.Row.{Row}
 use Rattle.jr_rows.specs.Labels.{role_of}
 use Rattle.jr_rows.specs.Rows.{Rows, row, label, name, parent, end, role_at}
-use Rattle.jr_defs.specs.Declarations.{IsPrelude, IsClassLabel, IsObject, IsString}
+use Rattle.jr_defs.specs.Declarations.{IsPrelude, IsClass, IsClassLabel}
 use Rattle.jr_defs.specs.Headers.{NamesHeader}
 use Rattle.jr_defs.specs.Laws.{HasBareObject}
-use Rattle.jr_defs.specs.Modifiers.{IsFinal, written_so}
+use Rattle.jr_defs.specs.Modifiers.{written, IsPublic, written_so}
 use Rattle.jr_defs.specs.Supertypes.{IsSuperclassLabel, IsSuperinterfaceLabel}
 use Rattle.jr_lex.proofs.ByteLemmas.{both_left, both_right}
-use Rattle.jr_prelude.specs.Begins.{lang_rows, BeginsWithLang, object_row, string_row, IsThePublicClass}
+use Rattle.jr_lex.proofs.EscapeLemmas.{some_one}
+use Rattle.jr_prelude.specs.Begins.{lang_rows, BeginsWithLang, lang_types, row_in, type_row, HasLangTypes}
+use Rattle.jr_prelude.specs.Laws.{NamesTypesOnce, HasOneObject, HasOneString}
 
 -- ---- a test of each row of a list, with its number
 
@@ -41,9 +45,21 @@ abbrev is_type_role : Role → Bool
 is_type_role role.Type = true
 is_type_role _ = false
 
--- a type of java.lang of this name stands at this row alone
-abbrev stands_at : Text → ℕ → ℕ → Row → Bool
-stands_at x c n r = not ((is_type_role (role_of r.label) && (r.parent == 1)) && bytes_eq r.name x) || (n == c)
+abbrev is_class : Label → Bool
+is_class (is.Class modifiers is_member) = true
+is_class _ = false
+
+abbrev has_row : Option ℕ → ℕ → Bool
+has_row None n = false
+has_row (Some m) n = m == n
+
+-- what is right below the unit of java.lang and is a type is listed, and a public class
+abbrev is_listed : ℕ → Row → Bool
+is_listed n r = not (is_type_role (role_of r.label) && (r.parent == 1)) || (has_row (type_row r.name) n && (is_class r.label && (written r.label).is_public))
+
+-- and what is listed is such
+abbrev is_there : Text × ℕ → Bool
+is_there e = (nat_lt 0 e.1 && nat_lt e.1 (length lang_rows)) && ((is_type_role (role_at lang_rows e.1) && (parent lang_rows e.1 == 1)) && bytes_eq (name lang_rows e.1) e.0)
 
 abbrev is_header : Label → Bool
 is_header (is.Name kind place.Superclass b) = true
@@ -119,15 +135,77 @@ module _ (p : Rows) (begins : BeginsWithLang p) where
         (subst (λ k. test k (row lang_rows n) ≡ true) (let e : 0 + n ≡ n = omega arith in e)
         (each_row test 0 lang_rows all n (record { label = is.Skip; name = []; parent = n; end = n + 1; previous = n }) l.1))
 
-  one_such : (x : Text) (c : ℕ) → all_rows (stands_at x c) 0 lang_rows ≡ true → (d : ℕ) → IsPrelude p x d → d ≡ c
-  one_such x c all d h =
-      let here = stands 1 d h.inside (omega arith) (omega (arith, unit_ends, ltb-true 1 (length lang_rows) refl)) in
-      let type : is_type_role (role_at p d) ≡ true = ap is_type_role h.type in
-      let named : bytes_eq (name p d) x ≡ true = (bytes_eq-Decides (name p d) x).1 h.named in
-      found (is_type_role (role_at p d)) (bytes_eq (name p d) x) (parent p d) type named h.inside (passes (stands_at x c) all d here)
-    where
-      found : (a b : Bool) (k : ℕ) → a ≡ true → b ≡ true → k ≡ 1 → (not ((a && (k == 1)) && b) || (d == c)) ≡ true → d ≡ c
-      found a b k e f g t = grind (arith, nat_tests)
+  module _ (x : Text) (c : ℕ) (h : IsPrelude p x c) where
+    listed : (has_row (type_row (name p c)) c && (is_class (label p c) && (written (label p c)).is_public)) ≡ true
+    listed =
+        let here = stands 1 c h.inside (omega arith) (omega (arith, unit_ends, ltb-true 1 (length lang_rows) refl)) in
+        found (is_type_role (role_at p c)) (parent p c) (has_row (type_row (name p c)) c && (is_class (label p c) && (written (label p c)).is_public))
+        (ap is_type_role h.type) h.inside (passes is_listed refl c here)
+      where
+        found : (a : Bool) (k : ℕ) (b : Bool) → a ≡ true → k ≡ 1 → (not (a && (k == 1)) || b) ≡ true → b ≡ true
+        found a k b e f t = grind (arith, nat_tests)
+
+    classed : (is_class (label p c) && (written (label p c)).is_public) ≡ true
+    classed = both_right (has_row (type_row (name p c)) c) (is_class (label p c) && (written (label p c)).is_public) listed
+
+    pub only_type : type_row x ≡ Some c
+    only_type = subst (λ y. type_row y ≡ Some c) h.named
+        (some_row (type_row (name p c)) (both_left (has_row (type_row (name p c)) c) (is_class (label p c) && (written (label p c)).is_public) listed))
+      where
+        some_row : (o : Option ℕ) → has_row o c ≡ true → o ≡ Some c
+        some_row None h = absurd (false≢true h)
+        some_row (Some m) h = ap Some (eqb-true m c h)
+
+    pub is_a_class : IsClass p c
+    is_a_class = by (label p c) (both_left (is_class (label p c)) ((written (label p c)).is_public) classed)
+      where
+        by : (l : Label) → is_class l ≡ true → IsClassLabel l
+        by (is.Class modifiers is_member) h = tt
+        by _ h = absurd (false≢true h)
+
+    pub is_a_public : IsPublic p c
+    is_a_public = by (label p c) refl (both_left (is_class (label p c)) ((written (label p c)).is_public) classed) (both_right (is_class (label p c)) ((written (label p c)).is_public) classed)
+      where
+        by : (l : Label) → label p c ≡ l → is_class l ≡ true → (written l).is_public ≡ true → IsPublic p c
+        by (is.Class modifiers is_member) e h public = inl (rw e public)
+        by _ e h public = absurd (false≢true h)
+
+  -- what is listed
+  module _ (x : Text) (c : ℕ) where
+    at_head : (type : Text × ℕ) (rest : Option ℕ) → is_there type ≡ true → (rest ≡ Some c → is_there (x, c) ≡ true)
+        → (t : Bool) → bytes_eq type.0 x ≡ t → (if t then Some type.1 else rest) ≡ Some c → is_there (x, c) ≡ true
+    at_head type rest here further true e h = subst (λ y. is_there (y, c) ≡ true) ((bytes_eq-Decides type.0 x).0 e) (subst (λ n. is_there (type.0, n) ≡ true) (some_one h) here)
+    at_head type rest here further false e h = further h
+
+    there : (types : List (Text × ℕ)) → list_all is_there types ≡ true → row_in types x ≡ Some c → is_there (x, c) ≡ true
+    there [] all h = absurd (none-some c h)
+    there (type ∷ types) all h = at_head type (row_in types x) (both_left (is_there type) (list_all is_there types) all) (there types (both_right (is_there type) (list_all is_there types) all)) (bytes_eq type.0 x) refl h
+
+    pub each_type : type_row x ≡ Some c → IsPrelude p x c
+    each_type h =
+        let range = nat_lt 0 c && nat_lt c (length lang_rows) in
+        let type = is_type_role (role_at lang_rows c) in
+        let inside = parent lang_rows c == 1 in
+        let named = bytes_eq (name lang_rows c) x in
+        let t = there lang_types refl h in
+        let low = both_left range ((type && inside) && named) t in
+        let facts = both_right range ((type && inside) && named) t in
+        let same = begins.rows c (ltb-true 0 c (both_left (nat_lt 0 c) (nat_lt c (length lang_rows)) low)) (ltb-true c (length lang_rows) (both_right (nat_lt 0 c) (nat_lt c (length lang_rows)) low)) in
+        record {
+          type = ap (λ (r : Row). role_of r.label) same ∙ is_type (role_at lang_rows c) (both_left type inside (both_left (type && inside) named facts));
+          inside = ap (λ (r : Row). r.parent) same ∙ eqb-true (parent lang_rows c) 1 (both_right type inside (both_left (type && inside) named facts));
+          named = ap (λ (r : Row). r.name) same ∙ (bytes_eq-Decides (name lang_rows c) x).0 (both_right (type && inside) named facts);
+        }
+      where
+        is_type : (r : Role) → is_type_role r ≡ true → r ≡ role.Type
+        is_type role.Type h = refl
+        is_type _ h = absurd (false≢true h)
+
+  pub once : NamesTypesOnce p
+  once x c d h w = some_one (sym (only_type x c h) ∙ only_type x d w)
+
+  pub types : HasLangTypes p
+  types = record { only = only_type; each = each_type; class = is_a_class; public = is_a_public }
 
   bare : (c : ℕ) → 1 ≤ c → c < length lang_rows → all_rows (is_bare c) 0 lang_rows ≡ true → (n : ℕ) → NamesHeader p c n → ⊥
   bare c some low all n h = ⊎_elim (λ w. refuted (superclass_header (label p n) w.names) w.inside) (λ w. refuted (superinterface_header (label p n) w.names) w.inside) h
@@ -140,48 +218,23 @@ module _ (p : Rows) (begins : BeginsWithLang p) where
 
   -- ---- Object and String
 
-  object_is : row p object_row ≡ row lang_rows object_row
-  object_is = begins.rows object_row (omega arith) (ltb-true object_row (length lang_rows) refl)
+  object_there : IsPrelude p (codes "Object") 5
+  object_there = each_type (codes "Object") 5 refl
 
-  string_is : row p string_row ≡ row lang_rows string_row
-  string_is = begins.rows string_row (omega arith) (ltb-true string_row (length lang_rows) refl)
+  object_at : (d : ℕ) → IsPrelude p (codes "Object") d → d ≡ 5
+  object_at d h = once (codes "Object") d 5 h object_there
 
-  pub one_object : (d : ℕ) → IsObject p d → d ≡ object_row
-  one_object = one_such (codes "Object") object_row refl
-
-  pub one_string : (d : ℕ) → IsString p d → d ≡ string_row
-  one_string = one_such (codes "String") string_row refl
-
-  pub object_stands : IsObject p object_row
-  object_stands = record { type = ap (λ (r : Row). role_of r.label) object_is; inside = ap (λ (r : Row). r.parent) object_is; named = ap (λ (r : Row). r.name) object_is }
-
-  pub string_stands : IsString p string_row
-  string_stands = record { type = ap (λ (r : Row). role_of r.label) string_is; inside = ap (λ (r : Row). r.parent) string_is; named = ap (λ (r : Row). r.name) string_is }
+  pub one_object : HasOneObject p
+  one_object = (5, object_there, object_at)
 
   pub object_bare : HasBareObject p
-  object_bare c n object header = bare object_row (omega arith) (ltb-true object_row (length lang_rows) refl) refl n (subst (λ k. NamesHeader p k n) (one_object c object) header)
+  object_bare c n object header = bare 5 (omega arith) (ltb-true 5 (length lang_rows) refl) refl n (subst (λ k. NamesHeader p k n) (object_at c object) header)
 
-  object_label : label p object_row ≡ label lang_rows object_row
-  object_label = ap (λ (r : Row). r.label) object_is
+  string_there : IsPrelude p (codes "String") 28
+  string_there = each_type (codes "String") 28 refl
 
-  string_label : label p string_row ≡ label lang_rows string_row
-  string_label = ap (λ (r : Row). r.label) string_is
+  string_label : label p 28 ≡ label lang_rows 28
+  string_label = ap (λ (r : Row). r.label) (begins.rows 28 (omega arith) (ltb-true 28 (length lang_rows) refl))
 
-  pub object_is_one : IsThePublicClass p (codes "Object") object_row
-  object_is_one = record {
-    prelude = object_stands;
-    one = one_object;
-    class = subst IsClassLabel (sym object_label) tt;
-    public = inl (rw object_label refl);
-  }
-
-  pub string_is_one : IsThePublicClass p (codes "String") string_row
-  string_is_one = record {
-    prelude = string_stands;
-    one = one_string;
-    class = subst IsClassLabel (sym string_label) tt;
-    public = inl (rw string_label refl);
-  }
-
-  pub string_final : IsFinal p string_row
-  string_final = written_so (rw string_label refl)
+  pub one_string : HasOneString p
+  one_string = (28, string_there, written_so (rw string_label refl), λ d h. once (codes "String") d 28 h string_there)

@@ -1,16 +1,12 @@
 -- A plain test that a text is these tokens, with one blank or none between any two, reads so.
 use Rattle.std.proofs.Common.{◌≡◌, inl, ℕ, zero, suc, ◌+◌, ◌≤◌, Bool, true, false, not, ◌||◌, ◌&&◌, ◌==◌, List, [], ◌∷◌, ◌++◌, map, length, take, drop, refl, sym, ◌∙◌, ap, subst, arith}
-use Rattle.std.specs.Prelude.{nat_le, slice_index, codes, encode_utf8}
-use lib.Utf8.{encode}
-use Rattle.std.specs.Char.{IsScalar, len_utf8}
-use Rattle.std.specs.Char.Escape.{encode_utf16}
+use Rattle.std.specs.Prelude.{nat_le, slice_index}
 use Rattle.std.specs.Str.{bytes_eq}
 use Rattle.std.proofs.lemmas.Bool.{false≢true, leb-true}
 use Rattle.std.proofs.lemmas.List.{take-append-drop}
 use Rattle.std.proofs.lemmas.Slice.Eq.{bytes_eq-Decides}
 use Rattle.jr_base.specs.Gaps.{is_blank}
-use Rattle.jr_base.specs.Literals.{Characters, none, plain, is_plain, IsLiteral}
-use Rattle.jr_base.specs.Places.{CharAt}
+use Rattle.jr_base.specs.Literals.{IsLiteral}
 use Rattle.jr_base.specs.Spellings.{keyword_text, symbol_text}
 use Rattle.jr_base.specs.Tokens.{Spells}
 use Rattle.jr_base.specs.declared.kind.Kind.{Kind}
@@ -22,6 +18,7 @@ use Rattle.jr_lex.specs.Texts.{EndsSymbol, Follows, Chunk, space, spelled, text_
 use Rattle.jr_lex.proofs.ByteLemmas.{both_left, both_right}
 use Rattle.jr_lex.proofs.Following.{simply}
 use Rattle.jr_lex.proofs.SymbolLemmas.{symbol_len}
+use Rattle.jr_prelude.proofs.Literals.{literal_text, is_text, literal}
 use Rattle.jr_prelude.proofs.Names.{is_plain_name, plain_identifier}
 
 -- ---- separators, which begin no longer symbol
@@ -115,32 +112,13 @@ separated symbol.CloseBrace rest h = record { starts = record { no_line = refl; 
 separated symbol.Semicolon rest h = record { starts = record { no_line = refl; no_block = refl; no_fraction = refl }; longest = longest_of 59 rest refl }
 separated _ rest h = absurd (false≢true h)
 
--- ---- the one literal
-
-object_literal : IsLiteral 34 (codes "\"object\"") (codes "object")
-unfolding encode
-object_literal = record {
-  opens = refl;
-  close = 7;
-  body = at 111 (here 1 111 (codes "bject\"") refl refl) refl (at 98 (here 2 98 (codes "ject\"") refl refl) refl (at 106 (here 3 106 (codes "ect\"") refl refl) refl
-      (at 101 (here 4 101 (codes "ct\"") refl refl) refl (at 99 (here 5 99 (codes "t\"") refl refl) refl (at 116 (here 6 116 (codes "\"") refl refl) refl none)))));
-  closes = refl;
-  ends = refl;
-}
-  where
-    here : (place c : ℕ) (rest : List ℕ) → IsScalar c → drop place (codes "\"object\"") ≡ encode_utf8 c ++ rest → CharAt (codes "\"object\"") place c
-    here place c rest s e = record { scalar = s; rest = rest; split = e }
-
-    at : {start end : ℕ} {units : List ℕ} (c : ℕ) → CharAt (codes "\"object\"") start c → is_plain 34 c ≡ true → Characters 34 (codes "\"object\"") (start + len_utf8 c) end units → Characters 34 (codes "\"object\"") start end (encode_utf16 c ++ units)
-    at c h p more = plain h p more
-
 -- ---- the test
 
 -- how long the spelling is
 abbrev size : Kind → ℕ
 size (Word k) = length (keyword_text k)
 size (Ident name) = length name
-size (Str units) = 2 + length units
+size (Str units) = length (literal_text units)
 size (Sym s) = length (symbol_text s)
 size _ = 0
 
@@ -148,7 +126,7 @@ size _ = 0
 abbrev fits : Kind → List ℕ → List ℕ → Bool
 fits (Word k) word rest = bytes_eq word (keyword_text k) && simply_follows (Word k) word rest
 fits (Ident name) word rest = (bytes_eq word name && is_plain_name word) && simply_follows (Ident name) word rest
-fits (Str units) word rest = bytes_eq word (codes "\"object\"") && bytes_eq units (codes "object")
+fits (Str units) word rest = bytes_eq word (literal_text units) && is_text units
 fits (Sym s) word rest = bytes_eq word (symbol_text s) && (separates s || simply_follows (Sym s) word rest)
 fits _ word rest = false
 
@@ -193,12 +171,8 @@ fits_so (Ident name) word rest h =
     let is : Spells (Ident name) word = (same_bytes word name (both_left a b (both_left (a && b) f h)), plain_identifier word (both_right a b (both_left (a && b) f h))) in
     (is, simply (Ident name) word rest is (both_right (a && b) f h))
 fits_so (Str units) word rest h =
-    let a = bytes_eq word (codes "\"object\"") in
-    let b = bytes_eq units (codes "object") in (
-      subst (λ us. IsLiteral 34 word us) (sym (same_bytes units (codes "object") (both_right a b h)))
-          (subst (λ w. IsLiteral 34 w (codes "object")) (sym (same_bytes word (codes "\"object\"") (both_left a b h))) object_literal),
-      tt,
-    )
+    let a = bytes_eq word (literal_text units) in
+    (subst (λ w. IsLiteral 34 w units) (sym (same_bytes word (literal_text units) (both_left a (is_text units) h))) (literal units (both_right a (is_text units) h)), tt)
 fits_so (Sym s) word rest h =
     let a = bytes_eq word (symbol_text s) in
     let b = separates s || simply_follows (Sym s) word rest in

@@ -15,10 +15,11 @@ use Rattle.jr_rows.specs.Rows.{Rows, row, rows_from, program_rows}
 use Rattle.jr_rows.proofs.Trees.{each_program_is_tree}
 use Rattle.jr_defs.specs.declared.program.UnitAt.{UnitAt}
 use Rattle.jr_defs.specs.declared.program.Program.{Program}
+use Rattle.jr_defs.specs.Prelude.{lang_text}
 use Rattle.jr_defs.specs.Program.{IsUnitOf, AreUnitsOf, none as no_units, more as more_units, ProgramOf, rows_of}
 use Rattle.jr_prelude.specs.Lang.{lang_unit}
 use Rattle.jr_prelude.specs.Begins.{lang_rows, BeginsWithLang}
-use Rattle.jr_prelude.specs.Laws.{LangIsOne}
+use Rattle.jr_prelude.specs.Laws.{Reads}
 
 -- ---- the rows of the first unit are those of that unit alone
 
@@ -69,8 +70,8 @@ pub all_shaped : {found : List (List ℕ × List ℕ)} {units : List UnitAt} →
 all_shaped no_units = tt
 all_shaped (more_units h all) = (h.reads.shaped, all_shaped all)
 
-pub program_begins : LangIsOne → (found : FileMap) (program : Program) → ProgramOf found program → BeginsWithLang (rows_of program)
-program_begins one found program h =
+pub program_begins : Reads lang_text lang_unit → (found : FileMap) (program : Program) → ProgramOf found program → BeginsWithLang (rows_of program)
+program_begins reads found program h =
     let first = first_of h in
     subst (λ units. BeginsWithLang (program_rows (map (λ (u : UnitAt). u.unit) units))) (sym first.are)
-    (begins_with first.unit.unit (map (λ (u : UnitAt). u.unit) first.others) (one first.unit.tokens first.unit.unit first.is.reads))
+    (begins_with first.unit.unit (map (λ (u : UnitAt). u.unit) first.others) (reads.one first.unit.tokens first.unit.unit first.is.reads))

@@ -1,6 +1,7 @@
--- The text of java.lang reads as its tree, and as nothing else; what follows for each program of files.
-use Rattle.std.proofs.Common.{◌≡◌, ◌≤◌, List, map, sym, ◌∙◌, ap, subst}
+-- The texts of the prelude read as their trees, and as nothing else; what follows for each program of files.
+use Rattle.std.proofs.Common.{◌≡◌, ℕ, ◌≤◌, List, [], ◌∷◌, map, refl, sym, ◌∙◌, ap, subst, codes}
 use Rattle.jr_base.specs.Files.{FileMap}
+use Rattle.jr_base.specs.declared.token.Token.{Token}
 use Rattle.jr_tree.specs.declared.tree.Unit as declared_unit
 use Rattle.jr_tree.specs.Mirror.Decls as d
 use Rattle.jr_tree.specs.Depth.{unit_depth}
@@ -12,51 +13,70 @@ use Rattle.jr_rows.proofs.Locals.{each_program_is_local}
 use Rattle.jr_defs.specs.declared.program.UnitAt.{UnitAt}
 use Rattle.jr_defs.specs.declared.program.Program.{Program}
 use Rattle.jr_defs.specs.Formed.{IsFormed}
-use Rattle.jr_defs.specs.Program.{ProgramOf, rows_of}
+use Rattle.jr_defs.specs.Prelude.{lang_text, io_text}
+use Rattle.jr_defs.specs.Program.{ReadsAs, none, more, ProgramOf, rows_of}
 use Rattle.jr_defs.proofs.Forming.{formed}
 use Rattle.jr_parse_defs.proofs.Readings.{one_reading}
 use Rattle.jr_prelude.specs.Begins.{BeginsWithLang}
+use Rattle.jr_prelude.specs.Io.{io_unit}
 use Rattle.jr_prelude.specs.Lang.{lang_unit}
-use Rattle.jr_prelude.specs.Laws.{LangIsRead, LangIsOne, OfFiles}
+use Rattle.jr_prelude.specs.Laws.{Reads, PreludeIsProgram, OfFiles}
 use Rattle.jr_prelude.proofs.Begun.{object_bare}
-use Rattle.jr_prelude.proofs.LangShaped.{lang_shaped, lang_shallow}
-use Rattle.jr_prelude.proofs.LangTokens.{lang_tokens, lang_lexes, lang_kinds, kinds_of_lang}
+use Rattle.jr_prelude.proofs.PreludeShaped.{lang_shaped, lang_shallow, io_shaped, io_shallow}
+use Rattle.jr_prelude.proofs.PreludeTokens.{lang_has, io_has}
 use Rattle.jr_prelude.proofs.Programs.{program_begins, all_shaped}
+use Rattle.jr_prelude.proofs.TextTokens.{HasTokens, only_tokens}
 
--- a tree as a unit of the program
-module _ (u : d.CompilationUnit) where
-  as_shaped : IsShapedUnit u → IsShaped (tree_unit u)
-  as_shaped h = subst IsShapedUnit (sym (plain_tree_unit u)) h
+-- a tree as a unit of the program, and the text that is laid out as its tokens
+module _ (u : d.CompilationUnit) (text : List ℕ) (has : HasTokens text (unit_tokens u)) (shaped : IsShapedUnit u) (shallow : unit_depth u ≤ 256) where
+  as_shaped : IsShaped (tree_unit u)
+  as_shaped = subst IsShapedUnit (sym (plain_tree_unit u)) shaped
 
   as_written : tokens_of (tree_unit u) ≡ unit_tokens u
   as_written = ap unit_tokens (plain_tree_unit u)
 
-  as_shallow : unit_depth u ≤ 256 → unit_depth (d.plain_unit (tree_unit u)) ≤ 256
-  as_shallow h = subst (λ v. unit_depth v ≤ 256) (sym (plain_tree_unit u)) h
+  pub is_read : ReadsAs text has.tokens (tree_unit u)
+  is_read = record {
+    lexed = has.lexed;
+    written = has.kinds ∙ sym as_written;
+    shaped = as_shaped;
+    shallow = subst (λ v. unit_depth v ≤ 256) (sym (plain_tree_unit u)) shallow;
+  }
 
-  -- what is written so is that tree
-  is_tree : IsShapedUnit u → (unit : declared_unit.Unit) → IsShaped unit → tokens_of unit ≡ unit_tokens u → d.plain_unit unit ≡ u
-  is_tree h unit shaped written = ap d.plain_unit (one_reading unit (tree_unit u) shaped (as_shaped h) (written ∙ sym as_written)) ∙ plain_tree_unit u
+  -- what reads so is that tree
+  pub is_one : (tokens : List Token) (unit : declared_unit.Unit) → ReadsAs text tokens unit → d.plain_unit unit ≡ u
+  is_one tokens unit reads =
+      let alike : tokens_of unit ≡ tokens_of (tree_unit u) = sym reads.written ∙ only_tokens has tokens reads.lexed ∙ sym as_written in
+      ap d.plain_unit (one_reading unit (tree_unit u) reads.shaped as_shaped alike) ∙ plain_tree_unit u
 
-pub lang_is_one : LangIsOne
-lang_is_one tokens unit reads = is_tree lang_unit lang_shaped unit reads.shaped (sym reads.written ∙ kinds_of_lang tokens reads.lexed)
+pub lang_reads : Reads lang_text lang_unit
+lang_reads = record {
+  tokens = only_tokens lang_has;
+  some = (lang_has.tokens, tree_unit lang_unit, is_read lang_unit lang_text lang_has lang_shaped lang_shallow);
+  one = is_one lang_unit lang_text lang_has lang_shaped lang_shallow;
+}
 
-pub lang_is_read : LangIsRead
-lang_is_read = (
-  lang_tokens,
-  tree_unit lang_unit,
-  record {
-    lexed = lang_lexes;
-    written = lang_kinds ∙ sym (as_written lang_unit);
-    shaped = as_shaped lang_unit lang_shaped;
-    shallow = as_shallow lang_unit lang_shallow;
-  },
-)
+pub io_reads : Reads io_text io_unit
+io_reads = record {
+  tokens = only_tokens io_has;
+  some = (io_has.tokens, tree_unit io_unit, is_read io_unit io_text io_has io_shaped io_shallow);
+  one = is_one io_unit io_text io_has io_shaped io_shallow;
+}
+
+-- the two files of the prelude are a program
+pub prelude_is_program : PreludeIsProgram
+prelude_is_program =
+    let lang : UnitAt = record { path = codes "prelude/0"; bytes = lang_text; tokens = lang_has.tokens; unit = tree_unit lang_unit } in
+    let io : UnitAt = record { path = codes "prelude/1"; bytes = io_text; tokens = io_has.tokens; unit = tree_unit io_unit } in (
+      record { units = lang ∷ io ∷ [] },
+      more (record { at = refl; holds = refl; reads = is_read lang_unit lang_text lang_has lang_shaped lang_shallow })
+          (more (record { at = refl; holds = refl; reads = is_read io_unit io_text io_has io_shaped io_shallow }) none),
+    )
 
 -- ---- programs of files
 
 pub programs_begin : OfFiles BeginsWithLang
-programs_begin = program_begins lang_is_one
+programs_begin = program_begins lang_reads
 
 pub programs_formed : OfFiles IsFormed
 programs_formed found program h =

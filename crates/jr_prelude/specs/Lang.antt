@@ -35,8 +35,14 @@ type_named name = record { base = base.Named name; dims = 0 }
 abbrev pub string_type : TypeUse
 string_type = type_named (simple (codes "String"))
 
+abbrev pub object_type : TypeUse
+object_type = type_named (simple (codes "Object"))
+
+abbrev pub primitive_type : Primitive → TypeUse
+primitive_type p = record { base = base.Primitive p; dims = 0 }
+
 abbrev pub primitive_result : Primitive → ResultType
-primitive_result p = outcome.Of (record { base = base.Primitive p; dims = 0 })
+primitive_result p = outcome.Of (primitive_type p)
 
 abbrev pub param : TypeUse → Text → Param
 param ty name = record { is_final = false; ty = ty; name = name; dims = 0 }
@@ -69,7 +75,7 @@ abbrev pub native_method : ResultType → Text → List Param → d.Member
 native_method gives name params = d.Method (m.Public ∷ m.Native ∷ []) gives name params [] None
 
 abbrev pub object_param : List Param
-object_param = param (type_named (simple (codes "Object"))) (codes "o") ∷ []
+object_param = param object_type (codes "o") ∷ []
 
 abbrev pub class : List Modifier → Text → Option Name → List d.Member → d.TypeDecl
 class mods name above all = d.Class mods name above [] (d.members all)
@@ -88,7 +94,7 @@ abbrev pub string_class : d.TypeDecl
 string_class = class (m.Public ∷ m.Final ∷ []) (codes "String") None
     (constructor m.Private (codes "String") [] []
     ∷ native_method (primitive_result primitive.Int) (codes "length") []
-    ∷ native_method (primitive_result primitive.Char) (codes "charAt") (param (record { base = base.Primitive primitive.Int; dims = 0 }) (codes "i") ∷ [])
+    ∷ native_method (primitive_result primitive.Char) (codes "charAt") (param (primitive_type primitive.Int) (codes "i") ∷ [])
     ∷ native_method (primitive_result primitive.Boolean) (codes "equals") object_param
     ∷ native_method (primitive_result primitive.Int) (codes "hashCode") []
     ∷ method (outcome.Of string_type) (codes "toString") [] (returns this)

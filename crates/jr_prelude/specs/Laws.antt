@@ -1,7 +1,8 @@
 -- The laws of the prelude.
-use Rattle.std.specs.Prelude.{◌≡◌, ℕ, List, map, codes}
+use Rattle.std.specs.Prelude.{◌≡◌, ℕ, List, map}
 use Rattle.jr_base.specs.Files.{FileMap}
 use Rattle.jr_base.specs.Reading.{Lex}
+use Rattle.jr_base.specs.declared.text.Text.{Text}
 use Rattle.jr_base.specs.declared.token.Token.{Token}
 use Rattle.jr_tree.specs.declared.tree.Unit as declared_unit
 use Rattle.jr_tree.specs.Mirror.Decls as d
@@ -9,31 +10,22 @@ use Rattle.jr_tree.specs.Tokens.{unit_tokens}
 use Rattle.jr_rows.specs.Rows.{Rows}
 use Rattle.jr_defs.specs.declared.program.Program.{Program}
 use Rattle.jr_defs.specs.Binding.{IsBinding}
-use Rattle.jr_defs.specs.Declarations.{IsString}
+use Rattle.jr_defs.specs.Declarations.{IsPrelude, IsObject, IsString}
 use Rattle.jr_defs.specs.Modifiers.{IsFinal}
-use Rattle.jr_defs.specs.Prelude.{lang_text}
-use Rattle.jr_defs.specs.Program.{ReadsAs, ProgramOf, rows_of}
+use Rattle.jr_defs.specs.Program.{ReadsAs, AreUnitsOf, prelude_files, ProgramOf, rows_of}
 use Rattle.jr_defs.specs.Referents.{Table}
-use Rattle.jr_prelude.specs.Lang.{lang_unit}
-use Rattle.jr_prelude.specs.Begins.{BeginsWithLang, IsThePublicClass, object_row, string_row}
 
--- ---- the text of java.lang
+-- ---- the texts of the prelude
 
--- it has tokens
-abbrev pub LangHasTokens : Type 0
-LangHasTokens = (tokens : List Token) × Lex lang_text tokens
+-- the tokens of the text are those of the tree, it reads as a unit, and each that it reads as is the tree
+pub record Reads (text : List ℕ) (tree : d.CompilationUnit) : Type 0 where
+  pub tokens : (tokens : List Token) → Lex text tokens → map (λ t. t.kind) tokens ≡ unit_tokens tree
+  pub some : (tokens : List Token) × (unit : declared_unit.Unit) × ReadsAs text tokens unit
+  pub one : (tokens : List Token) (unit : declared_unit.Unit) → ReadsAs text tokens unit → d.plain_unit unit ≡ tree
 
--- and they are those of its tree
-abbrev pub LangTokens : Type 0
-LangTokens = (tokens : List Token) → Lex lang_text tokens → map (λ t. t.kind) tokens ≡ unit_tokens lang_unit
-
--- it reads as a unit
-abbrev pub LangIsRead : Type 0
-LangIsRead = (tokens : List Token) × (unit : declared_unit.Unit) × ReadsAs lang_text tokens unit
-
--- and that is its tree
-abbrev pub LangIsOne : Type 0
-LangIsOne = (tokens : List Token) (unit : declared_unit.Unit) → ReadsAs lang_text tokens unit → d.plain_unit unit ≡ lang_unit
+-- the prelude is a program where there are no files
+abbrev pub PreludeIsProgram : Type 0
+PreludeIsProgram = (program : Program) × AreUnitsOf prelude_files program.units
 
 -- ---- programs of files
 
@@ -41,17 +33,17 @@ LangIsOne = (tokens : List Token) (unit : declared_unit.Unit) → ReadsAs lang_t
 abbrev pub OfFiles : (Rows → Type 0) → Type 0
 OfFiles P = (found : FileMap) (program : Program) → ProgramOf found program → P (rows_of program)
 
--- Object is a public class, and the one type of its name in java.lang
-abbrev pub HasObject : Rows → Type 0
-HasObject p = IsThePublicClass p (codes "Object") object_row
+-- no two types of java.lang have one name
+abbrev pub NamesTypesOnce : Rows → Type 0
+NamesTypesOnce p = (x : Text) (c d : ℕ) → IsPrelude p x c → IsPrelude p x d → c ≡ d
 
--- so is String, which is final
-abbrev pub HasString : Rows → Type 0
-HasString p = IsThePublicClass p (codes "String") string_row × IsFinal p string_row
+-- there is one Object
+abbrev pub HasOneObject : Rows → Type 0
+HasOneObject p = (c : ℕ) × IsObject p c × ((d : ℕ) → IsObject p d → d ≡ c)
 
--- there is one String, as the law of types asks
+-- there is one String, which is final
 abbrev pub HasOneString : Rows → Type 0
-HasOneString p = (s d : ℕ) → IsString p s → IsString p d → s ≡ d
+HasOneString p = (c : ℕ) × IsString p c × IsFinal p c × ((d : ℕ) → IsString p d → d ≡ c)
 
 -- a program has at most one binding
 abbrev pub HasOneBinding : Rows → Type 0

@@ -1,19 +1,17 @@
 // The laws of the prelude.
 ghost use Rattle.jr_defs.specs.Formed.{IsFormed};
 ghost use Rattle.jr_defs.specs.Laws.{HasBareObject};
-ghost use Rattle.jr_prelude.specs.Begins.{BeginsWithLang};
-ghost use Rattle.jr_prelude.specs.Laws.{LangHasTokens, LangTokens, LangIsRead, LangIsOne, OfFiles, HasObject, HasString, HasOneString, HasOneBinding};
+ghost use Rattle.jr_defs.specs.Prelude.{lang_text, io_text};
+ghost use Rattle.jr_prelude.specs.Begins.{BeginsWithLang, HasLangTypes};
+ghost use Rattle.jr_prelude.specs.Io.{io_unit};
+ghost use Rattle.jr_prelude.specs.Lang.{lang_unit};
+ghost use Rattle.jr_prelude.specs.Laws.{Reads, PreludeIsProgram, OfFiles, NamesTypesOnce, HasOneObject, HasOneString, HasOneBinding};
 
-/// The text of java.lang has tokens, and they are those of its tree (JLS 3).
-pub fn lang_has_tokens()
-    ensures some { LangHasTokens }
-    ensures all { LangTokens }
-{}
-
-/// The text of java.lang reads as its tree, and as no other unit (JLS 7.3).
-pub fn lang_is_read()
-    ensures some { LangIsRead }
-    ensures one { LangIsOne }
+/// The texts of the prelude read as their trees, and as no other units, so the prelude alone is a program (JLS 7.3).
+pub fn prelude_is_read()
+    ensures lang { Reads lang_text lang_unit }
+    ensures io { Reads io_text io_unit }
+    ensures program { PreludeIsProgram }
 {}
 
 /// The rows of each program of files begin with those of java.lang.
@@ -21,13 +19,14 @@ pub fn programs_begin_with_lang()
     ensures { OfFiles BeginsWithLang }
 {}
 
-/// In each program of files there is one Object and one String in java.lang; both are public classes, String is final, and Object names nothing
-/// in its header (JLS 4.3.2, 4.3.3).
-pub fn programs_have_object_and_string()
-    ensures object { OfFiles HasObject }
-    ensures string { OfFiles HasString }
-    ensures one_string { OfFiles HasOneString }
+/// Each program of files has the types of java.lang, each once and as a public class. One is Object, which names nothing in its header, and one
+/// is String, which is final (JLS 4.3.2, 4.3.3).
+pub fn programs_have_types_of_lang()
+    ensures types { OfFiles HasLangTypes }
+    ensures once { OfFiles NamesTypesOnce }
+    ensures object { OfFiles HasOneObject }
     ensures bare { OfFiles HasBareObject }
+    ensures string { OfFiles HasOneString }
 {}
 
 /// The rows of each program of files are formed as the law of one binding asks.

@@ -1,9 +1,9 @@
-//! The prelude of every program: what java.lang reads as, and which rows it makes.
+//! The prelude of every program: what its texts read as, and which types of java.lang it declares.
 #![tactic(auto)]
 
 mod law;
 
 pub use law::{
-    lang_has_tokens, lang_is_read, one_binding_of_files, programs_begin_with_lang,
-    programs_have_object_and_string, programs_of_files_are_formed,
+    one_binding_of_files, prelude_is_read, programs_begin_with_lang, programs_have_types_of_lang,
+    programs_of_files_are_formed,
 };

@@ -1,9 +1,10 @@
--- The tree of java.lang is one that the grammar has, and is not deep.
+-- The trees of the prelude are such as the grammar has, and not deep.
 use Rattle.std.proofs.Common.{ℕ, ◌<◌, ◌≤◌, List, [], ◌∷◌, map, refl, arith}
 use Rattle.std.specs.List.{AllByRecursion}
 use Rattle.jr_tree.specs.Shape.{IsShapedDecl, IsShapedUnit}
 use Rattle.jr_tree.specs.Depth.{unit_depth}
 use Rattle.jr_defs.specs.Prelude.{exceptions}
+use Rattle.jr_prelude.specs.Io.{print_stream_class, io_unit}
 use Rattle.jr_prelude.specs.Lang.{object_class, string_class, system_class, throwable_class, thrown_class, lang_unit}
 
 -- a place that takes any expression
@@ -38,3 +39,17 @@ lang_shaped = (refl, tt, (object_shaped, (string_shaped, (system_shaped, (throwa
 
 pub lang_shallow : unit_depth lang_unit ≤ 256
 lang_shallow = omega arith
+
+-- ---- java.io
+
+print_stream_shaped : IsShapedDecl print_stream_class
+print_stream_shaped = search (any, sum.0, sum.1, sum.2, sum.3)
+  where
+    sum : (0 < 10) × (10 ≤ 10) × (10 ≤ 14) × (11 ≤ 14)
+    sum = (omega arith, omega arith, omega arith, omega arith)
+
+pub io_shaped : IsShapedUnit io_unit
+io_shaped = (refl, tt, (print_stream_shaped, tt))
+
+pub io_shallow : unit_depth io_unit ≤ 256
+io_shallow = omega arith
