@@ -21,7 +21,7 @@ use Rattle.jr_defs.specs.Headers.{NamesHeader}
 use Rattle.jr_defs.specs.Laws.{HasBareObject}
 use Rattle.jr_defs.specs.Modifiers.{written, IsPublic, written_so}
 use Rattle.jr_defs.specs.Supertypes.{IsSuperclassLabel, IsSuperinterfaceLabel}
-use Rattle.jr_lex.proofs.ByteLemmas.{both_left, both_right}
+use Rattle.jr_lex.proofs.ByteLemmas.{both_left, both_right, le_or_lt}
 use Rattle.jr_lex.proofs.EscapeLemmas.{some_one}
 use Rattle.jr_prelude.specs.Begins.{lang_rows, BeginsWithLang, lang_types, row_in, type_row, HasLangTypes}
 use Rattle.jr_prelude.specs.Laws.{NamesTypesOnce, HasOneObject, HasOneString}
@@ -87,23 +87,17 @@ module _ (p : Rows) (begins : BeginsWithLang p) where
   past_row : (n : ℕ) → length p ≤ n → row p n ≡ record { label = is.Skip; name = []; parent = n; end = n + 1; previous = n }
   past_row n past = get_or_past p n (record { label = is.Skip; name = []; parent = n; end = n + 1; previous = n }) past
 
+  -- the row 1 is there, since its end is not that of a row past the last
+  long : 1 < length p
+  long = ⊎_elim (λ past. absurd (past_end past)) (λ l. l) (le_or_lt (length p) 1)
+    where
+      past_end : length p ≤ 1 → ⊥
+      past_end past = let at : end p 1 ≡ 2 = ap (λ (r : Row). r.end) (past_row 1 past) in let all : length lang_rows ≡ 2 = sym unit_ends ∙ at in omega (arith, all)
+
   module _ (c n : ℕ) (below : parent p n ≡ c) (some : 1 ≤ c) (low : c < end p 1) where
-    -- the row 1 is there, since its end is not that of a row past the last
-    long : 1 < length p
-    long = ⊎_elim (λ l. l) (λ past. absurd (past_end past)) (order 1 (length p))
-      where
-        order : (a b : ℕ) → (a < b) ⊎ (b ≤ a)
-        order a b = grind arith
-
-        past_end : length p ≤ 1 → ⊥
-        past_end past = let at : end p 1 ≡ 2 = ap (λ (r : Row). r.end) (past_row 1 past) in let all : length lang_rows ≡ 2 = sym unit_ends ∙ at in omega (arith, all)
-
     inside : n < length p
-    inside = ⊎_elim (λ l. l) (λ past. absurd (past_end past)) (order n (length p))
+    inside = ⊎_elim (λ past. absurd (past_end past)) (λ l. l) (le_or_lt (length p) n)
       where
-        order : (a b : ℕ) → (a < b) ⊎ (b ≤ a)
-        order a b = grind arith
-
         past_end : length p ≤ n → ⊥
         past_end past = let at : parent p n ≡ n = ap (λ (r : Row). r.parent) (past_row n past) in omega (arith, begins.tree.last 1 long)
 
@@ -129,42 +123,49 @@ module _ (p : Rows) (begins : BeginsWithLang p) where
         one_or_more : (k : ℕ) → 1 ≤ k → (k ≡ 1) ⊎ (1 < k)
         one_or_more k l = grind arith
 
+  -- what all rows of java.lang pass, the program's pass
   module _ (test : ℕ → Row → Bool) (all : all_rows test 0 lang_rows ≡ true) where
     passes : (n : ℕ) → (0 < n) × (n < length lang_rows) → test n (row p n) ≡ true
     passes n l = subst (λ r. test n r ≡ true) (sym (begins.rows n l.0 l.1))
         (subst (λ k. test k (row lang_rows n) ≡ true) (let e : 0 + n ≡ n = omega arith in e)
         (each_row test 0 lang_rows all n (record { label = is.Skip; name = []; parent = n; end = n + 1; previous = n }) l.1))
 
+  -- ---- what is a type of java.lang
   module _ (x : Text) (c : ℕ) (h : IsPrelude p x c) where
-    listed : (has_row (type_row (name p c)) c && (is_class (label p c) && (written (label p c)).is_public)) ≡ true
+    abbrev in_list : Bool
+    in_list = has_row (type_row (name p c)) c
+
+    abbrev is_public : Bool
+    is_public = (written (label p c)).is_public
+
+    listed : (in_list && (is_class (label p c) && is_public)) ≡ true
     listed =
         let here = stands 1 c h.inside (omega arith) (omega (arith, unit_ends, ltb-true 1 (length lang_rows) refl)) in
-        found (is_type_role (role_at p c)) (parent p c) (has_row (type_row (name p c)) c && (is_class (label p c) && (written (label p c)).is_public))
-        (ap is_type_role h.type) h.inside (passes is_listed refl c here)
+        found (is_type_role (role_at p c)) (parent p c) (in_list && (is_class (label p c) && is_public)) (ap is_type_role h.type) h.inside (passes is_listed refl c here)
       where
         found : (a : Bool) (k : ℕ) (b : Bool) → a ≡ true → k ≡ 1 → (not (a && (k == 1)) || b) ≡ true → b ≡ true
         found a k b e f t = grind (arith, nat_tests)
 
-    classed : (is_class (label p c) && (written (label p c)).is_public) ≡ true
-    classed = both_right (has_row (type_row (name p c)) c) (is_class (label p c) && (written (label p c)).is_public) listed
+    classed : (is_class (label p c) && is_public) ≡ true
+    classed = both_right in_list (is_class (label p c) && is_public) listed
 
     pub only_type : type_row x ≡ Some c
     only_type = subst (λ y. type_row y ≡ Some c) h.named
-        (some_row (type_row (name p c)) (both_left (has_row (type_row (name p c)) c) (is_class (label p c) && (written (label p c)).is_public) listed))
+        (some_row (type_row (name p c)) (both_left in_list (is_class (label p c) && is_public) listed))
       where
         some_row : (o : Option ℕ) → has_row o c ≡ true → o ≡ Some c
         some_row None h = absurd (false≢true h)
         some_row (Some m) h = ap Some (eqb-true m c h)
 
     pub is_a_class : IsClass p c
-    is_a_class = by (label p c) (both_left (is_class (label p c)) ((written (label p c)).is_public) classed)
+    is_a_class = by (label p c) (both_left (is_class (label p c)) is_public classed)
       where
         by : (l : Label) → is_class l ≡ true → IsClassLabel l
         by (is.Class modifiers is_member) h = tt
         by _ h = absurd (false≢true h)
 
     pub is_a_public : IsPublic p c
-    is_a_public = by (label p c) refl (both_left (is_class (label p c)) ((written (label p c)).is_public) classed) (both_right (is_class (label p c)) ((written (label p c)).is_public) classed)
+    is_a_public = by (label p c) refl (both_left (is_class (label p c)) is_public classed) (both_right (is_class (label p c)) is_public classed)
       where
         by : (l : Label) → label p c ≡ l → is_class l ≡ true → (written l).is_public ≡ true → IsPublic p c
         by (is.Class modifiers is_member) e h public = inl (rw e public)
@@ -207,6 +208,8 @@ module _ (p : Rows) (begins : BeginsWithLang p) where
   pub types : HasLangTypes p
   types = record { only = only_type; each = each_type; class = is_a_class; public = is_a_public }
 
+  -- ---- Object and String
+
   bare : (c : ℕ) → 1 ≤ c → c < length lang_rows → all_rows (is_bare c) 0 lang_rows ≡ true → (n : ℕ) → NamesHeader p c n → ⊥
   bare c some low all n h = ⊎_elim (λ w. refuted (superclass_header (label p n) w.names) w.inside) (λ w. refuted (superinterface_header (label p n) w.names) w.inside) h
     where
@@ -215,8 +218,6 @@ module _ (p : Rows) (begins : BeginsWithLang p) where
 
       refuted : is_header (label p n) ≡ true → parent p n ≡ c → ⊥
       refuted header e = found (is_header (label p n)) (parent p n) header e (passes (is_bare c) all n (stands c n e some (omega (arith, unit_ends))))
-
-  -- ---- Object and String
 
   object_there : IsPrelude p (codes "Object") 5
   object_there = each_type (codes "Object") 5 refl

@@ -83,10 +83,6 @@ separates symbol.CloseBrace = true
 separates symbol.Semicolon = true
 separates _ = false
 
-not_true : (b : Bool) → not b ≡ true → b ≡ true → ⊥
-not_true true h e = false≢true h
-not_true false h e = false≢true e
-
 short_of : (s : Symbol) → is_separator (slice_index (symbol_text s) 0) ≡ true → length (symbol_text s) ≤ 1
 short_of s h = leb-true (length (symbol_text s)) 1 (or_right (is_separator (slice_index (symbol_text s) 0)) (nat_le (length (symbol_text s)) 1) h (separator_row s))
   where

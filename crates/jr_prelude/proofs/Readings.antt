@@ -1,6 +1,5 @@
 -- The texts of the prelude read as their trees, and as nothing else; what follows for each program of files.
 use Rattle.std.proofs.Common.{◌≡◌, ℕ, ◌≤◌, List, [], ◌∷◌, map, refl, sym, ◌∙◌, ap, subst, codes}
-use Rattle.jr_base.specs.Files.{FileMap}
 use Rattle.jr_base.specs.declared.token.Token.{Token}
 use Rattle.jr_tree.specs.declared.tree.Unit as declared_unit
 use Rattle.jr_tree.specs.Mirror.Decls as d
@@ -11,10 +10,9 @@ use Rattle.jr_tree.proofs.Same.Decls.{tree_unit, plain_tree_unit}
 use Rattle.jr_rows.specs.Rows.{program_rows}
 use Rattle.jr_rows.proofs.Locals.{each_program_is_local}
 use Rattle.jr_defs.specs.declared.program.UnitAt.{UnitAt}
-use Rattle.jr_defs.specs.declared.program.Program.{Program}
 use Rattle.jr_defs.specs.Formed.{IsFormed}
 use Rattle.jr_defs.specs.Prelude.{lang_text, io_text}
-use Rattle.jr_defs.specs.Program.{ReadsAs, none, more, ProgramOf, rows_of}
+use Rattle.jr_defs.specs.Program.{ReadsAs, none, more, rows_of}
 use Rattle.jr_defs.proofs.Forming.{formed}
 use Rattle.jr_parse_defs.proofs.Readings.{one_reading}
 use Rattle.jr_prelude.specs.Begins.{BeginsWithLang}

@@ -1,5 +1,5 @@
 -- The unit java.lang as a tree (JLS 7.3, 8): what its text reads as.
-use Rattle.std.specs.Prelude.{ℕ, Bool, true, false, List, [], ◌∷◌, map, Option, Some, None, codes}
+use Rattle.std.specs.Prelude.{ℕ, false, List, [], ◌∷◌, map, Option, Some, None, codes}
 use Rattle.jr_base.specs.declared.text.Text.{Text}
 use Rattle.jr_base.specs.declared.kind.Kind.TheVariants as kind
 use Rattle.jr_base.specs.declared.kind.Symbol.TheVariants as y
