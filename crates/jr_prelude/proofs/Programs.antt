@@ -1,9 +1,10 @@
--- Each program of files begins with the rows of java.lang, and its units are shaped.
+-- Which programs files are: the first rows are those of java.lang, units are shaped, and there is one program at most.
 use Rattle.std.proofs.Common.{◌≡◌, ℕ, false, zero, suc, ◌+◌, ◌<◌, List, [], ◌∷◌, ◌++◌, map, length, get_or, refl, sym, ◌∙◌, ap, subst, arith}
 use Rattle.std.proofs.Math.ListN.{get_or-append}
 use Rattle.std.proofs.lemmas.List.{append-nil}
 use Rattle.std.specs.List.{AllByRecursion}
 use Rattle.jr_base.specs.Files.{FileMap}
+use Rattle.jr_base.specs.declared.token.Token.{Token}
 use Rattle.jr_tree.specs.declared.tree.Unit as declared_unit
 use Rattle.jr_tree.specs.Mirror.Decls as d
 use Rattle.jr_tree.specs.Shape.{IsShaped}
@@ -16,10 +17,10 @@ use Rattle.jr_rows.proofs.Trees.{each_program_is_tree}
 use Rattle.jr_defs.specs.declared.program.UnitAt.{UnitAt}
 use Rattle.jr_defs.specs.declared.program.Program.{Program}
 use Rattle.jr_defs.specs.Prelude.{lang_text}
-use Rattle.jr_defs.specs.Program.{IsUnitOf, AreUnitsOf, none as no_units, more as more_units, ProgramOf, rows_of}
+use Rattle.jr_defs.specs.Program.{ReadsAs, IsUnitOf, AreUnitsOf, none as no_units, more as more_units, ProgramOf, rows_of}
 use Rattle.jr_prelude.specs.Lang.{lang_unit}
 use Rattle.jr_prelude.specs.Begins.{lang_rows, BeginsWithLang}
-use Rattle.jr_prelude.specs.Laws.{Reads}
+use Rattle.jr_prelude.specs.Laws.{Reads, IsReadable}
 
 -- ---- the rows of the first unit are those of that unit alone
 
@@ -75,3 +76,30 @@ program_begins reads found program h =
     let first = first_of h in
     subst (λ units. BeginsWithLang (program_rows (map (λ (u : UnitAt). u.unit) units))) (sym first.are)
     (begins_with first.unit.unit (map (λ (u : UnitAt). u.unit) first.others) (reads.one first.unit.tokens first.unit.unit first.is.reads))
+
+-- ---- which program files are
+
+pub units_of : (found : List (List ℕ × List ℕ)) → AllByRecursion IsReadable found → (units : List UnitAt) × AreUnitsOf found units
+units_of [] all = ([], no_units)
+units_of (file ∷ found) all =
+    let read = all.0 in
+    let rest = units_of found all.1 in (
+      record { path = file.0; bytes = file.1; tokens = read.0; unit = read.1 } ∷ rest.0,
+      more_units {path = file.0} {bytes = file.1} (record { at = refl; holds = refl; reads = read.2 }) rest.1,
+    )
+
+same_unit : (u v : UnitAt) → u.path ≡ v.path → u.bytes ≡ v.bytes → u.tokens ≡ v.tokens → u.unit ≡ v.unit → u ≡ v
+same_unit u v path bytes tokens unit =
+    ap (λ p. record u { path = p }) path ∙ ap (λ b. record u { path = v.path; bytes = b }) bytes
+    ∙ ap (λ ts. record v { tokens = ts; unit = u.unit }) tokens ∙ ap (λ w. record v { unit = w }) unit
+
+module _ (tokens_one : (bytes : List ℕ) (ts us : List Token) (a b : declared_unit.Unit) → ReadsAs bytes ts a → ReadsAs bytes us b → ts ≡ us)
+    (unit_one : (bytes : List ℕ) (ts us : List Token) (a b : declared_unit.Unit) → ReadsAs bytes ts a → ReadsAs bytes us b → a ≡ b) where
+  same_read : {path bytes : List ℕ} (u v : UnitAt) → IsUnitOf path bytes u → IsUnitOf path bytes v → u ≡ v
+  same_read {bytes = bytes} u v h k = same_unit u v (h.at ∙ sym k.at) (h.holds ∙ sym k.holds)
+      (tokens_one bytes u.tokens v.tokens u.unit v.unit h.reads k.reads) (unit_one bytes u.tokens v.tokens u.unit v.unit h.reads k.reads)
+
+  pub same_units : {found : List (List ℕ × List ℕ)} {units others : List UnitAt} → AreUnitsOf found units → AreUnitsOf found others → units ≡ others
+  same_units no_units no_units = refl
+  same_units (more_units {u = u} {units = us} h all) (more_units {u = v} {units = vs} k rest) =
+      ap (λ w. w ∷ us) (same_read u v h k) ∙ ap (λ ws. v ∷ ws) (same_units all rest)

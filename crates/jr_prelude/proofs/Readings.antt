@@ -1,5 +1,6 @@
 -- The texts of the prelude read as their trees, and as nothing else; what follows for each program of files.
-use Rattle.std.proofs.Common.{◌≡◌, ℕ, ◌≤◌, List, [], ◌∷◌, map, refl, sym, ◌∙◌, ap, subst, codes}
+use Rattle.std.proofs.Common.{◌≡◌, ℕ, ◌≤◌, List, ◌++◌, map, sym, ◌∙◌, ap, subst}
+use Rattle.std.specs.FinMap as files
 use Rattle.jr_base.specs.declared.token.Token.{Token}
 use Rattle.jr_tree.specs.declared.tree.Unit as declared_unit
 use Rattle.jr_tree.specs.Mirror.Decls as d
@@ -12,17 +13,18 @@ use Rattle.jr_rows.proofs.Locals.{each_program_is_local}
 use Rattle.jr_defs.specs.declared.program.UnitAt.{UnitAt}
 use Rattle.jr_defs.specs.Formed.{IsFormed}
 use Rattle.jr_defs.specs.Prelude.{lang_text, io_text}
-use Rattle.jr_defs.specs.Program.{ReadsAs, none, more, rows_of}
+use Rattle.jr_defs.specs.Program.{ReadsAs, prelude_files, rows_of}
 use Rattle.jr_defs.proofs.Forming.{formed}
+use Rattle.jr_lex.proofs.Readings.{lex_one}
 use Rattle.jr_parse_defs.proofs.Readings.{one_reading}
 use Rattle.jr_prelude.specs.Begins.{BeginsWithLang}
 use Rattle.jr_prelude.specs.Io.{io_unit}
 use Rattle.jr_prelude.specs.Lang.{lang_unit}
-use Rattle.jr_prelude.specs.Laws.{Reads, PreludeIsProgram, OfFiles}
+use Rattle.jr_prelude.specs.Laws.{Reads, FilesAreProgram, FilesAreOneProgram, OfFiles}
 use Rattle.jr_prelude.proofs.Begun.{object_bare}
 use Rattle.jr_prelude.proofs.PreludeShaped.{lang_shaped, lang_shallow, io_shaped, io_shallow}
 use Rattle.jr_prelude.proofs.PreludeTokens.{lang_has, io_has}
-use Rattle.jr_prelude.proofs.Programs.{program_begins, all_shaped}
+use Rattle.jr_prelude.proofs.Programs.{program_begins, all_shaped, units_of, same_units}
 use Rattle.jr_prelude.proofs.TextTokens.{HasTokens, only_tokens}
 
 -- a tree as a unit of the program, and the text that is laid out as its tokens
@@ -61,16 +63,6 @@ io_reads = record {
   one = is_one io_unit io_text io_has io_shaped io_shallow;
 }
 
--- the two files of the prelude are a program
-pub prelude_is_program : PreludeIsProgram
-prelude_is_program =
-    let lang : UnitAt = record { path = codes "prelude/0"; bytes = lang_text; tokens = lang_has.tokens; unit = tree_unit lang_unit } in
-    let io : UnitAt = record { path = codes "prelude/1"; bytes = io_text; tokens = io_has.tokens; unit = tree_unit io_unit } in (
-      record { units = lang ∷ io ∷ [] },
-      more (record { at = refl; holds = refl; reads = is_read lang_unit lang_text lang_has lang_shaped lang_shallow })
-          (more (record { at = refl; holds = refl; reads = is_read io_unit io_text io_has io_shaped io_shallow }) none),
-    )
-
 -- ---- programs of files
 
 pub programs_begin : OfFiles BeginsWithLang
@@ -80,3 +72,13 @@ pub programs_formed : OfFiles IsFormed
 programs_formed found program h =
     let units = map (λ (u : UnitAt). u.unit) program.units in
     formed (program_rows units) (each_program_is_local units (all_shaped h)) (object_bare (rows_of program) (programs_begin found program h))
+
+pub files_are_program : FilesAreProgram
+files_are_program found all =
+    let made = units_of (prelude_files ++ files.entries found) (lang_reads.some, (io_reads.some, all)) in
+    (record { units = made.0 }, made.1)
+
+pub files_are_one_program : FilesAreOneProgram
+files_are_one_program found p q h k =
+    ap (λ units. record { units = units }) (same_units (λ bytes ts us a b r w. lex_one bytes ts us r.lexed w.lexed)
+    (λ bytes ts us a b r w. one_reading a b r.shaped w.shaped (sym r.written ∙ ap (λ ts. map (λ (t : Token). t.kind) ts) (lex_one bytes ts us r.lexed w.lexed) ∙ w.written)) h k)

@@ -1,5 +1,7 @@
 -- The laws of the prelude.
 use Rattle.std.specs.Prelude.{◌≡◌, ℕ, List, map}
+use Rattle.std.specs.FinMap as files
+use Rattle.std.specs.List.{AllByRecursion}
 use Rattle.jr_base.specs.Files.{FileMap}
 use Rattle.jr_base.specs.Reading.{Lex}
 use Rattle.jr_base.specs.declared.text.Text.{Text}
@@ -12,7 +14,7 @@ use Rattle.jr_defs.specs.declared.program.Program.{Program}
 use Rattle.jr_defs.specs.Binding.{IsBinding}
 use Rattle.jr_defs.specs.Declarations.{IsPrelude, IsObject, IsString}
 use Rattle.jr_defs.specs.Modifiers.{IsFinal}
-use Rattle.jr_defs.specs.Program.{ReadsAs, AreUnitsOf, prelude_files, ProgramOf, rows_of}
+use Rattle.jr_defs.specs.Program.{ReadsAs, ProgramOf, rows_of}
 use Rattle.jr_defs.specs.Referents.{Table}
 
 -- ---- the texts of the prelude
@@ -23,11 +25,19 @@ pub record Reads (text : List ℕ) (tree : d.CompilationUnit) : Type 0 where
   pub some : (tokens : List Token) × (unit : declared_unit.Unit) × ReadsAs text tokens unit
   pub one : (tokens : List Token) (unit : declared_unit.Unit) → ReadsAs text tokens unit → d.plain_unit unit ≡ tree
 
--- the prelude is a program where there are no files
-abbrev pub PreludeIsProgram : Type 0
-PreludeIsProgram = (program : Program) × AreUnitsOf prelude_files program.units
-
 -- ---- programs of files
+
+-- the bytes of the file, which stand behind its path, read as a unit
+abbrev pub IsReadable : List ℕ × List ℕ → Type 0
+IsReadable file = (tokens : List Token) × (unit : declared_unit.Unit) × ReadsAs file.1 tokens unit
+
+-- files that each read as a unit are a program
+abbrev pub FilesAreProgram : Type 0
+FilesAreProgram = (found : FileMap) → AllByRecursion IsReadable (files.entries found) → (program : Program) × ProgramOf found program
+
+-- and files are one program at most
+abbrev pub FilesAreOneProgram : Type 0
+FilesAreOneProgram = (found : FileMap) (p q : Program) → ProgramOf found p → ProgramOf found q → p ≡ q
 
 -- what holds of the rows of each program of files
 abbrev pub OfFiles : (Rows → Type 0) → Type 0

@@ -5,13 +5,18 @@ ghost use Rattle.jr_defs.specs.Prelude.{lang_text, io_text};
 ghost use Rattle.jr_prelude.specs.Begins.{BeginsWithLang, HasLangTypes};
 ghost use Rattle.jr_prelude.specs.Io.{io_unit};
 ghost use Rattle.jr_prelude.specs.Lang.{lang_unit};
-ghost use Rattle.jr_prelude.specs.Laws.{Reads, PreludeIsProgram, OfFiles, NamesTypesOnce, HasOneObject, HasOneString, HasOneBinding};
+ghost use Rattle.jr_prelude.specs.Laws.{Reads, FilesAreProgram, FilesAreOneProgram, OfFiles, NamesTypesOnce, HasOneObject, HasOneString, HasOneBinding};
 
-/// The texts of the prelude read as their trees, and as no other units, so the prelude alone is a program (JLS 7.3).
+/// The texts of the prelude read as their trees, and as no other units (JLS 7.3).
 pub fn prelude_is_read()
     ensures lang { Reads lang_text lang_unit }
     ensures io { Reads io_text io_unit }
-    ensures program { PreludeIsProgram }
+{}
+
+/// Files that each read as a unit are a program, and files are one program at most.
+pub fn files_are_one_program()
+    ensures some { FilesAreProgram }
+    ensures one { FilesAreOneProgram }
 {}
 
 /// The rows of each program of files begin with those of java.lang.

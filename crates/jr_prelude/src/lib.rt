@@ -4,6 +4,6 @@
 mod law;
 
 pub use law::{
-    one_binding_of_files, prelude_is_read, programs_begin_with_lang, programs_have_types_of_lang,
-    programs_of_files_are_formed,
+    files_are_one_program, one_binding_of_files, prelude_is_read, programs_begin_with_lang,
+    programs_have_types_of_lang, programs_of_files_are_formed,
 };

@@ -1,5 +1,5 @@
-use Rattle.jr_prelude.proofs.Readings.{lang_reads, io_reads, prelude_is_program}
+use Rattle.jr_prelude.proofs.Readings.{lang_reads, io_reads}
 use Rattle.jr_prelude.proofs.law.prelude_is_read.Goals as goal
 
 pub returns : goal.returns
-returns c = record { lang = lang_reads; io = io_reads; program = prelude_is_program }
+returns c = record { lang = lang_reads; io = io_reads }
