@@ -1,0 +1,9 @@
+pub mod Names
+pub mod Literals
+pub mod Laid
+pub mod TextTokens
+pub mod PreludeTokens
+pub mod PreludeShaped
+pub mod Begun
+pub mod Programs
+pub mod Readings

@@ -1,0 +1,4 @@
+pub mod Lang
+pub mod Io
+pub mod Begins
+pub mod Laws
