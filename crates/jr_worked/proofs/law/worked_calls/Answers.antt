@@ -1,0 +1,19 @@
+use Rattle.std.proofs.Common.{refl}
+use Rattle.jr_worked.proofs.law.worked_calls.Goals as goal
+
+pub returns : goal.returns
+returns c = record {
+  the_most_specific_method = refl;
+  no_most_specific_method = refl;
+  arguments_are_widened = refl;
+  the_search_stops_at_the_inner_class = refl;
+  the_first_of_abstract_methods = refl;
+  the_method_that_is_not_abstract = refl;
+  an_interface_has_the_methods_of_object = refl;
+  calls_on_named_types = refl;
+  calls_on_named_types_the_simple_name_is_a_part = refl;
+  calls_on_named_types_the_qualified_name_is_a_part = refl;
+  calls_on_named_types_the_package_before_the_type_is_a_part = refl;
+  an_interface_declares_a_method_of_object = refl;
+  two_abstract_methods_of_one_type = refl;
+}
