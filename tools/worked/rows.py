@@ -280,7 +280,7 @@ abbrev pub %s : Worked
 %s = record {
   rows =
 %s;
-  table = told (%s ∷ []);
+  targets = %s ∷ [];
 }
 ''' % (program.number, java, program.name, program.name, rows_text(rows), told)
 
@@ -299,7 +299,7 @@ use Rattle.jr_rows.specs.declared.label.NamePlace.TheVariants as place
 use Rattle.jr_rows.specs.declared.label.ReceiverKind.TheVariants as on
 use Rattle.jr_rows.specs.Decls.{modifiers_of}
 use Rattle.jr_defs.specs.declared.referent.Referent.TheVariants.{Unbound, Ambiguous, ArrayLength, Package, Declared}
-use Rattle.jr_worked.specs.Tables.{Worked, r, bare, told}
+use Rattle.jr_worked.specs.Tables.{Worked, r, bare}
 '''
 
 
@@ -322,6 +322,32 @@ def main():
         out.write(open(os.path.join(HERE, 'law_head.txt'), encoding='utf-8').read() + ''.join(uses) + '\n' + '\n'.join(laws))
 
 
+# The lemma that a test tells whether a fact holds; the second ask that headers stand below types.
+TELLS = {'InStaticContext': 'static_context_tells', 'IsOccurrence': 'occurrence_tells', 'IsPart': 'part_tells', 'IsPublic': 'public_tells',
+         'IsStatic': 'static_tells', 'SingleImport': 'single_import_tells'}
+HEADED = {'IsAccessible': 'accessible_tells'}
+
+
+def claim_of(text, whole):
+    """A claim as a clause, and its proof."""
+    p, t = '(rows_of %s)' % whole, '(table_of %s)' % whole
+    negated = text.startswith('no ')
+    relation, _, rest = text[3 if negated else 0:].partition(' p ')
+    with_table, rest = rest.startswith('t '), rest[2:] if rest.startswith('t ') else rest
+    if relation in ('Constant', 'TypeOf'):
+        lemma = relation[:4].lower() if relation == 'TypeOf' else 'constant'
+        form = ' (HasConstantForm %s %s)' % (p, t) if relation == 'TypeOf' else ''
+        kind = 'RowType' if relation == 'TypeOf' else 'Const'
+        if negated:
+            return '(v : %s) → %s %s %s%s %s v → ⊥' % (kind, relation, p, t, form, rest), 'no_%s %s refl %s refl' % (lemma, whole, rest)
+        return '%s %s %s%s %s' % (relation, p, t, form, rest), '%s_is %s refl %s _ refl' % (lemma, whole, rest.split(' ', 1)[0])
+    args = '%s %s %s' % (p, t, rest) if with_table else '%s %s' % (p, rest)
+    tells = '%s %s' % (TELLS[relation], args) if relation in TELLS else '%s %s %s (typable_of %s refl).headed %s' % (HEADED[relation], p, t, whole, rest)
+    if negated:
+        return '%s %s → ⊥' % (relation, args), 'no (%s) refl' % tells
+    return '%s %s' % (relation, args), '(%s).0 refl' % tells
+
+
 def write_law(group, heading, clauses, laws):
     """One function for the group, with a clause for each program and each claim, and its proof. Answers the import of the group's programs."""
     module = group.lower()
@@ -329,18 +355,19 @@ def write_law(group, heading, clauses, laws):
     lines, fields = [], []
     for program, claims in clauses:
         whole = module + '.' + program.name
-        lines.append('    ensures %s { agrees %s ≡ true }' % (program.name, whole))
-        fields.append(program.name)
+        lines.append('    ensures %s { IsLookedUp %s }' % (program.name, whole))
+        fields.append('%s = looked_up %s refl' % (program.name, whole))
         for name, text in claims:
-            text = re.sub(r'\bp\b', '(rows_of %s)' % whole, re.sub(r'\bt\b', '(table_of %s)' % whole, text))
-            lines.append('    ensures %s_%s { %s }' % (program.name, name, text))
-            fields.append(program.name + '_' + name)
+            clause, proof = claim_of(text, whole)
+            lines.append('    ensures %s_%s { %s }' % (program.name, name, clause))
+            fields.append('%s_%s = %s' % (program.name, name, proof))
     laws.append('/// %s\npub fn %s()\n%s\n{}\n' % (heading, law, '\n'.join(lines)))
     folder = os.path.join(CRATE, 'proofs', 'law', law)
     os.makedirs(folder, exist_ok=True)
+    head = open(os.path.join(HERE, 'answers_head.txt'), encoding='utf-8').read()
     with open(os.path.join(folder, 'Answers.antt'), 'w', encoding='utf-8') as out:
-        out.write('use Rattle.std.proofs.Common.{refl}\nuse Rattle.jr_worked.proofs.law.%s.Goals as goal\n\npub returns : goal.returns\nreturns c = record {\n%s}\n'
-                  % (law, ''.join('  %s = refl;\n' % f for f in fields)))
+        out.write('%suse Rattle.jr_worked.specs.%s as %s\nuse Rattle.jr_worked.proofs.law.%s.Goals as goal\n\npub returns : goal.returns\nreturns c = record {\n%s}\n'
+                  % (head, group, module, law, ''.join('  %s;\n' % f for f in fields)))
     return 'ghost use Rattle.jr_worked.specs.%s as %s;\n' % (group, module)
 
 

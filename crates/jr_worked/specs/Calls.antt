@@ -13,7 +13,7 @@ use Rattle.jr_rows.specs.declared.label.NamePlace.TheVariants as place
 use Rattle.jr_rows.specs.declared.label.ReceiverKind.TheVariants as on
 use Rattle.jr_rows.specs.Decls.{modifiers_of}
 use Rattle.jr_defs.specs.declared.referent.Referent.TheVariants.{Unbound, Ambiguous, ArrayLength, Package, Declared}
-use Rattle.jr_worked.specs.Tables.{Worked, r, bare, told}
+use Rattle.jr_worked.specs.Tables.{Worked, r, bare}
 
 -- 38
 -- A.java: class A { void m(Object o) { } void /*1*/m(String s) { } void f() { m("a"); m(null); } }
@@ -32,7 +32,7 @@ the_most_specific_method = record {
     r 25 27 25 (is.Name kind.Type place.Other false) (codes "String") ∷ r 23 28 24 is.Block [] ∷ r 15 36 23 (is.Method bare true true) (codes "f") ∷
     r 28 36 28 is.Block [] ∷ r 29 33 29 is.Eval [] ∷ r 30 33 30 (is.Call on.Absent) (codes "m") ∷ r 31 33 31 (is.Literal (token.Str (codes "a"))) [] ∷
     r 29 36 30 is.Eval [] ∷ r 33 36 33 (is.Call on.Absent) (codes "m") ∷ r 34 36 34 (is.Literal (token.Word word.Null)) [] ∷ [];
-  table = told ((12, Declared 7 None) ∷ (17, Declared 7 None) ∷ (21, Declared 5 None) ∷ (26, Declared 9 None) ∷ (31, Declared 23 (Some 14)) ∷ (34, Declared 23 (Some 14)) ∷ []);
+  targets = (12, Declared 7 None) ∷ (17, Declared 7 None) ∷ (21, Declared 5 None) ∷ (26, Declared 9 None) ∷ (31, Declared 23 (Some 14)) ∷ (34, Declared 23 (Some 14)) ∷ [];
 }
 
 -- 39
@@ -54,7 +54,7 @@ no_most_specific_method = record {
     r 30 33 30 (is.TypeUse None 0) [] ∷ r 31 33 31 (is.Name kind.Type place.Other false) (codes "Object") ∷ r 26 34 30 is.Block [] ∷
     r 15 40 26 (is.Method bare true true) (codes "f") ∷ r 34 40 34 is.Block [] ∷ r 35 40 35 is.Eval [] ∷ r 36 40 36 (is.Call on.Absent) (codes "m") ∷
     r 37 39 37 (is.Literal (token.Str (codes "a"))) [] ∷ r 37 40 38 (is.Literal (token.Str (codes "b"))) [] ∷ [];
-  table = told ((12, Declared 7 None) ∷ (17, Declared 7 None) ∷ (21, Declared 5 None) ∷ (24, Declared 9 None) ∷ (29, Declared 9 None) ∷ (32, Declared 5 None) ∷ (37, Ambiguous) ∷ []);
+  targets = (12, Declared 7 None) ∷ (17, Declared 7 None) ∷ (21, Declared 5 None) ∷ (24, Declared 9 None) ∷ (29, Declared 9 None) ∷ (32, Declared 5 None) ∷ (37, Ambiguous) ∷ [];
 }
 
 -- 40
@@ -74,7 +74,7 @@ arguments_are_widened = record {
     r 25 27 25 (is.TypeUse (Some primitive.Byte) 0) [] ∷ r 22 34 25 is.Block [] ∷ r 27 31 27 is.Eval [] ∷ r 28 31 28 (is.Call on.Absent) (codes "m") ∷
     r 29 31 29 (is.Name kind.Variable place.Expression false) (codes "c") ∷ r 27 34 28 is.Eval [] ∷ r 31 34 31 (is.Call on.Absent) (codes "m") ∷
     r 32 34 32 (is.Name kind.Variable place.Expression false) (codes "b") ∷ [];
-  table = told ((13, Declared 7 None) ∷ (29, Declared 14 (Some 10)) ∷ (30, Declared 23 None) ∷ (32, Declared 14 (Some 10)) ∷ (33, Declared 25 None) ∷ []);
+  targets = (13, Declared 7 None) ∷ (29, Declared 14 (Some 10)) ∷ (30, Declared 23 None) ∷ (32, Declared 14 (Some 10)) ∷ (33, Declared 25 None) ∷ [];
 }
 
 -- 41
@@ -91,7 +91,7 @@ the_search_stops_at_the_inner_class = record {
     r 17 24 18 (is.Method bare true true) (codes "m") ∷ r 20 23 20 (is.Parameter false 0) (codes "a") ∷
     r 21 23 21 (is.TypeUse (Some primitive.Int) 0) [] ∷ r 20 24 21 is.Block [] ∷ r 17 28 20 (is.Method bare true true) (codes "t") ∷
     r 24 28 24 is.Block [] ∷ r 25 28 25 is.Eval [] ∷ r 26 28 26 (is.Call on.Absent) (codes "m") ∷ [];
-  table = told ((13, Declared 7 None) ∷ (19, Declared 7 None) ∷ (27, Unbound) ∷ []);
+  targets = (13, Declared 7 None) ∷ (19, Declared 7 None) ∷ (27, Unbound) ∷ [];
 }
 
 -- 42
@@ -108,7 +108,7 @@ the_first_of_abstract_methods = record {
     r 16 18 16 (is.Name kind.Type place.Superinterface false) (codes "I") ∷ r 16 19 17 (is.Name kind.Type place.Superinterface false) (codes "J") ∷
     r 16 26 18 is.Body [] ∷ r 19 22 19 is.DefaultConstructor [] ∷ r 20 22 20 is.ImplicitCall [] ∷ r 19 26 20 (is.Method bare true true) (codes "f") ∷
     r 22 26 22 is.Block [] ∷ r 23 26 23 is.Eval [] ∷ r 24 26 24 (is.Call on.Absent) (codes "m") ∷ [];
-  table = told ((17, Declared 10 None) ∷ (18, Declared 13 None) ∷ (21, Declared 7 None) ∷ (25, Declared 12 (Some 16)) ∷ []);
+  targets = (17, Declared 10 None) ∷ (18, Declared 13 None) ∷ (21, Declared 7 None) ∷ (25, Declared 12 (Some 16)) ∷ [];
 }
 
 -- 43
@@ -127,7 +127,7 @@ the_method_that_is_not_abstract = record {
     r 19 22 20 (is.Name kind.Type place.Superinterface false) (codes "I") ∷ r 19 29 21 is.Body [] ∷ r 22 25 22 is.DefaultConstructor [] ∷
     r 23 25 23 is.ImplicitCall [] ∷ r 22 29 23 (is.Method bare true true) (codes "f") ∷ r 25 29 25 is.Block [] ∷ r 26 29 26 is.Eval [] ∷
     r 27 29 27 (is.Call on.Absent) (codes "m") ∷ [];
-  table = told ((13, Declared 7 None) ∷ (20, Declared 10 None) ∷ (21, Declared 16 None) ∷ (24, Declared 12 None) ∷ (28, Declared 14 (Some 19)) ∷ []);
+  targets = (13, Declared 7 None) ∷ (20, Declared 10 None) ∷ (21, Declared 16 None) ∷ (24, Declared 12 None) ∷ (28, Declared 14 (Some 19)) ∷ [];
 }
 
 -- 44
@@ -145,7 +145,7 @@ an_interface_has_the_methods_of_object = record {
     r 18 23 19 (is.Parameter false 0) (codes "i") ∷ r 20 23 20 (is.TypeUse None 0) [] ∷ r 21 23 21 (is.Name kind.Type place.Other false) (codes "I") ∷
     r 18 27 20 is.Block [] ∷ r 23 27 23 is.Return [] ∷ r 24 27 24 (is.Call on.Name) (codes "hashCode") ∷
     r 25 27 25 (is.Name kind.Ambiguous place.Receiver false) (codes "i") ∷ [];
-  table = told ((17, Declared 7 None) ∷ (22, Declared 12 None) ∷ (25, Declared 9 None) ∷ (26, Declared 20 None) ∷ []);
+  targets = (17, Declared 7 None) ∷ (22, Declared 12 None) ∷ (25, Declared 9 None) ∷ (26, Declared 20 None) ∷ [];
 }
 
 -- 59
@@ -165,7 +165,7 @@ calls_on_named_types = record {
     r 29 32 29 (is.Call on.Name) (codes "m") ∷ r 30 32 30 (is.Name kind.Ambiguous place.Receiver false) (codes "C") ∷
     r 29 35 30 (is.Call on.Name) (codes "m") ∷ r 32 35 32 (is.Name kind.Ambiguous place.Receiver true) (codes "C") ∷
     r 33 35 33 (is.Name kind.Ambiguous place.Qualifier false) (codes "p") ∷ [];
-  table = told ((15, Declared 7 None) ∷ (24, Declared 7 None) ∷ (30, Declared 16 None) ∷ (31, Declared 12 None) ∷ (32, Declared 16 None) ∷ (33, Declared 12 None) ∷ (34, Package) ∷ []);
+  targets = (15, Declared 7 None) ∷ (24, Declared 7 None) ∷ (30, Declared 16 None) ∷ (31, Declared 12 None) ∷ (32, Declared 16 None) ∷ (33, Declared 12 None) ∷ (34, Package) ∷ [];
 }
 
 -- 63
@@ -188,7 +188,7 @@ an_interface_declares_a_method_of_object = record {
     r 29 35 30 (is.Parameter false 0) (codes "k") ∷ r 32 35 32 (is.TypeUse None 0) [] ∷ r 33 35 33 (is.Name kind.Type place.Other false) (codes "K") ∷
     r 29 39 32 is.Block [] ∷ r 35 39 35 is.Return [] ∷ r 36 39 36 (is.Call on.Name) (codes "toString") ∷
     r 37 39 37 (is.Name kind.Ambiguous place.Receiver false) (codes "k") ∷ [];
-  table = told ((11, Declared 12 None) ∷ (15, Declared 7 None) ∷ (21, Declared 12 None) ∷ (23, Declared 17 None) ∷ (28, Declared 7 None) ∷ (31, Declared 12 None) ∷ (34, Declared 22 None) ∷ (37, Declared 19 None) ∷ (38, Declared 32 None) ∷ []);
+  targets = (11, Declared 12 None) ∷ (15, Declared 7 None) ∷ (21, Declared 12 None) ∷ (23, Declared 17 None) ∷ (28, Declared 7 None) ∷ (31, Declared 12 None) ∷ (34, Declared 22 None) ∷ (37, Declared 19 None) ∷ (38, Declared 32 None) ∷ [];
 }
 
 -- 66
@@ -204,5 +204,5 @@ two_abstract_methods_of_one_type = record {
     r 11 15 12 (is.Method (modifiers_of (modifier.Abstract ∷ [])) true false) (codes "m") ∷
     r 11 16 14 (is.Method (modifiers_of (modifier.Abstract ∷ [])) true false) (codes "m") ∷ r 11 20 15 (is.Method bare true true) (codes "f") ∷
     r 16 20 16 is.Block [] ∷ r 17 20 17 is.Eval [] ∷ r 18 20 18 (is.Call on.Absent) (codes "m") ∷ [];
-  table = told ((13, Declared 7 None) ∷ (19, Ambiguous) ∷ []);
+  targets = (13, Declared 7 None) ∷ (19, Ambiguous) ∷ [];
 }

@@ -13,7 +13,7 @@ use Rattle.jr_rows.specs.declared.label.NamePlace.TheVariants as place
 use Rattle.jr_rows.specs.declared.label.ReceiverKind.TheVariants as on
 use Rattle.jr_rows.specs.Decls.{modifiers_of}
 use Rattle.jr_defs.specs.declared.referent.Referent.TheVariants.{Unbound, Ambiguous, ArrayLength, Package, Declared}
-use Rattle.jr_worked.specs.Tables.{Worked, r, bare, told}
+use Rattle.jr_worked.specs.Tables.{Worked, r, bare}
 
 -- 45
 -- A.java: class O { class I { } class P extends O { class J { } Object f() { return new I(); } } }
@@ -31,7 +31,7 @@ an_inherited_inner_class = record {
     r 25 27 25 is.ImplicitCall [] ∷ r 20 34 23 (is.Method bare false true) (codes "f") ∷ r 27 30 27 (is.TypeUse None 0) [] ∷
     r 28 30 28 (is.Name kind.Type place.Other false) (codes "Object") ∷ r 27 34 28 is.Block [] ∷ r 30 34 30 is.Return [] ∷ r 31 34 31 is.New [] ∷
     r 32 34 32 (is.Name kind.Type place.Other false) (codes "I") ∷ [];
-  table = told ((13, Declared 7 None) ∷ (17, Declared 7 None) ∷ (19, Declared 10 None) ∷ (22, Declared 12 None) ∷ (26, Declared 7 None) ∷ (29, Declared 5 None) ∷ (32, Declared 16 (Some 18)) ∷ (33, Declared 14 None) ∷ []);
+  targets = (13, Declared 7 None) ∷ (17, Declared 7 None) ∷ (19, Declared 10 None) ∷ (22, Declared 12 None) ∷ (26, Declared 7 None) ∷ (29, Declared 5 None) ∷ (32, Declared 16 (Some 18)) ∷ (33, Declared 14 None) ∷ [];
 }
 
 -- 46
@@ -49,7 +49,7 @@ an_inner_class_of_no_enclosing_one = record {
     r 22 25 22 (is.TypeUse None 0) [] ∷ r 23 25 23 (is.Name kind.Type place.Other false) (codes "Object") ∷ r 22 30 23 is.Block [] ∷
     r 25 30 25 is.Return [] ∷ r 26 30 26 is.New [] ∷ r 27 30 27 (is.Name kind.Type place.Other true) (codes "I") ∷
     r 28 30 28 (is.Name kind.PackageOrType place.Qualifier false) (codes "O") ∷ [];
-  table = told ((13, Declared 7 None) ∷ (17, Declared 7 None) ∷ (21, Declared 7 None) ∷ (24, Declared 5 None) ∷ (27, Unbound) ∷ (28, Declared 14 None) ∷ (29, Declared 10 None) ∷ []);
+  targets = (13, Declared 7 None) ∷ (17, Declared 7 None) ∷ (21, Declared 7 None) ∷ (24, Declared 5 None) ∷ (27, Unbound) ∷ (28, Declared 14 None) ∷ (29, Declared 10 None) ∷ [];
 }
 
 -- 47
@@ -65,7 +65,7 @@ a_default_constructor = record {
     r 15 18 15 is.DefaultConstructor [] ∷ r 16 18 16 is.ImplicitCall [] ∷ r 15 25 16 (is.Method bare false true) (codes "f") ∷
     r 18 21 18 (is.TypeUse None 0) [] ∷ r 19 21 19 (is.Name kind.Type place.Other false) (codes "Object") ∷ r 18 25 19 is.Block [] ∷
     r 21 25 21 is.Return [] ∷ r 22 25 22 is.New [] ∷ r 23 25 23 (is.Name kind.Type place.Other false) (codes "A") ∷ [];
-  table = told ((13, Declared 7 None) ∷ (17, Declared 7 None) ∷ (20, Declared 5 None) ∷ (23, Declared 12 None) ∷ (24, Declared 10 None) ∷ []);
+  targets = (13, Declared 7 None) ∷ (17, Declared 7 None) ∷ (20, Declared 5 None) ∷ (23, Declared 12 None) ∷ (24, Declared 10 None) ∷ [];
 }
 
 -- 48
@@ -81,7 +81,7 @@ no_constructor_for_the_implicit_call = record {
     r 14 16 14 (is.TypeUse (Some primitive.Int) 0) [] ∷ r 12 17 14 is.Block [] ∷ r 9 23 10 (is.Class bare false) (codes "B") ∷
     r 17 19 17 (is.Name kind.Type place.Superclass false) (codes "A") ∷ r 17 23 18 is.Body [] ∷ r 19 23 19 (is.Constructor bare) (codes "B") ∷
     r 20 22 20 is.ImplicitCall [] ∷ r 20 23 21 is.Block [] ∷ [];
-  table = told ((12, Declared 10 None) ∷ (13, Declared 7 None) ∷ (18, Declared 10 None) ∷ (20, Declared 17 None) ∷ (21, Unbound) ∷ []);
+  targets = (12, Declared 10 None) ∷ (13, Declared 7 None) ∷ (18, Declared 10 None) ∷ (20, Declared 17 None) ∷ (21, Unbound) ∷ [];
 }
 
 -- 49
@@ -95,7 +95,7 @@ a_constructor_of_another_name = record {
     r 7 9 7 is.ImplicitCall [] ∷ r 0 18 1 is.Unit [] ∷ r 9 18 9 (is.Class bare false) (codes "A") ∷ r 10 18 10 is.Body [] ∷
     r 11 15 11 (is.Constructor bare) (codes "A") ∷ r 12 14 12 is.ImplicitCall [] ∷ r 12 15 13 is.Block [] ∷
     r 11 18 12 (is.Constructor bare) (codes "B") ∷ r 15 17 15 is.ImplicitCall [] ∷ r 15 18 16 is.Block [] ∷ [];
-  table = told ((12, Declared 10 None) ∷ (13, Declared 7 None) ∷ (15, Declared 10 None) ∷ (16, Declared 7 None) ∷ []);
+  targets = (12, Declared 10 None) ∷ (13, Declared 7 None) ∷ (15, Declared 10 None) ∷ (16, Declared 7 None) ∷ [];
 }
 
 -- 58
@@ -119,7 +119,7 @@ a_class_of_an_interface = record {
     r 34 38 34 (is.Name kind.Type place.Superclass true) (codes "C") ∷ r 35 38 35 (is.Name kind.PackageOrType place.Qualifier true) (codes "I") ∷
     r 36 38 36 (is.Name kind.PackageOrType place.Qualifier false) (codes "p") ∷ r 34 41 35 is.Body [] ∷ r 38 41 38 is.DefaultConstructor [] ∷
     r 39 41 39 is.ImplicitCall [] ∷ [];
-  table = told ((17, Declared 7 None) ∷ (24, Declared 7 None) ∷ (27, Declared 5 None) ∷ (30, Declared 16 None) ∷ (31, Declared 14 None) ∷ (32, Declared 12 None) ∷ (33, Package) ∷ (35, Declared 14 None) ∷ (36, Declared 12 None) ∷ (37, Package) ∷ (40, Declared 16 None) ∷ []);
+  targets = (17, Declared 7 None) ∷ (24, Declared 7 None) ∷ (27, Declared 5 None) ∷ (30, Declared 16 None) ∷ (31, Declared 14 None) ∷ (32, Declared 12 None) ∷ (33, Package) ∷ (35, Declared 14 None) ∷ (36, Declared 12 None) ∷ (37, Package) ∷ (40, Declared 16 None) ∷ [];
 }
 
 -- 64
@@ -137,7 +137,7 @@ a_private_inner_class = record {
     r 18 30 19 is.Body [] ∷ r 20 23 20 is.DefaultConstructor [] ∷ r 21 23 21 is.ImplicitCall [] ∷ r 20 30 21 (is.Method bare false true) (codes "f") ∷
     r 23 26 23 (is.TypeUse None 0) [] ∷ r 24 26 24 (is.Name kind.Type place.Other false) (codes "Object") ∷ r 23 30 24 is.Block [] ∷
     r 26 30 26 is.Return [] ∷ r 27 30 27 is.New [] ∷ r 28 30 28 (is.Name kind.Type place.Other false) (codes "I") ∷ [];
-  table = told ((13, Declared 7 None) ∷ (17, Declared 7 None) ∷ (19, Declared 10 None) ∷ (22, Declared 12 None) ∷ (25, Declared 5 None) ∷ (28, Declared 16 (Some 10)) ∷ (29, Declared 14 None) ∷ []);
+  targets = (13, Declared 7 None) ∷ (17, Declared 7 None) ∷ (19, Declared 10 None) ∷ (22, Declared 12 None) ∷ (25, Declared 5 None) ∷ (28, Declared 16 (Some 10)) ∷ (29, Declared 14 None) ∷ [];
 }
 
 -- 65
@@ -159,5 +159,5 @@ a_protected_constructor = record {
     r 27 30 27 (is.TypeUse None 0) [] ∷ r 28 30 28 (is.Name kind.Type place.Other false) (codes "Object") ∷ r 27 35 28 is.Block [] ∷
     r 30 35 30 is.Return [] ∷ r 31 35 31 is.New [] ∷ r 32 35 32 (is.Name kind.Type place.Other true) (codes "A") ∷
     r 33 35 33 (is.Name kind.PackageOrType place.Qualifier false) (codes "p") ∷ [];
-  table = told ((14, Declared 12 None) ∷ (15, Declared 7 None) ∷ (21, Declared 12 None) ∷ (22, Package) ∷ (24, Declared 20 None) ∷ (26, Declared 14 None) ∷ (29, Declared 5 None) ∷ (32, Unbound) ∷ (33, Declared 12 None) ∷ (34, Package) ∷ []);
+  targets = (14, Declared 12 None) ∷ (15, Declared 7 None) ∷ (21, Declared 12 None) ∷ (22, Package) ∷ (24, Declared 20 None) ∷ (26, Declared 14 None) ∷ (29, Declared 5 None) ∷ (32, Unbound) ∷ (33, Declared 12 None) ∷ (34, Package) ∷ [];
 }

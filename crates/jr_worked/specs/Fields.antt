@@ -13,7 +13,7 @@ use Rattle.jr_rows.specs.declared.label.NamePlace.TheVariants as place
 use Rattle.jr_rows.specs.declared.label.ReceiverKind.TheVariants as on
 use Rattle.jr_rows.specs.Decls.{modifiers_of}
 use Rattle.jr_defs.specs.declared.referent.Referent.TheVariants.{Unbound, Ambiguous, ArrayLength, Package, Declared}
-use Rattle.jr_worked.specs.Tables.{Worked, r, bare, told}
+use Rattle.jr_worked.specs.Tables.{Worked, r, bare}
 
 -- 11
 -- A.java: class A { int /*1*/x; class B { int /*2*/x; int f() { return x; } } }
@@ -30,7 +30,7 @@ a_field_of_the_inner_class = record {
     r 21 23 21 (is.TypeUse (Some primitive.Int) 0) [] ∷ r 21 24 22 (is.Field bare 0) (codes "x") ∷ r 18 29 21 (is.Method bare false true) (codes "f") ∷
     r 24 26 24 (is.TypeUse (Some primitive.Int) 0) [] ∷ r 24 29 25 is.Block [] ∷ r 26 29 26 is.Return [] ∷
     r 27 29 27 (is.Name kind.Variable place.Expression false) (codes "x") ∷ [];
-  table = told ((13, Declared 7 None) ∷ (20, Declared 7 None) ∷ (28, Declared 23 (Some 17)) ∷ []);
+  targets = (13, Declared 7 None) ∷ (20, Declared 7 None) ∷ (28, Declared 23 (Some 17)) ∷ [];
 }
 
 -- 12
@@ -47,7 +47,7 @@ a_field_of_the_outer_class = record {
     r 17 26 17 is.Body [] ∷ r 18 21 18 is.DefaultConstructor [] ∷ r 19 21 19 is.ImplicitCall [] ∷ r 18 26 19 (is.Method bare false true) (codes "f") ∷
     r 21 23 21 (is.TypeUse (Some primitive.Int) 0) [] ∷ r 21 26 22 is.Block [] ∷ r 23 26 23 is.Return [] ∷
     r 24 26 24 (is.Name kind.Variable place.Expression false) (codes "x") ∷ [];
-  table = told ((13, Declared 7 None) ∷ (20, Declared 7 None) ∷ (25, Declared 16 (Some 10)) ∷ []);
+  targets = (13, Declared 7 None) ∷ (20, Declared 7 None) ∷ (25, Declared 16 (Some 10)) ∷ [];
 }
 
 -- 13
@@ -68,7 +68,7 @@ an_inherited_field_shadows_an_enclosing_one = record {
     r 29 31 29 (is.Name kind.Type place.Superclass false) (codes "B") ∷ r 29 39 30 is.Body [] ∷ r 31 34 31 is.DefaultConstructor [] ∷
     r 32 34 32 is.ImplicitCall [] ∷ r 31 39 32 (is.Method bare false true) (codes "f") ∷ r 34 36 34 (is.TypeUse (Some primitive.Int) 0) [] ∷
     r 34 39 35 is.Block [] ∷ r 36 39 36 is.Return [] ∷ r 37 39 37 (is.Name kind.Variable place.Expression false) (codes "x") ∷ [];
-  table = told ((13, Declared 7 None) ∷ (18, Declared 10 None) ∷ (21, Declared 12 None) ∷ (25, Declared 7 None) ∷ (30, Declared 17 None) ∷ (33, Declared 20 None) ∷ (38, Declared 16 (Some 29)) ∷ []);
+  targets = (13, Declared 7 None) ∷ (18, Declared 10 None) ∷ (21, Declared 12 None) ∷ (25, Declared 7 None) ∷ (30, Declared 17 None) ∷ (33, Declared 20 None) ∷ (38, Declared 16 (Some 29)) ∷ [];
 }
 
 -- 14
@@ -86,7 +86,7 @@ a_private_field_is_not_inherited = record {
     r 19 22 19 is.DefaultConstructor [] ∷ r 20 22 20 is.ImplicitCall [] ∷ r 19 27 20 (is.Method bare false true) (codes "f") ∷
     r 22 24 22 (is.TypeUse (Some primitive.Int) 0) [] ∷ r 22 27 23 is.Block [] ∷ r 24 27 24 is.Return [] ∷
     r 25 27 25 (is.Name kind.Variable place.Expression false) (codes "x") ∷ [];
-  table = told ((13, Declared 7 None) ∷ (18, Declared 10 None) ∷ (21, Declared 12 None) ∷ (26, Unbound) ∷ []);
+  targets = (13, Declared 7 None) ∷ (18, Declared 10 None) ∷ (21, Declared 12 None) ∷ (26, Unbound) ∷ [];
 }
 
 -- 15
@@ -105,7 +105,7 @@ private_reaches_the_top_level_type = record {
     r 21 26 22 (is.Parameter false 0) (codes "a") ∷ r 23 26 23 (is.TypeUse None 0) [] ∷ r 24 26 24 (is.Name kind.Type place.Other false) (codes "A") ∷
     r 21 30 23 is.Block [] ∷ r 26 30 26 is.Return [] ∷ r 27 30 27 (is.Name kind.Variable place.Expression true) (codes "x") ∷
     r 28 30 28 (is.Name kind.Ambiguous place.Qualifier false) (codes "a") ∷ [];
-  table = told ((13, Declared 7 None) ∷ (20, Declared 7 None) ∷ (25, Declared 10 None) ∷ (28, Declared 16 None) ∷ (29, Declared 23 None) ∷ []);
+  targets = (13, Declared 7 None) ∷ (20, Declared 7 None) ∷ (25, Declared 10 None) ∷ (28, Declared 16 None) ∷ (29, Declared 23 None) ∷ [];
 }
 
 -- 16
@@ -125,7 +125,7 @@ two_inherited_fields = record {
     r 24 35 26 is.Body [] ∷ r 27 30 27 is.DefaultConstructor [] ∷ r 28 30 28 is.ImplicitCall [] ∷ r 27 35 28 (is.Method bare false true) (codes "f") ∷
     r 30 32 30 (is.TypeUse (Some primitive.Int) 0) [] ∷ r 30 35 31 is.Block [] ∷ r 32 35 32 is.Return [] ∷
     r 33 35 33 (is.Name kind.Variable place.Expression false) (codes "x") ∷ [];
-  table = told ((25, Declared 10 None) ∷ (26, Declared 17 None) ∷ (29, Declared 7 None) ∷ (34, Ambiguous) ∷ []);
+  targets = (25, Declared 10 None) ∷ (26, Declared 17 None) ∷ (29, Declared 7 None) ∷ (34, Ambiguous) ∷ [];
 }
 
 -- 17
@@ -145,7 +145,7 @@ one_field_by_two_ways = record {
     r 23 34 25 is.Body [] ∷ r 26 29 26 is.DefaultConstructor [] ∷ r 27 29 27 is.ImplicitCall [] ∷ r 26 34 27 (is.Method bare false true) (codes "f") ∷
     r 29 31 29 (is.TypeUse (Some primitive.Int) 0) [] ∷ r 29 34 30 is.Block [] ∷ r 31 34 31 is.Return [] ∷
     r 32 34 32 (is.Name kind.Variable place.Expression false) (codes "x") ∷ [];
-  table = told ((18, Declared 10 None) ∷ (21, Declared 10 None) ∷ (24, Declared 17 None) ∷ (25, Declared 20 None) ∷ (28, Declared 7 None) ∷ (33, Declared 14 (Some 23)) ∷ []);
+  targets = (18, Declared 10 None) ∷ (21, Declared 10 None) ∷ (24, Declared 17 None) ∷ (25, Declared 20 None) ∷ (28, Declared 7 None) ∷ (33, Declared 14 (Some 23)) ∷ [];
 }
 
 -- 18
@@ -165,7 +165,7 @@ a_field_through_a_cast = record {
     r 25 27 25 (is.TypeUse (Some primitive.Int) 0) [] ∷ r 25 35 26 is.Block [] ∷ r 27 35 27 is.Return [] ∷ r 28 35 28 is.Select (codes "x") ∷
     r 29 35 29 is.Paren [] ∷ r 30 35 30 is.Cast [] ∷ r 31 34 31 (is.TypeUse None 0) [] ∷ r 32 34 32 (is.Name kind.Type place.Other false) (codes "A") ∷
     r 31 35 32 (is.This false) [] ∷ [];
-  table = told ((13, Declared 7 None) ∷ (18, Declared 10 None) ∷ (21, Declared 12 None) ∷ (29, Declared 16 None) ∷ (33, Declared 10 None) ∷ []);
+  targets = (13, Declared 7 None) ∷ (18, Declared 10 None) ∷ (21, Declared 12 None) ∷ (29, Declared 16 None) ∷ (33, Declared 10 None) ∷ [];
 }
 
 -- 19
@@ -183,7 +183,7 @@ a_field_through_super = record {
     r 20 22 20 is.ImplicitCall [] ∷ r 19 25 20 (is.Fields bare) [] ∷ r 22 24 22 (is.TypeUse (Some primitive.Int) 0) [] ∷
     r 22 25 23 (is.Field bare 0) (codes "x") ∷ r 19 30 22 (is.Method bare false true) (codes "f") ∷ r 25 27 25 (is.TypeUse (Some primitive.Int) 0) [] ∷
     r 25 30 26 is.Block [] ∷ r 27 30 27 is.Return [] ∷ r 28 30 28 is.SuperSelect (codes "x") ∷ [];
-  table = told ((13, Declared 7 None) ∷ (18, Declared 10 None) ∷ (21, Declared 12 None) ∷ (29, Declared 16 None) ∷ []);
+  targets = (13, Declared 7 None) ∷ (18, Declared 10 None) ∷ (21, Declared 12 None) ∷ (29, Declared 16 None) ∷ [];
 }
 
 -- 20
@@ -199,7 +199,7 @@ no_this_in_static_code = record {
     r 14 16 14 (is.TypeUse (Some primitive.Int) 0) [] ∷ r 14 17 15 (is.Field bare 0) (codes "x") ∷
     r 11 23 14 (is.Method (modifiers_of (modifier.Static ∷ [])) false true) (codes "f") ∷ r 17 19 17 (is.TypeUse (Some primitive.Int) 0) [] ∷
     r 17 23 18 is.Block [] ∷ r 19 23 19 is.Return [] ∷ r 20 23 20 is.Select (codes "x") ∷ r 21 23 21 (is.This false) [] ∷ [];
-  table = told ((13, Declared 7 None) ∷ (21, Unbound) ∷ []);
+  targets = (13, Declared 7 None) ∷ (21, Unbound) ∷ [];
 }
 
 -- 21
@@ -215,7 +215,7 @@ an_instance_field_in_static_code = record {
     r 14 16 14 (is.TypeUse (Some primitive.Int) 0) [] ∷ r 14 17 15 (is.Field bare 0) (codes "x") ∷
     r 11 22 14 (is.Method (modifiers_of (modifier.Static ∷ [])) false true) (codes "f") ∷ r 17 19 17 (is.TypeUse (Some primitive.Int) 0) [] ∷
     r 17 22 18 is.Block [] ∷ r 19 22 19 is.Return [] ∷ r 20 22 20 (is.Name kind.Variable place.Expression false) (codes "x") ∷ [];
-  table = told ((13, Declared 7 None) ∷ (21, Declared 16 (Some 10)) ∷ []);
+  targets = (13, Declared 7 None) ∷ (21, Declared 16 (Some 10)) ∷ [];
 }
 
 -- 22
@@ -233,7 +233,7 @@ a_field_of_a_named_type = record {
     r 18 21 19 (is.Field (modifiers_of (modifier.Static ∷ [])) 0) (codes "x") ∷ r 11 27 14 (is.Method bare false true) (codes "f") ∷
     r 21 23 21 (is.TypeUse (Some primitive.Int) 0) [] ∷ r 21 27 22 is.Block [] ∷ r 23 27 23 is.Return [] ∷
     r 24 27 24 (is.Name kind.Variable place.Expression true) (codes "x") ∷ r 25 27 25 (is.Name kind.Ambiguous place.Qualifier false) (codes "B") ∷ [];
-  table = told ((13, Declared 7 None) ∷ (17, Declared 7 None) ∷ (25, Declared 20 None) ∷ (26, Declared 14 None) ∷ []);
+  targets = (13, Declared 7 None) ∷ (17, Declared 7 None) ∷ (25, Declared 20 None) ∷ (26, Declared 14 None) ∷ [];
 }
 
 -- 23
@@ -252,7 +252,7 @@ a_parameter_obscures_a_type = record {
     r 21 23 21 (is.TypeUse (Some primitive.Int) 0) [] ∷ r 21 26 22 (is.Parameter false 0) (codes "B") ∷ r 23 26 23 (is.TypeUse None 0) [] ∷
     r 24 26 24 (is.Name kind.Type place.Other false) (codes "A") ∷ r 21 30 23 is.Block [] ∷ r 26 30 26 is.Return [] ∷
     r 27 30 27 (is.Name kind.Variable place.Expression true) (codes "x") ∷ r 28 30 28 (is.Name kind.Ambiguous place.Qualifier false) (codes "B") ∷ [];
-  table = told ((13, Declared 7 None) ∷ (17, Declared 7 None) ∷ (25, Declared 10 None) ∷ (28, Unbound) ∷ (29, Declared 23 None) ∷ []);
+  targets = (13, Declared 7 None) ∷ (17, Declared 7 None) ∷ (25, Declared 10 None) ∷ (28, Unbound) ∷ (29, Declared 23 None) ∷ [];
 }
 
 -- 27
@@ -269,5 +269,5 @@ the_length_of_an_array = record {
     r 16 18 16 (is.TypeUse (Some primitive.Int) 1) [] ∷ r 14 25 16 is.Block [] ∷ r 18 25 18 is.Return [] ∷ r 19 25 19 (is.Binary y.Plus) [] ∷
     r 20 23 20 (is.Name kind.Variable place.Expression true) (codes "length") ∷ r 21 23 21 (is.Name kind.Ambiguous place.Qualifier false) (codes "a") ∷
     r 20 25 21 (is.Name kind.Variable place.Expression true) (codes "size") ∷ r 23 25 23 (is.Name kind.Ambiguous place.Qualifier false) (codes "a") ∷ [];
-  table = told ((13, Declared 7 None) ∷ (21, ArrayLength) ∷ (22, Declared 16 None) ∷ (23, Unbound) ∷ (24, Declared 16 None) ∷ []);
+  targets = (13, Declared 7 None) ∷ (21, ArrayLength) ∷ (22, Declared 16 None) ∷ (23, Unbound) ∷ (24, Declared 16 None) ∷ [];
 }

@@ -13,7 +13,7 @@ use Rattle.jr_rows.specs.declared.label.NamePlace.TheVariants as place
 use Rattle.jr_rows.specs.declared.label.ReceiverKind.TheVariants as on
 use Rattle.jr_rows.specs.Decls.{modifiers_of}
 use Rattle.jr_defs.specs.declared.referent.Referent.TheVariants.{Unbound, Ambiguous, ArrayLength, Package, Declared}
-use Rattle.jr_worked.specs.Tables.{Worked, r, bare, told}
+use Rattle.jr_worked.specs.Tables.{Worked, r, bare}
 
 -- 24
 -- p/A.java: package p; class A { int f() { return p.B.x; } }
@@ -33,7 +33,7 @@ a_field_of_a_type_of_a_package = record {
     r 23 33 24 (is.Class bare false) (codes "B") ∷ r 26 33 26 is.Body [] ∷ r 27 30 27 is.DefaultConstructor [] ∷ r 28 30 28 is.ImplicitCall [] ∷
     r 27 33 28 (is.Fields (modifiers_of (modifier.Static ∷ []))) [] ∷ r 30 32 30 (is.TypeUse (Some primitive.Int) 0) [] ∷
     r 30 33 31 (is.Field (modifiers_of (modifier.Static ∷ [])) 0) (codes "x") ∷ [];
-  table = told ((15, Declared 7 None) ∷ (20, Declared 32 None) ∷ (21, Declared 26 None) ∷ (22, Package) ∷ (29, Declared 7 None) ∷ []);
+  targets = (15, Declared 7 None) ∷ (20, Declared 32 None) ∷ (21, Declared 26 None) ∷ (22, Package) ∷ (29, Declared 7 None) ∷ [];
 }
 
 -- 25
@@ -55,7 +55,7 @@ a_field_obscures_a_package = record {
     r 26 36 27 (is.Class bare false) (codes "B") ∷ r 29 36 29 is.Body [] ∷ r 30 33 30 is.DefaultConstructor [] ∷ r 31 33 31 is.ImplicitCall [] ∷
     r 30 36 31 (is.Fields (modifiers_of (modifier.Static ∷ []))) [] ∷ r 33 35 33 (is.TypeUse (Some primitive.Int) 0) [] ∷
     r 33 36 34 (is.Field (modifiers_of (modifier.Static ∷ [])) 0) (codes "x") ∷ [];
-  table = told ((15, Declared 7 None) ∷ (23, Unbound) ∷ (24, Unbound) ∷ (25, Declared 18 (Some 12)) ∷ (32, Declared 7 None) ∷ []);
+  targets = (15, Declared 7 None) ∷ (23, Unbound) ∷ (24, Unbound) ∷ (25, Declared 18 (Some 12)) ∷ (32, Declared 7 None) ∷ [];
 }
 
 -- 26
@@ -71,7 +71,7 @@ packages_need_no_unit = record {
     r 14 16 14 (is.TypeUse (Some primitive.Int) 0) [] ∷ r 14 21 15 is.Block [] ∷ r 16 21 16 is.Return [] ∷
     r 17 21 17 (is.Name kind.Variable place.Expression true) (codes "s") ∷ r 18 21 18 (is.Name kind.Ambiguous place.Qualifier true) (codes "r") ∷
     r 19 21 19 (is.Name kind.Ambiguous place.Qualifier false) (codes "q") ∷ [];
-  table = told ((13, Declared 7 None) ∷ (18, Unbound) ∷ (19, Package) ∷ (20, Package) ∷ []);
+  targets = (13, Declared 7 None) ∷ (18, Unbound) ∷ (19, Package) ∷ (20, Package) ∷ [];
 }
 
 -- 28
@@ -93,7 +93,7 @@ an_import_by_name_shadows_the_package = record {
     r 26 30 26 is.Body [] ∷ r 27 30 27 is.DefaultConstructor [] ∷ r 28 30 28 is.ImplicitCall [] ∷ r 0 37 23 is.Unit [] ∷ r 30 33 30 is.Package [] ∷
     r 31 33 31 (is.Name kind.Package place.Other false) (codes "q") ∷ r 30 37 31 (is.Class (modifiers_of (modifier.Public ∷ [])) false) (codes "B") ∷
     r 33 37 33 is.Body [] ∷ r 34 37 34 is.DefaultConstructor [] ∷ r 35 37 35 is.ImplicitCall [] ∷ [];
-  table = told ((13, Declared 33 None) ∷ (14, Package) ∷ (18, Declared 7 None) ∷ (21, Declared 33 None) ∷ (29, Declared 7 None) ∷ (36, Declared 7 None) ∷ []);
+  targets = (13, Declared 33 None) ∷ (14, Package) ∷ (18, Declared 7 None) ∷ (21, Declared 33 None) ∷ (29, Declared 7 None) ∷ (36, Declared 7 None) ∷ [];
 }
 
 -- 29
@@ -115,7 +115,7 @@ the_package_shadows_an_import_on_demand = record {
     r 26 29 26 is.DefaultConstructor [] ∷ r 27 29 27 is.ImplicitCall [] ∷ r 0 36 22 is.Unit [] ∷ r 29 32 29 is.Package [] ∷
     r 30 32 30 (is.Name kind.Package place.Other false) (codes "q") ∷ r 29 36 30 (is.Class (modifiers_of (modifier.Public ∷ [])) false) (codes "B") ∷
     r 32 36 32 is.Body [] ∷ r 33 36 33 is.DefaultConstructor [] ∷ r 34 36 34 is.ImplicitCall [] ∷ [];
-  table = told ((13, Package) ∷ (17, Declared 7 None) ∷ (20, Declared 25 None) ∷ (28, Declared 7 None) ∷ (35, Declared 7 None) ∷ []);
+  targets = (13, Package) ∷ (17, Declared 7 None) ∷ (20, Declared 25 None) ∷ (28, Declared 7 None) ∷ (35, Declared 7 None) ∷ [];
 }
 
 -- 30
@@ -134,7 +134,7 @@ an_import_on_demand = record {
     r 18 22 19 (is.Field bare 0) (codes "b") ∷ r 0 29 9 is.Unit [] ∷ r 22 25 22 is.Package [] ∷
     r 23 25 23 (is.Name kind.Package place.Other false) (codes "q") ∷ r 22 29 23 (is.Class (modifiers_of (modifier.Public ∷ [])) false) (codes "B") ∷
     r 25 29 25 is.Body [] ∷ r 26 29 26 is.DefaultConstructor [] ∷ r 27 29 27 is.ImplicitCall [] ∷ [];
-  table = told ((13, Package) ∷ (17, Declared 7 None) ∷ (20, Declared 25 None) ∷ (28, Declared 7 None) ∷ []);
+  targets = (13, Package) ∷ (17, Declared 7 None) ∷ (20, Declared 25 None) ∷ (28, Declared 7 None) ∷ [];
 }
 
 -- 31
@@ -157,7 +157,7 @@ two_imports_on_demand = record {
     r 27 31 27 is.Body [] ∷ r 28 31 28 is.DefaultConstructor [] ∷ r 29 31 29 is.ImplicitCall [] ∷ r 0 38 24 is.Unit [] ∷ r 31 34 31 is.Package [] ∷
     r 32 34 32 (is.Name kind.Package place.Other false) (codes "r") ∷ r 31 38 32 (is.Class (modifiers_of (modifier.Public ∷ [])) false) (codes "B") ∷
     r 34 38 34 is.Body [] ∷ r 35 38 35 is.DefaultConstructor [] ∷ r 36 38 36 is.ImplicitCall [] ∷ [];
-  table = told ((13, Package) ∷ (15, Package) ∷ (19, Declared 7 None) ∷ (22, Ambiguous) ∷ (30, Declared 7 None) ∷ (37, Declared 7 None) ∷ []);
+  targets = (13, Package) ∷ (15, Package) ∷ (19, Declared 7 None) ∷ (22, Ambiguous) ∷ (30, Declared 7 None) ∷ (37, Declared 7 None) ∷ [];
 }
 
 -- 32
@@ -180,7 +180,7 @@ an_import_on_demand_brings_what_is_accessible = record {
     r 27 31 27 is.Body [] ∷ r 28 31 28 is.DefaultConstructor [] ∷ r 29 31 29 is.ImplicitCall [] ∷ r 0 38 24 is.Unit [] ∷ r 31 34 31 is.Package [] ∷
     r 32 34 32 (is.Name kind.Package place.Other false) (codes "r") ∷ r 31 38 32 (is.Class bare false) (codes "B") ∷ r 34 38 34 is.Body [] ∷
     r 35 38 35 is.DefaultConstructor [] ∷ r 36 38 36 is.ImplicitCall [] ∷ [];
-  table = told ((13, Package) ∷ (15, Package) ∷ (19, Declared 7 None) ∷ (22, Declared 27 None) ∷ (30, Declared 7 None) ∷ (37, Declared 7 None) ∷ []);
+  targets = (13, Package) ∷ (15, Package) ∷ (19, Declared 7 None) ∷ (22, Declared 27 None) ∷ (30, Declared 7 None) ∷ (37, Declared 7 None) ∷ [];
 }
 
 -- 33
@@ -197,7 +197,7 @@ no_name_for_types_of_the_unnamed_package = record {
     r 15 17 15 (is.Name kind.Package place.Other false) (codes "p") ∷ r 14 25 15 (is.Class bare false) (codes "C") ∷ r 17 25 17 is.Body [] ∷
     r 18 21 18 is.DefaultConstructor [] ∷ r 19 21 19 is.ImplicitCall [] ∷ r 18 25 19 (is.Fields bare) [] ∷ r 21 24 21 (is.TypeUse None 0) [] ∷
     r 22 24 22 (is.Name kind.Type place.Other false) (codes "A") ∷ r 21 25 22 (is.Field bare 0) (codes "a") ∷ [];
-  table = told ((13, Declared 7 None) ∷ (20, Declared 7 None) ∷ (23, Unbound) ∷ []);
+  targets = (13, Declared 7 None) ∷ (20, Declared 7 None) ∷ (23, Unbound) ∷ [];
 }
 
 -- 34
@@ -220,7 +220,7 @@ a_static_import = record {
     r 23 39 26 (is.Class bare false) (codes "D") ∷ r 29 39 29 is.Body [] ∷ r 30 33 30 is.DefaultConstructor [] ∷ r 31 33 31 is.ImplicitCall [] ∷
     r 30 39 31 (is.Method bare false true) (codes "f") ∷ r 33 35 33 (is.TypeUse (Some primitive.Int) 0) [] ∷ r 33 39 34 is.Block [] ∷
     r 35 39 35 is.Return [] ∷ r 36 39 36 (is.Call on.Absent) (codes "m") ∷ r 37 39 37 (is.Literal (token.Int (pos 1))) [] ∷ [];
-  table = told ((15, Declared 7 None) ∷ (22, Declared 18 None) ∷ (27, Declared 12 None) ∷ (28, Package) ∷ (32, Declared 7 None) ∷ (37, Declared 16 None) ∷ []);
+  targets = (15, Declared 7 None) ∷ (22, Declared 18 None) ∷ (27, Declared 12 None) ∷ (28, Package) ∷ (32, Declared 7 None) ∷ (37, Declared 16 None) ∷ [];
 }
 
 -- 35
@@ -245,7 +245,7 @@ a_member_method_shadows_a_static_import = record {
     r 35 38 35 is.Return [] ∷ r 36 38 36 (is.Literal (token.Int (pos 0))) [] ∷ r 30 44 33 (is.Method bare false true) (codes "f") ∷
     r 38 40 38 (is.TypeUse (Some primitive.Int) 0) [] ∷ r 38 44 39 is.Block [] ∷ r 40 44 40 is.Return [] ∷ r 41 44 41 (is.Call on.Absent) (codes "m") ∷
     r 42 44 42 (is.Literal (token.Int (pos 1))) [] ∷ [];
-  table = told ((15, Declared 7 None) ∷ (22, Declared 18 None) ∷ (27, Declared 12 None) ∷ (28, Package) ∷ (32, Declared 7 None) ∷ (42, Unbound) ∷ []);
+  targets = (15, Declared 7 None) ∷ (22, Declared 18 None) ∷ (27, Declared 12 None) ∷ (28, Package) ∷ (32, Declared 7 None) ∷ (42, Unbound) ∷ [];
 }
 
 -- 36
@@ -270,7 +270,7 @@ a_member_does_not_pass_through_another_package = record {
     r 31 42 32 is.Body [] ∷ r 34 37 34 is.DefaultConstructor [] ∷ r 35 37 35 is.ImplicitCall [] ∷ r 34 42 35 (is.Method bare false true) (codes "f") ∷
     r 37 39 37 (is.TypeUse (Some primitive.Int) 0) [] ∷ r 37 42 38 is.Block [] ∷ r 39 42 39 is.Return [] ∷
     r 40 42 40 (is.Name kind.Variable place.Expression false) (codes "n") ∷ [];
-  table = told ((15, Declared 7 None) ∷ (23, Declared 12 None) ∷ (24, Package) ∷ (27, Declared 14 None) ∷ (32, Declared 22 None) ∷ (33, Package) ∷ (36, Declared 26 None) ∷ (41, Unbound) ∷ []);
+  targets = (15, Declared 7 None) ∷ (23, Declared 12 None) ∷ (24, Package) ∷ (27, Declared 14 None) ∷ (32, Declared 22 None) ∷ (33, Package) ∷ (36, Declared 26 None) ∷ (41, Unbound) ∷ [];
 }
 
 -- 37
@@ -296,7 +296,7 @@ a_protected_field_is_reached_through_the_subclass = record {
     r 36 38 36 (is.Name kind.Type place.Other false) (codes "B") ∷ r 30 45 35 is.Block [] ∷ r 38 45 38 is.Return [] ∷ r 39 45 39 (is.Binary y.Plus) [] ∷
     r 40 43 40 (is.Name kind.Variable place.Expression true) (codes "n") ∷ r 41 43 41 (is.Name kind.Ambiguous place.Qualifier false) (codes "b") ∷
     r 40 45 41 (is.Name kind.Variable place.Expression true) (codes "n") ∷ r 43 45 43 (is.Name kind.Ambiguous place.Qualifier false) (codes "a") ∷ [];
-  table = told ((15, Declared 7 None) ∷ (23, Declared 12 None) ∷ (24, Package) ∷ (26, Declared 12 None) ∷ (29, Declared 14 None) ∷ (34, Declared 12 None) ∷ (37, Declared 25 None) ∷ (41, Declared 18 None) ∷ (42, Declared 35 None) ∷ (43, Declared 18 None) ∷ (44, Declared 32 None) ∷ []);
+  targets = (15, Declared 7 None) ∷ (23, Declared 12 None) ∷ (24, Package) ∷ (26, Declared 12 None) ∷ (29, Declared 14 None) ∷ (34, Declared 12 None) ∷ (37, Declared 25 None) ∷ (41, Declared 18 None) ∷ (42, Declared 35 None) ∷ (43, Declared 18 None) ∷ (44, Declared 32 None) ∷ [];
 }
 
 -- 56
@@ -311,7 +311,7 @@ an_import_of_the_own_type = record {
     r 9 15 10 (is.Import importing.Single) [] ∷ r 12 15 12 (is.Name kind.Type place.Other true) (codes "A") ∷
     r 13 15 13 (is.Name kind.PackageOrType place.Qualifier false) (codes "p") ∷ r 9 19 12 (is.Class bare false) (codes "A") ∷ r 15 19 15 is.Body [] ∷
     r 16 19 16 is.DefaultConstructor [] ∷ r 17 19 17 is.ImplicitCall [] ∷ [];
-  table = told ((13, Declared 15 None) ∷ (14, Package) ∷ (18, Declared 7 None) ∷ []);
+  targets = (13, Declared 15 None) ∷ (14, Package) ∷ (18, Declared 7 None) ∷ [];
 }
 
 -- 61
@@ -330,5 +330,5 @@ two_types_of_one_package = record {
     r 21 23 21 (is.Name kind.Package place.Other false) (codes "p") ∷ r 20 31 21 (is.Class bare false) (codes "A") ∷ r 23 31 23 is.Body [] ∷
     r 24 27 24 is.DefaultConstructor [] ∷ r 25 27 25 is.ImplicitCall [] ∷ r 24 31 25 (is.Fields bare) [] ∷ r 27 30 27 (is.TypeUse None 0) [] ∷
     r 28 30 28 (is.Name kind.Type place.Other false) (codes "A") ∷ r 27 31 28 (is.Field bare 0) (codes "b") ∷ [];
-  table = told ((15, Declared 7 None) ∷ (18, Ambiguous) ∷ (26, Declared 7 None) ∷ (29, Ambiguous) ∷ []);
+  targets = (15, Declared 7 None) ∷ (18, Ambiguous) ∷ (26, Declared 7 None) ∷ (29, Ambiguous) ∷ [];
 }

@@ -4,4 +4,4 @@ pub mod Fields
 pub mod Imports
 pub mod Calls
 pub mod Creations
-pub mod Values
+pub mod Constants

@@ -13,7 +13,7 @@ use Rattle.jr_rows.specs.declared.label.NamePlace.TheVariants as place
 use Rattle.jr_rows.specs.declared.label.ReceiverKind.TheVariants as on
 use Rattle.jr_rows.specs.Decls.{modifiers_of}
 use Rattle.jr_defs.specs.declared.referent.Referent.TheVariants.{Unbound, Ambiguous, ArrayLength, Package, Declared}
-use Rattle.jr_worked.specs.Tables.{Worked, r, bare, told}
+use Rattle.jr_worked.specs.Tables.{Worked, r, bare}
 
 -- 1
 -- A.java: class A { int /*1*/x; int f(int /*2*/x) { return x; } }
@@ -29,7 +29,7 @@ a_parameter_hides_a_field = record {
     r 17 19 17 (is.TypeUse (Some primitive.Int) 0) [] ∷ r 17 21 18 (is.Parameter false 0) (codes "x") ∷
     r 19 21 19 (is.TypeUse (Some primitive.Int) 0) [] ∷ r 17 24 19 is.Block [] ∷ r 21 24 21 is.Return [] ∷
     r 22 24 22 (is.Name kind.Variable place.Expression false) (codes "x") ∷ [];
-  table = told ((13, Declared 7 None) ∷ (23, Declared 19 None) ∷ []);
+  targets = (13, Declared 7 None) ∷ (23, Declared 19 None) ∷ [];
 }
 
 -- 2
@@ -46,7 +46,7 @@ a_field_is_in_scope_in_a_method = record {
     r 17 19 17 (is.TypeUse (Some primitive.Int) 0) [] ∷ r 17 21 18 (is.Parameter false 0) (codes "y") ∷
     r 19 21 19 (is.TypeUse (Some primitive.Int) 0) [] ∷ r 17 24 19 is.Block [] ∷ r 21 24 21 is.Return [] ∷
     r 22 24 22 (is.Name kind.Variable place.Expression false) (codes "x") ∷ [];
-  table = told ((13, Declared 7 None) ∷ (23, Declared 16 (Some 10)) ∷ []);
+  targets = (13, Declared 7 None) ∷ (23, Declared 16 (Some 10)) ∷ [];
 }
 
 -- 3
@@ -62,7 +62,7 @@ a_local_is_in_scope_in_its_own_initializer = record {
     r 14 16 14 (is.TypeUse (Some primitive.Int) 0) [] ∷ r 14 24 15 is.Block [] ∷ r 16 22 16 is.Locals [] ∷
     r 17 19 17 (is.TypeUse (Some primitive.Int) 0) [] ∷ r 17 22 18 (is.Local false 0) (codes "x") ∷ r 19 22 19 is.Value [] ∷
     r 20 22 20 (is.Name kind.Variable place.Expression false) (codes "x") ∷ r 16 24 17 is.Return [] ∷ r 22 24 22 (is.Literal (token.Int (pos 0))) [] ∷ [];
-  table = told ((13, Declared 7 None) ∷ (21, Declared 19 None) ∷ []);
+  targets = (13, Declared 7 None) ∷ (21, Declared 19 None) ∷ [];
 }
 
 -- 4
@@ -81,7 +81,7 @@ a_field_before_a_later_local = record {
     r 23 25 23 (is.Name kind.Variable place.Expression false) (codes "x") ∷ r 19 30 20 is.Locals [] ∷
     r 25 27 25 (is.TypeUse (Some primitive.Int) 0) [] ∷ r 25 30 26 (is.Local false 0) (codes "x") ∷ r 27 30 27 is.Value [] ∷
     r 28 30 28 (is.Literal (token.Int (pos 1))) [] ∷ r 19 32 25 is.Return [] ∷ r 30 32 30 (is.Name kind.Variable place.Expression false) (codes "x") ∷ [];
-  table = told ((13, Declared 7 None) ∷ (24, Declared 16 (Some 10)) ∷ (31, Declared 27 None) ∷ []);
+  targets = (13, Declared 7 None) ∷ (24, Declared 16 (Some 10)) ∷ (31, Declared 27 None) ∷ [];
 }
 
 -- 5
@@ -99,7 +99,7 @@ a_local_in_the_next_initializer = record {
     r 20 22 20 (is.Literal (token.Int (pos 1))) [] ∷ r 17 25 19 (is.Local false 0) (codes "b") ∷ r 22 25 22 is.Value [] ∷
     r 23 25 23 (is.Name kind.Variable place.Expression false) (codes "a") ∷ r 16 27 17 is.Return [] ∷
     r 25 27 25 (is.Name kind.Variable place.Expression false) (codes "b") ∷ [];
-  table = told ((13, Declared 7 None) ∷ (24, Declared 19 None) ∷ (26, Declared 22 None) ∷ []);
+  targets = (13, Declared 7 None) ∷ (24, Declared 19 None) ∷ (26, Declared 22 None) ∷ [];
 }
 
 -- 6
@@ -120,7 +120,7 @@ a_local_of_a_for_header = record {
     r 29 32 29 (is.Call on.Absent) (codes "g") ∷ r 30 32 30 (is.Name kind.Variable place.Expression false) (codes "i") ∷
     r 11 36 14 (is.Method bare true true) (codes "g") ∷ r 32 35 32 (is.Parameter false 0) (codes "k") ∷
     r 33 35 33 (is.TypeUse (Some primitive.Int) 0) [] ∷ r 32 36 33 is.Block [] ∷ [];
-  table = told ((13, Declared 7 None) ∷ (23, Declared 19 None) ∷ (26, Declared 19 None) ∷ (30, Declared 32 (Some 10)) ∷ (31, Declared 19 None) ∷ []);
+  targets = (13, Declared 7 None) ∷ (23, Declared 19 None) ∷ (26, Declared 19 None) ∷ (30, Declared 32 (Some 10)) ∷ (31, Declared 19 None) ∷ [];
 }
 
 -- 7
@@ -138,7 +138,7 @@ a_field_behind_a_for = record {
     r 20 25 21 (is.Local false 0) (codes "i") ∷ r 22 25 22 is.Value [] ∷ r 23 25 23 (is.Literal (token.Int (pos 0))) [] ∷ r 19 27 20 is.Nest [] ∷
     r 25 27 25 is.Block [] ∷ r 18 31 19 is.Eval [] ∷ r 27 31 27 (is.Assign y.Assign) [] ∷
     r 28 30 28 (is.Name kind.Variable place.Expression false) (codes "i") ∷ r 28 31 29 (is.Literal (token.Int (pos 1))) [] ∷ [];
-  table = told ((13, Declared 7 None) ∷ (29, Declared 16 (Some 10)) ∷ []);
+  targets = (13, Declared 7 None) ∷ (29, Declared 16 (Some 10)) ∷ [];
 }
 
 -- 8
@@ -157,7 +157,7 @@ a_local_of_an_earlier_switch_group = record {
     r 23 28 24 (is.Local false 0) (codes "x") ∷ r 25 28 25 is.Value [] ∷ r 26 28 26 (is.Literal (token.Int (pos 1))) [] ∷ r 18 35 20 is.Group [] ∷
     r 28 31 28 is.Case [] ∷ r 29 31 29 (is.Literal (token.Int (pos 2))) [] ∷ r 28 35 29 is.Eval [] ∷ r 31 35 31 (is.Assign y.Assign) [] ∷
     r 32 34 32 (is.Name kind.Variable place.Expression false) (codes "x") ∷ r 32 35 33 (is.Literal (token.Int (pos 2))) [] ∷ [];
-  table = told ((13, Declared 7 None) ∷ (19, Declared 15 None) ∷ (33, Declared 25 None) ∷ []);
+  targets = (13, Declared 7 None) ∷ (19, Declared 15 None) ∷ (33, Declared 25 None) ∷ [];
 }
 
 -- 9
@@ -176,7 +176,7 @@ a_parameter_of_a_catch = record {
     r 24 26 24 (is.Name kind.Type place.Other false) (codes "Exception") ∷ r 22 31 23 is.Block [] ∷ r 26 31 26 is.Eval [] ∷
     r 27 31 27 (is.Assign y.Assign) [] ∷ r 28 30 28 (is.Name kind.Variable place.Expression false) (codes "e") ∷
     r 28 31 29 (is.Literal (token.Word word.Null)) [] ∷ [];
-  table = told ((12, Declared 7 None) ∷ (17, Declared 7 None) ∷ (25, Declared 9 None) ∷ (29, Declared 23 None) ∷ []);
+  targets = (12, Declared 7 None) ∷ (17, Declared 7 None) ∷ (25, Declared 9 None) ∷ (29, Declared 23 None) ∷ [];
 }
 
 -- 10
@@ -192,7 +192,7 @@ labels_do_not_shadow = record {
     r 15 27 15 is.Labeled (codes "x") ∷ r 16 27 16 is.While [] ∷ r 17 19 17 (is.Literal (token.Word word.True)) [] ∷ r 17 27 18 is.Nest [] ∷
     r 19 27 19 is.Block [] ∷ r 20 27 20 is.Labeled (codes "x") ∷ r 21 27 21 is.While [] ∷ r 22 24 22 (is.Literal (token.Word word.True)) [] ∷
     r 22 27 23 is.Nest [] ∷ r 24 27 24 is.Block [] ∷ r 25 27 25 (is.Break true) (codes "x") ∷ [];
-  table = told ((13, Declared 7 None) ∷ (26, Ambiguous) ∷ []);
+  targets = (13, Declared 7 None) ∷ (26, Ambiguous) ∷ [];
 }
 
 -- 57
@@ -209,5 +209,5 @@ two_parameters_of_one_name = record {
     r 16 18 16 (is.TypeUse (Some primitive.Int) 0) [] ∷ r 14 20 16 (is.Parameter false 0) (codes "a") ∷
     r 18 20 18 (is.TypeUse (Some primitive.Int) 0) [] ∷ r 14 23 18 is.Block [] ∷ r 20 23 20 is.Return [] ∷
     r 21 23 21 (is.Name kind.Variable place.Expression false) (codes "a") ∷ [];
-  table = told ((13, Declared 7 None) ∷ (22, Ambiguous) ∷ []);
+  targets = (13, Declared 7 None) ∷ (22, Ambiguous) ∷ [];
 }

@@ -1,8 +1,8 @@
-//! The worked programs of the definitions: what the plain functions of `jr_plain` give for each of their names.
+//! The worked programs of the definitions: what each of their names refers to, and that this is what lookup gives.
 #![tactic(auto)]
 
 mod law;
 
 pub use law::{
-    worked_calls, worked_creations, worked_fields, worked_imports, worked_locals, worked_values,
+    worked_calls, worked_constants, worked_creations, worked_fields, worked_imports, worked_locals,
 };

@@ -13,7 +13,7 @@ use Rattle.jr_rows.specs.declared.label.NamePlace.TheVariants as place
 use Rattle.jr_rows.specs.declared.label.ReceiverKind.TheVariants as on
 use Rattle.jr_rows.specs.Decls.{modifiers_of}
 use Rattle.jr_defs.specs.declared.referent.Referent.TheVariants.{Unbound, Ambiguous, ArrayLength, Package, Declared}
-use Rattle.jr_worked.specs.Tables.{Worked, r, bare, told}
+use Rattle.jr_worked.specs.Tables.{Worked, r, bare}
 
 -- 50
 -- A.java: class A { final int x = 1; int f(int y) { switch (y) { case x: return 1; } return 0; } }
@@ -32,7 +32,7 @@ a_constant_label = record {
     r 24 26 24 (is.Name kind.Variable place.Expression false) (codes "y") ∷ r 24 31 25 is.Group [] ∷ r 26 29 26 is.Case [] ∷
     r 27 29 27 (is.Name kind.Variable place.Expression false) (codes "x") ∷ r 26 31 27 is.Return [] ∷ r 29 31 29 (is.Literal (token.Int (pos 1))) [] ∷
     r 23 33 24 is.Return [] ∷ r 31 33 31 (is.Literal (token.Int (pos 0))) [] ∷ [];
-  table = told ((13, Declared 7 None) ∷ (25, Declared 21 None) ∷ (28, Declared 16 (Some 10)) ∷ []);
+  targets = (13, Declared 7 None) ∷ (25, Declared 21 None) ∷ (28, Declared 16 (Some 10)) ∷ [];
 }
 
 -- 50
@@ -52,7 +52,7 @@ a_label_through_this = record {
     r 24 26 24 (is.Name kind.Variable place.Expression false) (codes "y") ∷ r 24 32 25 is.Group [] ∷ r 26 30 26 is.Case [] ∷
     r 27 30 27 is.Select (codes "x") ∷ r 28 30 28 (is.This false) [] ∷ r 26 32 27 is.Return [] ∷ r 30 32 30 (is.Literal (token.Int (pos 1))) [] ∷
     r 23 34 24 is.Return [] ∷ r 32 34 32 (is.Literal (token.Int (pos 0))) [] ∷ [];
-  table = told ((13, Declared 7 None) ∷ (25, Declared 21 None) ∷ (28, Declared 16 None) ∷ []);
+  targets = (13, Declared 7 None) ∷ (25, Declared 21 None) ∷ (28, Declared 16 None) ∷ [];
 }
 
 -- 51
@@ -70,7 +70,7 @@ variables_that_need_each_other = record {
     r 11 24 14 (is.Fields (modifiers_of (modifier.Final ∷ []))) [] ∷ r 19 21 19 (is.TypeUse (Some primitive.Int) 0) [] ∷
     r 19 24 20 (is.Field (modifiers_of (modifier.Final ∷ [])) 0) (codes "y") ∷ r 21 24 21 is.Value [] ∷
     r 22 24 22 (is.Name kind.Variable place.Expression false) (codes "x") ∷ [];
-  table = told ((13, Declared 7 None) ∷ (18, Declared 21 (Some 10)) ∷ (23, Declared 16 (Some 10)) ∷ []);
+  targets = (13, Declared 7 None) ∷ (18, Declared 21 (Some 10)) ∷ (23, Declared 16 (Some 10)) ∷ [];
 }
 
 -- 52
@@ -92,7 +92,7 @@ a_choice_of_byte_and_char = record {
     r 24 32 25 (is.Field (modifiers_of (modifier.Static ∷ modifier.Final ∷ [])) 0) (codes "d") ∷ r 26 32 26 is.Value [] ∷ r 27 32 27 is.Conditional [] ∷
     r 28 30 28 (is.Literal (token.Word word.True)) [] ∷ r 28 31 29 (is.Name kind.Variable place.Expression false) (codes "b") ∷
     r 28 32 30 (is.Name kind.Variable place.Expression false) (codes "c") ∷ [];
-  table = told ((13, Declared 7 None) ∷ (30, Declared 16 (Some 10)) ∷ (31, Declared 21 (Some 10)) ∷ []);
+  targets = (13, Declared 7 None) ∷ (30, Declared 16 (Some 10)) ∷ (31, Declared 21 (Some 10)) ∷ [];
 }
 
 -- 60
@@ -110,5 +110,5 @@ an_object_is_no_string = record {
     r 20 22 20 (is.Name kind.Type place.Other false) (codes "Object") ∷ r 18 27 19 is.Block [] ∷ r 22 27 22 is.Eval [] ∷
     r 23 27 23 (is.Assign y.PlusAssign) [] ∷ r 24 26 24 (is.Name kind.Variable place.Expression false) (codes "o") ∷
     r 24 27 25 (is.Literal (token.Str (codes "a"))) [] ∷ [];
-  table = told ((12, Declared 7 None) ∷ (17, Declared 7 None) ∷ (21, Declared 5 None) ∷ (25, Declared 19 None) ∷ []);
+  targets = (12, Declared 7 None) ∷ (17, Declared 7 None) ∷ (21, Declared 5 None) ∷ (25, Declared 19 None) ∷ [];
 }
