@@ -1,0 +1,24 @@
+use Rattle.std.proofs.Common.{refl, Some}
+use Rattle.jr_defs.specs.Types.{class_type}
+use Rattle.jr_plain.proofs.Accessed.{accessible_tells}
+use Rattle.jr_plain.proofs.Declared.{occurrence_tells, part_tells}
+use Rattle.jr_plain.proofs.Imported.{single_import_tells}
+use Rattle.jr_plain.proofs.Instanced.{static_context_tells}
+use Rattle.jr_plain.proofs.Modified.{public_tells, static_tells}
+use Rattle.jr_worked.specs.Tables.{rows_of, table_of}
+use Rattle.jr_worked.proofs.Checked.{looked_up, typable_of, constant_is, no_constant, type_is, no_type, no}
+use Rattle.jr_worked.specs.Creations as creations
+use Rattle.jr_worked.proofs.law.worked_creations.Goals as goal
+
+pub returns : goal.returns
+returns c = record {
+  an_inherited_inner_class = looked_up creations.an_inherited_inner_class refl;
+  an_inner_class_of_no_enclosing_one = looked_up creations.an_inner_class_of_no_enclosing_one refl;
+  a_default_constructor = looked_up creations.a_default_constructor refl;
+  no_constructor_for_the_implicit_call = looked_up creations.no_constructor_for_the_implicit_call refl;
+  a_constructor_of_another_name = looked_up creations.a_constructor_of_another_name refl;
+  a_class_of_an_interface = looked_up creations.a_class_of_an_interface refl;
+  a_class_of_an_interface_the_constructor_is_public = (public_tells (rows_of creations.a_class_of_an_interface) 16).0 refl;
+  a_private_inner_class = looked_up creations.a_private_inner_class refl;
+  a_protected_constructor = looked_up creations.a_protected_constructor refl;
+}
