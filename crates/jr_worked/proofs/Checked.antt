@@ -287,8 +287,9 @@ typable_of w passes = typable_from w.rows w.targets ((right_tells w).0 passes).0
 module _ (p : Rows) (t : Table) (typable : IsTypable p t) where
   values_find : (n : ℕ) → Finds (values p t n) (λ v. Constant p t n v)
   values_find n v = (
-      λ e. constant_wider p t (Picked (has_constant_form p t)) (HasConstantForm p t) (λ m. (constant_form_tells p t m).0) n v ((constants_find p t (has_constant_form p t) typable n v).0 e),
-      λ h. (constants_find p t (has_constant_form p t) typable n v).1 (constant_wider p t (HasConstantForm p t) (Picked (has_constant_form p t)) (λ m. (constant_form_tells p t m).1) n v h))
+    λ e. constant_wider p t (Picked (has_constant_form p t)) (HasConstantForm p t) (λ m. (constant_form_tells p t m).0) n v ((constants_find p t (has_constant_form p t) typable n v).0 e),
+    λ h. (constants_find p t (has_constant_form p t) typable n v).1 (constant_wider p t (HasConstantForm p t) (Picked (has_constant_form p t)) (λ m. (constant_form_tells p t m).1) n v h),
+  )
 
   types_find : (n : ℕ) → Finds (types_of p t n) (λ a. TypeOf p t (HasConstantForm p t) n a)
   types_find = expression_finds p t typable (HasConstantForm p t) (values p t) values_find
