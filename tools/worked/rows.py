@@ -3,7 +3,8 @@
 
 Usage, in crates/jr_outline: `python3 ../../tools/worked/rows.py`. It runs `rt try jr_outline`, whose answer it keeps in the file
 that is named behind it, if any, and writes crates/jr_worked/specs/GROUP.antt, src/law.rt and
-proofs/law. What names refer to comes from programs.txt alone; the rows come from the parser."""
+proofs/law. What names refer to comes from programs.txt alone; the rows come from the parser.
+Then `rt tidy` in crates/jr_worked takes out the imports that nothing uses."""
 import os
 import re
 import subprocess

@@ -1,7 +1,7 @@
 -- A test of a program with a table: where it passes, each row refers to what lookup gives.
-use Rattle.std.proofs.Common.{◌≡◌, ◌⊎◌, refl, sym, ◌∙◌, ap, subst, inl, inr, ⊎_elim, arith, ℕ, zero, suc, ◌+◌, ◌<◌, ◌≤◌, Bool, true, false, cond, not, ◌&&◌, ◌||◌, List, [], ◌∷◌, length, Option, Some, None, nat_eq, nat_lt, nat_le, Decides}
+use Rattle.std.proofs.Common.{◌≡◌, ◌⊎◌, refl, sym, ◌∙◌, ap, subst, inl, inr, ⊎_elim, arith, ℕ, ◌+◌, ◌<◌, ◌≤◌, Bool, true, false, cond, not, ◌&&◌, ◌||◌, List, [], ◌∷◌, length, Option, Some, None, nat_eq, nat_lt, nat_le, Decides}
 use Rattle.std.specs.List.{list_all}
-use Rattle.std.proofs.lemmas.Bool.{false≢true, cases_lt}
+use Rattle.std.proofs.lemmas.Bool.{cases_lt}
 use Rattle.std.proofs.lemmas.Bool.Decides.{Decides-eqb, Decides-ltb}
 use Rattle.jr_ty.specs.declared.constant.Const.{Const}
 use Rattle.jr_rows.specs.declared.label.Label.{Label}
@@ -10,7 +10,7 @@ use Rattle.jr_rows.specs.Labels.{sought_by}
 use Rattle.jr_rows.specs.Rows.{Rows, label, name, parent, end, previous, sought_at}
 use Rattle.jr_rows.specs.Tree.{IsTree}
 use Rattle.jr_defs.specs.declared.referent.Referent.{Referent}
-use Rattle.jr_defs.specs.declared.referent.Referent.TheVariants.{Unbound, Ambiguous, ArrayLength, Package, Declared}
+use Rattle.jr_defs.specs.declared.referent.Referent.TheVariants.{Unbound, ArrayLength, Declared}
 use Rattle.jr_defs.specs.declared.referent.RowType.{RowType}
 use Rattle.jr_defs.specs.Referents.{Table}
 use Rattle.jr_defs.specs.Declarations.{IsType, IsString, IsVariable}
@@ -30,9 +30,9 @@ use Rattle.jr_plain.specs.Conversions.{Constants}
 use Rattle.jr_plain.specs.Constants.{constants, has_constant_form}
 use Rattle.jr_plain.specs.Typing.{IsVariableLabel, IsTypable, expression_types}
 use Rattle.jr_plain.specs.Lookup.{look, look_for}
-use Rattle.jr_plain.proofs.Tests.{both, either, opposite, implies, like, always, never, itself}
+use Rattle.jr_plain.proofs.Tests.{both, either, implies, always, never, itself}
 use Rattle.jr_plain.proofs.Searches.{all, every_of}
-use Rattle.jr_plain.proofs.Bounds.{label_past, bounded, row_past}
+use Rattle.jr_plain.proofs.Bounds.{label_past, row_past}
 use Rattle.jr_plain.proofs.Same.{referent_tells}
 use Rattle.jr_plain.proofs.Enclosed.{most}
 use Rattle.jr_plain.proofs.Declared.{type_tells, string_tells, variable_tells}

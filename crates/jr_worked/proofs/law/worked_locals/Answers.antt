@@ -1,12 +1,5 @@
-use Rattle.std.proofs.Common.{refl, Some}
-use Rattle.jr_defs.specs.Types.{class_type}
-use Rattle.jr_plain.proofs.Accessed.{accessible_tells}
-use Rattle.jr_plain.proofs.Declared.{occurrence_tells, part_tells}
-use Rattle.jr_plain.proofs.Imported.{single_import_tells}
-use Rattle.jr_plain.proofs.Instanced.{static_context_tells}
-use Rattle.jr_plain.proofs.Modified.{public_tells, static_tells}
-use Rattle.jr_worked.specs.Tables.{rows_of, table_of}
-use Rattle.jr_worked.proofs.Checked.{looked_up, typable_of, constant_is, no_constant, type_is, no_type, no}
+use Rattle.std.proofs.Common.{refl}
+use Rattle.jr_worked.proofs.Checked.{looked_up}
 use Rattle.jr_worked.specs.Locals as locals
 use Rattle.jr_worked.proofs.law.worked_locals.Goals as goal
 
