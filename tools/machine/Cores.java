@@ -188,6 +188,10 @@ class Cores {
             put("eval");
             count = 1;
         }
+        if (tree.sym.getConstValue() != null) {
+            constant(tree.sym.getConstValue(), tree.sym.type);
+            put("constant");
+        }
         type(tree.sym.type);
         long flags = current.isInterface() ? Flags.STATIC : tree.sym.flags();
         body(decl(tree.sym), count, flags);

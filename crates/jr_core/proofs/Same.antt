@@ -243,7 +243,7 @@ tree_plain_codes (a ∷ all) = rw (tree_plain_code a, tree_plain_codes all) refl
 -- ---- bodies and cores
 
 abbrev pub tree_body : m.Body → declared_body.Body
-tree_body b = record { decl = b.decl; class = b.class; is_static = b.is_static; is_native = b.is_native; ty = tree_ty b.ty; params = b.params; code = tree_codes b.code }
+tree_body b = record { decl = b.decl; class = b.class; is_static = b.is_static; is_native = b.is_native; ty = tree_ty b.ty; constant = b.constant; params = b.params; code = tree_codes b.code }
 
 pub plain_tree_body : (b : m.Body) → m.plain_body (tree_body b) ≡ b
 plain_tree_body b = rw (plain_tree_ty b.ty, plain_tree_codes b.code) refl

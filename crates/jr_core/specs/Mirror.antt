@@ -185,6 +185,7 @@ pub record Body : Type 0 where
   pub is_static : Bool
   pub is_native : Bool
   pub ty : Ty
+  pub constant : Option Const
   pub params : List DeclId
   pub code : Codes
 
@@ -193,7 +194,7 @@ pub record Core : Type 0 where
   pub bodies : List Body
 
 abbrev pub plain_body : declared_body.Body → Body
-plain_body b = record { decl = b.decl; class = b.class; is_static = b.is_static; is_native = b.is_native; ty = plain_ty b.ty; params = b.params; code = plain_codes b.code }
+plain_body b = record { decl = b.decl; class = b.class; is_static = b.is_static; is_native = b.is_native; ty = plain_ty b.ty; constant = b.constant; params = b.params; code = plain_codes b.code }
 
 abbrev pub plain_core : declared_core.Core → Core
 plain_core c = record { classes = c.classes; bodies = map plain_body c.bodies }

@@ -2,7 +2,7 @@
 
 use crate::Code;
 use jr_base::{DeclId, Items, TypeId};
-use jr_ty::Ty;
+use jr_ty::{Const, Ty};
 
 /// A class or an interface (JLS 8.1, 9.1).
 #[derive(Drop)]
@@ -30,6 +30,8 @@ pub struct Body {
     pub is_native: bool,
     /// The type of the result or of the field, and `void` where there is none.
     pub ty: Ty,
+    /// The value of a field that is a constant variable (JLS 4.12.4).
+    pub constant: Option<Const>,
     /// The parameters in order.
     pub params: Items<DeclId>,
     /// The statements; of a field with an initializer the one assignment to it.

@@ -20,7 +20,7 @@ use Rattle.jr_machine_defs.specs.declared.outcome.Placed.TheVariants as pl
 use Rattle.jr_machine_defs.specs.declared.state.State.{State}
 use Rattle.jr_machine_defs.specs.Values.{value_of, default_of}
 use Rattle.jr_machine_defs.specs.Classes.{body_in}
-use Rattle.jr_machine_defs.specs.Places.{static_value, field_of_cell, field_of, with_field_set, stored, set_field, place_in, item_of_cell, item_of, fits_item, fitting, place_of, item_place, with_item_set, placed, set_item, without_receiver, set_static, store_field, store, read_field, read_item, read_old_field, read_old_item, read_old, length_of_cell, length_of}
+use Rattle.jr_machine_defs.specs.Places.{static_value, field_of_cell, field_of, with_field_set, stored, set_field, place_in, item_of_cell, item_of, fits_item, fitting, place_of, item_place, with_item_set, placed, set_item, without_receiver, set_static, store_field, store, value_read, read_field, read_item, read_old_field, read_old_item, read_old, length_of_cell, length_of}
 use Rattle.jr_machine_defs.specs.States.{Next, with_heap, push_value, settled, with_outcome}
 use Rattle.jr_machine_defs.specs.Renamed.{IsRenaming, renamed_type, renamed_ty, renamed_code, renamed_any_code, renamed_body, renamed_core, renamed_slot, renamed_cell, renamed_state}
 use Rattle.jr_machine_defs.proofs.RenamedValues.{value_of_renamed, assigned_renamed, default_renamed}
@@ -158,10 +158,14 @@ module _ (f : DeclId → DeclId) (p : IsRenaming f) where
   read_field_alike None on field s = stops
   read_field_alike (Some b) on field s =
       if_on b.is_static
-      (without_receiver_alike on s (λ s. Some (push_value (static_value (renamed_body f b) s.statics (f field)) s)) (λ s. Some (push_value (static_value b s.statics field) s))
-      (λ s. goes (ap (λ x. push_value x (renamed_state f s)) (static_value_renamed b s.statics field))))
-      (one_alike s.frame.values s (λ object s. settled (field_of (renamed_body f b) (f field) s.heap object) s) (λ object s. settled (field_of b field s.heap object) s)
-      (λ object s. settles f p (field_of b field s.heap object) s (field_of_renamed b field s.heap object)))
+      (without_receiver_alike on s (λ s. Some (push_value (value_read b.constant (static_value (renamed_body f b) s.statics (f field))) s))
+      (λ s. Some (push_value (value_read b.constant (static_value b s.statics field)) s))
+      (λ s. goes (ap (λ x. push_value (value_read b.constant x) (renamed_state f s)) (static_value_renamed b s.statics field))))
+      (one_alike s.frame.values s
+      (λ object s. with_outcome (field_of (renamed_body f b) (f field) s.heap object) s (λ stored s. Some (push_value (value_read b.constant stored) s)))
+      (λ object s. with_outcome (field_of b field s.heap object) s (λ stored s. Some (push_value (value_read b.constant stored) s)))
+      (λ object s. outcome_same f p (field_of b field s.heap object) s (λ stored s. Some (push_value (value_read b.constant stored) s)) (λ stored s. Some (push_value (value_read b.constant stored) s))
+      (field_of_renamed b field s.heap object) (λ stored s. goes refl)))
 
   pub read_item_alike : (s : State) → Alike f (read_item (renamed_state f s)) (read_item s)
   read_item_alike s =

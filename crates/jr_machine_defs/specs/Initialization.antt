@@ -1,5 +1,6 @@
 -- Initialization of classes and of objects (JLS 12.4, 12.5).
 use Rattle.std.specs.Prelude.{Bool, true, false, not, ◌==◌, if◌then◌else◌, List, [], ◌∷◌, ◌++◌, Option, Some, None}
+use Rattle.std.specs.Option.{is_some}
 use Rattle.jr_base.specs.declared.ids.DeclId.{DeclId}
 use Rattle.jr_base.specs.declared.ids.TypeId.{TypeId}
 use Rattle.jr_core.specs.declared.bodies.Class.{Class}
@@ -59,6 +60,11 @@ abbrev pub static_class : Option Body → Option TypeId
 static_class None = None
 static_class (Some b) = if b.is_static then Some b.class else None
 
+-- the class of a static field that is read: reading a constant variable initializes no class (JLS 12.4.1, 13.1)
+abbrev pub read_class : Option Body → Option TypeId
+read_class None = None
+read_class (Some b) = if is_some b.constant then None else static_class (Some b)
+
 abbrev pub class_of_body : Option Body → Option TypeId
 class_of_body None = None
 class_of_body (Some b) = Some b.class
@@ -73,7 +79,7 @@ assigned_class core target (Some op) = None
 
 -- the class that the finishing item of this code initializes, if it has not begun: by a static call, an access to a static field, or a creation (JLS 12.4.1)
 abbrev pub used_class : Core → Code → Option TypeId
-used_class core (m.FieldAt on field) = static_class (body_in core field)
+used_class core (m.FieldAt on field) = read_class (body_in core field)
 used_class core (m.Call receiver is_super method args) = static_class (body_in core method)
 used_class core (m.New outer ctor args) = class_of_body (body_in core ctor)
 used_class core (m.Assign target op value) = assigned_class core target op

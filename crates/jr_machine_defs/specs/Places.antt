@@ -3,6 +3,7 @@ use Rattle.std.specs.Prelude.{ℕ, ◌<◌, Bool, true, false, if◌then◌else�
 use Rattle.std.specs.Option.{option_and_then}
 use Rattle.jr_base.specs.declared.ids.DeclId.{DeclId}
 use Rattle.jr_base.specs.declared.ids.TypeId.{TypeId}
+use Rattle.jr_ty.specs.declared.constant.Const.{Const}
 use Rattle.jr_ty.specs.Mirror as t
 use Rattle.jr_core.specs.Mirror as m
 use Rattle.jr_core.specs.Mirror.{Code, Core, Body}
@@ -19,6 +20,7 @@ use Rattle.jr_machine_defs.specs.declared.outcome.Placed.TheVariants as pl
 use Rattle.jr_machine_defs.specs.declared.state.State.{State}
 use Rattle.jr_machine_defs.specs.Values.{value_of, assigned, default_of}
 use Rattle.jr_machine_defs.specs.Classes.{body_in, is_instance}
+use Rattle.jr_machine_defs.specs.Parts.{literal}
 use Rattle.jr_machine_defs.specs.Strings.{int_of_count}
 use Rattle.jr_machine_defs.specs.States.{Next, with_one, with_two, with_outcome, settled, with_heap, push_value, raises, set_local}
 
@@ -143,11 +145,17 @@ store core target value outcome s = None
 
 -- ---- reading
 
+-- what a read of a field gives: of a constant variable always its value, and of another one the value that is stored (JLS 4.12.4, 13.1)
+abbrev pub value_read : Option Const → Value → Value
+value_read None stored = stored
+value_read (Some value) stored = literal (Some value)
+
+-- a field is read, of the object on top if it is no static one; null is checked, also where the field is a constant variable (JLS 15.11.1)
 abbrev pub read_field : Option Body → m.AnyCode → DeclId → State → Next
 read_field None on field s = None
 read_field (Some b) on field s =
-    if b.is_static then without_receiver on s (λ s. Some (push_value (static_value b s.statics field) s))
-    else with_one s.frame.values s (λ object s. settled (field_of b field s.heap object) s)
+    if b.is_static then without_receiver on s (λ s. Some (push_value (value_read b.constant (static_value b s.statics field)) s))
+    else with_one s.frame.values s (λ object s. with_outcome (field_of b field s.heap object) s (λ stored s. Some (push_value (value_read b.constant stored) s)))
 
 abbrev pub read_item : State → Next
 read_item s = with_two s.frame.values s (λ array index s. settled (item_of s.heap array index) s)

@@ -149,6 +149,7 @@ renamed_body f b = record {
   is_static = b.is_static;
   is_native = b.is_native;
   ty = renamed_ty f b.ty;
+  constant = b.constant;
   params = map f b.params;
   code = renamed_codes f b.code;
 }

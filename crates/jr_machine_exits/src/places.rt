@@ -1,13 +1,14 @@
 // Fields and components of arrays: the checks, reading and writing (JLS 15.11, 15.13, 15.26).
-ghost use Rattle.std.specs.Prelude.{◌≡◌, IfOk, slice_get};
+ghost use Rattle.std.specs.Prelude.{◌≡◌, IfOk, Some, slice_get};
 ghost use Rattle.jr_ty.specs.Mirror.{plain_ty};
 ghost use Rattle.jr_core.specs.Mirror as m;
 ghost use Rattle.jr_core.specs.Mirror.{plain_code, plain_body};
 ghost use Rattle.jr_machine_defs.specs.Classes.{body_in};
-ghost use Rattle.jr_machine_defs.specs.Places.{static_value, field_of, item_at, item_of_cell, item_of, fits_item, item_place, with_field_set, with_item_set, set_field, set_item, placed, set_static, store_field, store, read_field, read_item, read_old_field, read_old_item, read_old, length_of};
-ghost use Rattle.jr_machine_defs.specs.States.{with_one, with_two, settled};
+ghost use Rattle.jr_machine_defs.specs.Places.{static_value, field_of, item_at, item_of_cell, item_of, fits_item, item_place, with_field_set, with_item_set, set_field, set_item, placed, set_static, store_field, store, value_read, read_field, read_item, read_old_field, read_old_item, read_old, length_of};
+ghost use Rattle.jr_machine_defs.specs.States.{with_one, with_two, with_outcome, push_value};
 ghost use Rattle.jr_machine_defs.specs.Follows.{Follows};
 
+use crate::parts::literal;
 use jr_base::{Boxed, DeclId, OutOfMemory, Units};
 use jr_core::{Body, Code};
 use jr_machine_defs::{Cell, Fault, Given, Outcome, Placed, Slot, State, Value};
@@ -15,7 +16,7 @@ use jr_machine_ops::{
     Program, assign, default_of, drop_receiver, give, int_of_count, place_in, push, push_value,
     raise, set_local, settle, value_of,
 };
-use jr_ty::Ty;
+use jr_ty::{Const, Ty};
 use std::alloc::Global;
 
 /// The value of a variable, or the default value of its type.
@@ -351,19 +352,32 @@ pub fn store<'a>(
     }
 }
 
+/// What a read of a field gives: of a constant variable its value, and of another one what is stored (JLS 4.12.4, 13.1).
+fn value_read<'a>(constant: &'a Option<Const>, stored: Value<'a>) -> Value<'a>
+    ensures { result ≡ value_read constant.entry.now stored.entry }
+{
+    match constant {
+        None => stored,
+        Some(_) => literal(constant),
+    }
+}
+
 fn read_instance<'a>(
     state: &mut State<'a>,
     alloc: Global,
-    body: &Body,
+    body: &'a Body,
     field: DeclId,
 ) -> Result<bool, OutOfMemory>
-    ensures { IfOk result (λ went. Follows (with_one state.old.frame.values state.old (λ object s. settled (field_of (plain_body body.now) field s.heap object) s)) went state.old state.new) }
+    ensures { IfOk result (λ went. Follows (with_one state.old.frame.values state.old (λ object s. with_outcome (field_of (plain_body body.entry.now) field s.heap object) s (λ stored s. Some (push_value (value_read (plain_body body.entry.now).constant stored) s)))) went state.old state.new) }
 {
     let Some(object) = state.frame.values.pop() else {
         return Ok(false);
     };
     let outcome = field_of(body, field, state.heap.as_slice(), &object);
-    settle(state, alloc, outcome)
+    match give(state, alloc, outcome)? {
+        Given::Done(went) => Ok(went),
+        Given::Value(stored) => push(state, value_read(&body.constant, stored)),
+    }
 }
 
 /// Reads a field (JLS 15.11).
@@ -385,8 +399,8 @@ pub fn read_field<'a>(
     if !drop_receiver(state, on) {
         return Ok(false);
     }
-    let value = value_or_default(state.statics.as_slice(), field, body);
-    push(state, value)
+    let stored = value_or_default(state.statics.as_slice(), field, body);
+    push(state, value_read(&body.constant, stored))
 }
 
 /// Reads a component of an array (JLS 15.13).

@@ -2,7 +2,7 @@
 ghost use Rattle.std.specs.Prelude.{◌≡◌, ◌∷◌, ◌++◌, OnOk, IfOk};
 ghost use Rattle.std.specs.Option.{option_copied, option_map};
 ghost use Rattle.jr_core.specs.Mirror.{plain_body, plain_code};
-ghost use Rattle.jr_machine_defs.specs.Initialization.{body_work, members_work, class_work, begin_work, parent_work, begins, static_class, class_of_body, target_class, assigned_class, used_class, first_use};
+ghost use Rattle.jr_machine_defs.specs.Initialization.{body_work, members_work, class_work, begin_work, parent_work, begins, static_class, read_class, class_of_body, target_class, assigned_class, used_class, first_use};
 ghost use Rattle.jr_machine_defs.specs.Calls.{slots_of, enters};
 
 use crate::codes::push_codes;
@@ -192,6 +192,20 @@ fn static_class(body: Option<&Body>) -> Option<TypeId>
     }
 }
 
+/// The class of a static field that is read; none where it is a constant variable (JLS 12.4.1, 13.1).
+fn read_class(body: Option<&Body>) -> Option<TypeId>
+    ensures { result ≡ read_class (option_map (λ b. plain_body b.now) body.entry) }
+{
+    match body {
+        None => None,
+        Some(body) => if body.constant.is_some() {
+            None
+        } else {
+            static_class(Some(body))
+        },
+    }
+}
+
 fn class_of_body(body: Option<&Body>) -> Option<TypeId>
     ensures { result ≡ class_of_body (option_map (λ b. plain_body b.now) body.entry) }
 {
@@ -226,7 +240,7 @@ impl<'a> Program<'a> {
         ensures { result ≡ used_class self.now (plain_code code.now) }
     {
         match code {
-            Code::FieldAt { field, .. } => static_class(self.body(*field)),
+            Code::FieldAt { field, .. } => read_class(self.body(*field)),
             Code::Call { method, .. } => static_class(self.body(*method)),
             Code::New { ctor, .. } => class_of_body(self.body(*ctor)),
             Code::Assign { target, op, .. } => self.assigned_class(target.get(), *op),

@@ -4,7 +4,7 @@ use crate::error::ReadError;
 use crate::line::Line;
 use jr_base::{DeclId, Items, TypeId};
 use jr_core::{Body, Class, Code};
-use jr_ty::Ty;
+use jr_ty::{Const, Ty};
 use std::alloc::Global;
 
 /// The parts of the class that is read.
@@ -66,8 +66,14 @@ impl Parts {
     }
 }
 
-/// A body of this type, with these parameters and this code: `body DECL CLASS COUNT`, and `static` or `native` behind.
-pub fn body(line: &Line<'_>, ty: Ty, params: Items<DeclId>, code: Items<Code>) -> Option<Body> {
+/// A body of this type, with this constant, these parameters and this code: `body DECL CLASS COUNT`, and `static` or `native` behind.
+pub fn body(
+    line: &Line<'_>,
+    ty: Ty,
+    constant: Option<Const>,
+    params: Items<DeclId>,
+    code: Items<Code>,
+) -> Option<Body> {
     let decl = line.decl(1)?;
     let class = line.class(2)?;
     Some(Body {
@@ -76,6 +82,7 @@ pub fn body(line: &Line<'_>, ty: Ty, params: Items<DeclId>, code: Items<Code>) -
         is_static: line.word(4) == "static" || line.word(5) == "static",
         is_native: line.word(4) == "native" || line.word(5) == "native",
         ty,
+        constant,
         params,
         code,
     })

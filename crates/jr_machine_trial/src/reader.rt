@@ -9,7 +9,7 @@ use crate::line::Line;
 use crate::shape::{Shape, shape_of};
 use jr_base::{Boxed, DeclId, Items};
 use jr_core::{Catch, Code, Core, Group, SwitchLabel};
-use jr_ty::Ty;
+use jr_ty::{Const, Ty};
 use std::alloc::Global;
 use std::mem;
 
@@ -29,6 +29,7 @@ pub struct Reader {
     groups: Vec<Group>,
     catches: Vec<Catch>,
     labels: Items<SwitchLabel>,
+    constant: Option<Const>,
     params: Items<DeclId>,
     parts: Parts,
     core: Core,
@@ -57,6 +58,7 @@ impl Reader {
             groups: Vec::new(alloc),
             catches: Vec::new(alloc),
             labels: Items::new(alloc),
+            constant: None,
             params: Items::new(alloc),
             parts: Parts::new(alloc),
             core: Core {
@@ -251,15 +253,29 @@ impl Reader {
         }
     }
 
-    /// `param DECL`, `body DECL CLASS COUNT ..`
+    /// The last literal is the value of the field that the next body is.
+    fn constant(&mut self) -> Result<(), ReadError> {
+        match self.codes.pop() {
+            Some(Code::Lit { value }) => {
+                self.constant = value;
+                Ok(())
+            }
+            _ => Err(ReadError::BadLine),
+        }
+    }
+
+    /// `param DECL`, `constant`, `body DECL CLASS COUNT ..`
     fn read_body(&mut self, alloc: Global, line: &Line<'_>) -> Result<(), ReadError> {
-        if line.word(0) == "param" {
-            return self.param(line);
+        match line.word(0) {
+            "param" => return self.param(line),
+            "constant" => return self.constant(),
+            _ => {}
         }
         let ty = self.ty()?;
+        let constant = mem::replace(&mut self.constant, None);
         let params = mem::replace(&mut self.params, Items::new(alloc));
         let code = take(alloc, &mut self.codes, line.count(3))?;
-        match body(line, ty, params, code) {
+        match body(line, ty, constant, params, code) {
             Some(body) => Ok(self.core.bodies.push(body)?),
             None => Err(ReadError::BadLine),
         }

@@ -72,7 +72,7 @@ pub fn shape_of(word: &str) -> Shape {
         "case" | "default" | "group" | "switch" => Shape::Switch,
         "catch" | "try" | "try_finally" => Shape::Try,
         "parent" | "face" | "outer" | "member" | "found" | "class" => Shape::Class,
-        "param" | "body" => Shape::Body,
+        "param" | "constant" | "body" => Shape::Body,
         "start" => Shape::Start,
         _ => Shape::Leaf,
     }
