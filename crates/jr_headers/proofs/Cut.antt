@@ -52,7 +52,7 @@ module _ (p : Rows) (formed : IsFormed p) where
   settled_headers_of h = ap (λ b. cond b (Some (plain.header_table p)) (plain.cut_headers p)) (settled_is.1 h)
 
   pub cycle_of_is : (c : ℕ) → plain.cycle_of p ≡ Some c → IsFirstOnCycle p c
-  cycle_of_is c = unless (plain.has_settled_headers p)
+  cycle_of_is c e = by (plain.cut_headers p) (λ all f. (cut_is all f, cut_past_all all f)) e
     where
       first : (t : Table) (h : OfHeaders p t) → IsFirst (λ c. IsType p c × HeaderPath p t h.settled_part c c) (length p) c → IsFirstOnCycle p c
       first t h w = record { table = t; of_headers = h; type = w.1.0; cycle = w.1.1; first = λ e k way lt. let le = w.2 e (k, way) in omega arith }
@@ -63,7 +63,3 @@ module _ (p : Rows) (formed : IsFormed p) where
       by (Some all) holds e = let h = (holds all refl).0 in first (entries all) h
           (subst (λ u. IsFirst (λ c. IsType p c × HeaderPath p (entries all) u c c) (length p) c) (sym (part_only p formed (entries all) (holds all refl).1 h))
           ((first_on_cycle_finds p (entries all) (entries (plain.settled_part p (entries all))) (headed p formed) c).0 e))
-
-      unless : (b : Bool) → cond b None (option_and_then (λ all. plain.first_cycle_under p (entries all)) (plain.cut_headers p)) ≡ Some c → IsFirstOnCycle p c
-      unless true e = absurd (none-some c e)
-      unless false e = by (plain.cut_headers p) (λ all f. (cut_is all f, cut_past_all all f)) e

@@ -14,3 +14,4 @@ pub mod Found
 pub mod Restricted
 pub mod Worked
 pub mod Cut
+pub mod Shadowing

@@ -18,7 +18,7 @@ class_a = d.Class [] (codes "A") (Some (record { parts = codes "B" ∷ [] })) []
 abbrev class_b : d.TypeDecl
 class_b = d.Class [] (codes "B") (Some (record { parts = codes "A" ∷ [] })) [] d.no_members
 
-abbrev q : Rows
+abbrev pub q : Rows
 q = rows_from 0 0 0 (node is.Program (unit_labels lang (unit_labels (d.UnitOf None [] (class_a ∷ class_b ∷ [])) none)) none)
 
 a_to_b : entries (round q []) 11 ≡ Declared 15 None
@@ -45,7 +45,7 @@ settled_p = refl
 unsettled_q : has_settled_headers q ≡ false
 unsettled_q = refl
 
-cycle_q : cycle_of q ≡ Some 10
+pub cycle_q : cycle_of q ≡ Some 10
 cycle_q = refl
 
 no_cycle_p : cycle_of p ≡ None

@@ -140,6 +140,6 @@ headers_of p = let all = header_table p in let others = cut_headers p in if is_h
 abbrev pub first_cycle_under : Rows → Table → Option ℕ
 first_cycle_under p t = let part = settled_part p t in first_on_cycle p t (entries part)
 
--- the first type on a cycle of headers, where some type is not settled
+-- the first type on a cycle of headers, under a table of those rounds; there is none where all types are settled
 abbrev pub cycle_of : Rows → Option ℕ
-cycle_of p = let first = option_and_then (λ all. first_cycle_under p (entries all)) (cut_headers p) in if has_settled_headers p then None else first
+cycle_of p = option_and_then (λ all. first_cycle_under p (entries all)) (cut_headers p)
