@@ -103,7 +103,7 @@ module _ (p : Rows) (t u : Table) (formed : IsFormed p) (a : IsBound p t) (b : I
     }
 
   -- the header of a type, where what it meets is agreed on, and all round it
-  header_agrees : (c n : ℕ) → NamesHeader p c n → ((e : ℕ) → InBody p e c → Agreed p t u e) → ((s : ℕ) → IsType p s → Meets p t c s → Agreed p t u s) → t n ≡ u n
+  header_agrees : (c n : ℕ) → NamesHeader p c n → ((e : ℕ) → InBody p e c → Agreed p t u e) → ((s : ℕ) → IsType p s → Meets p t t c s → Agreed p t u s) → t n ≡ u n
   header_agrees c n header around met = identifiers_agree n (formed.header_name c n header) (λ m e i w. outside m e i w)
       (λ m s l i e k. met s k (record { row = n; header = header; meets = NameMeets.own i e k }))
       (λ m k i e seeks. first_agrees p t u formed a b m (λ e' w. outside m e' i w)
@@ -123,10 +123,10 @@ module _ (p : Rows) (t u : Table) (formed : IsFormed p) (a : IsBound p t) (b : I
       none_above _ s (SuperAt.implied h e) = absurd (h.below o)
       none_above n s (SuperAt.interface h e) = absurd (formed.object_bare c n o (inr h))
 
-  meets_type : (c s : ℕ) → Meets p t c s → IsType p s
+  meets_type : (c s : ℕ) → Meets p t t c s → IsType p s
   meets_type c s h = by_name h.row h.meets
     where
-      by_name : (n : ℕ) → NameMeets p t n s → IsType p s
+      by_name : (n : ℕ) → NameMeets p t t n s → IsType p s
       by_name n (NameMeets.own i e k) = k
       by_name n (NameMeets.import f l i e k) = k
 
@@ -138,7 +138,7 @@ module _ (p : Rows) (t u : Table) (formed : IsFormed p) (a : IsBound p t) (b : I
     itself : Agreed p t u c
     around : (e : ℕ) → InBody p e c → Agreed p t u e
 
-  done_of : (c : ℕ) → IsType p c → ((e : ℕ) → DeclaredIn p e c → Done e) → ((s : ℕ) → IsType p s → Meets p t c s → Agreed p t u s) → Done c
+  done_of : (c : ℕ) → IsType p c → ((e : ℕ) → DeclaredIn p e c → Done e) → ((s : ℕ) → IsType p s → Meets p t t c s → Agreed p t u s) → Done c
   done_of c k out met = record { around = outer; itself = agreed k names above }
     where
       outer : (e : ℕ) → InBody p e c → Agreed p t u e
@@ -160,10 +160,10 @@ module _ (p : Rows) (t u : Table) (formed : IsFormed p) (a : IsBound p t) (b : I
       above _ s (SuperAt.implied h e) = object_agreed s e
       above n s (SuperAt.interface {level = l} h e) = own_meets n s l (inr h) e
 
-  settle : (c : ℕ) → IsType p c → IsSettled p t c → Done c
+  settle : (c : ℕ) → IsType p c → IsSettled p t t c → Done c
   settle c k (IsSettled.settled out met) = done_of c k (λ e d. settle e d.inside.type (out e d)) (λ s j w. (settle s j (met s w)).itself)
 
-  pub headers_agree : ((c : ℕ) → IsType p c → IsSettled p t c) → SameHeaders p t u
+  pub headers_agree : ((c : ℕ) → IsType p c → IsSettled p t t c) → SameHeaders p t u
   headers_agree all = record {
     at = λ c n h. let k = formed.header c n h in agreed_names p t u c n (settle c k (all c k)).itself h;
     types = header_type;

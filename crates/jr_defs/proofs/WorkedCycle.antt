@@ -163,25 +163,25 @@ whole_11 = record { from = omega arith; before = omega arith }
 whole_16 : IsIdentifierOf p 16 16
 whole_16 = record { from = omega arith; before = omega arith }
 
-a_meets_b : Meets p t 10 15
+a_meets_b : Meets p t bare 10 15
 a_meets_b = record { row = 11; header = header_a; meets = NameMeets.own {m = 11} {level = None} whole_11 refl refl }
 
-b_meets_a : Meets p t 15 10
+b_meets_a : Meets p t bare 15 10
 b_meets_a = record { row = 16; header = header_b; meets = NameMeets.own {m = 16} {level = None} whole_16 refl refl }
 
-unsettled : (c : ℕ) → (c ≡ 10) ⊎ (c ≡ 15) → IsSettled p t c → ⊥
-unsettled c at s = never p t 10 15 a_meets_b b_meets_a c at s
+unsettled : (c : ℕ) → (c ≡ 10) ⊎ (c ≡ 15) → IsSettled p t bare c → ⊥
+unsettled c at s = never p t bare 10 15 a_meets_b b_meets_a c at s
 
 part : IsSettledPart p t bare
 part = record { kept = kept; left_out = λ c o h s. refl }
   where
-    kept : (o : ℕ) → ((c : ℕ) → NamesHeader p c o → IsSettled p t c) → Unbound ≡ t o
-    kept o = each_row (λ o. ((c : ℕ) → NamesHeader p c o → IsSettled p t c) → Unbound ≡ t o)
+    kept : (o : ℕ) → ((c : ℕ) → NamesHeader p c o → IsSettled p t bare c) → Unbound ≡ t o
+    kept o = each_row (λ o. ((c : ℕ) → NamesHeader p c o → IsSettled p t bare c) → Unbound ≡ t o)
         (λ h. refl) (λ h. refl) (λ h. refl) (λ h. refl) (λ h. refl) (λ h. refl) (λ h. refl) (λ h. refl) (λ h. refl) (λ h. refl) (λ h. refl) (λ h. absurd (unsettled 10 (inl refl) (h 10 header_a))) (λ h. refl) (λ h. refl) (λ h. refl) (λ h. refl) (λ h. absurd (unsettled 15 (inr refl) (h 15 header_b))) (λ h. refl) (λ h. refl) (λ h. refl)
         (λ n le h. sym (get_or_past headers n Unbound (omega arith))) o
 
-others : (o : ℕ) → (t o ≡ Unbound → ⊥) → (c : ℕ) × IsType p c × IsOfHeader p t c o
-others o = each_row (λ o. (t o ≡ Unbound → ⊥) → (c : ℕ) × IsType p c × IsOfHeader p t c o)
+others : (o : ℕ) → (t o ≡ Unbound → ⊥) → (c : ℕ) × IsType p c × IsOfHeader p bare c o
+others o = each_row (λ o. (t o ≡ Unbound → ⊥) → (c : ℕ) × IsType p c × IsOfHeader p bare c o)
     (λ h. absurd (h refl)) (λ h. absurd (h refl)) (λ h. absurd (h refl)) (λ h. absurd (h refl)) (λ h. absurd (h refl)) (λ h. absurd (h refl)) (λ h. absurd (h refl)) (λ h. absurd (h refl)) (λ h. absurd (h refl)) (λ h. absurd (h refl)) (λ h. absurd (h refl)) (λ h. (10, refl, IsOfHeader.own header_a whole_11)) (λ h. absurd (h refl)) (λ h. absurd (h refl)) (λ h. absurd (h refl)) (λ h. absurd (h refl)) (λ h. (15, refl, IsOfHeader.own header_b whole_16)) (λ h. absurd (h refl)) (λ h. absurd (h refl)) (λ h. absurd (h refl))
     (λ n le h. absurd (h (get_or_past headers n Unbound (omega arith)))) o
 
@@ -276,7 +276,7 @@ looked_at n o (inl e) i = let j : IsIdentifierOf p 11 o = subst (λ n. IsIdentif
 looked_at n o (inr e) i = let j : IsIdentifierOf p 16 o = subst (λ n. IsIdentifierOf p n o) e i in
     let x : 16 ≤ o = j.from in let y : o < 17 = j.before in let z : 16 ≡ o = omega arith in subst IsLooked z look_a
 
-looked : (c o : ℕ) → IsType p c → IsOfHeader p t c o → IsLooked o
+looked : (c o : ℕ) → IsType p c → IsOfHeader p bare c o → IsLooked o
 looked c o k (IsOfHeader.own {n = n} h i) = looked_at n o (header_rows c n h) i
 looked c o k (IsOfHeader.import {i = j} h f l i) = absurd (no_import j (subst IsImportLabel (sym l.import.import) tt))
 
@@ -284,4 +284,5 @@ pub of_headers : OfHeaders p t
 of_headers = record { settled_part = bare; part = part; looked = looked; others = others }
 
 pub cycle : HasCycle p
+unfolding of_headers
 cycle = mutual_headers p t 10 15 of_headers refl a_meets_b b_meets_a

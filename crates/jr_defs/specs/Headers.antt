@@ -1,4 +1,5 @@
--- Which types are settled, and the graph of headers (JLS 8.1.4, 8.1.5, 9.1.3).
+-- Which types are settled, and the graph of headers (JLS 8.1.4, 8.1.5, 9.1.3). Where two tables stand, names refer to what they do in the first; what shadows an import
+-- is read in the second, which has the headers of settled types alone.
 use Rattle.std.specs.Prelude.{◌≡◌, ◌⊎◌, ℕ, ◌+◌, ◌<◌, ◌≤◌, Option}
 use Rattle.jr_base.specs.declared.text.Text.{Text}
 use Rattle.jr_rows.specs.declared.label.ImportKind.{ImportKind}
@@ -52,30 +53,30 @@ pub record IsLookedForIn (p : Rows) (t : Table) (m i : ℕ) : Type 0 where
   pub unshadowed : (d : ℕ) (r : Depth) → InScope p t space.Type (name p m) m d r → rank r ≤ rank (depth_of form)
 
 -- the name at n meets the type s: one of its identifiers refers to it, or its first is looked for in an import, and one of the import's does
-pub data NameMeets (p : Rows) (t : Table) (n : ℕ) : ℕ → Type 0 where
-  own : {m s : ℕ} {level : Option ℕ} → IsIdentifierOf p n m → t m ≡ Declared s level → IsType p s → NameMeets p t n s
-  import : {m i k s : ℕ} {level : Option ℕ} → IsFirstOf p n m → IsLookedForIn p t m i → IsIdentifierOf p (i + 1) k → t k ≡ Declared s level → IsType p s → NameMeets p t n s
+pub data NameMeets (p : Rows) (t u : Table) (n : ℕ) : ℕ → Type 0 where
+  own : {m s : ℕ} {level : Option ℕ} → IsIdentifierOf p n m → t m ≡ Declared s level → IsType p s → NameMeets p t u n s
+  import : {m i k s : ℕ} {level : Option ℕ} → IsFirstOf p n m → IsLookedForIn p u m i → IsIdentifierOf p (i + 1) k → t k ≡ Declared s level → IsType p s → NameMeets p t u n s
 
 -- a name in the header of c meets the type s
-pub record Meets (p : Rows) (t : Table) (c s : ℕ) : Type 0 where
+pub record Meets (p : Rows) (t u : Table) (c s : ℕ) : Type 0 where
   pub row : ℕ
   pub header : NamesHeader p c row
-  pub meets : NameMeets p t row s
+  pub meets : NameMeets p t u row s
 
 -- the least set to which a type belongs where its enclosing type does, and all that its header meets
-pub data IsSettled (p : Rows) (t : Table) : ℕ → Type 0 where
-  settled : {c : ℕ} → ((e : ℕ) → DeclaredIn p e c → IsSettled p t e) → ((s : ℕ) → Meets p t c s → IsSettled p t s) → IsSettled p t c
+pub data IsSettled (p : Rows) (t u : Table) : ℕ → Type 0 where
+  settled : {c : ℕ} → ((e : ℕ) → DeclaredIn p e c → IsSettled p t u e) → ((s : ℕ) → Meets p t u c s → IsSettled p t u s) → IsSettled p t u c
 
 -- ---- the graph
 
 -- in the order in which the names of the header of c meet types, n at the place k before m at the place j: by names as written; in a
 -- name first what imports name, in their order, then its own, qualifiers first
-pub record MeetsAt (p : Rows) (t : Table) (c n k s : ℕ) : Type 0 where
+pub record MeetsAt (p : Rows) (t u : Table) (c n k s : ℕ) : Type 0 where
   pub header : NamesHeader p c n
   pub level : Option ℕ
   pub refers : t k ≡ Declared s level
   pub type : IsType p s
-  pub place : IsIdentifierOf p n k ⊎ ((m i : ℕ) × IsFirstOf p n m × IsLookedForIn p t m i × IsIdentifierOf p (i + 1) k)
+  pub place : IsIdentifierOf p n k ⊎ ((m i : ℕ) × IsFirstOf p n m × IsLookedForIn p u m i × IsIdentifierOf p (i + 1) k)
 
 -- identifiers of one name come by falling rows, all else by rising ones; imports stand before the types of their unit
 pub data ComesBefore (p : Rows) : ℕ → ℕ → ℕ → ℕ → Type 0 where
@@ -85,11 +86,11 @@ pub data ComesBefore (p : Rows) : ℕ → ℕ → ℕ → ℕ → Type 0 where
 
 -- the header graph: c is joined to its enclosing type; where that is settled, or there is none, also to each type that its header meets
 -- up to and including the first that is not settled
-pub data HeaderEdge (p : Rows) (t : Table) (c : ℕ) : ℕ → Type 0 where
-  outwards : {e : ℕ} → DeclaredIn p e c → HeaderEdge p t c e
-  header : {n k s : ℕ} → ((e : ℕ) → DeclaredIn p e c → IsSettled p t e) → MeetsAt p t c n k s
-      → ((m j r : ℕ) → MeetsAt p t c m j r → ComesBefore p m j n k → IsSettled p t r) → HeaderEdge p t c s
+pub data HeaderEdge (p : Rows) (t u : Table) (c : ℕ) : ℕ → Type 0 where
+  outwards : {e : ℕ} → DeclaredIn p e c → HeaderEdge p t u c e
+  header : {n k s : ℕ} → ((e : ℕ) → DeclaredIn p e c → IsSettled p t u e) → MeetsAt p t u c n k s
+      → ((m j r : ℕ) → MeetsAt p t u c m j r → ComesBefore p m j n k → IsSettled p t u r) → HeaderEdge p t u c s
 
-pub data HeaderPath (p : Rows) (t : Table) : ℕ → ℕ → Type 0 where
-  edge : {c s : ℕ} → HeaderEdge p t c s → HeaderPath p t c s
-  edges : {c r s : ℕ} → HeaderEdge p t c r → HeaderPath p t r s → HeaderPath p t c s
+pub data HeaderPath (p : Rows) (t u : Table) : ℕ → ℕ → Type 0 where
+  edge : {c s : ℕ} → HeaderEdge p t u c s → HeaderPath p t u c s
+  edges : {c r s : ℕ} → HeaderEdge p t u c r → HeaderPath p t u r s → HeaderPath p t u c s

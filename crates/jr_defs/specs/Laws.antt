@@ -60,8 +60,8 @@ OneBindingOfUnits = (units : List declared_unit.Unit) (t u : Table) → AllByRec
 
 -- two types whose headers meet each other are a cycle
 abbrev pub MutualHeadersAreCycle : Type 0
-MutualHeadersAreCycle = (p : Rows) (t : Table) (a b : ℕ) → OfHeaders p t → IsType p a → Meets p t a b → Meets p t b a → HasCycle p
+MutualHeadersAreCycle = (p : Rows) (t : Table) (a b : ℕ) (h : OfHeaders p t) → IsType p a → Meets p t h.settled_part a b → Meets p t h.settled_part b a → HasCycle p
 
 -- a type whose header names nothing is settled where its enclosing types are
 abbrev pub BareTypeIsSettled : Type 0
-BareTypeIsSettled = (p : Rows) (t : Table) (c : ℕ) → ((n : ℕ) → NamesHeader p c n → ⊥) → ((e : ℕ) → DeclaredIn p e c → IsSettled p t e) → IsSettled p t c
+BareTypeIsSettled = (p : Rows) (t u : Table) (c : ℕ) → ((n : ℕ) → NamesHeader p c n → ⊥) → ((e : ℕ) → DeclaredIn p e c → IsSettled p t u e) → IsSettled p t u c

@@ -29,30 +29,30 @@ use Rattle.jr_headers.proofs.Names.{name_same, itself_identifier, next_identifie
 use Rattle.jr_headers.proofs.Pairs.{Pair, look_type, object_agreed}
 use Rattle.jr_headers.proofs.Rounding.{after, header_row, import_place, header_looked, import_looked, after_named}
 
-module _ (p : Rows) (formed : IsFormed p) (v : Table) (a : Pair p v v) (all : (c : ℕ) → IsType p c → IsSettled p v c) where
+module _ (p : Rows) (formed : IsFormed p) (v : Table) (a : Pair p v v) (all : (c : ℕ) → IsType p c → IsSettled p v v c) where
   headed : IsHeaded p
   headed = headed_from_formed p formed
 
   -- ---- types wait for fewer types than those that wait for them
 
   waits : ℕ → ℕ
-  waits c = reached (length p) (header_edge p v) (HeaderEdge p v) (edge_tells p v headed) (edge_below p v headed) c
+  waits c = reached (length p) (header_edge p v v) (HeaderEdge p v v) (edge_tells p v v headed) (edge_below p v v headed) c
 
-  waits_fewer : (c s : ℕ) → IsType p s → HeaderEdge p v c s → waits s < waits c
+  waits_fewer : (c s : ℕ) → IsType p s → HeaderEdge p v v c s → waits s < waits c
   unfolding waits
-  waits_fewer c s k e = fewer (length p) (header_edge p v) (HeaderEdge p v) (edge_tells p v headed) (edge_below p v headed) c s e (type_below p s k)
-      (⊎_elim (λ h. absurd (settled_on_none p v s (all s k) ((path_tells p v headed s s).0 h))) (λ h. h) (cases_Bool (header_path p v s s)))
+  waits_fewer c s k e = fewer (length p) (header_edge p v v) (HeaderEdge p v v) (edge_tells p v v headed) (edge_below p v v headed) c s e (type_below p s k)
+      (⊎_elim (λ h. absurd (settled_on_none p v v s (all s k) ((path_tells p v v headed s s).0 h))) (λ h. h) (cases_Bool (header_path p v v s s)))
 
   around_fewer : (e c : ℕ) → DeclaredIn p e c → waits e < waits c
   around_fewer e c d = waits_fewer c e d.inside.type (HeaderEdge.outwards d)
 
-  met_fewer : (c s : ℕ) → IsType p s → Meets p v c s → waits s < waits c
+  met_fewer : (c s : ℕ) → IsType p s → Meets p v v c s → waits s < waits c
   met_fewer c s k m = waits_fewer c s k (by m.row s m.header m.meets)
     where
-      edge_at : (n k s : ℕ) → MeetsAt p v c n k s → HeaderEdge p v c s
+      edge_at : (n k s : ℕ) → MeetsAt p v v c n k s → HeaderEdge p v v c s
       edge_at n k s w = HeaderEdge.header {n = n} {k = k} (λ e d. all e d.inside.type) w (λ m j r z b. all r z.type)
 
-      by : (n s : ℕ) → NamesHeader p c n → NameMeets p v n s → HeaderEdge p v c s
+      by : (n s : ℕ) → NamesHeader p c n → NameMeets p v v n s → HeaderEdge p v v c s
       by n s h (NameMeets.own {m = m} {level = level} i e t) = edge_at n m s (record { header = h; level = level; refers = e; type = t; place = inl i })
       by n s h (NameMeets.import {m = m} {i = i} {k = k} {level = level} f l w e t) = edge_at n k s (record { header = h; level = level; refers = e; type = t; place = inr (m, i, f, l, w) })
 
@@ -65,7 +65,7 @@ module _ (p : Rows) (formed : IsFormed p) (v : Table) (a : Pair p v v) (all : (c
     pub imports : (n m i k : ℕ) → NamesHeader p c n → IsFirstOf p n m → IsLookedForIn p v m i → IsIdentifierOf p (i + 1) k → (j : ℕ) → N ≤ j → v k ≡ after p formed j k
 
   -- the header of a type, where what it meets is found, and all round it
-  module _ (c : ℕ) (type : IsType p c) (N : ℕ) (outer : (e : ℕ) → InBody p e c → Found N e) (met : (s : ℕ) → IsType p s → Meets p v c s → Found N s) where
+  module _ (c : ℕ) (type : IsType p c) (N : ℕ) (outer : (e : ℕ) → InBody p e c → Found N e) (met : (s : ℕ) → IsType p s → Meets p v v c s → Found N s) where
     module _ (n : ℕ) (h : NamesHeader p c n) where
       seeks : SeeksType (sought_at p n)
       seeks = formed.header_name c n h
@@ -154,7 +154,7 @@ module _ (p : Rows) (formed : IsFormed p) (v : Table) (a : Pair p v v) (all : (c
     itself : Found N c
     around : (e : ℕ) → InBody p e c → Found N e
 
-  full_of : (c : ℕ) → IsType p c → (N M : ℕ) → (N + suc (length p)) + suc (length p) ≤ M → ((e : ℕ) → DeclaredIn p e c → Full N e) → ((s : ℕ) → IsType p s → Meets p v c s → Full N s) → Full M c
+  full_of : (c : ℕ) → IsType p c → (N M : ℕ) → (N + suc (length p)) + suc (length p) ≤ M → ((e : ℕ) → DeclaredIn p e c → Full N e) → ((s : ℕ) → IsType p s → Meets p v v c s → Full N s) → Full M c
   full_of c k N M le out met = record { around = λ e w. later N M e (omega arith) (outer e w); itself = found_here c k N outer (λ s t m. (met s t m).itself) M le }
     where
       outer : (e : ℕ) → InBody p e c → Found N e
@@ -171,4 +171,4 @@ module _ (p : Rows) (formed : IsFormed p) (v : Table) (a : Pair p v v) (all : (c
 
   pub found : (c : ℕ) → IsType p c → Found (enough p (suc (length p))) c
   unfolding waits
-  found c k = let le = reached_most (length p) (header_edge p v) (HeaderEdge p v) (edge_tells p v headed) (edge_below p v headed) c in (full (suc (length p)) c k (omega arith)).itself
+  found c k = let le = reached_most (length p) (header_edge p v v) (HeaderEdge p v v) (edge_tells p v v headed) (edge_below p v v headed) c in (full (suc (length p)) c k (omega arith)).itself

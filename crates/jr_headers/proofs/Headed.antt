@@ -154,22 +154,23 @@ module _ (p : Rows) (t : Table) (headed : IsHeaded p) where
   place_below n k lt (inl h) = let a = h.before in let b = end_most n (omega arith) in omega arith
   place_below n k lt (inr h) = let a = h.4.before in let i = looked_below h.0 h.1 h.3 in let b = end_most (h.1 + 1) (omega arith) in omega arith
 
+module _ (p : Rows) (t u : Table) (headed : IsHeaded p) where
   abbrev pub PlaceMeets : ℕ → ℕ → ℕ → Type 0
-  PlaceMeets n s k = (((level : Option ℕ) × (t k ≡ Declared s level)) × IsType p s) × Place n k
+  PlaceMeets n s k = (((level : Option ℕ) × (t k ≡ Declared s level)) × IsType p s) × Place p u headed n k
 
   -- where the name stands among the rows
-  pub name_meets_tells : (n s : ℕ) → n < length p → Decides (plain.name_meets p t n s) (NameMeets p t n s)
-  name_meets_tells n s lt = like (some (λ k. plain.name_meets_at p t n s k) (PlaceMeets n s) (λ k. both (refers_tells p t k s) (place_tells n k)) (plain.places p)
-      (λ k h. place_below n k lt h.1)) out into
+  pub name_meets_tells : (n s : ℕ) → n < length p → Decides (plain.name_meets p t u n s) (NameMeets p t u n s)
+  name_meets_tells n s lt = like (some (λ k. plain.name_meets_at p t u n s k) (PlaceMeets n s) (λ k. both (refers_tells p t k s) (place_tells p u headed n k)) (plain.places p)
+      (λ k h. place_below p u headed n k lt h.1)) out into
     where
-      out : (k : ℕ) × PlaceMeets n s k → NameMeets p t n s
+      out : (k : ℕ) × PlaceMeets n s k → NameMeets p t u n s
       out h = ⊎_elim (λ i. NameMeets.own i h.1.0.0.1 h.1.0.1) (λ i. NameMeets.import i.2 i.3 i.4 h.1.0.0.1 h.1.0.1) h.1.1
 
-      into : {s : ℕ} → NameMeets p t n s → (k : ℕ) × PlaceMeets n s k
+      into : {s : ℕ} → NameMeets p t u n s → (k : ℕ) × PlaceMeets n s k
       into (NameMeets.own {m = m} {level = level} i e k) = (m, (((level, e), k), inl i))
       into (NameMeets.import {m = m} {i = i} {k = k} {level = level} f l w e y) = (k, (((level, e), y), inr (m, i, f, l, w)))
 
-  pub meets_tells : (c s : ℕ) → Decides (plain.meets p t c s) (Meets p t c s)
-  meets_tells c s = like (some (λ n. plain.meets_by p t c s n) (λ n. NamesHeader p c n × NameMeets p t n s)
+  pub meets_tells : (c s : ℕ) → Decides (plain.meets p t u c s) (Meets p t u c s)
+  meets_tells c s = like (some (λ n. plain.meets_by p t u c s n) (λ n. NamesHeader p c n × NameMeets p t u n s)
       (λ n. both_then (names_header_tells p c n) (λ h. name_meets_tells n s (header_below p c n h))) (length p) (λ n h. header_below p c n h.0))
       (λ h. record { row = h.0; header = h.1.0; meets = h.1.1 }) (λ h. (h.row, (h.header, h.meets)))

@@ -3,6 +3,8 @@ pub mod Settled
 pub mod Graphs
 pub mod Cyclic
 pub mod Scopes
+pub mod Within
+pub mod Parts
 pub mod Names
 pub mod Pairs
 pub mod Looked
@@ -12,4 +14,4 @@ pub mod Found
 pub mod Restricted
 pub mod Worked
 pub mod Cut
-pub mod Missing
+pub mod Shadowing

@@ -27,8 +27,8 @@ use Rattle.jr_headers.proofs.Names.{name_same, look_declares, itself_identifier,
 
 -- x has what lookup gives at headers under y, which leaves out of x at most headers of types that are not settled
 pub record Pair (p : Rows) (x y : Table) : Type 0 where
-  pub looked : (c o : ℕ) → IsType p c → IsOfHeader p x c o → Look p y (HasConstantForm p y) o (x o)
-  pub kept : (o : ℕ) → ((c : ℕ) → NamesHeader p c o → IsSettled p x c) → y o ≡ x o
+  pub looked : (c o : ℕ) → IsType p c → IsOfHeader p y c o → Look p y (HasConstantForm p y) o (x o)
+  pub kept : (o : ℕ) → ((c : ℕ) → NamesHeader p c o → IsSettled p x y c) → y o ≡ x o
   pub named : EndsSo p x
 
 module _ (p : Rows) (formed : IsFormed p) where
@@ -44,15 +44,13 @@ module _ (p : Rows) (formed : IsFormed p) where
       none_above _ d (SuperAt.implied h e) = absurd (h.below o)
       none_above n d (SuperAt.interface h e) = absurd (formed.object_bare c n o (inr h))
 
-  module _ (x y : Table) (a : Pair p x y) where
-    inner_kept : (n m : ℕ) → SeeksType (sought_at p n) → IsIdentifierOf p n m → n < m → y m ≡ x m
-    inner_kept n m seeks i lt = a.kept m (λ c h. absurd (inner_names_none p formed n m c seeks i lt h))
+  -- where the names in headers of settled types are kept
+  module _ (x y : Table) (kept : (o : ℕ) → ((c : ℕ) → NamesHeader p c o → IsSettled p x y c) → y o ≡ x o) where
+    pub import_end_kept : (i : ℕ) (form : ImportKind) → label p i ≡ is.Import form → y (i + 1) ≡ x (i + 1)
+    import_end_kept i form e = kept (i + 1) (λ c h. absurd (import_names_none p formed i c form e h))
 
-    import_kept : (i : ℕ) (form : ImportKind) → label p i ≡ is.Import form → y (i + 1) ≡ x (i + 1)
-    import_kept i form e = a.kept (i + 1) (λ c h. absurd (import_names_none p formed i c form e h))
-
-    header_kept : (c n : ℕ) → IsSettled p x c → NamesHeader p c n → y n ≡ x n
-    header_kept c n s h = a.kept n (λ e k. subst (IsSettled p x) (one_type h k) s)
+    pub name_kept : (c n : ℕ) → IsSettled p x y c → NamesHeader p c n → y n ≡ x n
+    name_kept c n s h = kept n (λ e k. subst (IsSettled p x y) (one_type h k) s)
       where
         one_type : {c e : ℕ} → NamesHeader p c n → NamesHeader p e n → c ≡ e
         one_type (inl v) (inl w) = sym v.inside ∙ w.inside
@@ -60,19 +58,31 @@ module _ (p : Rows) (formed : IsFormed p) where
         one_type (inr v) (inl w) = sym v.inside ∙ w.inside
         one_type (inr v) (inr w) = sym v.inside ∙ w.inside
 
+    pub ends_kept : EndsSo p x → EndsSo p y
+    ends_kept named i d form e w = named i d form e (record { level = w.level; refers = sym (import_end_kept i form e) ∙ w.refers; type = w.type })
+
+  module _ (x y : Table) (a : Pair p x y) where
+    inner_kept : (n m : ℕ) → SeeksType (sought_at p n) → IsIdentifierOf p n m → n < m → y m ≡ x m
+    inner_kept n m seeks i lt = a.kept m (λ c h. absurd (inner_names_none p formed n m c seeks i lt h))
+
+    import_kept : (i : ℕ) (form : ImportKind) → label p i ≡ is.Import form → y (i + 1) ≡ x (i + 1)
+    import_kept = import_end_kept x y a.kept
+
+    header_kept : (c n : ℕ) → IsSettled p x y c → NamesHeader p c n → y n ≡ x n
+    header_kept = name_kept x y a.kept
+
     pub named_kept : EndsSo p y
-    named_kept i d form e w = a.named i d form e (record { level = w.level; refers = sym (import_kept i form e) ∙ w.refers; type = w.type })
+    named_kept = ends_kept x y a.kept a.named
 
   module _ (x y u v : Table) (a : Pair p x y) (b : Pair p u v) where
     -- all that is wanted of a type on whose header the tables agree
     pub record Done (c : ℕ) : Type 0 where
-      pub settled : IsSettled p u c
+      pub settled : IsSettled p u v c
       pub entries : Agreed p x u c
-      pub kept : Agreed p x y c
       pub seen : Agreed p y v c
 
     -- the header of a type, where what it meets is done, and all round it
-    module _ (c : ℕ) (type : IsType p c) (own : IsSettled p x c) (outer : (e : ℕ) → InBody p e c → Done e) (met : (s : ℕ) → IsType p s → Meets p x c s → Done s) where
+    module _ (c : ℕ) (type : IsType p c) (own : IsSettled p x y c) (outer : (e : ℕ) → InBody p e c → Done e) (met : (s : ℕ) → IsType p s → Meets p x y c s → Done s) where
       module _ (n : ℕ) (h : NamesHeader p c n) where
         seeks : SeeksType (sought_at p n)
         seeks = formed.header_name c n h
@@ -88,10 +98,10 @@ module _ (p : Rows) (formed : IsFormed p) where
           inside : IsIdentifierOf p n m
           inside = let z = formed.tree.nested n in let e = f.last in record { from = omega arith; before = omega arith }
 
-          import_met : (i k s : ℕ) (l : Option ℕ) → IsLookedForIn p x m i → IsIdentifierOf p (i + 1) k → x k ≡ Declared s l → IsType p s → Done s
+          import_met : (i k s : ℕ) (l : Option ℕ) → IsLookedForIn p y m i → IsIdentifierOf p (i + 1) k → x k ≡ Declared s l → IsType p s → Done s
           import_met i k s l w j e t = met s t (record { row = n; header = h; meets = NameMeets.import f w j e t })
 
-          import_agrees : (i : ℕ) → IsLookedForIn p x m i → IsLookedForIn p u m i → (k : ℕ) → IsIdentifierOf p (i + 1) k → x k ≡ u k
+          import_agrees : (i : ℕ) → IsLookedForIn p y m i → IsLookedForIn p v m i → (k : ℕ) → IsIdentifierOf p (i + 1) k → x k ≡ u k
           import_agrees i w z = each_identifier p formed (i + 1) (λ k. x k ≡ u k) (λ k j before. step k j before)
             where
               step : (k : ℕ) → IsIdentifierOf p (i + 1) k → (parent p (k + 1) ≡ k → x (k + 1) ≡ u (k + 1)) → x k ≡ u k
@@ -113,48 +123,36 @@ module _ (p : Rows) (formed : IsFormed p) where
                   known : (d : ℕ) → NamesType p y k d → Agreed p y v d
                   known d q = (import_met i (k + 1) d q.level w (next q.first) (sym (inner_kept x y a (i + 1) (k + 1) seeks_here (next q.first) behind) ∙ q.refers) q.type).seen
 
-          import_same : (i : ℕ) → IsLookedForIn p x m i → IsLookedForIn p u m i → ImportSame p x u i
+          import_same : (i : ℕ) → IsLookedForIn p y m i → IsLookedForIn p v m i → ImportSame p y v i
           import_same i w z = record {
-            at = import_agrees i w z (i + 1) (itself_identifier p formed (i + 1));
-            known = λ d q. (import_met i (i + 1) d q.level w (itself_identifier p formed (i + 1)) q.refers q.type).entries;
+            at = import_kept x y a i w.form w.import.import ∙ import_agrees i w z (i + 1) (itself_identifier p formed (i + 1)) ∙ sym (import_kept u v b i w.form w.import.import);
+            known = λ d q. (import_met i (i + 1) d q.level w (itself_identifier p formed (i + 1)) (sym (import_kept x y a i w.form w.import.import) ∙ q.refers) q.type).seen;
           }
 
-          high_there : (i : ℕ) (w : IsLookedForIn p x m i) → rank (depth_of w.form) ≡ 2 → IsLookedForIn p u m i
+          high_there : (i : ℕ) (w : IsLookedForIn p y m i) → rank (depth_of w.form) ≡ 2 → IsLookedForIn p v m i
           high_there i w e = record {
             unit = w.unit;
             around = w.around;
             form = w.form;
             import = w.import;
             may = w.may;
-            unshadowed = bounded_there p x u m a.named b.named (λ e q. (around m e inside q).entries) (rank (depth_of w.form)) (omega arith) w.unshadowed;
+            unshadowed = bounded_there p y v m (named_kept x y a) (named_kept u v b) (λ e q. (around m e inside q).seen) (rank (depth_of w.form)) (omega arith) w.unshadowed;
           }
 
-          named : (i : ℕ) (w : IsLookedForIn p x m i) → rank (depth_of w.form) ≡ 2 → ImportSame p x u i
+          named : (i : ℕ) (w : IsLookedForIn p y m i) → rank (depth_of w.form) ≡ 2 → ImportSame p y v i
           named i w e = import_same i w (high_there i w e)
 
-          pub goes_there : (i : ℕ) → IsLookedForIn p x m i → IsLookedForIn p u m i
-          goes_there i w = looked_there p x u m a.named b.named (λ e q. (around m e inside q).entries) named i w
+          pub goes_there : (i : ℕ) → IsLookedForIn p y m i → IsLookedForIn p v m i
+          goes_there i w = looked_there p y v m (named_kept x y a) (named_kept u v b) (λ e q. (around m e inside q).seen) named i w
 
-          pub comes_back : (i : ℕ) → IsLookedForIn p u m i → IsLookedForIn p x m i
-          comes_back i w = looked_back p x u m a.named b.named (λ e q. (around m e inside q).entries) named i w
+          pub comes_back : (i : ℕ) → IsLookedForIn p v m i → IsLookedForIn p y m i
+          comes_back i w = looked_back p y v m (named_kept x y a) (named_kept u v b) (λ e q. (around m e inside q).seen) named i w
 
-          kept_same : (i : ℕ) → IsLookedForIn p x m i → ImportSame p x y i
-          kept_same i w = record {
-            at = sym (import_kept x y a i w.form w.import.import);
-            known = λ d q. (import_met i (i + 1) d q.level w (itself_identifier p formed (i + 1)) q.refers q.type).kept;
-          }
-
-          seen_back : (i : ℕ) → IsLookedForIn p y m i → IsLookedForIn p x m i
-          seen_back i w = looked_back p x y m a.named (named_kept x y a) (λ e q. (around m e inside q).kept) (λ i w e. kept_same i w) i w
-
-          seen_same : (i : ℕ) → IsLookedForIn p y m i → ImportSame p y v i
-          seen_same i w = let z = seen_back i w in let s = import_same i z (goes_there i z) in record {
-            at = import_kept x y a i w.form w.import.import ∙ s.at ∙ sym (import_kept u v b i w.form w.import.import);
-            known = λ d q. (import_met i (i + 1) d q.level z (itself_identifier p formed (i + 1)) (sym (import_kept x y a i w.form w.import.import) ∙ q.refers) q.type).seen;
-          }
+          looked_same : (i : ℕ) → IsLookedForIn p y m i → ImportSame p y v i
+          looked_same i w = import_same i w (goes_there i w)
 
           first_agrees : x m ≡ u m
-          first_agrees = first_same p y v m (named_kept x y a) (named_kept u v b) (λ e q. (around m e inside q).seen) (λ i w e. seen_same i w) seen_same
+          first_agrees = first_same p y v m (named_kept x y a) (named_kept u v b) (λ e q. (around m e inside q).seen) (λ i w e. looked_same i w) looked_same
               (HasConstantForm p y) (HasConstantForm p v) f.kind f.simple (subst SeeksType f.simple (formed.identifier n m seeks inside)) (x m) (u m)
               (a.looked c m type (IsOfHeader.own h inside)) (b.looked c m type (IsOfHeader.own h inside))
 
@@ -188,16 +186,16 @@ module _ (p : Rows) (formed : IsFormed p) where
         own_agree = each_identifier p formed n (λ m. x m ≡ u m) (λ m i before. identifier_agrees m i before (sought_at p m) refl)
 
         -- the name meets no other types under the other table
-        meets_back : (s : ℕ) → NameMeets p u n s → NameMeets p x n s
+        meets_back : (s : ℕ) → NameMeets p u v n s → NameMeets p x y n s
         meets_back s (NameMeets.own {m = m} i e k) = NameMeets.own i (own_agree m i ∙ e) k
         meets_back s (NameMeets.import {m = m} {i = i} {k = k} f w j e t) = let z = comes_back m f i w in NameMeets.import f z j (import_agrees m f i z w k j ∙ e) t
 
       top_agree : (n : ℕ) → NamesHeader p c n → x n ≡ u n
       top_agree n h = own_agree n h n (itself_identifier p formed n)
 
-      settled_there : ((e : ℕ) → DeclaredIn p e c → Done e) → IsSettled p u c
+      settled_there : ((e : ℕ) → DeclaredIn p e c → Done e) → IsSettled p u v c
       settled_there out = IsSettled.settled (λ e d. (out e d).settled) (λ s m. let w = meets_back m.row m.header s m.meets in
-          (met s (met_type p x c s (record { row = m.row; header = m.header; meets = w })) (record { row = m.row; header = m.header; meets = w })).settled)
+          (met s (met_type p x y c s (record { row = m.row; header = m.header; meets = w })) (record { row = m.row; header = m.header; meets = w })).settled)
 
       -- what the header names is a type, and done
       names_done : (n s : ℕ) (l : Option ℕ) → NamesHeader p c n → x n ≡ Declared s l → Done s
@@ -213,7 +211,6 @@ module _ (p : Rows) (formed : IsFormed p) where
       done_here out = let there = settled_there out in record {
         settled = there;
         entries = agreed type top_agree (supers_done x (Agreed p x u) (λ n h. refl) (λ s d. d.entries) (object_agreed x u));
-        kept = agreed type (λ n h. sym (header_kept x y a c n own h)) (supers_done x (Agreed p x y) (λ n h. refl) (λ s d. d.kept) (object_agreed x y));
         seen = agreed type (λ n h. header_kept x y a c n own h ∙ top_agree n h ∙ sym (header_kept u v b c n there h))
             (supers_done y (Agreed p y v) (λ n h. header_kept x y a c n own h) (λ s d. d.seen) (object_agreed y v));
       }
@@ -223,7 +220,7 @@ module _ (p : Rows) (formed : IsFormed p) where
       itself : Done c
       around : (e : ℕ) → InBody p e c → Done e
 
-    full_of : (c : ℕ) → IsType p c → IsSettled p x c → ((e : ℕ) → DeclaredIn p e c → Full e) → ((s : ℕ) → IsType p s → Meets p x c s → Full s) → Full c
+    full_of : (c : ℕ) → IsType p c → IsSettled p x y c → ((e : ℕ) → DeclaredIn p e c → Full e) → ((s : ℕ) → IsType p s → Meets p x y c s → Full s) → Full c
     full_of c k own out met = record { around = outer; itself = done_here c k own outer (λ s t m. (met s t m).itself) (λ e d. (out e d).itself) }
       where
         outer : (e : ℕ) → InBody p e c → Done e
@@ -233,10 +230,10 @@ module _ (p : Rows) (formed : IsFormed p) where
             by_chain (inl d) = (out e d).itself
             by_chain (inr d) = let f = d.0 in let i : DeclaredIn p f c = d.1 in (out f i).around e d.2
 
-    full : (c : ℕ) → IsType p c → IsSettled p x c → Full c
+    full : (c : ℕ) → IsType p c → IsSettled p x y c → Full c
     full c k (IsSettled.settled out met) = full_of c k (IsSettled.settled out met) (λ e d. full e d.inside.type (out e d)) (λ s j w. full s j (met s w))
 
-    pub settled_done : (c : ℕ) → IsType p c → IsSettled p x c → Done c
+    pub settled_done : (c : ℕ) → IsType p c → IsSettled p x y c → Done c
     settled_done c k s = (full c k s).itself
 
   pub bound_pair : (t : Table) → IsBound p t → Pair p t t
@@ -258,9 +255,9 @@ module _ (p : Rows) (formed : IsFormed p) where
   no_cycle_beside t w h = h.unsettled (settled_done t t h.table h.of_headers.settled_part (bound_pair t w.bound) (headers_pair h.table h.of_headers) h.on h.type (w.settled h.on h.type)).settled
 
   -- the same types are settled under all tables of headers
-  pub settled_same : (t u : Table) → OfHeaders p t → OfHeaders p u → (c : ℕ) → IsType p c → IsSettled p t c → IsSettled p u c
+  pub settled_same : (t u : Table) (g : OfHeaders p t) (h : OfHeaders p u) (c : ℕ) → IsType p c → IsSettled p t g.settled_part c → IsSettled p u h.settled_part c
   settled_same t u g h c k s = (settled_done t g.settled_part u h.settled_part (headers_pair t g) (headers_pair u h) c k s).settled
 
   -- and there they have the same headers
-  pub headers_same : (t u : Table) → OfHeaders p t → OfHeaders p u → (c n : ℕ) → IsSettled p t c → NamesHeader p c n → t n ≡ u n
+  pub headers_same : (t u : Table) (g : OfHeaders p t) (h : OfHeaders p u) (c n : ℕ) → IsSettled p t g.settled_part c → NamesHeader p c n → t n ≡ u n
   headers_same t u g h c n s k = agreed_names p t u c n (settled_done t g.settled_part u h.settled_part (headers_pair t g) (headers_pair u h) c (formed.header c n k) s).entries k

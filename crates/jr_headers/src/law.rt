@@ -19,40 +19,40 @@ pub fn headers_are_computed()
     ensures identifiers { (p : Rows) (n m : ℕ) → Decides (is_identifier_of p n m) (IsIdentifierOf p n m) }
     ensures first { (p : Rows) (n m : ℕ) → Decides (is_first_of p n m) (IsFirstOf p n m) }
     ensures looked_for { (p : Rows) (t : Table) (m i : ℕ) → IsHeaded p → Decides (is_looked_for_in p t m i) (IsLookedForIn p t m i) }
-    ensures name_meets { (p : Rows) (t : Table) (c n s : ℕ) → IsHeaded p → NamesHeader p c n → Decides (name_meets p t n s) (NameMeets p t n s) }
-    ensures meets { (p : Rows) (t : Table) (c s : ℕ) → IsHeaded p → Decides (meets p t c s) (Meets p t c s) }
-    ensures of_header { (p : Rows) (t : Table) (c o : ℕ) → IsHeaded p → Decides (is_of_header p t c o) (IsOfHeader p t c o) }
+    ensures name_meets { (p : Rows) (t u : Table) (c n s : ℕ) → IsHeaded p → NamesHeader p c n → Decides (name_meets p t u n s) (NameMeets p t u n s) }
+    ensures meets { (p : Rows) (t u : Table) (c s : ℕ) → IsHeaded p → Decides (meets p t u c s) (Meets p t u c s) }
+    ensures of_header { (p : Rows) (u : Table) (c o : ℕ) → IsHeaded p → Decides (is_of_header p u c o) (IsOfHeader p u c o) }
 {}
 
 /// Settled types, and the graph of headers.
 pub fn header_graph_is_computed()
-    ensures settled { (p : Rows) (t : Table) (c : ℕ) → IsHeaded p → Decides (is_settled p t c) (IsSettled p t c) }
+    ensures settled { (p : Rows) (t u : Table) (c : ℕ) → IsHeaded p → Decides (is_settled p t u c) (IsSettled p t u c) }
     ensures order { (p : Rows) (n k m j : ℕ) → Decides (comes_before p n k m j) (ComesBefore p n k m j) }
-    ensures edges { (p : Rows) (t : Table) (c s : ℕ) → IsHeaded p → Decides (header_edge p t c s) (HeaderEdge p t c s) }
-    ensures paths { (p : Rows) (t : Table) (a b : ℕ) → IsHeaded p → Decides (header_path p t a b) (HeaderPath p t a b) }
+    ensures edges { (p : Rows) (t u : Table) (c s : ℕ) → IsHeaded p → Decides (header_edge p t u c s) (HeaderEdge p t u c s) }
+    ensures paths { (p : Rows) (t u : Table) (a b : ℕ) → IsHeaded p → Decides (header_path p t u a b) (HeaderPath p t u a b) }
 {}
 
 /// A type that is not settled stands before a cycle of headers, and a settled one on none: so where some type is not settled, one is the first on a cycle.
 pub fn unsettled_types_are_cycles()
-    ensures unsettled { (p : Rows) (t : Table) (c : ℕ) → IsHeaded p → IsType p c → (IsSettled p t c → ⊥) → (x : ℕ) × IsType p x × HeaderPath p t x x }
-    ensures settled { (p : Rows) (t : Table) (c : ℕ) → IsSettled p t c → HeaderPath p t c c → ⊥ }
+    ensures unsettled { (p : Rows) (t u : Table) (c : ℕ) → IsHeaded p → IsType p c → (IsSettled p t u c → ⊥) → (x : ℕ) × IsType p x × HeaderPath p t u x x }
+    ensures settled { (p : Rows) (t u : Table) (c : ℕ) → IsSettled p t u c → HeaderPath p t u c c → ⊥ }
     ensures first { (p : Rows) → IsHeaded p → HasCycle p ↔ (c : ℕ) × IsFirstOnCycle p c }
-    ensures computed { (p : Rows) (t : Table) → IsHeaded p → Finds (first_on_cycle p t) (IsFirst (λ c. IsType p c × HeaderPath p t c c) (length p)) }
+    ensures computed { (p : Rows) (t u : Table) → IsHeaded p → Finds (first_on_cycle p t u) (IsFirst (λ c. IsType p c × HeaderPath p t u c c) (length p)) }
 {}
 
 /// Tables of headers agree on the headers of settled types, with each other and with a binding: the same types are settled under all of them, and beside a
 /// binding no type is left unsettled.
 pub fn headers_are_one()
-    ensures settled { (p : Rows) (t u : Table) (c : ℕ) → IsFormed p → OfHeaders p t → OfHeaders p u → IsType p c → IsSettled p t c → IsSettled p u c }
-    ensures names { (p : Rows) (t u : Table) (c n : ℕ) → IsFormed p → OfHeaders p t → OfHeaders p u → IsSettled p t c → NamesHeader p c n → t n ≡ u n }
+    ensures settled { (p : Rows) (t u : Table) (g : OfHeaders p t) (h : OfHeaders p u) (c : ℕ) → IsFormed p → IsType p c → IsSettled p t g.settled_part c → IsSettled p u h.settled_part c }
+    ensures names { (p : Rows) (t u : Table) (g : OfHeaders p t) (h : OfHeaders p u) (c n : ℕ) → IsFormed p → IsSettled p t g.settled_part c → NamesHeader p c n → t n ≡ u n }
     ensures binding { (p : Rows) (t : Table) → IsFormed p → IsBinding p t → HasCycle p → ⊥ }
 {}
 
 /// The table of headers that is computed: it is the one under which all types are settled, where a program has one, and it tells whether there is one. A program
 /// that has a binding has one, and the binding has its entries in headers.
 pub fn settled_headers_are_computed()
-    ensures found { (p : Rows) (t : Table) → IsFormed p → OfHeaders p t → ((c : ℕ) → IsType p c → IsSettled p t c) → (o : ℕ) → entries (header_table p) o ≡ t o }
-    ensures decided { (p : Rows) → IsFormed p → Decides (has_settled_headers p) ((t : Table) × OfHeaders p t × ((c : ℕ) → IsType p c → IsSettled p t c)) }
+    ensures found { (p : Rows) (t : Table) → IsFormed p → (h : OfHeaders p t) → ((c : ℕ) → IsType p c → IsSettled p t h.settled_part c) → (o : ℕ) → entries (header_table p) o ≡ t o }
+    ensures decided { (p : Rows) → IsFormed p → Decides (has_settled_headers p) ((t : Table) × (h : OfHeaders p t) × ((c : ℕ) → IsType p c → IsSettled p t h.settled_part c)) }
     ensures bound { (p : Rows) (t : Table) (c n : ℕ) → IsFormed p → IsBinding p t → NamesHeader p c n → entries (header_table p) n ≡ t n }
     ensures binding { (p : Rows) (t : Table) → IsFormed p → IsBinding p t → IsTrue (has_settled_headers p) }
 {}
@@ -62,6 +62,6 @@ pub fn settled_headers_are_computed()
 pub fn headers_are_told()
     ensures tables { (p : Rows) (t : Table) → IsFormed p → ((o : ℕ) → length p ≤ o → t o ≡ Unbound) → Decides (is_of_headers p t) (OfHeaders p t) }
     ensures found { (p : Rows) (all : List Referent) → IsFormed p → headers_of p ≡ Some all → OfHeaders p (entries all) }
-    ensures settled { (p : Rows) (t : Table) → IsFormed p → OfHeaders p t → ((c : ℕ) → IsType p c → IsSettled p t c) → headers_of p ≡ Some (header_table p) }
+    ensures settled { (p : Rows) (t : Table) → IsFormed p → (h : OfHeaders p t) → ((c : ℕ) → IsType p c → IsSettled p t h.settled_part c) → headers_of p ≡ Some (header_table p) }
     ensures cycle { (p : Rows) (c : ℕ) → IsFormed p → cycle_of p ≡ Some c → IsFirstOnCycle p c }
 {}

@@ -130,29 +130,29 @@ module _ (p : Rows) (t : Table) where
 -- ---- where headers are settled no two types are above each other
 
 module _ (p : Rows) (t : Table) where
-  join : {a b c : ℕ} → Reaches (λ x z. Meets p t x z) a b → Meets p t b c → Reaches (λ x z. Meets p t x z) a c
+  join : {a b c : ℕ} → Reaches (λ x z. Meets p t t x z) a b → Meets p t t b c → Reaches (λ x z. Meets p t t x z) a c
   join (Reaches.direct e) f = Reaches.further e (Reaches.direct f)
   join (Reaches.further e more) f = Reaches.further e (join more f)
 
   -- no settled header leads back
-  never_back : (c : ℕ) → IsSettled p t c → Reaches (λ x z. Meets p t x z) c c → ⊥
+  never_back : (c : ℕ) → IsSettled p t t c → Reaches (λ x z. Meets p t t x z) c c → ⊥
   never_back c (IsSettled.settled out met) (Reaches.direct e) = never_back c (met c e) (Reaches.direct e)
   never_back c (IsSettled.settled out met) (Reaches.further {r = r} e more) = never_back r (met r e) (join more e)
 
-  starts : {a b : ℕ} → IsFormed p → Reaches (λ x z. Meets p t x z) a b → IsType p a
+  starts : {a b : ℕ} → IsFormed p → Reaches (λ x z. Meets p t t x z) a b → IsType p a
   starts {a} formed (Reaches.direct e) = formed.header a e.row e.header
   starts {a} formed (Reaches.further e more) = formed.header a e.row e.header
 
-  join_paths : {a b c : ℕ} → Reaches (λ x z. Meets p t x z) a b → Reaches (λ x z. Meets p t x z) b c → Reaches (λ x z. Meets p t x z) a c
+  join_paths : {a b c : ℕ} → Reaches (λ x z. Meets p t t x z) a b → Reaches (λ x z. Meets p t t x z) b c → Reaches (λ x z. Meets p t t x z) a c
   join_paths (Reaches.direct e) q = Reaches.further e q
   join_paths (Reaches.further e more) q = Reaches.further e (join_paths more q)
 
   module _ (formed : IsFormed p) (types : (c n s : ℕ) (level : Option ℕ) → NamesHeader p c n → t n ≡ Declared s level → IsType p s) where
-    meets : {c n s : ℕ} {level : Option ℕ} → NamesHeader p c n → t n ≡ Declared s level → Meets p t c s
+    meets : {c n s : ℕ} {level : Option ℕ} → NamesHeader p c n → t n ≡ Declared s level → Meets p t t c s
     meets {c} {n} {s} {level} h e = record { row = n; header = h; meets = NameMeets.own (record { from = le_of_eq refl; before = formed.tree.nested n }) e (types c n s level h e) }
 
     -- a supertype is named, or is Object, and the type is not
-    step : {c n s : ℕ} → SuperAt p t c n s → (Meets p t c s × (IsObject p c → ⊥)) ⊎ (IsObject p s × (IsObject p c → ⊥))
+    step : {c n s : ℕ} → SuperAt p t c n s → (Meets p t t c s × (IsObject p c → ⊥)) ⊎ (IsObject p s × (IsObject p c → ⊥))
     step {c} (SuperAt.class {n = n} k e) = inl (meets (inl k) e, λ o. formed.object_bare c n o (inl k))
     step {c} (SuperAt.interface {n = n} k e) = inl (meets (inr k) e, λ o. formed.object_bare c n o (inr k))
     step (SuperAt.implied i o) = inr (o, i.below)
@@ -165,15 +165,15 @@ module _ (p : Rows) (t : Table) where
     from_object (Above.further h more) o = absurd (not_object h.at o)
     from_object (Above.object i s) o = s
 
-    named_or_object : {c s : ℕ} → Above p t c s → Reaches (λ x z. Meets p t x z) c s ⊎ IsObject p s
+    named_or_object : {c s : ℕ} → Above p t c s → Reaches (λ x z. Meets p t t x z) c s ⊎ IsObject p s
     named_or_object (Above.direct h) = ⊎_elim (λ k. inl (Reaches.direct k.0)) (λ k. inr k.0) (step h.at)
     named_or_object (Above.further h more) = ⊎_elim (λ k. ⊎_elim (λ path. inl (Reaches.further k.0 path)) (λ o. inr o) (named_or_object more)) (λ k. inr (from_object more k.0)) (step h.at)
     named_or_object (Above.object i o) = inr o
 
-    pub acyclic_from_settled : ((o e : ℕ) → IsObject p o → IsObject p e → o ≡ e) → ((c : ℕ) → IsType p c → IsSettled p t c) → (d s : ℕ) → Above p t d s → Above p t s d → d ≡ s
+    pub acyclic_from_settled : ((o e : ℕ) → IsObject p o → IsObject p e → o ≡ e) → ((c : ℕ) → IsType p c → IsSettled p t t c) → (d s : ℕ) → Above p t d s → Above p t s d → d ≡ s
     acyclic_from_settled one_object settled d s up down = by (named_or_object up) (named_or_object down)
       where
-        by : Reaches (λ x z. Meets p t x z) d s ⊎ IsObject p s → Reaches (λ x z. Meets p t x z) s d ⊎ IsObject p d → d ≡ s
+        by : Reaches (λ x z. Meets p t t x z) d s ⊎ IsObject p s → Reaches (λ x z. Meets p t t x z) s d ⊎ IsObject p d → d ≡ s
         by (inr o) _ = one_object d s (from_object down o) o
         by (inl a) (inr o) = one_object d s o (from_object up o)
         by (inl a) (inl b) = absurd (never_back d (settled d (starts formed a)) (join_paths a b))

@@ -248,7 +248,7 @@ pub fn looked_up_tables_are_typable()
     ensures typable { (p : Rows) (t : Table) (k : ℕ → Bool) → IsHeaded p → ((s d : ℕ) → IsString p s → IsString p d → s ≡ d)
         → ((d s : ℕ) → Above p t d s → Above p t s d → d ≡ s) → ((n : ℕ) → Look p t (Picked k) n (t n)) → IsTypable p t }
     ensures acyclic { (p : Rows) (t : Table) → IsFormed p → ((c n s : ℕ) (level : Option ℕ) → NamesHeader p c n → t n ≡ Declared s level → IsType p s)
-        → ((o e : ℕ) → IsObject p o → IsObject p e → o ≡ e) → ((c : ℕ) → IsType p c → IsSettled p t c) → (d s : ℕ) → Above p t d s → Above p t s d → d ≡ s }
+        → ((o e : ℕ) → IsObject p o → IsObject p e → o ≡ e) → ((c : ℕ) → IsType p c → IsSettled p t t c) → (d s : ℕ) → Above p t d s → Above p t s d → d ≡ s }
 {}
 
 /// In a table in which expressions have one type, lookup has an answer everywhere, and it is computed.

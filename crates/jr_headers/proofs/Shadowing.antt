@@ -1,4 +1,4 @@
--- Why a program may have no table of headers: what is in scope through a header that is not settled shadows an import, and lookup does not see that.
+-- A cycle that is found though what is in scope through a header that is not settled would shadow an import: that is read under the headers of settled types alone.
 -- package k; public interface Y { interface X { } } public interface X extends Y { }
 -- package q; import k.*; import static q.A.X; interface A extends B { } interface B extends X { }
 use Rattle.std.proofs.Common.{◌≡◌, refl, true, false, List, [], ◌∷◌, length}
@@ -17,7 +17,7 @@ use Rattle.jr_defs.specs.declared.referent.Referent.TheVariants.{Unbound, Declar
 use Rattle.jr_defs.specs.Referents.{entries}
 use Rattle.jr_defs.proofs.Worked.{lang}
 use Rattle.jr_headers.specs.Headers.{is_looked_for_in}
-use Rattle.jr_headers.specs.Rounds.{look_type, has_settled_headers, cut_headers}
+use Rattle.jr_headers.specs.Rounds.{look_type, settled_part, has_settled_headers, cut_headers, cycle_of}
 
 abbrev simple : List Text → Name
 simple parts = record { parts = parts }
@@ -43,7 +43,7 @@ unit_k = d.UnitOf (Some (record { name = simple (codes "k" ∷ []) })) [] (y ∷
 abbrev unit_q : d.CompilationUnit
 unit_q = d.UnitOf (Some (record { name = simple (codes "q" ∷ []) })) (import.OnDemand (simple (codes "k" ∷ [])) ∷ import.StaticSingle (simple (codes "q" ∷ codes "A" ∷ [])) (codes "X") ∷ []) (a ∷ b ∷ [])
 
-abbrev r : Rows
+abbrev pub r : Rows
 r = rows_from 0 0 0 (node is.Program (unit_labels lang (unit_labels unit_k (unit_labels unit_q none))) none)
 
 rows : length r ≡ 33
@@ -53,35 +53,31 @@ rows = refl
 abbrev with_import : List Referent
 with_import = Unbound ∷ (Unbound ∷ (Unbound ∷ (Unbound ∷ (Unbound ∷ (Unbound ∷ (Unbound ∷ (Unbound ∷ (Unbound ∷ (Unbound ∷ (Unbound ∷ (Unbound ∷ (Unbound ∷ (Unbound ∷ (Unbound ∷ (Unbound ∷ (Unbound ∷ (Declared 12 None ∷ (Unbound ∷ (Unbound ∷ (Unbound ∷ (Unbound ∷ (Unbound ∷ (Package ∷ (Unbound ∷ (Declared 27 None ∷ (Package ∷ (Unbound ∷ (Declared 30 None ∷ (Unbound ∷ (Unbound ∷ (Declared 16 None ∷ (Unbound ∷ []))))))))))))))))))))))))))))))))
 
-abbrev without_import : List Referent
-without_import = Unbound ∷ (Unbound ∷ (Unbound ∷ (Unbound ∷ (Unbound ∷ (Unbound ∷ (Unbound ∷ (Unbound ∷ (Unbound ∷ (Unbound ∷ (Unbound ∷ (Unbound ∷ (Unbound ∷ (Unbound ∷ (Unbound ∷ (Unbound ∷ (Unbound ∷ (Declared 12 None ∷ (Unbound ∷ (Unbound ∷ (Unbound ∷ (Unbound ∷ (Unbound ∷ (Unbound ∷ (Unbound ∷ (Declared 27 None ∷ (Package ∷ (Unbound ∷ (Declared 30 None ∷ (Unbound ∷ (Unbound ∷ (Unbound ∷ (Unbound ∷ []))))))))))))))))))))))))))))))))
-
 -- what lookup sees: the headers of A and B are not settled
 abbrev seen_with : List Referent
 seen_with = Unbound ∷ (Unbound ∷ (Unbound ∷ (Unbound ∷ (Unbound ∷ (Unbound ∷ (Unbound ∷ (Unbound ∷ (Unbound ∷ (Unbound ∷ (Unbound ∷ (Unbound ∷ (Unbound ∷ (Unbound ∷ (Unbound ∷ (Unbound ∷ (Unbound ∷ (Declared 12 None ∷ (Unbound ∷ (Unbound ∷ (Unbound ∷ (Unbound ∷ (Unbound ∷ (Package ∷ (Unbound ∷ (Declared 27 None ∷ (Package ∷ (Unbound ∷ (Unbound ∷ (Unbound ∷ (Unbound ∷ (Unbound ∷ (Unbound ∷ []))))))))))))))))))))))))))))))))
 
-abbrev seen_without : List Referent
-seen_without = Unbound ∷ (Unbound ∷ (Unbound ∷ (Unbound ∷ (Unbound ∷ (Unbound ∷ (Unbound ∷ (Unbound ∷ (Unbound ∷ (Unbound ∷ (Unbound ∷ (Unbound ∷ (Unbound ∷ (Unbound ∷ (Unbound ∷ (Unbound ∷ (Unbound ∷ (Declared 12 None ∷ (Unbound ∷ (Unbound ∷ (Unbound ∷ (Unbound ∷ (Unbound ∷ (Unbound ∷ (Unbound ∷ (Declared 27 None ∷ (Package ∷ (Unbound ∷ (Unbound ∷ (Unbound ∷ (Unbound ∷ (Unbound ∷ (Unbound ∷ []))))))))))))))))))))))))))))))))
+-- with the header of B the member X of A would shadow the import
+shadowed : is_looked_for_in r (entries with_import) 31 22 ≡ false
+shadowed = refl
 
--- where X refers to a type that the import brings, A has a member X by its header, and so the import is not looked for
-not_looked_for : is_looked_for_in r (entries with_import) 31 22 ≡ false
-not_looked_for = refl
-
--- without the import X refers to nothing
-nothing_found : look_type r (entries seen_without) 31 ≡ Unbound
-nothing_found = refl
-
--- then A has no member X, and so the import is looked for
-looked_for : is_looked_for_in r (entries without_import) 31 22 ≡ true
+-- without those of A and B it does not, and X refers to what the import brings
+looked_for : is_looked_for_in r (entries seen_with) 31 22 ≡ true
 looked_for = refl
 
--- and X refers to what it brings
 import_found : look_type r (entries seen_with) 31 ≡ Declared 16 None
 import_found = refl
 
--- rounds find none
-none_found : cut_headers r ≡ None
-none_found = refl
+-- the table of headers, and what lookup sees of it
+table_found : cut_headers r ≡ Some with_import
+table_found = refl
+
+part_found : settled_part r (entries with_import) ≡ seen_with
+part_found = refl
+
+-- A, B, A is a cycle, since X is looked for in the static import too
+pub cycle_found : cycle_of r ≡ Some 27
+cycle_found = refl
 
 -- without the static import and A all types are settled
 abbrev unit_b : d.CompilationUnit
