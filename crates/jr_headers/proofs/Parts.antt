@@ -1,6 +1,6 @@
 -- Two parts of one table that keep the headers of settled types: the types that are settled with the one, where it looks headers up, are so with the other.
 use Rattle.std.proofs.Common.{◌≡◌, ◌⊎◌, ℕ, ◌+◌, sym, ◌∙◌, inl, inr, arith, Option}
-use Rattle.jr_rows.specs.Rows.{Rows, name, sought_at}
+use Rattle.jr_rows.specs.Rows.{Rows}
 use Rattle.jr_defs.specs.declared.referent.Referent.TheVariants.{Declared}
 use Rattle.jr_defs.specs.Referents.{Table}
 use Rattle.jr_defs.specs.Declarations.{IsType}
@@ -12,7 +12,7 @@ use Rattle.jr_defs.specs.Binding.{IsOfHeader}
 use Rattle.jr_defs.specs.Formed.{IsFormed}
 use Rattle.jr_defs.proofs.HeadersAgree.{Agreed, agreed, ImportSame}
 use Rattle.jr_headers.proofs.Settled.{met_type}
-use Rattle.jr_headers.proofs.Scopes.{EndsSo, looked_back}
+use Rattle.jr_headers.proofs.Scopes.{looked_back}
 use Rattle.jr_headers.proofs.Names.{itself_identifier}
 use Rattle.jr_headers.proofs.Pairs.{Pair, look_type, object_agreed, import_end_kept, name_kept, ends_kept}
 

@@ -8,7 +8,7 @@ use Rattle.jr_defs.specs.declared.referent.Referent.TheVariants.{Unbound, Declar
 use Rattle.jr_defs.specs.declared.referent.Space.TheVariants as space
 use Rattle.jr_defs.specs.Referents.{Table}
 use Rattle.jr_defs.specs.Declarations.{Declares, IsOf}
-use Rattle.jr_defs.specs.Supertypes.{SuperAt, Super}
+use Rattle.jr_defs.specs.Supertypes.{SuperAt}
 use Rattle.jr_defs.specs.Members.{Replaces, IsLeft, MemberOf}
 use Rattle.jr_defs.specs.Imports.{ImportNames, OnDemandOf}
 use Rattle.jr_defs.specs.Scope.{Depth, HasScope, InScope}

@@ -1,5 +1,3 @@
-use Rattle.jr_headers.proofs.Shadowing.{cycle_found}
-use Rattle.jr_headers.proofs.Worked.{cycle_q}
 use Rattle.std.proofs.Common.{sym, subst}
 use Rattle.std.proofs.Math.Path.{fun_ext}
 use Rattle.jr_headers.proofs.Found.{Settles, of_headers_tells, settles_found}
