@@ -1,5 +1,5 @@
 // Each plain function of headers computes what its definition says.
-ghost use Rattle.std.specs.Prelude.{◌≡◌, ℕ, ◌≤◌, ◌↔◌, IsTrue, List, length, Some, Decides};
+ghost use Rattle.std.specs.Prelude.{◌≡◌, ◌⊎◌, ℕ, ◌≤◌, ◌↔◌, IsTrue, List, length, Some, Decides};
 ghost use Rattle.jr_rows.specs.Rows.{Rows};
 ghost use Rattle.jr_defs.specs.declared.referent.Referent.{Referent};
 ghost use Rattle.jr_defs.specs.declared.referent.Referent.TheVariants.{Unbound};
@@ -32,10 +32,12 @@ pub fn header_graph_is_computed()
     ensures paths { (p : Rows) (t u : Table) (a b : ℕ) → IsHeaded p → Decides (header_path p t u a b) (HeaderPath p t u a b) }
 {}
 
-/// A type that is not settled stands before a cycle of headers, and a settled one on none: so where some type is not settled, one is the first on a cycle.
+/// A type that is not settled stands before a cycle of headers, and a settled one on none: so where some type is not settled, one is the first on a cycle. With a
+/// table of headers there is a cycle, or all types are settled under it.
 pub fn unsettled_types_are_cycles()
     ensures unsettled { (p : Rows) (t u : Table) (c : ℕ) → IsHeaded p → IsType p c → (IsSettled p t u c → ⊥) → (x : ℕ) × IsType p x × HeaderPath p t u x x }
     ensures settled { (p : Rows) (t u : Table) (c : ℕ) → IsSettled p t u c → HeaderPath p t u c c → ⊥ }
+    ensures under { (p : Rows) (t : Table) (h : OfHeaders p t) → IsHeaded p → HasCycle p ⊎ ((c : ℕ) → IsType p c → IsSettled p t h.settled_part c) }
     ensures first { (p : Rows) → IsHeaded p → HasCycle p ↔ (c : ℕ) × IsFirstOnCycle p c }
     ensures computed { (p : Rows) (t u : Table) → IsHeaded p → Finds (first_on_cycle p t u) (IsFirst (λ c. IsType p c × HeaderPath p t u c c) (length p)) }
 {}
