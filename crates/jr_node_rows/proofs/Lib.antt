@@ -1,2 +1,4 @@
 pub mod Counting
 pub mod CountedExprs
+pub mod CountedStmts
+pub mod CountedDecls
