@@ -3,4 +3,4 @@
 
 mod law;
 
-pub use law::rows_count_the_nodes;
+pub use law::{rows_count_the_nodes, rows_count_their_forest};
