@@ -1,6 +1,6 @@
 -- The labels of statements stand for their nodes.
-use Rattle.std.proofs.Common.{◌≡◌, ℕ, List, [], ◌∷◌, ◌++◌, refl}
-use Rattle.std.specs.Prelude.{Bool, true, false, Option, Some, None, is_some}
+use Rattle.std.proofs.Common.{List, refl}
+use Rattle.std.specs.Prelude.{Bool}
 use Rattle.jr_tree.specs.declared.tree.TypeUse.{TypeUse}
 use Rattle.jr_tree.specs.declared.tree.Param.{Param}
 use Rattle.jr_tree.specs.Shape.{IsWholeExpr, AreStatementExprs, IsShapedDeclarator, AreShapedVariables, IsShapedInit, IsShapedForInit, IsShapedLabel, IsShapedParam, IsShapedStmt, IsShapedBlock, IsShapedCatch, IsShapedGroup, AreShapedStmts, AreShapedGroups, AreShapedCatches, IsShapedCtorBody}
