@@ -1,0 +1,5 @@
+pub mod Counting
+pub mod CountedExprs
+pub mod CountedStmts
+pub mod CountedDecls
+pub mod Before
