@@ -20,7 +20,7 @@ use Rattle.jr_prelude.proofs.Begun.{one_object, one_string}
 use Rattle.jr_bound.specs.Bound.{the_binding, binding_of}
 
 -- one Object and one String
-one_prelude : (p : Rows) → BeginsWithLang p → HasOnePrelude p
+pub one_prelude : (p : Rows) → BeginsWithLang p → HasOnePrelude p
 one_prelude p begins =
     let objects = one_object p begins in
     let strings = one_string p begins in

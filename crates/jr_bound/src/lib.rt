@@ -3,4 +3,4 @@
 
 mod law;
 
-pub use law::{cycles_leave_files_unbound, files_have_one_binding};
+pub use law::{cycles_leave_files_unbound, files_have_one_binding, rules_of_files_are_decided};
