@@ -1,0 +1,17 @@
+-- Whether each occurrence refers to one thing, as a test.
+use Rattle.std.specs.Prelude.{ℕ, Bool, not, ◌&&◌, ◌||◌, length}
+use Rattle.jr_rows.specs.Rows.{Rows}
+use Rattle.jr_defs.specs.declared.referent.Referent.{Referent}
+use Rattle.jr_defs.specs.declared.referent.Referent.TheVariants.{Unbound, Ambiguous}
+use Rattle.jr_defs.specs.Referents.{Table}
+use Rattle.jr_plain.specs.Search.{all_below}
+use Rattle.jr_plain.specs.Same.{same_referent}
+use Rattle.jr_plain.specs.Declarations.{is_occurrence}
+
+-- it is one thing
+abbrev pub is_one_thing : Referent → Bool
+is_one_thing a = not (same_referent a Unbound) && not (same_referent a Ambiguous)
+
+-- each occurrence refers to one thing
+abbrev pub all_found : Rows → Table → Bool
+all_found p t = all_below (length p) (λ o. not (is_occurrence p o) || is_one_thing (t o))
