@@ -33,7 +33,7 @@ pub before_end : (a b c : Rows) → nodes_before (a ++ (b ++ c)) (length a + len
 before_end a [] c = let z : length a ≡ length a + 0 = omega arith in subst (λ n. nodes_before (a ++ c) n ≡ nodes_before (a ++ c) (length a) + 0) z (omega arith)
 before_end a (r ∷ b) c =
     let h = subst (λ p. nodes_before p (length (a ++ (r ∷ [])) + length b) ≡ nodes_before p (length (a ++ (r ∷ []))) + row_sum b)
-        (append_assoc a (r ∷ []) (b ++ c)) (before_end (a ++ (r ∷ [])) b c) in
+    (append_assoc a (r ∷ []) (b ++ c)) (before_end (a ++ (r ∷ [])) b c) in
     let s = length-append a (r ∷ []) in
     let e : length (a ++ (r ∷ [])) ≡ suc (length a) = omega arith in
     let k = subst (λ n. nodes_before (a ++ (r ∷ (b ++ c))) (n + length b) ≡ nodes_before (a ++ (r ∷ (b ++ c))) n + row_sum b) e h in
