@@ -1,5 +1,5 @@
 -- What the rules ask of a binding: that an expression has one type at most, and that occurrences are found.
-use Rattle.std.proofs.Common.{◌≡◌, refl, arith, ℕ, ◌≤◌, ◌<◌, ◌||◌, ◌&&◌, not, length, Option, Decides}
+use Rattle.std.proofs.Common.{◌≡◌, refl, arith, ℕ, ◌≤◌, ◌<◌, ◌||◌, not, length, Option, Decides}
 use Rattle.jr_rows.specs.Labels.{sought_by}
 use Rattle.jr_rows.specs.declared.label.Sought.TheVariants as sought
 use Rattle.jr_rows.specs.Rows.{Rows, name}

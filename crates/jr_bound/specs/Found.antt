@@ -1,5 +1,5 @@
 -- Whether each occurrence refers to one thing, as a test.
-use Rattle.std.specs.Prelude.{ℕ, Bool, not, ◌&&◌, ◌||◌, length}
+use Rattle.std.specs.Prelude.{Bool, not, ◌&&◌, ◌||◌, length}
 use Rattle.jr_rows.specs.Rows.{Rows}
 use Rattle.jr_defs.specs.declared.referent.Referent.{Referent}
 use Rattle.jr_defs.specs.declared.referent.Referent.TheVariants.{Unbound, Ambiguous}
