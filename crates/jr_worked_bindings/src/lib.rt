@@ -3,4 +3,7 @@
 
 mod law;
 
-pub use law::{bindings_of_calls, bindings_of_constants, bindings_of_creations, bindings_of_fields, bindings_of_imports, bindings_of_locals, cyclic_programs};
+pub use law::{
+    bindings_of_calls, bindings_of_constants, bindings_of_creations, bindings_of_fields,
+    bindings_of_imports, bindings_of_locals, cyclic_programs,
+};
