@@ -6,7 +6,7 @@ use Rattle.jr_tree.specs.declared.tree.Import.TheVariants as import
 use Rattle.jr_tree.specs.declared.tree.Name.{Name}
 use Rattle.jr_tree.specs.Mirror.Decls as d
 use Rattle.jr_rows.specs.declared.label.Label.TheVariants as is
-use Rattle.jr_rows.specs.Forest.{Forest, none, node}
+use Rattle.jr_rows.specs.Forest.{none, node}
 use Rattle.jr_rows.specs.Decls.{unit_labels}
 use Rattle.jr_rows.specs.Rows.{Rows, rows_from}
 
