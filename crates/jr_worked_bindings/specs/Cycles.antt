@@ -1,0 +1,66 @@
+-- Programs that have no binding, since a header leads back to its own type (JLS 8.1.4, 8.1.5).
+use Rattle.std.specs.Prelude.{List, [], ◌∷◌, Some, None, codes}
+use Rattle.jr_base.specs.declared.text.Text.{Text}
+use Rattle.jr_tree.specs.declared.tree.Modifier.TheVariants as modifier
+use Rattle.jr_tree.specs.declared.tree.Import.TheVariants as import
+use Rattle.jr_tree.specs.declared.tree.Name.{Name}
+use Rattle.jr_tree.specs.Mirror.Decls as d
+use Rattle.jr_rows.specs.declared.label.Label.TheVariants as is
+use Rattle.jr_rows.specs.Forest.{none, node}
+use Rattle.jr_rows.specs.Decls.{unit_labels}
+use Rattle.jr_rows.specs.Rows.{Rows, rows_from}
+
+-- a name with these identifiers
+abbrev named : List Text → Name
+named parts = record { parts = parts }
+
+-- a class without members, which names this superclass
+abbrev class : List Text → Text → d.TypeDecl
+class above name = d.Class [] name (Some (named above)) [] d.no_members
+
+-- a static nested class without a superclass or members
+abbrev nested : Text → d.Members
+nested name = d.more_members (d.Nested (d.Class (modifier.Static ∷ []) name None [] d.no_members)) d.no_members
+
+-- the package java.lang, of which these programs need Object alone
+abbrev lang : d.CompilationUnit
+lang = d.UnitOf (Some (record { name = named (codes "java" ∷ codes "lang" ∷ []) })) [] (d.Class (modifier.Public ∷ []) (codes "Object") None [] d.no_members ∷ [])
+
+-- 53
+-- class A extends B { } class B extends A { }
+abbrev two_classes_extend_each_other_unit : d.CompilationUnit
+two_classes_extend_each_other_unit = d.UnitOf None [] (class (codes "B" ∷ []) (codes "A") ∷ class (codes "A" ∷ []) (codes "B") ∷ [])
+
+abbrev pub two_classes_extend_each_other : Rows
+two_classes_extend_each_other = rows_from 0 0 0 (node is.Program (unit_labels lang (unit_labels two_classes_extend_each_other_unit none)) none)
+
+-- 54
+-- p/C.java: package p; public class C extends q.A { }
+-- q/A.java: package q; import p.C.*; public class A extends N { }
+abbrev unit_of_c : d.CompilationUnit
+unit_of_c = d.UnitOf (Some (record { name = named (codes "p" ∷ []) })) []
+    (d.Class (modifier.Public ∷ []) (codes "C") (Some (named (codes "q" ∷ codes "A" ∷ []))) [] d.no_members ∷ [])
+
+abbrev unit_of_a : d.CompilationUnit
+unit_of_a = d.UnitOf (Some (record { name = named (codes "q" ∷ []) })) (import.OnDemand (named (codes "p" ∷ codes "C" ∷ [])) ∷ [])
+    (d.Class (modifier.Public ∷ []) (codes "A") (Some (named (codes "N" ∷ []))) [] d.no_members ∷ [])
+
+abbrev pub a_cycle_through_an_import : Rows
+a_cycle_through_an_import = rows_from 0 0 0 (node is.Program (unit_labels lang (unit_labels unit_of_c (unit_labels unit_of_a none))) none)
+
+-- 55
+-- class A extends A.B { static class B { } }
+abbrev a_class_extends_its_member_unit : d.CompilationUnit
+a_class_extends_its_member_unit = d.UnitOf None [] (d.Class [] (codes "A") (Some (named (codes "A" ∷ codes "B" ∷ []))) [] (nested (codes "B")) ∷ [])
+
+abbrev pub a_class_extends_its_member : Rows
+a_class_extends_its_member = rows_from 0 0 0 (node is.Program (unit_labels lang (unit_labels a_class_extends_its_member_unit none)) none)
+
+-- 62
+-- class A extends B.C { } class B extends A { static class C { } }
+abbrev a_cycle_through_a_qualifier_unit : d.CompilationUnit
+a_cycle_through_a_qualifier_unit = d.UnitOf None []
+    (class (codes "B" ∷ codes "C" ∷ []) (codes "A") ∷ d.Class [] (codes "B") (Some (named (codes "A" ∷ []))) [] (nested (codes "C")) ∷ [])
+
+abbrev pub a_cycle_through_a_qualifier : Rows
+a_cycle_through_a_qualifier = rows_from 0 0 0 (node is.Program (unit_labels lang (unit_labels a_cycle_through_a_qualifier_unit none)) none)
