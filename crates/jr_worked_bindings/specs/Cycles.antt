@@ -23,12 +23,12 @@ abbrev nested : Text → d.Members
 nested name = d.more_members (d.Nested (d.Class (modifier.Static ∷ []) name None [] d.no_members)) d.no_members
 
 -- the package java.lang, of which these programs need Object alone
-abbrev lang : d.CompilationUnit
+abbrev pub lang : d.CompilationUnit
 lang = d.UnitOf (Some (record { name = named (codes "java" ∷ codes "lang" ∷ []) })) [] (d.Class (modifier.Public ∷ []) (codes "Object") None [] d.no_members ∷ [])
 
 -- 53
 -- class A extends B { } class B extends A { }
-abbrev two_classes_extend_each_other_unit : d.CompilationUnit
+abbrev pub two_classes_extend_each_other_unit : d.CompilationUnit
 two_classes_extend_each_other_unit = d.UnitOf None [] (class (codes "B" ∷ []) (codes "A") ∷ class (codes "A" ∷ []) (codes "B") ∷ [])
 
 abbrev pub two_classes_extend_each_other : Rows
@@ -37,11 +37,11 @@ two_classes_extend_each_other = rows_from 0 0 0 (node is.Program (unit_labels la
 -- 54
 -- p/C.java: package p; public class C extends q.A { }
 -- q/A.java: package q; import p.C.*; public class A extends N { }
-abbrev unit_of_c : d.CompilationUnit
+abbrev pub unit_of_c : d.CompilationUnit
 unit_of_c = d.UnitOf (Some (record { name = named (codes "p" ∷ []) })) []
     (d.Class (modifier.Public ∷ []) (codes "C") (Some (named (codes "q" ∷ codes "A" ∷ []))) [] d.no_members ∷ [])
 
-abbrev unit_of_a : d.CompilationUnit
+abbrev pub unit_of_a : d.CompilationUnit
 unit_of_a = d.UnitOf (Some (record { name = named (codes "q" ∷ []) })) (import.OnDemand (named (codes "p" ∷ codes "C" ∷ [])) ∷ [])
     (d.Class (modifier.Public ∷ []) (codes "A") (Some (named (codes "N" ∷ []))) [] d.no_members ∷ [])
 
@@ -50,7 +50,7 @@ a_cycle_through_an_import = rows_from 0 0 0 (node is.Program (unit_labels lang (
 
 -- 55
 -- class A extends A.B { static class B { } }
-abbrev a_class_extends_its_member_unit : d.CompilationUnit
+abbrev pub a_class_extends_its_member_unit : d.CompilationUnit
 a_class_extends_its_member_unit = d.UnitOf None [] (d.Class [] (codes "A") (Some (named (codes "A" ∷ codes "B" ∷ []))) [] (nested (codes "B")) ∷ [])
 
 abbrev pub a_class_extends_its_member : Rows
@@ -58,7 +58,7 @@ a_class_extends_its_member = rows_from 0 0 0 (node is.Program (unit_labels lang 
 
 -- 62
 -- class A extends B.C { } class B extends A { static class C { } }
-abbrev a_cycle_through_a_qualifier_unit : d.CompilationUnit
+abbrev pub a_cycle_through_a_qualifier_unit : d.CompilationUnit
 a_cycle_through_a_qualifier_unit = d.UnitOf None []
     (class (codes "B" ∷ codes "C" ∷ []) (codes "A") ∷ d.Class [] (codes "B") (Some (named (codes "A" ∷ []))) [] (nested (codes "C")) ∷ [])
 

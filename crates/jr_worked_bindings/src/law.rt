@@ -2,7 +2,6 @@
 ghost use Rattle.std.specs.Prelude.{◌≡◌, Some};
 ghost use Rattle.jr_defs.specs.Referents.{Table};
 ghost use Rattle.jr_defs.specs.Binding.{IsBinding, IsFirstOnCycle};
-ghost use Rattle.jr_defs.specs.Formed.{IsFormed};
 ghost use Rattle.jr_headers.specs.Rounds.{cycle_of};
 ghost use Rattle.jr_worked.specs.Tables.{rows_of, table_of};
 ghost use Rattle.jr_worked.specs.Locals as locals;
@@ -103,15 +102,15 @@ pub fn bindings_of_constants()
 /// Programs whose headers have a cycle: the first type on it, and that there is no binding (JLS 8.1.4).
 pub fn cyclic_programs()
     ensures two_classes_extend_each_other { cycle_of cycles.two_classes_extend_each_other ≡ Some 10 }
-    ensures two_classes_extend_each_other_first { IsFormed cycles.two_classes_extend_each_other → IsFirstOnCycle cycles.two_classes_extend_each_other 10 }
-    ensures two_classes_extend_each_other_has_no_binding { (t : Table) → IsFormed cycles.two_classes_extend_each_other → IsBinding cycles.two_classes_extend_each_other t → ⊥ }
+    ensures two_classes_extend_each_other_first { IsFirstOnCycle cycles.two_classes_extend_each_other 10 }
+    ensures two_classes_extend_each_other_has_no_binding { (t : Table) → IsBinding cycles.two_classes_extend_each_other t → ⊥ }
     ensures a_cycle_through_an_import { cycle_of cycles.a_cycle_through_an_import ≡ Some 12 }
-    ensures a_cycle_through_an_import_first { IsFormed cycles.a_cycle_through_an_import → IsFirstOnCycle cycles.a_cycle_through_an_import 12 }
-    ensures a_cycle_through_an_import_has_no_binding { (t : Table) → IsFormed cycles.a_cycle_through_an_import → IsBinding cycles.a_cycle_through_an_import t → ⊥ }
+    ensures a_cycle_through_an_import_first { IsFirstOnCycle cycles.a_cycle_through_an_import 12 }
+    ensures a_cycle_through_an_import_has_no_binding { (t : Table) → IsBinding cycles.a_cycle_through_an_import t → ⊥ }
     ensures a_class_extends_its_member { cycle_of cycles.a_class_extends_its_member ≡ Some 10 }
-    ensures a_class_extends_its_member_first { IsFormed cycles.a_class_extends_its_member → IsFirstOnCycle cycles.a_class_extends_its_member 10 }
-    ensures a_class_extends_its_member_has_no_binding { (t : Table) → IsFormed cycles.a_class_extends_its_member → IsBinding cycles.a_class_extends_its_member t → ⊥ }
+    ensures a_class_extends_its_member_first { IsFirstOnCycle cycles.a_class_extends_its_member 10 }
+    ensures a_class_extends_its_member_has_no_binding { (t : Table) → IsBinding cycles.a_class_extends_its_member t → ⊥ }
     ensures a_cycle_through_a_qualifier { cycle_of cycles.a_cycle_through_a_qualifier ≡ Some 10 }
-    ensures a_cycle_through_a_qualifier_first { IsFormed cycles.a_cycle_through_a_qualifier → IsFirstOnCycle cycles.a_cycle_through_a_qualifier 10 }
-    ensures a_cycle_through_a_qualifier_has_no_binding { (t : Table) → IsFormed cycles.a_cycle_through_a_qualifier → IsBinding cycles.a_cycle_through_a_qualifier t → ⊥ }
+    ensures a_cycle_through_a_qualifier_first { IsFirstOnCycle cycles.a_cycle_through_a_qualifier 10 }
+    ensures a_cycle_through_a_qualifier_has_no_binding { (t : Table) → IsBinding cycles.a_cycle_through_a_qualifier t → ⊥ }
 {}
