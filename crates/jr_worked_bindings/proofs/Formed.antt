@@ -1,5 +1,5 @@
 -- The programs with a cycle of headers are formed.
-use Rattle.std.proofs.Common.{◌≡◌, ◌⊎◌, refl, sym, ◌∙◌, ap, ap₂, subst, ⊎_elim, ℕ, ◌<◌, Bool, true, not, ◌&&◌, ◌||◌, [], ◌∷◌, length, Decides}
+use Rattle.std.proofs.Common.{◌≡◌, refl, sym, ◌∙◌, ap, ap₂, subst, ⊎_elim, ℕ, ◌<◌, Bool, true, not, ◌&&◌, ◌||◌, [], ◌∷◌, length, Decides}
 use Rattle.jr_tree.specs.Mirror.Decls.{plain_unit}
 use Rattle.jr_tree.specs.Mirror.Decls as d
 use Rattle.jr_tree.specs.Shape.{IsShaped, IsShapedUnit}
