@@ -25,11 +25,26 @@ use Rattle.jr_headers.proofs.Settled.{met_type}
 use Rattle.jr_headers.proofs.Scopes.{EndsSo, bounded_there, looked_there, looked_back, first_same}
 use Rattle.jr_headers.proofs.Names.{name_same, look_declares, itself_identifier, inner_names_none, import_names_none, import_seeks, next_identifier, each_identifier, import_identifier_same}
 
--- x has what lookup gives at headers under y, which leaves out of x at most headers of types that are not settled
+-- x has what lookup gives at headers under y, which is another at names in headers alone
+pub record Looked (p : Rows) (x y : Table) : Type 0 where
+  pub looked : (c o : ℕ) → IsType p c → IsOfHeader p y c o → Look p y (HasConstantForm p y) o (x o)
+  pub others : (o : ℕ) → ((c : ℕ) → NamesHeader p c o → ⊥) → y o ≡ x o
+  pub named : EndsSo p x
+
+-- and that leaves out of x at most headers of types that are not settled
 pub record Pair (p : Rows) (x y : Table) : Type 0 where
   pub looked : (c o : ℕ) → IsType p c → IsOfHeader p y c o → Look p y (HasConstantForm p y) o (x o)
   pub kept : (o : ℕ) → ((c : ℕ) → NamesHeader p c o → IsSettled p x y c) → y o ≡ x o
   pub named : EndsSo p x
+
+pub looked_of : (p : Rows) (x y : Table) → Pair p x y → Looked p x y
+looked_of p x y a = record { looked = a.looked; others = λ o no'. a.kept o (λ c h. absurd (no' c h)); named = a.named }
+
+pub one_type : (p : Rows) (n : ℕ) {c e : ℕ} → NamesHeader p c n → NamesHeader p e n → c ≡ e
+one_type p n (inl v) (inl w) = sym v.inside ∙ w.inside
+one_type p n (inl v) (inr w) = sym v.inside ∙ w.inside
+one_type p n (inr v) (inl w) = sym v.inside ∙ w.inside
+one_type p n (inr v) (inr w) = sym v.inside ∙ w.inside
 
 module _ (p : Rows) (formed : IsFormed p) where
   -- what refers to a row where a type is looked for refers to a type
@@ -50,31 +65,25 @@ module _ (p : Rows) (formed : IsFormed p) where
     import_end_kept i form e = kept (i + 1) (λ c h. absurd (import_names_none p formed i c form e h))
 
     pub name_kept : (c n : ℕ) → IsSettled p x y c → NamesHeader p c n → y n ≡ x n
-    name_kept c n s h = kept n (λ e k. subst (IsSettled p x y) (one_type h k) s)
-      where
-        one_type : {c e : ℕ} → NamesHeader p c n → NamesHeader p e n → c ≡ e
-        one_type (inl v) (inl w) = sym v.inside ∙ w.inside
-        one_type (inl v) (inr w) = sym v.inside ∙ w.inside
-        one_type (inr v) (inl w) = sym v.inside ∙ w.inside
-        one_type (inr v) (inr w) = sym v.inside ∙ w.inside
+    name_kept c n s h = kept n (λ e k. subst (IsSettled p x y) (one_type p n h k) s)
 
     pub ends_kept : EndsSo p x → EndsSo p y
     ends_kept named i d form e w = named i d form e (record { level = w.level; refers = sym (import_end_kept i form e) ∙ w.refers; type = w.type })
 
-  module _ (x y : Table) (a : Pair p x y) where
-    inner_kept : (n m : ℕ) → SeeksType (sought_at p n) → IsIdentifierOf p n m → n < m → y m ≡ x m
-    inner_kept n m seeks i lt = a.kept m (λ c h. absurd (inner_names_none p formed n m c seeks i lt h))
+  module _ (x y : Table) (a : Looked p x y) where
+    pub inner_kept : (n m : ℕ) → SeeksType (sought_at p n) → IsIdentifierOf p n m → n < m → y m ≡ x m
+    inner_kept n m seeks i lt = a.others m (λ c h. inner_names_none p formed n m c seeks i lt h)
 
-    import_kept : (i : ℕ) (form : ImportKind) → label p i ≡ is.Import form → y (i + 1) ≡ x (i + 1)
-    import_kept = import_end_kept x y a.kept
-
-    header_kept : (c n : ℕ) → IsSettled p x y c → NamesHeader p c n → y n ≡ x n
-    header_kept = name_kept x y a.kept
+    pub import_kept : (i : ℕ) (form : ImportKind) → label p i ≡ is.Import form → y (i + 1) ≡ x (i + 1)
+    import_kept i form e = a.others (i + 1) (λ c h. import_names_none p formed i c form e h)
 
     pub named_kept : EndsSo p y
-    named_kept = ends_kept x y a.kept a.named
+    named_kept i d form e w = a.named i d form e (record { level = w.level; refers = sym (import_kept i form e) ∙ w.refers; type = w.type })
 
-  module _ (x y u v : Table) (a : Pair p x y) (b : Pair p u v) where
+  -- types of such a set are compared: what stands round one and what its header meets is in the set, the names in their headers are kept, and stay so where the
+  -- tables agree on them
+  module _ (x y u v : Table) (a : Looked p x y) (b : Looked p u v) (S : ℕ → Type 0) (outwards : (c e : ℕ) → S c → DeclaredIn p e c → S e) (downwards : (c s : ℕ) → S c → Meets p x y c s → S s)
+      (kept : (c n : ℕ) → S c → NamesHeader p c n → y n ≡ x n) (stays : (c n : ℕ) → S c → NamesHeader p c n → x n ≡ u n → IsSettled p u v c → u n ≡ v n) where
     -- all that is wanted of a type on whose header the tables agree
     pub record Done (c : ℕ) : Type 0 where
       pub settled : IsSettled p u v c
@@ -82,7 +91,7 @@ module _ (p : Rows) (formed : IsFormed p) where
       pub seen : Agreed p y v c
 
     -- the header of a type, where what it meets is done, and all round it
-    module _ (c : ℕ) (type : IsType p c) (own : IsSettled p x y c) (outer : (e : ℕ) → InBody p e c → Done e) (met : (s : ℕ) → IsType p s → Meets p x y c s → Done s) where
+    module _ (c : ℕ) (type : IsType p c) (outer : (e : ℕ) → InBody p e c → Done e) (met : (s : ℕ) → IsType p s → Meets p x y c s → Done s) where
       module _ (n : ℕ) (h : NamesHeader p c n) where
         seeks : SeeksType (sought_at p n)
         seeks = formed.header_name c n h
@@ -207,12 +216,12 @@ module _ (p : Rows) (formed : IsFormed p) where
       supers_done r A same done top _ s (SuperAt.implied h e) = top s e
       supers_done r A same done top n s (SuperAt.interface {level = l} h e) = done s (names_done n s l (inr h) (sym (same n (inr h)) ∙ e))
 
-      done_here : ((e : ℕ) → DeclaredIn p e c → Done e) → Done c
-      done_here out = let there = settled_there out in record {
+      done_here : S c → ((e : ℕ) → DeclaredIn p e c → Done e) → Done c
+      done_here own out = let there = settled_there out in record {
         settled = there;
         entries = agreed type top_agree (supers_done x (Agreed p x u) (λ n h. refl) (λ s d. d.entries) (object_agreed x u));
-        seen = agreed type (λ n h. header_kept x y a c n own h ∙ top_agree n h ∙ sym (header_kept u v b c n there h))
-            (supers_done y (Agreed p y v) (λ n h. header_kept x y a c n own h) (λ s d. d.seen) (object_agreed y v));
+        seen = agreed type (λ n h. kept c n own h ∙ top_agree n h ∙ stays c n own h (top_agree n h) there)
+            (supers_done y (Agreed p y v) (λ n h. kept c n own h) (λ s d. d.seen) (object_agreed y v));
       }
 
     -- c is done, and so are the types whose bodies hold it
@@ -220,21 +229,51 @@ module _ (p : Rows) (formed : IsFormed p) where
       itself : Done c
       around : (e : ℕ) → InBody p e c → Done e
 
-    full_of : (c : ℕ) → IsType p c → IsSettled p x y c → ((e : ℕ) → DeclaredIn p e c → Full e) → ((s : ℕ) → IsType p s → Meets p x y c s → Full s) → Full c
-    full_of c k own out met = record { around = outer; itself = done_here c k own outer (λ s t m. (met s t m).itself) (λ e d. (out e d).itself) }
+    outer_of : (c : ℕ) → IsType p c → ((e : ℕ) → DeclaredIn p e c → Full e) → (e : ℕ) → InBody p e c → Done e
+    outer_of c k out e w = by_chain (formed.body_chain c e k w)
       where
-        outer : (e : ℕ) → InBody p e c → Done e
-        outer e w = by_chain (formed.body_chain c e k w)
-          where
-            by_chain : DeclaredIn p e c ⊎ ((f : ℕ) × DeclaredIn p f c × InBody p e f) → Done e
-            by_chain (inl d) = (out e d).itself
-            by_chain (inr d) = let f = d.0 in let i : DeclaredIn p f c = d.1 in (out f i).around e d.2
+        by_chain : DeclaredIn p e c ⊎ ((f : ℕ) × DeclaredIn p f c × InBody p e f) → Done e
+        by_chain (inl d) = (out e d).itself
+        by_chain (inr d) = let f = d.0 in let i : DeclaredIn p f c = d.1 in (out f i).around e d.2
 
-    full : (c : ℕ) → IsType p c → IsSettled p x y c → Full c
-    full c k (IsSettled.settled out met) = full_of c k (IsSettled.settled out met) (λ e d. full e d.inside.type (out e d)) (λ s j w. full s j (met s w))
+    full : (c : ℕ) → IsType p c → S c → IsSettled p x y c → Full c
+    full c k own (IsSettled.settled out met) = full_of (λ e d. full e d.inside.type (outwards c e own d) (out e d)) (λ s j w. full s j (downwards c s own w) (met s w))
+      where
+        full_of : ((e : ℕ) → DeclaredIn p e c → Full e) → ((s : ℕ) → IsType p s → Meets p x y c s → Full s) → Full c
+        full_of out met = record { around = outer_of c k out; itself = done_here c k (outer_of c k out) (λ s t m. (met s t m).itself) own (λ e d. (out e d).itself) }
 
-    pub settled_done : (c : ℕ) → IsType p c → IsSettled p x y c → Done c
-    settled_done c k s = (full c k s).itself
+    pub settled_done : (c : ℕ) → IsType p c → S c → IsSettled p x y c → Done c
+    settled_done c k own s = (full c k own s).itself
+
+    -- a type that need not be in the set, where what stands round it and what its header meets is
+    module _ (c : ℕ) (k : IsType p c) (out : (e : ℕ) → DeclaredIn p e c → S e × IsSettled p x y e) (met : (s : ℕ) → Meets p x y c s → S s × IsSettled p x y s) where
+      around_done : (e : ℕ) → DeclaredIn p e c → Full e
+      around_done e d = full e d.inside.type (out e d).0 (out e d).1
+
+      met_done : (s : ℕ) → IsType p s → Meets p x y c s → Done s
+      met_done s t m = (full s t (met s m).0 (met s m).1).itself
+
+      pub next_agrees : (n : ℕ) → NamesHeader p c n → x n ≡ u n
+      next_agrees = top_agree c k (outer_of c k around_done) met_done
+
+      pub next_settled : IsSettled p u v c
+      next_settled = settled_there c k (outer_of c k around_done) met_done (λ e d. (around_done e d).itself)
+
+      pub next_meets : (s : ℕ) → Meets p u v c s → Meets p x y c s
+      next_meets s m = record { row = m.row; header = m.header; meets = meets_back c k (outer_of c k around_done) met_done m.row m.header s m.meets }
+
+  -- two pairs agree on settled types
+  module _ (x y u v : Table) (a : Pair p x y) (b : Pair p u v) where
+    pub outwards : (c e : ℕ) → IsSettled p x y c → DeclaredIn p e c → IsSettled p x y e
+    outwards c e (IsSettled.settled out met) d = out e d
+
+    pub downwards : (c s : ℕ) → IsSettled p x y c → Meets p x y c s → IsSettled p x y s
+    downwards c s (IsSettled.settled out met) m = met s m
+
+    pub pair_done : (c : ℕ) → IsType p c → IsSettled p x y c → Done x y u v (looked_of p x y a) (looked_of p u v b) (IsSettled p x y) outwards downwards (name_kept x y a.kept)
+        (λ c n s h e there. sym (name_kept u v b.kept c n there h)) c
+    pair_done c k s = settled_done x y u v (looked_of p x y a) (looked_of p u v b) (IsSettled p x y) outwards downwards (name_kept x y a.kept)
+        (λ c n s h e there. sym (name_kept u v b.kept c n there h)) c k s s
 
   pub bound_pair : (t : Table) → IsBound p t → Pair p t t
   bound_pair t bound = record {
@@ -252,12 +291,12 @@ module _ (p : Rows) (formed : IsFormed p) where
 
   -- beside a binding no table of headers leaves a type unsettled
   pub no_cycle_beside : (t : Table) → IsBinding p t → HasCycle p → ⊥
-  no_cycle_beside t w h = h.unsettled (settled_done t t h.table h.of_headers.settled_part (bound_pair t w.bound) (headers_pair h.table h.of_headers) h.on h.type (w.settled h.on h.type)).settled
+  no_cycle_beside t w h = h.unsettled (pair_done t t h.table h.of_headers.settled_part (bound_pair t w.bound) (headers_pair h.table h.of_headers) h.on h.type (w.settled h.on h.type)).settled
 
   -- the same types are settled under all tables of headers
   pub settled_same : (t u : Table) (g : OfHeaders p t) (h : OfHeaders p u) (c : ℕ) → IsType p c → IsSettled p t g.settled_part c → IsSettled p u h.settled_part c
-  settled_same t u g h c k s = (settled_done t g.settled_part u h.settled_part (headers_pair t g) (headers_pair u h) c k s).settled
+  settled_same t u g h c k s = (pair_done t g.settled_part u h.settled_part (headers_pair t g) (headers_pair u h) c k s).settled
 
   -- and there they have the same headers
   pub headers_same : (t u : Table) (g : OfHeaders p t) (h : OfHeaders p u) (c n : ℕ) → IsSettled p t g.settled_part c → NamesHeader p c n → t n ≡ u n
-  headers_same t u g h c n s k = agreed_names p t u c n (settled_done t g.settled_part u h.settled_part (headers_pair t g) (headers_pair u h) c (formed.header c n k) s).entries k
+  headers_same t u g h c n s k = agreed_names p t u c n (pair_done t g.settled_part u h.settled_part (headers_pair t g) (headers_pair u h) c (formed.header c n k) s).entries k
