@@ -1,6 +1,7 @@
 pub mod Headed
 pub mod Settled
 pub mod Graphs
+pub mod Grounded
 pub mod Cyclic
 pub mod Scopes
 pub mod Within
