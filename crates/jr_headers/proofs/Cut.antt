@@ -18,8 +18,8 @@ use Rattle.jr_headers.proofs.Found.{Settles, headed, part_only, of_headers_tells
 
 module _ (p : Rows) (formed : IsFormed p) where
   cut_past : (o : ℕ) → length p ≤ o → entries (plain.cut_table p) o ≡ Unbound
-  cut_past o le = entries_past (plain.kept p (entries (plain.part_rounds p (plain.enough p (suc (length p))) []))
-      (entries (plain.settled_part p (entries (plain.part_rounds p (plain.enough p (suc (length p))) []))))) (length p) 0 o le
+  cut_past o le = entries_past (plain.kept p (entries (plain.rounds_of (plain.part_round p) (plain.enough p (suc (length p))) []))
+      (entries (plain.settled_part p (entries (plain.rounds_of (plain.part_round p) (plain.enough p (suc (length p))) []))))) (length p) 0 o le
 
   table_past : (o : ℕ) → length p ≤ o → entries (plain.header_table p) o ≡ Unbound
   table_past o le = entries_past (plain.kept p (entries (plain.last_round p)) (entries (plain.last_round p))) (length p) 0 o le

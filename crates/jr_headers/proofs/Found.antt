@@ -66,8 +66,8 @@ module _ (p : Rows) (formed : IsFormed p) where
   abbrev last : Table
   last = after p formed (plain.enough p (suc (length p)))
 
-  last_is : plain.last_round p ≡ again p (plain.enough p (suc (length p)))
-  last_is = rounds_again p (plain.enough p (suc (length p)))
+  last_is : plain.last_round p ≡ again (plain.round p) (plain.enough p (suc (length p)))
+  last_is = rounds_again (plain.round p) (plain.enough p (suc (length p)))
 
   module _ (v : Table) (a : Pair p v v) (all : (c : ℕ) → IsType p c → IsSettled p v v c) where
     known : (c : ℕ) → IsType p c → Agreed p v last c

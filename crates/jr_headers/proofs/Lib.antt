@@ -13,6 +13,7 @@ pub mod Rounding
 pub mod Converging
 pub mod Found
 pub mod Restricted
+pub mod Given
 pub mod Worked
 pub mod Cut
 pub mod Shadowing

@@ -1,7 +1,7 @@
 -- What rounds of looking up give: each row under what was found in the round before.
-use Rattle.std.proofs.Common.{◌≡◌, refl, sym, ◌∙◌, ap, subst, inl, inr, arith, ℕ, zero, suc, ◌+◌, ◌≤◌, ◌<◌, Bool, true, false, cond, ◌&&◌, ◌||◌, List, [], length, Decides}
+use Rattle.std.proofs.Common.{◌≡◌, refl, sym, ◌∙◌, ap, subst, inl, inr, ⊎_elim, arith, ℕ, zero, suc, ◌+◌, ◌≤◌, ◌<◌, Bool, true, false, cond, ◌&&◌, ◌||◌, List, [], length, Decides}
 use Rattle.std.specs.Cmp.Lexicographic.{pointwise}
-use Rattle.std.proofs.lemmas.Bool.{false≢true, or_left, or_right}
+use Rattle.std.proofs.lemmas.Bool.{false≢true, or_left, or_right, cases_lt}
 use Rattle.jr_rows.specs.declared.label.Label.{Label}
 use Rattle.jr_rows.specs.declared.label.Label.TheVariants as is
 use Rattle.jr_rows.specs.declared.label.ImportKind.{ImportKind}
@@ -37,35 +37,40 @@ entries_past f zero k j le = refl
 entries_past f (suc n) k zero le = absurd (omega arith)
 entries_past f (suc n) k (suc j) le = entries_past f n (suc k) j (omega arith)
 
--- rounds from nothing on
-abbrev pub again : Rows → ℕ → List Referent
-again p zero = []
-again p (suc n) = plain.round p (again p n)
+-- what a function gives at each row, where it gives nothing past the end
+pub listed_all : (f : ℕ → Referent) (n : ℕ) → ((j : ℕ) → n ≤ j → f j ≡ Unbound) → (j : ℕ) → entries (plain.listed n 0 f) j ≡ f j
+listed_all f n past j = ⊎_elim (λ lt. let e : 0 + j ≡ j = omega arith in entries_listed f n 0 j lt ∙ ap f e) (λ le. entries_past f n 0 j le ∙ sym (past j le)) (cases_lt j n)
 
--- rounds that do not stop
-abbrev repeated : Rows → ℕ → List Referent → List Referent
-repeated p zero all = all
-repeated p (suc n) all = repeated p n (plain.round p all)
+module _ (step : List Referent → List Referent) where
+  -- rounds from nothing on
+  abbrev pub again : ℕ → List Referent
+  again zero = []
+  again (suc n) = step (again n)
 
-repeated_fixed : (p : Rows) (n : ℕ) (all : List Referent) → plain.round p all ≡ all → repeated p n all ≡ all
-repeated_fixed p zero all e = refl
-repeated_fixed p (suc n) all e = ap (repeated p n) e ∙ repeated_fixed p n all e
+  -- rounds that do not stop
+  abbrev pub repeated : ℕ → List Referent → List Referent
+  repeated zero all = all
+  repeated (suc n) all = repeated n (step all)
 
-rounds_repeat : (p : Rows) (n : ℕ) (all : List Referent) → plain.rounds p n all ≡ repeated p n all
-rounds_repeat p zero all = refl
-rounds_repeat p (suc n) all = by (pointwise same_referent all (plain.round p all)) refl (rounds_repeat p n (plain.round p all))
-  where
-    by : (b : Bool) → pointwise same_referent all (plain.round p all) ≡ b → plain.rounds p n (plain.round p all) ≡ repeated p n (plain.round p all)
-        → cond b all (plain.rounds p n (plain.round p all)) ≡ repeated p n (plain.round p all)
-    by true e rest = let f = (list_tells same_referent referent_tells all (plain.round p all)).0 e in sym (ap (repeated p n) (sym f) ∙ repeated_fixed p n all (sym f))
-    by false e rest = rest
+  repeated_fixed : (n : ℕ) (all : List Referent) → step all ≡ all → repeated n all ≡ all
+  repeated_fixed zero all e = refl
+  repeated_fixed (suc n) all e = ap (repeated n) e ∙ repeated_fixed n all e
 
-repeated_again : (p : Rows) (n m : ℕ) → repeated p n (again p m) ≡ again p (n + m)
-repeated_again p zero m = let e : m ≡ 0 + m = omega arith in ap (again p) e
-repeated_again p (suc n) m = let e : n + suc m ≡ suc n + m = omega arith in repeated_again p n (suc m) ∙ ap (again p) e
+  rounds_repeat : (n : ℕ) (all : List Referent) → plain.rounds_of step n all ≡ repeated n all
+  rounds_repeat zero all = refl
+  rounds_repeat (suc n) all = by (pointwise same_referent all (step all)) refl (rounds_repeat n (step all))
+    where
+      by : (b : Bool) → pointwise same_referent all (step all) ≡ b → plain.rounds_of step n (step all) ≡ repeated n (step all)
+          → cond b all (plain.rounds_of step n (step all)) ≡ repeated n (step all)
+      by true e rest = let f = (list_tells same_referent referent_tells all (step all)).0 e in sym (ap (repeated n) (sym f) ∙ repeated_fixed n all (sym f))
+      by false e rest = rest
 
-pub rounds_again : (p : Rows) (n : ℕ) → plain.rounds p n [] ≡ again p n
-rounds_again p n = let e : n + 0 ≡ n = omega arith in rounds_repeat p n [] ∙ repeated_again p n 0 ∙ ap (again p) e
+  repeated_again : (n m : ℕ) → repeated n (again m) ≡ again (n + m)
+  repeated_again zero m = let e : m ≡ 0 + m = omega arith in ap again e
+  repeated_again (suc n) m = let e : n + suc m ≡ suc n + m = omega arith in repeated_again n (suc m) ∙ ap again e
+
+  pub rounds_again : (n : ℕ) → plain.rounds_of step n [] ≡ again n
+  rounds_again n = let e : n + 0 ≡ n = omega arith in rounds_repeat n [] ∙ repeated_again n 0 ∙ ap again e
 
 -- ---- the rows that are looked up
 
@@ -91,31 +96,35 @@ module _ (p : Rows) (formed : IsFormed p) where
   pub import_place : (i o : ℕ) (form : ImportKind) → label p i ≡ is.Import form → IsIdentifierOf p (i + 1) o → o < length p
   import_place i o form e h = let z = (in_import p formed i o form e h).1 in let y = formed.tree.last i (import_row p formed i form e) in omega arith
 
+  own_type : (c n : ℕ) → NamesHeader p c n → NamesHeader p (parent p n) n
+  own_type c n (inl w) = inl (record { names = w.names; inside = refl })
+  own_type c n (inr w) = inr (record { names = w.names; inside = refl })
+
+  -- identifiers of headers and imports are looked up
+  pub header_found : (t : Table) (c n o : ℕ) → NamesHeader p c n → IsIdentifierOf p n o → plain.looked_up p t o ≡ plain.look_type p t o
+  header_found t c n o h i = ap (λ b. cond b (plain.look_type p t o) Unbound) (or_left (plain.is_in_header p o) (plain.is_in_import p o) ((in_header_tells o).1 (n, (own_type c n h, i))))
+
+  pub import_found : (t : Table) (i o : ℕ) (form : ImportKind) → label p i ≡ is.Import form → IsIdentifierOf p (i + 1) o → plain.looked_up p t o ≡ plain.look_type p t o
+  import_found t i o form e h = ap (λ b. cond b (plain.look_type p t o) Unbound) (or_right (plain.is_in_header p o) (plain.is_in_import p o) ((in_import_tells o).1 (i, ((form, e), h))))
+
+  pub header_look : (t : Table) (K : ℕ → Type 0) (c n o : ℕ) → NamesHeader p c n → IsIdentifierOf p n o → Look p t K o (plain.look_type p t o)
+  header_look t K c n o h i = look_type_is p t headed o K (formed.identifier n o (formed.header_name c n h) i)
+
+  pub import_look : (t : Table) (K : ℕ → Type 0) (i o : ℕ) (form : ImportKind) → label p i ≡ is.Import form → IsIdentifierOf p (i + 1) o → Look p t K o (plain.look_type p t o)
+  import_look t K i o form e h = look_type_is p t headed o K (formed.identifier (i + 1) o (import_seeks p formed i form e) h)
+
   -- the table after so many rounds
   abbrev pub after : ℕ → Table
-  after k = entries (again p k)
+  after k = entries (again (plain.round p) k)
 
-  after_row : (k o : ℕ) → o < length p → (plain.is_in_header p o || plain.is_in_import p o) ≡ true → after (suc k) o ≡ plain.look_type p (after k) o
-  after_row k o lt e = entries_listed (plain.looked_up p (after k)) (length p) 0 o lt ∙ ap (plain.looked_up p (after k)) first ∙ ap (λ b. cond b (plain.look_type p (after k) o) Unbound) e
-    where
-      first : 0 + o ≡ o
-      first = omega arith
+  after_row : (k o : ℕ) → o < length p → after (suc k) o ≡ plain.looked_up p (after k) o
+  after_row k o lt = let e : 0 + o ≡ o = omega arith in entries_listed (plain.looked_up p (after k)) (length p) 0 o lt ∙ ap (plain.looked_up p (after k)) e
 
   pub header_looked : (K : ℕ → Type 0) (k c n o : ℕ) → NamesHeader p c n → IsIdentifierOf p n o → Look p (after k) K o (after (suc k) o)
-  header_looked K k c n o h i = subst (Look p (after k) K o) (sym (after_row k o (header_row c n o h i) (or_left (plain.is_in_header p o) (plain.is_in_import p o) test)))
-      (look_type_is p (after k) headed o K (formed.identifier n o (formed.header_name c n h) i))
-    where
-      own : NamesHeader p c n → NamesHeader p (parent p n) n
-      own (inl w) = inl (record { names = w.names; inside = refl })
-      own (inr w) = inr (record { names = w.names; inside = refl })
-
-      test : plain.is_in_header p o ≡ true
-      test = (in_header_tells o).1 (n, (own h, i))
+  header_looked K k c n o h i = subst (Look p (after k) K o) (sym (after_row k o (header_row c n o h i) ∙ header_found (after k) c n o h i)) (header_look (after k) K c n o h i)
 
   pub import_looked : (K : ℕ → Type 0) (k i o : ℕ) (form : ImportKind) → label p i ≡ is.Import form → IsIdentifierOf p (i + 1) o → Look p (after k) K o (after (suc k) o)
-  import_looked K k i o form e h = subst (Look p (after k) K o)
-      (sym (after_row k o (import_place i o form e h) (or_right (plain.is_in_header p o) (plain.is_in_import p o) ((in_import_tells o).1 (i, ((form, e), h))))))
-      (look_type_is p (after k) headed o K (formed.identifier (i + 1) o (import_seeks p formed i form e) h))
+  import_looked K k i o form e h = subst (Look p (after k) K o) (sym (after_row k o (import_place i o form e h) ∙ import_found (after k) i o form e h)) (import_look (after k) K i o form e h)
 
   pub after_named : (k : ℕ) → EndsSo p (after k)
   after_named zero i d form e w = let z = w.refers in absurd (cc)

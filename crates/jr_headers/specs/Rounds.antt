@@ -43,10 +43,10 @@ listed (suc n) first f = f first ∷ listed n (suc first) f
 abbrev pub round : Rows → List Referent → List Referent
 round p all = listed (length p) 0 (looked_up p (entries all))
 
--- so many rounds, or until nothing changes
-abbrev pub rounds : Rows → ℕ → List Referent → List Referent
-rounds p zero all = all
-rounds p (suc n) all = let next = round p all in let more = rounds p n next in if pointwise same_referent all next then all else more
+-- so many rounds of this form, or until nothing changes
+abbrev pub rounds_of : (List Referent → List Referent) → ℕ → List Referent → List Referent
+rounds_of step zero all = all
+rounds_of step (suc n) all = let next = step all in let more = rounds_of step n next in if pointwise same_referent all next then all else more
 
 -- enough rounds for types that wait for so many others: a name is no longer than the program, and so is an import in which it is looked for
 abbrev pub enough : Rows → ℕ → ℕ
@@ -54,7 +54,7 @@ enough p zero = 0
 enough p (suc n) = enough p n + (suc (length p) + suc (length p))
 
 abbrev pub last_round : Rows → List Referent
-last_round p = rounds p (enough p (suc (length p))) []
+last_round p = rounds_of (round p) (enough p (suc (length p))) []
 
 -- the row o belongs to the header of c, which is a type
 abbrev pub is_of_type_header : Rows → Table → ℕ → ℕ → Bool
@@ -120,14 +120,9 @@ has_settled_headers p = let all = header_table p in is_header_table p (entries a
 abbrev pub part_round : Rows → List Referent → List Referent
 part_round p all = let part = settled_part p (entries all) in round p part
 
--- so many such rounds, or until nothing changes
-abbrev pub part_rounds : Rows → ℕ → List Referent → List Referent
-part_rounds p zero all = all
-part_rounds p (suc n) all = let next = part_round p all in let more = part_rounds p n next in if pointwise same_referent all next then all else more
-
 -- a table of headers, if such rounds find one
 abbrev pub cut_table : Rows → List Referent
-cut_table p = let all = part_rounds p (enough p (suc (length p))) [] in let part = settled_part p (entries all) in listed (length p) 0 (kept p (entries all) (entries part))
+cut_table p = let all = rounds_of (part_round p) (enough p (suc (length p))) [] in let part = settled_part p (entries all) in listed (length p) 0 (kept p (entries all) (entries part))
 
 abbrev pub cut_headers : Rows → Option (List Referent)
 cut_headers p = let all = cut_table p in if is_of_headers p (entries all) then Some all else None

@@ -67,3 +67,8 @@ pub fn headers_are_told()
     ensures settled { (p : Rows) (t : Table) → IsFormed p → (h : OfHeaders p t) → ((c : ℕ) → IsType p c → IsSettled p t h.settled_part c) → headers_of p ≡ Some (header_table p) }
     ensures cycle { (p : Rows) (c : ℕ) → IsFormed p → cycle_of p ≡ Some c → IsFirstOnCycle p c }
 {}
+
+/// Each program has a table of headers.
+pub fn headers_exist()
+    ensures exist { (p : Rows) → IsFormed p → ℕ }
+{}
