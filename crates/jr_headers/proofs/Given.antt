@@ -158,11 +158,10 @@ module _ (p : Rows) (formed : IsFormed p) (all : List Referent) (grounded : (c :
 
   -- ---- the table at rest
 
-  pub part : Table
+  abbrev pub part : Table
   part = entries (plain.under p all)
 
   part_after : (o : ℕ) → part o ≡ after (plain.enough_given p) o
-  unfolding part
   part_after o = ap (λ l. entries l o) (rounds_again (plain.given_round p given) (plain.enough_given p))
 
   name_at : (k : ℕ) → 0 < k → HasNames p given (after k)
@@ -194,22 +193,19 @@ module _ (p : Rows) (formed : IsFormed p) (all : List Referent) (grounded : (c :
 
   -- with the names in headers looked up under it
 
-  pub whole : Table
+  abbrev pub whole : Table
   whole = plain.name_or_same p part
 
   pub whole_name : (c n : ℕ) → NamesHeader p c n → whole n ≡ look_type p part n
-  unfolding whole
   whole_name c n h = at_name p (look_type p part n) (part n) c n h
 
   pub whole_other : (o : ℕ) → ((c : ℕ) → NamesHeader p c o → ⊥) → part o ≡ whole o
-  unfolding whole
   whole_other o no' = sym (at_other p (look_type p part o) (part o) o no')
 
   pub whole_past : (o : ℕ) → length p ≤ o → whole o ≡ Unbound
   whole_past o le = sym (whole_other o (λ c h. let lt = header_below p c o h in absurd (omega arith))) ∙ part_past o le
 
   pub whole_entries : entries (plain.with_names p (plain.under p all)) ≡ whole
-  unfolding part whole
   whole_entries = fun_ext (listed_all (plain.name_or_same p part) (length p) whole_past)
 
   whole_header : (c o : ℕ) → IsType p c → IsOfHeader p part c o → Look p part (HasConstantForm p part) o (whole o)
