@@ -136,7 +136,7 @@ module _ (p : Rows) (formed : IsFormed p) where
   module _ (t : Table) (past : (o : ℕ) → length p ≤ o → t o ≡ Unbound) where
     -- the part with the headers of a set of types
 
-    abbrev LeftOut : List ℕ → ℕ → Type 0
+    abbrev pub LeftOut : List ℕ → ℕ → Type 0
     LeftOut set o = (c : ℕ) × NamesHeader p c o × (has set c ≡ true → ⊥)
 
     above_it : (c o : ℕ) → NamesHeader p c o → parent p o ≡ c
@@ -160,14 +160,14 @@ module _ (p : Rows) (formed : IsFormed p) where
         none true e = refl
         none false e = e
 
-    part_kept : (set : List ℕ) (o : ℕ) → (LeftOut set o → ⊥) → entries (plain.part_with p t set) o ≡ t o
+    pub part_kept : (set : List ℕ) (o : ℕ) → (LeftOut set o → ⊥) → entries (plain.part_with p t set) o ≡ t o
     part_kept set o no' = part_row set o ∙ by (names_header p (parent p o) o && not (has set (parent p o))) (left_out_tells set o)
       where
         by : (b : Bool) → Decides b (LeftOut set o) → cond b Unbound (t o) ≡ t o
         by true d = absurd (no' (d.0 refl))
         by false d = refl
 
-    part_left_out : (set : List ℕ) (o : ℕ) → LeftOut set o → entries (plain.part_with p t set) o ≡ Unbound
+    pub part_left_out : (set : List ℕ) (o : ℕ) → LeftOut set o → entries (plain.part_with p t set) o ≡ Unbound
     part_left_out set o h = part_row set o ∙ ap (λ b. cond b Unbound (t o)) ((left_out_tells set o).1 h)
 
     -- it is within a table that keeps the headers of more types

@@ -14,6 +14,7 @@ pub mod Converging
 pub mod Found
 pub mod Restricted
 pub mod Given
+pub mod Growing
 pub mod Worked
 pub mod Cut
 pub mod Shadowing

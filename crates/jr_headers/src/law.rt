@@ -11,6 +11,7 @@ ghost use Rattle.jr_defs.specs.Formed.{IsFormed};
 ghost use Rattle.jr_plain.specs.Headed.{IsHeaded};
 ghost use Rattle.jr_plain.specs.Search.{IsFirst, Finds};
 ghost use Rattle.jr_headers.specs.Headers.{names_header, is_identifier_of, is_first_of, is_looked_for_in, name_meets, meets, is_settled, comes_before, header_edge, header_path, first_on_cycle, is_of_header};
+ghost use Rattle.jr_headers.specs.Growing.{grown_headers};
 ghost use Rattle.jr_headers.specs.Rounds.{is_of_headers, header_table, has_settled_headers, headers_of, cycle_of};
 
 /// Which names stand in headers, and what they meet.
@@ -68,7 +69,10 @@ pub fn headers_are_told()
     ensures cycle { (p : Rows) (c : ℕ) → IsFormed p → cycle_of p ≡ Some c → IsFirstOnCycle p c }
 {}
 
-/// Each program has a table of headers.
+/// Each program has a table of headers, which settling types a few at a time finds. So it has a cycle of headers, or settled headers, and never both.
 pub fn headers_exist()
-    ensures exist { (p : Rows) → IsFormed p → ℕ }
+    ensures found { (p : Rows) → IsFormed p → OfHeaders p (entries (grown_headers p)) }
+    ensures exist { (p : Rows) → IsFormed p → (t : Table) × OfHeaders p t }
+    ensures cycle_or_settled { (p : Rows) → IsFormed p → HasCycle p ⊎ ((t : Table) × (h : OfHeaders p t) × ((c : ℕ) → IsType p c → IsSettled p t h.settled_part c)) }
+    ensures not_both { (p : Rows) (t : Table) → IsFormed p → (h : OfHeaders p t) → ((c : ℕ) → IsType p c → IsSettled p t h.settled_part c) → HasCycle p → ⊥ }
 {}
