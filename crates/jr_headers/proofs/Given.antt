@@ -21,23 +21,14 @@ use Rattle.jr_defs.specs.Correspondence.{IsScoped}
 use Rattle.jr_defs.proofs.HeadersAgree.{Agreed, ImportSame}
 use Rattle.jr_plain.proofs.Tests.{like}
 use Rattle.jr_headers.specs.Rounds.{looked_up, look_type}
-use Rattle.jr_headers.specs.Growing as plain
-use Rattle.jr_headers.proofs.Headed.{names_header_tells, header_below}
+use Rattle.jr_headers.specs.Rounds as plain
+use Rattle.jr_headers.proofs.Headed.{header_name_tells, header_below}
 use Rattle.jr_headers.proofs.Scopes.{EndsSo, first_same}
 use Rattle.jr_headers.proofs.Names.{name_same, look_declares, itself_identifier, inner_names_none, import_names_none, import_seeks, next_identifier, each_identifier, import_identifier_same, in_import}
 use Rattle.jr_headers.proofs.Pairs.{Looked}
 use Rattle.jr_headers.proofs.Grounded.{HasNames, agreed_over}
 use Rattle.jr_headers.proofs.Looked.{look_type_is}
 use Rattle.jr_headers.proofs.Rounding.{entries_listed, entries_past, listed_all, again, rounds_again, header_row, import_place, header_found, import_found, header_look, import_look}
-
--- ---- names in headers
-
-pub header_name_tells : (p : Rows) (o : ℕ) → Decides (plain.is_header_name p o) ((c : ℕ) × NamesHeader p c o)
-header_name_tells p o = like (names_header_tells p (parent p o) o) (λ h. (parent p o, h)) (λ h. own h.0 h.1)
-  where
-    own : (c : ℕ) → NamesHeader p c o → NamesHeader p (parent p o) o
-    own c (inl w) = inl (record { names = w.names; inside = refl })
-    own c (inr w) = inr (record { names = w.names; inside = refl })
 
 module _ (p : Rows) (r s : Referent) where
   at_name : (c o : ℕ) → NamesHeader p c o → cond (plain.is_header_name p o) r s ≡ r

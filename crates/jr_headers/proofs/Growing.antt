@@ -11,8 +11,9 @@ use Rattle.jr_defs.specs.Declarations.{IsType, IsObject}
 use Rattle.jr_defs.specs.Enclosing.{DeclaredIn}
 use Rattle.jr_defs.specs.Supertypes.{SuperAt}
 use Rattle.jr_defs.specs.Constants.{HasConstantForm}
+use Rattle.jr_defs.specs.Lookup.{Look}
 use Rattle.jr_defs.specs.Headers.{NamesHeader, NameMeets, Meets, IsSettled}
-use Rattle.jr_defs.specs.Binding.{IsOfHeader, IsSettledPart, OfHeaders, HasCycle}
+use Rattle.jr_defs.specs.Binding.{IsOfHeader, IsSettledPart, OfHeaders}
 use Rattle.jr_defs.specs.Formed.{IsFormed}
 use Rattle.jr_defs.proofs.HeadersAgree.{Agreed, agreed}
 use Rattle.jr_plain.specs.Headed.{IsHeaded}
@@ -24,18 +25,18 @@ use Rattle.jr_plain.proofs.Bounds.{type_below}
 use Rattle.jr_plain.proofs.Declared.{type_tells}
 use Rattle.jr_plain.proofs.Headed.{headed_from_formed}
 use Rattle.jr_headers.specs.Headers.{is_settled_by}
-use Rattle.jr_headers.specs.Rounds.{listed, kept, is_of_some_header}
+use Rattle.jr_headers.specs.Rounds.{listed, kept, is_of_some_header, under, name_or_same, with_names}
 use Rattle.jr_headers.specs.Growing as plain
+use Rattle.jr_headers.proofs.Headed.{header_name_tells}
 use Rattle.jr_headers.proofs.Settled.{met_type, by_tells}
 use Rattle.jr_headers.proofs.Graphs.{length_numbers}
-use Rattle.jr_headers.proofs.Cyclic.{cycle_or_settled_under}
 use Rattle.jr_headers.proofs.Names.{itself_identifier}
 use Rattle.jr_headers.proofs.Pairs.{Looked, look_type, object_agreed, one_type, next_agrees, next_settled, next_meets}
 use Rattle.jr_headers.proofs.Rounding.{entries_past, listed_all}
-use Rattle.jr_headers.proofs.Found.{Settles, LeftOut, part_kept, part_left_out}
+use Rattle.jr_headers.proofs.LeftOut.{part_kept, part_left_out}
 use Rattle.jr_headers.proofs.Grounded.{agreed_over}
-use Rattle.jr_headers.proofs.Given.{header_name_tells, part_names, whole_entries, whole_other, whole_past, whole_looked}
-use Rattle.jr_headers.proofs.Restricted.{cut_headers}
+use Rattle.jr_headers.proofs.Given.{part_names, part_past, whole_entries, whole_other, whole_past, whole_looked}
+use Rattle.jr_headers.proofs.Cut.{settled_there, settled_back, cut_part, cut_looked, cut_others}
 
 module _ (p : Rows) (formed : IsFormed p) where
   abbrev In : plain.Stage → ℕ → Type 0
@@ -45,10 +46,10 @@ module _ (p : Rows) (formed : IsFormed p) where
   names s = entries s.names
 
   abbrev part : plain.Stage → Table
-  part s = entries (plain.under p s.names)
+  part s = entries (under p s.names)
 
   abbrev whole : plain.Stage → Table
-  whole s = plain.name_or_same p (part s)
+  whole s = name_or_same p (part s)
 
   -- the types of the stage are settled by types of the stage, their headers refer to what lookup gives, and other headers name nothing
   record IsGrown (s : plain.Stage) : Type 0 where
@@ -76,25 +77,25 @@ module _ (p : Rows) (formed : IsFormed p) where
     looked : Looked p (whole s) (part s)
     looked = whole_looked p formed s.names g.grounded
 
-    all_is : entries (plain.with_names p (plain.under p s.names)) ≡ whole s
+    all_is : entries (with_names p (under p s.names)) ≡ whole s
     all_is = whole_entries p formed s.names g.grounded
 
     next_tells : (c : ℕ) → Decides (has next.types c) (IsType p c × Follows s (whole s) c)
-    next_tells = lists (λ c. plain.follows_from p (plain.with_names p (plain.under p s.names)) (plain.under p s.names) s.types c) (λ c. IsType p c × Follows s (whole s) c)
-        (λ c. both (type_tells p c) (subst (λ t. Decides (is_settled_by p (entries (plain.with_names p (plain.under p s.names))) (part s) s.types c) (Follows s t c)) all_is
-        (by_tells p (entries (plain.with_names p (plain.under p s.names))) (part s) headed s.types c))) (length p) (λ c h. type_below p c h.0)
+    next_tells = lists (λ c. plain.follows_from p (with_names p (under p s.names)) (under p s.names) s.types c) (λ c. IsType p c × Follows s (whole s) c)
+        (λ c. both (type_tells p c) (subst (λ t. Decides (is_settled_by p (entries (with_names p (under p s.names))) (part s) s.types c) (Follows s t c)) all_is
+        (by_tells p (entries (with_names p (under p s.names))) (part s) headed s.types c))) (length p) (λ c h. type_below p c h.0)
 
     stays_in : (c : ℕ) → In s c → In next c
     stays_in c i = (next_tells c).1 (g.type c i, (λ e d. g.outwards c e i d, λ k m. g.downwards c k i m))
 
-    past : (o : ℕ) → length p ≤ o → entries (plain.with_names p (plain.under p s.names)) o ≡ Unbound
-    past o le = entries_past (plain.name_or_same p (part s)) (length p) 0 o le
+    past : (o : ℕ) → length p ≤ o → entries (with_names p (under p s.names)) o ≡ Unbound
+    past o le = entries_past (name_or_same p (part s)) (length p) 0 o le
 
     next_kept : (c n : ℕ) → In next c → NamesHeader p c n → names next n ≡ whole s n
-    next_kept c n i h = part_kept p formed (entries (plain.with_names p (plain.under p s.names))) past next.types n (λ w. w.2 (subst (In next) (one_type p n h w.1) i)) ∙ ap (λ t. t n) all_is
+    next_kept c n i h = part_kept p (entries (with_names p (under p s.names))) past next.types n (λ w. w.2 (subst (In next) (one_type p n h w.1) i)) ∙ ap (λ t. t n) all_is
 
     next_left : (c n : ℕ) → NamesHeader p c n → (In next c → ⊥) → names next n ≡ Unbound
-    next_left c n h no' = part_left_out p formed (entries (plain.with_names p (plain.under p s.names))) past next.types n (c, h, no')
+    next_left c n h no' = part_left_out p (entries (with_names p (under p s.names))) past next.types n (c, h, no')
 
     -- above a type that follows stand types of the stage
     names_met : (c n k : ℕ) (l : Option ℕ) → NamesHeader p c n → whole s n ≡ Declared k l → IsType p k × Meets p (whole s) (part s) c k
@@ -250,8 +251,16 @@ module _ (p : Rows) (formed : IsFormed p) where
   last_grounded : (c : ℕ) → IsType p c → Agreed p (part last) (part last) c
   last_grounded c k = let same = part_names p formed last.names last_grown.grounded in agreed_over p (names last) (part last) (part last) same same c (last_grown.grounded c k)
 
-  grown_is : entries (plain.grown_headers p) ≡ kept p (whole last) (part last)
-  grown_is = ap (λ t. entries (listed (length p) 0 (kept p t (part last)))) (whole_entries p formed last.names last_grown.grounded) ∙ fun_ext (listed_all (kept p (whole last) (part last)) (length p) none)
+  -- ---- cut to headers
+
+  abbrev pub headers : Table
+  headers = entries (plain.header_table p)
+
+  abbrev pub settled_headers : Table
+  settled_headers = entries (plain.header_part p)
+
+  headers_are : headers ≡ kept p (whole last) (part last)
+  headers_are = ap (λ t. entries (listed (length p) 0 (kept p t (part last)))) (whole_entries p formed last.names last_grown.grounded) ∙ fun_ext (listed_all (kept p (whole last) (part last)) (length p) none)
     where
       none : (o : ℕ) → length p ≤ o → kept p (whole last) (part last) o ≡ Unbound
       none o le = by (is_of_some_header p (part last) o)
@@ -260,8 +269,36 @@ module _ (p : Rows) (formed : IsFormed p) where
           by true = whole_past p formed last.names last_grown.grounded o le
           by false = refl
 
-  pub grown_of_headers : OfHeaders p (entries (plain.grown_headers p))
-  grown_of_headers = subst (OfHeaders p) (sym grown_is) (cut_headers p formed (whole last) (part last) last_looked last_part last_grounded)
+  parts_are : settled_headers ≡ kept p (part last) (part last)
+  parts_are = fun_ext (listed_all (kept p (part last) (part last)) (length p) none)
+    where
+      none : (o : ℕ) → length p ≤ o → kept p (part last) (part last) o ≡ Unbound
+      none o le = by (is_of_some_header p (part last) o)
+        where
+          by : (b : Bool) → cond b (part last o) Unbound ≡ Unbound
+          by true = part_past p formed last.names last_grown.grounded o le
+          by false = refl
 
-  pub cycle_or_settled : HasCycle p ⊎ ((t : Table) × Settles p t)
-  cycle_or_settled = ⊎_elim (λ h. inl h) (λ all. inr (entries (plain.grown_headers p), (grown_of_headers, all))) (cycle_or_settled_under p headed (entries (plain.grown_headers p)) grown_of_headers)
+  -- what is so of the tables that are cut is so of those that are computed
+  computed : (P : Table → Table → Type 0) → P (kept p (whole last) (part last)) (kept p (part last) (part last)) → P headers settled_headers
+  computed P h = subst (λ t. P t settled_headers) (sym headers_are) (subst (P (kept p (whole last) (part last))) (sym parts_are) h)
+
+  pub grown_part : IsSettledPart p headers settled_headers
+  grown_part = computed (IsSettledPart p) (cut_part p formed (whole last) (part last) last_looked last_part last_grounded)
+
+  pub grown_looked : (c o : ℕ) → IsType p c → IsOfHeader p settled_headers c o → Look p settled_headers (HasConstantForm p settled_headers) o (headers o)
+  grown_looked = computed (λ t y. (c o : ℕ) → IsType p c → IsOfHeader p y c o → Look p y (HasConstantForm p y) o (t o)) (cut_looked p formed (whole last) (part last) last_looked last_part last_grounded)
+
+  pub grown_others : (o : ℕ) → (headers o ≡ Unbound → ⊥) → (c : ℕ) × IsType p c × IsOfHeader p settled_headers c o
+  grown_others = computed (λ t y. (o : ℕ) → (t o ≡ Unbound → ⊥) → (c : ℕ) × IsType p c × IsOfHeader p y c o) (cut_others p formed (whole last) (part last) last_looked last_part last_grounded)
+
+  abbrev pub grown_headers : OfHeaders p headers
+  grown_headers = record { settled_part = settled_headers; part = grown_part; looked = grown_looked; others = grown_others }
+
+  -- the types of the last stage are those that are settled
+  pub types_tell : (c : ℕ) → IsType p c → Decides (has (plain.settled_types p) c) (IsSettled p headers settled_headers c)
+  types_tell c k = (
+    λ i. computed (λ t y. IsSettled p t y c) (settled_there p formed (whole last) (part last) last_looked last_part last_grounded c (last_grown.settled c i)),
+    λ s. in_last c k (settled_back p formed (whole last) (part last) last_looked last_part last_grounded c
+        (subst (λ y. IsSettled p (kept p (whole last) (part last)) y c) parts_are (subst (λ t. IsSettled p t settled_headers c) headers_are s))),
+  )

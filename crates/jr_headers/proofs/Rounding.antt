@@ -112,21 +112,3 @@ module _ (p : Rows) (formed : IsFormed p) where
 
   pub import_look : (t : Table) (K : ℕ → Type 0) (i o : ℕ) (form : ImportKind) → label p i ≡ is.Import form → IsIdentifierOf p (i + 1) o → Look p t K o (plain.look_type p t o)
   import_look t K i o form e h = look_type_is p t headed o K (formed.identifier (i + 1) o (import_seeks p formed i form e) h)
-
-  -- the table after so many rounds
-  abbrev pub after : ℕ → Table
-  after k = entries (again (plain.round p) k)
-
-  after_row : (k o : ℕ) → o < length p → after (suc k) o ≡ plain.looked_up p (after k) o
-  after_row k o lt = let e : 0 + o ≡ o = omega arith in entries_listed (plain.looked_up p (after k)) (length p) 0 o lt ∙ ap (plain.looked_up p (after k)) e
-
-  pub header_looked : (K : ℕ → Type 0) (k c n o : ℕ) → NamesHeader p c n → IsIdentifierOf p n o → Look p (after k) K o (after (suc k) o)
-  header_looked K k c n o h i = subst (Look p (after k) K o) (sym (after_row k o (header_row c n o h i) ∙ header_found (after k) c n o h i)) (header_look (after k) K c n o h i)
-
-  pub import_looked : (K : ℕ → Type 0) (k i o : ℕ) (form : ImportKind) → label p i ≡ is.Import form → IsIdentifierOf p (i + 1) o → Look p (after k) K o (after (suc k) o)
-  import_looked K k i o form e h = subst (Look p (after k) K o) (sym (after_row k o (import_place i o form e h) ∙ import_found (after k) i o form e h)) (import_look (after k) K i o form e h)
-
-  pub after_named : (k : ℕ) → EndsSo p (after k)
-  after_named zero i d form e w = let z = w.refers in absurd (cc)
-  after_named (suc k) i d form e w = look_declares p (after k) (λ n. ⊥) (i + 1) d w.level (after (suc k) (i + 1)) (import_seeks p formed i form e)
-      (import_looked (λ n. ⊥) k i (i + 1) form e (itself_identifier p formed (i + 1))) w.refers

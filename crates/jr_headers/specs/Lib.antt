@@ -1,3 +1,3 @@
 pub mod Headers
-pub mod Growing
 pub mod Rounds
+pub mod Growing

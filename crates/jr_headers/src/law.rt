@@ -1,7 +1,6 @@
 // Each plain function of headers computes what its definition says.
-ghost use Rattle.std.specs.Prelude.{◌≡◌, ◌⊎◌, ℕ, ◌≤◌, ◌↔◌, IsTrue, List, length, Some, Decides};
+ghost use Rattle.std.specs.Prelude.{◌≡◌, ◌⊎◌, ℕ, ◌≤◌, ◌↔◌, IsTrue, length, None, Decides};
 ghost use Rattle.jr_rows.specs.Rows.{Rows};
-ghost use Rattle.jr_defs.specs.declared.referent.Referent.{Referent};
 ghost use Rattle.jr_defs.specs.declared.referent.Referent.TheVariants.{Unbound};
 ghost use Rattle.jr_defs.specs.Referents.{Table, entries};
 ghost use Rattle.jr_defs.specs.Declarations.{IsType};
@@ -9,10 +8,9 @@ ghost use Rattle.jr_defs.specs.Headers.{NamesHeader, IsIdentifierOf, IsFirstOf, 
 ghost use Rattle.jr_defs.specs.Binding.{IsBinding, OfHeaders, IsOfHeader, HasCycle, IsFirstOnCycle};
 ghost use Rattle.jr_defs.specs.Formed.{IsFormed};
 ghost use Rattle.jr_plain.specs.Headed.{IsHeaded};
-ghost use Rattle.jr_plain.specs.Search.{IsFirst, Finds};
+ghost use Rattle.jr_plain.specs.Search.{IsFirst, Finds, has};
 ghost use Rattle.jr_headers.specs.Headers.{names_header, is_identifier_of, is_first_of, is_looked_for_in, name_meets, meets, is_settled, comes_before, header_edge, header_path, first_on_cycle, is_of_header};
-ghost use Rattle.jr_headers.specs.Growing.{grown_headers};
-ghost use Rattle.jr_headers.specs.Rounds.{is_of_headers, header_table, has_settled_headers, headers_of, cycle_of};
+ghost use Rattle.jr_headers.specs.Growing.{HasSettledHeaders, header_table, header_part, settled_types, has_settled_headers, is_of_headers, cycle_of};
 
 /// Which names stand in headers, and what they meet.
 pub fn headers_are_computed()
@@ -43,36 +41,31 @@ pub fn unsettled_types_are_cycles()
     ensures computed { (p : Rows) (t u : Table) → IsHeaded p → Finds (first_on_cycle p t u) (IsFirst (λ c. IsType p c × HeaderPath p t u c c) (length p)) }
 {}
 
-/// Tables of headers agree on the headers of settled types, with each other and with a binding: the same types are settled under all of them, and beside a
-/// binding no type is left unsettled.
+/// A program has one table of headers, and one part of it with the headers of settled types. A binding has the same names in headers, and beside it no type is
+/// left unsettled.
 pub fn headers_are_one()
-    ensures settled { (p : Rows) (t u : Table) (g : OfHeaders p t) (h : OfHeaders p u) (c : ℕ) → IsFormed p → IsType p c → IsSettled p t g.settled_part c → IsSettled p u h.settled_part c }
-    ensures names { (p : Rows) (t u : Table) (g : OfHeaders p t) (h : OfHeaders p u) (c n : ℕ) → IsFormed p → IsSettled p t g.settled_part c → NamesHeader p c n → t n ≡ u n }
+    ensures tables { (p : Rows) (t u : Table) → IsFormed p → OfHeaders p t → OfHeaders p u → (o : ℕ) → t o ≡ u o }
+    ensures parts { (p : Rows) (t u : Table) → IsFormed p → (g : OfHeaders p t) → (h : OfHeaders p u) → (o : ℕ) → g.settled_part o ≡ h.settled_part o }
+    ensures names { (p : Rows) (t u : Table) (c n : ℕ) → IsFormed p → IsBinding p t → OfHeaders p u → NamesHeader p c n → t n ≡ u n }
     ensures binding { (p : Rows) (t : Table) → IsFormed p → IsBinding p t → HasCycle p → ⊥ }
 {}
 
-/// The table of headers that is computed: it is the one under which all types are settled, where a program has one, and it tells whether there is one. A program
-/// that has a binding has one, and the binding has its entries in headers.
-pub fn settled_headers_are_computed()
-    ensures found { (p : Rows) (t : Table) → IsFormed p → (h : OfHeaders p t) → ((c : ℕ) → IsType p c → IsSettled p t h.settled_part c) → (o : ℕ) → entries (header_table p) o ≡ t o }
-    ensures decided { (p : Rows) → IsFormed p → Decides (has_settled_headers p) ((t : Table) × (h : OfHeaders p t) × ((c : ℕ) → IsType p c → IsSettled p t h.settled_part c)) }
-    ensures bound { (p : Rows) (t : Table) (c n : ℕ) → IsFormed p → IsBinding p t → NamesHeader p c n → entries (header_table p) n ≡ t n }
-    ensures binding { (p : Rows) (t : Table) → IsFormed p → IsBinding p t → IsTrue (has_settled_headers p) }
-{}
-
-/// Whether a table is one of headers, also where some types are not settled under it. Of the tables that rounds find in such a program each is one, and so the
-/// first type on its cycles is one of the program.
-pub fn headers_are_told()
-    ensures tables { (p : Rows) (t : Table) → IsFormed p → ((o : ℕ) → length p ≤ o → t o ≡ Unbound) → Decides (is_of_headers p t) (OfHeaders p t) }
-    ensures found { (p : Rows) (all : List Referent) → IsFormed p → headers_of p ≡ Some all → OfHeaders p (entries all) }
-    ensures settled { (p : Rows) (t : Table) → IsFormed p → (h : OfHeaders p t) → ((c : ℕ) → IsType p c → IsSettled p t h.settled_part c) → headers_of p ≡ Some (header_table p) }
-    ensures cycle { (p : Rows) (c : ℕ) → IsFormed p → cycle_of p ≡ Some c → IsFirstOnCycle p c }
-{}
-
-/// Each program has a table of headers, which settling types a few at a time finds. So it has a cycle of headers, or settled headers, and never both.
+/// It is found by settling types a few at a time, and so are its part and the types that are settled.
 pub fn headers_exist()
-    ensures found { (p : Rows) → IsFormed p → OfHeaders p (entries (grown_headers p)) }
     ensures exist { (p : Rows) → IsFormed p → (t : Table) × OfHeaders p t }
-    ensures cycle_or_settled { (p : Rows) → IsFormed p → HasCycle p ⊎ ((t : Table) × (h : OfHeaders p t) × ((c : ℕ) → IsType p c → IsSettled p t h.settled_part c)) }
-    ensures not_both { (p : Rows) (t : Table) → IsFormed p → (h : OfHeaders p t) → ((c : ℕ) → IsType p c → IsSettled p t h.settled_part c) → HasCycle p → ⊥ }
+    ensures found { (p : Rows) → IsFormed p → OfHeaders p (entries (header_table p)) }
+    ensures part { (p : Rows) (t : Table) → IsFormed p → (h : OfHeaders p t) → (o : ℕ) → entries (header_part p) o ≡ h.settled_part o }
+    ensures types { (p : Rows) (t : Table) (c : ℕ) → IsFormed p → (h : OfHeaders p t) → IsType p c → Decides (has (settled_types p) c) (IsSettled p t h.settled_part c) }
+    ensures told { (p : Rows) (t : Table) → IsFormed p → ((o : ℕ) → length p ≤ o → t o ≡ Unbound) → Decides (is_of_headers p t) (OfHeaders p t) }
+{}
+
+/// A program has a cycle of headers or settled headers, and never both. Which of them is decided, and the first type on a cycle is computed. A program with a
+/// binding has settled headers.
+pub fn headers_settle_or_cycle()
+    ensures one { (p : Rows) → IsFormed p → HasCycle p ⊎ HasSettledHeaders p }
+    ensures other { (p : Rows) → IsFormed p → HasSettledHeaders p → HasCycle p → ⊥ }
+    ensures decided { (p : Rows) → IsFormed p → Decides (has_settled_headers p) (HasSettledHeaders p) }
+    ensures cycle { (p : Rows) → IsFormed p → Finds (cycle_of p) (IsFirstOnCycle p) }
+    ensures none { (p : Rows) → IsFormed p → cycle_of p ≡ None ↔ HasSettledHeaders p }
+    ensures binding { (p : Rows) (t : Table) → IsFormed p → IsBinding p t → IsTrue (has_settled_headers p) }
 {}

@@ -6,7 +6,6 @@
 mod law;
 
 pub use law::{
-    headers_exist,
-    header_graph_is_computed, headers_are_computed, headers_are_one, headers_are_told,
-    settled_headers_are_computed, unsettled_types_are_cycles,
+    header_graph_is_computed, headers_are_computed, headers_are_one, headers_exist,
+    headers_settle_or_cycle, unsettled_types_are_cycles,
 };

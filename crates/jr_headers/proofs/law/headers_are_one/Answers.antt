@@ -1,9 +1,12 @@
-use Rattle.jr_headers.proofs.Pairs.{no_cycle_beside, settled_same, headers_same}
+use Rattle.std.proofs.Common.{sym}
+use Rattle.jr_headers.proofs.Pairs.{no_cycle_beside, binding_names}
+use Rattle.jr_headers.proofs.OneTable.{tables_same, parts_same}
 use Rattle.jr_headers.proofs.law.headers_are_one.Goals as goal
 
 pub returns : goal.returns
 returns c = record {
-  settled = λ p t u g h k formed type s. settled_same p formed t u g h k type s;
-  names = λ p t u g h k n formed s w. headers_same p formed t u g h k n s w;
+  tables = λ p t u formed g h. tables_same p formed t u g h;
+  parts = λ p t u formed g h. parts_same p formed t u g h;
+  names = λ p t u k n formed w h. binding_names p formed t u w h k n;
   binding = λ p t formed w h. no_cycle_beside p formed t w h;
 }
