@@ -4,7 +4,8 @@
 Usage, in crates/jr_outline: `python3 ../../tools/worked/rows.py`. It runs `rt try jr_outline`, whose answer it keeps in the file
 that is named behind it, if any, and writes crates/jr_worked/specs/GROUP.antt, src/law.rt and
 proofs/law. What names refer to comes from programs.txt alone; the rows come from the parser.
-Then `rt tidy` in crates/jr_worked takes out the imports that nothing uses."""
+Of the programs on cycles it writes the rows alone, crates/jr_worked_bindings/specs/Cycles.antt.
+Then `rt tidy` in both crates takes out the imports that nothing uses."""
 import os
 import re
 import subprocess
@@ -15,6 +16,8 @@ sys.path.insert(0, os.path.join(HERE, '..', 'javac'))
 from compare import parse_debug
 
 CRATE = os.path.join(HERE, '..', '..', 'crates', 'jr_worked')
+BINDINGS = os.path.join(HERE, '..', '..', 'crates', 'jr_worked_bindings')
+CYCLES = 'Cycles'
 OBJECT = 'public class Object { }'
 FIELDS = {'Import': ['kind'], 'Name': ['kind', 'place', 'is_qualified'], 'TypeUse': ['primitive', 'dims'], 'Class': ['modifiers', 'is_member'],
           'Interface': ['modifiers', 'is_member'], 'EmptyDecl': ['is_member'], 'Fields': ['modifiers'], 'Field': ['modifiers', 'dims'],
@@ -272,18 +275,24 @@ def rows_text(rows):
     return '\n'.join(lines + [line + '[]'])
 
 
+def java_text(program):
+    return '-- %s\n%s' % (program.number, '\n'.join('-- %s: %s' % unit for unit in program.units))
+
+
+def cycle_text(program, rows):
+    return '%s\nabbrev pub %s : Rows\n%s =\n%s\n' % (java_text(program), program.name, program.name, rows_text(rows))
+
+
 def program_text(program, rows, entries):
-    java = '\n'.join('-- %s: %s' % unit for unit in program.units)
     told = ' ∷ '.join('(%d, %s)' % e for e in entries)
-    return '''-- %s
-%s
+    return '''%s
 abbrev pub %s : Worked
 %s = record {
   rows =
 %s;
   targets = %s ∷ [];
 }
-''' % (program.number, java, program.name, program.name, rows_text(rows), told)
+''' % (java_text(program), program.name, program.name, rows_text(rows), told)
 
 
 IMPORTS = '''use Rattle.std.specs.Prelude.{ℕ, true, false, List, [], ◌∷◌, Some, None, codes, pos}
@@ -299,6 +308,7 @@ use Rattle.jr_rows.specs.declared.label.NameKind.TheVariants as kind
 use Rattle.jr_rows.specs.declared.label.NamePlace.TheVariants as place
 use Rattle.jr_rows.specs.declared.label.ReceiverKind.TheVariants as on
 use Rattle.jr_rows.specs.Decls.{modifiers_of}
+use Rattle.jr_rows.specs.Rows.{Rows}
 use Rattle.jr_defs.specs.declared.referent.Referent.TheVariants.{Unbound, Ambiguous, ArrayLength, Package, Declared}
 use Rattle.jr_worked.specs.Tables.{Worked, r, bare}
 '''
@@ -310,17 +320,24 @@ def main():
     found = iter(outlines([s for p in programs for s in p.sources()]))
     laws, uses = [], []
     for group, heading, all in groups:
+        parsed = [(program, Rows([next(found) for _ in program.sources()])) for program in all]
+        if group == CYCLES:
+            write_specs(BINDINGS, group, heading, [cycle_text(program, rows) for program, rows in parsed])
+            continue
         texts, clauses = [], []
-        for program in all:
-            rows = Rows([next(found) for _ in program.sources()])
+        for program, rows in parsed:
             names, entries, occurrences = table_of(program, rows)
             texts.append(program_text(program, rows, entries))
             clauses.append((program, [(c, claim_text(t, names, occurrences)) for c, t in program.claims]))
-        with open(os.path.join(CRATE, 'specs', group + '.antt'), 'w', encoding='utf-8') as out:
-            out.write('-- Worked programs. %s\n%s\n%s' % (heading, IMPORTS, '\n'.join(texts)))
+        write_specs(CRATE, group, heading, texts)
         uses.append(write_law(group, heading, clauses, laws))
     with open(os.path.join(CRATE, 'src', 'law.rt'), 'w', encoding='utf-8') as out:
         out.write(open(os.path.join(HERE, 'law_head.txt'), encoding='utf-8').read() + ''.join(uses) + '\n' + '\n'.join(laws))
+
+
+def write_specs(crate, group, heading, texts):
+    with open(os.path.join(crate, 'specs', group + '.antt'), 'w', encoding='utf-8') as out:
+        out.write('-- Worked programs. %s\n%s\n%s' % (heading, IMPORTS, '\n'.join(texts)))
 
 
 # The lemma that a test tells whether a fact holds; the second ask that headers stand below types.

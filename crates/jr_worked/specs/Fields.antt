@@ -267,3 +267,18 @@ the_length_of_an_array = record {
       r 20 25 21 (is.Name kind.Variable place.Expression true) (codes "size") ∷ r 23 25 23 (is.Name kind.Ambiguous place.Qualifier false) (codes "a") ∷ [];
   targets = (13, Declared 7 None) ∷ (21, ArrayLength) ∷ (22, Declared 16 None) ∷ (23, Unbound) ∷ (24, Declared 16 None) ∷ [];
 }
+
+-- 55
+-- A.java: class A { class B extends A { } }
+abbrev pub a_member_extends_its_class : Worked
+a_member_extends_its_class = record {
+  rows =
+      r 0 19 0 is.Program [] ∷ r 0 9 0 is.Unit [] ∷ r 1 5 1 is.Package [] ∷ r 2 5 2 (is.Name kind.Package place.Other true) (codes "lang") ∷
+      r 3 5 3 (is.Name kind.Package place.Qualifier false) (codes "java") ∷
+      r 1 9 2 (is.Class (modifiers_of (modifier.Public ∷ [])) false) (codes "Object") ∷ r 5 9 5 is.Body [] ∷ r 6 9 6 is.DefaultConstructor [] ∷
+      r 7 9 7 is.ImplicitCall [] ∷ r 0 19 1 is.Unit [] ∷ r 9 19 9 (is.Class bare false) (codes "A") ∷ r 10 19 10 is.Body [] ∷
+      r 11 14 11 is.DefaultConstructor [] ∷ r 12 14 12 is.ImplicitCall [] ∷ r 11 19 12 (is.Class bare true) (codes "B") ∷
+      r 14 16 14 (is.Name kind.Type place.Superclass false) (codes "A") ∷ r 14 19 15 is.Body [] ∷ r 16 19 16 is.DefaultConstructor [] ∷
+      r 17 19 17 is.ImplicitCall [] ∷ [];
+  targets = (13, Declared 7 None) ∷ (15, Declared 10 None) ∷ (18, Declared 12 None) ∷ [];
+}

@@ -55,6 +55,7 @@ pub fn worked_fields()
     ensures a_field_of_a_named_type_the_type_before_the_dot_is_a_part { IsPart (rows_of fields.a_field_of_a_named_type) (table_of fields.a_field_of_a_named_type) 26 }
     ensures a_parameter_obscures_a_type { IsLookedUp fields.a_parameter_obscures_a_type }
     ensures the_length_of_an_array { IsLookedUp fields.the_length_of_an_array }
+    ensures a_member_extends_its_class { IsLookedUp fields.a_member_extends_its_class }
 {}
 
 /// Packages, imports and access (JLS 6.5, 6.6, 7.5, 8.2).

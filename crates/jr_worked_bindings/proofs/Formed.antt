@@ -23,6 +23,7 @@ use Rattle.jr_plain.proofs.Searches.{all}
 use Rattle.jr_plain.proofs.Declared.{object_tells}
 use Rattle.jr_plain.proofs.Supertyped.{names_superclass_tells, names_superinterface_tells, superclass_name_below, superinterface_name_below}
 use Rattle.jr_worked_bindings.specs.Cycles as cycles
+use Rattle.jr_worked_bindings.proofs.Mirrors as trees
 
 -- ---- Object names nothing
 
@@ -54,34 +55,34 @@ rows_of_three a b e = rows_from 0 0 0 (node is.Program (unit_labels a (unit_labe
 shaped : (a : d.CompilationUnit) → IsShapedUnit a → IsShaped (tree_unit a)
 shaped a h = subst IsShapedUnit (sym (plain_tree_unit a)) h
 
-lang_shaped : IsShaped (tree_unit cycles.lang)
-lang_shaped = shaped cycles.lang (refl, tt, ((tt, tt, tt), tt))
+lang_shaped : IsShaped (tree_unit trees.lang)
+lang_shaped = shaped trees.lang (refl, tt, ((tt, tt, tt), tt))
 
-two_are_formed : (a : d.CompilationUnit) → IsShapedUnit a → is_bare (rows_of_two cycles.lang a) ≡ true → IsFormed (rows_of_two cycles.lang a)
-two_are_formed a shape passes = formed (rows_of_two cycles.lang a) local (bare_from (rows_of_two cycles.lang a) passes)
+two_are_formed : (a : d.CompilationUnit) → IsShapedUnit a → is_bare (rows_of_two trees.lang a) ≡ true → IsFormed (rows_of_two trees.lang a)
+two_are_formed a shape passes = formed (rows_of_two trees.lang a) local (bare_from (rows_of_two trees.lang a) passes)
   where
-    local : IsLocal (rows_of_two cycles.lang a)
-    local = subst IsLocal (ap₂ rows_of_two (plain_tree_unit cycles.lang) (plain_tree_unit a)) (each_program_is_local (tree_unit cycles.lang ∷ tree_unit a ∷ []) (lang_shaped, (shaped a shape, tt)))
+    local : IsLocal (rows_of_two trees.lang a)
+    local = subst IsLocal (ap₂ rows_of_two (plain_tree_unit trees.lang) (plain_tree_unit a)) (each_program_is_local (tree_unit trees.lang ∷ tree_unit a ∷ []) (lang_shaped, (shaped a shape, tt)))
 
-three_are_formed : (a b : d.CompilationUnit) → IsShapedUnit a → IsShapedUnit b → is_bare (rows_of_three cycles.lang a b) ≡ true → IsFormed (rows_of_three cycles.lang a b)
-three_are_formed a b of_a of_b passes = formed (rows_of_three cycles.lang a b) local (bare_from (rows_of_three cycles.lang a b) passes)
+three_are_formed : (a b : d.CompilationUnit) → IsShapedUnit a → IsShapedUnit b → is_bare (rows_of_three trees.lang a b) ≡ true → IsFormed (rows_of_three trees.lang a b)
+three_are_formed a b of_a of_b passes = formed (rows_of_three trees.lang a b) local (bare_from (rows_of_three trees.lang a b) passes)
   where
-    rows_are : program_rows (tree_unit cycles.lang ∷ tree_unit a ∷ tree_unit b ∷ []) ≡ rows_of_three cycles.lang a b
-    rows_are = ap (λ u. rows_of_three u (plain_unit (tree_unit a)) (plain_unit (tree_unit b))) (plain_tree_unit cycles.lang) ∙ ap₂ (rows_of_three cycles.lang) (plain_tree_unit a) (plain_tree_unit b)
+    rows_are : program_rows (tree_unit trees.lang ∷ tree_unit a ∷ tree_unit b ∷ []) ≡ rows_of_three trees.lang a b
+    rows_are = ap (λ u. rows_of_three u (plain_unit (tree_unit a)) (plain_unit (tree_unit b))) (plain_tree_unit trees.lang) ∙ ap₂ (rows_of_three trees.lang) (plain_tree_unit a) (plain_tree_unit b)
 
-    local : IsLocal (rows_of_three cycles.lang a b)
-    local = subst IsLocal rows_are (each_program_is_local (tree_unit cycles.lang ∷ tree_unit a ∷ tree_unit b ∷ []) (lang_shaped, (shaped a of_a, (shaped b of_b, tt))))
+    local : IsLocal (rows_of_three trees.lang a b)
+    local = subst IsLocal rows_are (each_program_is_local (tree_unit trees.lang ∷ tree_unit a ∷ tree_unit b ∷ []) (lang_shaped, (shaped a of_a, (shaped b of_b, tt))))
 
--- ---- the four programs
+-- ---- the four programs: their rows are those of the trees, by computing
 
 pub two_classes_extend_each_other : IsFormed cycles.two_classes_extend_each_other
-two_classes_extend_each_other = two_are_formed cycles.two_classes_extend_each_other_unit (tt, tt, ((refl, tt, tt), ((refl, tt, tt), tt))) refl
+two_classes_extend_each_other = two_are_formed trees.two_classes_extend_each_other (tt, tt, ((refl, tt, tt), ((refl, tt, tt), tt))) refl
 
 pub a_cycle_through_an_import : IsFormed cycles.a_cycle_through_an_import
-a_cycle_through_an_import = three_are_formed cycles.unit_of_c cycles.unit_of_a (refl, tt, ((refl, tt, tt), tt)) (refl, (refl, tt), ((refl, tt, tt), tt)) refl
+a_cycle_through_an_import = three_are_formed trees.a_cycle_through_an_import_c trees.a_cycle_through_an_import_a (refl, tt, ((refl, tt, tt), tt)) (refl, (refl, tt), ((refl, tt, tt), tt)) refl
 
 pub a_class_extends_its_member : IsFormed cycles.a_class_extends_its_member
-a_class_extends_its_member = two_are_formed cycles.a_class_extends_its_member_unit (tt, tt, ((refl, tt, ((tt, tt, tt), tt)), tt)) refl
+a_class_extends_its_member = two_are_formed trees.a_class_extends_its_member (tt, tt, ((refl, tt, ((tt, tt, tt), tt)), tt)) refl
 
 pub a_cycle_through_a_qualifier : IsFormed cycles.a_cycle_through_a_qualifier
-a_cycle_through_a_qualifier = two_are_formed cycles.a_cycle_through_a_qualifier_unit (tt, tt, ((refl, tt, tt), ((refl, tt, ((tt, tt, tt), tt)), tt))) refl
+a_cycle_through_a_qualifier = two_are_formed trees.a_cycle_through_a_qualifier (tt, tt, ((refl, tt, tt), ((refl, tt, ((tt, tt, tt), tt)), tt))) refl

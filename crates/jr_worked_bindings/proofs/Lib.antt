@@ -1,2 +1,3 @@
 pub mod Bindings
+mod Mirrors
 pub mod Formed

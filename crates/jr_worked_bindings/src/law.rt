@@ -43,6 +43,7 @@ pub fn bindings_of_fields()
     ensures a_field_of_a_named_type { IsBinding (rows_of fields.a_field_of_a_named_type) (table_of fields.a_field_of_a_named_type) }
     ensures a_parameter_obscures_a_type { IsBinding (rows_of fields.a_parameter_obscures_a_type) (table_of fields.a_parameter_obscures_a_type) }
     ensures the_length_of_an_array { IsBinding (rows_of fields.the_length_of_an_array) (table_of fields.the_length_of_an_array) }
+    ensures a_member_extends_its_class { IsBinding (rows_of fields.a_member_extends_its_class) (table_of fields.a_member_extends_its_class) }
 {}
 
 /// Packages, imports and access (JLS 6.5, 6.6, 7.5, 8.2).

@@ -29,4 +29,5 @@ returns c = record {
   a_field_of_a_named_type_the_type_before_the_dot_is_a_part = (part_tells (rows_of fields.a_field_of_a_named_type) (table_of fields.a_field_of_a_named_type) 26).0 refl;
   a_parameter_obscures_a_type = looked_up fields.a_parameter_obscures_a_type refl;
   the_length_of_an_array = looked_up fields.the_length_of_an_array refl;
+  a_member_extends_its_class = looked_up fields.a_member_extends_its_class refl;
 }

@@ -19,4 +19,5 @@ returns c = record {
   a_field_of_a_named_type = bound_and_settled fields.a_field_of_a_named_type refl refl;
   a_parameter_obscures_a_type = bound_and_settled fields.a_parameter_obscures_a_type refl refl;
   the_length_of_an_array = bound_and_settled fields.the_length_of_an_array refl refl;
+  a_member_extends_its_class = bound_and_settled fields.a_member_extends_its_class refl refl;
 }
