@@ -1,10 +1,11 @@
 -- The laws of the binding of a program of files.
-use Rattle.std.specs.Prelude.{◌≡◌, ◌↔◌, ℕ, true, false, Some, Decides}
+use Rattle.std.specs.Prelude.{◌≡◌, ◌⊎◌, ◌↔◌, ℕ, true, false, Some, None, Decides}
 use Rattle.jr_rows.specs.Rows.{Rows}
 use Rattle.jr_defs.specs.Referents.{Table}
 use Rattle.jr_defs.specs.Binding.{IsBinding, HasCycle, IsFirstOnCycle}
+use Rattle.jr_plain.specs.Search.{Finds}
 use Rattle.jr_plain.specs.Typing.{IsTypable}
-use Rattle.jr_headers.specs.Rounds.{has_settled_headers, cycle_of}
+use Rattle.jr_headers.specs.Growing.{has_settled_headers, cycle_of}
 use Rattle.jr_binding.specs.Laws.{IsOnlyBinding}
 use Rattle.jr_rules.specs.TypeRules.{BreaksTypes}
 use Rattle.jr_rules.specs.Computed.{breaks_types}
@@ -32,13 +33,17 @@ BindingIsComputed p = (t : Table) → binding_of p ≡ Some t ↔ IsBinding p t
 abbrev pub HasNoneBesideCycle : Rows → Type 0
 HasNoneBesideCycle p = HasCycle p → (t : Table) → IsBinding p t → ⊥
 
--- the type that is found is the first one on a cycle
-abbrev pub FindsFirstOnCycle : Rows → Type 0
-FindsFirstOnCycle p = (c : ℕ) → cycle_of p ≡ Some c → IsFirstOnCycle p c
+-- it has the one or the other
+abbrev pub HasCycleOrBinding : Rows → Type 0
+HasCycleOrBinding p = HasCycle p ⊎ ((t : Table) × IsBinding p t)
 
--- so where one is found there is no binding
-abbrev pub HasNoneWhereCycleFound : Rows → Type 0
-HasNoneWhereCycleFound p = (c : ℕ) → cycle_of p ≡ Some c → (t : Table) → IsBinding p t → ⊥
+-- the type that is found is the first one on a cycle, and it is found where there is one
+abbrev pub FindsFirstOnCycle : Rows → Type 0
+FindsFirstOnCycle p = Finds (cycle_of p) (IsFirstOnCycle p)
+
+-- so there is a binding exactly where none is found
+abbrev pub IsBoundWhereNoneFound : Rows → Type 0
+IsBoundWhereNoneFound p = cycle_of p ≡ None ↔ (t : Table) × IsBinding p t
 
 -- ---- rules
 

@@ -5,7 +5,7 @@ ghost use Rattle.jr_rows.specs.Rows.{Rows};
 ghost use Rattle.jr_defs.specs.Referents.{Table};
 ghost use Rattle.jr_defs.specs.Compiling.{AllFound};
 ghost use Rattle.jr_bound.specs.Found.{all_found};
-ghost use Rattle.jr_bound.specs.Laws.{BindingIsTypable, TypeRulesAreDecided, IsBoundWhereSettled, IsUnboundElse, HasBindingDecided, BindingIsComputed, HasNoneBesideCycle, FindsFirstOnCycle, HasNoneWhereCycleFound};
+ghost use Rattle.jr_bound.specs.Laws.{BindingIsTypable, TypeRulesAreDecided, IsBoundWhereSettled, IsUnboundElse, HasBindingDecided, BindingIsComputed, HasCycleOrBinding, HasNoneBesideCycle, FindsFirstOnCycle, IsBoundWhereNoneFound};
 
 /// A program of files has a binding exactly where its headers are settled. It is the one that is computed, and there is no other.
 pub fn files_have_one_binding()
@@ -15,11 +15,12 @@ pub fn files_have_one_binding()
     ensures computed { OfFiles BindingIsComputed }
 {}
 
-/// A program of files with a cycle of headers has no binding. Where the first type on a cycle is found, it is that.
-pub fn cycles_leave_files_unbound()
-    ensures none { OfFiles HasNoneBesideCycle }
+/// A program of files has a cycle of headers or a binding, and never both. The first type on a cycle is computed: there is a binding exactly where there is none.
+pub fn files_have_a_cycle_or_a_binding()
+    ensures one { OfFiles HasCycleOrBinding }
+    ensures other { OfFiles HasNoneBesideCycle }
     ensures first { OfFiles FindsFirstOnCycle }
-    ensures found { OfFiles HasNoneWhereCycleFound }
+    ensures none { OfFiles IsBoundWhereNoneFound }
 {}
 
 /// In the binding of a program of files an expression has one type at most, so the rules on types and static contexts are decided at each row. Whether each

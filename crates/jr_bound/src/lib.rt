@@ -3,4 +3,6 @@
 
 mod law;
 
-pub use law::{cycles_leave_files_unbound, files_have_one_binding, rules_of_files_are_decided};
+pub use law::{
+    files_have_a_cycle_or_a_binding, files_have_one_binding, rules_of_files_are_decided,
+};

@@ -58,23 +58,23 @@ module _ (p : Rows) (formed : IsFormed p) where
   all_tell = every {P = λ c. IsType p c → IsSettled p one (entries (plain.header_part p)) c} (length p) (λ c. not (is_type p c) || has (plain.settled_types p) c)
       (λ c. implies_then (type_tells p c) (types_tell p formed c)) (λ c le k. let lt = type_below p c k in absurd (omega arith))
 
-  pub has_settled_tells : Decides (plain.has_settled_headers p) (plain.HasSettledHeaders p)
+  pub has_settled_tells : Decides (plain.has_settled_headers p) (plain.HeadersSettle p)
   has_settled_tells = like all_tell (λ all. (one, one_table, all)) (λ h c k. settled_same p formed h.0 one h.1 one_table c k (h.2 c k))
 
-  pub cycle_or_settled : HasCycle p ⊎ plain.HasSettledHeaders p
+  pub cycle_or_settled : HasCycle p ⊎ plain.HeadersSettle p
   cycle_or_settled = ⊎_elim (λ h. inl h) (λ all. inr (one, one_table, all)) (cycle_or_settled_under p (headed p formed) one one_table)
 
-  pub not_both : plain.HasSettledHeaders p → HasCycle p → ⊥
+  pub not_both : plain.HeadersSettle p → HasCycle p → ⊥
   not_both h round = round.unsettled (settled_same p formed h.0 round.table h.1 round.of_headers round.on round.type (h.2 round.on round.type))
 
   -- under a binding they are
-  pub settles_beside : (t : Table) → IsBinding p t → plain.HasSettledHeaders p
+  pub settles_beside : (t : Table) → IsBinding p t → plain.HeadersSettle p
   settles_beside t w = ⊎_elim (λ h. absurd (no_cycle_beside p formed t w h)) (λ h. h) cycle_or_settled
 
   -- ---- the first type on a cycle
 
-  first_of : (c : ℕ) → plain.cycle_of p ≡ Some c → IsFirstOnCycle p c
-  first_of c e = let f = (first_on_cycle_finds p one (entries (plain.header_part p)) (headed p formed) c).0 e in
+  pub cycle_of_is : (c : ℕ) → plain.cycle_of p ≡ Some c → IsFirstOnCycle p c
+  cycle_of_is c e = let f = (first_on_cycle_finds p one (entries (plain.header_part p)) (headed p formed) c).0 e in
       record { table = one; of_headers = one_table; type = f.1.0; cycle = f.1.1; first = λ e k h lt. let le = f.2 e (k, h) in absurd (omega arith) }
 
   path_here : (t : Table) (h : OfHeaders p t) (a b : ℕ) → HeaderPath p t h.settled_part a b → HeaderPath p one (entries (plain.header_part p)) a b
@@ -85,17 +85,17 @@ module _ (p : Rows) (formed : IsFormed p) where
 
   -- it is found where there is one, and only then
   pub cycle_finds : Finds (plain.cycle_of p) (IsFirstOnCycle p)
-  cycle_finds c = (first_of c, λ f. (first_on_cycle_finds p one (entries (plain.header_part p)) (headed p formed) c).1
+  cycle_finds c = (cycle_of_is c, λ f. (first_on_cycle_finds p one (entries (plain.header_part p)) (headed p formed) c).1
       (type_below p c f.type, (f.type, path_here f.table f.of_headers c c f.cycle), λ e h. not_before e c (λ lt. f.first e h.0 (path_back f.table f.of_headers e e h.1) lt)))
     where
       not_before : (e c : ℕ) → (e < c → ⊥) → c ≤ e
       not_before e c no' = ⊎_elim (λ lt. absurd (no' lt)) (λ le. le) (cases_lt e c)
 
   -- there is none exactly where all types are settled
-  pub no_cycle_where_settled : plain.cycle_of p ≡ None ↔ plain.HasSettledHeaders p
+  pub no_cycle_where_settled : plain.cycle_of p ≡ None ↔ plain.HeadersSettle p
   no_cycle_where_settled = (λ e. ⊎_elim (λ h. let f = (cycles_have_first p (headed p formed)).0 h in absurd (none-some f.0 (sym e ∙ (cycle_finds f.0).1 f.1))) (λ h. h) cycle_or_settled,
-      λ h. by h (plain.cycle_of p) (λ c e. first_of c e))
+      λ h. by h (plain.cycle_of p) (cycle_of_is))
     where
-      by : plain.HasSettledHeaders p → (found : Option ℕ) → ((c : ℕ) → found ≡ Some c → IsFirstOnCycle p c) → found ≡ None
+      by : plain.HeadersSettle p → (found : Option ℕ) → ((c : ℕ) → found ≡ Some c → IsFirstOnCycle p c) → found ≡ None
       by h None is = refl
       by h (Some c) is = absurd (not_both h ((cycles_have_first p (headed p formed)).1 (c, is c refl)))

@@ -10,7 +10,7 @@ ghost use Rattle.jr_defs.specs.Formed.{IsFormed};
 ghost use Rattle.jr_plain.specs.Headed.{IsHeaded};
 ghost use Rattle.jr_plain.specs.Search.{IsFirst, Finds, has};
 ghost use Rattle.jr_headers.specs.Headers.{names_header, is_identifier_of, is_first_of, is_looked_for_in, name_meets, meets, is_settled, comes_before, header_edge, header_path, first_on_cycle, is_of_header};
-ghost use Rattle.jr_headers.specs.Growing.{HasSettledHeaders, header_table, header_part, settled_types, has_settled_headers, is_of_headers, cycle_of};
+ghost use Rattle.jr_headers.specs.Growing.{HeadersSettle, header_table, header_part, settled_types, has_settled_headers, is_of_headers, cycle_of};
 
 /// Which names stand in headers, and what they meet.
 pub fn headers_are_computed()
@@ -62,10 +62,10 @@ pub fn headers_exist()
 /// A program has a cycle of headers or settled headers, and never both. Which of them is decided, and the first type on a cycle is computed. A program with a
 /// binding has settled headers.
 pub fn headers_settle_or_cycle()
-    ensures one { (p : Rows) → IsFormed p → HasCycle p ⊎ HasSettledHeaders p }
-    ensures other { (p : Rows) → IsFormed p → HasSettledHeaders p → HasCycle p → ⊥ }
-    ensures decided { (p : Rows) → IsFormed p → Decides (has_settled_headers p) (HasSettledHeaders p) }
+    ensures one { (p : Rows) → IsFormed p → HasCycle p ⊎ HeadersSettle p }
+    ensures other { (p : Rows) → IsFormed p → HeadersSettle p → HasCycle p → ⊥ }
+    ensures decided { (p : Rows) → IsFormed p → Decides (has_settled_headers p) (HeadersSettle p) }
     ensures cycle { (p : Rows) → IsFormed p → Finds (cycle_of p) (IsFirstOnCycle p) }
-    ensures none { (p : Rows) → IsFormed p → cycle_of p ≡ None ↔ HasSettledHeaders p }
+    ensures none { (p : Rows) → IsFormed p → cycle_of p ≡ None ↔ HeadersSettle p }
     ensures binding { (p : Rows) (t : Table) → IsFormed p → IsBinding p t → IsTrue (has_settled_headers p) }
 {}

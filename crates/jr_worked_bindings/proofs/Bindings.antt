@@ -12,8 +12,8 @@ use Rattle.jr_plain.specs.Headed.{IsHeaded}
 use Rattle.jr_plain.proofs.Searches.{every_of}
 use Rattle.jr_plain.proofs.OfTypes.{types_list}
 use Rattle.jr_headers.specs.Headers.{settled, is_settled_by, is_settled}
-use Rattle.jr_headers.specs.Rounds.{cycle_of}
-use Rattle.jr_headers.proofs.Cut.{cycle_of_is}
+use Rattle.jr_headers.specs.Growing.{cycle_of}
+use Rattle.jr_headers.proofs.Told.{cycle_of_is}
 use Rattle.jr_headers.proofs.Pairs.{no_cycle_beside}
 use Rattle.jr_headers.proofs.Cyclic.{cycles_have_first}
 use Rattle.jr_headers.proofs.Settled.{settled_tells}

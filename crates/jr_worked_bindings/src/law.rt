@@ -2,7 +2,7 @@
 ghost use Rattle.std.specs.Prelude.{◌≡◌, Some};
 ghost use Rattle.jr_defs.specs.Referents.{Table};
 ghost use Rattle.jr_defs.specs.Binding.{IsBinding, IsFirstOnCycle};
-ghost use Rattle.jr_headers.specs.Rounds.{cycle_of};
+ghost use Rattle.jr_headers.specs.Growing.{cycle_of};
 ghost use Rattle.jr_worked.specs.Tables.{rows_of, table_of};
 ghost use Rattle.jr_worked.specs.Locals as locals;
 ghost use Rattle.jr_worked.specs.Fields as fields;

@@ -1,5 +1,5 @@
 use Rattle.std.proofs.Common.{refl}
-use Rattle.jr_headers.proofs.Cut.{cycle_of_is}
+use Rattle.jr_headers.proofs.Told.{cycle_of_is}
 use Rattle.jr_worked_bindings.proofs.Bindings.{no_binding}
 use Rattle.jr_worked_bindings.proofs.Formed as formed
 use Rattle.jr_worked_bindings.specs.Cycles as cycles
