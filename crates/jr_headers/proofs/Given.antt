@@ -1,7 +1,6 @@
 -- Where names in headers refer to what is given, and that leads to an end, rounds find what all other identifiers of headers and imports refer to.
-use Rattle.std.proofs.Common.{◌≡◌, ◌⊎◌, refl, sym, ◌∙◌, ap, subst, inl, inr, ⊎_elim, arith, ℕ, zero, suc, ◌+◌, ◌≤◌, ◌<◌, Bool, true, false, cond, List, length, Decides}
+use Rattle.std.proofs.Common.{◌≡◌, ◌⊎◌, refl, sym, ◌∙◌, ap, subst, inl, inr, arith, ℕ, zero, suc, ◌+◌, ◌≤◌, ◌<◌, Bool, true, false, cond, List, length, Decides}
 use Rattle.std.proofs.Math.Path.{fun_ext}
-use Rattle.std.proofs.lemmas.Bool.{false≢true}
 use Rattle.jr_rows.specs.declared.label.Label.TheVariants as is
 use Rattle.jr_rows.specs.declared.label.ImportKind.{ImportKind}
 use Rattle.jr_rows.specs.declared.label.NameKind.{NameKind}
@@ -19,15 +18,13 @@ use Rattle.jr_defs.specs.Binding.{IsOfHeader}
 use Rattle.jr_defs.specs.Formed.{SeeksType, IsFormed}
 use Rattle.jr_defs.specs.Correspondence.{IsScoped}
 use Rattle.jr_defs.proofs.HeadersAgree.{Agreed, ImportSame}
-use Rattle.jr_plain.proofs.Tests.{like}
 use Rattle.jr_headers.specs.Rounds.{looked_up, look_type}
 use Rattle.jr_headers.specs.Rounds as plain
 use Rattle.jr_headers.proofs.Headed.{header_name_tells, header_below}
 use Rattle.jr_headers.proofs.Scopes.{EndsSo, first_same}
-use Rattle.jr_headers.proofs.Names.{name_same, look_declares, itself_identifier, inner_names_none, import_names_none, import_seeks, next_identifier, each_identifier, import_identifier_same, in_import}
+use Rattle.jr_headers.proofs.Names.{name_same, look_declares, itself_identifier, inner_names_none, import_names_none, import_seeks, each_identifier, import_identifier_same}
 use Rattle.jr_headers.proofs.Pairs.{Looked}
 use Rattle.jr_headers.proofs.Grounded.{HasNames, agreed_over}
-use Rattle.jr_headers.proofs.Looked.{look_type_is}
 use Rattle.jr_headers.proofs.Rounding.{entries_listed, entries_past, listed_all, again, rounds_again, header_row, import_place, header_found, import_found, header_look, import_look}
 
 module _ (p : Rows) (r s : Referent) where

@@ -1,5 +1,5 @@
 -- Stages of settling types: each keeps what the one before has settled, and no new type follows from the last. So each program has a table of headers.
-use Rattle.std.proofs.Common.{◌≡◌, ◌⊎◌, refl, sym, ◌∙◌, ap, subst, inl, inr, ⊎_elim, arith, ℕ, zero, suc, ◌≤◌, ◌<◌, Bool, true, false, not, cond, [], length, nat_eq, Option, Decides}
+use Rattle.std.proofs.Common.{◌≡◌, refl, sym, ◌∙◌, ap, subst, inl, inr, ⊎_elim, arith, ℕ, zero, suc, ◌≤◌, ◌<◌, Bool, true, false, not, cond, [], length, nat_eq, Option, Decides}
 use Rattle.std.specs.List.{list_any}
 use Rattle.std.proofs.Math.Path.{fun_ext}
 use Rattle.std.proofs.lemmas.Bool.{false≢true, not-true, not_from_false, not_from_true, cases_Bool}
@@ -7,7 +7,7 @@ use Rattle.std.proofs.lemmas.Bool.Decides.{Decides-eqb}
 use Rattle.jr_rows.specs.Rows.{Rows}
 use Rattle.jr_defs.specs.declared.referent.Referent.TheVariants.{Unbound, Declared}
 use Rattle.jr_defs.specs.Referents.{Table, entries}
-use Rattle.jr_defs.specs.Declarations.{IsType, IsObject}
+use Rattle.jr_defs.specs.Declarations.{IsType}
 use Rattle.jr_defs.specs.Enclosing.{DeclaredIn}
 use Rattle.jr_defs.specs.Supertypes.{SuperAt}
 use Rattle.jr_defs.specs.Constants.{HasConstantForm}
