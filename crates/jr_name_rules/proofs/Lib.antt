@@ -1,3 +1,6 @@
 pub mod Found
 pub mod Known
 pub mod Declarations
+pub mod Imports
+pub mod Headers
+pub mod Access
