@@ -77,6 +77,10 @@ behind_dot_tells sought.FieldOf = always
 behind_dot_tells sought.MethodOf = always
 behind_dot_tells _ = never
 
+abbrev pub NotAccessible : Rows → Table → ℕ → Type 0
+NotAccessible p t o = IsOccurrence p o
+    × ((d : ℕ) × ((level : Option ℕ) × (t o ≡ Declared d level)) × ((through : Option RowType) × Through p t o through × (IsAccessible p t d o through → ⊥)))
+
 module _ (p : Rows) (t : Table) (headed : IsHeaded p) (type_of : Types) (typed : (n : ℕ) → Finds (type_of n) (λ a. TypeOf p t (HasConstantForm p t) n a)) where
   abbrev Receives : ℕ → ℕ → Option RowType → Type 0
   Receives o c receiver = Receiver p t (HasConstantForm p t) o c receiver
@@ -137,11 +141,7 @@ module _ (p : Rows) (t : Table) (headed : IsHeaded p) (type_of : Types) (typed :
       (one_has (option_eq same_type) (option_tells same_type type_tells) None) through)
       (through_out o through) (through_into o through)
 
-  abbrev pub NotAccessible : ℕ → Type 0
-  NotAccessible o = IsOccurrence p o
-      × ((d : ℕ) × ((level : Option ℕ) × (t o ≡ Declared d level)) × ((through : Option RowType) × Through p t o through × (IsAccessible p t d o through → ⊥)))
-
-  pub not_accessible_tells : (o : ℕ) → Decides (tests.is_not_accessible p t type_of o) (NotAccessible o)
+  pub not_accessible_tells : (o : ℕ) → Decides (tests.is_not_accessible p t type_of o) (NotAccessible p t o)
   not_accessible_tells o = both (occurrence_tells p o)
       (found_tells (λ d. (level : Option ℕ) × (t o ≡ Declared d level)) (λ d. list_any (λ through. not (is_accessible p t d o through)) (tests.reached_through p t type_of o))
       (λ d. (through : Option RowType) × Through p t o through × (IsAccessible p t d o through → ⊥)) hidden (declared_row (t o)) (declared_finds (t o)))

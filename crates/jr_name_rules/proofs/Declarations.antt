@@ -184,7 +184,7 @@ local_or_parameter_tells role.Local = (λ h. inl refl, λ e. refl)
 local_or_parameter_tells role.Parameter = (λ h. inr refl, λ e. refl)
 local_or_parameter_tells _ = (λ h. absurd (false≢true h), ⊎_elim (λ e. absurd (cc)) (λ e. absurd (cc)))
 
-abbrev InScopeOf : Rows → ℕ → ℕ → Type 0
+abbrev pub InScopeOf : Rows → ℕ → ℕ → Type 0
 InScopeOf p d e = InLocalScope p d e ⊎ (InParameterScope p d e ⊎ (InOneList p d e × (d < e)))
 
 in_scope_of_tells : (p : Rows) (d e : ℕ) → Decides (plain.is_in_scope_of p d e) (InScopeOf p d e)

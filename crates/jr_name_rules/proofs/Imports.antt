@@ -137,14 +137,24 @@ import_not_canonical_tells p t tree i = like
 
 -- ---- static imports
 
+abbrev pub ImportOfNothing : Rows → Table → ℕ → Type 0
+ImportOfNothing p t i = ImportOf p (parent p i) importing.StaticSingle i × (((d : ℕ) × ImportedBy p t (parent p i) i d) → ⊥)
+
+abbrev OtherType : Rows → Table → ℕ → ℕ → ℕ → Type 0
+OtherType p t u i e = ((j : ℕ) × ((i ≡ j → ⊥) × BringsType p t u j e)) ⊎ DeclaresTop p u e
+
+abbrev pub StaticClash : Rows → Table → ℕ → Type 0
+StaticClash p t i = ImportOf p (parent p i) importing.StaticSingle i
+    × ((d : ℕ) × ((IsType p d × ImportedBy p t (parent p i) i d) × ((e : ℕ) × (Clash p d e × OtherType p t (parent p i) i e))))
+
+abbrev pub StaticImportFault : Rows → Table → ℕ → Type 0
+StaticImportFault p t i = ImportOfNothing p t i ⊎ StaticClash p t i
+
 module _ (p : Rows) (t : Table) (headed : IsHeaded p) where
   imported_below : (u i d : ℕ) → ImportedBy p t u i d → d < length p
   imported_below u i d h = member_below p t headed h.of_type d h.member
 
-  abbrev pub ImportOfNothing : ℕ → Type 0
-  ImportOfNothing i = ImportOf p (parent p i) importing.StaticSingle i × (((d : ℕ) × ImportedBy p t (parent p i) i d) → ⊥)
-
-  import_of_nothing_tells : (i : ℕ) → Decides (plain.is_import_of_nothing p t i) (ImportOfNothing i)
+  import_of_nothing_tells : (i : ℕ) → Decides (plain.is_import_of_nothing p t i) (ImportOfNothing p t i)
   import_of_nothing_tells i = both (import_of_tells p (parent p i) importing.StaticSingle i)
       (opposite (some _ (λ d. ImportedBy p t (parent p i) i d) (λ d. imported_by_tells p t headed (parent p i) i d) (length p) (λ d h. imported_below (parent p i) i d h)))
 
@@ -165,29 +175,20 @@ module _ (p : Rows) (t : Table) (headed : IsHeaded p) where
   brought_below {e = e} (BringsType.single h) = type_below p e h.names.type
   brought_below {e = e} (BringsType.static h type) = type_below p e type
 
-  abbrev OtherType : ℕ → ℕ → ℕ → Type 0
-  OtherType u i e = ((j : ℕ) × ((i ≡ j → ⊥) × BringsType p t u j e)) ⊎ DeclaresTop p u e
-
-  other_type_tells : (u i e : ℕ) → Decides (plain.is_other_type p t u i e) (OtherType u i e)
+  other_type_tells : (u i e : ℕ) → Decides (plain.is_other_type p t u i e) (OtherType p t u i e)
   other_type_tells u i e = either
       (some _ (λ j. (i ≡ j → ⊥) × BringsType p t u j e) (λ j. both (opposite (Decides-eqb i j)) (brought_tells u j e)) (length p) (λ j h. import_row h.1)) (declared_top_tells p u e)
 
-  other_below : (u i e : ℕ) → OtherType u i e → e < length p
+  other_below : (u i e : ℕ) → OtherType p t u i e → e < length p
   other_below u i e (inl h) = brought_below h.1.1
   other_below u i e (inr h) = type_below p e h.top.type
 
-  abbrev pub StaticClash : ℕ → Type 0
-  StaticClash i = ImportOf p (parent p i) importing.StaticSingle i × ((d : ℕ) × ((IsType p d × ImportedBy p t (parent p i) i d) × ((e : ℕ) × (Clash p d e × OtherType (parent p i) i e))))
-
-  static_clash_tells : (i : ℕ) → Decides (plain.has_static_clash p t i) (StaticClash i)
+  static_clash_tells : (i : ℕ) → Decides (plain.has_static_clash p t i) (StaticClash p t i)
   static_clash_tells i = both (import_of_tells p (parent p i) importing.StaticSingle i)
-      (some _ (λ d. (IsType p d × ImportedBy p t (parent p i) i d) × ((e : ℕ) × (Clash p d e × OtherType (parent p i) i e)))
+      (some _ (λ d. (IsType p d × ImportedBy p t (parent p i) i d) × ((e : ℕ) × (Clash p d e × OtherType p t (parent p i) i e)))
       (λ d. both (both (type_tells p d) (imported_by_tells p t headed (parent p i) i d))
-      (some _ (λ e. Clash p d e × OtherType (parent p i) i e) (λ e. both (clash_tells p d e) (other_type_tells (parent p i) i e)) (length p) (λ e h. other_below (parent p i) i e h.1)))
+      (some _ (λ e. Clash p d e × OtherType p t (parent p i) i e) (λ e. both (clash_tells p d e) (other_type_tells (parent p i) i e)) (length p) (λ e h. other_below (parent p i) i e h.1)))
       (length p) (λ d h. type_below p d h.0.0))
 
-  abbrev pub StaticImportFault : ℕ → Type 0
-  StaticImportFault i = ImportOfNothing i ⊎ StaticClash i
-
-  pub static_import_fault_tells : (i : ℕ) → Decides (plain.has_static_import_fault p t i) (StaticImportFault i)
+  pub static_import_fault_tells : (i : ℕ) → Decides (plain.has_static_import_fault p t i) (StaticImportFault p t i)
   static_import_fault_tells i = either (import_of_nothing_tells i) (static_clash_tells i)

@@ -4,3 +4,5 @@ pub mod Declarations
 pub mod Imports
 pub mod Headers
 pub mod Access
+pub mod AllRules
+pub mod Bounded
