@@ -10,17 +10,17 @@ use Rattle.jr_defs.specs.declared.referent.Space.TheVariants as space
 use Rattle.jr_defs.specs.Referents.{Table}
 use Rattle.jr_defs.specs.Declarations.{IsOf}
 use Rattle.jr_defs.specs.Types.{SameSignature}
-use Rattle.jr_defs.specs.Constants.{HasConstantForm}
 use Rattle.jr_defs.specs.Imports.{ImportOf, ImportedBy}
 use Rattle.jr_defs.specs.Supertypes.{NamesSuperclass, NamesSuperinterface}
-use Rattle.jr_defs.specs.Typing.{TypeOf}
 use Rattle.jr_defs.specs.Rules.{Twice, BringsType, DeclaresTop, Breaks}
-use Rattle.jr_plain.specs.Search.{has, Finds}
+use Rattle.jr_plain.specs.Headed.{IsHeaded}
+use Rattle.jr_plain.specs.Search.{has}
 use Rattle.jr_plain.specs.Overloads.{Types}
 use Rattle.jr_plain.specs.Typing.{IsTypable}
 use Rattle.jr_plain.proofs.Tests.{never, either, like}
 use Rattle.jr_plain.proofs.Searches.{among_append}
 use Rattle.jr_name_rules.specs.ImportTests.{has_import_clash, is_import_not_canonical}
+use Rattle.jr_name_rules.specs.AccessTests.{is_not_accessible}
 use Rattle.jr_name_rules.specs.Computed.{rule_if, broken_at, types, breaks}
 use Rattle.jr_name_rules.proofs.Known.{types_find}
 use Rattle.jr_name_rules.proofs.Found.{next_tells}
@@ -166,9 +166,14 @@ module _ (p : Rows) (t : Table) where
   ways_in (Breaks.imports_beside {i = i} {d = d} {e = e} h type top named other) =
       inr (inr (inr (inr (inr (inr (inr (inr (inr (inr (refl, inr (own_unit h.is_import, (d, ((type, imported_at (sym h.is_import.inside) h), (e, ((named, other), inr (beside_import h.is_import top))))))))))))))))
 
-module _ (p : Rows) (t : Table) (typable : IsTypable p t) (type_of : Types) (typed : (n : ℕ) → Finds (type_of n) (λ a. TypeOf p t (HasConstantForm p t) n a)) where
-  ways_tell : (rule n : ℕ) → Decides (has (broken_at p t type_of n) rule) (Ways p t rule n)
-  ways_tell rule n = let headed = typable.headed in let tree = headed.tree in or_tells _ _ rule (rule_tells _ 2 rule (type_clash_tells p tree n))
+-- a rule that is another one
+other_tells : {P : Type 0} (b : Bool) (k rule : ℕ) → (k ≡ rule → ⊥) → Decides (has (rule_if b k) rule) ((k ≡ rule) × P)
+other_tells true k rule other = like (either (Decides-eqb k rule) never) (⊎_elim (λ e. absurd (other e)) (λ h. absurd h)) (λ h. inl h.0)
+other_tells false k rule other = like never (λ h. absurd h) (λ h. other h.0)
+
+module _ (p : Rows) (t : Table) (headed : IsHeaded p) (type_of : Types) (rule n : ℕ) where
+  ways_tell : Decides (has (rule_if (is_not_accessible p t type_of n) 10) rule) ((10 ≡ rule) × NotAccessible p t n) → Decides (has (broken_at p t type_of n) rule) (Ways p t rule n)
+  ways_tell access = let tree = headed.tree in or_tells _ _ rule (rule_tells _ 2 rule (type_clash_tells p tree n))
       (or_tells _ _ rule (rule_tells _ 3 rule (second_field_tells p n))
       (or_tells _ _ rule (rule_tells _ 4 rule (second_method_tells p t tree n))
       (or_tells _ _ rule (rule_tells _ 5 rule (second_constructor_tells p t tree n))
@@ -176,9 +181,16 @@ module _ (p : Rows) (t : Table) (typable : IsTypable p t) (type_of : Types) (typ
       (or_tells _ _ rule (rule_tells _ 7 rule (second_label_tells p n))
       (or_tells _ _ rule (rule_tells _ 8 rule (next_tells (has_import_clash p t) (ImportClash p t) (import_clash_tells p t) n))
       (or_tells _ _ rule (rule_tells _ 9 rule (next_tells (is_import_not_canonical p t) (ImportNotCanonical p t) (import_not_canonical_tells p t tree) n))
-      (or_tells _ _ rule (rule_tells _ 10 rule (not_accessible_tells p t headed type_of typed n))
+      (or_tells _ _ rule access
       (or_tells _ _ rule (rule_tells _ 13 rule (wrong_supertype_tells p t n))
       (rule_tells _ 47 rule (static_import_fault_tells p t headed n)))))))))))
 
+  broken_tells : Decides (has (rule_if (is_not_accessible p t type_of n) 10) rule) ((10 ≡ rule) × NotAccessible p t n) → Decides (has (broken_at p t type_of n) rule) (Breaks p t rule n)
+  broken_tells access = like (ways_tell access) (ways_out p t rule n) (ways_in p t)
+
 pub breaks_tells : (p : Rows) (t : Table) (rule n : ℕ) → IsTypable p t → Decides (breaks p t rule n) (Breaks p t rule n)
-breaks_tells p t rule n typable = like (ways_tell p t typable (types p t) (types_find p t typable) rule n) (ways_out p t rule n) (ways_in p t)
+breaks_tells p t rule n typable = broken_tells p t typable.headed (types p t) rule n (rule_tells _ 10 rule (not_accessible_tells p t typable.headed (types p t) (types_find p t typable) n))
+
+-- all rules but that on access are told whatever the types are
+pub others_tell : (p : Rows) (t : Table) (type_of : Types) (rule n : ℕ) → IsHeaded p → (rule ≡ 10 → ⊥) → Decides (has (broken_at p t type_of n) rule) (Breaks p t rule n)
+others_tell p t type_of rule n headed other = broken_tells p t headed type_of rule n (other_tells _ 10 rule (λ e. other (sym e)))

@@ -16,7 +16,6 @@ use Rattle.jr_defs.specs.Rules.{Breaks}
 use Rattle.jr_plain.proofs.Bounds.{bounded, type_below, constructor_below}
 use Rattle.jr_plain.proofs.Enclosed.{declared_below}
 use Rattle.jr_plain.proofs.Supertyped.{superclass_name_below, superinterface_name_below}
-use Rattle.jr_plain.proofs.Imported.{import_below}
 
 import_row : (p : Rows) (i : ℕ) (form : ImportKind) → label p i ≡ is.Import form → i < length p
 import_row p i form e = bounded (λ l. l ≡ is.Import form) (λ e. cc) p i e

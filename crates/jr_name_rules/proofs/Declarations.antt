@@ -1,7 +1,7 @@
 -- The tests of what is declared twice tell what they are to tell.
-use Rattle.std.proofs.Common.{◌≡◌, ◌⊎◌, refl, sym, ◌∙◌, ap, subst, inl, inr, ⊎_elim, arith, ℕ, zero, suc, ◌<◌, ◌≤◌, Bool, true, ◌&&◌, List, [], ◌∷◌, ◌++◌, length, Option, Some, None, nat_lt, Decides}
+use Rattle.std.proofs.Common.{◌≡◌, ◌⊎◌, refl, sym, ◌∙◌, ap, inl, inr, ⊎_elim, arith, ℕ, zero, suc, ◌<◌, ◌≤◌, Bool, ◌&&◌, List, [], ◌∷◌, ◌++◌, length, Option, Some, None, nat_lt, Decides}
 use Rattle.std.proofs.lemmas.Bool.{false≢true, cases_lt, cases_eq}
-use Rattle.std.proofs.lemmas.Bool.Decides.{Decides-ltb, Decides-eqb}
+use Rattle.std.proofs.lemmas.Bool.Decides.{Decides-ltb}
 use Rattle.std.proofs.lemmas.Option.{none-some, same_Some}
 use Rattle.std.proofs.lemmas.Slice.Eq.{bytes_eq-Decides}
 use Rattle.jr_base.specs.declared.text.Text.{Text}
@@ -12,18 +12,16 @@ use Rattle.jr_rows.specs.Labels.{role_of}
 use Rattle.jr_rows.specs.Rows.{Rows, label, name, parent, role_at}
 use Rattle.jr_rows.specs.Tree.{IsTree}
 use Rattle.jr_defs.specs.declared.referent.RowType.{RowType}
-use Rattle.jr_defs.specs.declared.referent.Space.TheVariants as space
 use Rattle.jr_defs.specs.Referents.{Table}
-use Rattle.jr_defs.specs.Declarations.{IsOf, IsType}
+use Rattle.jr_defs.specs.Declarations.{IsType}
 use Rattle.jr_defs.specs.Enclosing.{holder, BodyOf, DeclaredIn, ConstructorOf, IsTopLevel}
 use Rattle.jr_defs.specs.Packages.{InUnit, SamePackage, package_of}
-use Rattle.jr_defs.specs.Types.{Parameters, SameSignature}
+use Rattle.jr_defs.specs.Types.{SameSignature}
 use Rattle.jr_defs.specs.Scope.{InLocalScope, InParameterScope, InLabelScope, InOneList}
-use Rattle.jr_defs.specs.Rules.{Twice, SameParameters, IsSubpackage, Encloses, Breaks}
-use Rattle.jr_plain.specs.Same.{same_role, same_path}
-use Rattle.jr_plain.specs.Enclosing.{is_declared_in, declaring_type, is_constructor_of, constructed_class, is_unit}
+use Rattle.jr_defs.specs.Rules.{Twice, SameParameters, IsSubpackage, Encloses}
+use Rattle.jr_plain.specs.Enclosing.{is_declared_in, declaring_type, is_constructor_of, constructed_class}
 use Rattle.jr_plain.specs.Types.{parameters, are_same_types}
-use Rattle.jr_plain.proofs.Tests.{always, never, both, either, opposite, like}
+use Rattle.jr_plain.proofs.Tests.{never, both, either, opposite, like}
 use Rattle.jr_plain.proofs.Searches.{some}
 use Rattle.jr_plain.proofs.Same.{role_tells, path_tells, types_tell}
 use Rattle.jr_plain.proofs.Bounds.{parent_past, bounded, type_below, constructor_below, body_below, unit_below}
@@ -114,16 +112,30 @@ named_as_package_tells : (p : Rows) (d : ℕ) → Decides (plain.is_named_as_pac
 named_as_package_tells p d = like
     (both (top_level_tells p d)
     (some _ (λ u. InUnit p u d × HasSubpackage p u (name p d)) (λ u. both (in_unit_tells p u d) (has_subpackage_tells p u (name p d))) (length p) (λ u h. unit_below p u h.0.unit)))
-    (λ h. (h.0, record {
-      path = package_of p h.1.0;
-      inside = record { unit = h.1.0; holds = h.1.1.0; has_path = refl };
-      named = h.1.1.1.0;
-      unit = h.1.1.1.1.0;
-      is_unit = h.1.1.1.1.1.0;
-      stands = h.1.1.1.1.1.1;
-    }))
-    (λ h. let k = h.1 in (h.0, (k.inside.unit, (k.inside.holds, (λ e. k.named (sym k.inside.has_path ∙ e),
-    (k.unit, (k.is_unit, k.stands ∙ ap (λ path. path ++ name p d ∷ []) (sym k.inside.has_path))))))))
+    (λ h. (
+      h.0,
+      record {
+        path = package_of p h.1.0;
+        inside = record { unit = h.1.0; holds = h.1.1.0; has_path = refl };
+        named = h.1.1.1.0;
+        unit = h.1.1.1.1.0;
+        is_unit = h.1.1.1.1.1.0;
+        stands = h.1.1.1.1.1.1;
+      },
+    ))
+    (λ h. let k = h.1 in (
+      h.0,
+      (
+        k.inside.unit,
+        (
+          k.inside.holds,
+          (
+            λ e. k.named (sym k.inside.has_path ∙ e),
+            (k.unit, (k.is_unit, k.stands ∙ ap (λ path. path ++ name p d ∷ []) (sym k.inside.has_path))),
+          ),
+        ),
+      ),
+    ))
 
 -- ---- types round a type
 

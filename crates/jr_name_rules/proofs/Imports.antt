@@ -1,6 +1,5 @@
 -- The tests of what imports name tell what they are to tell.
 use Rattle.std.proofs.Common.{◌≡◌, ◌⊎◌, refl, sym, ◌∙◌, ap, subst, inl, inr, ⊎_elim, arith, ℕ, zero, suc, ◌+◌, ◌<◌, ◌&&◌, not, if◌then◌else◌, List, [], ◌∷◌, ◌++◌, length, flat_map, Decides}
-use Rattle.std.specs.Option.{option_map_or}
 use Rattle.std.proofs.lemmas.Bool.{false≢true}
 use Rattle.std.proofs.lemmas.Bool.Decides.{Decides-ltb, Decides-eqb}
 use Rattle.jr_base.specs.declared.text.Text.{Text}
@@ -15,7 +14,7 @@ use Rattle.jr_defs.specs.Declarations.{IsType}
 use Rattle.jr_defs.specs.Enclosing.{DeclaredIn, IsTopLevel}
 use Rattle.jr_defs.specs.Packages.{InUnit, package_of, spelled}
 use Rattle.jr_defs.specs.Imports.{ImportOf, ImportNames, ImportedBy}
-use Rattle.jr_defs.specs.Rules.{CanonicalName, NamesAlone, BringsType, DeclaresTop}
+use Rattle.jr_defs.specs.Rules.{CanonicalName, BringsType, DeclaresTop}
 use Rattle.jr_plain.specs.Headed.{IsHeaded}
 use Rattle.jr_plain.specs.Lists.{Has}
 use Rattle.jr_plain.specs.Same.{same_path}
@@ -115,8 +114,16 @@ module _ (p : Rows) where
 
   canonical_into : IsTree p → (rounds d : ℕ) (path : List Text) → d < rounds → CanonicalName p d path → CanonicalWithin rounds d path
   canonical_into tree zero d path lt h = absurd (omega arith)
-  canonical_into tree (suc rounds) d _ lt (CanonicalName.top h named) = inl (h.top, (h.inside.unit, ((h.inside.holds, λ e. named (sym h.inside.has_path ∙ e)),
-      ap (λ q. q ++ name p d ∷ []) h.inside.has_path)))
+  canonical_into tree (suc rounds) d _ lt (CanonicalName.top h named) = inl (
+    h.top,
+    (
+      h.inside.unit,
+      (
+        (h.inside.holds, λ e. named (sym h.inside.has_path ∙ e)),
+        ap (λ q. q ++ name p d ∷ []) h.inside.has_path,
+      ),
+    ),
+  )
   canonical_into tree (suc rounds) d _ lt (CanonicalName.member {c = c} {path = path} k type h) = let after = declared_after p tree c d k in
       inr (type, (c, k, (path, canonical_into tree rounds c path (omega arith) h, refl)))
 
