@@ -6,3 +6,5 @@ pub mod Headers
 pub mod Access
 pub mod AllRules
 pub mod Bounded
+pub mod Trees
+pub mod Worked
