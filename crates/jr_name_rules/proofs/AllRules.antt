@@ -162,7 +162,13 @@ module _ (p : Rows) (t : Table) where
       inr (inr (inr (inr (inr (inr (inr (inr (inr (inl (refl, inr (inr (own_superinterface k, (n, ((beside_superinterface h k, lt), (d, (level, e), (d, (other, f), refl))))))))))))))))
   ways_in (Breaks.imports_nothing {i = i} h none) = inr (inr (inr (inr (inr (inr (inr (inr (inr (inr (refl, inl (own_unit h, λ k. none k.0 (imported_at h.inside k.1))))))))))))
   ways_in (Breaks.imports_another {i = i} {j = j} {d = d} {e = e} h type k apart named other) =
-      inr (inr (inr (inr (inr (inr (inr (inr (inr (inr (refl, inr (own_unit h.is_import, (d, ((type, imported_at (sym h.is_import.inside) h), (e, ((named, other), inl (j, (apart, brought_at (sym h.is_import.inside) k)))))))))))))))))
+      inr (inr (inr (inr (inr (inr (inr (inr (inr (inr (
+        refl,
+        inr (
+          own_unit h.is_import,
+          (d, ((type, imported_at (sym h.is_import.inside) h), (e, ((named, other), inl (j, (apart, brought_at (sym h.is_import.inside) k)))))),
+        ),
+      ))))))))))
   ways_in (Breaks.imports_beside {i = i} {d = d} {e = e} h type top named other) =
       inr (inr (inr (inr (inr (inr (inr (inr (inr (inr (refl, inr (own_unit h.is_import, (d, ((type, imported_at (sym h.is_import.inside) h), (e, ((named, other), inr (beside_import h.is_import top))))))))))))))))
 
