@@ -1,0 +1,6 @@
+pub mod Redefined
+pub mod Thrown
+pub mod Inherited
+pub mod Bodied
+pub mod Inner
+pub mod AllRules
