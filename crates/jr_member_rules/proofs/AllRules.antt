@@ -1,5 +1,6 @@
 -- The test of all rules on members tells what it is to tell, and where a rule is broken there is a row.
-use Rattle.std.proofs.Common.{◌≡◌, ◌⊎◌, refl, sym, subst, inl, inr, ⊎_elim, ℕ, ◌<◌, Bool, true, false, List, ◌++◌, length, nat_eq, IsTrue, Option, Decides}
+use Rattle.std.proofs.Common.{◌≡◌, ◌⊎◌, refl, sym, subst, inl, inr, ⊎_elim, arith, ℕ, not, ◌<◌, Bool, true, false, List, ◌++◌, length, nat_eq, IsTrue, Option, Decides}
+use Rattle.std.specs.List.{list_any}
 use Rattle.std.proofs.lemmas.Bool.{false≢true}
 use Rattle.std.proofs.lemmas.Bool.Decides.{Decides-eqb}
 use Rattle.jr_ty.specs.declared.constant.Const.{Const}
@@ -24,8 +25,8 @@ use Rattle.jr_plain.specs.Same.{same_pair}
 use Rattle.jr_plain.specs.Overriding.{overriding}
 use Rattle.jr_plain.specs.Conversions.{Constants}
 use Rattle.jr_plain.specs.Typing.{IsTypable}
-use Rattle.jr_plain.proofs.Tests.{never, either, like}
-use Rattle.jr_plain.proofs.Searches.{among_append}
+use Rattle.jr_plain.proofs.Tests.{never, either, opposite, like}
+use Rattle.jr_plain.proofs.Searches.{every, some_item, among_append}
 use Rattle.jr_plain.proofs.Bounds.{bounded, type_below, class_below, interface_below, constructor_below, member_below}
 use Rattle.jr_plain.proofs.Children.{parent_below}
 use Rattle.jr_plain.proofs.Membership.{member_source}
@@ -34,7 +35,7 @@ use Rattle.jr_plain.proofs.Supertyped.{superclass_name_below, superinterface_nam
 use Rattle.jr_member_rules.specs.Redefining.{Pairs}
 use Rattle.jr_member_rules.specs.Bodies.{stands_wrong}
 use Rattle.jr_member_rules.specs.Inner.{is_static_there}
-use Rattle.jr_member_rules.specs.Computed.{values, results_do_not_fit, rule_if, broken_at, breaks_members}
+use Rattle.jr_member_rules.specs.Computed.{values, results_do_not_fit, rule_if, broken_at, breaks_members, keeps_members}
 use Rattle.jr_member_rules.proofs.Redefined.{IsNarrower, method_row, redefining_row, other_result_tells, narrowed_tells, mixed_tells, over_final_tells}
 use Rattle.jr_member_rules.proofs.Thrown.{throws_more_tells}
 use Rattle.jr_member_rules.proofs.Inherited.{leaves_tells, no_common_result_tells, no_abstract_result_tells}
@@ -244,3 +245,12 @@ pub breaks_members_tells : (p : Rows) (t : Table) → IsTypable p t → (rule n 
 breaks_members_tells p t typable rule n =
     let headed = typable.headed in
     like (ways_tell p t headed (values p t) (values_find p t typable) (overriding p t) (overrides_tells p t headed) n rule) (ways_out p t rule n) (ways_in p t headed.tree (member_source p t headed))
+
+pub keeps_members_tells : (p : Rows) (t : Table) → IsTypable p t → Decides (keeps_members p t) ((rule n : ℕ) → BreaksMembers p t rule n → ⊥)
+keeps_members_tells p t typable =
+    let headed = typable.headed in
+    like (every {P = λ n. (rule : ℕ) → BreaksMembers p t rule n → ⊥} (length p) (λ n. not (list_any (λ rule. true) (broken_at p t (values p t) (overriding p t) n)))
+    (λ n. like (opposite (some_item nat_eq Decides-eqb (λ rule. true) (broken_at p t (values p t) (overriding p t) n)))
+    (λ h rule b. h (rule, (breaks_members_tells p t typable rule n).1 b, refl)) (λ h k. h k.0 ((breaks_members_tells p t typable k.0 n).0 k.1)))
+    (λ n le rule b. let lt = breaking_row p t headed.tree b in absurd (omega arith)))
+    (λ h rule n b. h n rule b) (λ h n rule b. h rule n b)

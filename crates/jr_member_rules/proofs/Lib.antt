@@ -4,3 +4,5 @@ pub mod Inherited
 pub mod Bodied
 pub mod Inner
 pub mod AllRules
+pub mod Trees
+pub mod Worked

@@ -1,8 +1,9 @@
 -- The rules on members, computed (JLS 8.1.1.1, 8.1.3, 8.4, 8.8, 9.3, 9.4).
-use Rattle.std.specs.Prelude.{ℕ, Bool, ◌||◌, if◌then◌else◌, List, [], ◌∷◌, ◌++◌}
+use Rattle.std.specs.Prelude.{ℕ, Bool, true, not, ◌||◌, if◌then◌else◌, List, [], ◌∷◌, ◌++◌, length}
+use Rattle.std.specs.List.{list_any}
 use Rattle.jr_rows.specs.Rows.{Rows}
 use Rattle.jr_defs.specs.Referents.{Table}
-use Rattle.jr_plain.specs.Search.{has}
+use Rattle.jr_plain.specs.Search.{all_below, has}
 use Rattle.jr_plain.specs.Conversions.{Constants}
 use Rattle.jr_plain.specs.Constants.{constants, has_constant_form}
 use Rattle.jr_plain.specs.Overriding.{overriding}
@@ -33,3 +34,11 @@ broken_at p t constant over n =
 -- the rule is broken at the row
 abbrev pub breaks_members : Rows → Table → ℕ → ℕ → Bool
 breaks_members p t rule n = has (broken_at p t (values p t) (overriding p t) n) rule
+
+-- no row breaks a rule, where the values and the pairs of overriding methods are known
+abbrev pub keeps_with : Rows → Table → Constants → Pairs → Bool
+keeps_with p t constant over = all_below (length p) (λ n. not (list_any (λ rule. true) (broken_at p t constant over n)))
+
+-- no rule on members is broken
+abbrev pub keeps_members : Rows → Table → Bool
+keeps_members p t = keeps_with p t (values p t) (overriding p t)

@@ -11,7 +11,7 @@ ghost use Rattle.jr_plain.specs.Typing.{IsTypable};
 ghost use Rattle.jr_member_rules.specs.Redefining.{is_hiding, redefines, is_open_to};
 ghost use Rattle.jr_member_rules.specs.Throwing.{throws, is_checked, allows};
 ghost use Rattle.jr_member_rules.specs.Inheriting.{is_implemented, inherits_both};
-ghost use Rattle.jr_member_rules.specs.Computed.{breaks_members};
+ghost use Rattle.jr_member_rules.specs.Computed.{breaks_members, keeps_members};
 
 /// What methods hide and redefine, and how far members are open.
 pub fn redefined_methods_are_tested()
@@ -33,8 +33,9 @@ pub fn inherited_methods_are_tested()
     ensures inherited { (p : Rows) (t : Table) (c m k : ℕ) → IsHeaded p → Decides (inherits_both p t (members p t c) c m k) (InheritsBoth p t c m k) }
 {}
 
-/// Each rule on members, by its number, at each row. Where one is broken there is a row.
+/// Each rule on members, by its number, at each row, and whether none is broken. Where one is broken there is a row.
 pub fn member_rules_are_tested()
     ensures rules { (p : Rows) (t : Table) (rule n : ℕ) → IsTypable p t → Decides (breaks_members p t rule n) (BreaksMembers p t rule n) }
+    ensures kept { (p : Rows) (t : Table) → IsTypable p t → Decides (keeps_members p t) ((rule n : ℕ) → BreaksMembers p t rule n → ⊥) }
     ensures bounded { (p : Rows) (t : Table) (rule n : ℕ) → IsTree p → BreaksMembers p t rule n → n < length p }
 {}
