@@ -55,6 +55,6 @@ is_initializer_in_interface p k = is_initializer (label p k) && option_map_or (i
 abbrev pub is_not_initialized : Rows → ℕ → Bool
 is_not_initialized p d = same_role (role_at p d) role.Field && is_in_interface p d && not (nat_eq (parent p (d + 1)) d)
 
--- one of these
+-- one of the tests of rule 20 finds the row
 abbrev pub stands_wrong : Rows → ℕ → Bool
 stands_wrong p n = has_wrong_body p n || (is_named_otherwise p n || (is_abstract_in_class p n || (is_constructor_in_interface p n || (is_initializer_in_interface p n || is_not_initialized p n))))

@@ -24,6 +24,6 @@ is_static_initializer _ = false
 abbrev pub is_initializer_in_inner : Rows → ℕ → Bool
 is_initializer_in_inner p k = is_static_initializer (label p k) && option_map_or (is_inner p) (body_type p k) false
 
--- one of these
+-- one of the tests of rule 21 finds the row
 abbrev pub is_static_there : Rows → Table → Constants → ℕ → Bool
 is_static_there p t constant n = is_static_in_inner p t constant n || is_initializer_in_inner p n
