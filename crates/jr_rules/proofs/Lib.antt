@@ -12,3 +12,4 @@ pub mod Trees
 pub mod Worked
 pub mod Completeness
 pub mod Kept
+pub mod Bounded

@@ -1,5 +1,5 @@
 // Each plain function tells where its rule is broken.
-ghost use Rattle.std.specs.Prelude.{◌≡◌, ℕ, ◌+◌, Decides};
+ghost use Rattle.std.specs.Prelude.{◌≡◌, ℕ, ◌+◌, ◌≤◌, ◌<◌, length, Decides};
 ghost use Rattle.jr_rows.specs.Rows.{Rows, label, parent};
 ghost use Rattle.jr_rows.specs.declared.label.Label.TheVariants as is;
 ghost use Rattle.jr_defs.specs.declared.referent.Element.TheVariants as element;
@@ -8,6 +8,7 @@ ghost use Rattle.jr_defs.specs.Types.{plain, HasType};
 ghost use Rattle.jr_defs.specs.Constants.{HasConstantForm};
 ghost use Rattle.jr_defs.specs.Conversions.{IsCastable, IsAssignable};
 ghost use Rattle.jr_rules.specs.Typed.{Typed, FirstOf, SecondOf, TypeBelow, InMember};
+ghost use Rattle.jr_defs.specs.declared.referent.Referent.TheVariants.{Unbound};
 ghost use Rattle.jr_defs.specs.Referents.{Table};
 ghost use Rattle.jr_plain.specs.Typing.{IsTypable};
 ghost use Rattle.jr_rules.specs.Objects.{NeedsObject, MayUse, LacksObject};
@@ -66,9 +67,10 @@ pub fn places_are_tested()
     ensures arrays { (p : Rows) (t : Table) (n : ℕ) → IsTypable p t → Decides (array_does_not_fit p t (types p t) n) (ArrayDoesNotFit p t n) }
 {}
 
-/// Each rule on types and static contexts, by its number, at each row.
+/// Each rule on types and static contexts, by its number, at each row. Where the table has nothing past the end, a rule is broken at rows of the program alone.
 pub fn type_rules_are_tested()
     ensures rules { (p : Rows) (t : Table) (rule n : ℕ) → IsTypable p t → Decides (breaks_types p t rule n) (BreaksTypes p t rule n) }
+    ensures bounded { (p : Rows) (t : Table) (rule n : ℕ) → ((o : ℕ) → length p ≤ o → t o ≡ Unbound) → BreaksTypes p t rule n → n < length p }
 {}
 
 /// The rules leave no operator, index, test or `this` without a type where its parts have theirs: it has one, or a rule is broken at it or at its first part.
