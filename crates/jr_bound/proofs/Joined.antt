@@ -36,6 +36,12 @@ module _ (p : Rows) (formed : IsFormed p) (begins : BeginsWithLang p) where
   pub binding_decided : Decides (has_settled_headers p) ((t : Table) × IsBinding p t)
   binding_decided = (λ e. (the_binding p, (bound_where_settled e).binding), λ h. settled_where_bound h.0 h.1)
 
+  pub binding_of_settled : (t : Table) × IsBinding p t → IsBinding p (the_binding p)
+  binding_of_settled h = (bound_where_settled (settled_where_bound h.0 h.1)).binding
+
+  pub binding_is : (t : Table) → IsBinding p t → t ≡ the_binding p
+  binding_is t w = fun_ext ((bound_where_settled (settled_where_bound t w)).only t w)
+
   pub unbound_else : has_settled_headers p ≡ false → (t : Table) → IsBinding p t → ⊥
   unbound_else e t w = not_from_Decides (has_settled_headers p) binding_decided e (t, w)
 

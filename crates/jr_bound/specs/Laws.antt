@@ -2,6 +2,7 @@
 use Rattle.std.specs.Prelude.{◌≡◌, ◌⊎◌, ◌↔◌, ℕ, true, false, Some, None, Decides}
 use Rattle.jr_rows.specs.Rows.{Rows}
 use Rattle.jr_defs.specs.Referents.{Table}
+use Rattle.jr_defs.specs.Compiling.{KeepsRules}
 use Rattle.jr_defs.specs.Binding.{IsBinding, HasCycle, IsFirstOnCycle}
 use Rattle.jr_plain.specs.Search.{Finds}
 use Rattle.jr_plain.specs.Typing.{IsTypable}
@@ -9,7 +10,9 @@ use Rattle.jr_headers.specs.Growing.{has_settled_headers, cycle_of}
 use Rattle.jr_binding.specs.Laws.{IsOnlyBinding}
 use Rattle.jr_rules.specs.TypeRules.{BreaksTypes}
 use Rattle.jr_rules.specs.Computed.{breaks_types}
+use Rattle.jr_rules.specs.Compiling.{BreaksAll}
 use Rattle.jr_bound.specs.Bound.{the_binding, binding_of}
+use Rattle.jr_bound.specs.Found.{keeps_rules}
 
 -- where headers are settled, what is computed is the binding: the only one
 abbrev pub IsBoundWhereSettled : Rows → Type 0
@@ -54,3 +57,7 @@ BindingIsTypable p = (t : Table) → IsBinding p t → IsTypable p t
 -- so each rule on types and static contexts is decided at each row
 abbrev pub TypeRulesAreDecided : Rows → Type 0
 TypeRulesAreDecided p = (t : Table) (rule n : ℕ) → IsBinding p t → Decides (breaks_types p t rule n) (BreaksTypes p t rule n)
+
+-- and whether the program keeps all rules that are defined so far: it has a binding, in which all is found and none is broken
+abbrev pub KeepingIsDecided : Rows → Type 0
+KeepingIsDecided p = Decides (keeps_rules p) ((t : Table) × KeepsRules p t BreaksAll)

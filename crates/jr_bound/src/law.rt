@@ -5,7 +5,7 @@ ghost use Rattle.jr_rows.specs.Rows.{Rows};
 ghost use Rattle.jr_defs.specs.Referents.{Table};
 ghost use Rattle.jr_defs.specs.Compiling.{AllFound};
 ghost use Rattle.jr_bound.specs.Found.{all_found};
-ghost use Rattle.jr_bound.specs.Laws.{BindingIsTypable, TypeRulesAreDecided, IsBoundWhereSettled, IsUnboundElse, HasBindingDecided, BindingIsComputed, HasCycleOrBinding, HasNoneBesideCycle, FindsFirstOnCycle, IsBoundWhereNoneFound};
+ghost use Rattle.jr_bound.specs.Laws.{BindingIsTypable, TypeRulesAreDecided, KeepingIsDecided, IsBoundWhereSettled, IsUnboundElse, HasBindingDecided, BindingIsComputed, HasCycleOrBinding, HasNoneBesideCycle, FindsFirstOnCycle, IsBoundWhereNoneFound};
 
 /// A program of files has a binding exactly where its headers are settled. It is the one that is computed, and there is no other.
 pub fn files_have_one_binding()
@@ -24,9 +24,10 @@ pub fn files_have_a_cycle_or_a_binding()
 {}
 
 /// In the binding of a program of files an expression has one type at most, so the rules on types and static contexts are decided at each row. Whether each
-/// occurrence refers to one thing is decided too.
+/// occurrence refers to one thing is decided too; and whether the program has a binding in which that is so, and breaks none of the rules that are defined so far.
 pub fn rules_of_files_are_decided()
     ensures typable { OfFiles BindingIsTypable }
     ensures rules { OfFiles TypeRulesAreDecided }
     ensures found { (p : Rows) (t : Table) → Decides (all_found p t) (AllFound p t) }
+    ensures kept { OfFiles KeepingIsDecided }
 {}
