@@ -1,5 +1,5 @@
 -- From the prelude and settled headers to the binding, and back.
-use Rattle.std.proofs.Common.{◌≡◌, ◌⊎◌, ◌∙◌, ◌↔◌, refl, ap, subst, sym, inl, inr, ⊎_elim, ℕ, Bool, true, false, cond, Some, None, Decides}
+use Rattle.std.proofs.Common.{◌≡◌, ◌⊎◌, ◌∙◌, ◌↔◌, refl, ap, subst, sym, inl, inr, ⊎_elim, Bool, true, false, cond, Some, None, Decides}
 use Rattle.std.proofs.Math.Path.{fun_ext}
 use Rattle.std.proofs.lemmas.Bool.Decides.{not_from_Decides}
 use Rattle.std.proofs.lemmas.Option.{none-some, same_Some}

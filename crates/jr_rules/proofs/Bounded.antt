@@ -3,8 +3,7 @@ use Rattle.std.proofs.Common.{◌≡◌, ap, sym, ◌∙◌, subst, ⊎_elim, �
 use Rattle.std.proofs.lemmas.Bool.{cases_lt}
 use Rattle.jr_rows.specs.declared.label.Label.{Label}
 use Rattle.jr_rows.specs.declared.label.Label.TheVariants as is
-use Rattle.jr_rows.specs.declared.label.Role.TheVariants as role
-use Rattle.jr_rows.specs.Labels.{role_of, sought_by}
+use Rattle.jr_rows.specs.Labels.{sought_by}
 use Rattle.jr_rows.specs.Rows.{Rows, label, parent}
 use Rattle.jr_defs.specs.declared.referent.Referent.{Referent}
 use Rattle.jr_defs.specs.declared.referent.Referent.TheVariants.{Unbound, Declared}
@@ -17,7 +16,7 @@ use Rattle.jr_rules.specs.Objects.{IsBySuper, NeedsObject, LacksObject}
 use Rattle.jr_rules.specs.Initializing.{IsSimple}
 use Rattle.jr_rules.specs.Creations.{CallsByThis, AbstractIsUsed}
 use Rattle.jr_rules.specs.Operands.{TakesOne, TakesTwo, OperandsDoNotFit, ChangesFirst, CastIsNotAllowed}
-use Rattle.jr_rules.specs.Statements.{IsNotThrowable, TestsFirst, TestsSecond, IsCondition, CaseValue, SwitchDoesNotFit, ReturnDoesNotFit, HasNoTarget}
+use Rattle.jr_rules.specs.Statements.{IsNotThrowable, TestsFirst, TestsSecond, IsCondition, SwitchDoesNotFit, ReturnDoesNotFit, HasNoTarget}
 use Rattle.jr_rules.specs.Places.{IsNewArray, PlaceOf, ArrayDoesNotFit}
 use Rattle.jr_rules.specs.TypeRules.{BreaksTypes}
 
