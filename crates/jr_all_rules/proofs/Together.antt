@@ -1,5 +1,5 @@
 -- The tests of all rules tell what they are to tell.
-use Rattle.std.proofs.Common.{◌≡◌, ◌⊎◌, refl, inl, inr, ⊎_elim, arith, ℕ, ◌≤◌, ◌<◌, true, not, List, ◌++◌, length, nat_eq, Decides}
+use Rattle.std.proofs.Common.{◌≡◌, refl, inl, inr, ⊎_elim, arith, ℕ, ◌≤◌, ◌<◌, true, not, List, ◌++◌, length, nat_eq, Decides}
 use Rattle.std.specs.List.{list_any}
 use Rattle.std.proofs.lemmas.Bool.Decides.{Decides-eqb}
 use Rattle.jr_rows.specs.Rows.{Rows}
@@ -10,11 +10,11 @@ use Rattle.jr_plain.specs.Search.{has}
 use Rattle.jr_plain.specs.Typing.{IsTypable, expression_types}
 use Rattle.jr_plain.specs.Overriding.{overriding}
 use Rattle.jr_plain.proofs.Tests.{opposite, like}
-use Rattle.jr_plain.proofs.Searches.{every, some_item, among_append}
+use Rattle.jr_plain.proofs.Searches.{every, some_item}
 use Rattle.jr_rules.specs.Compiling.{BreaksAll}
 use Rattle.jr_rules.specs.Computed.{values}
 use Rattle.jr_rules.specs.Computed as typed
-use Rattle.jr_rules.proofs.AllRules.{breaks_types_tells}
+use Rattle.jr_rules.proofs.AllRules.{or_tells, breaks_types_tells}
 use Rattle.jr_rules.proofs.Bounded as of_types
 use Rattle.jr_name_rules.specs.Computed as named
 use Rattle.jr_name_rules.proofs.AllRules.{breaks_tells}
@@ -23,10 +23,6 @@ use Rattle.jr_member_rules.specs.Computed as members
 use Rattle.jr_member_rules.proofs.AllRules.{breaks_members_tells}
 use Rattle.jr_member_rules.proofs.AllRules as of_members
 use Rattle.jr_all_rules.specs.Computed as plain
-
--- a rule of the first list or of those behind it
-or_tells : {P Q : Type 0} (first others : List ℕ) (rule : ℕ) → Decides (has first rule) P → Decides (has others rule) Q → Decides (has (first ++ others) rule) (P ⊎ Q)
-or_tells first others rule p q = like (among_append nat_eq Decides-eqb first others rule) (⊎_elim (λ h. inl (p.0 h)) (λ h. inr (q.0 h))) (⊎_elim (λ h. inl (p.1 h)) (λ h. inr (q.1 h)))
 
 -- a list without items
 none_tells : (xs : List ℕ) → Decides (not (list_any (λ rule. true) xs)) ((rule : ℕ) → has xs rule ≡ true → ⊥)

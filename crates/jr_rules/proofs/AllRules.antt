@@ -35,7 +35,7 @@ rule_tells true k rule d = like (either (Decides-eqb k rule) never) (⊎_elim (�
 rule_tells false k rule d = like never (λ h. absurd h) (λ h. false≢true (d.1 h.1))
 
 -- a rule of the first list or of those behind it
-or_tells : {P Q : Type 0} (first others : List ℕ) (rule : ℕ) → Decides (has first rule) P → Decides (has others rule) Q → Decides (has (first ++ others) rule) (P ⊎ Q)
+pub or_tells : {P Q : Type 0} (first others : List ℕ) (rule : ℕ) → Decides (has first rule) P → Decides (has others rule) Q → Decides (has (first ++ others) rule) (P ⊎ Q)
 or_tells first others rule p q = like (among_append nat_eq Decides-eqb first others rule) (⊎_elim (λ h. inl (p.0 h)) (λ h. inr (q.0 h))) (⊎_elim (λ h. inl (p.1 h)) (λ h. inr (q.1 h)))
 
 module _ (p : Rows) (t : Table) (typable : IsTypable p t) (type_of : Types) (typed : (n : ℕ) → Finds (type_of n) (λ a. Typed p t n a))
