@@ -74,7 +74,7 @@ pub record Implemented (p : Rows) (t : Table) (c m : ℕ) : Type 0 where
   pub instance : IsStatic p by → ⊥
   pub concrete : IsAbstract p by → ⊥
 
--- two members of the type of one signature, which its body does not declare
+-- members of the type of one signature, which its body does not declare; the two may be one
 pub record InheritsBoth (p : Rows) (t : Table) (c m k : ℕ) : Type 0 where
   pub first : MemberOf p t c m
   pub second : MemberOf p t c k
