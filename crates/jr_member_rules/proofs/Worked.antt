@@ -105,24 +105,33 @@ agreeing = program (
 agreeing_keeps : keeps_members agreeing (table agreeing) ≡ true
 agreeing_keeps = refl
 
--- a type of the package a
-abbrev in_a : Text → Name
-in_a part = record { parts = codes "a" ∷ (part ∷ []) }
+-- a type of a package
+abbrev in_package : Text → Text → Name
+in_package path part = record { parts = path ∷ (part ∷ []) }
 
 -- package a; public abstract class A { abstract void f(); }
 -- package a; public class D extends A { void f() { } }
 -- package b; import a.A; import a.D; class B extends A { void f() { } } class C extends D { }
+-- package b; import a.A; public abstract class M extends A { void f() { } }
+-- package a; import b.M; class E extends M { } class F extends M { void f() { } }
 abbrev leaving : Rows
 leaving = units (
     unit_in (codes "a") [] (d.Class (modifier.Public ∷ modifier.Abstract ∷ []) (codes "A") None [] (d.members (method (modifier.Abstract ∷ []) outcome.Void (codes "f") None ∷ [])) ∷ [])
     ∷ unit_in (codes "a") [] (d.Class (modifier.Public ∷ []) (codes "D") (Some (name (codes "A"))) [] (d.members (method [] outcome.Void (codes "f") empty ∷ [])) ∷ [])
-    ∷ unit_in (codes "b") (import.Single (in_a (codes "A")) ∷ import.Single (in_a (codes "D")) ∷ []) (
+    ∷ unit_in (codes "b") (import.Single (in_package (codes "a") (codes "A")) ∷ import.Single (in_package (codes "a") (codes "D")) ∷ []) (
     d.Class [] (codes "B") (Some (name (codes "A"))) [] (d.members (method [] outcome.Void (codes "f") empty ∷ []))
     ∷ d.Class [] (codes "C") (Some (name (codes "D"))) [] d.no_members
     ∷ [])
+    ∷ unit_in (codes "b") (import.Single (in_package (codes "a") (codes "A")) ∷ []) (
+    d.Class (modifier.Public ∷ modifier.Abstract ∷ []) (codes "M") (Some (name (codes "A"))) [] (d.members (method [] outcome.Void (codes "f") empty ∷ []))
+    ∷ [])
+    ∷ unit_in (codes "a") (import.Single (in_package (codes "b") (codes "M")) ∷ []) (
+    d.Class [] (codes "E") (Some (name (codes "M"))) [] d.no_members
+    ∷ d.Class [] (codes "F") (Some (name (codes "M"))) [] (d.members (method [] outcome.Void (codes "f") empty ∷ []))
+    ∷ [])
     ∷ [])
 
-leaving_breaks : broken leaving ≡ (codes "B", 14) ∷ []
+leaving_breaks : broken leaving ≡ (codes "B", 14) ∷ (codes "E", 14) ∷ []
 leaving_breaks = refl
 
 -- interface I { int h(); int a; { } } interface J { void h(); } class C { public int h() { } } class D extends C implements J { }
