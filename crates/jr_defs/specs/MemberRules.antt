@@ -11,9 +11,9 @@ use Rattle.jr_defs.specs.Referents.{Table}
 use Rattle.jr_defs.specs.Declarations.{IsType, IsClass, IsInterface, IsPrelude}
 use Rattle.jr_defs.specs.Enclosing.{DeclaredIn, ConstructorOf, BodyOf}
 use Rattle.jr_defs.specs.Modifiers.{written, IsPublic, IsProtected, IsPrivate, IsStatic, IsFinal, IsAbstract, InInterface, IsInner}
-use Rattle.jr_defs.specs.Supertypes.{Super, AtOrAbove}
+use Rattle.jr_defs.specs.Supertypes.{Super, Above, AtOrAbove}
 use Rattle.jr_defs.specs.Members.{SameMethods, MemberOf, CanInherit}
-use Rattle.jr_defs.specs.Overriding.{Overrides, IsAboveMethod}
+use Rattle.jr_defs.specs.Overriding.{Overrides, Found}
 use Rattle.jr_defs.specs.Overloads.{ResultFits}
 use Rattle.jr_defs.specs.Constants.{HasConstantForm, ConstantVariable}
 
@@ -74,7 +74,7 @@ pub record Implemented (p : Rows) (t : Table) (c m : ℕ) : Type 0 where
   pub instance : IsStatic p by → ⊥
   pub concrete : IsAbstract p by → ⊥
 
--- two members of the type of one signature, which its body does not declare
+-- members of the type of one signature, which its body does not declare; the two may be one
 pub record InheritsBoth (p : Rows) (t : Table) (c m k : ℕ) : Type 0 where
   pub first : MemberOf p t c m
   pub second : MemberOf p t c k
@@ -97,15 +97,20 @@ HasInitializer p d = parent p (d + 1) ≡ d
 -- the rule is broken at the row
 pub data BreaksMembers (p : Rows) (t : Table) : ℕ → ℕ → Type 0 where
   not_implemented : {c m : ℕ} → IsClass p c → (IsAbstract p c → ⊥) → MemberOf p t c m → role_at p m ≡ role.Method → IsAbstract p m → (Implemented p t c m → ⊥) → BreaksMembers p t 14 c
-  other_result : {m k : ℕ} → Overrides p t m k → (ResultFits p t m k → ⊥) → BreaksMembers p t 15 m
+  not_found : {c s m f : ℕ} → IsClass p c → (IsAbstract p c → ⊥) → Above p t c s → IsClass p s → DeclaredIn p s m → role_at p m ≡ role.Method → IsAbstract p m → Found p t c m f → IsAbstract p f
+      → BreaksMembers p t 14 c
+  other_result : {m k : ℕ} → RedefinesMethod p t m k → (ResultFits p t m k → ⊥) → BreaksMembers p t 15 m
   no_common_result : {c m k : ℕ} → InheritsBoth p t c m k → (IsAbstract p m → ⊥) → (ResultFits p t m k → ⊥) → BreaksMembers p t 15 c
   no_abstract_result : {c m : ℕ} → IsType p c → MemberOf p t c m → role_at p m ≡ role.Method
       → ((k : ℕ) → MemberOf p t c k → SameMethods p t k m → IsAbstract p k × ((l : ℕ) × InheritsBoth p t c k l × (ResultFits p t k l → ⊥))) → BreaksMembers p t 15 c
   narrowed : {m k a b : ℕ} → RedefinesMethod p t m k → IsOpenTo p m a → IsOpenTo p k b → a < b → BreaksMembers p t 16 m
+  inherited_narrows : {c m k a b : ℕ} → InheritsBoth p t c m k → (IsAbstract p m → ⊥) → IsOpenTo p m a → IsOpenTo p k b → a < b → BreaksMembers p t 16 c
   static_over_instance : {m k : ℕ} → Hides p t m k → (IsStatic p k → ⊥) → BreaksMembers p t 17 m
   instance_over_static : {m k : ℕ} → Overrides p t m k → IsStatic p k → BreaksMembers p t 17 m
-  over_final : {m k : ℕ} → Overrides p t m k → IsTrue (written (label p k)).is_final → BreaksMembers p t 18 m
-  throws_more : {m k n c : ℕ} → Overrides p t m k → Throws p t m n c → IsChecked p t c → (Allows p t k c → ⊥) → BreaksMembers p t 19 m
+  inherited_static : {c m k : ℕ} → InheritsBoth p t c m k → IsStatic p m → (IsStatic p k → ⊥) → BreaksMembers p t 17 c
+  over_final : {m k : ℕ} → RedefinesMethod p t m k → IsTrue (written (label p k)).is_final → BreaksMembers p t 18 m
+  throws_more : {m k n c : ℕ} → RedefinesMethod p t m k → Throws p t m n c → IsChecked p t c → (Allows p t k c → ⊥) → BreaksMembers p t 19 m
+  inherited_throws : {c m k n e : ℕ} → InheritsBoth p t c m k → (IsAbstract p m → ⊥) → Throws p t m n e → IsChecked p t e → (Allows p t k e → ⊥) → BreaksMembers p t 19 c
   body_of_abstract : {m : ℕ} → role_at p m ≡ role.Method → IsAbstract p m ⊎ IsTrue (written (label p m)).is_native → has_body (label p m) ≡ true → BreaksMembers p t 20 m
   no_body : {m : ℕ} → role_at p m ≡ role.Method → (IsAbstract p m → ⊥) → (IsTrue (written (label p m)).is_native → ⊥) → has_body (label p m) ≡ false → BreaksMembers p t 20 m
   constructor_named_otherwise : {c k : ℕ} {modifiers : Modifiers} → ConstructorOf p c k → label p k ≡ is.Constructor modifiers → (name p k ≡ name p c → ⊥) → BreaksMembers p t 20 k

@@ -81,7 +81,7 @@ accesses_list p d = lists (λ a. plain.is_open_to p d a) (λ a. IsOpenTo p d a) 
 abbrev pub IsNarrower : Rows → ℕ → ℕ → Type 0
 IsNarrower p m k = (a : ℕ) × IsOpenTo p m a × ((b : ℕ) × IsOpenTo p k b × (a < b))
 
-narrower_tells : (p : Rows) (m k : ℕ) → Decides (plain.is_narrower p m k) (IsNarrower p m k)
+pub narrower_tells : (p : Rows) (m k : ℕ) → Decides (plain.is_narrower p m k) (IsNarrower p m k)
 narrower_tells p m k = some_of (λ a. list_any (λ b. nat_lt a b) (plain.accesses p k)) (λ a. (b : ℕ) × IsOpenTo p k b × (a < b))
     (λ a. some_of (λ b. nat_lt a b) (λ b. a < b) (λ b. Decides-ltb a b) (plain.accesses p k) (accesses_list p k)) (plain.accesses p m) (accesses_list p m)
 
@@ -120,17 +120,17 @@ module _ (p : Rows) (t : Table) (headed : IsHeaded p) where
     pub redefines_tells : (m k : ℕ) → Decides (plain.redefines p t over m k) (RedefinesMethod p t m k)
     redefines_tells m k = like (either (pairs m k) (hiding_tells m k)) (redefines_out m k) (redefines_in m k)
 
-    pub overridden_list : (m : ℕ) → Lists (plain.overridden p over m) (λ k. Overrides p t m k)
+    overridden_list : (m : ℕ) → Lists (plain.overridden p over m) (λ k. Overrides p t m k)
     overridden_list m = lists (λ k. among same_pair over (m, k)) (λ k. Overrides p t m k) (λ k. pairs m k) (length p) (λ k h. redefined_row (RedefinesMethod.overriding h))
 
     hidden_list : (m : ℕ) → Lists (plain.hidden p t m) (λ k. Hides p t m k)
     hidden_list m = lists (λ k. plain.is_hiding p t m k) (λ k. Hides p t m k) (λ k. hiding_tells m k) (length p) (λ k h. redefined_row (RedefinesMethod.hiding h))
 
-    redefined_list : (m : ℕ) → Lists (plain.redefined p t over m) (λ k. RedefinesMethod p t m k)
+    pub redefined_list : (m : ℕ) → Lists (plain.redefined p t over m) (λ k. RedefinesMethod p t m k)
     redefined_list m = lists (λ k. plain.redefines p t over m k) (λ k. RedefinesMethod p t m k) (λ k. redefines_tells m k) (length p) (λ k h. redefined_row h)
 
-    pub other_result_tells : (m : ℕ) → Decides (plain.has_other_result p t over m) ((k : ℕ) × Overrides p t m k × (ResultFits p t m k → ⊥))
-    other_result_tells m = some_of _ (λ k. ResultFits p t m k → ⊥) (λ k. opposite (result_tells p t headed m k)) (plain.overridden p over m) (overridden_list m)
+    pub other_result_tells : (m : ℕ) → Decides (plain.has_other_result p t over m) ((k : ℕ) × RedefinesMethod p t m k × (ResultFits p t m k → ⊥))
+    other_result_tells m = some_of _ (λ k. ResultFits p t m k → ⊥) (λ k. opposite (result_tells p t headed m k)) (plain.redefined p t over m) (redefined_list m)
 
     pub narrowed_tells : (m : ℕ) → Decides (plain.is_narrowed p t over m) ((k : ℕ) × RedefinesMethod p t m k × IsNarrower p m k)
     narrowed_tells m = some_of _ (λ k. IsNarrower p m k) (λ k. narrower_tells p m k) (plain.redefined p t over m) (redefined_list m)
@@ -139,5 +139,5 @@ module _ (p : Rows) (t : Table) (headed : IsHeaded p) where
     mixed_tells m = either (some_of _ (λ k. IsStatic p k → ⊥) (λ k. opposite (static_tells p k)) (plain.hidden p t m) (hidden_list m))
         (some_of (λ k. is_static p k) (λ k. IsStatic p k) (λ k. static_tells p k) (plain.overridden p over m) (overridden_list m))
 
-    pub over_final_tells : (m : ℕ) → Decides (plain.is_over_final p over m) ((k : ℕ) × Overrides p t m k × IsTrue (written (label p k)).is_final)
-    over_final_tells m = some_of (λ k. (written (label p k)).is_final) (λ k. IsTrue (written (label p k)).is_final) (λ k. itself (written (label p k)).is_final) (plain.overridden p over m) (overridden_list m)
+    pub over_final_tells : (m : ℕ) → Decides (plain.is_over_final p t over m) ((k : ℕ) × RedefinesMethod p t m k × IsTrue (written (label p k)).is_final)
+    over_final_tells m = some_of (λ k. (written (label p k)).is_final) (λ k. IsTrue (written (label p k)).is_final) (λ k. itself (written (label p k)).is_final) (plain.redefined p t over m) (redefined_list m)

@@ -12,7 +12,7 @@ use Rattle.jr_defs.specs.Referents.{Table}
 use Rattle.jr_defs.specs.Declarations.{IsPrelude}
 use Rattle.jr_defs.specs.Supertypes.{AtOrAbove}
 use Rattle.jr_defs.specs.Overriding.{Overrides}
-use Rattle.jr_defs.specs.MemberRules.{IsOtherName, Throws, IsChecked, Allows}
+use Rattle.jr_defs.specs.MemberRules.{RedefinesMethod, IsOtherName, Throws, IsChecked, Allows}
 use Rattle.jr_plain.specs.Search.{among}
 use Rattle.jr_plain.specs.Headed.{IsHeaded}
 use Rattle.jr_plain.specs.Same.{same_pair}
@@ -23,9 +23,9 @@ use Rattle.jr_plain.proofs.Searches.{some, some_of}
 use Rattle.jr_plain.proofs.Bounds.{bounded, type_below}
 use Rattle.jr_plain.proofs.Declared.{prelude_tells}
 use Rattle.jr_plain.proofs.Supertyped.{declaration_lists, at_or_above_tells}
-use Rattle.jr_member_rules.specs.Redefining.{Pairs, overridden}
+use Rattle.jr_member_rules.specs.Redefining.{Pairs, redefined}
 use Rattle.jr_member_rules.specs.Throwing as plain
-use Rattle.jr_member_rules.proofs.Redefined.{overridden_list}
+use Rattle.jr_member_rules.proofs.Redefined.{redefined_list}
 
 other_name_tells : (l : Label) → Decides (plain.is_other_name l) (IsOtherName l)
 other_name_tells (is.Name kind place.Other b) = always
@@ -91,8 +91,10 @@ module _ (p : Rows) (t : Table) (headed : IsHeaded p) where
       (some_of (λ c. plain.is_checked p t c && not (plain.allows p t k c)) (λ c. IsChecked p t c × (Allows p t k c → ⊥)) (λ c. both (checked_tells c) (opposite (allows_tells k c)))
       (declaration (t n)) (declaration_lists (t n)))
 
+  pub declares_more_tells : (m k : ℕ) → Decides (plain.declares_more p t m k) ((n : ℕ) × IsNotAllowed m k n)
+  declares_more_tells m k = some (λ n. plain.is_not_allowed p t m k n) (IsNotAllowed m k) (not_allowed_tells m k) (length p) (λ n h. thrown_row p m n h.0)
+
   pub throws_more_tells : (over : Pairs) → ((m k : ℕ) → Decides (among same_pair over (m, k)) (Overrides p t m k)) → (m : ℕ)
-      → Decides (plain.throws_more p t over m) ((k : ℕ) × Overrides p t m k × ((n : ℕ) × IsNotAllowed m k n))
+      → Decides (plain.throws_more p t over m) ((k : ℕ) × RedefinesMethod p t m k × ((n : ℕ) × IsNotAllowed m k n))
   throws_more_tells over pairs m = some_of _ (λ k. (n : ℕ) × IsNotAllowed m k n)
-      (λ k. some (λ n. plain.is_not_allowed p t m k n) (IsNotAllowed m k) (not_allowed_tells m k) (length p) (λ n h. thrown_row p m n h.0))
-      (overridden p over m) (overridden_list p t headed over pairs m)
+      (λ k. declares_more_tells m k) (redefined p t over m) (redefined_list p t headed over pairs m)

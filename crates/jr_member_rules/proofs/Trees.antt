@@ -9,11 +9,12 @@ use Rattle.jr_tree.specs.declared.tree.Modifier.TheVariants as modifier
 use Rattle.jr_tree.specs.declared.tree.ResultType.{ResultType}
 use Rattle.jr_tree.specs.declared.tree.ResultType.TheVariants as outcome
 use Rattle.jr_tree.specs.declared.tree.Name.{Name}
+use Rattle.jr_tree.specs.declared.tree.Import.{Import}
 use Rattle.jr_tree.specs.Mirror.Exprs as x
 use Rattle.jr_tree.specs.Mirror.Stmts as s
 use Rattle.jr_tree.specs.Mirror.Decls as d
 use Rattle.jr_rows.specs.declared.label.Label.TheVariants as is
-use Rattle.jr_rows.specs.Forest.{none, node}
+use Rattle.jr_rows.specs.Forest.{Forest, none, node}
 use Rattle.jr_rows.specs.Decls.{unit_labels}
 use Rattle.jr_rows.specs.Rows.{Rows, rows_from, label, name as name_at}
 use Rattle.jr_defs.specs.declared.referent.Referent.{Referent}
@@ -52,6 +53,10 @@ throwing mods part thrown = d.Method mods outcome.Void part [] (name thrown ∷ 
 abbrev pub field : List Modifier → Text → Option x.Init → d.Member
 field mods part init = d.Field mods int (s.DeclaratorOf part 0 init ∷ [])
 
+-- an interface with one method
+abbrev pub with_method : Text → d.Member → d.TypeDecl
+with_method part member = d.Interface [] part [] (d.members (member ∷ []))
+
 -- a public class of java.lang with nothing in it
 abbrev bare : Text → Option Name → d.TypeDecl
 bare part above = d.Class (modifier.Public ∷ []) part above [] d.no_members
@@ -60,9 +65,21 @@ abbrev lang : d.CompilationUnit
 lang = d.UnitOf (Some (record { name = record { parts = codes "java" ∷ (codes "lang" ∷ []) } })) []
     (bare (codes "Object") None ∷ (bare (codes "Throwable") None ∷ (bare (codes "Exception") (Some (name (codes "Throwable"))) ∷ [])))
 
+abbrev all_labels : List d.CompilationUnit → Forest
+all_labels [] = none
+all_labels (one ∷ more) = unit_labels one (all_labels more)
+
+-- the rows of java.lang and of these units
+abbrev pub units : List d.CompilationUnit → Rows
+units all = rows_from 0 0 0 (node is.Program (unit_labels lang (all_labels all)) none)
+
 -- the rows of java.lang and of a unit with these types
 abbrev pub program : List d.TypeDecl → Rows
-program all = rows_from 0 0 0 (node is.Program (unit_labels lang (unit_labels (d.UnitOf None [] all) none)) none)
+program all = units (d.UnitOf None [] all ∷ [])
+
+-- a unit of a package
+abbrev pub unit_in : Text → List Import → List d.TypeDecl → d.CompilationUnit
+unit_in part imports all = d.UnitOf (Some (record { name = name part })) imports all
 
 -- ---- tables and rules
 

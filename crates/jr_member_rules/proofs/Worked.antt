@@ -3,12 +3,15 @@ use Rattle.std.proofs.Common.{◌≡◌, refl, true, false, [], ◌∷◌, Optio
 use Rattle.jr_base.specs.declared.kind.Kind.TheVariants as token
 use Rattle.jr_tree.specs.declared.tree.Modifier.TheVariants as modifier
 use Rattle.jr_tree.specs.declared.tree.ResultType.TheVariants as outcome
+use Rattle.jr_tree.specs.declared.tree.Import.TheVariants as import
+use Rattle.jr_tree.specs.declared.tree.Name.{Name}
 use Rattle.jr_tree.specs.Mirror.Exprs as x
 use Rattle.jr_tree.specs.Mirror.Stmts as s
 use Rattle.jr_tree.specs.Mirror.Decls as d
+use Rattle.jr_base.specs.declared.text.Text.{Text}
 use Rattle.jr_rows.specs.Rows.{Rows}
 use Rattle.jr_member_rules.specs.Computed.{keeps_members}
-use Rattle.jr_member_rules.proofs.Trees.{name, int, empty, method, throwing, field, program, table, broken}
+use Rattle.jr_member_rules.proofs.Trees.{name, int, empty, method, throwing, field, with_method, program, units, unit_in, table, broken}
 
 abbrev one : Option x.Init
 one = Some (x.Value (x.Lit (token.Int (pos 1))))
@@ -40,6 +43,96 @@ redefining = program (
 
 redefining_breaks : broken redefining ≡ (codes "B", 14) ∷ (codes "g", 16) ∷ (codes "s", 17) ∷ (codes "i", 17) ∷ (codes "z", 18) ∷ (codes "t", 19) ∷ (codes "r", 15) ∷ []
 redefining_breaks = refl
+
+-- class A { static native int r(); static final void z() { } static void t() { } static void v() throws Exception { } }
+-- class B extends A { static void r() { } static void z() { } static void t() throws Exception { } static void v() { } }
+abbrev hiding : Rows
+hiding = program (
+    d.Class [] (codes "A") None [] (d.members (
+    method (modifier.Static ∷ modifier.Native ∷ []) (outcome.Of int) (codes "r") None
+    ∷ method (modifier.Static ∷ modifier.Final ∷ []) outcome.Void (codes "z") empty
+    ∷ method (modifier.Static ∷ []) outcome.Void (codes "t") empty
+    ∷ throwing (modifier.Static ∷ []) (codes "v") (codes "Exception")
+    ∷ []))
+    ∷ d.Class [] (codes "B") (Some (name (codes "A"))) [] (d.members (
+    method (modifier.Static ∷ []) outcome.Void (codes "r") empty
+    ∷ method (modifier.Static ∷ []) outcome.Void (codes "z") empty
+    ∷ throwing (modifier.Static ∷ []) (codes "t") (codes "Exception")
+    ∷ method (modifier.Static ∷ []) outcome.Void (codes "v") empty
+    ∷ []))
+    ∷ [])
+
+hiding_breaks : broken hiding ≡ (codes "r", 15) ∷ (codes "z", 18) ∷ (codes "t", 19) ∷ []
+hiding_breaks = refl
+
+-- an abstract class with a superclass and an interface, and nothing in it
+abbrev between : Text → Text → Text → d.TypeDecl
+between part above face = d.Class (modifier.Abstract ∷ []) part (Some (name above)) (name face ∷ []) d.no_members
+
+-- interface I { void f(); } interface J { void s(); } interface K { void t(); }
+-- class A { protected void f() { } public static void s() { } public void t() throws Exception { } }
+-- abstract class B extends A implements I { } abstract class C extends A implements J { } abstract class D extends A implements K { }
+abbrev inheriting : Rows
+inheriting = program (
+    with_method (codes "I") (method [] outcome.Void (codes "f") None)
+    ∷ with_method (codes "J") (method [] outcome.Void (codes "s") None)
+    ∷ with_method (codes "K") (method [] outcome.Void (codes "t") None)
+    ∷ d.Class [] (codes "A") None [] (d.members (
+    method (modifier.Protected ∷ []) outcome.Void (codes "f") empty
+    ∷ method (modifier.Public ∷ modifier.Static ∷ []) outcome.Void (codes "s") empty
+    ∷ throwing (modifier.Public ∷ []) (codes "t") (codes "Exception")
+    ∷ []))
+    ∷ between (codes "B") (codes "A") (codes "I")
+    ∷ between (codes "C") (codes "A") (codes "J")
+    ∷ between (codes "D") (codes "A") (codes "K")
+    ∷ [])
+
+inheriting_breaks : broken inheriting ≡ (codes "B", 16) ∷ (codes "C", 17) ∷ (codes "D", 19) ∷ []
+inheriting_breaks = refl
+
+-- interface L { void t() throws Exception; } class A { public void t() throws Exception { } } class E extends A implements L { }
+-- interface I { void f(); } abstract class F { protected abstract void f(); } abstract class G extends F implements I { }
+abbrev agreeing : Rows
+agreeing = program (
+    with_method (codes "L") (d.Method [] outcome.Void (codes "t") [] (name (codes "Exception") ∷ []) None)
+    ∷ d.Class [] (codes "A") None [] (d.members (throwing (modifier.Public ∷ []) (codes "t") (codes "Exception") ∷ []))
+    ∷ d.Class [] (codes "E") (Some (name (codes "A"))) (name (codes "L") ∷ []) d.no_members
+    ∷ with_method (codes "I") (method [] outcome.Void (codes "f") None)
+    ∷ d.Class (modifier.Abstract ∷ []) (codes "F") None [] (d.members (method (modifier.Protected ∷ modifier.Abstract ∷ []) outcome.Void (codes "f") None ∷ []))
+    ∷ between (codes "G") (codes "F") (codes "I")
+    ∷ [])
+
+agreeing_keeps : keeps_members agreeing (table agreeing) ≡ true
+agreeing_keeps = refl
+
+-- a type of a package
+abbrev in_package : Text → Text → Name
+in_package path part = record { parts = path ∷ (part ∷ []) }
+
+-- package a; public abstract class A { abstract void f(); }
+-- package a; public class D extends A { void f() { } }
+-- package b; import a.A; import a.D; class B extends A { void f() { } } class C extends D { }
+-- package b; import a.A; public abstract class M extends A { void f() { } }
+-- package a; import b.M; class E extends M { } class F extends M { void f() { } }
+abbrev leaving : Rows
+leaving = units (
+    unit_in (codes "a") [] (d.Class (modifier.Public ∷ modifier.Abstract ∷ []) (codes "A") None [] (d.members (method (modifier.Abstract ∷ []) outcome.Void (codes "f") None ∷ [])) ∷ [])
+    ∷ unit_in (codes "a") [] (d.Class (modifier.Public ∷ []) (codes "D") (Some (name (codes "A"))) [] (d.members (method [] outcome.Void (codes "f") empty ∷ [])) ∷ [])
+    ∷ unit_in (codes "b") (import.Single (in_package (codes "a") (codes "A")) ∷ import.Single (in_package (codes "a") (codes "D")) ∷ []) (
+    d.Class [] (codes "B") (Some (name (codes "A"))) [] (d.members (method [] outcome.Void (codes "f") empty ∷ []))
+    ∷ d.Class [] (codes "C") (Some (name (codes "D"))) [] d.no_members
+    ∷ [])
+    ∷ unit_in (codes "b") (import.Single (in_package (codes "a") (codes "A")) ∷ []) (
+    d.Class (modifier.Public ∷ modifier.Abstract ∷ []) (codes "M") (Some (name (codes "A"))) [] (d.members (method [] outcome.Void (codes "f") empty ∷ []))
+    ∷ [])
+    ∷ unit_in (codes "a") (import.Single (in_package (codes "b") (codes "M")) ∷ []) (
+    d.Class [] (codes "E") (Some (name (codes "M"))) [] d.no_members
+    ∷ d.Class [] (codes "F") (Some (name (codes "M"))) [] (d.members (method [] outcome.Void (codes "f") empty ∷ []))
+    ∷ [])
+    ∷ [])
+
+leaving_breaks : broken leaving ≡ (codes "B", 14) ∷ (codes "E", 14) ∷ []
+leaving_breaks = refl
 
 -- interface I { int h(); int a; { } } interface J { void h(); } class C { public int h() { } } class D extends C implements J { }
 -- abstract class E implements I, J { } class F extends C implements I { }

@@ -55,9 +55,9 @@ accesses p d = all_such 4 (λ level. is_open_to p d level)
 abbrev pub is_narrower : Rows → ℕ → ℕ → Bool
 is_narrower p m k = list_any (λ a. list_any (λ b. nat_lt a b) (accesses p k)) (accesses p m)
 
--- m overrides a method whose result its own does not fit
+-- m overrides or hides a method whose result its own does not fit
 abbrev pub has_other_result : Rows → Table → Pairs → ℕ → Bool
-has_other_result p t over m = list_any (λ k. not (is_result_fit p t m k)) (overridden p over m)
+has_other_result p t over m = list_any (λ k. not (is_result_fit p t m k)) (redefined p t over m)
 
 -- m overrides or hides a method of wider access
 abbrev pub is_narrowed : Rows → Table → Pairs → ℕ → Bool
@@ -67,6 +67,6 @@ is_narrowed p t over m = list_any (λ k. is_narrower p m k) (redefined p t over 
 abbrev pub is_mixed : Rows → Table → Pairs → ℕ → Bool
 is_mixed p t over m = list_any (λ k. not (is_static p k)) (hidden p t m) || list_any (λ k. is_static p k) (overridden p over m)
 
--- m overrides a final method
-abbrev pub is_over_final : Rows → Pairs → ℕ → Bool
-is_over_final p over m = list_any (λ k. (written (label p k)).is_final) (overridden p over m)
+-- m overrides or hides a final method
+abbrev pub is_over_final : Rows → Table → Pairs → ℕ → Bool
+is_over_final p t over m = list_any (λ k. (written (label p k)).is_final) (redefined p t over m)

@@ -1,4 +1,4 @@
--- Rule 19, computed: checked classes that an overriding method declares (JLS 8.4.6, 8.4.8.3, 11.2).
+-- Rule 19, computed: checked classes that a method declares and another does not allow (JLS 8.4.6, 8.4.8.3, 11.2).
 use Rattle.std.specs.Prelude.{ℕ, Bool, true, false, not, ◌&&◌, codes, length, nat_eq}
 use Rattle.std.specs.List.{list_any}
 use Rattle.jr_base.specs.declared.text.Text.{Text}
@@ -10,7 +10,7 @@ use Rattle.jr_defs.specs.Referents.{Table}
 use Rattle.jr_plain.specs.Search.{any_below, has}
 use Rattle.jr_plain.specs.Declarations.{is_prelude}
 use Rattle.jr_plain.specs.Supertypes.{declaration, is_at_or_above}
-use Rattle.jr_member_rules.specs.Redefining.{Pairs, overridden}
+use Rattle.jr_member_rules.specs.Redefining.{Pairs, redefined}
 
 -- a name that stands for a class in the list of thrown classes
 abbrev pub is_other_name : Label → Bool
@@ -41,6 +41,10 @@ allows p t k c = any_below (length p) (λ n. let above = list_any (λ s. is_at_o
 abbrev pub is_not_allowed : Rows → Table → ℕ → ℕ → ℕ → Bool
 is_not_allowed p t m k n = let checked = list_any (λ c. is_checked p t c && not (allows p t k c)) (declaration (t n)) in is_thrown_name p m n && checked
 
--- m declares a checked class that a method which it overrides does not allow
+-- m declares a checked class that k does not allow
+abbrev pub declares_more : Rows → Table → ℕ → ℕ → Bool
+declares_more p t m k = any_below (length p) (λ n. is_not_allowed p t m k n)
+
+-- m declares a checked class that a method which it overrides or hides does not allow
 abbrev pub throws_more : Rows → Table → Pairs → ℕ → Bool
-throws_more p t over m = list_any (λ k. any_below (length p) (λ n. is_not_allowed p t m k n)) (overridden p over m)
+throws_more p t over m = list_any (λ k. declares_more p t m k) (redefined p t over m)
