@@ -17,15 +17,15 @@ use Rattle.jr_defs.specs.Overriding.{Overrides, Found}
 use Rattle.jr_defs.specs.Overloads.{ResultFits}
 use Rattle.jr_defs.specs.Constants.{HasConstantForm, ConstantVariable}
 
--- m overrides k, or is a static method that hides k: one that its type would inherit if it declared nothing (JLS 8.4.8.1, 8.4.8.2)
+-- m overrides k, or is a static method that hides k: one of a type above, which is accessible to its own (JLS 8.4.8.1, 8.4.8.2)
 pub record Hides (p : Rows) (t : Table) (m k : ℕ) : Type 0 where
   pub signatures : SameMethods p t m k
   pub static : IsStatic p m
   pub type : ℕ
   pub declared : DeclaredIn p type m
   pub upper : ℕ
-  pub above : Super p t type upper
-  pub member : MemberOf p t upper k
+  pub declares : DeclaredIn p upper k
+  pub above : Above p t type upper
   pub reached : CanInherit p type k
 
 pub data RedefinesMethod (p : Rows) (t : Table) (m k : ℕ) : Type 0 where

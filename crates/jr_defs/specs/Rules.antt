@@ -9,6 +9,7 @@ use Rattle.jr_rows.specs.declared.label.Role.TheVariants as role
 use Rattle.jr_rows.specs.declared.label.Sought.{Sought}
 use Rattle.jr_rows.specs.declared.label.Sought.TheVariants as sought
 use Rattle.jr_rows.specs.Rows.{Rows, label, name, parent, end, role_at, sought_at}
+use Rattle.jr_defs.specs.declared.referent.Element.TheVariants as element
 use Rattle.jr_defs.specs.declared.referent.RowType.{RowType}
 use Rattle.jr_defs.specs.declared.referent.Space.TheVariants as space
 use Rattle.jr_defs.specs.declared.referent.Referent.TheVariants.{Declared}
@@ -17,12 +18,13 @@ use Rattle.jr_defs.specs.Declarations.{Declares, IsType, IsClass, IsInterface, I
 use Rattle.jr_defs.specs.Enclosing.{DeclaredIn, ConstructorOf, IsTopLevel}
 use Rattle.jr_defs.specs.Modifiers.{IsFinal, IsInner}
 use Rattle.jr_defs.specs.Packages.{InUnit, SamePackage, InPackage, TypeOfPackage, package_of, spelled}
-use Rattle.jr_defs.specs.Types.{SameSignature, Parameters}
+use Rattle.jr_defs.specs.Types.{array, SameSignature, Parameters}
 use Rattle.jr_defs.specs.Supertypes.{NamesSuperclass, NamesSuperinterface}
 use Rattle.jr_defs.specs.Imports.{ImportOf, ImportNames, ImportedBy}
 use Rattle.jr_defs.specs.Scope.{InLocalScope, InParameterScope, InLabelScope}
 use Rattle.jr_defs.specs.Access.{IsAccessible}
 use Rattle.jr_defs.specs.Constants.{HasConstantForm}
+use Rattle.jr_defs.specs.Typing.{TypeOf}
 use Rattle.jr_defs.specs.Lookup.{Receiver}
 
 -- two declarations of one body, the first before the second
@@ -90,6 +92,15 @@ pub data Through (p : Rows) (t : Table) (o : ℕ) : Option RowType → Type 0 wh
   receiver : {c : ℕ} {through : Option RowType} → HasReceiver p t o c through → Through p t o through
   without : ((c : ℕ) (through : Option RowType) → HasReceiver p t o c through → ⊥) → Through p t o None
 
+-- what stands before the dot is a value of a class, or an array of one, that is not accessible at the place: so is no member of it (JLS 6.6.1)
+pub record IsOfHiddenType (p : Rows) (t : Table) (o : ℕ) : Type 0 where
+  pub behind : IsBehindDot (sought_at p o)
+  pub first : parent p (o + 1) ≡ o
+  pub class : ℕ
+  pub dims : ℕ
+  pub typed : TypeOf p t (HasConstantForm p t) (o + 1) (array (element.Class class) dims)
+  pub hidden : IsAccessible p t class o None → ⊥
+
 -- the rule is broken at the row
 pub data Breaks (p : Rows) (t : Table) : ℕ → ℕ → Type 0 where
   two_types : {d e : ℕ} → Twice p role.Type d e → name p d ≡ name p e → Breaks p t 2 e
@@ -109,6 +120,7 @@ pub data Breaks (p : Rows) (t : Table) : ℕ → ℕ → Type 0 where
   import_not_canonical : {u i d : ℕ} {form : ImportKind} → ImportOf p u form i → ImportNames p t i d → (CanonicalName p d (spelled p (i + 1)) → ⊥) → Breaks p t 9 (i + 1)
   not_accessible : {o d : ℕ} {level : Option ℕ} {through : Option RowType} → IsOccurrence p o → t o ≡ Declared d level → Through p t o through
       → (IsAccessible p t d o through → ⊥) → Breaks p t 10 o
+  of_hidden_type : {o : ℕ} → IsOccurrence p o → IsOfHiddenType p t o → Breaks p t 10 o
   final_superclass : {c n d : ℕ} {level : Option ℕ} → NamesSuperclass p c n → t n ≡ Declared d level → IsFinal p d → Breaks p t 13 n
   interface_as_superclass : {c n d : ℕ} {level : Option ℕ} → NamesSuperclass p c n → t n ≡ Declared d level → IsInterface p d → Breaks p t 13 n
   inner_superclass : {c n d : ℕ} {level : Option ℕ} → NamesSuperclass p c n → t n ≡ Declared d level → IsInner p d → Breaks p t 13 n

@@ -7,8 +7,8 @@ use Rattle.jr_rows.specs.Rows.{Rows, label, role_at}
 use Rattle.jr_defs.specs.Referents.{Table}
 use Rattle.jr_defs.specs.Enclosing.{DeclaredIn, IsMemberRole}
 use Rattle.jr_defs.specs.Modifiers.{written, IsPublic, IsProtected, IsPrivate, IsStatic}
-use Rattle.jr_defs.specs.Supertypes.{Super}
-use Rattle.jr_defs.specs.Members.{MemberOf, CanInherit}
+use Rattle.jr_defs.specs.Supertypes.{Above}
+use Rattle.jr_defs.specs.Members.{CanInherit}
 use Rattle.jr_defs.specs.Overriding.{Overrides, IsAboveMethod}
 use Rattle.jr_defs.specs.Overloads.{ResultFits}
 use Rattle.jr_defs.specs.MemberRules.{Hides, RedefinesMethod, IsOpenTo}
@@ -17,15 +17,15 @@ use Rattle.jr_plain.specs.Headed.{IsHeaded}
 use Rattle.jr_plain.specs.Same.{same_pair}
 use Rattle.jr_plain.specs.Enclosing.{declaring_type}
 use Rattle.jr_plain.specs.Modifiers.{is_static}
-use Rattle.jr_plain.specs.Supertypes.{supers}
-use Rattle.jr_plain.specs.Members.{is_member, can_inherit}
+use Rattle.jr_plain.specs.Supertypes.{is_above}
+use Rattle.jr_plain.specs.Members.{can_inherit}
 use Rattle.jr_plain.proofs.Tests.{itself, both, either, opposite, like}
 use Rattle.jr_plain.proofs.Searches.{lists, some_of}
 use Rattle.jr_plain.proofs.Bounds.{member_below}
 use Rattle.jr_plain.proofs.Enclosed.{declaring_finds}
 use Rattle.jr_plain.proofs.Modified.{found_tells, public_tells, protected_tells, private_tells, static_tells}
-use Rattle.jr_plain.proofs.Supertyped.{supers_list}
-use Rattle.jr_plain.proofs.Membership.{can_inherit_tells, same_methods_tells, member_tells}
+use Rattle.jr_plain.proofs.Supertyped.{above_tells}
+use Rattle.jr_plain.proofs.Membership.{can_inherit_tells, same_methods_tells}
 use Rattle.jr_plain.proofs.Overloaded.{result_tells}
 use Rattle.jr_member_rules.specs.Redefining as plain
 use Rattle.jr_member_rules.specs.Redefining.{Pairs}
@@ -88,13 +88,13 @@ narrower_tells p m k = some_of (λ a. list_any (λ b. nat_lt a b) (plain.accesse
 -- ---- overriding and hiding
 
 module _ (p : Rows) (t : Table) (headed : IsHeaded p) where
-  from_above_tells : (c k : ℕ) → Decides (plain.is_from_above p t c k) ((s : ℕ) × Super p t c s × MemberOf p t s k)
-  from_above_tells c k = some_of (λ s. is_member p t s k) (λ s. MemberOf p t s k) (λ s. member_tells p t headed s k) (supers p t c) (supers_list p t headed c)
+  from_above_tells : (c k : ℕ) → Decides (plain.is_from_above p t c k) ((s : ℕ) × DeclaredIn p s k × Above p t c s)
+  from_above_tells c k = found_tells (λ s. DeclaredIn p s k) (λ s. is_above p t c s) (λ s. Above p t c s) (λ s. above_tells p t headed c s) (declaring_type p k) (declaring_finds p k)
 
   pub hiding_tells : (m k : ℕ) → Decides (plain.is_hiding p t m k) (Hides p t m k)
   hiding_tells m k = like
       (both (static_tells p m) (both (same_methods_tells p t headed m k)
-      (found_tells (λ c. DeclaredIn p c m) (λ c. plain.is_from_above p t c k && can_inherit p c k) (λ c. ((s : ℕ) × Super p t c s × MemberOf p t s k) × CanInherit p c k)
+      (found_tells (λ c. DeclaredIn p c m) (λ c. plain.is_from_above p t c k && can_inherit p c k) (λ c. ((s : ℕ) × DeclaredIn p s k × Above p t c s) × CanInherit p c k)
       (λ c. both (from_above_tells c k) (can_inherit_tells p c k)) (declaring_type p m) (declaring_finds p m))))
       (λ h. record {
         signatures = h.1.0;
@@ -102,11 +102,11 @@ module _ (p : Rows) (t : Table) (headed : IsHeaded p) where
         type = h.1.1.0;
         declared = h.1.1.1;
         upper = h.1.1.2.0.0;
-        above = h.1.1.2.0.1;
-        member = h.1.1.2.0.2;
+        declares = h.1.1.2.0.1;
+        above = h.1.1.2.0.2;
         reached = h.1.1.2.1;
       })
-      (λ h. (h.static, (h.signatures, (h.type, h.declared, ((h.upper, h.above, h.member), h.reached)))))
+      (λ h. (h.static, (h.signatures, (h.type, h.declared, ((h.upper, h.declares, h.above), h.reached)))))
 
   module _ (over : Pairs) (pairs : (m k : ℕ) → Decides (among same_pair over (m, k)) (Overrides p t m k)) where
     redefines_out : (m k : ℕ) → Overrides p t m k ⊎ Hides p t m k → RedefinesMethod p t m k

@@ -9,17 +9,17 @@ use Rattle.jr_plain.specs.Search.{all_such, among}
 use Rattle.jr_plain.specs.Same.{same_pair}
 use Rattle.jr_plain.specs.Enclosing.{declaring_type}
 use Rattle.jr_plain.specs.Modifiers.{is_public, is_protected, is_private, is_static}
-use Rattle.jr_plain.specs.Supertypes.{supers}
-use Rattle.jr_plain.specs.Members.{are_same_methods, is_member, can_inherit}
+use Rattle.jr_plain.specs.Supertypes.{is_above}
+use Rattle.jr_plain.specs.Members.{are_same_methods, can_inherit}
 use Rattle.jr_plain.specs.Overloads.{is_result_fit}
 
 -- the pairs of a method and one that it overrides
 abbrev pub Pairs : Type 0
 Pairs = List (ℕ × ℕ)
 
--- a direct supertype of c has the member k
+-- a type above c declares the member k
 abbrev pub is_from_above : Rows → Table → ℕ → ℕ → Bool
-is_from_above p t c k = list_any (λ s. is_member p t s k) (supers p t c)
+is_from_above p t c k = option_map_or (λ s. is_above p t c s) (declaring_type p k) false
 
 -- the static method m hides k, which its type would inherit if it declared nothing
 abbrev pub is_hiding : Rows → Table → ℕ → ℕ → Bool

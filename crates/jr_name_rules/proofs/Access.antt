@@ -1,8 +1,9 @@
 -- The test of what is not accessible tells what it is to tell.
-use Rattle.std.proofs.Common.{◌≡◌, ◌⊎◌, refl, ◌∙◌, ap, subst, inl, inr, arith, ℕ, zero, suc, ◌+◌, not, [], ◌∷◌, length, flat_map, Option, None, nat_eq, Decides}
+use Rattle.std.proofs.Common.{◌≡◌, ◌⊎◌, refl, ◌∙◌, ap, subst, inl, inr, arith, ℕ, zero, suc, ◌+◌, not, [], ◌∷◌, length, flat_map, Option, Some, None, nat_eq, Decides}
 use Rattle.std.specs.List.{list_any}
 use Rattle.std.specs.Option.{option_eq, option_map_or}
 use Rattle.std.proofs.lemmas.Bool.Decides.{Decides-eqb}
+use Rattle.std.proofs.lemmas.Option.{none-some, same_Some}
 use Rattle.jr_rows.specs.declared.label.Sought.{Sought}
 use Rattle.jr_rows.specs.declared.label.Sought.TheVariants as sought
 use Rattle.jr_rows.specs.Rows.{Rows, parent, sought_at}
@@ -17,7 +18,7 @@ use Rattle.jr_defs.specs.Access.{IsAccessible}
 use Rattle.jr_defs.specs.Constants.{HasConstantForm}
 use Rattle.jr_defs.specs.Typing.{TypeOf}
 use Rattle.jr_defs.specs.Lookup.{Receiver}
-use Rattle.jr_defs.specs.Rules.{IsBehindDot, HasReceiver, Through}
+use Rattle.jr_defs.specs.Rules.{IsBehindDot, HasReceiver, Through, IsOfHiddenType}
 use Rattle.jr_plain.specs.Headed.{IsHeaded}
 use Rattle.jr_plain.specs.Search.{all_such, Finds}
 use Rattle.jr_plain.specs.Same.{same_type}
@@ -27,7 +28,7 @@ use Rattle.jr_plain.specs.Types.{named_type}
 use Rattle.jr_plain.specs.Access.{is_accessible}
 use Rattle.jr_plain.specs.Overloads.{Types}
 use Rattle.jr_plain.specs.Lookup.{Before, same_before, object, objects_of, objects_before, receivers}
-use Rattle.jr_plain.proofs.Tests.{always, never, both, opposite, like}
+use Rattle.jr_plain.proofs.Tests.{always, never, both, either, opposite, like}
 use Rattle.jr_plain.proofs.Searches.{lists, some_item}
 use Rattle.jr_plain.proofs.Same.{type_tells, option_tells}
 use Rattle.jr_plain.proofs.Listed.{or_else_has, append_has, one_has, found_has, if_has, flat_has}
@@ -76,9 +77,18 @@ behind_dot_tells sought.FieldOf = always
 behind_dot_tells sought.MethodOf = always
 behind_dot_tells _ = never
 
+class_finds : (e : Element) → Finds (tests.class_of e) (λ c. e ≡ element.Class c)
+class_finds (element.Class c) d = (λ e. ap element.Class (same_Some c d e), λ e. ap Some (row_of e))
+  where
+    row_of : {b d : ℕ} → element.Class b ≡ element.Class d → b ≡ d
+    row_of e = cc
+class_finds _ d = (λ e. absurd (none-some d e), λ e. absurd (cc))
+
+abbrev pub TargetHidden : Rows → Table → ℕ → Type 0
+TargetHidden p t o = (d : ℕ) × ((level : Option ℕ) × (t o ≡ Declared d level)) × ((through : Option RowType) × Through p t o through × (IsAccessible p t d o through → ⊥))
+
 abbrev pub NotAccessible : Rows → Table → ℕ → Type 0
-NotAccessible p t o = IsOccurrence p o
-    × ((d : ℕ) × ((level : Option ℕ) × (t o ≡ Declared d level)) × ((through : Option RowType) × Through p t o through × (IsAccessible p t d o through → ⊥)))
+NotAccessible p t o = IsOccurrence p o × (TargetHidden p t o ⊎ IsOfHiddenType p t o)
 
 module _ (p : Rows) (t : Table) (headed : IsHeaded p) (type_of : Types) (typed : (n : ℕ) → Finds (type_of n) (λ a. TypeOf p t (HasConstantForm p t) n a)) where
   abbrev Receives : ℕ → ℕ → Option RowType → Type 0
@@ -140,13 +150,39 @@ module _ (p : Rows) (t : Table) (headed : IsHeaded p) (type_of : Types) (typed :
       (one_has (option_eq same_type) (option_tells same_type type_tells) None) through)
       (through_out o through) (through_into o through)
 
-  pub not_accessible_tells : (o : ℕ) → Decides (tests.is_not_accessible p t type_of o) (NotAccessible p t o)
-  not_accessible_tells o = both (occurrence_tells p o)
-      (found_tells (λ d. (level : Option ℕ) × (t o ≡ Declared d level)) (λ d. list_any (λ through. not (is_accessible p t d o through)) (tests.reached_through p t type_of o))
-      (λ d. (through : Option RowType) × Through p t o through × (IsAccessible p t d o through → ⊥)) hidden (declared_row (t o)) (declared_finds (t o)))
+  target_hidden_tells : (o : ℕ) → Decides (tests.is_target_hidden p t type_of o) (TargetHidden p t o)
+  target_hidden_tells o =
+      found_tells (λ d. (level : Option ℕ) × (t o ≡ Declared d level)) (λ d. list_any (λ through. not (is_accessible p t d o through)) (tests.reached_through p t type_of o))
+      (λ d. (through : Option RowType) × Through p t o through × (IsAccessible p t d o through → ⊥)) hidden (declared_row (t o)) (declared_finds (t o))
     where
       hidden : (d : ℕ) → Decides (list_any (λ through. not (is_accessible p t d o through)) (tests.reached_through p t type_of o))
           ((through : Option RowType) × Through p t o through × (IsAccessible p t d o through → ⊥))
       hidden d = like (some_item (option_eq same_type) (option_tells same_type type_tells) (λ through. not (is_accessible p t d o through)) (tests.reached_through p t type_of o))
           (λ h. (h.0, (reached_through_has o h.0).0 h.1, (opposite (accessible_tells p t headed d o h.0)).0 h.2))
           (λ h. (h.0, (reached_through_has o h.0).1 h.1, (opposite (accessible_tells p t headed d o h.0)).1 h.2))
+
+  -- ---- what stands before the dot is of a type that is not accessible
+
+  abbrev HiddenClass : ℕ → RowType → Type 0
+  HiddenClass o a = (c : ℕ) × (a.element ≡ element.Class c) × (IsAccessible p t c o None → ⊥)
+
+  hidden_class_tells : (o : ℕ) (a : RowType) → Decides (tests.has_hidden_class p t o a) (HiddenClass o a)
+  hidden_class_tells o a = found_tells (λ c. a.element ≡ element.Class c) (λ c. not (is_accessible p t c o None)) (λ c. IsAccessible p t c o None → ⊥)
+      (λ c. opposite (accessible_tells p t headed c o None)) (tests.class_of a.element) (class_finds a.element)
+
+  of_hidden_type_tells : (o : ℕ) → Decides (tests.is_of_hidden_type p t type_of o) (IsOfHiddenType p t o)
+  of_hidden_type_tells o = like
+      (both (behind_dot_tells (sought_at p o)) (both (Decides-eqb (parent p (o + 1)) o)
+      (found_tells (TypedBefore o) (λ a. tests.has_hidden_class p t o a) (HiddenClass o) (hidden_class_tells o) (type_of (o + 1)) (typed (o + 1)))))
+      (λ h. record {
+        behind = h.0;
+        first = h.1.0;
+        class = h.1.1.2.0;
+        dims = h.1.1.0.dims;
+        typed = subst (λ e. TypedBefore o (array e h.1.1.0.dims)) h.1.1.2.1 h.1.1.1;
+        hidden = h.1.1.2.2;
+      })
+      (λ h. (h.behind, (h.first, (array (element.Class h.class) h.dims, h.typed, (h.class, refl, h.hidden)))))
+
+  pub not_accessible_tells : (o : ℕ) → Decides (tests.is_not_accessible p t type_of o) (NotAccessible p t o)
+  not_accessible_tells o = both (occurrence_tells p o) (either (target_hidden_tells o) (of_hidden_type_tells o))

@@ -86,6 +86,9 @@ module _ (p : Rows) (t : Table) where
   wrong_supertype_out n (inr (inr h)) = let both = h.1.1.1 in
       Breaks.superinterface_twice h.1.1.0.0 h.0 h.1.1.0.1 both.1.1 (subst (λ d. t n ≡ Declared d both.2.1.0) (sym both.2.2) both.2.1.1)
 
+  access_out : {n : ℕ} → NotAccessible p t n → Breaks p t 10 n
+  access_out (occurs, h) = ⊎_elim (λ k. Breaks.not_accessible occurs k.1.1 k.2.1 k.2.2) (λ k. Breaks.of_hidden_type occurs k) h
+
   static_fault_out : (i : ℕ) → StaticImportFault p t i → Breaks p t 47 i
   static_fault_out i (inl h) = Breaks.imports_nothing h.0 (λ d k. h.1 (d, k))
   static_fault_out i (inr h) = let clash = h.1.1.1.1 in ⊎_elim
@@ -104,7 +107,7 @@ module _ (p : Rows) (t : Table) where
     ways_out (inr (inr (inr (inr (inr (inl h)))))) = moved h.0 (Breaks.label_in_label h.1.1.1.0 h.1.0 h.1.1.1.1)
     ways_out (inr (inr (inr (inr (inr (inr (inl h))))))) = moved h.0 (next_out 8 (ImportClash p t) import_clash_out n h.1)
     ways_out (inr (inr (inr (inr (inr (inr (inr (inl h)))))))) = moved h.0 (next_out 9 (ImportNotCanonical p t) not_canonical_out n h.1)
-    ways_out (inr (inr (inr (inr (inr (inr (inr (inr (inl h))))))))) = let k = h.1 in moved h.0 (Breaks.not_accessible k.0 k.1.1.1 k.1.2.1 k.1.2.2)
+    ways_out (inr (inr (inr (inr (inr (inr (inr (inr (inl h))))))))) = moved h.0 (access_out h.1)
     ways_out (inr (inr (inr (inr (inr (inr (inr (inr (inr (inl h)))))))))) = moved h.0 (wrong_supertype_out n h.1)
     ways_out (inr (inr (inr (inr (inr (inr (inr (inr (inr (inr h)))))))))) = moved h.0 (static_fault_out n h.1)
 
@@ -153,7 +156,8 @@ module _ (p : Rows) (t : Table) where
       inr (inr (inr (inr (inr (inr (inl (refl, (i, inr (own_unit h.is_import, (e, (beside_import h.is_import top, (d, h.names, (named, apart))))), refl))))))))
   ways_in (Breaks.import_not_canonical {i = i} {d = d} {form = form} h names other) = inr (inr (inr (inr (inr (inr (inr (inl (refl, (i, ((form, h.import), (d, names, other)), refl)))))))))
   ways_in (Breaks.not_accessible {d = d} {level = level} {through = through} occurs e h hidden) =
-      inr (inr (inr (inr (inr (inr (inr (inr (inl (refl, (occurs, (d, (level, e), (through, h, hidden))))))))))))
+      inr (inr (inr (inr (inr (inr (inr (inr (inl (refl, (occurs, inl (d, (level, e), (through, h, hidden))))))))))))
+  ways_in (Breaks.of_hidden_type occurs h) = inr (inr (inr (inr (inr (inr (inr (inr (inl (refl, (occurs, inr h))))))))))
   ways_in (Breaks.final_superclass {d = d} {level = level} h e k) = inr (inr (inr (inr (inr (inr (inr (inr (inr (inl (refl, inl (own_superclass h, (d, (level, e), inl k))))))))))))
   ways_in (Breaks.interface_as_superclass {d = d} {level = level} h e k) = inr (inr (inr (inr (inr (inr (inr (inr (inr (inl (refl, inl (own_superclass h, (d, (level, e), inr (inl k)))))))))))))
   ways_in (Breaks.inner_superclass {d = d} {level = level} h e k) = inr (inr (inr (inr (inr (inr (inr (inr (inr (inl (refl, inl (own_superclass h, (d, (level, e), inr (inr k)))))))))))))

@@ -45,6 +45,7 @@ module _ (p : Rows) (t : Table) (named : (i : ℕ) (form : ImportKind) → label
   broken_below (Breaks.import_and_type {i = i} h top same apart) = named i importing.Single h.is_import.import
   broken_below (Breaks.import_not_canonical {i = i} {form = form} h names other) = named i form h.import
   broken_below (Breaks.not_accessible {o = o} occurs e h hidden) = bounded (λ l. sought_by l ≡ sought.Nothing → ⊥) (λ h. h refl) p o occurs.seeks
+  broken_below (Breaks.of_hidden_type {o = o} occurs h) = bounded (λ l. sought_by l ≡ sought.Nothing → ⊥) (λ h. h refl) p o occurs.seeks
   broken_below (Breaks.final_superclass {c = c} {n = n} h e k) = superclass_name_below p c n h
   broken_below (Breaks.interface_as_superclass {c = c} {n = n} h e k) = superclass_name_below p c n h
   broken_below (Breaks.inner_superclass {c = c} {n = n} h e k) = superclass_name_below p c n h
