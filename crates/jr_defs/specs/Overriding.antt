@@ -5,12 +5,12 @@ use Rattle.jr_rows.specs.Rows.{Rows, role_at}
 use Rattle.jr_defs.specs.Referents.{Table}
 use Rattle.jr_defs.specs.Declarations.{IsType, IsClass, IsInterface}
 use Rattle.jr_defs.specs.Enclosing.{DeclaredIn}
-use Rattle.jr_defs.specs.Modifiers.{IsPublic, IsProtected, IsPrivate, IsStatic}
+use Rattle.jr_defs.specs.Modifiers.{IsPublic, IsProtected, IsPrivate, IsStatic, InInterface}
 use Rattle.jr_defs.specs.Packages.{SamePackage}
 use Rattle.jr_defs.specs.Supertypes.{Above, AtOrAbove, Superclass}
 use Rattle.jr_defs.specs.Members.{SameMethods, MemberOf}
 
--- an instance method m and a method k of its signature, not private, in a type strictly above
+-- an instance method m and a method k of its signature, not private, in a type strictly above; an interface has of Object its public methods alone (JLS 9.2)
 pub record IsAboveMethod (p : Rows) (t : Table) (m k : ℕ) : Type 0 where
   pub signatures : SameMethods p t m k
   pub instance : IsStatic p m → ⊥
@@ -20,6 +20,7 @@ pub record IsAboveMethod (p : Rows) (t : Table) (m k : ℕ) : Type 0 where
   pub declares : DeclaredIn p upper k
   pub above : Above p t type upper
   pub reached : IsPrivate p k → ⊥
+  pub from_interface : InInterface p m → IsPublic p k
 
 -- m overrides k, inherited or not (JLS 8.4.8.1)
 pub data Overrides (p : Rows) (t : Table) : ℕ → ℕ → Type 0 where

@@ -21,7 +21,7 @@ use Rattle.jr_plain.specs.Enclosing.{declaring_type, declared_by}
 use Rattle.jr_plain.specs.Supertypes.{superclasses, is_above, is_at_or_above}
 use Rattle.jr_plain.specs.Members.{is_member}
 use Rattle.jr_plain.specs.Overriding as plain
-use Rattle.jr_plain.proofs.Tests.{itself, always, both, either, opposite, like, decide}
+use Rattle.jr_plain.proofs.Tests.{itself, always, both, either, opposite, implies, like, decide}
 use Rattle.jr_plain.proofs.Searches.{lists, some_of, flat_of}
 use Rattle.jr_plain.proofs.Least.{closed, sound}
 use Rattle.jr_plain.proofs.OfTypes.{types_list, closed_types, sound_types}
@@ -30,7 +30,7 @@ use Rattle.jr_plain.proofs.Bounds.{member_below}
 use Rattle.jr_plain.proofs.Declared.{type_tells, class_tells, interface_tells}
 use Rattle.jr_plain.proofs.Enclosed.{declared_in_tells, declaring_finds}
 use Rattle.jr_plain.proofs.Children.{declared_list}
-use Rattle.jr_plain.proofs.Modified.{found_tells, public_tells, protected_tells, private_tells, static_tells}
+use Rattle.jr_plain.proofs.Modified.{found_tells, in_interface_tells, public_tells, protected_tells, private_tells, static_tells}
 use Rattle.jr_plain.proofs.Packaged.{same_package_tells}
 use Rattle.jr_plain.proofs.Supertyped.{superclasses_list, superclass_source, above_tells, at_or_above_tells}
 use Rattle.jr_plain.proofs.Membership.{same_methods_tells, member_tells, member_source}
@@ -61,9 +61,20 @@ module _ (p : Rows) (t : Table) (headed : IsHeaded p) where
       (λ c. found_tells (λ s. DeclaredIn p s k) (λ s. is_above p t c s) (λ s. Above p t c s) (λ s. above_tells p t headed c s) (declaring_type p k) (declaring_finds p k)) (declaring_type p m) (declaring_finds p m)
 
   pub above_method_tells : (m k : ℕ) → Decides (plain.is_above_method p t m k) (IsAboveMethod p t m k)
-  above_method_tells m k = like (both (both (both (same_methods_tells p t headed m k) (opposite (static_tells p m))) (opposite (private_tells p k))) (declared_below_tells m k))
-      (λ h. record { signatures = h.0.0.0; instance = h.0.0.1; type = h.1.0; declared = h.1.1; upper = h.1.2.0; declares = h.1.2.1; above = h.1.2.2; reached = h.0.1 })
-      (λ h. (((h.signatures, h.instance), h.reached), (h.type, h.declared, (h.upper, h.declares, h.above))))
+  above_method_tells m k = like
+      (both (both (both (both (same_methods_tells p t headed m k) (opposite (static_tells p m))) (opposite (private_tells p k))) (implies (in_interface_tells p m) (public_tells p k))) (declared_below_tells m k))
+      (λ h. record {
+        signatures = h.0.0.0.0;
+        instance = h.0.0.0.1;
+        type = h.1.0;
+        declared = h.1.1;
+        upper = h.1.2.0;
+        declares = h.1.2.1;
+        above = h.1.2.2;
+        reached = h.0.0.1;
+        from_interface = h.0.1;
+      })
+      (λ h. ((((h.signatures, h.instance), h.reached), h.from_interface), (h.type, h.declared, (h.upper, h.declares, h.above))))
 
   abbrev Through : List (ℕ × ℕ) → ℕ → ℕ → Type 0
   Through set m k = (j : ℕ) × IsMethod p j × ((among same_pair set (m, j) ≡ true) × (among same_pair set (j, k) ≡ true))

@@ -9,7 +9,7 @@ use Rattle.jr_plain.specs.Search.{all_such, among, has, least}
 use Rattle.jr_plain.specs.Same.{same_role, same_pair}
 use Rattle.jr_plain.specs.Declarations.{is_type, types, is_class, is_interface}
 use Rattle.jr_plain.specs.Enclosing.{is_declared_in, declaring_type, declared_by}
-use Rattle.jr_plain.specs.Modifiers.{is_public, is_protected, is_private, is_static}
+use Rattle.jr_plain.specs.Modifiers.{is_public, is_protected, is_private, is_static, is_in_interface}
 use Rattle.jr_plain.specs.Packages.{is_same_package}
 use Rattle.jr_plain.specs.Supertypes.{superclasses, is_above, is_at_or_above}
 use Rattle.jr_plain.specs.Members.{are_same_methods, is_member}
@@ -24,9 +24,9 @@ methods p = all_such (length p) (λ m. is_method p m)
 abbrev pub is_declared_below : Rows → Table → ℕ → ℕ → Bool
 is_declared_below p t m k = option_map_or (λ c. option_map_or (λ s. is_above p t c s) (declaring_type p k) false) (declaring_type p m) false
 
--- an instance method m and a method k of its signature, not private, in a type strictly above
+-- an instance method m and a method k of its signature, not private, in a type strictly above; where m is an interface's, k is public
 abbrev pub is_above_method : Rows → Table → ℕ → ℕ → Bool
-is_above_method p t m k = are_same_methods p t m k && not (is_static p m) && not (is_private p k) && is_declared_below p t m k
+is_above_method p t m k = are_same_methods p t m k && not (is_static p m) && not (is_private p k) && (not (is_in_interface p m) || is_public p k) && is_declared_below p t m k
 
 -- the methods that a class can reach in a type above
 abbrev pub is_reachable : Rows → ℕ → ℕ → Bool
