@@ -134,6 +134,23 @@ leaving = units (
 leaving_breaks : broken leaving ≡ (codes "B", 14) ∷ (codes "E", 14) ∷ []
 leaving_breaks = refl
 
+-- package a; public class A { void f() { } }
+-- package b; import a.A; public class B extends A { private void f() { } }
+-- package a; import b.B; class C extends B { static void f() { } }
+abbrev crossing : Rows
+crossing = units (
+    unit_in (codes "a") [] (d.Class (modifier.Public ∷ []) (codes "A") None [] (d.members (method [] outcome.Void (codes "f") empty ∷ [])) ∷ [])
+    ∷ unit_in (codes "b") (import.Single (in_package (codes "a") (codes "A")) ∷ []) (
+    d.Class (modifier.Public ∷ []) (codes "B") (Some (name (codes "A"))) [] (d.members (method (modifier.Private ∷ []) outcome.Void (codes "f") empty ∷ []))
+    ∷ [])
+    ∷ unit_in (codes "a") (import.Single (in_package (codes "b") (codes "B")) ∷ []) (
+    d.Class [] (codes "C") (Some (name (codes "B"))) [] (d.members (method (modifier.Static ∷ []) outcome.Void (codes "f") empty ∷ []))
+    ∷ [])
+    ∷ [])
+
+crossing_breaks : broken crossing ≡ (codes "f", 17) ∷ []
+crossing_breaks = refl
+
 -- interface I { int h(); int a; { } } interface J { void h(); } class C { public int h() { } } class D extends C implements J { }
 -- abstract class E implements I, J { } class F extends C implements I { }
 -- class G { void m(); abstract void n(); O() { } native void p() { } class K { static int q = 1; static final int k = 1; static { } static void w() { } } }

@@ -6,7 +6,7 @@ use Rattle.jr_tree.specs.declared.tree.Import.TheVariants as import
 use Rattle.jr_tree.specs.Mirror.Exprs as x
 use Rattle.jr_tree.specs.Mirror.Stmts as s
 use Rattle.jr_tree.specs.Mirror.Decls as d
-use Rattle.jr_rows.specs.Rows.{Rows}
+use Rattle.jr_rows.specs.Rows.{Rows, name}
 use Rattle.jr_defs.specs.declared.referent.Referent.TheVariants.{Declared, Package}
 use Rattle.jr_defs.specs.Referents.{Table}
 use Rattle.jr_name_rules.proofs.Trees.{named, int, of_class, parameter, block, local, field, members, program, table_of, broken}
@@ -136,3 +136,24 @@ protected_of_own = refl
 
 pub inner_superclass : broken imports imports_table 119 ≡ 13 ∷ []
 inner_superclass = refl
+
+-- class A { private static class N { int x; } N n; } class B { int f(A a) { return a.n.x; } }
+abbrev hidden : Rows
+hidden = program (d.UnitOf None [] (
+    d.Class [] (codes "A") None [] (members (d.Nested (d.Class (modifier.Private ∷ modifier.Static ∷ []) (codes "N") None [] (members (field [] int (codes "x") ∷ [])))
+    ∷ field [] (of_class (named (codes "N" ∷ []))) (codes "n") ∷ []))
+    ∷ d.Class [] (codes "B") None [] (members (
+    d.Method [] (outcome.Of int) (codes "f") (parameter (of_class (named (codes "A" ∷ []))) (codes "a") ∷ []) [] (Some (block (s.Return (Some (x.NameExpr (named (codes "a" ∷ codes "n" ∷ codes "x" ∷ [])))) ∷ []))) ∷ []))
+    ∷ []) ∷ [])
+
+abbrev hidden_table : Table
+hidden_table = table_of ((23, Declared 14 None) ∷ (33, Declared 10 None) ∷ (36, Declared 20 None) ∷ (37, Declared 24 None) ∷ (38, Declared 31 None) ∷ [])
+
+field_of_hidden : name hidden 20 ≡ codes "x"
+field_of_hidden = refl
+
+pub field_of_hidden_type : broken hidden hidden_table 36 ≡ 10 ∷ []
+field_of_hidden_type = refl
+
+pub value_of_hidden_type : broken hidden hidden_table 37 ≡ []
+value_of_hidden_type = refl
