@@ -1,10 +1,15 @@
 -- One character at most stands at a place, so a run goes as far as it can in one way.
-use Rattle.std.proofs.Common.{◌≡◌, ℕ, ◌+◌, ◌<◌, ◌≤◌, Bool, true, false, List, length, sym, ◌∙◌, ap, subst, arith, length-drop, length-append}
-use Rattle.std.specs.Char.{len_utf8}
+use Rattle.std.proofs.Common.{◌≡◌, ℕ, ◌+◌, ◌<◌, ◌≤◌, Bool, true, false, ◌||◌, ◌==◌, List, length, drop, refl, sym, ◌∙◌, ap, subst, arith, length-drop, length-append}
+use Rattle.std.specs.Prelude.{slice_index}
+use Rattle.std.proofs.lemmas.Bool.Decides.{nat_tests}
+use Rattle.std.proofs.lemmas.List.{at_drop_more}
+use Rattle.std.specs.Char.{is_ascii_alphabetic, is_ascii_alphanumeric, len_utf8}
 use Rattle.std.specs.Str.{IsUtf8, IsCharBoundary}
-use Rattle.std.proofs.lemmas.Str.{IsCharBoundary-past_char, IsUtf8-drop, encode_same, len_utf8_bounds, length-encode}
+use Rattle.std.proofs.lemmas.Str.{IsCharBoundary-past_char, encode_ascii, IsUtf8-drop, encode_same, len_utf8_bounds, length-encode}
 use lib.Utf8.{encode}
 use Rattle.std.proofs.lemmas.Bool.{false≢true}
+use Rattle.unicode_ident.proofs.IdentLemmas.{is_xid_start-ascii, is_xid_continue-ascii}
+use Rattle.jr_base.specs.Identifiers.{is_start_char, is_word_char}
 use Rattle.jr_base.specs.Places.{CharAt, CharRun, none, more}
 
 -- a text may be cut after a character
@@ -38,3 +43,17 @@ run_longest {bs = bs} (more {start = start} {c = c} g x r) stop (more {c = d} h 
 -- a character stands inside the text
 pub char_inside : (bs : List ℕ) (i c : ℕ) → CharAt bs i c → i < length bs
 char_inside bs i c h = omega (arith, length-drop i bs, ap length h.split, length-append (encode c) h.rest, length-encode c, len_utf8_bounds c)
+
+-- an ASCII byte is a character
+pub char_of_byte : (text : List ℕ) (place : ℕ) → place < length text → slice_index text place < 128 → CharAt text place (slice_index text place)
+char_of_byte text place l a = record {
+  scalar = grind (arith, nat_tests);
+  rest = drop (place + 1) text;
+  split = rw (encode_ascii (slice_index text place) a) (at_drop_more (λ x. x) text place 0 l);
+}
+
+pub start_ascii : (c : ℕ) → c < 128 → is_start_char c ≡ (is_ascii_alphabetic c || ((c == 95) || (c == 36)))
+start_ascii c l = rw (is_xid_start-ascii c l) refl
+
+pub word_ascii : (c : ℕ) → c < 128 → is_word_char c ≡ ((is_ascii_alphanumeric c || (c == 95)) || (c == 36))
+word_ascii c l = rw (is_xid_continue-ascii c l) refl

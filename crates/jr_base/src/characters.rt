@@ -1,6 +1,6 @@
 // Characters at places of a text, and runs of them.
-ghost use Rattle.std.specs.Prelude.{◌≡◌, ◌+◌, ◌<◌, ℕ, false, length};
-ghost use Rattle.std.specs.Char.{len_utf8};
+ghost use Rattle.std.specs.Prelude.{◌≡◌, ◌+◌, ◌<◌, ◌==◌, ◌||◌, ℕ, false, length};
+ghost use Rattle.std.specs.Char.{is_ascii_alphabetic, is_ascii_alphanumeric, len_utf8};
 ghost use Rattle.std.specs.Str.{IsCharBoundary};
 ghost use Rattle.jr_base.specs.Places.{CharAt, CharRun};
 ghost use Rattle.jr_base.specs.Identifiers.{is_start_char, is_word_char};
@@ -13,6 +13,10 @@ pub fn char_at(text: &str, at: usize) -> (char, usize)
     ensures ends { result.1 ≡ at + len_utf8 result.0 }
     ensures after { IsCharBoundary text.now result.1 }
 {
+    let first = text.as_bytes()[at];
+    if first < 128 {
+        return (char::from(first), at + 1);
+    }
     let rest = &text[at..];
     match rest.chars().next() {
         Some(c) => (c, at + c.len_utf8()),
@@ -20,10 +24,25 @@ pub fn char_at(text: &str, at: usize) -> (char, usize)
     }
 }
 
+fn starts_ascii(c: char) -> bool
+    ensures { result ≡ (is_ascii_alphabetic c || ((c == 95) || (c == 36))) }
+{
+    c.is_ascii_alphabetic() || c == '_' || c == '$'
+}
+
+fn continues_ascii(c: char) -> bool
+    ensures { result ≡ ((is_ascii_alphanumeric c || (c == 95)) || (c == 36)) }
+{
+    c.is_ascii_alphanumeric() || c == '_' || c == '$'
+}
+
 /// Whether an identifier begins with the character (JLS 3.8): `_`, `$` or one of Unicode's class XID_Start.
 pub fn starts_word(c: char) -> bool
     ensures { result ≡ is_start_char c }
 {
+    if c < '\u{80}' {
+        return starts_ascii(c);
+    }
     unicode_ident::is_xid_start(c) || c == '_' || c == '$'
 }
 
@@ -31,6 +50,9 @@ pub fn starts_word(c: char) -> bool
 pub fn continues_word(c: char) -> bool
     ensures { result ≡ is_word_char c }
 {
+    if c < '\u{80}' {
+        return continues_ascii(c);
+    }
     unicode_ident::is_xid_continue(c) || c == '$'
 }
 

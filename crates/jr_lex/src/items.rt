@@ -27,7 +27,7 @@ fn kind_of(alloc: Global, word: &str) -> Result<Kind, OutOfMemory>
 {
     match keyword_of(word) {
         Some(keyword) => Ok(Kind::Word(keyword)),
-        None => Ok(Kind::Ident(Text::new(word.as_bytes().to_vec(alloc)?))),
+        None => Ok(Kind::Ident(Text::of(alloc, word.as_bytes())?)),
     }
 }
 

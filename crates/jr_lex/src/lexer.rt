@@ -42,7 +42,7 @@ fn lex_text(alloc: Global, text: &str) -> Result<Vec<Token>, LexFault>
     ensures only_fault { (place : ℕ) → StopsAt text.now place
         → MatchResult result (λ _. ⊥) (λ fault. IsStop text.now place fault) }
 {
-    let mut tokens = Vec::new(alloc);
+    let mut tokens = Vec::with_capacity(alloc, text.len() / 3 + 1)?;
     let mut at = 0;
     while at < text.len() {
         let rest = from_place(text, at);

@@ -70,10 +70,23 @@ fn piece_at(text: &str, quote: u8, at: usize) -> Piece
 fn push_char(units: &mut Vec<u16>, c: char) -> Result<(), OutOfMemory>
     ensures { OnOk result (units.new.items ≡ units.old.items ++ encode_utf16 c) }
 {
+    if c < '\u{80}' {
+        units.push(c as u16)?;
+        return Ok(());
+    }
     let mut buffer = [0; 2];
     let encoded = c.encode_utf16(&mut buffer);
     units.extend_from_slice(encoded)?;
     Ok(())
+}
+
+/// How many bytes stand behind the quote before the next such quote, of those that are looked at: room for most literals.
+fn room_for(text: &[u8], quote: u8) -> usize {
+    text.iter()
+        .skip(1)
+        .take(64)
+        .take_while(|c| **c != quote)
+        .count()
 }
 
 /// The literal that begins with the quote, or why there is none.
@@ -83,7 +96,7 @@ pub fn scan_literal(alloc: Global, text: &str, quote: u8) -> Result<Scan, OutOfM
     requires opens { slice_index text.now 0 ≡ quote }
     ensures { IfOk result (IsScan quote text.now) }
 {
-    let mut units = Vec::new(alloc);
+    let mut units = Vec::with_capacity(alloc, room_for(text.as_bytes(), quote))?;
     let mut at = 1;
     while at <= text.len() {
         match piece_at(text, quote, at) {

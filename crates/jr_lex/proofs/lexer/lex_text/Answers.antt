@@ -7,16 +7,16 @@ use Rattle.jr_lex.proofs.Readings.{reads_gap, reads_token, gap_at, token_at, fau
 use Rattle.jr_lex.proofs.lexer.lex_text.Goals as goal
 
 pub loop-at-init : goal.loop-at-init
-loop-at-init c = (IsCharBoundary-start c.args.text.now c.utf8.text, rw c.new-tokens.ensures.items here)
+loop-at-init c = (IsCharBoundary-start c.args.text.now c.utf8.text, rw c.in_ok-tokens.ensures.items here)
 
 pub returns-in_err-len-clause-only : goal.returns-in_err-len-clause-only
 returns-in_err-len-clause-only c ts x =
-    let p = err_from_is_err_and c.from_residual.result c.from_residual.ensures.1 in
+    let p = err_from_is_err_and c.from_residual-in_err-len.result c.from_residual-in_err-len.ensures.1 in
     rw (p.1, p.2) (fault_only _ _ _ _ c.loop-at.invariant.1 c.loop-at-test.true (rw c.from_place-rest.ensures at c.in_err-len.ensures) ts x)
 
 pub returns-in_err-len-clause-only_fault : goal.returns-in_err-len-clause-only_fault
 returns-in_err-len-clause-only_fault c place x =
-    let p = err_from_is_err_and c.from_residual.result c.from_residual.ensures.1 in
+    let p = err_from_is_err_and c.from_residual-in_err-len.result c.from_residual-in_err-len.ensures.1 in
     rw (p.1, p.2) (fault_same _ _ _ _ c.loop-at.invariant.1 c.loop-at-test.true (rw c.from_place-rest.ensures at c.in_err-len.ensures) place x)
 
 pub loop-at-preserved-in-Gap : goal.loop-at-preserved-in-Gap

@@ -5,7 +5,7 @@ use Rattle.jr_lex.proofs.EscapeLemmas.{escape_boundary}
 use Rattle.jr_lex.proofs.literals.scan_literal.Goals as goal
 
 pub loop-at-init : goal.loop-at-init
-loop-at-init c = (first_boundary c.args.text.now c.args.quote c.utf8.text c.requires.quote c.requires.opens, rw c.new-units.ensures.items none)
+loop-at-init c = (first_boundary c.args.text.now c.args.quote c.utf8.text c.requires.quote c.requires.opens, rw c.in_ok-units.ensures.items none)
 
 pub loop-at-preserved-in-Plain : goal.loop-at-preserved-in-Plain
 loop-at-preserved-in-Plain c =
