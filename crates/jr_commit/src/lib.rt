@@ -10,6 +10,7 @@ mod recovery;
 mod sizes;
 #[cfg(test)]
 mod tests;
+mod undo;
 
 pub use actions::Step;
 pub use entry::{Entry, Journal, Side};
@@ -17,3 +18,4 @@ pub use plan::{Plan, commit};
 pub use reading::read_journal;
 pub use recovery::{RecoverFault, Recovered, recover};
 pub use sizes::journal_fits;
+pub use undo::{UndoFault, plan_undo};

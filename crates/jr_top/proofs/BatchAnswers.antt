@@ -1,0 +1,83 @@
+-- From what an input comes to, to the answer to a batch.
+use Rattle.std.proofs.Common.{◌≡◌, ◌⊎◌, inl, inr, ℕ, List, Option, Some, Result, Ok, Err, Global, sym, ap, subst, ◌∙◌, arith}
+use Rattle.std.proofs.lemmas.Option.{same_Some}
+use Rattle.jr_base.specs.declared.request.Request.{Request}
+use Rattle.jr_batch.specs.Input.{ForInput, IsInputAnswer, LeavesSome}
+use Rattle.jr_batch.specs.declared.fault.BatchFault.{BatchFault}
+use Rattle.jr_batch.specs.declared.fault.BatchFault.TheVariants as fault
+use Rattle.jr_batch.proofs.OneAnswer.{one_answer}
+use Rattle.jr_commit.specs.Restoring.{Restored, RestoresTo, StartsRecover}
+use Rattle.jr_commit.proofs.Moments.{started}
+use Rattle.jr_request.specs.declared.command.Command.TheVariants.{Batch}
+use Rattle.jr_store.specs.Image.{Image, LeavesOnly}
+use Rattle.jr_top.specs.Batches.{AsksBatch, Hears, AnswersBatch, status_of, IsBatchFailure}
+use Rattle.jr_top.specs.Crash.{StandsForEither, IsSettled, Survives}
+use Rattle.jr_top.specs.Decisions.{IsRename}
+use Rattle.jr_top.specs.Performing.{Reported}
+use Rattle.jr_top.specs.Recovering.{Recovers}
+use Rattle.jr_top.specs.Renaming.{AsksRename, files_named}
+use Rattle.jr_top.specs.declared.status.Phase.TheVariants.{Recovering}
+use Rattle.jr_top.specs.declared.status.Status.{Status}
+use Rattle.jr_top.specs.declared.status.Status.TheVariants.{BadRequest, StoreFault, SourceFault, TooLarge, OutOfMemory, BadJournal, NotYet}
+use Rattle.jr_top.proofs.Outcomes.{no_bad_journal}
+use Rattle.jr_top.proofs.PlainAnswers.{IsPlain}
+use Rattle.jr_top.proofs.Settled.{settled_stands}
+
+-- nothing of the input was taken
+pub untaken : (bytes : List ℕ) (left : Option (List ℕ)) → left ≡ Some bytes → LeavesSome bytes left
+untaken bytes left is = (0, omega arith, is)
+
+-- words that ask for a rename ask for no batch
+pub no_batch : (words : List (List ℕ)) (file : List ℕ) (at : ℕ) (name : List ℕ) → AsksRename words file at name → AsksBatch words → ⊥
+no_batch words file at name asks batch = subst IsRename (same_Some _ _ (sym asks ∙ batch)) tt
+
+-- no call of the store, where recovery has ended
+pub settled_here : {S : Type 0} (may_leave : S → Image → Type 0) (moment : S → ℕ) (left_since : S → ℕ → Image → Type 0) (words : List (List ℕ)) (f r : Image) (s : S) → ((c : Image) → left_since s (moment s) c → may_leave s c)
+    → IsSettled f r (may_leave s) → LeavesOnly moment left_since s s (StandsForEither words r)
+settled_here may_leave moment left_since words f r s now settled =
+    started moment left_since s (StandsForEither words r) (λ c l. inl (settled_stands f r (may_leave s) settled c (now c l)))
+
+-- a batch names no file
+pub batch_plain : (words : List (List ℕ)) → AsksBatch words → IsPlain words
+batch_plain words asks = record { recovery = (Batch, asks, tt); unnamed = ap files_named asks }
+
+module _ (words : List (List ℕ)) (told left : Option Image) (kept outcomes : Image → Type 0) (before after : ℕ) (heard : Option (List ℕ)) (quiet loud : ℕ) where
+  abbrev Said : Status → Type 0
+  Said status = AnswersBatch words told left outcomes before after heard quiet loud status × Survives words told kept outcomes status
+
+  -- the answer to an input that was read
+  module _ (recovered : Recovers told left) (stands : (f found : Image) → told ≡ Some f → Restored f found → StartsRecover f kept → (c : Image) → outcomes c → RestoresTo c found) where
+    pub heard_so : (status : Status) → Hears heard quiet loud status → Said status
+    heard_so SourceFault h = ((recovered, h), stands)
+    heard_so (TooLarge what request) h = ((recovered, h), stands)
+    heard_so (BadRequest request reason field) h = ((recovered, h), stands)
+    heard_so NotYet h = ((recovered, h), stands)
+    heard_so OutOfMemory h = (inr recovered, stands)
+    heard_so other h = absurd h
+
+  -- the one answer of an input that is told
+  module _ (old new : Option (List ℕ)) (fewer more : ℕ) (alloc : Global) (files found : Image) (is : told ≡ Some files) (restored : Restored files found) (bytes : List ℕ) (answer : Result (List Request) BatchFault)
+      (heard_is : heard ≡ Some bytes) (q : IsInputAnswer bytes answer) where
+    one : (b : Result (List Request) BatchFault) → ForInput heard (λ bs. IsInputAnswer bs b) → b ≡ answer
+    one b h = one_answer alloc bytes b answer (subst (λ (t : Option (List ℕ)). ForInput t (λ bs. IsInputAnswer bs b)) heard_is h) q
+
+    some_requests : ForInput heard (λ bs. (requests : List Request) × IsInputAnswer bs (Ok requests)) → NotYet ≡ status_of answer
+    some_requests h =
+        let said : (requests : List Request) × IsInputAnswer bytes (Ok requests) =
+        subst (λ (t : Option (List ℕ)). ForInput t (λ bs. (requests : List Request) × IsInputAnswer bs (Ok requests))) heard_is h in
+        ap status_of (one_answer alloc bytes (Ok said.0) answer said.1 q)
+
+    each_exact : (status : Status) → AnswersBatch words told left outcomes before after heard quiet loud status → (status ≡ status_of answer) ⊎ IsBatchFailure before after fewer more quiet loud status
+    each_exact BadJournal a = absurd (no_bad_journal files found told is restored a.2)
+    each_exact (StoreFault Recovering) a = inr a.2
+    each_exact (StoreFault other) a = absurd a.1
+    each_exact OutOfMemory a = inr tt
+    each_exact SourceFault a = inr a.1
+    each_exact (TooLarge what request) a = inl (ap (λ n. TooLarge what n) a.1.0 ∙ ap status_of (one (Err (fault.TooLarge what)) a.1.1))
+    each_exact (BadRequest request reason field) a = inl (ap (λ n. BadRequest request n field) a.1.0 ∙ ap status_of (one (Err (fault.Refused request field)) a.1.1))
+    each_exact NotYet a = inl (some_requests a.1)
+    each_exact other a = absurd a.1
+
+    pub exact : (result : Status) → Reported words Said result old new fewer more → (result ≡ status_of answer) ⊎ IsBatchFailure before after fewer more quiet loud result
+    exact result (status, said, inl done) = subst (λ (x : Status). (x ≡ status_of answer) ⊎ IsBatchFailure before after fewer more quiet loud x) (sym done.0) (each_exact status said.0)
+    exact result (status, said, inr failed) = inr (subst (IsBatchFailure before after fewer more quiet loud) (sym failed.0) failed.2)

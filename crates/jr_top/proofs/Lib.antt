@@ -1,0 +1,14 @@
+mod Held
+mod Outcomes
+mod Performed
+mod Settled
+mod Single
+mod Carried
+mod Chosen
+mod Exact
+mod PlainAnswers
+mod BatchAnswers
+mod CheckAnswers
+mod OneFile
+mod UndoAnswers
+mod Starts

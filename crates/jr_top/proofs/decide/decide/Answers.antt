@@ -1,0 +1,7 @@
+use Rattle.jr_commit.proofs.Moments.{read_never}
+use Rattle.jr_top.proofs.decide.decide.Goals as goal
+
+pub returns-in_default-clause-any_moment : goal.returns-in_default-clause-any_moment
+returns-in_default-clause-any_moment g c =
+    let S = g.S.Store in
+    read_never S.may_leave S.moment S.left_since c.args.store.now (g.met.S.Store.only_now c.args.store.now)

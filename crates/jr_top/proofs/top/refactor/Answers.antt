@@ -1,0 +1,128 @@
+use Rattle.std.proofs.Common.{◌≡◌, ◌⊎◌, ◌∙◌, sym}
+use Rattle.std.proofs.lemmas.Option.{none-some}
+use Rattle.jr_request.specs.declared.command.Command.TheVariants.{Batch, Check, Undo}
+use Rattle.jr_top.proofs.BatchAnswers.{batch_plain, exact as batch_answer, no_batch}
+use Rattle.jr_top.proofs.CheckAnswers.{check_plain, exact as check_answer, no_check}
+use Rattle.jr_top.proofs.PlainAnswers.{outcome as plain_outcome, unreadable as plain_unreadable, by_batch, by_check, by_undo}
+use Rattle.jr_top.proofs.UndoAnswers.{no_undo_asked, outcome as undo_outcome, unreadable as undo_unreadable, exact as undo_answer}
+use Rattle.jr_top.proofs.Exact.{bad_words, needs_no_files, not_served, unreadable, exact}
+use Rattle.jr_top.proofs.Outcomes.{outcome, complete}
+use Rattle.jr_top.specs.Answers.{IsFailure}
+use Rattle.jr_top.specs.Batches.{Hears}
+use Rattle.jr_top.specs.Checking.{Checks}
+use Rattle.jr_top.specs.declared.status.Status.TheVariants.{BadJournal}
+use Rattle.jr_top.proofs.top.refactor.Goals as goal
+
+pub returns-clause-answer : goal.returns-clause-answer
+returns-clause-answer g c never none other =
+    let S = g.S.Store in
+    outcome c.args.words.now (S.files c.args.store.now) (S.files c.perform.new.store) (S.may_leave c.args.store.now) (S.may_leave c.perform.new.store) (S.faults c.args.store.now) (S.faults c.perform.new.store)
+    (g.O.Sink.contents c.args.out.now) (g.O.Sink.contents c.perform.new.out) (g.O.Sink.faults c.args.out.now) (g.O.Sink.faults c.perform.new.out) c.perform.result (c.perform.ensures.answer never none other)
+
+pub returns-clause-batch : goal.returns-clause-batch
+returns-clause-batch g c asks =
+    let S = g.S.Store in
+    let I = g.I.Source in
+    plain_outcome c.args.words.now (batch_plain c.args.words.now asks) (S.files c.args.store.now) (S.files c.perform.new.store) (S.may_leave c.args.store.now) (S.may_leave c.perform.new.store) (S.faults c.args.store.now) (S.faults c.perform.new.store)
+    (Hears (I.left c.args.input.now) (I.faults c.args.input.now) (I.faults c.perform.new.input))
+    (g.O.Sink.contents c.args.out.now) (g.O.Sink.contents c.perform.new.out) (g.O.Sink.faults c.args.out.now) (g.O.Sink.faults c.perform.new.out) (λ never. never) c.perform.result (c.perform.ensures.batch asks)
+
+pub returns-clause-check : goal.returns-clause-check
+returns-clause-check g c asks =
+    let S = g.S.Store in
+    plain_outcome c.args.words.now (check_plain c.args.words.now asks) (S.files c.args.store.now) (S.files c.perform.new.store) (S.may_leave c.args.store.now) (S.may_leave c.perform.new.store) (S.faults c.args.store.now) (S.faults c.perform.new.store)
+    (Checks (S.files c.perform.new.store) (S.faults c.args.store.now) (S.faults c.perform.new.store))
+    (g.O.Sink.contents c.args.out.now) (g.O.Sink.contents c.perform.new.out) (g.O.Sink.faults c.args.out.now) (g.O.Sink.faults c.perform.new.out) (λ never. never) c.perform.result (c.perform.ensures.check asks)
+
+pub returns-clause-complete : goal.returns-clause-complete
+returns-clause-complete g c files found told restored file at name bytes asks holds serves =
+    let S = g.S.Store in
+    complete c.args.words.now (S.files c.args.store.now) (S.files c.perform.new.store) (S.may_leave c.args.store.now) (S.may_leave c.perform.new.store) (S.faults c.args.store.now) (S.faults c.perform.new.store)
+    (g.O.Sink.contents c.args.out.now) (g.O.Sink.contents c.perform.new.out) (g.O.Sink.faults c.args.out.now) (g.O.Sink.faults c.perform.new.out)
+    files found told restored file at name bytes asks holds serves c.perform.result (c.perform.ensures.answer (no_batch c.args.words.now file at name asks) (no_check c.args.words.now file at name asks) (no_undo_asked c.args.words.now file at name asks))
+
+pub returns-clause-read_back : goal.returns-clause-read_back
+returns-clause-read_back g c f r h told restored start is =
+    let S = g.S.Store in
+    let run = c.perform.ensures.any_moment f r told restored start in
+    run.each h (g.met.S.Store.counts_now c.perform.new.store (S.moment c.args.store.now) h run.later (g.met.S.Store.reads_now c.perform.new.store h is))
+
+pub returns-clause-exact : goal.returns-clause-exact
+returns-clause-exact g c files found told restored file at name bytes comes_to asks holds renames =
+    let S = g.S.Store in
+    exact c.args.words.now (S.files c.args.store.now) (S.files c.perform.new.store) (S.may_leave c.args.store.now) (S.may_leave c.perform.new.store) (S.faults c.args.store.now) (S.faults c.perform.new.store)
+    (g.O.Sink.contents c.args.out.now) (g.O.Sink.contents c.perform.new.out) (g.O.Sink.faults c.args.out.now) (g.O.Sink.faults c.perform.new.out)
+    files found told restored file at name bytes asks holds c.args.alloc comes_to renames c.perform.result (c.perform.ensures.answer (no_batch c.args.words.now file at name asks) (no_check c.args.words.now file at name asks) (no_undo_asked c.args.words.now file at name asks))
+
+pub returns-clause-not_served : goal.returns-clause-not_served
+returns-clause-not_served g c files found told restored some no_batch no_check never_undo none =
+    let S = g.S.Store in
+    not_served c.args.words.now (S.files c.args.store.now) (S.files c.perform.new.store) (S.may_leave c.args.store.now) (S.may_leave c.perform.new.store) (S.faults c.args.store.now) (S.faults c.perform.new.store)
+    (g.O.Sink.contents c.args.out.now) (g.O.Sink.contents c.perform.new.out) (g.O.Sink.faults c.args.out.now) (g.O.Sink.faults c.perform.new.out)
+    files found told restored none c.perform.result (c.perform.ensures.answer no_batch no_check never_undo) some
+
+pub returns-clause-needs_no_files : goal.returns-clause-needs_no_files
+returns-clause-needs_no_files g c some never =
+    let S = g.S.Store in
+    needs_no_files c.args.words.now (S.files c.args.store.now) (S.files c.perform.new.store) (S.may_leave c.args.store.now) (S.may_leave c.perform.new.store) (S.faults c.args.store.now) (S.faults c.perform.new.store)
+    (g.O.Sink.contents c.args.out.now) (g.O.Sink.contents c.perform.new.out) (g.O.Sink.faults c.args.out.now) (g.O.Sink.faults c.perform.new.out)
+    c.perform.result (c.perform.ensures.answer (λ batch. never (Batch, batch, tt)) (λ check. never (Check, check, tt)) (λ undo. never (Undo, undo, tt))) some never
+
+pub returns-clause-bad_words : goal.returns-clause-bad_words
+returns-clause-bad_words g c none =
+    let S = g.S.Store in
+    bad_words c.args.words.now (S.files c.args.store.now) (S.files c.perform.new.store) (S.may_leave c.args.store.now) (S.may_leave c.perform.new.store) (S.faults c.args.store.now) (S.faults c.perform.new.store)
+    (g.O.Sink.contents c.args.out.now) (g.O.Sink.contents c.perform.new.out) (g.O.Sink.faults c.args.out.now) (g.O.Sink.faults c.perform.new.out)
+    c.perform.result (c.perform.ensures.answer (λ batch. none-some Batch (sym none ∙ batch)) (λ check. none-some Check (sym none ∙ check)) (λ undo. none-some Undo (sym none ∙ undo))) none
+
+pub returns-clause-bad_journal : goal.returns-clause-bad_journal
+returns-clause-bad_journal g c files told none asks =
+    let S = g.S.Store in
+    let O = g.O.Sink in
+    let I = g.I.Source in
+    let words = c.args.words.now in
+    let before = c.args.store.now in
+    let after = c.perform.new.store in
+    let old = O.contents c.args.out.now in
+    let new = O.contents c.perform.new.out in
+    let fewer = O.faults c.args.out.now in
+    let more = O.faults c.perform.new.out in
+    by_batch words ((c.perform.result ≡ BadJournal) ⊎ IsFailure (S.faults before) (S.faults after) fewer more c.perform.result) asks
+    (λ batch. plain_unreadable words (batch_plain words batch) (S.files before) (S.files after) (S.may_leave before) (S.may_leave after) (S.faults before) (S.faults after)
+    (Hears (I.left c.args.input.now) (I.faults c.args.input.now) (I.faults c.perform.new.input)) old new fewer more files told none c.perform.result (c.perform.ensures.batch batch))
+    (λ no_batch. by_check words ((c.perform.result ≡ BadJournal) ⊎ IsFailure (S.faults before) (S.faults after) fewer more c.perform.result) asks
+    (λ check. plain_unreadable words (check_plain words check) (S.files before) (S.files after) (S.may_leave before) (S.may_leave after) (S.faults before) (S.faults after)
+    (Checks (S.files after) (S.faults before) (S.faults after)) old new fewer more files told none c.perform.result (c.perform.ensures.check check))
+    (λ no_check. by_undo words ((c.perform.result ≡ BadJournal) ⊎ IsFailure (S.faults before) (S.faults after) fewer more c.perform.result) asks
+    (λ undo. undo_unreadable words (S.files before) (S.files after) (S.may_leave before) (S.may_leave after) (S.faults before) (S.faults after) old new fewer more files told none c.perform.result (c.perform.ensures.undo undo))
+    (λ never_undo. unreadable words (S.files before) (S.files after) (S.may_leave before) (S.may_leave after) (S.faults before) (S.faults after) old new fewer more
+    c.perform.result (c.perform.ensures.answer no_batch no_check never_undo) files told none asks)))
+
+pub returns-clause-undo : goal.returns-clause-undo
+returns-clause-undo g c asks =
+    let S = g.S.Store in
+    undo_outcome c.args.words.now (S.files c.args.store.now) (S.files c.perform.new.store) (S.may_leave c.args.store.now) (S.may_leave c.perform.new.store) (S.faults c.args.store.now) (S.faults c.perform.new.store)
+    (g.O.Sink.contents c.args.out.now) (g.O.Sink.contents c.perform.new.out) (g.O.Sink.faults c.args.out.now) (g.O.Sink.faults c.perform.new.out) c.perform.result (c.perform.ensures.undo asks)
+
+pub returns-clause-undo_exact : goal.returns-clause-undo_exact
+returns-clause-undo_exact g c files found told restored asks =
+    let S = g.S.Store in
+    undo_answer c.args.words.now (S.files c.args.store.now) (S.files c.perform.new.store) (S.may_leave c.args.store.now) (S.may_leave c.perform.new.store) (S.faults c.args.store.now) (S.faults c.perform.new.store)
+    (g.O.Sink.contents c.args.out.now) (g.O.Sink.contents c.perform.new.out) (g.O.Sink.faults c.args.out.now) (g.O.Sink.faults c.perform.new.out)
+    files found told restored c.perform.result (c.perform.ensures.undo asks)
+
+pub returns-clause-batch_exact : goal.returns-clause-batch_exact
+returns-clause-batch_exact g c files found bytes answer told restored asks heard q =
+    let S = g.S.Store in
+    let I = g.I.Source in
+    batch_answer c.args.words.now (S.files c.args.store.now) (S.files c.perform.new.store) (S.may_leave c.args.store.now) (S.may_leave c.perform.new.store) (S.faults c.args.store.now) (S.faults c.perform.new.store)
+    (I.left c.args.input.now) (I.faults c.args.input.now) (I.faults c.perform.new.input)
+    (g.O.Sink.contents c.args.out.now) (g.O.Sink.contents c.perform.new.out) (g.O.Sink.faults c.args.out.now) (g.O.Sink.faults c.perform.new.out)
+    c.args.alloc files found told restored bytes answer heard q c.perform.result (c.perform.ensures.batch asks)
+
+pub returns-clause-check_exact : goal.returns-clause-check_exact
+returns-clause-check_exact g c files found told restored asks =
+    let S = g.S.Store in
+    check_answer c.args.words.now (S.files c.args.store.now) (S.files c.perform.new.store) (S.may_leave c.args.store.now) (S.may_leave c.perform.new.store) (S.faults c.args.store.now) (S.faults c.perform.new.store)
+    (g.O.Sink.contents c.args.out.now) (g.O.Sink.contents c.perform.new.out) (g.O.Sink.faults c.args.out.now) (g.O.Sink.faults c.perform.new.out)
+    files found told restored c.perform.result (c.perform.ensures.check asks)

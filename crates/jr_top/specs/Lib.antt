@@ -1,0 +1,14 @@
+pub mod Answers
+pub mod Batches
+pub mod Changing
+pub mod Checking
+pub mod Crash
+pub mod Decisions
+pub mod Exact
+pub mod Line
+pub mod Performing
+pub mod Plain
+pub mod Recovering
+pub mod Renaming
+pub mod Status
+pub mod Undoing

@@ -1,0 +1,195 @@
+// What is to be done, before anything is written.
+ghost use Rattle.std.specs.Prelude.{◌≡◌, ◌≢◌, ◌≤◌, ◌∷◌, [], ◌↔◌, IsTrue, IfOk, IfSome, length, option_map};
+ghost use Rattle.std.specs.FinMap as map;
+ghost use Rattle.jr_base.specs.Paths.{is_java};
+ghost use Rattle.jr_store.specs.Image.{Image, HasStoreCause, LeavesOnly};
+ghost use Rattle.jr_thin.specs.Renaming.{IsDone};
+ghost use Rattle.jr_top.specs.Changing.{IsPlanOf};
+ghost use Rattle.jr_top.specs.Renaming.{ForTold};
+ghost use Rattle.jr_top.specs.Decisions.{IsOnePath, IsShortPath, IsHeld, found_bytes, DecidesFound, DecidesRename, DecidesCommand};
+
+use crate::status::{Phase, Report, Status};
+use jr_base::{CuId, Files, OutOfMemory, Path, Place, Request, RuleId, Size, Text};
+use jr_commit::{Plan, journal_fits};
+use jr_request::Command;
+use jr_store::{Store, StoreError};
+use jr_thin::{Renaming, rename};
+use std::alloc::Global;
+
+/// What is to be done: an answer that leaves the files, or a change of them. The paths are those of the program's
+/// units from 2 on.
+#[derive(Drop)]
+pub enum Decision {
+    /// An answer whose line names no place.
+    Answer(Status),
+    /// An answer whose line names a place.
+    Refuse { status: Status, paths: Vec<Path> },
+    Change(Plan),
+}
+
+// The one file of a store, and its bytes.
+#[derive(Drop)]
+pub struct Found {
+    pub paths: Vec<Path>,
+    pub bytes: Vec<u8>,
+}
+
+fn is_just(paths: &[Path], file: &[u8]) -> bool
+    ensures { IsTrue result ↔ (paths.now ≡ file.now ∷ []) }
+{
+    match paths {
+        [path] => path.bytes() == file,
+        _ => false,
+    }
+}
+
+// What the file holds; None where it is not the only one, or is large.
+fn find<S: Store>(alloc: Global, file: &[u8], store: &mut S) -> Result<Option<Found>, StoreError>
+    ensures held { IfOk result (λ found. ForTold (S.files store.old) (λ files. IsHeld files file.now (option_map found_bytes found))) }
+    ensures paths { IfOk result (λ found. IfSome found (λ one. IsOnePath one.paths.items file.now)) }
+    ensures small { IfOk result (λ found. IfSome found (λ one. length one.bytes.items ≤ 65536)) }
+    ensures files { S.files store.new ≡ S.files store.old }
+    ensures crash { (c : Image) → S.may_leave store.new c → S.may_leave store.old c }
+    ensures any_moment { LeavesOnly S.moment S.left_since store.old store.new (S.may_leave store.old) }
+    ensures cause { HasStoreCause (S.faults store.old) (S.faults store.new) result }
+{
+    let paths = store.list(alloc, 2)?;
+    if !is_just(&paths, file) {
+        return Ok(None);
+    }
+    let Some(bytes) = store.read(alloc, &paths[0], 65537)? else {
+        return Ok(None);
+    };
+    if bytes.len() > 65536 {
+        return Ok(None);
+    }
+    Ok(Some(Found { paths, bytes }))
+}
+
+// The files of one path.
+fn one_file(alloc: Global, path: &Path, bytes: Vec<u8>) -> Result<Files, OutOfMemory>
+    ensures { IfOk result (λ files. files ≡ map.insert map.empty path.now bytes.items) }
+{
+    let mut files = Files::new(alloc);
+    files.insert(path.copy(alloc)?, bytes)?;
+    Ok(files)
+}
+
+// The plan that gives the one file its new bytes.
+fn plan_of(alloc: Global, path: &Path, old: Vec<u8>, new: Vec<u8>) -> Result<Plan, OutOfMemory>
+    requires java { IsTrue (is_java path.now) }
+    requires short { length path.now ≤ 1024 }
+    requires small_old { length old.items ≤ 16777216 }
+    requires small_new { length new.items ≤ 16777216 }
+    requires differ { new.items ≢ old.items }
+    ensures { IfOk result (λ plan. IsPlanOf path.now old.items new.items plan) }
+{
+    let before = one_file(alloc, path, old)?;
+    let after = one_file(alloc, path, new)?;
+    journal_fits(&before, &after);
+    let plan = Plan::new(alloc, &before, &after)?;
+    Ok(plan)
+}
+
+// What new bytes for the file that was found come to.
+fn decide_bytes(alloc: Global, found: Found, bytes: Vec<u8>, at: u32, name: &[u8]) -> Decision
+    requires path { IsShortPath found.paths.items }
+    requires small { length found.bytes.items ≤ 65536 }
+    requires done { IsDone found.bytes.items at name.now bytes.items }
+    ensures { DecidesFound found at name.now result }
+{
+    let _ = at;
+    let _ = name;
+    if bytes.as_slice() == found.bytes.as_slice() {
+        return Decision::Answer(Status::Done(Report::Changed(0)));
+    }
+    if bytes.len() > 1_048_576 {
+        return Decision::Answer(Status::TooLarge {
+            what: Size::File,
+            request: 0,
+        });
+    }
+    let Found { paths, bytes: old } = found;
+    match plan_of(alloc, &paths[0], old, bytes) {
+        Ok(plan) => Decision::Change(plan),
+        Err(_) => Decision::Answer(Status::OutOfMemory),
+    }
+}
+
+// What the rename of bytes that were found asks for.
+fn decide_found(alloc: Global, found: Found, at: u32, name: &[u8]) -> Decision
+    requires path { IsShortPath found.paths.items }
+    requires small { length found.bytes.items ≤ 65536 }
+    ensures { DecidesFound found at name.now result }
+{
+    match rename(alloc, &found.bytes, at, name) {
+        Ok(Renaming::NotServed) => Decision::Answer(Status::NotYet),
+        Ok(Renaming::NoSpelling { occ, at, lock }) => Decision::Refuse {
+            status: Status::NoSpelling {
+                request: 0,
+                occ,
+                place: Place { cu: CuId(2), at },
+                lock,
+            },
+            paths: found.paths,
+        },
+        Ok(Renaming::BrokenRule { at }) => Decision::Refuse {
+            status: Status::BrokenRule {
+                request: 0,
+                rule: RuleId(6),
+                place: Place { cu: CuId(2), at },
+            },
+            paths: found.paths,
+        },
+        Ok(Renaming::Renamed(bytes)) => decide_bytes(alloc, found, bytes, at, name),
+        Err(_) => Decision::Answer(Status::OutOfMemory),
+    }
+}
+
+fn decide_rename<S: Store>(
+    alloc: Global,
+    file: &Text,
+    at: u32,
+    name: &Text,
+    store: &mut S,
+) -> Decision
+    ensures files { S.files store.new ≡ S.files store.old }
+    ensures later { S.faults store.old ≤ S.faults store.new }
+    ensures crash { (c : Image) → S.may_leave store.new c → S.may_leave store.old c }
+    ensures any_moment { LeavesOnly S.moment S.left_since store.old store.new (S.may_leave store.old) }
+    ensures decision { DecidesRename file.now at name.now (S.files store.old) (S.faults store.old) (S.faults store.new) result }
+{
+    match find(alloc, file.bytes(), store) {
+        Ok(Some(found)) if file.bytes().len() <= 1024 => decide_found(
+            alloc,
+            found,
+            at,
+            name.bytes(),
+        ),
+        Ok(Some(_)) => Decision::Answer(Status::TooLarge {
+            what: Size::Path,
+            request: 0,
+        }),
+        Ok(None) => Decision::Answer(Status::NotYet),
+        Err(StoreError::Failed) => Decision::Answer(Status::StoreFault {
+            phase: Phase::Reading,
+        }),
+        Err(StoreError::OutOfMemory) => Decision::Answer(Status::OutOfMemory),
+    }
+}
+
+/// What a command asks for. Nothing is written; a store is only read for a rename.
+pub fn decide<S: Store>(alloc: Global, command: &Command, store: &mut S) -> Decision
+    ensures files { S.files store.new ≡ S.files store.old }
+    ensures later { S.faults store.old ≤ S.faults store.new }
+    ensures crash { (c : Image) → S.may_leave store.new c → S.may_leave store.old c }
+    ensures any_moment { LeavesOnly S.moment S.left_since store.old store.new (S.may_leave store.old) }
+    ensures decision { DecidesCommand command.now (S.files store.old) (S.faults store.old) (S.faults store.new) result }
+{
+    match command {
+        Command::One(Request::Rename { file, at, name }) => decide_rename(
+            alloc, file, *at, name, store,
+        ),
+        _ => Decision::Answer(Status::NotYet),
+    }
+}

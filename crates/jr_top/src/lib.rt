@@ -1,0 +1,15 @@
+//! The top call: from the words to the answer, over a store of files.
+#![tactic(auto)]
+
+mod check;
+mod decide;
+mod hear;
+mod lines;
+mod status;
+mod top;
+mod turns;
+mod undo;
+
+pub use status::{Edge, EdgeKind, NotCompiling, Phase, Report, Side, Status};
+pub use top::refactor;
+pub use turns::in_turn;

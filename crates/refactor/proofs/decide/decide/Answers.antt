@@ -1,7 +1,0 @@
-use Rattle.refactor.proofs.Carried.{read_never}
-use Rattle.refactor.proofs.decide.decide.Goals as goal
-
-pub returns-in_default-clause-any_moment : goal.returns-in_default-clause-any_moment
-returns-in_default-clause-any_moment g c =
-    let S = g.S.Store in
-    read_never S.may_leave S.moment S.left_since c.args.store.now (g.met.S.Store.only_now c.args.store.now)

@@ -1,0 +1,5 @@
+//! Tests of the top call on a store, an input and an output in memory.
+#![tactic(auto)]
+
+#[cfg(test)]
+mod tests;
