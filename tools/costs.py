@@ -3,6 +3,7 @@
 
     costs.py --measure CRATE..    measures these crates, or all with the word `all`, and stores the seconds in docs/costs.tsv
     costs.py --gate N MINUTES     stores the wall minutes that a whole `rt ci --anew` took on N processors
+    costs.py --build N MINUTES    stores the wall minutes that the first build of the program took on N processors
     costs.py --write              writes the tables of docs/COSTS.md from what is stored
 
 A measurement is one check from nothing at one job, in processor seconds, and where the crate has tests one of them likewise.
@@ -26,6 +27,8 @@ PAGE = os.path.join(TOP, 'docs', 'COSTS.md')
 PROGRAM = 'refactor'
 # How busy a gate keeps the processors: (number of them, share of the time).
 BUSY = ((4, 0.85), (2, 0.95))
+# How many processors the build of the program keeps busy, which proves one crate after the other.
+BUILDING = 2
 
 
 def crates_of():
@@ -66,7 +69,7 @@ def edits_of(crate, folder):
 
 
 def load():
-    stored = {'machine': '', 'rt': '', 'gates': {}, 'crates': {}}
+    stored = {'machine': '', 'rt': '', 'gates': {}, 'builds': {}, 'crates': {}}
     if not os.path.exists(STORED):
         return stored
     with open(STORED, encoding='utf-8') as file:
@@ -76,6 +79,8 @@ def load():
                 stored[words[0]] = words[1]
             elif words[0] == 'gate':
                 stored['gates'][int(words[1])] = float(words[2])
+            elif words[0] == 'build':
+                stored['builds'][int(words[1])] = float(words[2])
             elif words[0] == 'crate':
                 check, tests = (float(it) if it else None for it in words[2:4])
                 stored['crates'][words[1]] = check, tests, words[4]
@@ -88,6 +93,8 @@ def store(stored):
             file.write(f'{key}\t{stored[key]}\n')
         for number, minutes in sorted(stored['gates'].items()):
             file.write(f'gate\t{number}\t{minutes:g}\n')
+        for number, minutes in sorted(stored['builds'].items()):
+            file.write(f'build\t{number}\t{minutes:g}\n')
         for name, (check, tests, how) in stored['crates'].items():
             seconds = ['' if it is None else f'{it:.1f}' for it in (check, tests)]
             file.write('\t'.join(['crate', name, *seconds, how]) + '\n')
@@ -238,17 +245,23 @@ def gate_lines(stored, whole):
             yield f'- A whole gate from nothing takes some {minutes(whole / number / share)} minutes on {number} processors: an estimate from the sums, with the processors busy for {share:.0%} of the time.'
 
 
+def build_line(stored, whole):
+    if not stored['builds']:
+        return f'- The first build of the program takes some {minutes(whole)} processor minutes, {minutes(whole / BUILDING)} minutes where two or more are free.'
+    took = ' and '.join(f'{it:g} minutes on {number} processors' for number, it in sorted(stored['builds'].items(), reverse=True))
+    return f'- The first build of the program takes {minutes(whole)} processor minutes, and took {took}.'
+
+
 def page_of(stored, crates):
     rows = list(rows_of(crates, stored))
     sums = sums_of(rows, crates)
     whole = sums['check'] + sums['tests'] + sums['edits']
     lacking = [f'{it["name"]} ({" and ".join(it["lacks"])})' for it in rows if it['lacks']]
-    number, share = BUSY[0]
     yield f'Machine: {stored["machine"] or "not measured yet"}. `rt version`: {stored["rt"] or "not measured yet"}.'
     yield ''
     yield f'- Checks take {minutes(sums["check"])} processor minutes, tests {minutes(sums["tests"])}, and must-fail edits some {minutes(sums["edits"])}. The whole is {minutes(whole)}.'
     yield from gate_lines(stored, whole)
-    yield f'- The first build of the program takes {minutes(sums["build"])} processor minutes, some {minutes(sums["build"] / number / share)} minutes on {number} processors.'
+    yield build_line(stored, sums['build'])
     if any(it['is_rough'] and it['check'] is not None for it in rows):
         yield '- A figure with ~ was not measured by the script: it was read off an earlier gate, beside other work.'
     if lacking:
@@ -284,15 +297,17 @@ def main():
     parser.add_argument('--measure', nargs='+', metavar='CRATE')
     parser.add_argument('--loads', action='store_true')
     parser.add_argument('--gate', nargs=2, type=float, metavar=('N', 'MINUTES'))
+    parser.add_argument('--build', nargs=2, type=float, metavar=('N', 'MINUTES'))
     parser.add_argument('--write', action='store_true')
     given = parser.parse_args()
-    if not (given.measure or given.gate or given.write):
-        parser.error('give --measure, --gate or --write')
+    if not (given.measure or given.gate or given.build or given.write):
+        parser.error('give --measure, --gate, --build or --write')
     failed = measure(given.measure, given.loads) if given.measure else []
-    if given.gate:
-        stored = load()
-        stored['gates'][int(given.gate[0])] = given.gate[1]
-        store(stored)
+    for key, fact in (('gates', given.gate), ('builds', given.build)):
+        if fact:
+            stored = load()
+            stored[key][int(fact[0])] = fact[1]
+            store(stored)
     if given.write:
         write()
     if failed:
