@@ -8,8 +8,6 @@ mod plan;
 mod reading;
 mod recovery;
 mod sizes;
-#[cfg(test)]
-mod tests;
 mod undo;
 
 pub use actions::Step;

@@ -69,8 +69,7 @@ pub data IsSettled (p : Rows) (t u : Table) : ℕ → Type 0 where
 
 -- ---- the graph
 
--- in the order in which the names of the header of c meet types, n at the place k before m at the place j: by names as written; in a
--- name first what imports name, in their order, then its own, qualifiers first
+-- the name n in the header of c meets the type s at the place k
 pub record MeetsAt (p : Rows) (t u : Table) (c n k s : ℕ) : Type 0 where
   pub header : NamesHeader p c n
   pub level : Option ℕ
@@ -78,14 +77,14 @@ pub record MeetsAt (p : Rows) (t u : Table) (c n k s : ℕ) : Type 0 where
   pub type : IsType p s
   pub place : IsIdentifierOf p n k ⊎ ((m i : ℕ) × IsFirstOf p n m × IsLookedForIn p u m i × IsIdentifierOf p (i + 1) k)
 
--- identifiers of one name come by falling rows, all else by rising ones; imports stand before the types of their unit
+-- in the order in which one name of a header meets types, at the place k before the place j: first what imports name, in their order, then its own,
+-- qualifiers first; imports stand before the types of their unit
 pub data ComesBefore (p : Rows) : ℕ → ℕ → ℕ → ℕ → Type 0 where
-  by_name : {n m k j : ℕ} → n < m → ComesBefore p n k m j
   by_import : {n k j : ℕ} → end p k ≤ j → ComesBefore p n k n j
   within : {n k j : ℕ} → j < k → k < end p j → ComesBefore p n k n j
 
--- the header graph: c is joined to its enclosing type; where that is settled, or there is none, also to each type that its header meets
--- up to and including the first that is not settled
+-- the header graph: c is joined to its enclosing type; where that is settled, or there is none, also to each type that a name of its header meets
+-- up to and including the first of that name that is not settled
 pub data HeaderEdge (p : Rows) (t u : Table) (c : ℕ) : ℕ → Type 0 where
   outwards : {e : ℕ} → DeclaredIn p e c → HeaderEdge p t u c e
   header : {n k s : ℕ} → ((e : ℕ) → DeclaredIn p e c → IsSettled p t u e) → MeetsAt p t u c n k s

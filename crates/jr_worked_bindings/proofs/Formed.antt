@@ -73,7 +73,7 @@ three_are_formed a b of_a of_b passes = formed (rows_of_three trees.lang a b) lo
     local : IsLocal (rows_of_three trees.lang a b)
     local = subst IsLocal rows_are (each_program_is_local (tree_unit trees.lang ∷ tree_unit a ∷ tree_unit b ∷ []) (lang_shaped, (shaped a of_a, (shaped b of_b, tt))))
 
--- ---- the four programs: their rows are those of the trees, by computing
+-- ---- the five programs: their rows are those of the trees, by computing
 
 pub two_classes_extend_each_other : IsFormed cycles.two_classes_extend_each_other
 two_classes_extend_each_other = two_are_formed trees.two_classes_extend_each_other (tt, tt, ((refl, tt, tt), ((refl, tt, tt), tt))) refl
@@ -86,3 +86,6 @@ a_class_extends_its_member = two_are_formed trees.a_class_extends_its_member (tt
 
 pub a_cycle_through_a_qualifier : IsFormed cycles.a_cycle_through_a_qualifier
 a_cycle_through_a_qualifier = two_are_formed trees.a_cycle_through_a_qualifier (tt, tt, ((refl, tt, tt), ((refl, tt, ((tt, tt, tt), tt)), tt))) refl
+
+pub a_cycle_through_a_later_name : IsFormed cycles.a_cycle_through_a_later_name
+a_cycle_through_a_later_name = two_are_formed trees.a_cycle_through_a_later_name (tt, tt, ((refl, (refl, tt), tt), ((refl, tt, tt), (((refl, tt), tt), tt)))) refl

@@ -48,3 +48,10 @@ a_class_extends_its_member = d.UnitOf None [] (d.Class [] (codes "A") (Some (nam
 abbrev pub a_cycle_through_a_qualifier : d.CompilationUnit
 a_cycle_through_a_qualifier = d.UnitOf None []
     (class (codes "B" ∷ codes "C" ∷ []) (codes "A") ∷ d.Class [] (codes "B") (Some (named (codes "A" ∷ []))) [] (nested (codes "C")) ∷ [])
+
+-- 67
+-- class A extends X implements Y { } class X extends X { } interface Y extends A.I { }
+abbrev pub a_cycle_through_a_later_name : d.CompilationUnit
+a_cycle_through_a_later_name = d.UnitOf None []
+    (d.Class [] (codes "A") (Some (named (codes "X" ∷ []))) (named (codes "Y" ∷ []) ∷ []) d.no_members ∷ class (codes "X" ∷ []) (codes "X") ∷
+    d.Interface [] (codes "Y") (named (codes "A" ∷ codes "I" ∷ []) ∷ []) d.no_members ∷ [])

@@ -64,3 +64,18 @@ a_cycle_through_a_qualifier =
     r 16 18 16 (is.Name kind.Type place.Superclass false) (codes "A") ∷ r 16 25 17 is.Body [] ∷ r 18 21 18 is.DefaultConstructor [] ∷
     r 19 21 19 is.ImplicitCall [] ∷ r 18 25 19 (is.Class (modifiers_of (modifier.Static ∷ [])) true) (codes "C") ∷ r 21 25 21 is.Body [] ∷
     r 22 25 22 is.DefaultConstructor [] ∷ r 23 25 23 is.ImplicitCall [] ∷ []
+
+-- 67
+-- A.java: class A extends X implements Y { } class X extends X { } interface Y extends A.I { }
+abbrev pub a_cycle_through_a_later_name : Rows
+a_cycle_through_a_later_name =
+    r 0 25 0 is.Program [] ∷ r 0 9 0 is.Unit [] ∷ r 1 5 1 is.Package [] ∷ r 2 5 2 (is.Name kind.Package place.Other true) (codes "lang") ∷
+    r 3 5 3 (is.Name kind.Package place.Qualifier false) (codes "java") ∷
+    r 1 9 2 (is.Class (modifiers_of (modifier.Public ∷ [])) false) (codes "Object") ∷ r 5 9 5 is.Body [] ∷ r 6 9 6 is.DefaultConstructor [] ∷
+    r 7 9 7 is.ImplicitCall [] ∷ r 0 25 1 is.Unit [] ∷ r 9 16 9 (is.Class bare false) (codes "A") ∷
+    r 10 12 10 (is.Name kind.Type place.Superclass false) (codes "X") ∷ r 10 13 11 (is.Name kind.Type place.Superinterface false) (codes "Y") ∷
+    r 10 16 12 is.Body [] ∷ r 13 16 13 is.DefaultConstructor [] ∷ r 14 16 14 is.ImplicitCall [] ∷ r 9 21 10 (is.Class bare false) (codes "X") ∷
+    r 16 18 16 (is.Name kind.Type place.Superclass false) (codes "X") ∷ r 16 21 17 is.Body [] ∷ r 18 21 18 is.DefaultConstructor [] ∷
+    r 19 21 19 is.ImplicitCall [] ∷ r 9 25 16 (is.Interface bare false) (codes "Y") ∷
+    r 21 24 21 (is.Name kind.Type place.Superinterface true) (codes "I") ∷ r 22 24 22 (is.Name kind.PackageOrType place.Qualifier false) (codes "A") ∷
+    r 21 25 22 is.Body [] ∷ []

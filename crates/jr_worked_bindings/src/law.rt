@@ -114,4 +114,7 @@ pub fn cyclic_programs()
     ensures a_cycle_through_a_qualifier { cycle_of cycles.a_cycle_through_a_qualifier ≡ Some 10 }
     ensures a_cycle_through_a_qualifier_first { IsFirstOnCycle cycles.a_cycle_through_a_qualifier 10 }
     ensures a_cycle_through_a_qualifier_has_no_binding { (t : Table) → IsBinding cycles.a_cycle_through_a_qualifier t → ⊥ }
+    ensures a_cycle_through_a_later_name { cycle_of cycles.a_cycle_through_a_later_name ≡ Some 10 }
+    ensures a_cycle_through_a_later_name_first { IsFirstOnCycle cycles.a_cycle_through_a_later_name 10 }
+    ensures a_cycle_through_a_later_name_has_no_binding { (t : Table) → IsBinding cycles.a_cycle_through_a_later_name t → ⊥ }
 {}

@@ -19,4 +19,7 @@ returns c = record {
   a_cycle_through_a_qualifier = refl;
   a_cycle_through_a_qualifier_first = cycle_of_is cycles.a_cycle_through_a_qualifier formed.a_cycle_through_a_qualifier 10 refl;
   a_cycle_through_a_qualifier_has_no_binding = λ t. no_binding cycles.a_cycle_through_a_qualifier t 10 formed.a_cycle_through_a_qualifier refl;
+  a_cycle_through_a_later_name = refl;
+  a_cycle_through_a_later_name_first = cycle_of_is cycles.a_cycle_through_a_later_name formed.a_cycle_through_a_later_name 10 refl;
+  a_cycle_through_a_later_name_has_no_binding = λ t. no_binding cycles.a_cycle_through_a_later_name t 10 formed.a_cycle_through_a_later_name refl;
 }
