@@ -11,12 +11,12 @@ use Rattle.jr_store.specs.Image.{Image, Reads}
 use Rattle.jr_store.specs.Sides.{put_side, IsNoneOf}
 use Rattle.jr_commit.specs.Differences.{Pair, same_side, entry_of, changes}
 use Rattle.jr_commit.specs.Entries.{Known, PlainEntry, names_of}
-use Rattle.jr_commit.specs.Journal.{spelling, side_text, string, entry_text, entries_text, old_sides, new_sides, IsShaped, IsChange, IsIn, IsRising, PutsBack}
+use Rattle.jr_commit.specs.Journal.{spelling, side_text, string, entry_text, entries_text, old_sides, new_sides, IsShaped, IsChange, IsIn, IsJournal, IsRising, PutsBack}
 use Rattle.jr_commit.specs.Planned.{Planned, IsPlan, HasEntries}
 use Rattle.jr_commit.specs.Restoring.{journal_path, gate_path}
 use Rattle.jr_commit.specs.SidesAt.{SideAt, with_sides, paths_of, IsOff}
-use Rattle.jr_commit.specs.Undoing.{HoldsNew, exchanged, TakesBack, bytes_of, pair_back, pairs_back}
-use Rattle.jr_commit.specs.declared.entry.Version.TheVariants.{Two}
+use Rattle.jr_commit.specs.Undoing.{KeepsBoth, HoldsNew, exchanged, TakesBack, bytes_of, pair_back, pairs_back}
+use Rattle.jr_commit.specs.declared.entry.Version.TheVariants.{One, Two}
 use Rattle.jr_commit.proofs.Exact.{one_journal, entries_fit}
 use Rattle.jr_commit.proofs.Found.{whole_file}
 use Rattle.jr_commit.proofs.Lengths.{spelling_size}
@@ -206,13 +206,52 @@ module _ (told : Option Image) (path : List ℕ) (f : Image) (is : told ≡ Some
   pub held_none : (most : ℕ) (bytes : List ℕ) → Reads told path most None → IsTrue false ↔ (Some (Some bytes) ≡ Some (f path))
   held_none most bytes reads = (λ no. absurd (false≢true no), λ at. absurd (none-some (take most bytes) (seen most None reads ∙ ap (option_map (take most)) (sym (same_Some (Some bytes) (f path) at)))))
 
-  pub held_some : (most : ℕ) (bytes found : List ℕ) (yes : Bool) → length bytes < most → yes ≡ bytes_eq found bytes → Reads told path most (Some found) → IsTrue yes ↔ (Some (Some bytes) ≡ Some (f path))
-  held_some most bytes found yes short says reads = (
+  pub held_some : (most : ℕ) (bytes found : List ℕ) (says : Bool) → length bytes < most → says ≡ bytes_eq found bytes → Reads told path most (Some found) → IsTrue says ↔ (Some (Some bytes) ≡ Some (f path))
+  held_some most bytes found says short is_so reads = (
     λ t.
-        let same : found ≡ bytes = (bytes_eq-Decides found bytes).0 (sym says ∙ t) in
+        let same : found ≡ bytes = (bytes_eq-Decides found bytes).0 (sym is_so ∙ t) in
         ap Some (sym (whole_file f path bytes most (f path) refl short (ap Some (sym same) ∙ seen most (Some found) reads))),
     λ at.
         let there : f path ≡ Some bytes = sym (same_Some (Some bytes) (f path) at) in
         let took : found ≡ take most bytes = same_Some found (take most bytes) (seen most (Some found) reads ∙ ap (option_map (take most)) there) in
-        says ∙ (bytes_eq-Decides found bytes).1 (took ∙ take_all most bytes (omega (arith, short))),
+        is_so ∙ (bytes_eq-Decides found bytes).1 (took ∙ take_all most bytes (omega (arith, short))),
   )
+
+  -- a file that a read does not find is not there
+  pub not_there : (most : ℕ) → path ≡ journal_path → Reads told path most None → f journal_path ≡ None
+  not_there most at reads = ap f (sym at) ∙ none_there most (f path) refl (seen most None reads)
+
+  -- a journal that was read stands there
+  whole_there : (most : ℕ) (bytes : List ℕ) → length bytes < most → path ≡ journal_path → Reads told path most (Some bytes) → f journal_path ≡ Some bytes
+  whole_there most bytes short at reads = ap f (sym at) ∙ whole_file f path bytes most (f path) refl short (seen most (Some bytes) reads)
+
+  pub keeps_both : (most : ℕ) (bytes : List ℕ) (es : List PlainEntry) → 50331648 < most → path ≡ journal_path → Reads told path most (Some bytes) → IsIn Two bytes es → KeepsBoth f es
+  keeps_both most bytes es room at reads is_in = (bytes, whole_there most bytes (omega (arith, room, is_in.short)) at reads, is_in)
+
+  -- one that was read in part is too long for a journal
+  pub one_sided : (most : ℕ) (bytes : List ℕ) → 50331648 < most → path ≡ journal_path → Reads told path most (Some bytes) → ((es : List PlainEntry) → IsIn Two bytes es → ⊥)
+      → IsSome (f journal_path) × ((es : List PlainEntry) → KeepsBoth f es → ⊥)
+  one_sided most bytes room at reads none = (
+    subst IsSome (ap f at) (some_there (f path) refl (seen most (Some bytes) reads)),
+    λ es kept.
+        let there : f path ≡ Some kept.0 = ap f at ∙ kept.1 in
+        let took : bytes ≡ take most kept.0 = same_Some bytes (take most kept.0) (seen most (Some bytes) reads ∙ ap (option_map (take most)) there) in
+        let whole : bytes ≡ kept.0 = took ∙ take_all most kept.0 (omega (arith, room, kept.2.short)) in
+        none es (subst (λ (b : List ℕ). IsIn Two b es) (sym whole) kept.2),
+  )
+    where
+      some_there : (o : Option (List ℕ)) → f path ≡ o → Some bytes ≡ option_map (take most) o → IsSome (f path)
+      some_there None at_none read = absurd (none-some bytes (sym read))
+      some_there (Some all) at_some read = subst IsSome (sym at_some) refl
+
+-- ---- the version
+
+pub two_of : (n : ℕ) (bytes : List ℕ) (es : List PlainEntry) → IsJournal n bytes es → n ≡ 2 → IsIn Two bytes es
+two_of n bytes es (One, number_is, is) two = absurd (omega (arith, number_is, two))
+two_of n bytes es (Two, number_is, is) two = is
+
+pub not_two : (n : ℕ) (bytes : List ℕ) (read : List PlainEntry) → ((m : ℕ) (es : List PlainEntry) → IsJournal m bytes es → (m ≡ n) × (es ≡ read)) → (n ≡ 2 → ⊥) → (es : List PlainEntry) → IsIn Two bytes es → ⊥
+not_two n bytes read only other es is = other (sym (only 2 es (Two, refl, is)).0)
+
+pub none_two : (bytes : List ℕ) → ((n : ℕ) (es : List PlainEntry) → IsJournal n bytes es → ⊥) → (es : List PlainEntry) → IsIn Two bytes es → ⊥
+none_two bytes none es is = none 2 es (Two, refl, is)

@@ -37,6 +37,24 @@ pub enum UndoFault {
     Edited(Path),
 }
 
+// The entries, or None where the bytes are no journal of version 2.
+#[tactic(auto, using(crate::proofs::Undoing::two_of, crate::proofs::Undoing::not_two, crate::proofs::Undoing::none_two))]
+fn both_sides(alloc: Global, bytes: &[u8]) -> Result<Option<Vec<Entry>>, OutOfMemory>
+    ensures found { IfOk result (λ o. IfSome o (λ v. IsIn Two bytes.now (plain v.items))) }
+    ensures none { IfOk result (λ o. IfNone o ((es : List PlainEntry) → IsIn Two bytes.now es → ⊥)) }
+{
+    match read_journal(alloc, bytes)? {
+        Some(journal) => {
+            if journal.version == 2 {
+                Ok(Some(journal.entries))
+            } else {
+                Ok(None)
+            }
+        }
+        None => Ok(None),
+    }
+}
+
 // The entries of the journal that keeps both sides.
 fn read_last<S: Store>(alloc: Global, store: &mut S) -> Result<Vec<Entry>, UndoFault>
     ensures kept { IfOk result (λ v. (bytes : List ℕ) × IsIn Two bytes (plain v.items)) }
@@ -57,9 +75,9 @@ fn read_last<S: Store>(alloc: Global, store: &mut S) -> Result<Vec<Entry>, UndoF
         Err(StoreError::Failed) => return Err(UndoFault::Failed),
         Err(StoreError::OutOfMemory) => return Err(UndoFault::OutOfMemory),
     };
-    match read_journal(alloc, &bytes) {
-        Ok(Some(journal)) if journal.version == 2 => Ok(journal.entries),
-        Ok(_) => Err(UndoFault::OneSided),
+    match both_sides(alloc, &bytes) {
+        Ok(Some(entries)) => Ok(entries),
+        Ok(None) => Err(UndoFault::OneSided),
         Err(_) => Err(UndoFault::OutOfMemory),
     }
 }

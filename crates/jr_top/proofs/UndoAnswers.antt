@@ -161,9 +161,9 @@ module _ (words : List (List ℕ)) (asks : AsksUndo words) (told left : Option I
   refused_so : left ≡ told → ((c : Image) → outcomes c → kept c) → (reason : UndoFault) → (reason ≡ fault.Failed → Rose before after) → ((f : Image) → told ≡ Some f → IsUndoFault f reason) → SaidFound (no_undo reason)
   refused_so same fewer fault.Failed rose because = ((same, rose refl), λ f r told_is is c l. inl (stays same fewer f r told_is is c l))
   refused_so same fewer fault.OutOfMemory rose because = (same, stays same fewer)
-  refused_so same fewer fault.NoJournal rose because = ((same, for_told told _ (λ f is. inl (refl, because f is))), stays same fewer)
-  refused_so same fewer fault.OneSided rose because = ((same, for_told told _ (λ f is. inr (refl, because f is))), stays same fewer)
-  refused_so same fewer (fault.Edited path) rose because = ((same, for_told told _ (λ f is. (refl, because f is))), stays same fewer)
+  refused_so same fewer fault.NoJournal rose because = ((same, for_told told (λ files. IsNotUndoable files 1 None) (λ f is. inl (refl, because f is))), stays same fewer)
+  refused_so same fewer fault.OneSided rose because = ((same, for_told told (λ files. IsNotUndoable files 2 None) (λ f is. inr (refl, because f is))), stays same fewer)
+  refused_so same fewer (fault.Edited path) rose because = ((same, for_told told (λ files. IsNotUndoable files 3 (Some path)) (λ f is. (refl, because f is))), stays same fewer)
 
   pub reports_refused : left ≡ told → ((c : Image) → outcomes c → kept c) → (reason : UndoFault) → (reason ≡ fault.Failed → Rose before after) → ((f : Image) → told ≡ Some f → IsUndoFault f reason)
       → (status result : Status) (old new : Option (List ℕ)) (fewer more : ℕ) → status ≡ no_undo reason → IsReported status [] result old new fewer more → Reported words SaidFound result old new fewer more
