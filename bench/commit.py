@@ -3,7 +3,7 @@
 
     bench/commit.py [--trial PATH] [--turns N]
 
-For each number of files the program `jr_commit_trial` changes files of about 1 KB. Printed are the least time of some turns, the
+For each number of files the program `test_commit_run` changes files of about 1 KB. Printed are the least time of some turns, the
 time a file, and, where `strace` is there, how many times the system was asked to put bytes on the disk (fsync): two for the
 journal and the gate each, one for each file, and a few for folders. `commit` calls the store's `sync` four times whatever the
 number of files (journal, gate, steps, gate); the store of a folder has then put each write on the disk already.
@@ -23,7 +23,7 @@ OLD, NEW = 'class A { int a; }' * 55, 'class A { int b; }' * 55
 
 def main():
     parser = argparse.ArgumentParser()
-    parser.add_argument('--trial', default=os.path.join(HERE, '..', 'crates', 'jr_commit_trial', 'out', 'jr_commit_trial'))
+    parser.add_argument('--trial', default=os.path.join(HERE, '..', 'crates', 'test_commit_run', 'out', 'test_commit_run'))
     parser.add_argument('--turns', type=int, default=3)
     given = parser.parse_args()
     for count in (1, 100, 4000):

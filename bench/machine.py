@@ -29,7 +29,7 @@ def seconds(binary, text):
 
 def main():
     parser = argparse.ArgumentParser()
-    parser.add_argument('--bin', default=os.path.join(HERE, '..', 'crates', 'jr_machine_trial', 'out', 'jr_machine_trial'))
+    parser.add_argument('--bin', default=os.path.join(HERE, '..', 'crates', 'test_machine', 'out', 'test_machine'))
     parser.add_argument('--steps', type=int, default=10_000_000)
     given = parser.parse_args()
     files = sorted(os.path.join(PROGRAMS, file) for file in os.listdir(PROGRAMS))

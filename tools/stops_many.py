@@ -3,7 +3,7 @@
 
     tools/stops_many.py [--trial PATH] [--bin PATH] [--files N] [--stops N] [--seed N]
 
-Each turn makes a folder with N Java files, and lets the program `jr_commit_trial` change each of them. It is stopped in one of
+Each turn makes a folder with N Java files, and lets the program `test_commit_run` change each of them. It is stopped in one of
 three ways: by SIGKILL after a random time; by SIGKILL at the K-th call of the system that changes the folder, a write then being
 cut in half; or the K-th such call fails (an error of the disk), which ends the program by itself. The last two need a C compiler,
 and are left out without one. Then `refactor DIR check` recovers. The files must then all be old or all be new, and no gate may
@@ -97,7 +97,7 @@ def run(words, shim=None, at=0, how=''):
 
 def main():
     parser = argparse.ArgumentParser()
-    parser.add_argument('--trial', default=os.path.join(HERE, '..', 'crates', 'jr_commit_trial', 'out', 'jr_commit_trial'))
+    parser.add_argument('--trial', default=os.path.join(HERE, '..', 'crates', 'test_commit_run', 'out', 'test_commit_run'))
     parser.add_argument('--bin', default=os.path.join(HERE, '..', 'crates', 'refactor', 'out', 'refactor'))
     parser.add_argument('--files', type=int, default=200)
     parser.add_argument('--stops', type=int, default=200)

@@ -1,4 +1,4 @@
-"""Folders of Java files for the program `jr_commit_trial`."""
+"""Folders of Java files for the program `test_commit_run`."""
 import os
 import tempfile
 

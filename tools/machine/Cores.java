@@ -22,7 +22,7 @@ import java.util.Set;
 import javax.tools.JavaCompiler;
 import javax.tools.ToolProvider;
 
-/** Prints the cores of Java classes, as `jr_machine_trial` reads them. Names and types come from `javac`'s own attribution. */
+/** Prints the cores of Java classes, as `test_machine` reads them. Names and types come from `javac`'s own attribution. */
 class Cores {
     private final Symtab symbols;
     private final Types types;

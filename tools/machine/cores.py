@@ -1,5 +1,5 @@
 #!/usr/bin/env python3
-"""Writes what `jr_machine_trial` runs on and what it must print: the cases as one core, and what `java` prints of them.
+"""Writes what `test_machine` runs on and what it must print: the cases as one core, and what `java` prints of them.
 
     tools/machine/cores.py [--check]
 
@@ -15,7 +15,7 @@ import tempfile
 
 from outputs import CASES, HERE, names
 
-TRIAL = os.path.join(HERE, '..', '..', 'crates', 'jr_machine_trial')
+TRIAL = os.path.join(HERE, '..', '..', 'crates', 'test_machine')
 
 STEPS = 1_000_000
 

@@ -12,8 +12,6 @@ mod memory;
 mod number;
 mod path;
 mod request;
-#[cfg(test)]
-mod tests;
 mod text;
 mod token;
 mod units;

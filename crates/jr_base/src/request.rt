@@ -53,33 +53,51 @@ pub enum Request {
     },
 }
 
+// Equal texts of their own.
+fn copies(alloc: Global, first: &Text, second: &Text) -> Result<(Text, Text), OutOfMemory>
+    ensures { IfOk result (λ pair. pair ≡ (first.now, second.now)) }
+{
+    let first = first.copy(alloc)?;
+    let second = second.copy(alloc)?;
+    Ok((first, second))
+}
+
 impl Request {
     /// An equal request of its own.
     pub fn copy(&self, alloc: Global) -> Result<Request, OutOfMemory>
         ensures { IfOk result (λ copy. copy ≡ self.now) }
     {
         match self {
-            Request::Rename { file, at, name } => Ok(Request::Rename {
-                file: file.copy(alloc)?,
-                at: *at,
-                name: name.copy(alloc)?,
-            }),
-            Request::Move { file, at, package } => Ok(Request::Move {
-                file: file.copy(alloc)?,
-                at: *at,
-                package: package.copy(alloc)?,
-            }),
+            Request::Rename { file, at, name } => {
+                let (file, name) = copies(alloc, file, name)?;
+                Ok(Request::Rename {
+                    file,
+                    at: *at,
+                    name,
+                })
+            }
+            Request::Move { file, at, package } => {
+                let (file, package) = copies(alloc, file, package)?;
+                Ok(Request::Move {
+                    file,
+                    at: *at,
+                    package,
+                })
+            }
             Request::Extract {
                 file,
                 start,
                 end,
                 name,
-            } => Ok(Request::Extract {
-                file: file.copy(alloc)?,
-                start: *start,
-                end: *end,
-                name: name.copy(alloc)?,
-            }),
+            } => {
+                let (file, name) = copies(alloc, file, name)?;
+                Ok(Request::Extract {
+                    file,
+                    start: *start,
+                    end: *end,
+                    name,
+                })
+            }
             Request::Inline { file, at } => Ok(Request::Inline {
                 file: file.copy(alloc)?,
                 at: *at,
@@ -92,10 +110,10 @@ impl Request {
                 file: file.copy(alloc)?,
                 at: *at,
             }),
-            Request::Repackage { old, new } => Ok(Request::Repackage {
-                old: old.copy(alloc)?,
-                new: new.copy(alloc)?,
-            }),
+            Request::Repackage { old, new } => {
+                let (old, new) = copies(alloc, old, new)?;
+                Ok(Request::Repackage { old, new })
+            }
             Request::Lift { file, at } => Ok(Request::Lift {
                 file: file.copy(alloc)?,
                 at: *at,

@@ -1,24 +1,19 @@
 // Why an input is no batch.
 use jr_base::{OutOfMemory, Size, Text};
 use std::alloc::AllocError;
-use thiserror::Error;
 
 /// Why the requests of an input are refused.
-#[derive(Debug, Drop, Error)]
+#[derive(Debug, Drop)]
 pub enum BatchFault {
     /// The input counted a fault.
-    #[error("SourceFault")]
     SourceFault,
     /// The size `Input` or `Requests` is past its limit.
-    #[error("TooLarge")]
     TooLarge(Size),
     /// The input is no array of requests in JSON (RFC 8259). Where it is not JSON, `element` is 0 and there is no
     /// field. Else `element` is the number of the first element that is no request, counted from 1, or 0 where the
     /// value is no array, and `field` is the one to blame.
-    #[error("Refused")]
     Refused { element: u32, field: Option<Text> },
     /// Memory was refused.
-    #[error("OutOfMemory")]
     OutOfMemory,
 }
 

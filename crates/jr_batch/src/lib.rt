@@ -4,8 +4,6 @@
 mod fault;
 mod input;
 mod requests;
-#[cfg(test)]
-mod tests;
 
 pub use fault::BatchFault;
 pub use requests::read_requests;

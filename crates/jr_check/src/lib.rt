@@ -9,7 +9,5 @@ mod fields;
 mod member;
 mod methods;
 mod small;
-#[cfg(test)]
-mod tests;
 
 pub use small::is_small_program;

@@ -8,8 +8,6 @@ mod plan;
 mod reading;
 mod recovery;
 mod sizes;
-#[cfg(test)]
-mod tests;
 
 pub use actions::Step;
 pub use entry::{Entry, Journal, Side};

@@ -5,8 +5,6 @@ mod law;
 mod program;
 mod referent;
 mod table;
-#[cfg(test)]
-mod tests;
 
 pub use law::{
     a_call_finds_one_method, at_most_one_binding, bindings_agree, lookup_carries, lookup_is_unique,

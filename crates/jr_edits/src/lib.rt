@@ -4,8 +4,6 @@
 mod edit;
 mod edits;
 mod fault;
-#[cfg(test)]
-mod tests;
 
 pub use edits::{Edits, apply};
 pub use fault::EditFault;

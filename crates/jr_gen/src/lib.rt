@@ -3,8 +3,6 @@
 
 mod changes;
 mod classes;
-#[cfg(test)]
-mod tests;
 
 pub use changes::requests;
 pub use classes::workspace;

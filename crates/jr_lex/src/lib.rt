@@ -10,8 +10,6 @@ mod lexer;
 mod literals;
 mod numerals;
 mod symbols;
-#[cfg(test)]
-mod tests;
 
 pub use fault::LexFault;
 pub use lexer::lex;

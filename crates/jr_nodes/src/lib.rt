@@ -12,8 +12,6 @@ mod law;
 mod node_ref;
 mod search;
 mod stmt;
-#[cfg(test)]
-mod tests;
 mod words;
 
 use crate::decl::in_unit;

@@ -34,6 +34,33 @@ pub struct Receiving {
     ghost exact: { height ≡ any_receiver_depth (plain_any_receiver receiver) },
 }
 
+/// Two values on the heap. As `T` is not known here, nothing of it is written out where it is dropped.
+fn two_boxed<T: Drop>(
+    alloc: Global,
+    first: T,
+    second: T,
+) -> Result<(Boxed<T>, Boxed<T>), AllocError>
+    ensures { IfOk result (λ both. (both.0 ≡ first) × (both.1 ≡ second)) }
+{
+    let first = Boxed::new(alloc, first)?;
+    let second = Boxed::new(alloc, second)?;
+    Ok((first, second))
+}
+
+/// Three values on the heap.
+fn three_boxed<T: Drop>(
+    alloc: Global,
+    first: T,
+    second: T,
+    third: T,
+) -> Result<(Boxed<T>, Boxed<T>, Boxed<T>), AllocError>
+    ensures { IfOk result (λ all. (all.0 ≡ first) × (all.1 ≡ second) × (all.2 ≡ third)) }
+{
+    let first = Boxed::new(alloc, first)?;
+    let (second, third) = two_boxed(alloc, second, third)?;
+    Ok((first, second, third))
+}
+
 impl Measured {
     /// `target op value`
     pub fn assign(
@@ -47,13 +74,11 @@ impl Measured {
         ensures tree { IfOk result (λ m. plain_expr m.expr ≡ x.Assign (plain_expr target.expr) op (plain_expr value.expr)) }
         ensures height { IfOk result (λ m. m.height ≡ suc (max target.height value.height)) }
     {
+        let height = target.height.max(value.height) + 1;
+        let (target, value) = two_boxed(alloc, target.expr, value.expr)?;
         Ok(Measured {
-            expr: Expr::Assign {
-                target: Boxed::new(alloc, target.expr)?,
-                op,
-                value: Boxed::new(alloc, value.expr)?,
-            },
-            height: target.height.max(value.height) + 1,
+            expr: Expr::Assign { target, op, value },
+            height,
         })
     }
 
@@ -70,13 +95,11 @@ impl Measured {
         ensures tree { IfOk result (λ m. plain_expr m.expr ≡ x.Cond (plain_expr cond.expr) (plain_expr yes.expr) (plain_expr no.expr)) }
         ensures height { IfOk result (λ m. m.height ≡ suc (max cond.height (max yes.height no.height))) }
     {
+        let height = cond.height.max(yes.height.max(no.height)) + 1;
+        let (cond, yes, no) = three_boxed(alloc, cond.expr, yes.expr, no.expr)?;
         Ok(Measured {
-            expr: Expr::Cond {
-                cond: Boxed::new(alloc, cond.expr)?,
-                yes: Boxed::new(alloc, yes.expr)?,
-                no: Boxed::new(alloc, no.expr)?,
-            },
-            height: cond.height.max(yes.height.max(no.height)) + 1,
+            expr: Expr::Cond { cond, yes, no },
+            height,
         })
     }
 
@@ -92,13 +115,11 @@ impl Measured {
         ensures tree { IfOk result (λ m. plain_expr m.expr ≡ x.Binary (plain_expr left.expr) op (plain_expr right.expr)) }
         ensures height { IfOk result (λ m. m.height ≡ suc (max left.height right.height)) }
     {
+        let height = left.height.max(right.height) + 1;
+        let (left, right) = two_boxed(alloc, left.expr, right.expr)?;
         Ok(Measured {
-            expr: Expr::Binary {
-                left: Boxed::new(alloc, left.expr)?,
-                op,
-                right: Boxed::new(alloc, right.expr)?,
-            },
-            height: left.height.max(right.height) + 1,
+            expr: Expr::Binary { left, op, right },
+            height,
         })
     }
 
@@ -257,12 +278,11 @@ impl Measured {
         ensures tree { IfOk result (λ m. plain_expr m.expr ≡ x.Index (plain_expr array.expr) (plain_expr at.expr)) }
         ensures height { IfOk result (λ m. m.height ≡ suc (max array.height at.height)) }
     {
+        let height = array.height.max(at.height) + 1;
+        let (array, at) = two_boxed(alloc, array.expr, at.expr)?;
         Ok(Measured {
-            expr: Expr::Index {
-                array: Boxed::new(alloc, array.expr)?,
-                at: Boxed::new(alloc, at.expr)?,
-            },
-            height: array.height.max(at.height) + 1,
+            expr: Expr::Index { array, at },
+            height,
         })
     }
 

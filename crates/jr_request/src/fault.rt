@@ -1,24 +1,19 @@
 // Why words or a batch are no request.
 use jr_base::{OutOfMemory, Text};
 use std::alloc::{AllocError, AllocFailed};
-use thiserror::Error;
 
 /// Why words or a batch are refused.
-#[derive(Debug, Drop, Error)]
+#[derive(Debug, Drop)]
 pub enum RequestFault {
     /// The words are no command.
-    #[error("BadWords")]
     BadWords,
     /// The bytes are not JSON.
-    #[error("BadJson")]
     BadJson,
     /// An element is no request. `request` is its number, counted from 1, or 0 where the value is no
     /// array. `field` is the first of its fields that is missing or ill-typed, or else the least key
     /// that does not belong.
-    #[error("BadField")]
     BadField { request: u32, field: Text },
     /// Memory was refused.
-    #[error("OutOfMemory")]
     OutOfMemory,
 }
 

@@ -5,8 +5,6 @@ mod batch;
 mod command;
 mod element;
 mod fault;
-#[cfg(test)]
-mod tests;
 mod words;
 
 pub use batch::read_batch;

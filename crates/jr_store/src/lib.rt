@@ -11,8 +11,6 @@ mod record;
 mod std_streams;
 mod store;
 mod stream;
-#[cfg(test)]
-mod tests;
 
 pub use blind::BlindStore;
 pub use folder::FolderStore;

@@ -18,6 +18,3 @@ pub use laws::one_answer;
 pub use reading::{Terminal, added, terminal_of};
 pub use served::{Class, class_in, tokens_of};
 pub use sites::{Role, Site};
-
-#[cfg(test)]
-mod tests;

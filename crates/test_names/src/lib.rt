@@ -1,0 +1,5 @@
+//! Tests of the tables of names.
+#![tactic(auto)]
+
+#[cfg(test)]
+mod defs;
