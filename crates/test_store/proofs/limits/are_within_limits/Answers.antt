@@ -2,9 +2,9 @@ use Rattle.std.proofs.Common.{◌≤◌, ℕ, List, length, subst, ◌∙◌}
 use Rattle.std.specs.FinMap as map
 use Rattle.std.specs.List.{AllByRecursion}
 use Rattle.jr_commit.specs.Sizes.{content_bytes}
-use Rattle.test_commit_run.specs.Names.{names}
+use Rattle.test_store.specs.Names.{names}
 use Rattle.jr_store.specs.Image.{AreJava}
-use Rattle.test_commit_run.proofs.limits.are_within_limits.Goals as goal
+use Rattle.test_store.proofs.limits.are_within_limits.Goals as goal
 
 pub returns-then-len-le4096-clause-java : goal.returns-then-len-le4096-clause-java
 returns-then-len-le4096-clause-java c = λ yes. subst (λ (fs : List (List ℕ × List ℕ)). AreJava (names fs)) c.entries.ensures (c.fit.ensures.java yes)

@@ -1,13 +1,15 @@
-// Files that a plan takes.
+// Files that a plan takes, and the plan.
 ghost use Rattle.std.specs.FinMap as map;
 ghost use Rattle.std.specs.List.{AllByRecursion};
 ghost use Rattle.std.specs.Prelude.{◌≤◌, IsTrue, length};
 ghost use Rattle.jr_base.specs.Files.{plain};
 ghost use Rattle.jr_commit.specs.Sizes.{IsWithinLimits, content_bytes};
-ghost use Rattle.test_commit_run.specs.Names.{names};
+ghost use Rattle.test_store.specs.Names.{names};
 ghost use Rattle.jr_store.specs.Image.{AreJava};
 
-use jr_base::{Files, Path};
+use jr_base::{Files, OutOfMemory, Path};
+use jr_commit::{Plan, journal_fits};
+use std::alloc::Global;
 
 // Whether the files are Java files with short paths, and hold at most so many bytes in all.
 fn fit(files: &[(Path, Vec<u8>)], room: usize) -> bool
@@ -26,10 +28,19 @@ fn fit(files: &[(Path, Vec<u8>)], room: usize) -> bool
     }
 }
 
-/// Whether the files are Java files within the limits.
-pub fn are_within_limits(files: &Files) -> bool
+// Whether the files are Java files within the limits.
+fn are_within_limits(files: &Files) -> bool
     ensures java { IsTrue result → AreJava (map.keys files.now) }
     ensures within { IsTrue result → IsWithinLimits files.now }
 {
     files.len() <= 4096 && fit(files.entries(), 16_777_216)
+}
+
+/// The plan of a change, where both sides are Java files within the limits.
+pub fn plan_of(alloc: Global, old: &Files, new: &Files) -> Result<Option<Plan>, OutOfMemory> {
+    if !are_within_limits(old) || !are_within_limits(new) {
+        return Ok(None);
+    }
+    journal_fits(old, new);
+    Ok(Some(Plan::new(alloc, old, new)?))
 }
