@@ -3,8 +3,7 @@ use Rattle.std.proofs.Common.{le_antisymm, ◌≡◌, ◌⊎◌, refl, sym, ◌�
 use Rattle.jr_rows.specs.Rows.{Rows}
 use Rattle.jr_defs.specs.declared.referent.Referent.TheVariants.{Declared}
 use Rattle.jr_defs.specs.Referents.{Table}
-use Rattle.jr_defs.specs.Modifiers.{IsPrivate, IsStatic}
-use Rattle.jr_defs.specs.Supertypes.{NamesSuperclass, Superclass}
+use Rattle.jr_defs.specs.Supertypes.{Superclass}
 use Rattle.jr_defs.specs.Overriding.{FoundFrom, Found, HasOneSuperclass}
 
 module _ (p : Rows) (t : Table) (one : HasOneSuperclass p) where

@@ -1,6 +1,6 @@
 -- In the rows of shaped units the name of a superclass stands right behind its type.
-use Rattle.std.proofs.Common.{◌≡◌, ◌⊎◌, inl, inr, refl, sym, ◌∙◌, ap, subst, arith, ℕ, suc, ◌+◌, ◌-◌, ◌<◌, ◌≤◌, List, [], ◌∷◌, ◌++◌, length, length-append}
-use Rattle.std.specs.Prelude.{Bool, ⊤}
+use Rattle.std.proofs.Common.{◌≡◌, ◌⊎◌, inl, inr, sym, ◌∙◌, ap, subst, arith, ℕ, suc, ◌+◌, ◌-◌, ◌<◌, ◌≤◌, List, [], ◌∷◌, ◌++◌, length, length-append}
+use Rattle.std.specs.Prelude.{⊤}
 use Rattle.std.specs.List.{AllByRecursion}
 use Rattle.std.proofs.Math.ListN.{get_or-append}
 use Rattle.std.proofs.lemmas.Bool.{cases_lt}
@@ -16,7 +16,7 @@ use Rattle.jr_rows.specs.Rows.{Rows, rows_from, row, label, parent, end, program
 use Rattle.jr_rows.specs.Below.{IsTypeLabel, Under, Fits}
 use Rattle.jr_rows.proofs.Trees.{at_index, nothing, past, length_rows, units_forest}
 use Rattle.jr_rows.proofs.FittingStmts.{units_fit}
-use Rattle.jr_defs.specs.Supertypes.{IsSuperclassLabel, NamesSuperclass}
+use Rattle.jr_defs.specs.Supertypes.{IsSuperclassLabel}
 use Rattle.jr_one_method.specs.OneMethod.{TypesNameOneSuperclass}
 use Rattle.jr_one_method.proofs.Ordered.{NamesNone, NamesFirst, Ordered, units_ordered}
 

@@ -1,5 +1,5 @@
 -- In the trees of labels of shaped units the name of a superclass stands first below its type.
-use Rattle.std.proofs.Common.{ℕ, List, [], ◌∷◌}
+use Rattle.std.proofs.Common.{List, [], ◌∷◌}
 use Rattle.std.specs.Prelude.{Bool, true, false, Option, Some, None}
 use Rattle.std.specs.List.{AllByRecursion}
 use Rattle.jr_base.specs.declared.text.Text.{Text}
@@ -15,10 +15,10 @@ use Rattle.jr_rows.specs.declared.label.NameKind.{NameKind}
 use Rattle.jr_rows.specs.declared.label.NameKind.TheVariants as kind
 use Rattle.jr_rows.specs.declared.label.NamePlace.{NamePlace}
 use Rattle.jr_rows.specs.declared.label.NamePlace.TheVariants as place
-use Rattle.jr_rows.specs.Forest.{Forest, none, more, node, leaf, if_some, each}
+use Rattle.jr_rows.specs.Forest.{Forest, none, more, node, if_some, each}
 use Rattle.jr_rows.specs.Exprs.{left_kind, dotted, name_labels}
 use Rattle.jr_rows.specs.Decls.{has_constructor, default_constructor, member_labels, members_labels, decl_labels, package_labels, import_labels, unit_labels}
-use Rattle.jr_rows.specs.Below.{IsTypeLabel, IsQualifier, IsOtherName, Under, Fits}
+use Rattle.jr_rows.specs.Below.{IsTypeLabel, Under, Fits}
 use Rattle.jr_rows.proofs.FittingStmts.{units_fit}
 use Rattle.jr_defs.specs.Supertypes.{IsSuperclassLabel}
 

@@ -28,7 +28,7 @@ use Rattle.jr_plain.proofs.OfTypes.{types_list, closed_types, sound_types}
 use Rattle.jr_plain.proofs.Same.{role_tells, pair_tells}
 use Rattle.jr_plain.proofs.Bounds.{member_below}
 use Rattle.jr_plain.proofs.Declared.{type_tells, class_tells, interface_tells}
-use Rattle.jr_plain.proofs.Enclosed.{most, declared_in_tells, declaring_finds}
+use Rattle.jr_plain.proofs.Enclosed.{most, declaring_finds}
 use Rattle.jr_plain.proofs.Children.{declared_list}
 use Rattle.jr_plain.proofs.Modified.{found_tells, in_interface_tells, public_tells, protected_tells, private_tells, static_tells}
 use Rattle.jr_plain.proofs.Packaged.{same_package_tells}

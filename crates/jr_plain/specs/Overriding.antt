@@ -8,7 +8,7 @@ use Rattle.jr_defs.specs.Referents.{Table}
 use Rattle.jr_plain.specs.Search.{all_such, among, has, least}
 use Rattle.jr_plain.specs.Same.{same_role, same_pair}
 use Rattle.jr_plain.specs.Declarations.{is_type, types, is_class, is_interface}
-use Rattle.jr_plain.specs.Enclosing.{is_declared_in, declaring_type, declared_by}
+use Rattle.jr_plain.specs.Enclosing.{declaring_type, declared_by}
 use Rattle.jr_plain.specs.Modifiers.{is_public, is_protected, is_private, is_static, is_in_interface}
 use Rattle.jr_plain.specs.Packages.{is_same_package}
 use Rattle.jr_plain.specs.Supertypes.{superclasses, is_above, is_at_or_above}
