@@ -16,14 +16,15 @@ import time
 
 HERE = os.path.dirname(os.path.abspath(__file__))
 sys.path.insert(0, os.path.join(HERE, '..', 'tools', 'machine'))
-from cores import core  # noqa: E402
+from cores import core, trial_text  # noqa: E402
 
 PROGRAMS = os.path.join(HERE, 'machine')
 
 
 def seconds(binary, text):
+    data = trial_text(text).encode()
     start = time.perf_counter()
-    subprocess.run([binary], input=text.encode(), stdout=subprocess.DEVNULL, check=True)
+    subprocess.run([binary], input=data, stdout=subprocess.DEVNULL, check=True)
     return time.perf_counter() - start
 
 

@@ -22,7 +22,7 @@ import java.util.Set;
 import javax.tools.JavaCompiler;
 import javax.tools.ToolProvider;
 
-/** Prints the cores of Java classes, as `test_machine` reads them. Names and types come from `javac`'s own attribution. */
+/** Prints the cores of Java classes by words, which `cores.py` writes as numbers. Names and types come from `javac`'s own attribution. */
 class Cores {
     private final Symtab symbols;
     private final Types types;
@@ -123,7 +123,8 @@ class Cores {
         return all;
     }
 
-    private void found(ClassSymbol symbol) {
+    private int found(ClassSymbol symbol) {
+        int count = 0;
         for (ClassSymbol above : supertypes(symbol)) {
             for (Symbol member : above.members().getSymbols(s -> s instanceof MethodSymbol)) {
                 MethodSymbol method = (MethodSymbol) member;
@@ -133,10 +134,12 @@ class Cores {
                 boolean isPrivate = (method.flags() & Flags.PRIVATE) != 0;
                 MethodSymbol runs = isPrivate ? method : method.implementation(symbol, types, false);
                 if (runs != null && (runs.flags() & Flags.ABSTRACT) == 0) {
-                    put("found", decl(method), decl(runs));
+                    put("decl found", decl(method), decl(runs));
+                    count++;
                 }
             }
         }
+        return count;
     }
 
     private void classDecl(JCClassDecl tree) {
@@ -153,18 +156,12 @@ class Cores {
             }
         }
         Type parent = types.supertype(tree.sym.type);
-        if (parent.hasTag(TypeTag.CLASS) && !tree.sym.isInterface()) {
-            put("parent", decl(parent.tsym));
-        }
-        for (Type face : types.interfaces(tree.sym.type)) {
-            put("face", decl(face.tsym));
-        }
-        if (tree.sym.hasOuterInstance()) {
-            put("outer", decl(tree.sym.owner.enclClass()));
-        }
-        members.forEach(member -> put("member", member));
-        found(tree.sym);
-        put("class", decl(tree.sym));
+        String above = parent.hasTag(TypeTag.CLASS) && !tree.sym.isInterface() ? decl(parent.tsym) : "-";
+        List<Type> faces = types.interfaces(tree.sym.type);
+        faces.forEach(face -> put("decl face", decl(face.tsym)));
+        String outer = tree.sym.hasOuterInstance() ? decl(tree.sym.owner.enclClass()) : "-";
+        members.forEach(member -> put("decl plain", member));
+        put("class", decl(tree.sym), above, outer, faces.size(), members.size(), found(tree.sym));
         for (JCTree member : tree.defs) {
             if (member instanceof JCClassDecl inner) {
                 classDecl(inner);
@@ -173,10 +170,10 @@ class Cores {
         current = before;
     }
 
-    private void body(String decl, int count, long flags) {
+    private void body(String decl, int params, int count, long flags) {
         String isStatic = (flags & Flags.STATIC) != 0 ? " static" : "";
         String isNative = (flags & Flags.NATIVE) != 0 ? " native" : "";
-        put("body", decl, decl(current), count + isStatic + isNative);
+        put("body", decl, decl(current), params, count + isStatic + isNative);
     }
 
     private String field(JCVariableDecl tree) {
@@ -184,26 +181,25 @@ class Cores {
         if (tree.init != null) {
             fieldTarget(tree.sym);
             converted(tree.init, tree.sym.type);
-            put("assign");
-            put("eval");
+            put("two assign");
+            put("one eval");
             count = 1;
         }
         if (tree.sym.getConstValue() != null) {
-            constant(tree.sym.getConstValue(), tree.sym.type);
-            put("constant");
+            constant("constant", tree.sym.getConstValue(), tree.sym.type);
         }
         type(tree.sym.type);
         long flags = current.isInterface() ? Flags.STATIC : tree.sym.flags();
-        body(decl(tree.sym), count, flags);
+        body(decl(tree.sym), 0, count, flags);
         return decl(tree.sym);
     }
 
     private void fieldTarget(VarSymbol field) {
         if (field.isStatic()) {
-            put("field", decl(field));
+            put("leaf field", decl(field));
         } else {
-            put("this", decl(current));
-            put("field_of", decl(field));
+            put("leaf this", decl(current));
+            put("one field", decl(field));
         }
     }
 
@@ -211,18 +207,18 @@ class Cores {
         String decl = anonymous();
         statement(tree);
         put("type void");
-        body(decl, 1, tree.flags);
+        body(decl, 0, 1, tree.flags);
         return decl;
     }
 
     private void method(JCMethodDecl tree) {
         result = tree.sym.type.getReturnType();
         for (JCVariableDecl param : tree.params) {
-            put("param", decl(param.sym));
+            put("decl plain", decl(param.sym));
         }
         int count = tree.body == null ? 0 : statements(tree.body.stats);
         type(tree.sym.isConstructor() ? symbols.voidType : result);
-        body(decl(tree.sym), count, tree.sym.flags());
+        body(decl(tree.sym), tree.params.size(), count, tree.sym.flags());
     }
 
     // ---- statements
@@ -234,32 +230,32 @@ class Cores {
 
     private void statement(JCStatement tree) {
         if (tree instanceof JCBlock block) {
-            put("nest", statements(block.stats));
+            put("list block", statements(block.stats));
         } else if (tree instanceof JCVariableDecl local) {
             if (local.init == null) {
-                put("declare", decl(local.sym));
+                put("leaf declare", decl(local.sym));
             } else {
                 converted(local.init, local.sym.type);
-                put("local", decl(local.sym));
+                put("one local", decl(local.sym));
             }
         } else if (tree instanceof JCSkip) {
-            put("skip");
+            put("leaf skip");
         } else if (tree instanceof JCDoWhileLoop loop) {
             statement(loop.body);
             expression(loop.cond);
-            put("do");
+            put("two do");
         } else if (tree instanceof JCWhileLoop loop) {
             expression(loop.cond);
             statement(loop.body);
-            put("while");
+            put("two while");
         } else if (tree instanceof JCIf choice) {
             expression(choice.cond);
             statement(choice.thenpart);
             if (choice.elsepart == null) {
-                put("if");
+                put("two if");
             } else {
                 statement(choice.elsepart);
-                put("if_else");
+                put("three if_else");
             }
         } else if (tree instanceof JCExpressionStatement effect) {
             effect(effect);
@@ -267,14 +263,14 @@ class Cores {
             forLoop(loop);
         } else if (tree instanceof JCReturn back) {
             if (back.expr == null) {
-                put("return");
+                put("leaf return");
             } else {
                 converted(back.expr, result);
-                put("return_value");
+                put("one return");
             }
         } else if (tree instanceof JCThrow thrown) {
             expression(thrown.expr);
-            put("throw");
+            put("one throw");
         } else {
             jump(tree);
         }
@@ -285,7 +281,7 @@ class Cores {
             constructorCall((JCMethodInvocation) tree.expr);
         } else {
             expression(tree.expr);
-            put("eval");
+            put("one eval");
         }
     }
 
@@ -296,14 +292,14 @@ class Cores {
         }
         int update = statements(tree.step);
         statement(tree.body);
-        put(tree.cond == null ? "for_ever" : "for", first, update);
+        put(tree.cond == null ? "for ever" : "for while", first, update);
     }
 
     private void jump(JCStatement tree) {
         if (tree instanceof JCBreak jump) {
-            put(jump.label == null ? "break" : "break_to " + labelNumbers.get(labels.lastIndexOf(jump.label.toString())));
+            put(jump.label == null ? "leaf break" : "leaf break " + labelNumbers.get(labels.lastIndexOf(jump.label.toString())));
         } else if (tree instanceof JCContinue jump) {
-            put(jump.label == null ? "continue" : "continue_to " + labelNumbers.get(labels.lastIndexOf(jump.label.toString())));
+            put(jump.label == null ? "leaf continue" : "leaf continue " + labelNumbers.get(labels.lastIndexOf(jump.label.toString())));
         } else if (tree instanceof JCLabeledStatement labeled) {
             String number = anonymous();
             labels.add(labeled.label.toString());
@@ -311,7 +307,7 @@ class Cores {
             statement(labeled.body);
             labels.remove(labels.size() - 1);
             labelNumbers.remove(labelNumbers.size() - 1);
-            put("labeled", number);
+            put("one labeled", number);
         } else if (tree instanceof JCSwitch choice) {
             switchStatement(choice);
         } else if (tree instanceof JCTry attempt) {
@@ -326,12 +322,12 @@ class Cores {
         for (JCCase group : tree.cases) {
             int count = statements(group.stats);
             for (JCExpression label : group.getExpressions()) {
-                put("case", ((Number) label.type.constValue()).intValue());
+                put("label case", ((Number) label.type.constValue()).intValue());
             }
             if (group.getExpressions().isEmpty()) {
-                put("default");
+                put("label default");
             }
-            put("group", count);
+            put("group", count, Math.max(1, group.getExpressions().size()));
         }
         put("switch", tree.cases.size());
     }
@@ -343,9 +339,9 @@ class Cores {
             put("catch", count, decl(handler.param.sym.type.tsym), decl(handler.param.sym));
         }
         if (tree.finalizer == null) {
-            put("try", body, tree.catchers.size());
+            put("try plain", body, tree.catchers.size());
         } else {
-            put("try_finally", body, tree.catchers.size(), statements(tree.finalizer.stats));
+            put("try finally", body, tree.catchers.size(), statements(tree.finalizer.stats));
         }
     }
 
@@ -355,13 +351,13 @@ class Cores {
     private void converted(JCExpression tree, Type to) {
         Type from = tree.type;
         if (from.constValue() != null && to.isPrimitive()) {
-            constant(from.constValue(), to);
+            constant("literal", from.constValue(), to);
             return;
         }
         expression(tree);
         if (to.isPrimitive() && from.isPrimitive() && from.getTag() != to.getTag()) {
             type(to);
-            put("cast");
+            put("typed cast");
         }
     }
 
@@ -370,20 +366,21 @@ class Cores {
         converted(tree, symbols.intType);
     }
 
-    private void constant(Object value, Type type) {
+    /** A line of this kind with a constant. */
+    private void constant(String kind, Object value, Type type) {
         switch (type.getTag()) {
-            case BOOLEAN -> put(((Number) value).intValue() == 1);
-            case CHAR -> put("char", ((Number) value).intValue() & 0xffff);
-            case BYTE -> put("byte", ((Number) value).byteValue());
-            case SHORT -> put("short", ((Number) value).shortValue());
-            case INT -> put("int", ((Number) value).intValue());
-            case LONG -> put("long", ((Number) value).longValue());
-            default -> text((String) value);
+            case BOOLEAN -> put(kind, "boolean", ((Number) value).intValue() == 1);
+            case CHAR -> put(kind, "char", ((Number) value).intValue() & 0xffff);
+            case BYTE -> put(kind, "byte", ((Number) value).byteValue());
+            case SHORT -> put(kind, "short", ((Number) value).shortValue());
+            case INT -> put(kind, "int", ((Number) value).intValue());
+            case LONG -> put(kind, "long", ((Number) value).longValue());
+            default -> text(kind, (String) value);
         }
     }
 
-    private void text(String value) {
-        StringBuilder line = new StringBuilder("text");
+    private void text(String kind, String value) {
+        StringBuilder line = new StringBuilder(kind + " text");
         value.chars().forEach(unit -> line.append(' ').append(unit));
         put(line);
     }
@@ -391,16 +388,16 @@ class Cores {
     private void shown(JCExpression tree) {
         expression(tree);
         if (!types.isSameType(tree.type, symbols.stringType)) {
-            put("show");
+            put("one show");
         }
     }
 
     private void expression(JCExpression given) {
         JCExpression tree = TreeInfo.skipParens(given);
         if (tree.type.constValue() != null) {
-            constant(tree.type.constValue(), tree.type.baseType());
+            constant("literal", tree.type.constValue(), tree.type.baseType());
         } else if (tree instanceof JCLiteral) {
-            put("null");
+            put("leaf null");
         } else if (tree instanceof JCIdent name) {
             name(name);
         } else if (tree instanceof JCFieldAccess access) {
@@ -414,12 +411,12 @@ class Cores {
         } else if (tree instanceof JCArrayAccess access) {
             expression(access.indexed);
             promoted(access.index);
-            put("index");
+            put("two index");
         } else if (tree instanceof JCConditional choice) {
             expression(choice.cond);
             converted(choice.truepart, tree.type);
             converted(choice.falsepart, tree.type);
-            put("cond");
+            put("three cond");
         } else {
             operation(tree);
         }
@@ -429,7 +426,7 @@ class Cores {
         if (tree instanceof JCAssign assignment) {
             expression(assignment.lhs);
             converted(assignment.rhs, assignment.lhs.type);
-            put("assign");
+            put("two assign");
         } else if (tree instanceof JCAssignOp assignment) {
             expression(assignment.lhs);
             boolean joins = types.isSameType(assignment.lhs.type, symbols.stringType);
@@ -438,7 +435,7 @@ class Cores {
             } else {
                 expression(assignment.rhs);
             }
-            put("compound", operator(assignment.getTag().noAssignOp()));
+            put("two compound", operator(assignment.getTag().noAssignOp()));
         } else if (tree instanceof JCBinary binary) {
             binary(binary);
         } else if (tree instanceof JCUnary unary) {
@@ -447,7 +444,7 @@ class Cores {
         } else if (tree instanceof JCInstanceOf test) {
             expression(test.expr);
             type(test.pattern.type);
-            put("is_a");
+            put("typed is_a");
         } else if (tree instanceof JCTypeCast cast) {
             cast(cast);
         } else {
@@ -459,7 +456,7 @@ class Cores {
         if (tree.hasTag(JCTree.Tag.AND) || tree.hasTag(JCTree.Tag.OR)) {
             expression(tree.lhs);
             expression(tree.rhs);
-            put(tree.hasTag(JCTree.Tag.AND) ? "and_also" : "or_else");
+            put("two", tree.hasTag(JCTree.Tag.AND) ? "and_also" : "or_else");
             return;
         }
         if (types.isSameType(tree.type, symbols.stringType)) {
@@ -469,7 +466,7 @@ class Cores {
             expression(tree.lhs);
             expression(tree.rhs);
         }
-        put("binary", operator(tree.getTag()));
+        put("two binary", operator(tree.getTag()));
     }
 
     private static String operator(JCTree.Tag tag) {
@@ -497,14 +494,14 @@ class Cores {
 
     private static String unaryWord(JCTree.Tag tag) {
         return switch (tag) {
-            case POS -> "unary plus";
-            case NEG -> "unary minus";
-            case COMPL -> "unary complement";
-            case NOT -> "unary not";
-            case PREINC -> "pre increment";
-            case PREDEC -> "pre decrement";
-            case POSTINC -> "post increment";
-            case POSTDEC -> "post decrement";
+            case POS -> "one unary plus";
+            case NEG -> "one unary minus";
+            case COMPL -> "one unary complement";
+            case NOT -> "one unary not";
+            case PREINC -> "one pre increment";
+            case PREDEC -> "one pre decrement";
+            case POSTINC -> "one post increment";
+            case POSTDEC -> "one post decrement";
             default -> throw new IllegalArgumentException(tag.toString());
         };
     }
@@ -517,7 +514,7 @@ class Cores {
         expression(tree.expr);
         if (!types.isSubtype(tree.expr.type, tree.type)) {
             type(tree.type);
-            put("cast");
+            put("typed cast");
         }
     }
 
@@ -534,14 +531,14 @@ class Cores {
 
     private void name(JCIdent tree) {
         if (tree.name.toString().equals("this") || tree.name.toString().equals("super")) {
-            put("this", decl(current));
+            put("leaf this", decl(current));
         } else if (tree.sym.owner.kind != com.sun.tools.javac.code.Kinds.Kind.TYP) {
-            put("var", decl(tree.sym));
+            put("leaf var", decl(tree.sym));
         } else if (tree.sym.isStatic()) {
-            put("field", decl(tree.sym));
+            put("leaf field", decl(tree.sym));
         } else {
-            put("this", decl(holder(tree.sym)));
-            put("field_of", decl(tree.sym));
+            put("leaf this", decl(holder(tree.sym)));
+            put("one field", decl(tree.sym));
         }
     }
 
@@ -553,15 +550,15 @@ class Cores {
 
     private void access(JCFieldAccess tree) {
         if (tree.name.toString().equals("this")) {
-            put("this", decl(tree.selected.type.tsym));
+            put("leaf this", decl(tree.selected.type.tsym));
         } else if (tree.sym == symbols.lengthVar) {
             expression(tree.selected);
-            put("length");
+            put("one length");
         } else if (isType(tree.selected)) {
-            put("field", decl(tree.sym));
+            put("leaf field", decl(tree.sym));
         } else {
             expression(tree.selected);
-            put("field_of", decl(tree.sym));
+            put("one field", decl(tree.sym));
         }
     }
 
@@ -580,19 +577,19 @@ class Cores {
             if (!isSuper) {
                 expression(access.selected);
             }
-            put(isSuper ? "super_call" : "call_on", args(tree.args, method), decl(method));
+            put(isSuper ? "list above" : "call on", args(tree.args, method), decl(method));
         } else if (method.isStatic()) {
-            put("call", args(tree.args, method), decl(method));
+            put("list static", args(tree.args, method), decl(method));
         } else {
-            put("this", decl(holder(method)));
-            put("call_on", args(tree.args, method), decl(method));
+            put("leaf this", decl(holder(method)));
+            put("call on", args(tree.args, method), decl(method));
         }
     }
 
     private void constructorCall(JCMethodInvocation tree) {
         Symbol ctor = TreeInfo.symbol(tree.meth);
         boolean isSuper = TreeInfo.name(tree.meth).toString().equals("super");
-        put(isSuper ? "super_ctor" : "this_ctor", args(tree.args, ctor), decl(ctor));
+        put(isSuper ? "list super" : "list this", args(tree.args, ctor), decl(ctor));
     }
 
     private void creation(JCNewClass tree) {
@@ -601,20 +598,20 @@ class Cores {
         if (tree.encl != null) {
             expression(tree.encl);
         } else if (hasOuter) {
-            put("this", decl(holder(made)));
+            put("leaf this", decl(holder(made)));
         }
-        put(hasOuter ? "new_in" : "new", args(tree.args, tree.constructor), decl(tree.constructor));
+        put(hasOuter ? "call new_in" : "list new", args(tree.args, tree.constructor), decl(tree.constructor));
     }
 
     private void array(JCNewArray tree) {
         if (tree.elems == null) {
             tree.dims.forEach(this::promoted);
             type(tree.type);
-            put("new_array", tree.dims.size());
+            put("array dims", tree.dims.size());
         } else {
             tree.elems.forEach(item -> converted(item, types.elemtype(tree.type)));
             type(tree.type);
-            put("array_of", tree.elems.size());
+            put("array items", tree.elems.size());
         }
     }
 

@@ -19,6 +19,41 @@ TRIAL = os.path.join(HERE, '..', '..', 'crates', 'test_machine')
 
 STEPS = 1_000_000
 
+# The kinds of lines, by their numbers, and the forms of each kind, by theirs.
+KINDS = {
+    'literal': 'boolean byte short char int long text',
+    'constant': 'boolean byte short char int long text',
+    'leaf': 'null this var field declare break continue return skip',
+    'one': 'unary pre post field length show local eval labeled return throw',
+    'two': 'binary and_also or_else index assign compound do while if',
+    'three': 'cond if_else',
+    'list': 'block new this super static above',
+    'call': 'on new_in',
+    'typed': 'cast is_a',
+    'array': 'dims items',
+    'type': 'boolean byte short char int long void class array',
+    'for': 'while ever',
+    'label': 'case default',
+    'group': '',
+    'switch': '',
+    'catch': '',
+    'try': 'plain finally',
+    'decl': 'face plain found',
+    'body': '',
+    'class': '',
+    'name': '',
+    'run': '',
+}
+
+OPERATORS = {
+    'one unary': 'plus minus complement not',
+    'one pre': 'increment decrement',
+    'one post': 'increment decrement',
+    'two binary': 'multiply divide remainder add subtract shift_left shift_right shift_right_unsigned '
+                  'less greater less_equal greater_equal equal not_equal and xor or',
+}
+OPERATORS['two compound'] = OPERATORS['two binary']
+
 CLASSES = {
     'Object': '''public class Object {
   public Object() { }
@@ -102,6 +137,42 @@ def core(sources, steps):
     return run.stdout, numbers
 
 
+def argument(kind, form, word):
+    """The numbers of an argument of a line."""
+    operators = OPERATORS.get(f'{kind} {form}')
+    if operators:
+        return [operators.split().index(word)]
+    if word in ('true', 'false'):
+        return [int(word == 'true')]
+    if word == '-':
+        return [0, 0]
+    if ':' in word:
+        return [int(part) for part in word.split(':')]
+    value = int(word)
+    return [value >> 32 & 0xffffffff, value & 0xffffffff] if form == 'long' else [value & 0xffffffff]
+
+
+def encoded(line):
+    """A line by numbers alone."""
+    kind, *words = line.split(' ')
+    numbers = [list(KINDS).index(kind)]
+    if kind == 'name':
+        return numbers + [0] + [ord(character) for character in words[0]]
+    if kind == 'body':
+        flags = [int(flag in words[4:]) for flag in ('static', 'native')]
+        return numbers + [number for word in words[:4] for number in argument(kind, None, word)] + flags
+    form = words.pop(0) if KINDS[kind] else None
+    if form:
+        numbers.append(KINDS[kind].split().index(form))
+    return numbers + [number for word in words for number in argument(kind, form, word)]
+
+
+def trial_text(lines):
+    """What the trial reads, for these lines in words."""
+    plain = re.sub(r'^start (\S+) ', r'name \1\nrun ', lines, flags=re.M)
+    return ''.join(' '.join(map(str, encoded(line))) + '\n' for line in plain.splitlines())
+
+
 def wanted(numbers):
     """What the trial is to print of all cases."""
     text = ''
@@ -120,7 +191,8 @@ def main():
     parser = argparse.ArgumentParser()
     parser.add_argument('--check', action='store_true')
     check = parser.parse_args().check
-    text, numbers = core([os.path.join(CASES, f'{name}.java') for name in names()], STEPS)
+    lines, numbers = core([os.path.join(CASES, f'{name}.java') for name in names()], STEPS)
+    text = trial_text(lines)
     differ = False
     for name, new in [('stdin', text), ('stdout', wanted(numbers))]:
         path = os.path.join(TRIAL, name)

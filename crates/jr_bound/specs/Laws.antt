@@ -2,6 +2,7 @@
 use Rattle.std.specs.Prelude.{◌≡◌, ◌⊎◌, ◌↔◌, ℕ, true, false, Some, None, Decides}
 use Rattle.jr_rows.specs.Rows.{Rows}
 use Rattle.jr_defs.specs.Referents.{Table}
+use Rattle.jr_defs.specs.Overriding.{Found}
 use Rattle.jr_defs.specs.Compiling.{KeepsRules}
 use Rattle.jr_defs.specs.Binding.{IsBinding, HasCycle, IsFirstOnCycle}
 use Rattle.jr_plain.specs.Search.{Finds}
@@ -61,3 +62,9 @@ TypeRulesAreDecided p = (t : Table) (rule n : ℕ) → IsBinding p t → Decides
 -- and whether the program keeps all rules that are defined so far: it has a binding, in which all is found and none is broken
 abbrev pub KeepingIsDecided : Rows → Type 0
 KeepingIsDecided p = Decides (keeps_rules p) ((t : Table) × KeepsRules p t BreaksAll)
+
+-- ---- dispatch
+
+-- a call finds one method at most in a class, whatever names refer to
+abbrev pub CallsFindOne : Rows → Type 0
+CallsFindOne p = (t : Table) (c m f g : ℕ) → Found p t c m f → Found p t c m g → f ≡ g

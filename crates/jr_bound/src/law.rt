@@ -5,7 +5,7 @@ ghost use Rattle.jr_rows.specs.Rows.{Rows};
 ghost use Rattle.jr_defs.specs.Referents.{Table};
 ghost use Rattle.jr_defs.specs.Compiling.{AllFound};
 ghost use Rattle.jr_bound.specs.Found.{all_found};
-ghost use Rattle.jr_bound.specs.Laws.{BindingIsTypable, TypeRulesAreDecided, KeepingIsDecided, IsBoundWhereSettled, IsUnboundElse, HasBindingDecided, BindingIsComputed, HasCycleOrBinding, HasNoneBesideCycle, FindsFirstOnCycle, IsBoundWhereNoneFound};
+ghost use Rattle.jr_bound.specs.Laws.{CallsFindOne, BindingIsTypable, TypeRulesAreDecided, KeepingIsDecided, IsBoundWhereSettled, IsUnboundElse, HasBindingDecided, BindingIsComputed, HasCycleOrBinding, HasNoneBesideCycle, FindsFirstOnCycle, IsBoundWhereNoneFound};
 
 /// A program of files has a binding exactly where its headers are settled. It is the one that is computed, and there is no other.
 pub fn files_have_one_binding()
@@ -30,4 +30,9 @@ pub fn rules_of_files_are_decided()
     ensures rules { OfFiles TypeRulesAreDecided }
     ensures found { (p : Rows) (t : Table) → Decides (all_found p t) (AllFound p t) }
     ensures kept { OfFiles KeepingIsDecided }
+{}
+
+/// In a program of files a call finds one method at most in a class, under any table: also where a body declares two methods of one signature (JLS 15.12.4.4).
+pub fn calls_of_files_find_one_method()
+    ensures { OfFiles CallsFindOne }
 {}

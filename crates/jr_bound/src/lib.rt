@@ -4,5 +4,6 @@
 mod law;
 
 pub use law::{
-    files_have_a_cycle_or_a_binding, files_have_one_binding, rules_of_files_are_decided,
+    calls_of_files_find_one_method, files_have_a_cycle_or_a_binding, files_have_one_binding,
+    rules_of_files_are_decided,
 };

@@ -1,4 +1,5 @@
 pub mod Unique
+pub mod OneMethod
 pub mod CarryMembers
 pub mod CarryScope
 pub mod CarryTypes

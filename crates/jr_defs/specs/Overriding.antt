@@ -1,13 +1,13 @@
 -- Overriding, and the method that a call finds in a class (JLS 8.4.8.1, 15.12.4.4).
-use Rattle.std.specs.Prelude.{◌≡◌, ◌⊎◌, ℕ}
+use Rattle.std.specs.Prelude.{◌≡◌, ◌⊎◌, ℕ, ◌≤◌}
 use Rattle.jr_rows.specs.declared.label.Role.TheVariants as role
 use Rattle.jr_rows.specs.Rows.{Rows, role_at}
 use Rattle.jr_defs.specs.Referents.{Table}
-use Rattle.jr_defs.specs.Declarations.{IsType, IsClass, IsInterface}
+use Rattle.jr_defs.specs.Declarations.{IsType, IsClass, IsInterface, IsObject}
 use Rattle.jr_defs.specs.Enclosing.{DeclaredIn}
 use Rattle.jr_defs.specs.Modifiers.{IsPublic, IsProtected, IsPrivate, IsStatic, InInterface}
 use Rattle.jr_defs.specs.Packages.{SamePackage}
-use Rattle.jr_defs.specs.Supertypes.{Above, AtOrAbove, Superclass}
+use Rattle.jr_defs.specs.Supertypes.{NamesSuperclass, Above, AtOrAbove, Superclass}
 use Rattle.jr_defs.specs.Members.{SameMethods, MemberOf}
 
 -- an instance method m and a method k of its signature, not private, in a type strictly above; an interface has of Object its public methods alone (JLS 9.2)
@@ -54,9 +54,15 @@ pub data Serves (p : Rows) (t : Table) (c m f : ℕ) : Type 0 where
 abbrev pub ServesNot : Rows → Table → ℕ → ℕ → ℕ → Type 0
 ServesNot p t c m b = (f : ℕ) → DeclaredIn p b f → Serves p t c m f → ⊥
 
+-- of the methods that the class b declares and that serve, f stands first in its text
+pub record ServesFirst (p : Rows) (t : Table) (c m b f : ℕ) : Type 0 where
+  pub declared : DeclaredIn p b f
+  pub serves : Serves p t c m f
+  pub first : (g : ℕ) → DeclaredIn p b g → Serves p t c m g → f ≤ g
+
 -- from the class b up its superclasses the first that serves is f; where none does it is m itself
 pub data FoundFrom (p : Rows) (t : Table) (c m : ℕ) : ℕ → ℕ → Type 0 where
-  here : {b f : ℕ} → DeclaredIn p b f → Serves p t c m f → FoundFrom p t c m b f
+  here : {b f : ℕ} → ServesFirst p t c m b f → FoundFrom p t c m b f
   up : {b s f : ℕ} → ServesNot p t c m b → Superclass p t b s → FoundFrom p t c m s f → FoundFrom p t c m b f
   end : {b : ℕ} → ServesNot p t c m b → ((s : ℕ) → Superclass p t b s → ⊥) → FoundFrom p t c m b m
 
@@ -70,3 +76,12 @@ pub record Dispatches (p : Rows) (t : Table) (c m f : ℕ) : Type 0 where
   pub class : IsClass p c
   pub has : Has p t c m
   pub found : Found p t c m f
+
+-- a type names one superclass at most, and there is one Object at most: so a type has at most one superclass
+pub record HasOneSuperclass (p : Rows) : Type 0 where
+  pub name : (c n m : ℕ) → NamesSuperclass p c n → NamesSuperclass p c m → n ≡ m
+  pub object : (r s : ℕ) → IsObject p r → IsObject p s → r ≡ s
+
+-- a call finds one method in a class, under any table
+abbrev pub FindsOneMethod : Type 0
+FindsOneMethod = (p : Rows) (t : Table) (c m f g : ℕ) → HasOneSuperclass p → Found p t c m f → Found p t c m g → f ≡ g

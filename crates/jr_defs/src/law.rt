@@ -1,4 +1,5 @@
 // The laws of the definitions.
+ghost use Rattle.jr_defs.specs.Overriding.{FindsOneMethod};
 ghost use Rattle.jr_defs.specs.Laws.{OneAnswer, LookCarries, BindingsAgree, OneBinding, OneBindingOfUnits, ProgramsAreFormed, MutualHeadersAreCycle, BareTypeIsSettled};
 
 /// Lookup has at most one answer.
@@ -39,4 +40,10 @@ pub fn mutual_headers_are_a_cycle()
 /// A type whose header names nothing is settled where its enclosing types are.
 pub fn a_bare_type_is_settled()
     ensures { BareTypeIsSettled }
+{}
+
+/// A call finds at most one method in a class, where types name one superclass at most and there is one Object at most: under any table, and also where a body declares two
+/// methods of one signature (JLS 15.12.4.4).
+pub fn a_call_finds_one_method()
+    ensures { FindsOneMethod }
 {}

@@ -7,8 +7,8 @@ mod referent;
 mod table;
 
 pub use law::{
-    at_most_one_binding, bindings_agree, lookup_carries, lookup_is_unique, programs_are_formed,
-    units_have_at_most_one_binding,
+    a_call_finds_one_method, at_most_one_binding, bindings_agree, lookup_carries, lookup_is_unique,
+    programs_are_formed, units_have_at_most_one_binding,
 };
 pub use program::{Program, UnitAt};
 pub use referent::{Element, Referent, RowType, Space};

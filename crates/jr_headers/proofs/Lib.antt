@@ -4,6 +4,7 @@ pub mod Graphs
 pub mod Cyclic
 pub mod Scopes
 pub mod Names
+pub mod OneHeader
 pub mod Pairs
 pub mod Looked
 pub mod Rounding
@@ -13,7 +14,11 @@ pub mod Grounded
 pub mod Given
 pub mod LeftOut
 pub mod Cut
+pub mod Stepping
 pub mod Growing
 pub mod Told
 pub mod Worked
 pub mod Shadowing
+pub mod Settling
+pub mod Ready
+pub mod Passes

@@ -1,5 +1,5 @@
 // Rows from labels that open and close.
-ghost use Rattle.std.specs.Prelude.{◌≡◌, ◌<◌, ◌^◌, IfOk, OnOk, length};
+ghost use Rattle.std.specs.Prelude.{◌≡◌, ◌+◌, ◌<◌, ◌^◌, IfOk, IfSome, OnOk, length};
 ghost use Rattle.jr_index.specs.Building as spec;
 ghost use Rattle.jr_index.specs.Views.{state};
 
@@ -31,12 +31,11 @@ impl Building {
         ensures opened { OnOk result (state self.new ≡ spec.opened label name (state self.old)) }
         ensures few { OnOk result (length self.new.rows.items < 2 ^ 32) }
     {
-        let Ok(at) = u32::try_from(self.rows.len()) else {
+        let Some(at) = next_row(self.rows.len()) else {
+            drop(label);
+            drop(name);
             return Err(OutOfMemory);
         };
-        if at == u32::MAX {
-            return Err(OutOfMemory);
-        }
         self.rows.push(Row {
             label,
             name,
@@ -75,6 +74,19 @@ impl Building {
             }
         }
     }
+}
+
+/// The number of a row behind so many, where the number behind it fits too.
+fn next_row(count: usize) -> Option<u32>
+    ensures { IfSome result (λ at. (at ≡ count) × (at + 1 < 2 ^ 32)) }
+{
+    let Ok(at) = u32::try_from(count) else {
+        return None;
+    };
+    if at == u32::MAX {
+        return None;
+    }
+    Some(at)
 }
 
 /// The rows of labels that open and close.

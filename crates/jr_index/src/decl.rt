@@ -30,11 +30,12 @@ fn add_field(
 ) -> Result<(), OutOfMemory>
     ensures { OnOk result (out.new.items ≡ out.old.items ++ e.field_events mods.now (s.plain_declarator field.now)) }
 {
+    let name = field.name.copy(alloc)?;
     let label = Label::Field {
         modifiers: modifiers_of(mods),
         dims: field.dims,
     };
-    open(out, label, field.name.copy(alloc)?)?;
+    open(out, label, name)?;
     add_any_init(alloc, out, &field.init)?;
     close(out)
 }
@@ -143,6 +144,7 @@ fn add_decl(
             faces,
             body,
         } => {
+            let name = name.copy(alloc)?;
             let modifiers = modifiers_of(mods.as_slice());
             open(
                 out,
@@ -150,7 +152,7 @@ fn add_decl(
                     modifiers,
                     is_member,
                 },
-                name.copy(alloc)?,
+                name,
             )?;
             add_superclass(alloc, out, parent)?;
             add_type_names(alloc, out, NamePlace::Superinterface, faces.as_slice())?;
@@ -163,6 +165,7 @@ fn add_decl(
             faces,
             body,
         } => {
+            let name = name.copy(alloc)?;
             let modifiers = modifiers_of(mods.as_slice());
             open(
                 out,
@@ -170,7 +173,7 @@ fn add_decl(
                     modifiers,
                     is_member,
                 },
-                name.copy(alloc)?,
+                name,
             )?;
             add_type_names(alloc, out, NamePlace::Superinterface, faces.as_slice())?;
             add_body(alloc, out, false, body.as_slice())?;
@@ -225,12 +228,13 @@ fn add_member(alloc: Global, out: &mut Vec<Event>, member: &Member) -> Result<()
             thrown,
             body,
         } => {
+            let name = name.copy(alloc)?;
             let label = Label::Method {
                 modifiers: modifiers_of(mods.as_slice()),
                 is_void: is_void(result_),
                 has_body: body.is_some(),
             };
-            open(out, label, name.copy(alloc)?)?;
+            open(out, label, name)?;
             add_result(alloc, out, result_)?;
             add_params(alloc, out, params.as_slice())?;
             add_type_names(alloc, out, NamePlace::Other, thrown.as_slice())?;
@@ -244,8 +248,9 @@ fn add_member(alloc: Global, out: &mut Vec<Event>, member: &Member) -> Result<()
             thrown,
             body,
         } => {
+            let name = name.copy(alloc)?;
             let modifiers = modifiers_of(mods.as_slice());
-            open(out, Label::Constructor { modifiers }, name.copy(alloc)?)?;
+            open(out, Label::Constructor { modifiers }, name)?;
             add_implicit_call(alloc, out, calls_first(body))?;
             add_params(alloc, out, params.as_slice())?;
             add_type_names(alloc, out, NamePlace::Other, thrown.as_slice())?;

@@ -83,12 +83,14 @@ pub fn add_expr(alloc: Global, out: &mut Vec<Event>, expr: &Expr) -> Result<(), 
             add_name(alloc, out, NameKind::Variable, NamePlace::Expression, name)
         }
         Expr::Select { object, name } => {
-            open(out, Label::Select, name.copy(alloc)?)?;
+            let name = name.copy(alloc)?;
+            open(out, Label::Select, name)?;
             add_expr(alloc, out, object.get())?;
             close(out)
         }
         Expr::SuperSelect { name } => {
-            open(out, Label::SuperSelect, name.copy(alloc)?)?;
+            let name = name.copy(alloc)?;
+            open(out, Label::SuperSelect, name)?;
             close(out)
         }
         Expr::Index { array, at } => {
@@ -102,7 +104,8 @@ pub fn add_expr(alloc: Global, out: &mut Vec<Event>, expr: &Expr) -> Result<(), 
             name,
             args,
         } => {
-            open(out, call_label(receiver), name.copy(alloc)?)?;
+            let name = name.copy(alloc)?;
+            open(out, call_label(receiver), name)?;
             if let Some(receiver) = receiver {
                 add_receiver(alloc, out, receiver)?;
             }

@@ -21,11 +21,12 @@ fn add_local(
 ) -> Result<(), OutOfMemory>
     ensures { OnOk result (out.new.items ≡ out.old.items ++ e.local_events is_final (m.plain_declarator local.now)) }
 {
+    let name = local.name.copy(alloc)?;
     let label = Label::Local {
         is_final,
         dims: local.dims,
     };
-    open(out, label, local.name.copy(alloc)?)?;
+    open(out, label, name)?;
     add_any_init(alloc, out, &local.init)?;
     close(out)
 }
@@ -172,22 +173,21 @@ pub fn add_stmt(alloc: Global, out: &mut Vec<Event>, stmt: &Stmt) -> Result<(), 
             close(out)
         }
         Stmt::Labeled { label, body } => {
-            open(out, Label::Labeled, label.copy(alloc)?)?;
+            let name = label.copy(alloc)?;
+            open(out, Label::Labeled, name)?;
             add_stmt(alloc, out, body.get())?;
             close(out)
         }
         Stmt::Break { label } => {
+            let name = label_name(alloc, label)?;
             let has_label = label.is_some();
-            open(out, Label::Break { has_label }, label_name(alloc, label)?)?;
+            open(out, Label::Break { has_label }, name)?;
             close(out)
         }
         Stmt::Continue { label } => {
+            let name = label_name(alloc, label)?;
             let has_label = label.is_some();
-            open(
-                out,
-                Label::Continue { has_label },
-                label_name(alloc, label)?,
-            )?;
+            open(out, Label::Continue { has_label }, name)?;
             close(out)
         }
         Stmt::Return { value } => {

@@ -86,8 +86,8 @@ fn add_parts(
     let mut left = parts.len();
     while left > 0 {
         left -= 1;
-        let label = name_label(meant, place, parts.len(), left);
-        open(out, label, parts[left].copy(alloc)?)?;
+        let name = parts[left].copy(alloc)?;
+        open(out, name_label(meant, place, parts.len(), left), name)?;
     }
     Ok(())
 }
@@ -175,11 +175,12 @@ pub fn add_type(alloc: Global, out: &mut Vec<Event>, ty: &TypeUse) -> Result<(),
 pub fn add_param(alloc: Global, out: &mut Vec<Event>, param: &Param) -> Result<(), OutOfMemory>
     ensures { OnOk result (out.new.items ≡ out.old.items ++ e.param_events param.now) }
 {
+    let name = param.name.copy(alloc)?;
     let label = Label::Parameter {
         is_final: param.is_final,
         dims: param.dims,
     };
-    open(out, label, param.name.copy(alloc)?)?;
+    open(out, label, name)?;
     add_type(alloc, out, &param.ty)?;
     close(out)
 }
@@ -321,10 +322,11 @@ fn add_import(alloc: Global, out: &mut Vec<Event>, import: &Import) -> Result<()
             close(out)
         }
         Import::StaticSingle { name, member } => {
+            let member = member.copy(alloc)?;
             let label = Label::Import {
                 kind: ImportKind::StaticSingle,
             };
-            open(out, label, member.copy(alloc)?)?;
+            open(out, label, member)?;
             add_type_name(alloc, out, name)?;
             close(out)
         }

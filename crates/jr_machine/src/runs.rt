@@ -141,7 +141,9 @@ fn start_call(alloc: Global, start: DeclId) -> Result<Code, OutOfMemory>
 pub fn run(alloc: Global, core: &Core, start: DeclId, n: u64) -> Result<Ran, OutOfMemory>
     ensures { IfOk result (λ ran. IsRun (plain_core core.now) start n ran) }
 {
-    let strings = strings();
     let call = start_call(alloc, start)?;
-    run_call(alloc, core, &strings, &call, n)
+    let strings = strings();
+    let ran = run_call(alloc, core, &strings, &call, n);
+    drop(call);
+    ran
 }

@@ -41,9 +41,27 @@ fn method(
     requires { room < usize.MAX }
     ensures { Reads plain_member (spec.method room (spec.decl room) mods gives name (kinds cursor.old)) result (kinds cursor.new) }
 {
-    let params = params(alloc, cursor)?;
-    let thrown = names_after(alloc, cursor, Keyword::Throws)?;
-    let body = method_body(alloc, cursor, room)?;
+    let params = match params(alloc, cursor) {
+        Ok(params) => params,
+        Err(fault) => {
+            drop(gives);
+            return Err(fault);
+        }
+    };
+    let thrown = match names_after(alloc, cursor, Keyword::Throws) {
+        Ok(thrown) => thrown,
+        Err(fault) => {
+            drop(gives);
+            return Err(fault);
+        }
+    };
+    let body = match method_body(alloc, cursor, room) {
+        Ok(body) => body,
+        Err(fault) => {
+            drop(gives);
+            return Err(fault);
+        }
+    };
     Ok(Member::Method {
         mods,
         result_: gives,
@@ -91,8 +109,17 @@ fn field(
     requires { room < usize.MAX }
     ensures { Reads plain_member (spec.field room (spec.decl room) mods ty name (kinds cursor.old)) result (kinds cursor.new) }
 {
-    let decls = declarators_after(alloc, cursor, room, name)?;
-    cursor.expect(Symbol::Semicolon)?;
+    let decls = match declarators_after(alloc, cursor, room, name) {
+        Ok(decls) => decls,
+        Err(fault) => {
+            drop(ty);
+            return Err(fault);
+        }
+    };
+    if let Err(fault) = cursor.expect(Symbol::Semicolon) {
+        drop(ty);
+        return Err(fault);
+    }
     Ok(Member::Field { mods, ty, decls })
 }
 
@@ -108,7 +135,13 @@ fn typed(
     requires { room < usize.MAX }
     ensures { Reads plain_member (spec.typed room (spec.decl room) mods ty (kinds cursor.old)) result (kinds cursor.new) }
 {
-    let name = cursor.identifier(alloc)?;
+    let name = match cursor.identifier(alloc) {
+        Ok(name) => name,
+        Err(fault) => {
+            drop(ty);
+            return Err(fault);
+        }
+    };
     if cursor.is_at(Symbol::OpenParen) {
         return method(alloc, cursor, room, mods, ResultType::Of { ty }, name);
     }

@@ -28,7 +28,10 @@ impl<
         ensures low { IfOk result (λ m. m.height ≤ suc self.now.room) }
     {
         let inner = self.expr(cursor, lead, 0)?;
-        cursor.expect(Symbol::CloseParen)?;
+        if let Err(fault) = cursor.expect(Symbol::CloseParen) {
+            drop(inner);
+            return Err(fault);
+        }
         Ok(Measured::paren(self.alloc, inner)?)
     }
 

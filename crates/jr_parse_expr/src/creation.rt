@@ -47,7 +47,10 @@ impl<
                 });
             }
             let size = self.expr(cursor, Lead::Nothing, 0)?;
-            cursor.expect(Symbol::CloseBracket)?;
+            if let Err(fault) = cursor.expect(Symbol::CloseBracket) {
+                drop(size);
+                return Err(fault);
+            }
             all = all.with(size)?;
         }
         Ok(Sizes { dims: all, more: 0 })
@@ -61,7 +64,10 @@ impl<
         ensures low { IfOk result (λ m. m.height ≤ suc self.now.room) }
     {
         let size = self.expr(cursor, Lead::Nothing, 0)?;
-        cursor.expect(Symbol::CloseBracket)?;
+        if let Err(fault) = cursor.expect(Symbol::CloseBracket) {
+            drop(size);
+            return Err(fault);
+        }
         let first = Arguments::none(self.alloc).with(size)?;
         let sizes = self.sizes(cursor, first)?;
         Ok(Measured::sized_array(base, sizes.dims, sizes.more))

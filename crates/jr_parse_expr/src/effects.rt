@@ -216,6 +216,7 @@ impl<
         let mut left = operand;
         'suffixes: while let Some(suffix) = suffix_at(cursor, &left.expr) {
             if is_too_high(self.inner.room, left.height, suffix) {
+                drop(left);
                 return Err(Fault::TooDeep);
             }
             cursor.skip();
@@ -234,6 +235,7 @@ impl<
         match assignment_at(cursor, &left.expr) {
             Some(op) => {
                 if left.height > self.inner.room {
+                    drop(left);
                     return Err(Fault::TooDeep);
                 }
                 cursor.skip();
@@ -243,6 +245,7 @@ impl<
                 if is_statement(&left.expr) {
                     Ok(left)
                 } else {
+                    drop(left);
                     Err(Fault::NoTree)
                 }
             }

@@ -136,7 +136,10 @@ impl<
         ensures low { IfOk result (λ m. m.height ≤ suc self.now.room) }
     {
         let at = self.expr(cursor, Lead::Nothing, 0)?;
-        cursor.expect(Symbol::CloseBracket)?;
+        if let Err(fault) = cursor.expect(Symbol::CloseBracket) {
+            drop(at);
+            return Err(fault);
+        }
         Ok(Measured::index(self.alloc, Measured::name(name), at)?)
     }
 

@@ -76,8 +76,18 @@ impl<
         ensures reads { ReadsExpr (spec.choice self.now.room (spec.expr self.now.room) (spec.list self.now.room) (plain_expr cond.expr) (kinds cursor.old)) result (kinds cursor.new) }
         ensures low { IfOk result (λ m. m.height ≤ suc self.now.room) }
     {
-        let yes = self.expr(cursor, Lead::Nothing, 0)?;
-        cursor.expect(Symbol::Colon)?;
+        let yes = match self.expr(cursor, Lead::Nothing, 0) {
+            Ok(yes) => yes,
+            Err(fault) => {
+                drop(cond);
+                return Err(fault);
+            }
+        };
+        if let Err(fault) = cursor.expect(Symbol::Colon) {
+            drop(cond);
+            drop(yes);
+            return Err(fault);
+        }
         self.otherwise(cursor, cond, yes)
     }
 
@@ -94,7 +104,14 @@ impl<
         ensures reads { ReadsExpr (step.otherwise self.now.room (spec.expr self.now.room) (spec.list self.now.room) (plain_expr cond.expr) (plain_expr yes.expr) (kinds cursor.old)) result (kinds cursor.new) }
         ensures low { IfOk result (λ m. m.height ≤ suc self.now.room) }
     {
-        let no = self.expr(cursor, Lead::Nothing, 1)?;
+        let no = match self.expr(cursor, Lead::Nothing, 1) {
+            Ok(no) => no,
+            Err(fault) => {
+                drop(cond);
+                drop(yes);
+                return Err(fault);
+            }
+        };
         Ok(Measured::cond(self.alloc, cond, yes, no)?)
     }
 
@@ -105,7 +122,13 @@ impl<
         ensures reads { ReadsExpr (spec.binary self.now.room (spec.expr self.now.room) (spec.list self.now.room) (plain_expr left.expr) op (kinds cursor.old)) result (kinds cursor.new) }
         ensures low { IfOk result (λ m. m.height ≤ suc self.now.room) }
     {
-        let right = self.expr(cursor, Lead::Nothing, binary_level(op) + 1)?;
+        let right = match self.expr(cursor, Lead::Nothing, binary_level(op) + 1) {
+            Ok(right) => right,
+            Err(fault) => {
+                drop(left);
+                return Err(fault);
+            }
+        };
         Ok(Measured::binary(self.alloc, left, op, right)?)
     }
 
@@ -121,7 +144,13 @@ impl<
         ensures reads { ReadsExpr (spec.assigned self.now.room (spec.expr self.now.room) (spec.list self.now.room) (plain_expr target.expr) op (kinds cursor.old)) result (kinds cursor.new) }
         ensures low { IfOk result (λ m. m.height ≤ suc self.now.room) }
     {
-        let value = self.expr(cursor, Lead::Nothing, 0)?;
+        let value = match self.expr(cursor, Lead::Nothing, 0) {
+            Ok(value) => value,
+            Err(fault) => {
+                drop(target);
+                return Err(fault);
+            }
+        };
         Ok(Measured::assign(self.alloc, target, op, value)?)
     }
 
@@ -132,7 +161,13 @@ impl<
         ensures reads { ReadsExpr (spec.tested self.now.room (spec.expr self.now.room) (spec.list self.now.room) (plain_expr value.expr) (kinds cursor.old)) result (kinds cursor.new) }
         ensures low { IfOk result (λ m. m.height ≤ suc self.now.room) }
     {
-        let ty = type_use(self.alloc, cursor)?;
+        let ty = match type_use(self.alloc, cursor) {
+            Ok(ty) => ty,
+            Err(fault) => {
+                drop(value);
+                return Err(fault);
+            }
+        };
         Ok(Measured::is_a(self.alloc, value, ty)?)
     }
 
@@ -171,6 +206,7 @@ impl<
         let mut left = operand;
         'operators: while let Some(operation) = operation_at(cursor, &left.expr, least) {
             if left.height > self.room {
+                drop(left);
                 return Err(Fault::TooDeep);
             }
             cursor.skip();

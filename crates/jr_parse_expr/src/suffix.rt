@@ -51,7 +51,13 @@ impl<
         ensures reads { ReadsExpr (spec.selected self.now.room (spec.expr self.now.room) (spec.list self.now.room) (plain_expr left.expr) (kinds cursor.old)) result (kinds cursor.new) }
         ensures low { IfOk result (λ m. m.height ≤ suc self.now.room) }
     {
-        let member = cursor.identifier(self.alloc)?;
+        let member = match cursor.identifier(self.alloc) {
+            Ok(member) => member,
+            Err(fault) => {
+                drop(left);
+                return Err(fault);
+            }
+        };
         if cursor.is_at(Symbol::OpenParen) {
             cursor.skip();
             return self.call(cursor, Receiving::object(self.alloc, left)?, member);
@@ -66,8 +72,18 @@ impl<
         ensures reads { ReadsExpr (spec.indexed self.now.room (spec.expr self.now.room) (spec.list self.now.room) (plain_expr left.expr) (kinds cursor.old)) result (kinds cursor.new) }
         ensures low { IfOk result (λ m. m.height ≤ suc self.now.room) }
     {
-        let at = self.expr(cursor, Lead::Nothing, 0)?;
-        cursor.expect(Symbol::CloseBracket)?;
+        let at = match self.expr(cursor, Lead::Nothing, 0) {
+            Ok(at) => at,
+            Err(fault) => {
+                drop(left);
+                return Err(fault);
+            }
+        };
+        if let Err(fault) = cursor.expect(Symbol::CloseBracket) {
+            drop(left);
+            drop(at);
+            return Err(fault);
+        }
         Ok(Measured::index(self.alloc, left, at)?)
     }
 
@@ -100,6 +116,7 @@ impl<
         let mut left = operand;
         'suffixes: while let Some(suffix) = suffix_at(cursor, &left.expr) {
             if left.height > self.room {
+                drop(left);
                 return Err(Fault::TooDeep);
             }
             cursor.skip();

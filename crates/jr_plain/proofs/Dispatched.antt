@@ -1,5 +1,5 @@
 -- Overriding and dispatch that are computed are those of the definition.
-use Rattle.std.proofs.Common.{◌≡◌, ◌⊎◌, refl, sym, subst, inl, inr, ⊎_elim, ℕ, ◌<◌, true, false, ◌&&◌, List, [], ◌∷◌, length, flat_map, Decides}
+use Rattle.std.proofs.Common.{◌≡◌, ◌⊎◌, refl, sym, subst, inl, inr, ⊎_elim, ℕ, ◌<◌, ◌≤◌, true, false, ◌&&◌, List, [], ◌∷◌, length, flat_map, nat_eq, nat_le, Decides}
 use Rattle.std.specs.List.{list_any}
 use Rattle.std.proofs.lemmas.Bool.{or_left}
 use Rattle.std.proofs.lemmas.Bool.Decides.{Decides-eqb}
@@ -12,7 +12,7 @@ use Rattle.jr_defs.specs.Modifiers.{IsPublic, IsProtected, IsPrivate, IsStatic}
 use Rattle.jr_defs.specs.Packages.{SamePackage}
 use Rattle.jr_defs.specs.Supertypes.{Above, AtOrAbove, Superclass}
 use Rattle.jr_defs.specs.Members.{MemberOf}
-use Rattle.jr_defs.specs.Overriding.{IsAboveMethod, Overrides, Has, Implements, Serves, ServesNot, FoundFrom, Found, Dispatches}
+use Rattle.jr_defs.specs.Overriding.{IsAboveMethod, Overrides, Has, Implements, Serves, ServesNot, ServesFirst, FoundFrom, Found, Dispatches}
 use Rattle.jr_plain.specs.Search.{among, has, Lists}
 use Rattle.jr_plain.specs.Headed.{IsHeaded}
 use Rattle.jr_plain.specs.Same.{same_pair}
@@ -22,13 +22,13 @@ use Rattle.jr_plain.specs.Supertypes.{superclasses, is_above, is_at_or_above}
 use Rattle.jr_plain.specs.Members.{is_member}
 use Rattle.jr_plain.specs.Overriding as plain
 use Rattle.jr_plain.proofs.Tests.{itself, always, both, either, opposite, implies, like, decide}
-use Rattle.jr_plain.proofs.Searches.{lists, some_of, flat_of}
+use Rattle.jr_plain.proofs.Searches.{lists, some_of, every_of, among_filter, flat_of}
 use Rattle.jr_plain.proofs.Least.{closed, sound}
 use Rattle.jr_plain.proofs.OfTypes.{types_list, closed_types, sound_types}
 use Rattle.jr_plain.proofs.Same.{role_tells, pair_tells}
 use Rattle.jr_plain.proofs.Bounds.{member_below}
 use Rattle.jr_plain.proofs.Declared.{type_tells, class_tells, interface_tells}
-use Rattle.jr_plain.proofs.Enclosed.{declared_in_tells, declaring_finds}
+use Rattle.jr_plain.proofs.Enclosed.{most, declaring_finds}
 use Rattle.jr_plain.proofs.Children.{declared_list}
 use Rattle.jr_plain.proofs.Modified.{found_tells, in_interface_tells, public_tells, protected_tells, private_tells, static_tells}
 use Rattle.jr_plain.proofs.Packaged.{same_package_tells}
@@ -136,9 +136,17 @@ module _ (p : Rows) (t : Table) (headed : IsHeaded p) where
       into (Serves.overriding h) = inl (inr h)
       into (Serves.implementing h) = inr h
 
-  pub serves_not_tells : (c m b : ℕ) → Decides (plain.serves_not p t c m b) (ServesNot p t c m b)
-  serves_not_tells c m b = like (opposite (some_of (λ f. plain.serves p t c m f) (λ f. Serves p t c m f) (λ f. serves_tells c m f) (declared_by p b) (declared_list p headed.tree b)))
-      (λ h f x y. h (f, x, y)) (λ h k. h k.0 k.1 k.2)
+  serving_list : (c m b : ℕ) → Lists (plain.serving p t c m b) (λ f. DeclaredIn p b f × Serves p t c m f)
+  serving_list c m b f = like (among_filter nat_eq Decides-eqb (λ f. plain.serves p t c m f) (declared_by p b) f) (λ h. ((declared_list p headed.tree b f).0 h.0, (serves_tells c m f).0 h.1))
+      (λ h. ((declared_list p headed.tree b f).1 h.0, (serves_tells c m f).1 h.1))
+
+  pub serves_first_tells : (c m b f : ℕ) → Decides (plain.is_first_of (plain.serving p t c m b) f) (ServesFirst p t c m b f)
+  serves_first_tells c m b f = like (both (serving_list c m b f) (every_of (λ g. nat_le f g) (λ g. f ≤ g) (λ g. most f g) (plain.serving p t c m b) (serving_list c m b)))
+      (λ h. record { declared = h.0.0; serves = h.0.1; first = λ g d v. h.1 g (d, v) }) (λ h. ((h.declared, h.serves), λ g k. h.first g k.0 k.1))
+
+  pub serves_not_tells : (c m b : ℕ) → Decides (plain.is_none (plain.serving p t c m b)) (ServesNot p t c m b)
+  serves_not_tells c m b =
+      like (opposite (some_of (λ f. true) (λ f. Unit {0}) (λ f. always) (plain.serving p t c m b) (serving_list c m b))) (λ h f d v. h (f, (d, v), tt)) (λ h k. h k.0 k.1.0 k.1.1)
 
   module _ (c m f : ℕ) where
     -- the call finds f from s on, by the set or past the types
@@ -152,11 +160,11 @@ module _ (p : Rows) (t : Table) (headed : IsHeaded p) where
     some_superclass b = like (some_of (λ s. true) (λ s. Unit {0}) (λ s. always) (superclasses p t b) (superclasses_list p t headed b)) (λ h. (h.0, h.1)) (λ h. (h.0, h.1, tt))
 
     abbrev FoundBy : List ℕ → ℕ → Type 0
-    FoundBy set b = (DeclaredIn p b f × Serves p t c m f)
+    FoundBy set b = ServesFirst p t c m b f
         ⊎ (ServesNot p t c m b × (((s : ℕ) × Superclass p t b s × FoundAt set s) ⊎ ((f ≡ m) × (((s : ℕ) × Superclass p t b s) → ⊥))))
 
     found_by_tells : (set : List ℕ) (b : ℕ) → Decides (plain.is_found_by p t c m f set b) (FoundBy set b)
-    found_by_tells set b = either (both (declared_in_tells p b f) (serves_tells c m f))
+    found_by_tells set b = either (serves_first_tells c m b f)
         (both (serves_not_tells c m b) (either (some_of (plain.is_found_at p m f set) (FoundAt set) (found_at_tells set) (superclasses p t b) (superclasses_list p t headed b))
         (both (Decides-eqb f m) (opposite (some_superclass b)))))
 
@@ -167,7 +175,7 @@ module _ (p : Rows) (t : Table) (headed : IsHeaded p) where
     found_out = sound_types p (plain.is_found_by p t c m f) (λ b. FoundFrom p t c m b f) step
       where
         from : (set : List ℕ) → ((k : ℕ) → has set k ≡ true → FoundFrom p t c m k f) → (b : ℕ) → FoundBy set b → FoundFrom p t c m b f
-        from set holds b (inl h) = FoundFrom.here h.0 h.1
+        from set holds b (inl h) = FoundFrom.here h
         from set holds b (inr h) = ⊎_elim (λ k. FoundFrom.up h.0 k.1 (⊎_elim (holds k.0) (λ x. past_types k.0 x.0 x.1) k.2))
             (λ k. subst (λ x. FoundFrom p t c m b x) (sym k.0) (FoundFrom.end h.0 (λ s u. k.1 (s, u)))) h.1
 
@@ -178,7 +186,7 @@ module _ (p : Rows) (t : Table) (headed : IsHeaded p) where
     closed_found b type h = inl (closed_types p (plain.is_found_by p t c m f) b type ((found_by_tells (plain.finders p t c m f) b).1 h))
 
   found_into : (c m b f : ℕ) → FoundFrom p t c m b f → FoundAt c m f (plain.finders p t c m f) b
-  found_into c m b f (FoundFrom.here d v) = closed_found c m f b d.inside.type (inl (d, v))
+  found_into c m b f (FoundFrom.here h) = closed_found c m f b h.declared.inside.type (inl h)
   found_into c m b f (FoundFrom.up {s = s} none up more) = closed_found c m f b (superclass_source p t headed b s up) (inr (none, inl (s, up, found_into c m s f more)))
   found_into c m b _ (FoundFrom.end none top) = ⊎_elim (λ type. closed_found c m m b type (inr (none, inr (refl, λ h. top h.0 h.1)))) (λ apart. inr (apart, refl)) (decide (type_tells p b))
 

@@ -1,6 +1,6 @@
 -- Overriding, and the method that a call finds in a class, computed (JLS 8.4.8.1, 15.12.4.4).
-use Rattle.std.specs.Prelude.{ℕ, Bool, true, false, not, ◌&&◌, ◌||◌, List, [], ◌∷◌, length, flat_map, nat_eq}
-use Rattle.std.specs.List.{list_any}
+use Rattle.std.specs.Prelude.{ℕ, Bool, true, false, not, ◌&&◌, ◌||◌, List, [], ◌∷◌, length, filter, flat_map, nat_eq, nat_le}
+use Rattle.std.specs.List.{list_any, list_all}
 use Rattle.std.specs.Option.{option_map_or}
 use Rattle.jr_rows.specs.declared.label.Role.TheVariants as role
 use Rattle.jr_rows.specs.Rows.{Rows, role_at}
@@ -8,7 +8,7 @@ use Rattle.jr_defs.specs.Referents.{Table}
 use Rattle.jr_plain.specs.Search.{all_such, among, has, least}
 use Rattle.jr_plain.specs.Same.{same_role, same_pair}
 use Rattle.jr_plain.specs.Declarations.{is_type, types, is_class, is_interface}
-use Rattle.jr_plain.specs.Enclosing.{is_declared_in, declaring_type, declared_by}
+use Rattle.jr_plain.specs.Enclosing.{declaring_type, declared_by}
 use Rattle.jr_plain.specs.Modifiers.{is_public, is_protected, is_private, is_static, is_in_interface}
 use Rattle.jr_plain.specs.Packages.{is_same_package}
 use Rattle.jr_plain.specs.Supertypes.{superclasses, is_above, is_at_or_above}
@@ -62,9 +62,17 @@ implements p t c f m =
 abbrev pub serves : Rows → Table → ℕ → ℕ → ℕ → Bool
 serves p t c m f = nat_eq f m || overrides p t f m || implements p t c f m
 
--- the class b declares none that serves
-abbrev pub serves_not : Rows → Table → ℕ → ℕ → ℕ → Bool
-serves_not p t c m b = not (list_any (λ f. serves p t c m f) (declared_by p b))
+-- those that the class b declares and that serve
+abbrev pub serving : Rows → Table → ℕ → ℕ → ℕ → List ℕ
+serving p t c m b = filter (λ f. serves p t c m f) (declared_by p b)
+
+-- f is among the methods, and none of them stands before it in the text
+abbrev pub is_first_of : List ℕ → ℕ → Bool
+is_first_of methods f = has methods f && list_all (λ g. nat_le f g) methods
+
+-- there is none
+abbrev pub is_none : List ℕ → Bool
+is_none methods = not (list_any (λ f. true) methods)
 
 -- the call finds f from s on: by the set, or since s is no type and has nothing above it
 abbrev pub is_found_at : Rows → ℕ → ℕ → List ℕ → ℕ → Bool
@@ -72,8 +80,8 @@ is_found_at p m f set s = has set s || (not (is_type p s) && nat_eq f m)
 
 -- from the class b up its superclasses the first that serves is f, where the set has classes above from which it is; where none does it is m itself
 abbrev pub is_found_by : Rows → Table → ℕ → ℕ → ℕ → List ℕ → ℕ → Bool
-is_found_by p t c m f set b = (is_declared_in p b f && serves p t c m f)
-    || (serves_not p t c m b && (list_any (is_found_at p m f set) (superclasses p t b) || (nat_eq f m && not (list_any (λ s. true) (superclasses p t b)))))
+is_found_by p t c m f set b = let own = serving p t c m b in let up = superclasses p t b in
+    is_first_of own f || (is_none own && (list_any (is_found_at p m f set) up || (nat_eq f m && is_none up)))
 
 -- the classes from which up the call finds f
 abbrev pub finders : Rows → Table → ℕ → ℕ → ℕ → List ℕ

@@ -1,6 +1,7 @@
 // Tokens of declarations and units.
 ghost use Rattle.std.specs.Prelude.{◌≡◌, ◌++◌, OnOk};
 ghost use Rattle.std.specs.Option.{option_map};
+ghost use Rattle.jr_base.specs.declared.kind.Keyword.TheVariants as k;
 ghost use Rattle.jr_tree.specs.Mirror.Decls as d;
 ghost use Rattle.jr_tree.specs.Mirror.Stmts as s;
 ghost use Rattle.jr_tree.specs.Tokens as t;
@@ -11,8 +12,8 @@ use crate::words::{
     ident, mark, word, word_if, write_imports, write_modifiers, write_names_after, write_package,
     write_params, write_parent, write_result, write_type,
 };
-use jr_base::{Keyword, Kind, OutOfMemory, Symbol};
-use jr_tree::{Block, Member, TypeDecl, Unit};
+use jr_base::{Items, Keyword, Kind, OutOfMemory, Symbol, Text};
+use jr_tree::{Block, Declarator, Member, Modifier, Name, Param, TypeDecl, TypeUse, Unit};
 use std::alloc::Global;
 
 fn write_body(alloc: Global, out: &mut Vec<Kind>, body: &Option<Block>) -> Result<(), OutOfMemory>
@@ -22,6 +23,64 @@ fn write_body(alloc: Global, out: &mut Vec<Kind>, body: &Option<Block>) -> Resul
         None => mark(out, Symbol::Semicolon),
         Some(body) => write_block(alloc, out, body),
     }
+}
+
+/// The modifiers of a declaration, its word and its name.
+fn write_named(
+    alloc: Global,
+    out: &mut Vec<Kind>,
+    mods: &Items<Modifier>,
+    keyword: Keyword,
+    name: &Text,
+) -> Result<(), OutOfMemory>
+    ensures { OnOk result (out.new.items ≡ out.old.items ++ w.modifiers_tokens mods.now ++ w.word keyword ++ w.ident name.now) }
+{
+    write_modifiers(out, mods.as_slice())?;
+    word(out, keyword)?;
+    ident(alloc, out, name)
+}
+
+/// What a class extends and implements.
+fn write_parents(
+    alloc: Global,
+    out: &mut Vec<Kind>,
+    parent: &Option<Name>,
+    faces: &Items<Name>,
+) -> Result<(), OutOfMemory>
+    ensures { OnOk result (out.new.items ≡ out.old.items ++ w.parent_tokens parent.now ++ w.names_after k.Implements faces.now) }
+{
+    write_parent(alloc, out, parent)?;
+    write_names_after(alloc, out, Keyword::Implements, faces.as_slice())
+}
+
+fn write_field(
+    alloc: Global,
+    out: &mut Vec<Kind>,
+    mods: &Items<Modifier>,
+    ty: &TypeUse,
+    decls: &Items<Declarator>,
+) -> Result<(), OutOfMemory>
+    ensures { OnOk result (out.new.items ≡ out.old.items ++ t.member_tokens (d.Field mods.now ty.now (s.plain_declarators decls.now))) }
+{
+    write_modifiers(out, mods.as_slice())?;
+    write_type(alloc, out, ty)?;
+    write_declarators(alloc, out, decls.as_slice())?;
+    mark(out, Symbol::Semicolon)
+}
+
+/// The name of a method or a constructor, its parameters and what it throws.
+fn write_signature(
+    alloc: Global,
+    out: &mut Vec<Kind>,
+    name: &Text,
+    params: &Items<Param>,
+    thrown: &Items<Name>,
+) -> Result<(), OutOfMemory>
+    ensures { OnOk result (out.new.items ≡ out.old.items ++ w.ident name.now ++ w.params_tokens params.now ++ w.names_after k.Throws thrown.now) }
+{
+    ident(alloc, out, name)?;
+    write_params(alloc, out, params.as_slice())?;
+    write_names_after(alloc, out, Keyword::Throws, thrown.as_slice())
 }
 
 #[cycle(write_decl)]
@@ -36,11 +95,8 @@ fn write_decl(alloc: Global, out: &mut Vec<Kind>, decl: &TypeDecl) -> Result<(),
             faces,
             body,
         } => {
-            write_modifiers(out, mods.as_slice())?;
-            word(out, Keyword::Class)?;
-            ident(alloc, out, name)?;
-            write_parent(alloc, out, parent)?;
-            write_names_after(alloc, out, Keyword::Implements, faces.as_slice())?;
+            write_named(alloc, out, mods, Keyword::Class, name)?;
+            write_parents(alloc, out, parent, faces)?;
             write_members(alloc, out, body.as_slice())
         }
         TypeDecl::Interface {
@@ -49,9 +105,7 @@ fn write_decl(alloc: Global, out: &mut Vec<Kind>, decl: &TypeDecl) -> Result<(),
             faces,
             body,
         } => {
-            write_modifiers(out, mods.as_slice())?;
-            word(out, Keyword::Interface)?;
-            ident(alloc, out, name)?;
+            write_named(alloc, out, mods, Keyword::Interface, name)?;
             write_names_after(alloc, out, Keyword::Extends, faces.as_slice())?;
             write_members(alloc, out, body.as_slice())
         }
@@ -75,12 +129,7 @@ fn write_member(alloc: Global, out: &mut Vec<Kind>, member: &Member) -> Result<(
     ensures { OnOk result (out.new.items ≡ out.old.items ++ t.member_tokens (d.plain_member member.now)) }
 {
     match member {
-        Member::Field { mods, ty, decls } => {
-            write_modifiers(out, mods.as_slice())?;
-            write_type(alloc, out, ty)?;
-            write_declarators(alloc, out, decls.as_slice())?;
-            mark(out, Symbol::Semicolon)
-        }
+        Member::Field { mods, ty, decls } => write_field(alloc, out, mods, ty, decls),
         Member::Method {
             mods,
             result_,
@@ -91,9 +140,7 @@ fn write_member(alloc: Global, out: &mut Vec<Kind>, member: &Member) -> Result<(
         } => {
             write_modifiers(out, mods.as_slice())?;
             write_result(alloc, out, result_)?;
-            ident(alloc, out, name)?;
-            write_params(alloc, out, params.as_slice())?;
-            write_names_after(alloc, out, Keyword::Throws, thrown.as_slice())?;
+            write_signature(alloc, out, name, params, thrown)?;
             write_body(alloc, out, body)
         }
         Member::Constructor {
@@ -104,9 +151,7 @@ fn write_member(alloc: Global, out: &mut Vec<Kind>, member: &Member) -> Result<(
             body,
         } => {
             write_modifiers(out, mods.as_slice())?;
-            ident(alloc, out, name)?;
-            write_params(alloc, out, params.as_slice())?;
-            write_names_after(alloc, out, Keyword::Throws, thrown.as_slice())?;
+            write_signature(alloc, out, name, params, thrown)?;
             write_block(alloc, out, body)
         }
         Member::Init { is_static, body } => {

@@ -1,5 +1,6 @@
 // Tokens of expressions.
 ghost use Rattle.std.specs.Prelude.{◌≡◌, ◌++◌, OnOk};
+ghost use Rattle.jr_base.specs.declared.kind.Keyword.TheVariants as k;
 ghost use Rattle.jr_base.specs.declared.kind.Symbol.TheVariants as y;
 ghost use Rattle.jr_tree.specs.Mirror.Exprs as m;
 ghost use Rattle.jr_tree.specs.Tokens as e;
@@ -8,8 +9,8 @@ ghost use Rattle.jr_tree.specs.Words as t;
 use crate::words::{
     brackets, ident, mark, mark_if, word, write_base, write_name, write_token, write_type,
 };
-use jr_base::{Keyword, Kind, OutOfMemory, Symbol};
-use jr_tree::{Expr, Init, InitList, Name, Receiver};
+use jr_base::{Keyword, Kind, OutOfMemory, Symbol, Text};
+use jr_tree::{Base, Expr, Init, InitList, Name, Receiver, TypeUse};
 use std::alloc::Global;
 
 #[cycle(write_expr)]
@@ -19,69 +20,49 @@ pub fn write_expr(alloc: Global, out: &mut Vec<Kind>, expr: &Expr) -> Result<(),
     match expr {
         Expr::Assign { target, op, value } => {
             write_expr(alloc, out, target.get())?;
-            mark(out, *op)?;
-            write_expr(alloc, out, value.get())
+            write_behind(alloc, out, *op, value.get())
         }
         Expr::Cond { cond, yes, no } => {
             write_expr(alloc, out, cond.get())?;
-            mark(out, Symbol::Question)?;
-            write_expr(alloc, out, yes.get())?;
-            mark(out, Symbol::Colon)?;
-            write_expr(alloc, out, no.get())
+            write_behind(alloc, out, Symbol::Question, yes.get())?;
+            write_behind(alloc, out, Symbol::Colon, no.get())
         }
         Expr::Binary { left, op, right } => {
             write_expr(alloc, out, left.get())?;
-            mark(out, *op)?;
-            write_expr(alloc, out, right.get())
+            write_behind(alloc, out, *op, right.get())
         }
         Expr::IsA { value, ty } => {
             write_expr(alloc, out, value.get())?;
-            word(out, Keyword::Instanceof)?;
-            write_type(alloc, out, ty)
+            write_tested_type(alloc, out, ty)
         }
-        Expr::Unary { op, value } => {
-            mark(out, *op)?;
-            write_expr(alloc, out, value.get())
-        }
+        Expr::Unary { op, value } => write_behind(alloc, out, *op, value.get()),
         Expr::Cast { ty, value } => {
-            mark(out, Symbol::OpenParen)?;
-            write_type(alloc, out, ty)?;
-            mark(out, Symbol::CloseParen)?;
+            write_cast_type(alloc, out, ty)?;
             write_expr(alloc, out, value.get())
         }
-        Expr::PreStep { op, value } => {
-            mark(out, *op)?;
-            write_expr(alloc, out, value.get())
-        }
+        Expr::PreStep { op, value } => write_behind(alloc, out, *op, value.get()),
         Expr::PostStep { value, op } => {
             write_expr(alloc, out, value.get())?;
             mark(out, *op)
         }
-        Expr::Lit { kind } => write_token(out, kind.copy(alloc)?),
-        Expr::This { name } => {
-            write_qualifier(alloc, out, name)?;
-            word(out, Keyword::This)
-        }
+        Expr::Lit { kind } => write_literal(alloc, out, kind),
+        Expr::This { name } => write_this(alloc, out, name),
         Expr::Paren { inner } => {
-            mark(out, Symbol::OpenParen)?;
-            write_expr(alloc, out, inner.get())?;
+            write_behind(alloc, out, Symbol::OpenParen, inner.get())?;
             mark(out, Symbol::CloseParen)
         }
         Expr::NameExpr { name } => write_name(alloc, out, name),
         Expr::Select { object, name } => {
             write_expr(alloc, out, object.get())?;
-            mark(out, Symbol::Dot)?;
-            ident(alloc, out, name)
+            write_selected(alloc, out, name)
         }
         Expr::SuperSelect { name } => {
             word(out, Keyword::Super)?;
-            mark(out, Symbol::Dot)?;
-            ident(alloc, out, name)
+            write_selected(alloc, out, name)
         }
         Expr::Index { array, at } => {
             write_expr(alloc, out, array.get())?;
-            mark(out, Symbol::OpenBracket)?;
-            write_expr(alloc, out, at.get())?;
+            write_behind(alloc, out, Symbol::OpenBracket, at.get())?;
             mark(out, Symbol::CloseBracket)
         }
         Expr::Call {
@@ -97,8 +78,7 @@ pub fn write_expr(alloc: Global, out: &mut Vec<Kind>, expr: &Expr) -> Result<(),
             write_args(alloc, out, args.as_slice())
         }
         Expr::New { name, args } => {
-            word(out, Keyword::New)?;
-            write_name(alloc, out, name)?;
+            write_created(alloc, out, name)?;
             write_args(alloc, out, args.as_slice())
         }
         Expr::NewArray {
@@ -107,8 +87,7 @@ pub fn write_expr(alloc: Global, out: &mut Vec<Kind>, expr: &Expr) -> Result<(),
             more,
             init,
         } => {
-            word(out, Keyword::New)?;
-            write_base(alloc, out, base)?;
+            write_element(alloc, out, base)?;
             write_dims(alloc, out, dims.as_slice())?;
             brackets(out, *more)?;
             match init {
@@ -117,6 +96,74 @@ pub fn write_expr(alloc: Global, out: &mut Vec<Kind>, expr: &Expr) -> Result<(),
             }
         }
     }
+}
+
+/// A symbol, and an expression behind it.
+#[cycle(write_expr)]
+fn write_behind(
+    alloc: Global,
+    out: &mut Vec<Kind>,
+    symbol: Symbol,
+    expr: &Expr,
+) -> Result<(), OutOfMemory>
+    ensures { OnOk result (out.new.items ≡ out.old.items ++ t.mark symbol ++ e.expr_tokens (m.plain_expr expr.now)) }
+{
+    mark(out, symbol)?;
+    write_expr(alloc, out, expr)
+}
+
+fn write_literal(alloc: Global, out: &mut Vec<Kind>, kind: &Kind) -> Result<(), OutOfMemory>
+    ensures { OnOk result (out.new.items ≡ out.old.items ++ e.expr_tokens (m.Lit kind.now)) }
+{
+    write_token(out, kind.copy(alloc)?)
+}
+
+fn write_this(alloc: Global, out: &mut Vec<Kind>, class: &Option<Name>) -> Result<(), OutOfMemory>
+    ensures { OnOk result (out.new.items ≡ out.old.items ++ e.expr_tokens (m.This class.now)) }
+{
+    write_qualifier(alloc, out, class)?;
+    word(out, Keyword::This)
+}
+
+/// The type of a test, behind its value.
+fn write_tested_type(alloc: Global, out: &mut Vec<Kind>, ty: &TypeUse) -> Result<(), OutOfMemory>
+    ensures { OnOk result (out.new.items ≡ out.old.items ++ t.word k.Instanceof ++ t.type_tokens ty.now) }
+{
+    word(out, Keyword::Instanceof)?;
+    write_type(alloc, out, ty)
+}
+
+/// The type of a cast, in parentheses.
+fn write_cast_type(alloc: Global, out: &mut Vec<Kind>, ty: &TypeUse) -> Result<(), OutOfMemory>
+    ensures { OnOk result (out.new.items ≡ out.old.items ++ t.parens (t.type_tokens ty.now)) }
+{
+    mark(out, Symbol::OpenParen)?;
+    write_type(alloc, out, ty)?;
+    mark(out, Symbol::CloseParen)
+}
+
+/// A member's name, behind what it is selected from.
+fn write_selected(alloc: Global, out: &mut Vec<Kind>, name: &Text) -> Result<(), OutOfMemory>
+    ensures { OnOk result (out.new.items ≡ out.old.items ++ t.mark y.Dot ++ t.ident name.now) }
+{
+    mark(out, Symbol::Dot)?;
+    ident(alloc, out, name)
+}
+
+/// The class of a new object.
+fn write_created(alloc: Global, out: &mut Vec<Kind>, class: &Name) -> Result<(), OutOfMemory>
+    ensures { OnOk result (out.new.items ≡ out.old.items ++ t.word k.New ++ t.name_tokens class.now) }
+{
+    word(out, Keyword::New)?;
+    write_name(alloc, out, class)
+}
+
+/// The element type of a new array.
+fn write_element(alloc: Global, out: &mut Vec<Kind>, base: &Base) -> Result<(), OutOfMemory>
+    ensures { OnOk result (out.new.items ≡ out.old.items ++ t.word k.New ++ t.base_tokens base.now) }
+{
+    word(out, Keyword::New)?;
+    write_base(alloc, out, base)
 }
 
 fn write_qualifier(
@@ -158,8 +205,7 @@ pub fn write_exprs(alloc: Global, out: &mut Vec<Kind>, exprs: &[Expr]) -> Result
     if let [first, rest @ ..] = exprs {
         write_expr(alloc, out, first)?;
         for expr in rest {
-            mark(out, Symbol::Comma)?;
-            write_expr(alloc, out, expr)?;
+            write_behind(alloc, out, Symbol::Comma, expr)?;
         }
     }
     Ok(())
@@ -179,8 +225,7 @@ fn write_dims(alloc: Global, out: &mut Vec<Kind>, dims: &[Expr]) -> Result<(), O
     ensures { OnOk result (out.new.items ≡ out.old.items ++ e.dims_tokens (m.plain_exprs dims.now)) }
 {
     for dim in dims {
-        mark(out, Symbol::OpenBracket)?;
-        write_expr(alloc, out, dim)?;
+        write_behind(alloc, out, Symbol::OpenBracket, dim)?;
         mark(out, Symbol::CloseBracket)?;
     }
     Ok(())

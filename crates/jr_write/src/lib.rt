@@ -6,6 +6,7 @@ ghost use Rattle.jr_tree.specs.Tokens as t;
 
 mod decl;
 mod expr;
+mod simple;
 mod stmt;
 mod words;
 

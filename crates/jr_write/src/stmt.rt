@@ -1,13 +1,17 @@
 // Tokens of statements.
 ghost use Rattle.std.specs.Prelude.{◌≡◌, ◌++◌, OnOk};
 ghost use Rattle.std.specs.Option.{option_map};
+ghost use Rattle.jr_base.specs.declared.kind.Symbol.TheVariants as y;
 ghost use Rattle.jr_tree.specs.Mirror.Exprs as x;
 ghost use Rattle.jr_tree.specs.Mirror.Stmts as m;
 ghost use Rattle.jr_tree.specs.Tokens as s;
 ghost use Rattle.jr_tree.specs.Words as t;
 
-use crate::expr::{write_args, write_expr, write_exprs, write_init};
-use crate::words::{brackets, ident, mark, which_word, word, word_if, write_param, write_type};
+use crate::expr::{write_expr, write_exprs, write_init};
+use crate::simple::{
+    write_ctor_call, write_eval, write_jump, write_local, write_return, write_throw,
+};
+use crate::words::{brackets, ident, mark, word, word_if, write_param, write_type};
 use jr_base::{Keyword, Kind, OutOfMemory, Symbol, Text};
 use jr_tree::{Block, Catch, Declarator, Expr, ForInit, Group, Stmt, SwitchLabel, TypeUse};
 use std::alloc::Global;
@@ -47,7 +51,7 @@ pub fn write_declarators(
     Ok(())
 }
 
-fn write_locals(
+pub fn write_locals(
     alloc: Global,
     out: &mut Vec<Kind>,
     is_final: bool,
@@ -119,7 +123,11 @@ fn write_cond(alloc: Global, out: &mut Vec<Kind>, cond: &Expr) -> Result<(), Out
     mark(out, Symbol::CloseParen)
 }
 
-fn write_value(alloc: Global, out: &mut Vec<Kind>, value: &Option<Expr>) -> Result<(), OutOfMemory>
+pub fn write_value(
+    alloc: Global,
+    out: &mut Vec<Kind>,
+    value: &Option<Expr>,
+) -> Result<(), OutOfMemory>
     ensures { OnOk result (out.new.items ≡ out.old.items ++ t.if_some s.expr_tokens (option_map x.plain_expr value.now)) }
 {
     match value {
@@ -128,7 +136,11 @@ fn write_value(alloc: Global, out: &mut Vec<Kind>, value: &Option<Expr>) -> Resu
     }
 }
 
-fn write_target(alloc: Global, out: &mut Vec<Kind>, label: &Option<Text>) -> Result<(), OutOfMemory>
+pub fn write_target(
+    alloc: Global,
+    out: &mut Vec<Kind>,
+    label: &Option<Text>,
+) -> Result<(), OutOfMemory>
     ensures { OnOk result (out.new.items ≡ out.old.items ++ t.if_some t.ident label.now) }
 {
     match label {
@@ -157,6 +169,27 @@ fn write_header(
     mark(out, Symbol::CloseParen)
 }
 
+/// A word and a condition in parentheses.
+fn write_headed(
+    alloc: Global,
+    out: &mut Vec<Kind>,
+    keyword: Keyword,
+    cond: &Expr,
+) -> Result<(), OutOfMemory>
+    ensures { OnOk result (out.new.items ≡ out.old.items ++ t.word keyword ++ s.cond_tokens (x.plain_expr cond.now)) }
+{
+    word(out, keyword)?;
+    write_cond(alloc, out, cond)
+}
+
+/// A label and its colon.
+fn write_colon_behind(alloc: Global, out: &mut Vec<Kind>, label: &Text) -> Result<(), OutOfMemory>
+    ensures { OnOk result (out.new.items ≡ out.old.items ++ t.ident label.now ++ t.mark y.Colon) }
+{
+    ident(alloc, out, label)?;
+    mark(out, Symbol::Colon)
+}
+
 #[cycle(write_stmt)]
 pub fn write_stmt(alloc: Global, out: &mut Vec<Kind>, stmt: &Stmt) -> Result<(), OutOfMemory>
     ensures { OnOk result (out.new.items ≡ out.old.items ++ s.stmt_tokens (m.plain_stmt stmt.now)) }
@@ -167,26 +200,20 @@ pub fn write_stmt(alloc: Global, out: &mut Vec<Kind>, stmt: &Stmt) -> Result<(),
             is_final,
             ty,
             decls,
-        } => {
-            write_locals(alloc, out, *is_final, ty, decls.as_slice())?;
-            mark(out, Symbol::Semicolon)
-        }
+        } => write_local(alloc, out, *is_final, ty, decls),
         Stmt::Skip => mark(out, Symbol::Semicolon),
         Stmt::Do { body, cond } => {
             word(out, Keyword::Do)?;
             write_stmt(alloc, out, body.get())?;
-            word(out, Keyword::While)?;
-            write_cond(alloc, out, cond)?;
+            write_headed(alloc, out, Keyword::While, cond)?;
             mark(out, Symbol::Semicolon)
         }
         Stmt::While { cond, body } => {
-            word(out, Keyword::While)?;
-            write_cond(alloc, out, cond)?;
+            write_headed(alloc, out, Keyword::While, cond)?;
             write_stmt(alloc, out, body.get())
         }
         Stmt::If { cond, yes, no } => {
-            word(out, Keyword::If)?;
-            write_cond(alloc, out, cond)?;
+            write_headed(alloc, out, Keyword::If, cond)?;
             write_stmt(alloc, out, yes.get())?;
             match no {
                 None => Ok(()),
@@ -196,10 +223,7 @@ pub fn write_stmt(alloc: Global, out: &mut Vec<Kind>, stmt: &Stmt) -> Result<(),
                 }
             }
         }
-        Stmt::Eval { value } => {
-            write_expr(alloc, out, value)?;
-            mark(out, Symbol::Semicolon)
-        }
+        Stmt::Eval { value } => write_eval(alloc, out, value),
         Stmt::For {
             first,
             cond,
@@ -210,37 +234,17 @@ pub fn write_stmt(alloc: Global, out: &mut Vec<Kind>, stmt: &Stmt) -> Result<(),
             write_stmt(alloc, out, body.get())
         }
         Stmt::Switch { value, groups } => {
-            word(out, Keyword::Switch)?;
-            write_cond(alloc, out, value)?;
-            mark(out, Symbol::OpenBrace)?;
-            write_groups(alloc, out, groups.as_slice())?;
-            mark(out, Symbol::CloseBrace)
+            write_headed(alloc, out, Keyword::Switch, value)?;
+            write_groups(alloc, out, groups.as_slice())
         }
         Stmt::Labeled { label, body } => {
-            ident(alloc, out, label)?;
-            mark(out, Symbol::Colon)?;
+            write_colon_behind(alloc, out, label)?;
             write_stmt(alloc, out, body.get())
         }
-        Stmt::Break { label } => {
-            word(out, Keyword::Break)?;
-            write_target(alloc, out, label)?;
-            mark(out, Symbol::Semicolon)
-        }
-        Stmt::Continue { label } => {
-            word(out, Keyword::Continue)?;
-            write_target(alloc, out, label)?;
-            mark(out, Symbol::Semicolon)
-        }
-        Stmt::Return { value } => {
-            word(out, Keyword::Return)?;
-            write_value(alloc, out, value)?;
-            mark(out, Symbol::Semicolon)
-        }
-        Stmt::Throw { value } => {
-            word(out, Keyword::Throw)?;
-            write_expr(alloc, out, value)?;
-            mark(out, Symbol::Semicolon)
-        }
+        Stmt::Break { label } => write_jump(alloc, out, Keyword::Break, label),
+        Stmt::Continue { label } => write_jump(alloc, out, Keyword::Continue, label),
+        Stmt::Return { value } => write_return(alloc, out, value),
+        Stmt::Throw { value } => write_throw(alloc, out, value),
         Stmt::Try {
             body,
             catches,
@@ -257,11 +261,7 @@ pub fn write_stmt(alloc: Global, out: &mut Vec<Kind>, stmt: &Stmt) -> Result<(),
                 }
             }
         }
-        Stmt::CtorCall { which, args } => {
-            word(out, which_word(*which))?;
-            write_args(alloc, out, args.as_slice())?;
-            mark(out, Symbol::Semicolon)
-        }
+        Stmt::CtorCall { which, args } => write_ctor_call(alloc, out, *which, args),
     }
 }
 
@@ -284,14 +284,16 @@ pub fn write_stmts(alloc: Global, out: &mut Vec<Kind>, stmts: &[Stmt]) -> Result
     Ok(())
 }
 
+/// Groups in braces.
 #[cycle(write_stmt)]
 fn write_groups(alloc: Global, out: &mut Vec<Kind>, groups: &[Group]) -> Result<(), OutOfMemory>
-    ensures { OnOk result (out.new.items ≡ out.old.items ++ s.groups_tokens (m.plain_groups groups.now)) }
+    ensures { OnOk result (out.new.items ≡ out.old.items ++ t.in_braces (s.groups_tokens (m.plain_groups groups.now))) }
 {
+    mark(out, Symbol::OpenBrace)?;
     for group in groups {
         write_group(alloc, out, group)?;
     }
-    Ok(())
+    mark(out, Symbol::CloseBrace)
 }
 
 #[cycle(write_stmt)]

@@ -1,7 +1,6 @@
 //! Commits changes of many files, for trials of crashes and of cost.
 #![tactic(auto)]
 
-mod limits;
 mod trial;
 
 use jr_base::{OutOfMemory, Text};

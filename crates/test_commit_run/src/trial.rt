@@ -1,11 +1,11 @@
 // What the words ask for: recovery, and then a commit of many files.
 ghost use Rattle.std.specs.Prelude.{◌≤◌};
 
-use crate::limits::are_within_limits;
 use jr_base::{Files, OutOfMemory, Path, PathFault, Text, parse_number};
-use jr_commit::{Plan, RecoverFault, Recovered, commit, journal_fits, recover};
+use jr_commit::{RecoverFault, Recovered, commit, recover};
 use jr_store::Store;
 use std::alloc::Global;
+use test_store::plan_of;
 
 /// What the program did.
 #[derive(Drop)]
@@ -60,15 +60,6 @@ fn files_of(alloc: Global, count: u32, text: &[u8]) -> Result<Files, OutOfMemory
         files.insert(path(alloc, number)?, text.to_vec(alloc)?)?;
     }
     Ok(files)
-}
-
-// The plan of a change, where both sides are within the limits.
-fn plan_of(alloc: Global, old: &Files, new: &Files) -> Result<Option<Plan>, OutOfMemory> {
-    if !are_within_limits(old) || !are_within_limits(new) {
-        return Ok(None);
-    }
-    journal_fits(old, new);
-    Ok(Some(Plan::new(alloc, old, new)?))
 }
 
 // Commits the change of so many files from one text to another.

@@ -1,244 +1,245 @@
-// Code from its operands.
+// Code from its operands. Each function takes a line, whose second number says what it makes, and all operands.
 
-use crate::error::ReadError;
-use crate::line::Line;
+use crate::line::{any_decl, decl, number};
 use crate::operators::{binary_op, step_op, unary_op};
-use jr_base::{Boxed, Items, Units};
+use crate::stacks::put;
+use jr_base::{Boxed, Items, TypeId, Units};
 use jr_core::Code;
 use jr_ty::{Const, Ty};
 use std::alloc::Global;
 
-/// The units of a string, which are written as numbers.
-pub fn text(alloc: Global, line: &Line<'_>) -> Result<Code, ReadError> {
+/// The units from the third number on.
+pub fn units(alloc: Global, line: &[u32]) -> Option<Units> {
     let mut units = Vec::new(alloc);
-    for word in line.words().iter().skip(1) {
-        match word.parse::<u16>() {
-            Ok(unit) => units.push(unit)?,
-            Err(_) => return Err(ReadError::BadLine),
-        }
+    for number in line.iter().skip(2) {
+        put(&mut units, (*number % 65536) as u16)?;
     }
-    Ok(Code::Lit {
-        value: Some(Const::Str(Units::new(units))),
-    })
+    Some(Units::new(units))
 }
 
 /// A constant other than a string.
-fn constant(line: &Line<'_>) -> Option<Const> {
-    let word = line.word(1);
-    match line.word(0) {
-        "true" => Some(Const::Bool(true)),
-        "false" => Some(Const::Bool(false)),
-        "byte" => Some(Const::Byte(word.parse::<i8>().ok()?)),
-        "short" => Some(Const::Short(word.parse::<i16>().ok()?)),
-        "char" => Some(Const::Char(word.parse::<u16>().ok()?)),
-        "int" => Some(Const::Int(word.parse::<i32>().ok()?)),
-        "long" => Some(Const::Long(word.parse::<i64>().ok()?)),
-        _ => None,
+fn plain_constant(line: &[u32]) -> Const {
+    let value = number(line, 2);
+    match number(line, 1) {
+        0 => Const::Bool(value == 1),
+        1 => Const::Byte(((value % 256) as u8).cast_signed()),
+        2 => Const::Short(((value % 65536) as u16).cast_signed()),
+        3 => Const::Char((value % 65536) as u16),
+        4 => Const::Int(value.cast_signed()),
+        _ => {
+            let low = u64::from(number(line, 3));
+            Const::Long((u64::from(value) * 4294967296 + low).cast_signed())
+        }
     }
 }
 
-/// Code that names nothing.
-fn bare(word: &str) -> Option<Code> {
-    match word {
-        "null" => Some(Code::Lit { value: None }),
-        "skip" => Some(Code::Skip),
-        "break" => Some(Code::Break { label: None }),
-        "continue" => Some(Code::Continue { label: None }),
-        "return" => Some(Code::Return { value: None }),
-        _ => None,
+pub fn constant(alloc: Global, line: &[u32]) -> Option<Const> {
+    if number(line, 1) < 6 {
+        return Some(plain_constant(line));
+    }
+    match units(alloc, line) {
+        Some(units) => Some(Const::Str(units)),
+        None => None,
     }
 }
 
-/// Code that names a declaration.
-fn named(line: &Line<'_>) -> Option<Code> {
-    let decl = line.decl(1)?;
-    match line.word(0) {
-        "this" => Some(Code::This {
-            class: line.class(1)?,
-        }),
-        "var" => Some(Code::Var { local: decl }),
-        "field" => Some(Code::FieldAt {
+fn leaf_stmt(line: &[u32]) -> Code {
+    let label = any_decl(number(line, 2), number(line, 3));
+    match number(line, 1) {
+        5 => Code::Break { label },
+        6 => Code::Continue { label },
+        7 => Code::Return { value: None },
+        _ => Code::Skip,
+    }
+}
+
+pub fn leaf(line: &[u32]) -> Code {
+    let decl = decl(number(line, 2), number(line, 3));
+    match number(line, 1) {
+        0 => Code::Lit { value: None },
+        1 => Code::This {
+            class: TypeId(decl),
+        },
+        2 => Code::Var { local: decl },
+        3 => Code::FieldAt {
             on: None,
             field: decl,
-        }),
-        "declare" => Some(Code::Local {
+        },
+        4 => Code::Local {
             local: decl,
             init: None,
-        }),
-        "break_to" => Some(Code::Break { label: Some(decl) }),
-        "continue_to" => Some(Code::Continue { label: Some(decl) }),
-        _ => None,
+        },
+        _ => leaf_stmt(line),
     }
 }
 
-/// Code without operands.
-pub fn leaf(line: &Line<'_>) -> Option<Code> {
-    match constant(line) {
-        Some(value) => Some(Code::Lit { value: Some(value) }),
-        None => match bare(line.word(0)) {
-            Some(code) => Some(code),
-            None => named(line),
+fn one_stmt(line: &[u32], value: Boxed<Code>) -> Code {
+    let decl = decl(number(line, 2), number(line, 3));
+    match number(line, 1) {
+        6 => Code::Local {
+            local: decl,
+            init: Some(value),
+        },
+        7 => Code::Eval { value },
+        8 => Code::Labeled {
+            label: decl,
+            body: value,
+        },
+        9 => Code::Return { value: Some(value) },
+        _ => Code::Throw { value },
+    }
+}
+
+pub fn of_one(line: &[u32], value: Boxed<Code>) -> Code {
+    let named = number(line, 2);
+    match number(line, 1) {
+        0 => Code::Unary {
+            op: unary_op(named),
+            value,
+        },
+        1 => Code::PreStep {
+            op: step_op(named),
+            target: value,
+        },
+        2 => Code::PostStep {
+            target: value,
+            op: step_op(named),
+        },
+        3 => Code::FieldAt {
+            on: Some(value),
+            field: decl(named, number(line, 3)),
+        },
+        4 => Code::Length { array: value },
+        5 => Code::Show { value },
+        _ => one_stmt(line, value),
+    }
+}
+
+pub fn of_type(line: &[u32], ty: Ty, value: Boxed<Code>) -> Code {
+    match number(line, 1) {
+        0 => Code::Cast { ty, value },
+        _ => Code::IsA { value, ty },
+    }
+}
+
+fn two_stmt(line: &[u32], left: Boxed<Code>, right: Boxed<Code>) -> Code {
+    match number(line, 1) {
+        6 => Code::Do {
+            body: left,
+            cond: right,
+        },
+        7 => Code::While {
+            cond: left,
+            body: right,
+        },
+        _ => Code::If {
+            cond: left,
+            yes: right,
+            no: None,
         },
     }
 }
 
-/// Code with one operand.
-pub fn of_one(line: &Line<'_>, value: Boxed<Code>) -> Option<Code> {
-    match line.word(0) {
-        "unary" => Some(Code::Unary {
-            op: unary_op(line.word(1))?,
-            value,
-        }),
-        "pre" => Some(Code::PreStep {
-            op: step_op(line.word(1))?,
-            target: value,
-        }),
-        "post" => Some(Code::PostStep {
-            target: value,
-            op: step_op(line.word(1))?,
-        }),
-        "field_of" => Some(Code::FieldAt {
-            on: Some(value),
-            field: line.decl(1)?,
-        }),
-        "length" => Some(Code::Length { array: value }),
-        "show" => Some(Code::Show { value }),
-        "local" => Some(Code::Local {
-            local: line.decl(1)?,
-            init: Some(value),
-        }),
-        "eval" => Some(Code::Eval { value }),
-        "labeled" => Some(Code::Labeled {
-            label: line.decl(1)?,
-            body: value,
-        }),
-        "return_value" => Some(Code::Return { value: Some(value) }),
-        "throw" => Some(Code::Throw { value }),
-        _ => None,
-    }
-}
-
-/// Code with two operands, in the order of the text.
-pub fn of_two(line: &Line<'_>, left: Boxed<Code>, right: Boxed<Code>) -> Option<Code> {
-    match line.word(0) {
-        "assign" => Some(Code::Assign {
+pub fn of_two(line: &[u32], left: Boxed<Code>, right: Boxed<Code>) -> Code {
+    let op = binary_op(number(line, 2));
+    match number(line, 1) {
+        0 => Code::Binary { left, op, right },
+        1 => Code::AndAlso { left, right },
+        2 => Code::OrElse { left, right },
+        3 => Code::Index {
+            array: left,
+            at: right,
+        },
+        4 => Code::Assign {
             target: left,
             op: None,
             value: right,
-        }),
-        "compound" => Some(Code::Assign {
+        },
+        5 => Code::Assign {
             target: left,
-            op: Some(binary_op(line.word(1))?),
+            op: Some(op),
             value: right,
-        }),
-        "and_also" => Some(Code::AndAlso { left, right }),
-        "or_else" => Some(Code::OrElse { left, right }),
-        "binary" => Some(Code::Binary {
-            left,
-            op: binary_op(line.word(1))?,
-            right,
-        }),
-        "index" => Some(Code::Index {
-            array: left,
-            at: right,
-        }),
-        "do" => Some(Code::Do {
-            body: left,
-            cond: right,
-        }),
-        "while" => Some(Code::While {
-            cond: left,
-            body: right,
-        }),
-        "if" => Some(Code::If {
-            cond: left,
-            yes: right,
-            no: None,
-        }),
-        _ => None,
+        },
+        _ => two_stmt(line, left, right),
     }
 }
 
-/// Code with three operands.
-pub fn of_three(
-    line: &Line<'_>,
-    cond: Boxed<Code>,
-    yes: Boxed<Code>,
-    no: Boxed<Code>,
-) -> Option<Code> {
-    match line.word(0) {
-        "cond" => Some(Code::Cond { cond, yes, no }),
-        "if_else" => Some(Code::If {
+pub fn of_three(line: &[u32], cond: Boxed<Code>, yes: Boxed<Code>, no: Boxed<Code>) -> Code {
+    match number(line, 1) {
+        0 => Code::Cond { cond, yes, no },
+        _ => Code::If {
             cond,
             yes,
             no: Some(no),
-        }),
-        _ => None,
+        },
     }
 }
 
-/// Code with a type and one operand.
-pub fn of_typed(line: &Line<'_>, ty: Ty, value: Boxed<Code>) -> Option<Code> {
-    match line.word(0) {
-        "cast" => Some(Code::Cast { ty, value }),
-        "is_a" => Some(Code::IsA { value, ty }),
-        _ => None,
-    }
-}
-
-/// Whether a list of operands stands behind one more operand.
-pub fn has_receiver(line: &Line<'_>) -> bool {
-    matches!(line.word(0), "call_on" | "new_in")
-}
-
-/// Code with a list of operands, behind one more where there is one.
-pub fn of_list(line: &Line<'_>, first: Option<Boxed<Code>>, args: Items<Code>) -> Option<Code> {
-    match line.word(0) {
-        "call" | "call_on" => Some(Code::Call {
-            receiver: first,
-            is_super: false,
-            method: line.decl(2)?,
+pub fn of_list(line: &[u32], args: Items<Code>) -> Code {
+    let decl = decl(number(line, 3), number(line, 4));
+    let form = number(line, 1);
+    match form {
+        0 => Code::Nest { stmts: args },
+        1 => Code::New {
+            outer: None,
+            ctor: decl,
             args,
-        }),
-        "super_call" => Some(Code::Call {
+        },
+        2 | 3 => Code::CtorCall {
+            is_super: form == 3,
+            ctor: decl,
+            args,
+        },
+        _ => Code::Call {
             receiver: None,
-            is_super: true,
-            method: line.decl(2)?,
+            is_super: form == 5,
+            method: decl,
             args,
-        }),
-        "new" | "new_in" => Some(Code::New {
-            outer: first,
-            ctor: line.decl(2)?,
-            args,
-        }),
-        "nest" => Some(Code::Nest { stmts: args }),
-        "this_ctor" => Some(Code::CtorCall {
-            is_super: false,
-            ctor: line.decl(2)?,
-            args,
-        }),
-        "super_ctor" => Some(Code::CtorCall {
-            is_super: true,
-            ctor: line.decl(2)?,
-            args,
-        }),
-        _ => None,
+        },
     }
 }
 
-/// A new array of a type, of dimensions or of items.
-pub fn of_array(alloc: Global, line: &Line<'_>, ty: Ty, list: Items<Code>) -> Code {
-    if line.word(0) == "array_of" {
-        Code::NewArray {
-            ty,
-            dims: Items::new(alloc),
-            init: Some(list),
-        }
-    } else {
-        Code::NewArray {
+pub fn of_call(line: &[u32], on: Boxed<Code>, args: Items<Code>) -> Code {
+    let decl = decl(number(line, 3), number(line, 4));
+    match number(line, 1) {
+        0 => Code::Call {
+            receiver: Some(on),
+            is_super: false,
+            method: decl,
+            args,
+        },
+        _ => Code::New {
+            outer: Some(on),
+            ctor: decl,
+            args,
+        },
+    }
+}
+
+pub fn of_array(alloc: Global, line: &[u32], ty: Ty, list: Items<Code>) -> Code {
+    match number(line, 1) {
+        0 => Code::NewArray {
             ty,
             dims: list,
             init: None,
-        }
+        },
+        _ => Code::NewArray {
+            ty,
+            dims: Items::new(alloc),
+            init: Some(list),
+        },
+    }
+}
+
+pub fn plain_type(line: &[u32]) -> Ty {
+    match number(line, 1) {
+        0 => Ty::Boolean,
+        1 => Ty::Byte,
+        2 => Ty::Short,
+        3 => Ty::Char,
+        4 => Ty::Int,
+        5 => Ty::Long,
+        6 => Ty::Void,
+        _ => Ty::Class(TypeId(decl(number(line, 2), number(line, 3)))),
     }
 }

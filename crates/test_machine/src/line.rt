@@ -1,69 +1,57 @@
-// Lines of a text.
+// The numbers of a line.
 
-use crate::error::ReadError;
+use crate::stacks::put;
 use jr_base::{CuId, DeclId, NodeAt, NodeId, TypeId};
 use std::alloc::Global;
 
-/// An instruction and its arguments.
-#[derive(Drop)]
-pub struct Line<'t> {
-    words: Vec<&'t str>,
+/// The numbers of a line.
+pub fn numbers(alloc: Global, text: &str) -> Option<Vec<u32>> {
+    let mut numbers = Vec::new(alloc);
+    for word in text.split_whitespace() {
+        let number = word.parse::<u32>().unwrap_or(0);
+        put(&mut numbers, number)?;
+    }
+    Some(numbers)
 }
 
-/// The declaration that is written `UNIT:NODE`.
-fn decl_of(word: &str) -> Option<DeclId> {
-    let mut parts = word.split(':');
-    let unit = parts.next()?.parse::<u32>().ok()?;
-    let node = parts.next()?.parse::<u32>().ok()?;
-    Some(DeclId {
+/// The number at this place, and 0 where there is none.
+pub fn number(line: &[u32], at: usize) -> u32 {
+    match line.get(at) {
+        Some(number) => *number,
+        None => 0,
+    }
+}
+
+/// The count at this place, and 0 where there is none.
+pub fn count(line: &[u32], at: usize) -> usize {
+    number(line, at) as usize
+}
+
+/// The declaration of this number in this unit.
+pub fn decl(unit: u32, node: u32) -> DeclId {
+    DeclId {
         at: NodeAt {
             cu: CuId(unit),
             node: NodeId(node),
         },
         part: 0,
-    })
+    }
 }
 
-impl<'t> Line<'t> {
-    /// The words of a line.
-    pub fn new(alloc: Global, text: &'t str) -> Result<Line<'t>, ReadError> {
-        let mut words = Vec::new(alloc);
-        for word in text.split_whitespace() {
-            words.push(word)?;
-        }
-        Ok(Line { words })
+/// The declaration, if the number is not 0.
+pub fn any_decl(unit: u32, node: u32) -> Option<DeclId> {
+    if node == 0 {
+        None
+    } else {
+        Some(decl(unit, node))
     }
+}
 
-    pub fn is_blank(&self) -> bool {
-        self.words.is_empty()
-    }
-
-    /// The word at this place, or nothing.
-    pub fn word(&self, at: usize) -> &'t str {
-        match self.words.get(at) {
-            Some(word) => word,
-            None => "",
-        }
-    }
-
-    /// All words.
-    pub fn words(&self) -> &[&'t str] {
-        &self.words
-    }
-
-    pub fn decl(&self, at: usize) -> Option<DeclId> {
-        decl_of(self.word(at))
-    }
-
-    pub fn class(&self, at: usize) -> Option<TypeId> {
-        match self.decl(at) {
-            Some(decl) => Some(TypeId(decl)),
-            None => None,
-        }
-    }
-
-    /// A count, and 0 where there is none.
-    pub fn count(&self, at: usize) -> usize {
-        self.word(at).parse::<usize>().unwrap_or(0)
+/// The class, if the number is not 0.
+pub fn any_class(unit: u32, node: u32) -> Option<TypeId> {
+    if node == 0 {
+        None
+    } else {
+        Some(TypeId(decl(unit, node)))
     }
 }

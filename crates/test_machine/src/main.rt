@@ -1,48 +1,40 @@
-//! Runs cores that are given as text, for trials of the reference machine and of its cost.
+//! Runs cores that are given as numbers, for trials of the reference machine and of its cost.
 //!
-//! Each line is an instruction with its arguments. Code stands in postfix order: a line takes its operands off a stack and
-//! puts the code that it makes on it. `start NAME METHOD STEPS` names a run; all runs are of the one core of the whole text.
+//! Each line is an instruction: its kind, in most kinds its form, and its arguments (`tools/machine/cores.py` has their names).
+//! Code stands in postfix order: a line takes its operands off stacks and puts what it makes on one.
 #![tactic(auto)]
 
 mod codes;
-mod error;
-mod heads;
 mod line;
 mod operators;
 mod reader;
 mod report;
-mod shape;
+mod stacks;
 
-use error::ReadError;
-use jr_machine::run;
-use line::Line;
+use line::numbers;
 use reader::Reader;
-use report::report;
 use std::alloc::Global;
 use std::io::{self, Read};
 use std::process::ExitCode;
 
-/// The core of a text, and its runs.
-fn read(alloc: Global, text: &str) -> Result<Reader, ReadError> {
-    let mut reader = Reader::new(alloc);
+fn read(alloc: Global, reader: &mut Reader, text: &str) -> Option<()> {
     for text in text.lines() {
-        let line = Line::new(alloc, text)?;
-        if !line.is_blank() {
-            reader.read(alloc, &line)?;
-        }
+        let line = numbers(alloc, text)?;
+        reader.read(alloc, line.as_slice())?;
     }
-    Ok(reader)
+    Some(())
 }
 
-/// What each run printed, and how it ended.
-fn reports(alloc: Global, text: &str) -> Result<String, ReadError> {
-    let (core, starts) = read(alloc, text)?.into_parts();
-    let mut lines = String::new(alloc);
-    for start in &starts {
-        let ran = run(alloc, &core, start.method, start.steps)?;
-        report(&mut lines, start.name.as_str(), &ran)?;
+/// What each run printed, and how it ended; nothing, where memory is short or the text is no core.
+fn reports(alloc: Global, text: &str) -> Option<String> {
+    let mut reader = Reader::new(alloc);
+    match read(alloc, &mut reader, text) {
+        Some(()) => Some(reader.into_report()),
+        None => {
+            drop(reader);
+            None
+        }
     }
-    Ok(lines)
 }
 
 fn main(rt: HostRuntime) -> ExitCode {
@@ -51,9 +43,8 @@ fn main(rt: HostRuntime) -> ExitCode {
         return ExitCode::from(8);
     };
     match reports(alloc, text.as_str()) {
-        Err(ReadError::BadLine) => ExitCode::from(1),
-        Err(ReadError::OutOfMemory) => ExitCode::from(10),
-        Ok(lines) => match rt.print(lines.as_str()) {
+        None => ExitCode::from(1),
+        Some(lines) => match rt.print(lines.as_str()) {
             Ok(()) => ExitCode::from(0),
             Err(_) => ExitCode::from(14),
         },

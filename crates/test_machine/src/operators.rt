@@ -1,44 +1,47 @@
-// Operators by their names.
+// Operators by their numbers.
 
 use jr_core::{BinaryOp, StepOp, UnaryOp};
 
-pub fn binary_op(word: &str) -> Option<BinaryOp> {
-    match word {
-        "multiply" => Some(BinaryOp::Multiply),
-        "divide" => Some(BinaryOp::Divide),
-        "remainder" => Some(BinaryOp::Remainder),
-        "add" => Some(BinaryOp::Add),
-        "subtract" => Some(BinaryOp::Subtract),
-        "shift_left" => Some(BinaryOp::ShiftLeft),
-        "shift_right" => Some(BinaryOp::ShiftRight),
-        "shift_right_unsigned" => Some(BinaryOp::ShiftRightUnsigned),
-        "less" => Some(BinaryOp::Less),
-        "greater" => Some(BinaryOp::Greater),
-        "less_equal" => Some(BinaryOp::LessEqual),
-        "greater_equal" => Some(BinaryOp::GreaterEqual),
-        "equal" => Some(BinaryOp::Equal),
-        "not_equal" => Some(BinaryOp::NotEqual),
-        "and" => Some(BinaryOp::And),
-        "xor" => Some(BinaryOp::Xor),
-        "or" => Some(BinaryOp::Or),
-        _ => None,
+fn comparison(number: u32) -> BinaryOp {
+    match number {
+        8 => BinaryOp::Less,
+        9 => BinaryOp::Greater,
+        10 => BinaryOp::LessEqual,
+        11 => BinaryOp::GreaterEqual,
+        12 => BinaryOp::Equal,
+        13 => BinaryOp::NotEqual,
+        14 => BinaryOp::And,
+        15 => BinaryOp::Xor,
+        _ => BinaryOp::Or,
     }
 }
 
-pub fn unary_op(word: &str) -> Option<UnaryOp> {
-    match word {
-        "plus" => Some(UnaryOp::Plus),
-        "minus" => Some(UnaryOp::Minus),
-        "complement" => Some(UnaryOp::Complement),
-        "not" => Some(UnaryOp::Not),
-        _ => None,
+pub fn binary_op(number: u32) -> BinaryOp {
+    match number {
+        0 => BinaryOp::Multiply,
+        1 => BinaryOp::Divide,
+        2 => BinaryOp::Remainder,
+        3 => BinaryOp::Add,
+        4 => BinaryOp::Subtract,
+        5 => BinaryOp::ShiftLeft,
+        6 => BinaryOp::ShiftRight,
+        7 => BinaryOp::ShiftRightUnsigned,
+        _ => comparison(number),
     }
 }
 
-pub fn step_op(word: &str) -> Option<StepOp> {
-    match word {
-        "increment" => Some(StepOp::Increment),
-        "decrement" => Some(StepOp::Decrement),
-        _ => None,
+pub fn unary_op(number: u32) -> UnaryOp {
+    match number {
+        0 => UnaryOp::Plus,
+        1 => UnaryOp::Minus,
+        2 => UnaryOp::Complement,
+        _ => UnaryOp::Not,
+    }
+}
+
+pub fn step_op(number: u32) -> StepOp {
+    match number {
+        0 => StepOp::Increment,
+        _ => StepOp::Decrement,
     }
 }

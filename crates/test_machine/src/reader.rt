@@ -1,52 +1,32 @@
 // Reading of a core.
 
 use crate::codes::{
-    has_receiver, leaf, of_array, of_list, of_one, of_three, of_two, of_typed, text,
+    constant, leaf, of_array, of_call, of_list, of_one, of_three, of_two, of_type, plain_type,
+    units,
 };
-use crate::error::ReadError;
-use crate::heads::{Parts, body};
-use crate::line::Line;
-use crate::shape::{Shape, shape_of};
-use jr_base::{Boxed, DeclId, Items};
-use jr_core::{Catch, Code, Core, Group, SwitchLabel};
+use crate::line::{any_class, count, decl, number};
+use crate::report::{report, report_name};
+use crate::stacks::{add, one, put, take};
+use jr_base::{DeclId, Items, TypeId};
+use jr_core::{Body, Catch, Class, Code, Core, Group, SwitchLabel};
+use jr_machine::run;
 use jr_ty::{Const, Ty};
 use std::alloc::Global;
-use std::mem;
 
-/// A run that is asked for.
-#[derive(Drop)]
-pub struct Start {
-    pub name: String,
-    pub method: DeclId,
-    pub steps: u64,
-}
-
-/// What was read so far, and what stands on the stacks.
+/// The core that was read so far, what stands on the stacks, and what runs of the core came to.
 #[derive(Drop)]
 pub struct Reader {
     codes: Vec<Code>,
     types: Vec<Ty>,
     groups: Vec<Group>,
     catches: Vec<Catch>,
-    labels: Items<SwitchLabel>,
-    constant: Option<Const>,
-    params: Items<DeclId>,
-    parts: Parts,
+    labels: Vec<SwitchLabel>,
+    constants: Vec<Const>,
+    decls: Vec<DeclId>,
+    faces: Vec<TypeId>,
+    found: Vec<(DeclId, DeclId)>,
     core: Core,
-    starts: Vec<Start>,
-}
-
-/// Takes so many items off, the uppermost last.
-fn take<T: Drop>(alloc: Global, stack: &mut Vec<T>, count: usize) -> Result<Items<T>, ReadError> {
-    let mut items = Vec::new(alloc);
-    for _ in 0..count {
-        match stack.pop() {
-            Some(item) => items.push(item)?,
-            None => return Err(ReadError::BadLine),
-        }
-    }
-    items.reverse();
-    Ok(Items::from_vec(items))
+    report: String,
 }
 
 impl Reader {
@@ -57,262 +37,258 @@ impl Reader {
             types: Vec::new(alloc),
             groups: Vec::new(alloc),
             catches: Vec::new(alloc),
-            labels: Items::new(alloc),
-            constant: None,
-            params: Items::new(alloc),
-            parts: Parts::new(alloc),
+            labels: Vec::new(alloc),
+            constants: Vec::new(alloc),
+            decls: Vec::new(alloc),
+            faces: Vec::new(alloc),
+            found: Vec::new(alloc),
             core: Core {
                 classes: Items::new(alloc),
                 bodies: Items::new(alloc),
             },
-            starts: Vec::new(alloc),
+            report: String::new(alloc),
         }
     }
 
-    /// The core, and the runs that are asked for.
-    pub fn into_parts(self) -> (Core, Vec<Start>) {
-        let Reader { core, starts, .. } = self;
-        (core, starts)
+    /// What the runs came to.
+    pub fn into_report(self) -> String {
+        let Reader { report, .. } = self;
+        report
     }
 
-    fn one(&mut self, alloc: Global) -> Result<Boxed<Code>, ReadError> {
-        match self.codes.pop() {
-            Some(code) => Ok(Boxed::new(alloc, code)?),
-            None => Err(ReadError::BadLine),
+    fn read_one(&mut self, alloc: Global, line: &[u32]) -> Option<()> {
+        let value = one(alloc, &mut self.codes)?;
+        put(&mut self.codes, of_one(line, value))
+    }
+
+    fn read_two(&mut self, alloc: Global, line: &[u32]) -> Option<()> {
+        let right = one(alloc, &mut self.codes)?;
+        let left = one(alloc, &mut self.codes)?;
+        put(&mut self.codes, of_two(line, left, right))
+    }
+
+    fn read_three(&mut self, alloc: Global, line: &[u32]) -> Option<()> {
+        let no = one(alloc, &mut self.codes)?;
+        let yes = one(alloc, &mut self.codes)?;
+        let cond = one(alloc, &mut self.codes)?;
+        put(&mut self.codes, of_three(line, cond, yes, no))
+    }
+
+    fn read_list(&mut self, alloc: Global, line: &[u32]) -> Option<()> {
+        let args = take(alloc, &mut self.codes, count(line, 2))?;
+        put(&mut self.codes, of_list(line, args))
+    }
+
+    fn read_call(&mut self, alloc: Global, line: &[u32]) -> Option<()> {
+        let args = take(alloc, &mut self.codes, count(line, 2))?;
+        let on = one(alloc, &mut self.codes)?;
+        put(&mut self.codes, of_call(line, on, args))
+    }
+
+    fn read_typed(&mut self, alloc: Global, line: &[u32]) -> Option<()> {
+        let value = one(alloc, &mut self.codes)?;
+        match self.types.pop() {
+            Some(ty) => put(&mut self.codes, of_type(line, ty, value)),
+            None => None,
         }
     }
 
-    fn ty(&mut self) -> Result<Ty, ReadError> {
-        self.types.pop().ok_or(ReadError::BadLine)
-    }
-
-    fn put(&mut self, code: Option<Code>) -> Result<(), ReadError> {
-        match code {
-            Some(code) => Ok(self.codes.push(code)?),
-            None => Err(ReadError::BadLine),
+    fn read_array(&mut self, alloc: Global, line: &[u32]) -> Option<()> {
+        let list = take(alloc, &mut self.codes, count(line, 2))?;
+        match self.types.pop() {
+            Some(ty) => put(&mut self.codes, of_array(alloc, line, ty, list)),
+            None => None,
         }
     }
 
-    fn read_leaf(&mut self, alloc: Global, line: &Line<'_>) -> Result<(), ReadError> {
-        if line.word(0) == "text" {
-            let code = text(alloc, line)?;
-            self.put(Some(code))
-        } else {
-            self.put(leaf(line))
+    fn read_literal(&mut self, alloc: Global, line: &[u32]) -> Option<()> {
+        let value = constant(alloc, line)?;
+        put(&mut self.codes, Code::Lit { value: Some(value) })
+    }
+
+    /// The value of the field that the next body is.
+    fn read_constant(&mut self, alloc: Global, line: &[u32]) -> Option<()> {
+        let value = constant(alloc, line)?;
+        put(&mut self.constants, value)
+    }
+
+    /// The array type of the last type, or another type.
+    fn read_type(&mut self, alloc: Global, line: &[u32]) -> Option<()> {
+        if number(line, 1) == 8 {
+            let item = one(alloc, &mut self.types)?;
+            return put(&mut self.types, Ty::Array(item));
         }
+        put(&mut self.types, plain_type(line))
     }
 
-    fn read_one(&mut self, alloc: Global, line: &Line<'_>) -> Result<(), ReadError> {
-        let value = self.one(alloc)?;
-        self.put(of_one(line, value))
-    }
-
-    fn read_two(&mut self, alloc: Global, line: &Line<'_>) -> Result<(), ReadError> {
-        let right = self.one(alloc)?;
-        let left = self.one(alloc)?;
-        self.put(of_two(line, left, right))
-    }
-
-    fn read_three(&mut self, alloc: Global, line: &Line<'_>) -> Result<(), ReadError> {
-        let no = self.one(alloc)?;
-        let yes = self.one(alloc)?;
-        let cond = self.one(alloc)?;
-        self.put(of_three(line, cond, yes, no))
-    }
-
-    /// `WORD COUNT ..`
-    fn read_list(&mut self, alloc: Global, line: &Line<'_>) -> Result<(), ReadError> {
-        let args = take(alloc, &mut self.codes, line.count(1))?;
-        if has_receiver(line) {
-            let first = self.one(alloc)?;
-            self.put(of_list(line, Some(first), args))
-        } else {
-            self.put(of_list(line, None, args))
-        }
-    }
-
-    /// `type NAME`, `type class CLASS`, or `type array` of the last type.
-    fn read_type(&mut self, alloc: Global, line: &Line<'_>) -> Result<(), ReadError> {
-        let ty = match line.word(1) {
-            "boolean" => Ty::Boolean,
-            "byte" => Ty::Byte,
-            "short" => Ty::Short,
-            "char" => Ty::Char,
-            "int" => Ty::Int,
-            "long" => Ty::Long,
-            "void" => Ty::Void,
-            "array" => Ty::Array(Boxed::new(alloc, self.ty()?)?),
-            _ => match line.class(2) {
-                Some(class) => Ty::Class(class),
-                None => return Err(ReadError::BadLine),
-            },
-        };
-        Ok(self.types.push(ty)?)
-    }
-
-    fn read_typed(&mut self, alloc: Global, line: &Line<'_>) -> Result<(), ReadError> {
-        let ty = self.ty()?;
-        let value = self.one(alloc)?;
-        self.put(of_typed(line, ty, value))
-    }
-
-    /// `new_array COUNT`, `array_of COUNT`
-    fn read_array(&mut self, alloc: Global, line: &Line<'_>) -> Result<(), ReadError> {
-        let ty = self.ty()?;
-        let list = take(alloc, &mut self.codes, line.count(1))?;
-        self.put(Some(of_array(alloc, line, ty, list)))
-    }
-
-    /// `for FIRST UPDATE`, with a condition, and `for_ever FIRST UPDATE` without one
-    fn read_for(&mut self, alloc: Global, line: &Line<'_>) -> Result<(), ReadError> {
-        let body = self.one(alloc)?;
-        let update = take(alloc, &mut self.codes, line.count(2))?;
-        let cond = match line.word(0) {
-            "for" => Some(self.one(alloc)?),
+    /// With a condition, or without one: `FORM FIRST UPDATE`
+    fn read_for(&mut self, alloc: Global, line: &[u32]) -> Option<()> {
+        let body = one(alloc, &mut self.codes)?;
+        let update = take(alloc, &mut self.codes, count(line, 3))?;
+        let cond = match number(line, 1) {
+            0 => Some(one(alloc, &mut self.codes)?),
             _ => None,
         };
-        let first = take(alloc, &mut self.codes, line.count(1))?;
-        self.put(Some(Code::For {
-            first,
-            cond,
-            update,
-            body,
-        }))
+        let first = take(alloc, &mut self.codes, count(line, 2))?;
+        put(
+            &mut self.codes,
+            Code::For {
+                first,
+                cond,
+                update,
+                body,
+            },
+        )
     }
 
-    fn label(&mut self, line: &Line<'_>) -> Result<(), ReadError> {
-        match line.word(1).parse::<i32>() {
-            Ok(value) => Ok(self.labels.push(SwitchLabel::Case(value))?),
-            Err(_) => Err(ReadError::BadLine),
-        }
-    }
-
-    fn group(&mut self, alloc: Global, line: &Line<'_>) -> Result<(), ReadError> {
-        let stmts = take(alloc, &mut self.codes, line.count(1))?;
-        let labels = mem::replace(&mut self.labels, Items::new(alloc));
-        Ok(self.groups.push(Group { labels, stmts })?)
-    }
-
-    fn switch(&mut self, alloc: Global, line: &Line<'_>) -> Result<(), ReadError> {
-        let groups = take(alloc, &mut self.groups, line.count(1))?;
-        let value = self.one(alloc)?;
-        self.put(Some(Code::Switch { value, groups }))
-    }
-
-    /// `case VALUE`, `default`, `group COUNT`, `switch COUNT`
-    fn read_switch(&mut self, alloc: Global, line: &Line<'_>) -> Result<(), ReadError> {
-        match line.word(0) {
-            "case" => self.label(line),
-            "default" => Ok(self.labels.push(SwitchLabel::Default)?),
-            "group" => self.group(alloc, line),
-            _ => self.switch(alloc, line),
-        }
-    }
-
-    fn catch(&mut self, alloc: Global, line: &Line<'_>) -> Result<(), ReadError> {
-        let body = take(alloc, &mut self.codes, line.count(1))?;
-        match (line.class(2), line.decl(3)) {
-            (Some(class), Some(param)) => Ok(self.catches.push(Catch { class, param, body })?),
-            _ => Err(ReadError::BadLine),
-        }
-    }
-
-    /// `catch COUNT CLASS PARAM`, `try COUNT CATCHES`, `try_finally COUNT CATCHES LAST`
-    fn read_try(&mut self, alloc: Global, line: &Line<'_>) -> Result<(), ReadError> {
-        if line.word(0) == "catch" {
-            return self.catch(alloc, line);
-        }
-        let last = match line.word(0) {
-            "try" => None,
-            _ => Some(take(alloc, &mut self.codes, line.count(3))?),
+    /// A label of a `switch`: `FORM VALUE`
+    fn read_label(&mut self, line: &[u32]) -> Option<()> {
+        let label = match number(line, 1) {
+            0 => SwitchLabel::Case(number(line, 2).cast_signed()),
+            _ => SwitchLabel::Default,
         };
-        let catches = take(alloc, &mut self.catches, line.count(2))?;
-        let body = take(alloc, &mut self.codes, line.count(1))?;
-        self.put(Some(Code::Try {
-            body,
-            catches,
-            last,
-        }))
+        put(&mut self.labels, label)
     }
 
-    fn read_class(&mut self, alloc: Global, line: &Line<'_>) -> Result<(), ReadError> {
-        if line.word(0) != "class" {
-            return self.parts.read(line);
-        }
-        let parts = mem::replace(&mut self.parts, Parts::new(alloc));
-        match line.class(1) {
-            Some(id) => Ok(self.core.classes.push(parts.into_class(id))?),
-            None => Err(ReadError::BadLine),
-        }
+    /// `STATEMENTS LABELS`
+    fn read_group(&mut self, alloc: Global, line: &[u32]) -> Option<()> {
+        let stmts = take(alloc, &mut self.codes, count(line, 1))?;
+        let labels = take(alloc, &mut self.labels, count(line, 2))?;
+        put(&mut self.groups, Group { labels, stmts })
     }
 
-    fn param(&mut self, line: &Line<'_>) -> Result<(), ReadError> {
-        match line.decl(1) {
-            Some(decl) => Ok(self.params.push(decl)?),
-            None => Err(ReadError::BadLine),
-        }
+    /// `GROUPS`
+    fn read_switch(&mut self, alloc: Global, line: &[u32]) -> Option<()> {
+        let groups = take(alloc, &mut self.groups, count(line, 1))?;
+        let value = one(alloc, &mut self.codes)?;
+        put(&mut self.codes, Code::Switch { value, groups })
     }
 
-    /// The last literal is the value of the field that the next body is.
-    fn constant(&mut self) -> Result<(), ReadError> {
-        match self.codes.pop() {
-            Some(Code::Lit { value }) => {
-                self.constant = value;
-                Ok(())
-            }
-            _ => Err(ReadError::BadLine),
-        }
+    /// `STATEMENTS CLASS PARAM`
+    fn read_catch(&mut self, alloc: Global, line: &[u32]) -> Option<()> {
+        let class = TypeId(decl(number(line, 2), number(line, 3)));
+        let param = decl(number(line, 4), number(line, 5));
+        let body = take(alloc, &mut self.codes, count(line, 1))?;
+        put(&mut self.catches, Catch { class, param, body })
     }
 
-    /// `param DECL`, `constant`, `body DECL CLASS COUNT ..`
-    fn read_body(&mut self, alloc: Global, line: &Line<'_>) -> Result<(), ReadError> {
-        match line.word(0) {
-            "param" => return self.param(line),
-            "constant" => return self.constant(),
-            _ => {}
-        }
-        let ty = self.ty()?;
-        let constant = mem::replace(&mut self.constant, None);
-        let params = mem::replace(&mut self.params, Items::new(alloc));
-        let code = take(alloc, &mut self.codes, line.count(3))?;
-        match body(line, ty, constant, params, code) {
-            Some(body) => Ok(self.core.bodies.push(body)?),
-            None => Err(ReadError::BadLine),
-        }
+    /// Without `finally`, or with it: `FORM STATEMENTS CATCHES STATEMENTS`
+    fn read_try(&mut self, alloc: Global, line: &[u32]) -> Option<()> {
+        let last = match number(line, 1) {
+            0 => None,
+            _ => Some(take(alloc, &mut self.codes, count(line, 4))?),
+        };
+        let catches = take(alloc, &mut self.catches, count(line, 3))?;
+        let body = take(alloc, &mut self.codes, count(line, 2))?;
+        put(
+            &mut self.codes,
+            Code::Try {
+                body,
+                catches,
+                last,
+            },
+        )
     }
 
-    /// `start NAME METHOD STEPS`
-    fn read_start(&mut self, alloc: Global, line: &Line<'_>) -> Result<(), ReadError> {
-        let name = String::from_str(alloc, line.word(1))?;
-        match (line.decl(2), line.word(3).parse::<u64>()) {
-            (Some(method), Ok(steps)) => Ok(
-                self.starts.push(Start {
-                    name,
-                    method,
-                    steps,
-                })?,
+    /// A face, a declaration, or what a call of a method runs.
+    fn read_decl(&mut self, line: &[u32]) -> Option<()> {
+        let decl_read = decl(number(line, 2), number(line, 3));
+        match number(line, 1) {
+            0 => put(&mut self.faces, TypeId(decl_read)),
+            1 => put(&mut self.decls, decl_read),
+            _ => put(
+                &mut self.found,
+                (decl_read, decl(number(line, 4), number(line, 5))),
             ),
-            _ => Err(ReadError::BadLine),
         }
     }
 
-    /// Reads a line.
-    pub fn read(&mut self, alloc: Global, line: &Line<'_>) -> Result<(), ReadError> {
-        match shape_of(line.word(0)) {
-            Shape::Leaf => self.read_leaf(alloc, line),
-            Shape::One => self.read_one(alloc, line),
-            Shape::Two => self.read_two(alloc, line),
-            Shape::Three => self.read_three(alloc, line),
-            Shape::List => self.read_list(alloc, line),
-            Shape::Type => self.read_type(alloc, line),
-            Shape::Typed => self.read_typed(alloc, line),
-            Shape::Array => self.read_array(alloc, line),
-            Shape::For => self.read_for(alloc, line),
-            Shape::Switch => self.read_switch(alloc, line),
-            Shape::Try => self.read_try(alloc, line),
-            Shape::Class => self.read_class(alloc, line),
-            Shape::Body => self.read_body(alloc, line),
-            Shape::Start => self.read_start(alloc, line),
+    /// `DECL CLASS PARAMS STATEMENTS STATIC NATIVE`
+    fn read_body(&mut self, alloc: Global, line: &[u32]) -> Option<()> {
+        let code = take(alloc, &mut self.codes, count(line, 6))?;
+        let params = take(alloc, &mut self.decls, count(line, 5))?;
+        let ty = self.types.pop()?;
+        let body = Body {
+            decl: decl(number(line, 1), number(line, 2)),
+            class: TypeId(decl(number(line, 3), number(line, 4))),
+            is_static: number(line, 7) == 1,
+            is_native: number(line, 8) == 1,
+            ty,
+            constant: self.constants.pop(),
+            params,
+            code,
+        };
+        add(&mut self.core.bodies, body)
+    }
+
+    /// `CLASS PARENT OUTER FACES MEMBERS FOUND`
+    fn read_class(&mut self, alloc: Global, line: &[u32]) -> Option<()> {
+        let found = take(alloc, &mut self.found, count(line, 9))?;
+        let members = take(alloc, &mut self.decls, count(line, 8))?;
+        let faces = take(alloc, &mut self.faces, count(line, 7))?;
+        let class = Class {
+            id: TypeId(decl(number(line, 1), number(line, 2))),
+            parent: any_class(number(line, 3), number(line, 4)),
+            faces,
+            outer: any_class(number(line, 5), number(line, 6)),
+            members,
+            found,
+        };
+        add(&mut self.core.classes, class)
+    }
+
+    /// The name of the next run, by its characters.
+    fn read_name(&mut self, alloc: Global, line: &[u32]) -> Option<()> {
+        let units = units(alloc, line)?;
+        report_name(&mut self.report, units.units())
+    }
+
+    /// A run of the core so far: `METHOD STEPS`
+    fn read_run(&mut self, alloc: Global, line: &[u32]) -> Option<()> {
+        let method = decl(number(line, 1), number(line, 2));
+        match run(alloc, &self.core, method, u64::from(number(line, 3))) {
+            Ok(ran) => report(&mut self.report, &ran),
+            Err(_) => None,
+        }
+    }
+
+    fn read_expression(&mut self, alloc: Global, line: &[u32]) -> Option<()> {
+        match number(line, 0) {
+            0 => self.read_literal(alloc, line),
+            1 => self.read_constant(alloc, line),
+            2 => put(&mut self.codes, leaf(line)),
+            3 => self.read_one(alloc, line),
+            4 => self.read_two(alloc, line),
+            5 => self.read_three(alloc, line),
+            6 => self.read_list(alloc, line),
+            7 => self.read_call(alloc, line),
+            8 => self.read_typed(alloc, line),
+            9 => self.read_array(alloc, line),
+            _ => self.read_type(alloc, line),
+        }
+    }
+
+    fn read_statement(&mut self, alloc: Global, line: &[u32]) -> Option<()> {
+        match number(line, 0) {
+            11 => self.read_for(alloc, line),
+            12 => self.read_label(line),
+            13 => self.read_group(alloc, line),
+            14 => self.read_switch(alloc, line),
+            15 => self.read_catch(alloc, line),
+            16 => self.read_try(alloc, line),
+            _ => self.read_expression(alloc, line),
+        }
+    }
+
+    /// Reads the numbers of a line, the first of which is its kind; nothing, where memory is short or operands are missing.
+    pub fn read(&mut self, alloc: Global, line: &[u32]) -> Option<()> {
+        match number(line, 0) {
+            17 => self.read_decl(line),
+            18 => self.read_body(alloc, line),
+            19 => self.read_class(alloc, line),
+            20 => self.read_name(alloc, line),
+            21 => self.read_run(alloc, line),
+            _ => self.read_statement(alloc, line),
         }
     }
 }

@@ -1,15 +1,76 @@
-// Journals of both versions are put back, others are refused, and a crash leaves all of a commit or nothing.
-ghost use Rattle.std.specs.FinMap as map;
-ghost use Rattle.std.specs.Prelude.{◌≤◌, IsTrue, length};
-ghost use Rattle.jr_base.specs.Paths.{is_java};
-ghost use Rattle.jr_store.specs.Image.{AreJava};
-ghost use Rattle.jr_commit.specs.Sizes.{IsWithinLimits};
-
-use jr_base::{Files, OutOfMemory, Path};
-use jr_commit::{Plan, RecoverFault, Recovered, commit, journal_fits, recover};
-use jr_store::MemStore;
+// Journals of both versions are put back, others are refused, and what a crash leaves of a commit is recovered to all of it or to nothing.
+use crate::limits::plan_of;
+use jr_base::{Files, Path};
+use jr_commit::{RecoverFault, Recovered, commit, recover};
+use jr_store::{MemStore, Store};
 use std::alloc::Global;
 use std::test::Fail;
+
+/// What is to stand at a path.
+type At = (&'static str, Option<&'static [u8]>);
+
+fn files_of(alloc: Global, rows: &[At]) -> Result<Files, Fail> {
+    let mut files = Files::new(alloc);
+    for (path, bytes) in rows {
+        if let Some(bytes) = bytes {
+            files.insert(Path::parse(alloc, path.as_bytes())?, bytes.to_vec(alloc)?)?;
+        }
+    }
+    Ok(files)
+}
+
+/// Whether this stands at the path.
+fn holds(files: &Files, path: &str, wanted: Option<&[u8]>) -> bool {
+    for (found, bytes) in files.entries() {
+        if found.bytes() == path.as_bytes() {
+            return match wanted {
+                Some(wanted) => bytes.as_slice() == wanted,
+                None => false,
+            };
+        }
+    }
+    wanted.is_none()
+}
+
+fn holds_all(files: &Files, rows: &[At]) -> bool {
+    for (path, wanted) in rows {
+        if !holds(files, path, *wanted) {
+            return false;
+        }
+    }
+    true
+}
+
+/// What recovery says.
+#[derive(Clone, Copy, Debug, PartialEq, Eq)]
+enum Said {
+    Clean,
+    RolledBack(u32),
+    BadJournal,
+    Other,
+}
+
+fn recovery<S: Store>(alloc: Global, store: &mut S) -> Said {
+    match recover(alloc, store) {
+        Ok(Recovered::Clean) => Said::Clean,
+        Ok(Recovered::RolledBack(count)) => Said::RolledBack(count),
+        Err(RecoverFault::BadJournal) => Said::BadJournal,
+        Err(_) => Said::Other,
+    }
+}
+
+/// A store with an open gate over a journal, if there is one, and one file.
+fn stopped(alloc: Global, journal: Option<&'static [u8]>) -> Result<MemStore, Fail> {
+    let files = files_of(
+        alloc,
+        &[
+            (".refactor-gate", Some(b"1")),
+            (".refactor-journal", journal),
+            ("A.java", Some(b"x")),
+        ],
+    )?;
+    Ok(MemStore::new(alloc, files, Vec::new(alloc))?)
+}
 
 const VERSION_1: &[u8] =
     b"JRJ1\n\x00\x00\x00\x01F\x00\x00\x00\x06A.java\x00\x00\x00\x0bclass A { }END\n";
@@ -17,164 +78,113 @@ const VERSION_1: &[u8] =
 const VERSION_2: &[u8] =
     b"JRJ2\n\x00\x00\x00\x01\x00\x00\x00\x06A.javaF\x00\x00\x00\x12class A { int a; }F\x00\x00\x00\x12class A { int b; }END\n";
 
-fn put(alloc: Global, files: &mut Files, path: &str, bytes: &[u8]) -> Result<(), Fail> {
-    files.insert(Path::parse(alloc, path.as_bytes())?, bytes.to_vec(alloc)?)?;
-    Ok(())
-}
+/// The first version and one byte more.
+const LONGER: &[u8] =
+    b"JRJ1\n\x00\x00\x00\x01F\x00\x00\x00\x06A.java\x00\x00\x00\x0bclass A { }END\n\n";
 
-fn holds(alloc: Global, files: &Files, path: &str, bytes: Option<&[u8]>) -> Result<bool, Fail> {
-    let path = Path::parse(alloc, path.as_bytes())?;
-    match (files.get(&path), bytes) {
-        (Some(found), Some(bytes)) => Ok(found.as_slice() == bytes),
-        (None, None) => Ok(true),
-        _ => Ok(false),
-    }
-}
+/// The second version without its last byte.
+const CUT: &[u8] =
+    b"JRJ2\n\x00\x00\x00\x01\x00\x00\x00\x06A.javaF\x00\x00\x00\x12class A { int a; }F\x00\x00\x00\x12class A { int b; }END";
 
-// A store with an open gate over a journal, if there is one, and one file.
-fn stopped(alloc: Global, journal: Option<&[u8]>) -> Result<MemStore, Fail> {
-    let mut files = Files::new(alloc);
-    put(alloc, &mut files, ".refactor-gate", b"1")?;
-    if let Some(journal) = journal {
-        put(alloc, &mut files, ".refactor-journal", journal)?;
-    }
-    put(alloc, &mut files, "A.java", b"x")?;
-    Ok(MemStore::new(alloc, files, Vec::new(alloc))?)
-}
-
-#[test]
-fn puts_back_both_versions(rt: HostRuntime) -> Result<(), Fail> {
-    let alloc = rt.alloc();
-    let mut first = stopped(alloc, Some(VERSION_1))?;
-    assert_eq!(rt; recover(alloc, &mut first), Ok(Recovered::RolledBack(1)));
-    assert!(rt; holds(alloc, &first.files(alloc)?, "A.java", Some(b"class A { }"))?);
-    let mut second = stopped(alloc, Some(VERSION_2))?;
-    assert_eq!(rt; recover(alloc, &mut second), Ok(Recovered::RolledBack(1)));
-    assert!(rt;
-        holds(
-            alloc,
-            &second.files(alloc)?,
-            "A.java",
-            Some(b"class A { int a; }")
-        )?
-    );
-    assert_eq!(rt; recover(alloc, &mut second), Ok(Recovered::Clean));
-    Ok(())
-}
+/// Journals, what recovery says at first and then, and what stands at `A.java` behind it.
+const JOURNALS: [(Option<&[u8]>, Said, Said, &[u8]); 6] = [
+    (
+        Some(VERSION_1),
+        Said::RolledBack(1),
+        Said::Clean,
+        b"class A { }",
+    ),
+    (
+        Some(VERSION_2),
+        Said::RolledBack(1),
+        Said::Clean,
+        b"class A { int a; }",
+    ),
+    (Some(LONGER), Said::BadJournal, Said::BadJournal, b"x"),
+    (Some(CUT), Said::BadJournal, Said::BadJournal, b"x"),
+    (Some(b""), Said::BadJournal, Said::BadJournal, b"x"),
+    (None, Said::BadJournal, Said::BadJournal, b"x"),
+];
 
 #[test]
-fn refuses_other_journals(rt: HostRuntime) -> Result<(), Fail> {
+fn journals_are_put_back_or_refused(rt: HostRuntime) -> Result<(), Fail> {
     let alloc = rt.alloc();
-    let mut longer = VERSION_1.to_vec(alloc)?;
-    longer.push(b'\n')?;
-    let mut cut = VERSION_2.to_vec(alloc)?;
-    let _ = cut.pop();
-    for journal in [
-        Some(longer.as_slice()),
-        Some(cut.as_slice()),
-        Some(b"".as_slice()),
-        None,
-    ] {
+    for (journal, first, second, bytes) in JOURNALS {
         let mut store = stopped(alloc, journal)?;
-        assert_eq!(rt; recover(alloc, &mut store), Err(RecoverFault::BadJournal));
+        assert_eq!(rt; recovery(alloc, &mut store), first);
+        assert_eq!(rt; recovery(alloc, &mut store), second);
+        let files = store.files(alloc)?;
+        assert!(rt; holds(&files, "A.java", Some(bytes)));
     }
     Ok(())
 }
 
-// The journal of a commit that changes `A.java`, removes `B.java` and adds `C.java`.
-const WRITTEN: &[u8] =
-    b"JRJ2\n\x00\x00\x00\x03\x00\x00\x00\x06A.javaF\x00\x00\x00\x01aF\x00\x00\x00\x02xy\x00\x00\x00\x06B.javaF\x00\x00\x00\x01bA\x00\x00\x00\x06C.javaAF\x00\x00\x00\x01cEND\n";
+const OLD: [At; 3] = [
+    ("A.java", Some(b"a")),
+    ("B.java", Some(b"b")),
+    ("C.java", None),
+];
 
-// Whether the file is a Java file with a short path and few bytes.
-fn is_small(file: &(Path, Vec<u8>)) -> bool
-    ensures { IsTrue result → IsTrue (is_java file.now.0) × (length file.now.0 ≤ 100) × (length file.now.1.items ≤ 100) }
-{
-    file.0.is_java() && file.0.bytes().len() <= 100 && file.1.len() <= 100
-}
+const NEW: [At; 3] = [
+    ("A.java", Some(b"xy")),
+    ("B.java", None),
+    ("C.java", Some(b"c")),
+];
 
-// Whether these are two small Java files.
-fn are_two_small(files: &Files) -> bool
-    ensures java { IsTrue result → AreJava (map.keys files.now) }
-    ensures within { IsTrue result → IsWithinLimits files.now }
-{
-    match files.entries() {
-        [one, two] => is_small(one) && is_small(two),
-        _ => false,
+/// What a commit of the new files over the old leaves beside them.
+const BESIDE: [At; 2] = [
+    (".refactor-gate", None),
+    (
+        ".refactor-journal",
+        Some(
+            b"JRJ2\n\x00\x00\x00\x03\x00\x00\x00\x06A.javaF\x00\x00\x00\x01aF\x00\x00\x00\x02xy\x00\x00\x00\x06B.javaF\x00\x00\x00\x01bA\x00\x00\x00\x06C.javaAF\x00\x00\x00\x01cEND\n",
+        ),
+    ),
+];
+
+/// Whether the files were within the limits, and their change is made.
+fn is_committed<S: Store>(
+    alloc: Global,
+    old: &Files,
+    new: &Files,
+    store: &mut S,
+) -> Result<bool, Fail> {
+    match plan_of(alloc, old, new)? {
+        Some(plan) => Ok(commit(store, &plan).is_ok()),
+        None => Ok(false),
     }
 }
 
-fn plan_of(alloc: Global, old: &Files, new: &Files) -> Result<Option<Plan>, OutOfMemory> {
-    if !are_two_small(old) || !are_two_small(new) {
-        return Ok(None);
-    }
-    journal_fits(old, new);
-    Ok(Some(Plan::new(alloc, old, new)?))
-}
-
-fn two(alloc: Global, a: &[u8], path: &str, bytes: &[u8]) -> Result<Files, Fail> {
-    let mut files = Files::new(alloc);
-    put(alloc, &mut files, "A.java", a)?;
-    put(alloc, &mut files, path, bytes)?;
-    Ok(files)
-}
-
-// Whether the files are those of before the commit.
-fn are_old(alloc: Global, files: &Files) -> Result<bool, Fail> {
-    Ok(
-        holds(alloc, files, "A.java", Some(b"a"))?
-            && holds(alloc, files, "B.java", Some(b"b"))?
-            && holds(alloc, files, "C.java", None)?,
-    )
-}
-
-// Whether the files are those of after the commit.
-fn are_new(alloc: Global, files: &Files) -> Result<bool, Fail> {
-    Ok(
-        holds(alloc, files, "A.java", Some(b"xy"))?
-            && holds(alloc, files, "B.java", None)?
-            && holds(alloc, files, "C.java", Some(b"c"))?,
-    )
-}
-
-// The store after the commit.
-fn committed(alloc: Global) -> Result<Option<MemStore>, Fail> {
-    let old = two(alloc, b"a", "B.java", b"b")?;
-    let new = two(alloc, b"xy", "C.java", b"c")?;
-    let plan = match plan_of(alloc, &old, &new)? {
-        Some(plan) => plan,
-        None => return Ok(None),
-    };
-    let mut store = MemStore::new(alloc, old, Vec::new(alloc))?;
-    match commit(&mut store, &plan) {
-        Ok(()) => Ok(Some(store)),
-        Err(_) => Ok(None),
+/// The store after the commit.
+fn committed(alloc: Global) -> Result<MemStore, Fail> {
+    let old = files_of(alloc, &OLD)?;
+    let new = files_of(alloc, &NEW)?;
+    let mut store = MemStore::new(alloc, old.copy(alloc)?, Vec::new(alloc))?;
+    if is_committed(alloc, &old, &new, &mut store)? {
+        Ok(store)
+    } else {
+        Err(Fail::new("no commit"))
     }
 }
 
-// Whether what a crash leaves is recovered to the files of before or to those of after.
+/// Whether what a crash leaves is recovered to the files of before or to those of after.
 fn is_recovered(alloc: Global, mut image: MemStore) -> Result<bool, Fail> {
-    let closed = recover(alloc, &mut image).is_ok();
+    let said = recovery(alloc, &mut image);
     let files = image.files(alloc)?;
-    Ok(closed && (are_old(alloc, &files)? || are_new(alloc, &files)?))
+    let is_done = said == Said::Clean || said == Said::RolledBack(3);
+    Ok(is_done && (holds_all(&files, &OLD) || holds_all(&files, &NEW)))
 }
 
 #[test]
 fn a_crash_leaves_all_of_a_commit_or_nothing(rt: HostRuntime) -> Result<(), Fail> {
     let alloc = rt.alloc();
-    let found = committed(alloc)?;
-    assert!(rt; found.is_some());
-    if let Some(store) = found {
-        let files = store.files(alloc)?;
-        assert!(rt; are_new(alloc, &files)?);
-        assert!(rt; holds(alloc, &files, ".refactor-gate", None)?);
-        assert!(rt; holds(alloc, &files, ".refactor-journal", Some(WRITTEN))?);
-        for call in 0..12u64 {
-            for pick in [0u64, 1, 2, 3, 4, 14, 64] {
-                assert!(rt;
-                    is_recovered(alloc, store.image(alloc, call, pick)?)?,
-                    "at {call}, {pick}"
-                );
-            }
+    let store = committed(alloc)?;
+    let files = store.files(alloc)?;
+    assert!(rt; holds_all(&files, &NEW) && holds_all(&files, &BESIDE));
+    for call in 0..12u64 {
+        for pick in [0u64, 1, 2, 3, 4, 14, 64] {
+            let image = store.image(alloc, call, pick)?;
+            assert!(rt; is_recovered(alloc, image)?, "at {call}, {pick}");
         }
     }
     Ok(())

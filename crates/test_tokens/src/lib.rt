@@ -6,8 +6,6 @@ mod lexing;
 #[cfg(test)]
 mod outline;
 #[cfg(test)]
-mod readers;
-#[cfg(test)]
 mod sources;
 #[cfg(test)]
 mod tables;

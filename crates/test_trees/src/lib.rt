@@ -1,15 +1,13 @@
-//! Tests of trees: small trees of every variant, which are written out and tested for shape and depth, the numbers of nodes, and the index.
+//! Tests of trees: a source of every form is read, and its tree is written out and tested for shape and depth; so are trees that no source reads as. The numbers of nodes, and the index.
 #![tactic(auto)]
 
 #[cfg(test)]
-mod decls;
-#[cfg(test)]
-mod exprs;
-#[cfg(test)]
-mod index;
+mod by_hand;
 #[cfg(test)]
 mod numbers;
 #[cfg(test)]
+mod reading;
+#[cfg(test)]
 mod samples;
 #[cfg(test)]
-mod stmts;
+mod written;

@@ -1,81 +1,13 @@
-// Numbers of nodes, counted by hand along the grammar.
-use jr_base::{Items, NodeId, Text};
+// Numbers of nodes, counted by hand along the grammar (JLS 18).
+use crate::reading::read;
+use jr_base::{CuId, Items, NodeAt, NodeId, Path, Text};
+use jr_defs::{Program, UnitAt};
+use jr_index::Index;
 use jr_nodes::{NodeRef, node};
-use jr_tree::{
-    Base, Declarator, Expr, Init, InitList, Member, Name, PackageDecl, Primitive, TypeDecl,
-    TypeUse, Unit,
-};
+use jr_shape::is_shaped;
+use jr_tree::Unit;
 use std::alloc::Global;
 use std::test::Fail;
-
-fn text(alloc: Global, text: &str) -> Result<Text, Fail> {
-    Ok(Text::new(text.as_bytes().to_vec(alloc)?))
-}
-
-fn name(alloc: Global, part: &str) -> Result<Name, Fail> {
-    let mut parts = Items::new(alloc);
-    parts.push(text(alloc, part)?)?;
-    Ok(Name { parts })
-}
-
-/// `x = { y }, z`
-fn declarators(alloc: Global) -> Result<Items<Declarator>, Fail> {
-    let value = Expr::NameExpr {
-        name: name(alloc, "y")?,
-    };
-    let mut items = Items::new(alloc);
-    items.push(Init::Value { value })?;
-    let list = InitList {
-        items,
-        is_open_ended: false,
-    };
-    let mut decls = Items::new(alloc);
-    decls.push(Declarator {
-        name: text(alloc, "x")?,
-        dims: 1,
-        init: Some(Init::List { list }),
-    })?;
-    decls.push(Declarator {
-        name: text(alloc, "z")?,
-        dims: 0,
-        init: None,
-    })?;
-    Ok(decls)
-}
-
-/// `class A extends B { int x[] = { y }, z; }`
-fn class(alloc: Global) -> Result<TypeDecl, Fail> {
-    let ty = TypeUse {
-        base: Base::Primitive(Primitive::Int),
-        dims: 0,
-    };
-    let mut body = Items::new(alloc);
-    body.push(Member::Field {
-        mods: Items::new(alloc),
-        ty,
-        decls: declarators(alloc)?,
-    })?;
-    Ok(TypeDecl::Class {
-        mods: Items::new(alloc),
-        name: text(alloc, "A")?,
-        parent: Some(name(alloc, "B")?),
-        faces: Items::new(alloc),
-        body,
-    })
-}
-
-/// `package p;` and the class
-fn unit(alloc: Global) -> Result<Unit, Fail> {
-    let mut types = Items::new(alloc);
-    types.push(class(alloc)?)?;
-    Ok(Unit {
-        package: Some(PackageDecl {
-            name: name(alloc, "p")?,
-        }),
-        imports: Items::new(alloc),
-        types,
-    })
-}
 
 fn kind_of(node: NodeRef<'_>) -> &'static str {
     match node {
@@ -95,7 +27,10 @@ fn kind_of(node: NodeRef<'_>) -> &'static str {
 
 #[test]
 fn nodes_of_a_class_have_their_numbers(rt: HostRuntime) -> Result<(), Fail> {
-    let unit = unit(rt.alloc())?;
+    let unit = read(
+        rt.alloc(),
+        "package p; class A extends B { int x[] = { y }, z; }",
+    )?;
     for (id, kind) in [
         (0, "Unit"),
         (1, "PackageDecl"),
@@ -116,5 +51,62 @@ fn nodes_of_a_class_have_their_numbers(rt: HostRuntime) -> Result<(), Fail> {
         let found = node(&unit, NodeId(id)).map_or("none", kind_of);
         assert_eq!(rt; found, kind, "at {id}");
     }
+    Ok(())
+}
+
+const SMALL: &str = "class A { int x; ; }";
+
+/// The index of the program that is this unit alone.
+fn index_of(alloc: Global, path: Path, bytes: Text, unit: Unit) -> Result<Index, Fail> {
+    if !is_shaped(&unit) {
+        return Err(Fail::new("the grammar does not have the unit"));
+    }
+    let mut units = Items::new(alloc);
+    units.push(UnitAt {
+        path,
+        bytes,
+        tokens: Items::new(alloc),
+        unit,
+    })?;
+    let program = Program { units };
+    Ok(Index::build(alloc, &program)?)
+}
+
+/// The index of the small class.
+fn small_index(alloc: Global) -> Result<Index, Fail> {
+    let path = Path::parse(alloc, b"A.java")?;
+    let bytes = Text::new(SMALL.as_bytes().to_vec(alloc)?);
+    let unit = read(alloc, SMALL)?;
+    index_of(alloc, path, bytes, unit)
+}
+
+fn node_at(unit: u32, number: u32) -> NodeAt {
+    NodeAt {
+        cu: CuId(unit),
+        node: NodeId(number),
+    }
+}
+
+#[test]
+fn each_node_has_the_parent_that_the_tree_gives_it(rt: HostRuntime) -> Result<(), Fail> {
+    let index = small_index(rt.alloc())?;
+    for (number, above) in [
+        (0, None),
+        (1, Some(0)),
+        (2, Some(1)),
+        (3, Some(2)),
+        (4, Some(2)),
+        (5, Some(1)),
+        (6, Some(5)),
+        (7, None),
+    ] {
+        let found = index.parent(node_at(0, number));
+        assert!(rt;
+            found == above.map(|above| node_at(0, above)),
+            "at {number}"
+        );
+    }
+    assert!(rt; index.parent(node_at(1, 0)).is_none());
+    assert_eq!(rt; index.rows().len(), 10);
     Ok(())
 }

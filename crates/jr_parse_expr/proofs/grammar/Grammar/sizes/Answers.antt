@@ -38,22 +38,21 @@ returns-in_err-size-clause-reads g c =
     (sizes_fails c.args.self.now.room c.sizes.all.args (kinds c.sizes.cursor) c.in_err-size.field-0.0 (kinds c.expr.new.cursor) begins opens
     (subst (λ (ts : List Kind). Fails (spec.expr c.args.self.now.room spec.Nothing 0 ts) c.in_err-size.field-0.0 (kinds c.expr.new.cursor)) c.skip.ensures c.in_err-size.ensures.reads)))
 
-pub returns-in_err-expect-clause-reads : goal.returns-in_err-expect-clause-reads
-returns-in_err-expect-clause-reads g c =
+pub returns-in-Err-clause-reads : goal.returns-in-Err-clause-reads
+returns-in-Err-clause-reads g c =
     let begins : is_at y.OpenBracket (kinds c.sizes.cursor) ≡ true = sym c.is_at.ensures ∙ c.sizes-test.true in
     let opens : is_at y.CloseBracket (drop 1 (kinds c.sizes.cursor)) ≡ false = ap (is_at y.CloseBracket) (sym c.skip.ensures) ∙ sym c.is_at-in-sizes.ensures ∙ c.if-is_at.false in
     let read : spec.expr c.args.self.now.room spec.Nothing 0 (drop 1 (kinds c.sizes.cursor)) ≡ Ok (plain_expr c.in_ok-size.size.expr, kinds c.expr.new.cursor) =
     ap (spec.expr c.args.self.now.room spec.Nothing 0) (sym c.skip.ensures) ∙ c.in_ok-size.ensures.reads in
     rw c.sizes.invariant.same
-    (reads_err _ _ c.from_residual-in_err-expect.result c.in_err-expect.field-0.0 (kinds c.expect.new.self) (search rules)
-    (sizes_unclosed c.args.self.now.room c.sizes.all.args (kinds c.sizes.cursor) c.in_ok-size.size.expr (kinds c.expr.new.cursor) c.in_err-expect.field-0.0 (kinds c.expect.new.self) begins opens read c.in_err-expect.ensures))
+    (sizes_unclosed c.args.self.now.room c.sizes.all.args (kinds c.sizes.cursor) c.in_ok-size.size.expr (kinds c.expr.new.cursor) c.in-Err.fault (kinds c.expect.new.self) begins opens read c.in-Err.ensures)
 
 pub sizes-smaller : goal.sizes-smaller
 sizes-smaller g c =
     let begins : is_at y.OpenBracket (kinds c.sizes.cursor) ≡ true = sym c.is_at.ensures ∙ c.sizes-test.true in
     let read : spec.expr c.args.self.now.room spec.Nothing 0 (drop 1 (kinds c.sizes.cursor)) ≡ Ok (plain_expr c.in_ok-size.size.expr, kinds c.expr.new.cursor) =
     ap (spec.expr c.args.self.now.room spec.Nothing 0) (sym c.skip.ensures) ∙ c.in_ok-size.ensures.reads in
-    let closed : expect y.CloseBracket (kinds c.expr.new.cursor) ≡ Ok (tt, kinds c.expect.new.self) = c.in_ok-expect.ensures in
+    let closed : expect y.CloseBracket (kinds c.expr.new.cursor) ≡ Ok (tt, kinds c.expect.new.self) = c.in_default.ensures in
     fewer_tokens c.sizes.cursor c.expect.new.self (size_shorter c.args.self.now.room (kinds c.sizes.cursor) (plain_expr c.in_ok-size.size.expr) (kinds c.expr.new.cursor) tt (kinds c.expect.new.self) begins read closed)
 
 pub sizes-preserved : goal.sizes-preserved
@@ -62,7 +61,7 @@ sizes-preserved g c =
     let opens : is_at y.CloseBracket (drop 1 (kinds c.sizes.cursor)) ≡ false = ap (is_at y.CloseBracket) (sym c.skip.ensures) ∙ sym c.is_at-in-sizes.ensures ∙ c.if-is_at.false in
     let read : spec.expr c.args.self.now.room spec.Nothing 0 (drop 1 (kinds c.sizes.cursor)) ≡ Ok (plain_expr c.in_ok-size.size.expr, kinds c.expr.new.cursor) =
     ap (spec.expr c.args.self.now.room spec.Nothing 0) (sym c.skip.ensures) ∙ c.in_ok-size.ensures.reads in
-    let closed : expect y.CloseBracket (kinds c.expr.new.cursor) ≡ Ok (tt, kinds c.expect.new.self) = c.in_ok-expect.ensures in
+    let closed : expect y.CloseBracket (kinds c.expr.new.cursor) ≡ Ok (tt, kinds c.expect.new.self) = c.in_default.ensures in
     let pushed : c.in_ok-all.all.args ≡ c.sizes.all.args ++ c.in_ok-size.size.expr ∷ [] = c.in_ok-all.ensures.args in
     record {
       same =

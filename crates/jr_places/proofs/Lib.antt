@@ -1,0 +1,5 @@
+pub mod Rounding
+pub mod Childs
+pub mod Naming
+pub mod Holding
+pub mod Uniting

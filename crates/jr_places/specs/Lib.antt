@@ -1,0 +1,5 @@
+pub mod Rounds
+pub mod Childs
+pub mod Names
+pub mod Above
+pub mod Units

@@ -1,0 +1,22 @@
+//! Where rows stand: what is at a number, the innermost type round each row, its unit and package, the rows right below one, and the first row
+//! with each name.
+#![tactic(auto)]
+
+mod above;
+mod around;
+mod below;
+mod names;
+mod places;
+mod reading;
+mod units;
+
+pub use above::{holders_are_told, holders_of};
+pub use around::arounds_of;
+pub use below::children_of;
+pub use names::names_of;
+pub use places::Places;
+pub use reading::{
+    end_at, is_body_of, is_class, is_interface, is_object, is_string, is_top_level, is_type,
+    is_unit, name_at, parent_at, role_at, sought_at,
+};
+pub use units::{Packages, tops_of, units_of};

@@ -1,0 +1,96 @@
+// What is computed from rows alone.
+
+use crate::around::arounds_of;
+use crate::names::names_of;
+use crate::units::{Packages, tops_of, units_of};
+use jr_base::OutOfMemory;
+use jr_rows::Row;
+use std::alloc::Global;
+
+/// Where the rows of a program stand, by tables with an item for each row.
+#[derive(Drop)]
+pub struct Places {
+    names: Vec<u32>,
+    arounds: Vec<Option<u32>>,
+    units: Vec<Option<u32>>,
+    tops: Vec<Option<u32>>,
+    packages: Packages,
+}
+
+// What a table has for a row.
+fn item(all: &[Option<u32>], at: u32) -> Option<u32> {
+    match all.get(at as usize) {
+        Some(found) => *found,
+        None => None,
+    }
+}
+
+impl Places {
+    /// The tables of the rows.
+    pub fn of(alloc: Global, rows: &[Row]) -> Result<Places, OutOfMemory> {
+        if rows.len() >= u32::MAX as usize {
+            return Err(OutOfMemory);
+        }
+        let names = names_of(alloc, rows)?;
+        let arounds = arounds_of(alloc, rows)?;
+        let units = units_of(alloc, rows)?;
+        let tops = tops_of(alloc, rows)?;
+        let packages = Packages::of(alloc, rows, &names)?;
+        Ok(Places {
+            names,
+            arounds,
+            units,
+            tops,
+            packages,
+        })
+    }
+
+    /// The number of the name of a row: the first row with that name.
+    pub fn name(&self, at: u32) -> u32 {
+        match self.names.get(at as usize) {
+            Some(name) => *name,
+            None => at,
+        }
+    }
+
+    /// The innermost type whose body holds the row.
+    pub fn around(&self, at: u32) -> Option<u32> {
+        item(&self.arounds, at)
+    }
+
+    /// The unit of the row.
+    pub fn unit(&self, at: u32) -> Option<u32> {
+        item(&self.units, at)
+    }
+
+    /// The top-level type that holds the row.
+    pub fn top(&self, at: u32) -> Option<u32> {
+        item(&self.tops, at)
+    }
+
+    /// The number of the package of the row.
+    pub fn package(&self, at: u32) -> Option<u32> {
+        self.packages.of_row(at)
+    }
+
+    /// Both rows stand in one package.
+    pub fn is_one_package(&self, one: u32, other: u32) -> bool {
+        self.packages.is_one(one, other)
+    }
+
+    /// The number of the package that a name spells, by the row of its last identifier, if it has units.
+    pub fn spelled(&self, rows: &[Row], at: u32) -> Option<u32> {
+        self.packages.spelled(rows, &self.names, at)
+    }
+
+    /// Both rows stand in one top-level type.
+    pub fn is_one_top(&self, one: u32, other: u32) -> bool {
+        match self.top(one) {
+            Some(first) => match self.top(other) {
+                Some(second) => first == second,
+                None => false,
+            },
+            None => false,
+        }
+    }
+}
