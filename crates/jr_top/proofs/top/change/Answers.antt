@@ -31,4 +31,4 @@ returns-in-Err-clause-next g c begins =
     let O = g.O.Sink in
     let s = c.take_all.new.store in
     at_fault (S.faults c.args.store.now) (S.faults s) (MayBegin (S.files s) (S.may_leave s)) Writing _ c.write_line-in-Err.result (O.contents c.args.out.now) (O.contents c.write_line-in-Err.new.out) (O.faults c.args.out.now) (O.faults c.write_line-in-Err.new.out)
-    c.take_all.ensures.cause.failed c.write_line-in-Err.ensures
+    c.in-Err.ensures.cause.failed c.write_line-in-Err.ensures
