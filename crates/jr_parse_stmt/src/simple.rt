@@ -34,7 +34,10 @@ pub fn condition(alloc: Global, cursor: &mut Cursor<'_>, room: usize) -> Result<
 {
     cursor.expect(Symbol::OpenParen)?;
     let condition = expr(alloc, cursor, room, Lead::Nothing, 0)?;
-    cursor.expect(Symbol::CloseParen)?;
+    if let Err(fault) = cursor.expect(Symbol::CloseParen) {
+        drop(condition);
+        return Err(fault);
+    }
     Ok(condition)
 }
 
@@ -55,8 +58,17 @@ impl<F> Grammar<F> {
         requires { self.now.room < usize.MAX }
         ensures { Reads plain_stmt (in_room spec.local self.now.room is_final ty (kinds cursor.old)) result (kinds cursor.new) }
     {
-        let decls = declarators(self.alloc, cursor, self.room)?;
-        cursor.expect(Symbol::Semicolon)?;
+        let decls = match declarators(self.alloc, cursor, self.room) {
+            Ok(decls) => decls,
+            Err(fault) => {
+                drop(ty);
+                return Err(fault);
+            }
+        };
+        if let Err(fault) = cursor.expect(Symbol::Semicolon) {
+            drop(ty);
+            return Err(fault);
+        }
         Ok(Stmt::Local {
             is_final,
             ty,
@@ -69,7 +81,10 @@ impl<F> Grammar<F> {
         ensures { Reads plain_stmt (in_room spec.evaluated self.now.room (plain_lead lead) (kinds cursor.old)) result (kinds cursor.new) }
     {
         let value = effect(self.alloc, cursor, self.room, lead)?;
-        cursor.expect(Symbol::Semicolon)?;
+        if let Err(fault) = cursor.expect(Symbol::Semicolon) {
+            drop(value);
+            return Err(fault);
+        }
         Ok(Stmt::Eval { value })
     }
 
@@ -96,7 +111,10 @@ impl<F> Grammar<F> {
         ensures { Reads plain_stmt (in_room spec.return_stmt self.now.room (kinds cursor.old)) result (kinds cursor.new) }
     {
         let value = any_expr(self.alloc, cursor, self.room)?;
-        cursor.expect(Symbol::Semicolon)?;
+        if let Err(fault) = cursor.expect(Symbol::Semicolon) {
+            drop(value);
+            return Err(fault);
+        }
         Ok(Stmt::Return { value })
     }
 
@@ -105,7 +123,10 @@ impl<F> Grammar<F> {
         ensures { Reads plain_stmt (in_room spec.throw_stmt self.now.room (kinds cursor.old)) result (kinds cursor.new) }
     {
         let value = expr(self.alloc, cursor, self.room, Lead::Nothing, 0)?;
-        cursor.expect(Symbol::Semicolon)?;
+        if let Err(fault) = cursor.expect(Symbol::Semicolon) {
+            drop(value);
+            return Err(fault);
+        }
         Ok(Stmt::Throw { value })
     }
 }

@@ -25,8 +25,17 @@ impl<F: Fn(Global, &mut Cursor<'_>, usize, bool) -> Result<Stmt, Fault>> Grammar
         cursor.expect_word(Keyword::Catch)?;
         cursor.expect(Symbol::OpenParen)?;
         let param = param(self.alloc, cursor)?;
-        cursor.expect(Symbol::CloseParen)?;
-        let body = self.block(cursor)?;
+        if let Err(fault) = cursor.expect(Symbol::CloseParen) {
+            drop(param);
+            return Err(fault);
+        }
+        let body = match self.block(cursor) {
+            Ok(body) => body,
+            Err(fault) => {
+                drop(param);
+                return Err(fault);
+            }
+        };
         Ok(Catch { param, body })
     }
 
