@@ -6,7 +6,7 @@ ghost use Rattle.jr_tree.specs.Mirror.Exprs.{plain_expr};
 ghost use Rattle.jr_tree.specs.Mirror.Stmts.{plain_for, plain_stmt};
 ghost use Rattle.jr_parse_laws.specs.Parsers.{Reads, after_comma, begins_with, first, is_at, kinds, many, with_front};
 ghost use Rattle.jr_parse_expr.specs.Exprs.{Nothing, any_commas, effect};
-ghost use Rattle.jr_parse_expr.specs.Starts.{next_is, starts_effect};
+ghost use Rattle.jr_parse_starts.specs.Starts.{next_is, starts_effect};
 ghost use Rattle.jr_parse_expr.specs.Views.{plain_dotted, plain_lead};
 ghost use Rattle.jr_parse_defs.specs.Stmts as spec;
 ghost use Rattle.jr_parse_stmt.specs.Named as named;
@@ -20,10 +20,9 @@ use crate::parameter::finality;
 use crate::simple::any_expr;
 use crate::start::starts_local;
 use jr_base::{Items, Kind, Symbol};
-use jr_parse_expr::{
-    Dotted, Lead, dims_behind, dotted_name, effect, starts_effect, type_use, whole_name,
-};
+use jr_parse_expr::{Dotted, Lead, dims_behind, dotted_name, effect, type_use, whole_name};
 use jr_parse_laws::{Cursor, Fault};
+use jr_parse_starts::starts_effect;
 use jr_tree::{Expr, ForInit, Name, Stmt, TypeUse};
 use std::alloc::Global;
 

@@ -2,7 +2,7 @@
 ghost use Rattle.std.specs.Prelude.{◌≡◌, map};
 ghost use Rattle.jr_tree.specs.Mirror.Stmts.{plain_any_block, plain_catch, plain_stmt};
 ghost use Rattle.jr_parse_laws.specs.Parsers.{Reads, kinds, many};
-ghost use Rattle.jr_parse_expr.specs.Starts.{next_is};
+ghost use Rattle.jr_parse_starts.specs.Starts.{next_is};
 ghost use Rattle.jr_parse_defs.specs.Begins.{is_catch};
 ghost use Rattle.jr_parse_defs.specs.Stmts as spec;
 ghost use Rattle.jr_parse_stmt.specs.Nests.{Nests, in_room};
