@@ -22,7 +22,7 @@ no_entries (Some f) path bytes most room reads none = λ full es at is.
     let whole : bytes ≡ full = taken f path bytes full most reads at ∙ take_all most full (omega (arith, short_of full es is)) in
     none es (subst (λ b. PutsBack b es) (sym whole) is)
 
-whole_file : (f : Image) (path bytes : List ℕ) (most : ℕ) (o : Option (List ℕ)) → f path ≡ o → length bytes < most → Some bytes ≡ option_map (take most) (f path) → f path ≡ Some bytes
+pub whole_file : (f : Image) (path bytes : List ℕ) (most : ℕ) (o : Option (List ℕ)) → f path ≡ o → length bytes < most → Some bytes ≡ option_map (take most) (f path) → f path ≡ Some bytes
 whole_file f path bytes most None is short reads = absurd (none-some bytes (sym (reads ∙ ap (option_map (take most)) is)))
 whole_file f path bytes most (Some full) is short reads =
     let took : bytes ≡ take most full = taken f path bytes full most reads is in

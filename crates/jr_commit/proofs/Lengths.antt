@@ -105,7 +105,7 @@ weigh_is k (f ∷ fs) = omega (arith, weigh_is k fs, mul-suc k (length fs), sum_
 weigh_most : (k most largest : ℕ) (files : List File) → length files ≤ most → content_bytes files ≤ largest → weigh k files ≤ k * most + largest
 weigh_most k most largest files few small = omega (arith, weigh_is k files, mul-le-mul_left k few)
 
-spelling_size : (es : List PlainEntry) → length (spelling Two es) ≡ 13 + length (entries_text Two es)
+pub spelling_size : (es : List PlainEntry) → length (spelling Two es) ≡ 13 + length (entries_text Two es)
 spelling_size es =
     let a = length-append (magic Two) (number (length es) ++ (entries_text Two es ++ ending)) in
     let b = length-append (number (length es)) (entries_text Two es ++ ending) in

@@ -1,7 +1,7 @@
 pub mod Moments
 mod Told
 mod Going
-mod Putting
+pub mod Putting
 mod Fields
 mod Texts
 mod Loop
@@ -16,3 +16,5 @@ mod Merging
 mod Planning
 mod Values
 pub mod Lengths
+pub mod Undoing
+pub mod Beginning

@@ -24,3 +24,15 @@ module _ {S : Type 0} (moment : S → ℕ) (left_since : S → ℕ → Image →
     each = λ c left. ⊎_elim (first.each c) (weaker c) (second.before (moment old) c first.later left);
     before = λ t c le left. ⊎_elim (first.before t c le) (λ now. inr (weaker c now)) (second.before t c (omega (arith, le, first.later)) left);
   }
+
+-- calls that only read
+module _ {S : Type 0} (may_leave : S → Image → Type 0) (moment : S → ℕ) (left_since : S → ℕ → Image → Type 0) (s0 : S) (now : (c : Image) → left_since s0 (moment s0) c → may_leave s0 c) where
+  pub read_never : LeavesOnly moment left_since s0 s0 (may_leave s0)
+  read_never = started moment left_since s0 (may_leave s0) now
+
+  module _ (s1 : S) (time1 : Elapses (moment s0) (moment s1) (left_since s0) (left_since s1) (may_leave s1)) (crash1 : (c : Image) → may_leave s1 c → may_leave s0 c) where
+    pub read_once : LeavesOnly moment left_since s0 s1 (may_leave s0)
+    read_once = goes_on moment left_since s0 s0 s1 (may_leave s0) (may_leave s1) read_never time1 crash1
+
+    pub read_twice : (s2 : S) → Elapses (moment s1) (moment s2) (left_since s1) (left_since s2) (may_leave s2) → ((c : Image) → may_leave s2 c → may_leave s1 c) → LeavesOnly moment left_since s0 s2 (may_leave s0)
+    read_twice s2 time2 crash2 = goes_on moment left_since s0 s1 s2 (may_leave s0) (may_leave s2) read_once time2 (λ c l. crash1 c (crash2 c l))

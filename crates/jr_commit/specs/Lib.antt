@@ -8,3 +8,4 @@ pub mod Recovered
 pub mod Planned
 pub mod Differences
 pub mod Sizes
+pub mod Undoing

@@ -37,6 +37,11 @@ pub record StartsRecover (f : Image) (outcomes : Image → Type 0) : Type 0 wher
   pub journal : IsOpen f → (c : Image) → outcomes c → c journal_path ≡ f journal_path
   pub files : (bytes : List ℕ) (olds : List SideAt) → IsOpen f → f journal_path ≡ Some bytes → PutsBack bytes olds → (c : Image) → outcomes c → (q : List ℕ) → IsTrue (is_java q) → IsOff olds q → c q ≡ f q
 
+-- a call may begin: what a crash may leave is what recovery can begin with, so nothing is pending at the gate
+abbrev pub MayBegin : Option Image → (Image → Type 0) → Type 0
+MayBegin None outcomes = Unit {0}
+MayBegin (Some f) outcomes = StartsRecover f outcomes
+
 -- old and new differ at `.java` paths and at the gate at most
 abbrev pub KeepsOthers : Image → Image → Type 0
 KeepsOthers old new = (q : List ℕ) → (IsTrue (is_java q) → ⊥) → (q ≡ gate_path → ⊥) → new q ≡ old q

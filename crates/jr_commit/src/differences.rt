@@ -128,7 +128,7 @@ fn step_to(alloc: Global, path: &Path, side: Option<&[u8]>) -> Result<Step, OutO
 }
 
 // Adds the entry and the step of a pair whose sides differ.
-fn push_change(
+pub fn push_change(
     alloc: Global,
     text: &mut Vec<u8>,
     steps: &mut Vec<Step>,

@@ -8,6 +8,7 @@ mod plan;
 mod reading;
 mod recovery;
 mod sizes;
+mod undo;
 
 pub use actions::Step;
 pub use entry::{Entry, Journal, Side};
@@ -15,3 +16,4 @@ pub use plan::{Plan, commit};
 pub use reading::read_journal;
 pub use recovery::{RecoverFault, Recovered, recover};
 pub use sizes::journal_fits;
+pub use undo::{UndoFault, plan_undo};

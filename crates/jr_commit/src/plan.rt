@@ -44,7 +44,7 @@ impl Model for Plan {
 }
 
 // The journal of so many entries with this text.
-fn framed(alloc: Global, count: u32, text: &[u8]) -> Result<Vec<u8>, OutOfMemory>
+pub fn framed(alloc: Global, count: u32, text: &[u8]) -> Result<Vec<u8>, OutOfMemory>
     ensures { IfOk result (λ v. v.items ≡ magic Two ++ (number count ++ (text.now ++ ending))) }
 {
     let mut journal = Vec::new(alloc);
@@ -92,6 +92,13 @@ impl Plan {
             journal_path,
             gate_path,
         })
+    }
+
+    /// How many paths are written or removed.
+    pub fn count(&self) -> u32
+        ensures { result ≡ length self.now.steps }
+    {
+        self.steps.len() as u32
     }
 }
 

@@ -4,7 +4,7 @@ ghost use Rattle.jr_store.specs.Image.{Image, Tells, Elapses, LeavesOnly, HasSto
 ghost use Rattle.jr_commit.specs.Steps.{sides_of};
 ghost use Rattle.jr_commit.specs.Entries.{plain, plain_of};
 ghost use Rattle.jr_commit.specs.Journal.{old_sides};
-ghost use Rattle.jr_commit.specs.Restoring.{IsOpen, Restored, RestoresTo, SameFiles, KeepsOthers, StartsRecover, FindsOlds, HasNoJournal, SaysOpen};
+ghost use Rattle.jr_commit.specs.Restoring.{IsOpen, Restored, RestoresTo, SameFiles, KeepsOthers, StartsRecover, MayBegin, FindsOlds, HasNoJournal, SaysOpen};
 ghost use Rattle.jr_commit.specs.Recovered.{Answers};
 ghost use Rattle.jr_commit.specs.declared.recovery.RecoverFault.TheVariants as faults;
 
@@ -142,6 +142,9 @@ fn put_back<S: Store>(alloc: Global, store: &mut S) -> Result<Recovered, Recover
     ensures after { OnOk result ((f r : Image) → S.files store.old ≡ Some f → Restored f r → StartsRecover f (S.may_leave store.old) →
         (c : Image) → S.may_leave store.new c → (IsOpen c → ⊥) × SameFiles c r) }
 
+    // After any end but a fault of the store the next call may begin.
+    ensures next { (IsErrOf result faults.Failed → ⊥) → MayBegin (S.files store.old) (S.may_leave store.old) → MayBegin (S.files store.new) (S.may_leave store.new) }
+
     // Where the journal is bad or memory is short, nothing has changed.
     ensures bad { IsErrOf result faults.BadJournal → (f : Image) → S.files store.old ≡ Some f → (r : Image) → Restored f r → ⊥ }
     ensures unchanged { IsErrOf result faults.BadJournal → (S.files store.new ≡ S.files store.old) × ((c : Image) → S.may_leave store.new c → S.may_leave store.old c) }
@@ -188,6 +191,9 @@ pub fn recover<S: Store>(alloc: Global, store: &mut S) -> Result<Recovered, Reco
     // At `Ok` a crash leaves the files and a closed gate.
     ensures after { OnOk result ((f r : Image) → S.files store.old ≡ Some f → Restored f r → StartsRecover f (S.may_leave store.old) →
         (c : Image) → S.may_leave store.new c → (IsOpen c → ⊥) × SameFiles c r) }
+
+    // After any end but a fault of the store the next call may begin.
+    ensures next { (IsErrOf result faults.Failed → ⊥) → MayBegin (S.files store.old) (S.may_leave store.old) → MayBegin (S.files store.new) (S.may_leave store.new) }
 
     // Where the journal is bad or memory is short, nothing has changed.
     ensures bad { IsErrOf result faults.BadJournal → (f : Image) → S.files store.old ≡ Some f → (r : Image) → Restored f r → ⊥ }

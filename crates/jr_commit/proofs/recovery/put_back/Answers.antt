@@ -9,6 +9,7 @@ use Rattle.jr_commit.specs.Steps.{sides_of, path_of, side_of}
 use Rattle.jr_commit.specs.declared.actions.Step.{Step}
 use Rattle.jr_commit.specs.Restoring.{SaysOpen, FindsOlds, HasNoJournal, gate_path, journal_path}
 use Rattle.jr_commit.proofs.Recovering.{opened_on, shut_on, rolled_answer, none_restored, rolled_back, keeps_others, keeps_others_before}
+use Rattle.jr_commit.proofs.Beginning.{reads_begin, told_begins}
 use Rattle.jr_commit.proofs.Back.{at_start, read_run, clean, entries_run, back_run, close_run, ended}
 use Rattle.jr_commit.proofs.recovery.put_back.Goals as goal
 
@@ -169,3 +170,22 @@ returns-clause-done g c =
     let says = subst (λ b. SaysOpen b (S.files c.args.store.now) c.in_ok-gate.gate) c.if-not-is_open.false c.in-Ok.ensures.open in
     rolled_back (S.files c.args.store.now) (S.files c.take_steps_synced.new.store) (S.files c.remove_synced.new.store) c.in_ok-gate.gate c.in_ok-journal.journal es gate journal says finds
     (subst (λ o. Tells o (S.files c.take_steps_synced.new.store) (HasSides es)) told c.in_ok-take_steps_synced.ensures.taken) c.in_ok-remove_synced.ensures.removed
+
+pub returns-then-not-is_open-clause-next : goal.returns-then-not-is_open-clause-next
+returns-then-not-is_open-clause-next g c _ =
+    let S = g.S.Store in
+    reads_begin (S.files c.args.store.now) (S.files c.reads_open.new.store) (S.may_leave c.args.store.now) (S.may_leave c.reads_open.new.store) c.reads_open.ensures.told c.reads_open.ensures.crash
+
+pub returns-in-Err-OutOfMemory-clause-next : goal.returns-in-Err-OutOfMemory-clause-next
+returns-in-Err-OutOfMemory-clause-next g c _ =
+    let S = g.S.Store in
+    reads_begin (S.files c.args.store.now) (S.files c.reads_open.new.store) (S.may_leave c.args.store.now) (S.may_leave c.reads_open.new.store) c.reads_open.ensures.told c.reads_open.ensures.crash
+
+pub returns-in-Err-clause-next : goal.returns-in-Err-clause-next
+returns-in-Err-clause-next g c _ begins =
+    let S = g.S.Store in
+    reads_begin (S.files c.reads_open.new.store) (S.files c.read_steps.new.store) (S.may_leave c.reads_open.new.store) (S.may_leave c.read_steps.new.store) c.read_steps.ensures.told c.read_steps.ensures.crash
+    (reads_begin (S.files c.args.store.now) (S.files c.reads_open.new.store) (S.may_leave c.args.store.now) (S.may_leave c.reads_open.new.store) c.reads_open.ensures.told c.reads_open.ensures.crash begins)
+
+pub returns-clause-next : goal.returns-clause-next
+returns-clause-next g c _ begins = told_begins (g.S.Store.files c.remove_synced.new.store) (g.S.Store.may_leave c.remove_synced.new.store) c.in_ok-remove_synced.ensures.durable
