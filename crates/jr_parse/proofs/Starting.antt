@@ -11,7 +11,7 @@ use Rattle.jr_parse_laws.specs.declared.fault.Fault.{Fault}
 use Rattle.jr_parse_laws.specs.declared.fault.Fault.TheVariants.{NoTree, TooDeep}
 use Rattle.jr_parse_laws.specs.Parsers.{Parser, Fails, and_then, deep, refuse, first}
 use Rattle.jr_parse_laws.proofs.Outcomes.{and_then_alike}
-use Rattle.jr_parse_expr.specs.Starts.{no_level}
+use Rattle.jr_parse_starts.specs.Starts.{no_level}
 use Rattle.jr_parse_defs.specs.Begins.{starts_member, starts_decl}
 use Rattle.jr_parse_defs.specs.Decls as spec
 use Rattle.jr_parse.specs.Begun as begun

@@ -10,7 +10,7 @@ use Rattle.jr_tree.specs.declared.tree.Modifier.TheVariants as modifier
 use Rattle.jr_tree.specs.declared.tree.ResultType.TheVariants as outcome
 use Rattle.jr_tree.specs.Mirror.Decls as d
 use Rattle.jr_parse_laws.specs.Parsers.{Parser, ◌>>=◌, pure, refuse, identifier}
-use Rattle.jr_parse_expr.specs.Starts.{over}
+use Rattle.jr_parse_starts.specs.Starts.{over}
 use Rattle.jr_parse_expr.specs.Names.{type_use}
 use Rattle.jr_parse_defs.specs.Begins.{modifier_kind}
 use Rattle.jr_parse_defs.specs.Decls.{modifiers, decl, class_decl, interface_decl, initializer_block, method, identified, typed}

@@ -1,7 +1,7 @@
 // Which tokens begin modifiers, members, declarations and parameters (JLS 7, 8, 9).
 ghost use Rattle.std.specs.Prelude.{◌≡◌};
 ghost use Rattle.jr_parse_laws.specs.Parsers.{first, kinds};
-ghost use Rattle.jr_parse_expr.specs.Starts.{next_is};
+ghost use Rattle.jr_parse_starts.specs.Starts.{next_is};
 ghost use Rattle.jr_parse_defs.specs.Begins as spec;
 ghost use Rattle.jr_parse.specs.Begun as begun;
 

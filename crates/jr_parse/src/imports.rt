@@ -2,7 +2,7 @@
 ghost use Rattle.std.specs.Prelude.{◌≡◌, [], ◌∷◌, ◌++◌, IfOk};
 ghost use Rattle.jr_parse_laws.specs.Parsers.{Reads, kinds, many};
 ghost use Rattle.jr_parse_expr.specs.Names.{name_of};
-ghost use Rattle.jr_parse_expr.specs.Starts.{next_is};
+ghost use Rattle.jr_parse_starts.specs.Starts.{next_is};
 ghost use Rattle.jr_parse_defs.specs.Begins.{is_import};
 ghost use Rattle.jr_parse_defs.specs.Decls as spec;
 ghost use Rattle.jr_parse.specs.Importing as begun;

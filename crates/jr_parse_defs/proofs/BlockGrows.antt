@@ -13,7 +13,7 @@ use Rattle.jr_parse_laws.specs.declared.fault.Fault.{Fault}
 use Rattle.jr_parse_laws.specs.Parsers.{Parser, first, many}
 use Rattle.jr_parse_laws.proofs.Outcomes.{ok_err}
 use Rattle.jr_parse_laws.proofs.Stops.{leading_nothing}
-use Rattle.jr_parse_expr.specs.Starts.{next_is}
+use Rattle.jr_parse_starts.specs.Starts.{next_is}
 use Rattle.jr_parse_expr.proofs.Growths.{Growing, leading_then}
 use Rattle.jr_parse_expr.proofs.PartGrowths.{NoLevel, Deep, Refused}
 use Rattle.jr_parse_defs.specs.Begins.{starts_block_stmt, is_catch}

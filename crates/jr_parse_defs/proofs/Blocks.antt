@@ -11,7 +11,7 @@ use Rattle.jr_tree.specs.Tokens.{stmt_tokens, catch_tokens}
 use Rattle.jr_tree.specs.Mirror.Stmts as s
 use Rattle.jr_parse_laws.specs.Parsers.{Parser, first, many}
 use Rattle.jr_parse_laws.proofs.Outcomes.{bind_ok, ok_is}
-use Rattle.jr_parse_expr.specs.Starts.{next_is}
+use Rattle.jr_parse_starts.specs.Starts.{next_is}
 use Rattle.jr_parse_defs.specs.Begins.{starts_block_stmt, is_catch}
 use Rattle.jr_parse_defs.specs.Stmts as reader
 use Rattle.jr_parse_defs.specs.Writing.{write_many, write_param, write_stmt, write_block, write_stmts, write_catch, write_catches}

@@ -18,7 +18,7 @@ use Rattle.jr_parse_laws.specs.declared.fault.Fault.{Fault}
 use Rattle.jr_parse_laws.specs.Parsers.{Parser, and_then, first, is_at, expect}
 use Rattle.jr_parse_laws.proofs.Outcomes.{ok_err, is_symbol_is}
 use Rattle.jr_parse_laws.proofs.Stops.{leading_nothing}
-use Rattle.jr_parse_expr.specs.Starts.{next_is}
+use Rattle.jr_parse_starts.specs.Starts.{next_is}
 use Rattle.jr_parse_expr.specs.Exprs.{Lead, This, Super, goes_on_primary, goes_on_super, skipping, arguments, expr, list, effect}
 use Rattle.jr_parse_expr.specs.Writing.{write_expr, write_lead}
 use Rattle.jr_parse_expr.specs.Follow.{IsLed}

@@ -18,7 +18,7 @@ use Rattle.jr_tree.specs.Mirror.Decls as d
 use Rattle.jr_parse_laws.specs.declared.fault.Fault.TheVariants.{NoTree}
 use Rattle.jr_parse_laws.specs.Parsers.{Parser, and_then, first, pure, identifier, after_comma, ◌>>=◌}
 use Rattle.jr_parse_laws.proofs.Lists.{many_over}
-use Rattle.jr_parse_expr.specs.Starts.{no_level, over}
+use Rattle.jr_parse_starts.specs.Starts.{no_level, over}
 use Rattle.jr_parse_expr.specs.Names.{type_of, primitive_of, primitive_kind, name}
 use Rattle.jr_parse_expr.specs.Exprs.{next_token, skipping}
 use Rattle.jr_parse_expr.specs.Writing.{write_name}

@@ -13,7 +13,7 @@ use Rattle.jr_tree.specs.declared.tree.Primitive.TheVariants as primitive
 use Rattle.jr_tree.specs.Shape.{is_empty, takes_else, IsBase, IsTypeUse, IsShapedStmt}
 use Rattle.jr_tree.specs.Mirror.Stmts as s
 use Rattle.jr_parse_laws.specs.Parsers.{first, is_at_word}
-use Rattle.jr_parse_expr.specs.Starts.{begins_effect, next_is, starts_effect}
+use Rattle.jr_parse_starts.specs.Starts.{begins_effect, next_is, starts_effect}
 use Rattle.jr_parse_expr.specs.Writing.{write_all, write_base, write_brackets, write_type}
 use Rattle.jr_parse_defs.specs.Begins.{stmt_word, begins_stmt, begins_local, starts_stmt, starts_block_stmt, starts_label, is_catch}
 use Rattle.jr_parse_defs.specs.Writing.{write_declarators, write_stmt}

@@ -14,7 +14,7 @@ use Rattle.jr_tree.specs.Depth.{expr_depth, exprs_depth}
 use Rattle.jr_tree.specs.Mirror.Exprs as x
 use Rattle.jr_parse_laws.specs.Parsers.{first, begins_with, many, after_comma, optional}
 use Rattle.jr_parse_laws.proofs.Outcomes.{bind_ok, chosen, ok_is}
-use Rattle.jr_parse_expr.specs.Starts.{begins_primary, begins_effect, starts_expr, starts_effect}
+use Rattle.jr_parse_starts.specs.Starts.{begins_primary, begins_effect, starts_expr, starts_effect}
 use Rattle.jr_parse_expr.specs.Exprs.{Lead, Nothing, expr, effect, any_commas}
 use Rattle.jr_parse_expr.specs.Writing.{write_all, write_expr, write_exprs, write_others, write_lead}
 use Rattle.jr_parse_expr.specs.Follow.{EffectEnds, IsLed}

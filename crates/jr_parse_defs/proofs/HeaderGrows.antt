@@ -15,7 +15,7 @@ use Rattle.jr_parse_laws.specs.declared.fault.Fault.{Fault}
 use Rattle.jr_parse_laws.specs.Parsers.{Outcome, Parser, and_then, first, begins_with, pure, ◌>>=◌}
 use Rattle.jr_parse_laws.proofs.Outcomes.{and_then_alike, ok_err}
 use Rattle.jr_parse_laws.proofs.Stops.{leading_nothing}
-use Rattle.jr_parse_expr.specs.Starts.{begins_effect, starts_expr}
+use Rattle.jr_parse_starts.specs.Starts.{begins_effect, starts_expr}
 use Rattle.jr_parse_expr.specs.Names.{name_of, type_of, type_use, Dotted, Plain, Enclosing, dotted}
 use Rattle.jr_parse_expr.specs.Exprs.{Lead, Nothing, Named, Indexed, effect}
 use Rattle.jr_parse_expr.specs.Writing.{write_all, write_expr, write_dotted, write_lead}

@@ -18,7 +18,7 @@ use Rattle.jr_tree.specs.Mirror.Exprs as x
 use Rattle.jr_tree.specs.Mirror.Stmts as s
 use Rattle.jr_parse_laws.specs.Parsers.{Parser, Outcome, and_then, first, is_at, begins_with, many, after_comma}
 use Rattle.jr_parse_laws.proofs.Outcomes.{bind_ok, chosen, ok_is}
-use Rattle.jr_parse_expr.specs.Starts.{begins_effect, starts_effect}
+use Rattle.jr_parse_starts.specs.Starts.{begins_effect, starts_effect}
 use Rattle.jr_parse_expr.specs.Names.{name_of, type_of, dims, type_use, Dotted, Plain, Enclosing, dotted}
 use Rattle.jr_parse_expr.specs.Exprs.{Lead, Nothing, Named, Indexed, effect}
 use Rattle.jr_parse_expr.specs.Writing.{write_all, write_brackets, write_type, write_expr, write_others, write_dotted, write_lead}

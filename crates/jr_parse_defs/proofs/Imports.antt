@@ -18,7 +18,7 @@ use Rattle.jr_tree.specs.Mirror.Decls as d
 use Rattle.jr_parse_laws.specs.Parsers.{first, is_at, is_at_word, identifier, many, ◌>>=◌}
 use Rattle.jr_parse_laws.proofs.Outcomes.{bind_ok, chosen, ok_is, err_ok}
 use Rattle.jr_parse_laws.proofs.Exact.{identifier_token}
-use Rattle.jr_parse_expr.specs.Starts.{next_is}
+use Rattle.jr_parse_starts.specs.Starts.{next_is}
 use Rattle.jr_parse_expr.specs.Names.{name_of, name}
 use Rattle.jr_parse_expr.specs.Writing.{write_parts, write_all, write_name}
 use Rattle.jr_parse_expr.proofs.NameReads.{name_read, name_sound, has_parts, parts_append, all_append}

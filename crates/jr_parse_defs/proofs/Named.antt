@@ -15,7 +15,7 @@ use Rattle.jr_tree.specs.Mirror.Exprs as x
 use Rattle.jr_tree.specs.Mirror.Stmts as s
 use Rattle.jr_parse_laws.specs.Parsers.{Parser, and_then, first, is_at, begins_with}
 use Rattle.jr_parse_laws.proofs.Outcomes.{bind_ok, chosen, ok_is, err_ok}
-use Rattle.jr_parse_expr.specs.Starts.{starts_expr}
+use Rattle.jr_parse_starts.specs.Starts.{starts_expr}
 use Rattle.jr_parse_expr.specs.Names.{name_of, type_of, dims, Dotted, Plain, Enclosing, dotted}
 use Rattle.jr_parse_expr.specs.Exprs.{Lead, Nothing, Named, Indexed, after_dotted, after_bracket, effect_suffixes, effect_end, effects, below, expr, list, effect}
 use Rattle.jr_parse_expr.specs.Writing.{write_parts, write_all, write_brackets, write_type, write_expr, write_dotted, write_lead}

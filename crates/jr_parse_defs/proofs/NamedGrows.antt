@@ -17,7 +17,7 @@ use Rattle.jr_parse_laws.specs.declared.fault.Fault.TheVariants.{TooDeep}
 use Rattle.jr_parse_laws.specs.Parsers.{Parser, and_then, first, begins_with}
 use Rattle.jr_parse_laws.proofs.Outcomes.{ok_err}
 use Rattle.jr_parse_laws.proofs.Stops.{leading_nothing}
-use Rattle.jr_parse_expr.specs.Starts.{starts_expr, next_is}
+use Rattle.jr_parse_starts.specs.Starts.{starts_expr, next_is}
 use Rattle.jr_parse_expr.specs.Names.{name_of, type_of, Dotted, Plain, Enclosing, dotted}
 use Rattle.jr_parse_expr.specs.Exprs.{Lead, Named, Indexed, goes_on_name, effect}
 use Rattle.jr_parse_expr.specs.Writing.{write_all, write_expr, write_dotted, write_lead}

@@ -10,7 +10,7 @@ use Rattle.jr_parse_laws.specs.Parsers.{Outcome, Parser, and_then, first, pure, 
 use Rattle.jr_parse_laws.proofs.Outcomes.{and_then_alike}
 use Rattle.jr_parse_laws.proofs.Exact.{word_token}
 use Rattle.jr_parse_laws.proofs.Lists.{Shortens}
-use Rattle.jr_parse_expr.specs.Starts.{within, over}
+use Rattle.jr_parse_starts.specs.Starts.{within, over}
 use Rattle.jr_parse_expr.specs.Exprs.{next_token, skipping, any_commas}
 use Rattle.jr_parse_expr.proofs.Locals.{Kept, Local, along, at_token, local_pure, local_refuse, local_bind, local_skip, local_next, local_over, local_one, local_expect, local_identifier, Looks, on_kept, cond_local, local_if, looks_at, looks_first, kept_same, local_many}
 

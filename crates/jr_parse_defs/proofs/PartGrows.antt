@@ -23,7 +23,7 @@ use Rattle.jr_parse_laws.specs.declared.fault.Fault.TheVariants.{NoTree, TooDeep
 use Rattle.jr_parse_laws.specs.Parsers.{Parser, and_then, first, begins_with, many, after_comma, optional}
 use Rattle.jr_parse_laws.proofs.Outcomes.{bind_ok, ok_err, err_is, Before, After, stops}
 use Rattle.jr_parse_laws.proofs.Stops.{Leading, leading_nothing}
-use Rattle.jr_parse_expr.specs.Starts.{begins_primary, begins_effect, is_plain_literal, starts_expr, starts_effect, next_is}
+use Rattle.jr_parse_starts.specs.Starts.{begins_primary, begins_effect, is_plain_literal, starts_expr, starts_effect, next_is}
 use Rattle.jr_parse_expr.specs.Names.{name_of, type_of, dims, type_use, Plain, dotted_from, dotted}
 use Rattle.jr_parse_expr.specs.Exprs as exprs
 use Rattle.jr_parse_expr.specs.Exprs.{Lead, Nothing, Named, Indexed, This, Super, goes_on, goes_on_name, goes_on_primary, goes_on_super, below, any_commas, expr, list, effect, init}

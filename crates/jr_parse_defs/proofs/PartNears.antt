@@ -15,7 +15,7 @@ use Rattle.jr_parse_laws.specs.declared.fault.Fault.TheVariants.{NoTree, TooDeep
 use Rattle.jr_parse_laws.specs.Parsers.{Outcome, Parser, and_then, first, pure, begins_with, many, after_comma, ◌>>=◌}
 use Rattle.std.specs.Prelude.{⊤}
 use Rattle.jr_parse_laws.proofs.Lists.{Shortens}
-use Rattle.jr_parse_expr.specs.Starts.{begins_effect, begins_primary, is_plain_literal, starts_expr, starts_effect, next_is, no_level, within}
+use Rattle.jr_parse_starts.specs.Starts.{begins_effect, begins_primary, is_plain_literal, starts_expr, starts_effect, next_is, no_level, within}
 use Rattle.jr_parse_expr.specs.Names.{name_of, dims, name, name_after, type_use, Plain, dotted}
 use Rattle.jr_parse_expr.specs.Exprs as reader
 use Rattle.jr_parse_expr.specs.Exprs.{Lead, Nothing, Named, Indexed, This, Super, goes_on, goes_on_name, goes_on_primary, goes_on_super, below, next_token, any_commas, expr, list, effect, init}

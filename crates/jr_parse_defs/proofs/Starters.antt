@@ -21,7 +21,7 @@ use Rattle.jr_tree.specs.Mirror.Stmts as s
 use Rattle.jr_parse_laws.specs.declared.fault.Fault.{Fault}
 use Rattle.jr_parse_laws.specs.Parsers.{Parser}
 use Rattle.jr_parse_laws.proofs.Stops.{Leading, leading_nothing}
-use Rattle.jr_parse_expr.specs.Starts.{begins_effect}
+use Rattle.jr_parse_starts.specs.Starts.{begins_effect}
 use Rattle.jr_parse_expr.specs.Names.{name_of, type_of}
 use Rattle.jr_parse_expr.specs.Writing.{write_all}
 use Rattle.jr_parse_expr.proofs.NameGrowths.{leading_name}

@@ -17,7 +17,7 @@ use Rattle.jr_tree.specs.Mirror.Stmts as s
 use Rattle.jr_parse_laws.specs.Parsers.{Parser, Outcome, and_then, first, is_at_word, many, optional}
 use Rattle.jr_parse_laws.specs.declared.fault.Fault.TheVariants.{NoTree, TooDeep}
 use Rattle.jr_parse_laws.proofs.Outcomes.{bind_ok, chosen, ok_is, err_ok}
-use Rattle.jr_parse_expr.specs.Starts.{begins_effect, starts_expr, starts_effect, next_is}
+use Rattle.jr_parse_starts.specs.Starts.{begins_effect, starts_expr, starts_effect, next_is}
 use Rattle.jr_parse_expr.specs.Names.{name_of, type_of, type_use, dotted}
 use Rattle.jr_parse_expr.specs.Exprs.{Nothing, expr, effect, any_commas}
 use Rattle.jr_parse_expr.specs.Writing.{write_all, write_brackets, write_type, write_expr, write_exprs}

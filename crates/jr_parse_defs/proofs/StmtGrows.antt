@@ -18,7 +18,7 @@ use Rattle.jr_parse_laws.specs.declared.fault.Fault.TheVariants.{NoTree, TooDeep
 use Rattle.jr_parse_laws.specs.Parsers.{Outcome, Parser, and_then, first, pure, expect, optional, ◌>>=◌, ◌>>◌}
 use Rattle.jr_parse_laws.proofs.Outcomes.{ok_err, err_is}
 use Rattle.jr_parse_laws.proofs.Stops.{Leading, leading_nothing}
-use Rattle.jr_parse_expr.specs.Starts.{begins_effect, starts_expr, starts_effect}
+use Rattle.jr_parse_starts.specs.Starts.{begins_effect, starts_expr, starts_effect}
 use Rattle.jr_parse_expr.specs.Names.{type_use}
 use Rattle.jr_parse_expr.specs.Exprs.{Nothing, any_commas, expr, effect}
 use Rattle.jr_parse_expr.specs.Writing.{write_expr, write_exprs}

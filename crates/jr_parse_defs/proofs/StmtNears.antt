@@ -15,7 +15,7 @@ use Rattle.jr_tree.specs.Mirror.Stmts as s
 use Rattle.jr_parse_laws.specs.declared.fault.Fault.TheVariants.{NoTree, TooDeep}
 use Rattle.jr_parse_laws.specs.Parsers.{Parser, first, pure, refuse, expect, begins_with, many, after_comma, ◌>>=◌, ◌>>◌}
 use Rattle.jr_parse_laws.proofs.Outcomes.{ok_is, err_ok, no_first, one_first}
-use Rattle.jr_parse_expr.specs.Starts.{begins_effect, starts_expr, next_is, no_level, within, over}
+use Rattle.jr_parse_starts.specs.Starts.{begins_effect, starts_expr, next_is, no_level, within, over}
 use Rattle.jr_parse_expr.specs.Names.{name_of, type_of, type_use, Dotted, Plain, Enclosing, dotted_from, dotted}
 use Rattle.jr_parse_expr.specs.Exprs.{Lead, Nothing, Named, Indexed, next_token, skipping, expr, effect}
 use Rattle.jr_parse_expr.proofs.NameReads.{DottedEnds, dotted_sound}

@@ -10,7 +10,7 @@ use Rattle.jr_parse_laws.specs.declared.fault.Fault.{Fault}
 use Rattle.jr_parse_laws.specs.Parsers.{Outcome, Parser, and_then, expect, expect_word, is_at, is_at_word, begins_with}
 use Rattle.jr_parse_laws.proofs.Outcomes.{bind_ok, chosen, err_ok, is_symbol_is, is_word_is}
 use Rattle.jr_parse_laws.proofs.Exact.{expect_sound, word_sound}
-use Rattle.jr_parse_expr.specs.Starts.{within}
+use Rattle.jr_parse_starts.specs.Starts.{within}
 use Rattle.jr_parse_expr.specs.Exprs.{skipping}
 use Rattle.jr_parse_expr.proofs.Followers.{Closes}
 

@@ -20,7 +20,7 @@ use Rattle.jr_parse_laws.specs.declared.fault.Fault.TheVariants.{NoTree}
 use Rattle.jr_parse_laws.specs.Parsers.{many, ◌>>=◌}
 use Rattle.jr_parse_laws.proofs.Outcomes.{ok_err, err_is}
 use Rattle.jr_parse_laws.proofs.Stops.{Leading, leading_nothing}
-use Rattle.jr_parse_expr.specs.Starts.{next_is}
+use Rattle.jr_parse_starts.specs.Starts.{next_is}
 use Rattle.jr_parse_expr.specs.Names.{name_of}
 use Rattle.jr_parse_expr.specs.Writing.{write_all}
 use Rattle.jr_parse_expr.proofs.NameReads.{name_sound, has_parts, all_append}

@@ -12,7 +12,7 @@ use Rattle.jr_tree.specs.Mirror.Decls as d
 use Rattle.jr_parse_laws.specs.declared.fault.Fault.TheVariants.{NoTree}
 use Rattle.jr_parse_laws.specs.Parsers.{Parser, pure, expect, ◌>>=◌, ◌>>◌}
 use Rattle.jr_parse_laws.proofs.Outcomes.{no_first, one_first}
-use Rattle.jr_parse_expr.specs.Starts.{next_is}
+use Rattle.jr_parse_starts.specs.Starts.{next_is}
 use Rattle.jr_parse_expr.specs.Names.{name_of}
 use Rattle.jr_parse_expr.proofs.Locals.{Kept, Local, here, along, at_token}
 use Rattle.jr_parse_defs.specs.Begins.{starts_decl, is_import}

@@ -8,7 +8,7 @@ use Rattle.jr_base.specs.declared.kind.Keyword.TheVariants as k
 use Rattle.jr_tree.specs.declared.tree.Modifier.{Modifier}
 use Rattle.jr_tree.specs.declared.tree.Modifier.TheVariants as modifier
 use Rattle.jr_parse_expr.specs.Names.{primitive_of}
-use Rattle.jr_parse_expr.specs.Starts.{next_is, begins_effect}
+use Rattle.jr_parse_starts.specs.Starts.{next_is, begins_effect}
 
 abbrev pub some : {A : Type 0} → Option A → Bool
 some None = false

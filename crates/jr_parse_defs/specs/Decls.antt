@@ -21,7 +21,7 @@ use Rattle.jr_tree.specs.declared.tree.Import.TheVariants as import
 use Rattle.jr_tree.specs.Mirror.Stmts as s
 use Rattle.jr_tree.specs.Mirror.Decls as d
 use Rattle.jr_parse_laws.specs.Parsers.{Outcome, Parser, ◌>>=◌, ◌>>◌, and_then, pure, refuse, expect, expect_word, identifier, many, commas, is_at, is_at_word}
-use Rattle.jr_parse_expr.specs.Starts.{no_level, within, next_is}
+use Rattle.jr_parse_starts.specs.Starts.{no_level, within, next_is}
 use Rattle.jr_parse_expr.specs.Names.{name_of, type_of, dims, name, name_after, primitive_kind, type_use}
 use Rattle.jr_parse_expr.specs.Exprs.{next_token, skipping, any_commas}
 use Rattle.jr_parse_defs.specs.Begins.{modifier_kind, starts_modifier, starts_decl, starts_member, starts_param, is_import}

@@ -6,7 +6,7 @@ use Rattle.jr_base.specs.declared.kind.Keyword.TheVariants as k
 use Rattle.jr_tree.specs.Shape.{is_local, IsShapedStmt}
 use Rattle.jr_tree.specs.Depth.{stmt_depth}
 use Rattle.jr_tree.specs.Mirror.Stmts as s
-use Rattle.jr_parse_expr.specs.Starts.{next_is}
+use Rattle.jr_parse_starts.specs.Starts.{next_is}
 use Rattle.jr_parse_defs.specs.Begins.{is_catch}
 
 abbrev pub is_else : Kind → Bool

@@ -15,7 +15,7 @@ use Rattle.jr_tree.specs.declared.tree.ThisOrSuper.TheVariants as which
 use Rattle.jr_tree.specs.Mirror.Exprs as x
 use Rattle.jr_tree.specs.Mirror.Stmts as s
 use Rattle.jr_parse_laws.specs.Parsers.{Parser, ◌>>=◌, ◌>>◌, pure, refuse, expect, expect_word, identifier, many, begins_with, commas, after_comma, is_at, is_at_word, optional}
-use Rattle.jr_parse_expr.specs.Starts.{starts_expr, starts_effect, no_level, within, next_is}
+use Rattle.jr_parse_starts.specs.Starts.{starts_expr, starts_effect, no_level, within, next_is}
 use Rattle.jr_parse_expr.specs.Names.{name_of, type_of, dims, name, type_use, Dotted, Plain, Enclosing, dotted}
 use Rattle.jr_parse_expr.specs.Exprs.{Lead, Nothing, Named, Indexed, This, Super, next_token, skipping, any_commas, arguments, expr, list, effect, init}
 use Rattle.jr_parse_defs.specs.Begins.{begins_local, starts_stmt, starts_block_stmt, starts_label, is_catch}

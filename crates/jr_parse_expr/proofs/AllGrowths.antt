@@ -16,7 +16,7 @@ use Rattle.jr_parse_laws.specs.Parsers.{Outcome, Parser, first, is_at, is_symbol
 use Rattle.jr_parse_laws.proofs.Outcomes.{bind_ok, chosen, ok_err, err_is, is_symbol_is, Before, After, stops}
 use Rattle.jr_parse_laws.proofs.Stops.{Leading, leading_nothing}
 use Rattle.jr_parse_laws.proofs.Exact.{expect_sound}
-use Rattle.jr_parse_expr.specs.Starts.{is_open_brace, begins_operand, starts_expr, starts_list, starts_init, no_level}
+use Rattle.jr_parse_starts.specs.Starts.{is_open_brace, begins_operand, starts_expr, starts_list, starts_init, no_level}
 use Rattle.jr_parse_expr.specs.Names.{name_of, Plain}
 use Rattle.jr_parse_expr.specs.Exprs as reader
 use Rattle.jr_parse_expr.specs.Exprs.{Lead, Nothing, Named, Indexed, skipping, expr, list}

@@ -13,7 +13,7 @@ use Rattle.jr_parse_laws.specs.declared.fault.Fault.TheVariants.{NoTree, TooDeep
 use Rattle.jr_parse_laws.specs.Parsers.{Outcome, Parser, and_then, first, is_at, is_symbol, pure, refuse, expect, ◌>>=◌, ◌>>◌}
 use Rattle.jr_parse_laws.specs.Viable.{Wider, Alike}
 use Rattle.jr_parse_laws.proofs.Outcomes.{and_then_when, cond_same, no_first, ok_err, err_is}
-use Rattle.jr_parse_expr.specs.Starts.{begins_cast_operand, begins_operand, begins_primary, is_plain_literal, starts_expr, starts_list, starts_init, no_level}
+use Rattle.jr_parse_starts.specs.Starts.{begins_cast_operand, begins_operand, begins_primary, is_plain_literal, starts_expr, starts_list, starts_init, no_level}
 use Rattle.jr_parse_expr.specs.Exprs as reader
 use Rattle.jr_parse_expr.specs.Exprs.{Lead, Nothing, skipping, expr, list}
 use Rattle.jr_parse_expr.proofs.Written.{init_longer}

@@ -12,7 +12,7 @@ use Rattle.jr_parse_laws.proofs.Outcomes.{bind_ok, chosen, ok_is, is_symbol_is}
 use Rattle.jr_parse_laws.proofs.Exact.{expect_sound}
 use Rattle.jr_parse_laws.proofs.Lists.{many_over, many_turn, Shortens}
 use Rattle.jr_parse_laws.proofs.Turns.{at_first, behind_shortens}
-use Rattle.jr_parse_expr.specs.Starts.{starts_expr}
+use Rattle.jr_parse_starts.specs.Starts.{starts_expr}
 use Rattle.jr_parse_expr.specs.Names.{dims}
 use Rattle.jr_parse_expr.specs.Exprs.{Lead, Nothing, skipping, any_commas, arguments, sizes_from, sizes}
 use Rattle.jr_parse_expr.specs.Writing.{write_expr, write_exprs, write_others, write_dims, write_brackets}

@@ -13,7 +13,7 @@ use Rattle.jr_tree.specs.Mirror.Exprs as x
 use Rattle.jr_parse_laws.specs.Parsers.{Parser, and_then, first, is_at}
 use Rattle.jr_parse_laws.proofs.Outcomes.{is_symbol_is}
 use Rattle.jr_parse_laws.proofs.Turns.{Keeps}
-use Rattle.jr_parse_expr.specs.Starts.{starts_expr}
+use Rattle.jr_parse_starts.specs.Starts.{starts_expr}
 use Rattle.jr_parse_expr.specs.Names.{name_of, Plain, dotted}
 use Rattle.jr_parse_expr.specs.Exprs.{Lead, Nothing, Named, Indexed}
 use Rattle.jr_parse_expr.specs.Writing.{write_expr, write_list}

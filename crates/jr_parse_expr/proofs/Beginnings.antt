@@ -10,7 +10,7 @@ use Rattle.jr_tree.specs.Levels.{binary_level, is_literal, is_least_kind}
 use Rattle.jr_tree.specs.Shape.{is_empty, level, is_target, is_least, is_signed, IsShapedExpr}
 use Rattle.jr_tree.specs.Mirror.Exprs as x
 use Rattle.jr_parse_laws.specs.Parsers.{first}
-use Rattle.jr_parse_expr.specs.Starts.{begins_primary, begins_cast_operand, begins_operand, next_is, starts_expr}
+use Rattle.jr_parse_starts.specs.Starts.{begins_primary, begins_cast_operand, begins_operand, next_is, starts_expr}
 use Rattle.jr_parse_expr.specs.Writing.{write_all, write_expr}
 
 pub binary_low : (op : Symbol) → binary_level op ≤ 11

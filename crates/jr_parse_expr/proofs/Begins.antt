@@ -16,7 +16,7 @@ use Rattle.jr_tree.specs.Shape.{is_target, is_statement}
 use Rattle.jr_parse_laws.specs.declared.fault.Fault.TheVariants.{NoTree, TooDeep}
 use Rattle.jr_parse_laws.specs.Parsers.{Parser, pure, refuse, deep, symbol_at}
 use Rattle.jr_parse_laws.proofs.Outcomes.{and_then_alike}
-use Rattle.jr_parse_expr.specs.Starts.{is_plain_literal, within, over}
+use Rattle.jr_parse_starts.specs.Starts.{is_plain_literal, within, over}
 use Rattle.jr_parse_expr.specs.Names.{name, primitive_at}
 use Rattle.jr_parse_expr.specs.Exprs as spec
 use Rattle.jr_parse_expr.specs.Exprs.{Lead, Nothing, next_token, skipping, operand, operand_by, assigned, effect_created_by, effect_operand, effect_by, effect_end, below}

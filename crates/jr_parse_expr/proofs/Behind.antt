@@ -11,7 +11,7 @@ use Rattle.jr_parse_laws.specs.declared.fault.Fault.{Fault}
 use Rattle.jr_parse_laws.specs.Parsers.{first, is_at, expect, with_front, Fails}
 use Rattle.jr_parse_laws.proofs.Turns.{behind_more, behind_fails, behind_done}
 use Rattle.jr_parse_expr.specs.Names.{dims}
-use Rattle.jr_parse_expr.specs.Starts.{starts_init}
+use Rattle.jr_parse_starts.specs.Starts.{starts_init}
 use Rattle.jr_parse_expr.specs.Exprs as spec
 use Rattle.jr_parse_expr.specs.Exprs.{Nothing, expr, list, init}
 use Rattle.jr_parse_expr.specs.Steps.{more_exprs, with_sizes, with_items}

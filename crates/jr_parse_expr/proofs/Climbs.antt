@@ -14,7 +14,7 @@ use Rattle.jr_parse_laws.specs.declared.fault.Fault.{Fault}
 use Rattle.jr_parse_laws.specs.Parsers.{Parser, Outcome, and_then, first, begins_with, expect}
 use Rattle.jr_parse_laws.proofs.Outcomes.{bind_ok, ok_is, some_is}
 use Rattle.jr_parse_laws.proofs.Exact.{expect_sound}
-use Rattle.jr_parse_expr.specs.Starts.{begins_cast_operand, next_is}
+use Rattle.jr_parse_starts.specs.Starts.{begins_cast_operand, next_is}
 use Rattle.jr_parse_expr.specs.Names.{type_use}
 use Rattle.jr_parse_expr.specs.Exprs.{Lead, Nothing, suffixes, operand, choice, binary, assigned, tested, operator, turn, climb_from, climb, operations}
 use Rattle.jr_parse_expr.specs.Writing.{write_expr, write_type}

@@ -19,7 +19,7 @@ use Rattle.jr_parse_laws.specs.Parsers.{Parser, is_at, expect, ◌>>◌}
 use Rattle.jr_parse_laws.proofs.Outcomes.{chosen, ok_err, err_is, is_symbol_is, Before, After, stops}
 use Rattle.jr_parse_laws.proofs.Stops.{leading_nothing}
 use Rattle.jr_parse_laws.proofs.Exact.{expect_sound}
-use Rattle.jr_parse_expr.specs.Starts.{within}
+use Rattle.jr_parse_starts.specs.Starts.{within}
 use Rattle.jr_parse_expr.specs.Names.{name_of, primitive_at, dims, name}
 use Rattle.jr_parse_expr.specs.Exprs as reader
 use Rattle.jr_parse_expr.specs.Exprs.{Lead, Nothing, next_token}

@@ -16,7 +16,7 @@ use Rattle.jr_parse_laws.specs.declared.fault.Fault.TheVariants.{NoTree, TooDeep
 use Rattle.jr_parse_laws.specs.Parsers.{Outcome, Parser, and_then, first, symbol_of, symbol_at, expect, identifier, pure}
 use Rattle.jr_parse_laws.proofs.Outcomes.{bind_ok, chosen, ok_is, err_ok, ok_err, err_is, some_is, Before, After, stops}
 use Rattle.jr_parse_laws.proofs.Exact.{identifier_token}
-use Rattle.jr_parse_expr.specs.Starts.{within, over, begins_cast_operand, next_is}
+use Rattle.jr_parse_starts.specs.Starts.{within, over, begins_cast_operand, next_is}
 use Rattle.jr_parse_expr.specs.Names.{name_of}
 use Rattle.jr_parse_expr.specs.Exprs as reader
 use Rattle.jr_parse_expr.specs.Exprs.{Lead, Nothing, skipping, below}

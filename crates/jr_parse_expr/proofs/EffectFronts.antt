@@ -19,7 +19,7 @@ use Rattle.jr_parse_laws.specs.declared.fault.Fault.TheVariants.{NoTree}
 use Rattle.jr_parse_laws.specs.Parsers.{Outcome, Parser, and_then, is_symbol, expect, identifier, pure, ◌>>=◌, ◌>>◌}
 use Rattle.jr_parse_laws.proofs.Outcomes.{bind_ok, chosen, ok_is, err_ok}
 use Rattle.jr_parse_laws.proofs.Exact.{expect_sound}
-use Rattle.jr_parse_expr.specs.Starts.{is_plain_literal, within}
+use Rattle.jr_parse_starts.specs.Starts.{is_plain_literal, within}
 use Rattle.jr_parse_expr.specs.Names.{name_of, name, primitive_at, dims, Dotted, Plain, Enclosing, dotted_from, dotted}
 use Rattle.jr_parse_expr.specs.Exprs as reader
 use Rattle.jr_parse_expr.specs.Exprs.{Lead, Nothing, next_token, below}

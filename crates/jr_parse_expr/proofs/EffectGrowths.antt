@@ -22,7 +22,7 @@ use Rattle.jr_parse_laws.specs.Parsers.{Outcome, Parser, and_then, first, symbol
 use Rattle.jr_parse_laws.proofs.Outcomes.{bind_ok, chosen, ok_is, ok_err, err_is, some_is, is_symbol_is, Before, After, stops}
 use Rattle.jr_parse_laws.proofs.Stops.{Leading, leading_nothing}
 use Rattle.jr_parse_laws.proofs.Exact.{expect_sound, identifier_token}
-use Rattle.jr_parse_expr.specs.Starts.{is_plain_literal, within, begins_cast_operand, next_is}
+use Rattle.jr_parse_starts.specs.Starts.{is_plain_literal, within, begins_cast_operand, next_is}
 use Rattle.jr_parse_expr.specs.Names.{name_of, name, primitive_at, Dotted, Plain, Enclosing, dotted_from, dotted}
 use Rattle.jr_parse_expr.specs.Exprs as reader
 use Rattle.jr_parse_expr.specs.Exprs.{Lead, Nothing, next_token, skipping, below}

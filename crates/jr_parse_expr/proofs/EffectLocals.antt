@@ -18,7 +18,7 @@ use Rattle.jr_parse_laws.specs.declared.fault.Fault.TheVariants.{NoTree, TooDeep
 use Rattle.jr_parse_laws.specs.Parsers.{Outcome, Parser, and_then, first, symbol_at, is_at, pure, refuse, deep, expect, ◌>>=◌, ◌>>◌}
 use Rattle.jr_parse_laws.specs.Viable.{Wider}
 use Rattle.jr_parse_laws.proofs.Outcomes.{no_first, err_is, ok_err, err_ok}
-use Rattle.jr_parse_expr.specs.Starts.{is_plain_literal, within, over}
+use Rattle.jr_parse_starts.specs.Starts.{is_plain_literal, within, over}
 use Rattle.jr_parse_expr.specs.Names.{name, primitive_at, Dotted, dotted_from, dotted}
 use Rattle.jr_parse_expr.specs.Exprs as reader
 use Rattle.jr_parse_expr.specs.Exprs.{Lead, Nothing, Named, Indexed, This, Super, skipping, next_token, below}

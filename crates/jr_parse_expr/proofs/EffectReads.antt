@@ -18,7 +18,7 @@ use Rattle.jr_tree.specs.Mirror.Exprs as x
 use Rattle.jr_parse_laws.specs.declared.fault.Fault.TheVariants.{NoTree, TooDeep}
 use Rattle.jr_parse_laws.specs.Parsers.{Outcome, Parser, and_then, first, symbol_of, symbol_at, is_at, is_symbol, deep, expect, pure, ◌>>=◌, ◌>>◌}
 use Rattle.jr_parse_laws.proofs.Outcomes.{bind_ok, chosen, ok_is, err_ok, some_is}
-use Rattle.jr_parse_expr.specs.Starts.{is_plain_literal, within}
+use Rattle.jr_parse_starts.specs.Starts.{is_plain_literal, within}
 use Rattle.jr_parse_expr.specs.Names.{name, primitive_at, dims, Dotted, Plain, Enclosing, dotted_from, dotted}
 use Rattle.jr_parse_expr.specs.Exprs as reader
 use Rattle.jr_parse_expr.specs.Exprs.{Lead, Nothing, Named, Indexed, This, Super, next_token, below, expr, list, goes_on, effect}

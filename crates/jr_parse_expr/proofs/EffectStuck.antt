@@ -10,7 +10,7 @@ use Rattle.jr_tree.specs.Mirror.Exprs as x
 use Rattle.jr_parse_laws.specs.declared.fault.Fault.{Fault}
 use Rattle.jr_parse_laws.specs.Parsers.{and_then, first}
 use Rattle.jr_parse_laws.specs.Viable.{Alike, Wider}
-use Rattle.jr_parse_expr.specs.Starts.{within}
+use Rattle.jr_parse_starts.specs.Starts.{within}
 use Rattle.jr_parse_expr.specs.Names.{name_of, Dotted, Plain, Enclosing, dotted}
 use Rattle.jr_parse_expr.specs.Exprs as reader
 use Rattle.jr_parse_expr.specs.Exprs.{Lead, Nothing, Named, Indexed, This, Super, below, expr, list, effect}

@@ -17,7 +17,7 @@ use Rattle.jr_parse_laws.specs.Parsers.{Outcome, Parser, deep, symbol_at, Fails}
 use Rattle.jr_parse_laws.proofs.Outcomes.{chosen, err_ok}
 use Rattle.jr_parse_expr.specs.declared.suffix.Suffix.{Suffix}
 use Rattle.jr_parse_expr.specs.declared.suffix.Suffix.TheVariants as s
-use Rattle.jr_parse_expr.specs.Starts.{within}
+use Rattle.jr_parse_starts.specs.Starts.{within}
 use Rattle.jr_parse_expr.specs.Exprs as spec
 use Rattle.jr_parse_expr.specs.Exprs.{Lead, below}
 use Rattle.jr_parse_expr.specs.Steps.{suffix_of, suffixed}

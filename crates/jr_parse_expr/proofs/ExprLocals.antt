@@ -16,7 +16,7 @@ use Rattle.jr_parse_laws.specs.Parsers.{Parser, and_then, first, symbol_of, symb
 use Rattle.jr_parse_laws.proofs.Outcomes.{and_then_when, cond_alike, cond_same, no_first}
 use Rattle.jr_parse_laws.proofs.Exact.{expect_sound}
 use Rattle.jr_parse_laws.proofs.Turns.{behind_shortens}
-use Rattle.jr_parse_expr.specs.Starts.{begins_cast_operand, next_is, starts_expr, is_plain_literal, over}
+use Rattle.jr_parse_starts.specs.Starts.{begins_cast_operand, next_is, starts_expr, is_plain_literal, over}
 use Rattle.jr_parse_expr.specs.Names.{name_of, type_of, primitive_kind, primitive_at, name, dims, element, Dotted, Plain, Enclosing, dotted}
 use Rattle.jr_parse_expr.specs.Exprs as reader
 use Rattle.jr_parse_expr.specs.Exprs.{Lead, Nothing, Named, Indexed, This, Super, skipping, next_token}

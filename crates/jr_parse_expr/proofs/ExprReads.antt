@@ -10,7 +10,7 @@ use Rattle.jr_tree.specs.Shape.{is_empty}
 use Rattle.jr_tree.specs.Mirror.Exprs as x
 use Rattle.jr_parse_laws.specs.Parsers.{Outcome, Parser, and_then, first}
 use Rattle.jr_parse_laws.proofs.Outcomes.{bind_ok, chosen, err_ok}
-use Rattle.jr_parse_expr.specs.Starts.{starts_expr, starts_list, no_level}
+use Rattle.jr_parse_starts.specs.Starts.{starts_expr, starts_list, no_level}
 use Rattle.jr_parse_expr.specs.Names.{name_of, Dotted, Plain, Enclosing, dotted}
 use Rattle.jr_parse_expr.specs.Exprs.{Lead, Nothing, Named, Indexed, This, Super, after_dotted, after_bracket, operand, suffixes, climb, operations, expr, list}
 use Rattle.jr_parse_expr.specs.Writing.{write_parts, write_all, write_dotted, write_lead, write_expr}

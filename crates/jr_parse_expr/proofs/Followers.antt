@@ -10,7 +10,7 @@ use Rattle.jr_tree.specs.Levels.{binary_level, is_assignment}
 use Rattle.jr_tree.specs.Shape.{level, is_least, is_name, is_new_array, IsShapedExpr}
 use Rattle.jr_tree.specs.Mirror.Exprs as x
 use Rattle.jr_parse_laws.specs.Parsers.{begins_with}
-use Rattle.jr_parse_expr.specs.Starts.{begins_cast_operand, next_is}
+use Rattle.jr_parse_starts.specs.Starts.{begins_cast_operand, next_is}
 use Rattle.jr_parse_expr.specs.Follow.{symbol_next, has_suffix, has_operator_by, has_operator, IsOver, Unless, DotFree, is_plain_name, LastEnds, Ends}
 use Rattle.jr_parse_expr.proofs.Beginnings.{binary_low}
 

@@ -6,7 +6,7 @@ use Rattle.jr_base.specs.declared.kind.Symbol.TheVariants as y
 use Rattle.jr_tree.specs.Levels.{is_step}
 use Rattle.jr_tree.specs.Mirror.Exprs as x
 use Rattle.jr_parse_laws.specs.Parsers.{Parser, ◌>>=◌, pure, refuse}
-use Rattle.jr_parse_expr.specs.Starts.{no_level, within}
+use Rattle.jr_parse_starts.specs.Starts.{no_level, within}
 use Rattle.jr_parse_expr.specs.Exprs.{Lead, Nothing, Named, Indexed, This, Super, next_token, closed, after_dotted, after_bracket, super_member, prefix, operand_by, suffixes, effect_end, expr, list, goes_on}
 
 module _ (room : ℕ) (inner : Lead → ℕ → Parser x.Expr) (list : Parser x.InitList) where

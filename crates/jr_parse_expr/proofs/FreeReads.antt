@@ -16,7 +16,7 @@ use Rattle.jr_parse_laws.specs.declared.fault.Fault.TheVariants.{NoTree}
 use Rattle.jr_parse_laws.specs.Parsers.{Outcome, Parser, and_then, first, symbol_at, expect}
 use Rattle.jr_parse_laws.proofs.Outcomes.{bind_ok, chosen, ok_is, err_ok}
 use Rattle.jr_parse_laws.proofs.Exact.{expect_sound}
-use Rattle.jr_parse_expr.specs.Starts.{begins_cast_operand, next_is, starts_expr}
+use Rattle.jr_parse_starts.specs.Starts.{begins_cast_operand, next_is, starts_expr}
 use Rattle.jr_parse_expr.specs.Names.{name_of, Dotted, Plain, dotted}
 use Rattle.jr_parse_expr.specs.Exprs.{Lead, Nothing, Named, Indexed, This, Super, skipping, closed, assigned, after_dotted, after_bracket, prefix, operand, suffixes, effect_end_by, effect_end, expr, list, goes_on}
 use Rattle.jr_parse_expr.specs.Writing.{write_all, write_dotted, write_lead, write_expr}

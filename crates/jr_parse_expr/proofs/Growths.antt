@@ -15,7 +15,7 @@ use Rattle.jr_parse_laws.specs.Viable.{Begun, Deeper}
 use Rattle.jr_parse_laws.proofs.Outcomes.{chosen, ok_err, Before, After, stops}
 use Rattle.jr_parse_laws.proofs.Stops.{here, next, Leading, leading_nothing, leading_kind, deeper_by, begun_by}
 use Rattle.jr_parse_laws.proofs.Lists.{Shortens}
-use Rattle.jr_parse_expr.specs.Starts.{begins_primary, begins_operand, is_plain_literal}
+use Rattle.jr_parse_starts.specs.Starts.{begins_primary, begins_operand, is_plain_literal}
 use Rattle.jr_parse_expr.specs.Names.{name_of}
 use Rattle.jr_parse_expr.specs.Writing.{write_expr}
 use Rattle.jr_parse_expr.specs.Follow.{IsExpr}

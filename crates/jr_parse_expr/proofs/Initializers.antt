@@ -10,7 +10,7 @@ use Rattle.jr_tree.specs.Mirror.Exprs as x
 use Rattle.jr_parse_laws.specs.Parsers.{Parser, Outcome, first, is_at, is_symbol, expect, pure}
 use Rattle.jr_parse_laws.proofs.Outcomes.{bind_ok, chosen, ok_is, is_symbol_is}
 use Rattle.jr_parse_laws.proofs.Exact.{expect_sound}
-use Rattle.jr_parse_expr.specs.Starts.{is_open_brace, begins_operand, starts_expr, starts_list, starts_init}
+use Rattle.jr_parse_starts.specs.Starts.{is_open_brace, begins_operand, starts_expr, starts_list, starts_init}
 use Rattle.jr_parse_expr.specs.Exprs.{Lead, Nothing, skipping, init_of, after_item_from, after_item, items, braces}
 use Rattle.jr_parse_expr.specs.Writing.{write_comma, write_expr, write_list, write_init, write_inits, write_more}
 use Rattle.jr_parse_expr.specs.Follow.{InitEnds}

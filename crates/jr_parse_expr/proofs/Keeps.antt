@@ -20,7 +20,7 @@ use Rattle.jr_parse_laws.specs.declared.fault.Fault.TheVariants.{NoTree, TooDeep
 use Rattle.jr_parse_laws.specs.Parsers.{Outcome, Parser, and_then, pure, expect, identifier, first, is_at, symbol_at, many_from, many, commas, begins_with, after_comma, with_front, ◌>>=◌, ◌>>◌}
 use Rattle.jr_parse_laws.proofs.Outcomes.{bind_ok, chosen, ok_is, err_ok}
 use Rattle.jr_parse_laws.proofs.Turns.{Keeps, expect_keeps, identifier_keeps}
-use Rattle.jr_parse_expr.specs.Starts.{within, over, no_level, next_is, starts_expr, starts_list, starts_init, begins_cast_operand, is_plain_literal}
+use Rattle.jr_parse_starts.specs.Starts.{within, over, no_level, next_is, starts_expr, starts_list, starts_init, begins_cast_operand, is_plain_literal}
 use Rattle.jr_parse_expr.specs.Names.{dims, pairs, counted, parts, named_all, name_after, name, primitive_at, base_by, element, type_use, Dotted, Plain, Enclosing, dotted_from, dotted_behind, dotted, name_of}
 use Rattle.jr_parse_expr.specs.Exprs as spec
 use Rattle.jr_parse_expr.specs.Exprs.{Lead, Nothing, Named, Indexed, This, Super}

@@ -14,7 +14,7 @@ use Rattle.jr_tree.specs.Mirror.Exprs as x
 use Rattle.jr_parse_laws.specs.declared.fault.Fault.TheVariants.{NoTree}
 use Rattle.jr_parse_laws.specs.Parsers.{Parser, and_then, first, symbol_at, pure, refuse, deep, identifier, ◌>>=◌}
 use Rattle.jr_parse_laws.proofs.Outcomes.{no_first}
-use Rattle.jr_parse_expr.specs.Starts.{is_plain_literal, over}
+use Rattle.jr_parse_starts.specs.Starts.{is_plain_literal, over}
 use Rattle.jr_parse_expr.specs.Names.{type_use, dotted}
 use Rattle.jr_parse_expr.specs.Exprs as reader
 use Rattle.jr_parse_expr.specs.Exprs.{Lead, Nothing, Named, Indexed, This, Super, skipping}

@@ -10,7 +10,7 @@ use Rattle.jr_parse_laws.specs.Parsers.{Outcome, Parser, and_then, pure, first, 
 use Rattle.jr_parse_laws.proofs.Outcomes.{and_then_when, cond_same, cond_alike}
 use Rattle.jr_parse_laws.proofs.Turns.{Keeps, expect_keeps}
 use Rattle.jr_parse_expr.specs.Names.{dims}
-use Rattle.jr_parse_expr.specs.Starts.{starts_init}
+use Rattle.jr_parse_starts.specs.Starts.{starts_init}
 use Rattle.jr_parse_expr.specs.Exprs as spec
 use Rattle.jr_parse_expr.specs.Exprs.{Lead, Nothing}
 use Rattle.jr_parse_expr.specs.Steps.{with_sizes, with_items}

@@ -11,7 +11,7 @@ use Rattle.jr_parse_laws.proofs.Outcomes.{no_first, one_first}
 use Rattle.jr_parse_laws.proofs.Stops.{first_front}
 use Rattle.jr_parse_laws.proofs.Exact.{OneToken, symbol_token, identifier_token}
 use Rattle.jr_parse_laws.proofs.Lists.{Shortens, many_over, many_turn}
-use Rattle.jr_parse_expr.specs.Starts.{over}
+use Rattle.jr_parse_starts.specs.Starts.{over}
 use Rattle.jr_parse_expr.specs.Exprs.{skipping, next_token}
 
 -- what stands before rest, and what q answers where anything stands behind it that begins as rest does

@@ -16,7 +16,7 @@ use Rattle.jr_parse_laws.specs.Parsers.{Outcome, Parser, and_then, expect, ident
 use Rattle.jr_parse_laws.proofs.Outcomes.{chosen, ok_err, err_is, Before, After, stops}
 use Rattle.jr_parse_laws.proofs.Stops.{leading_nothing}
 use Rattle.jr_parse_laws.proofs.Exact.{expect_sound, identifier_token}
-use Rattle.jr_parse_expr.specs.Starts.{begins_operand, is_plain_literal}
+use Rattle.jr_parse_starts.specs.Starts.{begins_operand, is_plain_literal}
 use Rattle.jr_parse_expr.specs.Names.{name_of, Dotted, Plain, Enclosing, dotted}
 use Rattle.jr_parse_expr.specs.Exprs as reader
 use Rattle.jr_parse_expr.specs.Exprs.{Lead, Nothing}

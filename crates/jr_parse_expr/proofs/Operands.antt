@@ -16,7 +16,7 @@ use Rattle.jr_parse_laws.specs.Parsers.{Outcome, Parser, and_then, first, is_at,
 use Rattle.jr_parse_laws.proofs.Outcomes.{bind_ok, chosen, ok_is, err_ok, is_symbol_is}
 use Rattle.jr_parse_laws.proofs.Exact.{expect_sound, identifier_token}
 use Rattle.jr_parse_laws.proofs.Turns.{at_first}
-use Rattle.jr_parse_expr.specs.Starts.{is_plain_literal, begins_operand, starts_expr}
+use Rattle.jr_parse_starts.specs.Starts.{is_plain_literal, begins_operand, starts_expr}
 use Rattle.jr_parse_expr.specs.Names.{name_of, Dotted, Plain, Enclosing, dotted}
 use Rattle.jr_parse_expr.specs.Exprs.{Lead, Nothing, receiver_of, arguments, call_or, after_dotted, super_member, creation, in_parens, prefix, negated, operand}
 use Rattle.jr_parse_expr.specs.Writing.{write_all, write_qualifier, write_expr, write_exprs}

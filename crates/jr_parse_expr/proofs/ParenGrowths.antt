@@ -19,7 +19,7 @@ use Rattle.jr_parse_laws.specs.Viable.{Begun, Deeper}
 use Rattle.jr_parse_laws.proofs.Outcomes.{chosen, ok_err, err_is, is_symbol_is, Before, After, stops}
 use Rattle.jr_parse_laws.proofs.Stops.{Leading}
 use Rattle.jr_parse_laws.proofs.Exact.{expect_sound}
-use Rattle.jr_parse_expr.specs.Starts.{begins_cast_operand, next_is, starts_expr}
+use Rattle.jr_parse_starts.specs.Starts.{begins_cast_operand, next_is, starts_expr}
 use Rattle.jr_parse_expr.specs.Names.{name_of, type_of, primitive_kind, dims, element, Dotted, Plain, Enclosing, dotted}
 use Rattle.jr_parse_expr.specs.Exprs as reader
 use Rattle.jr_parse_expr.specs.Exprs.{Lead, Nothing, Named, Indexed, skipping, closed}

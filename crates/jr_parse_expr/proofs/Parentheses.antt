@@ -18,7 +18,7 @@ use Rattle.jr_tree.specs.Mirror.Exprs as x
 use Rattle.jr_parse_laws.specs.Parsers.{Parser, and_then, first, is_at, begins_with, expect}
 use Rattle.jr_parse_laws.proofs.Outcomes.{bind_ok, chosen, ok_is, err_ok, is_symbol_is}
 use Rattle.jr_parse_laws.proofs.Exact.{expect_sound}
-use Rattle.jr_parse_expr.specs.Starts.{begins_cast_operand, begins_operand, next_is, starts_expr}
+use Rattle.jr_parse_starts.specs.Starts.{begins_cast_operand, begins_operand, next_is, starts_expr}
 use Rattle.jr_parse_expr.specs.Names.{name_of, type_of, primitive_kind, primitive_at, dims, element, Dotted, Plain, Enclosing, dotted}
 use Rattle.jr_parse_expr.specs.Exprs.{Lead, Nothing, Named, Indexed, skipping, closed, cast, primitive_cast, name_in_parens, array_cast, bracket_in_parens, dotted_in_parens, in_parens_by, in_parens}
 use Rattle.jr_parse_expr.specs.Writing.{write_parts, write_all, write_name, write_brackets, write_base, write_type, write_dotted, write_expr}

@@ -16,7 +16,7 @@ use Rattle.jr_parse_laws.specs.Parsers.{Parser, first, is_at, is_symbol, begins_
 use Rattle.jr_parse_laws.proofs.Outcomes.{chosen, ok_err, is_symbol_is, Before, After, stops}
 use Rattle.jr_parse_laws.proofs.Stops.{leading_nothing}
 use Rattle.jr_parse_laws.proofs.Exact.{symbol_token, expect_sound}
-use Rattle.jr_parse_expr.specs.Starts.{starts_expr, starts_list}
+use Rattle.jr_parse_starts.specs.Starts.{starts_expr, starts_list}
 use Rattle.jr_parse_expr.specs.Names.{name_of, dims, Plain}
 use Rattle.jr_parse_expr.specs.Exprs as reader
 use Rattle.jr_parse_expr.specs.Exprs.{Lead, Nothing, Named, Indexed, skipping, next_token}

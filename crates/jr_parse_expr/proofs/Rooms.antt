@@ -4,7 +4,7 @@ use Rattle.jr_base.specs.declared.kind.Kind.{Kind}
 use Rattle.jr_parse_laws.specs.declared.fault.Fault.{Fault}
 use Rattle.jr_parse_laws.specs.declared.fault.Fault.TheVariants.{NoTree, TooDeep}
 use Rattle.jr_parse_laws.specs.Parsers.{Outcome, Fails, deep, refuse, first}
-use Rattle.jr_parse_expr.specs.Starts.{no_level, starts_expr, starts_list}
+use Rattle.jr_parse_starts.specs.Starts.{no_level, starts_expr, starts_list}
 use Rattle.jr_parse_expr.specs.Exprs.{Lead, expr, list, effect, operations, effects, braces, below, goes_on}
 
 one_less : (room : ℕ) → 0 < room → room ≡ suc (room - 1)

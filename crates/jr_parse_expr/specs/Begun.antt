@@ -17,7 +17,7 @@ use Rattle.jr_parse_expr.specs.declared.begin.OperandStart.{OperandStart}
 use Rattle.jr_parse_expr.specs.declared.begin.OperandStart.TheVariants as start
 use Rattle.jr_parse_expr.specs.declared.suffix.Suffix.{Suffix}
 use Rattle.jr_parse_expr.specs.declared.suffix.Suffix.TheVariants as suffix
-use Rattle.jr_parse_expr.specs.Starts.{is_plain_literal, next_is, over}
+use Rattle.jr_parse_starts.specs.Starts.{is_plain_literal, next_is, over}
 use Rattle.jr_parse_expr.specs.Names.{dotted, name, primitive_at}
 use Rattle.jr_parse_expr.specs.Exprs.{Lead, Nothing, next_token, after_dotted, super_member, created_by, creation_by, creation, in_parens, negated, indexed, assigned}
 use Rattle.jr_parse_expr.specs.Steps.{literal, named_by, named_operand, inner_closed, suffixed}

@@ -15,7 +15,7 @@ use Rattle.jr_tree.specs.Levels.{binary_level, is_assignment, is_unary, is_step,
 use Rattle.jr_tree.specs.Shape.{level, is_target, is_statement, is_new_array}
 use Rattle.jr_tree.specs.Depth.{expr_depth}
 use Rattle.jr_parse_laws.specs.Parsers.{Outcome, Parser, ◌>>=◌, ◌>>◌, and_then, pure, refuse, deep, first, expect, identifier, commas, is_at, symbol_at}
-use Rattle.jr_parse_expr.specs.Starts.{is_plain_literal, begins_cast_operand, next_is, starts_expr, starts_effect, starts_init, starts_list, no_level, within, over}
+use Rattle.jr_parse_starts.specs.Starts.{is_plain_literal, begins_cast_operand, next_is, starts_expr, starts_effect, starts_init, starts_list, no_level, within, over}
 use Rattle.jr_parse_expr.specs.Names.{name_of, type_of, dims, name, primitive_kind, primitive_at, element, type_use, Dotted, Plain, Enclosing, dotted}
 
 -- what the caller has read of an expression already

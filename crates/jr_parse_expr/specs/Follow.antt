@@ -11,7 +11,7 @@ use Rattle.jr_tree.specs.Levels.{binary_level, is_assignment, is_step}
 use Rattle.jr_tree.specs.Shape.{level, is_target, is_least, is_name, is_named, is_new_array, IsName, Fits, IsShapedExpr, IsStatementExpr}
 use Rattle.jr_tree.specs.Depth.{expr_depth}
 use Rattle.jr_parse_laws.specs.Parsers.{begins_with, symbol_of}
-use Rattle.jr_parse_expr.specs.Starts.{begins_cast_operand, next_is}
+use Rattle.jr_parse_starts.specs.Starts.{begins_cast_operand, next_is}
 use Rattle.jr_parse_expr.specs.Names.{Plain, Enclosing}
 use Rattle.jr_parse_expr.specs.Exprs.{Lead, Nothing, Named, Indexed, This, Super}
 

@@ -1,4 +1,3 @@
-pub mod Starts
 pub mod Names
 pub mod Exprs
 pub mod Views

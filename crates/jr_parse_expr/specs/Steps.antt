@@ -17,7 +17,7 @@ use Rattle.jr_parse_expr.specs.declared.suffix.Suffix.{Suffix}
 use Rattle.jr_parse_expr.specs.declared.suffix.Suffix.TheVariants as s
 use Rattle.jr_parse_expr.specs.declared.operator.Operation.{Operation}
 use Rattle.jr_parse_expr.specs.declared.operator.Operation.TheVariants as o
-use Rattle.jr_parse_expr.specs.Starts.{is_plain_literal}
+use Rattle.jr_parse_starts.specs.Starts.{is_plain_literal}
 use Rattle.jr_parse_expr.specs.Names.{dotted}
 use Rattle.jr_parse_expr.specs.Exprs.{Lead, Nothing, arguments, after_dotted, closed, selected, indexed, choice, binary, assigned, tested}
 

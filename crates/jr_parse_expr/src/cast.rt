@@ -10,10 +10,10 @@ ghost use Rattle.jr_parse_expr.specs.Views.{plain_dotted, plain_lead, ReadsExpr}
 use crate::grammar::Grammar;
 use crate::lead::Lead;
 use crate::name::{Dotted, dims, dims_behind, dotted_name, element, primitive_at, whole_name};
-use crate::start::starts_cast_operand;
 use jr_base::{Kind, Symbol};
 use jr_parse_laws::{Cursor, Fault};
 use jr_parse_parts::{Measured, MeasuredList};
+use jr_parse_starts::starts_cast_operand;
 use jr_tree::{Base, Name, TypeUse};
 use std::alloc::Global;
 

@@ -12,11 +12,11 @@ use crate::begin::{OperandStart, operand_start};
 use crate::grammar::Grammar;
 use crate::lead::Lead;
 use crate::name::{dotted_name, name_after, primitive_at};
-use crate::start::{is_step, starts_plain_literal};
 use crate::suffix::{Suffix, suffix_at};
 use jr_base::Symbol;
 use jr_parse_laws::{Cursor, Fault};
 use jr_parse_parts::{Measured, MeasuredList, is_assignment, is_statement, is_target};
+use jr_parse_starts::{is_step, starts_plain_literal};
 use jr_tree::{Expr, Name};
 use std::alloc::Global;
 

@@ -7,9 +7,9 @@ ghost use Rattle.jr_parse_expr.specs.Nests.{Nests};
 ghost use Rattle.jr_parse_expr.specs.Views.{plain_lead, ReadsExpr, ReadsList};
 
 use crate::lead::Lead;
-use crate::start::{starts_expr, starts_list};
 use jr_parse_laws::{Cursor, Fault};
 use jr_parse_parts::{Measured, MeasuredList};
+use jr_parse_starts::{starts_expr, starts_list};
 use std::alloc::Global;
 
 /// What the rules read the parts of an expression with.

@@ -9,10 +9,10 @@ ghost use Rattle.jr_parse_expr.specs.Views.{ReadsInit, ReadsList};
 
 use crate::grammar::Grammar;
 use crate::lead::Lead;
-use crate::start::{starts_init, starts_list};
 use jr_base::Symbol;
 use jr_parse_laws::{Cursor, Fault};
 use jr_parse_parts::{ListItems, Measured, MeasuredInit, MeasuredList};
+use jr_parse_starts::{starts_init, starts_list};
 use std::alloc::Global;
 
 impl<

@@ -13,7 +13,6 @@ mod name;
 mod operand;
 mod operator;
 mod read;
-mod start;
 mod suffix;
 
 pub use law::expressions_have_one_reading;
@@ -22,4 +21,3 @@ pub use name::{
     Dotted, dims, dims_behind, dotted_name, element, name_after, primitive_at, type_use, whole_name,
 };
 pub use read::{call_arguments, effect, expr, init, list};
-pub use start::{starts_effect, starts_expr};

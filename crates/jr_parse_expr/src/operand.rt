@@ -5,7 +5,7 @@ ghost use Rattle.jr_parse_laws.specs.Parsers.{commas, kinds, with_front};
 ghost use Rattle.jr_parse_expr.specs.Begun.{begun, new_operand, signed};
 ghost use Rattle.jr_parse_expr.specs.Exprs as spec;
 ghost use Rattle.jr_parse_expr.specs.Nests.{Nests};
-ghost use Rattle.jr_parse_expr.specs.Starts.{starts_expr};
+ghost use Rattle.jr_parse_starts.specs.Starts.{starts_expr};
 ghost use Rattle.jr_parse_expr.specs.Steps.{called, literal, more_exprs, named_operand};
 ghost use Rattle.jr_parse_expr.specs.Views.{plain_dotted, plain_lead, ReadsExpr, ReadsExprs};
 
@@ -13,10 +13,10 @@ use crate::begin::{OperandStart, operand_start};
 use crate::grammar::Grammar;
 use crate::lead::Lead;
 use crate::name::{Dotted, dotted_name, whole_name};
-use crate::start::{is_least_kind, is_plain_literal, is_step, is_unary, starts_expr};
 use jr_base::{Items, Symbol, Text};
 use jr_parse_laws::{Cursor, Fault};
 use jr_parse_parts::{Arguments, Measured, MeasuredList, Receiving};
+use jr_parse_starts::{is_least_kind, is_plain_literal, is_step, is_unary, starts_expr};
 use jr_tree::{Name, Receiver};
 use std::alloc::Global;
 

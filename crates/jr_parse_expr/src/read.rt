@@ -8,10 +8,10 @@ ghost use Rattle.jr_parse_expr.specs.Views.{plain_lead, ReadsExpr};
 use crate::effects::EffectGrammar;
 use crate::grammar::{Grammar, lowest, nested_expr, nested_list};
 use crate::lead::Lead;
-use crate::start::{is_step, starts_effect, starts_expr};
 use jr_base::{Items, Kind, Symbol};
 use jr_parse_laws::{Cursor, Fault};
 use jr_parse_parts::{Measured, is_assignment};
+use jr_parse_starts::{is_step, starts_effect, starts_expr};
 use jr_tree::{Expr, Init, InitList};
 use std::alloc::Global;
 

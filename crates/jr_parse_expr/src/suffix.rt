@@ -9,10 +9,10 @@ ghost use Rattle.jr_parse_expr.specs.Views.{ReadsExpr};
 
 use crate::grammar::Grammar;
 use crate::lead::Lead;
-use crate::start::is_step;
 use jr_base::Symbol;
 use jr_parse_laws::{Cursor, Fault};
 use jr_parse_parts::{Measured, MeasuredList, Receiving, is_new_array, level};
+use jr_parse_starts::is_step;
 use jr_tree::Expr;
 use std::alloc::Global;
 

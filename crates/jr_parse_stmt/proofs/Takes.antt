@@ -13,7 +13,7 @@ use Rattle.jr_parse_laws.proofs.Lists.{Shortens, many_turn}
 use Rattle.jr_parse_laws.proofs.Turns.{Keeps, identifier_keeps}
 use Rattle.jr_parse_expr.specs.Exprs.{Nothing, next_token, skipping, expr, effect}
 use Rattle.jr_parse_expr.specs.Names.{type_use, dims}
-use Rattle.jr_parse_expr.specs.Starts.{next_is}
+use Rattle.jr_parse_starts.specs.Starts.{next_is}
 use Rattle.jr_parse_expr.specs.Writing.{write_expr}
 use Rattle.jr_parse_expr.proofs.Keeps.{keeps_bind, keeps_if, keeps_pure, keeps_skipping, keeps_behind, keeps_many, dims_keeps, type_use_keeps}
 use Rattle.jr_parse_expr.proofs.Written.{longer}

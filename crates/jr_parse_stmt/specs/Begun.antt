@@ -8,7 +8,7 @@ use Rattle.jr_base.specs.declared.kind.Keyword.{Keyword}
 use Rattle.jr_base.specs.declared.kind.Keyword.TheVariants as k
 use Rattle.jr_tree.specs.Mirror.Stmts as s
 use Rattle.jr_parse_laws.specs.Parsers.{Parser, ◌>>=◌, pure, refuse, first, identifier}
-use Rattle.jr_parse_expr.specs.Starts.{starts_effect, next_is, over}
+use Rattle.jr_parse_starts.specs.Starts.{starts_effect, next_is, over}
 use Rattle.jr_parse_expr.specs.Names.{type_use, dotted}
 use Rattle.jr_parse_expr.specs.Exprs.{Nothing}
 use Rattle.jr_parse_defs.specs.Begins.{begins_local}

@@ -9,7 +9,7 @@ use Rattle.jr_tree.specs.declared.tree.Base.TheVariants as base
 use Rattle.jr_tree.specs.Mirror.Exprs as x
 use Rattle.jr_tree.specs.Mirror.Stmts as s
 use Rattle.jr_parse_laws.specs.Parsers.{Parser, ◌>>=◌, ◌>>◌, pure, first, many, begins_with, after_comma, expect, identifier, is_at, optional}
-use Rattle.jr_parse_expr.specs.Starts.{starts_expr, starts_effect, next_is}
+use Rattle.jr_parse_starts.specs.Starts.{starts_expr, starts_effect, next_is}
 use Rattle.jr_parse_expr.specs.Names.{name_of, type_of, type_use, dims, dotted, Plain}
 use Rattle.jr_parse_expr.specs.Exprs.{Lead, Nothing, Named, Indexed, any_commas, expr, effect}
 use Rattle.jr_parse_defs.specs.Begins.{begins_local}

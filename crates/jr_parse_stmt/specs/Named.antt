@@ -8,7 +8,7 @@ use Rattle.jr_tree.specs.declared.tree.Name.{Name}
 use Rattle.jr_tree.specs.declared.tree.Base.TheVariants as base
 use Rattle.jr_tree.specs.Mirror.Stmts as s
 use Rattle.jr_parse_laws.specs.Parsers.{Parser, ◌>>=◌, is_at}
-use Rattle.jr_parse_expr.specs.Starts.{over}
+use Rattle.jr_parse_starts.specs.Starts.{over}
 use Rattle.jr_parse_expr.specs.Names.{name_of, type_of, dims, Dotted, Plain, Enclosing}
 use Rattle.jr_parse_expr.specs.Exprs.{Named, Indexed}
 use Rattle.jr_parse_defs.specs.Stmts as rule

@@ -9,8 +9,9 @@ ghost use Rattle.jr_parse_stmt.specs.Nests.{Nests, in_room};
 use crate::grammar::Grammar;
 use crate::parameter::finality;
 use crate::start::{PartWord, StmtStart, starts_local, stmt_start};
-use jr_parse_expr::{Lead, starts_effect, type_use};
+use jr_parse_expr::{Lead, type_use};
 use jr_parse_laws::{Cursor, Fault};
+use jr_parse_starts::starts_effect;
 use jr_tree::Stmt;
 use std::alloc::Global;
 

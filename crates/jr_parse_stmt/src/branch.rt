@@ -23,7 +23,10 @@ impl<F: Fn(Global, &mut Cursor<'_>, usize, bool) -> Result<Stmt, Fault>> Grammar
         let body = self.inner(cursor)?;
         cursor.expect_word(Keyword::While)?;
         let cond = condition(self.alloc, cursor, self.room)?;
-        cursor.expect(Symbol::Semicolon)?;
+        if let Err(fault) = cursor.expect(Symbol::Semicolon) {
+            drop(cond);
+            return Err(fault);
+        }
         Ok(Stmt::Do { body, cond })
     }
 
@@ -34,7 +37,13 @@ impl<F: Fn(Global, &mut Cursor<'_>, usize, bool) -> Result<Stmt, Fault>> Grammar
         ensures { Reads plain_stmt (in_room spec.while_stmt self.now.room (kinds cursor.old)) result (kinds cursor.new) }
     {
         let cond = condition(self.alloc, cursor, self.room)?;
-        let body = self.inner(cursor)?;
+        let body = match self.inner(cursor) {
+            Ok(body) => body,
+            Err(fault) => {
+                drop(cond);
+                return Err(fault);
+            }
+        };
         Ok(Stmt::While { cond, body })
     }
 
@@ -57,8 +66,20 @@ impl<F: Fn(Global, &mut Cursor<'_>, usize, bool) -> Result<Stmt, Fault>> Grammar
         ensures { Reads plain_stmt (in_room spec.if_stmt self.now.room (kinds cursor.old)) result (kinds cursor.new) }
     {
         let cond = condition(self.alloc, cursor, self.room)?;
-        let yes = self.inner(cursor)?;
-        let no = self.otherwise(cursor)?;
+        let yes = match self.inner(cursor) {
+            Ok(yes) => yes,
+            Err(fault) => {
+                drop(cond);
+                return Err(fault);
+            }
+        };
+        let no = match self.otherwise(cursor) {
+            Ok(no) => no,
+            Err(fault) => {
+                drop(cond);
+                return Err(fault);
+            }
+        };
         Ok(Stmt::If { cond, yes, no })
     }
 }

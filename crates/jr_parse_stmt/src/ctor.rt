@@ -29,6 +29,7 @@ impl<F> Grammar<F> {
         if !cursor.is_at(Symbol::OpenParen) {
             return self.evaluated(cursor, lead);
         }
+        drop(lead);
         cursor.skip();
         let args = call_arguments(self.alloc, cursor, self.room)?;
         cursor.expect(Symbol::Semicolon)?;

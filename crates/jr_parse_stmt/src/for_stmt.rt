@@ -6,7 +6,7 @@ ghost use Rattle.jr_tree.specs.Mirror.Exprs.{plain_expr};
 ghost use Rattle.jr_tree.specs.Mirror.Stmts.{plain_for, plain_stmt};
 ghost use Rattle.jr_parse_laws.specs.Parsers.{Reads, after_comma, begins_with, first, is_at, kinds, many, with_front};
 ghost use Rattle.jr_parse_expr.specs.Exprs.{Nothing, any_commas, effect};
-ghost use Rattle.jr_parse_expr.specs.Starts.{next_is, starts_effect};
+ghost use Rattle.jr_parse_starts.specs.Starts.{next_is, starts_effect};
 ghost use Rattle.jr_parse_expr.specs.Views.{plain_dotted, plain_lead};
 ghost use Rattle.jr_parse_defs.specs.Stmts as spec;
 ghost use Rattle.jr_parse_stmt.specs.Named as named;
@@ -20,10 +20,9 @@ use crate::parameter::finality;
 use crate::simple::any_expr;
 use crate::start::starts_local;
 use jr_base::{Items, Kind, Symbol};
-use jr_parse_expr::{
-    Dotted, Lead, dims_behind, dotted_name, effect, starts_effect, type_use, whole_name,
-};
+use jr_parse_expr::{Dotted, Lead, dims_behind, dotted_name, effect, type_use, whole_name};
 use jr_parse_laws::{Cursor, Fault};
+use jr_parse_starts::starts_effect;
 use jr_tree::{Expr, ForInit, Name, Stmt, TypeUse};
 use std::alloc::Global;
 
@@ -85,7 +84,13 @@ impl<F> Grammar<F> {
         requires { self.now.room < usize.MAX }
         ensures { Reads plain_for (in_room spec.locals self.now.room is_final ty (kinds cursor.old)) result (kinds cursor.new) }
     {
-        let decls = declarators(self.alloc, cursor, self.room)?;
+        let decls = match declarators(self.alloc, cursor, self.room) {
+            Ok(decls) => decls,
+            Err(fault) => {
+                drop(ty);
+                return Err(fault);
+            }
+        };
         Ok(ForInit::Locals {
             is_final,
             ty,
@@ -198,7 +203,14 @@ impl<F: Fn(Global, &mut Cursor<'_>, usize, bool) -> Result<Stmt, Fault>> Grammar
         requires { Nests self.now.room (F.pre self.now.stmt) (F.post self.now.stmt) }
         ensures { Reads plain_stmt (in_room parts.for_body self.now.room (option_map plain_for first) (option_map plain_expr cond) (map plain_expr update) (kinds cursor.old)) result (kinds cursor.new) }
     {
-        let body = self.inner(cursor)?;
+        let body = match self.inner(cursor) {
+            Ok(body) => body,
+            Err(fault) => {
+                drop(first);
+                drop(cond);
+                return Err(fault);
+            }
+        };
         Ok(Stmt::For {
             first,
             cond,
@@ -217,8 +229,19 @@ impl<F: Fn(Global, &mut Cursor<'_>, usize, bool) -> Result<Stmt, Fault>> Grammar
         requires { Nests self.now.room (F.pre self.now.stmt) (F.post self.now.stmt) }
         ensures { Reads plain_stmt (in_room parts.for_update self.now.room (option_map plain_for first) (option_map plain_expr cond) (kinds cursor.old)) result (kinds cursor.new) }
     {
-        let update = self.update(cursor)?;
-        cursor.expect(Symbol::CloseParen)?;
+        let update = match self.update(cursor) {
+            Ok(update) => update,
+            Err(fault) => {
+                drop(first);
+                drop(cond);
+                return Err(fault);
+            }
+        };
+        if let Err(fault) = cursor.expect(Symbol::CloseParen) {
+            drop(first);
+            drop(cond);
+            return Err(fault);
+        }
         self.for_body(cursor, first, cond, update)
     }
 
@@ -227,9 +250,22 @@ impl<F: Fn(Global, &mut Cursor<'_>, usize, bool) -> Result<Stmt, Fault>> Grammar
         requires { Nests self.now.room (F.pre self.now.stmt) (F.post self.now.stmt) }
         ensures { Reads plain_stmt (in_room parts.for_cond self.now.room (option_map plain_for first) (kinds cursor.old)) result (kinds cursor.new) }
     {
-        cursor.expect(Symbol::Semicolon)?;
-        let cond = any_expr(self.alloc, cursor, self.room)?;
-        cursor.expect(Symbol::Semicolon)?;
+        if let Err(fault) = cursor.expect(Symbol::Semicolon) {
+            drop(first);
+            return Err(fault);
+        }
+        let cond = match any_expr(self.alloc, cursor, self.room) {
+            Ok(cond) => cond,
+            Err(fault) => {
+                drop(first);
+                return Err(fault);
+            }
+        };
+        if let Err(fault) = cursor.expect(Symbol::Semicolon) {
+            drop(first);
+            drop(cond);
+            return Err(fault);
+        }
         self.for_update(cursor, first, cond)
     }
 

@@ -5,7 +5,7 @@ ghost use Rattle.jr_tree.specs.Mirror.Exprs.{plain_expr};
 ghost use Rattle.jr_tree.specs.Mirror.Stmts.{plain_stmt};
 ghost use Rattle.jr_parse_laws.specs.Parsers.{Reads, kinds, optional};
 ghost use Rattle.jr_parse_expr.specs.Exprs.{Nothing, expr};
-ghost use Rattle.jr_parse_expr.specs.Starts.{starts_expr};
+ghost use Rattle.jr_parse_starts.specs.Starts.{starts_expr};
 ghost use Rattle.jr_parse_expr.specs.Views.{plain_lead};
 ghost use Rattle.jr_parse_defs.specs.Stmts as spec;
 ghost use Rattle.jr_parse_stmt.specs.Nests.{in_room};
@@ -13,8 +13,9 @@ ghost use Rattle.jr_parse_stmt.specs.Nests.{in_room};
 use crate::declarator::declarators;
 use crate::grammar::Grammar;
 use jr_base::{Kind, Symbol, Text};
-use jr_parse_expr::{Lead, effect, expr, starts_expr};
+use jr_parse_expr::{Lead, effect, expr};
 use jr_parse_laws::{Cursor, Fault};
+use jr_parse_starts::starts_expr;
 use jr_tree::{Expr, Stmt, TypeUse};
 use std::alloc::Global;
 
@@ -34,7 +35,10 @@ pub fn condition(alloc: Global, cursor: &mut Cursor<'_>, room: usize) -> Result<
 {
     cursor.expect(Symbol::OpenParen)?;
     let condition = expr(alloc, cursor, room, Lead::Nothing, 0)?;
-    cursor.expect(Symbol::CloseParen)?;
+    if let Err(fault) = cursor.expect(Symbol::CloseParen) {
+        drop(condition);
+        return Err(fault);
+    }
     Ok(condition)
 }
 
@@ -55,8 +59,17 @@ impl<F> Grammar<F> {
         requires { self.now.room < usize.MAX }
         ensures { Reads plain_stmt (in_room spec.local self.now.room is_final ty (kinds cursor.old)) result (kinds cursor.new) }
     {
-        let decls = declarators(self.alloc, cursor, self.room)?;
-        cursor.expect(Symbol::Semicolon)?;
+        let decls = match declarators(self.alloc, cursor, self.room) {
+            Ok(decls) => decls,
+            Err(fault) => {
+                drop(ty);
+                return Err(fault);
+            }
+        };
+        if let Err(fault) = cursor.expect(Symbol::Semicolon) {
+            drop(ty);
+            return Err(fault);
+        }
         Ok(Stmt::Local {
             is_final,
             ty,
@@ -69,7 +82,10 @@ impl<F> Grammar<F> {
         ensures { Reads plain_stmt (in_room spec.evaluated self.now.room (plain_lead lead) (kinds cursor.old)) result (kinds cursor.new) }
     {
         let value = effect(self.alloc, cursor, self.room, lead)?;
-        cursor.expect(Symbol::Semicolon)?;
+        if let Err(fault) = cursor.expect(Symbol::Semicolon) {
+            drop(value);
+            return Err(fault);
+        }
         Ok(Stmt::Eval { value })
     }
 
@@ -96,7 +112,10 @@ impl<F> Grammar<F> {
         ensures { Reads plain_stmt (in_room spec.return_stmt self.now.room (kinds cursor.old)) result (kinds cursor.new) }
     {
         let value = any_expr(self.alloc, cursor, self.room)?;
-        cursor.expect(Symbol::Semicolon)?;
+        if let Err(fault) = cursor.expect(Symbol::Semicolon) {
+            drop(value);
+            return Err(fault);
+        }
         Ok(Stmt::Return { value })
     }
 
@@ -105,7 +124,10 @@ impl<F> Grammar<F> {
         ensures { Reads plain_stmt (in_room spec.throw_stmt self.now.room (kinds cursor.old)) result (kinds cursor.new) }
     {
         let value = expr(self.alloc, cursor, self.room, Lead::Nothing, 0)?;
-        cursor.expect(Symbol::Semicolon)?;
+        if let Err(fault) = cursor.expect(Symbol::Semicolon) {
+            drop(value);
+            return Err(fault);
+        }
         Ok(Stmt::Throw { value })
     }
 }

@@ -1,13 +1,13 @@
 // Which tokens begin what in a block (JLS 14).
 ghost use Rattle.std.specs.Prelude.{◌≡◌, Some};
 ghost use Rattle.jr_parse_laws.specs.Parsers.{first, kinds};
-ghost use Rattle.jr_parse_expr.specs.Starts.{next_is};
+ghost use Rattle.jr_parse_starts.specs.Starts.{next_is};
 ghost use Rattle.jr_parse_defs.specs.Begins as spec;
 ghost use Rattle.jr_parse_stmt.specs.Begun as begun;
 
 use jr_base::{Keyword, Kind, Symbol};
-use jr_parse_expr::starts_effect;
 use jr_parse_laws::Cursor;
+use jr_parse_starts::starts_effect;
 
 /// A word behind which a statement or an expression must stand, which has a level less.
 #[derive(Clone, Copy)]

@@ -25,7 +25,10 @@ impl<F> Grammar<F> {
             Some(Kind::Word(Keyword::Case)) => {
                 cursor.skip();
                 let value = expr(self.alloc, cursor, self.room, Lead::Nothing, 0)?;
-                cursor.expect(Symbol::Colon)?;
+                if let Err(fault) = cursor.expect(Symbol::Colon) {
+                    drop(value);
+                    return Err(fault);
+                }
                 Ok(SwitchLabel::Case { value })
             }
             Some(Kind::Word(Keyword::Default)) => {
@@ -82,9 +85,21 @@ impl<F: Fn(Global, &mut Cursor<'_>, usize, bool) -> Result<Stmt, Fault>> Grammar
         ensures { Reads plain_stmt (in_room spec.switch_stmt self.now.room (kinds cursor.old)) result (kinds cursor.new) }
     {
         let value = condition(self.alloc, cursor, self.room)?;
-        cursor.expect(Symbol::OpenBrace)?;
-        let groups = self.groups(cursor)?;
-        cursor.expect(Symbol::CloseBrace)?;
+        if let Err(fault) = cursor.expect(Symbol::OpenBrace) {
+            drop(value);
+            return Err(fault);
+        }
+        let groups = match self.groups(cursor) {
+            Ok(groups) => groups,
+            Err(fault) => {
+                drop(value);
+                return Err(fault);
+            }
+        };
+        if let Err(fault) = cursor.expect(Symbol::CloseBrace) {
+            drop(value);
+            return Err(fault);
+        }
         Ok(Stmt::Switch { value, groups })
     }
 }

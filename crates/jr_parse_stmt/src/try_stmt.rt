@@ -2,7 +2,7 @@
 ghost use Rattle.std.specs.Prelude.{◌≡◌, map};
 ghost use Rattle.jr_tree.specs.Mirror.Stmts.{plain_any_block, plain_catch, plain_stmt};
 ghost use Rattle.jr_parse_laws.specs.Parsers.{Reads, kinds, many};
-ghost use Rattle.jr_parse_expr.specs.Starts.{next_is};
+ghost use Rattle.jr_parse_starts.specs.Starts.{next_is};
 ghost use Rattle.jr_parse_defs.specs.Begins.{is_catch};
 ghost use Rattle.jr_parse_defs.specs.Stmts as spec;
 ghost use Rattle.jr_parse_stmt.specs.Nests.{Nests, in_room};
@@ -25,8 +25,17 @@ impl<F: Fn(Global, &mut Cursor<'_>, usize, bool) -> Result<Stmt, Fault>> Grammar
         cursor.expect_word(Keyword::Catch)?;
         cursor.expect(Symbol::OpenParen)?;
         let param = param(self.alloc, cursor)?;
-        cursor.expect(Symbol::CloseParen)?;
-        let body = self.block(cursor)?;
+        if let Err(fault) = cursor.expect(Symbol::CloseParen) {
+            drop(param);
+            return Err(fault);
+        }
+        let body = match self.block(cursor) {
+            Ok(body) => body,
+            Err(fault) => {
+                drop(param);
+                return Err(fault);
+            }
+        };
         Ok(Catch { param, body })
     }
 

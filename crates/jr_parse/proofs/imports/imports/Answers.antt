@@ -3,7 +3,7 @@ use Rattle.jr_tree.specs.declared.tree.Import.{Import}
 use Rattle.jr_parse_laws.specs.Parsers.{first, kinds, many, with_front}
 use Rattle.jr_parse_laws.proofs.Outcomes.{reads_err}
 use Rattle.jr_parse_laws.proofs.Lists.{front_more, front_fails, front_done}
-use Rattle.jr_parse_expr.specs.Starts.{next_is}
+use Rattle.jr_parse_starts.specs.Starts.{next_is}
 use Rattle.jr_parse_defs.specs.Begins.{is_import}
 use Rattle.jr_parse_defs.specs.Decls as spec
 use Rattle.jr_parse.proofs.Turns.{fewer_tokens, import_shortens}

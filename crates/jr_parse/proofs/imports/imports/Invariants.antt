@@ -1,6 +1,6 @@
 use Rattle.std.proofs.Common.{◌≡◌, length}
 use Rattle.jr_parse_laws.specs.Parsers.{kinds, many, with_front}
-use Rattle.jr_parse_expr.specs.Starts.{next_is}
+use Rattle.jr_parse_starts.specs.Starts.{next_is}
 use Rattle.jr_parse_defs.specs.Begins.{is_import}
 use Rattle.jr_parse_defs.specs.Decls as spec
 use Rattle.jr_parse.proofs.imports.imports.Given as goal

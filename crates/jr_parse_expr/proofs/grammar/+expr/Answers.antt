@@ -2,7 +2,7 @@ use Rattle.std.proofs.Common.{arith, ◌≡◌, ◌∙◌, sym, ap, subst, Bool,
 use Rattle.jr_parse_laws.specs.declared.fault.Fault.TheVariants.{NoTree, TooDeep}
 use Rattle.jr_parse_laws.specs.Parsers.{Outcome, Fails, kinds}
 use Rattle.jr_tree.specs.Mirror.Exprs as x
-use Rattle.jr_parse_expr.specs.Starts.{starts_expr, starts_list}
+use Rattle.jr_parse_starts.specs.Starts.{starts_expr, starts_list}
 use Rattle.jr_parse_expr.specs.Views.{plain_lead}
 use Rattle.jr_parse_expr.proofs.Rooms.{expr_lowest, expr_below, list_lowest, list_below, lowest_fails}
 use Rattle.jr_parse_expr.proofs.grammar.+expr.Goals as goal

@@ -5,7 +5,7 @@ use Rattle.jr_tree.specs.declared.tree.Init.{Init}
 use Rattle.jr_tree.specs.Mirror.Exprs.{plain_init}
 use Rattle.jr_parse_laws.specs.Parsers.{kinds, first, is_at, Fails}
 use Rattle.jr_parse_laws.proofs.Outcomes.{reads_err}
-use Rattle.jr_parse_expr.specs.Starts.{starts_init}
+use Rattle.jr_parse_starts.specs.Starts.{starts_init}
 use Rattle.jr_parse_expr.specs.Exprs as spec
 use Rattle.jr_parse_expr.specs.Steps.{with_items}
 use Rattle.jr_parse_expr.proofs.Behind.{items_more, items_fails, items_open, items_done}

@@ -3,7 +3,7 @@ use Rattle.jr_tree.specs.Mirror.Stmts.{plain_catch}
 use Rattle.jr_parse_laws.specs.Parsers.{kinds, first, many, with_front}
 use Rattle.jr_parse_laws.proofs.Outcomes.{reads_err}
 use Rattle.jr_parse_expr.proofs.Shorter.{fewer_tokens}
-use Rattle.jr_parse_expr.specs.Starts.{next_is}
+use Rattle.jr_parse_starts.specs.Starts.{next_is}
 use Rattle.jr_parse_defs.specs.Begins.{is_catch}
 use Rattle.jr_parse_defs.specs.Stmts as spec
 use Rattle.jr_parse_stmt.specs.Nests.{in_room}

@@ -1,7 +1,7 @@
 use Rattle.std.proofs.Common.{◌≡◌, map, length, true}
 use Rattle.jr_tree.specs.Mirror.Stmts.{plain_catch}
 use Rattle.jr_parse_laws.specs.Parsers.{kinds, with_front, many}
-use Rattle.jr_parse_expr.specs.Starts.{next_is}
+use Rattle.jr_parse_starts.specs.Starts.{next_is}
 use Rattle.jr_parse_defs.specs.Begins.{is_catch}
 use Rattle.jr_parse_defs.specs.Stmts as spec
 use Rattle.jr_parse_stmt.specs.Nests.{in_room}

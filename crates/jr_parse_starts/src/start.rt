@@ -2,7 +2,7 @@
 ghost use Rattle.std.specs.Prelude.{◌≡◌};
 ghost use Rattle.jr_tree.specs.Levels as level;
 ghost use Rattle.jr_parse_laws.specs.Parsers.{kinds, first};
-ghost use Rattle.jr_parse_expr.specs.Starts as spec;
+ghost use Rattle.jr_parse_starts.specs.Starts as spec;
 
 use jr_base::{Keyword, Kind, Symbol};
 use jr_parse_laws::Cursor;
