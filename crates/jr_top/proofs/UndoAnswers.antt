@@ -70,7 +70,7 @@ module _ (a b : Image) (same : SameFiles a b) (at : a journal_path ≡ b journal
   pub refused_same : (reason : ℕ) (path : Option (List ℕ)) → IsNotUndoable a reason path → IsNotUndoable b reason path
   refused_same reason None (inl (one, none)) = inl (one, sym at ∙ none)
   refused_same reason None (inr (two, some, other)) = inr (two, subst IsSome at some, λ es kept. other es (kept_back es kept))
-  refused_same reason (Some path) (three, es, kept, edited) = (three, es, kept_same es kept, edited_same es path kept.2.changes edited)
+  refused_same reason (Some path) (three, (es, kept, edited)) = (three, (es, kept_same es kept, edited_same es path kept.2.changes edited))
 
 -- ---- the plan
 
@@ -125,10 +125,12 @@ module _ (es : List PlainEntry) (plan : Planned) (back : TakesBack es plan) wher
     pub stands_undone : (words : List (List ℕ)) (r c : Image) (outcomes : Image → Type 0) → AsksUndo words → IsSettled f r outcomes → RestoresTo c (with_sides plan.steps f) → StandsForUndone words r c
     stands_undone words r c outcomes asks is stands = (
       asks,
-      es,
-      undoable_same f r is.same is.journal es undoable,
-      restores_same c (with_sides plan.steps f) (with_sides (old_sides es) r) stands
-          (λ q java. ap (λ (l : List SideAt). with_sides l f q) back.steps ∙ with_sides_at (old_sides es) f r q (is.same q java)),
+      (
+        es,
+        undoable_same f r is.same is.journal es undoable,
+        restores_same c (with_sides plan.steps f) (with_sides (old_sides es) r) stands
+            (λ q java. ap (λ (l : List SideAt). with_sides l f q) back.steps ∙ with_sides_at (old_sides es) f r q (is.same q java)),
+      ),
     )
 
     -- the run of the reads and the change
@@ -162,7 +164,7 @@ module _ (words : List (List ℕ)) (asks : AsksUndo words) (told left : Option I
   refused_so same fewer fault.Failed rose because = ((same, rose refl), λ f r told_is is c l. inl (stays same fewer f r told_is is c l))
   refused_so same fewer fault.OutOfMemory rose because = (same, stays same fewer)
   refused_so same fewer fault.NoJournal rose because = ((same, for_told told (λ files. IsNotUndoable files 1 None) (λ f is. inl (refl, because f is))), stays same fewer)
-  refused_so same fewer fault.OneSided rose because = ((same, for_told told (λ files. IsNotUndoable files 2 None) (λ f is. inr (refl, because f is))), stays same fewer)
+  refused_so same fewer fault.OneSided rose because = ((same, for_told told (λ files. IsNotUndoable files 2 None) (λ f is. inr (refl, (because f is).0, (because f is).1))), stays same fewer)
   refused_so same fewer (fault.Edited path) rose because = ((same, for_told told (λ files. IsNotUndoable files 3 (Some path)) (λ f is. (refl, because f is))), stays same fewer)
 
   pub reports_refused : left ≡ told → ((c : Image) → outcomes c → kept c) → (reason : UndoFault) → (reason ≡ fault.Failed → Rose before after) → ((f : Image) → told ≡ Some f → IsUndoFault f reason)

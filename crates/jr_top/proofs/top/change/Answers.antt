@@ -19,11 +19,11 @@ returns-in_default-clause-next g c begins =
     let s = c.args.store.now in
     begun (S.faults s) (S.faults s) (MayBegin (S.files s) (S.may_leave s)) begins c.write_line.result
 
-pub returns-in-Ok-clause-next : goal.returns-in-Ok-clause-next
-returns-in-Ok-clause-next g c begins =
+pub returns-in-Ok-take_all-clause-next : goal.returns-in-Ok-take_all-clause-next
+returns-in-Ok-take_all-clause-next g c begins =
     let S = g.S.Store in
     let s = c.take_all.new.store in
-    begun (S.faults c.args.store.now) (S.faults s) (MayBegin (S.files s) (S.may_leave s)) (c.in-Ok.ensures.next begins) c.write_line-in-Ok.result
+    begun (S.faults c.args.store.now) (S.faults s) (MayBegin (S.files s) (S.may_leave s)) (c.in-Ok-take_all.ensures.next begins) c.write_line-in-Ok-take_all.result
 
 pub returns-in-Err-clause-next : goal.returns-in-Err-clause-next
 returns-in-Err-clause-next g c begins =
