@@ -1,8 +1,8 @@
 import sys, re, subprocess, os
-sys.path.insert(0,'tools/worked'); sys.path.insert(0,'tools/javac'); sys.path.insert(0)
+sys.path.insert(0,'drafts/names'); sys.path.insert(0,'tools/worked'); sys.path.insert(0,'tools/javac')
 argv=sys.argv; sys.argv=[argv[0]]
 import rows as R
-import h8_prelude as P
+import prelude as P
 KEY=set("abstract assert boolean break byte case catch char class const continue default do double else enum extends final finally float for goto if implements import instanceof int interface long native new package private protected public return short static strictfp super switch synchronized this throw throws transient try void volatile while true false null".split())
 TOK=re.compile(r'"(?:\\.|[^"\\])*"|\'(?:\\.|[^\'\\])*\'|//[^\n]*|/\*.*?\*/|[A-Za-z_$][\w$]*|\d\w*|\S',re.S)
 def tokens(text):
