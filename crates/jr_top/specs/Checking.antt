@@ -33,7 +33,7 @@ pub record HoldsOne (files : Image) (bytes : List ℕ) : Type 0 where
 abbrev pub IsOneProgram : Image → Type 0
 IsOneProgram files = (bytes : List ℕ) × HoldsOne files bytes × IsSmallProgram bytes
 
--- what is said of the files: that the one file compiles, or that they are not served yet
+-- what is said of the files: that the one file is a small program, or that they are not served yet
 abbrev pub Checks : Option Image → ℕ → ℕ → Status → Type 0
 Checks told before after (Done (Checked files)) = (files ≡ 1) × ForTold told IsOneProgram
 Checks told before after NotYet = ForTold told (λ files. IsOneProgram files → ⊥)

@@ -63,7 +63,7 @@ fn verdict(alloc: Global, bytes: &[u8]) -> Status
     }
 }
 
-/// Says whether the files are one small program that compiles.
+/// Says whether the files are one small program.
 pub fn check<S: Store>(alloc: Global, store: &mut S) -> Status
     ensures answer { Checks (S.files store.old) (S.faults store.old) (S.faults store.new) result }
     ensures files { S.files store.new ≡ S.files store.old }

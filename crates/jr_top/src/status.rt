@@ -19,7 +19,7 @@ pub enum Phase {
 pub enum Report {
     /// The number of paths written or removed.
     Changed(u32),
-    /// The number of files that compile.
+    /// The number of files of a program that is accepted.
     Checked(u32),
     /// The text of a run or a demonstration, with its last line end.
     Printed(Text),

@@ -272,7 +272,7 @@ pub fn refactor<S: Store, I: Source, O: Sink>(
     ensures batch { AsksBatch words.now → Outcome words.now (λ status. AnswersBatch words.now (S.files store.old) (S.files store.new) (S.may_leave store.new) (S.faults store.old) (S.faults store.new) (I.left input.old) (I.faults input.old) (I.faults input.new) status
         × Survives words.now (S.files store.old) (S.may_leave store.old) (S.may_leave store.new) status) (O.contents out.old) (O.contents out.new) (O.faults out.old) (O.faults out.new) result }
 
-    // So has each answer to a check: whether the one file is a small program that compiles.
+    // So has each answer to a check: whether the one file is a small program.
     ensures check { AsksCheck words.now → Outcome words.now (λ status. AnswersCheck words.now (S.files store.old) (S.files store.new) (S.may_leave store.new) (S.faults store.old) (S.faults store.new) status
         × Survives words.now (S.files store.old) (S.may_leave store.old) (S.may_leave store.new) status) (O.contents out.old) (O.contents out.new) (O.faults out.old) (O.faults out.new) result }
 

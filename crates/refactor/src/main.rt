@@ -13,7 +13,7 @@ const HELP: &str = "\
 refactor DIR COMMAND ..: changes the Java source below the folder DIR, keeping what each name refers to
 
   rename FILE OFFSET NAME   gives the local or parameter at the byte offset of the file another name
-  check                     says whether the folder's one file compiles, where its form is served
+  check                     says ok where the folder's one file is a small program, of the form below
   undo                      takes the last change back, where no file of it was edited since
   batch                     reads requests as JSON from standard input; a batch is refused where it is none, and not served yet
 
