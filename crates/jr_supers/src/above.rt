@@ -83,6 +83,15 @@ fn link_of(links: &[Option<Link>], at: u32, first: Option<u32>) -> Link {
 }
 
 impl Above {
+    /// No types, and no room for any.
+    pub fn nothing(alloc: Global) -> Above {
+        Above {
+            links: Vec::new(alloc),
+            pairs: Chains::new(alloc),
+            further: Chains::new(alloc),
+        }
+    }
+
     /// No types yet.
     pub fn new(alloc: Global, rows: &[Row]) -> Result<Above, OutOfMemory> {
         Ok(Above {

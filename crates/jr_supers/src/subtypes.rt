@@ -34,6 +34,15 @@ impl Supers {
         })
     }
 
+    /// No types, and no room for any.
+    pub fn nothing(alloc: Global) -> Supers {
+        Supers {
+            direct: Direct::nothing(alloc),
+            order: Vec::new(alloc),
+            above: Above::nothing(alloc),
+        }
+    }
+
     /// No types yet.
     pub fn none(alloc: Global, rows: &[Row]) -> Result<Supers, OutOfMemory> {
         Ok(Supers {

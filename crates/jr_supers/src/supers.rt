@@ -104,6 +104,15 @@ fn with_super(
 }
 
 impl Direct {
+    /// No supertypes, and no room for any.
+    pub fn nothing(alloc: Global) -> Direct {
+        Direct {
+            supers: Chains::new(alloc),
+            superclasses: Vec::new(alloc),
+            object: None,
+        }
+    }
+
     /// No supertypes yet.
     pub fn none(alloc: Global, rows: &[Row]) -> Result<Direct, OutOfMemory> {
         Ok(Direct {

@@ -1,0 +1,17 @@
+//! Members of types by kind and name, access, overriding, the method that a call finds, and families of methods, by rows under a table.
+#![tactic(auto)]
+
+mod access;
+mod dispatch;
+mod members;
+mod modifiers;
+mod named;
+
+pub use dispatch::Found;
+pub use members::{Members, World, has, kind_of};
+pub use modifiers::{
+    access_of, constructed_class, declaring_type, is_abstract, is_final, is_in_interface, is_inner,
+    is_member_role, is_private, is_protected, is_public, is_static, needs_no_object, passes,
+    written_at,
+};
+pub use named::{MemberKind, Named, Sources, can_inherit};

@@ -1,0 +1,313 @@
+// The members of the types of a program (JLS 8.2, 9.2).
+
+use crate::modifiers::{constructed_class, declaring_type, is_in_interface, is_public, is_static};
+use crate::named::{MemberKind, Named, Sources, are_any_same};
+use jr_base::OutOfMemory;
+use jr_places::{is_interface, role_at};
+use jr_rows::{Role, Row};
+use jr_supers::{Signatures, Supers, Tabled};
+use jr_tables::{Chains, Entry, Stamps};
+use std::alloc::Global;
+
+/// Members of the three kinds.
+#[derive(Drop)]
+struct Kinds {
+    fields: Named,
+    types: Named,
+    methods: Named,
+}
+
+/// Methods and constructors.
+#[derive(Drop)]
+struct Callables {
+    signatures: Signatures,
+    /// Methods under the keys of the types that declare them and the numbers of their signatures.
+    by_signature: Chains,
+    /// Constructors under the key of the class and 0.
+    constructors: Chains,
+}
+
+/// The members of the types of a program under a table, by kind and name.
+#[derive(Drop)]
+pub struct Members {
+    kinds: Kinds,
+    callables: Callables,
+}
+
+/// Rows under a table, with the supertypes and the members that they have there.
+#[derive(Clone, Copy)]
+pub struct World<'a> {
+    pub under: Tabled<'a>,
+    pub supers: &'a Supers,
+    pub members: &'a Members,
+}
+
+impl Kinds {
+    fn of(
+        alloc: Global,
+        under: Tabled,
+        supers: &Supers,
+        signatures: &Signatures,
+    ) -> Result<Kinds, OutOfMemory> {
+        let mut met = Stamps::new(alloc, under.rows.len())?;
+        let sources = Sources {
+            under,
+            supers,
+            signatures,
+        };
+        let fields = Named::of(alloc, sources, &mut met, MemberKind::Field)?;
+        let types = Named::of(alloc, sources, &mut met, MemberKind::Type)?;
+        let methods = Named::of(alloc, sources, &mut met, MemberKind::Method)?;
+        Ok(Kinds {
+            fields,
+            types,
+            methods,
+        })
+    }
+}
+
+// Where a method stands under the type that declares it and the number of its signature.
+fn signed_entry(rows: &[Row], signatures: &Signatures, at: u32) -> Option<Entry> {
+    match role_at(rows, at) {
+        Role::Method => Some(Entry {
+            first: declaring_type(rows, at)?,
+            second: signatures.number(at)?,
+            row: at,
+        }),
+        _ => None,
+    }
+}
+
+impl Callables {
+    // Nothing, with these signatures.
+    fn new(alloc: Global, signatures: Signatures) -> Callables {
+        Callables {
+            signatures,
+            by_signature: Chains::new(alloc),
+            constructors: Chains::new(alloc),
+        }
+    }
+
+    // One more row, if it is a method or constructor.
+    fn add_row(&mut self, alloc: Global, rows: &[Row], at: u32) -> Result<(), OutOfMemory> {
+        if let Some(entry) = signed_entry(rows, &self.signatures, at) {
+            self.by_signature.add(alloc, entry)?;
+        }
+        if let Some(first) = constructed_class(rows, at) {
+            self.constructors.add(
+                alloc,
+                Entry {
+                    first,
+                    second: 0,
+                    row: at,
+                },
+            )?;
+        }
+        Ok(())
+    }
+
+    fn add_rows(&mut self, alloc: Global, rows: &[Row]) -> Result<(), OutOfMemory> {
+        let Ok(count) = u32::try_from(rows.len()) else {
+            return Err(OutOfMemory);
+        };
+        for at in 0..count {
+            self.add_row(alloc, rows, at)?;
+        }
+        Ok(())
+    }
+
+    fn of(alloc: Global, under: Tabled) -> Result<Callables, OutOfMemory> {
+        let mut callables = Callables::new(alloc, Signatures::of(alloc, under)?);
+        callables.add_rows(alloc, under.rows)?;
+        Ok(callables)
+    }
+}
+
+impl Members {
+    /// The members under a table, whose supertypes should have no cycle.
+    pub fn of(alloc: Global, under: Tabled, supers: &Supers) -> Result<Members, OutOfMemory> {
+        let callables = Callables::of(alloc, under)?;
+        let kinds = Kinds::of(alloc, under, supers, &callables.signatures)?;
+        Ok(Members { kinds, callables })
+    }
+
+    /// Member types alone, of no type yet.
+    pub fn of_types(alloc: Global, under: Tabled) -> Result<Members, OutOfMemory> {
+        Ok(Members {
+            kinds: Kinds {
+                fields: Named::new(alloc, MemberKind::Field),
+                types: Named::declared(alloc, under, MemberKind::Type)?,
+                methods: Named::new(alloc, MemberKind::Method),
+            },
+            callables: Callables::new(alloc, Signatures::none(alloc)),
+        })
+    }
+
+    /// Adds the member types of one type more, behind those of its supertypes.
+    pub fn add_types_of(
+        &mut self,
+        alloc: Global,
+        under: Tabled,
+        supers: &Supers,
+        met: &mut Stamps,
+        over: u32,
+    ) -> Result<(), OutOfMemory> {
+        let sources = Sources {
+            under,
+            supers,
+            signatures: &self.callables.signatures,
+        };
+        self.kinds.types.add_type(alloc, sources, met, over)
+    }
+
+    /// The signatures of methods and constructors.
+    pub fn signatures(&self) -> &Signatures {
+        &self.callables.signatures
+    }
+
+    /// The constructors of a class, from the last back.
+    pub fn constructors(&self, alloc: Global, over: u32) -> Result<Vec<u32>, OutOfMemory> {
+        self.callables.constructors.rows(alloc, over, 0)
+    }
+
+    /// The methods that a type declares with the signature of a method, from the last back.
+    pub fn declared_like(
+        &self,
+        alloc: Global,
+        over: u32,
+        at: u32,
+    ) -> Result<Vec<u32>, OutOfMemory> {
+        match self.callables.signatures.number(at) {
+            Some(number) => self.callables.by_signature.rows(alloc, over, number),
+            None => Ok(Vec::new(alloc)),
+        }
+    }
+
+    /// The members of one kind.
+    pub fn kind(&self, kind: MemberKind) -> &Named {
+        match kind {
+            MemberKind::Field => &self.kinds.fields,
+            MemberKind::Type => &self.kinds.types,
+            MemberKind::Method => &self.kinds.methods,
+        }
+    }
+}
+
+/// The kind of member that a role is.
+pub fn kind_of(role: Role) -> Option<MemberKind> {
+    match role {
+        Role::Field => Some(MemberKind::Field),
+        Role::Type => Some(MemberKind::Type),
+        Role::Method => Some(MemberKind::Method),
+        _ => None,
+    }
+}
+
+// A public instance method.
+fn is_public_instance(rows: &[Row], at: u32) -> bool {
+    is_public(rows, at) && !is_static(rows, at)
+}
+
+impl<'a> World<'a> {
+    /// The rows.
+    pub fn rows(self) -> &'a [Row] {
+        self.under.rows
+    }
+
+    /// The members of a type that have a name, given by its number.
+    pub fn named(
+        self,
+        alloc: Global,
+        kind: MemberKind,
+        over: u32,
+        name: u32,
+    ) -> Result<Vec<u32>, OutOfMemory> {
+        let found = self
+            .members
+            .kind(kind)
+            .of_name(alloc, self.under, self.supers, over, name)?;
+        match kind {
+            MemberKind::Method => {
+                if is_interface(self.under.rows, over) {
+                    self.with_methods_of_object(alloc, name, found)
+                } else {
+                    Ok(found)
+                }
+            }
+            _ => Ok(found),
+        }
+    }
+
+    // An interface has the public methods of Object besides, but those that it or an interface above declares (JLS 9.2).
+    fn with_methods_of_object(
+        self,
+        alloc: Global,
+        name: u32,
+        found: Vec<u32>,
+    ) -> Result<Vec<u32>, OutOfMemory> {
+        let mut found = found;
+        let Some(object) = self.supers.object() else {
+            return Ok(found);
+        };
+        for at in &self.members.kinds.methods.own(alloc, object, name)? {
+            if is_public_instance(self.under.rows, *at) && !self.is_declared_above(&found, *at) {
+                found.push(*at)?;
+            }
+        }
+        Ok(found)
+    }
+
+    // One of the methods has the signature, and an interface declares it.
+    fn is_declared_above(self, found: &[u32], at: u32) -> bool {
+        for other in found {
+            if *other == at
+                || (self.members.signatures().are_same(*other, at)
+                    && is_in_interface(self.under.rows, *other))
+            {
+                return true;
+            }
+        }
+        false
+    }
+
+    /// The declaration is a member of the type.
+    pub fn is_member(self, alloc: Global, over: u32, at: u32) -> Result<bool, OutOfMemory> {
+        if declaring_type(self.under.rows, at) == Some(over) {
+            return Ok(true);
+        }
+        match kind_of(role_at(self.under.rows, at)) {
+            Some(kind) => {
+                let name = self.under.places.name(at);
+                let all = self.named(alloc, kind, over, name)?;
+                Ok(has(&all, at))
+            }
+            None => Ok(false),
+        }
+    }
+
+    /// The type `over` stands strictly above the type `at`.
+    pub fn is_above(self, at: u32, over: u32) -> bool {
+        self.supers.is_above(self.under.rows, at, over)
+    }
+
+    /// The class has the method: it is declared in the class or in a type above it.
+    pub fn has_method(self, over: u32, at: u32) -> bool {
+        match role_at(self.under.rows, at) {
+            Role::Method => match declaring_type(self.under.rows, at) {
+                Some(declaring) => { self.supers.is_at_or_above(self.under.rows, over, declaring) }
+                None => false,
+            },
+            _ => false,
+        }
+    }
+}
+
+/// The number is an item.
+pub fn has(all: &[u32], at: u32) -> bool {
+    for other in all {
+        if *other == at {
+            return true;
+        }
+    }
+    false
+}
