@@ -1,14 +1,13 @@
 -- What is done one at a time, counting down.
 use Rattle.std.proofs.Common.{◌≡◌, ℕ, zero, suc, ◌-◌, ◌<◌, List, ◌∷◌, length, refl, arith}
-use Rattle.std.specs.Prelude.{slice_index_or, [], drop}
+use Rattle.std.specs.Prelude.{slice_index_or, []}
 use Rattle.jr_base.specs.declared.text.Text.{Text}
 use Rattle.jr_tree.specs.declared.tree.Expr as declared_expr
 use Rattle.jr_tree.specs.Mirror.Exprs.{plain_exprs}
 use Rattle.jr_rows.specs.Exprs.{count}
 use Rattle.jr_rows.specs.declared.label.NameKind.{NameKind}
 use Rattle.jr_rows.specs.declared.label.NamePlace.{NamePlace}
-use Rattle.jr_index.specs.declared.event.Event.TheVariants.{Open, Close}
-use Rattle.jr_index.specs.Events.{opens, closes, name_label}
+use Rattle.jr_index.specs.Events.{Open, Close, opens, closes, name_label}
 
 -- the identifier before the last one that is open
 pub opens_step : (meant : NameKind) (at : NamePlace) (parts : List Text) (n : ℕ) → 0 < n

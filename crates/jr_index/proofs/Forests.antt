@@ -1,24 +1,22 @@
 -- A forest of labels as a list of labels that open and close, and the rows that are built from it.
-use Rattle.std.proofs.Common.{◌≡◌, ℕ, zero, suc, ◌+◌, List, [], ◌∷◌, ◌++◌, length, refl, sym, ap, ◌∙◌, arith, length-append, append_assoc, append-nil}
+use Rattle.std.proofs.Common.{◌≡◌, ℕ, suc, ◌+◌, [], ◌∷◌, ◌++◌, length, refl, sym, ap, ◌∙◌, arith, length-append, append_assoc, append-nil}
 use Rattle.std.specs.Prelude.{set}
-use Rattle.std.proofs.Math.ListN.{get_or}
 use Rattle.std.proofs.Math.Seq.{set-append_seam, get_or-append_seam}
 use Rattle.jr_base.specs.declared.text.Text.{Text}
 use Rattle.jr_rows.specs.declared.label.Label.{Label}
 use Rattle.jr_rows.specs.declared.label.Label.TheVariants as is
 use Rattle.jr_rows.specs.declared.row.Row.{Row}
 use Rattle.jr_rows.specs.Forest.{Forest, none, more, size}
-use Rattle.jr_rows.specs.Rows.{Rows, rows_from, row, parent}
+use Rattle.jr_rows.specs.Rows.{Rows, rows_from, row}
 use Rattle.jr_rows.proofs.Trees.{length_rows}
-use Rattle.jr_index.specs.declared.event.Event.TheVariants.{Open, Close}
-use Rattle.jr_index.specs.Events.{Events}
+use Rattle.jr_index.specs.Events.{Open, Close, Events}
 use Rattle.jr_index.specs.Building.{State, opened, closed, built}
 
 abbrev pub events_of : Forest → Events
 events_of none = []
 events_of (more l x kids rest) = Open l x ∷ (events_of kids ++ Close ∷ events_of rest)
 
-built_append : (s : State) (xs ys : Events) → built s (xs ++ ys) ≡ built (built s xs) ys
+pub built_append : (s : State) (xs ys : Events) → built s (xs ++ ys) ≡ built (built s xs) ys
 built_append s [] ys = refl
 built_append s (Open l x ∷ xs) ys = built_append (opened l x s) xs ys
 built_append s (Close ∷ xs) ys = built_append (closed s) xs ys

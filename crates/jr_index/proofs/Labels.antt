@@ -1,5 +1,5 @@
 -- The labels of each tree, as they open and close.
-use Rattle.std.proofs.Common.{◌≡◌, ℕ, zero, suc, ◌+◌, ◌<◌, Bool, true, false, cond, List, [], ◌∷◌, ◌++◌, length, map, Option, Some, None, nat_lt, refl, sym, ap, ◌∙◌, arith, append_assoc, append-nil}
+use Rattle.std.proofs.Common.{◌≡◌, ℕ, zero, suc, ◌+◌, Bool, true, false, List, [], ◌∷◌, ◌++◌, length, Option, Some, None, nat_lt, refl, sym, ap, ◌∙◌, arith, append_assoc, append-nil}
 use Rattle.std.specs.Prelude.{slice_index_or, is_some, if◌then◌else◌}
 use Rattle.std.proofs.lemmas.Bool.{lt-ltb, le-ltb}
 use Rattle.jr_base.specs.declared.text.Text.{Text}
@@ -31,9 +31,8 @@ use Rattle.jr_rows.specs.Forest.{Forest, none, more}
 use Rattle.jr_rows.specs.Exprs as l
 use Rattle.jr_rows.specs.Stmts as ls
 use Rattle.jr_rows.specs.Decls as ld
-use Rattle.jr_index.specs.declared.event.Event.TheVariants.{Open, Close}
 use Rattle.jr_index.specs.Events as e
-use Rattle.jr_index.specs.Events.{Events, named, opens, closes, name_label}
+use Rattle.jr_index.specs.Events.{Open, Close, Events, named, opens, closes, name_label}
 use Rattle.jr_rows.specs.Rows.{program_rows}
 use Rattle.jr_index.specs.Building.{State, built, start}
 use Rattle.jr_index.proofs.Forests.{events_of, built_forest}

@@ -1,5 +1,5 @@
 -- A tree of labels as one flat list: each label opens, and closes behind its children. What the code writes, in its order.
-use Rattle.std.specs.Prelude.{ℕ, zero, suc, ◌<◌, Bool, true, false, not, ◌||◌, List, [], ◌∷◌, ◌++◌, length, map, Option, Some, None, is_some, if◌then◌else◌, nat_lt, slice_index_or}
+use Rattle.std.specs.Prelude.{ℕ, zero, suc, Bool, true, false, not, ◌||◌, List, [], ◌∷◌, ◌++◌, length, Option, Some, None, is_some, if◌then◌else◌, nat_lt, slice_index_or}
 use Rattle.jr_base.specs.declared.text.Text.{Text}
 use Rattle.jr_tree.specs.declared.tree.Name.{Name}
 use Rattle.jr_tree.specs.declared.tree.Base.{Base}
@@ -27,8 +27,11 @@ use Rattle.jr_rows.specs.declared.label.ReceiverKind.TheVariants as on
 use Rattle.jr_rows.specs.Exprs.{left_kind, primitive_of, count}
 use Rattle.jr_rows.specs.Stmts.{label_name, calls_first}
 use Rattle.jr_rows.specs.Decls.{modifiers_of, is_void, has_constructor}
-use Rattle.jr_index.specs.declared.event.Event.{Event}
-use Rattle.jr_index.specs.declared.event.Event.TheVariants.{Open, Close}
+
+-- a label opens, and closes behind all that stands below it
+pub data Event : Type 0 where
+  Open : Label → Text → Event
+  Close : Event
 
 abbrev pub Events : Type 0
 Events = List Event

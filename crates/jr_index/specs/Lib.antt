@@ -2,3 +2,4 @@ pub mod Events
 pub mod Building
 pub mod Views
 pub mod NodeRows
+pub mod Writing

@@ -1,9 +1,8 @@
 // Rows from labels that open and close.
-ghost use Rattle.std.specs.Prelude.{◌≡◌, ◌+◌, ◌<◌, ◌^◌, IfOk, IfSome, OnOk, length};
+ghost use Rattle.std.specs.Prelude.{◌≡◌, ◌+◌, ◌<◌, ◌^◌, true, IfSome, OnOk};
 ghost use Rattle.jr_index.specs.Building as spec;
 ghost use Rattle.jr_index.specs.Views.{state};
 
-use crate::event::Event;
 use jr_base::{OutOfMemory, Text};
 use jr_rows::{Label, Row};
 use std::alloc::Global;
@@ -17,7 +16,7 @@ pub struct Building {
 }
 
 impl Building {
-    fn new(alloc: Global) -> Building
+    pub fn new(alloc: Global) -> Building
         ensures { state result ≡ spec.start }
     {
         Building {
@@ -27,9 +26,8 @@ impl Building {
         }
     }
 
-    fn open(&mut self, label: Label, name: Text) -> Result<(), OutOfMemory>
-        ensures opened { OnOk result (state self.new ≡ spec.opened label name (state self.old)) }
-        ensures few { OnOk result (length self.new.rows.items < 2 ^ 32) }
+    pub fn open(&mut self, label: Label, name: Text) -> Result<(), OutOfMemory>
+        ensures { OnOk result (state self.new ≡ spec.opened label name (state self.old)) }
     {
         let Some(at) = next_row(self.rows.len()) else {
             drop(label);
@@ -48,31 +46,19 @@ impl Building {
         Ok(())
     }
 
-    fn close(&mut self)
-        requires { length self.old.rows.items < 2 ^ 32 }
-        ensures closed { state self.new ≡ spec.closed (state self.old) }
-        ensures few { length self.new.rows.items < 2 ^ 32 }
+    /// Whether the number behind the last row fits.
+    pub fn close(&mut self) -> bool
+        ensures { result ≡ true → state self.new ≡ spec.closed (state self.old) }
     {
-        let end = self.rows.len() as u32;
+        let Ok(end) = u32::try_from(self.rows.len()) else {
+            return false;
+        };
         self.before = self.over;
         if let Some(row) = self.rows.get_mut(self.over as usize) {
             row.end = end;
             self.over = row.parent;
         }
-    }
-
-    fn take(&mut self, event: Event) -> Result<(), OutOfMemory>
-        requires { length self.old.rows.items < 2 ^ 32 }
-        ensures taken { OnOk result (state self.new ≡ spec.step event (state self.old)) }
-        ensures few { OnOk result (length self.new.rows.items < 2 ^ 32) }
-    {
-        match event {
-            Event::Open { label, name } => self.open(label, name),
-            Event::Close => {
-                self.close();
-                Ok(())
-            }
-        }
+        true
     }
 }
 
@@ -87,15 +73,4 @@ fn next_row(count: usize) -> Option<u32>
         return None;
     }
     Some(at)
-}
-
-/// The rows of labels that open and close.
-pub fn rows_of_events(alloc: Global, events: Vec<Event>) -> Result<Vec<Row>, OutOfMemory>
-    ensures { IfOk result (λ rows. rows.items ≡ (spec.built spec.start events.items).rows) }
-{
-    let mut building = Building::new(alloc);
-    for event in events {
-        building.take(event)?;
-    }
-    Ok(building.rows)
 }

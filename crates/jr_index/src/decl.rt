@@ -1,57 +1,49 @@
 // The labels of declarations and units (JLS 7, 8, 9).
-ghost use Rattle.std.specs.Prelude.{◌≡◌, ◌++◌, OnOk};
+ghost use Rattle.std.specs.Prelude.{◌≡◌};
 ghost use Rattle.std.specs.Option.{option_map};
 ghost use Rattle.jr_base.specs.declared.text.Text.{Text};
 ghost use Rattle.jr_tree.specs.Mirror.Decls as m;
 ghost use Rattle.jr_tree.specs.Mirror.Stmts as s;
 ghost use Rattle.jr_index.specs.Events as e;
+ghost use Rattle.jr_index.specs.Writing.{Adds};
 ghost use Rattle.jr_rows.specs.Decls as d;
 ghost use Rattle.jr_rows.specs.Stmts as l;
 ghost use Rattle.jr_rows.specs.declared.label.NameKind.TheVariants as kind;
 ghost use Rattle.jr_rows.specs.declared.label.NamePlace.TheVariants as place;
 
-use crate::event::Event;
 use crate::expr::add_any_init;
 use crate::stmt::add_block;
 use crate::words::{
-    add_imports, add_name, add_package, add_params, add_result, add_type, add_type_names, begin,
-    close, is_void, leaf, modifiers_of, open,
+    add_imports, add_name, add_package, add_params, add_result, add_type, add_type_names, is_void,
+    modifiers_of,
 };
-use jr_base::OutOfMemory;
+use crate::writer::RowWriter;
 use jr_rows::{Label, NameKind, NamePlace};
 use jr_tree::{Block, Declarator, Member, Modifier, Name, Stmt, TypeDecl, Unit};
-use std::alloc::Global;
 
-fn add_field(
-    alloc: Global,
-    out: &mut Vec<Event>,
-    mods: &[Modifier],
-    field: &Declarator,
-) -> Result<(), OutOfMemory>
-    ensures { OnOk result (out.new.items ≡ out.old.items ++ e.field_events mods.now (s.plain_declarator field.now)) }
+fn add_field(out: &mut RowWriter, mods: &[Modifier], field: &Declarator)
+    ensures { Adds out.old out.new (e.field_events mods.now (s.plain_declarator field.now)) }
 {
-    let name = field.name.copy(alloc)?;
     let label = Label::Field {
         modifiers: modifiers_of(mods),
         dims: field.dims,
     };
-    open(out, label, name)?;
-    add_any_init(alloc, out, &field.init)?;
-    close(out)
+    out.open(label, &field.name);
+    out.own();
+    out.pass_brackets(field.dims);
+    add_any_init(out, &field.init);
+    out.close();
 }
 
-fn add_fields(
-    alloc: Global,
-    out: &mut Vec<Event>,
-    mods: &[Modifier],
-    fields: &[Declarator],
-) -> Result<(), OutOfMemory>
-    ensures { OnOk result (out.new.items ≡ out.old.items ++ e.fields_events mods.now (s.plain_declarators fields.now)) }
+fn add_fields(out: &mut RowWriter, mods: &[Modifier], fields: &[Declarator])
+    ensures { Adds out.old out.new (e.fields_events mods.now (s.plain_declarators fields.now)) }
 {
+    let mut commas = 0;
     for field in fields {
-        add_field(alloc, out, mods, field)?;
+        out.pass(commas);
+        add_field(out, mods, field);
+        commas = 1;
     }
-    Ok(())
 }
 
 /// Whether a constructor's body begins with a call of a constructor (JLS 8.8.7.1).
@@ -61,34 +53,37 @@ fn calls_first(body: &Block) -> bool
     matches!(body.stmts.as_slice(), [Stmt::CtorCall { .. }, ..])
 }
 
-/// The call of `super()` where none is written (JLS 8.8.7).
-fn add_implicit_call(
-    alloc: Global,
-    out: &mut Vec<Event>,
-    is_written: bool,
-) -> Result<(), OutOfMemory>
-    ensures { OnOk result (out.new.items ≡ out.old.items ++ e.implicit_call is_written) }
+/// The call of `super()` where none is written (JLS 8.8.7). It stands at the name of the constructor.
+#[tactic(auto, using(crate::proofs::Adding::adds_two))]
+fn add_implicit_call(out: &mut RowWriter, is_written: bool, name: u32)
+    ensures { Adds out.old out.new (e.implicit_call is_written) }
 {
     if is_written {
-        return Ok(());
+        return;
     }
-    leaf(alloc, out, Label::ImplicitCall)
+    let here = out.at;
+    out.go_to(name);
+    out.begin(Label::ImplicitCall);
+    out.own_at(name);
+    out.close();
+    out.go_to(here);
 }
 
-/// The constructor of a class in which none is written (JLS 8.8.9).
-fn add_default_constructor(
-    alloc: Global,
-    out: &mut Vec<Event>,
-    is_written: bool,
-) -> Result<(), OutOfMemory>
-    ensures { OnOk result (out.new.items ≡ out.old.items ++ e.default_constructor is_written) }
+/// The constructor of a class in which none is written (JLS 8.8.9). It stands at the name of the class.
+#[tactic(auto, using(crate::proofs::Adding::adds_two))]
+fn add_default_constructor(out: &mut RowWriter, is_written: bool, name: u32)
+    ensures { Adds out.old out.new (e.default_constructor is_written) }
 {
     if is_written {
-        return Ok(());
+        return;
     }
-    begin(alloc, out, Label::DefaultConstructor)?;
-    leaf(alloc, out, Label::ImplicitCall)?;
-    close(out)
+    let here = out.at;
+    out.go_to(name);
+    out.begin(Label::DefaultConstructor);
+    out.own_at(name);
+    add_implicit_call(out, false, name);
+    out.close();
+    out.go_to(here);
 }
 
 fn has_constructor(members: &[Member]) -> bool
@@ -101,40 +96,28 @@ fn has_constructor(members: &[Member]) -> bool
     has
 }
 
-fn add_any_block(
-    alloc: Global,
-    out: &mut Vec<Event>,
-    body: &Option<Block>,
-) -> Result<(), OutOfMemory>
-    ensures { OnOk result (out.new.items ≡ out.old.items ++ e.if_some e.block_events (option_map s.plain_block body.now)) }
+/// The body of a method, or the `;` in its place.
+fn add_any_block(out: &mut RowWriter, body: &Option<Block>)
+    ensures { Adds out.old out.new (e.if_some e.block_events (option_map s.plain_block body.now)) }
 {
     match body {
-        None => Ok(()),
-        Some(body) => add_block(alloc, out, body),
+        None => out.pass(1),
+        Some(body) => add_block(out, body),
     }
 }
 
-fn add_superclass(
-    alloc: Global,
-    out: &mut Vec<Event>,
-    parent: &Option<Name>,
-) -> Result<(), OutOfMemory>
-    ensures { OnOk result (out.new.items ≡ out.old.items ++ e.if_some (e.name_events kind.Type place.Superclass) parent.now) }
+fn add_superclass(out: &mut RowWriter, parent: &Option<Name>)
+    ensures { Adds out.old out.new (e.if_some (e.name_events kind.Type place.Superclass) parent.now) }
 {
-    match parent {
-        None => Ok(()),
-        Some(name) => add_name(alloc, out, NameKind::Type, NamePlace::Superclass, name),
+    if let Some(name) = parent {
+        out.pass(1);
+        add_name(out, NameKind::Type, NamePlace::Superclass, name);
     }
 }
 
 #[cycle(add_decl)]
-fn add_decl(
-    alloc: Global,
-    out: &mut Vec<Event>,
-    is_member: bool,
-    decl: &TypeDecl,
-) -> Result<(), OutOfMemory>
-    ensures { OnOk result (out.new.items ≡ out.old.items ++ e.decl_events is_member (m.plain_decl decl.now)) }
+fn add_decl(out: &mut RowWriter, is_member: bool, decl: &TypeDecl)
+    ensures { Adds out.old out.new (e.decl_events is_member (m.plain_decl decl.now)) }
 {
     match decl {
         TypeDecl::Class {
@@ -144,20 +127,22 @@ fn add_decl(
             faces,
             body,
         } => {
-            let name = name.copy(alloc)?;
             let modifiers = modifiers_of(mods.as_slice());
-            open(
-                out,
+            out.open(
                 Label::Class {
                     modifiers,
                     is_member,
                 },
                 name,
-            )?;
-            add_superclass(alloc, out, parent)?;
-            add_type_names(alloc, out, NamePlace::Superinterface, faces.as_slice())?;
-            add_body(alloc, out, true, body.as_slice())?;
-            close(out)
+            );
+            out.pass(mods.as_slice().len());
+            out.pass(1);
+            let own = out.at;
+            out.own();
+            add_superclass(out, parent);
+            add_type_names(out, NamePlace::Superinterface, faces.as_slice());
+            add_body(out, true, own, body.as_slice());
+            out.close();
         }
         TypeDecl::Interface {
             mods,
@@ -165,60 +150,61 @@ fn add_decl(
             faces,
             body,
         } => {
-            let name = name.copy(alloc)?;
             let modifiers = modifiers_of(mods.as_slice());
-            open(
-                out,
+            out.open(
                 Label::Interface {
                     modifiers,
                     is_member,
                 },
                 name,
-            )?;
-            add_type_names(alloc, out, NamePlace::Superinterface, faces.as_slice())?;
-            add_body(alloc, out, false, body.as_slice())?;
-            close(out)
+            );
+            out.pass(mods.as_slice().len());
+            out.pass(1);
+            let own = out.at;
+            out.own();
+            add_type_names(out, NamePlace::Superinterface, faces.as_slice());
+            add_body(out, false, own, body.as_slice());
+            out.close();
         }
-        TypeDecl::Empty => leaf(alloc, out, Label::EmptyDecl { is_member }),
+        TypeDecl::Empty => out.leaf(Label::EmptyDecl { is_member }, 1),
     }
 }
 
+/// The body of a type whose name has this number.
 #[cycle(add_decl)]
-fn add_body(
-    alloc: Global,
-    out: &mut Vec<Event>,
-    is_class: bool,
-    members: &[Member],
-) -> Result<(), OutOfMemory>
-    ensures { OnOk result (out.new.items ≡ out.old.items ++ e.body_events is_class (m.plain_members members.now)) }
+fn add_body(out: &mut RowWriter, is_class: bool, name: u32, members: &[Member])
+    ensures { Adds out.old out.new (e.body_events is_class (m.plain_members members.now)) }
 {
-    begin(alloc, out, Label::Body)?;
-    add_default_constructor(alloc, out, !is_class || has_constructor(members))?;
-    add_members(alloc, out, members)?;
-    close(out)
+    out.begin(Label::Body);
+    out.pass(1);
+    add_default_constructor(out, !is_class || has_constructor(members), name);
+    add_members(out, members);
+    out.pass(1);
+    out.close();
 }
 
 #[cycle(add_decl)]
-fn add_members(alloc: Global, out: &mut Vec<Event>, members: &[Member]) -> Result<(), OutOfMemory>
-    ensures { OnOk result (out.new.items ≡ out.old.items ++ e.members_events (m.plain_members members.now)) }
+fn add_members(out: &mut RowWriter, members: &[Member])
+    ensures { Adds out.old out.new (e.members_events (m.plain_members members.now)) }
 {
     for member in members {
-        add_member(alloc, out, member)?;
+        add_member(out, member);
     }
-    Ok(())
 }
 
 #[cycle(add_decl)]
-fn add_member(alloc: Global, out: &mut Vec<Event>, member: &Member) -> Result<(), OutOfMemory>
-    ensures { OnOk result (out.new.items ≡ out.old.items ++ e.member_events (m.plain_member member.now)) }
+fn add_member(out: &mut RowWriter, member: &Member)
+    ensures { Adds out.old out.new (e.member_events (m.plain_member member.now)) }
 {
     match member {
         Member::Field { mods, ty, decls } => {
             let modifiers = modifiers_of(mods.as_slice());
-            begin(alloc, out, Label::Fields { modifiers })?;
-            add_type(alloc, out, ty)?;
-            add_fields(alloc, out, mods.as_slice(), decls.as_slice())?;
-            close(out)
+            out.begin(Label::Fields { modifiers });
+            out.pass(mods.as_slice().len());
+            add_type(out, ty);
+            add_fields(out, mods.as_slice(), decls.as_slice());
+            out.pass(1);
+            out.close();
         }
         Member::Method {
             mods,
@@ -228,18 +214,21 @@ fn add_member(alloc: Global, out: &mut Vec<Event>, member: &Member) -> Result<()
             thrown,
             body,
         } => {
-            let name = name.copy(alloc)?;
             let label = Label::Method {
                 modifiers: modifiers_of(mods.as_slice()),
                 is_void: is_void(result_),
                 has_body: body.is_some(),
             };
-            open(out, label, name)?;
-            add_result(alloc, out, result_)?;
-            add_params(alloc, out, params.as_slice())?;
-            add_type_names(alloc, out, NamePlace::Other, thrown.as_slice())?;
-            add_any_block(alloc, out, body)?;
-            close(out)
+            out.open(label, name);
+            out.pass(mods.as_slice().len());
+            add_result(out, result_);
+            out.own();
+            out.pass(1);
+            add_params(out, params.as_slice());
+            out.pass(1);
+            add_type_names(out, NamePlace::Other, thrown.as_slice());
+            add_any_block(out, body);
+            out.close();
         }
         Member::Constructor {
             mods,
@@ -248,45 +237,46 @@ fn add_member(alloc: Global, out: &mut Vec<Event>, member: &Member) -> Result<()
             thrown,
             body,
         } => {
-            let name = name.copy(alloc)?;
             let modifiers = modifiers_of(mods.as_slice());
-            open(out, Label::Constructor { modifiers }, name)?;
-            add_implicit_call(alloc, out, calls_first(body))?;
-            add_params(alloc, out, params.as_slice())?;
-            add_type_names(alloc, out, NamePlace::Other, thrown.as_slice())?;
-            add_block(alloc, out, body)?;
-            close(out)
+            out.open(Label::Constructor { modifiers }, name);
+            out.pass(mods.as_slice().len());
+            let own = out.at;
+            out.own();
+            add_implicit_call(out, calls_first(body), own);
+            out.pass(1);
+            add_params(out, params.as_slice());
+            out.pass(1);
+            add_type_names(out, NamePlace::Other, thrown.as_slice());
+            add_block(out, body);
+            out.close();
         }
         Member::Init { is_static, body } => {
-            begin(
-                alloc,
-                out,
-                Label::Initializer {
-                    is_static: *is_static,
-                },
-            )?;
-            add_block(alloc, out, body)?;
-            close(out)
+            out.begin(Label::Initializer {
+                is_static: *is_static,
+            });
+            out.pass_if(*is_static);
+            add_block(out, body);
+            out.close();
         }
-        Member::Nested { decl } => add_decl(alloc, out, true, decl),
+        Member::Nested { decl } => add_decl(out, true, decl),
     }
 }
 
-fn add_decls(alloc: Global, out: &mut Vec<Event>, decls: &[TypeDecl]) -> Result<(), OutOfMemory>
-    ensures { OnOk result (out.new.items ≡ out.old.items ++ e.decls_events (m.plain_decls decls.now)) }
+fn add_decls(out: &mut RowWriter, decls: &[TypeDecl])
+    ensures { Adds out.old out.new (e.decls_events (m.plain_decls decls.now)) }
 {
     for decl in decls {
-        add_decl(alloc, out, false, decl)?;
+        add_decl(out, false, decl);
     }
-    Ok(())
 }
 
-pub fn add_unit(alloc: Global, out: &mut Vec<Event>, unit: &Unit) -> Result<(), OutOfMemory>
-    ensures { OnOk result (out.new.items ≡ out.old.items ++ e.unit_events (m.plain_unit unit.now)) }
+pub fn add_unit(out: &mut RowWriter, unit: &Unit)
+    ensures { Adds out.old out.new (e.unit_events (m.plain_unit unit.now)) }
 {
-    begin(alloc, out, Label::Unit)?;
-    add_package(alloc, out, &unit.package)?;
-    add_imports(alloc, out, unit.imports.as_slice())?;
-    add_decls(alloc, out, unit.types.as_slice())?;
-    close(out)
+    out.go_to(0);
+    out.begin(Label::Unit);
+    add_package(out, &unit.package);
+    add_imports(out, unit.imports.as_slice());
+    add_decls(out, unit.types.as_slice());
+    out.close();
 }

@@ -1,122 +1,128 @@
 // The labels of expressions (JLS 15).
-ghost use Rattle.std.specs.Prelude.{◌≡◌, ◌++◌, OnOk};
+ghost use Rattle.std.specs.Prelude.{◌≡◌};
 ghost use Rattle.std.specs.Option.{option_map};
 ghost use Rattle.jr_tree.specs.Mirror.Exprs as m;
 ghost use Rattle.jr_index.specs.Events as e;
+ghost use Rattle.jr_index.specs.Writing.{Adds, Keeps};
 ghost use Rattle.jr_rows.specs.Exprs as l;
 ghost use Rattle.jr_rows.specs.declared.label.Label.TheVariants as is;
 
-use crate::event::Event;
-use crate::words::{
-    add_base, add_name, add_type, add_type_name, begin, close, leaf, open, primitive_of,
-};
-use jr_base::OutOfMemory;
+use crate::words::{add_base, add_name, add_type, add_type_name, primitive_of};
+use crate::writer::RowWriter;
+use jr_base::Kind;
 use jr_rows::{Label, NameKind, NamePlace, ReceiverKind};
 use jr_tree::{Base, Expr, Init, InitList, Name, Receiver};
-use std::alloc::Global;
 
 #[cycle(add_expr)]
-pub fn add_expr(alloc: Global, out: &mut Vec<Event>, expr: &Expr) -> Result<(), OutOfMemory>
-    ensures { OnOk result (out.new.items ≡ out.old.items ++ e.expr_events (m.plain_expr expr.now)) }
+pub fn add_expr(out: &mut RowWriter, expr: &Expr)
+    ensures { Adds out.old out.new (e.expr_events (m.plain_expr expr.now)) }
 {
     match expr {
         Expr::Assign { target, op, value } => {
-            begin(alloc, out, Label::Assign { op: *op })?;
-            add_expr(alloc, out, target.get())?;
-            add_expr(alloc, out, value.get())?;
-            close(out)
+            out.begin(Label::Assign { op: *op });
+            add_expr(out, target.get());
+            out.pass(1);
+            add_expr(out, value.get());
+            out.close();
         }
         Expr::Cond { cond, yes, no } => {
-            begin(alloc, out, Label::Conditional)?;
-            add_expr(alloc, out, cond.get())?;
-            add_expr(alloc, out, yes.get())?;
-            add_expr(alloc, out, no.get())?;
-            close(out)
+            out.begin(Label::Conditional);
+            add_expr(out, cond.get());
+            out.pass(1);
+            add_expr(out, yes.get());
+            out.pass(1);
+            add_expr(out, no.get());
+            out.close();
         }
         Expr::Binary { left, op, right } => {
-            begin(alloc, out, Label::Binary { op: *op })?;
-            add_expr(alloc, out, left.get())?;
-            add_expr(alloc, out, right.get())?;
-            close(out)
+            out.begin(Label::Binary { op: *op });
+            add_expr(out, left.get());
+            out.pass(1);
+            add_expr(out, right.get());
+            out.close();
         }
         Expr::IsA { value, ty } => {
-            begin(alloc, out, Label::IsA)?;
-            add_expr(alloc, out, value.get())?;
-            add_type(alloc, out, ty)?;
-            close(out)
+            out.begin(Label::IsA);
+            add_expr(out, value.get());
+            out.pass(1);
+            add_type(out, ty);
+            out.close();
         }
         Expr::Unary { op, value } => {
-            begin(alloc, out, Label::Unary { op: *op })?;
-            add_expr(alloc, out, value.get())?;
-            close(out)
-        },
+            out.begin(Label::Unary { op: *op });
+            out.pass(1);
+            add_expr(out, value.get());
+            out.close();
+        }
         Expr::Cast { ty, value } => {
-            begin(alloc, out, Label::Cast)?;
-            add_type(alloc, out, ty)?;
-            add_expr(alloc, out, value.get())?;
-            close(out)
+            out.begin(Label::Cast);
+            out.pass(1);
+            add_type(out, ty);
+            out.pass(1);
+            add_expr(out, value.get());
+            out.close();
         }
         Expr::PreStep { op, value } => {
-            begin(alloc, out, Label::PreStep { op: *op })?;
-            add_expr(alloc, out, value.get())?;
-            close(out)
-        },
-        Expr::PostStep { value, op } => {
-            begin(alloc, out, Label::PostStep { op: *op })?;
-            add_expr(alloc, out, value.get())?;
-            close(out)
-        },
-        Expr::Lit { kind } => leaf(
-            alloc,
-            out,
-            Label::Literal {
-                kind: kind.copy(alloc)?,
-            },
-        ),
-        Expr::This { name } => add_this(alloc, out, name),
-        Expr::Paren { inner } => {
-            begin(alloc, out, Label::Paren)?;
-            add_expr(alloc, out, inner.get())?;
-            close(out)
-        },
-        Expr::NameExpr { name } => {
-            add_name(alloc, out, NameKind::Variable, NamePlace::Expression, name)
+            out.begin(Label::PreStep { op: *op });
+            out.pass(1);
+            add_expr(out, value.get());
+            out.close();
         }
+        Expr::PostStep { value, op } => {
+            out.begin(Label::PostStep { op: *op });
+            add_expr(out, value.get());
+            out.pass(1);
+            out.close();
+        }
+        Expr::Lit { kind } => add_literal(out, kind),
+        Expr::This { name } => add_this(out, name),
+        Expr::Paren { inner } => {
+            out.begin(Label::Paren);
+            out.pass(1);
+            add_expr(out, inner.get());
+            out.pass(1);
+            out.close();
+        }
+        Expr::NameExpr { name } => add_name(out, NameKind::Variable, NamePlace::Expression, name),
         Expr::Select { object, name } => {
-            let name = name.copy(alloc)?;
-            open(out, Label::Select, name)?;
-            add_expr(alloc, out, object.get())?;
-            close(out)
+            out.open(Label::Select, name);
+            add_expr(out, object.get());
+            out.pass(1);
+            out.own();
+            out.close();
         }
         Expr::SuperSelect { name } => {
-            let name = name.copy(alloc)?;
-            open(out, Label::SuperSelect, name)?;
-            close(out)
+            out.open(Label::SuperSelect, name);
+            out.pass(2);
+            out.own();
+            out.close();
         }
         Expr::Index { array, at } => {
-            begin(alloc, out, Label::Index)?;
-            add_expr(alloc, out, array.get())?;
-            add_expr(alloc, out, at.get())?;
-            close(out)
-        },
+            out.begin(Label::Index);
+            add_expr(out, array.get());
+            out.pass(1);
+            add_expr(out, at.get());
+            out.pass(1);
+            out.close();
+        }
         Expr::Call {
             receiver,
             name,
             args,
         } => {
-            let name = name.copy(alloc)?;
-            open(out, call_label(receiver), name)?;
-            if let Some(receiver) = receiver {
-                add_receiver(alloc, out, receiver)?;
-            }
-            add_exprs(alloc, out, args.as_slice())?;
-            close(out)
+            out.open(call_label(receiver), name);
+            add_any_receiver(out, receiver);
+            out.own();
+            add_args(out, args.as_slice());
+            out.close();
         }
         Expr::New { name, args } => {
-            begin(alloc, out, Label::New)?;
-            add_type_name(alloc, out, name)?;
-            add_exprs(alloc, out, args.as_slice())?;
-            close(out)
+            out.begin(Label::New);
+            own_last(out, name);
+            out.pass(1);
+            add_type_name(out, name);
+            add_args(out, args.as_slice());
+            out.close();
         }
         Expr::NewArray {
             base,
@@ -124,37 +130,56 @@ pub fn add_expr(alloc: Global, out: &mut Vec<Event>, expr: &Expr) -> Result<(), 
             more,
             init,
         } => {
-            begin(alloc, out, array_label(base, dims.as_slice(), *more))?;
-            add_base(alloc, out, base)?;
-            add_exprs(alloc, out, dims.as_slice())?;
-            match init {
-                None => close(out),
-                Some(list) => {
-                    add_list(alloc, out, list)?;
-                    close(out)
-                }
-            }
+            out.begin(array_label(base, dims.as_slice(), *more));
+            out.pass(1);
+            add_base(out, base);
+            add_lengths(out, dims.as_slice());
+            out.pass_brackets(*more);
+            add_any_list(out, init);
+            out.close();
         }
     }
 }
 
-fn add_this(alloc: Global, out: &mut Vec<Event>, class: &Option<Name>) -> Result<(), OutOfMemory>
-    ensures { OnOk result (out.new.items ≡ out.old.items ++ e.this_events class.now) }
+fn add_literal(out: &mut RowWriter, kind: &Kind)
+    ensures { Adds out.old out.new (e.leaf (is.Literal kind.now)) }
+{
+    match kind.copy(out.alloc) {
+        Ok(kind) => out.leaf(Label::Literal { kind }, 1),
+        Err(_) => out.fail(),
+    }
+}
+
+fn add_this(out: &mut RowWriter, class: &Option<Name>)
+    ensures { Adds out.old out.new (e.this_events class.now) }
 {
     match class {
-        None => leaf(
-            alloc,
-            out,
+        None => out.leaf(
             Label::This {
                 is_qualified: false,
             },
+            1,
         ),
         Some(name) => {
-            begin(alloc, out, Label::This { is_qualified: true })?;
-            add_type_name(alloc, out, name)?;
-            close(out)
+            out.begin(Label::This { is_qualified: true });
+            add_type_name(out, name);
+            out.pass(2);
+            out.close();
         }
     }
+}
+
+/// The innermost row that is open has the token of the last identifier of this name, which stands behind the next token.
+fn own_last(out: &mut RowWriter, name: &Name)
+    ensures { Keeps out.old out.new }
+{
+    let before = name
+        .parts
+        .as_slice()
+        .len()
+        .saturating_mul(2)
+        .saturating_sub(1);
+    out.own_at(out.ahead(before));
 }
 
 /// The label of a creation of an array with these lengths and so many more pairs of brackets.
@@ -189,84 +214,128 @@ fn call_label(receiver: &Option<Receiver>) -> Label
     }
 }
 
+/// A receiver and its dot.
 #[cycle(add_expr)]
-fn add_receiver(alloc: Global, out: &mut Vec<Event>, receiver: &Receiver) -> Result<(), OutOfMemory>
-    ensures { OnOk result (out.new.items ≡ out.old.items ++ e.receiver_events (m.plain_receiver receiver.now)) }
+fn add_any_receiver(out: &mut RowWriter, receiver: &Option<Receiver>)
+    ensures { Adds out.old out.new (e.any_receiver_events (m.plain_any_receiver receiver.now)) }
 {
     match receiver {
-        Receiver::Of { object } => add_expr(alloc, out, object.get()),
-        Receiver::OfName { name } => {
-            add_name(alloc, out, NameKind::Ambiguous, NamePlace::Receiver, name)
+        None => (),
+        Some(receiver) => {
+            add_receiver(out, receiver);
+            out.pass(1);
         }
-        Receiver::Super => Ok(()),
     }
 }
 
 #[cycle(add_expr)]
-pub fn add_exprs(alloc: Global, out: &mut Vec<Event>, exprs: &[Expr]) -> Result<(), OutOfMemory>
-    ensures { OnOk result (out.new.items ≡ out.old.items ++ e.exprs_events (m.plain_exprs exprs.now)) }
+fn add_receiver(out: &mut RowWriter, receiver: &Receiver)
+    ensures { Adds out.old out.new (e.receiver_events (m.plain_receiver receiver.now)) }
 {
+    match receiver {
+        Receiver::Of { object } => add_expr(out, object.get()),
+        Receiver::OfName { name } => {
+            add_name(out, NameKind::Ambiguous, NamePlace::Receiver, name)
+        }
+        Receiver::Super => out.pass(1),
+    }
+}
+
+/// Expressions with so many tokens between two of them.
+#[cycle(add_expr)]
+pub fn add_exprs(out: &mut RowWriter, exprs: &[Expr], between: usize)
+    ensures { Adds out.old out.new (e.exprs_events (m.plain_exprs exprs.now)) }
+{
+    let mut tokens = 0;
     for expr in exprs {
-        add_expr(alloc, out, expr)?;
+        out.pass(tokens);
+        add_expr(out, expr);
+        tokens = between;
     }
-    Ok(())
 }
 
+/// Arguments in parentheses.
 #[cycle(add_expr)]
-fn add_list(alloc: Global, out: &mut Vec<Event>, list: &InitList) -> Result<(), OutOfMemory>
-    ensures { OnOk result (out.new.items ≡ out.old.items ++ e.list_events (m.plain_list list.now)) }
+pub fn add_args(out: &mut RowWriter, args: &[Expr])
+    ensures { Adds out.old out.new (e.exprs_events (m.plain_exprs args.now)) }
 {
-    begin(alloc, out, Label::List)?;
-    add_inits(alloc, out, list.items.as_slice())?;
-    close(out)
+    out.pass(1);
+    add_exprs(out, args, 1);
+    out.pass(1);
+}
+
+/// Lengths of an array, each in brackets.
+#[cycle(add_expr)]
+fn add_lengths(out: &mut RowWriter, lengths: &[Expr])
+    ensures { Adds out.old out.new (e.exprs_events (m.plain_exprs lengths.now)) }
+{
+    out.pass_if(!lengths.is_empty());
+    add_exprs(out, lengths, 2);
+    out.pass_if(!lengths.is_empty());
 }
 
 #[cycle(add_expr)]
-pub fn add_init(alloc: Global, out: &mut Vec<Event>, init: &Init) -> Result<(), OutOfMemory>
-    ensures { OnOk result (out.new.items ≡ out.old.items ++ e.init_events (m.plain_init init.now)) }
+fn add_any_list(out: &mut RowWriter, list: &Option<InitList>)
+    ensures { Adds out.old out.new (e.any_list_events (m.plain_any_list list.now)) }
+{
+    match list {
+        None => (),
+        Some(list) => add_list(out, list),
+    }
+}
+
+#[cycle(add_expr)]
+fn add_list(out: &mut RowWriter, list: &InitList)
+    ensures { Adds out.old out.new (e.list_events (m.plain_list list.now)) }
+{
+    out.begin(Label::List);
+    out.pass(1);
+    add_inits(out, list.items.as_slice());
+    out.pass_if(list.is_open_ended);
+    out.pass(1);
+    out.close();
+}
+
+#[cycle(add_expr)]
+pub fn add_init(out: &mut RowWriter, init: &Init)
+    ensures { Adds out.old out.new (e.init_events (m.plain_init init.now)) }
 {
     match init {
         Init::Value { value } => {
-            begin(alloc, out, Label::Value)?;
-            add_expr(alloc, out, value)?;
-            close(out)
-        },
-        Init::List { list } => add_list(alloc, out, list),
+            out.begin(Label::Value);
+            add_expr(out, value);
+            out.close();
+        }
+        Init::List { list } => add_list(out, list),
     }
 }
 
 #[cycle(add_expr)]
-fn add_inits(alloc: Global, out: &mut Vec<Event>, inits: &[Init]) -> Result<(), OutOfMemory>
-    ensures { OnOk result (out.new.items ≡ out.old.items ++ e.inits_events (m.plain_inits inits.now)) }
+fn add_inits(out: &mut RowWriter, inits: &[Init])
+    ensures { Adds out.old out.new (e.inits_events (m.plain_inits inits.now)) }
 {
+    let mut commas = 0;
     for init in inits {
-        add_init(alloc, out, init)?;
-    }
-    Ok(())
-}
-
-pub fn add_any_init(
-    alloc: Global,
-    out: &mut Vec<Event>,
-    init: &Option<Init>,
-) -> Result<(), OutOfMemory>
-    ensures { OnOk result (out.new.items ≡ out.old.items ++ e.if_some e.init_events (option_map m.plain_init init.now)) }
-{
-    match init {
-        None => Ok(()),
-        Some(init) => add_init(alloc, out, init),
+        out.pass(commas);
+        add_init(out, init);
+        commas = 1;
     }
 }
 
-pub fn add_any_expr(
-    alloc: Global,
-    out: &mut Vec<Event>,
-    expr: &Option<Expr>,
-) -> Result<(), OutOfMemory>
-    ensures { OnOk result (out.new.items ≡ out.old.items ++ e.if_some e.expr_events (option_map m.plain_expr expr.now)) }
+/// An initializer and the `=` before it.
+pub fn add_any_init(out: &mut RowWriter, init: &Option<Init>)
+    ensures { Adds out.old out.new (e.if_some e.init_events (option_map m.plain_init init.now)) }
 {
-    match expr {
-        None => Ok(()),
-        Some(expr) => add_expr(alloc, out, expr),
+    if let Some(init) = init {
+        out.pass(1);
+        add_init(out, init);
+    }
+}
+
+pub fn add_any_expr(out: &mut RowWriter, expr: &Option<Expr>)
+    ensures { Adds out.old out.new (e.if_some e.expr_events (option_map m.plain_expr expr.now)) }
+{
+    if let Some(expr) = expr {
+        add_expr(out, expr);
     }
 }

@@ -7,7 +7,8 @@ ghost use Rattle.jr_rows.specs.Rows.{row, end, label, program_rows};
 ghost use Rattle.jr_rows.specs.Tree.{IsTree};
 ghost use Rattle.jr_index.specs.NodeRows.{IsIndex, IsNodeOf, IsNowhere, IsNearest, IsParentNode, over_nth, counts, unit_rows};
 
-use crate::rows_of;
+use crate::mark::Mark;
+use crate::marked_rows_of;
 use jr_base::{NodeAt, NodeId, OutOfMemory};
 use jr_defs::Program;
 use jr_rows::{Label, NamePlace, ReceiverKind, Row};
@@ -18,6 +19,8 @@ use std::marker::Model;
 #[derive(Drop)]
 pub struct Index {
     rows: Vec<Row>,
+    /// Where each row stands among the tokens of its unit.
+    marks: Vec<Mark>,
     /// How many nodes stand before each row, and then in all of them.
     nodes: Vec<u32>,
     /// The rows of the units.
@@ -48,13 +51,18 @@ impl Index {
         requires { AllByRecursion IsShaped (map (λ u. u.unit) program.now.units) }
         ensures { IfOk result (λ index. index ≡ program_rows (map (λ u. u.unit) program.now.units)) }
     {
-        let rows = rows_of(alloc, program)?;
-        let Ok(_) = u32::try_from(rows.len()) else {
+        let marked = marked_rows_of(alloc, program)?;
+        let Ok(_) = u32::try_from(marked.rows.len()) else {
             return Err(OutOfMemory);
         };
-        let nodes = counts_of(alloc, &rows)?;
-        let units = units_of(alloc, &rows)?;
-        Ok(Index { rows, nodes, units })
+        let nodes = counts_of(alloc, &marked.rows)?;
+        let units = units_of(alloc, &marked.rows)?;
+        Ok(Index {
+            rows: marked.rows,
+            marks: marked.marks,
+            nodes,
+            units,
+        })
     }
 
     /// The rows, of which the first is the program.
@@ -62,6 +70,18 @@ impl Index {
         ensures { result.now ≡ self.now }
     {
         &self.rows
+    }
+
+    /// A mark for each row.
+    pub fn marks(&self) -> &[Mark] {
+        &self.marks
+    }
+
+    /// The rows of the units.
+    pub fn units(&self) -> &[u32]
+        ensures { result.now ≡ unit_rows self.now (length self.now) }
+    {
+        &self.units
     }
 
     /// The row that stands for a node. `None` where the program has no such node.

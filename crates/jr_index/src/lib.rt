@@ -1,48 +1,62 @@
-//! Rows of a program from its trees.
+//! Rows of a program from its trees, and where they stand among the tokens.
 #![tactic(auto)]
 
 ghost use Rattle.std.specs.Prelude.{◌≡◌, IfOk, map};
 ghost use Rattle.jr_rows.specs.Rows.{program_rows};
-ghost use Rattle.jr_index.specs.Events.{program_events};
+ghost use Rattle.jr_index.specs.Events as e;
+ghost use Rattle.jr_index.specs.Writing.{Adds};
 
 mod building;
 mod decl;
-mod event;
 mod expr;
 mod index;
 mod law;
+mod mark;
 mod stmt;
 mod words;
+mod writer;
 
-use crate::building::rows_of_events;
 use crate::decl::add_unit;
-use crate::words::{begin, close};
-use event::Event;
+pub use crate::writer::MarkedRows;
+use crate::writer::RowWriter;
 pub use index::{Index, NodeOfRow};
 use jr_base::OutOfMemory;
-use jr_defs::Program;
+use jr_defs::{Program, UnitAt};
 use jr_rows::{Label, Row};
-use jr_tree::Unit;
 pub use law::nodes_are_numbered;
+pub use mark::{Mark, NO_TOKEN};
 use std::alloc::Global;
 
-/// The labels of a program, as they open and close.
-fn events_of(alloc: Global, program: &Program) -> Result<Vec<Event>, OutOfMemory>
-    ensures { IfOk result (λ events. events.items ≡ program_events (map (λ u. u.unit) program.now.units)) }
+fn add_units(out: &mut RowWriter, units: &[UnitAt])
+    ensures { Adds out.old out.new (e.units_events (map (λ u. u.unit) units.now)) }
 {
-    let mut out = Vec::new(alloc);
-    begin(alloc, &mut out, Label::Program)?;
-    for placed in program.units.as_slice() {
-        add_unit(alloc, &mut out, &placed.unit)?;
+    for placed in units {
+        add_unit(out, &placed.unit);
     }
-    close(&mut out)?;
-    Ok(out)
 }
 
-/// The rows of a program: row 0 is the program, and each row stands behind the one round it (preorder).
+fn add_program(out: &mut RowWriter, program: &Program)
+    ensures { Adds out.old out.new (e.program_events (map (λ u. u.unit) program.now.units)) }
+{
+    out.begin(Label::Program);
+    add_units(out, program.units.as_slice());
+    out.go_to(0);
+    out.close();
+}
+
+/// The rows of a program and their marks: row 0 is the program, and each row stands behind the one round it (preorder).
 #[tactic(auto, using(crate::proofs::Labels::built_program))]
+pub fn marked_rows_of(alloc: Global, program: &Program) -> Result<MarkedRows, OutOfMemory>
+    ensures { IfOk result (λ marked. marked.rows.items ≡ program_rows (map (λ u. u.unit) program.now.units)) }
+{
+    let mut out = RowWriter::new(alloc);
+    add_program(&mut out, program);
+    out.finish()
+}
+
+/// The rows of a program.
 pub fn rows_of(alloc: Global, program: &Program) -> Result<Vec<Row>, OutOfMemory>
     ensures { IfOk result (λ rows. rows.items ≡ program_rows (map (λ u. u.unit) program.now.units)) }
 {
-    rows_of_events(alloc, events_of(alloc, program)?)
+    Ok(marked_rows_of(alloc, program)?.rows)
 }

@@ -1,153 +1,167 @@
 // The labels of statements (JLS 14).
-ghost use Rattle.std.specs.Prelude.{◌≡◌, ◌++◌, IfOk, OnOk};
+ghost use Rattle.std.specs.Prelude.{◌≡◌, []};
 ghost use Rattle.std.specs.Option.{option_map};
 ghost use Rattle.jr_tree.specs.Mirror.Stmts as m;
 ghost use Rattle.jr_index.specs.Events as e;
+ghost use Rattle.jr_index.specs.Writing.{Adds};
 ghost use Rattle.jr_rows.specs.Stmts as l;
 
-use crate::event::Event;
-use crate::expr::{add_any_expr, add_any_init, add_expr, add_exprs};
-use crate::words::{add_param, add_type, begin, close, leaf, open};
-use jr_base::{OutOfMemory, Text};
+use crate::expr::{add_any_expr, add_any_init, add_args, add_expr, add_exprs};
+use crate::words::{add_param, add_type};
+use crate::writer::RowWriter;
+use jr_base::{Boxed, Text};
 use jr_rows::Label;
 use jr_tree::{Block, Catch, Declarator, ForInit, Group, Stmt, SwitchLabel};
-use std::alloc::Global;
 
-fn add_local(
-    alloc: Global,
-    out: &mut Vec<Event>,
-    is_final: bool,
-    local: &Declarator,
-) -> Result<(), OutOfMemory>
-    ensures { OnOk result (out.new.items ≡ out.old.items ++ e.local_events is_final (m.plain_declarator local.now)) }
+fn add_local(out: &mut RowWriter, is_final: bool, local: &Declarator)
+    ensures { Adds out.old out.new (e.local_events is_final (m.plain_declarator local.now)) }
 {
-    let name = local.name.copy(alloc)?;
     let label = Label::Local {
         is_final,
         dims: local.dims,
     };
-    open(out, label, name)?;
-    add_any_init(alloc, out, &local.init)?;
-    close(out)
+    out.open(label, &local.name);
+    out.own();
+    out.pass_brackets(local.dims);
+    add_any_init(out, &local.init);
+    out.close();
 }
 
-fn add_locals(
-    alloc: Global,
-    out: &mut Vec<Event>,
-    is_final: bool,
-    locals: &[Declarator],
-) -> Result<(), OutOfMemory>
-    ensures { OnOk result (out.new.items ≡ out.old.items ++ e.locals_events is_final (m.plain_declarators locals.now)) }
+fn add_locals(out: &mut RowWriter, is_final: bool, locals: &[Declarator])
+    ensures { Adds out.old out.new (e.locals_events is_final (m.plain_declarators locals.now)) }
 {
+    let mut commas = 0;
     for local in locals {
-        add_local(alloc, out, is_final, local)?;
+        out.pass(commas);
+        add_local(out, is_final, local);
+        commas = 1;
     }
-    Ok(())
 }
 
-fn add_for(alloc: Global, out: &mut Vec<Event>, first: &Option<ForInit>) -> Result<(), OutOfMemory>
-    ensures { OnOk result (out.new.items ≡ out.old.items ++ e.if_some e.for_events (option_map m.plain_for first.now)) }
+fn add_for(out: &mut RowWriter, first: &ForInit)
+    ensures { Adds out.old out.new (e.for_events (m.plain_for first.now)) }
 {
     match first {
-        None => Ok(()),
-        Some(
-            ForInit::Locals {
-                is_final,
-                ty,
-                decls,
-            },
-        ) => {
-            begin(alloc, out, Label::ForLocals)?;
-            add_type(alloc, out, ty)?;
-            add_locals(alloc, out, *is_final, decls.as_slice())?;
-            close(out)
+        ForInit::Locals {
+            is_final,
+            ty,
+            decls,
+        } => {
+            out.begin(Label::ForLocals);
+            out.pass_if(*is_final);
+            add_type(out, ty);
+            add_locals(out, *is_final, decls.as_slice());
+            out.close();
         }
-        Some(ForInit::Exprs { exprs }) => {
-            begin(alloc, out, Label::ForExprs)?;
-            add_exprs(alloc, out, exprs.as_slice())?;
-            close(out)
+        ForInit::Exprs { exprs } => {
+            out.begin(Label::ForExprs);
+            add_exprs(out, exprs.as_slice(), 1);
+            out.close();
         }
     }
 }
 
-fn add_case(alloc: Global, out: &mut Vec<Event>, label: &SwitchLabel) -> Result<(), OutOfMemory>
-    ensures { OnOk result (out.new.items ≡ out.old.items ++ e.case_events (m.plain_label label.now)) }
+fn add_any_for(out: &mut RowWriter, first: &Option<ForInit>)
+    ensures { Adds out.old out.new (e.if_some e.for_events (option_map m.plain_for first.now)) }
+{
+    if let Some(first) = first {
+        add_for(out, first);
+    }
+}
+
+fn add_case(out: &mut RowWriter, label: &SwitchLabel)
+    ensures { Adds out.old out.new (e.case_events (m.plain_label label.now)) }
 {
     match label {
         SwitchLabel::Case { value } => {
-            begin(alloc, out, Label::Case)?;
-            add_expr(alloc, out, value)?;
-            close(out)
+            out.begin(Label::Case);
+            out.pass(1);
+            add_expr(out, value);
+            out.pass(1);
+            out.close();
         }
-        SwitchLabel::Default => leaf(alloc, out, Label::Default),
+        SwitchLabel::Default => out.leaf(Label::Default, 2),
     }
 }
 
-fn add_cases(alloc: Global, out: &mut Vec<Event>, labels: &[SwitchLabel]) -> Result<(), OutOfMemory>
-    ensures { OnOk result (out.new.items ≡ out.old.items ++ e.cases_events (m.plain_labels labels.now)) }
+fn add_cases(out: &mut RowWriter, labels: &[SwitchLabel])
+    ensures { Adds out.old out.new (e.cases_events (m.plain_labels labels.now)) }
 {
     for label in labels {
-        add_case(alloc, out, label)?;
+        add_case(out, label);
     }
-    Ok(())
 }
 
-/// The identifier of a label that is there or not.
-fn label_name(alloc: Global, label: &Option<Text>) -> Result<Text, OutOfMemory>
-    ensures { IfOk result (λ name. name ≡ l.label_name label.now) }
+/// A `break` or `continue`.
+fn add_jump(out: &mut RowWriter, jump: Label, target: &Option<Text>)
+    ensures { Adds out.old out.new (e.named jump (l.label_name target.now) []) }
 {
-    match label {
-        None => Ok(Text::new(Vec::new(alloc))),
-        Some(name) => Ok(name.copy(alloc)?),
+    match target {
+        None => out.leaf(jump, 2),
+        Some(name) => {
+            out.open(jump, name);
+            out.pass(1);
+            out.own();
+            out.pass(1);
+            out.close();
+        }
     }
 }
 
 #[cycle(add_stmt)]
-pub fn add_stmt(alloc: Global, out: &mut Vec<Event>, stmt: &Stmt) -> Result<(), OutOfMemory>
-    ensures { OnOk result (out.new.items ≡ out.old.items ++ e.stmt_events (m.plain_stmt stmt.now)) }
+pub fn add_stmt(out: &mut RowWriter, stmt: &Stmt)
+    ensures { Adds out.old out.new (e.stmt_events (m.plain_stmt stmt.now)) }
 {
     match stmt {
         Stmt::Nest { block } => {
-            begin(alloc, out, Label::Nest)?;
-            add_block(alloc, out, block)?;
-            close(out)
+            out.begin(Label::Nest);
+            add_block(out, block);
+            out.close();
         }
         Stmt::Local {
             is_final,
             ty,
             decls,
         } => {
-            begin(alloc, out, Label::Locals)?;
-            add_type(alloc, out, ty)?;
-            add_locals(alloc, out, *is_final, decls.as_slice())?;
-            close(out)
+            out.begin(Label::Locals);
+            out.pass_if(*is_final);
+            add_type(out, ty);
+            add_locals(out, *is_final, decls.as_slice());
+            out.pass(1);
+            out.close();
         }
-        Stmt::Skip => leaf(alloc, out, Label::Skip),
+        Stmt::Skip => out.leaf(Label::Skip, 1),
         Stmt::Do { body, cond } => {
-            begin(alloc, out, Label::Do)?;
-            add_stmt(alloc, out, body.get())?;
-            add_expr(alloc, out, cond)?;
-            close(out)
+            out.begin(Label::Do);
+            out.pass(1);
+            add_stmt(out, body.get());
+            out.pass(2);
+            add_expr(out, cond);
+            out.pass(2);
+            out.close();
         }
         Stmt::While { cond, body } => {
-            begin(alloc, out, Label::While)?;
-            add_expr(alloc, out, cond)?;
-            add_stmt(alloc, out, body.get())?;
-            close(out)
+            out.begin(Label::While);
+            out.pass(2);
+            add_expr(out, cond);
+            out.pass(1);
+            add_stmt(out, body.get());
+            out.close();
         }
         Stmt::If { cond, yes, no } => {
-            begin(alloc, out, Label::If)?;
-            add_expr(alloc, out, cond)?;
-            add_stmt(alloc, out, yes.get())?;
-            if let Some(no) = no {
-                add_stmt(alloc, out, no.get())?;
-            }
-            close(out)
+            out.begin(Label::If);
+            out.pass(2);
+            add_expr(out, cond);
+            out.pass(1);
+            add_stmt(out, yes.get());
+            add_else(out, no);
+            out.close();
         }
         Stmt::Eval { value } => {
-            begin(alloc, out, Label::Eval)?;
-            add_expr(alloc, out, value)?;
-            close(out)
+            out.begin(Label::Eval);
+            add_expr(out, value);
+            out.pass(1);
+            out.close();
         }
         Stmt::For {
             first,
@@ -155,133 +169,170 @@ pub fn add_stmt(alloc: Global, out: &mut Vec<Event>, stmt: &Stmt) -> Result<(), 
             update,
             body,
         } => {
-            let label = Label::For {
+            out.begin(Label::For {
                 has_first: first.is_some(),
                 has_condition: cond.is_some(),
-            };
-            begin(alloc, out, label)?;
-            add_for(alloc, out, first)?;
-            add_any_expr(alloc, out, cond)?;
-            add_exprs(alloc, out, update.as_slice())?;
-            add_stmt(alloc, out, body.get())?;
-            close(out)
+            });
+            out.pass(2);
+            add_any_for(out, first);
+            out.pass(1);
+            add_any_expr(out, cond);
+            out.pass(1);
+            add_exprs(out, update.as_slice(), 1);
+            out.pass(1);
+            add_stmt(out, body.get());
+            out.close();
         }
         Stmt::Switch { value, groups } => {
-            begin(alloc, out, Label::Switch)?;
-            add_expr(alloc, out, value)?;
-            add_groups(alloc, out, groups.as_slice())?;
-            close(out)
+            out.begin(Label::Switch);
+            out.pass(2);
+            add_expr(out, value);
+            out.pass(2);
+            add_groups(out, groups.as_slice());
+            out.pass(1);
+            out.close();
         }
         Stmt::Labeled { label, body } => {
-            let name = label.copy(alloc)?;
-            open(out, Label::Labeled, name)?;
-            add_stmt(alloc, out, body.get())?;
-            close(out)
+            out.open(Label::Labeled, label);
+            out.own();
+            out.pass(1);
+            add_stmt(out, body.get());
+            out.close();
         }
-        Stmt::Break { label } => {
-            let name = label_name(alloc, label)?;
-            let has_label = label.is_some();
-            open(out, Label::Break { has_label }, name)?;
-            close(out)
-        }
-        Stmt::Continue { label } => {
-            let name = label_name(alloc, label)?;
-            let has_label = label.is_some();
-            open(out, Label::Continue { has_label }, name)?;
-            close(out)
-        }
+        Stmt::Break { label } => add_jump(
+            out,
+            Label::Break {
+                has_label: label.is_some(),
+            },
+            label,
+        ),
+        Stmt::Continue { label } => add_jump(
+            out,
+            Label::Continue {
+                has_label: label.is_some(),
+            },
+            label,
+        ),
         Stmt::Return { value } => {
-            begin(alloc, out, Label::Return)?;
-            add_any_expr(alloc, out, value)?;
-            close(out)
+            out.begin(Label::Return);
+            out.pass(1);
+            add_any_expr(out, value);
+            out.pass(1);
+            out.close();
         }
         Stmt::Throw { value } => {
-            begin(alloc, out, Label::Throw)?;
-            add_expr(alloc, out, value)?;
-            close(out)
+            out.begin(Label::Throw);
+            out.pass(1);
+            add_expr(out, value);
+            out.pass(1);
+            out.close();
         }
         Stmt::Try {
             body,
             catches,
             last,
         } => {
-            begin(
-                alloc,
-                out,
-                Label::Try {
-                    has_finally: last.is_some(),
-                },
-            )?;
-            add_block(alloc, out, body)?;
-            add_catches(alloc, out, catches.as_slice())?;
-            if let Some(last) = last {
-                add_block(alloc, out, last)?;
-            }
-            close(out)
+            out.begin(Label::Try {
+                has_finally: last.is_some(),
+            });
+            out.pass(1);
+            add_block(out, body);
+            add_catches(out, catches.as_slice());
+            add_finally(out, last);
+            out.close();
         }
         Stmt::CtorCall { which, args } => {
-            begin(alloc, out, Label::ConstructorCall { which: *which })?;
-            add_exprs(alloc, out, args.as_slice())?;
-            close(out)
+            out.begin(Label::ConstructorCall { which: *which });
+            out.own();
+            add_args(out, args.as_slice());
+            out.pass(1);
+            out.close();
         }
     }
 }
 
 #[cycle(add_stmt)]
-pub fn add_block(alloc: Global, out: &mut Vec<Event>, block: &Block) -> Result<(), OutOfMemory>
-    ensures { OnOk result (out.new.items ≡ out.old.items ++ e.block_events (m.plain_block block.now)) }
+fn add_else(out: &mut RowWriter, no: &Option<Boxed<Stmt>>)
+    ensures { Adds out.old out.new (e.any_stmt_events (m.plain_any_stmt no.now)) }
 {
-    begin(alloc, out, Label::Block)?;
-    add_stmts(alloc, out, block.stmts.as_slice())?;
-    close(out)
+    match no {
+        None => (),
+        Some(no) => {
+            out.pass(1);
+            add_stmt(out, no.get());
+        }
+    }
 }
 
 #[cycle(add_stmt)]
-fn add_stmts(alloc: Global, out: &mut Vec<Event>, stmts: &[Stmt]) -> Result<(), OutOfMemory>
-    ensures { OnOk result (out.new.items ≡ out.old.items ++ e.stmts_events (m.plain_stmts stmts.now)) }
+fn add_finally(out: &mut RowWriter, last: &Option<Block>)
+    ensures { Adds out.old out.new (e.any_block_events (m.plain_any_block last.now)) }
+{
+    match last {
+        None => (),
+        Some(last) => {
+            out.pass(1);
+            add_block(out, last);
+        }
+    }
+}
+
+#[cycle(add_stmt)]
+pub fn add_block(out: &mut RowWriter, block: &Block)
+    ensures { Adds out.old out.new (e.block_events (m.plain_block block.now)) }
+{
+    out.begin(Label::Block);
+    out.pass(1);
+    add_stmts(out, block.stmts.as_slice());
+    out.pass(1);
+    out.close();
+}
+
+#[cycle(add_stmt)]
+fn add_stmts(out: &mut RowWriter, stmts: &[Stmt])
+    ensures { Adds out.old out.new (e.stmts_events (m.plain_stmts stmts.now)) }
 {
     for stmt in stmts {
-        add_stmt(alloc, out, stmt)?;
+        add_stmt(out, stmt);
     }
-    Ok(())
 }
 
 #[cycle(add_stmt)]
-fn add_groups(alloc: Global, out: &mut Vec<Event>, groups: &[Group]) -> Result<(), OutOfMemory>
-    ensures { OnOk result (out.new.items ≡ out.old.items ++ e.groups_events (m.plain_groups groups.now)) }
+fn add_groups(out: &mut RowWriter, groups: &[Group])
+    ensures { Adds out.old out.new (e.groups_events (m.plain_groups groups.now)) }
 {
     for group in groups {
-        add_group(alloc, out, group)?;
+        add_group(out, group);
     }
-    Ok(())
 }
 
 #[cycle(add_stmt)]
-fn add_group(alloc: Global, out: &mut Vec<Event>, group: &Group) -> Result<(), OutOfMemory>
-    ensures { OnOk result (out.new.items ≡ out.old.items ++ e.group_events (m.plain_group group.now)) }
+fn add_group(out: &mut RowWriter, group: &Group)
+    ensures { Adds out.old out.new (e.group_events (m.plain_group group.now)) }
 {
-    begin(alloc, out, Label::Group)?;
-    add_cases(alloc, out, group.labels.as_slice())?;
-    add_stmts(alloc, out, group.stmts.as_slice())?;
-    close(out)
+    out.begin(Label::Group);
+    add_cases(out, group.labels.as_slice());
+    add_stmts(out, group.stmts.as_slice());
+    out.close();
 }
 
 #[cycle(add_stmt)]
-fn add_catches(alloc: Global, out: &mut Vec<Event>, catches: &[Catch]) -> Result<(), OutOfMemory>
-    ensures { OnOk result (out.new.items ≡ out.old.items ++ e.catches_events (m.plain_catches catches.now)) }
+fn add_catches(out: &mut RowWriter, catches: &[Catch])
+    ensures { Adds out.old out.new (e.catches_events (m.plain_catches catches.now)) }
 {
     for catch in catches {
-        add_catch(alloc, out, catch)?;
+        add_catch(out, catch);
     }
-    Ok(())
 }
 
 #[cycle(add_stmt)]
-fn add_catch(alloc: Global, out: &mut Vec<Event>, catch: &Catch) -> Result<(), OutOfMemory>
-    ensures { OnOk result (out.new.items ≡ out.old.items ++ e.catch_events (m.plain_catch catch.now)) }
+fn add_catch(out: &mut RowWriter, catch: &Catch)
+    ensures { Adds out.old out.new (e.catch_events (m.plain_catch catch.now)) }
 {
-    begin(alloc, out, Label::Catch)?;
-    add_param(alloc, out, &catch.param)?;
-    add_block(alloc, out, &catch.body)?;
-    close(out)
+    out.begin(Label::Catch);
+    out.pass(2);
+    add_param(out, &catch.param);
+    out.pass(1);
+    add_block(out, &catch.body);
+    out.close();
 }

@@ -1,44 +1,14 @@
 // The labels of what holds no expression.
-ghost use Rattle.std.specs.Prelude.{◌≡◌, ◌<◌, [], ◌∷◌, ◌++◌, OnOk, length};
-ghost use Rattle.jr_index.specs.declared.event.Event.TheVariants.{Open, Close};
+ghost use Rattle.std.specs.Prelude.{◌≡◌, ◌<◌, length};
 ghost use Rattle.jr_index.specs.Events as e;
+ghost use Rattle.jr_index.specs.Writing.{Adds};
 ghost use Rattle.jr_rows.specs.Exprs as l;
 ghost use Rattle.jr_rows.specs.Decls as d;
 
-use crate::event::Event;
-use jr_base::{OutOfMemory, Text};
+use crate::writer::RowWriter;
+use jr_base::Text;
 use jr_rows::{ImportKind, Label, Modifiers, NameKind, NamePlace};
 use jr_tree::{Base, Import, Modifier, Name, PackageDecl, Param, Primitive, ResultType, TypeUse};
-use std::alloc::Global;
-
-pub fn open(out: &mut Vec<Event>, label: Label, name: Text) -> Result<(), OutOfMemory>
-    ensures { OnOk result (out.new.items ≡ out.old.items ++ Open label name ∷ []) }
-{
-    out.push(Event::Open { label, name })?;
-    Ok(())
-}
-
-/// Opens a label without identifier.
-pub fn begin(alloc: Global, out: &mut Vec<Event>, label: Label) -> Result<(), OutOfMemory>
-    ensures { OnOk result (out.new.items ≡ out.old.items ++ Open label [] ∷ []) }
-{
-    open(out, label, Text::new(Vec::new(alloc)))
-}
-
-pub fn close(out: &mut Vec<Event>) -> Result<(), OutOfMemory>
-    ensures { OnOk result (out.new.items ≡ out.old.items ++ Close ∷ []) }
-{
-    out.push(Event::Close)?;
-    Ok(())
-}
-
-/// A label with nothing below it.
-pub fn leaf(alloc: Global, out: &mut Vec<Event>, label: Label) -> Result<(), OutOfMemory>
-    ensures { OnOk result (out.new.items ≡ out.old.items ++ e.leaf label) }
-{
-    begin(alloc, out, label)?;
-    close(out)
-}
 
 fn left_kind(meant: NameKind) -> NameKind
     ensures { result ≡ l.left_kind meant }
@@ -73,69 +43,56 @@ fn name_label(meant: NameKind, place: NamePlace, count: usize, index: usize) -> 
     }
 }
 
-#[tactic(auto, using(crate::proofs::Counting::opens_step))]
-fn add_parts(
-    alloc: Global,
-    out: &mut Vec<Event>,
-    meant: NameKind,
-    place: NamePlace,
-    parts: &[Text],
-) -> Result<(), OutOfMemory>
-    ensures { OnOk result (out.new.items ≡ out.old.items ++ e.opens meant place parts.now (length parts.now)) }
+/// The identifiers from the last one back; each has the dot of the one before it at its side.
+#[tactic(auto, using(crate::proofs::Counting::opens_step, crate::proofs::Adding::goes_on))]
+fn open_parts(out: &mut RowWriter, meant: NameKind, place: NamePlace, parts: &[Text])
+    ensures { Adds out.old out.new (e.opens meant place parts.now (length parts.now)) }
 {
     let mut left = parts.len();
     while left > 0 {
         left -= 1;
-        let name = parts[left].copy(alloc)?;
-        open(out, name_label(meant, place, parts.len(), left), name)?;
+        out.open(name_label(meant, place, parts.len(), left), &parts[left]);
+        out.own_at(out.ahead(left.saturating_mul(2)));
     }
-    Ok(())
 }
 
-#[tactic(auto, using(crate::proofs::Counting::closes_step))]
-fn close_all(out: &mut Vec<Event>, count: usize) -> Result<(), OutOfMemory>
-    ensures { OnOk result (out.new.items ≡ out.old.items ++ e.closes count) }
+/// Closes so many identifiers, with a dot before each but the first.
+#[tactic(auto, using(crate::proofs::Counting::closes_step, crate::proofs::Adding::goes_on))]
+fn close_parts(out: &mut RowWriter, count: usize)
+    ensures { Adds out.old out.new (e.closes count) }
 {
     let mut left = count;
+    let mut tokens = 1;
     while left > 0 {
-        close(out)?;
+        out.pass(tokens);
+        out.close();
+        tokens = 2;
         left -= 1;
     }
-    Ok(())
 }
 
 /// The identifiers of a name, from the last one back (JLS 6.2).
-pub fn add_name(
-    alloc: Global,
-    out: &mut Vec<Event>,
-    meant: NameKind,
-    place: NamePlace,
-    name: &Name,
-) -> Result<(), OutOfMemory>
-    ensures { OnOk result (out.new.items ≡ out.old.items ++ e.name_events meant place name.now) }
+pub fn add_name(out: &mut RowWriter, meant: NameKind, place: NamePlace, name: &Name)
+    ensures { Adds out.old out.new (e.name_events meant place name.now) }
 {
-    add_parts(alloc, out, meant, place, name.parts.as_slice())?;
-    close_all(out, name.parts.as_slice().len())
+    open_parts(out, meant, place, name.parts.as_slice());
+    close_parts(out, name.parts.as_slice().len())
 }
 
-pub fn add_type_name(alloc: Global, out: &mut Vec<Event>, name: &Name) -> Result<(), OutOfMemory>
-    ensures { OnOk result (out.new.items ≡ out.old.items ++ e.type_name name.now) }
+pub fn add_type_name(out: &mut RowWriter, name: &Name)
+    ensures { Adds out.old out.new (e.type_name name.now) }
 {
-    add_name(alloc, out, NameKind::Type, NamePlace::Other, name)
+    add_name(out, NameKind::Type, NamePlace::Other, name)
 }
 
-pub fn add_type_names(
-    alloc: Global,
-    out: &mut Vec<Event>,
-    place: NamePlace,
-    names: &[Name],
-) -> Result<(), OutOfMemory>
-    ensures { OnOk result (out.new.items ≡ out.old.items ++ e.names_events place names.now) }
+/// Names with a word or comma before each.
+pub fn add_type_names(out: &mut RowWriter, place: NamePlace, names: &[Name])
+    ensures { Adds out.old out.new (e.names_events place names.now) }
 {
     for name in names {
-        add_name(alloc, out, NameKind::Type, place, name)?;
+        out.pass(1);
+        add_name(out, NameKind::Type, place, name);
     }
-    Ok(())
 }
 
 pub fn primitive_of(base: &Base) -> Option<Primitive>
@@ -147,51 +104,51 @@ pub fn primitive_of(base: &Base) -> Option<Primitive>
     }
 }
 
-pub fn add_base(alloc: Global, out: &mut Vec<Event>, base: &Base) -> Result<(), OutOfMemory>
-    ensures { OnOk result (out.new.items ≡ out.old.items ++ e.base_events base.now) }
+pub fn add_base(out: &mut RowWriter, base: &Base)
+    ensures { Adds out.old out.new (e.base_events base.now) }
 {
     match base {
-        Base::Primitive(_) => Ok(()),
-        Base::Named(name) => add_type_name(alloc, out, name),
+        Base::Primitive(_) => out.pass(1),
+        Base::Named(name) => add_type_name(out, name),
     }
 }
 
-pub fn add_type(alloc: Global, out: &mut Vec<Event>, ty: &TypeUse) -> Result<(), OutOfMemory>
-    ensures { OnOk result (out.new.items ≡ out.old.items ++ e.type_events ty.now) }
+pub fn add_type(out: &mut RowWriter, ty: &TypeUse)
+    ensures { Adds out.old out.new (e.type_events ty.now) }
 {
-    let primitive = primitive_of(&ty.base);
-    begin(
-        alloc,
-        out,
-        Label::TypeUse {
-            primitive,
-            dims: ty.dims,
-        },
-    )?;
-    add_base(alloc, out, &ty.base)?;
-    close(out)
+    out.begin(Label::TypeUse {
+        primitive: primitive_of(&ty.base),
+        dims: ty.dims,
+    });
+    add_base(out, &ty.base);
+    out.pass_brackets(ty.dims);
+    out.close();
 }
 
-pub fn add_param(alloc: Global, out: &mut Vec<Event>, param: &Param) -> Result<(), OutOfMemory>
-    ensures { OnOk result (out.new.items ≡ out.old.items ++ e.param_events param.now) }
+pub fn add_param(out: &mut RowWriter, param: &Param)
+    ensures { Adds out.old out.new (e.param_events param.now) }
 {
-    let name = param.name.copy(alloc)?;
     let label = Label::Parameter {
         is_final: param.is_final,
         dims: param.dims,
     };
-    open(out, label, name)?;
-    add_type(alloc, out, &param.ty)?;
-    close(out)
+    out.open(label, &param.name);
+    out.pass_if(param.is_final);
+    add_type(out, &param.ty);
+    out.own();
+    out.pass_brackets(param.dims);
+    out.close();
 }
 
-pub fn add_params(alloc: Global, out: &mut Vec<Event>, params: &[Param]) -> Result<(), OutOfMemory>
-    ensures { OnOk result (out.new.items ≡ out.old.items ++ e.params_events params.now) }
+pub fn add_params(out: &mut RowWriter, params: &[Param])
+    ensures { Adds out.old out.new (e.params_events params.now) }
 {
+    let mut commas = 0;
     for param in params {
-        add_param(alloc, out, param)?;
+        out.pass(commas);
+        add_param(out, param);
+        commas = 1;
     }
-    Ok(())
 }
 
 /// The modifiers as flags (JLS 8.1.1, 8.3.1, 8.4.3).
@@ -259,89 +216,68 @@ pub fn is_void(result_type: &ResultType) -> bool
     }
 }
 
-pub fn add_result(
-    alloc: Global,
-    out: &mut Vec<Event>,
-    result_type: &ResultType,
-) -> Result<(), OutOfMemory>
-    ensures { OnOk result (out.new.items ≡ out.old.items ++ e.result_events result_type.now) }
+pub fn add_result(out: &mut RowWriter, result_type: &ResultType)
+    ensures { Adds out.old out.new (e.result_events result_type.now) }
 {
     match result_type {
-        ResultType::Void => Ok(()),
-        ResultType::Of { ty } => add_type(alloc, out, ty),
+        ResultType::Void => out.pass(1),
+        ResultType::Of { ty } => add_type(out, ty),
     }
 }
 
-pub fn add_package(
-    alloc: Global,
-    out: &mut Vec<Event>,
-    declared: &Option<PackageDecl>,
-) -> Result<(), OutOfMemory>
-    ensures { OnOk result (out.new.items ≡ out.old.items ++ e.if_some e.package_events declared.now) }
+pub fn add_package(out: &mut RowWriter, declared: &Option<PackageDecl>)
+    ensures { Adds out.old out.new (e.if_some e.package_events declared.now) }
 {
-    match declared {
-        None => Ok(()),
-        Some(declared) => {
-            begin(alloc, out, Label::Package)?;
-            add_name(
-                alloc,
-                out,
-                NameKind::Package,
-                NamePlace::Other,
-                &declared.name,
-            )?;
-            close(out)
-        }
+    if let Some(declared) = declared {
+        out.begin(Label::Package);
+        out.pass(1);
+        add_name(out, NameKind::Package, NamePlace::Other, &declared.name);
+        out.pass(1);
+        out.close();
     }
 }
 
-fn add_import(alloc: Global, out: &mut Vec<Event>, import: &Import) -> Result<(), OutOfMemory>
-    ensures { OnOk result (out.new.items ≡ out.old.items ++ e.import_events import.now) }
+fn add_import(out: &mut RowWriter, import: &Import)
+    ensures { Adds out.old out.new (e.import_events import.now) }
 {
     match import {
         Import::Single { name } => {
-            begin(
-                alloc,
-                out,
-                Label::Import {
-                    kind: ImportKind::Single,
-                },
-            )?;
-            add_type_name(alloc, out, name)?;
-            close(out)
+            out.begin(Label::Import {
+                kind: ImportKind::Single,
+            });
+            out.pass(1);
+            add_type_name(out, name);
+            out.pass(1);
+            out.close();
         }
         Import::OnDemand { name } => {
-            begin(
-                alloc,
-                out,
-                Label::Import {
-                    kind: ImportKind::OnDemand,
-                },
-            )?;
-            add_name(alloc, out, NameKind::PackageOrType, NamePlace::Other, name)?;
-            close(out)
+            out.begin(Label::Import {
+                kind: ImportKind::OnDemand,
+            });
+            out.pass(1);
+            add_name(out, NameKind::PackageOrType, NamePlace::Other, name);
+            out.pass(3);
+            out.close();
         }
         Import::StaticSingle { name, member } => {
-            let member = member.copy(alloc)?;
             let label = Label::Import {
                 kind: ImportKind::StaticSingle,
             };
-            open(out, label, member)?;
-            add_type_name(alloc, out, name)?;
-            close(out)
+            out.open(label, member);
+            out.pass(2);
+            add_type_name(out, name);
+            out.pass(1);
+            out.own();
+            out.pass(1);
+            out.close();
         }
     }
 }
 
-pub fn add_imports(
-    alloc: Global,
-    out: &mut Vec<Event>,
-    imports: &[Import],
-) -> Result<(), OutOfMemory>
-    ensures { OnOk result (out.new.items ≡ out.old.items ++ e.imports_events imports.now) }
+pub fn add_imports(out: &mut RowWriter, imports: &[Import])
+    ensures { Adds out.old out.new (e.imports_events imports.now) }
 {
     for import in imports {
-        add_import(alloc, out, import)?;
+        add_import(out, import);
     }
-    Ok(())
 }

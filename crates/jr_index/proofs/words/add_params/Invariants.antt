@@ -1,6 +1,7 @@
-use Rattle.std.proofs.Common.{◌≡◌, ◌++◌, drop}
+use Rattle.std.proofs.Common.{drop}
 use Rattle.jr_index.specs.Events as e
+use Rattle.jr_index.specs.Writing.{written, Leads}
 use Rattle.jr_index.proofs.words.add_params.Given as goal
 
 abbrev pub invariant-loop-param : goal.invariant-loop-param
-invariant-loop-param l = l.out.items ++ e.params_events (drop l.param-index l.params) ≡ l.initial.out.items ++ e.params_events (l.params)
+invariant-loop-param l = Leads (written l.initial.out) (written l.out) (e.params_events (drop l.param-index l.params)) (e.params_events (l.params))

@@ -1,0 +1,333 @@
+// What an occurrence refers to (JLS 6.5, 8.8.7.1, 14.15, 15.9, 15.11, 15.12).
+
+use crate::instances::instance_round;
+use crate::qualified::{Left, Receiver};
+use crate::simple::{Candidates, Sight};
+use jr_base::OutOfMemory;
+use jr_defs::{Referent, RowType};
+use jr_members::{MemberKind, is_inner};
+use jr_overload::{choose, choose_imported};
+use jr_places::{end_at, is_body_of, parent_at, sought_at};
+use jr_rows::{Label, ReceiverKind, Sought};
+use jr_tree::ThisOrSuper;
+use std::alloc::Global;
+
+// What a table has for a row.
+fn type_at(types: &[Option<RowType>], at: u32) -> Option<RowType> {
+    match types.get(at as usize) {
+        Some(ty) => *ty,
+        None => None,
+    }
+}
+
+impl<'a> Sight<'a> {
+    /// What stands before the dot of a row, in its first child.
+    pub fn left_of(self, types: &[Option<RowType>], place: u32) -> Left {
+        let under = self.world.under;
+        let Some(child) = under.first_child(place) else {
+            return Left::Nothing;
+        };
+        if let Referent::Package = under.referent(child) {
+            return Left::Package(under.places.spelled(under.rows, child));
+        }
+        match under.referred_type(child) {
+            Some(over) => Left::OfType(over),
+            None => match type_at(types, child) {
+                Some(ty) => Left::Value(ty),
+                None => Left::Nothing,
+            },
+        }
+    }
+
+    // The first row where an argument of a call may stand: behind the receiver, or the class that a creation names.
+    fn first_argument(self, place: u32) -> u32 {
+        let rows = self.world.under.rows;
+        let next = place.saturating_add(1);
+        match rows.get(place as usize) {
+            Some(row) => match row.label {
+                Label::Call {
+                    receiver: ReceiverKind::Expression,
+                } => end_at(rows, next),
+                Label::Call {
+                    receiver: ReceiverKind::Name,
+                } => end_at(rows, next),
+                Label::New => end_at(rows, next),
+                _ => next,
+            },
+            None => next,
+        }
+    }
+
+    // The types of the arguments of a call, if all are known.
+    fn arguments(
+        self,
+        alloc: Global,
+        types: &[Option<RowType>],
+        place: u32,
+    ) -> Result<Option<Vec<RowType>>, OutOfMemory> {
+        let rows = self.world.under.rows;
+        let mut all = Vec::new(alloc);
+        let mut child = self.first_argument(place);
+        for _turn in 0..rows.len() {
+            if parent_at(rows, child) != place || child <= place {
+                return Ok(Some(all));
+            }
+            match type_at(types, child) {
+                Some(ty) => all.push(ty)?,
+                None => return Ok(None),
+            }
+            child = end_at(rows, child);
+        }
+        Ok(Some(all))
+    }
+
+    /// What a method without a receiver refers to: one of the innermost type that has one of the name, else an imported one.
+    pub fn method(
+        self,
+        alloc: Global,
+        place: u32,
+        name: u32,
+        arguments: &[RowType],
+    ) -> Result<Referent, OutOfMemory> {
+        let level = self.method_level(alloc, place, name)?;
+        let rows = match level {
+            Some(over) => {
+                let methods = self.world.named(alloc, MemberKind::Method, over, name)?;
+                choose(alloc, self.world, over, place, None, arguments, &methods)?
+            }
+            None => {
+                let methods = self.imported(alloc, MemberKind::Method, place, name)?;
+                choose_imported(alloc, self.world, place, arguments, &methods)?
+            }
+        };
+        Ok(Candidates { rows, level }.answer(Referent::Unbound))
+    }
+
+    /// What a method of a receiver refers to.
+    pub fn method_of(
+        self,
+        alloc: Global,
+        place: u32,
+        receiver: Receiver,
+        name: u32,
+        arguments: &[RowType],
+    ) -> Result<Referent, OutOfMemory> {
+        let methods = self
+            .world
+            .named(alloc, MemberKind::Method, receiver.class, name)?;
+        let rows = choose(
+            alloc,
+            self.world,
+            receiver.class,
+            place,
+            receiver.ty,
+            arguments,
+            &methods,
+        )?;
+        Ok(Candidates { rows, level: None }.answer(Referent::Unbound))
+    }
+
+    // The innermost class round the place that has an inner class as a member gives its objects their enclosing one (JLS 15.9.2).
+    fn enclosing_new(
+        self,
+        alloc: Global,
+        place: u32,
+        class: u32,
+    ) -> Result<Option<u32>, OutOfMemory> {
+        let mut around = self.world.under.places.around(place);
+        for _turn in 0..=place {
+            let Some(over) = around else {
+                return Ok(None);
+            };
+            if self.world.is_member(alloc, over, class)? {
+                return Ok(Some(over));
+            }
+            around = self.world.under.places.around(over);
+        }
+        Ok(None)
+    }
+
+    /// What a creation of an object of a class refers to: one of its constructors (JLS 15.9.3).
+    pub fn creation(
+        self,
+        alloc: Global,
+        place: u32,
+        class: u32,
+        arguments: &[RowType],
+    ) -> Result<Referent, OutOfMemory> {
+        let mut level = None;
+        if is_inner(self.world.under.rows, class) {
+            level = self.enclosing_new(alloc, place, class)?;
+            if level.is_none() {
+                return Ok(Referent::Unbound);
+            }
+        }
+        let constructors = self.world.members.constructors(alloc, class)?;
+        let rows = choose(
+            alloc,
+            self.world,
+            class,
+            place,
+            None,
+            arguments,
+            &constructors,
+        )?;
+        Ok(Candidates { rows, level }.answer(Referent::Unbound))
+    }
+
+    // The class whose constructor this(..) or super(..) calls.
+    fn called_class(self, place: u32, which: ThisOrSuper) -> Option<u32> {
+        let around = self.world.under.places.around(place)?;
+        match which {
+            ThisOrSuper::This => Some(around),
+            ThisOrSuper::Super => self.world.supers.superclass(around),
+        }
+    }
+
+    // What a call of a constructor refers to (JLS 8.8.7.1).
+    fn constructor(
+        self,
+        alloc: Global,
+        place: u32,
+        which: ThisOrSuper,
+        arguments: &[RowType],
+    ) -> Result<Referent, OutOfMemory> {
+        let Some(class) = self.called_class(place, which) else {
+            return Ok(Referent::Unbound);
+        };
+        let constructors = self.world.members.constructors(alloc, class)?;
+        let rows = choose(
+            alloc,
+            self.world,
+            class,
+            place,
+            None,
+            arguments,
+            &constructors,
+        )?;
+        Ok(Candidates { rows, level: None }.answer(Referent::Unbound))
+    }
+
+    // The superclass of the innermost class, where that has an instance at the place (JLS 15.11.2).
+    fn super_before(self, place: u32) -> Option<u32> {
+        let under = self.world.under;
+        let around = instance_round(under.rows, under.places, place)?;
+        self.world.supers.superclass(around)
+    }
+
+    // What a field of the superclass refers to.
+    fn super_field(self, alloc: Global, place: u32, name: u32) -> Result<Referent, OutOfMemory> {
+        match self.super_before(place) {
+            Some(over) => {
+                let rows = self.world.named(alloc, MemberKind::Field, over, name)?;
+                Ok(Candidates { rows, level: None }.answer(Referent::Unbound))
+            }
+            None => Ok(Referent::Unbound),
+        }
+    }
+
+    // What a call refers to, where the types of its arguments are known.
+    fn called(
+        self,
+        alloc: Global,
+        types: &[Option<RowType>],
+        place: u32,
+        name: u32,
+        sought: Sought,
+        arguments: &[RowType],
+    ) -> Result<Referent, OutOfMemory> {
+        match sought {
+            Sought::Method => self.method(alloc, place, name, arguments),
+            Sought::MethodOf => match self.receiver(self.left_of(types, place)) {
+                Some(receiver) => self.method_of(alloc, place, receiver, name, arguments),
+                None => Ok(Referent::Unbound),
+            },
+            Sought::SuperMethod => match self.super_before(place) {
+                Some(class) => {
+                    let receiver = Receiver { class, ty: None };
+                    self.method_of(alloc, place, receiver, name, arguments)
+                }
+                None => Ok(Referent::Unbound),
+            },
+            Sought::Creation => match self.world.under.named_type(place) {
+                Some(class) => self.creation(alloc, place, class, arguments),
+                None => Ok(Referent::Unbound),
+            },
+            Sought::ConstructorCall { which } => self.constructor(alloc, place, which, arguments),
+            _ => Ok(Referent::Unbound),
+        }
+    }
+
+    // What a call refers to; where the type of an argument is not known it is not bound.
+    fn call(
+        self,
+        alloc: Global,
+        types: &[Option<RowType>],
+        place: u32,
+        name: u32,
+        sought: Sought,
+    ) -> Result<Referent, OutOfMemory> {
+        match self.arguments(alloc, types, place)? {
+            Some(arguments) => self.called(alloc, types, place, name, sought, &arguments),
+            None => Ok(Referent::Unbound),
+        }
+    }
+
+    // The class of a constructor, to which its name refers.
+    fn own_class(self, place: u32) -> Referent {
+        let rows = self.world.under.rows;
+        let body = parent_at(rows, place);
+        let class = parent_at(rows, body);
+        if is_body_of(rows, class, body) {
+            Referent::Declared {
+                row: class,
+                level: None,
+            }
+        } else {
+            Referent::Unbound
+        }
+    }
+
+    /// What a row looks for refers to, with this name, given by its number; the types of expressions are those of the rows behind it.
+    pub fn look_for(
+        self,
+        alloc: Global,
+        types: &[Option<RowType>],
+        place: u32,
+        name: u32,
+        sought: Sought,
+    ) -> Result<Referent, OutOfMemory> {
+        match sought {
+            Sought::Nothing => Ok(Referent::Unbound),
+            Sought::Simple { kind } => self.simple(alloc, place, kind, name),
+            Sought::Qualified { kind } => {
+                self.qualified(alloc, self.left_of(types, place), kind, name)
+            }
+            Sought::FieldOf => self.field(alloc, self.left_of(types, place), name),
+            Sought::SuperField => self.super_field(alloc, place, name),
+            Sought::OwnClass => Ok(self.own_class(place)),
+            Sought::Label => {
+                let found = self.labels(alloc, place, name)?;
+                Ok(found.answer(Referent::Unbound))
+            }
+            _ => self.call(alloc, types, place, name, sought),
+        }
+    }
+
+    /// What a row refers to, where all else is as the table says.
+    pub fn look(
+        self,
+        alloc: Global,
+        types: &[Option<RowType>],
+        place: u32,
+    ) -> Result<Referent, OutOfMemory> {
+        let under = self.world.under;
+        self.look_for(
+            alloc,
+            types,
+            place,
+            under.places.name(place),
+            sought_at(under.rows, place),
+        )
+    }
+}

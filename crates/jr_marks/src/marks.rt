@@ -1,0 +1,144 @@
+// Places of rows, and rows at places.
+
+use crate::searching::{count_up_to, identifier_at};
+use jr_base::{CuId, Place, Token};
+use jr_defs::{Program, UnitAt};
+use jr_index::{Index, Mark, NO_TOKEN};
+use jr_rows::{Label, Role, Row};
+use jr_rule::{Fault, PlaceKind};
+
+/// How many units the prelude has. They come first.
+const PRELUDE: u32 = 2;
+
+/// The rows of a program, where they stand among the tokens of their units, and the units.
+#[derive(Clone, Copy)]
+pub struct Marks<'p> {
+    pub units: &'p [UnitAt],
+    pub rows: &'p [Row],
+    pub marks: &'p [Mark],
+    /// The rows of the units.
+    pub starts: &'p [u32],
+}
+
+impl<'p> Marks<'p> {
+    /// The marks of a program, by its index.
+    pub fn of(program: &'p Program, index: &'p Index) -> Marks<'p> {
+        Marks {
+            units: program.units.as_slice(),
+            rows: index.rows(),
+            marks: index.marks(),
+            starts: index.units(),
+        }
+    }
+
+    /// The number of the unit in which a row stands; 0 for the row of the program.
+    pub fn unit_of(&self, row: u32) -> u32 {
+        let count = count_up_to(self.starts, row);
+        u32::try_from(count).unwrap_or(NO_TOKEN).saturating_sub(1)
+    }
+
+    /// The place of an occurrence or declaration: the identifier by which the row refers or that it declares, else its first token.
+    pub fn name_place(&self, row: u32) -> Place {
+        self.token_place(row, own_or_first(self.mark(row)))
+    }
+
+    /// The place of a node of flow: its first token, or the identifier that it declares.
+    pub fn node_place(&self, row: u32) -> Place {
+        if declares(self.rows, row) {
+            self.name_place(row)
+        } else {
+            self.first_place(row)
+        }
+    }
+
+    /// The place at which a broken rule is shown.
+    pub fn fault_place(&self, fault: Fault) -> Place {
+        match fault.rule.place() {
+            PlaceKind::Name => self.name_place(fault.row),
+            PlaceKind::First => self.first_place(fault.row),
+        }
+    }
+
+    /// The row whose identifier holds the offset: what declares or refers by a name. What is not written and creations, which share the
+    /// identifier of another row, are passed over.
+    pub fn row_at(&self, unit: u32, offset: u32) -> Option<u32> {
+        let token = identifier_at(self.tokens(unit), offset)?;
+        let start = *self.starts.get(unit as usize)?;
+        let end = self.rows.get(start as usize)?.end;
+        for row in start..end {
+            if self.mark(row).own == token && has_own_name(self.rows, row) {
+                return Some(row);
+            }
+        }
+        None
+    }
+
+    /// The place of the first token of a row.
+    fn first_place(&self, row: u32) -> Place {
+        self.token_place(row, self.mark(row).first)
+    }
+
+    /// The mark of a row; that of no token past the last row.
+    fn mark(&self, row: u32) -> Mark {
+        match self.marks.get(row as usize) {
+            Some(mark) => *mark,
+            None => Mark {
+                first: NO_TOKEN,
+                after: NO_TOKEN,
+                own: NO_TOKEN,
+            },
+        }
+    }
+
+    fn tokens(&self, unit: u32) -> &'p [Token] {
+        match self.units.get(unit as usize) {
+            Some(placed) => placed.tokens.as_slice(),
+            None => &[],
+        }
+    }
+
+    /// The place of a token of the unit of a row; 0 in the prelude, and where there is no such token.
+    fn token_place(&self, row: u32, token: u32) -> Place {
+        let unit = self.unit_of(row);
+        let mut at = 0;
+        if unit >= PRELUDE {
+            at = start_of(self.tokens(unit), token);
+        }
+        Place { cu: CuId(unit), at }
+    }
+}
+
+fn own_or_first(mark: Mark) -> u32 {
+    if mark.own == NO_TOKEN {
+        mark.first
+    } else {
+        mark.own
+    }
+}
+
+fn start_of(tokens: &[Token], number: u32) -> u32 {
+    match tokens.get(number as usize) {
+        Some(token) => token.span.start,
+        None => 0,
+    }
+}
+
+fn declares(rows: &[Row], at: u32) -> bool {
+    match rows.get(at as usize) {
+        Some(row) => row.label.role() != Role::Nothing,
+        None => false,
+    }
+}
+
+/// Whether the identifier of a row is its own alone.
+fn has_own_name(rows: &[Row], at: u32) -> bool {
+    let Some(row) = rows.get(at as usize) else {
+        return false;
+    };
+    match row.label {
+        Label::DefaultConstructor => false,
+        Label::ImplicitCall => false,
+        Label::New => false,
+        _ => true,
+    }
+}
