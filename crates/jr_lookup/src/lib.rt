@@ -1,6 +1,7 @@
 //! What a name refers to at a place, by rows under a table: scopes, shadowing, imports, names behind dots, and calls.
 #![tactic(auto)]
 
+mod candidates;
 mod imports;
 mod instances;
 mod look;
@@ -8,8 +9,9 @@ mod qualified;
 mod scopes;
 mod simple;
 
+pub use candidates::Candidates;
 pub use imports::Imports;
 pub use instances::{has_instance, instance_round, is_in_static_context};
 pub use qualified::{Left, Receiver};
 pub use scopes::{Scopes, holds, import_kind, is_block};
-pub use simple::{Candidates, Sight};
+pub use simple::Sight;

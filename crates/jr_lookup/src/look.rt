@@ -1,8 +1,9 @@
 // What an occurrence refers to (JLS 6.5, 8.8.7.1, 14.15, 15.9, 15.11, 15.12).
 
+use crate::candidates::Candidates;
 use crate::instances::instance_round;
 use crate::qualified::{Left, Receiver};
-use crate::simple::{Candidates, Sight};
+use crate::simple::Sight;
 use jr_base::OutOfMemory;
 use jr_defs::{Referent, RowType};
 use jr_members::{MemberKind, is_inner};

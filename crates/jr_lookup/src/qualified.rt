@@ -2,7 +2,8 @@
 ghost use Rattle.std.specs.Prelude.{◌≡◌};
 ghost use Rattle.jr_plain.specs.Lookup as plain;
 
-use crate::simple::{Candidates, Sight};
+use crate::candidates::Candidates;
+use crate::simple::Sight;
 use jr_base::OutOfMemory;
 use jr_defs::{Element, Referent, RowType};
 use jr_members::MemberKind;

@@ -4,6 +4,7 @@ ghost use Rattle.jr_rows.specs.declared.label.Role.TheVariants as role;
 ghost use Rattle.jr_rows.specs.Rows as program;
 ghost use Rattle.jr_plain.specs.Same as same;
 
+use crate::candidates::Candidates;
 use crate::imports::Imports;
 use crate::scopes::{Scopes, is_block};
 use jr_base::OutOfMemory;
@@ -19,39 +20,6 @@ pub struct Sight<'a> {
     pub world: World<'a>,
     pub scopes: &'a Scopes,
     pub imports: &'a Imports,
-}
-
-/// The declarations that an occurrence may refer to, all found through one level.
-#[derive(Drop)]
-pub struct Candidates {
-    pub rows: Vec<u32>,
-    pub level: Option<u32>,
-}
-
-impl Candidates {
-    /// None.
-    pub fn none(alloc: Global) -> Candidates {
-        Candidates {
-            rows: Vec::new(alloc),
-            level: None,
-        }
-    }
-
-    /// The answer: one declaration, or several that are ambiguous, or another answer where there is none.
-    pub fn answer(&self, otherwise: Referent) -> Referent {
-        let Some(first) = self.rows.first() else {
-            return otherwise;
-        };
-        for row in &self.rows {
-            if *row != *first {
-                return Referent::Ambiguous;
-            }
-        }
-        Referent::Declared {
-            row: *first,
-            level: self.level,
-        }
-    }
 }
 
 // Fields have the type through which they are found as their level.

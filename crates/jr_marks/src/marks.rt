@@ -79,7 +79,7 @@ impl<'p> Marks<'p> {
     }
 
     /// The mark of a row; that of no token past the last row.
-    fn mark(&self, row: u32) -> Mark {
+    pub fn mark(&self, row: u32) -> Mark {
         match self.marks.get(row as usize) {
             Some(mark) => *mark,
             None => Mark {

@@ -1,9 +1,12 @@
 // Searches in lists that rise.
+ghost use Rattle.std.specs.Prelude.{◌≤◌, ◌<◌, IfSome, length};
 
 use jr_base::{Kind, Token};
 
 /// How many numbers, from the first on, are not above this one.
-pub fn count_up_to(numbers: &[u32], number: u32) -> usize {
+pub fn count_up_to(numbers: &[u32], number: u32) -> usize
+    ensures { result ≤ length numbers.now }
+{
     let mut low = 0;
     let mut high = numbers.len();
     while low < high {
@@ -18,7 +21,9 @@ pub fn count_up_to(numbers: &[u32], number: u32) -> usize {
 }
 
 /// How many tokens, from the first on, end at or before this offset.
-fn count_before(tokens: &[Token], offset: u32) -> usize {
+fn count_before(tokens: &[Token], offset: u32) -> usize
+    ensures { result ≤ length tokens.now }
+{
     let mut low = 0;
     let mut high = tokens.len();
     while low < high {
@@ -33,7 +38,9 @@ fn count_before(tokens: &[Token], offset: u32) -> usize {
 }
 
 /// The number of the identifier that holds the offset, at its first byte or before its end.
-pub fn identifier_at(tokens: &[Token], offset: u32) -> Option<u32> {
+pub fn identifier_at(tokens: &[Token], offset: u32) -> Option<u32>
+    ensures { IfSome result (λ number. number < length tokens.now) }
+{
     let number = count_before(tokens, offset);
     let token = tokens.get(number)?;
     if token.span.start > offset || !is_identifier(&token.kind) {

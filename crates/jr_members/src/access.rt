@@ -1,4 +1,9 @@
 // Access (JLS 6.6, 6.6.1, 6.6.2).
+ghost use Rattle.std.specs.Prelude.{◌≡◌};
+ghost use Rattle.jr_rows.specs.Rows as rows;
+ghost use Rattle.jr_rows.specs.declared.label.Role.TheVariants as role;
+ghost use Rattle.jr_plain.specs.Access as access;
+ghost use Rattle.jr_plain.specs.Same as same;
 
 use crate::members::World;
 use crate::modifiers::{declaring_type, is_private, is_protected, is_public, needs_no_object};
@@ -8,8 +13,10 @@ use jr_rows::{Role, Row, Sought};
 use jr_tree::ThisOrSuper;
 
 // Locals, parameters and labels have no access.
-fn is_local_role(role: Role) -> bool {
-    match role {
+fn is_local_role(given: Role) -> bool
+    ensures { result ≡ access.is_local_role given }
+{
+    match given {
         Role::Local => true,
         Role::Parameter => true,
         Role::Label => true,
@@ -17,19 +24,31 @@ fn is_local_role(role: Role) -> bool {
     }
 }
 
-// A protected constructor is reached outside its package by `super(..)` alone (JLS 6.6.2.2).
-fn is_by_super_call(rows: &[Row], at: u32, place: u32) -> bool {
-    let calls_super = match sought_at(rows, place) {
+fn is_constructor(all: &[Row], at: u32) -> bool
+    ensures { result ≡ same.same_role (rows.role_at all.now at) role.Constructor }
+{
+    match role_at(all, at) {
+        Role::Constructor => true,
+        _ => false,
+    }
+}
+
+fn is_super_call(sought: Sought) -> bool
+    ensures { result ≡ access.is_super_call sought }
+{
+    match sought {
         Sought::ConstructorCall {
             which: ThisOrSuper::Super,
         } => true,
         _ => false,
-    };
-    let is_constructor = match role_at(rows, at) {
-        Role::Constructor => true,
-        _ => false,
-    };
-    is_protected(rows, at) && is_constructor && calls_super
+    }
+}
+
+// A protected constructor is reached outside its package by `super(..)` alone (JLS 6.6.2.2).
+fn is_by_super_call(rows: &[Row], at: u32, place: u32) -> bool
+    ensures { result ≡ access.is_by_super_call rows.now at place }
+{
+    is_protected(rows, at) && is_constructor(rows, at) && is_super_call(sought_at(rows, place))
 }
 
 impl<'a> World<'a> {

@@ -1,4 +1,7 @@
 // The members of the types of a program (JLS 8.2, 9.2).
+ghost use Rattle.std.specs.Prelude.{◌≡◌, ◌&&◌, not};
+ghost use Rattle.jr_plain.specs.Modifiers as modifiers;
+ghost use Rattle.jr_plain.specs.Search as search;
 
 use crate::modifiers::{constructed_class, declaring_type, is_in_interface, is_public, is_static};
 use crate::named::{MemberKind, Named, Sources, are_any_same};
@@ -204,7 +207,9 @@ pub fn kind_of(role: Role) -> Option<MemberKind> {
 }
 
 // A public instance method.
-fn is_public_instance(rows: &[Row], at: u32) -> bool {
+fn is_public_instance(rows: &[Row], at: u32) -> bool
+    ensures { result ≡ (modifiers.is_public rows.now at && not (modifiers.is_static rows.now at)) }
+{
     is_public(rows, at) && !is_static(rows, at)
 }
 
@@ -303,11 +308,8 @@ impl<'a> World<'a> {
 }
 
 /// The number is an item.
-pub fn has(all: &[u32], at: u32) -> bool {
-    for other in all {
-        if *other == at {
-            return true;
-        }
-    }
-    false
+pub fn has(all: &[u32], at: u32) -> bool
+    ensures { result ≡ search.has all.now at }
+{
+    all.contains(&at)
 }

@@ -1,10 +1,10 @@
 // The modifiers of declarations, with those that an interface gives its members (JLS 6.6, 8.1.1, 8.3.1, 8.4.3, 8.5.2, 9.3, 9.4, 9.5).
-ghost use Rattle.std.specs.Prelude.{◌≡◌, ◌||◌};
+ghost use Rattle.std.specs.Prelude.{◌≡◌};
 ghost use Rattle.jr_rows.specs.Rows as rows;
 ghost use Rattle.jr_rows.specs.declared.label.Role.TheVariants as role;
 ghost use Rattle.jr_defs.specs.Enclosing as enclosed;
 ghost use Rattle.jr_defs.specs.Modifiers as modified;
-ghost use Rattle.jr_plain.specs.Declarations as declared;
+ghost use Rattle.jr_plain.specs.Access as access;
 ghost use Rattle.jr_plain.specs.Enclosing as enclosing;
 ghost use Rattle.jr_plain.specs.Modifiers as modifiers;
 ghost use Rattle.jr_plain.specs.Members as members;
@@ -246,7 +246,7 @@ pub fn passes(all: &[Row], over: u32, at: u32) -> bool
 
 /// The row is a type, a member that is static or one that is an interface's: what is not reached through an object.
 pub fn needs_no_object(all: &[Row], at: u32) -> bool
-    ensures { result ≡ (modifiers.is_static all.now at || declared.is_type all.now at) }
+    ensures { result ≡ access.needs_no_object all.now at }
 {
     is_static(all, at) || is_type(all, at)
 }

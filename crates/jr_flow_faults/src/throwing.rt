@@ -1,0 +1,153 @@
+// Checked exceptions that are neither caught nor declared (JLS 11.2.3).
+
+use crate::catches::{Arrived, Catches};
+use crate::classes::Roots;
+use crate::facts::facts_of;
+use crate::guards::{Around, first_guard, is_try};
+use crate::thrown::{lets_out, thrown_at};
+use jr_base::OutOfMemory;
+use jr_reach::{courses_of, reach_faults, reached_of};
+use jr_rule::{Fault, Rule};
+use jr_supers::Supers;
+use jr_view::View;
+use std::alloc::Global;
+
+// What is read to follow what is thrown.
+#[derive(Clone, Copy)]
+struct Reading<'a> {
+    view: View<'a>,
+    around: Around<'a>,
+    guards: &'a [Option<u32>],
+    catches: &'a Catches,
+    roots: Roots,
+}
+
+// Where a thrown class ends.
+#[derive(Clone, Copy)]
+enum End {
+    Caught,
+    /// It comes to a member.
+    Member(u32),
+}
+
+impl<'a> Reading<'a> {
+    fn supers(self) -> &'a Supers {
+        self.view.sight.world.supers
+    }
+
+    // Follows a class from a row outwards: where it is caught or lost, or to its member. Each body on the way throws it.
+    fn follow(
+        self,
+        alloc: Global,
+        arrived: &mut Arrived,
+        at: u32,
+        class: u32,
+    ) -> Result<End, OutOfMemory> {
+        let mut next = first_guard(self.guards, at);
+        for _turn in 0..self.around.rows.len() {
+            let Some(over) = next else {
+                return Ok(End::Caught);
+            };
+            if !is_try(self.around.rows, over) {
+                return Ok(End::Member(over));
+            }
+            arrived.add(alloc, self.supers(), over, class)?;
+            if self.catches.catches(self.supers(), over, class) {
+                return Ok(End::Caught);
+            }
+            next = self.around.next_guard(self.guards, over);
+        }
+        Ok(End::Caught)
+    }
+
+    // A class thrown at a row is neither caught nor declared.
+    fn is_uncaught(
+        self,
+        alloc: Global,
+        arrived: &mut Arrived,
+        at: u32,
+        class: u32,
+    ) -> Result<bool, OutOfMemory> {
+        let under = self.view.sight.world.under;
+        if !self.roots.is_checked(self.supers(), under.rows, class) {
+            return Ok(false);
+        }
+        match self.follow(alloc, arrived, at, class)? {
+            End::Caught => Ok(false),
+            End::Member(member) => Ok(!lets_out(alloc, under, self.supers(), member, class)?),
+        }
+    }
+
+    // Whether what a row throws is caught or declared.
+    fn note_row(
+        self,
+        alloc: Global,
+        arrived: &mut Arrived,
+        at: u32,
+        out: &mut Vec<Fault>,
+    ) -> Result<(), OutOfMemory> {
+        let under = self.view.sight.world.under;
+        let mut is_broken = false;
+        for class in thrown_at(alloc, under, self.view.types, at)? {
+            let is_uncaught = self.is_uncaught(alloc, arrived, at, class)?;
+            is_broken = is_broken || is_uncaught;
+        }
+        if is_broken {
+            out.push(Fault {
+                row: at,
+                rule: Rule::UncaughtException,
+            })?;
+        }
+        Ok(())
+    }
+
+    fn note_all(self, alloc: Global, out: &mut Vec<Fault>) -> Result<(), OutOfMemory> {
+        let under = self.view.sight.world.under;
+        let Ok(count) = u32::try_from(under.rows.len()) else {
+            return Err(OutOfMemory);
+        };
+        let mut arrived = Arrived::new(alloc);
+        for at in 0..count {
+            self.note_row(alloc, &mut arrived, at, out)?;
+        }
+        arrived.note_unthrown(under, self.supers(), self.roots, out)
+    }
+}
+
+// The faults of exceptions.
+fn throw_faults(
+    alloc: Global,
+    view: View,
+    around: Around,
+    out: &mut Vec<Fault>,
+) -> Result<(), OutOfMemory> {
+    let world = view.sight.world;
+    let guards = around.guards(alloc)?;
+    let catches = Catches::of(alloc, world.under, world.supers, out)?;
+    let reading = Reading {
+        view,
+        around,
+        guards: &guards,
+        catches: &catches,
+        roots: Roots::of(around.rows),
+    };
+    reading.note_all(alloc, out)
+}
+
+/// Adds where the rules on jumps, on reaching and completing, and on checked exceptions are broken.
+pub fn flow_faults(alloc: Global, view: View, out: &mut Vec<Fault>) -> Result<(), OutOfMemory> {
+    let rows = view.sight.world.under.rows;
+    if rows.len() >= u32::MAX as usize {
+        return Err(OutOfMemory);
+    }
+    let facts = facts_of(alloc, view)?;
+    let all = courses_of(alloc, rows, &facts)?;
+    let found = reached_of(alloc, rows, &facts, &all)?;
+    reach_faults(rows, &facts, &all, &found, out)?;
+    let around = Around {
+        rows,
+        facts: &facts,
+        all: &all,
+    };
+    throw_faults(alloc, view, around, out)
+}

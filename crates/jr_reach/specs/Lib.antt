@@ -1,0 +1,4 @@
+pub mod Courses
+pub mod Statements
+pub mod Reached
+pub mod Faults

@@ -1,0 +1,273 @@
+// The course of one row, by those of the rows behind it.
+ghost use Rattle.std.specs.Prelude.{◌≡◌, ◌<◌, ◌^◌, IfOk, Some, length};
+ghost use Rattle.jr_rows.specs.Rows.{label};
+ghost use Rattle.jr_reach.specs.Courses.{looped, looped_once, switched, labeled};
+ghost use Rattle.jr_reach.specs.Statements.{nothing, later, if_course, tried, try_course, course_at, rest_by, entry_at};
+
+use crate::course::{
+    copied, either, group, has, jump_course, passed, past, past_loop, start, turn,
+};
+use crate::fact::fact_of;
+use crate::parts::{below, catches, condition_of, end_of, is_followed, known};
+use crate::{Course, Entry, Exit, Fact};
+use jr_base::{Items, OutOfMemory};
+use jr_rows::{Label, Row};
+use std::alloc::Global;
+
+fn loop_course(
+    alloc: Global,
+    truth: Option<bool>,
+    n: u32,
+    body: &Course,
+) -> Result<Course, OutOfMemory>
+    ensures { IfOk result (λ course. course ≡ looped truth n body.now) }
+{
+    match truth {
+        Some(false) => Ok(start(alloc)),
+        Some(true) => Ok(Course {
+            completes: has(body.exits.as_slice(), Exit::Break(n)),
+            exits: past_loop(alloc, body.exits.as_slice(), n)?,
+        }),
+        None => Ok(Course {
+            completes: true,
+            exits: past_loop(alloc, body.exits.as_slice(), n)?,
+        }),
+    }
+}
+
+fn do_course(
+    alloc: Global,
+    truth: Option<bool>,
+    n: u32,
+    body: &Course,
+) -> Result<Course, OutOfMemory>
+    ensures { IfOk result (λ course. course ≡ looped_once truth n body.now) }
+{
+    let is_tested = body.completes || has(body.exits.as_slice(), Exit::Continue(n));
+    let is_always = match truth {
+        Some(true) => true,
+        _ => false,
+    };
+    Ok(Course {
+        completes: (is_tested && !is_always) || has(body.exits.as_slice(), Exit::Break(n)),
+        exits: past_loop(alloc, body.exits.as_slice(), n)?,
+    })
+}
+
+fn switch_course(
+    alloc: Global,
+    has_default: bool,
+    n: u32,
+    body: &Course,
+) -> Result<Course, OutOfMemory>
+    ensures { IfOk result (λ course. course ≡ switched has_default n body.now) }
+{
+    Ok(Course {
+        completes: !has_default || body.completes || has(body.exits.as_slice(), Exit::Break(n)),
+        exits: past(alloc, body.exits.as_slice(), Exit::Break(n))?,
+    })
+}
+
+fn labeled_course(alloc: Global, n: u32, body: &Course) -> Result<Course, OutOfMemory>
+    ensures { IfOk result (λ course. course ≡ labeled n body.now) }
+{
+    Ok(Course {
+        completes: body.completes || has(body.exits.as_slice(), Exit::Break(n)),
+        exits: past(alloc, body.exits.as_slice(), Exit::Break(n))?,
+    })
+}
+
+fn branch_course(
+    alloc: Global,
+    rows: &[Row],
+    all: &[Entry],
+    none: &Entry,
+    n: usize,
+) -> Result<Course, OutOfMemory>
+    requires there { n < length rows.now }
+    requires few { length rows.now < 2 ^ 32 }
+    requires none { none.now ≡ nothing }
+    ensures { IfOk result (λ course. course ≡ if_course rows.now (later (length rows.now) all.now) n) }
+{
+    let yes = end_of(rows, n + 1);
+    let no = end_of(rows, yes);
+    let first = &known(all, rows.len(), none, yes).own;
+    if no < end_of(rows, n) {
+        return either(alloc, first, &known(all, rows.len(), none, no).own);
+    }
+    Ok(Course {
+        completes: true,
+        exits: Items::from_slice(alloc, first.exits.as_slice())?,
+    })
+}
+
+// The body of a `try`, or one of its catches.
+fn tried_course(
+    alloc: Global,
+    rows: &[Row],
+    all: &[Entry],
+    none: &Entry,
+    n: usize,
+) -> Result<Course, OutOfMemory>
+    requires there { n < length rows.now }
+    requires few { length rows.now < 2 ^ 32 }
+    requires none { none.now ≡ nothing }
+    ensures { IfOk result (λ course. course ≡ tried rows.now (later (length rows.now) all.now) n) }
+{
+    let next = end_of(rows, n + 1);
+    let body = &known(all, rows.len(), none, n + 1).own;
+    if catches(rows, next) && next < end_of(rows, n) {
+        return either(alloc, body, &known(all, rows.len(), none, next).rest);
+    }
+    copied(alloc, body)
+}
+
+// And then its `finally`.
+fn guarded_course(
+    alloc: Global,
+    rows: &[Row],
+    all: &[Entry],
+    none: &Entry,
+    n: usize,
+    last: Option<u32>,
+) -> Result<Course, OutOfMemory>
+    requires there { n < length rows.now }
+    requires few { length rows.now < 2 ^ 32 }
+    requires none { none.now ≡ nothing }
+    ensures { IfOk result (λ course. course ≡ try_course rows.now (later (length rows.now) all.now) n last) }
+{
+    let course = tried_course(alloc, rows, all, none, n)?;
+    match last {
+        None => Ok(course),
+        Some(row) => passed(
+            alloc,
+            &course,
+            &known(all, rows.len(), none, row as usize).own,
+        ),
+    }
+}
+
+// The course of a row.
+fn own_course(
+    alloc: Global,
+    rows: &[Row],
+    facts: &[Fact],
+    all: &[Entry],
+    none: &Entry,
+    n: usize,
+) -> Result<Course, OutOfMemory>
+    requires there { n < length rows.now }
+    requires few { length rows.now < 2 ^ 32 }
+    requires none { none.now ≡ nothing }
+    ensures { IfOk result (λ course. course ≡ course_at rows.now facts.now (later (length rows.now) all.now) n) }
+{
+    match &rows[n].label {
+        Label::Block => below(alloc, rows, all, none, n),
+        Label::Nest => below(alloc, rows, all, none, n),
+        Label::Group => below(alloc, rows, all, none, n),
+        Label::Catch => below(alloc, rows, all, none, n),
+        Label::Method { .. } => below(alloc, rows, all, none, n),
+        Label::Initializer { .. } => below(alloc, rows, all, none, n),
+        Label::Labeled => labeled_course(alloc, n as u32, &below(alloc, rows, all, none, n)?),
+        Label::If => branch_course(alloc, rows, all, none, n),
+        Label::While => loop_course(
+            alloc,
+            fact_of(facts, n + 1).truth,
+            n as u32,
+            &below(alloc, rows, all, none, n)?,
+        ),
+        Label::For {
+            has_first,
+            has_condition: true,
+        } => loop_course(
+            alloc,
+            fact_of(facts, condition_of(rows, n, *has_first)).truth,
+            n as u32,
+            &below(alloc, rows, all, none, n)?,
+        ),
+        Label::For {
+            has_condition: false,
+            ..
+        } => loop_course(
+            alloc,
+            Some(true),
+            n as u32,
+            &below(alloc, rows, all, none, n)?,
+        ),
+        Label::Do => do_course(
+            alloc,
+            fact_of(facts, end_of(rows, n + 1)).truth,
+            n as u32,
+            &below(alloc, rows, all, none, n)?,
+        ),
+        Label::Switch => switch_course(
+            alloc,
+            fact_of(facts, n).has_default,
+            n as u32,
+            &below(alloc, rows, all, none, n)?,
+        ),
+        Label::Break { .. } => jump_course(alloc, fact_of(facts, n).exit),
+        Label::Continue { .. } => jump_course(alloc, fact_of(facts, n).exit),
+        Label::Return => jump_course(alloc, None),
+        Label::Throw => jump_course(alloc, None),
+        Label::Try { .. } => guarded_course(alloc, rows, all, none, n, fact_of(facts, n).last),
+        _ => Ok(start(alloc)),
+    }
+}
+
+// That of the row and its later siblings.
+fn rest_course(
+    alloc: Global,
+    rows: &[Row],
+    all: &[Entry],
+    none: &Entry,
+    n: usize,
+    own: &Course,
+) -> Result<Course, OutOfMemory>
+    requires there { n < length rows.now }
+    requires few { length rows.now < 2 ^ 32 }
+    requires none { none.now ≡ nothing }
+    ensures { IfOk result (λ course. course ≡ rest_by (label rows.now n) rows.now (later (length rows.now) all.now) n own.now) }
+{
+    let next = end_of(rows, n);
+    let follows = is_followed(rows, n);
+    let more = &known(all, rows.len(), none, next).rest;
+    match &rows[n].label {
+        Label::Catch => {
+            if follows && catches(rows, next) {
+                return either(alloc, own, more);
+            }
+            copied(alloc, own)
+        }
+        Label::Group => {
+            if follows {
+                return group(alloc, own, more);
+            }
+            copied(alloc, own)
+        }
+        _ => {
+            if follows {
+                return turn(alloc, own, more);
+            }
+            copied(alloc, own)
+        }
+    }
+}
+
+pub(crate) fn entry_of(
+    alloc: Global,
+    rows: &[Row],
+    facts: &[Fact],
+    all: &[Entry],
+    none: &Entry,
+    n: usize,
+) -> Result<Entry, OutOfMemory>
+    requires there { n < length rows.now }
+    requires few { length rows.now < 2 ^ 32 }
+    requires none { none.now ≡ nothing }
+    ensures { IfOk result (λ made. made ≡ entry_at rows.now facts.now (later (length rows.now) all.now) n) }
+{
+    let own = own_course(alloc, rows, facts, all, none, n)?;
+    let rest = rest_course(alloc, rows, all, none, n, &own)?;
+    Ok(Entry { own, rest })
+}

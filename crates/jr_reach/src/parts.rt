@@ -1,0 +1,107 @@
+// Parts of rows, and what is known of them.
+ghost use Rattle.std.specs.Prelude.{◌≡◌, ◌<◌, ◌≤◌, ◌+◌, ◌^◌, IfOk, length};
+ghost use Rattle.jr_rows.specs.Rows.{parent, end, label};
+ghost use Rattle.jr_reach.specs.Courses.{begun};
+ghost use Rattle.jr_reach.specs.Statements.{nothing, later, is_catch, has_next, kids, for_condition};
+
+use crate::course::{copied, start};
+use crate::{Course, Entry};
+use jr_base::OutOfMemory;
+use jr_rows::{Label, Row};
+use std::alloc::Global;
+
+// The number after what stands below a row; past the end, that of a row alone.
+pub(crate) fn end_of(rows: &[Row], n: usize) -> usize
+    requires { n < 2 ^ 33 }
+    ensures is { result ≡ end rows.now n }
+    ensures most { result ≤ n + 2 ^ 32 }
+{
+    match rows.get(n) {
+        Some(row) => row.end as usize,
+        None => n + 1,
+    }
+}
+
+pub(crate) fn parent_of(rows: &[Row], n: usize) -> usize
+    requires { n < length rows.now }
+    ensures is { result ≡ parent rows.now n }
+    ensures most { result < 2 ^ 32 }
+{
+    rows[n].parent as usize
+}
+
+/// What is known of no row.
+pub(crate) fn no_entry(alloc: Global) -> Entry
+    ensures { result ≡ nothing }
+{
+    Entry {
+        own: start(alloc),
+        rest: start(alloc),
+    }
+}
+
+// What is known of a row, by the entries of the last rows.
+pub(crate) fn known<'a>(all: &'a [Entry], total: usize, none: &'a Entry, n: usize) -> &'a Entry
+    requires none { none.now ≡ nothing }
+    ensures { result.now ≡ later total all.now n }
+{
+    if n >= total {
+        return none;
+    }
+    match all.get(total - 1 - n) {
+        Some(entry) => entry,
+        None => none,
+    }
+}
+
+pub(crate) fn catches(rows: &[Row], n: usize) -> bool
+    ensures { result ≡ is_catch (label rows.now n) }
+{
+    match rows.get(n) {
+        Some(row) => match row.label {
+            Label::Catch => true,
+            _ => false,
+        },
+        None => false,
+    }
+}
+
+// There is a row behind it with the same parent.
+pub(crate) fn is_followed(rows: &[Row], n: usize) -> bool
+    requires there { n < length rows.now }
+    requires few { length rows.now < 2 ^ 32 }
+    ensures { result ≡ has_next rows.now n }
+{
+    end_of(rows, n) < end_of(rows, parent_of(rows, n))
+}
+
+// All that stands right below the row, one after the other.
+pub(crate) fn below(
+    alloc: Global,
+    rows: &[Row],
+    all: &[Entry],
+    none: &Entry,
+    n: usize,
+) -> Result<Course, OutOfMemory>
+    requires there { n < length rows.now }
+    requires few { length rows.now < 2 ^ 32 }
+    requires none { none.now ≡ nothing }
+    ensures { IfOk result (λ course. course ≡ kids rows.now (later (length rows.now) all.now) n) }
+{
+    if n + 1 < end_of(rows, n) {
+        return copied(alloc, &known(all, rows.len(), none, n + 1).rest);
+    }
+    Ok(start(alloc))
+}
+
+// The condition of a `for`.
+pub(crate) fn condition_of(rows: &[Row], n: usize, has_first: bool) -> usize
+    requires { n < 2 ^ 32 }
+    ensures { result ≡ for_condition rows.now n has_first }
+{
+    if has_first {
+        end_of(rows, n + 1)
+    } else {
+        n + 1
+    }
+}
