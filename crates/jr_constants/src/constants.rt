@@ -1,7 +1,9 @@
 // Constant variables and constant expressions (JLS 4.12.4, 15.28).
 
-ghost use Rattle.std.specs.Prelude.{◌≡◌};
+ghost use Rattle.std.specs.Prelude.{◌≡◌, ◌+◌, ◌<◌, ◌^◌, if◌then◌else◌, Some, None};
+ghost use Rattle.jr_rows.specs.Rows.{label};
 ghost use Rattle.jr_defs.specs.Operators as defined;
+ghost use Rattle.jr_plain.specs.Declarations as declared;
 ghost use Rattle.jr_plain.specs.Constants as plain;
 ghost use Rattle.jr_constants.specs.Values.{seen, seen_if};
 
@@ -43,7 +45,9 @@ fn item(all: &[Option<Value>], at: u32) -> Option<Value> {
     }
 }
 
-fn is_variable(rows: &[Row], at: u32) -> bool {
+fn is_variable(rows: &[Row], at: u32) -> bool
+    ensures { result ≡ declared.is_variable rows.now at }
+{
     match role_at(rows, at) {
         Role::Field => true,
         Role::Parameter => true,
@@ -52,21 +56,29 @@ fn is_variable(rows: &[Row], at: u32) -> bool {
     }
 }
 
-// The row of the initializer of a final variable, if that is an expression.
-fn initializer(rows: &[Row], at: u32) -> Option<u32> {
-    let value = at.checked_add(1)?;
-    let expression = value.checked_add(1)?;
-    let is_value = match rows.get(value as usize) {
+// The row is that of an initializer.
+fn is_value(rows: &[Row], at: u32) -> bool
+    ensures { result ≡ plain.is_value (label rows.now at) }
+{
+    match rows.get(at as usize) {
         Some(row) => match row.label {
             Label::Value => true,
             _ => false,
         },
         None => false,
-    };
+    }
+}
+
+// The row of the initializer of a final variable, if that is an expression.
+fn initializer(rows: &[Row], at: u32) -> Option<u32>
+    ensures { at + 2 < 2 ^ 32 → result ≡ (if plain.is_initialized rows.now at then Some (at + 2) else None) }
+{
+    let value = at.checked_add(1)?;
+    let expression = at.checked_add(2)?;
     if is_variable(rows, at)
         && is_final(rows, at)
         && parent_at(rows, value) == at
-        && is_value
+        && is_value(rows, value)
         && parent_at(rows, expression) == value
     {
         Some(expression)
