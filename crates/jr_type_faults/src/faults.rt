@@ -1,0 +1,84 @@
+// The faults of all rows.
+
+use crate::creations::abstract_is_used;
+use crate::initializing::is_used_too_early;
+use crate::objects::lacks_object;
+use crate::operands::{
+    branches_are_unrelated, cast_is_not_allowed, is_no_variable, operands_do_not_fit,
+};
+use crate::places::{array_does_not_fit, value_does_not_fit, void_is_used};
+use crate::statements::{condition_is_not_boolean, is_not_throwable, return_does_not_fit};
+use crate::switches::switch_does_not_fit;
+use jr_base::OutOfMemory;
+use jr_rule::{Fault, Rule};
+use jr_type_facts::{Facts, Tables};
+use jr_view::View;
+use std::alloc::Global;
+
+// One fault more, if the rule is broken.
+fn push_if(is_broken: bool, row: u32, rule: Rule, out: &mut Vec<Fault>) -> Result<(), OutOfMemory> {
+    if is_broken {
+        out.push(Fault { row, rule })?;
+    }
+    Ok(())
+}
+
+// Objects, initializers, constructors and what is thrown.
+fn push_contexts(facts: Facts, at: u32, out: &mut Vec<Fault>) -> Result<(), OutOfMemory> {
+    push_if(lacks_object(facts, at), at, Rule::StaticContext, out)?;
+    push_if(
+        is_used_too_early(facts, at),
+        at,
+        Rule::ForwardReference,
+        out,
+    )?;
+    push_if(
+        facts.tables.calls_itself_round(at),
+        at,
+        Rule::ConstructorCycle,
+        out,
+    )?;
+    push_if(is_not_throwable(facts, at), at, Rule::Throwable, out)
+}
+
+// Operands, values, variables, casts and conditions.
+fn push_values(facts: Facts, at: u32, out: &mut Vec<Fault>) -> Result<(), OutOfMemory> {
+    push_if(operands_do_not_fit(facts, at), at, Rule::Operands, out)?;
+    push_if(value_does_not_fit(facts, at), at, Rule::Assignable, out)?;
+    push_if(is_no_variable(facts, at), at, Rule::Variable, out)?;
+    push_if(cast_is_not_allowed(facts, at), at, Rule::Cast, out)?;
+    push_if(
+        condition_is_not_boolean(facts, at),
+        at,
+        Rule::Condition,
+        out,
+    )
+}
+
+// Switches, void calls, returns, what is abstract, arrays and branches.
+fn push_uses(facts: Facts, at: u32, out: &mut Vec<Fault>) -> Result<(), OutOfMemory> {
+    push_if(switch_does_not_fit(facts, at), at, Rule::Switch, out)?;
+    push_if(void_is_used(facts, at), at, Rule::VoidValue, out)?;
+    push_if(return_does_not_fit(facts, at), at, Rule::Return, out)?;
+    push_if(abstract_is_used(facts, at), at, Rule::Abstract, out)?;
+    push_if(array_does_not_fit(facts, at), at, Rule::Index, out)?;
+    push_if(branches_are_unrelated(facts, at), at, Rule::Branches, out)
+}
+
+/// Where the rules on types and expressions in code are broken: by rising rows, and at each row by rising numbers of rules.
+pub fn type_faults(alloc: Global, view: View, out: &mut Vec<Fault>) -> Result<(), OutOfMemory> {
+    let tables = Tables::of(alloc, view)?;
+    let facts = Facts {
+        view,
+        tables: &tables,
+    };
+    let Ok(count) = u32::try_from(facts.rows().len()) else {
+        return Err(OutOfMemory);
+    };
+    for at in 0..count {
+        push_contexts(facts, at, out)?;
+        push_values(facts, at, out)?;
+        push_uses(facts, at, out)?;
+    }
+    Ok(())
+}

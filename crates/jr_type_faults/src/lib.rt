@@ -1,0 +1,13 @@
+//! The rules on types and expressions in code: where they are broken, by rows under a binding.
+#![tactic(auto)]
+
+mod creations;
+mod faults;
+mod initializing;
+mod objects;
+mod operands;
+mod places;
+mod statements;
+mod switches;
+
+pub use faults::type_faults;
