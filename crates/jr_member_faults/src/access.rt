@@ -1,0 +1,35 @@
+// How far members are open (JLS 8.4.8.3).
+
+use jr_members::{is_private, is_protected, is_public};
+use jr_rows::Row;
+
+// The least open access of a member: private, package, protected or public, by numbers from 0. A member may be written with two.
+fn lowest_access(rows: &[Row], at: u32) -> u32 {
+    if is_private(rows, at) {
+        0
+    } else if is_protected(rows, at) {
+        2
+    } else if is_public(rows, at) {
+        3
+    } else {
+        1
+    }
+}
+
+// The most open access of a member.
+fn highest_access(rows: &[Row], at: u32) -> u32 {
+    if is_public(rows, at) {
+        3
+    } else if is_protected(rows, at) {
+        2
+    } else if is_private(rows, at) {
+        0
+    } else {
+        1
+    }
+}
+
+/// An access of the first member is narrower than one of the second.
+pub fn is_narrower(rows: &[Row], at: u32, other: u32) -> bool {
+    lowest_access(rows, at) < highest_access(rows, other)
+}

@@ -1,0 +1,249 @@
+// Methods of one signature that a type has as members (JLS 8.1.1.1, 8.4.5, 8.4.8.4, 9.4.1).
+
+use crate::access::is_narrower;
+use crate::throwing::Thrown;
+use crate::together::is_result_fit;
+use jr_base::OutOfMemory;
+use jr_members::{MemberKind, World, declaring_type, is_abstract, is_public, is_static};
+use std::alloc::Global;
+
+/// The rules that a type breaks by what it inherits.
+#[derive(Clone, Copy, Debug, PartialEq, Eq)]
+pub struct Left {
+    /// A method is left abstract.
+    pub leaves_methods: bool,
+    /// Inherited results do not go together.
+    pub results: bool,
+    /// A method is inherited beside one of wider access.
+    pub access: bool,
+    /// A static method is inherited beside one of an instance.
+    pub statics: bool,
+    /// A method is inherited that declares more than one beside it allows.
+    pub throws: bool,
+    /// A type below may break one of them too.
+    pub is_open: bool,
+}
+
+/// The methods that a type has beside each other.
+#[derive(Clone, Copy)]
+pub struct Beside<'a> {
+    pub world: World<'a>,
+    pub thrown: &'a Thrown,
+    pub over: u32,
+}
+
+impl Left {
+    /// None.
+    pub const NOTHING: Left = Left {
+        leaves_methods: false,
+        results: false,
+        access: false,
+        statics: false,
+        throws: false,
+        is_open: false,
+    };
+
+    /// The rules of both.
+    pub fn or(self, other: Left) -> Left {
+        Left {
+            leaves_methods: self.leaves_methods || other.leaves_methods,
+            results: self.results || other.results,
+            access: self.access || other.access,
+            statics: self.statics || other.statics,
+            throws: self.throws || other.throws,
+            is_open: self.is_open || other.is_open,
+        }
+    }
+}
+
+impl<'a> Beside<'a> {
+    // The method is inherited: the type does not declare it.
+    fn is_inherited(self, method: u32) -> bool {
+        declaring_type(self.world.under.rows, method) != Some(self.over)
+    }
+
+    // The method alone may break a rule below, beside itself.
+    fn is_odd(self, method: u32) -> bool {
+        is_abstract(self.world.under.rows, method)
+            || (!is_result_fit(self.world, method, method)
+                || is_narrower(self.world.under.rows, method, method))
+    }
+
+    // A type below may break a rule at these methods, of one signature.
+    fn is_open(self, group: &[u32]) -> bool {
+        if group.len() > 1 {
+            return true;
+        }
+        for method in group {
+            if self.is_odd(*method) {
+                return true;
+            }
+        }
+        false
+    }
+
+    // One of the methods is a public one of an instance, and not abstract.
+    fn is_implemented(self, group: &[u32]) -> bool {
+        let rows = self.world.under.rows;
+        for method in group {
+            if is_public(rows, *method)
+                && (!is_static(rows, *method) && !is_abstract(rows, *method))
+            {
+                return true;
+            }
+        }
+        false
+    }
+
+    // One of the methods is abstract, and none implements it.
+    fn leaves_some(self, group: &[u32]) -> bool {
+        let lacking = !self.is_implemented(group);
+        for method in group {
+            if is_abstract(self.world.under.rows, *method) && lacking {
+                return true;
+            }
+        }
+        false
+    }
+
+    // Of the inherited methods there is one whose result that of the method does not fit.
+    fn disagrees(self, inherited: &[u32], method: u32) -> bool {
+        for other in inherited {
+            if !is_result_fit(self.world, method, *other) {
+                return true;
+            }
+        }
+        false
+    }
+
+    // An inherited method that is not abstract disagrees with another.
+    fn has_disagreeing(self, inherited: &[u32]) -> bool {
+        for method in inherited {
+            if !is_abstract(self.world.under.rows, *method) && self.disagrees(inherited, *method) {
+                return true;
+            }
+        }
+        false
+    }
+
+    // Each of the methods is abstract and inherited, and disagrees with another.
+    fn all_disagree(self, group: &[u32], inherited: &[u32]) -> bool {
+        for method in group {
+            if !is_abstract(self.world.under.rows, *method)
+                || !self.is_inherited(*method)
+                || !self.disagrees(inherited, *method)
+            {
+                return false;
+            }
+        }
+        true
+    }
+
+    // A method is inherited that is not abstract, beside one of wider access.
+    fn inherits_narrower(self, inherited: &[u32]) -> bool {
+        let rows = self.world.under.rows;
+        for method in inherited {
+            if !is_abstract(rows, *method) {
+                for other in inherited {
+                    if is_narrower(rows, *method, *other) {
+                        return true;
+                    }
+                }
+            }
+        }
+        false
+    }
+
+    // A static method is inherited beside one of an instance.
+    fn inherits_static(self, inherited: &[u32]) -> bool {
+        let rows = self.world.under.rows;
+        for method in inherited {
+            if is_static(rows, *method) {
+                for other in inherited {
+                    if !is_static(rows, *other) {
+                        return true;
+                    }
+                }
+            }
+        }
+        false
+    }
+
+    // A method is inherited that is not abstract, and declares more than one beside it allows.
+    fn inherits_throwing(self, inherited: &[u32]) -> bool {
+        for method in inherited {
+            if !is_abstract(self.world.under.rows, *method) {
+                for other in inherited {
+                    if self.thrown.declares_more(self.world, *method, *other) {
+                        return true;
+                    }
+                }
+            }
+        }
+        false
+    }
+
+    // The rules that members of one signature break.
+    fn of_group(self, alloc: Global, group: &[u32]) -> Result<Left, OutOfMemory> {
+        if group.is_empty() || !self.is_open(group) {
+            return Ok(Left::NOTHING);
+        }
+        let mut inherited = Vec::new(alloc);
+        for method in group {
+            if self.is_inherited(*method) {
+                inherited.push(*method)?;
+            }
+        }
+        Ok(Left {
+            leaves_methods: self.leaves_some(group),
+            results: self.has_disagreeing(&inherited) || self.all_disagree(group, &inherited),
+            access: self.inherits_narrower(&inherited),
+            statics: self.inherits_static(&inherited),
+            throws: self.inherits_throwing(&inherited),
+            is_open: true,
+        })
+    }
+
+    // The rules that a member breaks which has no signature, since a type in it is not found: nothing is of its signature.
+    fn of_unsigned(self, method: u32) -> Left {
+        Left {
+            leaves_methods: is_abstract(self.world.under.rows, method),
+            results: true,
+            is_open: true,
+            ..Left::NOTHING
+        }
+    }
+
+    // The rules that members break which are sorted by the numbers of their signatures.
+    fn of_sorted(self, alloc: Global, signed: &[(u32, u32)]) -> Result<Left, OutOfMemory> {
+        let mut left = Left::NOTHING;
+        let mut group = Vec::new(alloc);
+        let mut last = None;
+        for (number, method) in signed {
+            if last != Some(*number) {
+                left = left.or(self.of_group(alloc, &group)?);
+                group = Vec::new(alloc);
+            }
+            group.push(*method)?;
+            last = Some(*number);
+        }
+        Ok(left.or(self.of_group(alloc, &group)?))
+    }
+
+    /// The rules that the methods of a name break, given by its number.
+    pub fn at_name(self, alloc: Global, name: u32) -> Result<Left, OutOfMemory> {
+        let mut left = Left::NOTHING;
+        let mut signed = Vec::new(alloc);
+        for method in &self
+            .world
+            .named(alloc, MemberKind::Method, self.over, name)?
+        {
+            match self.world.members.signatures().number(*method) {
+                Some(number) => signed.push((number, *method))?,
+                None => left = left.or(self.of_unsigned(*method)),
+            }
+        }
+        signed.sort_unstable();
+        Ok(left.or(self.of_sorted(alloc, &signed)?))
+    }
+}

@@ -1,0 +1,231 @@
+// Abstract methods that a class leaves, and inherited methods of one signature (JLS 8.1.1.1, 8.4.5, 8.4.8.4, 9.4.1, 15.12.4.4).
+
+use crate::beside::{Beside, Left};
+use crate::throwing::Thrown;
+use crate::together::is_method;
+use jr_base::OutOfMemory;
+use jr_members::{MemberKind, World, declaring_type, is_abstract};
+use jr_places::{is_class, is_interface};
+use jr_supers::entry_before;
+use jr_tables::{Chains, Entry, Stamps};
+use std::alloc::Global;
+
+/// What types inherit, the types that were looked at so far standing above the others.
+#[derive(Drop)]
+pub struct Inheriting<'a> {
+    world: World<'a>,
+    thrown: &'a Thrown,
+    /// The names of methods at which a type below may break a rule too, under the type and 0.
+    open: Chains,
+    /// The abstract methods that classes declare, under the class and 0.
+    abstracts: Chains,
+    /// The types above which a class declares an abstract method.
+    below_abstract: Stamps,
+    /// The names that were met in the type.
+    met: Stamps,
+}
+
+// The abstract methods that classes declare.
+fn abstracts_of(alloc: Global, world: World) -> Result<Chains, OutOfMemory> {
+    let rows = world.under.rows;
+    let Ok(count) = u32::try_from(rows.len()) else {
+        return Err(OutOfMemory);
+    };
+    let mut abstracts = Chains::new(alloc);
+    for row in 0..count {
+        if is_method(rows, row) && is_abstract(rows, row) {
+            if let Some(first) = declaring_type(rows, row) {
+                if is_class(rows, first) {
+                    abstracts.add(
+                        alloc,
+                        Entry {
+                            first,
+                            second: 0,
+                            row,
+                        },
+                    )?;
+                }
+            }
+        }
+    }
+    Ok(abstracts)
+}
+
+impl<'a> Inheriting<'a> {
+    /// No type was looked at.
+    pub fn new(
+        alloc: Global,
+        world: World<'a>,
+        thrown: &'a Thrown,
+    ) -> Result<Inheriting<'a>, OutOfMemory> {
+        let abstracts = abstracts_of(alloc, world)?;
+        let below_abstract = Stamps::new(alloc, world.under.rows.len())?;
+        let met = Stamps::new(alloc, world.under.rows.len())?;
+        Ok(Inheriting {
+            world,
+            thrown,
+            open: Chains::new(alloc),
+            abstracts,
+            below_abstract,
+            met,
+        })
+    }
+
+    // Adds a name that was not met.
+    fn meet(&mut self, names: &mut Vec<u32>, name: u32) -> Result<(), OutOfMemory> {
+        if self.met.add(name) {
+            names.push(name)?;
+        }
+        Ok(())
+    }
+
+    // Adds the names of the methods that a type declares.
+    fn add_declared(
+        &mut self,
+        alloc: Global,
+        names: &mut Vec<u32>,
+        over: u32,
+    ) -> Result<(), OutOfMemory> {
+        let methods = self.world.members.kind(MemberKind::Method);
+        for method in &methods.declared_by(alloc, over)? {
+            self.meet(names, self.world.under.places.name(*method))?;
+        }
+        Ok(())
+    }
+
+    // Adds the names of the methods that come to a type from a supertype beside its first one.
+    fn add_further(
+        &mut self,
+        alloc: Global,
+        names: &mut Vec<u32>,
+        from: u32,
+    ) -> Result<(), OutOfMemory> {
+        let rows = self.world.under.rows;
+        for over in &self.world.supers.with_above(alloc, rows, from)? {
+            self.add_declared(alloc, names, *over)?;
+        }
+        Ok(())
+    }
+
+    // Adds the names of the methods that come to a type from one of its supertypes and not by the first alone. Beside those of a class an interface
+    // has the methods of Object.
+    fn add_from(
+        &mut self,
+        alloc: Global,
+        names: &mut Vec<u32>,
+        over: u32,
+        from: u32,
+    ) -> Result<(), OutOfMemory> {
+        let rows = self.world.under.rows;
+        if self.world.supers.linked(over) != Some(from) {
+            self.add_further(alloc, names, from)?;
+        }
+        if is_interface(rows, over) && is_class(rows, from) {
+            if let Some(object) = self.world.supers.object() {
+                self.add_declared(alloc, names, object)?;
+            }
+        }
+        Ok(())
+    }
+
+    // The names at which a type may break a rule: those of methods that it declares, or that come to it from a further supertype, and those at
+    // which its first supertype may. For all others it has the methods of that, and none is added.
+    fn names_of(&mut self, alloc: Global, over: u32) -> Result<Vec<u32>, OutOfMemory> {
+        let mut names = Vec::new(alloc);
+        self.met.empty()?;
+        self.add_declared(alloc, &mut names, over)?;
+        for from in &self.world.supers.direct().rows(alloc, over, 0)? {
+            self.add_from(alloc, &mut names, over, *from)?;
+        }
+        if let Some(up) = self.world.supers.linked(over) {
+            for name in &self.open.rows(alloc, up, 0)? {
+                self.meet(&mut names, *name)?;
+            }
+        }
+        Ok(names)
+    }
+
+    // The type stands below a class that declares an abstract method.
+    fn is_below_abstract(&self, over: u32) -> bool {
+        let direct = self.world.supers.direct();
+        let mut place = direct.last(over, 0);
+        for _turn in 0..direct.len() {
+            let Some(here) = place else {
+                return false;
+            };
+            if let Some(entry) = direct.entry(here) {
+                if self.below_abstract.has(entry.row)
+                    || self.abstracts.last(entry.row, 0).is_some()
+                {
+                    return true;
+                }
+            }
+            place = entry_before(direct, here);
+        }
+        false
+    }
+
+    // A call of the abstract method on an object of the class finds an abstract one.
+    fn finds_abstract(&self, alloc: Global, class: u32, method: u32) -> Result<bool, OutOfMemory> {
+        match self.world.dispatch(alloc, class, method)? {
+            Some(found) => Ok(is_abstract(self.world.under.rows, found)),
+            None => Ok(false),
+        }
+    }
+
+    // An abstract method of a class above the class is found abstract.
+    fn leaves_unfound(&self, alloc: Global, class: u32) -> Result<bool, OutOfMemory> {
+        let rows = self.world.under.rows;
+        for over in &self.world.supers.with_above(alloc, rows, class)? {
+            if *over != class {
+                for method in &self.abstracts.rows(alloc, *over, 0)? {
+                    if self.finds_abstract(alloc, class, *method)? {
+                        return Ok(true);
+                    }
+                }
+            }
+        }
+        Ok(false)
+    }
+
+    // A class that is not abstract leaves a method abstract that it does not have as a member.
+    fn leaves_above(&mut self, alloc: Global, over: u32) -> Result<bool, OutOfMemory> {
+        if !self.is_below_abstract(over) {
+            return Ok(false);
+        }
+        let _ = self.below_abstract.add(over);
+        if is_abstract(self.world.under.rows, over) {
+            return Ok(false);
+        }
+        self.leaves_unfound(alloc, over)
+    }
+
+    /// The rules that a type breaks by what it inherits, behind all types above it.
+    pub fn left_by(&mut self, alloc: Global, over: u32) -> Result<Left, OutOfMemory> {
+        let beside = Beside {
+            world: self.world,
+            thrown: self.thrown,
+            over,
+        };
+        let mut left = Left::NOTHING;
+        for name in &self.names_of(alloc, over)? {
+            let found = beside.at_name(alloc, *name)?;
+            left = left.or(found);
+            if found.is_open {
+                self.open.add(
+                    alloc,
+                    Entry {
+                        first: over,
+                        second: 0,
+                        row: *name,
+                    },
+                )?;
+            }
+        }
+        let is_concrete = is_class(self.world.under.rows, over)
+            && !is_abstract(self.world.under.rows, over);
+        let leaves_above = self.leaves_above(alloc, over)?;
+        left.leaves_methods = is_concrete && (left.leaves_methods || leaves_above);
+        Ok(left)
+    }
+}

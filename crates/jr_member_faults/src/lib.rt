@@ -1,0 +1,18 @@
+//! Compile rules on members, by rows under a binding: what is declared twice, supertypes, overriding, what types inherit, and bodies.
+#![tactic(auto)]
+
+mod access;
+mod beside;
+mod bodies;
+mod faults;
+mod headers;
+mod inheriting;
+mod inner;
+mod redefining;
+mod throwing;
+mod together;
+mod tops;
+mod twice;
+
+pub use faults::member_faults;
+pub use tops::top_type_faults;

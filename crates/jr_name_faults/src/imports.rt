@@ -1,0 +1,213 @@
+// Imports that clash, that name no canonical name, or that bring nothing (JLS 7.5.1, 7.5.3).
+
+use crate::canonical::is_canonical_name;
+use crate::twins::Twins;
+use jr_base::OutOfMemory;
+use jr_lookup::import_kind;
+use jr_members::{MemberKind, World, is_private, is_public, is_static};
+use jr_places::{is_top_level, parent_at};
+use jr_rows::ImportKind;
+use std::alloc::Global;
+
+/// What the imports of all units bring by name.
+#[derive(Drop)]
+pub struct Imports<'a> {
+    world: World<'a>,
+    /// The types that units declare outside any other, under the unit and the name.
+    tops: Twins,
+    /// The types that imports of single types so far name, under the unit and the name.
+    singles: Twins,
+    /// The types that imports bring, static or not, each once, under the unit and the name.
+    types: Twins,
+    /// The imports that bring them, under the unit and the type.
+    importers: Twins,
+}
+
+impl<'a> Imports<'a> {
+    /// What the imports bring.
+    pub fn of(alloc: Global, world: World<'a>) -> Result<Imports<'a>, OutOfMemory> {
+        let mut imports = Imports {
+            world,
+            tops: Twins::new(alloc),
+            singles: Twins::new(alloc),
+            types: Twins::new(alloc),
+            importers: Twins::new(alloc),
+        };
+        imports.add_rows(alloc)?;
+        Ok(imports)
+    }
+
+    fn add_rows(&mut self, alloc: Global) -> Result<(), OutOfMemory> {
+        let Ok(count) = u32::try_from(self.world.under.rows.len()) else {
+            return Err(OutOfMemory);
+        };
+        for at in 0..count {
+            self.add_top(alloc, at)?;
+            self.add_import(alloc, at)?;
+        }
+        Ok(())
+    }
+
+    // One more row, if it is a type that a unit declares.
+    fn add_top(&mut self, alloc: Global, at: u32) -> Result<(), OutOfMemory> {
+        let rows = self.world.under.rows;
+        if !is_top_level(rows, at) {
+            return Ok(());
+        }
+        let name = self.world.under.places.name(at);
+        self.tops.add(alloc, parent_at(rows, at), name, at)
+    }
+
+    // One more row, if it is an import.
+    fn add_import(&mut self, alloc: Global, at: u32) -> Result<(), OutOfMemory> {
+        let unit = parent_at(self.world.under.rows, at);
+        for class in &self.brought_types(alloc, at)? {
+            if !self.importers.has_any(unit, *class) {
+                let name = self.world.under.places.name(*class);
+                self.types.add(alloc, unit, name, *class)?;
+            }
+            self.importers.add(alloc, unit, *class, at)?;
+        }
+        Ok(())
+    }
+
+    // The type that an import names.
+    fn imported_type(&self, at: u32) -> Option<u32> {
+        self.world.under.referred_type(at.checked_add(1)?)
+    }
+
+    // What a unit may import without naming it alone: what is public, or not private and of its own package.
+    fn can_import(&self, unit: u32, at: u32) -> bool {
+        let under = self.world.under;
+        !is_private(under.rows, at)
+            && (is_public(under.rows, at) || under.places.is_one_package(unit, at))
+    }
+
+    // The static members of a kind that a single static import brings.
+    fn imported(&self, alloc: Global, at: u32, kind: MemberKind) -> Result<Vec<u32>, OutOfMemory> {
+        let mut all = Vec::new(alloc);
+        let Some(over) = self.imported_type(at) else {
+            return Ok(all);
+        };
+        let rows = self.world.under.rows;
+        let unit = parent_at(rows, at);
+        let name = self.world.under.places.name(at);
+        for member in &self.world.named(alloc, kind, over, name)? {
+            if is_static(rows, *member) && self.can_import(unit, *member) {
+                all.push(*member)?;
+            }
+        }
+        Ok(all)
+    }
+
+    // The types that an import brings by their simple names.
+    fn brought_types(&self, alloc: Global, at: u32) -> Result<Vec<u32>, OutOfMemory> {
+        match import_kind(self.world.under.rows, at) {
+            Some(ImportKind::Single) => {
+                let mut all = Vec::new(alloc);
+                if let Some(class) = self.imported_type(at) {
+                    all.push(class)?;
+                }
+                Ok(all)
+            }
+            Some(ImportKind::StaticSingle) => self.imported(alloc, at, MemberKind::Type),
+            _ => Ok(Vec::new(alloc)),
+        }
+    }
+
+    // The type that an import of a single type names.
+    fn single_type(&self, at: u32) -> Option<u32> {
+        match import_kind(self.world.under.rows, at) {
+            Some(ImportKind::Single) => self.imported_type(at),
+            _ => None,
+        }
+    }
+
+    /// An import before this one names another type of the same name, or the unit declares one.
+    pub fn has_import_clash(&self, at: u32) -> bool {
+        match self.single_type(at) {
+            Some(class) => {
+                let unit = parent_at(self.world.under.rows, at);
+                let name = self.world.under.places.name(class);
+                self.singles.has_other(unit, name, class) || self.tops.has_other(unit, name, class)
+            }
+            None => false,
+        }
+    }
+
+    /// Adds an import to those so far.
+    pub fn pass(&mut self, alloc: Global, at: u32) -> Result<(), OutOfMemory> {
+        match self.single_type(at) {
+            Some(class) => {
+                let unit = parent_at(self.world.under.rows, at);
+                let name = self.world.under.places.name(class);
+                self.singles.add(alloc, unit, name, class)
+            }
+            None => Ok(()),
+        }
+    }
+
+    /// An import names a type by a name that is not canonical.
+    pub fn is_import_not_canonical(&self, at: u32) -> bool {
+        let under = self.world.under;
+        if import_kind(under.rows, at).is_none() {
+            return false;
+        }
+        match self.imported_type(at) {
+            Some(class) => {
+                !is_canonical_name(under.rows, under.places, class, at.saturating_add(1))
+            }
+            None => false,
+        }
+    }
+
+    // A single static import brings nothing.
+    fn is_import_of_nothing(&self, alloc: Global, at: u32) -> Result<bool, OutOfMemory> {
+        let fields = self.imported(alloc, at, MemberKind::Field)?;
+        let methods = self.imported(alloc, at, MemberKind::Method)?;
+        let types = self.imported(alloc, at, MemberKind::Type)?;
+        Ok(fields.is_empty() && methods.is_empty() && types.is_empty())
+    }
+
+    // Another import of the unit brings another type of the name.
+    fn is_other_brought(&self, unit: u32, name: u32, at: u32, class: u32) -> bool {
+        let mut place = self.types.place(unit, name);
+        for _turn in 0..self.types.len() {
+            let Some(here) = place else {
+                return false;
+            };
+            if let Some(other) = self.types.row(here) {
+                if other != class && self.importers.has_other(unit, other, at) {
+                    return true;
+                }
+            }
+            place = self.types.before(here);
+        }
+        false
+    }
+
+    // A static import brings a type, and another import or the unit itself has another type of the name.
+    fn has_static_clash(&self, alloc: Global, at: u32) -> Result<bool, OutOfMemory> {
+        let unit = parent_at(self.world.under.rows, at);
+        let name = self.world.under.places.name(at);
+        for class in &self.imported(alloc, at, MemberKind::Type)? {
+            if self.is_other_brought(unit, name, at, *class)
+                || self.tops.has_other(unit, name, *class)
+            {
+                return Ok(true);
+            }
+        }
+        Ok(false)
+    }
+
+    /// A single static import brings nothing, or a type of a name that another type has.
+    pub fn has_static_import_fault(&self, alloc: Global, at: u32) -> Result<bool, OutOfMemory> {
+        match import_kind(self.world.under.rows, at) {
+            Some(ImportKind::StaticSingle) => {
+                let brings_nothing = self.is_import_of_nothing(alloc, at)?;
+                Ok(brings_nothing || self.has_static_clash(alloc, at)?)
+            }
+            _ => Ok(false),
+        }
+    }
+}
