@@ -1,0 +1,564 @@
+// What names in headers refer to, by settling one type at a time, and cycles of headers (JLS 8.1.4, 8.1.5, 9.1.3).
+
+use crate::cycles::first_on_cycle;
+use jr_base::OutOfMemory;
+use jr_defs::Referent;
+use jr_lookup::{Candidates, Imports, Left, Scopes, Sight};
+use jr_members::{Members, World, declaring_type};
+use jr_places::{Places, end_at, is_type, parent_at};
+use jr_rows::{NameKind, Row, Sought};
+use jr_supers::{Supers, Tabled, find_object, header_place};
+use jr_tables::Stamps;
+use std::alloc::Global;
+
+/// What rows alone give.
+#[derive(Clone, Copy)]
+pub struct Setting<'a> {
+    pub rows: &'a [Row],
+    pub places: &'a Places,
+    pub scopes: &'a Scopes,
+}
+
+/// The headers of the types that are settled so far, with their supertypes and member types.
+#[derive(Drop)]
+pub struct Settled {
+    pub table: Vec<Referent>,
+    pub supers: Supers,
+    pub members: Members,
+    imports: Imports,
+    /// Imports whose names are looked up.
+    known: Stamps,
+    settled: Stamps,
+    met: Stamps,
+}
+
+/// What stands in the way of a type: nothing, or a type that has to be settled first.
+#[derive(Clone, Copy, Debug, PartialEq, Eq)]
+enum Attempt {
+    Done,
+    Waits(u32),
+}
+
+/// A type whose header is being looked up.
+#[derive(Clone, Copy)]
+struct Trial {
+    at: u32,
+    /// The name in its header that is looked up next.
+    name: u32,
+    /// The row behind those of its identifiers that are not looked up yet.
+    end: u32,
+}
+
+impl Trial {
+    fn new(rows: &[Row], at: u32) -> Trial {
+        let name = at.saturating_add(1);
+        Trial {
+            at,
+            name,
+            end: end_at(rows, name),
+        }
+    }
+
+    // Goes on with another name of the header.
+    fn begin_name(&mut self, rows: &[Row], name: u32) {
+        self.name = name;
+        self.end = end_at(rows, name);
+    }
+}
+
+// The row is a name in the header of the type.
+fn is_in_header(rows: &[Row], at: u32, name: u32) -> bool {
+    parent_at(rows, name) == at && header_place(rows, name).is_some()
+}
+
+/// The settled headers, or the first type on a cycle of headers.
+#[derive(Drop)]
+pub enum HeadersFound {
+    Settled(Settled),
+    Cycle(u32),
+}
+
+fn referent_of(found: &Candidates, kind: NameKind) -> Referent {
+    found.answer(match kind {
+        NameKind::PackageOrType => Referent::Package,
+        _ => Referent::Unbound,
+    })
+}
+
+impl Settled {
+    fn new(alloc: Global, setting: Setting) -> Result<Settled, OutOfMemory> {
+        let table = vec![in alloc; Referent::Unbound; setting.rows.len()]?;
+        let under = Tabled {
+            rows: setting.rows,
+            places: setting.places,
+            table: &[],
+        };
+        let members = Members::of_types(alloc, under)?;
+        Ok(Settled {
+            table,
+            supers: Supers::none(alloc, setting.rows)?,
+            members,
+            imports: Imports::none(alloc),
+            known: Stamps::new(alloc, setting.rows.len())?,
+            settled: Stamps::new(alloc, setting.rows.len())?,
+            met: Stamps::new(alloc, setting.rows.len())?,
+        })
+    }
+
+    fn under<'a>(&'a self, setting: Setting<'a>) -> Tabled<'a> {
+        Tabled {
+            rows: setting.rows,
+            places: setting.places,
+            table: &self.table,
+        }
+    }
+
+    fn sight<'a>(&'a self, setting: Setting<'a>) -> Sight<'a> {
+        Sight {
+            world: World {
+                under: self.under(setting),
+                supers: &self.supers,
+                members: &self.members,
+            },
+            scopes: setting.scopes,
+            imports: &self.imports,
+        }
+    }
+
+    fn set(&mut self, at: u32, referent: Referent) {
+        if let Some(place) = self.table.get_mut(at as usize) {
+            *place = referent;
+        }
+    }
+
+    // The type to which a row refers has to be settled.
+    fn waits_for(&self, setting: Setting, at: u32) -> Attempt {
+        match self.under(setting).referred_type(at) {
+            Some(over) => {
+                if self.settled.has(over) {
+                    Attempt::Done
+                } else {
+                    Attempt::Waits(over)
+                }
+            }
+            None => Attempt::Done,
+        }
+    }
+
+    // Looks up an identifier behind a dot.
+    fn look_qualified(
+        &mut self,
+        alloc: Global,
+        setting: Setting,
+        at: u32,
+        kind: NameKind,
+    ) -> Result<(), OutOfMemory> {
+        let sight = self.sight(setting);
+        let left = sight.left_of(&[], at);
+        let found = sight.qualified(alloc, left, kind, setting.places.name(at))?;
+        self.set(at, found);
+        Ok(())
+    }
+
+    // Looks up the first identifier of the name of an import, where no import holds.
+    fn look_in_import(
+        &mut self,
+        alloc: Global,
+        setting: Setting,
+        at: u32,
+    ) -> Result<(), OutOfMemory> {
+        match jr_places::sought_at(setting.rows, at) {
+            Sought::Simple { kind } => {
+                let name = setting.places.name(at);
+                let found = self.sight(setting).simple(alloc, at, kind, name)?;
+                self.set(at, found);
+                Ok(())
+            }
+            Sought::Qualified { kind } => self.look_qualified(alloc, setting, at, kind),
+            _ => Ok(()),
+        }
+    }
+
+    // Looks up the identifiers of an import, from the first on, as far as the types before their dots are settled.
+    fn try_import(
+        &mut self,
+        alloc: Global,
+        setting: Setting,
+        import: u32,
+    ) -> Result<Attempt, OutOfMemory> {
+        if self.known.has(import) {
+            return Ok(Attempt::Done);
+        }
+        let first = import.saturating_add(1);
+        for at in (first..end_at(setting.rows, first)).rev() {
+            self.look_in_import(alloc, setting, at)?;
+            let attempt = self.waits_for(setting, at);
+            if attempt != Attempt::Done {
+                return Ok(attempt);
+            }
+        }
+        let _ = self.known.add(import);
+        let under = Tabled {
+            rows: setting.rows,
+            places: setting.places,
+            table: &self.table,
+        };
+        self.imports.add_import(alloc, under, import)?;
+        Ok(Attempt::Done)
+    }
+
+    // The imports that one identifier is looked for in, as they rise.
+    fn looked_for_in(
+        &self,
+        alloc: Global,
+        setting: Setting,
+        at: u32,
+    ) -> Result<Vec<u32>, OutOfMemory> {
+        let name = setting.places.name(at);
+        let sight = self.sight(setting);
+        let around = sight.types_around(alloc, at, name)?;
+        let Some(unit) = sight.importing_unit(at) else {
+            return Ok(Vec::new(alloc));
+        };
+        if !around.rows.is_empty() {
+            return Ok(Vec::new(alloc));
+        }
+        let mut all = setting.scopes.single_imports(alloc, unit, name)?;
+        for import in &setting.scopes.static_imports(alloc, unit, name)? {
+            all.push(*import)?;
+        }
+        let named = sight.types_by_name(alloc, at, name)?;
+        if named.rows.is_empty() {
+            for import in &setting.scopes.imports_on_demand(alloc, unit)? {
+                all.push(*import)?;
+            }
+        }
+        all.sort_unstable();
+        Ok(all)
+    }
+
+    // The first type that is not settled of those that an import names, or a name in a header by its own identifiers.
+    fn first_unsettled(&self, setting: Setting, name: u32) -> Option<u32> {
+        for at in (name..end_at(setting.rows, name)).rev() {
+            if let Attempt::Waits(over) = self.waits_for(setting, at) {
+                return Some(over);
+            }
+        }
+        None
+    }
+
+    // The first type that a name in a header meets and that is not settled: of the imports where its first identifier is looked for, and then of
+    // its own identifiers.
+    fn met_by(
+        &mut self,
+        alloc: Global,
+        setting: Setting,
+        name: u32,
+    ) -> Result<Option<u32>, OutOfMemory> {
+        let first = end_at(setting.rows, name).saturating_sub(1);
+        for import in &self.looked_for_in(alloc, setting, first)? {
+            let _ = self.try_import(alloc, setting, *import)?;
+            if let Some(over) = self.first_unsettled(setting, import.saturating_add(1)) {
+                return Ok(Some(over));
+            }
+        }
+        let mut trial = Trial {
+            at: name,
+            name,
+            end: end_at(setting.rows, name),
+        };
+        let _ = self.try_name(alloc, setting, &mut trial)?;
+        Ok(self.first_unsettled(setting, name))
+    }
+
+    /// The types that are not settled and that the header of such a type meets first: its enclosing type, or one for each name.
+    pub fn waits(
+        &mut self,
+        alloc: Global,
+        setting: Setting,
+        at: u32,
+    ) -> Result<Vec<u32>, OutOfMemory> {
+        let mut all = Vec::new(alloc);
+        if let Some(over) = declaring_type(setting.rows, at) {
+            if !self.settled.has(over) {
+                all.push(over)?;
+                return Ok(all);
+            }
+        }
+        let mut child = at.saturating_add(1);
+        for _turn in 0..setting.rows.len() {
+            if !is_in_header(setting.rows, at, child) {
+                return Ok(all);
+            }
+            if let Some(over) = self.met_by(alloc, setting, child)? {
+                all.push(over)?;
+            }
+            child = end_at(setting.rows, child);
+        }
+        Ok(all)
+    }
+
+    /// The type is settled.
+    pub fn has(&self, at: u32) -> bool {
+        self.settled.has(at)
+    }
+
+    // Tries imports one after the other.
+    fn try_imports(
+        &mut self,
+        alloc: Global,
+        setting: Setting,
+        imports: &[u32],
+    ) -> Result<Attempt, OutOfMemory> {
+        for import in imports {
+            let attempt = self.try_import(alloc, setting, *import)?;
+            if attempt != Attempt::Done {
+                return Ok(attempt);
+            }
+        }
+        Ok(Attempt::Done)
+    }
+
+    // The imports that may bring the name alone.
+    fn try_imports_of(
+        &mut self,
+        alloc: Global,
+        setting: Setting,
+        unit: u32,
+        name: u32,
+    ) -> Result<Attempt, OutOfMemory> {
+        let singles = setting.scopes.single_imports(alloc, unit, name)?;
+        let attempt = self.try_imports(alloc, setting, &singles)?;
+        if attempt != Attempt::Done {
+            return Ok(attempt);
+        }
+        let statics = setting.scopes.static_imports(alloc, unit, name)?;
+        self.try_imports(alloc, setting, &statics)
+    }
+
+    // Looks up the first identifier of a name in a header: in the types round it, then in the imports that may bring it alone and the package,
+    // and last in imports on demand. The types that an import names have to be settled before it is looked in.
+    fn try_simple(
+        &mut self,
+        alloc: Global,
+        setting: Setting,
+        at: u32,
+        kind: NameKind,
+    ) -> Result<Attempt, OutOfMemory> {
+        let name = setting.places.name(at);
+        let around = self.sight(setting).types_around(alloc, at, name)?;
+        if !around.rows.is_empty() {
+            self.set(at, referent_of(&around, kind));
+            return Ok(Attempt::Done);
+        }
+        let unit = self.sight(setting).importing_unit(at);
+        if let Some(unit) = unit {
+            let attempt = self.try_imports_of(alloc, setting, unit, name)?;
+            if attempt != Attempt::Done {
+                return Ok(attempt);
+            }
+        }
+        let named = self.sight(setting).types_by_name(alloc, at, name)?;
+        if named.rows.is_empty() {
+            if let Some(unit) = unit {
+                let on_demand = setting.scopes.imports_on_demand(alloc, unit)?;
+                let attempt = self.try_imports(alloc, setting, &on_demand)?;
+                if attempt != Attempt::Done {
+                    return Ok(attempt);
+                }
+            }
+        }
+        let found = self.sight(setting).types(alloc, at, name)?;
+        self.set(at, referent_of(&found, kind));
+        Ok(Attempt::Done)
+    }
+
+    // Looks up one identifier of a name in a header, once those before it are.
+    fn try_identifier(
+        &mut self,
+        alloc: Global,
+        setting: Setting,
+        at: u32,
+    ) -> Result<Attempt, OutOfMemory> {
+        let attempt = match jr_places::sought_at(setting.rows, at) {
+            Sought::Simple { kind } => self.try_simple(alloc, setting, at, kind)?,
+            Sought::Qualified { kind } => {
+                self.look_qualified(alloc, setting, at, kind)?;
+                Attempt::Done
+            }
+            _ => Attempt::Done,
+        };
+        if attempt != Attempt::Done {
+            return Ok(attempt);
+        }
+        Ok(self.waits_for(setting, at))
+    }
+
+    // Looks up the identifiers of a name in a header that stand before a row, which are those behind the ones that are looked up. Where one waits it
+    // is the next to be looked up.
+    fn try_name(
+        &mut self,
+        alloc: Global,
+        setting: Setting,
+        trial: &mut Trial,
+    ) -> Result<Attempt, OutOfMemory> {
+        for at in (trial.name..trial.end).rev() {
+            let attempt = self.try_identifier(alloc, setting, at)?;
+            if attempt != Attempt::Done {
+                trial.end = at.saturating_add(1);
+                return Ok(attempt);
+            }
+        }
+        Ok(Attempt::Done)
+    }
+
+    // Looks up the names in the header of a type that are not looked up yet; the type round it has to be settled first.
+    fn try_header(
+        &mut self,
+        alloc: Global,
+        setting: Setting,
+        trial: &mut Trial,
+    ) -> Result<Attempt, OutOfMemory> {
+        if let Some(over) = declaring_type(setting.rows, trial.at) {
+            if !self.settled.has(over) {
+                return Ok(Attempt::Waits(over));
+            }
+        }
+        for _turn in 0..setting.rows.len() {
+            if !is_in_header(setting.rows, trial.at, trial.name) {
+                return Ok(Attempt::Done);
+            }
+            let attempt = self.try_name(alloc, setting, trial)?;
+            if attempt != Attempt::Done {
+                return Ok(attempt);
+            }
+            trial.begin_name(setting.rows, end_at(setting.rows, trial.name));
+        }
+        Ok(Attempt::Done)
+    }
+
+    // One type more is settled.
+    fn add_settled(&mut self, alloc: Global, setting: Setting, at: u32) -> Result<(), OutOfMemory> {
+        let _ = self.settled.add(at);
+        let supers = std::mem::replace(&mut self.supers, Supers::nothing(alloc));
+        self.supers = supers.with_type(self.under(setting), at)?;
+        let under = Tabled {
+            rows: setting.rows,
+            places: setting.places,
+            table: &self.table,
+        };
+        self.members
+            .add_types_of(alloc, under, &self.supers, &mut self.met, at)
+    }
+}
+
+// The types that are tried.
+#[derive(Drop)]
+struct Waiting {
+    open: Vec<Trial>,
+    /// Types that were begun: they are settled, or wait for one that waits for them, or for ever.
+    begun: Stamps,
+}
+
+impl Waiting {
+    // Begins a type, unless it was begun before.
+    fn begin(&mut self, rows: &[Row], at: u32) -> Result<(), OutOfMemory> {
+        if self.begun.add(at) {
+            self.open.push(Trial::new(rows, at))?;
+        }
+        Ok(())
+    }
+
+    // Goes back to a type once the one that it waits for is settled, unless that was begun before: then the type waits for ever.
+    fn wait(&mut self, rows: &[Row], trial: Trial, over: u32) -> Result<(), OutOfMemory> {
+        if self.begun.has(over) || !is_type(rows, over) {
+            return Ok(());
+        }
+        self.open.push(trial)?;
+        self.begin(rows, over)
+    }
+}
+
+// Goes on with a type: it is settled, or waits for another.
+fn step(
+    alloc: Global,
+    setting: Setting,
+    settled: &mut Settled,
+    waiting: &mut Waiting,
+    trial: Trial,
+) -> Result<(), OutOfMemory> {
+    let mut trial = trial;
+    match settled.try_header(alloc, setting, &mut trial)? {
+        Attempt::Done => settled.add_settled(alloc, setting, trial.at),
+        Attempt::Waits(over) => waiting.wait(setting.rows, trial, over),
+    }
+}
+
+// Settles a type, and those that it waits for.
+fn settle_from(
+    alloc: Global,
+    setting: Setting,
+    settled: &mut Settled,
+    waiting: &mut Waiting,
+    at: u32,
+) -> Result<(), OutOfMemory> {
+    waiting.begin(setting.rows, at)?;
+    for _turn in 0..setting.rows.len().saturating_mul(2) {
+        let Some(top) = waiting.open.pop() else {
+            return Ok(());
+        };
+        step(alloc, setting, settled, waiting, top)?;
+    }
+    Ok(())
+}
+
+// Settles all types that can be, Object first.
+fn settle_all(
+    alloc: Global,
+    setting: Setting,
+    settled: &mut Settled,
+    waiting: &mut Waiting,
+) -> Result<(), OutOfMemory> {
+    if let Some(object) = find_object(setting.rows) {
+        settle_from(alloc, setting, settled, waiting, object)?;
+    }
+    let Ok(count) = u32::try_from(setting.rows.len()) else {
+        return Err(OutOfMemory);
+    };
+    for at in 0..count {
+        if is_type(setting.rows, at) {
+            settle_from(alloc, setting, settled, waiting, at)?;
+        }
+    }
+    Ok(())
+}
+
+// No types are tried yet.
+fn waiting_none(alloc: Global, setting: Setting) -> Result<Waiting, OutOfMemory> {
+    Ok(Waiting {
+        open: Vec::new(alloc),
+        begun: Stamps::new(alloc, setting.rows.len())?,
+    })
+}
+
+// Settles all types that can be, and finds the first on a cycle.
+fn settle_or_cycle(
+    alloc: Global,
+    setting: Setting,
+    settled: &mut Settled,
+) -> Result<Option<u32>, OutOfMemory> {
+    let mut waiting = waiting_none(alloc, setting)?;
+    settle_all(alloc, setting, settled, &mut waiting)?;
+    drop(waiting);
+    first_on_cycle(alloc, setting, settled)
+}
+
+/// What names in headers refer to, where each type can be settled behind its enclosing type and all that its header meets; else the first type on a
+/// cycle.
+pub fn settle(alloc: Global, setting: Setting) -> Result<HeadersFound, OutOfMemory> {
+    let mut settled = Settled::new(alloc, setting)?;
+    match settle_or_cycle(alloc, setting, &mut settled)? {
+        Some(first) => Ok(HeadersFound::Cycle(first)),
+        None => Ok(HeadersFound::Settled(settled)),
+    }
+}

@@ -1,0 +1,12 @@
+//! The binding of a program: what each occurrence refers to, or the first type on a cycle of headers; and lookup under a table of locks.
+#![tactic(auto)]
+
+mod binder;
+mod cycles;
+mod filling;
+mod headers;
+mod rebinding;
+mod stages;
+
+pub use binder::{Binding, Bound, bind};
+pub use rebinding::{Rebound, rebind};

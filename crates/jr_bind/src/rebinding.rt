@@ -1,0 +1,178 @@
+// Lookup under a table of locks.
+
+use crate::filling::{Filling, Known};
+use crate::headers::Setting;
+use jr_base::OutOfMemory;
+use jr_defs::Referent;
+use jr_lookup::{Imports, Scopes};
+use jr_members::Members;
+use jr_places::{Places, is_type, sought_at};
+use jr_rows::{Row, Sought};
+use jr_supers::{Supers, Tabled};
+use std::alloc::Global;
+
+/// A row whose lookup gives another declaration than its lock.
+#[derive(Clone, Copy, Debug, PartialEq, Eq)]
+pub struct Rebound {
+    pub row: u32,
+    pub found: Referent,
+}
+
+// Where each type stands in an order of types.
+fn positions_of(alloc: Global, rows: &[Row], order: &[u32]) -> Result<Vec<usize>, OutOfMemory> {
+    let mut positions = vec![in alloc; 0usize; rows.len()]?;
+    for place in 0..order.len() {
+        if let Some(at) = order.get(place) {
+            if let Some(position) = positions.get_mut(*at as usize) {
+                *position = place;
+            }
+        }
+    }
+    Ok(positions)
+}
+
+// The type `over`, a supertype of the type `at`, does not stand before it.
+fn is_behind(rows: &[Row], positions: &[usize], at: u32, over: u32) -> bool {
+    match positions.get(over as usize) {
+        Some(high) => match positions.get(at as usize) {
+            Some(low) => is_type(rows, over) && *high >= *low,
+            None => false,
+        },
+        None => false,
+    }
+}
+
+// Some type stands above itself.
+fn has_cycle(alloc: Global, rows: &[Row], supers: &Supers) -> Result<bool, OutOfMemory> {
+    let positions = positions_of(alloc, rows, supers.order())?;
+    let direct = supers.direct();
+    for place in 0..direct.len() {
+        if let Ok(place) = u32::try_from(place) {
+            if let Some(entry) = direct.entry(place) {
+                if is_behind(rows, &positions, entry.first, entry.row) {
+                    return Ok(true);
+                }
+            }
+        }
+    }
+    Ok(false)
+}
+
+// Both are one declaration, found through any level, or the same in all else.
+fn is_same_target(lock: Referent, found: Referent) -> bool {
+    match lock {
+        Referent::Declared { row, .. } => match found {
+            Referent::Declared { row: other, .. } => row == other,
+            _ => false,
+        },
+        _ => lock == found,
+    }
+}
+
+// The lock of a row that looks for something, if it has one.
+fn lock_of(rows: &[Row], locks: &[Referent], at: u32) -> Option<Referent> {
+    if sought_at(rows, at) == Sought::Nothing {
+        return None;
+    }
+    match locks.get(at as usize) {
+        Some(Referent::Unbound) => None,
+        Some(lock) => Some(*lock),
+        None => None,
+    }
+}
+
+// The row, where its lookup gives another declaration than its lock.
+fn rebound_at(
+    alloc: Global,
+    known: Known,
+    filling: &Filling,
+    at: u32,
+) -> Result<Option<Rebound>, OutOfMemory> {
+    let Some(lock) = lock_of(known.setting.rows, &filling.table, at) else {
+        return Ok(None);
+    };
+    let found = filling.look(alloc, known, at)?;
+    if is_same_target(lock, found) {
+        Ok(None)
+    } else {
+        Ok(Some(Rebound { row: at, found }))
+    }
+}
+
+// All such rows, as they rise.
+fn all_rebound(
+    alloc: Global,
+    known: Known,
+    filling: &Filling,
+) -> Result<Vec<Rebound>, OutOfMemory> {
+    let Ok(count) = u32::try_from(known.setting.rows.len()) else {
+        return Err(OutOfMemory);
+    };
+    let mut all = Vec::new(alloc);
+    for at in 0..count {
+        if let Some(rebound) = rebound_at(alloc, known, filling, at)? {
+            all.push(rebound)?;
+        }
+    }
+    Ok(all)
+}
+
+// The locks with the types of expressions under them.
+fn filled(alloc: Global, known: Known, locks: &[Referent]) -> Result<Filling, OutOfMemory> {
+    let mut filling = Filling::new(alloc, known.setting.rows, locks.to_vec(alloc)?)?;
+    let _ = filling.find_constants(alloc, known)?;
+    filling.find_types(known)?;
+    Ok(filling)
+}
+
+// The rows that are found otherwise, where the supertypes under the locks have no cycle.
+fn rebind_under(
+    alloc: Global,
+    setting: Setting,
+    supers: &Supers,
+    locks: &[Referent],
+) -> Result<Vec<Rebound>, OutOfMemory> {
+    let under = Tabled {
+        rows: setting.rows,
+        places: setting.places,
+        table: locks,
+    };
+    let members = Members::of(alloc, under, supers)?;
+    let imports = Imports::of(alloc, under)?;
+    let known = Known {
+        setting,
+        supers,
+        members: &members,
+        imports: &imports,
+    };
+    let filling = filled(alloc, known, locks)?;
+    all_rebound(alloc, known, &filling)
+}
+
+/// The rows, as they rise, whose lookup under a table of locks gives another declaration than their locks. Supertypes, members, imports, constants
+/// and types of expressions are those under the same table; a row without a lock is passed. There is no answer where some type stands above
+/// itself under the locks.
+pub fn rebind(
+    alloc: Global,
+    rows: &[Row],
+    places: &Places,
+    scopes: &Scopes,
+    locks: &[Referent],
+) -> Result<Option<Vec<Rebound>>, OutOfMemory> {
+    let under = Tabled {
+        rows,
+        places,
+        table: locks,
+    };
+    let supers = Supers::of(alloc, under)?;
+    if has_cycle(alloc, rows, &supers)? {
+        return Ok(None);
+    }
+    let setting = Setting {
+        rows,
+        places,
+        scopes,
+    };
+    let all = rebind_under(alloc, setting, &supers, locks)?;
+    Ok(Some(all))
+}

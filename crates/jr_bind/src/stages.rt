@@ -1,0 +1,120 @@
+// In which stage each row is bound.
+
+use jr_base::OutOfMemory;
+use jr_lookup::import_kind;
+use jr_places::{parent_at, sought_at};
+use jr_rows::{Label, NameKind, NamePlace, Row, Sought};
+use jr_supers::header_place;
+use std::alloc::Global;
+
+/// When a row is bound: what names refer to in headers comes first, then in imports, then types, then variables and packages, then all else.
+#[derive(Clone, Copy, Debug, PartialEq, Eq)]
+pub enum Stage {
+    Header,
+    Import,
+    Type,
+    Name,
+    Other,
+    /// The row looks for nothing.
+    Nothing,
+}
+
+/// Where a row stands: in the name of a header, or in an import.
+#[derive(Clone, Copy, Debug, PartialEq, Eq)]
+struct Around {
+    is_in_header: bool,
+    is_in_import: bool,
+}
+
+const ELSEWHERE: Around = Around {
+    is_in_header: false,
+    is_in_import: false,
+};
+
+// The row is an identifier of a name, and before a dot of one.
+fn is_qualifier(rows: &[Row], at: u32) -> bool {
+    match rows.get(at as usize) {
+        Some(row) => match row.label {
+            Label::Name { place, .. } => place == NamePlace::Qualifier,
+            _ => false,
+        },
+        None => false,
+    }
+}
+
+fn is_name(rows: &[Row], at: u32) -> bool {
+    match rows.get(at as usize) {
+        Some(row) => match row.label {
+            Label::Name { .. } => true,
+            _ => false,
+        },
+        None => false,
+    }
+}
+
+// The kind stands for a type, or for a qualifier of one.
+fn is_type_kind(kind: NameKind) -> bool {
+    match kind {
+        NameKind::Type => true,
+        NameKind::PackageOrType => true,
+        _ => false,
+    }
+}
+
+fn seeks_type(sought: Sought) -> bool {
+    match sought {
+        Sought::Simple { kind } => is_type_kind(kind),
+        Sought::Qualified { kind } => is_type_kind(kind),
+        _ => false,
+    }
+}
+
+// Where a row stands, by where the row round it does.
+fn around_of(rows: &[Row], known: &[Around], at: u32) -> Around {
+    let over = match known.get(parent_at(rows, at) as usize) {
+        Some(around) => *around,
+        None => ELSEWHERE,
+    };
+    Around {
+        is_in_header: header_place(rows, at).is_some()
+            || (is_qualifier(rows, at) && over.is_in_header),
+        is_in_import: import_kind(rows, at).is_some() || over.is_in_import,
+    }
+}
+
+fn stage_of(rows: &[Row], around: Around, at: u32) -> Stage {
+    let sought = sought_at(rows, at);
+    if sought == Sought::Nothing {
+        return Stage::Nothing;
+    }
+    if around.is_in_header {
+        return Stage::Header;
+    }
+    if seeks_type(sought) {
+        return if around.is_in_import {
+            Stage::Import
+        } else {
+            Stage::Type
+        };
+    }
+    if is_name(rows, at) {
+        Stage::Name
+    } else {
+        Stage::Other
+    }
+}
+
+/// The stage of each row.
+pub fn stages_of(alloc: Global, rows: &[Row]) -> Result<Vec<Stage>, OutOfMemory> {
+    let Ok(count) = u32::try_from(rows.len()) else {
+        return Err(OutOfMemory);
+    };
+    let mut arounds = Vec::new(alloc);
+    let mut stages = Vec::new(alloc);
+    for at in 0..count {
+        let around = around_of(rows, &arounds, at);
+        arounds.push(around)?;
+        stages.push(stage_of(rows, around, at))?;
+    }
+    Ok(stages)
+}

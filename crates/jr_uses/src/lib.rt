@@ -1,0 +1,6 @@
+//! The rows that refer to each declaration.
+#![tactic(auto)]
+
+mod referring;
+
+pub use referring::Uses;
