@@ -1,0 +1,13 @@
+//! The program of a folder's files: their sizes, their tokens and their trees, behind the two units of the prelude.
+#![tactic(auto)]
+
+mod fault;
+mod lexed;
+mod prelude;
+mod program;
+mod sizes;
+
+pub use fault::ReadFault;
+pub use lexed::Lexed;
+pub use prelude::{io_source, lang_source};
+pub use program::read;
