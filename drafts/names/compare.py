@@ -3,8 +3,12 @@ sys.path.insert(0,'drafts/names'); sys.path.insert(0,'tools/worked'); sys.path.i
 argv=sys.argv; sys.argv=[argv[0]]
 import rows as R
 import prelude as P
+import programs as M
 KEY=set("abstract assert boolean break byte case catch char class const continue default do double else enum extends final finally float for goto if implements import instanceof int interface long native new package private protected public return short static strictfp super switch synchronized this throw throws transient try void volatile while true false null".split())
 TOK=re.compile(r'"(?:\\.|[^"\\])*"|\'(?:\\.|[^\'\\])*\'|//[^\n]*|/\*.*?\*/|[A-Za-z_$][\w$]*|\d\w*|\S',re.S)
+def makes_object(ts,i):
+    while i<len(ts) and re.match(r'[A-Za-z_$.]',ts[i].group()): i+=1
+    return i<len(ts) and ts[i].group()=='('
 def tokens(text):
     ids=[];news=[];calls=[]
     ts=[m for m in TOK.finditer(text) if not m.group().startswith(('//','/*'))]
@@ -12,7 +16,7 @@ def tokens(text):
         w=m.group()
         if re.match(r'[A-Za-z_$]',w):
             if w not in KEY: ids.append((m.start(),w))
-            if w=='new': news.append(m.start())
+            if w=='new' and makes_object(ts,i+1): news.append(m.start())
             if w in('this','super') and i+1<len(ts) and ts[i+1].group()=='(' : calls.append(m.start())
     return ids,news,calls
 def order(rr,unit_row):
@@ -47,11 +51,12 @@ def order(rr,unit_row):
 def run(programs, ours_out=None):
     # programs: list of list of (path,text)
     full=[[('java/lang/L.java',P.lang()),('java/io/I.java',P.io())]+p for p in programs]
-    jin='\1'.join(''.join(path+'\2'+t+'\0' for path,t in p) for p in programs)
-    j=subprocess.run(['java','--add-exports','jdk.compiler/com.sun.tools.javac.tree=ALL-UNNAMED','--add-exports','jdk.compiler/com.sun.tools.javac.code=ALL-UNNAMED','--add-exports','jdk.compiler/com.sun.tools.javac.util=ALL-UNNAMED','-cp','/tmp/names','Names'],input=jin.encode(),stdout=subprocess.PIPE).stdout.decode()
+    javac=M.Javac()
+    jb=[javac.ask(p) for p in programs]
+    javac.close()
     oin=b''.join(b''.join(t.encode()+b'\0' for _,t in p)+b'\1' for p in full)
     if ours_out is None:
-        ours_out=subprocess.run(['rt','try'],cwd='crates/jr_scratch',input=oin,stdout=subprocess.PIPE,stderr=subprocess.STDOUT).stdout.decode()
+        ours_out=subprocess.run([os.environ['PROGRAM']] if 'PROGRAM' in os.environ else ['rt','try'],cwd='crates/jr_scratch',input=oin,stdout=subprocess.PIPE,stderr=subprocess.STDOUT).stdout.decode()
         open('/tmp/names/ours.out','w').write(ours_out)
     def blocks(o):
         r=[];c=[]
@@ -59,7 +64,7 @@ def run(programs, ours_out=None):
             if line=='.': r.append(c);c=[]
             else: c.append(line)
         return r
-    jb,ob=blocks(j),blocks(ours_out)
+    ob=blocks(ours_out)
     print(len(jb),len(ob),len(programs))
     bad=0;seen=0
     for pi,p in enumerate(programs):
@@ -89,6 +94,7 @@ def run(programs, ours_out=None):
             if not m: continue
             kind,u,o,t=m[1],int(m[2]),int(m[3]),m[4]
             n=rowat.get((u,o,kind))
+            if t=='-': continue
             if n is None: print(pi,'NOROW',line); bad+=1; continue
             if rr.head(n)=='Name' and rr.field(n,'kind')[0]=='Package': continue
             g=got.get(n,'Unbound')
