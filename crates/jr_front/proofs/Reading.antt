@@ -1,0 +1,16 @@
+-- What was read is shaped.
+use Rattle.std.proofs.Common.{List, ℕ, map, Ok}
+use Rattle.std.specs.List.{AllByRecursion}
+use Rattle.jr_base.specs.Files.{FileMap}
+use Rattle.jr_tree.specs.Shape.{IsShaped}
+use Rattle.jr_defs.specs.Program.{AreUnitsOf, none, more}
+use Rattle.jr_defs.specs.declared.program.Program.{Program}
+use Rattle.jr_defs.specs.declared.program.UnitAt.{UnitAt}
+use Rattle.jr_read.specs.Reading.{ReadsAs, program as one_program}
+
+units_shaped : {found : List (List ℕ × List ℕ)} {units : List UnitAt} → AreUnitsOf found units → AllByRecursion IsShaped (map (λ u. u.unit) units)
+units_shaped none = tt
+units_shaped (more is rest) = (is.reads.shaped, units_shaped rest)
+
+pub read_shaped : (found : FileMap) (p : Program) → ReadsAs found (Ok p) → AllByRecursion IsShaped (map (λ u. u.unit) p.units)
+read_shaped found p (one_program few are within units) = units_shaped units
