@@ -1,4 +1,7 @@
 // Why files do not compile.
+ghost use Rattle.std.specs.Prelude.{◌≡◌};
+ghost use Rattle.jr_front.specs.Checking.{fault_of};
+
 use jr_base::{CuId, Place, Size};
 use jr_lex::LexFault;
 use jr_parse::ParseFault;
@@ -29,21 +32,17 @@ pub enum FrontFault {
     OutOfMemory,
 }
 
-impl From<ReadFault> for FrontFault {
-    ghost use Rattle.std.specs.Prelude.{◌≡◌};
-    ghost use Rattle.jr_front.specs.Checking.{fault_of};
-
-    ghost from_gives = { λ why fault. fault ≡ fault_of why };
-
-    fn from(fault: ReadFault) -> Self {
-        match fault {
-            ReadFault::TooLarge(size) => FrontFault::TooLarge(size),
-            ReadFault::Lex { cu, fault } => FrontFault::Lex { cu, fault },
-            ReadFault::Parse { cu, fault, at } => FrontFault::Parse {
-                fault,
-                place: Place { cu, at },
-            },
-            ReadFault::OutOfMemory => FrontFault::OutOfMemory,
-        }
+/// Why files are no program, as a reason why they do not compile.
+pub fn unread(fault: ReadFault) -> FrontFault
+    ensures { result ≡ fault_of fault }
+{
+    match fault {
+        ReadFault::TooLarge(size) => FrontFault::TooLarge(size),
+        ReadFault::Lex { cu, fault } => FrontFault::Lex { cu, fault },
+        ReadFault::Parse { cu, fault, at } => FrontFault::Parse {
+            fault,
+            place: Place { cu, at },
+        },
+        ReadFault::OutOfMemory => FrontFault::OutOfMemory,
     }
 }

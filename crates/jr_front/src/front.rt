@@ -5,7 +5,7 @@ ghost use Rattle.jr_tree.specs.Shape.{IsShaped};
 ghost use Rattle.jr_front.specs.Checking.{CheckedAs, IsOfPrograms};
 
 use crate::broken::first_broken;
-use crate::fault::FrontFault;
+use crate::fault::{FrontFault, unread};
 use crate::modifiers::modifier_faults;
 use crate::placed::first_misplaced;
 use crate::unbound::first_unbound;
@@ -148,6 +148,7 @@ fn judge_program(alloc: Global, program: &Program) -> Result<Option<FrontFault>,
 }
 
 /// Whether the files compile, and else the first reason why they do not.
+#[tactic(auto, using(crate::proofs::Reading::read_shaped, crate::proofs::Reading::accepts, crate::proofs::Reading::refuses, crate::proofs::Reading::forgets))]
 pub fn check_files(alloc: Global, files: &Files) -> Result<(), FrontFault>
     ensures { CheckedAs files.now result }
 {
@@ -157,6 +158,6 @@ pub fn check_files(alloc: Global, files: &Files) -> Result<(), FrontFault>
             Ok(Some(fault)) => Err(fault),
             Err(_) => Err(FrontFault::OutOfMemory),
         },
-        Err(fault) => Err(FrontFault::from(fault)),
+        Err(fault) => Err(unread(fault)),
     }
 }

@@ -62,9 +62,12 @@ fn is_placed(placed: &UnitAt) -> bool {
 /// The first unit behind the two of the prelude that does not stand at its place (JLS 7.2.1, 7.6).
 pub fn first_misplaced(program: &Program) -> Option<CuId> {
     let units = program.units.as_slice();
-    for number in 2..units.len() {
-        if !is_placed(&units[number]) {
-            return Some(CuId(number as u32));
+    let Ok(count) = u32::try_from(units.len()) else {
+        return None;
+    };
+    for number in 2..count {
+        if !is_placed(&units[number as usize]) {
+            return Some(CuId(number));
         }
     }
     None
