@@ -134,7 +134,7 @@ fn a_check_is_made(rt: HostRuntime) -> Result<(), Fail> {
 }
 
 // A text that does not compile is refused so.
-fn refuse(rt: &HostRuntime, alloc: Global, text: &str, line: &str) -> Result<(), Fail> {
+fn refuse(rt: &impl Abort, alloc: Global, text: &str, line: &str) -> Result<(), Fail> {
     let called = call(alloc, text, ". check", 0, 0)?;
     expect(rt, &called, 3, line, text);
     Ok(())
