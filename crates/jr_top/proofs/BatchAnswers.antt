@@ -1,5 +1,5 @@
 -- From what an input comes to, to the answer to a batch.
-use Rattle.std.proofs.Common.{◌≡◌, ◌⊎◌, inl, inr, ℕ, List, Option, Some, Result, Ok, Err, Global, sym, ap, subst, ◌∙◌, arith}
+use Rattle.std.proofs.Common.{◌≡◌, ◌⊎◌, inl, inr, ℕ, List, [], Option, Some, Result, Ok, Err, Global, sym, ap, subst, ◌∙◌, arith}
 use Rattle.std.proofs.lemmas.Option.{same_Some}
 use Rattle.jr_base.specs.declared.request.Request.{Request}
 use Rattle.jr_batch.specs.Input.{ForInput, IsInputAnswer, LeavesSome}
@@ -19,8 +19,9 @@ use Rattle.jr_top.specs.Renaming.{AsksRename, files_named}
 use Rattle.jr_top.specs.declared.status.Phase.TheVariants.{Recovering}
 use Rattle.jr_top.specs.declared.status.Status.{Status}
 use Rattle.jr_top.specs.declared.status.Status.TheVariants.{BadRequest, StoreFault, SourceFault, TooLarge, OutOfMemory, BadJournal, NotYet}
+use Rattle.jr_top.specs.Answers.{reported}
 use Rattle.jr_top.proofs.Outcomes.{no_bad_journal}
-use Rattle.jr_top.proofs.PlainAnswers.{IsPlain}
+use Rattle.jr_top.proofs.PlainAnswers.{IsPlain, unnamed}
 use Rattle.jr_top.proofs.Settled.{settled_stands}
 
 -- nothing of the input was taken
@@ -38,8 +39,8 @@ settled_here may_leave moment left_since words f r s now settled =
     started moment left_since s (StandsForEither words r) (λ c l. inl (settled_stands f r (may_leave s) settled c (now c l)))
 
 -- a batch names no file
-pub batch_plain : (words : List (List ℕ)) → AsksBatch words → IsPlain words
-batch_plain words asks = record { recovery = (Batch, asks, tt); unnamed = ap files_named asks }
+pub batch_plain : (words : List (List ℕ)) → AsksBatch words → IsPlain words [] (reported words)
+batch_plain words asks = unnamed words (Batch, asks, tt) (ap files_named asks)
 
 module _ (words : List (List ℕ)) (told left : Option Image) (kept outcomes : Image → Type 0) (before after : ℕ) (heard : Option (List ℕ)) (quiet loud : ℕ) where
   abbrev Said : Status → Type 0

@@ -1,21 +1,35 @@
 -- From what is said of the files to the answer to a check.
-use Rattle.std.proofs.Common.{◌≡◌, ◌⊎◌, inl, inr, ℕ, ◌≤◌, List, Option, Some, refl, sym, ap, subst, ◌∙◌, arith}
-use Rattle.std.specs.Prelude.{IsSome}
+use Rattle.std.proofs.Common.{◌≡◌, ◌⊎◌, inl, inr, ℕ, zero, suc, ◌+◌, ◌<◌, ◌≤◌, Bool, false, List, [], ◌∷◌, length, Option, Some, None, Ok, Err, IsTrue, refl, sym, ap, subst, ◌∙◌, arith}
+use Rattle.std.specs.Prelude.{IsSome, Contains, ◌↔◌}
+use Rattle.std.proofs.lemmas.Bool.{false≢true}
+use Rattle.std.specs.FinMap as map
+use Rattle.jr_base.specs.Files.{FileMap}
+use Rattle.jr_base.specs.Paths.{is_java}
+use Rattle.jr_base.specs.declared.limits.Size.{Size}
+use Rattle.jr_base.specs.declared.limits.Size.TheVariants as size
+use Rattle.jr_base.specs.declared.limits.TheConstants.Limits as limits
+use Rattle.jr_lex.specs.declared.fault.LexFault.TheVariants as lexing
+use Rattle.jr_parse.specs.declared.fault.ParseFault.TheVariants as parsing
+use Rattle.jr_front.specs.Checking.{CheckedAs}
+use Rattle.jr_front.specs.declared.fault.FrontFault.{FrontFault}
+use Rattle.jr_front.specs.declared.fault.FrontFault.TheVariants as front
+use Rattle.jr_gather.specs.Gathering.{HoldsFiles, AreFiles, IsTooLarge, many_files, long_path, large_file, much_in_all, size_of, sizes}
 use Rattle.std.proofs.lemmas.Option.{same_Some}
 use Rattle.jr_commit.specs.Restoring.{Restored, RestoresTo, SameFiles, StartsRecover}
 use Rattle.jr_request.specs.declared.command.Command.TheVariants.{Check}
-use Rattle.jr_store.specs.Image.{Image, Tells, Rose}
+use Rattle.jr_store.specs.Image.{Image, AreJava, Tells, Rose}
 use Rattle.jr_top.specs.Answers.{IsFailure}
-use Rattle.jr_top.specs.Checking.{AsksCheck, IsOneProgram, Checks, AnswersCheck, IsCheckedSo}
+use Rattle.jr_top.specs.Checking.{AsksCheck, IsOneProgram, IsVerdict, small, accepted, refused, oversized, Fronted, front_accepts, front_refuses, front_wants_memory, Checks, AnswersCheck, IsCheckedSo, status_of}
 use Rattle.jr_top.specs.Crash.{Survives}
 use Rattle.jr_top.specs.Decisions.{IsRename}
-use Rattle.jr_top.specs.Performing.{Reported}
+use Rattle.jr_top.specs.Line.{line_of}
+use Rattle.jr_top.specs.Performing.{ReportedOf}
 use Rattle.jr_top.specs.Recovering.{Recovers}
-use Rattle.jr_top.specs.Renaming.{AsksRename, files_named, ForTold}
+use Rattle.jr_top.specs.Renaming.{AsksRename, ForTold}
 use Rattle.jr_top.specs.declared.status.Phase.TheVariants.{Recovering, Reading}
 use Rattle.jr_top.specs.declared.status.Report.TheVariants.{Checked}
 use Rattle.jr_top.specs.declared.status.Status.{Status}
-use Rattle.jr_top.specs.declared.status.Status.TheVariants.{Done, StoreFault, OutOfMemory, BadJournal, NotYet}
+use Rattle.jr_top.specs.declared.status.Status.TheVariants.{Done, NotCompiling, StoreFault, TooLarge, OutOfMemory, BadJournal}
 use Rattle.jr_top.proofs.Outcomes.{found_files, no_bad_journal}
 use Rattle.jr_top.proofs.PlainAnswers.{IsPlain}
 
@@ -23,23 +37,141 @@ use Rattle.jr_top.proofs.PlainAnswers.{IsPlain}
 pub no_check : (words : List (List ℕ)) (file : List ℕ) (at : ℕ) (name : List ℕ) → AsksRename words file at name → AsksCheck words → ⊥
 no_check words file at name asks check = subst IsRename (same_Some _ _ (sym asks ∙ check)) tt
 
--- a check names no file
-pub check_plain : (words : List (List ℕ)) → AsksCheck words → IsPlain words
-check_plain words asks = record { recovery = (Check, asks, tt); unnamed = ap files_named asks }
+-- the line of a check shows these paths
+pub check_plain : (words : List (List ℕ)) → AsksCheck words → (paths : List (List ℕ)) → IsPlain words paths (line_of paths)
+check_plain words asks paths = record { recovery = (Check, asks, tt); shown = λ status. refl }
 
 rose_earlier : (before middle after : ℕ) → before ≤ middle → Rose middle after → Rose before after
 rose_earlier before middle after later rose = omega arith
 
-module _ (words : List (List ℕ)) (told left : Option Image) (kept outcomes : Image → Type 0) (before after : ℕ) where
+-- ---- what is said of the files
+
+spoken : (told : Option Image) (N P : Image → Type 0) → ForTold told N → ((f : Image) → told ≡ Some f → N f → P f) → ForTold told P
+spoken None N P none each = tt
+spoken (Some f) N P none each = each f refl none
+
+abbrev pub IsNoSmall : Image → Type 0
+IsNoSmall f = IsOneProgram f → ⊥
+
+module _ (told : Option Image) (before after : ℕ) where
+  pub small_said : ForTold told IsOneProgram → Checks told [] before after (Done (Checked 1))
+  small_said program = spoken told IsOneProgram (λ f. IsVerdict f [] (Done (Checked 1))) program (λ f is one. small one refl)
+
+  module _ (none : ForTold told IsNoSmall) where
+    pub oversized_said : (what : Size) → ((f : Image) → told ≡ Some f → IsTooLarge f what) → Checks told [] before after (TooLarge what 0)
+    oversized_said what large = spoken told IsNoSmall (λ f. IsVerdict f [] (TooLarge what 0)) none (λ f is no. oversized no (large f is) refl)
+
+    module _ (found : FileMap) (holds : (f : Image) → told ≡ Some f → HoldsFiles f found) (paths : List (List ℕ)) where
+      refused_as : (why : FrontFault) → CheckedAs found (Err why) → paths ≡ map.keys found → (status : Status) → status ≡ status_of why → ForTold told (λ f. IsVerdict f paths status)
+      refused_as why checked keys status is = spoken told IsNoSmall (λ f. IsVerdict f paths status) none (λ f told_is no. refused no (holds f told_is) checked keys is)
+
+      by_fault : (why : FrontFault) → CheckedAs found (Err why) → paths ≡ map.keys found → Checks told paths before after (status_of why)
+      by_fault (front.TooLarge what) checked keys = refused_as (front.TooLarge what) checked keys (status_of (front.TooLarge what)) refl
+      by_fault (front.Lex cu (lexing.BadByte at)) checked keys = refused_as (front.Lex cu (lexing.BadByte at)) checked keys (status_of (front.Lex cu (lexing.BadByte at))) refl
+      by_fault (front.Lex cu (lexing.OpenComment at)) checked keys = refused_as (front.Lex cu (lexing.OpenComment at)) checked keys (status_of (front.Lex cu (lexing.OpenComment at))) refl
+      by_fault (front.Lex cu (lexing.OpenLiteral at)) checked keys = refused_as (front.Lex cu (lexing.OpenLiteral at)) checked keys (status_of (front.Lex cu (lexing.OpenLiteral at))) refl
+      by_fault (front.Lex cu (lexing.BadEscape at)) checked keys = refused_as (front.Lex cu (lexing.BadEscape at)) checked keys (status_of (front.Lex cu (lexing.BadEscape at))) refl
+      by_fault (front.Lex cu (lexing.BadNumber at)) checked keys = refused_as (front.Lex cu (lexing.BadNumber at)) checked keys (status_of (front.Lex cu (lexing.BadNumber at))) refl
+      by_fault (front.Lex cu (lexing.NotUtf8 at)) checked keys = refused_as (front.Lex cu (lexing.NotUtf8 at)) checked keys (status_of (front.Lex cu (lexing.NotUtf8 at))) refl
+      by_fault (front.Lex cu lexing.OutOfMemory) checked keys = tt
+      by_fault (front.Parse (parsing.NoTree number) place) checked keys = refused_as (front.Parse (parsing.NoTree number) place) checked keys (status_of (front.Parse (parsing.NoTree number) place)) refl
+      by_fault (front.Parse (parsing.TooDeep number) place) checked keys = refused_as (front.Parse (parsing.TooDeep number) place) checked keys (status_of (front.Parse (parsing.TooDeep number) place)) refl
+      by_fault (front.Parse parsing.OutOfMemory place) checked keys = tt
+      by_fault (front.PathMismatch cu) checked keys = refused_as (front.PathMismatch cu) checked keys (status_of (front.PathMismatch cu)) refl
+      by_fault (front.Duplicate place) checked keys = refused_as (front.Duplicate place) checked keys (status_of (front.Duplicate place)) refl
+      by_fault (front.Cycle place) checked keys = refused_as (front.Cycle place) checked keys (status_of (front.Cycle place)) refl
+      by_fault (front.Unbound place) checked keys = refused_as (front.Unbound place) checked keys (status_of (front.Unbound place)) refl
+      by_fault (front.Broken rule place) checked keys = refused_as (front.Broken rule place) checked keys (status_of (front.Broken rule place)) refl
+      by_fault front.OutOfMemory checked keys = tt
+
+      pub fronted_said : (status : Status) → Fronted found paths status → Checks told paths before after status
+      fronted_said status (front_accepts checked is) =
+          subst (Checks told paths before after) (sym is) (spoken told IsNoSmall (λ f. IsVerdict f paths (Done (Checked (map.len found)))) none (λ f told_is no. accepted no (holds f told_is) checked refl))
+      fronted_said status (front_refuses {why = why} checked keys is) = subst (Checks told paths before after) (sym is) (by_fault why checked keys)
+      fronted_said status (front_wants_memory is) = subst (Checks told paths before after) (sym is) tt
+
+-- what is said later is said of the whole
+pub said_earlier : (told : Option Image) (paths : List (List ℕ)) (before middle after : ℕ) → before ≤ middle → (status : Status) → Checks told paths middle after status → Checks told paths before after status
+said_earlier told paths before middle after later (Done (Checked files)) h = h
+said_earlier told paths before middle after later (Done other) h = absurd h
+said_earlier told paths before middle after later (NotCompiling why) h = h
+said_earlier told paths before middle after later (TooLarge what request) h = h
+said_earlier told paths before middle after later (StoreFault Reading) h = rose_earlier before middle after later h
+said_earlier told paths before middle after later (StoreFault other) h = absurd h
+said_earlier told paths before middle after later OutOfMemory h = tt
+said_earlier told paths before middle after later other h = absurd h
+
+pub none_small : (told : Option Image) (answer : Bool) → answer ≡ false → ForTold told (λ f. IsTrue answer ↔ IsOneProgram f) → ForTold told IsNoSmall
+none_small None answer is says = tt
+none_small (Some f) answer is says = λ program. false≢true (sym is ∙ says.1 program)
+
+-- ---- the same of files that are the same
+
+java_at : (paths : List (List ℕ)) → AreJava paths → (path : List ℕ) → Contains paths path → IsTrue (is_java path)
+java_at [] java path (k, below, is) = absurd (omega arith)
+java_at (p ∷ paths) java path (zero, below, is) = subst (λ (q : List ℕ). IsTrue (is_java q)) is java.0
+java_at (p ∷ paths) java path (suc k, below, is) = java_at paths java.1 path (k, omega arith, is)
+
+one_same : (f g : Image) → SameFiles f g → IsOneProgram f → IsOneProgram g
+one_same f g same program =
+    let held = program.1 in (
+      program.0,
+      record {
+        file = held.file;
+        only = (held.only.0, λ path java there. held.only.1 path java (subst IsSome (sym (same path java)) there));
+        there = sym (same held.file held.only.0) ∙ held.there;
+        top = held.top;
+        small = held.small;
+      },
+      program.2,
+    )
+
+module _ (f g : Image) (same : SameFiles f g) where
+  program_same : IsOneProgram f → IsOneProgram g
+  program_same = one_same f g same
+
+  same_back : IsOneProgram g → IsOneProgram f
+  same_back = one_same g f (λ path java. sym (same path java))
+
+  files_same : (found : FileMap) → HoldsFiles f found → HoldsFiles g found
+  files_same found holds = record { java = holds.java; each = λ path java. sym (same path java) ∙ holds.each path java }
+
+  sizes_same : (paths : List (List ℕ)) → AreJava paths → sizes g paths ≡ sizes f paths
+  sizes_same [] java = refl
+  sizes_same (path ∷ paths) java = ap (λ (o : Option (List ℕ)). size_of o + sizes g paths) (sym (same path java.0)) ∙ ap (λ (n : ℕ). size_of (f path) + n) (sizes_same paths java.1)
+
+  are_same : (paths : List (List ℕ)) → AreFiles f paths → AreFiles g paths
+  are_same paths are = record {
+    distinct = are.distinct;
+    java = are.java;
+    there = λ path contains. subst IsSome (same path (java_at paths are.java path contains)) (are.there path contains);
+  }
+
+  large_same : {what : Size} → IsTooLarge f what → IsTooLarge g what
+  large_same (many_files paths are many) = many_files paths (are_same paths are) many
+  large_same (long_path path java there long) = long_path path java (subst IsSome (same path java) there) long
+  large_same (large_file path bytes java there long) = large_file path bytes java (sym (same path java) ∙ there) long
+  large_same (much_in_all paths are many) = much_in_all paths (are_same paths are) (subst (λ (n : ℕ). limits.TOTAL < n) (sym (sizes_same paths are.java)) many)
+
+  verdict_same : (paths : List (List ℕ)) (status : Status) → IsVerdict f paths status → IsVerdict g paths status
+  verdict_same paths status (small program is) = small (program_same program) is
+  verdict_same paths status (accepted {found} none holds checked is) = accepted (λ program. none (same_back program)) (files_same found holds) checked is
+  verdict_same paths status (refused {found} none holds checked keys is) = refused (λ program. none (same_back program)) (files_same found holds) checked keys is
+  verdict_same paths status (oversized {what} none large is) = oversized (λ program. none (same_back program)) (large_same large) is
+
+-- ---- the answer
+
+module _ (words : List (List ℕ)) (paths : List (List ℕ)) (told left : Option Image) (kept outcomes : Image → Type 0) (before after : ℕ) where
   abbrev Said : Status → Type 0
-  Said status = AnswersCheck words told left outcomes before after status × Survives words told kept outcomes status
+  Said status = AnswersCheck words paths told left outcomes before after status × Survives words told kept outcomes status
 
   -- what was said of the files that recovery has found, which are left
   module _ (middle : ℕ) (later : before ≤ middle) (recovered : Recovers told left) (stands : (f found : Image) → told ≡ Some f → Restored f found → StartsRecover f kept → (c : Image) → outcomes c → RestoresTo c found) where
-    pub checked_so : (status : Status) → Checks left middle after status → Said status
+    pub checked_so : (status : Status) → Checks left paths middle after status → Said status
     checked_so (Done (Checked files)) h = ((recovered, h), stands)
     checked_so (Done other) h = absurd h
-    checked_so NotYet h = ((recovered, h), stands)
+    checked_so (NotCompiling why) h = ((recovered, h), stands)
+    checked_so (TooLarge what request) h = ((recovered, h), stands)
     checked_so (StoreFault Reading) h = ((recovered, rose_earlier before middle after later h), λ f found told_is restored start c l. inl (stands f found told_is restored start c l))
     checked_so (StoreFault other) h = absurd h
     checked_so OutOfMemory h = (inr recovered, stands)
@@ -47,40 +179,27 @@ module _ (words : List (List ℕ)) (told left : Option Image) (kept outcomes : I
 
   -- the one answer of the files found
   module _ (old new : Option (List ℕ)) (fewer more : ℕ) (files found : Image) (is : told ≡ Some files) (restored : Restored files found) where
-    program_same : (f g : Image) → SameFiles f g → IsOneProgram f → IsOneProgram g
-    program_same f g same program =
-        let held = program.1 in (
-          program.0,
-          record {
-            file = held.file;
-            only = (held.only.0, λ path java there. held.only.1 path java (subst IsSome (sym (same path java)) there));
-            there = sym (same held.file held.only.0) ∙ held.there;
-            top = held.top;
-            small = held.small;
-          },
-          program.2,
-        )
-
     as_found : (g : Image) → left ≡ Some g → SameFiles g found → Tells (Some found) left (λ before_it after_it. SameFiles after_it before_it)
     as_found g left_is same = subst (λ (o : Option Image). Tells (Some found) o (λ before_it after_it. SameFiles after_it before_it)) (sym left_is) same
 
-    each : (status : Status) → AnswersCheck words told left outcomes before after status → IsCheckedSo found left status ⊎ IsFailure before after fewer more status
+    judged : (status : Status) → Recovers told left → ForTold left (λ f. IsVerdict f paths status) → IsCheckedSo found left status
+    judged status recovered verdict =
+        let there = found_files files found told left is restored recovered in
+        let said : IsVerdict there.0 paths status = subst (λ (o : Option Image). ForTold o (λ f. IsVerdict f paths status)) there.1 verdict in
+        record { paths = paths; answer = verdict_same there.0 found there.2 paths status said; files = as_found there.0 there.1 there.2 }
+
+    each : (status : Status) → AnswersCheck words paths told left outcomes before after status → IsCheckedSo found left status ⊎ IsFailure before after fewer more status
     each BadJournal a = absurd (no_bad_journal files found told is restored a.2)
     each (StoreFault Recovering) a = inr a.2
     each (StoreFault Reading) a = inr a.1
     each (StoreFault other) a = absurd a.1
     each OutOfMemory a = inr tt
-    each (Done (Checked n)) a =
-        let there = found_files files found told left is restored a.0 in
-        let program : IsOneProgram there.0 = subst (λ (o : Option Image). ForTold o IsOneProgram) there.1 a.1.1 in
-        inl (record { answer = inl (program_same there.0 found there.2 program, ap (λ k. Done (Checked k)) a.1.0); files = as_found there.0 there.1 there.2 })
+    each (Done (Checked files)) a = inl (judged (Done (Checked files)) a.0 a.1)
     each (Done other) a = absurd a.1
-    each NotYet a =
-        let there = found_files files found told left is restored a.0 in
-        let none : IsOneProgram there.0 → ⊥ = subst (λ (o : Option Image). ForTold o (λ files. IsOneProgram files → ⊥)) there.1 a.1 in
-        inl (record { answer = inr (λ program. none (program_same found there.0 (λ q java. sym (there.2 q java)) program), refl); files = as_found there.0 there.1 there.2 })
+    each (NotCompiling why) a = inl (judged (NotCompiling why) a.0 a.1)
+    each (TooLarge what request) a = inl (judged (TooLarge what request) a.0 a.1)
     each other a = absurd a.1
 
-    pub exact : (result : Status) → Reported words Said result old new fewer more → IsCheckedSo found left result ⊎ IsFailure before after fewer more result
+    pub exact : (result : Status) → ReportedOf (line_of paths) Said result old new fewer more → IsCheckedSo found left result ⊎ IsFailure before after fewer more result
     exact result (status, said, inl done) = subst (λ (x : Status). IsCheckedSo found left x ⊎ IsFailure before after fewer more x) (sym done.0) (each status said.0)
     exact result (status, said, inr failed) = inr (subst (IsFailure before after fewer more) (sym failed.0) failed.2)

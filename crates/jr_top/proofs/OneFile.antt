@@ -1,14 +1,12 @@
 -- What the listing and the bytes of a store say of a check.
-use Rattle.std.proofs.Common.{◌≡◌, ℕ, ◌<◌, ◌≤◌, List, [], ◌∷◌, length, take, Some, None, Option, option_map, sym, ap, subst, ◌∙◌, arith, length-take}
-use Rattle.std.specs.Prelude.{bytes_eq}
+use Rattle.std.proofs.Common.{◌≡◌, ℕ, ◌<◌, ◌≤◌, Bool, false, List, [], ◌∷◌, length, take, Some, None, Option, option_map, sym, ap, subst, ◌∙◌, arith, length-take}
+use Rattle.std.specs.Prelude.{bytes_eq, IsTrue, ◌↔◌}
+use Rattle.std.proofs.lemmas.Bool.{false≢true}
 use Rattle.std.specs.List.{IsDistinct}
 use Rattle.jr_check.specs.Small.{IsSmallProgram}
 use Rattle.jr_store.specs.Image.{Image, AreJava, Lists, Reads}
-use Rattle.jr_top.specs.Checking.{IsTopFile, HoldsOne, IsOneProgram, Checks, IsRead, IsAnswerOf}
+use Rattle.jr_top.specs.Checking.{IsTopFile, HoldsOne, IsOneProgram, IsRead}
 use Rattle.jr_top.specs.Renaming.{ForTold}
-use Rattle.jr_top.specs.declared.status.Report.TheVariants.{Checked}
-use Rattle.jr_top.specs.declared.status.Status.{Status}
-use Rattle.jr_top.specs.declared.status.Status.TheVariants.{Done, OutOfMemory, NotYet}
 use Rattle.jr_top.proofs.Held.{listed, only_listed, some_there, whole_read}
 
 same_some : {A : Type 0} (x y : A) → Some x ≡ Some y → x ≡ y
@@ -61,22 +59,13 @@ one_held : (files : Image) (a b : List ℕ) → HoldsOne files a → HoldsOne fi
 one_held files a b first second =
     same_some a b (sym first.there ∙ ap files (second.only.1 first.file first.only.0 (some_there files first.file a first.there)) ∙ second.there)
 
-pub none_checked : (told : Option Image) → ForTold told (λ files. IsRead files None) → ForTold told (λ files. IsOneProgram files → ⊥)
-none_checked None none = tt
-none_checked (Some files) none = λ program. none program.0 program.1
+no_truth : IsTrue false → ⊥
+no_truth is = false≢true is
 
-program_of : (told : Option Image) (bytes : List ℕ) → ForTold told (λ files. HoldsOne files bytes) → IsSmallProgram bytes → ForTold told IsOneProgram
-program_of None bytes held program = tt
-program_of (Some files) bytes held program = (bytes, held, program)
+pub none_one : (told : Option Image) → ForTold told (λ files. IsRead files None) → ForTold told (λ files. IsTrue false ↔ IsOneProgram files)
+none_one None none = tt
+none_one (Some files) none = (λ is. absurd (no_truth is), λ program. absurd (none program.0 program.1))
 
-none_of : (told : Option Image) (bytes : List ℕ) → ForTold told (λ files. HoldsOne files bytes) → (IsSmallProgram bytes → ⊥) → ForTold told (λ files. IsOneProgram files → ⊥)
-none_of None bytes held never = tt
-none_of (Some files) bytes held never = λ program. never (subst IsSmallProgram (one_held files program.0 bytes program.1 held) program.2)
-
--- what the bytes come to is said of the files
-pub some_checked : (told : Option Image) (bytes : List ℕ) (before after : ℕ) → ForTold told (λ files. HoldsOne files bytes) → (status : Status) → IsAnswerOf bytes status → Checks told before after status
-some_checked told bytes before after held (Done (Checked files)) (one, program) = (one, program_of told bytes held program)
-some_checked told bytes before after held (Done other) never = absurd never
-some_checked told bytes before after held NotYet never = none_of told bytes held never
-some_checked told bytes before after held OutOfMemory free = tt
-some_checked told bytes before after held other never = absurd never
+pub some_one : (told : Option Image) (bytes : List ℕ) (answer : Bool) → ForTold told (λ files. HoldsOne files bytes) → (IsTrue answer ↔ IsSmallProgram bytes) → ForTold told (λ files. IsTrue answer ↔ IsOneProgram files)
+some_one None bytes answer held says = tt
+some_one (Some files) bytes answer held says = (λ is. (bytes, held, says.0 is), λ program. says.1 (subst IsSmallProgram (one_held files program.0 bytes program.1 held) program.2))

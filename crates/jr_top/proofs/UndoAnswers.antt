@@ -35,7 +35,7 @@ use Rattle.jr_top.specs.declared.status.Status.{Status}
 use Rattle.jr_top.specs.declared.status.Status.TheVariants.{Done, NoUndo, StoreFault, SinkFault, OutOfMemory, BadJournal}
 use Rattle.jr_top.proofs.Carried.{weaker, journal_kept, journal_restored, settled, still_told}
 use Rattle.jr_top.proofs.Outcomes.{no_bad_journal}
-use Rattle.jr_top.proofs.PlainAnswers.{IsPlain, plain, reports_of}
+use Rattle.jr_top.proofs.PlainAnswers.{IsPlain, plain, reports_of, unnamed}
 use Rattle.jr_top.proofs.Settled.{settled_stands, restores_same}
 
 -- words that ask for a rename ask for no undo
@@ -43,8 +43,8 @@ pub no_undo_asked : (words : List (List ℕ)) (file : List ℕ) (at : ℕ) (name
 no_undo_asked words file at name asks undo = subst IsRename (same_Some _ _ (sym asks ∙ undo)) tt
 
 -- an undo names no file
-pub undo_plain : (words : List (List ℕ)) → AsksUndo words → IsPlain words
-undo_plain words asks = record { recovery = (Undo, asks, tt); unnamed = ap files_named asks }
+pub undo_plain : (words : List (List ℕ)) → AsksUndo words → IsPlain words [] (reported words)
+undo_plain words asks = unnamed words (Undo, asks, tt) (ap files_named asks)
 
 -- ---- images with the same files and the same journal
 

@@ -86,9 +86,13 @@ reported words status = line_of (files_named (command_of words)) status
 
 -- Of the answer this is so, and the output got its line. After a fault of the output it is so of the answer whose line
 -- was being written.
+abbrev pub OutcomeOf : (Status → List ℕ) → (Status → Type 0) → Option (List ℕ) → Option (List ℕ) → ℕ → ℕ → Status → Type 0
+OutcomeOf line IsSo old new fewer more SinkFault = (status : Status) × IsSo status × AppendsPart old new (line status) × Rose fewer more
+OutcomeOf line IsSo old new fewer more status = IsSo status × Appends old new (line status)
+
+-- the same, where the line shows the file that the words name
 abbrev pub Outcome : List (List ℕ) → (Status → Type 0) → Option (List ℕ) → Option (List ℕ) → ℕ → ℕ → Status → Type 0
-Outcome words IsSo old new fewer more SinkFault = (status : Status) × IsSo status × AppendsPart old new (reported words status) × Rose fewer more
-Outcome words IsSo old new fewer more status = IsSo status × Appends old new (reported words status)
+Outcome words = OutcomeOf (reported words)
 
 -- what may be answered in place of any answer: want of memory, or a fault whose count rose
 abbrev pub IsFailure : ℕ → ℕ → ℕ → ℕ → Status → Type 0

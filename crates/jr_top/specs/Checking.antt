@@ -1,5 +1,16 @@
--- The command `check`, which is served where the files are one small program.
-use Rattle.std.specs.Prelude.{◌≡◌, ◌⊎◌, ℕ, ◌≤◌, List, length, Contains, Option, Some, None}
+-- The command `check`.
+use Rattle.std.specs.Prelude.{◌≡◌, ℕ, ◌≤◌, List, length, Contains, Option, Some, None, Ok, Err}
+use Rattle.std.specs.FinMap as map
+use Rattle.jr_base.specs.Files.{FileMap}
+use Rattle.jr_base.specs.declared.ids.RuleId.{RuleId}
+use Rattle.jr_base.specs.declared.limits.Size.{Size}
+use Rattle.jr_lex.specs.declared.fault.LexFault.TheVariants as lexing
+use Rattle.jr_parse.specs.declared.fault.ParseFault.TheVariants as parsing
+use Rattle.jr_rule.specs.Numbers.{number_of}
+use Rattle.jr_front.specs.Checking.{CheckedAs}
+use Rattle.jr_front.specs.declared.fault.FrontFault.{FrontFault}
+use Rattle.jr_front.specs.declared.fault.FrontFault.TheVariants as front
+use Rattle.jr_gather.specs.Gathering.{HoldsFiles, IsTooLarge}
 use Rattle.jr_check.specs.Small.{IsSmallProgram}
 use Rattle.jr_commit.specs.Restoring.{SameFiles}
 use Rattle.jr_request.specs.Words.{command_of}
@@ -10,7 +21,8 @@ use Rattle.jr_top.specs.Renaming.{IsOnly, ForTold}
 use Rattle.jr_top.specs.declared.status.Phase.TheVariants.{Reading}
 use Rattle.jr_top.specs.declared.status.Report.TheVariants.{Checked}
 use Rattle.jr_top.specs.declared.status.Status.{Status}
-use Rattle.jr_top.specs.declared.status.Status.TheVariants.{Done, StoreFault, OutOfMemory, NotYet}
+use Rattle.jr_top.specs.declared.status.Status.TheVariants.{Done, NotCompiling, StoreFault, TooLarge, OutOfMemory}
+use Rattle.jr_top.specs.declared.status.NotCompiling.TheVariants as fault
 
 -- the words ask whether the files compile
 abbrev pub AsksCheck : List (List ℕ) → Type 0
@@ -33,35 +45,60 @@ pub record HoldsOne (files : Image) (bytes : List ℕ) : Type 0 where
 abbrev pub IsOneProgram : Image → Type 0
 IsOneProgram files = (bytes : List ℕ) × HoldsOne files bytes × IsSmallProgram bytes
 
--- what is said of the files: that the one file is a small program, or that they are not served yet
-abbrev pub Checks : Option Image → ℕ → ℕ → Status → Type 0
-Checks told before after (Done (Checked files)) = (files ≡ 1) × ForTold told IsOneProgram
-Checks told before after NotYet = ForTold told (λ files. IsOneProgram files → ⊥)
-Checks told before after (StoreFault Reading) = Rose before after
-Checks told before after OutOfMemory = Unit {0}
-Checks told before after other = ⊥
+-- the answer to files that do not compile, by the first reason
+abbrev pub status_of : FrontFault → Status
+status_of (front.TooLarge what) = TooLarge what 0
+status_of (front.Lex cu (lexing.BadByte at)) = NotCompiling (fault.Lex 1 (record { cu = cu; at = at }))
+status_of (front.Lex cu (lexing.OpenComment at)) = NotCompiling (fault.Lex 2 (record { cu = cu; at = at }))
+status_of (front.Lex cu (lexing.OpenLiteral at)) = NotCompiling (fault.Lex 3 (record { cu = cu; at = at }))
+status_of (front.Lex cu (lexing.BadEscape at)) = NotCompiling (fault.Lex 4 (record { cu = cu; at = at }))
+status_of (front.Lex cu (lexing.BadNumber at)) = NotCompiling (fault.Lex 5 (record { cu = cu; at = at }))
+status_of (front.Lex cu (lexing.NotUtf8 at)) = NotCompiling (fault.Lex 6 (record { cu = cu; at = at }))
+status_of (front.Lex cu lexing.OutOfMemory) = OutOfMemory
+status_of (front.Parse (parsing.NoTree number) place) = NotCompiling (fault.Parse 1 place)
+status_of (front.Parse (parsing.TooDeep number) place) = NotCompiling (fault.Parse 2 place)
+status_of (front.Parse parsing.OutOfMemory place) = OutOfMemory
+status_of (front.PathMismatch cu) = NotCompiling (fault.PathMismatch cu)
+status_of (front.Duplicate place) = NotCompiling (fault.Duplicate place)
+status_of (front.Cycle place) = NotCompiling (fault.Cycle place)
+status_of (front.Unbound place) = NotCompiling (fault.Unbound place)
+status_of (front.Broken rule place) = NotCompiling (fault.Rule (record { 0 = number_of rule }) place)
+status_of front.OutOfMemory = OutOfMemory
+
+-- What is said of the files: of one small program that it compiles, and else what the front says of all `.java` files, unless they are too large to be read.
+-- The paths of a line are those of the files.
+pub data IsVerdict (f : Image) (paths : List (List ℕ)) (status : Status) : Type 0 where
+  small : IsOneProgram f → status ≡ Done (Checked 1) → IsVerdict f paths status
+  accepted : {found : FileMap} → (IsOneProgram f → ⊥) → HoldsFiles f found → CheckedAs found (Ok tt) → status ≡ Done (Checked (map.len found)) → IsVerdict f paths status
+  refused : {found : FileMap} {why : FrontFault} → (IsOneProgram f → ⊥) → HoldsFiles f found → CheckedAs found (Err why) → paths ≡ map.keys found → status ≡ status_of why → IsVerdict f paths status
+  oversized : {what : Size} → (IsOneProgram f → ⊥) → IsTooLarge f what → status ≡ TooLarge what 0 → IsVerdict f paths status
+
+-- what the front says of the files that were read
+pub data Fronted (found : FileMap) (paths : List (List ℕ)) (status : Status) : Type 0 where
+  front_accepts : CheckedAs found (Ok tt) → status ≡ Done (Checked (map.len found)) → Fronted found paths status
+  front_refuses : {why : FrontFault} → CheckedAs found (Err why) → paths ≡ map.keys found → status ≡ status_of why → Fronted found paths status
+  front_wants_memory : status ≡ OutOfMemory → Fronted found paths status
+
+-- when each answer comes
+abbrev pub Checks : Option Image → List (List ℕ) → ℕ → ℕ → Status → Type 0
+Checks told paths before after (Done (Checked files)) = ForTold told (λ f. IsVerdict f paths (Done (Checked files)))
+Checks told paths before after (NotCompiling why) = ForTold told (λ f. IsVerdict f paths (NotCompiling why))
+Checks told paths before after (TooLarge what request) = ForTold told (λ f. IsVerdict f paths (TooLarge what request))
+Checks told paths before after (StoreFault Reading) = Rose before after
+Checks told paths before after OutOfMemory = Unit {0}
+Checks told paths before after other = ⊥
 
 -- When each answer to a check comes. The files that recovery has found are read, and left.
-abbrev pub AnswersCheck : List (List ℕ) → Option Image → Option Image → (Image → Type 0) → ℕ → ℕ → Status → Type 0
-AnswersCheck words told left outcomes before after status = AnswersPlain words told left outcomes before after (Checks left before after) status
-
--- the one answer to a check of these files
-abbrev pub IsVerdict : Image → Status → Type 0
-IsVerdict files status = (IsOneProgram files × (status ≡ Done (Checked 1))) ⊎ ((IsOneProgram files → ⊥) × (status ≡ NotYet))
+abbrev pub AnswersCheck : List (List ℕ) → List (List ℕ) → Option Image → Option Image → (Image → Type 0) → ℕ → ℕ → Status → Type 0
+AnswersCheck words paths told left outcomes before after status = AnswersPlain words told left outcomes before after (Checks left paths before after) status
 
 -- the answer is that of the files found, and they are left
 pub record IsCheckedSo (found : Image) (left : Option Image) (status : Status) : Type 0 where
-  pub answer : IsVerdict found status
+  pub paths : List (List ℕ)
+  pub answer : IsVerdict found paths status
   pub files : Tells (Some found) left (λ old new. SameFiles new old)
 
 -- what the bytes that were read say: these are the one file's, or there are none such
 abbrev pub IsRead : Image → Option (List ℕ) → Type 0
 IsRead files (Some bytes) = HoldsOne files bytes
 IsRead files None = (bytes : List ℕ) → HoldsOne files bytes → ⊥
-
--- what the bytes of the one file come to
-abbrev pub IsAnswerOf : List ℕ → Status → Type 0
-IsAnswerOf bytes (Done (Checked files)) = (files ≡ 1) × IsSmallProgram bytes
-IsAnswerOf bytes NotYet = IsSmallProgram bytes → ⊥
-IsAnswerOf bytes OutOfMemory = Unit {0}
-IsAnswerOf bytes other = ⊥

@@ -24,5 +24,8 @@ Commits plan told left kept outcomes before after OutOfMemory = (left ≡ told) 
 Commits plan told left kept outcomes before after other = ⊥
 
 -- of the status whose line is written this is so
+abbrev pub ReportedOf : (Status → List ℕ) → (Status → Type 0) → Status → Option (List ℕ) → Option (List ℕ) → ℕ → ℕ → Type 0
+ReportedOf line IsSo result old new fewer more = (status : Status) × IsSo status × Reports status (line status) result old new fewer more
+
 abbrev pub Reported : List (List ℕ) → (Status → Type 0) → Status → Option (List ℕ) → Option (List ℕ) → ℕ → ℕ → Type 0
-Reported words IsSo result old new fewer more = (status : Status) × IsSo status × Reports status (reported words status) result old new fewer more
+Reported words = ReportedOf (reported words)

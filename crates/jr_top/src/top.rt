@@ -10,7 +10,7 @@ ghost use Rattle.jr_request.specs.Words.{command_of};
 ghost use Rattle.jr_store.specs.Image.{Image, Tells, OnlyTold, LeavesOnly, HasCause};
 ghost use Rattle.jr_thin.specs.Renaming.{Serves, IsRenaming};
 ghost use Rattle.jr_thin.specs.declared.answers.Renaming.{Renaming};
-ghost use Rattle.jr_top.specs.Answers.{AnswersFound, Answers, Reports, IsReported, reported, Outcome, IsFailure, IsServedAnswer};
+ghost use Rattle.jr_top.specs.Answers.{AnswersFound, Answers, Reports, IsReported, reported, Outcome, OutcomeOf, IsFailure, IsServedAnswer};
 ghost use Rattle.jr_top.specs.Batches.{AsksBatch, Hears, AnswersBatch, status_of, IsBatchFailure};
 ghost use Rattle.jr_top.specs.Checking.{AsksCheck, Checks, AnswersCheck, IsCheckedSo};
 ghost use Rattle.jr_top.specs.Crash.{StandsForEither, Survives, IsSettled, SurvivesSettled, LeavesStart};
@@ -18,12 +18,12 @@ ghost use Rattle.jr_top.specs.Exact.{IsAnswered};
 ghost use Rattle.jr_top.specs.Line.{line_of};
 ghost use Rattle.jr_top.specs.Recovering.{AsksRecovery, NeedsFiles};
 ghost use Rattle.jr_top.specs.Renaming.{AsksRename, Holds};
-ghost use Rattle.jr_top.specs.Performing.{IsTaken, Commits, Reported};
+ghost use Rattle.jr_top.specs.Performing.{IsTaken, Commits, Reported, ReportedOf};
 ghost use Rattle.jr_top.specs.Undoing.{AsksUndo, Undoes, AnswersUndo, IsUndoAnswer};
 ghost use Rattle.jr_top.specs.declared.status.Status.{Status};
 ghost use Rattle.jr_top.specs.declared.status.Status.TheVariants.{BadJournal, BadWords, NotYet};
 
-use crate::check::check;
+use crate::check::{Verdict, check};
 use crate::decide::{Decision, decide};
 use crate::hear::hear;
 use crate::lines::line_of;
@@ -139,8 +139,8 @@ fn serve<S: Store, I: Source, O: Sink>(
     ensures batch { command.now ≡ Command.Batch → (status : Status) × Hears (I.left input.old) (I.faults input.old) (I.faults input.new) status
         × IsReported status [] result (O.contents out.old) (O.contents out.new) (O.faults out.old) (O.faults out.new) }
     ensures kept { command.now ≡ Command.Batch → store.new ≡ store.old }
-    ensures check { command.now ≡ Command.Check → (status : Status) × Checks (S.files store.old) (S.faults store.old) (S.faults store.new) status
-        × IsReported status [] result (O.contents out.old) (O.contents out.new) (O.faults out.old) (O.faults out.new) }
+    ensures check { command.now ≡ Command.Check → (paths : List (List ℕ)) × (status : Status) × Checks (S.files store.old) paths (S.faults store.old) (S.faults store.new) status
+        × IsReported status paths result (O.contents out.old) (O.contents out.new) (O.faults out.old) (O.faults out.new) }
     ensures undo { (words : List (List ℕ)) → AsksUndo words → command.now ≡ Command.Undo →
         Reported words (λ status. Undoes (S.files store.old) (S.files store.new) (S.may_leave store.new) (S.faults store.old) (S.faults store.new) status
         × SurvivesSettled words (S.files store.old) (S.may_leave store.old) (S.may_leave store.new) status) result (O.contents out.old) (O.contents out.new) (O.faults out.old) (O.faults out.new) }
@@ -158,8 +158,8 @@ fn serve<S: Store, I: Source, O: Sink>(
             report(alloc, status, &[], out)
         }
         Command::Check => {
-            let status = check(alloc, store);
-            report(alloc, status, &[], out)
+            let Verdict { status, paths } = check(alloc, store);
+            report(alloc, status, &paths, out)
         }
         Command::Undo => take_back(alloc, store, out),
         _ => obey(alloc, command, store, out),
@@ -191,7 +191,7 @@ fn recover_first<S: Store, I: Source, O: Sink>(
         Reported words (λ status. AnswersBatch words (S.files store.old) (S.files store.new) (S.may_leave store.new) (S.faults store.old) (S.faults store.new) (I.left input.old) (I.faults input.old) (I.faults input.new) status
         × Survives words (S.files store.old) (S.may_leave store.old) (S.may_leave store.new) status) result (O.contents out.old) (O.contents out.new) (O.faults out.old) (O.faults out.new) }
     ensures check { (words : List (List ℕ)) → AsksCheck words → command.now ≡ Command.Check →
-        Reported words (λ status. AnswersCheck words (S.files store.old) (S.files store.new) (S.may_leave store.new) (S.faults store.old) (S.faults store.new) status
+        (paths : List (List ℕ)) × ReportedOf (line_of paths) (λ status. AnswersCheck words paths (S.files store.old) (S.files store.new) (S.may_leave store.new) (S.faults store.old) (S.faults store.new) status
         × Survives words (S.files store.old) (S.may_leave store.old) (S.may_leave store.new) status) result (O.contents out.old) (O.contents out.new) (O.faults out.old) (O.faults out.new) }
     ensures undo { (words : List (List ℕ)) → AsksUndo words → command.now ≡ Command.Undo →
         Reported words (λ status. AnswersUndo words (S.files store.old) (S.files store.new) (S.may_leave store.new) (S.faults store.old) (S.faults store.new) status
@@ -228,7 +228,7 @@ fn perform<S: Store, I: Source, O: Sink>(
         × Survives words.now (S.files store.old) (S.may_leave store.old) (S.may_leave store.new) status) result (O.contents out.old) (O.contents out.new) (O.faults out.old) (O.faults out.new) }
     ensures batch { AsksBatch words.now → Reported words.now (λ status. AnswersBatch words.now (S.files store.old) (S.files store.new) (S.may_leave store.new) (S.faults store.old) (S.faults store.new) (I.left input.old) (I.faults input.old) (I.faults input.new) status
         × Survives words.now (S.files store.old) (S.may_leave store.old) (S.may_leave store.new) status) result (O.contents out.old) (O.contents out.new) (O.faults out.old) (O.faults out.new) }
-    ensures check { AsksCheck words.now → Reported words.now (λ status. AnswersCheck words.now (S.files store.old) (S.files store.new) (S.may_leave store.new) (S.faults store.old) (S.faults store.new) status
+    ensures check { AsksCheck words.now → (paths : List (List ℕ)) × ReportedOf (line_of paths) (λ status. AnswersCheck words.now paths (S.files store.old) (S.files store.new) (S.may_leave store.new) (S.faults store.old) (S.faults store.new) status
         × Survives words.now (S.files store.old) (S.may_leave store.old) (S.may_leave store.new) status) result (O.contents out.old) (O.contents out.new) (O.faults out.old) (O.faults out.new) }
     ensures undo { AsksUndo words.now → Reported words.now (λ status. AnswersUndo words.now (S.files store.old) (S.files store.new) (S.may_leave store.new) (S.faults store.old) (S.faults store.new) status
         × Survives words.now (S.files store.old) (S.may_leave store.old) (S.may_leave store.new) status) result (O.contents out.old) (O.contents out.new) (O.faults out.old) (O.faults out.new) }
@@ -252,9 +252,8 @@ fn perform<S: Store, I: Source, O: Sink>(
 
 /// Does what the words ask for, and writes one line.
 ///
-/// The first word is the folder, which is not read here. Every command but `demo` begins with recovery. Only a rename
-/// is served, in a store with one `.java` file of at most 65,536 bytes, a check, of one of at most 1,048,576 bytes, and an
-/// undo. The input of a batch is read after recovery. Want of memory may be answered at any time
+/// The first word is the folder, which is not read here. Every command but `demo` begins with recovery. Only a check is
+/// served, an undo, and a rename in a store with one `.java` file of at most 65,536 bytes. The input of a batch is read after recovery. Want of memory may be answered at any time
 /// before the first write of the commit, unless recovery has begun to write and not ended.
 pub fn refactor<S: Store, I: Source, O: Sink>(
     alloc: Global,
@@ -272,8 +271,8 @@ pub fn refactor<S: Store, I: Source, O: Sink>(
     ensures batch { AsksBatch words.now → Outcome words.now (λ status. AnswersBatch words.now (S.files store.old) (S.files store.new) (S.may_leave store.new) (S.faults store.old) (S.faults store.new) (I.left input.old) (I.faults input.old) (I.faults input.new) status
         × Survives words.now (S.files store.old) (S.may_leave store.old) (S.may_leave store.new) status) (O.contents out.old) (O.contents out.new) (O.faults out.old) (O.faults out.new) result }
 
-    // So has each answer to a check: whether the one file is a small program.
-    ensures check { AsksCheck words.now → Outcome words.now (λ status. AnswersCheck words.now (S.files store.old) (S.files store.new) (S.may_leave store.new) (S.faults store.old) (S.faults store.new) status
+    // So has each answer to a check: what the front says of the files found, whose paths its line names.
+    ensures check { AsksCheck words.now → (paths : List (List ℕ)) × OutcomeOf (line_of paths) (λ status. AnswersCheck words.now paths (S.files store.old) (S.files store.new) (S.may_leave store.new) (S.faults store.old) (S.faults store.new) status
         × Survives words.now (S.files store.old) (S.may_leave store.old) (S.may_leave store.new) status) (O.contents out.old) (O.contents out.new) (O.faults out.old) (O.faults out.new) result }
 
     // So has each answer to an undo: the change of the journal is taken back, or the first reason why not.
@@ -311,7 +310,7 @@ pub fn refactor<S: Store, I: Source, O: Sink>(
         → I.left input.old ≡ Some bytes → IsInputAnswer bytes answer
         → (result ≡ status_of answer) ⊎ IsBatchFailure (S.faults store.old) (S.faults store.new) (O.faults out.old) (O.faults out.new) (I.faults input.old) (I.faults input.new) result }
 
-    // A check gets the one answer that the files have, and leaves them.
+    // A check leaves the files, and gets one of the answers that these have.
     ensures check_exact { (files found : Image) → S.files store.old ≡ Some files → Restored files found → AsksCheck words.now
         → IsCheckedSo found (S.files store.new) result ⊎ IsFailure (S.faults store.old) (S.faults store.new) (O.faults out.old) (O.faults out.new) result }
 

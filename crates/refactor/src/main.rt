@@ -13,15 +13,14 @@ const HELP: &str = "\
 refactor DIR COMMAND ..: changes the Java source below the folder DIR, keeping what each name refers to
 
   rename FILE OFFSET NAME   gives the local or parameter at the byte offset of the file another name
-  check                     says ok where the folder's one file is a small program, of the form below
+  check                     says whether the files compile, and if not, why and where (definite assignment is not tested yet)
   undo                      takes the last change back, where no file of it was edited since
   batch                     reads requests as JSON from standard input; a batch is refused where it is none, and not served yet
 
-The folder has one file that ends in .java, of at most 65,536 bytes: a class of methods `static int f(int ..)` with
-statements `int x = e;` and `return e;`. A check takes 1,048,576 bytes, and also a class of fields `int a;`. All else is
-answered `not yet`.
-Each answer is one line on standard output, and a status: 0 done, 1 bad words, 2 bad request, 4 no spelling,
-6 broken rule, 7 store fault, 8 input fault, 9 too large, 10 out of memory, 11 bad journal, 12 no undo,
+A rename is served where the folder has one file that ends in .java, of at most 65,536 bytes: a class of methods
+`static int f(int ..)` with statements `int x = e;` and `return e;`. All else is answered `not yet`.
+Each answer is one line on standard output, and a status: 0 done, 1 bad words, 2 bad request, 3 not compiling,
+4 no spelling, 6 broken rule, 7 store fault, 8 input fault, 9 too large, 10 out of memory, 11 bad journal, 12 no undo,
 14 output fault, 20 not yet.
 A run that was stopped while it wrote is first undone, by the files .refactor-gate and .refactor-journal.
 ";

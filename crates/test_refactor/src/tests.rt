@@ -122,14 +122,75 @@ fn a_check_is_made(rt: HostRuntime) -> Result<(), Fail> {
     // Nothing is written: the fourth call of the store would fail.
     let sound = call(alloc, OLD, ". check", 4, 0)?;
     expect(&rt, &sound, 0, "ok, files: 1\n", OLD);
-    let twice = "class A { static int f() { return 1; return 2; } }";
-    let refused = call(alloc, twice, ". check", 0, 0)?;
-    expect(&rt, &refused, 20, "not yet\n", twice);
     for failing in [2, 3] {
         let reading = call(alloc, OLD, ". check", failing, 0)?;
         expect(&rt, &reading, 7, "store fault: reading\n", OLD);
     }
+    let larger =
+        "class A { int f(A a) { int x = 1; while (x < 9) { x++; } return a.f(this) + x; } }";
+    let called = call(alloc, larger, ". check", 0, 0)?;
+    expect(&rt, &called, 0, "ok, files: 1\n", larger);
     Ok(())
+}
+
+// A text that does not compile is refused so.
+fn refuse(rt: &impl Abort, alloc: Global, text: &str, line: &str) -> Result<(), Fail> {
+    let called = call(alloc, text, ". check", 0, 0)?;
+    expect(rt, &called, 3, line, text);
+    Ok(())
+}
+
+#[test]
+fn a_check_tells_why_and_where(rt: HostRuntime) -> Result<(), Fail> {
+    let alloc = rt.alloc();
+    refuse(
+        &rt,
+        alloc,
+        "class A { # }",
+        "not compiling: lex BadByte A.java:10\n",
+    )?;
+    refuse(
+        &rt,
+        alloc,
+        "class A { int }",
+        "not compiling: parse NoTree A.java:14\n",
+    )?;
+    refuse(
+        &rt,
+        alloc,
+        "package p; class A { }",
+        "not compiling: path A.java\n",
+    )?;
+    refuse(
+        &rt,
+        alloc,
+        "class A { } class A { }",
+        "not compiling: duplicate A.java:18\n",
+    )?;
+    refuse(
+        &rt,
+        alloc,
+        "class A extends A { }",
+        "not compiling: cycle A.java:6\n",
+    )?;
+    refuse(
+        &rt,
+        alloc,
+        "class A { int f() { return x; } }",
+        "not compiling: unbound A.java:27\n",
+    )?;
+    refuse(
+        &rt,
+        alloc,
+        "class A { int a; int a; }",
+        "not compiling: rule 3 A.java:21\n",
+    )?;
+    refuse(
+        &rt,
+        alloc,
+        "class A { int f() { return 1; return 2; } }",
+        "not compiling: rule 36 A.java:30\n",
+    )
 }
 
 #[test]

@@ -1,4 +1,4 @@
-use Rattle.std.proofs.Common.{◌≡◌, ◌∙◌, Some, inl, refl, sym, ap, subst, IsSome}
+use Rattle.std.proofs.Common.{◌≡◌, ◌∙◌, Some, [], inl, refl, sym, ap, subst, IsSome}
 use Rattle.std.proofs.lemmas.Option.{same_Some, none-some}
 use Rattle.jr_request.specs.declared.command.Command.TheVariants.{Batch, Check, Undo}
 use Rattle.jr_top.specs.Batches.{Hears}
@@ -96,9 +96,11 @@ pub returns-in-Err-clause-check : goal.returns-in-Err-clause-check
 returns-in-Err-clause-check g c asks =
     let S = g.S.Store in
     let O = g.O.Sink in
-    let s = c.args.store.now in
-    no_memory c.args.words.now (check_plain c.args.words.now asks) (S.files s) (S.files s) (S.may_leave s) (S.may_leave s) (S.faults s) (S.faults s) (Checks (S.files s) (S.faults s) (S.faults s))
-    c.report-in-Err.result (O.contents c.args.out.now) (O.contents c.report-in-Err.new.out) (O.faults c.args.out.now) (O.faults c.report-in-Err.new.out) refl (λ image left. left) c.report-in-Err.ensures
+    let s = c.args.store.now in (
+      [],
+      no_memory c.args.words.now (check_plain c.args.words.now asks []) (S.files s) (S.files s) (S.may_leave s) (S.may_leave s) (S.faults s) (S.faults s) (Checks (S.files s) [] (S.faults s) (S.faults s))
+          c.report-in-Err.result (O.contents c.args.out.now) (O.contents c.report-in-Err.new.out) (O.faults c.args.out.now) (O.faults c.report-in-Err.new.out) refl (λ image left. left) c.report-in-Err.ensures,
+    )
 
 pub returns-then-not-needs_files-clause-check : goal.returns-then-not-needs_files-clause-check
 returns-then-not-needs_files-clause-check g c asks =

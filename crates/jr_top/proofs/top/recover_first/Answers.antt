@@ -1,4 +1,4 @@
-use Rattle.std.proofs.Common.{◌≡◌, Option, Some, inl, refl, sym, ap, subst}
+use Rattle.std.proofs.Common.{◌≡◌, Option, Some, List, ℕ, [], inl, refl, sym, ap, subst}
 use Rattle.std.specs.Prelude.{Err}
 use Rattle.jr_commit.specs.Restoring.{IsOpen, Restored, SameFiles, StartsRecover}
 use Rattle.jr_store.specs.Image.{Image}
@@ -153,46 +153,54 @@ returns-in-Ok-clause-check g c words asks is_check =
     let before = S.faults c.args.store.now in
     let middle = S.faults c.recover.new.store in
     let after = S.faults c.serve.new.store in
-    let says = Checks left before after in
-    let asked = check_plain words asks in
-    let said = c.serve.ensures.check is_check in
+    let all = c.serve.ensures.check is_check in
+    let paths = all.0 in
+    let says = Checks left paths before after in
+    let asked = check_plain words asks paths in
     let same : left ≡ found = c.serve.ensures.check_files is_check in
     let recovered : Recovers told left = subst (Recovers told) (sym same) (recovers c.in-Ok.field-0 told found c.in-Ok.ensures.answer c.in-Ok.ensures.done c.recover.ensures.others) in
-    let checks : Checks left middle after said.0 = subst (λ (t : Option Image). Checks t middle after said.0) (sym same) said.1 in
+    let checks : Checks left paths middle after all.1 = subst (λ (t : Option Image). Checks t paths middle after all.1) (sym same) all.2 in
     let closed : (f r : Image) → told ≡ Some f → Restored f r → StartsRecover f kept → (image : Image) → outcomes image → (IsOpen image → ⊥) × SameFiles image r
     = λ f r told_is restored start image l. c.in-Ok.ensures.after f r told_is restored start image (c.serve.ensures.check_crash is_check image l) in
-    said_so words asked told left kept outcomes before after says recovered closed said.0 c.serve.result (O.contents c.args.out.now) (O.contents c.serve.new.out) (O.faults c.args.out.now) (O.faults c.serve.new.out)
-    (checked_so words told left kept outcomes before after middle c.recover.ensures.later recovered (stands words asked told left kept outcomes before after says closed) said.0 checks) said.2
+    let answer = said_so words asked told left kept outcomes before after says recovered closed all.1 c.serve.result (O.contents c.args.out.now) (O.contents c.serve.new.out) (O.faults c.args.out.now) (O.faults c.serve.new.out)
+    (checked_so words paths told left kept outcomes before after middle c.recover.ensures.later recovered (stands words asked told left kept outcomes before after says closed) all.1 checks) all.3 in
+    (paths, answer)
 
 pub returns-in-Err-Failed-clause-check : goal.returns-in-Err-Failed-clause-check
 returns-in-Err-Failed-clause-check g c words asks is_check =
     let S = g.S.Store in
-    let O = g.O.Sink in
-    failed words (check_plain words asks) (S.files c.args.store.now) (S.files c.recover.new.store) (S.may_leave c.args.store.now) (S.may_leave c.recover.new.store) (S.faults c.args.store.now) (S.faults c.recover.new.store)
-    (Checks (S.files c.recover.new.store) (S.faults c.args.store.now) (S.faults c.recover.new.store))
-    c.write_line.result (O.contents c.args.out.now) (O.contents c.write_line.new.out) (O.faults c.args.out.now) (O.faults c.write_line.new.out) c.recover.ensures.others (c.in-Err-Failed.ensures.failed (ap Err c.in-Err-Failed.field-0-is))
-    (λ f r told restored start image l.
-    let run = c.recover.ensures.any_moment f r told restored start in
-    run.each image (g.met.S.Store.counts_now c.recover.new.store (S.moment c.args.store.now) image run.later l))
-    c.write_line.ensures
+    let O = g.O.Sink in (
+      [],
+      failed words (check_plain words asks []) (S.files c.args.store.now) (S.files c.recover.new.store) (S.may_leave c.args.store.now) (S.may_leave c.recover.new.store) (S.faults c.args.store.now) (S.faults c.recover.new.store)
+          (Checks (S.files c.recover.new.store) [] (S.faults c.args.store.now) (S.faults c.recover.new.store))
+          c.write_line.result (O.contents c.args.out.now) (O.contents c.write_line.new.out) (O.faults c.args.out.now) (O.faults c.write_line.new.out) c.recover.ensures.others (c.in-Err-Failed.ensures.failed (ap Err c.in-Err-Failed.field-0-is))
+          (λ f r told restored start image l.
+          let run = c.recover.ensures.any_moment f r told restored start in
+          run.each image (g.met.S.Store.counts_now c.recover.new.store (S.moment c.args.store.now) image run.later l))
+          c.write_line.ensures,
+    )
 
 pub returns-in-Err-BadJournal-clause-check : goal.returns-in-Err-BadJournal-clause-check
 returns-in-Err-BadJournal-clause-check g c words asks is_check =
     let S = g.S.Store in
     let O = g.O.Sink in
-    let same = c.in-Err-BadJournal.ensures.unchanged (ap Err c.in-Err-BadJournal.field-0-is) in
-    journal words (check_plain words asks) (S.files c.args.store.now) (S.files c.recover.new.store) (S.may_leave c.args.store.now) (S.may_leave c.recover.new.store) (S.faults c.args.store.now) (S.faults c.recover.new.store)
-    (Checks (S.files c.recover.new.store) (S.faults c.args.store.now) (S.faults c.recover.new.store))
-    c.report.result (O.contents c.args.out.now) (O.contents c.report.new.out) (O.faults c.args.out.now) (O.faults c.report.new.out) same.0 same.1 (c.in-Err-BadJournal.ensures.bad (ap Err c.in-Err-BadJournal.field-0-is)) c.report.ensures
+    let same = c.in-Err-BadJournal.ensures.unchanged (ap Err c.in-Err-BadJournal.field-0-is) in (
+      [],
+      journal words (check_plain words asks []) (S.files c.args.store.now) (S.files c.recover.new.store) (S.may_leave c.args.store.now) (S.may_leave c.recover.new.store) (S.faults c.args.store.now) (S.faults c.recover.new.store)
+          (Checks (S.files c.recover.new.store) [] (S.faults c.args.store.now) (S.faults c.recover.new.store))
+          c.report.result (O.contents c.args.out.now) (O.contents c.report.new.out) (O.faults c.args.out.now) (O.faults c.report.new.out) same.0 same.1 (c.in-Err-BadJournal.ensures.bad (ap Err c.in-Err-BadJournal.field-0-is)) c.report.ensures,
+    )
 
 pub returns-in-Err-OutOfMemory-clause-check : goal.returns-in-Err-OutOfMemory-clause-check
 returns-in-Err-OutOfMemory-clause-check g c words asks is_check =
     let S = g.S.Store in
     let O = g.O.Sink in
-    let same = c.in-Err-OutOfMemory.ensures.unchanged_memory (ap Err c.in-Err-OutOfMemory.field-0-is) in
-    no_memory words (check_plain words asks) (S.files c.args.store.now) (S.files c.recover.new.store) (S.may_leave c.args.store.now) (S.may_leave c.recover.new.store) (S.faults c.args.store.now) (S.faults c.recover.new.store)
-    (Checks (S.files c.recover.new.store) (S.faults c.args.store.now) (S.faults c.recover.new.store))
-    c.report-in-Err-OutOfMemory.result (O.contents c.args.out.now) (O.contents c.report-in-Err-OutOfMemory.new.out) (O.faults c.args.out.now) (O.faults c.report-in-Err-OutOfMemory.new.out) same.0 same.1 c.report-in-Err-OutOfMemory.ensures
+    let same = c.in-Err-OutOfMemory.ensures.unchanged_memory (ap Err c.in-Err-OutOfMemory.field-0-is) in (
+      [],
+      no_memory words (check_plain words asks []) (S.files c.args.store.now) (S.files c.recover.new.store) (S.may_leave c.args.store.now) (S.may_leave c.recover.new.store) (S.faults c.args.store.now) (S.faults c.recover.new.store)
+          (Checks (S.files c.recover.new.store) [] (S.faults c.args.store.now) (S.faults c.recover.new.store))
+          c.report-in-Err-OutOfMemory.result (O.contents c.args.out.now) (O.contents c.report-in-Err-OutOfMemory.new.out) (O.faults c.args.out.now) (O.faults c.report-in-Err-OutOfMemory.new.out) same.0 same.1 c.report-in-Err-OutOfMemory.ensures,
+    )
 
 -- ---- the input
 

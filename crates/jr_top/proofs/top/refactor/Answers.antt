@@ -3,7 +3,7 @@ use Rattle.std.proofs.lemmas.Option.{none-some}
 use Rattle.jr_request.specs.declared.command.Command.TheVariants.{Batch, Check, Undo}
 use Rattle.jr_top.proofs.BatchAnswers.{batch_plain, exact as batch_answer, no_batch}
 use Rattle.jr_top.proofs.CheckAnswers.{check_plain, exact as check_answer, no_check}
-use Rattle.jr_top.proofs.PlainAnswers.{outcome as plain_outcome, unreadable as plain_unreadable, by_batch, by_check, by_undo}
+use Rattle.jr_top.proofs.PlainAnswers.{behind, outcome as plain_outcome, unreadable as plain_unreadable, by_batch, by_check, by_undo}
 use Rattle.jr_top.proofs.UndoAnswers.{no_undo_asked, outcome as undo_outcome, unreadable as undo_unreadable, exact as undo_answer}
 use Rattle.jr_top.proofs.Exact.{bad_words, needs_no_files, not_served, unreadable, exact}
 use Rattle.jr_top.proofs.Outcomes.{outcome, complete}
@@ -30,9 +30,12 @@ returns-clause-batch g c asks =
 pub returns-clause-check : goal.returns-clause-check
 returns-clause-check g c asks =
     let S = g.S.Store in
-    plain_outcome c.args.words.now (check_plain c.args.words.now asks) (S.files c.args.store.now) (S.files c.perform.new.store) (S.may_leave c.args.store.now) (S.may_leave c.perform.new.store) (S.faults c.args.store.now) (S.faults c.perform.new.store)
-    (Checks (S.files c.perform.new.store) (S.faults c.args.store.now) (S.faults c.perform.new.store))
-    (g.O.Sink.contents c.args.out.now) (g.O.Sink.contents c.perform.new.out) (g.O.Sink.faults c.args.out.now) (g.O.Sink.faults c.perform.new.out) (λ never. never) c.perform.result (c.perform.ensures.check asks)
+    let said = c.perform.ensures.check asks in (
+      said.0,
+      plain_outcome c.args.words.now (check_plain c.args.words.now asks said.0) (S.files c.args.store.now) (S.files c.perform.new.store) (S.may_leave c.args.store.now) (S.may_leave c.perform.new.store) (S.faults c.args.store.now) (S.faults c.perform.new.store)
+          (Checks (S.files c.perform.new.store) said.0 (S.faults c.args.store.now) (S.faults c.perform.new.store))
+          (g.O.Sink.contents c.args.out.now) (g.O.Sink.contents c.perform.new.out) (g.O.Sink.faults c.args.out.now) (g.O.Sink.faults c.perform.new.out) (λ never. never) c.perform.result (behind said),
+    )
 
 pub returns-clause-complete : goal.returns-clause-complete
 returns-clause-complete g c files found told restored file at name bytes asks holds serves =
@@ -91,8 +94,8 @@ returns-clause-bad_journal g c files told none asks =
     (λ batch. plain_unreadable words (batch_plain words batch) (S.files before) (S.files after) (S.may_leave before) (S.may_leave after) (S.faults before) (S.faults after)
     (Hears (I.left c.args.input.now) (I.faults c.args.input.now) (I.faults c.perform.new.input)) old new fewer more files told none c.perform.result (c.perform.ensures.batch batch))
     (λ no_batch. by_check words ((c.perform.result ≡ BadJournal) ⊎ IsFailure (S.faults before) (S.faults after) fewer more c.perform.result) asks
-    (λ check. plain_unreadable words (check_plain words check) (S.files before) (S.files after) (S.may_leave before) (S.may_leave after) (S.faults before) (S.faults after)
-    (Checks (S.files after) (S.faults before) (S.faults after)) old new fewer more files told none c.perform.result (c.perform.ensures.check check))
+    (λ check. plain_unreadable words (check_plain words check (c.perform.ensures.check check).0) (S.files before) (S.files after) (S.may_leave before) (S.may_leave after) (S.faults before) (S.faults after)
+    (Checks (S.files after) (c.perform.ensures.check check).0 (S.faults before) (S.faults after)) old new fewer more files told none c.perform.result (behind (c.perform.ensures.check check)))
     (λ no_check. by_undo words ((c.perform.result ≡ BadJournal) ⊎ IsFailure (S.faults before) (S.faults after) fewer more c.perform.result) asks
     (λ undo. undo_unreadable words (S.files before) (S.files after) (S.may_leave before) (S.may_leave after) (S.faults before) (S.faults after) old new fewer more files told none c.perform.result (c.perform.ensures.undo undo))
     (λ never_undo. unreadable words (S.files before) (S.files after) (S.may_leave before) (S.may_leave after) (S.faults before) (S.faults after) old new fewer more
@@ -123,6 +126,6 @@ returns-clause-batch_exact g c files found bytes answer told restored asks heard
 pub returns-clause-check_exact : goal.returns-clause-check_exact
 returns-clause-check_exact g c files found told restored asks =
     let S = g.S.Store in
-    check_answer c.args.words.now (S.files c.args.store.now) (S.files c.perform.new.store) (S.may_leave c.args.store.now) (S.may_leave c.perform.new.store) (S.faults c.args.store.now) (S.faults c.perform.new.store)
+    check_answer c.args.words.now (c.perform.ensures.check asks).0 (S.files c.args.store.now) (S.files c.perform.new.store) (S.may_leave c.args.store.now) (S.may_leave c.perform.new.store) (S.faults c.args.store.now) (S.faults c.perform.new.store)
     (g.O.Sink.contents c.args.out.now) (g.O.Sink.contents c.perform.new.out) (g.O.Sink.faults c.args.out.now) (g.O.Sink.faults c.perform.new.out)
-    files found told restored c.perform.result (c.perform.ensures.check asks)
+    files found told restored c.perform.result (behind (c.perform.ensures.check asks))

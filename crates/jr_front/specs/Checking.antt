@@ -1,0 +1,33 @@
+-- What is said of files: that their program is found, or the first reason why there is none, or that it breaks a rule of the language.
+use Rattle.std.specs.Prelude.{Result, Ok, Err}
+use Rattle.jr_base.specs.Files.{FileMap}
+use Rattle.jr_base.specs.declared.token.Place.{Place}
+use Rattle.jr_defs.specs.declared.program.Program.{Program}
+use Rattle.jr_read.specs.Reading.{ReadsAs}
+use Rattle.jr_read.specs.declared.fault.ReadFault.{ReadFault}
+use Rattle.jr_read.specs.declared.fault.ReadFault.TheVariants as unread
+use Rattle.jr_front.specs.declared.fault.FrontFault.{FrontFault}
+use Rattle.jr_front.specs.declared.fault.FrontFault.TheVariants as fault
+
+-- why files are no program, as a reason why they do not compile
+abbrev pub fault_of : ReadFault → FrontFault
+fault_of (unread.TooLarge size) = fault.TooLarge size
+fault_of (unread.Lex cu why) = fault.Lex cu why
+fault_of (unread.Parse cu why at) = fault.Parse why (record { cu = cu; at = at })
+fault_of unread.OutOfMemory = fault.OutOfMemory
+
+-- a reason that a program gives which was read
+abbrev pub IsOfPrograms : FrontFault → Type 0
+IsOfPrograms (fault.PathMismatch cu) = Unit {0}
+IsOfPrograms (fault.Duplicate place) = Unit {0}
+IsOfPrograms (fault.Cycle place) = Unit {0}
+IsOfPrograms (fault.Unbound place) = Unit {0}
+IsOfPrograms (fault.Broken rule place) = Unit {0}
+IsOfPrograms fault.OutOfMemory = Unit {0}
+IsOfPrograms other = ⊥
+
+-- what is said of the files
+pub data CheckedAs (found : FileMap) : Result (Unit {0}) FrontFault → Type 0 where
+  accepted : {program : Program} → ReadsAs found (Ok program) → CheckedAs found (Ok tt)
+  refused : {program : Program} {why : FrontFault} → ReadsAs found (Ok program) → IsOfPrograms why → CheckedAs found (Err why)
+  not_read : {why : ReadFault} → ReadsAs found (Err why) → CheckedAs found (Err (fault_of why))
