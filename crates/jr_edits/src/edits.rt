@@ -37,6 +37,13 @@ impl Edits {
         }
     }
 
+    /// How many bytes the text has.
+    pub fn text_len(&self) -> u32
+        ensures { result ≡ self.now.text_len }
+    {
+        self.text_len
+    }
+
     /// Adds an edit. Insertions at one place stand in the order of their pushes, before a replacement
     /// that begins there.
     pub fn push(&mut self, span: Span, text: Text) -> Result<(), EditFault>

@@ -1,0 +1,12 @@
+//! What a request changes before names are spelled anew, and how each reference is to be written.
+#![tactic(auto)]
+
+mod change;
+mod project;
+mod reason;
+mod spelling;
+
+pub use change::{Change, ChangedUnit, Naming, Segment, UnitSource};
+pub use project::{Locks, NO_ROW, Project};
+pub use reason::{ChangeFault, Reason};
+pub use spelling::{Shape, Spelling, Suffix, TypeName};
