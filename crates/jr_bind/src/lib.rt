@@ -9,4 +9,4 @@ mod rebinding;
 mod stages;
 
 pub use binder::{Binding, Bound, bind};
-pub use rebinding::{Rebound, rebind};
+pub use rebinding::{Rebound, bind_under, rebind};

@@ -1,5 +1,6 @@
 // Lookup under a table of locks.
 
+use crate::binder::Bound;
 use crate::filling::{Filling, Known};
 use crate::headers::Setting;
 use jr_base::OutOfMemory;
@@ -175,4 +176,65 @@ pub fn rebind(
     };
     let all = rebind_under(alloc, setting, &supers, locks)?;
     Ok(Some(all))
+}
+
+// The program under the locks, where their supertypes have no cycle.
+fn bind_locked(
+    alloc: Global,
+    setting: Setting,
+    supers: Supers,
+    locks: Vec<Referent>,
+) -> Result<Bound, OutOfMemory> {
+    let mut filling = Filling::new(alloc, setting.rows, locks)?;
+    let under = Tabled {
+        rows: setting.rows,
+        places: setting.places,
+        table: &filling.table,
+    };
+    let members = Members::of(alloc, under, &supers)?;
+    let imports = Imports::of(alloc, under)?;
+    let known = Known {
+        setting,
+        supers: &supers,
+        members: &members,
+        imports: &imports,
+    };
+    let constants = filling.find_constants(alloc, known)?;
+    filling.find_types(known)?;
+    let Filling { table, types, .. } = filling;
+    Ok(Bound {
+        table,
+        types,
+        supers,
+        members,
+        imports,
+        constants,
+    })
+}
+
+/// The program under a table of locks: what occurrences refer to is what the locks say, and supertypes, members, imports, types of expressions and
+/// constants are those under them. There is no answer where some type stands above itself.
+pub fn bind_under(
+    alloc: Global,
+    rows: &[Row],
+    places: &Places,
+    scopes: &Scopes,
+    locks: Vec<Referent>,
+) -> Result<Option<Bound>, OutOfMemory> {
+    let under = Tabled {
+        rows,
+        places,
+        table: &locks,
+    };
+    let supers = Supers::of(alloc, under)?;
+    if has_cycle(alloc, rows, &supers)? {
+        return Ok(None);
+    }
+    let setting = Setting {
+        rows,
+        places,
+        scopes,
+    };
+    let bound = bind_locked(alloc, setting, supers, locks)?;
+    Ok(Some(bound))
 }
