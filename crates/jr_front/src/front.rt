@@ -12,7 +12,7 @@ use crate::placed::first_misplaced;
 use crate::unbound::first_unbound;
 use crate::workspace::Workspace;
 use jr_base::{Files, OutOfMemory};
-use jr_bind::{Binding, Bound, bind};
+use jr_bind::{Binding, Bound, bind, boxed};
 use jr_defs::{Program, Referent};
 use jr_flow_faults::flow_faults;
 use jr_index::Index;
@@ -90,10 +90,10 @@ fn judge_paths(program: &Program) -> Result<(), FrontFault>
 }
 
 // The places of rows, where no top-level type has the name of another.
-fn places_of(alloc: Global, marks: Marks) -> Result<Places, FrontFault>
+fn places_of(alloc: Global, marks: Marks) -> Result<Box<Places>, FrontFault>
     ensures { IfErr result IsOfPrograms }
 {
-    let places = Places::of(alloc, marks.rows)?;
+    let places = boxed(alloc, Places::of(alloc, marks.rows))?;
     judge_names(alloc, marks, &places)?;
     Ok(places)
 }
@@ -104,7 +104,7 @@ fn bound_of(
     marks: Marks,
     places: &Places,
     scopes: &Scopes,
-) -> Result<Bound, FrontFault>
+) -> Result<Box<Bound>, FrontFault>
     ensures { IfErr result IsOfPrograms }
 {
     match bind(alloc, marks.rows, places, scopes)? {
@@ -114,12 +114,16 @@ fn bound_of(
 }
 
 // The tables of a program, which is not tested against the rules.
-fn bound_program(alloc: Global, program: Program, index: Index) -> Result<Workspace, FrontFault>
+fn bound_program(
+    alloc: Global,
+    program: Program,
+    index: Box<Index>,
+) -> Result<Workspace, FrontFault>
     ensures same { IfOk result (λ workspace. workspace.program ≡ program) }
     ensures err { IfErr result IsOfPrograms }
 {
     let places = places_of(alloc, Marks::of(&program, &index))?;
-    let scopes = Scopes::of(alloc, index.rows(), &places)?;
+    let scopes = boxed(alloc, Scopes::of(alloc, index.rows(), &places))?;
     let bound = bound_of(alloc, Marks::of(&program, &index), &places, &scopes)?;
     Ok(Workspace {
         program,
@@ -137,7 +141,7 @@ pub fn open_program(alloc: Global, program: Program) -> Result<Workspace, FrontF
     ensures err { IfErr result IsOfPrograms }
 {
     judge_paths(&program)?;
-    let index = Index::build(alloc, &program)?;
+    let index = boxed(alloc, Index::build(alloc, &program))?;
     let workspace = bound_program(alloc, program, index)?;
     judge(alloc, workspace.marks(), workspace.view())?;
     Ok(workspace)

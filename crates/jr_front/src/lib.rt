@@ -11,4 +11,4 @@ mod workspace;
 
 pub use fault::FrontFault;
 pub use front::{check_files, open_files, open_program};
-pub use workspace::Workspace;
+pub use workspace::{Workspace, view_of};

@@ -6,6 +6,7 @@ use jr_lookup::{Scopes, Sight};
 use jr_marks::Marks;
 use jr_members::World;
 use jr_places::Places;
+use jr_rows::Row;
 use jr_supers::Tabled;
 use jr_types::find_string;
 use jr_view::View;
@@ -14,10 +15,10 @@ use jr_view::View;
 #[derive(Drop)]
 pub struct Workspace {
     pub program: Program,
-    pub index: Index,
-    pub places: Places,
-    pub scopes: Scopes,
-    pub bound: Bound,
+    pub index: Box<Index>,
+    pub places: Box<Places>,
+    pub scopes: Box<Scopes>,
+    pub bound: Box<Bound>,
 }
 
 impl Workspace {
@@ -28,26 +29,35 @@ impl Workspace {
 
     /// The tables.
     pub fn view(&self) -> View<'_> {
-        let rows = self.index.rows();
-        let under = Tabled {
-            rows,
-            places: &self.places,
-            table: &self.bound.table,
-        };
-        let world = World {
-            under,
-            supers: &self.bound.supers,
-            members: &self.bound.members,
-        };
-        View {
-            sight: Sight {
-                world,
-                scopes: &self.scopes,
-                imports: &self.bound.imports,
-            },
-            types: &self.bound.types,
-            constants: &self.bound.constants,
-            string: find_string(rows),
-        }
+        view_of(self.index.rows(), &self.places, &self.scopes, &self.bound)
+    }
+}
+
+/// The tables of rows under a binding.
+pub fn view_of<'a>(
+    rows: &'a [Row],
+    places: &'a Places,
+    scopes: &'a Scopes,
+    bound: &'a Bound,
+) -> View<'a> {
+    let under = Tabled {
+        rows,
+        places,
+        table: &bound.table,
+    };
+    let world = World {
+        under,
+        supers: &bound.supers,
+        members: &bound.members,
+    };
+    View {
+        sight: Sight {
+            world,
+            scopes,
+            imports: &bound.imports,
+        },
+        types: &bound.types,
+        constants: &bound.constants,
+        string: find_string(rows),
     }
 }
