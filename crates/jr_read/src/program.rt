@@ -171,6 +171,16 @@ pub fn read(alloc: Global, files: &Files) -> Result<Program, ReadFault>
     }
 }
 
+// The trees of all files, however many tokens they have.
+fn parse_units(alloc: Global, lexed: Vec<Lexed>) -> Result<Program, ReadFault>
+    ensures { IfOk result (λ program. AreTrees lexed.items program.units) }
+{
+    if lexed.len() >= u32::MAX as usize {
+        return Err(ReadFault::OutOfMemory);
+    }
+    parse_all(alloc, lexed)
+}
+
 /// The tree of one file, whose fault names the unit by the number that is given.
 #[tactic(auto, using(crate::proofs::Readings::unit_of))]
 pub fn read_unit(alloc: Global, path: Path, bytes: &[u8], cu: CuId) -> Result<UnitAt, ReadFault>
@@ -193,7 +203,7 @@ pub fn read_units(alloc: Global, files: &[(Path, Vec<u8>)]) -> Result<Program, R
         return Err(ReadFault::OutOfMemory);
     }
     match lex_all(alloc, files) {
-        Ok(lexed) => parse_all(alloc, lexed),
+        Ok(lexed) => parse_units(alloc, lexed),
         Err(fault) => Err(fault),
     }
 }
