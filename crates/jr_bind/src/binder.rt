@@ -1,7 +1,8 @@
 // The binding of a program.
 
+use crate::boxes::{boxed, imports_none, imports_of, members_of};
 use crate::filling::{Filling, Known};
-use crate::headers::{HeadersFound, Setting, Settled, settle};
+use crate::headers::{Setting, Settled, settle};
 use crate::stages::{Stage, stages_of};
 use jr_base::OutOfMemory;
 use jr_constants::Constants;
@@ -18,16 +19,16 @@ use std::alloc::Global;
 pub struct Bound {
     pub table: Vec<Referent>,
     pub types: Vec<Option<RowType>>,
-    pub supers: Supers,
-    pub members: Members,
-    pub imports: Imports,
-    pub constants: Constants,
+    pub supers: Box<Supers>,
+    pub members: Box<Members>,
+    pub imports: Box<Imports>,
+    pub constants: Box<Constants>,
 }
 
 /// The binding, or the first type on a cycle of headers.
 #[derive(Drop)]
 pub enum Binding {
-    Bound(Bound),
+    Bound(Box<Bound>),
     Cycle(u32),
 }
 
@@ -37,9 +38,9 @@ fn fill_imports(
     known: Known,
     stages: &[Stage],
     filling: &mut Filling,
-) -> Result<Imports, OutOfMemory> {
+) -> Result<Box<Imports>, OutOfMemory> {
     filling.fill(alloc, known, stages, Stage::Import)?;
-    Imports::of(alloc, filling.under(known))
+    imports_of(alloc, filling.under(known))
 }
 
 // The stages of types: those in imports first, then all others. It gives what the imports bring.
@@ -50,8 +51,8 @@ fn fill_types<'a>(
     supers: &'a Supers,
     members: &'a Members,
     filling: &mut Filling,
-) -> Result<Imports, OutOfMemory> {
-    let none = Imports::none(alloc);
+) -> Result<Box<Imports>, OutOfMemory> {
+    let none = imports_none(alloc)?;
     let known = Known {
         setting,
         supers,
@@ -75,7 +76,7 @@ fn fill_names(
     known: Known,
     stages: &[Stage],
     filling: &mut Filling,
-) -> Result<Constants, OutOfMemory> {
+) -> Result<Box<Constants>, OutOfMemory> {
     filling.fill_typed(alloc, known, stages, Stage::Name)?;
     let constants = filling.find_constants(alloc, known)?;
     filling.fill_typed(alloc, known, stages, Stage::Other)?;
@@ -87,8 +88,8 @@ fn bind_names(
     alloc: Global,
     setting: Setting,
     stages: &[Stage],
-    supers: Supers,
-    imports: Imports,
+    supers: Box<Supers>,
+    imports: Box<Imports>,
     filling: Filling,
 ) -> Result<Bound, OutOfMemory> {
     let mut filling = filling;
@@ -97,7 +98,7 @@ fn bind_names(
         places: setting.places,
         table: &filling.table,
     };
-    let members = Members::of(alloc, under, &supers)?;
+    let members = members_of(alloc, under, &supers)?;
     let known = Known {
         setting,
         supers: &supers,
@@ -148,10 +149,11 @@ pub fn bind(
         scopes,
     };
     let stages = stages_of(alloc, rows)?;
-    match settle(alloc, setting)? {
-        HeadersFound::Cycle(first) => Ok(Binding::Cycle(first)),
-        HeadersFound::Settled(settled) => {
-            let bound = bind_rest(alloc, setting, &stages, settled)?;
+    let mut settled = Settled::new(alloc, setting)?;
+    match settle(alloc, setting, &mut settled)? {
+        Some(first) => Ok(Binding::Cycle(first)),
+        None => {
+            let bound = boxed(alloc, bind_rest(alloc, setting, &stages, settled))?;
             Ok(Binding::Bound(bound))
         }
     }

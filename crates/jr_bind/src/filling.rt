@@ -1,5 +1,6 @@
 // Rows that are looked up under a table that grows, with the types of those behind them.
 
+use crate::boxes::constants_of;
 use crate::headers::Setting;
 use crate::stages::Stage;
 use jr_base::OutOfMemory;
@@ -69,8 +70,8 @@ impl Filling {
         }
     }
 
-    /// What a row refers to under the table, with the types of the rows behind it.
-    pub fn look(&self, alloc: Global, known: Known, at: u32) -> Result<Referent, OutOfMemory> {
+    // What a row refers to under the table, with the types of the rows behind it.
+    fn look(&self, alloc: Global, known: Known, at: u32) -> Result<Referent, OutOfMemory> {
         let sight = Sight {
             world: self.world(known),
             scopes: known.setting.scopes,
@@ -113,9 +114,9 @@ impl Filling {
         &mut self,
         alloc: Global,
         known: Known,
-    ) -> Result<Constants, OutOfMemory> {
+    ) -> Result<Box<Constants>, OutOfMemory> {
         let forms = constant_forms(alloc, self.under(known))?;
-        let constants = Constants::of(alloc, self.under(known), &forms)?;
+        let constants = constants_of(alloc, self.under(known), &forms)?;
         self.set_ints(&constants);
         Ok(constants)
     }

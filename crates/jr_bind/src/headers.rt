@@ -1,5 +1,6 @@
 // What names in headers refer to, by settling one type at a time, and cycles of headers (JLS 8.1.4, 8.1.5, 9.1.3).
 
+use crate::boxes::{boxed, imports_none, members_of_types, put, supers_none};
 use crate::cycles::first_on_cycle;
 use jr_base::OutOfMemory;
 use jr_defs::Referent;
@@ -19,17 +20,24 @@ pub struct Setting<'a> {
     pub scopes: &'a Scopes,
 }
 
+/// What is behind the search for headers.
+#[derive(Drop)]
+struct Passed {
+    /// Imports whose names are looked up.
+    imports: Stamps,
+    /// Types whose headers are.
+    types: Stamps,
+    met: Stamps,
+}
+
 /// The headers of the types that are settled so far, with their supertypes and member types.
 #[derive(Drop)]
 pub struct Settled {
     pub table: Vec<Referent>,
-    pub supers: Supers,
-    pub members: Members,
-    imports: Imports,
-    /// Imports whose names are looked up.
-    known: Stamps,
-    settled: Stamps,
-    met: Stamps,
+    pub supers: Box<Supers>,
+    pub members: Box<Members>,
+    imports: Box<Imports>,
+    passed: Box<Passed>,
 }
 
 /// What stands in the way of a type: nothing, or a type that has to be settled first.
@@ -71,13 +79,6 @@ fn is_in_header(rows: &[Row], at: u32, name: u32) -> bool {
     parent_at(rows, name) == at && header_place(rows, name).is_some()
 }
 
-/// The settled headers, or the first type on a cycle of headers.
-#[derive(Drop)]
-pub enum HeadersFound {
-    Settled(Settled),
-    Cycle(u32),
-}
-
 fn referent_of(found: &Candidates, kind: NameKind) -> Referent {
     found.answer(match kind {
         NameKind::PackageOrType => Referent::Package,
@@ -85,23 +86,62 @@ fn referent_of(found: &Candidates, kind: NameKind) -> Referent {
     })
 }
 
+// Adds more rows.
+fn add_all(all: &mut Vec<u32>, more: &[u32]) -> Result<(), OutOfMemory> {
+    for row in more {
+        all.push(*row)?;
+    }
+    Ok(())
+}
+
+// The imports of a unit that may bring the name, as they rise: without those on demand where the name is found before them.
+fn imports_of(
+    alloc: Global,
+    setting: Setting,
+    unit: u32,
+    name: u32,
+    is_named: bool,
+) -> Result<Vec<u32>, OutOfMemory> {
+    let mut all = setting.scopes.single_imports(alloc, unit, name)?;
+    add_all(&mut all, &setting.scopes.static_imports(alloc, unit, name)?)?;
+    if !is_named {
+        add_all(&mut all, &setting.scopes.imports_on_demand(alloc, unit)?)?;
+    }
+    all.sort_unstable();
+    Ok(all)
+}
+
+// Nothing is looked up of this many rows.
+fn passed_none(alloc: Global, count: usize) -> Result<Passed, OutOfMemory> {
+    let imports = Stamps::new(alloc, count)?;
+    let types = Stamps::new(alloc, count)?;
+    let met = Stamps::new(alloc, count)?;
+    Ok(Passed {
+        imports,
+        types,
+        met,
+    })
+}
+
 impl Settled {
-    fn new(alloc: Global, setting: Setting) -> Result<Settled, OutOfMemory> {
+    /// No types are settled yet.
+    pub fn new(alloc: Global, setting: Setting) -> Result<Settled, OutOfMemory> {
         let table = vec![in alloc; Referent::Unbound; setting.rows.len()]?;
+        let supers = supers_none(alloc, setting.rows)?;
+        let imports = imports_none(alloc)?;
+        let passed = boxed(alloc, passed_none(alloc, setting.rows.len()))?;
         let under = Tabled {
             rows: setting.rows,
             places: setting.places,
             table: &[],
         };
-        let members = Members::of_types(alloc, under)?;
+        let members = members_of_types(alloc, under)?;
         Ok(Settled {
             table,
-            supers: Supers::none(alloc, setting.rows)?,
+            supers,
             members,
-            imports: Imports::none(alloc),
-            known: Stamps::new(alloc, setting.rows.len())?,
-            settled: Stamps::new(alloc, setting.rows.len())?,
-            met: Stamps::new(alloc, setting.rows.len())?,
+            imports,
+            passed,
         })
     }
 
@@ -135,7 +175,7 @@ impl Settled {
     fn waits_for(&self, setting: Setting, at: u32) -> Attempt {
         match self.under(setting).referred_type(at) {
             Some(over) => {
-                if self.settled.has(over) {
+                if self.passed.types.has(over) {
                     Attempt::Done
                 } else {
                     Attempt::Waits(over)
@@ -186,7 +226,7 @@ impl Settled {
         setting: Setting,
         import: u32,
     ) -> Result<Attempt, OutOfMemory> {
-        if self.known.has(import) {
+        if self.passed.imports.has(import) {
             return Ok(Attempt::Done);
         }
         let first = import.saturating_add(1);
@@ -197,7 +237,7 @@ impl Settled {
                 return Ok(attempt);
             }
         }
-        let _ = self.known.add(import);
+        let _ = self.passed.imports.add(import);
         let under = Tabled {
             rows: setting.rows,
             places: setting.places,
@@ -207,6 +247,22 @@ impl Settled {
         Ok(Attempt::Done)
     }
 
+    // The types of the name at a place hide all imports.
+    fn is_hidden(&self, alloc: Global, setting: Setting, at: u32) -> Result<bool, OutOfMemory> {
+        let around = self
+            .sight(setting)
+            .types_around(alloc, at, setting.places.name(at))?;
+        Ok(!around.rows.is_empty())
+    }
+
+    // The types of the name at a place hide imports on demand.
+    fn is_named(&self, alloc: Global, setting: Setting, at: u32) -> Result<bool, OutOfMemory> {
+        let named = self
+            .sight(setting)
+            .types_by_name(alloc, at, setting.places.name(at))?;
+        Ok(!named.rows.is_empty())
+    }
+
     // The imports that one identifier is looked for in, as they rise.
     fn looked_for_in(
         &self,
@@ -214,27 +270,14 @@ impl Settled {
         setting: Setting,
         at: u32,
     ) -> Result<Vec<u32>, OutOfMemory> {
-        let name = setting.places.name(at);
-        let sight = self.sight(setting);
-        let around = sight.types_around(alloc, at, name)?;
-        let Some(unit) = sight.importing_unit(at) else {
+        if self.is_hidden(alloc, setting, at)? {
+            return Ok(Vec::new(alloc));
+        }
+        let Some(unit) = self.sight(setting).importing_unit(at) else {
             return Ok(Vec::new(alloc));
         };
-        if !around.rows.is_empty() {
-            return Ok(Vec::new(alloc));
-        }
-        let mut all = setting.scopes.single_imports(alloc, unit, name)?;
-        for import in &setting.scopes.static_imports(alloc, unit, name)? {
-            all.push(*import)?;
-        }
-        let named = sight.types_by_name(alloc, at, name)?;
-        if named.rows.is_empty() {
-            for import in &setting.scopes.imports_on_demand(alloc, unit)? {
-                all.push(*import)?;
-            }
-        }
-        all.sort_unstable();
-        Ok(all)
+        let is_named = self.is_named(alloc, setting, at)?;
+        imports_of(alloc, setting, unit, setting.places.name(at), is_named)
     }
 
     // The first type that is not settled of those that an import names, or a name in a header by its own identifiers.
@@ -280,7 +323,7 @@ impl Settled {
     ) -> Result<Vec<u32>, OutOfMemory> {
         let mut all = Vec::new(alloc);
         if let Some(over) = declaring_type(setting.rows, at) {
-            if !self.settled.has(over) {
+            if !self.passed.types.has(over) {
                 all.push(over)?;
                 return Ok(all);
             }
@@ -300,7 +343,7 @@ impl Settled {
 
     /// The type is settled.
     pub fn has(&self, at: u32) -> bool {
-        self.settled.has(at)
+        self.passed.types.has(at)
     }
 
     // Tries imports one after the other.
@@ -336,6 +379,60 @@ impl Settled {
         self.try_imports(alloc, setting, &statics)
     }
 
+    // The imports on demand of a unit.
+    fn try_on_demand(
+        &mut self,
+        alloc: Global,
+        setting: Setting,
+        unit: u32,
+    ) -> Result<Attempt, OutOfMemory> {
+        let on_demand = setting.scopes.imports_on_demand(alloc, unit)?;
+        self.try_imports(alloc, setting, &on_demand)
+    }
+
+    // The imports of a unit that are looked in for the name at a place: those that may bring it alone, and those on demand where nothing before them has it.
+    fn try_unit(
+        &mut self,
+        alloc: Global,
+        setting: Setting,
+        at: u32,
+        unit: u32,
+    ) -> Result<Attempt, OutOfMemory> {
+        let attempt = self.try_imports_of(alloc, setting, unit, setting.places.name(at))?;
+        if attempt != Attempt::Done || self.is_named(alloc, setting, at)? {
+            return Ok(attempt);
+        }
+        self.try_on_demand(alloc, setting, unit)
+    }
+
+    // Looks up an identifier among the types round it.
+    fn look_around(
+        &mut self,
+        alloc: Global,
+        setting: Setting,
+        at: u32,
+        kind: NameKind,
+    ) -> Result<(), OutOfMemory> {
+        let name = setting.places.name(at);
+        let found = self.sight(setting).types_around(alloc, at, name)?;
+        self.set(at, referent_of(&found, kind));
+        Ok(())
+    }
+
+    // Looks up an identifier among all types.
+    fn look_simple(
+        &mut self,
+        alloc: Global,
+        setting: Setting,
+        at: u32,
+        kind: NameKind,
+    ) -> Result<(), OutOfMemory> {
+        let name = setting.places.name(at);
+        let found = self.sight(setting).types(alloc, at, name)?;
+        self.set(at, referent_of(&found, kind));
+        Ok(())
+    }
+
     // Looks up the first identifier of a name in a header: in the types round it, then in the imports that may bring it alone and the package,
     // and last in imports on demand. The types that an import names have to be settled before it is looked in.
     fn try_simple(
@@ -345,31 +442,17 @@ impl Settled {
         at: u32,
         kind: NameKind,
     ) -> Result<Attempt, OutOfMemory> {
-        let name = setting.places.name(at);
-        let around = self.sight(setting).types_around(alloc, at, name)?;
-        if !around.rows.is_empty() {
-            self.set(at, referent_of(&around, kind));
+        if self.is_hidden(alloc, setting, at)? {
+            self.look_around(alloc, setting, at, kind)?;
             return Ok(Attempt::Done);
         }
-        let unit = self.sight(setting).importing_unit(at);
-        if let Some(unit) = unit {
-            let attempt = self.try_imports_of(alloc, setting, unit, name)?;
+        if let Some(unit) = self.sight(setting).importing_unit(at) {
+            let attempt = self.try_unit(alloc, setting, at, unit)?;
             if attempt != Attempt::Done {
                 return Ok(attempt);
             }
         }
-        let named = self.sight(setting).types_by_name(alloc, at, name)?;
-        if named.rows.is_empty() {
-            if let Some(unit) = unit {
-                let on_demand = setting.scopes.imports_on_demand(alloc, unit)?;
-                let attempt = self.try_imports(alloc, setting, &on_demand)?;
-                if attempt != Attempt::Done {
-                    return Ok(attempt);
-                }
-            }
-        }
-        let found = self.sight(setting).types(alloc, at, name)?;
-        self.set(at, referent_of(&found, kind));
+        self.look_simple(alloc, setting, at, kind)?;
         Ok(Attempt::Done)
     }
 
@@ -420,7 +503,7 @@ impl Settled {
         trial: &mut Trial,
     ) -> Result<Attempt, OutOfMemory> {
         if let Some(over) = declaring_type(setting.rows, trial.at) {
-            if !self.settled.has(over) {
+            if !self.passed.types.has(over) {
                 return Ok(Attempt::Waits(over));
             }
         }
@@ -439,16 +522,17 @@ impl Settled {
 
     // One type more is settled.
     fn add_settled(&mut self, alloc: Global, setting: Setting, at: u32) -> Result<(), OutOfMemory> {
-        let _ = self.settled.add(at);
-        let supers = std::mem::replace(&mut self.supers, Supers::nothing(alloc));
-        self.supers = supers.with_type(self.under(setting), at)?;
+        let _ = self.passed.types.add(at);
+        let supers = std::mem::replace(&mut *self.supers, Supers::nothing(alloc));
+        let more = supers.with_type(self.under(setting), at);
+        put(&mut self.supers, more)?;
         let under = Tabled {
             rows: setting.rows,
             places: setting.places,
             table: &self.table,
         };
         self.members
-            .add_types_of(alloc, under, &self.supers, &mut self.met, at)
+            .add_types_of(alloc, under, &self.supers, &mut self.passed.met, at)
     }
 }
 
@@ -541,8 +625,8 @@ fn waiting_none(alloc: Global, setting: Setting) -> Result<Waiting, OutOfMemory>
     })
 }
 
-// Settles all types that can be, and finds the first on a cycle.
-fn settle_or_cycle(
+/// Settles all types that can be settled behind their enclosing type and all that their headers meet, and gives the first on a cycle, if one is.
+pub fn settle(
     alloc: Global,
     setting: Setting,
     settled: &mut Settled,
@@ -551,14 +635,4 @@ fn settle_or_cycle(
     settle_all(alloc, setting, settled, &mut waiting)?;
     drop(waiting);
     first_on_cycle(alloc, setting, settled)
-}
-
-/// What names in headers refer to, where each type can be settled behind its enclosing type and all that its header meets; else the first type on a
-/// cycle.
-pub fn settle(alloc: Global, setting: Setting) -> Result<HeadersFound, OutOfMemory> {
-    let mut settled = Settled::new(alloc, setting)?;
-    match settle_or_cycle(alloc, setting, &mut settled)? {
-        Some(first) => Ok(HeadersFound::Cycle(first)),
-        None => Ok(HeadersFound::Settled(settled)),
-    }
 }

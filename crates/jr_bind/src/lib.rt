@@ -2,6 +2,7 @@
 #![tactic(auto)]
 
 mod binder;
+mod boxes;
 mod cycles;
 mod filling;
 mod headers;
@@ -9,4 +10,5 @@ mod rebinding;
 mod stages;
 
 pub use binder::{Binding, Bound, bind};
-pub use rebinding::{Rebound, rebind};
+pub use boxes::boxed;
+pub use rebinding::{Rebound, bind_under, rebind};

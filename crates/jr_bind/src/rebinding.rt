@@ -1,11 +1,13 @@
 // Lookup under a table of locks.
 
+use crate::binder::Bound;
+use crate::boxes::{imports_of, members_of, supers_of};
 use crate::filling::{Filling, Known};
 use crate::headers::Setting;
 use jr_base::OutOfMemory;
 use jr_defs::Referent;
-use jr_lookup::{Imports, Scopes};
-use jr_members::Members;
+use jr_lookup::{Scopes, Sight};
+use jr_members::World;
 use jr_places::{Places, is_type, sought_at};
 use jr_rows::{Row, Sought};
 use jr_supers::{Supers, Tabled};
@@ -81,17 +83,37 @@ fn lock_of(rows: &[Row], locks: &[Referent], at: u32) -> Option<Referent> {
     }
 }
 
+// What a row refers to under the table.
+fn look(alloc: Global, setting: Setting, bound: &Bound, at: u32) -> Result<Referent, OutOfMemory> {
+    let under = Tabled {
+        rows: setting.rows,
+        places: setting.places,
+        table: &bound.table,
+    };
+    let world = World {
+        under,
+        supers: &bound.supers,
+        members: &bound.members,
+    };
+    let sight = Sight {
+        world,
+        scopes: setting.scopes,
+        imports: &bound.imports,
+    };
+    sight.look(alloc, &bound.types, at)
+}
+
 // The row, where its lookup gives another declaration than its lock.
 fn rebound_at(
     alloc: Global,
-    known: Known,
-    filling: &Filling,
+    setting: Setting,
+    bound: &Bound,
     at: u32,
 ) -> Result<Option<Rebound>, OutOfMemory> {
-    let Some(lock) = lock_of(known.setting.rows, &filling.table, at) else {
+    let Some(lock) = lock_of(setting.rows, &bound.table, at) else {
         return Ok(None);
     };
-    let found = filling.look(alloc, known, at)?;
+    let found = look(alloc, setting, bound, at)?;
     if is_same_target(lock, found) {
         Ok(None)
     } else {
@@ -102,51 +124,80 @@ fn rebound_at(
 // All such rows, as they rise.
 fn all_rebound(
     alloc: Global,
-    known: Known,
-    filling: &Filling,
+    setting: Setting,
+    bound: &Bound,
 ) -> Result<Vec<Rebound>, OutOfMemory> {
-    let Ok(count) = u32::try_from(known.setting.rows.len()) else {
+    let Ok(count) = u32::try_from(setting.rows.len()) else {
         return Err(OutOfMemory);
     };
     let mut all = Vec::new(alloc);
     for at in 0..count {
-        if let Some(rebound) = rebound_at(alloc, known, filling, at)? {
+        if let Some(rebound) = rebound_at(alloc, setting, bound, at)? {
             all.push(rebound)?;
         }
     }
     Ok(all)
 }
 
-// The locks with the types of expressions under them.
-fn filled(alloc: Global, known: Known, locks: &[Referent]) -> Result<Filling, OutOfMemory> {
-    let mut filling = Filling::new(alloc, known.setting.rows, locks.to_vec(alloc)?)?;
-    let _ = filling.find_constants(alloc, known)?;
-    filling.find_types(known)?;
-    Ok(filling)
-}
-
-// The rows that are found otherwise, where the supertypes under the locks have no cycle.
-fn rebind_under(
+// The program under the locks, where their supertypes have no cycle.
+fn bind_locked(
     alloc: Global,
     setting: Setting,
-    supers: &Supers,
-    locks: &[Referent],
-) -> Result<Vec<Rebound>, OutOfMemory> {
+    supers: Box<Supers>,
+    locks: Vec<Referent>,
+) -> Result<Bound, OutOfMemory> {
+    let mut filling = Filling::new(alloc, setting.rows, locks)?;
     let under = Tabled {
         rows: setting.rows,
         places: setting.places,
-        table: locks,
+        table: &filling.table,
     };
-    let members = Members::of(alloc, under, supers)?;
-    let imports = Imports::of(alloc, under)?;
+    let members = members_of(alloc, under, &supers)?;
+    let imports = imports_of(alloc, under)?;
     let known = Known {
         setting,
-        supers,
+        supers: &supers,
         members: &members,
         imports: &imports,
     };
-    let filling = filled(alloc, known, locks)?;
-    all_rebound(alloc, known, &filling)
+    let constants = filling.find_constants(alloc, known)?;
+    filling.find_types(known)?;
+    let Filling { table, types, .. } = filling;
+    Ok(Bound {
+        table,
+        types,
+        supers,
+        members,
+        imports,
+        constants,
+    })
+}
+
+/// The program under a table of locks: what occurrences refer to is what the locks say, and supertypes, members, imports, types of expressions and
+/// constants are those under them. There is no answer where some type stands above itself.
+pub fn bind_under(
+    alloc: Global,
+    rows: &[Row],
+    places: &Places,
+    scopes: &Scopes,
+    locks: Vec<Referent>,
+) -> Result<Option<Bound>, OutOfMemory> {
+    let under = Tabled {
+        rows,
+        places,
+        table: &locks,
+    };
+    let supers = supers_of(alloc, under)?;
+    if has_cycle(alloc, rows, &supers)? {
+        return Ok(None);
+    }
+    let setting = Setting {
+        rows,
+        places,
+        scopes,
+    };
+    let bound = bind_locked(alloc, setting, supers, locks)?;
+    Ok(Some(bound))
 }
 
 /// The rows, as they rise, whose lookup under a table of locks gives another declaration than their locks. Supertypes, members, imports, constants
@@ -159,20 +210,16 @@ pub fn rebind(
     scopes: &Scopes,
     locks: &[Referent],
 ) -> Result<Option<Vec<Rebound>>, OutOfMemory> {
-    let under = Tabled {
-        rows,
-        places,
-        table: locks,
-    };
-    let supers = Supers::of(alloc, under)?;
-    if has_cycle(alloc, rows, &supers)? {
-        return Ok(None);
+    match bind_under(alloc, rows, places, scopes, locks.to_vec(alloc)?)? {
+        Some(bound) => {
+            let setting = Setting {
+                rows,
+                places,
+                scopes,
+            };
+            let all = all_rebound(alloc, setting, &bound)?;
+            Ok(Some(all))
+        }
+        None => Ok(None),
     }
-    let setting = Setting {
-        rows,
-        places,
-        scopes,
-    };
-    let all = rebind_under(alloc, setting, &supers, locks)?;
-    Ok(Some(all))
 }

@@ -1,5 +1,5 @@
 -- What was read is shaped.
-use Rattle.std.proofs.Common.{List, ℕ, map, Ok, Err}
+use Rattle.std.proofs.Common.{◌≡◌, List, ℕ, map, Result, Ok, Err, IfOk, IfErr, sym, subst}
 use Rattle.std.specs.List.{AllByRecursion}
 use Rattle.jr_base.specs.Files.{FileMap}
 use Rattle.jr_tree.specs.Shape.{IsShaped}
@@ -7,9 +7,9 @@ use Rattle.jr_defs.specs.Program.{AreUnitsOf, none, more}
 use Rattle.jr_defs.specs.declared.program.Program.{Program}
 use Rattle.jr_defs.specs.declared.program.UnitAt.{UnitAt}
 use Rattle.jr_read.specs.Reading.{ReadsAs, program as one_program}
-use Rattle.jr_front.specs.Checking.{CheckedAs, IsOfPrograms, accepted, refused}
+use Rattle.jr_front.specs.Checking.{CheckedAs, IsOfPrograms, accepted, refused, forgotten}
 use Rattle.jr_front.specs.declared.fault.FrontFault.{FrontFault}
-use Rattle.jr_front.specs.declared.fault.FrontFault.TheVariants as fault
+use Rattle.jr_front.specs.declared.workspace.Workspace.{Workspace}
 
 units_shaped : {found : List (List ℕ × List ℕ)} {units : List UnitAt} → AreUnitsOf found units → AllByRecursion IsShaped (map (λ u. u.unit) units)
 units_shaped none = tt
@@ -18,11 +18,12 @@ units_shaped (more is rest) = (is.reads.shaped, units_shaped rest)
 pub read_shaped : (found : FileMap) (p : Program) → ReadsAs found (Ok p) → AllByRecursion IsShaped (map (λ u. u.unit) p.units)
 read_shaped found p (one_program few are within units) = units_shaped units
 
-pub accepts : (found : FileMap) (p : Program) → ReadsAs found (Ok p) → CheckedAs found (Ok tt)
-accepts found p reads = accepted reads
+-- what is said of files, by what is said of their program
+pub opened : (found : FileMap) (p : Program) (result : Result Workspace FrontFault) → ReadsAs found (Ok p) → IfErr result IsOfPrograms → CheckedAs found (forgotten result)
+opened found p (Ok workspace) reads is = accepted reads
+opened found p (Err why) reads is = refused reads is
 
-pub refuses : (found : FileMap) (p : Program) (why : FrontFault) → ReadsAs found (Ok p) → IsOfPrograms why → CheckedAs found (Err why)
-refuses found p why reads is = refused reads is
-
-pub forgets : (found : FileMap) (p : Program) → ReadsAs found (Ok p) → CheckedAs found (Err fault.OutOfMemory)
-forgets found p reads = refused reads tt
+pub opened_program : (found : FileMap) (p : Program) (result : Result Workspace FrontFault) → ReadsAs found (Ok p) → IfOk result (λ workspace. workspace.program ≡ p)
+    → IfOk result (λ workspace. ReadsAs found (Ok workspace.program))
+opened_program found p (Ok workspace) reads same = subst (λ (q : Program). ReadsAs found (Ok q)) (sym same) reads
+opened_program found p (Err why) reads same = tt

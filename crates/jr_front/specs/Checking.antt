@@ -8,6 +8,7 @@ use Rattle.jr_read.specs.declared.fault.ReadFault.{ReadFault}
 use Rattle.jr_read.specs.declared.fault.ReadFault.TheVariants as unread
 use Rattle.jr_front.specs.declared.fault.FrontFault.{FrontFault}
 use Rattle.jr_front.specs.declared.fault.FrontFault.TheVariants as fault
+use Rattle.jr_front.specs.declared.workspace.Workspace.{Workspace}
 
 -- why files are no program, as a reason why they do not compile
 abbrev pub fault_of : ReadFault → FrontFault
@@ -31,3 +32,8 @@ pub data CheckedAs (found : FileMap) : Result (Unit {0}) FrontFault → Type 0 w
   accepted : {program : Program} → ReadsAs found (Ok program) → CheckedAs found (Ok tt)
   refused : {program : Program} {why : FrontFault} → ReadsAs found (Ok program) → IsOfPrograms why → CheckedAs found (Err why)
   not_read : {why : ReadFault} → ReadsAs found (Err why) → CheckedAs found (Err (fault_of why))
+
+-- what is found, without its tables
+abbrev pub forgotten : Result Workspace FrontFault → Result (Unit {0}) FrontFault
+forgotten (Ok workspace) = Ok tt
+forgotten (Err why) = Err why

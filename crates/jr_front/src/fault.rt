@@ -2,7 +2,7 @@
 ghost use Rattle.std.specs.Prelude.{◌≡◌};
 ghost use Rattle.jr_front.specs.Checking.{fault_of};
 
-use jr_base::{CuId, Place, Size};
+use jr_base::{CuId, OutOfMemory, Place, Size};
 use jr_lex::LexFault;
 use jr_parse::ParseFault;
 use jr_read::ReadFault;
@@ -30,6 +30,17 @@ pub enum FrontFault {
     Broken(Rule, Place),
     /// An allocation failed.
     OutOfMemory,
+}
+
+impl From<OutOfMemory> for FrontFault {
+    ghost use Rattle.std.specs.Prelude.{◌≡◌};
+    ghost use Rattle.jr_front.specs.declared.fault.FrontFault.TheVariants.{OutOfMemory};
+
+    ghost from_gives = { λ _ e. e ≡ OutOfMemory };
+
+    fn from(_: OutOfMemory) -> Self {
+        FrontFault::OutOfMemory
+    }
 }
 
 /// Why files are no program, as a reason why they do not compile.

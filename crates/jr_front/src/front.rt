@@ -1,62 +1,31 @@
-// Whether files compile.
-ghost use Rattle.std.specs.Prelude.{IfOk, IfSome, map};
+// Whether files compile, and their tables where they do.
+ghost use Rattle.std.specs.Prelude.{◌≡◌, IfErr, IfOk, Ok, map};
 ghost use Rattle.std.specs.List.{AllByRecursion};
 ghost use Rattle.jr_tree.specs.Shape.{IsShaped};
-ghost use Rattle.jr_front.specs.Checking.{CheckedAs, IsOfPrograms};
+ghost use Rattle.jr_read.specs.Reading.{ReadsAs};
+ghost use Rattle.jr_front.specs.Checking.{CheckedAs, IsOfPrograms, forgotten};
 
 use crate::broken::first_broken;
 use crate::fault::{FrontFault, unread};
 use crate::modifiers::modifier_faults;
 use crate::placed::first_misplaced;
 use crate::unbound::first_unbound;
-use jr_base::{Files, OutOfMemory, Place};
-use jr_bind::{Binding, Bound, bind};
+use crate::workspace::Workspace;
+use jr_base::{Files, OutOfMemory};
+use jr_bind::{Binding, Bound, bind, boxed};
 use jr_defs::{Program, Referent};
 use jr_flow_faults::flow_faults;
 use jr_index::Index;
-use jr_lookup::{Scopes, Sight};
+use jr_lookup::Scopes;
 use jr_marks::Marks;
 use jr_member_faults::{member_faults, top_type_faults};
-use jr_members::World;
 use jr_name_faults::name_faults;
 use jr_places::Places;
 use jr_read::read;
-use jr_rows::Row;
 use jr_rule::Fault;
-use jr_supers::Tabled;
 use jr_type_faults::type_faults;
-use jr_types::find_string;
 use jr_view::View;
 use std::alloc::Global;
-
-// The program of the rows, as rules read it.
-fn view_of<'a>(
-    rows: &'a [Row],
-    places: &'a Places,
-    scopes: &'a Scopes,
-    bound: &'a Bound,
-) -> View<'a> {
-    let under = Tabled {
-        rows,
-        places,
-        table: &bound.table,
-    };
-    let world = World {
-        under,
-        supers: &bound.supers,
-        members: &bound.members,
-    };
-    View {
-        sight: Sight {
-            world,
-            scopes,
-            imports: &bound.imports,
-        },
-        types: &bound.types,
-        constants: &bound.constants,
-        string: find_string(rows),
-    }
-}
 
 // The rules that the program breaks.
 fn faults_of(alloc: Global, marks: Marks, view: View) -> Result<Vec<Fault>, OutOfMemory> {
@@ -69,95 +38,133 @@ fn faults_of(alloc: Global, marks: Marks, view: View) -> Result<Vec<Fault>, OutO
     Ok(faults)
 }
 
-// The first top-level type whose name another has, or a package (JLS 7.1, 7.6).
-fn first_duplicate(
-    alloc: Global,
-    marks: Marks,
-    places: &Places,
-) -> Result<Option<Place>, OutOfMemory> {
+// That no two top-level types have one name, and none that of a package (JLS 7.1, 7.6).
+fn judge_names(alloc: Global, marks: Marks, places: &Places) -> Result<(), FrontFault>
+    ensures { IfErr result IsOfPrograms }
+{
     let mut faults = Vec::new(alloc);
     top_type_faults(alloc, marks.rows, places, &mut faults)?;
     match first_broken(&faults, marks) {
-        Some((_, place)) => Ok(Some(place)),
-        None => Ok(None),
+        Some((_, place)) => Err(FrontFault::Duplicate(place)),
+        None => Ok(()),
     }
 }
 
-// Why a program with this binding does not compile, if it does not.
-fn judge_bound(
-    alloc: Global,
-    marks: Marks,
-    table: &[Referent],
-    view: View,
-) -> Result<Option<FrontFault>, OutOfMemory>
-    ensures { IfOk result (λ why. IfSome why IsOfPrograms) }
+// That all names have a declaration.
+fn judge_table(marks: Marks, table: &[Referent]) -> Result<(), FrontFault>
+    ensures { IfErr result IsOfPrograms }
 {
-    if let Some(place) = first_unbound(marks, table) {
-        return Ok(Some(FrontFault::Unbound(place)));
+    match first_unbound(marks, table) {
+        Some(place) => Err(FrontFault::Unbound(place)),
+        None => Ok(()),
     }
+}
+
+// That no rule is broken.
+fn judge_rules(alloc: Global, marks: Marks, view: View) -> Result<(), FrontFault>
+    ensures { IfErr result IsOfPrograms }
+{
     let faults = faults_of(alloc, marks, view)?;
     match first_broken(&faults, marks) {
-        Some((rule, place)) => Ok(Some(FrontFault::Broken(rule, place))),
-        None => Ok(None),
+        Some((rule, place)) => Err(FrontFault::Broken(rule, place)),
+        None => Ok(()),
     }
 }
 
-// Why the program does not bind or compile, if it does not.
-fn judge_placed(
+// That the program with this binding compiles.
+fn judge(alloc: Global, marks: Marks, view: View) -> Result<(), FrontFault>
+    ensures { IfErr result IsOfPrograms }
+{
+    judge_table(marks, view.sight.world.under.table)?;
+    judge_rules(alloc, marks, view)
+}
+
+// That each unit stands at its place.
+fn judge_paths(program: &Program) -> Result<(), FrontFault>
+    ensures { IfErr result IsOfPrograms }
+{
+    match first_misplaced(program) {
+        Some(cu) => Err(FrontFault::PathMismatch(cu)),
+        None => Ok(()),
+    }
+}
+
+// The places of rows, where no top-level type has the name of another.
+fn places_of(alloc: Global, marks: Marks) -> Result<Box<Places>, FrontFault>
+    ensures { IfErr result IsOfPrograms }
+{
+    let places = boxed(alloc, Places::of(alloc, marks.rows))?;
+    judge_names(alloc, marks, &places)?;
+    Ok(places)
+}
+
+// The binding, where no type is its own supertype.
+fn bound_of(
     alloc: Global,
     marks: Marks,
     places: &Places,
-) -> Result<Option<FrontFault>, OutOfMemory>
-    ensures { IfOk result (λ why. IfSome why IsOfPrograms) }
+    scopes: &Scopes,
+) -> Result<Box<Bound>, FrontFault>
+    ensures { IfErr result IsOfPrograms }
 {
-    let scopes = Scopes::of(alloc, marks.rows, places)?;
-    match bind(alloc, marks.rows, places, &scopes)? {
-        Binding::Bound(bound) => judge_bound(
-            alloc,
-            marks,
-            &bound.table,
-            view_of(marks.rows, places, &scopes, &bound),
-        ),
-        Binding::Cycle(row) => Ok(Some(FrontFault::Cycle(marks.name_place(row)))),
+    match bind(alloc, marks.rows, places, scopes)? {
+        Binding::Bound(bound) => Ok(bound),
+        Binding::Cycle(row) => Err(FrontFault::Cycle(marks.name_place(row))),
     }
 }
 
-// Why the program does not compile, if it does not.
-fn judge(alloc: Global, marks: Marks) -> Result<Option<FrontFault>, OutOfMemory>
-    ensures { IfOk result (λ why. IfSome why IsOfPrograms) }
+// The tables of a program, which is not tested against the rules.
+fn bound_program(
+    alloc: Global,
+    program: Program,
+    index: Box<Index>,
+) -> Result<Workspace, FrontFault>
+    ensures same { IfOk result (λ workspace. workspace.program ≡ program) }
+    ensures err { IfErr result IsOfPrograms }
 {
-    let places = Places::of(alloc, marks.rows)?;
-    match first_duplicate(alloc, marks, &places)? {
-        Some(place) => Ok(Some(FrontFault::Duplicate(place))),
-        None => judge_placed(alloc, marks, &places),
-    }
+    let places = places_of(alloc, Marks::of(&program, &index))?;
+    let scopes = boxed(alloc, Scopes::of(alloc, index.rows(), &places))?;
+    let bound = bound_of(alloc, Marks::of(&program, &index), &places, &scopes)?;
+    Ok(Workspace {
+        program,
+        index,
+        places,
+        scopes,
+        bound,
+    })
 }
 
-// Why the program that was read does not compile, if it does not.
-fn judge_program(alloc: Global, program: &Program) -> Result<Option<FrontFault>, OutOfMemory>
-    requires { AllByRecursion IsShaped (map (λ u. u.unit) program.now.units) }
-    ensures { IfOk result (λ why. IfSome why IsOfPrograms) }
+/// The program with its tables, where it compiles, and else the first reason why it does not. Two of its units may have one path.
+pub fn open_program(alloc: Global, program: Program) -> Result<Workspace, FrontFault>
+    requires { AllByRecursion IsShaped (map (λ u. u.unit) program.units) }
+    ensures same { IfOk result (λ workspace. workspace.program ≡ program) }
+    ensures err { IfErr result IsOfPrograms }
 {
-    match first_misplaced(program) {
-        Some(cu) => Ok(Some(FrontFault::PathMismatch(cu))),
-        None => {
-            let index = Index::build(alloc, program)?;
-            judge(alloc, Marks::of(program, &index))
-        }
+    judge_paths(&program)?;
+    let index = boxed(alloc, Index::build(alloc, &program))?;
+    let workspace = bound_program(alloc, program, index)?;
+    judge(alloc, workspace.marks(), workspace.view())?;
+    Ok(workspace)
+}
+
+/// The program of the files with its tables, where they compile, and else the first reason why they do not.
+#[tactic(auto, using(crate::proofs::Reading::read_shaped, crate::proofs::Reading::opened, crate::proofs::Reading::opened_program))]
+pub fn open_files(alloc: Global, files: &Files) -> Result<Workspace, FrontFault>
+    ensures ok { IfOk result (λ workspace. ReadsAs files.now (Ok workspace.program)) }
+    ensures checked { CheckedAs files.now (forgotten result) }
+{
+    match read(alloc, files) {
+        Ok(program) => open_program(alloc, program),
+        Err(fault) => Err(unread(fault)),
     }
 }
 
 /// Whether the files compile, and else the first reason why they do not.
-#[tactic(auto, using(crate::proofs::Reading::read_shaped, crate::proofs::Reading::accepts, crate::proofs::Reading::refuses, crate::proofs::Reading::forgets))]
 pub fn check_files(alloc: Global, files: &Files) -> Result<(), FrontFault>
     ensures { CheckedAs files.now result }
 {
-    match read(alloc, files) {
-        Ok(program) => match judge_program(alloc, &program) {
-            Ok(None) => Ok(()),
-            Ok(Some(fault)) => Err(fault),
-            Err(_) => Err(FrontFault::OutOfMemory),
-        },
-        Err(fault) => Err(unread(fault)),
+    match open_files(alloc, files) {
+        Ok(_) => Ok(()),
+        Err(fault) => Err(fault),
     }
 }

@@ -1,4 +1,4 @@
-//! Whether files compile: their program and its binding, or the first reason why there is none.
+//! Whether files compile: their program with its tables, or the first reason why there is none.
 #![tactic(auto)]
 
 mod broken;
@@ -7,6 +7,8 @@ mod front;
 mod modifiers;
 mod placed;
 mod unbound;
+mod workspace;
 
 pub use fault::FrontFault;
-pub use front::check_files;
+pub use front::{check_files, open_files, open_program};
+pub use workspace::{Workspace, view_of};

@@ -1,6 +1,8 @@
 -- Files with their tokens and trees, one after another.
 use Rattle.std.proofs.Common.{◌≡◌, ℕ, zero, suc, ◌+◌, ◌<◌, ◌≤◌, nat_lt, Bool, true, false, List, [], ◌∷◌, ◌++◌, length, map, get_or, Some, None, Ok, Err, Result, refl, sym, ap, subst, ◌∙◌, arith}
 use Rattle.std.proofs.lemmas.Bool.{ltb-false}
+use Rattle.std.specs.List.{AllByRecursion}
+use Rattle.jr_tree.specs.Shape.{IsShaped}
 use Rattle.jr_base.specs.declared.limits.Size.TheVariants as size
 use Rattle.jr_base.specs.declared.limits.TheConstants.Limits as limits
 use Rattle.jr_defs.specs.Program.{IsUnitOf, AreUnitsOf, none as no_units, more as more_units}
@@ -40,7 +42,7 @@ pub trees_are_units : {all : List Lexed} {units : List UnitAt} → AreTrees all 
 trees_are_units no_trees = tt
 trees_are_units (more_trees {u = u} one rest) = ((u.unit, one.reading), trees_are_units rest)
 
-unit_of : {path bytes : List ℕ} {one : Lexed} {u : UnitAt} → IsLexed path bytes one → IsTreeOf one u → IsUnitOf path bytes u
+pub unit_of : {path bytes : List ℕ} {one : Lexed} {u : UnitAt} → IsLexed path bytes one → IsTreeOf one u → IsUnitOf path bytes u
 unit_of {bytes = bytes} {one = one} {u = u} lexed tree = record {
   at = tree.at ∙ lexed.at;
   holds = tree.holds ∙ lexed.holds;
@@ -55,6 +57,10 @@ unit_of {bytes = bytes} {one = one} {u = u} lexed tree = record {
 pub units_of : {fs : List (List ℕ × List ℕ)} {all : List Lexed} {units : List UnitAt} → AreLexed fs all → AreTrees all units → AreUnitsOf fs units
 units_of none no_trees = no_units
 units_of (more lexed more_lexed) (more_trees tree trees) = more_units (unit_of lexed tree) (units_of more_lexed trees)
+
+pub units_shaped : {fs : List (List ℕ × List ℕ)} {units : List UnitAt} → AreUnitsOf fs units → AllByRecursion IsShaped (map (λ u. u.unit) units)
+units_shaped no_units = tt
+units_shaped (more_units is rest) = (is.reads.shaped, units_shaped rest)
 
 -- where no size passes its limit, there are at most 4,096 files
 pub few_files : (fs : List (List ℕ × List ℕ)) → first_too_large fs ≡ None → length fs ≤ limits.FILES

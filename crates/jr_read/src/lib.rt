@@ -10,4 +10,4 @@ mod sizes;
 pub use fault::ReadFault;
 pub use lexed::Lexed;
 pub use prelude::{io_source, lang_source};
-pub use program::read;
+pub use program::{read, read_unit, read_units};

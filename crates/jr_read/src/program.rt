@@ -1,7 +1,9 @@
 // The program of files.
-ghost use Rattle.std.specs.Prelude.{◌≡◌, ◌+◌, ◌<◌, ◌≤◌, ◌^◌, ◌++◌, length, IfOk, IfErr, Err, List, ℕ};
+ghost use Rattle.std.specs.Prelude.{◌≡◌, ◌+◌, ◌<◌, ◌≤◌, ◌^◌, ◌++◌, length, map, IfOk, IfErr, Err, List, ℕ};
+ghost use Rattle.std.specs.List.{AllByRecursion};
 ghost use Rattle.jr_base.specs.Files.{plain};
-ghost use Rattle.jr_defs.specs.Program.{prelude_files};
+ghost use Rattle.jr_defs.specs.Program.{AreUnitsOf, IsUnitOf, prelude_files};
+ghost use Rattle.jr_tree.specs.Shape.{IsShaped};
 ghost use Rattle.jr_read.specs.Reading.{ReadsAs, IsLexed, IsUnlexed, AreLexed, IsLexing, IsTreeOf, AreTrees, IsUnparsed, IsParsing, ParsesAs, passes, kinds_of, offset_in};
 ghost use Rattle.jr_read.specs.Reading as reading;
 ghost use Rattle.jr_parse.specs.Answers.{Answers};
@@ -52,7 +54,7 @@ fn lex_files(
 
 // All files with their tokens, the prelude first.
 fn lex_all(alloc: Global, files: &[(Path, Vec<u8>)]) -> Result<Vec<Lexed>, ReadFault>
-    requires { length (plain files.now) ≤ 4096 }
+    requires { length (plain files.now) + 2 < 2 ^ 32 }
     ensures ok { IfOk result (λ all. AreLexed (prelude_files ++ plain files.now) all.items) }
     ensures err { IfErr result (IsLexing (prelude_files ++ plain files.now)) }
 {
@@ -165,6 +167,43 @@ pub fn read(alloc: Global, files: &Files) -> Result<Program, ReadFault>
     }
     match lex_all(alloc, files.entries()) {
         Ok(lexed) => parse_few(alloc, lexed),
+        Err(fault) => Err(fault),
+    }
+}
+
+// The trees of all files, however many tokens they have.
+fn parse_units(alloc: Global, lexed: Vec<Lexed>) -> Result<Program, ReadFault>
+    ensures { IfOk result (λ program. AreTrees lexed.items program.units) }
+{
+    if lexed.len() >= u32::MAX as usize {
+        return Err(ReadFault::OutOfMemory);
+    }
+    parse_all(alloc, lexed)
+}
+
+/// The tree of one file, whose fault names the unit by the number that is given.
+#[tactic(auto, using(crate::proofs::Readings::unit_of))]
+pub fn read_unit(alloc: Global, path: Path, bytes: &[u8], cu: CuId) -> Result<UnitAt, ReadFault>
+    ensures { IfOk result (IsUnitOf path bytes.now) }
+{
+    match lex_file(alloc, path, bytes, cu) {
+        Ok(lexed) => parse_file(alloc, lexed, cu),
+        Err(fault) => Err(fault),
+    }
+}
+
+/// The program of files in the order that is given: the two units of the prelude, and then the unit of each file. No size is tested, and two files may
+/// have one path. Where they are none, the first reason: bytes that are no tokens, tokens that are no unit.
+#[tactic(auto, using(crate::proofs::Readings::units_of, crate::proofs::Readings::lexed_count, crate::proofs::Readings::units_shaped))]
+pub fn read_units(alloc: Global, files: &[(Path, Vec<u8>)]) -> Result<Program, ReadFault>
+    ensures ok { IfOk result (λ program. AreUnitsOf (prelude_files ++ plain files.now) program.units) }
+    ensures shaped { IfOk result (λ program. AllByRecursion IsShaped (map (λ u. u.unit) program.units)) }
+{
+    if files.len() >= 0x8000_0000 {
+        return Err(ReadFault::OutOfMemory);
+    }
+    match lex_all(alloc, files) {
+        Ok(lexed) => parse_units(alloc, lexed),
         Err(fault) => Err(fault),
     }
 }

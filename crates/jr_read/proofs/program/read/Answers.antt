@@ -25,3 +25,8 @@ pub returns-in-Err : goal.returns-in-Err
 returns-in-Err c =
     let few = ap first_too_large (sym c.entries.ensures) ∙ sym c.in_default.ensures in
     lexing_so c.args.files.now few c.in-Err.fault (subst (λ (fs : List (List ℕ × List ℕ)). IsLexing (prelude_files ++ fs) c.in-Err.fault) c.entries-2.ensures c.in-Err.ensures.err)
+
+pub lex_all-requires : goal.lex_all-requires
+lex_all-requires c =
+    let few : first_too_large (plain c.entries-2.result.now) ≡ None = ap first_too_large (c.entries-2.ensures ∙ sym c.entries.ensures) ∙ sym c.in_default.ensures in
+    omega (arith, few_files (plain c.entries-2.result.now) few)

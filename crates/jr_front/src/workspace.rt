@@ -1,0 +1,63 @@
+// A program that compiles, with its tables.
+use jr_bind::Bound;
+use jr_defs::Program;
+use jr_index::Index;
+use jr_lookup::{Scopes, Sight};
+use jr_marks::Marks;
+use jr_members::World;
+use jr_places::Places;
+use jr_rows::Row;
+use jr_supers::Tabled;
+use jr_types::find_string;
+use jr_view::View;
+
+/// A program that compiles, with its rows, its binding and what lookup reads.
+#[derive(Drop)]
+pub struct Workspace {
+    pub program: Program,
+    pub index: Box<Index>,
+    pub places: Box<Places>,
+    pub scopes: Box<Scopes>,
+    pub bound: Box<Bound>,
+}
+
+impl Workspace {
+    /// Where the rows stand in texts.
+    pub fn marks(&self) -> Marks<'_> {
+        Marks::of(&self.program, &self.index)
+    }
+
+    /// The tables.
+    pub fn view(&self) -> View<'_> {
+        view_of(self.index.rows(), &self.places, &self.scopes, &self.bound)
+    }
+}
+
+/// The tables of rows under a binding.
+pub fn view_of<'a>(
+    rows: &'a [Row],
+    places: &'a Places,
+    scopes: &'a Scopes,
+    bound: &'a Bound,
+) -> View<'a> {
+    let under = Tabled {
+        rows,
+        places,
+        table: &bound.table,
+    };
+    let world = World {
+        under,
+        supers: &bound.supers,
+        members: &bound.members,
+    };
+    View {
+        sight: Sight {
+            world,
+            scopes,
+            imports: &bound.imports,
+        },
+        types: &bound.types,
+        constants: &bound.constants,
+        string: find_string(rows),
+    }
+}
