@@ -22,7 +22,7 @@ pub fn switch_of(rows: &[Row], at: u32) -> u32
 }
 
 // The value of the label `case`, as one of the type of its switch.
-fn case_value(view: View, at: u32) -> Option<Value> {
+fn case_value(view: &View, at: u32) -> Option<Value> {
     let rows = view.sight.world.under.rows;
     if !is_case(rows, at) {
         return None;
@@ -49,7 +49,7 @@ struct Met {
 
 impl Met {
     // The value of a label `case` was met before in its switch; now it is.
-    fn meet_value(&mut self, view: View, at: u32) -> Result<bool, OutOfMemory> {
+    fn meet_value(&mut self, view: &View, at: u32) -> Result<bool, OutOfMemory> {
         let Some(value) = case_value(view, at) else {
             return Ok(false);
         };
@@ -68,7 +68,7 @@ impl Met {
 }
 
 /// The labels of switches that have the same one before them.
-pub fn repeated_of(alloc: Global, view: View, count: u32) -> Result<Vec<bool>, OutOfMemory> {
+pub fn repeated_of(alloc: Global, view: &View, count: u32) -> Result<Vec<bool>, OutOfMemory> {
     let rows = view.sight.world.under.rows;
     let mut met = Met {
         values: HashMap::new(alloc),

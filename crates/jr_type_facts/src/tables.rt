@@ -71,7 +71,7 @@ fn item_type(ty: RowType) -> Option<RowType> {
 }
 
 // The type of what a row holds as an initializer, where that of a list is known.
-fn held_by(view: View, over: u32, of_list: Option<RowType>) -> Option<RowType> {
+fn held_by(view: &View, over: u32, of_list: Option<RowType>) -> Option<RowType> {
     let under = view.sight.world.under;
     match under.rows.get(over as usize) {
         Some(row) => match row.label {
@@ -90,7 +90,7 @@ fn held_by(view: View, over: u32, of_list: Option<RowType>) -> Option<RowType> {
 }
 
 // The type that a row stands for as an initializer, by those of the rows before it.
-fn initializer_by(view: View, known: &[Option<RowType>], at: u32) -> Option<RowType> {
+fn initializer_by(view: &View, known: &[Option<RowType>], at: u32) -> Option<RowType> {
     let over = parent_at(view.sight.world.under.rows, at);
     let of_list = match known.get(over as usize) {
         Some(ty) => *ty,
@@ -101,7 +101,7 @@ fn initializer_by(view: View, known: &[Option<RowType>], at: u32) -> Option<RowT
 
 fn initializers_of(
     alloc: Global,
-    view: View,
+    view: &View,
     count: u32,
 ) -> Result<Vec<Option<RowType>>, OutOfMemory> {
     let mut all = Vec::new(alloc);
@@ -136,9 +136,9 @@ impl Tables {
         };
         let members = members_of(alloc, rows, count)?;
         let calls = calls_of(alloc, rows, count)?;
-        let initializers = initializers_of(alloc, view, count)?;
+        let initializers = initializers_of(alloc, &view, count)?;
         let rounds = rounds_of(alloc, view.sight.world.under, count)?;
-        let repeated = repeated_of(alloc, view, count)?;
+        let repeated = repeated_of(alloc, &view, count)?;
         Ok(Tables {
             members,
             calls,

@@ -4,7 +4,7 @@ use jr_members::is_abstract;
 use jr_type_facts::{Facts, is_new, is_super_call};
 
 // A creation of an abstract class or an interface.
-fn creates_abstract(facts: Facts, at: u32) -> bool {
+fn creates_abstract(facts: &Facts, at: u32) -> bool {
     if !is_new(facts.rows(), at) {
         return false;
     }
@@ -15,7 +15,7 @@ fn creates_abstract(facts: Facts, at: u32) -> bool {
 }
 
 // A call of an abstract method through `super`.
-fn calls_abstract(facts: Facts, at: u32) -> bool {
+fn calls_abstract(facts: &Facts, at: u32) -> bool {
     if !is_super_call(facts.rows(), at) {
         return false;
     }
@@ -26,6 +26,6 @@ fn calls_abstract(facts: Facts, at: u32) -> bool {
 }
 
 /// A creation of an abstract class or an interface, or a call of an abstract method through `super`.
-pub fn abstract_is_used(facts: Facts, at: u32) -> bool {
+pub fn abstract_is_used(facts: &Facts, at: u32) -> bool {
     creates_abstract(facts, at) || calls_abstract(facts, at)
 }

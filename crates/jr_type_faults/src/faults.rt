@@ -24,7 +24,7 @@ fn push_if(is_broken: bool, row: u32, rule: Rule, out: &mut Vec<Fault>) -> Resul
 }
 
 // Objects, initializers, constructors and what is thrown.
-fn push_contexts(facts: Facts, at: u32, out: &mut Vec<Fault>) -> Result<(), OutOfMemory> {
+fn push_contexts(facts: &Facts, at: u32, out: &mut Vec<Fault>) -> Result<(), OutOfMemory> {
     push_if(lacks_object(facts, at), at, Rule::StaticContext, out)?;
     push_if(
         is_used_too_early(facts, at),
@@ -42,7 +42,7 @@ fn push_contexts(facts: Facts, at: u32, out: &mut Vec<Fault>) -> Result<(), OutO
 }
 
 // Operands, values, variables, casts and conditions.
-fn push_values(facts: Facts, at: u32, out: &mut Vec<Fault>) -> Result<(), OutOfMemory> {
+fn push_values(facts: &Facts, at: u32, out: &mut Vec<Fault>) -> Result<(), OutOfMemory> {
     push_if(operands_do_not_fit(facts, at), at, Rule::Operands, out)?;
     push_if(value_does_not_fit(facts, at), at, Rule::Assignable, out)?;
     push_if(is_no_variable(facts, at), at, Rule::Variable, out)?;
@@ -56,7 +56,7 @@ fn push_values(facts: Facts, at: u32, out: &mut Vec<Fault>) -> Result<(), OutOfM
 }
 
 // Switches, void calls, returns, what is abstract, arrays and branches.
-fn push_uses(facts: Facts, at: u32, out: &mut Vec<Fault>) -> Result<(), OutOfMemory> {
+fn push_uses(facts: &Facts, at: u32, out: &mut Vec<Fault>) -> Result<(), OutOfMemory> {
     push_if(switch_does_not_fit(facts, at), at, Rule::Switch, out)?;
     push_if(void_is_used(facts, at), at, Rule::VoidValue, out)?;
     push_if(return_does_not_fit(facts, at), at, Rule::Return, out)?;
@@ -76,9 +76,9 @@ pub fn type_faults(alloc: Global, view: View, out: &mut Vec<Fault>) -> Result<()
         return Err(OutOfMemory);
     };
     for at in 0..count {
-        push_contexts(facts, at, out)?;
-        push_values(facts, at, out)?;
-        push_uses(facts, at, out)?;
+        push_contexts(&facts, at, out)?;
+        push_values(&facts, at, out)?;
+        push_uses(&facts, at, out)?;
     }
     Ok(())
 }

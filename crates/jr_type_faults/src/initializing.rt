@@ -33,12 +33,12 @@ fn is_field(rows: &[Row], at: u32) -> bool {
 }
 
 // Both the place and the field are static, or neither is.
-fn are_alike(facts: Facts, at: u32, field: u32) -> bool {
+fn are_alike(facts: &Facts, at: u32, field: u32) -> bool {
     is_in_static_context(facts.rows(), facts.places(), at) == is_static(facts.rows(), field)
 }
 
 // The place stands in an initializer of the innermost type.
-fn is_in_initializer(facts: Facts, at: u32) -> bool {
+fn is_in_initializer(facts: &Facts, at: u32) -> bool {
     match facts.tables.member(at) {
         Some(member) => is_initializing(facts.rows(), member),
         None => false,
@@ -46,7 +46,7 @@ fn is_in_initializer(facts: Facts, at: u32) -> bool {
 }
 
 // The innermost type declares the member.
-fn is_of_innermost(facts: Facts, at: u32, member: u32) -> bool {
+fn is_of_innermost(facts: &Facts, at: u32, member: u32) -> bool {
     match facts.places().around(at) {
         Some(class) => declaring_type(facts.rows(), member) == Some(class),
         None => false,
@@ -54,7 +54,7 @@ fn is_of_innermost(facts: Facts, at: u32, member: u32) -> bool {
 }
 
 // A field of the innermost class that is declared later or is being initialized.
-fn is_early(facts: Facts, at: u32, field: u32) -> bool {
+fn is_early(facts: &Facts, at: u32, field: u32) -> bool {
     is_field(facts.rows(), field)
         && at < end_at(facts.rows(), field)
         && is_of_innermost(facts, at, field)
@@ -63,7 +63,7 @@ fn is_early(facts: Facts, at: u32, field: u32) -> bool {
 }
 
 /// In an initializer, such a field by its simple name, other than as the left side of a plain assignment.
-pub fn is_used_too_early(facts: Facts, at: u32) -> bool {
+pub fn is_used_too_early(facts: &Facts, at: u32) -> bool {
     if !is_simple(facts.rows(), at) || is_assigned_to(facts.rows(), at) {
         return false;
     }

@@ -22,7 +22,7 @@ fn is_behind_dot(all: &[Row], at: u32) -> bool
 }
 
 // The class of which `this`, `T.this` or `super` needs an object.
-fn object_of(facts: Facts, at: u32) -> Option<u32> {
+fn object_of(facts: &Facts, at: u32) -> Option<u32> {
     match facts.rows().get(at as usize) {
         Some(row) => match row.label {
             Label::This { is_qualified } => {
@@ -43,7 +43,7 @@ fn object_of(facts: Facts, at: u32) -> Option<u32> {
 }
 
 // The class of which an instance member without receiver needs an object.
-fn object_of_member(facts: Facts, at: u32) -> Option<u32> {
+fn object_of_member(facts: &Facts, at: u32) -> Option<u32> {
     match facts.under().referent(at) {
         Referent::Declared { row, level } => {
             if is_instance_member(facts.rows(), row) {
@@ -57,7 +57,7 @@ fn object_of_member(facts: Facts, at: u32) -> Option<u32> {
 }
 
 // The class of which an object stands round one that is created.
-fn object_round(facts: Facts, at: u32) -> Option<u32> {
+fn object_round(facts: &Facts, at: u32) -> Option<u32> {
     if !is_new(facts.rows(), at) {
         return None;
     }
@@ -68,14 +68,14 @@ fn object_round(facts: Facts, at: u32) -> Option<u32> {
 }
 
 // There is an object of the class, and it is not the one whose constructor is being called.
-fn may_use(facts: Facts, at: u32, class: u32) -> bool {
+fn may_use(facts: &Facts, at: u32, class: u32) -> bool {
     if facts.tables.is_in_constructor_call(at) && facts.places().around(at) == Some(class) {
         return false;
     }
     has_instance(facts.rows(), facts.places(), at, class)
 }
 
-fn may_not_use(facts: Facts, at: u32, needed: Option<u32>) -> bool {
+fn may_not_use(facts: &Facts, at: u32, needed: Option<u32>) -> bool {
     match needed {
         Some(class) => !may_use(facts, at, class),
         None => false,
@@ -83,7 +83,7 @@ fn may_not_use(facts: Facts, at: u32, needed: Option<u32>) -> bool {
 }
 
 // An instance member behind the name of a type.
-fn is_behind_type(facts: Facts, at: u32) -> bool {
+fn is_behind_type(facts: &Facts, at: u32) -> bool {
     if !is_behind_dot(facts.rows(), at) || facts.under().named_type(at).is_none() {
         return false;
     }
@@ -94,7 +94,7 @@ fn is_behind_type(facts: Facts, at: u32) -> bool {
 }
 
 /// The object that the place needs may not be used, or an instance member stands behind the name of a type.
-pub fn lacks_object(facts: Facts, at: u32) -> bool {
+pub fn lacks_object(facts: &Facts, at: u32) -> bool {
     may_not_use(facts, at, object_of(facts, at))
         || may_not_use(facts, at, object_of_member(facts, at))
         || may_not_use(facts, at, object_round(facts, at))

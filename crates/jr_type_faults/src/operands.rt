@@ -10,12 +10,12 @@ use jr_type_facts::{
 use jr_types::{conditional_type, is_reference_or_null};
 
 // An operator whose operand has a type gives none for it.
-fn does_not_take(facts: Facts, at: u32) -> bool {
+fn does_not_take(facts: &Facts, at: u32) -> bool {
     takes_one(facts.rows(), at) && facts.first(at).is_some() && facts.type_of(at).is_none()
 }
 
 // An operator whose two operands have types gives none for them.
-fn does_not_take_both(facts: Facts, at: u32) -> bool {
+fn does_not_take_both(facts: &Facts, at: u32) -> bool {
     takes_two(facts.rows(), at)
         && facts.first(at).is_some()
         && facts.second(at).is_some()
@@ -23,7 +23,7 @@ fn does_not_take_both(facts: Facts, at: u32) -> bool {
 }
 
 // Two branches that `?:` takes neither as references nor otherwise.
-fn are_no_branches(facts: Facts, at: u32, left: RowType, right: RowType) -> bool {
+fn are_no_branches(facts: &Facts, at: u32, left: RowType, right: RowType) -> bool {
     if is_reference(left) && is_reference(right) {
         return false;
     }
@@ -37,7 +37,7 @@ fn are_no_branches(facts: Facts, at: u32, left: RowType, right: RowType) -> bool
 }
 
 // The types of the second and third operand of `?:`.
-fn branches(facts: Facts, at: u32) -> Option<(RowType, RowType)> {
+fn branches(facts: &Facts, at: u32) -> Option<(RowType, RowType)> {
     if is_conditional(facts.rows(), at) {
         Some((facts.second(at)?, facts.third(at)?))
     } else {
@@ -46,7 +46,7 @@ fn branches(facts: Facts, at: u32) -> Option<(RowType, RowType)> {
 }
 
 /// An operator whose operands have types gives none for them.
-pub fn operands_do_not_fit(facts: Facts, at: u32) -> bool {
+pub fn operands_do_not_fit(facts: &Facts, at: u32) -> bool {
     if does_not_take(facts, at) || does_not_take_both(facts, at) {
         return true;
     }
@@ -57,7 +57,7 @@ pub fn operands_do_not_fit(facts: Facts, at: u32) -> bool {
 }
 
 // The expression denotes a variable, without parentheses.
-fn denotes_plainly(facts: Facts, at: u32) -> bool {
+fn denotes_plainly(facts: &Facts, at: u32) -> bool {
     match facts.under().declared(at) {
         Some(row) => is_variable(facts.rows(), row) || is_index(facts.rows(), at),
         None => is_index(facts.rows(), at),
@@ -65,7 +65,7 @@ fn denotes_plainly(facts: Facts, at: u32) -> bool {
 }
 
 // The expression denotes a variable, in any number of parentheses.
-fn denotes_variable(facts: Facts, at: u32) -> bool {
+fn denotes_variable(facts: &Facts, at: u32) -> bool {
     let mut here = at;
     for _turn in 0..facts.rows().len() {
         if denotes_plainly(facts, here) {
@@ -83,7 +83,7 @@ fn denotes_variable(facts: Facts, at: u32) -> bool {
 }
 
 /// What is assigned to or stepped is no variable.
-pub fn is_no_variable(facts: Facts, at: u32) -> bool {
+pub fn is_no_variable(facts: &Facts, at: u32) -> bool {
     let over = parent_at(facts.rows(), at);
     changes_first(facts.rows(), over)
         && at.checked_sub(1) == Some(over)
@@ -91,7 +91,7 @@ pub fn is_no_variable(facts: Facts, at: u32) -> bool {
 }
 
 // A cast that is not allowed.
-fn is_no_cast(facts: Facts, at: u32) -> bool {
+fn is_no_cast(facts: &Facts, at: u32) -> bool {
     let Some(written) = at.checked_add(1) else {
         return false;
     };
@@ -102,7 +102,7 @@ fn is_no_cast(facts: Facts, at: u32) -> bool {
 }
 
 // An `instanceof` of no reference or whose cast is not allowed.
-fn is_no_test(facts: Facts, at: u32) -> bool {
+fn is_no_test(facts: &Facts, at: u32) -> bool {
     let Some(written) = facts.second_row(at) else {
         return false;
     };
@@ -113,13 +113,13 @@ fn is_no_test(facts: Facts, at: u32) -> bool {
 }
 
 /// A cast that is not allowed, or an `instanceof` of no reference or whose cast is not allowed (JLS 15.16, 15.20.2).
-pub fn cast_is_not_allowed(facts: Facts, at: u32) -> bool {
+pub fn cast_is_not_allowed(facts: &Facts, at: u32) -> bool {
     (is_cast(facts.rows(), at) && is_no_cast(facts, at))
         || (is_test(facts.rows(), at) && is_no_test(facts, at))
 }
 
 // Two reference types of which neither is assignable to the other.
-fn are_unrelated(facts: Facts, left: RowType, right: RowType) -> bool {
+fn are_unrelated(facts: &Facts, left: RowType, right: RowType) -> bool {
     is_reference(left)
         && is_reference(right)
         && !facts.is_subtype(left, right)
@@ -127,7 +127,7 @@ fn are_unrelated(facts: Facts, left: RowType, right: RowType) -> bool {
 }
 
 /// Two reference branches of `?:` of which neither is assignable to the other (JLS 15.25).
-pub fn branches_are_unrelated(facts: Facts, at: u32) -> bool {
+pub fn branches_are_unrelated(facts: &Facts, at: u32) -> bool {
     match branches(facts, at) {
         Some((left, right)) => are_unrelated(facts, left, right),
         None => false,

@@ -22,7 +22,7 @@ fn stands_alone(rows: &[Row], at: u32) -> bool {
 }
 
 // The type of the place of a value: on the right of a plain assignment, or as an initializer.
-fn place_type(facts: Facts, at: u32) -> Option<RowType> {
+fn place_type(facts: &Facts, at: u32) -> Option<RowType> {
     let over = parent_at(facts.rows(), at);
     if is_plain_assignment(facts.rows(), over) && is_second(facts.rows(), over, at) {
         return facts.first(over);
@@ -35,7 +35,7 @@ fn place_type(facts: Facts, at: u32) -> Option<RowType> {
 }
 
 /// A value that is not assignable to its place.
-pub fn value_does_not_fit(facts: Facts, at: u32) -> bool {
+pub fn value_does_not_fit(facts: &Facts, at: u32) -> bool {
     match (place_type(facts, at), facts.type_of(at)) {
         (Some(to), Some(from)) => !facts.is_assignable(at, from, to),
         _ => false,
@@ -43,7 +43,7 @@ pub fn value_does_not_fit(facts: Facts, at: u32) -> bool {
 }
 
 /// A call of a void method that is used as a value.
-pub fn void_is_used(facts: Facts, at: u32) -> bool {
+pub fn void_is_used(facts: &Facts, at: u32) -> bool {
     if !is_call(facts.rows(), at) || stands_alone(facts.rows(), at) {
         return false;
     }
@@ -54,14 +54,14 @@ pub fn void_is_used(facts: Facts, at: u32) -> bool {
 }
 
 // The row stands for an index or a length.
-fn is_counting(facts: Facts, at: u32) -> bool {
+fn is_counting(facts: &Facts, at: u32) -> bool {
     let over = parent_at(facts.rows(), at);
     is_new_array(facts.rows(), over)
         || (is_index(facts.rows(), over) && is_second(facts.rows(), over, at))
 }
 
 // An index or a length that is no int.
-fn count_is_no_int(facts: Facts, at: u32) -> bool {
+fn count_is_no_int(facts: &Facts, at: u32) -> bool {
     match facts.type_of(at) {
         Some(ty) => is_counting(facts, at) && !is_int_like(ty),
         None => false,
@@ -69,7 +69,7 @@ fn count_is_no_int(facts: Facts, at: u32) -> bool {
 }
 
 // An index of no array.
-fn indexed_is_no_array(facts: Facts, at: u32) -> bool {
+fn indexed_is_no_array(facts: &Facts, at: u32) -> bool {
     let over = parent_at(facts.rows(), at);
     if !is_index(facts.rows(), over) || at.checked_sub(1) != Some(over) {
         return false;
@@ -81,7 +81,7 @@ fn indexed_is_no_array(facts: Facts, at: u32) -> bool {
 }
 
 // A list in a place of no array type.
-fn list_is_no_array(facts: Facts, at: u32) -> bool {
+fn list_is_no_array(facts: &Facts, at: u32) -> bool {
     if !is_list(facts.rows(), at) {
         return false;
     }
@@ -92,6 +92,6 @@ fn list_is_no_array(facts: Facts, at: u32) -> bool {
 }
 
 /// An index or a length that is no int, an index of no array, and a list in a place of no array type.
-pub fn array_does_not_fit(facts: Facts, at: u32) -> bool {
+pub fn array_does_not_fit(facts: &Facts, at: u32) -> bool {
     count_is_no_int(facts, at) || indexed_is_no_array(facts, at) || list_is_no_array(facts, at)
 }

@@ -20,14 +20,14 @@ pub fn is_condition(rows: &[Row], at: u32) -> bool {
 }
 
 // Throwable or below, or the type of null (JLS 11.1.1, 14.18).
-fn is_throwable(facts: Facts, ty: RowType) -> bool {
+fn is_throwable(facts: &Facts, ty: RowType) -> bool {
     match facts.tables.throwable {
         Some(class) => facts.is_subtype(ty, class_type(class)),
         None => false,
     }
 }
 
-fn may_not_throw(facts: Facts, ty: Option<RowType>) -> bool {
+fn may_not_throw(facts: &Facts, ty: Option<RowType>) -> bool {
     match ty {
         Some(thrown) => !is_throwable(facts, thrown),
         None => false,
@@ -35,7 +35,7 @@ fn may_not_throw(facts: Facts, ty: Option<RowType>) -> bool {
 }
 
 // The class that a method or constructor declares at a row.
-fn declared_class(facts: Facts, at: u32) -> Option<RowType> {
+fn declared_class(facts: &Facts, at: u32) -> Option<RowType> {
     if is_other_name(facts.rows(), at)
         && is_callable(role_at(facts.rows(), parent_at(facts.rows(), at)))
     {
@@ -46,7 +46,7 @@ fn declared_class(facts: Facts, at: u32) -> Option<RowType> {
 }
 
 /// A thrown value, the parameter of a catch, or a class that a method or constructor declares is not Throwable or below.
-pub fn is_not_throwable(facts: Facts, at: u32) -> bool {
+pub fn is_not_throwable(facts: &Facts, at: u32) -> bool {
     if is_throw(facts.rows(), at) && may_not_throw(facts, facts.first(at)) {
         return true;
     }
@@ -59,7 +59,7 @@ pub fn is_not_throwable(facts: Facts, at: u32) -> bool {
 }
 
 /// A condition is not boolean.
-pub fn condition_is_not_boolean(facts: Facts, at: u32) -> bool {
+pub fn condition_is_not_boolean(facts: &Facts, at: u32) -> bool {
     if !is_condition(facts.rows(), at) {
         return false;
     }
@@ -70,7 +70,7 @@ pub fn condition_is_not_boolean(facts: Facts, at: u32) -> bool {
 }
 
 // The value of a return, of the second type, is not assignable to the result, of the first.
-fn value_is_not_returned(facts: Facts, at: u32, member: u32) -> bool {
+fn value_is_not_returned(facts: &Facts, at: u32, member: u32) -> bool {
     let Some(place) = at.checked_add(1) else {
         return false;
     };
@@ -81,7 +81,7 @@ fn value_is_not_returned(facts: Facts, at: u32, member: u32) -> bool {
 }
 
 // The return does not fit the member that holds it.
-fn does_not_fit_member(facts: Facts, at: u32, member: u32) -> bool {
+fn does_not_fit_member(facts: &Facts, at: u32, member: u32) -> bool {
     let has_value = facts.under().first_child(at).is_some();
     is_initializer(facts.rows(), member)
         || (gives_nothing(facts.rows(), member) && has_value)
@@ -90,7 +90,7 @@ fn does_not_fit_member(facts: Facts, at: u32, member: u32) -> bool {
 }
 
 /// A return in an initializer, with a value where none is given, without one where a result is given, or with a value that is not assignable to the result.
-pub fn return_does_not_fit(facts: Facts, at: u32) -> bool {
+pub fn return_does_not_fit(facts: &Facts, at: u32) -> bool {
     if !is_return(facts.rows(), at) {
         return false;
     }
