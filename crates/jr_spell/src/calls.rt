@@ -1,0 +1,208 @@
+// Arguments of calls, and what calls without names before them refer to.
+
+use crate::reference::Reference;
+use crate::resolving::Before;
+use crate::speller::Speller;
+use jr_base::OutOfMemory;
+use jr_change::TypeName;
+use jr_defs::{Referent, RowType};
+use jr_lookup::{Candidates, Receiver, instance_round};
+use jr_overload::choose;
+use jr_places::{end_at, parent_at};
+use jr_rows::Sought;
+use jr_supers::class_type;
+use jr_tree::ThisOrSuper;
+use std::alloc::Global;
+
+impl<'a> Speller<'a> {
+    // The first row where an argument may stand: behind the receiver, or the class that a creation names.
+    fn first_argument(self, reference: Reference) -> u32 {
+        let next = reference.row.saturating_add(1);
+        match reference.sought {
+            Sought::MethodOf => end_at(self.rows(), next),
+            Sought::Creation => end_at(self.rows(), next),
+            _ => next,
+        }
+    }
+
+    /// The types of the arguments of a call, if all are known.
+    pub fn argument_types(
+        self,
+        alloc: Global,
+        reference: Reference,
+    ) -> Result<Option<Vec<RowType>>, OutOfMemory> {
+        let mut all = Vec::new(alloc);
+        let mut child = self.first_argument(reference);
+        for _turn in 0..self.rows().len() {
+            if parent_at(self.rows(), child) != reference.row || child <= reference.row {
+                return Ok(Some(all));
+            }
+            match self.type_at(child) {
+                Some(ty) => all.push(ty)?,
+                None => return Ok(None),
+            }
+            child = end_at(self.rows(), child);
+        }
+        Ok(Some(all))
+    }
+
+    /// The types of the parameters of what a call must refer to.
+    pub fn parameter_types(
+        self,
+        alloc: Global,
+        reference: Reference,
+    ) -> Result<Option<Vec<RowType>>, OutOfMemory> {
+        let mut all = Vec::new(alloc);
+        let Some(target) = reference.target() else {
+            return Ok(None);
+        };
+        let signatures = self.world().members.signatures();
+        let Some(count) = signatures.count(target) else {
+            return Ok(None);
+        };
+        for nth in 0..count {
+            match signatures.parameter(target, nth) {
+                Some(ty) => all.push(ty)?,
+                None => return Ok(None),
+            }
+        }
+        Ok(Some(all))
+    }
+
+    /// How types are written in casts of the arguments of a call.
+    pub fn casts(
+        self,
+        alloc: Global,
+        place: u32,
+        types: &[RowType],
+    ) -> Result<Option<Vec<TypeName>>, OutOfMemory> {
+        let mut all = Vec::new(alloc);
+        for ty in types {
+            match self.written_type(alloc, place, *ty)? {
+                Some(name) => all.push(name)?,
+                None => return Ok(None),
+            }
+        }
+        Ok(Some(all))
+    }
+
+    /// What a method with names or nothing before it refers to.
+    pub fn named_method(
+        self,
+        alloc: Global,
+        reference: Reference,
+        arguments: &[RowType],
+        before: Before,
+    ) -> Result<Referent, OutOfMemory> {
+        match before {
+            Before::Nothing => {
+                self.sight()
+                    .method(alloc, reference.row, reference.name, arguments)
+            }
+            Before::OfType(class) => {
+                self.method_of(alloc, reference, arguments, Receiver { class, ty: None })
+            }
+            Before::Package(_) => Ok(Referent::Unbound),
+        }
+    }
+
+    /// What a method of a receiver refers to.
+    pub fn method_of(
+        self,
+        alloc: Global,
+        reference: Reference,
+        arguments: &[RowType],
+        receiver: Receiver,
+    ) -> Result<Referent, OutOfMemory> {
+        self.sight()
+            .method_of(alloc, reference.row, receiver, reference.name, arguments)
+    }
+
+    /// What a method of an object of a class refers to.
+    pub fn method_of_class(
+        self,
+        alloc: Global,
+        reference: Reference,
+        arguments: &[RowType],
+        class: u32,
+    ) -> Result<Referent, OutOfMemory> {
+        let receiver = Receiver {
+            class,
+            ty: Some(class_type(class)),
+        };
+        self.method_of(alloc, reference, arguments, receiver)
+    }
+
+    // What a method through `super` refers to (JLS 15.12.1).
+    fn super_method(
+        self,
+        alloc: Global,
+        reference: Reference,
+        arguments: &[RowType],
+    ) -> Result<Referent, OutOfMemory> {
+        let Some(around) = instance_round(self.rows(), self.places(), reference.row) else {
+            return Ok(Referent::Unbound);
+        };
+        match self.world().supers.superclass(around) {
+            Some(class) => {
+                self.method_of(alloc, reference, arguments, Receiver { class, ty: None })
+            }
+            None => Ok(Referent::Unbound),
+        }
+    }
+
+    // The class whose constructor is called.
+    fn called_class(self, place: u32, which: ThisOrSuper) -> Option<u32> {
+        let around = self.places().around(place)?;
+        match which {
+            ThisOrSuper::This => Some(around),
+            ThisOrSuper::Super => self.world().supers.superclass(around),
+        }
+    }
+
+    // What a call of a constructor refers to (JLS 8.8.7.1).
+    fn constructor(
+        self,
+        alloc: Global,
+        place: u32,
+        which: ThisOrSuper,
+        arguments: &[RowType],
+    ) -> Result<Referent, OutOfMemory> {
+        let Some(class) = self.called_class(place, which) else {
+            return Ok(Referent::Unbound);
+        };
+        let all = self.world().members.constructors(alloc, class)?;
+        let rows = choose(alloc, self.world(), class, place, None, arguments, &all)?;
+        Ok(Candidates { rows, level: None }.answer(Referent::Unbound))
+    }
+
+    // What a creation refers to, the class being that of its lock.
+    fn creation(
+        self,
+        alloc: Global,
+        place: u32,
+        arguments: &[RowType],
+    ) -> Result<Referent, OutOfMemory> {
+        match self.under().named_type(place) {
+            Some(class) => self.sight().creation(alloc, place, class, arguments),
+            None => Ok(Referent::Unbound),
+        }
+    }
+
+    /// What a call refers to that can be written in one way alone.
+    pub fn fixed_call(
+        self,
+        alloc: Global,
+        reference: Reference,
+        arguments: &[RowType],
+    ) -> Result<Referent, OutOfMemory> {
+        match reference.sought {
+            Sought::SuperMethod => self.super_method(alloc, reference, arguments),
+            Sought::Creation => self.creation(alloc, reference.row, arguments),
+            Sought::ConstructorCall { which } => {
+                self.constructor(alloc, reference.row, which, arguments)
+            }
+            _ => Ok(Referent::Unbound),
+        }
+    }
+}
