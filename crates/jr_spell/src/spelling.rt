@@ -82,7 +82,7 @@ impl<'a> Speller<'a> {
         }
         for nth in 0..reference.chain.len() {
             let written = self.places().name(reference.chain.row(nth));
-            if names.get(nth as usize) != Some(&written) {
+            if names.get(nth as usize).copied() != Some(written) {
                 return false;
             }
         }
@@ -94,12 +94,12 @@ impl<'a> Speller<'a> {
         if self.places().name(reference.row) != reference.name {
             return Ok(false);
         }
-        if reference.dot != Dot::Names {
-            return Ok(true);
-        }
-        match self.kept_names(alloc, reference)? {
-            Some(names) => Ok(self.are_written(reference, &names)),
-            None => Ok(false),
+        match reference.dot {
+            Dot::Names => match self.kept_names(alloc, reference)? {
+                Some(names) => Ok(self.are_written(reference, &names)),
+                None => Ok(false),
+            },
+            _ => Ok(true),
         }
     }
 
@@ -110,8 +110,13 @@ impl<'a> Speller<'a> {
         }
         for nth in 0..reference.chain.len() {
             let lock = self.under().referent(reference.chain.row(nth));
-            if trace.get(nth as usize) != Some(&lock) {
-                return false;
+            match trace.get(nth as usize) {
+                Some(found) => {
+                    if *found != lock {
+                        return false;
+                    }
+                }
+                None => return false,
             }
         }
         true
@@ -124,7 +129,7 @@ impl<'a> Speller<'a> {
         reference: Reference,
         spelling: &Spelling,
     ) -> Result<bool, OutOfMemory> {
-        if spelling.shape != Shape::Kept || !spelling.casts.is_empty() {
+        if !is_kept(spelling.shape) || !spelling.casts.is_empty() {
             return Ok(false);
         }
         if spelling.found != reference.lock || !self.is_trace_kept(reference, &spelling.trace) {
@@ -175,6 +180,14 @@ fn last_found(found: Referent, trace: &[Referent]) -> Referent {
             None => found,
         },
         _ => found,
+    }
+}
+
+/// The shape is the old one.
+fn is_kept(shape: Shape) -> bool {
+    match shape {
+        Shape::Kept => true,
+        _ => false,
     }
 }
 
