@@ -1,0 +1,103 @@
+// What is asked of a program, and places in its files.
+
+use crate::fault::StepFault;
+use jr_base::{CuId, Place, Request, Text};
+use jr_change::{Change, Project};
+use jr_defs::UnitAt;
+use jr_front::Workspace;
+use jr_locks::row_for;
+
+/// How many units the prelude has. They come first.
+pub const PRELUDE: usize = 2;
+
+/// A program that compiles, what is asked of it, and the change that this is.
+#[derive(Clone, Copy)]
+pub struct Asked<'a> {
+    pub old: &'a Workspace,
+    pub request: &'a Request,
+    pub change: &'a Change,
+}
+
+/// The program with its tables and texts.
+pub fn project_of(workspace: &Workspace) -> Project<'_> {
+    Project {
+        marks: workspace.marks(),
+        view: workspace.view(),
+    }
+}
+
+// The file that a request names, if it names one.
+fn file_of(request: &Request) -> Option<&Text> {
+    match request {
+        Request::Rename { file, .. } => Some(file),
+        Request::Move { file, .. } => Some(file),
+        Request::Extract { file, .. } => Some(file),
+        Request::Inline { file, .. } => Some(file),
+        Request::PullUp { file, .. } => Some(file),
+        Request::Delete { file, .. } => Some(file),
+        Request::Lift { file, .. } => Some(file),
+        Request::Repackage { .. } => None,
+    }
+}
+
+// The offset of a request in its file.
+fn offset_of(request: &Request) -> u32 {
+    match request {
+        Request::Rename { at, .. } => *at,
+        Request::Move { at, .. } => *at,
+        Request::Extract { start, .. } => *start,
+        Request::Inline { at, .. } => *at,
+        Request::PullUp { at, .. } => *at,
+        Request::Delete { at, .. } => *at,
+        Request::Lift { at, .. } => *at,
+        Request::Repackage { .. } => 0,
+    }
+}
+
+// The number of the unit at a path.
+fn unit_at(units: &[UnitAt], path: &[u8]) -> Option<u32> {
+    for at in PRELUDE..units.len() {
+        if let Some(unit) = units.get(at) {
+            if unit.path.bytes() == path {
+                return u32::try_from(at).ok();
+            }
+        }
+    }
+    None
+}
+
+// The unit of the file that a request names.
+fn unit_of(units: &[UnitAt], request: &Request) -> Option<u32> {
+    match file_of(request) {
+        Some(file) => unit_at(units, file.bytes()),
+        None => None,
+    }
+}
+
+impl<'a> Asked<'a> {
+    /// The place in the old files of what is asked for; that of the program where no such file is there.
+    pub fn place(self) -> Place {
+        match unit_of(self.old.program.units.as_slice(), self.request) {
+            Some(unit) => Place {
+                cu: CuId(unit),
+                at: offset_of(self.request),
+            },
+            None => Place { cu: CuId(0), at: 0 },
+        }
+    }
+
+    /// The place in the old files of the name of a row of the changed program; that of what is asked for where the row comes from no old one.
+    pub fn place_of(self, origin: &[u32], row: u32) -> Place {
+        match row_for(origin, row) {
+            Some(from) => self.old.marks().name_place(from),
+            None => self.place(),
+        }
+    }
+
+    /// What was read is not what was to be written.
+    pub fn differs(self) -> StepFault {
+        StepFault::Differs {
+            place: self.place(),
+        }
+    }
+}

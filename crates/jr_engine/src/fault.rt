@@ -1,0 +1,112 @@
+// Why files are not changed.
+
+ghost use Rattle.jr_engine.specs.Planning.{RefusedAs};
+ghost use Rattle.jr_base.specs.Files.{FileMap};
+
+use jr_base::{DeclId, OccId, OutOfMemory, Path, Place, RuleId, Size};
+use jr_change::Reason;
+use jr_front::FrontFault;
+use std::alloc::{AllocError, AllocFailed};
+
+/// Why files are not changed.
+#[derive(Clone, Copy, Debug, PartialEq, Eq)]
+pub enum EngineFault {
+    /// The files found do not compile.
+    Front(FrontFault),
+    /// What is asked for cannot be.
+    BadRequest(Reason),
+    /// The occurrence cannot be written so that it refers to what it referred to. The place is in the old files.
+    NoSpelling {
+        occ: OccId,
+        place: Place,
+        lock: DeclId,
+    },
+    /// A call of the method finds another one in the class. Both places are in the old files.
+    LostEdge {
+        class: Place,
+        method: Place,
+    },
+    /// The files left would break a rule. The place is in them.
+    Broken {
+        rule: RuleId,
+        place: Place,
+    },
+    /// The files left would not be what was to be written. The place is in the old files.
+    Differs {
+        place: Place,
+    },
+    /// The files left would pass a limit.
+    TooLarge(Size),
+    /// Such requests are not served yet.
+    NotServed,
+    /// An allocation failed.
+    OutOfMemory,
+}
+
+/// Why a request leaves nothing of a program that compiles.
+#[derive(Clone, Copy, Debug, PartialEq, Eq)]
+pub enum StepFault {
+    BadRequest(Reason),
+    NoSpelling {
+        occ: OccId,
+        place: Place,
+        lock: DeclId,
+    },
+    LostEdge {
+        class: Place,
+        method: Place,
+    },
+    Broken {
+        rule: RuleId,
+        place: Place,
+    },
+    Differs {
+        place: Place,
+    },
+    TooLarge(Size),
+    NotServed,
+    OutOfMemory,
+}
+
+/// Why files are not changed, with the paths of the units, from 2 on, of the program in which the place lies.
+#[derive(Debug, Drop)]
+pub struct Refused {
+    /// The number of the request in a list, from 1; 0 for a fault of the files found, and where there is one request.
+    pub request: u32,
+    pub fault: EngineFault,
+    pub paths: Vec<Path>,
+}
+
+/// Why files are not changed by such a request.
+pub fn told(fault: StepFault) -> EngineFault
+    ensures { (found : FileMap) → RefusedAs found result }
+{
+    match fault {
+        StepFault::BadRequest(reason) => EngineFault::BadRequest(reason),
+        StepFault::NoSpelling { occ, place, lock } => EngineFault::NoSpelling { occ, place, lock },
+        StepFault::LostEdge { class, method } => EngineFault::LostEdge { class, method },
+        StepFault::Broken { rule, place } => EngineFault::Broken { rule, place },
+        StepFault::Differs { place } => EngineFault::Differs { place },
+        StepFault::TooLarge(size) => EngineFault::TooLarge(size),
+        StepFault::NotServed => EngineFault::NotServed,
+        StepFault::OutOfMemory => EngineFault::OutOfMemory,
+    }
+}
+
+impl From<OutOfMemory> for StepFault {
+    fn from(_: OutOfMemory) -> Self {
+        StepFault::OutOfMemory
+    }
+}
+
+impl From<AllocError> for StepFault {
+    fn from(_: AllocError) -> Self {
+        StepFault::OutOfMemory
+    }
+}
+
+impl<T: Drop> From<AllocFailed<T>> for StepFault {
+    fn from(_: AllocFailed<T>) -> Self {
+        StepFault::OutOfMemory
+    }
+}

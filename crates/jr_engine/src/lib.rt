@@ -1,0 +1,16 @@
+//! What a refactoring leaves of files: the files with names spelled anew, or why they stay as they are.
+#![tactic(auto)]
+
+mod asked;
+mod fault;
+mod left;
+mod locked;
+mod planning;
+mod step;
+mod texts;
+mod tried;
+mod verdicts;
+mod writing;
+
+pub use fault::{EngineFault, Refused};
+pub use planning::{plan, plan_all};

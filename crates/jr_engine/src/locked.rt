@@ -1,0 +1,156 @@
+// The changed program under its locks.
+
+ghost use Rattle.std.specs.Prelude.{map, IfOk};
+ghost use Rattle.std.specs.List.{AllByRecursion};
+ghost use Rattle.jr_tree.specs.Shape.{IsShaped};
+
+use crate::asked::{Asked, project_of};
+use crate::fault::StepFault;
+use crate::texts::changed_texts;
+use crate::verdicts::unread;
+use jr_base::{DeclId, NodeAt, NodeId, OccId, OutOfMemory};
+use jr_bind::{Bound, bind_under};
+use jr_change::{Locks, Spelling};
+use jr_defs::{Program, Referent};
+use jr_edges::lost_dispatch;
+use jr_front::Workspace;
+use jr_index::Index;
+use jr_locks::locks;
+use jr_lookup::Scopes;
+use jr_places::Places;
+use jr_read::read_units;
+use jr_rows::Row;
+use jr_spell::{SpellFault, spell};
+use std::alloc::Global;
+
+/// A changed program before its names are spelled anew: it is bound by its locks.
+#[derive(Drop)]
+pub struct Locked {
+    pub program: Workspace,
+    pub locks: Locks,
+}
+
+// A value in a box.
+fn boxed<T: Drop>(alloc: Global, made: Result<T, OutOfMemory>) -> Result<Box<T>, OutOfMemory> {
+    Ok(Box::new(alloc, made?)?)
+}
+
+// What the rows are under their locks. There is no answer where a type stands above itself under them.
+fn bound_by(
+    alloc: Global,
+    rows: &[Row],
+    places: &Places,
+    scopes: &Scopes,
+    table: &[Referent],
+) -> Result<Option<Box<Bound>>, OutOfMemory> {
+    match bind_under(alloc, rows, places, scopes, table.to_vec(alloc)?)? {
+        Some(bound) => Ok(Some(Box::new(alloc, bound)?)),
+        None => Ok(None),
+    }
+}
+
+// The program of these rows under its locks.
+fn locked_rows(
+    alloc: Global,
+    asked: Asked,
+    program: Program,
+    index: Box<Index>,
+    locks: Locks,
+) -> Result<Locked, StepFault> {
+    let rows = index.rows();
+    let places = boxed(alloc, Places::of(alloc, rows))?;
+    let scopes = boxed(alloc, Scopes::of(alloc, rows, &places))?;
+    let Some(bound) = bound_by(alloc, rows, &places, &scopes, &locks.table)? else {
+        return Err(asked.differs());
+    };
+    Ok(Locked {
+        program: Workspace {
+            program,
+            index,
+            places,
+            scopes,
+            bound,
+        },
+        locks,
+    })
+}
+
+// The program under its locks, if its rows are those that the change says.
+fn locked_program(alloc: Global, asked: Asked, program: Program) -> Result<Locked, StepFault>
+    requires { AllByRecursion IsShaped (map (λ u. u.unit) program.units) }
+{
+    let index = boxed(alloc, Index::build(alloc, &program))?;
+    let old = asked.old.index.rows();
+    let table = &asked.old.bound.table;
+    match locks(alloc, old, table, asked.change, index.rows())? {
+        Some(locks) => locked_rows(alloc, asked, program, index, locks),
+        None => Err(asked.differs()),
+    }
+}
+
+/// The changed program under its locks.
+pub fn lock(alloc: Global, asked: Asked) -> Result<Locked, StepFault> {
+    let units = asked.old.program.units.as_slice();
+    let texts = changed_texts(alloc, units, asked.change)?;
+    match read_units(alloc, &texts) {
+        Ok(program) => locked_program(alloc, asked, program),
+        Err(fault) => Err(unread(asked, fault)),
+    }
+}
+
+// Which rows with these origins come from constant expressions.
+fn constant_of(alloc: Global, asked: Asked, origin: &[u32]) -> Result<Vec<bool>, OutOfMemory> {
+    let mut all = Vec::new(alloc);
+    for from in origin {
+        all.push(asked.old.bound.constants.value(*from).is_some())?;
+    }
+    Ok(all)
+}
+
+// The row cannot be written so that it refers to its lock. Of the occurrence and the declaration the units are told, but not the nodes.
+fn no_spelling(asked: Asked, locked: &Locked, row: u32) -> StepFault {
+    let place = asked.place_of(&locked.locks.origin, row);
+    let mut lock = place.cu;
+    if let Some(Referent::Declared { row, .. }) = locked.locks.table.get(row as usize) {
+        lock = asked.place_of(&locked.locks.origin, *row).cu;
+    }
+    StepFault::NoSpelling {
+        occ: OccId {
+            at: NodeAt {
+                cu: place.cu,
+                node: NodeId(0),
+            },
+            part: 0,
+        },
+        place,
+        lock: DeclId {
+            at: NodeAt {
+                cu: lock,
+                node: NodeId(0),
+            },
+            part: 0,
+        },
+    }
+}
+
+/// How each reference of the changed program is to be written.
+pub fn spellings(alloc: Global, asked: Asked, locked: &Locked) -> Result<Vec<Spelling>, StepFault> {
+    let constant = constant_of(alloc, asked, &locked.locks.origin)?;
+    match spell(alloc, project_of(&locked.program), &constant) {
+        Ok(all) => Ok(all),
+        Err(SpellFault::NoSpelling { row, .. }) => Err(no_spelling(asked, locked, row)),
+        Err(SpellFault::OutOfMemory) => Err(StepFault::OutOfMemory),
+    }
+}
+
+/// Calls find in each class the methods that they found there.
+pub fn keeps_edges(alloc: Global, asked: Asked, locked: &Locked) -> Result<(), StepFault> {
+    let old = project_of(asked.old);
+    match lost_dispatch(alloc, old, project_of(&locked.program), &locked.locks)? {
+        Some(lost) => Err(StepFault::LostEdge {
+            class: old.marks.name_place(lost.class),
+            method: old.marks.name_place(lost.method),
+        }),
+        None => Ok(()),
+    }
+}

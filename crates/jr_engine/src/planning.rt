@@ -1,0 +1,80 @@
+// What requests leave of files.
+
+ghost use Rattle.std.specs.Prelude.{◌≡◌, IfOk, IfErr, Ok, [], ◌∷◌};
+ghost use Rattle.jr_base.specs.Files.{FileMap};
+ghost use Rattle.jr_engine.specs.Planning.{PlannedAs, RefusedAs, IsAccepted};
+
+use crate::fault::Refused;
+use crate::left::Left;
+use crate::step::{left_behind, no_memory, refused_found};
+use jr_base::{Files, Request};
+use jr_front::open_files;
+use std::alloc::Global;
+
+// Equal files of their own.
+fn copied(alloc: Global, files: &Files) -> Result<Files, Refused>
+    ensures ok { IfOk result (λ copy. copy ≡ files.now) }
+    ensures err { IfErr result (λ refused. (found : FileMap) → RefusedAs found refused.fault) }
+{
+    match files.copy(alloc) {
+        Ok(files) => Ok(files),
+        Err(_) => Err(no_memory(alloc, 0)),
+    }
+}
+
+// The files found with their program. A front that accepts a path without `.java` is answered for want of memory.
+fn opened(alloc: Global, files: &Files) -> Result<Left, Refused>
+    ensures ok { IfOk result (λ found. found ≡ files.now) }
+    ensures accepted { IfOk result (λ _. IsAccepted files.now) }
+    ensures err { IfErr result (λ refused. RefusedAs files.now refused.fault) }
+{
+    let copy = copied(alloc, files)?;
+    match open_files(alloc, files) {
+        Ok(program) => match Left::of(copy, program) {
+            Some(found) => Ok(found),
+            None => Err(no_memory(alloc, 0)),
+        },
+        Err(fault) => Err(refused_found(alloc, files, fault)),
+    }
+}
+
+// What the request of this number leaves of what is there.
+fn next(alloc: Global, now: Left, request: &Request, number: u32) -> Result<Left, Refused>
+    ensures { IfErr result (λ refused. (found : FileMap) → RefusedAs found refused.fault) }
+{
+    match left_behind(alloc, now.program(), request, number)? {
+        Some(left) => Ok(left),
+        None => Ok(now),
+    }
+}
+
+// What requests leave of what is there.
+fn left_by_all(alloc: Global, found: Left, requests: &[Request]) -> Result<Files, Refused>
+    ensures ok { IfOk result (λ left. IsAccepted left) }
+    ensures err { IfErr result (λ refused. (found : FileMap) → RefusedAs found refused.fault) }
+{
+    let mut now = found;
+    let mut number: u32 = 0;
+    for request in requests {
+        number = number.saturating_add(1);
+        now = next(alloc, now, request, number)?;
+    }
+    Ok(now.into_files())
+}
+
+/// The files that a request leaves. Where it changes nothing they are those found.
+pub fn plan(alloc: Global, files: &Files, request: &Request) -> Result<Files, Refused>
+    ensures { PlannedAs files.now (request.now ∷ []) result }
+{
+    let found = opened(alloc, files)?;
+    let left = next(alloc, found, request, 0)?;
+    Ok(left.into_files())
+}
+
+/// The files that requests leave, each asked of what the one before has left. They are counted from 1.
+pub fn plan_all(alloc: Global, files: &Files, requests: &[Request]) -> Result<Files, Refused>
+    ensures { PlannedAs files.now requests.now result }
+{
+    let found = opened(alloc, files)?;
+    left_by_all(alloc, found, requests)
+}

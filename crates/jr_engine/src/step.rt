@@ -1,0 +1,171 @@
+// One request of a program.
+
+ghost use Rattle.std.specs.Prelude.{IfErr, Err};
+ghost use Rattle.jr_base.specs.Files.{FileMap};
+ghost use Rattle.jr_front.specs.Checking.{CheckedAs};
+ghost use Rattle.jr_engine.specs.Planning.{RefusedAs};
+
+use crate::asked::{Asked, project_of};
+use crate::fault::{EngineFault, Refused, StepFault, told};
+use crate::left::Left;
+use crate::locked::{keeps_edges, lock, spellings};
+use crate::texts::changes_nothing;
+use crate::tried::Spelled;
+use crate::verdicts::no_change;
+use crate::writing::left_of;
+use jr_base::{Files, OutOfMemory, Path, Request};
+use jr_change::{Change, ChangedUnit};
+use jr_defs::UnitAt;
+use jr_front::{FrontFault, Workspace};
+use jr_names::change;
+use std::alloc::Global;
+
+// What a change leaves.
+fn followed(alloc: Global, asked: Asked) -> Result<Left, StepFault> {
+    let locked = lock(alloc, asked)?;
+    let spellings = spellings(alloc, asked, &locked)?;
+    keeps_edges(alloc, asked, &locked)?;
+    let spelled = Spelled {
+        asked,
+        locked: &locked,
+        spellings: &spellings,
+    };
+    left_of(alloc, spelled)
+}
+
+// The paths of units without the prelude, as they stand in places.
+fn paths_of(alloc: Global, units: &[UnitAt]) -> Result<Vec<Path>, OutOfMemory> {
+    let mut all = Vec::new(alloc);
+    if let [_, _, found @ ..] = units {
+        for unit in found {
+            all.push(unit.path.copy(alloc)?)?;
+        }
+    }
+    Ok(all)
+}
+
+fn changed_paths(alloc: Global, units: &[ChangedUnit]) -> Result<Vec<Path>, OutOfMemory> {
+    let mut all = Vec::new(alloc);
+    for unit in units {
+        all.push(unit.path.copy(alloc)?)?;
+    }
+    Ok(all)
+}
+
+fn found_paths(alloc: Global, files: &Files) -> Result<Vec<Path>, OutOfMemory> {
+    let mut all = Vec::new(alloc);
+    for (path, _) in files.entries() {
+        all.push(path.copy(alloc)?)?;
+    }
+    Ok(all)
+}
+
+// The refusal with these paths, or for want of memory.
+fn refused(
+    alloc: Global,
+    request: u32,
+    fault: EngineFault,
+    paths: Result<Vec<Path>, OutOfMemory>,
+) -> Refused
+    ensures { (found : FileMap) → RefusedAs found fault → RefusedAs found result.fault }
+{
+    match paths {
+        Ok(paths) => Refused {
+            request,
+            fault,
+            paths,
+        },
+        Err(_) => no_memory(alloc, request),
+    }
+}
+
+/// Refused for want of memory.
+pub fn no_memory(alloc: Global, request: u32) -> Refused
+    ensures { (found : FileMap) → RefusedAs found result.fault }
+{
+    Refused {
+        request,
+        fault: EngineFault::OutOfMemory,
+        paths: Vec::new(alloc),
+    }
+}
+
+/// The files found do not compile, or memory has failed.
+pub fn refused_found(alloc: Global, files: &Files, fault: FrontFault) -> Refused
+    requires { CheckedAs files.now (Err fault) }
+    ensures { RefusedAs files.now result.fault }
+{
+    match fault {
+        FrontFault::OutOfMemory => no_memory(alloc, 0),
+        _ => {
+            let paths = found_paths(alloc, files);
+            refused(alloc, 0, EngineFault::Front(fault), paths)
+        }
+    }
+}
+
+// Refused with places in the old files.
+fn refused_old(alloc: Global, old: &Workspace, request: u32, fault: StepFault) -> Refused
+    ensures { (found : FileMap) → RefusedAs found result.fault }
+{
+    refused(
+        alloc,
+        request,
+        told(fault),
+        paths_of(alloc, old.program.units.as_slice()),
+    )
+}
+
+// Refused with places in the files that were to be left, where a rule is broken in them, else in the old files.
+fn refused_change(alloc: Global, asked: Asked, request: u32, fault: StepFault) -> Refused
+    ensures { (found : FileMap) → RefusedAs found result.fault }
+{
+    match fault {
+        StepFault::Broken { .. } => refused(
+            alloc,
+            request,
+            told(fault),
+            changed_paths(alloc, &asked.change.units),
+        ),
+        _ => refused_old(alloc, asked.old, request, fault),
+    }
+}
+
+// What is left by a change; None where it changes nothing.
+fn left_by(
+    alloc: Global,
+    old: &Workspace,
+    asked: &Request,
+    change: &Change,
+    request: u32,
+) -> Result<Option<Left>, Refused>
+    ensures { IfErr result (λ refused. (found : FileMap) → RefusedAs found refused.fault) }
+{
+    if changes_nothing(old.program.units.as_slice(), change) {
+        return Ok(None);
+    }
+    let asked = Asked {
+        old,
+        request: asked,
+        change,
+    };
+    match followed(alloc, asked) {
+        Ok(left) => Ok(Some(left)),
+        Err(fault) => Err(refused_change(alloc, asked, request, fault)),
+    }
+}
+
+/// What the request of this number leaves of a program; None where it changes nothing.
+pub fn left_behind(
+    alloc: Global,
+    old: &Workspace,
+    asked: &Request,
+    request: u32,
+) -> Result<Option<Left>, Refused>
+    ensures { IfErr result (λ refused. (found : FileMap) → RefusedAs found refused.fault) }
+{
+    match change(alloc, project_of(old), asked) {
+        Ok(change) => left_by(alloc, old, asked, &change, request),
+        Err(fault) => Err(refused_old(alloc, old, request, no_change(fault))),
+    }
+}

@@ -1,0 +1,116 @@
+// The files that are written, and whether they may be.
+
+ghost use Rattle.std.specs.Prelude.{map, IfOk};
+ghost use Rattle.std.specs.List.{AllByRecursion};
+ghost use Rattle.jr_tree.specs.Shape.{IsShaped};
+
+use crate::asked::project_of;
+use crate::fault::StepFault;
+use crate::left::Left;
+use crate::texts::{Texts, first_twice, written_texts};
+use crate::tried::{Spelled, is_as_spelled};
+use crate::verdicts::{broken, not_compiling, unread};
+use jr_base::{CuId, Files, OutOfMemory, Path, Place, Size};
+use jr_defs::Program;
+use jr_front::{FrontFault, Workspace, open_files, open_program};
+use jr_read::read_units;
+use jr_rule::Rule;
+use jr_weave::respelled;
+use std::alloc::Global;
+
+// The texts as files.
+fn files_of(alloc: Global, texts: Texts) -> Result<Files, OutOfMemory> {
+    let mut files = Files::new(alloc);
+    for (path, bytes) in texts {
+        files.insert(path, bytes)?;
+    }
+    Ok(files)
+}
+
+// The program of texts whose sizes are not tested and of which two may have one path.
+fn opened(
+    alloc: Global,
+    spelled: Spelled,
+    texts: &[(Path, Vec<u8>)],
+) -> Result<Workspace, StepFault> {
+    match read_units(alloc, texts) {
+        Ok(program) => match open_program(alloc, program) {
+            Ok(new) => Ok(new),
+            Err(fault) => Err(not_compiling(spelled.asked, fault)),
+        },
+        Err(fault) => Err(unread(spelled.asked, fault)),
+    }
+}
+
+// What comes before the rule of paths: texts that are no program, or top-level types of one name.
+fn before_paths(fault: FrontFault) -> bool {
+    match fault {
+        FrontFault::PathMismatch(_) => true,
+        FrontFault::Duplicate(_) => true,
+        FrontFault::OutOfMemory => true,
+        _ => false,
+    }
+}
+
+// The program has two units of one path, of which the first has this number.
+fn twice_in(alloc: Global, spelled: Spelled, program: Program, unit: u32) -> StepFault
+    requires { AllByRecursion IsShaped (map (λ u. u.unit) program.units) }
+{
+    let place = Place {
+        cu: CuId(unit),
+        at: 0,
+    };
+    match open_program(alloc, program) {
+        Err(fault) if before_paths(fault) => not_compiling(spelled.asked, fault),
+        _ => broken(Rule::PathTwice, place),
+    }
+}
+
+// Two texts have one path, of which the first is that of the unit of this number.
+fn twice(alloc: Global, spelled: Spelled, texts: &[(Path, Vec<u8>)], unit: u32) -> StepFault {
+    match read_units(alloc, texts) {
+        Ok(program) => twice_in(alloc, spelled, program, unit),
+        Err(fault) => unread(spelled.asked, fault),
+    }
+}
+
+// The texts compile and are as they were to be written.
+fn is_right(alloc: Global, spelled: Spelled, texts: &[(Path, Vec<u8>)]) -> Result<(), StepFault> {
+    let new = opened(alloc, spelled, texts)?;
+    is_as_spelled(alloc, spelled, &new)
+}
+
+// A size passes its limit, unless there is something else to be told before.
+fn too_large(alloc: Global, spelled: Spelled, files: &Files, size: Size) -> StepFault {
+    match is_right(alloc, spelled, files.entries()) {
+        Ok(()) => StepFault::TooLarge(size),
+        Err(StepFault::TooLarge(_)) => StepFault::TooLarge(size),
+        Err(fault) => fault,
+    }
+}
+
+// The files, if they are a program as it was to be written.
+fn left_as(alloc: Global, spelled: Spelled, files: Files) -> Result<Left, StepFault> {
+    match open_files(alloc, &files) {
+        Ok(program) => {
+            is_as_spelled(alloc, spelled, &program)?;
+            match Left::of(files, program) {
+                Some(left) => Ok(left),
+                None => Err(spelled.asked.differs()),
+            }
+        }
+        Err(FrontFault::TooLarge(size)) => Err(too_large(alloc, spelled, &files, size)),
+        Err(fault) => Err(not_compiling(spelled.asked, fault)),
+    }
+}
+
+/// The files that are left where references are written so, if they may be left.
+pub fn left_of(alloc: Global, spelled: Spelled) -> Result<Left, StepFault> {
+    let locked = &spelled.locked.program;
+    let edits = respelled(alloc, project_of(locked), spelled.spellings)?;
+    let texts = written_texts(alloc, locked.program.units.as_slice(), &edits)?;
+    match first_twice(&texts) {
+        Some(unit) => Err(twice(alloc, spelled, &texts, unit)),
+        None => left_as(alloc, spelled, files_of(alloc, texts)?),
+    }
+}
