@@ -1,4 +1,5 @@
 // The members of each class, in the order in which it and its instances are made (JLS 8.3.2, 8.6, 8.7, 12.4.2, 12.5).
+ghost use Rattle.std.specs.Prelude.{◌<◌, ◌^◌, length};
 
 use crate::builders::note_changes;
 use crate::fact::Fact;
@@ -211,10 +212,9 @@ pub fn assignment_faults(
     rows: &[Row],
     facts: &[Fact],
     out: &mut Vec<Fault>,
-) -> Result<(), OutOfMemory> {
-    let Ok(count) = u32::try_from(rows.len()) else {
-        return Err(OutOfMemory);
-    };
+) -> Result<(), OutOfMemory>
+    requires { length rows.now < 2 ^ 32 }
+{
     let members = members_of(alloc, rows)?;
     note_changes(rows, facts, &members, out)?;
     let numbers = Numbers::of(alloc, rows, &members)?;
@@ -223,7 +223,8 @@ pub fn assignment_faults(
         facts,
         numbers: &numbers,
     };
-    for at in 0..count {
+    for n in 0..rows.len() {
+        let at = n as u32;
         if is_body(rows, at) {
             note_body(alloc, known, at, out)?;
         }

@@ -1,4 +1,6 @@
 // What is known of rows besides their labels.
+ghost use Rattle.std.specs.Prelude.{◌≡◌, None, false};
+ghost use Rattle.jr_assign.specs.Changes.{fact};
 
 /// A way out of a row other than by completing (JLS 14.15 to 14.17).
 #[derive(Clone, Copy, PartialEq, Eq)]
@@ -32,7 +34,9 @@ pub struct Fact {
 }
 
 /// What is known of a row of which nothing is.
-pub fn no_fact() -> Fact {
+pub fn no_fact() -> Fact
+    ensures { result ≡ record { truth = None; way = None; last = None; has_default = false; hands_on = false; read = None; assigned = None; changed = None } }
+{
     Fact {
         truth: None,
         way: None,
@@ -45,7 +49,9 @@ pub fn no_fact() -> Fact {
     }
 }
 
-pub(crate) fn fact_of(facts: &[Fact], at: u32) -> Fact {
+pub(crate) fn fact_of(facts: &[Fact], at: u32) -> Fact
+    ensures { result ≡ fact facts.now at }
+{
     match facts.get(at as usize) {
         Some(known) => *known,
         None => no_fact(),

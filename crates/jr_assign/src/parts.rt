@@ -1,4 +1,7 @@
 // Parts of rows.
+ghost use Rattle.std.specs.Prelude.{◌≡◌};
+ghost use Rattle.jr_rows.specs.Rows.{label};
+ghost use Rattle.jr_assign.specs.Changes as changes;
 
 use crate::fact::{Fact, fact_of};
 use jr_places::{end_at, parent_at};
@@ -50,7 +53,9 @@ pub(crate) fn is_class(rows: &[Row], at: u32) -> bool {
 }
 
 /// The row is an interface.
-pub(crate) fn is_interface(rows: &[Row], at: u32) -> bool {
+pub(crate) fn is_interface(rows: &[Row], at: u32) -> bool
+    ensures { result ≡ changes.is_interface (label rows.now at) }
+{
     match rows.get(at as usize) {
         Some(row) => match row.label {
             Label::Interface { .. } => true,
@@ -61,13 +66,20 @@ pub(crate) fn is_interface(rows: &[Row], at: u32) -> bool {
 }
 
 /// The body in which a field stands, below its declaration.
-pub(crate) fn body_of_field(rows: &[Row], at: u32) -> u32 {
+pub(crate) fn body_of_field(rows: &[Row], at: u32) -> u32
+    ensures { result ≡ changes.field_body rows.now at }
+{
     parent_at(rows, parent_at(rows, at))
 }
 
 /// The variable at a row has an initializer.
-pub(crate) fn is_valued(rows: &[Row], at: u32) -> bool {
-    end_at(rows, at) > first_of(at)
+pub(crate) fn is_valued(rows: &[Row], at: u32) -> bool
+    ensures { result ≡ changes.has_value rows.now at }
+{
+    match rows.get(at as usize) {
+        Some(row) => at < row.end && row.end - at > 1,
+        None => false,
+    }
 }
 
 /// The parts of a `for` (JLS 14.14.1). Its updates stand between its header and its body.

@@ -6,7 +6,6 @@ mod operands;
 mod variables;
 
 pub use facts::assign_facts_of;
-
 use jr_assign::assignment_faults;
 use jr_base::OutOfMemory;
 use jr_rule::Fault;

@@ -94,8 +94,6 @@ fn is_of_this(rows: &[Row], at: u32) -> bool {
     }
 }
 
-
-
 impl<'a> Program<'a> {
     fn rows(self) -> &'a [Row] {
         self.under.rows
