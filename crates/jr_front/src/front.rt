@@ -11,6 +11,7 @@ use crate::modifiers::modifier_faults;
 use crate::placed::first_misplaced;
 use crate::unbound::first_unbound;
 use crate::workspace::Workspace;
+use jr_assign_faults::assign_faults;
 use jr_base::{Files, OutOfMemory};
 use jr_bind::{Binding, Bound, bind, boxed};
 use jr_defs::{Program, Referent};
@@ -35,6 +36,7 @@ fn faults_of(alloc: Global, marks: Marks, view: View) -> Result<Vec<Fault>, OutO
     name_faults(alloc, view, &mut faults)?;
     type_faults(alloc, view, &mut faults)?;
     flow_faults(alloc, view, &mut faults)?;
+    assign_faults(alloc, view, &mut faults)?;
     Ok(faults)
 }
 

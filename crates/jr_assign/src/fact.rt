@@ -1,0 +1,59 @@
+// What is known of rows besides their labels.
+ghost use Rattle.std.specs.Prelude.{◌≡◌, None, false};
+ghost use Rattle.jr_assign.specs.Changes.{fact};
+
+/// A way out of a row other than by completing (JLS 14.15 to 14.17).
+#[derive(Clone, Copy, PartialEq, Eq)]
+pub enum Way {
+    Break(u32),
+    Continue(u32),
+    /// Out of a constructor.
+    Return,
+}
+
+/// What is known of a row.
+#[derive(Clone, Copy)]
+pub struct Fact {
+    /// The value of an expression that is constant and of type boolean (JLS 15.28).
+    pub truth: Option<bool>,
+    /// Where a break or continue goes to, if it has a target; `Return` at a return in a constructor.
+    pub way: Option<Way>,
+    /// The block of a `finally`, or the body of a `for`.
+    pub last: Option<u32>,
+    /// A switch has a label `default`.
+    pub has_default: bool,
+    /// A constructor begins with a call `this(..)`.
+    pub hands_on: bool,
+    /// The local that the row reads: a name of it that is not the target of a plain assignment.
+    pub read: Option<u32>,
+    /// The local, or the blank final field of what is made there, that is assigned once the parts of the row are done: an assignment, or a local with
+    /// an initializer.
+    pub assigned: Option<u32>,
+    /// The variable that the row refers to, where it is the operand of an assignment or a step.
+    pub changed: Option<u32>,
+}
+
+/// What is known of a row of which nothing is.
+pub fn no_fact() -> Fact
+    ensures { result ≡ record { truth = None; way = None; last = None; has_default = false; hands_on = false; read = None; assigned = None; changed = None } }
+{
+    Fact {
+        truth: None,
+        way: None,
+        last: None,
+        has_default: false,
+        hands_on: false,
+        read: None,
+        assigned: None,
+        changed: None,
+    }
+}
+
+pub(crate) fn fact_of(facts: &[Fact], at: u32) -> Fact
+    ensures { result ≡ fact facts.now at }
+{
+    match facts.get(at as usize) {
+        Some(known) => *known,
+        None => no_fact(),
+    }
+}

@@ -1,0 +1,17 @@
+//! Definite assignment by rows and facts: locals that are read and not assigned, finals that are changed, and blank finals (JLS 4.12.4, 8.3.1.2, 16).
+#![tactic(auto)]
+
+mod builders;
+mod classes;
+mod fact;
+mod form;
+mod member;
+mod numbers;
+mod parts;
+mod sets;
+mod turns;
+mod walk;
+
+pub use classes::assignment_faults;
+pub use fact::{Fact, Way, no_fact};
+pub use member::members_of;
