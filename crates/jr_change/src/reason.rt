@@ -1,0 +1,42 @@
+// Why a request is none.
+ghost use Rattle.std.specs.Prelude.{◌≡◌};
+ghost use Rattle.jr_change.specs.Reasons.{number_of};
+
+/// Why what is asked for cannot be: the first of these, in this order.
+#[derive(Clone, Copy, Debug, PartialEq, Eq)]
+pub enum Reason {
+    /// There is no such file.
+    NoFile,
+    /// The offset lies in no identifier.
+    NoIdentifier,
+    /// The declaration is the prelude's.
+    InPrelude,
+    /// The methods that would be renamed with it reach the prelude.
+    ReachesPrelude,
+    /// The name is no identifier, or the package no identifiers with dots between them.
+    BadName,
+    /// What stands there cannot be changed so.
+    WrongKind,
+    /// The range is no run of whole statements.
+    BadRange,
+    /// The superclass is not in the workspace, or holds the class.
+    BadSuperclass,
+}
+
+impl Reason {
+    /// The number by which a reason is answered.
+    pub fn number(self) -> u8
+        ensures { result ≡ number_of self }
+    {
+        match self {
+            Reason::NoFile => 1,
+            Reason::NoIdentifier => 2,
+            Reason::InPrelude => 3,
+            Reason::ReachesPrelude => 4,
+            Reason::BadName => 5,
+            Reason::WrongKind => 6,
+            Reason::BadRange => 7,
+            Reason::BadSuperclass => 8,
+        }
+    }
+}
