@@ -2,7 +2,7 @@
 #![tactic(auto)]
 
 mod fault;
-mod plan;
+mod serve;
 
 pub use fault::{EngineFault, Refused};
-pub use plan::{plan, plan_all};
+pub use serve::{plan, plan_all};
