@@ -18,11 +18,19 @@ pub enum EngineFault {
         lock: DeclId,
     },
     /// A call on the class would run another method.
-    LostEdge { class: Place, method: Place },
+    LostEdge {
+        class: Place,
+        method: Place,
+    },
     /// The changed text breaks the rule at the place.
-    Broken { rule: RuleId, place: Place },
+    Broken {
+        rule: RuleId,
+        place: Place,
+    },
     /// The changed text does not read as it is to at the place.
-    Differs { place: Place },
+    Differs {
+        place: Place,
+    },
     /// A size of the files left passes its limit.
     TooLarge(Size),
     /// Such requests are not served yet.

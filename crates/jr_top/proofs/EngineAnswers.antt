@@ -224,8 +224,8 @@ module _ (words : List (List ℕ)) (Asks : Option Image → List Request → Typ
               requests,
               asks,
               unchanged status_is same (for_told told (IsUnchanged requests) (λ f told_is.
-              let here = told_for told (λ files. HoldsFiles files found) holds f told_is in
-              (found, next, here, planned, left_as requests found next made planned makes f here none))),
+                  let here = told_for told (λ files. HoldsFiles files found) holds f told_is in
+                  (found, next, here, planned, left_as requests found next made planned makes f here none))),
             ),
             λ f r told_is settled c l. subst (λ (s : Status). StandsAfter words r s c) (sym status_is) (stays f r told_is settled c l),
           )

@@ -122,9 +122,7 @@ pub fn decide_all<S: Store>(alloc: Global, asked: Asked<'_>, store: &mut S) -> D
 {
     match gather(alloc, store) {
         Ok(Gathered::Files(found)) => decide_files(alloc, asked, &found),
-        Ok(Gathered::TooLarge(what)) => {
-            Decision::Answer(Status::TooLarge { what, request: 0 })
-        }
+        Ok(Gathered::TooLarge(what)) => { Decision::Answer(Status::TooLarge { what, request: 0 }) }
         Err(StoreError::Failed) => Decision::Answer(Status::StoreFault {
             phase: Phase::Reading,
         }),

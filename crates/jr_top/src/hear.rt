@@ -56,9 +56,7 @@ pub fn hear<I: Source>(alloc: Global, input: &mut I) -> Heard
         }
         Err(fault) => match fault {
             BatchFault::SourceFault => Heard::Answer(Status::SourceFault),
-            BatchFault::TooLarge(what) => {
-                Heard::Answer(Status::TooLarge { what, request: 0 })
-            }
+            BatchFault::TooLarge(what) => { Heard::Answer(Status::TooLarge { what, request: 0 }) }
             BatchFault::Refused { element, field } => Heard::Answer(Status::BadRequest {
                 request: element,
                 reason: 9,
