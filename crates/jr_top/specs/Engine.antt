@@ -37,7 +37,7 @@ use Rattle.jr_top.specs.declared.status.Status.TheVariants as status
 -- the request is for the engine: a move, or a rename that is not served as one in a small file
 abbrev pub IsPassedOn : Request → Option Image → Type 0
 IsPassedOn (Rename file at name) told = ForTold told (λ files. (bytes : List ℕ) → Holds files file bytes → IsUnserved file bytes at name)
-IsPassedOn (Move file at package) told = ⊤
+IsPassedOn (Move file at into) told = ⊤
 IsPassedOn other told = ⊥
 
 -- the words ask for one request, which is for the engine

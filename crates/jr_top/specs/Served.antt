@@ -10,7 +10,7 @@ use Rattle.jr_request.specs.declared.command.Command.TheVariants.{One, Batch, Ch
 -- a request of a kind that is served
 abbrev pub IsServed : Request → Type 0
 IsServed (Rename file at name) = ⊤
-IsServed (Move file at package) = ⊤
+IsServed (Move file at into) = ⊤
 IsServed other = ⊥
 
 abbrev pub AreServed : List Request → Type 0
