@@ -14,7 +14,7 @@ use Rattle.jr_request.specs.declared.command.Command.TheVariants.{One, Batch, Ch
 use Rattle.jr_store.specs.Image.{Image, Rose}
 use Rattle.jr_thin.specs.Renaming.{Serves}
 use Rattle.jr_top.specs.Batches.{IsNotPlanned}
-use Rattle.jr_top.specs.Decisions.{DecidesCommand, DecidesFiles, DecidesAll, on_files, is_too_large, is_not_read, is_short, DecidesOne, DecidesInput, Chooses}
+use Rattle.jr_top.specs.Decisions.{DecidesRename, DecidesCommand, DecidesFiles, DecidesAll, on_files, is_too_large, is_not_read, is_short, DecidesOne, DecidesInput, Chooses}
 use Rattle.jr_top.specs.Engine.{IsPassedOn, AsksOne, AsksAll, MayAsk}
 use Rattle.jr_top.specs.Recovering.{Recovers}
 use Rattle.jr_top.specs.Renaming.{AsksRename, Holds, IsUnserved, ForTold}
@@ -22,6 +22,7 @@ use Rattle.jr_top.specs.Served.{IsServed, AreServed, AsksServed}
 use Rattle.jr_top.specs.declared.decide.Decision.{Decision}
 use Rattle.jr_top.specs.declared.decide.Decision.TheVariants.{Answer, Refuse, Change}
 use Rattle.jr_top.specs.declared.status.Status.{Status}
+use Rattle.jr_top.specs.declared.status.Status.TheVariants.{NotYet}
 use Rattle.jr_top.proofs.Outcomes.{found_files}
 use Rattle.jr_top.proofs.Settled.{holds_back}
 
@@ -34,6 +35,12 @@ earlier_all requests told mid before middle after decision same later (on_files 
 earlier_all requests told mid before middle after decision same later (is_too_large is large) = is_too_large is (subst (λ (t : Option Image). ForTold t _) same large)
 earlier_all requests told mid before middle after decision same later (is_not_read is rose) = is_not_read is (rose_earlier before middle after later rose)
 earlier_all requests told mid before middle after decision same later (is_short is) = is_short is
+
+-- a rename that is not served in a small file is for the engine
+pub passed_rename : (file : List ℕ) (at : ℕ) (name : List ℕ) (told mid : Option Image) (before middle after : ℕ) (small decision : Decision) → small ≡ Answer NotYet → DecidesRename file at name told before middle small → mid ≡ told → before ≤ middle
+    → DecidesAll (Rename file at name ∷ []) mid middle after decision → DecidesOne (Rename file at name) told before after decision
+passed_rename file at name told mid before middle after small decision is decides same later all =
+    inr (subst (λ (d : Decision). DecidesRename file at name told before middle d) is decides, earlier_all (Rename file at name ∷ []) told mid before middle after decision same later all)
 
 -- a request of a kind that is not served is not for the engine, and of a kind that is served may be
 pub passed_served : (request : Request) (told : Option Image) → IsPassedOn request told → IsServed request
