@@ -6,21 +6,17 @@ use crate::fault::{EngineFault, Refused};
 use jr_base::{Files, Request};
 use std::alloc::Global;
 
-fn no_memory(alloc: Global) -> Refused {
-    Refused {
-        request: 0,
-        fault: EngineFault::OutOfMemory,
-        paths: Vec::new(alloc),
-    }
-}
-
 /// The files that the request leaves of those found, or why it is refused.
 pub fn plan(alloc: Global, files: &Files, request: &Request) -> Result<Files, Refused>
     ensures { PlannedAs files.now (request.now ∷ []) result }
 {
     let _ = files;
     let _ = request;
-    Err(no_memory(alloc))
+    Err(Refused {
+        request: 0,
+        fault: EngineFault::OutOfMemory,
+        paths: Vec::new(alloc),
+    })
 }
 
 /// The files that the requests leave of those found, each taken on what the one before left, or why one is refused.
@@ -29,5 +25,9 @@ pub fn plan_all(alloc: Global, files: &Files, requests: &[Request]) -> Result<Fi
 {
     let _ = files;
     let _ = requests;
-    Err(no_memory(alloc))
+    Err(Refused {
+        request: 0,
+        fault: EngineFault::OutOfMemory,
+        paths: Vec::new(alloc),
+    })
 }

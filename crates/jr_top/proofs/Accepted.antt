@@ -4,10 +4,12 @@ use Rattle.std.specs.Prelude.{◌||◌, if◌then◌else◌}
 use Rattle.std.specs.FinMap as finite
 use Rattle.std.specs.List.{AllByRecursion}
 use Rattle.std.proofs.lemmas.Bool.{ltb-false, false≢true}
+use Rattle.std.proofs.lemmas.List.Sums.{sum_by-cons}
 use Rattle.jr_base.specs.Files.{FileMap}
 use Rattle.jr_base.specs.declared.limits.Size.{Size}
 use Rattle.jr_base.specs.declared.limits.Size.TheVariants as size
 use Rattle.jr_base.specs.declared.limits.TheConstants.Limits as limits
+use Rattle.jr_commit.specs.Differences.{File}
 use Rattle.jr_commit.specs.Sizes.{content_bytes, IsWithinLimits}
 use Rattle.jr_front.specs.Checking.{CheckedAs, accepted}
 use Rattle.jr_read.specs.Reading.{program as one_program}
@@ -40,7 +42,7 @@ few_bytes (file ∷ files) most none =
     let both = or_false (nat_lt most (length file.1)) (passes_total files (most - length file.1)) none in
     let here : length file.1 ≤ most = ltb-false most (length file.1) both.0 in
     let rest : content_bytes files ≤ most - length file.1 = few_bytes files (most - length file.1) both.1 in
-    omega (arith, here, rest)
+    omega (arith, here, rest, sum_by-cons (λ (f : File). length f.1) file files)
 
 small : (found : FileMap) → first_too_large (finite.entries found) ≡ None → IsWithinLimits found
 small found none =

@@ -40,7 +40,7 @@ use Rattle.jr_top.specs.declared.status.Phase.TheVariants.{Reading, Writing}
 use Rattle.jr_top.specs.declared.status.Report.TheVariants.{Changed}
 use Rattle.jr_top.specs.declared.status.Status.{Status}
 use Rattle.jr_top.specs.declared.status.Status.TheVariants.{Done, StoreFault, SinkFault, TooLarge, OutOfMemory}
-use Rattle.jr_top.proofs.Carried.{weaker, settled, still_told}
+use Rattle.jr_top.proofs.Carried.{weaker, settled as settled_after, still_told}
 use Rattle.jr_top.proofs.Settled.{settled_stands, restores_same}
 
 -- ---- decisions and statuses apart
@@ -158,7 +158,7 @@ module _ (requests : List Request) (found left : FileMap) (plan : Planned) (plan
       left = left;
       holds = holds;
       planned = planned;
-      count = count ∙ ap length is.steps;
+      counted = count ∙ ap length is.steps;
       files = λ q java. taken.files q java ∙ is.gives f held_as q java;
       journal = (taken.journal some).0 ∙ ap Some is.journal;
       gate = (taken.journal some).1;
@@ -190,7 +190,7 @@ plan_of requests told before after plan (on_files {found = found} holds (files_d
     let same = same_change plan made is in
     (found, left, holds, planned, subst (λ (p : Planned). IsPlanFor found left p × (p.steps ≢ [])) (sym same) (makes, some))
 plan_of requests told before after plan (on_files holds (files_are_same is planned makes none)) = absurd (changed_no_answer plan _ is)
-plan_of requests told before after plan (on_files holds (is_refused is planned)) = absurd (changed_no_refusal plan _ _ is)
+plan_of requests told before after plan (on_files holds (is_refused why is planned)) = absurd (changed_no_refusal plan _ _ is)
 plan_of requests told before after plan (on_files holds (memory_is_short is)) = absurd (changed_no_answer plan _ is)
 plan_of requests told before after plan (is_too_large is large) = absurd (changed_no_answer plan _ is)
 plan_of requests told before after plan (is_not_read is rose) = absurd (changed_no_answer plan _ is)
@@ -229,7 +229,7 @@ module _ (words : List (List ℕ)) (Asks : Option Image → List Request → Typ
             ),
             λ f r told_is settled c l. subst (λ (s : Status). StandsAfter words r s c) (sym status_is) (stays f r told_is settled c l),
           )
-      answered_so status (on_files holds (is_refused is planned)) = absurd (no_refusal status _ _ is)
+      answered_so status (on_files holds (is_refused why is planned)) = absurd (no_refusal status _ _ is)
       answered_so status (on_files holds (memory_is_short is)) = subst (SaidFound []) (sym (same_answer status OutOfMemory is)) (short_so [])
       answered_so status (is_too_large {what = what} is large) =
           let status_is = same_answer status (TooLarge what 0) is in (
@@ -244,12 +244,12 @@ module _ (words : List (List ℕ)) (Asks : Option Image → List Request → Typ
       answered_so status (is_short is) = subst (SaidFound []) (sym (same_answer status OutOfMemory is)) (short_so [])
 
       refused_so : (status : Status) (paths : Vec (List ℕ) Global) → DecidesAll requests told before after (Refuse status paths) → SaidFound paths.items status
-      refused_so status paths (on_files {found = found} holds (is_refused {why = why} is planned)) =
+      refused_so status paths (on_files {found = found} holds (is_refused why is planned)) =
           let both = same_refusal status (answer_to why.request why.fault) paths why.paths is in (
             (
               requests,
               asks,
-              refused {why = why} both.0 (ap (λ (ps : Vec (List ℕ) Global). ps.items) both.1) same
+              refused why both.0 (ap (λ (ps : Vec (List ℕ) Global). ps.items) both.1) same
                   (for_told told (IsRefusedAs requests why) (λ f told_is. (found, told_for told (λ files. HoldsFiles files found) holds f told_is, planned))),
             ),
             λ f r told_is settled c l. refusal_stands words r c status (subst IsRefusal (sym both.0) (engine_refusal why.request why.fault)) (stays f r told_is settled c l),
@@ -326,7 +326,7 @@ earlier_plans : (requests : List Request) (paths : List (List ℕ)) (found left 
     → Plans requests paths found left outcomes before after status
 earlier_plans requests paths found left outcomes before middle after status later (replaced is tells only) = replaced is tells only
 earlier_plans requests paths found left outcomes before middle after status later (unchanged is same none) = unchanged is same none
-earlier_plans requests paths found left outcomes before middle after status later (refused {why = why} is named same because) = refused {why = why} is named same because
+earlier_plans requests paths found left outcomes before middle after status later (refused why is named same because) = refused why is named same because
 earlier_plans requests paths found left outcomes before middle after status later (oversized is same large) = oversized is same large
 earlier_plans requests paths found left outcomes before middle after status later (not_read is same rose) = not_read is same (rose_earlier before middle after later rose)
 earlier_plans requests paths found left outcomes before middle after status later (not_written is tells rose) = not_written is tells (rose_earlier before middle after later rose)
@@ -338,7 +338,7 @@ sink_no_refusal status is same = subst IsRefusal (sym same) is
 silent : (requests : List Request) (paths : List (List ℕ)) (found left : Option Image) (outcomes : Image → Type 0) (before after : ℕ) → Plans requests paths found left outcomes before after SinkFault → ⊥
 silent requests paths found left outcomes before after (replaced is tells only) = cc
 silent requests paths found left outcomes before after (unchanged is same none) = cc
-silent requests paths found left outcomes before after (refused {why = why} is named same because) = sink_no_refusal (answer_to why.request why.fault) (engine_refusal why.request why.fault) is
+silent requests paths found left outcomes before after (refused why is named same because) = sink_no_refusal (answer_to why.request why.fault) (engine_refusal why.request why.fault) is
 silent requests paths found left outcomes before after (oversized is same large) = cc
 silent requests paths found left outcomes before after (not_read is same rose) = cc
 silent requests paths found left outcomes before after (not_written is tells rose) = cc
@@ -361,7 +361,7 @@ module _ (words : List (List ℕ)) (Asks : Option Image → List Request → Typ
           (found, asks, recovered, (requests, asked, earlier_plans requests paths found left outcomes before middle after status later plans)),
           λ f r told_is restored start c l.
               let g = still_told told found f recovered told_is in
-              survives g.0 r g.1 (settled told found settled_outcomes f g.0 r recovered told_is g.1 restored (closed f r told_is restored start)) c l,
+              survives g.0 r g.1 (settled_after told found settled_outcomes f g.0 r recovered told_is g.1 restored (closed f r told_is restored start)) c l,
         ),
         reports,
       ),

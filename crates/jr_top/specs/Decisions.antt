@@ -126,7 +126,7 @@ requests_of (All requests) = requests.now
 pub data DecidesFiles (found : FileMap) (requests : List Request) (decision : Decision) : Type 0 where
   files_differ : {left : FileMap} {plan : Planned} → decision ≡ Change plan → PlannedAs found requests (Ok left) → IsPlanFor found left plan → plan.steps ≢ [] → DecidesFiles found requests decision
   files_are_same : {left : FileMap} {plan : Planned} → decision ≡ Answer (Done (Changed 0)) → PlannedAs found requests (Ok left) → IsPlanFor found left plan → plan.steps ≡ [] → DecidesFiles found requests decision
-  is_refused : {why : Refused} → decision ≡ Refuse (answer_to why.request why.fault) why.paths → PlannedAs found requests (Err why) → DecidesFiles found requests decision
+  is_refused : (why : Refused) → decision ≡ Refuse (answer_to why.request why.fault) why.paths → PlannedAs found requests (Err why) → DecidesFiles found requests decision
   memory_is_short : decision ≡ Answer OutOfMemory → DecidesFiles found requests decision
 
 -- when each decision on requests comes that the engine serves

@@ -74,12 +74,12 @@ MayReplace found left old new = (q : List ℕ) → IsOff (new_sides (differences
 
 -- The files left are those that the engine made of the files found, as many differ as is answered, and no other path has changed. The journal is that of
 -- the change, and the gate is closed.
-pub record IsReplaced (requests : List Request) (files : ℕ) (old new : Image) : Type 0 where
+pub record IsReplaced (requests : List Request) (count : ℕ) (old new : Image) : Type 0 where
   pub found : FileMap
   pub left : FileMap
   pub holds : HoldsFiles old found
   pub planned : PlannedAs found requests (Ok left)
-  pub count : files ≡ length (new_sides (differences found left))
+  pub counted : count ≡ length (new_sides (differences found left))
   pub files : SameFiles new (image_of left)
   pub journal : new journal_path ≡ Some (spelling Two (differences found left))
   pub gate : new gate_path ≡ None
@@ -103,7 +103,7 @@ pub data Plans (requests : List Request) (paths : List (List ℕ)) (found left :
   -- the files differ, and a crash leaves the new ones
   replaced : {n : ℕ} → said ≡ status.Done (Changed (suc n)) → Tells found left (IsReplaced requests (suc n)) → OnlyTold left outcomes → Plans requests paths found left outcomes before after said
   unchanged : said ≡ status.Done (Changed 0) → left ≡ found → ForTold found (IsUnchanged requests) → Plans requests paths found left outcomes before after said
-  refused : {why : Refused} → said ≡ answer_to why.request why.fault → paths ≡ why.paths.items → left ≡ found → ForTold found (IsRefusedAs requests why) → Plans requests paths found left outcomes before after said
+  refused : (why : Refused) → said ≡ answer_to why.request why.fault → paths ≡ why.paths.items → left ≡ found → ForTold found (IsRefusedAs requests why) → Plans requests paths found left outcomes before after said
   -- a size of the files found passes its limit
   oversized : {what : Size} → said ≡ status.TooLarge what 0 → left ≡ found → ForTold found (λ files. IsTooLarge files what) → Plans requests paths found left outcomes before after said
   not_read : said ≡ status.StoreFault Reading → left ≡ found → Rose before after → Plans requests paths found left outcomes before after said

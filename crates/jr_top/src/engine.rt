@@ -24,7 +24,7 @@ pub enum Asked<'a> {
 
 // What the requests come to on the files.
 fn plan_asked(alloc: Global, asked: Asked<'_>, found: &Files) -> Result<Files, Refused>
-    ensures { PlannedAs found.now (requests_of asked) result }
+    ensures { PlannedAs found.now (requests_of asked.entry) result }
 {
     match asked {
         Asked::One(request) => plan(alloc, found, request),
@@ -84,7 +84,7 @@ fn plan_between(alloc: Global, found: &Files, left: &Files) -> Result<Plan, OutO
 // What the files left come to.
 fn decide_left(alloc: Global, asked: Asked<'_>, found: &Files, left: &Files) -> Decision
     requires { PlannedAs found.now (requests_of asked) (Ok left.now) }
-    ensures { DecidesFiles found.now (requests_of asked) result }
+    ensures { DecidesFiles found.now (requests_of asked.entry) result }
 {
     let _ = asked;
     match plan_between(alloc, found, left) {
@@ -101,7 +101,7 @@ fn decide_left(alloc: Global, asked: Asked<'_>, found: &Files, left: &Files) -> 
 
 // What the requests come to on the files found.
 fn decide_files(alloc: Global, asked: Asked<'_>, found: &Files) -> Decision
-    ensures { DecidesFiles found.now (requests_of asked) result }
+    ensures { DecidesFiles found.now (requests_of asked.entry) result }
 {
     match plan_asked(alloc, asked, found) {
         Ok(left) => decide_left(alloc, asked, found, &left),
@@ -118,7 +118,7 @@ pub fn decide_all<S: Store>(alloc: Global, asked: Asked<'_>, store: &mut S) -> D
     ensures later { S.faults store.old ≤ S.faults store.new }
     ensures crash { (c : Image) → S.may_leave store.new c → S.may_leave store.old c }
     ensures any_moment { LeavesOnly S.moment S.left_since store.old store.new (S.may_leave store.old) }
-    ensures decision { DecidesAll (requests_of asked) (S.files store.old) (S.faults store.old) (S.faults store.new) result }
+    ensures decision { DecidesAll (requests_of asked.entry) (S.files store.old) (S.faults store.old) (S.faults store.new) result }
 {
     match gather(alloc, store) {
         Ok(Gathered::Files(found)) => decide_files(alloc, asked, &found),
