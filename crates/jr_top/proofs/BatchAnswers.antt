@@ -1,5 +1,5 @@
 -- From what an input comes to, to the answer to a batch.
-use Rattle.std.proofs.Common.{◌≡◌, ◌⊎◌, inl, inr, ℕ, List, [], Option, Some, Result, Ok, Err, Global, sym, ap, subst, ◌∙◌, arith}
+use Rattle.std.proofs.Common.{◌≡◌, ◌⊎◌, inl, inr, ℕ, List, [], Option, Some, Result, Ok, Err, Vec, Global, sym, ap, subst, ◌∙◌, arith}
 use Rattle.std.proofs.lemmas.Option.{same_Some}
 use Rattle.jr_base.specs.declared.request.Request.{Request}
 use Rattle.jr_batch.specs.Input.{ForInput, IsInputAnswer, LeavesSome}
@@ -7,22 +7,24 @@ use Rattle.jr_batch.specs.declared.fault.BatchFault.{BatchFault}
 use Rattle.jr_batch.specs.declared.fault.BatchFault.TheVariants as fault
 use Rattle.jr_batch.proofs.OneAnswer.{one_answer}
 use Rattle.jr_commit.specs.Restoring.{Restored, RestoresTo, StartsRecover}
-use Rattle.jr_commit.proofs.Moments.{started}
 use Rattle.jr_request.specs.declared.command.Command.TheVariants.{Batch}
-use Rattle.jr_store.specs.Image.{Image, LeavesOnly}
-use Rattle.jr_top.specs.Batches.{AsksBatch, Hears, AnswersBatch, status_of, IsBatchFailure}
-use Rattle.jr_top.specs.Crash.{StandsForEither, IsSettled, Survives}
-use Rattle.jr_top.specs.Decisions.{IsRename}
+use Rattle.jr_store.specs.Image.{Image}
+use Rattle.jr_commit.specs.Planned.{Planned}
+use Rattle.jr_top.specs.Batches.{AsksBatch, Hears, IsHeard, AnswersBatch, status_of, IsBatchFailure}
+use Rattle.jr_top.specs.Crash.{Survives}
+use Rattle.jr_top.specs.Decisions.{IsRename, DecidesAll, DecidesInput}
+use Rattle.jr_top.specs.declared.decide.Decision.{Decision}
+use Rattle.jr_top.specs.declared.decide.Decision.TheVariants.{Answer, Refuse, Change}
 use Rattle.jr_top.specs.Performing.{Reported}
 use Rattle.jr_top.specs.Recovering.{Recovers}
 use Rattle.jr_top.specs.Renaming.{AsksRename, files_named}
+use Rattle.jr_top.specs.Served.{AreServed}
 use Rattle.jr_top.specs.declared.status.Phase.TheVariants.{Recovering}
 use Rattle.jr_top.specs.declared.status.Status.{Status}
 use Rattle.jr_top.specs.declared.status.Status.TheVariants.{BadRequest, StoreFault, SourceFault, TooLarge, OutOfMemory, BadJournal, NotYet}
-use Rattle.jr_top.specs.Answers.{reported}
+use Rattle.jr_top.specs.Answers.{IsReported, reported}
 use Rattle.jr_top.proofs.Outcomes.{no_bad_journal}
 use Rattle.jr_top.proofs.PlainAnswers.{IsPlain, unnamed}
-use Rattle.jr_top.proofs.Settled.{settled_stands}
 
 -- nothing of the input was taken
 pub untaken : (bytes : List ℕ) (left : Option (List ℕ)) → left ≡ Some bytes → LeavesSome bytes left
@@ -32,11 +34,31 @@ untaken bytes left is = (0, omega arith, is)
 pub no_batch : (words : List (List ℕ)) (file : List ℕ) (at : ℕ) (name : List ℕ) → AsksRename words file at name → AsksBatch words → ⊥
 no_batch words file at name asks batch = subst IsRename (same_Some _ _ (sym asks ∙ batch)) tt
 
--- no call of the store, where recovery has ended
-pub settled_here : {S : Type 0} (may_leave : S → Image → Type 0) (moment : S → ℕ) (left_since : S → ℕ → Image → Type 0) (words : List (List ℕ)) (f r : Image) (s : S) → ((c : Image) → left_since s (moment s) c → may_leave s c)
-    → IsSettled f r (may_leave s) → LeavesOnly moment left_since s s (StandsForEither words r)
-settled_here may_leave moment left_since words f r s now settled =
-    started moment left_since s (StandsForEither words r) (λ c l. inl (settled_stands f r (may_leave s) settled c (now c l)))
+-- what an input alone comes to
+module _ (heard : Option (List ℕ)) (quiet loud : ℕ) where
+  pub heard_alone : (told left : Option Image) (kept outcomes : Image → Type 0) (status said result : Status) (old new : Option (List ℕ)) (fewer more : ℕ) → Answer status ≡ Answer said → Hears heard quiet loud said → left ≡ told
+      → ((c : Image) → outcomes c → kept c) → IsReported status [] result old new fewer more → IsHeard told left kept outcomes (λ s. Hears heard quiet loud s × IsReported s [] result old new fewer more)
+  heard_alone told left kept outcomes status said result old new fewer more is hears same few r =
+      let status_is : status ≡ said = cc in
+      record { said = status; answer = (subst (Hears heard quiet loud) (sym status_is) hears, r); same = same; fewer = few }
+
+  module _ (told : Option Image) (before after : ℕ) where
+    abbrev Asked : Decision → Type 0
+    Asked decision = (requests : List Request) × ForInput heard (λ bytes. IsInputAnswer bytes (Ok requests)) × AreServed requests × DecidesAll requests told before after decision
+
+    refused_no_answer : (a b : Status) (ps : Vec (List ℕ) Global) → Refuse a ps ≡ Answer b → ⊥
+    refused_no_answer a b ps is = cc
+
+    changed_no_answer : (p : Planned) (b : Status) → Change p ≡ Answer b → ⊥
+    changed_no_answer p b is = cc
+
+    pub no_input_refusal : (status : Status) (paths : Vec (List ℕ) Global) → DecidesInput heard quiet loud told before after (Refuse status paths) → Asked (Refuse status paths)
+    no_input_refusal status paths (inl (said, is, hears)) = absurd (refused_no_answer status said paths is)
+    no_input_refusal status paths (inr asked) = asked
+
+    pub no_input_change : (plan : Planned) → DecidesInput heard quiet loud told before after (Change plan) → Asked (Change plan)
+    no_input_change plan (inl (said, is, hears)) = absurd (changed_no_answer plan said is)
+    no_input_change plan (inr asked) = asked
 
 -- a batch names no file
 pub batch_plain : (words : List (List ℕ)) → AsksBatch words → IsPlain words [] (reported words)
@@ -62,10 +84,10 @@ module _ (words : List (List ℕ)) (told left : Option Image) (kept outcomes : I
     one : (b : Result (List Request) BatchFault) → ForInput heard (λ bs. IsInputAnswer bs b) → b ≡ answer
     one b h = one_answer alloc bytes b answer (subst (λ (t : Option (List ℕ)). ForInput t (λ bs. IsInputAnswer bs b)) heard_is h) q
 
-    some_requests : ForInput heard (λ bs. (requests : List Request) × IsInputAnswer bs (Ok requests)) → NotYet ≡ status_of answer
+    some_requests : ForInput heard (λ bs. (requests : List Request) × IsInputAnswer bs (Ok requests) × (AreServed requests → ⊥)) → NotYet ≡ status_of answer
     some_requests h =
-        let said : (requests : List Request) × IsInputAnswer bytes (Ok requests) =
-        subst (λ (t : Option (List ℕ)). ForInput t (λ bs. (requests : List Request) × IsInputAnswer bs (Ok requests))) heard_is h in
+        let said : (requests : List Request) × IsInputAnswer bytes (Ok requests) × (AreServed requests → ⊥) =
+        subst (λ (t : Option (List ℕ)). ForInput t (λ bs. (requests : List Request) × IsInputAnswer bs (Ok requests) × (AreServed requests → ⊥))) heard_is h in
         ap status_of (one_answer alloc bytes (Ok said.0) answer said.1 q)
 
     each_exact : (status : Status) → AnswersBatch words told left outcomes before after heard quiet loud status → (status ≡ status_of answer) ⊎ IsBatchFailure before after fewer more quiet loud status

@@ -23,9 +23,10 @@ use Rattle.jr_top.specs.Crash.{Survives}
 use Rattle.jr_top.specs.Exact.{place_of, answer_of, answer_at, bytes_after, KeepsOtherFiles, IsAnswered}
 use Rattle.jr_top.specs.Performing.{Reported}
 use Rattle.jr_top.specs.Recovering.{AsksRecovery, Recovers}
-use Rattle.jr_top.specs.Renaming.{AsksRename, Holds, IsUnserved, ForTold}
-use Rattle.jr_top.proofs.Outcomes.{found_files, no_bad_journal}
-use Rattle.jr_top.proofs.Settled.{holds_same, holds_back}
+use Rattle.jr_top.specs.Renaming.{AsksRename, Holds, ForTold}
+use Rattle.jr_top.specs.Served.{AsksServed}
+use Rattle.jr_top.proofs.Outcomes.{found_files, no_bad_journal, served_asked}
+use Rattle.jr_top.proofs.Settled.{holds_same}
 use Rattle.jr_top.specs.declared.status.Phase.TheVariants.{Recovering, Reading, Writing}
 use Rattle.jr_top.specs.declared.status.Report.TheVariants.{Changed}
 use Rattle.jr_top.specs.declared.status.Status.{Status}
@@ -86,10 +87,6 @@ none_read words none (command, is, needs) = none-some command (sym none ∙ is)
 none_there : (words : List (List ℕ)) → command_of words ≡ None → IsSome (command_of words) → ⊥
 none_there words none some = false≢true (subst IsSome none some)
 
-just_held : (told : Option Image) (file : List ℕ) (P : List ℕ → Type 0) → ForTold told (λ files. (bytes : List ℕ) × Holds files file bytes × P bytes) → ForTold told (λ files. (bytes : List ℕ) × Holds files file bytes)
-just_held None file P held = tt
-just_held (Some files) file P held = (held.0, held.1)
-
 module _ (words : List (List ℕ)) (told left : Option Image) (kept outcomes : Image → Type 0) (before after : ℕ) (old new : Option (List ℕ)) (fewer more : ℕ) where
   abbrev Said : Status → Type 0
   Said status = Answers words told left outcomes before after status × Survives words told kept outcomes status
@@ -147,20 +144,10 @@ module _ (words : List (List ℕ)) (told left : Option Image) (kept outcomes : I
       each other a = absurd (never a.1)
 
   module _ (files found : Image) (is : told ≡ Some files) (restored : Restored files found) where
-    -- no rename is asked for of a file that is held
-    module _ (none : (file : List ℕ) (at : ℕ) (name bytes : List ℕ) → AsksRename words file at name → Holds found file bytes → ⊥) where
-      unheld : (here : Option Image) → Recovers told here → (file : List ℕ) (at : ℕ) (name : List ℕ) → AsksRename words file at name → ForTold here (λ files. (bytes : List ℕ) × Holds files file bytes) → ⊥
-      unheld here recovers file at name asks held =
-          let there = found_files files found told here is restored recovers in
-          let h = subst (λ (o : Option Image). ForTold o (λ files. (bytes : List ℕ) × Holds files file bytes)) there.1 held in
-          none file at name h.0 asks (holds_same there.0 found file h.0 there.2 h.1)
-
-      unasked : (here : Option Image) → Recovers told here → (P : List ℕ → ℕ → List ℕ → Type 0) → Asks words here P → ⊥
-      unasked here recovers P (file, at, name, asks, short, held) = unheld here recovers file at name asks (just_held here file (λ bytes. P bytes at name) held)
-
-      unchanged_so : (g : Image) (l : Option Image) (file : List ℕ) (at : ℕ) (name : List ℕ) → SameFiles g found → AsksRename words file at name → Tells (Some g) l (IsCommitted file at name) → ⊥
-      unchanged_so g None file at name same asks committed = committed
-      unchanged_so g (Some h) file at name same asks committed = none file at name committed.changed.before asks (holds_same g found file committed.changed.before same committed.changed.held)
+    -- no command is asked for that is served
+    module _ (none : AsksServed words → ⊥) where
+      unasked : (file : List ℕ) (at : ℕ) (name : List ℕ) → AsksRename words file at name → ⊥
+      unasked file at name asks = none (One (Rename file at name), asks, tt)
 
       unserved : IsSome (command_of words) → (status : Status) → Answers words told left outcomes before after status → (status ≡ NotYet) ⊎ IsFailure before after fewer more status
       unserved some BadWords a = absurd (none_there words a.1 some)
@@ -170,15 +157,12 @@ module _ (words : List (List ℕ)) (told left : Option Image) (kept outcomes : I
       unserved some (StoreFault Writing) a = inr a.3.1
       unserved some OutOfMemory a = inr tt
       unserved some NotYet a = inl refl
-      unserved some (Done (Changed zero)) a = absurd (unasked a.0 a.2 (λ bytes at name. IsDone bytes at name bytes) a.3.1)
-      unserved some (Done (Changed (suc zero))) a =
-          let there = found_files files found told a.0 is restored a.2 in
-          let asked = a.3.0 in
-          absurd (unchanged_so there.0 left asked.0 asked.1 asked.2 there.2 asked.3 (subst (λ (o : Option Image). Tells o left (IsCommitted asked.0 asked.1 asked.2)) there.1 asked.5))
-      unserved some (NoSpelling request occ place lock) a = absurd (unasked a.0 a.2 (λ bytes at name. IsLost bytes at name occ place.at lock) a.3.3)
-      unserved some (BrokenRule request rule place) a = absurd (unasked a.0 a.2 (λ bytes at name. IsBroken bytes at name place.at) a.3.4)
-      unserved some (TooLarge File request) a = absurd (unasked a.0 a.2 IsTooLong a.3.2)
-      unserved some (TooLarge Path request) a = let asked = a.3.2 in absurd (unheld a.0 a.2 asked.0 asked.1 asked.2 asked.3 asked.5)
+      unserved some (Done (Changed zero)) a = let asked = a.3.1 in absurd (unasked asked.0 asked.1 asked.2 asked.3)
+      unserved some (Done (Changed (suc zero))) a = let asked = a.3.0 in absurd (unasked asked.0 asked.1 asked.2 asked.3)
+      unserved some (NoSpelling request occ place lock) a = let asked = a.3.3 in absurd (unasked asked.0 asked.1 asked.2 asked.3)
+      unserved some (BrokenRule request rule place) a = let asked = a.3.4 in absurd (unasked asked.0 asked.1 asked.2 asked.3)
+      unserved some (TooLarge File request) a = let asked = a.3.2 in absurd (unasked asked.0 asked.1 asked.2 asked.3)
+      unserved some (TooLarge Path request) a = let asked = a.3.2 in absurd (unasked asked.0 asked.1 asked.2 asked.3)
       unserved some other a = absurd a.3
 
       pub not_served : (result : Status) → Reported words Said result old new fewer more → IsSome (command_of words) → (result ≡ NotYet) ⊎ IsFailure before after fewer more result
@@ -251,12 +235,7 @@ module _ (words : List (List ℕ)) (told left : Option Image) (kept outcomes : I
         each (StoreFault Writing) a = inr a.3.1
         each OutOfMemory a = inr tt
         each NotYet (inl early) = absurd (early.2 (_, asks, tt))
-        each NotYet (inr a) =
-            let there = found_files files found told a.0 is restored a.2 in
-            let unserved : IsUnserved file bytes at name =
-            subst (λ (o : Option Image). ForTold o (λ files. (f : List ℕ) (i : ℕ) (n b : List ℕ) → AsksRename words f i n → Holds files f b → IsUnserved f b i n)) there.1 a.3.2
-            file at name bytes asks (holds_back there.0 found file bytes there.2 holds) in
-            inl (record { answer = same_status renaming.NotServed unserved.1 NotYet unserved.0 refl; files = as_found a.0 a.2 a.3.0 })
+        each NotYet (inr a) = absurd (served_asked words file at name asks a.3.1)
         each (Done (Changed zero)) a =
             let asked = asked_here a.0 a.2 (λ b i n. IsDone b i n b) a.3.1 in
             inl (record {

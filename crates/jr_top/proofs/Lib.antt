@@ -12,3 +12,6 @@ mod CheckAnswers
 mod OneFile
 mod UndoAnswers
 mod Starts
+mod Accepted
+mod EngineAnswers
+mod Choosing

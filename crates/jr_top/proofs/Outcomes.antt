@@ -6,11 +6,11 @@ use Rattle.jr_commit.specs.Restoring.{IsOpen, Restored, SameFiles}
 use Rattle.jr_store.specs.Image.{Image}
 use Rattle.jr_thin.specs.Renaming.{Serves}
 use Rattle.jr_top.specs.Recovering.{Recovers}
-use Rattle.jr_top.specs.Renaming.{AsksRename, Holds, IsUnserved, ForTold}
+use Rattle.jr_top.specs.Renaming.{AsksRename, Holds, ForTold}
+use Rattle.jr_top.specs.Served.{IsServedCommand, AsksUnserved}
 use Rattle.jr_top.specs.Answers.{Answers, reported, Outcome, IsServedAnswer}
 use Rattle.jr_top.specs.Crash.{Survives}
 use Rattle.jr_top.specs.Performing.{Reported}
-use Rattle.jr_top.proofs.Settled.{holds_back}
 use Rattle.jr_top.specs.declared.status.Phase.TheVariants.{Recovering, Reading, Writing}
 use Rattle.jr_top.specs.declared.status.Status.{Status}
 use Rattle.jr_top.specs.declared.status.Status.TheVariants.{Done, BadWords, NoSpelling, BrokenRule, NotYet, StoreFault, SinkFault, TooLarge, OutOfMemory, BadJournal}
@@ -25,6 +25,10 @@ found_files files found (Some f) (Some g) is restored recovers = (g, refl, recov
 pub no_bad_journal : (files found : Image) (told : Option Image) → told ≡ Some files → Restored files found → ForTold told (λ files. IsOpen files × ((r : Image) → Restored files r → ⊥)) → ⊥
 no_bad_journal files found None is restored bad = none-some files is
 no_bad_journal files found (Some f) is restored bad = bad.1 found (subst (λ (i : Image). Restored i found) (sym (same_Some f files is)) restored)
+
+-- words that ask for a rename ask for a command that is served
+pub served_asked : (words : List (List ℕ)) (file : List ℕ) (at : ℕ) (name : List ℕ) → AsksRename words file at name → AsksUnserved words → ⊥
+served_asked words file at name asks (command, is, unserved) = unserved (subst IsServedCommand (same_Some _ _ (sym asks ∙ is)) tt)
 
 module _ (words : List (List ℕ)) (told left : Option Image) (kept outcomes : Image → Type 0) (before after : ℕ) (old new : Option (List ℕ)) (fewer more : ℕ) where
   abbrev Said : Status → Type 0
@@ -41,13 +45,6 @@ module _ (words : List (List ℕ)) (told left : Option Image) (kept outcomes : I
   -- a rename that is served, in the files found
   module _ (files found : Image) (is : told ≡ Some files) (restored : Restored files found) (file : List ℕ) (at : ℕ) (name bytes : List ℕ)
       (asks : AsksRename words file at name) (holds : Holds found file bytes) (serves : Serves bytes at name) where
-    never_not_yet : (here : Option Image) → Recovers told here →
-        ForTold here (λ files. (file : List ℕ) (at : ℕ) (name bytes : List ℕ) → AsksRename words file at name → Holds files file bytes → IsUnserved file bytes at name) → ⊥
-    never_not_yet here recovers unserved =
-        let there = found_files files found told here is restored recovers in
-        (subst (λ (o : Option Image). ForTold o (λ files. (file : List ℕ) (at : ℕ) (name bytes : List ℕ) → AsksRename words file at name → Holds files file bytes → IsUnserved file bytes at name)) there.1 unserved
-        file at name bytes asks (holds_back there.0 found file bytes there.2 holds)).1 serves
-
     served : (status : Status) → Answers words told left outcomes before after status → IsServedAnswer before after fewer more status
     served (Done report) answers = tt
     served BadWords answers = none-some _ (sym answers.1 ∙ asks)
@@ -56,7 +53,7 @@ module _ (words : List (List ℕ)) (told left : Option Image) (kept outcomes : I
     served (TooLarge what request) answers = tt
     served BadJournal answers = no_bad_journal files found told is restored answers.2
     served NotYet (inl early) = absurd (early.2 (_, asks, tt))
-    served NotYet (inr (here, asked, recovers, unserved)) = absurd (never_not_yet here recovers unserved.2)
+    served NotYet (inr (here, asked, recovers, unserved)) = absurd (served_asked words file at name asks unserved.1)
     served (StoreFault Recovering) answers = answers.2
     served (StoreFault Reading) answers = answers.3.2
     served (StoreFault Writing) answers = answers.3.1

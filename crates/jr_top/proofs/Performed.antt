@@ -19,10 +19,11 @@ use Rattle.jr_top.proofs.Carried.{weaker}
 use Rattle.jr_top.proofs.Settled.{settled_stands, starts, restores_same, stands_changed, committed, some_step, off_one, stands_committed}
 use Rattle.jr_thin.specs.Renaming.{IsDone}
 use Rattle.jr_top.specs.Line.{line_of}
-use Rattle.jr_top.specs.Renaming.{AsksRename, files_named, Holds, IsUnserved, ForTold}
-use Rattle.jr_top.specs.Decisions.{HoldsSome, HoldsOnly, DecidesRename, IsRename, DecidesCommand, Decides}
+use Rattle.jr_top.specs.Renaming.{AsksRename, files_named, Holds, ForTold}
+use Rattle.jr_top.specs.Decisions.{HoldsSome, DecidesRename, DecidesCommand, Decides}
 use Rattle.jr_base.specs.declared.limits.Size.TheVariants.{File, Path}
 use Rattle.jr_top.specs.Answers.{LeavesChange, AnswersFound, Reports, IsReported, reported}
+use Rattle.jr_top.specs.Served.{IsServedCommand}
 use Rattle.jr_top.specs.declared.decide.Decision.{Decision}
 use Rattle.jr_top.specs.declared.decide.Decision.TheVariants.{Answer, Refuse, Change}
 use Rattle.jr_top.specs.declared.status.Phase.TheVariants.{Reading, Writing}
@@ -32,30 +33,15 @@ use Rattle.jr_top.specs.declared.status.Status.TheVariants.{Done, NoSpelling, Br
 
 module _ (words : List (List ℕ)) (told : Option Image) (before after : ℕ) where
   -- a decision on a command is one on a rename, or says that it is not served
-  split : (command : Command) (decision : Decision) → DecidesCommand command told before after decision → ((decision ≡ Answer NotYet) × (IsRename command → ⊥))
+  split : (command : Command) (decision : Decision) → DecidesCommand command told before after decision → ((decision ≡ Answer NotYet) × (IsServedCommand command → ⊥))
       ⊎ ((file : List ℕ) × (at : ℕ) × (name : List ℕ) × (command ≡ One (Rename file at name)) × DecidesRename file at name told before after decision)
-  split (One (Rename file at name)) decision decides = inr (file, at, name, refl, decides)
-  split other decision decides = inl (decides, λ never. never)
+  split (One (Rename file at name)) decision (differs, decides) = inr (file, at, name, refl, decides)
+  split other decision decides = inl decides
 
-  same_some : {A : Type 0} (x y : A) → Some x ≡ Some y → x ≡ y
-  same_some x y e = cc
-
-  same_rename : (f g : List ℕ) (i j : ℕ) (m n : List ℕ) → One (Rename f i m) ≡ One (Rename g j n) → (f ≡ g) × (i ≡ j) × (m ≡ n)
-  same_rename f g i j m n e = (cc, cc, cc)
-
-  -- no other rename is asked for
-  one_rename : (file : List ℕ) (at : ℕ) (name : List ℕ) → AsksRename words file at name → (told : Option Image) → HoldsOnly told file (λ bytes. IsUnserved file bytes at name) →
-      ForTold told (λ files. (f : List ℕ) (i : ℕ) (n bytes : List ℕ) → AsksRename words f i n → Holds files f bytes → IsUnserved f bytes i n)
-  one_rename file at name asked None only = tt
-  one_rename file at name asked (Some files) only = λ f i n bytes asks holds.
-      let same = same_rename file f at i name n (same_some _ _ (sym asked ∙ asks)) in
-      subst (λ (m : List ℕ). IsUnserved f bytes i m) same.2 (subst (λ (k : ℕ). IsUnserved f bytes k name) same.1 (subst (λ (p : List ℕ). IsUnserved p bytes at name) same.0
-      (only bytes (subst (λ (p : List ℕ). Holds files p bytes) (sym same.0) holds))))
-
-  no_rename : (command : Command) → command_of words ≡ Some command → (IsRename command → ⊥) → (told : Option Image) →
-      ForTold told (λ files. (f : List ℕ) (i : ℕ) (n bytes : List ℕ) → AsksRename words f i n → Holds files f bytes → IsUnserved f bytes i n)
-  no_rename command is other None = tt
-  no_rename command is other (Some files) = λ f i n bytes asks holds. absurd (other (subst IsRename (same_some _ _ (sym asks ∙ is)) tt))
+  -- a command of which it is said is not served
+  unserved_of : (command : Command) → DecidesCommand command told before after (Answer NotYet) → IsServedCommand command → ⊥
+  unserved_of (One (Rename file at name)) (differs, decides) served = differs refl
+  unserved_of other (is, unserved) served = unserved served
 
   some_held : (t : Option Image) (file : List ℕ) → HoldsSome t file (λ bytes. Unit {0}) → ForTold t (λ files. (bytes : List ℕ) × Holds files file bytes)
   some_held None file held = tt
@@ -66,7 +52,7 @@ module _ (words : List (List ℕ)) (told : Option Image) (before after : ℕ) wh
       AnswersFound words told left outcomes before after status × (line_of [] status ≡ reported words status)
   answered left outcomes (Done (Changed files)) same (command, is, decides) = go (split command (Answer (Done (Changed files))) decides)
     where
-      go : ((Answer (Done (Changed files)) ≡ Answer NotYet) × (IsRename command → ⊥))
+      go : ((Answer (Done (Changed files)) ≡ Answer NotYet) × (IsServedCommand command → ⊥))
           ⊎ ((file : List ℕ) × (at : ℕ) × (name : List ℕ) × (command ≡ One (Rename file at name)) × DecidesRename file at name told before after (Answer (Done (Changed files)))) →
           AnswersFound words told left outcomes before after (Done (Changed files)) × (line_of [] (Done (Changed files)) ≡ reported words (Done (Changed files)))
       go (inl other) = absurd (let e : Answer (Done (Changed files)) ≡ Answer NotYet = other.0 in cc)
@@ -74,28 +60,22 @@ module _ (words : List (List ℕ)) (told : Option Image) (before after : ℕ) wh
           (subst (λ (n : ℕ). LeavesChange words told left outcomes n) (sym none) (same, (file, at, name, is ∙ ap Some rename, short, held)), refl)
   answered left outcomes (TooLarge Path request) same (command, is, decides) = go (split command (Answer (TooLarge Path request)) decides)
     where
-      go : ((Answer (TooLarge Path request) ≡ Answer NotYet) × (IsRename command → ⊥))
+      go : ((Answer (TooLarge Path request) ≡ Answer NotYet) × (IsServedCommand command → ⊥))
           ⊎ ((file : List ℕ) × (at : ℕ) × (name : List ℕ) × (command ≡ One (Rename file at name)) × DecidesRename file at name told before after (Answer (TooLarge Path request))) →
           AnswersFound words told left outcomes before after (TooLarge Path request) × (line_of [] (TooLarge Path request) ≡ reported words (TooLarge Path request))
       go (inl other) = absurd (let e : Answer (TooLarge Path request) ≡ Answer NotYet = other.0 in cc)
       go (inr (file, at, name, rename, (single, long, held))) = ((same, single, (file, at, name, is ∙ ap Some rename, long, some_held told file held)), refl)
   answered left outcomes (TooLarge File request) same (command, is, decides) = go (split command (Answer (TooLarge File request)) decides)
     where
-      go : ((Answer (TooLarge File request) ≡ Answer NotYet) × (IsRename command → ⊥))
+      go : ((Answer (TooLarge File request) ≡ Answer NotYet) × (IsServedCommand command → ⊥))
           ⊎ ((file : List ℕ) × (at : ℕ) × (name : List ℕ) × (command ≡ One (Rename file at name)) × DecidesRename file at name told before after (Answer (TooLarge File request))) →
           AnswersFound words told left outcomes before after (TooLarge File request) × (line_of [] (TooLarge File request) ≡ reported words (TooLarge File request))
       go (inl other) = absurd (let e : Answer (TooLarge File request) ≡ Answer NotYet = other.0 in cc)
       go (inr (file, at, name, rename, (single, short, held))) = ((same, single, (file, at, name, is ∙ ap Some rename, short, held)), refl)
-  answered left outcomes NotYet same (command, is, decides) = go (split command (Answer NotYet) decides)
-    where
-      go : ((Answer NotYet ≡ Answer NotYet) × (IsRename command → ⊥))
-          ⊎ ((file : List ℕ) × (at : ℕ) × (name : List ℕ) × (command ≡ One (Rename file at name)) × DecidesRename file at name told before after (Answer NotYet)) →
-          AnswersFound words told left outcomes before after NotYet × (line_of [] NotYet ≡ reported words NotYet)
-      go (inl other) = ((same, subst IsSome (sym is) refl, no_rename command is other.1 told), refl)
-      go (inr (file, at, name, rename, only)) = ((same, subst IsSome (sym is) refl, one_rename file at name (is ∙ ap Some rename) told only), refl)
+  answered left outcomes NotYet same (command, is, decides) = ((same, (command, is, unserved_of command decides)), refl)
   answered left outcomes (StoreFault Reading) same (command, is, decides) = go (split command (Answer (StoreFault Reading)) decides)
     where
-      go : ((Answer (StoreFault Reading) ≡ Answer NotYet) × (IsRename command → ⊥))
+      go : ((Answer (StoreFault Reading) ≡ Answer NotYet) × (IsServedCommand command → ⊥))
           ⊎ ((file : List ℕ) × (at : ℕ) × (name : List ℕ) × (command ≡ One (Rename file at name)) × DecidesRename file at name told before after (Answer (StoreFault Reading))) →
           AnswersFound words told left outcomes before after (StoreFault Reading) × (line_of [] (StoreFault Reading) ≡ reported words (StoreFault Reading))
       go (inl other) = absurd (let e : Answer (StoreFault Reading) ≡ Answer NotYet = other.0 in cc)
@@ -103,7 +83,7 @@ module _ (words : List (List ℕ)) (told : Option Image) (before after : ℕ) wh
   answered left outcomes OutOfMemory same decides = (same, refl)
   answered left outcomes other same (command, is, decides) = go (split command (Answer other) decides)
     where
-      go : ((Answer other ≡ Answer NotYet) × (IsRename command → ⊥))
+      go : ((Answer other ≡ Answer NotYet) × (IsServedCommand command → ⊥))
           ⊎ ((file : List ℕ) × (at : ℕ) × (name : List ℕ) × (command ≡ One (Rename file at name)) × DecidesRename file at name told before after (Answer other)) →
           AnswersFound words told left outcomes before after other × (line_of [] other ≡ reported words other)
       go (inl not_yet) = absurd (let e : Answer other ≡ Answer NotYet = not_yet.0 in cc)
@@ -114,7 +94,7 @@ module _ (words : List (List ℕ)) (told : Option Image) (before after : ℕ) wh
       AnswersFound words told left outcomes before after status × (line_of paths.items status ≡ reported words status)
   refused left outcomes (NoSpelling request occ place lock) paths same (command, is, decides) = go (split command (Refuse (NoSpelling request occ place lock) paths) decides)
     where
-      go : ((Refuse (NoSpelling request occ place lock) paths ≡ Answer NotYet) × (IsRename command → ⊥))
+      go : ((Refuse (NoSpelling request occ place lock) paths ≡ Answer NotYet) × (IsServedCommand command → ⊥))
           ⊎ ((file : List ℕ) × (at : ℕ) × (name : List ℕ) × (command ≡ One (Rename file at name)) × DecidesRename file at name told before after (Refuse (NoSpelling request occ place lock) paths)) →
           AnswersFound words told left outcomes before after (NoSpelling request occ place lock) × (line_of paths.items (NoSpelling request occ place lock) ≡ reported words (NoSpelling request occ place lock))
       go (inl not_yet) = absurd (let e : Refuse (NoSpelling request occ place lock) paths ≡ Answer NotYet = not_yet.0 in cc)
@@ -123,7 +103,7 @@ module _ (words : List (List ℕ)) (told : Option Image) (before after : ℕ) wh
           ((same, single, unit, (file, at, name, asked, short, held)), ap (λ (ps : List (List ℕ)). line_of ps (NoSpelling request occ place lock)) (named ∙ sym (ap files_named asked)))
   refused left outcomes (BrokenRule request rule place) paths same (command, is, decides) = go (split command (Refuse (BrokenRule request rule place) paths) decides)
     where
-      go : ((Refuse (BrokenRule request rule place) paths ≡ Answer NotYet) × (IsRename command → ⊥))
+      go : ((Refuse (BrokenRule request rule place) paths ≡ Answer NotYet) × (IsServedCommand command → ⊥))
           ⊎ ((file : List ℕ) × (at : ℕ) × (name : List ℕ) × (command ≡ One (Rename file at name)) × DecidesRename file at name told before after (Refuse (BrokenRule request rule place) paths)) →
           AnswersFound words told left outcomes before after (BrokenRule request rule place) × (line_of paths.items (BrokenRule request rule place) ≡ reported words (BrokenRule request rule place))
       go (inl not_yet) = absurd (let e : Refuse (BrokenRule request rule place) paths ≡ Answer NotYet = not_yet.0 in cc)
@@ -132,7 +112,7 @@ module _ (words : List (List ℕ)) (told : Option Image) (before after : ℕ) wh
           ((same, single, six, unit, (file, at, name, asked, short, held)), ap (λ (ps : List (List ℕ)). line_of ps (BrokenRule request rule place)) (named ∙ sym (ap files_named asked)))
   refused left outcomes other paths same (command, is, decides) = go (split command (Refuse other paths) decides)
     where
-      go : ((Refuse other paths ≡ Answer NotYet) × (IsRename command → ⊥))
+      go : ((Refuse other paths ≡ Answer NotYet) × (IsServedCommand command → ⊥))
           ⊎ ((file : List ℕ) × (at : ℕ) × (name : List ℕ) × (command ≡ One (Rename file at name)) × DecidesRename file at name told before after (Refuse other paths)) →
           AnswersFound words told left outcomes before after other × (line_of paths.items other ≡ reported words other)
       go (inl not_yet) = absurd (let e : Refuse other paths ≡ Answer NotYet = not_yet.0 in cc)
@@ -144,7 +124,7 @@ module _ (words : List (List ℕ)) (told : Option Image) (before after : ℕ) wh
       × HoldsSome told file (λ old. (new : List ℕ) × IsDone old at name new × (new ≢ old) × (length new ≤ 1048576) × IsPlanOf file old new plan)
   renames plan (command, is, decides) = go (split command (Change plan) decides)
     where
-      go : ((Change plan ≡ Answer NotYet) × (IsRename command → ⊥))
+      go : ((Change plan ≡ Answer NotYet) × (IsServedCommand command → ⊥))
           ⊎ ((file : List ℕ) × (at : ℕ) × (name : List ℕ) × (command ≡ One (Rename file at name)) × DecidesRename file at name told before after (Change plan)) →
           (file : List ℕ) × (at : ℕ) × (name : List ℕ) × AsksRename words file at name × (length file ≤ 1024) × (length plan.steps ≡ 1)
           × HoldsSome told file (λ old. (new : List ℕ) × IsDone old at name new × (new ≢ old) × (length new ≤ 1048576) × IsPlanOf file old new plan)
@@ -155,7 +135,7 @@ module _ (words : List (List ℕ)) (told : Option Image) (before after : ℕ) wh
   pub stays : (status : Status) → Decides words told before after (Answer status) → (found image : Image) → RestoresTo image found → StandsAfter words found status image
   stays (Done (Changed files)) (command, is, decides) found image stands = go (split command (Answer (Done (Changed files))) decides)
     where
-      go : ((Answer (Done (Changed files)) ≡ Answer NotYet) × (IsRename command → ⊥))
+      go : ((Answer (Done (Changed files)) ≡ Answer NotYet) × (IsServedCommand command → ⊥))
           ⊎ ((file : List ℕ) × (at : ℕ) × (name : List ℕ) × (command ≡ One (Rename file at name)) × DecidesRename file at name told before after (Answer (Done (Changed files)))) →
           StandsAfter words found (Done (Changed files)) image
       go (inl other) = absurd (let e : Answer (Done (Changed files)) ≡ Answer NotYet = other.0 in cc)
@@ -167,7 +147,7 @@ module _ (words : List (List ℕ)) (told : Option Image) (before after : ℕ) wh
   pub stays_refused : (status : Status) (paths : Vec (List ℕ) Global) → Decides words told before after (Refuse status paths) → (found image : Image) → RestoresTo image found → StandsAfter words found status image
   stays_refused (Done report) paths (command, is, decides) found image stands = go (split command (Refuse (Done report) paths) decides)
     where
-      go : ((Refuse (Done report) paths ≡ Answer NotYet) × (IsRename command → ⊥))
+      go : ((Refuse (Done report) paths ≡ Answer NotYet) × (IsServedCommand command → ⊥))
           ⊎ ((file : List ℕ) × (at : ℕ) × (name : List ℕ) × (command ≡ One (Rename file at name)) × DecidesRename file at name told before after (Refuse (Done report) paths)) →
           StandsAfter words found (Done report) image
       go (inl other) = absurd (let e : Refuse (Done report) paths ≡ Answer NotYet = other.0 in cc)

@@ -141,7 +141,7 @@ module _ (es : List PlainEntry) (plan : Planned) (back : TakesBack es plan) wher
         goes_further moment left_since s0 s1 s2 (StandsForEither words r) (λ c. RestoresTo c f ⊎ RestoresTo c (with_sides plan.steps f))
         (weaker moment left_since s0 s1 (StandsForEither words r) kept first (λ c l. inl (settled_stands f r kept is c l)))
         (second (starts_back r entered (record { shut = is.shut; same = is.same; journal = is.journal; left = λ c l. is.left c (fewer c l) })))
-        (λ c stands. ⊎_elim (λ was. inl (restores_same c f r was is.same)) (λ now. inr (inr (stands_undone words r c kept asks is now))) stands)
+        (λ c stands. ⊎_elim (λ was. inl (restores_same c f r was is.same)) (λ now. inr (inr (inl (stands_undone words r c kept asks is now)))) stands)
 
 -- ---- what is answered after recovery
 
@@ -202,7 +202,7 @@ module _ (words : List (List ℕ)) (asks : AsksUndo words) (told left : Option I
         let next = next_of es back.again.enough in (
           (tell_back files count told left undoable taken, only (some_step es plan back)),
           λ f r told_is is c l. subst (λ (n : ℕ). StandsAfter words r (Done (Changed n)) c) (sym (count ∙ count_steps es plan back ∙ next.1))
-              (inr (survives_back told left f r told_is (undoable f told_is) is taken (only (some_step es plan back)) c l)),
+              (inr (inl (survives_back told left f r told_is (undoable f told_is) is taken (only (some_step es plan back)) c l))),
         )
     changed_so middle mid entered (StoreFault Writing) same later fewer either (part, rose) =
         ((tell_part told left undoable (subst (λ (t : Option Image). Tells t left (ChangesOnlyPlanned plan)) same part), rose_earlier before middle after later rose), either)

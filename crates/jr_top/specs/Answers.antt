@@ -10,7 +10,8 @@ use Rattle.jr_thin.specs.Renaming.{IsLost, IsBroken, IsDone}
 use Rattle.jr_top.specs.Changing.{IsCommitted, IsTooLong, MayChange}
 use Rattle.jr_top.specs.Line.{line_of}
 use Rattle.jr_top.specs.Recovering.{AsksRecovery, Recovers}
-use Rattle.jr_top.specs.Renaming.{AsksRename, AsksSomeRename, files_named, Holds, IsUnserved, ForTold}
+use Rattle.jr_top.specs.Renaming.{AsksRename, AsksSomeRename, files_named, Holds, ForTold}
+use Rattle.jr_top.specs.Served.{AsksUnserved}
 use Rattle.jr_top.specs.declared.status.Phase.TheVariants.{Recovering, Reading, Writing}
 use Rattle.jr_top.specs.declared.status.Report.TheVariants.{Changed}
 use Rattle.jr_top.specs.declared.status.Status.{Status}
@@ -46,9 +47,7 @@ AnswersFound words found left outcomes before after (TooLarge Path request) = (l
 -- the changed text is longer than 1,048,576 bytes
 AnswersFound words found left outcomes before after (TooLarge File request) = (left ≡ found) × (request ≡ 0)
     × Asks words found IsTooLong
--- no rename is asked for, or none that is served of a file that is held
-AnswersFound words found left outcomes before after NotYet = (left ≡ found) × IsSome (command_of words)
-    × ForTold found (λ files. (file : List ℕ) (at : ℕ) (name bytes : List ℕ) → AsksRename words file at name → Holds files file bytes → IsUnserved file bytes at name)
+AnswersFound words found left outcomes before after NotYet = (left ≡ found) × AsksUnserved words
 AnswersFound words found left outcomes before after (StoreFault Reading) = (left ≡ found) × AsksSomeRename words × Rose before after
 AnswersFound words found left outcomes before after (StoreFault Writing) = ((file : List ℕ) × (at : ℕ) × (name : List ℕ) × AsksRename words file at name
     × Tells found left (MayChange file)) × Rose before after

@@ -7,6 +7,7 @@ use Rattle.jr_commit.specs.SidesAt.{with_sides}
 use Rattle.jr_commit.specs.Undoing.{IsUndoable}
 use Rattle.jr_store.specs.Image.{Image, Rose}
 use Rattle.jr_top.specs.Changing.{IsChanged}
+use Rattle.jr_top.specs.Engine.{StandsForPlanned}
 use Rattle.jr_top.specs.Renaming.{AsksRename}
 use Rattle.jr_top.specs.Undoing.{AsksUndo}
 use Rattle.jr_top.specs.declared.status.Report.TheVariants.{Changed}
@@ -24,7 +25,7 @@ StandsForUndone words found image = AsksUndo words × ((es : List PlainEntry) ×
 
 -- the image stands for the files of the change that the words ask for
 abbrev pub StandsForChange : List (List ℕ) → Image → Image → Type 0
-StandsForChange words found image = StandsForRename words found image ⊎ StandsForUndone words found image
+StandsForChange words found image = StandsForRename words found image ⊎ (StandsForUndone words found image ⊎ StandsForPlanned words found image)
 
 -- the image stands for the files found, or for those of the change
 abbrev pub StandsForEither : List (List ℕ) → Image → Image → Type 0

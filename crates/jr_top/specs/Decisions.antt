@@ -1,20 +1,43 @@
 -- What is decided before anything is written.
-use Rattle.std.specs.Prelude.{◌≡◌, ◌≢◌, ℕ, ◌<◌, ◌≤◌, List, [], ◌∷◌, length, Option, Some, None, IsTrue}
+use Rattle.std.specs.Prelude.{◌≡◌, ◌≢◌, ◌⊎◌, ℕ, ◌<◌, ◌≤◌, List, [], ◌∷◌, length, Option, Some, None, Ok, Err, IsTrue}
+use Rattle.std.specs.List.{AllByRecursion}
+use Rattle.jr_base.specs.Files.{FileMap}
 use Rattle.jr_base.specs.Paths.{is_java}
+use Rattle.jr_base.specs.declared.limits.Size.{Size}
 use Rattle.jr_base.specs.declared.limits.Size.TheVariants.{File, Path}
+use Rattle.jr_base.specs.declared.request.Request.{Request}
 use Rattle.jr_base.specs.declared.request.Request.TheVariants.{Rename}
+use Rattle.jr_batch.specs.Input.{ForInput, IsInputAnswer}
+use Rattle.jr_commit.specs.Differences.{differences}
+use Rattle.jr_commit.specs.Journal.{spelling, new_sides, PutsBack}
+use Rattle.jr_commit.specs.Planned.{Planned}
+use Rattle.jr_commit.specs.Restoring.{SameFiles}
+use Rattle.jr_commit.specs.SidesAt.{SideAt, with_sides}
+use Rattle.jr_commit.specs.declared.entry.Version.TheVariants.{Two}
+use Rattle.jr_engine.specs.Planning.{PlannedAs}
+use Rattle.jr_engine.specs.declared.fault.Refused.{Refused}
+use Rattle.jr_gather.specs.Gathering.{HoldsFiles, IsTooLarge}
 use Rattle.jr_request.specs.Words.{command_of}
 use Rattle.jr_request.specs.declared.command.Command.{Command}
-use Rattle.jr_request.specs.declared.command.Command.TheVariants.{One}
+use Rattle.jr_request.specs.declared.command.Command.TheVariants as command
 use Rattle.jr_store.specs.Image.{Image, Rose}
+use Rattle.jr_store.specs.Replay.{image_of}
 use Rattle.jr_thin.specs.Renaming.{Serves, IsLost, IsBroken, IsDone}
+use Rattle.jr_top.specs.Batches.{Hears}
 use Rattle.jr_top.specs.Changing.{IsPlanOf, IsTooLong}
+use Rattle.jr_top.specs.Engine.{IsPassedOn, answer_to}
 use Rattle.jr_top.specs.Renaming.{Holds, IsUnserved, ForTold}
+use Rattle.jr_top.specs.Served.{AreServed, IsServedCommand}
 use Rattle.jr_top.specs.declared.decide.Decision.{Decision}
 use Rattle.jr_top.specs.declared.decide.Decision.TheVariants.{Answer, Refuse, Change}
 use Rattle.jr_top.specs.declared.decide.Found.{Found}
+use Rattle.jr_top.specs.declared.engine.Asked.{Asked}
+use Rattle.jr_top.specs.declared.engine.Asked.TheVariants.{One, All}
+use Rattle.jr_top.specs.declared.hear.Heard.{Heard}
+use Rattle.jr_top.specs.declared.hear.Heard.TheVariants as heard
 use Rattle.jr_top.specs.declared.status.Phase.TheVariants.{Reading}
 use Rattle.jr_top.specs.declared.status.Report.TheVariants.{Changed}
+use Rattle.jr_top.specs.declared.status.Status.{Status}
 use Rattle.jr_top.specs.declared.status.Status.TheVariants.{Done, NoSpelling, BrokenRule, StoreFault, TooLarge, OutOfMemory, NotYet}
 
 -- the one path is that of a `.java` file
@@ -75,14 +98,60 @@ DecidesFound found at name (Change plan) = (file : List ℕ) × (found.paths.ite
 DecidesFound found at name other = ⊥
 
 abbrev pub IsRename : Command → Type 0
-IsRename (One (Rename file at name)) = Unit {0}
+IsRename (command.One (Rename file at name)) = Unit {0}
 IsRename other = ⊥
 
--- when each decision on a command comes: only a rename is served
+-- when each decision on a command comes that is not the engine's: a rename in a small file is served, and of other commands those are not served that it does not serve either
 abbrev pub DecidesCommand : Command → Option Image → ℕ → ℕ → Decision → Type 0
-DecidesCommand (One (Rename file at name)) told before after decision = DecidesRename file at name told before after decision
-DecidesCommand other told before after decision = decision ≡ Answer NotYet
+DecidesCommand (command.One (Rename file at name)) told before after decision = (decision ≢ Answer NotYet) × DecidesRename file at name told before after decision
+DecidesCommand other told before after decision = (decision ≡ Answer NotYet) × (IsServedCommand other → ⊥)
 
 -- when each decision on the words comes
 abbrev pub Decides : List (List ℕ) → Option Image → ℕ → ℕ → Decision → Type 0
 Decides words told before after decision = (command : Command) × (command_of words ≡ Some command) × DecidesCommand command told before after decision
+
+-- The plan makes the files left of those found: its steps and its journal are those of their differences.
+pub record IsPlanFor (found left : FileMap) (plan : Planned) : Type 0 where
+  pub journal : plan.journal ≡ spelling Two (differences found left)
+  pub steps : plan.steps ≡ new_sides (differences found left)
+  pub gives : (f : Image) → SameFiles f (image_of found) → SameFiles (with_sides plan.steps f) (image_of left)
+  pub olds : (f : Image) → SameFiles f (image_of found) → (olds : List SideAt) → PutsBack plan.journal olds → AllByRecursion (λ e. f e.0 ≡ e.1) olds
+
+-- the requests that are asked for
+abbrev pub requests_of : Asked → List Request
+requests_of (One request) = request.now ∷ []
+requests_of (All requests) = requests.now
+
+-- when each decision on files that were found comes
+pub data DecidesFiles (found : FileMap) (requests : List Request) (decision : Decision) : Type 0 where
+  files_differ : {left : FileMap} {plan : Planned} → decision ≡ Change plan → PlannedAs found requests (Ok left) → IsPlanFor found left plan → plan.steps ≢ [] → DecidesFiles found requests decision
+  files_are_same : {left : FileMap} {plan : Planned} → decision ≡ Answer (Done (Changed 0)) → PlannedAs found requests (Ok left) → IsPlanFor found left plan → plan.steps ≡ [] → DecidesFiles found requests decision
+  is_refused : (why : Refused) → decision ≡ Refuse (answer_to why.request why.fault) why.paths → PlannedAs found requests (Err why) → DecidesFiles found requests decision
+  memory_is_short : decision ≡ Answer OutOfMemory → DecidesFiles found requests decision
+
+-- when each decision on requests comes that the engine serves
+pub data DecidesAll (requests : List Request) (told : Option Image) (before after : ℕ) (decision : Decision) : Type 0 where
+  on_files : {found : FileMap} → ForTold told (λ files. HoldsFiles files found) → DecidesFiles found requests decision → DecidesAll requests told before after decision
+  is_too_large : {what : Size} → decision ≡ Answer (TooLarge what 0) → ForTold told (λ files. IsTooLarge files what) → DecidesAll requests told before after decision
+  is_not_read : decision ≡ Answer (StoreFault Reading) → Rose before after → DecidesAll requests told before after decision
+  is_short : decision ≡ Answer OutOfMemory → DecidesAll requests told before after decision
+
+-- when each decision on one request comes
+abbrev pub DecidesOne : Request → Option Image → ℕ → ℕ → Decision → Type 0
+DecidesOne request told before after decision = DecidesCommand (command.One request) told before after decision ⊎ (IsPassedOn request told × DecidesAll (request ∷ []) told before after decision)
+
+-- what is heard: served requests of the input, or what is answered to it alone
+abbrev pub HearsSo : Option (List ℕ) → ℕ → ℕ → Heard → Type 0
+HearsSo told quiet loud (heard.Requests requests) = ForInput told (λ bytes. IsInputAnswer bytes (Ok requests.items)) × AreServed requests.items
+HearsSo told quiet loud (heard.Answer said) = Hears told quiet loud said
+
+-- when each decision on an input comes: by what it says, or by the requests that it asks for
+abbrev pub DecidesInput : Option (List ℕ) → ℕ → ℕ → Option Image → ℕ → ℕ → Decision → Type 0
+DecidesInput input quiet loud told before after decision = ((said : Status) × (decision ≡ Answer said) × Hears input quiet loud said)
+    ⊎ ((requests : List Request) × ForInput input (λ bytes. IsInputAnswer bytes (Ok requests)) × AreServed requests × DecidesAll requests told before after decision)
+
+-- when each decision on a command comes
+abbrev pub Chooses : Command → Option (List ℕ) → ℕ → ℕ → Option Image → ℕ → ℕ → Decision → Type 0
+Chooses (command.One request) input quiet loud told before after decision = DecidesOne request told before after decision
+Chooses command.Batch input quiet loud told before after decision = DecidesInput input quiet loud told before after decision
+Chooses other input quiet loud told before after decision = decision ≡ Answer NotYet

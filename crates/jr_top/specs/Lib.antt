@@ -4,11 +4,14 @@ pub mod Changing
 pub mod Checking
 pub mod Crash
 pub mod Decisions
+pub mod Engine
 pub mod Exact
 pub mod Line
 pub mod Performing
 pub mod Plain
+pub mod Reasons
 pub mod Recovering
 pub mod Renaming
+pub mod Served
 pub mod Status
 pub mod Undoing

@@ -119,8 +119,8 @@ fn not_parsed(fault: ParseFault, place: Place) -> Status
     }
 }
 
-// The answer to files that do not compile.
-fn refusal(fault: FrontFault) -> Status
+/// The answer to files that do not compile.
+pub fn refusal(fault: FrontFault) -> Status
     ensures { result ≡ status_of fault }
 {
     match fault {

@@ -1,18 +1,23 @@
 // What is to be done, before anything is written.
-ghost use Rattle.std.specs.Prelude.{◌≡◌, ◌≢◌, ◌≤◌, ◌∷◌, [], ◌↔◌, IsTrue, IfOk, IfSome, length, option_map};
+ghost use Rattle.std.specs.Prelude.{◌≡◌, ◌≢◌, ◌≤◌, ◌∷◌, [], ◌↔◌, ℕ, List, Some, IsTrue, IfOk, IfSome, length, option_map};
 ghost use Rattle.std.specs.FinMap as map;
 ghost use Rattle.jr_base.specs.Paths.{is_java};
+ghost use Rattle.jr_batch.specs.Input.{LeavesSome};
 ghost use Rattle.jr_store.specs.Image.{Image, HasStoreCause, LeavesOnly};
 ghost use Rattle.jr_thin.specs.Renaming.{IsDone};
 ghost use Rattle.jr_top.specs.Changing.{IsPlanOf};
 ghost use Rattle.jr_top.specs.Renaming.{ForTold};
-ghost use Rattle.jr_top.specs.Decisions.{IsOnePath, IsShortPath, IsHeld, found_bytes, DecidesFound, DecidesRename, DecidesCommand};
+ghost use Rattle.jr_top.specs.Decisions.{IsOnePath, IsShortPath, IsHeld, found_bytes, DecidesFound, DecidesRename, DecidesOne, DecidesInput, Chooses};
+ghost use Rattle.jr_top.specs.declared.decide.Decision.TheVariants as answers;
+ghost use Rattle.jr_top.specs.declared.status.Status.TheVariants.{NotYet};
 
+use crate::engine::{Asked, decide_all};
+use crate::hear::{Heard, hear};
 use crate::status::{Phase, Report, Status};
 use jr_base::{CuId, Files, OutOfMemory, Path, Place, Request, RuleId, Size, Text};
 use jr_commit::{Plan, journal_fits};
 use jr_request::Command;
-use jr_store::{Store, StoreError};
+use jr_store::{Source, Store, StoreError};
 use jr_thin::{Renaming, rename};
 use std::alloc::Global;
 
@@ -178,18 +183,71 @@ fn decide_rename<S: Store>(
     }
 }
 
-/// What a command asks for. Nothing is written; a store is only read for a rename.
-pub fn decide<S: Store>(alloc: Global, command: &Command, store: &mut S) -> Decision
+// Whether the rename is none that is served in a small file.
+fn is_not_small(decision: &Decision) -> bool
+    ensures { IsTrue result ↔ (decision.now ≡ answers.Answer NotYet) }
+{
+    match decision {
+        Decision::Answer(Status::NotYet) => true,
+        _ => false,
+    }
+}
+
+// What one request asks for. A rename in a store with one small file is served without the engine, where the names are those of locals and parameters.
+fn decide_one<S: Store>(alloc: Global, request: &Request, store: &mut S) -> Decision
     ensures files { S.files store.new ≡ S.files store.old }
     ensures later { S.faults store.old ≤ S.faults store.new }
     ensures crash { (c : Image) → S.may_leave store.new c → S.may_leave store.old c }
     ensures any_moment { LeavesOnly S.moment S.left_since store.old store.new (S.may_leave store.old) }
-    ensures decision { DecidesCommand command.now (S.files store.old) (S.faults store.old) (S.faults store.new) result }
+    ensures decision { DecidesOne request.now (S.files store.old) (S.faults store.old) (S.faults store.new) result }
+{
+    match request {
+        Request::Rename { file, at, name } => {
+            let small = decide_rename(alloc, file, *at, name, store);
+            if is_not_small(&small) {
+                decide_all(alloc, Asked::One(request), store)
+            } else {
+                small
+            }
+        }
+        Request::Move { .. } => decide_all(alloc, Asked::One(request), store),
+        _ => Decision::Answer(Status::NotYet),
+    }
+}
+
+// What the input asks for.
+fn decide_input<S: Store, I: Source>(alloc: Global, store: &mut S, input: &mut I) -> Decision
+    ensures files { S.files store.new ≡ S.files store.old }
+    ensures later { S.faults store.old ≤ S.faults store.new }
+    ensures crash { (c : Image) → S.may_leave store.new c → S.may_leave store.old c }
+    ensures any_moment { LeavesOnly S.moment S.left_since store.old store.new (S.may_leave store.old) }
+    ensures decision { DecidesInput (I.left input.old) (I.faults input.old) (I.faults input.new) (S.files store.old) (S.faults store.old) (S.faults store.new) result }
+    ensures taken { (bytes : List ℕ) → I.left input.old ≡ Some bytes → LeavesSome bytes (I.left input.new) }
+{
+    match hear(alloc, input) {
+        Heard::Requests(requests) => decide_all(alloc, Asked::All(&requests), store),
+        Heard::Answer(status) => Decision::Answer(status),
+    }
+}
+
+/// What a command asks for that changes files. Nothing is written, and the input is read for a batch alone.
+pub fn decide<S: Store, I: Source>(
+    alloc: Global,
+    command: &Command,
+    store: &mut S,
+    input: &mut I,
+) -> Decision
+    ensures files { S.files store.new ≡ S.files store.old }
+    ensures later { S.faults store.old ≤ S.faults store.new }
+    ensures crash { (c : Image) → S.may_leave store.new c → S.may_leave store.old c }
+    ensures any_moment { LeavesOnly S.moment S.left_since store.old store.new (S.may_leave store.old) }
+    ensures decision { Chooses command.now (I.left input.old) (I.faults input.old) (I.faults input.new) (S.files store.old) (S.faults store.old) (S.faults store.new) result }
+    ensures unread { (command.now ≡ Command.Batch → ⊥) → input.new ≡ input.old }
+    ensures taken { (bytes : List ℕ) → I.left input.old ≡ Some bytes → LeavesSome bytes (I.left input.new) }
 {
     match command {
-        Command::One(Request::Rename { file, at, name }) => decide_rename(
-            alloc, file, *at, name, store,
-        ),
+        Command::One(request) => decide_one(alloc, request, store),
+        Command::Batch => decide_input(alloc, store, input),
         _ => Decision::Answer(Status::NotYet),
     }
 }

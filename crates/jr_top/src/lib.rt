@@ -3,6 +3,7 @@
 
 mod check;
 mod decide;
+mod engine;
 mod hear;
 mod lines;
 mod status;

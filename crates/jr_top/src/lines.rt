@@ -53,6 +53,10 @@ pub fn line_of(alloc: Global, paths: &[Path], status: &Status) -> Result<Vec<u8>
         Status::BadJournal => whole(alloc, "bad journal\n"),
         Status::NoUndo { reason, path } => no_undo(alloc, *reason, path),
         Status::NotYet => whole(alloc, "not yet\n"),
+        Status::Differs { request, place } => LineWriter::of_request(alloc, *request)?
+            .text("differs: ")?
+            .place(paths, *place)?
+            .end(),
     }
 }
 

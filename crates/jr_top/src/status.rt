@@ -129,6 +129,11 @@ pub enum Status {
     },
     /// What is asked for is not served yet.
     NotYet,
+    /// The changed text does not read as it is to at the place.
+    Differs {
+        request: u32,
+        place: Place,
+    },
 }
 
 impl Status {
@@ -154,6 +159,7 @@ impl Status {
             Status::NoUndo { .. } => 12,
             Status::SinkFault => 14,
             Status::NotYet => 20,
+            Status::Differs { .. } => 21,
         }
     }
 }

@@ -11,21 +11,22 @@ ghost use Rattle.jr_store.specs.Image.{Image, Tells, OnlyTold, LeavesOnly, HasCa
 ghost use Rattle.jr_thin.specs.Renaming.{Serves, IsRenaming};
 ghost use Rattle.jr_thin.specs.declared.answers.Renaming.{Renaming};
 ghost use Rattle.jr_top.specs.Answers.{AnswersFound, Answers, Reports, IsReported, reported, Outcome, OutcomeOf, IsFailure, IsServedAnswer};
-ghost use Rattle.jr_top.specs.Batches.{AsksBatch, Hears, AnswersBatch, status_of, IsBatchFailure};
+ghost use Rattle.jr_top.specs.Batches.{AsksBatch, Hears, IsHeard, AnswersBatch, IsNotPlanned, status_of, IsBatchFailure};
 ghost use Rattle.jr_top.specs.Checking.{AsksCheck, Checks, AnswersCheck, IsCheckedSo};
 ghost use Rattle.jr_top.specs.Crash.{StandsForEither, Survives, IsSettled, SurvivesSettled, LeavesStart};
+ghost use Rattle.jr_top.specs.Engine.{AsksOne, AsksAll, PlansAsked, AnswersPlanned};
 ghost use Rattle.jr_top.specs.Exact.{IsAnswered};
 ghost use Rattle.jr_top.specs.Line.{line_of};
 ghost use Rattle.jr_top.specs.Recovering.{AsksRecovery, NeedsFiles};
 ghost use Rattle.jr_top.specs.Renaming.{AsksRename, Holds};
 ghost use Rattle.jr_top.specs.Performing.{IsTaken, Commits, Reported, ReportedOf};
+ghost use Rattle.jr_top.specs.Served.{AsksServed};
 ghost use Rattle.jr_top.specs.Undoing.{AsksUndo, Undoes, AnswersUndo, IsUndoAnswer};
 ghost use Rattle.jr_top.specs.declared.status.Status.{Status};
 ghost use Rattle.jr_top.specs.declared.status.Status.TheVariants.{BadJournal, BadWords, NotYet};
 
 use crate::check::{Verdict, check};
 use crate::decide::{Decision, decide};
-use crate::hear::hear;
 use crate::lines::line_of;
 use crate::status::{Phase, Report, Status};
 use crate::undo::refusal;
@@ -94,16 +95,30 @@ fn change<S: Store, O: Sink>(alloc: Global, plan: &Plan, store: &mut S, out: &mu
     }
 }
 
-// Does what a command asks for, on the files found.
-fn obey<S: Store, O: Sink>(alloc: Global, command: &Command, store: &mut S, out: &mut O) -> Status
-    ensures answer { (words : List (List ℕ)) → command_of words ≡ Some command.now →
+// Does what a command asks for that changes files, on the files found.
+fn obey<S: Store, I: Source, O: Sink>(
+    alloc: Global,
+    command: &Command,
+    store: &mut S,
+    input: &mut I,
+    out: &mut O,
+) -> Status
+    ensures answer { (words : List (List ℕ)) → command_of words ≡ Some command.now → (command.now ≡ Command.Batch → ⊥) → (command.now ≡ Command.Check → ⊥) → (command.now ≡ Command.Undo → ⊥) →
         Reported words (λ status. AnswersFound words (S.files store.old) (S.files store.new) (S.may_leave store.new) (S.faults store.old) (S.faults store.new) status
-        × SurvivesSettled words (S.files store.old) (S.may_leave store.old) (S.may_leave store.new) status) result (O.contents out.old) (O.contents out.new) (O.faults out.old) (O.faults out.new) }
+        × SurvivesSettled words (S.files store.old) (S.may_leave store.old) (S.may_leave store.new) status) result (O.contents out.old) (O.contents out.new) (O.faults out.old) (O.faults out.new)
+        ⊎ ((paths : List (List ℕ)) × ReportedOf (line_of paths) (λ status. PlansAsked (AsksOne words) paths (S.files store.old) (S.files store.new) (S.may_leave store.new) (S.faults store.old) (S.faults store.new) status
+        × SurvivesSettled words (S.files store.old) (S.may_leave store.old) (S.may_leave store.new) status) result (O.contents out.old) (O.contents out.new) (O.faults out.old) (O.faults out.new)) }
+    ensures batch { (words : List (List ℕ)) → AsksBatch words → command.now ≡ Command.Batch → IsHeard (S.files store.old) (S.files store.new) (S.may_leave store.old) (S.may_leave store.new) (λ status. Hears (I.left input.old) (I.faults input.old) (I.faults input.new) status
+        × IsReported status [] result (O.contents out.old) (O.contents out.new) (O.faults out.old) (O.faults out.new))
+        ⊎ ((paths : List (List ℕ)) × ReportedOf (line_of paths) (λ status. PlansAsked (AsksAll words (I.left input.old)) paths (S.files store.old) (S.files store.new) (S.may_leave store.new) (S.faults store.old) (S.faults store.new) status
+        × SurvivesSettled words (S.files store.old) (S.may_leave store.old) (S.may_leave store.new) status) result (O.contents out.old) (O.contents out.new) (O.faults out.old) (O.faults out.new)) }
     ensures next { MayBegin (S.files store.old) (S.may_leave store.old) → LeavesStart (S.faults store.old) (S.faults store.new) (MayBegin (S.files store.new) (S.may_leave store.new)) result }
     ensures any_moment { (words : List (List ℕ)) (f r : Image) → command_of words ≡ Some command.now → S.files store.old ≡ Some f → IsSettled f r (S.may_leave store.old) →
         LeavesOnly S.moment S.left_since store.old store.new (StandsForEither words r) }
+    ensures unread { (command.now ≡ Command.Batch → ⊥) → input.new ≡ input.old }
+    ensures taken { (bytes : List ℕ) → I.left input.old ≡ Some bytes → LeavesSome bytes (I.left input.new) }
 {
-    match decide(alloc, command, store) {
+    match decide(alloc, command, store, input) {
         Decision::Answer(status) => report(alloc, status, &[], out),
         Decision::Refuse { status, paths } => report(alloc, status, &paths, out),
         Decision::Change(plan) => change(alloc, &plan, store, out),
@@ -125,7 +140,7 @@ fn take_back<S: Store, O: Sink>(alloc: Global, store: &mut S, out: &mut O) -> St
     }
 }
 
-// Reads a batch, checks the files, takes the last change back, or does what another command asks for, on the files found.
+// Checks the files, takes the last change back, or does what another command asks for, on the files found.
 fn serve<S: Store, I: Source, O: Sink>(
     alloc: Global,
     command: &Command,
@@ -135,10 +150,13 @@ fn serve<S: Store, I: Source, O: Sink>(
 ) -> Status
     ensures answer { (words : List (List ℕ)) → command_of words ≡ Some command.now → (command.now ≡ Command.Batch → ⊥) → (command.now ≡ Command.Check → ⊥) → (command.now ≡ Command.Undo → ⊥) →
         Reported words (λ status. AnswersFound words (S.files store.old) (S.files store.new) (S.may_leave store.new) (S.faults store.old) (S.faults store.new) status
-        × SurvivesSettled words (S.files store.old) (S.may_leave store.old) (S.may_leave store.new) status) result (O.contents out.old) (O.contents out.new) (O.faults out.old) (O.faults out.new) }
-    ensures batch { command.now ≡ Command.Batch → (status : Status) × Hears (I.left input.old) (I.faults input.old) (I.faults input.new) status
-        × IsReported status [] result (O.contents out.old) (O.contents out.new) (O.faults out.old) (O.faults out.new) }
-    ensures kept { command.now ≡ Command.Batch → store.new ≡ store.old }
+        × SurvivesSettled words (S.files store.old) (S.may_leave store.old) (S.may_leave store.new) status) result (O.contents out.old) (O.contents out.new) (O.faults out.old) (O.faults out.new)
+        ⊎ ((paths : List (List ℕ)) × ReportedOf (line_of paths) (λ status. PlansAsked (AsksOne words) paths (S.files store.old) (S.files store.new) (S.may_leave store.new) (S.faults store.old) (S.faults store.new) status
+        × SurvivesSettled words (S.files store.old) (S.may_leave store.old) (S.may_leave store.new) status) result (O.contents out.old) (O.contents out.new) (O.faults out.old) (O.faults out.new)) }
+    ensures batch { (words : List (List ℕ)) → AsksBatch words → command.now ≡ Command.Batch → IsHeard (S.files store.old) (S.files store.new) (S.may_leave store.old) (S.may_leave store.new) (λ status. Hears (I.left input.old) (I.faults input.old) (I.faults input.new) status
+        × IsReported status [] result (O.contents out.old) (O.contents out.new) (O.faults out.old) (O.faults out.new))
+        ⊎ ((paths : List (List ℕ)) × ReportedOf (line_of paths) (λ status. PlansAsked (AsksAll words (I.left input.old)) paths (S.files store.old) (S.files store.new) (S.may_leave store.new) (S.faults store.old) (S.faults store.new) status
+        × SurvivesSettled words (S.files store.old) (S.may_leave store.old) (S.may_leave store.new) status) result (O.contents out.old) (O.contents out.new) (O.faults out.old) (O.faults out.new)) }
     ensures check { command.now ≡ Command.Check → (paths : List (List ℕ)) × (status : Status) × Checks (S.files store.old) paths (S.faults store.old) (S.faults store.new) status
         × IsReported status paths result (O.contents out.old) (O.contents out.new) (O.faults out.old) (O.faults out.new) }
     ensures undo { (words : List (List ℕ)) → AsksUndo words → command.now ≡ Command.Undo →
@@ -153,16 +171,12 @@ fn serve<S: Store, I: Source, O: Sink>(
     ensures taken { (bytes : List ℕ) → I.left input.old ≡ Some bytes → LeavesSome bytes (I.left input.new) }
 {
     match command {
-        Command::Batch => {
-            let status = hear(alloc, input);
-            report(alloc, status, &[], out)
-        }
         Command::Check => {
             let Verdict { status, paths } = check(alloc, store);
             report(alloc, status, &paths, out)
         }
         Command::Undo => take_back(alloc, store, out),
-        _ => obey(alloc, command, store, out),
+        _ => obey(alloc, command, store, input, out),
     }
 }
 
@@ -186,10 +200,14 @@ fn recover_first<S: Store, I: Source, O: Sink>(
 ) -> Status
     ensures answer { (words : List (List ℕ)) → command_of words ≡ Some command.now → NeedsFiles command.now → (command.now ≡ Command.Batch → ⊥) → (command.now ≡ Command.Check → ⊥) → (command.now ≡ Command.Undo → ⊥) →
         Reported words (λ status. Answers words (S.files store.old) (S.files store.new) (S.may_leave store.new) (S.faults store.old) (S.faults store.new) status
-        × Survives words (S.files store.old) (S.may_leave store.old) (S.may_leave store.new) status) result (O.contents out.old) (O.contents out.new) (O.faults out.old) (O.faults out.new) }
+        × Survives words (S.files store.old) (S.may_leave store.old) (S.may_leave store.new) status) result (O.contents out.old) (O.contents out.new) (O.faults out.old) (O.faults out.new)
+        ⊎ ((paths : List (List ℕ)) × ReportedOf (line_of paths) (λ status. AnswersPlanned words (AsksOne words) paths (S.files store.old) (S.files store.new) (S.may_leave store.new) (S.faults store.old) (S.faults store.new) status
+        × Survives words (S.files store.old) (S.may_leave store.old) (S.may_leave store.new) status) result (O.contents out.old) (O.contents out.new) (O.faults out.old) (O.faults out.new)) }
     ensures batch { (words : List (List ℕ)) → AsksBatch words → command.now ≡ Command.Batch →
         Reported words (λ status. AnswersBatch words (S.files store.old) (S.files store.new) (S.may_leave store.new) (S.faults store.old) (S.faults store.new) (I.left input.old) (I.faults input.old) (I.faults input.new) status
-        × Survives words (S.files store.old) (S.may_leave store.old) (S.may_leave store.new) status) result (O.contents out.old) (O.contents out.new) (O.faults out.old) (O.faults out.new) }
+        × Survives words (S.files store.old) (S.may_leave store.old) (S.may_leave store.new) status) result (O.contents out.old) (O.contents out.new) (O.faults out.old) (O.faults out.new)
+        ⊎ ((paths : List (List ℕ)) × ReportedOf (line_of paths) (λ status. AnswersPlanned words (AsksAll words (I.left input.old)) paths (S.files store.old) (S.files store.new) (S.may_leave store.new) (S.faults store.old) (S.faults store.new) status
+        × Survives words (S.files store.old) (S.may_leave store.old) (S.may_leave store.new) status) result (O.contents out.old) (O.contents out.new) (O.faults out.old) (O.faults out.new)) }
     ensures check { (words : List (List ℕ)) → AsksCheck words → command.now ≡ Command.Check →
         (paths : List (List ℕ)) × ReportedOf (line_of paths) (λ status. AnswersCheck words paths (S.files store.old) (S.files store.new) (S.may_leave store.new) (S.faults store.old) (S.faults store.new) status
         × Survives words (S.files store.old) (S.may_leave store.old) (S.may_leave store.new) status) result (O.contents out.old) (O.contents out.new) (O.faults out.old) (O.faults out.new) }
@@ -225,9 +243,13 @@ fn perform<S: Store, I: Source, O: Sink>(
     out: &mut O,
 ) -> Status
     ensures answer { (AsksBatch words.now → ⊥) → (AsksCheck words.now → ⊥) → (AsksUndo words.now → ⊥) → Reported words.now (λ status. Answers words.now (S.files store.old) (S.files store.new) (S.may_leave store.new) (S.faults store.old) (S.faults store.new) status
-        × Survives words.now (S.files store.old) (S.may_leave store.old) (S.may_leave store.new) status) result (O.contents out.old) (O.contents out.new) (O.faults out.old) (O.faults out.new) }
+        × Survives words.now (S.files store.old) (S.may_leave store.old) (S.may_leave store.new) status) result (O.contents out.old) (O.contents out.new) (O.faults out.old) (O.faults out.new)
+        ⊎ ((paths : List (List ℕ)) × ReportedOf (line_of paths) (λ status. AnswersPlanned words.now (AsksOne words.now) paths (S.files store.old) (S.files store.new) (S.may_leave store.new) (S.faults store.old) (S.faults store.new) status
+        × Survives words.now (S.files store.old) (S.may_leave store.old) (S.may_leave store.new) status) result (O.contents out.old) (O.contents out.new) (O.faults out.old) (O.faults out.new)) }
     ensures batch { AsksBatch words.now → Reported words.now (λ status. AnswersBatch words.now (S.files store.old) (S.files store.new) (S.may_leave store.new) (S.faults store.old) (S.faults store.new) (I.left input.old) (I.faults input.old) (I.faults input.new) status
-        × Survives words.now (S.files store.old) (S.may_leave store.old) (S.may_leave store.new) status) result (O.contents out.old) (O.contents out.new) (O.faults out.old) (O.faults out.new) }
+        × Survives words.now (S.files store.old) (S.may_leave store.old) (S.may_leave store.new) status) result (O.contents out.old) (O.contents out.new) (O.faults out.old) (O.faults out.new)
+        ⊎ ((paths : List (List ℕ)) × ReportedOf (line_of paths) (λ status. AnswersPlanned words.now (AsksAll words.now (I.left input.old)) paths (S.files store.old) (S.files store.new) (S.may_leave store.new) (S.faults store.old) (S.faults store.new) status
+        × Survives words.now (S.files store.old) (S.may_leave store.old) (S.may_leave store.new) status) result (O.contents out.old) (O.contents out.new) (O.faults out.old) (O.faults out.new)) }
     ensures check { AsksCheck words.now → (paths : List (List ℕ)) × ReportedOf (line_of paths) (λ status. AnswersCheck words.now paths (S.files store.old) (S.files store.new) (S.may_leave store.new) (S.faults store.old) (S.faults store.new) status
         × Survives words.now (S.files store.old) (S.may_leave store.old) (S.may_leave store.new) status) result (O.contents out.old) (O.contents out.new) (O.faults out.old) (O.faults out.new) }
     ensures undo { AsksUndo words.now → Reported words.now (λ status. AnswersUndo words.now (S.files store.old) (S.files store.new) (S.may_leave store.new) (S.faults store.old) (S.faults store.new) status
@@ -252,9 +274,9 @@ fn perform<S: Store, I: Source, O: Sink>(
 
 /// Does what the words ask for, and writes one line.
 ///
-/// The first word is the folder, which is not read here. Every command but `demo` begins with recovery. Only a check is
-/// served, an undo, and a rename in a store with one `.java` file of at most 65,536 bytes. The input of a batch is read after recovery. Want of memory may be answered at any time
-/// before the first write of the commit, unless recovery has begun to write and not ended.
+/// The first word is the folder, which is not read here. Every command but `demo` begins with recovery. A check is served, an
+/// undo, a rename, a move, and a batch of these two. The input of a batch is read after recovery, before the files. Want of
+/// memory may be answered at any time before the first write of the commit, unless recovery has begun to write and not ended.
 pub fn refactor<S: Store, I: Source, O: Sink>(
     alloc: Global,
     words: &[Text],
@@ -262,14 +284,19 @@ pub fn refactor<S: Store, I: Source, O: Sink>(
     input: &mut I,
     out: &mut O,
 ) -> Status
-    // Each answer has its cause, the files left are those that it says, and a crash leaves such files. A rename that is
-    // done is the requested change.
+    // Each answer has its cause, the files left are those that it says, and a crash leaves such files. A rename in a small
+    // file that is done is the requested change. Of other renames and of moves the files left are those that the engine
+    // made of the files found: the front accepts both, and each other path is as it was.
     ensures answer { (AsksBatch words.now → ⊥) → (AsksCheck words.now → ⊥) → (AsksUndo words.now → ⊥) → Outcome words.now (λ status. Answers words.now (S.files store.old) (S.files store.new) (S.may_leave store.new) (S.faults store.old) (S.faults store.new) status
-        × Survives words.now (S.files store.old) (S.may_leave store.old) (S.may_leave store.new) status) (O.contents out.old) (O.contents out.new) (O.faults out.old) (O.faults out.new) result }
+        × Survives words.now (S.files store.old) (S.may_leave store.old) (S.may_leave store.new) status) (O.contents out.old) (O.contents out.new) (O.faults out.old) (O.faults out.new) result
+        ⊎ ((paths : List (List ℕ)) × OutcomeOf (line_of paths) (λ status. AnswersPlanned words.now (AsksOne words.now) paths (S.files store.old) (S.files store.new) (S.may_leave store.new) (S.faults store.old) (S.faults store.new) status
+        × Survives words.now (S.files store.old) (S.may_leave store.old) (S.may_leave store.new) status) (O.contents out.old) (O.contents out.new) (O.faults out.old) (O.faults out.new) result) }
 
-    // So has each answer to a batch: what the input comes to.
+    // So has each answer to a batch: what the input comes to, or what the engine makes of its requests.
     ensures batch { AsksBatch words.now → Outcome words.now (λ status. AnswersBatch words.now (S.files store.old) (S.files store.new) (S.may_leave store.new) (S.faults store.old) (S.faults store.new) (I.left input.old) (I.faults input.old) (I.faults input.new) status
-        × Survives words.now (S.files store.old) (S.may_leave store.old) (S.may_leave store.new) status) (O.contents out.old) (O.contents out.new) (O.faults out.old) (O.faults out.new) result }
+        × Survives words.now (S.files store.old) (S.may_leave store.old) (S.may_leave store.new) status) (O.contents out.old) (O.contents out.new) (O.faults out.old) (O.faults out.new) result
+        ⊎ ((paths : List (List ℕ)) × OutcomeOf (line_of paths) (λ status. AnswersPlanned words.now (AsksAll words.now (I.left input.old)) paths (S.files store.old) (S.files store.new) (S.may_leave store.new) (S.faults store.old) (S.faults store.new) status
+        × Survives words.now (S.files store.old) (S.may_leave store.old) (S.may_leave store.new) status) (O.contents out.old) (O.contents out.new) (O.faults out.old) (O.faults out.new) result) }
 
     // So has each answer to a check: what the front says of the files found, whose paths its line names.
     ensures check { AsksCheck words.now → (paths : List (List ℕ)) × OutcomeOf (line_of paths) (λ status. AnswersCheck words.now paths (S.files store.old) (S.files store.new) (S.may_leave store.new) (S.faults store.old) (S.faults store.new) status
@@ -283,14 +310,13 @@ pub fn refactor<S: Store, I: Source, O: Sink>(
     ensures complete { (files found : Image) → S.files store.old ≡ Some files → Restored files found → (file : List ℕ) (at : ℕ) (name bytes : List ℕ)
         → AsksRename words.now file at name → Holds found file bytes → Serves bytes at name → IsServedAnswer (S.faults store.old) (S.faults store.new) (O.faults out.old) (O.faults out.new) result }
 
-    // A rename of the one file that is there gets the one answer that it comes to, and leaves the files so.
+    // A rename that is served so gets the one answer that it comes to, and leaves the files so.
     ensures exact { (files found : Image) → S.files store.old ≡ Some files → Restored files found → (file : List ℕ) (at : ℕ) (name bytes : List ℕ) (comes_to : Renaming)
-        → AsksRename words.now file at name → Holds found file bytes → IsRenaming bytes at name comes_to
+        → AsksRename words.now file at name → Holds found file bytes → Serves bytes at name → IsRenaming bytes at name comes_to
         → IsAnswered found file bytes comes_to (S.files store.new) result ⊎ IsFailure (S.faults store.old) (S.faults store.new) (O.faults out.old) (O.faults out.new) result }
 
-    // Where no rename of such a file is asked for, the command is not served yet.
-    ensures not_served { (files found : Image) → S.files store.old ≡ Some files → Restored files found → IsSome (command_of words.now)
-        → (AsksBatch words.now → ⊥) → (AsksCheck words.now → ⊥) → (AsksUndo words.now → ⊥) → ((file : List ℕ) (at : ℕ) (name bytes : List ℕ) → AsksRename words.now file at name → Holds found file bytes → ⊥)
+    // A command that asks for no rename, move, batch, check or undo is not served yet.
+    ensures not_served { (files found : Image) → S.files store.old ≡ Some files → Restored files found → IsSome (command_of words.now) → (AsksServed words.now → ⊥)
         → (result ≡ NotYet) ⊎ IsFailure (S.faults store.old) (S.faults store.new) (O.faults out.old) (O.faults out.new) result }
 
     // Nor is one that needs no files.
@@ -305,9 +331,9 @@ pub fn refactor<S: Store, I: Source, O: Sink>(
     ensures bad_words { command_of words.now ≡ None
         → (result ≡ BadWords) ⊎ IsFailure (S.faults store.old) (S.faults store.new) (O.faults out.old) (O.faults out.new) result }
 
-    // A batch gets the one answer that its input has.
+    // A batch that the engine does not serve gets the one answer that its input has.
     ensures batch_exact { (files found : Image) (bytes : List ℕ) (answer : Result (List Request) BatchFault) → S.files store.old ≡ Some files → Restored files found → AsksBatch words.now
-        → I.left input.old ≡ Some bytes → IsInputAnswer bytes answer
+        → I.left input.old ≡ Some bytes → IsInputAnswer bytes answer → IsNotPlanned answer
         → (result ≡ status_of answer) ⊎ IsBatchFailure (S.faults store.old) (S.faults store.new) (O.faults out.old) (O.faults out.new) (I.faults input.old) (I.faults input.new) result }
 
     // A check leaves the files, and gets one of the answers that these have.

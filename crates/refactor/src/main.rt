@@ -12,16 +12,16 @@ use std::{env, io};
 const HELP: &str = "\
 refactor DIR COMMAND ..: changes the Java source below the folder DIR, keeping what each name refers to
 
-  rename FILE OFFSET NAME   gives the local or parameter at the byte offset of the file another name
+  rename FILE OFFSET NAME   gives what is declared or named at the byte offset of the file another name
+  move FILE OFFSET PACKAGE  moves the type at the byte offset of the file to the package, `-` for the unnamed one
   check                     says whether the files compile, and if not, why and where (definite assignment is not tested yet)
   undo                      takes the last change back, where no file of it was edited since
-  batch                     reads requests as JSON from standard input; a batch is refused where it is none, and not served yet
+  batch                     does renames and moves, read as JSON from standard input, one after the other, all or none
 
-A rename is served where the folder has one file that ends in .java, of at most 65,536 bytes: a class of methods
-`static int f(int ..)` with statements `int x = e;` and `return e;`. All else is answered `not yet`.
+All other commands are answered `not yet`.
 Each answer is one line on standard output, and a status: 0 done, 1 bad words, 2 bad request, 3 not compiling,
-4 no spelling, 6 broken rule, 7 store fault, 8 input fault, 9 too large, 10 out of memory, 11 bad journal, 12 no undo,
-14 output fault, 20 not yet.
+4 no spelling, 5 lost edge, 6 broken rule, 7 store fault, 8 input fault, 9 too large, 10 out of memory, 11 bad journal,
+12 no undo, 14 output fault, 20 not yet, 21 differs.
 A run that was stopped while it wrote is first undone, by the files .refactor-gate and .refactor-journal.
 ";
 

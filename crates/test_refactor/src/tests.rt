@@ -110,9 +110,9 @@ fn a_rename_is_refused(rt: HostRuntime) -> Result<(), Fail> {
     let inline = call(alloc, OLD, ". inline A.java 27", 2, 0)?;
     expect(&rt, &inline, 20, "not yet\n", OLD);
     let elsewhere = call(alloc, OLD, ". rename B.java 27 b", 0, 0)?;
-    expect(&rt, &elsewhere, 20, "not yet\n", OLD);
+    expect(&rt, &elsewhere, 2, "bad request: 1\n", OLD);
     let keyword = call(alloc, OLD, ". rename A.java 27 int", 0, 0)?;
-    expect(&rt, &keyword, 20, "not yet\n", OLD);
+    expect(&rt, &keyword, 2, "bad request: 5\n", OLD);
     Ok(())
 }
 
@@ -233,7 +233,8 @@ fn batch_of(alloc: Global, text: &str, input_fails: u64) -> Result<Called, Fail>
 #[test]
 fn a_batch_is_read(rt: HostRuntime) -> Result<(), Fail> {
     let alloc = rt.alloc();
-    expect(&rt, &batch_of(alloc, "[]", 0)?, 20, "not yet\n", OLD);
+    let none = batch_of(alloc, "[]", 0)?;
+    expect(&rt, &none, 0, "done, files changed: 0\n", OLD);
     expect(&rt, &batch_of(alloc, "{", 0)?, 2, "bad request: 9\n", OLD);
     expect(
         &rt,

@@ -1,7 +1,15 @@
+use Rattle.std.proofs.Common.{List, ℕ}
 use Rattle.jr_commit.proofs.Moments.{read_never}
+use Rattle.jr_top.proofs.BatchAnswers.{untaken}
 use Rattle.jr_top.proofs.decide.decide.Goals as goal
 
 pub returns-in_default-clause-any_moment : goal.returns-in_default-clause-any_moment
 returns-in_default-clause-any_moment g c =
     let S = g.S.Store in
     read_never S.may_leave S.moment S.left_since c.args.store.now (g.met.S.Store.only_now c.args.store.now)
+
+pub returns-in_default-clause-taken : goal.returns-in_default-clause-taken
+returns-in_default-clause-taken g c bytes is = untaken bytes (g.I.Source.left c.args.input.now) is
+
+pub returns-in-One-clause-taken : goal.returns-in-One-clause-taken
+returns-in-One-clause-taken g c bytes is = untaken bytes (g.I.Source.left c.args.input.now) is

@@ -1,9 +1,13 @@
-use Rattle.std.proofs.Common.{subst, ◌∙◌, [], List, ℕ, inl}
+use Rattle.std.proofs.Common.{⊎_elim, Some, ap, subst, ◌∙◌, sym, [], ◌∷◌, List, ℕ, inl, inr}
 use Rattle.jr_top.specs.Answers.{IsReported}
 use Rattle.jr_top.specs.Crash.{StandsForEither}
 use Rattle.jr_top.specs.Decisions.{Decides}
-use Rattle.jr_top.specs.declared.decide.Decision.TheVariants.{Answer, Refuse}
+use Rattle.jr_top.specs.Engine.{AsksOne, AsksAll}
+use Rattle.jr_top.specs.declared.decide.Decision.TheVariants.{Answer, Refuse, Change}
+use Rattle.jr_top.proofs.BatchAnswers.{heard_alone, no_input_refusal, no_input_change}
 use Rattle.jr_top.proofs.Carried.{weaker}
+use Rattle.jr_top.proofs.Choosing.{chosen_one, chosen_batch, chosen_change, asks_one, one_may, batch_may, may_ask}
+use Rattle.jr_top.proofs.EngineAnswers.{plan_of, told_for_files, run_planned, reports_answered, reports_refused, reports_changed}
 use Rattle.jr_top.proofs.Performed.{answered, refused, stays, stays_refused, renames, reports, changed, reports_change, either_run}
 use Rattle.jr_top.proofs.Settled.{settled_stands}
 use Rattle.jr_commit.specs.Restoring.{MayBegin}
@@ -11,39 +15,67 @@ use Rattle.jr_commit.proofs.Beginning.{reads_begin}
 use Rattle.jr_top.proofs.Starts.{begun, earlier_start}
 use Rattle.jr_top.proofs.top.obey.Goals as goal
 
+-- ---- one request, and what is not served
+
 pub returns-in-Answer-clause-answer : goal.returns-in-Answer-clause-answer
-returns-in-Answer-clause-answer g c words is =
+returns-in-Answer-clause-answer g c words is no_batch no_check never_undo =
     let S = g.S.Store in
     let O = g.O.Sink in
+    let I = g.I.Source in
     let told = S.files c.args.store.now in
     let left = S.files c.decide.new.store in
     let kept = S.may_leave c.args.store.now in
     let outcomes = S.may_leave c.decide.new.store in
     let before = S.faults c.args.store.now in
     let after = S.faults c.decide.new.store in
-    let decided : Decides words told before after (Answer c.in-Answer.status) = (c.args.command.now, is, c.in-Answer.ensures.decision) in
-    reports words told left kept outcomes before after c.in-Answer.status c.report.result [] (O.contents c.args.out.now) (O.contents c.report.new.out) (O.faults c.args.out.now) (O.faults c.report.new.out)
-    c.decide.ensures.files c.decide.ensures.crash
-    (answered words told before after left outcomes c.in-Answer.status c.decide.ensures.files decided)
-    (stays words told before after c.in-Answer.status decided)
-    c.report.ensures
+    let status = c.in-Answer.status in
+    let old = O.contents c.args.out.now in
+    let new = O.contents c.report.new.out in
+    let quiet = O.faults c.args.out.now in
+    let loud = O.faults c.report.new.out in
+    let heard = I.left c.args.input.now in
+    ⊎_elim
+    (λ small.
+    let decided : Decides words told before after (Answer status) = (c.args.command.now, is, small) in
+    inl (reports words told left kept outcomes before after status c.report.result [] old new quiet loud c.decide.ensures.files c.decide.ensures.crash
+    (answered words told before after left outcomes status c.decide.ensures.files decided)
+    (stays words told before after status decided)
+    c.report.ensures))
+    (λ all.
+    inr (reports_answered words (AsksOne words) told left kept outcomes before after (all.0 ∷ []) (asks_one words c.args.command.now all.0 told is all.1 all.2) c.decide.ensures.files c.decide.ensures.crash
+    status c.report.result old new quiet loud all.3 c.report.ensures))
+    (chosen_one c.args.command.now heard (I.faults c.args.input.now) (I.faults c.decide.new.input) told before after (Answer status) c.in-Answer.ensures.decision no_batch no_check never_undo)
 
 pub returns-in-Refuse-clause-answer : goal.returns-in-Refuse-clause-answer
-returns-in-Refuse-clause-answer g c words is =
+returns-in-Refuse-clause-answer g c words is no_batch no_check never_undo =
     let S = g.S.Store in
     let O = g.O.Sink in
+    let I = g.I.Source in
     let told = S.files c.args.store.now in
     let left = S.files c.decide.new.store in
     let kept = S.may_leave c.args.store.now in
     let outcomes = S.may_leave c.decide.new.store in
     let before = S.faults c.args.store.now in
     let after = S.faults c.decide.new.store in
-    let decided : Decides words told before after (Refuse c.in-Refuse.status c.in-Refuse.paths) = (c.args.command.now, is, c.in-Refuse.ensures.decision) in
-    reports words told left kept outcomes before after c.in-Refuse.status c.report-in-Refuse.result c.in-Refuse.paths.items (O.contents c.args.out.now) (O.contents c.report-in-Refuse.new.out) (O.faults c.args.out.now) (O.faults c.report-in-Refuse.new.out)
-    c.decide.ensures.files c.decide.ensures.crash
-    (refused words told before after left outcomes c.in-Refuse.status c.in-Refuse.paths c.decide.ensures.files decided)
-    (stays_refused words told before after c.in-Refuse.status c.in-Refuse.paths decided)
-    (subst (λ (ps : List (List ℕ)). IsReported c.in-Refuse.status ps c.report-in-Refuse.result (O.contents c.args.out.now) (O.contents c.report-in-Refuse.new.out) (O.faults c.args.out.now) (O.faults c.report-in-Refuse.new.out)) c.deref.ensures.value c.report-in-Refuse.ensures)
+    let status = c.in-Refuse.status in
+    let paths = c.in-Refuse.paths in
+    let old = O.contents c.args.out.now in
+    let new = O.contents c.report-in-Refuse.new.out in
+    let quiet = O.faults c.args.out.now in
+    let loud = O.faults c.report-in-Refuse.new.out in
+    let shown : IsReported status paths.items c.report-in-Refuse.result old new quiet loud
+    = subst (λ (ps : List (List ℕ)). IsReported status ps c.report-in-Refuse.result old new quiet loud) c.deref.ensures.value c.report-in-Refuse.ensures in
+    ⊎_elim
+    (λ small.
+    let decided : Decides words told before after (Refuse status paths) = (c.args.command.now, is, small) in
+    inl (reports words told left kept outcomes before after status c.report-in-Refuse.result paths.items old new quiet loud c.decide.ensures.files c.decide.ensures.crash
+    (refused words told before after left outcomes status paths c.decide.ensures.files decided)
+    (stays_refused words told before after status paths decided)
+    shown))
+    (λ all.
+    inr (reports_refused words (AsksOne words) told left kept outcomes before after (all.0 ∷ []) (asks_one words c.args.command.now all.0 told is all.1 all.2) c.decide.ensures.files c.decide.ensures.crash
+    status c.report-in-Refuse.result paths old new quiet loud all.3 shown))
+    (chosen_one c.args.command.now (I.left c.args.input.now) (I.faults c.args.input.now) (I.faults c.decide.new.input) told before after (Refuse status paths) c.in-Refuse.ensures.decision no_batch no_check never_undo)
 
 pub returns-in-Answer-clause-any_moment : goal.returns-in-Answer-clause-any_moment
 returns-in-Answer-clause-any_moment g c words f r is told settled =
@@ -60,15 +92,28 @@ returns-in-Refuse-clause-any_moment g c words f r is told settled =
 pub returns-in-Change-clause-any_moment : goal.returns-in-Change-clause-any_moment
 returns-in-Change-clause-any_moment g c words f r is told settled =
     let S = g.S.Store in
+    let I = g.I.Source in
+    let files = S.files c.args.store.now in
     let kept = S.may_leave c.args.store.now in
-    let asked = renames words (S.files c.args.store.now) (S.faults c.args.store.now) (S.faults c.decide.new.store) c.in-Change.plan (c.args.command.now, is, c.in-Change.ensures.decision) in
-    either_run S.moment S.left_since words f r kept (S.may_leave c.decide.new.store) c.args.store.now c.decide.new.store c.change.new.store asked.0 asked.1 asked.2 c.in-Change.plan asked.3
-    (S.files c.args.store.now) told settled c.decide.ensures.crash asked.6 c.decide.ensures.any_moment (c.change.ensures.any_moment f (c.decide.ensures.files ∙ told))
+    let before = S.faults c.args.store.now in
+    let middle = S.faults c.decide.new.store in
+    let plan = c.in-Change.plan in
+    ⊎_elim
+    (λ small.
+    let asked = renames words files before middle plan (c.args.command.now, is, small) in
+    either_run S.moment S.left_since words f r kept (S.may_leave c.decide.new.store) c.args.store.now c.decide.new.store c.change.new.store asked.0 asked.1 asked.2 plan asked.3
+    files told settled c.decide.ensures.crash asked.6 c.decide.ensures.any_moment (c.change.ensures.any_moment f (c.decide.ensures.files ∙ told)))
+    (λ all.
+    let made = plan_of all.0 files before middle plan all.2 in
+    run_planned all.0 made.0 made.1 plan made.3 made.4 f (told_for_files files made.0 made.2 f told) words (may_ask words c.args.command.now all.0 is all.1) S.moment S.left_since r kept (S.may_leave c.decide.new.store)
+    c.args.store.now c.decide.new.store c.change.new.store settled c.decide.ensures.crash c.decide.ensures.any_moment (c.change.ensures.any_moment f (c.decide.ensures.files ∙ told)))
+    (chosen_change c.args.command.now (I.left c.args.input.now) (I.faults c.args.input.now) (I.faults c.decide.new.input) files before middle plan c.in-Change.ensures.decision)
 
 pub returns-in-Change-clause-answer : goal.returns-in-Change-clause-answer
-returns-in-Change-clause-answer g c words is =
+returns-in-Change-clause-answer g c words is no_batch no_check never_undo =
     let S = g.S.Store in
     let O = g.O.Sink in
+    let I = g.I.Source in
     let told = S.files c.args.store.now in
     let left = S.files c.change.new.store in
     let kept = S.may_leave c.args.store.now in
@@ -76,16 +121,110 @@ returns-in-Change-clause-answer g c words is =
     let before = S.faults c.args.store.now in
     let middle = S.faults c.decide.new.store in
     let after = S.faults c.change.new.store in
-    let asked = renames words told before middle c.in-Change.plan (c.args.command.now, is, c.in-Change.ensures.decision) in
+    let plan = c.in-Change.plan in
     let done = c.change.ensures.answer in
-    reports_change words told left kept outcomes before after done.0 c.change.result (O.contents c.args.out.now) (O.contents c.change.new.out) (O.faults c.args.out.now) (O.faults c.change.new.out)
-    (changed words told left kept outcomes before after asked.0 asked.1 asked.2 c.in-Change.plan asked.3 asked.4 asked.5 middle (S.files c.decide.new.store) (S.may_leave c.decide.new.store) done.0
+    ⊎_elim
+    (λ small.
+    let asked = renames words told before middle plan (c.args.command.now, is, small) in
+    inl (reports_change words told left kept outcomes before after done.0 c.change.result (O.contents c.args.out.now) (O.contents c.change.new.out) (O.faults c.args.out.now) (O.faults c.change.new.out)
+    (changed words told left kept outcomes before after asked.0 asked.1 asked.2 plan asked.3 asked.4 asked.5 middle (S.files c.decide.new.store) (S.may_leave c.decide.new.store) done.0
     c.decide.ensures.files c.decide.ensures.later c.decide.ensures.crash asked.6
     (λ f r told_is settled image l.
     let run = returns-in-Change-clause-any_moment g c words f r is told_is settled in
     run.each image (g.met.S.Store.counts_now c.change.new.store (S.moment c.args.store.now) image run.later l))
     done.1)
-    done.2
+    done.2))
+    (λ all.
+    let made = plan_of (all.0 ∷ []) told before middle plan all.3 in
+    inr (reports_changed words (AsksOne words) told left kept outcomes before after (all.0 ∷ []) (asks_one words c.args.command.now all.0 told is all.1 all.2) (one_may words c.args.command.now all.0 is all.1)
+    made.0 made.1 plan made.2 made.3 made.4 made.5 middle (S.files c.decide.new.store) (S.may_leave c.decide.new.store) done.0 c.change.result
+    (O.contents c.args.out.now) (O.contents c.change.new.out) (O.faults c.args.out.now) (O.faults c.change.new.out) c.decide.ensures.files c.decide.ensures.later c.decide.ensures.crash
+    (λ f r told_is settled image l.
+    let run = returns-in-Change-clause-any_moment g c words f r is told_is settled in
+    run.each image (g.met.S.Store.counts_now c.change.new.store (S.moment c.args.store.now) image run.later l))
+    done.1 done.2))
+    (chosen_one c.args.command.now (I.left c.args.input.now) (I.faults c.args.input.now) (I.faults c.decide.new.input) told before middle (Change plan) c.in-Change.ensures.decision no_batch no_check never_undo)
+
+-- ---- a batch
+
+pub returns-in-Answer-clause-batch : goal.returns-in-Answer-clause-batch
+returns-in-Answer-clause-batch g c words asks is_batch =
+    let S = g.S.Store in
+    let O = g.O.Sink in
+    let I = g.I.Source in
+    let told = S.files c.args.store.now in
+    let left = S.files c.decide.new.store in
+    let kept = S.may_leave c.args.store.now in
+    let outcomes = S.may_leave c.decide.new.store in
+    let before = S.faults c.args.store.now in
+    let after = S.faults c.decide.new.store in
+    let status = c.in-Answer.status in
+    let old = O.contents c.args.out.now in
+    let new = O.contents c.report.new.out in
+    let fewer = O.faults c.args.out.now in
+    let more = O.faults c.report.new.out in
+    let heard = I.left c.args.input.now in
+    let quiet = I.faults c.args.input.now in
+    let loud = I.faults c.decide.new.input in
+    ⊎_elim
+    (λ alone. inl (heard_alone told left kept outcomes heard quiet loud status alone.0 c.report.result old new fewer more alone.1 alone.2 c.decide.ensures.files c.decide.ensures.crash c.report.ensures))
+    (λ all.
+    inr (reports_answered words (AsksAll words heard) told left kept outcomes before after all.0 (asks, all.1, all.2) c.decide.ensures.files c.decide.ensures.crash status c.report.result old new fewer more all.3 c.report.ensures))
+    (chosen_batch c.args.command.now heard quiet loud told before after (Answer status) is_batch c.in-Answer.ensures.decision)
+
+pub returns-in-Refuse-clause-batch : goal.returns-in-Refuse-clause-batch
+returns-in-Refuse-clause-batch g c words asks is_batch =
+    let S = g.S.Store in
+    let O = g.O.Sink in
+    let I = g.I.Source in
+    let told = S.files c.args.store.now in
+    let left = S.files c.decide.new.store in
+    let kept = S.may_leave c.args.store.now in
+    let outcomes = S.may_leave c.decide.new.store in
+    let before = S.faults c.args.store.now in
+    let after = S.faults c.decide.new.store in
+    let status = c.in-Refuse.status in
+    let paths = c.in-Refuse.paths in
+    let old = O.contents c.args.out.now in
+    let new = O.contents c.report-in-Refuse.new.out in
+    let fewer = O.faults c.args.out.now in
+    let more = O.faults c.report-in-Refuse.new.out in
+    let heard = I.left c.args.input.now in
+    let quiet = I.faults c.args.input.now in
+    let loud = I.faults c.decide.new.input in
+    let shown : IsReported status paths.items c.report-in-Refuse.result old new fewer more
+    = subst (λ (ps : List (List ℕ)). IsReported status ps c.report-in-Refuse.result old new fewer more) c.deref.ensures.value c.report-in-Refuse.ensures in
+    let all = no_input_refusal heard quiet loud told before after status paths (chosen_batch c.args.command.now heard quiet loud told before after (Refuse status paths) is_batch c.in-Refuse.ensures.decision) in
+    inr (reports_refused words (AsksAll words heard) told left kept outcomes before after all.0 (asks, all.1, all.2) c.decide.ensures.files c.decide.ensures.crash status c.report-in-Refuse.result paths old new fewer more all.3 shown)
+
+pub returns-in-Change-clause-batch : goal.returns-in-Change-clause-batch
+returns-in-Change-clause-batch g c words asks is_batch =
+    let S = g.S.Store in
+    let O = g.O.Sink in
+    let I = g.I.Source in
+    let told = S.files c.args.store.now in
+    let left = S.files c.change.new.store in
+    let kept = S.may_leave c.args.store.now in
+    let outcomes = S.may_leave c.change.new.store in
+    let before = S.faults c.args.store.now in
+    let middle = S.faults c.decide.new.store in
+    let after = S.faults c.change.new.store in
+    let plan = c.in-Change.plan in
+    let done = c.change.ensures.answer in
+    let heard = I.left c.args.input.now in
+    let quiet = I.faults c.args.input.now in
+    let loud = I.faults c.decide.new.input in
+    let all = no_input_change heard quiet loud told before middle plan (chosen_batch c.args.command.now heard quiet loud told before middle (Change plan) is_batch c.in-Change.ensures.decision) in
+    let made = plan_of all.0 told before middle plan all.3 in
+    inr (reports_changed words (AsksAll words heard) told left kept outcomes before after all.0 (asks, all.1, all.2) (batch_may words all.0 asks)
+    made.0 made.1 plan made.2 made.3 made.4 made.5 middle (S.files c.decide.new.store) (S.may_leave c.decide.new.store) done.0 c.change.result
+    (O.contents c.args.out.now) (O.contents c.change.new.out) (O.faults c.args.out.now) (O.faults c.change.new.out) c.decide.ensures.files c.decide.ensures.later c.decide.ensures.crash
+    (λ f r told_is settled image l.
+    let run = returns-in-Change-clause-any_moment g c words f r (asks ∙ sym (ap Some is_batch)) told_is settled in
+    run.each image (g.met.S.Store.counts_now c.change.new.store (S.moment c.args.store.now) image run.later l))
+    done.1 done.2)
+
+-- ---- the next call
 
 pub returns-in-Answer-clause-next : goal.returns-in-Answer-clause-next
 returns-in-Answer-clause-next g c begins =

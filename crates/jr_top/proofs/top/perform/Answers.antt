@@ -19,25 +19,25 @@ returns-in-Err-BadWords-clause-answer g c no_batch no_check never_undo =
     let S = g.S.Store in
     let O = g.O.Sink in
     let s = c.args.store.now in
-    early c.args.words.now (S.files s) (S.files s) (S.may_leave s) (S.may_leave s) (S.faults s) (S.faults s) BadWords c.report.result (O.contents c.args.out.now) (O.contents c.report.new.out) (O.faults c.args.out.now) (O.faults c.report.new.out)
-    refl (λ image left. left) (refl, rw c.in-Err-BadWords.field-0-is at c.in-Err-BadWords.ensures) (λ found image stands. stands) refl c.report.ensures
+    inl (early c.args.words.now (S.files s) (S.files s) (S.may_leave s) (S.may_leave s) (S.faults s) (S.faults s) BadWords c.report.result (O.contents c.args.out.now) (O.contents c.report.new.out) (O.faults c.args.out.now) (O.faults c.report.new.out)
+    refl (λ image left. left) (refl, rw c.in-Err-BadWords.field-0-is at c.in-Err-BadWords.ensures) (λ found image stands. stands) refl c.report.ensures)
 
 pub returns-in-Err-clause-answer : goal.returns-in-Err-clause-answer
 returns-in-Err-clause-answer g c no_batch no_check never_undo =
     let S = g.S.Store in
     let O = g.O.Sink in
     let s = c.args.store.now in
-    early c.args.words.now (S.files s) (S.files s) (S.may_leave s) (S.may_leave s) (S.faults s) (S.faults s) OutOfMemory c.report-in-Err.result (O.contents c.args.out.now) (O.contents c.report-in-Err.new.out) (O.faults c.args.out.now) (O.faults c.report-in-Err.new.out)
-    refl (λ image left. left) (inl refl) (λ found image stands. stands) refl c.report-in-Err.ensures
+    inl (early c.args.words.now (S.files s) (S.files s) (S.may_leave s) (S.may_leave s) (S.faults s) (S.faults s) OutOfMemory c.report-in-Err.result (O.contents c.args.out.now) (O.contents c.report-in-Err.new.out) (O.faults c.args.out.now) (O.faults c.report-in-Err.new.out)
+    refl (λ image left. left) (inl refl) (λ found image stands. stands) refl c.report-in-Err.ensures)
 
 pub returns-then-not-needs_files-clause-answer : goal.returns-then-not-needs_files-clause-answer
 returns-then-not-needs_files-clause-answer g c no_batch no_check never_undo =
     let S = g.S.Store in
     let O = g.O.Sink in
     let s = c.args.store.now in
-    early c.args.words.now (S.files s) (S.files s) (S.may_leave s) (S.may_leave s) (S.faults s) (S.faults s) NotYet c.report-then-not-needs_files.result (O.contents c.args.out.now) (O.contents c.report-then-not-needs_files.new.out) (O.faults c.args.out.now) (O.faults c.report-then-not-needs_files.new.out)
+    inl (early c.args.words.now (S.files s) (S.files s) (S.may_leave s) (S.may_leave s) (S.faults s) (S.faults s) NotYet c.report-then-not-needs_files.result (O.contents c.args.out.now) (O.contents c.report-then-not-needs_files.new.out) (O.faults c.args.out.now) (O.faults c.report-then-not-needs_files.new.out)
     refl (λ image left. left) (inl (refl, subst IsSome (sym c.in-Ok.ensures) refl, no_recovery c.args.words.now c.in-Ok.command c.in-Ok.ensures (λ needs. cc (c.if-not-needs_files.true, c.needs_files.ensures.1 needs))))
-    (λ found image stands. stands) refl c.report-then-not-needs_files.ensures
+    (λ found image stands. stands) refl c.report-then-not-needs_files.ensures)
 
 pub returns-clause-answer : goal.returns-clause-answer
 returns-clause-answer g c no_batch no_check never_undo =
@@ -73,8 +73,8 @@ returns-in-Err-clause-batch g c asks =
     let I = g.I.Source in
     let s = c.args.store.now in
     let i = c.args.input.now in
-    no_memory c.args.words.now (batch_plain c.args.words.now asks) (S.files s) (S.files s) (S.may_leave s) (S.may_leave s) (S.faults s) (S.faults s) (Hears (I.left i) (I.faults i) (I.faults i))
-    c.report-in-Err.result (O.contents c.args.out.now) (O.contents c.report-in-Err.new.out) (O.faults c.args.out.now) (O.faults c.report-in-Err.new.out) refl (λ image left. left) c.report-in-Err.ensures
+    inl (no_memory c.args.words.now (batch_plain c.args.words.now asks) (S.files s) (S.files s) (S.may_leave s) (S.may_leave s) (S.faults s) (S.faults s) (Hears (I.left i) (I.faults i) (I.faults i))
+    c.report-in-Err.result (O.contents c.args.out.now) (O.contents c.report-in-Err.new.out) (O.faults c.args.out.now) (O.faults c.report-in-Err.new.out) refl (λ image left. left) c.report-in-Err.ensures)
 
 pub returns-then-not-needs_files-clause-batch : goal.returns-then-not-needs_files-clause-batch
 returns-then-not-needs_files-clause-batch g c asks =

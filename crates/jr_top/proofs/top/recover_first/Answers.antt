@@ -1,14 +1,16 @@
-use Rattle.std.proofs.Common.{◌≡◌, Option, Some, List, ℕ, [], inl, refl, sym, ap, subst}
+use Rattle.std.proofs.Common.{◌≡◌, ⊎_elim, Option, Some, List, ℕ, [], inl, inr, refl, sym, ap, subst}
 use Rattle.std.specs.Prelude.{Err}
 use Rattle.jr_commit.specs.Restoring.{IsOpen, Restored, SameFiles, StartsRecover}
 use Rattle.jr_store.specs.Image.{Image}
 use Rattle.jr_top.specs.Batches.{Hears}
 use Rattle.jr_top.specs.Checking.{Checks}
 use Rattle.jr_top.specs.Crash.{StandsForEither}
+use Rattle.jr_top.specs.Engine.{AsksOne, AsksAll}
 use Rattle.jr_top.specs.Recovering.{Recovers}
 use Rattle.jr_top.proofs.BatchAnswers.{untaken, batch_plain, heard_so}
 use Rattle.jr_top.proofs.CheckAnswers.{check_plain, checked_so}
 use Rattle.jr_top.proofs.UndoAnswers.{undo_plain, recovery_said, carried_undo}
+use Rattle.jr_top.proofs.EngineAnswers.{carried_planned}
 use Rattle.jr_top.proofs.PlainAnswers.{no_memory, journal, failed, stands, said_so}
 use Rattle.jr_top.proofs.Carried.{weaker, carried, early, recovers, settled, still_told, recovery_failed, bad_journal, all_run}
 use Rattle.jr_top.specs.declared.status.Status.TheVariants.{OutOfMemory}
@@ -22,10 +24,15 @@ pub returns-in-Ok-clause-answer : goal.returns-in-Ok-clause-answer
 returns-in-Ok-clause-answer g c words is needs no_batch no_check never_undo =
     let S = g.S.Store in
     let O = g.O.Sink in
-    carried words c.args.command.now is needs (S.files c.args.store.now) (S.files c.recover.new.store) (S.files c.serve.new.store) (S.may_leave c.args.store.now) (S.may_leave c.recover.new.store) (S.may_leave c.serve.new.store)
-    (S.faults c.args.store.now) (S.faults c.recover.new.store) (S.faults c.serve.new.store) c.recover.ensures.later
-    (recovers c.in-Ok.field-0 (S.files c.args.store.now) (S.files c.recover.new.store) c.in-Ok.ensures.answer c.in-Ok.ensures.done c.recover.ensures.others) c.in-Ok.ensures.after
-    c.serve.result (O.contents c.args.out.now) (O.contents c.serve.new.out) (O.faults c.args.out.now) (O.faults c.serve.new.out) (c.serve.ensures.answer words is no_batch no_check never_undo)
+    let found = recovers c.in-Ok.field-0 (S.files c.args.store.now) (S.files c.recover.new.store) c.in-Ok.ensures.answer c.in-Ok.ensures.done c.recover.ensures.others in
+    ⊎_elim
+    (λ said. inl (carried words c.args.command.now is needs (S.files c.args.store.now) (S.files c.recover.new.store) (S.files c.serve.new.store) (S.may_leave c.args.store.now) (S.may_leave c.recover.new.store) (S.may_leave c.serve.new.store)
+    (S.faults c.args.store.now) (S.faults c.recover.new.store) (S.faults c.serve.new.store) c.recover.ensures.later found c.in-Ok.ensures.after
+    c.serve.result (O.contents c.args.out.now) (O.contents c.serve.new.out) (O.faults c.args.out.now) (O.faults c.serve.new.out) said))
+    (λ planned. inr (carried_planned words (AsksOne words) (S.files c.args.store.now) (S.files c.serve.new.store) (S.may_leave c.args.store.now) (S.may_leave c.serve.new.store) (S.faults c.args.store.now) (S.faults c.serve.new.store)
+    (c.args.command.now, is, needs) (S.files c.recover.new.store) (S.may_leave c.recover.new.store) (S.faults c.recover.new.store) c.recover.ensures.later found c.in-Ok.ensures.after
+    c.serve.result (O.contents c.args.out.now) (O.contents c.serve.new.out) (O.faults c.args.out.now) (O.faults c.serve.new.out) planned))
+    (c.serve.ensures.answer words is no_batch no_check never_undo)
 
 pub returns-in-Ok-clause-any_moment : goal.returns-in-Ok-clause-any_moment
 returns-in-Ok-clause-any_moment g c words f r is told restored start =
@@ -40,12 +47,12 @@ pub returns-in-Err-Failed-clause-answer : goal.returns-in-Err-Failed-clause-answ
 returns-in-Err-Failed-clause-answer g c words is needs no_batch no_check never_undo =
     let S = g.S.Store in
     let O = g.O.Sink in
-    recovery_failed words (S.files c.args.store.now) (S.files c.recover.new.store) (S.may_leave c.args.store.now) (S.may_leave c.recover.new.store) (S.faults c.args.store.now) (S.faults c.recover.new.store) c.args.command.now is needs
+    inl (recovery_failed words (S.files c.args.store.now) (S.files c.recover.new.store) (S.may_leave c.args.store.now) (S.may_leave c.recover.new.store) (S.faults c.args.store.now) (S.faults c.recover.new.store) c.args.command.now is needs
     c.write_line.result (O.contents c.args.out.now) (O.contents c.write_line.new.out) (O.faults c.args.out.now) (O.faults c.write_line.new.out) c.recover.ensures.others (c.in-Err-Failed.ensures.failed (ap Err c.in-Err-Failed.field-0-is))
     (λ f r told restored start image l.
     let run = c.recover.ensures.any_moment f r told restored start in
     run.each image (g.met.S.Store.counts_now c.recover.new.store (S.moment c.args.store.now) image run.later l))
-    c.write_line.ensures
+    c.write_line.ensures)
 
 pub returns-in-Err-Failed-clause-any_moment : goal.returns-in-Err-Failed-clause-any_moment
 returns-in-Err-Failed-clause-any_moment g c words f r is told restored start =
@@ -57,8 +64,8 @@ returns-in-Err-BadJournal-clause-answer g c words is needs no_batch no_check nev
     let S = g.S.Store in
     let O = g.O.Sink in
     let same = c.in-Err-BadJournal.ensures.unchanged (ap Err c.in-Err-BadJournal.field-0-is) in
-    bad_journal words (S.files c.args.store.now) (S.files c.recover.new.store) (S.may_leave c.args.store.now) (S.may_leave c.recover.new.store) (S.faults c.args.store.now) (S.faults c.recover.new.store) c.args.command.now is needs
-    c.report.result (O.contents c.args.out.now) (O.contents c.report.new.out) (O.faults c.args.out.now) (O.faults c.report.new.out) same.0 same.1 (c.in-Err-BadJournal.ensures.bad (ap Err c.in-Err-BadJournal.field-0-is)) c.report.ensures
+    inl (bad_journal words (S.files c.args.store.now) (S.files c.recover.new.store) (S.may_leave c.args.store.now) (S.may_leave c.recover.new.store) (S.faults c.args.store.now) (S.faults c.recover.new.store) c.args.command.now is needs
+    c.report.result (O.contents c.args.out.now) (O.contents c.report.new.out) (O.faults c.args.out.now) (O.faults c.report.new.out) same.0 same.1 (c.in-Err-BadJournal.ensures.bad (ap Err c.in-Err-BadJournal.field-0-is)) c.report.ensures)
 
 pub returns-in-Err-BadJournal-clause-any_moment : goal.returns-in-Err-BadJournal-clause-any_moment
 returns-in-Err-BadJournal-clause-any_moment g c words f r is told restored start =
@@ -70,8 +77,8 @@ returns-in-Err-OutOfMemory-clause-answer g c words is needs no_batch no_check ne
     let S = g.S.Store in
     let O = g.O.Sink in
     let same = c.in-Err-OutOfMemory.ensures.unchanged_memory (ap Err c.in-Err-OutOfMemory.field-0-is) in
-    early words (S.files c.args.store.now) (S.files c.recover.new.store) (S.may_leave c.args.store.now) (S.may_leave c.recover.new.store) (S.faults c.args.store.now) (S.faults c.recover.new.store) OutOfMemory
-    c.report-in-Err-OutOfMemory.result (O.contents c.args.out.now) (O.contents c.report-in-Err-OutOfMemory.new.out) (O.faults c.args.out.now) (O.faults c.report-in-Err-OutOfMemory.new.out) same.0 same.1 (inl same.0) (λ found image stands. stands) refl c.report-in-Err-OutOfMemory.ensures
+    inl (early words (S.files c.args.store.now) (S.files c.recover.new.store) (S.may_leave c.args.store.now) (S.may_leave c.recover.new.store) (S.faults c.args.store.now) (S.faults c.recover.new.store) OutOfMemory
+    c.report-in-Err-OutOfMemory.result (O.contents c.args.out.now) (O.contents c.report-in-Err-OutOfMemory.new.out) (O.faults c.args.out.now) (O.faults c.report-in-Err-OutOfMemory.new.out) same.0 same.1 (inl same.0) (λ found image stands. stands) refl c.report-in-Err-OutOfMemory.ensures)
 
 pub returns-in-Err-OutOfMemory-clause-any_moment : goal.returns-in-Err-OutOfMemory-clause-any_moment
 returns-in-Err-OutOfMemory-clause-any_moment g c words f r is told restored start =
@@ -86,22 +93,28 @@ returns-in-Ok-clause-batch g c words asks is_batch =
     let O = g.O.Sink in
     let I = g.I.Source in
     let told = S.files c.args.store.now in
-    let left = S.files c.recover.new.store in
+    let found = S.files c.recover.new.store in
+    let left = S.files c.serve.new.store in
     let kept = S.may_leave c.args.store.now in
-    let outcomes = S.may_leave c.recover.new.store in
+    let outcomes = S.may_leave c.serve.new.store in
     let before = S.faults c.args.store.now in
-    let after = S.faults c.recover.new.store in
+    let after = S.faults c.serve.new.store in
     let heard = I.left c.args.input.now in
     let quiet = I.faults c.args.input.now in
     let loud = I.faults c.serve.new.input in
     let says = Hears heard quiet loud in
     let asked = batch_plain words asks in
-    let said = c.serve.ensures.batch is_batch in
-    let recovered = recovers c.in-Ok.field-0 told left c.in-Ok.ensures.answer c.in-Ok.ensures.done c.recover.ensures.others in
-    let closed = c.in-Ok.ensures.after in
-    rw (c.serve.ensures.kept is_batch)
-    (said_so words asked told left kept outcomes before after says recovered closed said.0 c.serve.result (O.contents c.args.out.now) (O.contents c.serve.new.out) (O.faults c.args.out.now) (O.faults c.serve.new.out)
-    (heard_so words told left kept outcomes before after heard quiet loud recovered (stands words asked told left kept outcomes before after says closed) said.0 said.1) said.2)
+    let recovered = recovers c.in-Ok.field-0 told found c.in-Ok.ensures.answer c.in-Ok.ensures.done c.recover.ensures.others in
+    ⊎_elim
+    (λ alone.
+    let here : Recovers told left = subst (Recovers told) (sym alone.same) recovered in
+    let closed : (f r : Image) → told ≡ Some f → Restored f r → StartsRecover f kept → (image : Image) → outcomes image → (IsOpen image → ⊥) × SameFiles image r
+    = λ f r told_is restored start image l. c.in-Ok.ensures.after f r told_is restored start image (alone.fewer image l) in
+    inl (said_so words asked told left kept outcomes before after says here closed alone.said c.serve.result (O.contents c.args.out.now) (O.contents c.serve.new.out) (O.faults c.args.out.now) (O.faults c.serve.new.out)
+    (heard_so words told left kept outcomes before after heard quiet loud here (stands words asked told left kept outcomes before after says closed) alone.said alone.answer.0) alone.answer.1))
+    (λ planned. inr (carried_planned words (AsksAll words heard) told left kept outcomes before after asked.recovery found (S.may_leave c.recover.new.store) (S.faults c.recover.new.store) c.recover.ensures.later recovered c.in-Ok.ensures.after
+    c.serve.result (O.contents c.args.out.now) (O.contents c.serve.new.out) (O.faults c.args.out.now) (O.faults c.serve.new.out) planned))
+    (c.serve.ensures.batch words asks is_batch)
 
 pub returns-in-Err-Failed-clause-batch : goal.returns-in-Err-Failed-clause-batch
 returns-in-Err-Failed-clause-batch g c words asks is_batch =
@@ -109,13 +122,13 @@ returns-in-Err-Failed-clause-batch g c words asks is_batch =
     let O = g.O.Sink in
     let I = g.I.Source in
     let i = c.args.input.now in
-    failed words (batch_plain words asks) (S.files c.args.store.now) (S.files c.recover.new.store) (S.may_leave c.args.store.now) (S.may_leave c.recover.new.store) (S.faults c.args.store.now) (S.faults c.recover.new.store)
+    inl (failed words (batch_plain words asks) (S.files c.args.store.now) (S.files c.recover.new.store) (S.may_leave c.args.store.now) (S.may_leave c.recover.new.store) (S.faults c.args.store.now) (S.faults c.recover.new.store)
     (Hears (I.left i) (I.faults i) (I.faults i))
     c.write_line.result (O.contents c.args.out.now) (O.contents c.write_line.new.out) (O.faults c.args.out.now) (O.faults c.write_line.new.out) c.recover.ensures.others (c.in-Err-Failed.ensures.failed (ap Err c.in-Err-Failed.field-0-is))
     (λ f r told restored start image l.
     let run = c.recover.ensures.any_moment f r told restored start in
     run.each image (g.met.S.Store.counts_now c.recover.new.store (S.moment c.args.store.now) image run.later l))
-    c.write_line.ensures
+    c.write_line.ensures)
 
 pub returns-in-Err-BadJournal-clause-batch : goal.returns-in-Err-BadJournal-clause-batch
 returns-in-Err-BadJournal-clause-batch g c words asks is_batch =
@@ -124,9 +137,9 @@ returns-in-Err-BadJournal-clause-batch g c words asks is_batch =
     let I = g.I.Source in
     let i = c.args.input.now in
     let same = c.in-Err-BadJournal.ensures.unchanged (ap Err c.in-Err-BadJournal.field-0-is) in
-    journal words (batch_plain words asks) (S.files c.args.store.now) (S.files c.recover.new.store) (S.may_leave c.args.store.now) (S.may_leave c.recover.new.store) (S.faults c.args.store.now) (S.faults c.recover.new.store)
+    inl (journal words (batch_plain words asks) (S.files c.args.store.now) (S.files c.recover.new.store) (S.may_leave c.args.store.now) (S.may_leave c.recover.new.store) (S.faults c.args.store.now) (S.faults c.recover.new.store)
     (Hears (I.left i) (I.faults i) (I.faults i))
-    c.report.result (O.contents c.args.out.now) (O.contents c.report.new.out) (O.faults c.args.out.now) (O.faults c.report.new.out) same.0 same.1 (c.in-Err-BadJournal.ensures.bad (ap Err c.in-Err-BadJournal.field-0-is)) c.report.ensures
+    c.report.result (O.contents c.args.out.now) (O.contents c.report.new.out) (O.faults c.args.out.now) (O.faults c.report.new.out) same.0 same.1 (c.in-Err-BadJournal.ensures.bad (ap Err c.in-Err-BadJournal.field-0-is)) c.report.ensures)
 
 pub returns-in-Err-OutOfMemory-clause-batch : goal.returns-in-Err-OutOfMemory-clause-batch
 returns-in-Err-OutOfMemory-clause-batch g c words asks is_batch =
@@ -135,9 +148,9 @@ returns-in-Err-OutOfMemory-clause-batch g c words asks is_batch =
     let I = g.I.Source in
     let i = c.args.input.now in
     let same = c.in-Err-OutOfMemory.ensures.unchanged_memory (ap Err c.in-Err-OutOfMemory.field-0-is) in
-    no_memory words (batch_plain words asks) (S.files c.args.store.now) (S.files c.recover.new.store) (S.may_leave c.args.store.now) (S.may_leave c.recover.new.store) (S.faults c.args.store.now) (S.faults c.recover.new.store)
+    inl (no_memory words (batch_plain words asks) (S.files c.args.store.now) (S.files c.recover.new.store) (S.may_leave c.args.store.now) (S.may_leave c.recover.new.store) (S.faults c.args.store.now) (S.faults c.recover.new.store)
     (Hears (I.left i) (I.faults i) (I.faults i))
-    c.report-in-Err-OutOfMemory.result (O.contents c.args.out.now) (O.contents c.report-in-Err-OutOfMemory.new.out) (O.faults c.args.out.now) (O.faults c.report-in-Err-OutOfMemory.new.out) same.0 same.1 c.report-in-Err-OutOfMemory.ensures
+    c.report-in-Err-OutOfMemory.result (O.contents c.args.out.now) (O.contents c.report-in-Err-OutOfMemory.new.out) (O.faults c.args.out.now) (O.faults c.report-in-Err-OutOfMemory.new.out) same.0 same.1 c.report-in-Err-OutOfMemory.ensures)
 
 -- ---- a check
 

@@ -1,13 +1,16 @@
-use Rattle.std.proofs.Common.{◌≡◌, ◌⊎◌, ◌∙◌, sym}
+use Rattle.std.proofs.Common.{◌≡◌, ◌⊎◌, ⊎_elim, inl, inr, ◌∙◌, sym}
 use Rattle.std.proofs.lemmas.Option.{none-some}
 use Rattle.jr_request.specs.declared.command.Command.TheVariants.{Batch, Check, Undo}
 use Rattle.jr_top.proofs.BatchAnswers.{batch_plain, exact as batch_answer, no_batch}
 use Rattle.jr_top.proofs.CheckAnswers.{check_plain, exact as check_answer, no_check}
 use Rattle.jr_top.proofs.PlainAnswers.{behind, outcome as plain_outcome, unreadable as plain_unreadable, by_batch, by_check, by_undo}
 use Rattle.jr_top.proofs.UndoAnswers.{no_undo_asked, outcome as undo_outcome, unreadable as undo_unreadable, exact as undo_answer}
+use Rattle.jr_top.proofs.Choosing.{small_never, unserved_never, unplanned_never, never_recovers}
+use Rattle.jr_top.proofs.EngineAnswers.{outcome as planned_outcome, asked_of}
 use Rattle.jr_top.proofs.Exact.{bad_words, needs_no_files, not_served, unreadable, exact}
 use Rattle.jr_top.proofs.Outcomes.{outcome, complete}
 use Rattle.jr_top.specs.Answers.{IsFailure}
+use Rattle.jr_top.specs.Engine.{AsksOne, AsksAll}
 use Rattle.jr_top.specs.Batches.{Hears}
 use Rattle.jr_top.specs.Checking.{Checks}
 use Rattle.jr_top.specs.declared.status.Status.TheVariants.{BadJournal}
@@ -16,16 +19,25 @@ use Rattle.jr_top.proofs.top.refactor.Goals as goal
 pub returns-clause-answer : goal.returns-clause-answer
 returns-clause-answer g c never none other =
     let S = g.S.Store in
-    outcome c.args.words.now (S.files c.args.store.now) (S.files c.perform.new.store) (S.may_leave c.args.store.now) (S.may_leave c.perform.new.store) (S.faults c.args.store.now) (S.faults c.perform.new.store)
-    (g.O.Sink.contents c.args.out.now) (g.O.Sink.contents c.perform.new.out) (g.O.Sink.faults c.args.out.now) (g.O.Sink.faults c.perform.new.out) c.perform.result (c.perform.ensures.answer never none other)
+    ⊎_elim
+    (λ said. inl (outcome c.args.words.now (S.files c.args.store.now) (S.files c.perform.new.store) (S.may_leave c.args.store.now) (S.may_leave c.perform.new.store) (S.faults c.args.store.now) (S.faults c.perform.new.store)
+    (g.O.Sink.contents c.args.out.now) (g.O.Sink.contents c.perform.new.out) (g.O.Sink.faults c.args.out.now) (g.O.Sink.faults c.perform.new.out) c.perform.result said))
+    (λ planned. inr (planned_outcome c.args.words.now (AsksOne c.args.words.now) (S.files c.args.store.now) (S.files c.perform.new.store) (S.may_leave c.args.store.now) (S.may_leave c.perform.new.store) (S.faults c.args.store.now)
+    (S.faults c.perform.new.store) (g.O.Sink.contents c.args.out.now) (g.O.Sink.contents c.perform.new.out) (g.O.Sink.faults c.args.out.now) (g.O.Sink.faults c.perform.new.out) c.perform.result planned))
+    (c.perform.ensures.answer never none other)
 
 pub returns-clause-batch : goal.returns-clause-batch
 returns-clause-batch g c asks =
     let S = g.S.Store in
     let I = g.I.Source in
-    plain_outcome c.args.words.now (batch_plain c.args.words.now asks) (S.files c.args.store.now) (S.files c.perform.new.store) (S.may_leave c.args.store.now) (S.may_leave c.perform.new.store) (S.faults c.args.store.now) (S.faults c.perform.new.store)
-    (Hears (I.left c.args.input.now) (I.faults c.args.input.now) (I.faults c.perform.new.input))
-    (g.O.Sink.contents c.args.out.now) (g.O.Sink.contents c.perform.new.out) (g.O.Sink.faults c.args.out.now) (g.O.Sink.faults c.perform.new.out) (λ never. never) c.perform.result (c.perform.ensures.batch asks)
+    let heard = I.left c.args.input.now in
+    ⊎_elim
+    (λ said. inl (plain_outcome c.args.words.now (batch_plain c.args.words.now asks) (S.files c.args.store.now) (S.files c.perform.new.store) (S.may_leave c.args.store.now) (S.may_leave c.perform.new.store) (S.faults c.args.store.now)
+    (S.faults c.perform.new.store) (Hears heard (I.faults c.args.input.now) (I.faults c.perform.new.input))
+    (g.O.Sink.contents c.args.out.now) (g.O.Sink.contents c.perform.new.out) (g.O.Sink.faults c.args.out.now) (g.O.Sink.faults c.perform.new.out) (λ never. never) c.perform.result said))
+    (λ planned. inr (planned_outcome c.args.words.now (AsksAll c.args.words.now heard) (S.files c.args.store.now) (S.files c.perform.new.store) (S.may_leave c.args.store.now) (S.may_leave c.perform.new.store) (S.faults c.args.store.now)
+    (S.faults c.perform.new.store) (g.O.Sink.contents c.args.out.now) (g.O.Sink.contents c.perform.new.out) (g.O.Sink.faults c.args.out.now) (g.O.Sink.faults c.perform.new.out) c.perform.result planned))
+    (c.perform.ensures.batch asks)
 
 pub returns-clause-check : goal.returns-clause-check
 returns-clause-check g c asks =
@@ -40,9 +52,15 @@ returns-clause-check g c asks =
 pub returns-clause-complete : goal.returns-clause-complete
 returns-clause-complete g c files found told restored file at name bytes asks holds serves =
     let S = g.S.Store in
-    complete c.args.words.now (S.files c.args.store.now) (S.files c.perform.new.store) (S.may_leave c.args.store.now) (S.may_leave c.perform.new.store) (S.faults c.args.store.now) (S.faults c.perform.new.store)
+    ⊎_elim
+    (λ said. complete c.args.words.now (S.files c.args.store.now) (S.files c.perform.new.store) (S.may_leave c.args.store.now) (S.may_leave c.perform.new.store) (S.faults c.args.store.now) (S.faults c.perform.new.store)
     (g.O.Sink.contents c.args.out.now) (g.O.Sink.contents c.perform.new.out) (g.O.Sink.faults c.args.out.now) (g.O.Sink.faults c.perform.new.out)
-    files found told restored file at name bytes asks holds serves c.perform.result (c.perform.ensures.answer (no_batch c.args.words.now file at name asks) (no_check c.args.words.now file at name asks) (no_undo_asked c.args.words.now file at name asks))
+    files found told restored file at name bytes asks holds serves c.perform.result said)
+    (λ planned.
+    let a = asked_of c.args.words.now (AsksOne c.args.words.now) (S.files c.args.store.now) (S.files c.perform.new.store) (S.may_leave c.args.store.now) (S.may_leave c.perform.new.store) (S.faults c.args.store.now)
+    (S.faults c.perform.new.store) (g.O.Sink.contents c.args.out.now) (g.O.Sink.contents c.perform.new.out) (g.O.Sink.faults c.args.out.now) (g.O.Sink.faults c.perform.new.out) c.perform.result planned in
+    absurd (small_never c.args.words.now (S.files c.args.store.now) a.0 files found a.1 file at name bytes told restored a.3 a.4 asks holds serves))
+    (c.perform.ensures.answer (no_batch c.args.words.now file at name asks) (no_check c.args.words.now file at name asks) (no_undo_asked c.args.words.now file at name asks))
 
 pub returns-clause-read_back : goal.returns-clause-read_back
 returns-clause-read_back g c f r h told restored start is =
@@ -51,32 +69,56 @@ returns-clause-read_back g c f r h told restored start is =
     run.each h (g.met.S.Store.counts_now c.perform.new.store (S.moment c.args.store.now) h run.later (g.met.S.Store.reads_now c.perform.new.store h is))
 
 pub returns-clause-exact : goal.returns-clause-exact
-returns-clause-exact g c files found told restored file at name bytes comes_to asks holds renames =
+returns-clause-exact g c files found told restored file at name bytes comes_to asks holds serves renames =
     let S = g.S.Store in
-    exact c.args.words.now (S.files c.args.store.now) (S.files c.perform.new.store) (S.may_leave c.args.store.now) (S.may_leave c.perform.new.store) (S.faults c.args.store.now) (S.faults c.perform.new.store)
+    ⊎_elim
+    (λ said. exact c.args.words.now (S.files c.args.store.now) (S.files c.perform.new.store) (S.may_leave c.args.store.now) (S.may_leave c.perform.new.store) (S.faults c.args.store.now) (S.faults c.perform.new.store)
     (g.O.Sink.contents c.args.out.now) (g.O.Sink.contents c.perform.new.out) (g.O.Sink.faults c.args.out.now) (g.O.Sink.faults c.perform.new.out)
-    files found told restored file at name bytes asks holds c.args.alloc comes_to renames c.perform.result (c.perform.ensures.answer (no_batch c.args.words.now file at name asks) (no_check c.args.words.now file at name asks) (no_undo_asked c.args.words.now file at name asks))
+    files found told restored file at name bytes asks holds c.args.alloc comes_to renames c.perform.result said)
+    (λ planned.
+    let a = asked_of c.args.words.now (AsksOne c.args.words.now) (S.files c.args.store.now) (S.files c.perform.new.store) (S.may_leave c.args.store.now) (S.may_leave c.perform.new.store) (S.faults c.args.store.now)
+    (S.faults c.perform.new.store) (g.O.Sink.contents c.args.out.now) (g.O.Sink.contents c.perform.new.out) (g.O.Sink.faults c.args.out.now) (g.O.Sink.faults c.perform.new.out) c.perform.result planned in
+    absurd (small_never c.args.words.now (S.files c.args.store.now) a.0 files found a.1 file at name bytes told restored a.3 a.4 asks holds serves))
+    (c.perform.ensures.answer (no_batch c.args.words.now file at name asks) (no_check c.args.words.now file at name asks) (no_undo_asked c.args.words.now file at name asks))
 
 pub returns-clause-not_served : goal.returns-clause-not_served
-returns-clause-not_served g c files found told restored some no_batch no_check never_undo none =
+returns-clause-not_served g c files found told restored some none =
     let S = g.S.Store in
-    not_served c.args.words.now (S.files c.args.store.now) (S.files c.perform.new.store) (S.may_leave c.args.store.now) (S.may_leave c.perform.new.store) (S.faults c.args.store.now) (S.faults c.perform.new.store)
+    ⊎_elim
+    (λ said. not_served c.args.words.now (S.files c.args.store.now) (S.files c.perform.new.store) (S.may_leave c.args.store.now) (S.may_leave c.perform.new.store) (S.faults c.args.store.now) (S.faults c.perform.new.store)
     (g.O.Sink.contents c.args.out.now) (g.O.Sink.contents c.perform.new.out) (g.O.Sink.faults c.args.out.now) (g.O.Sink.faults c.perform.new.out)
-    files found told restored none c.perform.result (c.perform.ensures.answer no_batch no_check never_undo) some
+    files found told restored none c.perform.result said some)
+    (λ planned.
+    let a = asked_of c.args.words.now (AsksOne c.args.words.now) (S.files c.args.store.now) (S.files c.perform.new.store) (S.may_leave c.args.store.now) (S.may_leave c.perform.new.store) (S.faults c.args.store.now)
+    (S.faults c.perform.new.store) (g.O.Sink.contents c.args.out.now) (g.O.Sink.contents c.perform.new.out) (g.O.Sink.faults c.args.out.now) (g.O.Sink.faults c.perform.new.out) c.perform.result planned in
+    absurd (unserved_never c.args.words.now a.0 a.1 a.4 none))
+    (c.perform.ensures.answer (λ batch. none (Batch, batch, tt)) (λ check. none (Check, check, tt)) (λ undo. none (Undo, undo, tt)))
 
 pub returns-clause-needs_no_files : goal.returns-clause-needs_no_files
 returns-clause-needs_no_files g c some never =
     let S = g.S.Store in
-    needs_no_files c.args.words.now (S.files c.args.store.now) (S.files c.perform.new.store) (S.may_leave c.args.store.now) (S.may_leave c.perform.new.store) (S.faults c.args.store.now) (S.faults c.perform.new.store)
+    ⊎_elim
+    (λ said. needs_no_files c.args.words.now (S.files c.args.store.now) (S.files c.perform.new.store) (S.may_leave c.args.store.now) (S.may_leave c.perform.new.store) (S.faults c.args.store.now) (S.faults c.perform.new.store)
     (g.O.Sink.contents c.args.out.now) (g.O.Sink.contents c.perform.new.out) (g.O.Sink.faults c.args.out.now) (g.O.Sink.faults c.perform.new.out)
-    c.perform.result (c.perform.ensures.answer (λ batch. never (Batch, batch, tt)) (λ check. never (Check, check, tt)) (λ undo. never (Undo, undo, tt))) some never
+    c.perform.result said some never)
+    (λ planned.
+    let a = asked_of c.args.words.now (AsksOne c.args.words.now) (S.files c.args.store.now) (S.files c.perform.new.store) (S.may_leave c.args.store.now) (S.may_leave c.perform.new.store) (S.faults c.args.store.now)
+    (S.faults c.perform.new.store) (g.O.Sink.contents c.args.out.now) (g.O.Sink.contents c.perform.new.out) (g.O.Sink.faults c.args.out.now) (g.O.Sink.faults c.perform.new.out) c.perform.result planned in
+    absurd (never a.2))
+    (c.perform.ensures.answer (λ batch. never (Batch, batch, tt)) (λ check. never (Check, check, tt)) (λ undo. never (Undo, undo, tt)))
 
 pub returns-clause-bad_words : goal.returns-clause-bad_words
 returns-clause-bad_words g c none =
     let S = g.S.Store in
-    bad_words c.args.words.now (S.files c.args.store.now) (S.files c.perform.new.store) (S.may_leave c.args.store.now) (S.may_leave c.perform.new.store) (S.faults c.args.store.now) (S.faults c.perform.new.store)
+    ⊎_elim
+    (λ said. bad_words c.args.words.now (S.files c.args.store.now) (S.files c.perform.new.store) (S.may_leave c.args.store.now) (S.may_leave c.perform.new.store) (S.faults c.args.store.now) (S.faults c.perform.new.store)
     (g.O.Sink.contents c.args.out.now) (g.O.Sink.contents c.perform.new.out) (g.O.Sink.faults c.args.out.now) (g.O.Sink.faults c.perform.new.out)
-    c.perform.result (c.perform.ensures.answer (λ batch. none-some Batch (sym none ∙ batch)) (λ check. none-some Check (sym none ∙ check)) (λ undo. none-some Undo (sym none ∙ undo))) none
+    c.perform.result said none)
+    (λ planned.
+    let a = asked_of c.args.words.now (AsksOne c.args.words.now) (S.files c.args.store.now) (S.files c.perform.new.store) (S.may_leave c.args.store.now) (S.may_leave c.perform.new.store) (S.faults c.args.store.now)
+    (S.faults c.perform.new.store) (g.O.Sink.contents c.args.out.now) (g.O.Sink.contents c.perform.new.out) (g.O.Sink.faults c.args.out.now) (g.O.Sink.faults c.perform.new.out) c.perform.result planned in
+    absurd (none-some a.2.0 (sym none ∙ a.2.1)))
+    (c.perform.ensures.answer (λ batch. none-some Batch (sym none ∙ batch)) (λ check. none-some Check (sym none ∙ check)) (λ undo. none-some Undo (sym none ∙ undo)))
 
 pub returns-clause-bad_journal : goal.returns-clause-bad_journal
 returns-clause-bad_journal g c files told none asks =
@@ -91,15 +133,24 @@ returns-clause-bad_journal g c files told none asks =
     let fewer = O.faults c.args.out.now in
     let more = O.faults c.perform.new.out in
     by_batch words ((c.perform.result ≡ BadJournal) ⊎ IsFailure (S.faults before) (S.faults after) fewer more c.perform.result) asks
-    (λ batch. plain_unreadable words (batch_plain words batch) (S.files before) (S.files after) (S.may_leave before) (S.may_leave after) (S.faults before) (S.faults after)
-    (Hears (I.left c.args.input.now) (I.faults c.args.input.now) (I.faults c.perform.new.input)) old new fewer more files told none c.perform.result (c.perform.ensures.batch batch))
+    (λ batch. ⊎_elim
+    (λ said. plain_unreadable words (batch_plain words batch) (S.files before) (S.files after) (S.may_leave before) (S.may_leave after) (S.faults before) (S.faults after)
+    (Hears (I.left c.args.input.now) (I.faults c.args.input.now) (I.faults c.perform.new.input)) old new fewer more files told none c.perform.result said)
+    (λ planned.
+    let a = asked_of words (AsksAll words (I.left c.args.input.now)) (S.files before) (S.files after) (S.may_leave before) (S.may_leave after) (S.faults before) (S.faults after) old new fewer more c.perform.result planned in
+    absurd (never_recovers (S.files before) a.0 files told none a.3))
+    (c.perform.ensures.batch batch))
     (λ no_batch. by_check words ((c.perform.result ≡ BadJournal) ⊎ IsFailure (S.faults before) (S.faults after) fewer more c.perform.result) asks
     (λ check. plain_unreadable words (check_plain words check (c.perform.ensures.check check).0) (S.files before) (S.files after) (S.may_leave before) (S.may_leave after) (S.faults before) (S.faults after)
     (Checks (S.files after) (c.perform.ensures.check check).0 (S.faults before) (S.faults after)) old new fewer more files told none c.perform.result (behind (c.perform.ensures.check check)))
     (λ no_check. by_undo words ((c.perform.result ≡ BadJournal) ⊎ IsFailure (S.faults before) (S.faults after) fewer more c.perform.result) asks
     (λ undo. undo_unreadable words (S.files before) (S.files after) (S.may_leave before) (S.may_leave after) (S.faults before) (S.faults after) old new fewer more files told none c.perform.result (c.perform.ensures.undo undo))
-    (λ never_undo. unreadable words (S.files before) (S.files after) (S.may_leave before) (S.may_leave after) (S.faults before) (S.faults after) old new fewer more
-    c.perform.result (c.perform.ensures.answer no_batch no_check never_undo) files told none asks)))
+    (λ never_undo. ⊎_elim
+    (λ said. unreadable words (S.files before) (S.files after) (S.may_leave before) (S.may_leave after) (S.faults before) (S.faults after) old new fewer more c.perform.result said files told none asks)
+    (λ planned.
+    let a = asked_of words (AsksOne words) (S.files before) (S.files after) (S.may_leave before) (S.may_leave after) (S.faults before) (S.faults after) old new fewer more c.perform.result planned in
+    absurd (never_recovers (S.files before) a.0 files told none a.3))
+    (c.perform.ensures.answer no_batch no_check never_undo))))
 
 pub returns-clause-undo : goal.returns-clause-undo
 returns-clause-undo g c asks =
@@ -115,13 +166,19 @@ returns-clause-undo_exact g c files found told restored asks =
     files found told restored c.perform.result (c.perform.ensures.undo asks)
 
 pub returns-clause-batch_exact : goal.returns-clause-batch_exact
-returns-clause-batch_exact g c files found bytes answer told restored asks heard q =
+returns-clause-batch_exact g c files found bytes answer told restored asks heard q unplanned =
     let S = g.S.Store in
     let I = g.I.Source in
-    batch_answer c.args.words.now (S.files c.args.store.now) (S.files c.perform.new.store) (S.may_leave c.args.store.now) (S.may_leave c.perform.new.store) (S.faults c.args.store.now) (S.faults c.perform.new.store)
+    ⊎_elim
+    (λ said. batch_answer c.args.words.now (S.files c.args.store.now) (S.files c.perform.new.store) (S.may_leave c.args.store.now) (S.may_leave c.perform.new.store) (S.faults c.args.store.now) (S.faults c.perform.new.store)
     (I.left c.args.input.now) (I.faults c.args.input.now) (I.faults c.perform.new.input)
     (g.O.Sink.contents c.args.out.now) (g.O.Sink.contents c.perform.new.out) (g.O.Sink.faults c.args.out.now) (g.O.Sink.faults c.perform.new.out)
-    c.args.alloc files found told restored bytes answer heard q c.perform.result (c.perform.ensures.batch asks)
+    c.args.alloc files found told restored bytes answer heard q c.perform.result said)
+    (λ planned.
+    let a = asked_of c.args.words.now (AsksAll c.args.words.now (I.left c.args.input.now)) (S.files c.args.store.now) (S.files c.perform.new.store) (S.may_leave c.args.store.now) (S.may_leave c.perform.new.store) (S.faults c.args.store.now)
+    (S.faults c.perform.new.store) (g.O.Sink.contents c.args.out.now) (g.O.Sink.contents c.perform.new.out) (g.O.Sink.faults c.args.out.now) (g.O.Sink.faults c.perform.new.out) c.perform.result planned in
+    absurd (unplanned_never c.args.words.now (I.left c.args.input.now) a.0 a.1 a.4 c.args.alloc bytes answer heard q unplanned))
+    (c.perform.ensures.batch asks)
 
 pub returns-clause-check_exact : goal.returns-clause-check_exact
 returns-clause-check_exact g c files found told restored asks =

@@ -1,6 +1,5 @@
 use Rattle.std.proofs.Common.{Some, ap, ◌∙◌, inl}
 use Rattle.jr_top.specs.Crash.{StandsForEither}
-use Rattle.jr_top.proofs.BatchAnswers.{settled_here}
 use Rattle.jr_top.proofs.Carried.{weaker}
 use Rattle.jr_top.proofs.Settled.{settled_stands}
 use Rattle.jr_commit.specs.Restoring.{MayBegin}
@@ -8,22 +7,11 @@ use Rattle.jr_commit.proofs.Beginning.{reads_begin}
 use Rattle.jr_top.proofs.Starts.{begun}
 use Rattle.jr_top.proofs.top.serve.Goals as goal
 
-pub returns-in-Batch-clause-any_moment : goal.returns-in-Batch-clause-any_moment
-returns-in-Batch-clause-any_moment g c words f r is told settled =
-    let S = g.S.Store in
-    settled_here S.may_leave S.moment S.left_since words f r c.args.store.now (g.met.S.Store.only_now c.args.store.now) settled
-
 pub returns-in-Check-clause-any_moment : goal.returns-in-Check-clause-any_moment
 returns-in-Check-clause-any_moment g c words f r is told settled =
     let S = g.S.Store in
     weaker S.moment S.left_since c.args.store.now c.check-status.new.store (StandsForEither words r) (S.may_leave c.args.store.now) c.check-status.ensures.any_moment
     (λ image left. inl (settled_stands f r (S.may_leave c.args.store.now) settled image left))
-
-pub returns-in-Batch-clause-next : goal.returns-in-Batch-clause-next
-returns-in-Batch-clause-next g c begins =
-    let S = g.S.Store in
-    let s = c.args.store.now in
-    begun (S.faults s) (S.faults s) (MayBegin (S.files s) (S.may_leave s)) begins c.report.result
 
 pub returns-in-Check-clause-next : goal.returns-in-Check-clause-next
 returns-in-Check-clause-next g c begins =
