@@ -14,7 +14,7 @@ refactor DIR COMMAND ..: changes the Java source below the folder DIR, keeping w
 
   rename FILE OFFSET NAME   gives what is declared or named at the byte offset of the file another name
   move FILE OFFSET PACKAGE  moves the type at the byte offset of the file to the package, `-` for the unnamed one
-  check                     says whether the files compile, and if not, why and where (definite assignment is not tested yet)
+  check                     says whether the files compile, and if not, why and where
   undo                      takes the last change back, where no file of it was edited since
   batch                     does renames and moves, read as JSON from standard input, one after the other, all or none
 
