@@ -1,5 +1,5 @@
 -- From what an input comes to, to the answer to a batch.
-use Rattle.std.proofs.Common.{◌≡◌, ◌⊎◌, inl, inr, ℕ, List, [], Option, Some, Result, Ok, Err, Vec, Global, sym, ap, subst, ◌∙◌, arith}
+use Rattle.std.proofs.Common.{◌≡◌, ◌⊎◌, inl, inr, ℕ, List, [], Option, Some, None, Result, Ok, Err, Vec, Global, sym, ap, subst, ◌∙◌, arith}
 use Rattle.std.proofs.lemmas.Option.{same_Some}
 use Rattle.jr_base.specs.declared.request.Request.{Request}
 use Rattle.jr_batch.specs.Input.{ForInput, IsInputAnswer, LeavesSome}
@@ -33,6 +33,11 @@ untaken bytes left is = (0, omega arith, is)
 -- words that ask for a rename ask for no batch
 pub no_batch : (words : List (List ℕ)) (file : List ℕ) (at : ℕ) (name : List ℕ) → AsksRename words file at name → AsksBatch words → ⊥
 no_batch words file at name asks batch = subst IsRename (same_Some _ _ (sym asks ∙ batch)) tt
+
+-- what follows of the bytes of an input
+pub for_input : (told : Option (List ℕ)) (P Q : List ℕ → Type 0) → ((bytes : List ℕ) → P bytes → Q bytes) → ForInput told P → ForInput told Q
+for_input None P Q each (bytes, here) = (bytes, each bytes here)
+for_input (Some bytes) P Q each here = each bytes here
 
 -- what an input alone comes to
 module _ (heard : Option (List ℕ)) (quiet loud : ℕ) where

@@ -117,7 +117,7 @@ refusal_stands words found image other is stands = stands
 rose_earlier : (before middle after : ℕ) → before ≤ middle → Rose middle after → Rose before after
 rose_earlier before middle after later rose = omega arith
 
-for_told : (told : Option Image) (P : Image → Type 0) → ((f : Image) → told ≡ Some f → P f) → ForTold told P
+pub for_told : (told : Option Image) (P : Image → Type 0) → ((f : Image) → told ≡ Some f → P f) → ForTold told P
 for_told None P each = tt
 for_told (Some f) P each = each f refl
 
@@ -179,6 +179,10 @@ module _ (requests : List Request) (found left : FileMap) (plan : Planned) (plan
           (second (starts_planned r entered (record { shut = settled.shut; same = settled.same; journal = settled.journal; left = λ c l. settled.left c (fewer c l) })))
           (λ c stands. ⊎_elim (λ was. inl (restores_same c f r was settled.same)) (λ now. inr (inr (inr (stands_planned r c settled.same now)))) stands)
 
+pub no_steps : (steps : List SideAt) → length steps ≡ 0 → steps ≡ []
+no_steps [] none = refl
+no_steps (s ∷ steps) none = absurd (omega (arith, none))
+
 next_of : (steps : List SideAt) → steps ≢ [] → (n : ℕ) × (length steps ≡ suc n)
 next_of [] some = absurd (some refl)
 next_of (s ∷ steps) some = (length steps, refl)
@@ -188,7 +192,7 @@ pub plan_of : (requests : List Request) (told : Option Image) (before after : �
     → (found : FileMap) × (left : FileMap) × ForTold told (λ files. HoldsFiles files found) × PlannedAs found requests (Ok left) × IsPlanFor found left plan × (plan.steps ≢ [])
 plan_of requests told before after plan (on_files {found = found} holds (files_differ {left = left} {plan = made} is planned makes some)) =
     let same = same_change plan made is in
-    (found, left, holds, planned, subst (λ (p : Planned). IsPlanFor found left p × (p.steps ≢ [])) (sym same) (makes, some))
+    (found, left, holds, planned, subst (λ (p : Planned). IsPlanFor found left p) (sym same) makes, subst (λ (p : Planned). p.steps ≢ []) (sym same) some)
 plan_of requests told before after plan (on_files holds (files_are_same is planned makes none)) = absurd (changed_no_answer plan _ is)
 plan_of requests told before after plan (on_files holds (is_refused why is planned)) = absurd (changed_no_refusal plan _ _ is)
 plan_of requests told before after plan (on_files holds (memory_is_short is)) = absurd (changed_no_answer plan _ is)

@@ -167,7 +167,7 @@ returns-in-Answer-clause-batch g c words asks is_batch =
     let quiet = I.faults c.args.input.now in
     let loud = I.faults c.decide.new.input in
     ⊎_elim
-    (λ alone. inl (heard_alone told left kept outcomes heard quiet loud status alone.0 c.report.result old new fewer more alone.1 alone.2 c.decide.ensures.files c.decide.ensures.crash c.report.ensures))
+    (λ alone. inl (heard_alone heard quiet loud told left kept outcomes status alone.0 c.report.result old new fewer more alone.1 alone.2 c.decide.ensures.files c.decide.ensures.crash c.report.ensures))
     (λ all.
     inr (reports_answered words (AsksAll words heard) told left kept outcomes before after all.0 (asks, all.1, all.2) c.decide.ensures.files c.decide.ensures.crash status c.report.result old new fewer more all.3 c.report.ensures))
     (chosen_batch c.args.command.now heard quiet loud told before after (Answer status) is_batch c.in-Answer.ensures.decision)

@@ -18,7 +18,7 @@ returns-in-Check-clause-next g c begins =
     let S = g.S.Store in
     let s = c.check-status.new.store in
     begun (S.faults c.args.store.now) (S.faults s) (MayBegin (S.files s) (S.may_leave s))
-    (reads_begin (S.files c.args.store.now) (S.files s) (S.may_leave c.args.store.now) (S.may_leave s) c.check-status.ensures.files c.check-status.ensures.crash begins) c.report-in-Check.result
+    (reads_begin (S.files c.args.store.now) (S.files s) (S.may_leave c.args.store.now) (S.may_leave s) c.check-status.ensures.files c.check-status.ensures.crash begins) c.report.result
 
 pub returns-in-Undo-clause-any_moment : goal.returns-in-Undo-clause-any_moment
 returns-in-Undo-clause-any_moment g c words f r is told settled = c.take_back.ensures.any_moment words f r (is ∙ ap Some c.in-Undo.is) told settled
