@@ -80,6 +80,13 @@ public class Bindings {
     }
 
     static StringBuilder out;
+    // javac wraps the files that it is given.
+    static final Map<URI, Source> SOURCES = new HashMap<>();
+
+    static Source sourceOf(FileObject file) {
+        return file == null ? null : SOURCES.get(file.toUri());
+    }
+
     static Trees trees;
     static final PrintStream PRINTED = new PrintStream(new FileOutputStream(FileDescriptor.out), false);
 
@@ -115,10 +122,10 @@ public class Bindings {
             return "pkg:" + e;
         }
         TreePath p = trees.getPath(e);
-        if (p == null || !(p.getCompilationUnit().getSourceFile() instanceof Source)) {
+        if (p == null || sourceOf(p.getCompilationUnit().getSourceFile()) == null) {
             return e.getKind() == ElementKind.CONSTRUCTOR && trees.getPath(e.getEnclosingElement()) != null ? "dflt/" + target(e.getEnclosingElement()) : "ext:" + e.getEnclosingElement() + "." + e;
         }
-        Source s = (Source) p.getCompilationUnit().getSourceFile();
+        Source s = sourceOf(p.getCompilationUnit().getSourceFile());
         JCTree t = (JCTree) p.getLeaf();
         if (e.getKind() == ElementKind.CONSTRUCTOR) {
             Element c = e.getEnclosingElement();
@@ -148,7 +155,7 @@ public class Bindings {
         Scan(CompilationUnitTree cu, SourcePositions pos) {
             this.cu = cu;
             this.pos = pos;
-            this.source = (Source) cu.getSourceFile();
+            this.source = sourceOf(cu.getSourceFile());
             this.unit = source.number;
         }
 
@@ -381,11 +388,14 @@ public class Bindings {
             boolean wantsRun = words.length > 1 && words[1].equals("run");
             out = new StringBuilder();
             List<Source> sources = new ArrayList<>();
+            SOURCES.clear();
             for (int k = 0; k < Integer.parseInt(words[0]); k++) {
                 String path = line(in);
                 byte[] text = new byte[Integer.parseInt(line(in))];
                 in.readFully(text);
-                sources.add(new Source(path, new String(text, StandardCharsets.UTF_8), k));
+                Source source = new Source(path, new String(text, StandardCharsets.UTF_8), k);
+                sources.add(source);
+                SOURCES.put(source.toUri(), source);
             }
             DiagnosticCollector<JavaFileObject> found = new DiagnosticCollector<>();
             Memory memory = new Memory(files);
@@ -398,13 +408,13 @@ public class Bindings {
                 for (Diagnostic<? extends JavaFileObject> d : found.getDiagnostics()) {
                     if (d.getKind() == Diagnostic.Kind.ERROR) {
                         bad = true;
-                        int unit = d.getSource() instanceof Source ? ((Source) d.getSource()).number : -1;
+                        int unit = sourceOf(d.getSource()) != null ? sourceOf(d.getSource()).number : -1;
                         say("E " + unit + " " + d.getPosition() + " " + d.getMessage(null));
                     }
                 }
                 if (!bad) {
                     for (CompilationUnitTree cu : units) {
-                        say("U " + ((Source) cu.getSourceFile()).number);
+                        say("U " + sourceOf(cu.getSourceFile()).number);
                         new Scan(cu, trees.getSourcePositions()).scan(cu, null);
                     }
                     families(units, task);
