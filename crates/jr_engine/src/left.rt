@@ -19,10 +19,15 @@ pub struct Left {
 }
 
 impl Model for Left {
+    ghost use Rattle.std.specs.Prelude.{ℕ};
+    ghost use Rattle.std.specs.FinMap as map;
+    ghost use Rattle.std.specs.Coded.{coded_ℕ, coded_list};
     ghost use Rattle.jr_base.specs.Files.{FileMap};
     ghost use Rattle.jr_engine.specs.Planning.{IsAccepted};
 
     ghost Value = { FileMap };
+
+    ghost coded = { map.code (coded_list coded_ℕ) (coded_list coded_ℕ) };
 
     ghost view = { λ left. left.files };
 

@@ -14,7 +14,7 @@ use std::alloc::Global;
 // Equal files of their own.
 fn copied(alloc: Global, files: &Files) -> Result<Files, Refused>
     ensures ok { IfOk result (λ copy. copy ≡ files.now) }
-    ensures err { IfErr result (λ refused. (found : FileMap) → RefusedAs found refused.fault) }
+    ensures err { IfErr result (λ refused. RefusedAs files.now refused.fault) }
 {
     match files.copy(alloc) {
         Ok(files) => Ok(files),
@@ -67,8 +67,10 @@ pub fn plan(alloc: Global, files: &Files, request: &Request) -> Result<Files, Re
     ensures { PlannedAs files.now (request.now ∷ []) result }
 {
     let found = opened(alloc, files)?;
-    let left = next(alloc, found, request, 0)?;
-    Ok(left.into_files())
+    match next(alloc, found, request, 0) {
+        Ok(left) => Ok(left.into_files()),
+        Err(refused) => Err(refused),
+    }
 }
 
 /// The files that requests leave, each asked of what the one before has left. They are counted from 1.
@@ -76,5 +78,8 @@ pub fn plan_all(alloc: Global, files: &Files, requests: &[Request]) -> Result<Fi
     ensures { PlannedAs files.now requests.now result }
 {
     let found = opened(alloc, files)?;
-    left_by_all(alloc, found, requests)
+    match left_by_all(alloc, found, requests) {
+        Ok(left) => Ok(left),
+        Err(refused) => Err(refused),
+    }
 }
