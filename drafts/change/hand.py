@@ -19,7 +19,7 @@ def t(title,files,words,line=None,after=None,stdin=None):
         q=os.path.join(D,p); os.makedirs(os.path.dirname(q),exist_ok=True); open(q,'wb').write(x)
     ws=words if isinstance(words,list) else words.split(' ')
     ws=list(ws)
-    if ws[0] in('rename','move') and len(ws)>2 and re.match(r'.+#\d+$',ws[2]):
+    if ws[0] in('rename','move','inline','pullup') and len(ws)>2 and re.match(r'.+#\d+$',ws[2]):
         nm,k=ws[2].rsplit('#',1); ws[2]=str(at(files[ws[1]],nm.encode(),int(k)))
     def sub(m):
         return m.group(1)+':'+str(at(files[m.group(1)],m.group(2).encode(),int(m.group(3))))

@@ -309,6 +309,13 @@ public class Bindings {
                 }
             }.scan(cu, null);
         }
+        for (TypeElement low : all) {
+            for (TypeElement high : all) {
+                if (low != high && types.isSubtype(low.asType(), high.asType())) {
+                    say("S " + target(low) + " " + target(high));
+                }
+            }
+        }
         for (TypeElement c : all) {
             List<ExecutableElement> members = new ArrayList<>();
             for (Element m : elements.getAllMembers(c)) {
@@ -325,12 +332,19 @@ public class Bindings {
                     }
                 }
                 for (ExecutableElement two : members) {
-                    if (one != two && one.getSimpleName().equals(two.getSimpleName()) && types.isSubsignature((ExecutableType) one.asType(), (ExecutableType) two.asType())) {
+                    if (one != two && !hides(one, two, types) && one.getSimpleName().equals(two.getSimpleName()) && types.isSubsignature((ExecutableType) one.asType(), (ExecutableType) two.asType())) {
                         say("F " + target(one) + " " + target(two));
                     }
                 }
             }
         }
+    }
+
+    /** Whether these are static methods of which one may hide the other: javac counts both among the members. */
+    static boolean hides(Element one, Element two, Types types) {
+        TypeMirror here = one.getEnclosingElement().asType();
+        TypeMirror there = two.getEnclosingElement().asType();
+        return one.getModifiers().contains(Modifier.STATIC) && two.getModifiers().contains(Modifier.STATIC) && (types.isSubtype(here, there) || types.isSubtype(there, here));
     }
 
     static void collect(TypeElement c, Types types, List<ExecutableElement> into, Set<Element> seen) {

@@ -1,11 +1,14 @@
-"""Renames and moves of random programs, judged by javac and java.
+"""Renames and moves of random programs, and other requests, judged by javac and java.
 
-  change.py --bin REFACTOR --classes DIR --count N --seed S [--requests K] [--found FILE] [--kept FILE] [--moves SHARE]
+  change.py --bin REFACTOR --classes DIR --count N --seed S [--requests K] [--found FILE] [--kept FILE] [--moves SHARE] [--others KIND,..]
 
 DIR holds Bindings.class, compiled with --add-exports jdk.compiler/com.sun.tools.javac.{tree,code}=ALL-UNNAMED. Each program is made by
 small.py with a Main that prints, is taken where javac compiles it, and gets K random requests.
 An answer `done` is right where the changed program compiles, each name refers to what it referred to, no name but references is touched, and the program
 prints the same. A refusal is wrong where the names of the declaration can be replaced, and nothing else, with the same result. Each trial is a line of --kept.
+With --others the requests are of these kinds (extract, inline, pullup, delete, lift, repackage); an answer `done` is right where the changed program
+compiles and prints the same.
+An import on demand of a package that has no units any more is no error here, as it is none for `refactor`; javac is asked again without it.
 """
 import argparse
 import base64
@@ -186,6 +189,29 @@ def replaced(files, places, name):
     return out
 
 
+def random_run(rng, text):
+    """The offsets of some whole statements of a block, by lines: each statement of these programs has lines of its own."""
+    lines, at, spots = text.split('\n'), 0, []
+    for n, line in enumerate(lines):
+        spots.append((n, at, line))
+        at += len(line) + 1
+    starts = [s for s in spots if re.match(r'    +\S', s[2]) and not re.match(r'\s+(}|case|default)', s[2])]
+    if not starts:
+        return None
+    n, first, line = rng.choice(starts)
+    depth, ends = 0, []
+    for m, at, line in spots[n:n + 12]:
+        for c in re.sub(r'"[^"]*"', '', line):
+            depth += (c == '{') - (c == '}')
+            if depth < 0:
+                break
+        if depth < 0:
+            break
+        if depth == 0:
+            ends.append(at + len(line))
+    return (first + len(lines[n]) - len(lines[n].lstrip()), rng.choice(ends)) if ends else None
+
+
 def naive_rename(old, target, name):
     """The program in which the names of the declaration are replaced and nothing else, or None."""
     decl = next((d for d in old.decls if 'd/%d/%d' % d[:2] == target), None)
@@ -233,6 +259,16 @@ def renamed_path(path, old, new):
     return os.path.join(folder, new + '.java') if base == old + '.java' else path
 
 
+EMPTY = re.compile(r'^E \S+ \S+ package ([\w.]+) does not exist')
+
+
+def without_imports(files, packages):
+    """The files with blanks for imports on demand of these packages."""
+    def blank(m):
+        return ' ' * len(m.group()) if re.sub(r'\s', '', m.group(1)) in packages else m.group()
+    return [(p, re.sub(r'\bimport\s+([\w.\s]+?)\.\s*\*\s*;', blank, t)) for p, t in files]
+
+
 def read_folder(folder):
     out = {}
     for top, _, names in os.walk(folder):
@@ -275,8 +311,29 @@ class Trials:
         with open(self.args.kept, 'a') as f:
             f.write(json.dumps({'files': files, 'words': words, 'line': line, 'note': note}) + '\n')
 
+    def other_request(self, rng, old):
+        """A request of another kind, or None."""
+        files, kind = old.files, rng.choice(self.args.others)
+        if kind == 'repackage':
+            packages = sorted({package_of(t) for _, t in files} - {''})
+            new = rng.choice(packages + ['fresh', 'n.m', 'p', 'a.b', 'p.q.r', 'A'])
+            return (['repackage', rng.choice(packages), new], (kind,)) if packages else None
+        if kind == 'extract':
+            unit = rng.choice([n for n, (p, _) in enumerate(files) if p not in ('Main.java', 'z/Z.java')])
+            run = random_run(rng, files[unit][1])
+            name = rng.choice(['fresh', rng.choice(small.METHODS), rng.choice(small.FIELDS)])
+            return (['extract', files[unit][0], str(run[0]), str(run[1]), name], (kind,)) if run else None
+        wanted = {'inline': ('LOCAL_VARIABLE',), 'pullup': ('METHOD',), 'lift': ('CLASS', 'INTERFACE'), 'delete': ('METHOD', 'FIELD', 'CLASS', 'INTERFACE')}[kind]
+        decls = [d for d in old.decls if d[2] in wanted and d[4] not in ('Main', 'z.Z') and (kind != 'lift' or not is_top(old, d))]
+        if not decls:
+            return None
+        decl = rng.choice(decls)
+        return [kind, files[decl[0]][0], str(decl[1])], (kind,)
+
     def request(self, rng, old):
         files = old.files
+        if self.args.others:
+            return self.other_request(rng, old)
         if rng.random() < self.args.moves:
             tops = [t for t in old.tops if t[0] not in ('Main', 'z.Z')]
             if tops:
@@ -285,7 +342,7 @@ class Trials:
                 package = rng.choice(['p', 'q', 'a', 'p.q', 'fresh', 'n.m', '-', 'z', 'A'])
                 return ['move', files[unit][0], str(decl[1]), package], ('move', top, unit, package, decl)
         pool = sorted({n for _, t in files for _, n in identifiers(t)} - {'System', 'out', 'println', 'String', 'main'})
-        spots = [(n, at, name) for n, (p, t) in enumerate(files) for at, name in identifiers(t) if name not in ('main', 'System', 'out', 'println')]
+        spots = [(n, at, name) for n, (p, t) in enumerate(files) for at, name in identifiers(t) if name not in ('main', 'Main', 'System', 'out', 'println')]
         name = rng.choice(['fresh1', 'Fresh', rng.choice(pool), rng.choice(pool), rng.choice(pool), rng.choice(pool), rng.choice(small.FIELDS + small.TYPES + small.METHODS)])
         refs = {(r[0], r[1]): r[5] for r in old.refs if r[2] != 'ctor'}
         here = {(d[0], d[1]): 'd/%d/%d' % d[:2] for d in old.decls}
@@ -298,7 +355,10 @@ class Trials:
         return ['rename', files[spot[0]][0], str(spot[1]), name], ('rename', target, decl, name)
 
     def trial(self, rng, old):
-        words, what = self.request(rng, old)
+        asked = self.request(rng, old)
+        if asked is None:
+            return
+        words, what = asked
         self.fill(old.files)
         try:
             line, status, err, took = self.refactor(*words)
@@ -307,7 +367,7 @@ class Trials:
             return
         self.counts[words[0] + ' ' + re.sub(r'[\w/.]+\.java:\d+|prelude', 'P', line.strip())] += 1
         self.keep(old.files, words, line, '')
-        if err.strip() or status not in (0, 2, 3, 4, 5, 6, 9, 20) or line.startswith('differs'):
+        if err.strip() or status not in (0, 2, 3, 4, 5, 6, 9, 13, 20) or line.startswith('differs'):
             self.found('answer', old.files, words, line, 'status %d %s' % (status, err[:400]))
             return
         if took > 10:
@@ -322,20 +382,23 @@ class Trials:
                 self.found('refused but files changed', old.files, words, line)
             if what[0] == 'rename':
                 self.refused_rename(old, what, words, line)
-            else:
-                self.refused_move(old, what, words, line)
             return
         changed = len([p for p in set(left) | set(before) if left.get(p) != before.get(p)])
         if line.strip() != 'done, files changed: %d' % changed:
             self.found('count', old.files, words, line, 'changed %d' % changed)
         new_files = sorted(left.items())
         new = Facts(new_files, self.javac.ask(new_files, True))
+        empty = {m.group(1) for m in map(EMPTY.search, new.errors) if m}
+        if empty:
+            self.counts['done with an import on demand of a package without units'] += 1
+            new_files = without_imports(new_files, empty)
+            new = Facts(new_files, self.javac.ask(new_files, True))
         if new.errors:
             self.found('does not compile', old.files, words, line, ' '.join(new.errors[:2]) + '\n' + diff(before, left))
             return
         if what[0] == 'rename':
             self.done_rename(old, new, what, words, line, before, left)
-        else:
+        elif what[0] == 'move':
             self.done_move(old, new, what, words, line, before, left)
         if old.output != new.output and 'late' not in (old.output[0], new.output[0]) and 'StackOverflowError' not in (old.output[0], new.output[0]):
             self.found('prints otherwise', old.files, words, line, '%s / %s\n' % (old.output[0], new.output[0]) + diff(before, left))
@@ -370,7 +433,7 @@ class Trials:
         self.counts['done with other spellings'] += 1
         if not self.same(old, naive, names, paths):
             self.found('respelled without need', old.files, words, line, diff(dict(naive), left))
-        elif name.lower().startswith('fresh'):
+        elif name.lower().startswith('fresh') and not any('import static' in t for _, t in old.files):
             self.found('fresh name but respelled', old.files, words, line, diff(dict(naive), left))
         else:
             self.keep(old.files, words, line, 'respelled\n' + diff(before, left))
@@ -402,6 +465,9 @@ class Trials:
 
     def done_move(self, old, new, what, words, line, before, left):
         names, paths, path = self.names_of_move(old, what)
+        if left == before and package_of(old.files[what[2]][1]) == what[3].replace('-', ''):
+            self.counts['moved to the package where it is'] += 1
+            return
         if path not in left:
             self.found('move without its file', old.files, words, line)
             return
@@ -410,9 +476,6 @@ class Trials:
             self.found('binding', old.files, words, line, why + '\n' + diff(before, left))
         else:
             self.keep(old.files, words, line, 'moved\n' + diff(before, left))
-
-    def refused_move(self, old, what, words, line):
-        pass
 
 
 def diff(before, left):
@@ -447,6 +510,7 @@ def main():
     parser.add_argument('--seed', type=int, default=1)
     parser.add_argument('--requests', type=int, default=8)
     parser.add_argument('--moves', type=float, default=0.25)
+    parser.add_argument('--others', type=lambda words: words.split(','), default=[])
     parser.add_argument('--seconds', type=float, default=1e9)
     parser.add_argument('--found', default='/dev/stdout')
     parser.add_argument('--kept', default='/dev/null')

@@ -58,11 +58,11 @@ fn tell_around(rows: &[Row], facts: &mut [Fact], at: u32) {
 }
 
 // The way out of a jump: to its target, or out of a constructor.
-fn way_at(program: Program, exit: Option<Exit>, at: u32) -> Option<Way> {
+fn way_at(program: &Program, exit: Option<Exit>, at: u32) -> Option<Way> {
     match exit {
         Some(Exit::Break(to)) => Some(Way::Break(to)),
         Some(Exit::Continue(to)) => Some(Way::Continue(to)),
-        None => match program.under.rows.get(at as usize)?.label {
+        None => match program.rows().get(at as usize)?.label {
             Label::Return => {
                 if program.is_in_constructor(at) {
                     Some(Way::Return)
@@ -76,7 +76,7 @@ fn way_at(program: Program, exit: Option<Exit>, at: u32) -> Option<Way> {
 }
 
 // What is known of a row by itself, from what flow knows of it.
-fn fact_at(program: Program, flow: jr_reach::Fact, operand: Operand, at: u32) -> Fact {
+fn fact_at(program: &Program, flow: jr_reach::Fact, operand: Operand, at: u32) -> Fact {
     let mut fact = no_fact();
     fact.truth = flow.truth;
     fact.way = way_at(program, flow.exit, at);
@@ -98,8 +98,8 @@ fn operand_of(operands: &[Operand], at: u32) -> Operand {
 }
 
 /// What is known of each row of a bound program.
-pub fn assign_facts_of(alloc: Global, view: View) -> Result<Vec<Fact>, OutOfMemory> {
-    let under = view.sight.world.under;
+pub fn assign_facts_of(alloc: Global, view: &View) -> Result<Vec<Fact>, OutOfMemory> {
+    let under = &view.sight.world.under;
     let Ok(count) = u32::try_from(under.rows.len()) else {
         return Err(OutOfMemory);
     };
@@ -119,7 +119,7 @@ pub fn assign_facts_of(alloc: Global, view: View) -> Result<Vec<Fact>, OutOfMemo
             Some(known) => *known,
             None => no_flow(),
         };
-        facts.push(fact_at(program, known, operand, at))?;
+        facts.push(fact_at(&program, known, operand, at))?;
         tell_around(under.rows, &mut facts, at);
     }
     Ok(facts)

@@ -16,7 +16,7 @@ use std::alloc::Global;
 /// assigned at an end.
 pub fn assign_faults(
     alloc: Global,
-    view: View,
+    view: &View,
     faults: &mut Vec<Fault>,
 ) -> Result<(), OutOfMemory> {
     let rows = view.sight.world.under.rows;

@@ -8,7 +8,7 @@ use jr_supers::Tabled;
 /// A program under its table, and for each row the member that holds it.
 #[derive(Clone, Copy)]
 pub(crate) struct Program<'a> {
-    pub(crate) under: Tabled<'a>,
+    pub(crate) under: &'a Tabled<'a>,
     pub(crate) members: &'a [u32],
 }
 
@@ -95,11 +95,12 @@ fn is_of_this(rows: &[Row], at: u32) -> bool {
 }
 
 impl<'a> Program<'a> {
-    fn rows(self) -> &'a [Row] {
-        self.under.rows
+    pub(crate) fn rows(&self) -> &'a [Row] {
+        let under = self.under;
+        under.rows
     }
 
-    fn member(self, at: u32) -> u32 {
+    fn member(&self, at: u32) -> u32 {
         match self.members.get(at as usize) {
             Some(member) => *member,
             None => 0,
@@ -107,7 +108,7 @@ impl<'a> Program<'a> {
     }
 
     /// The row stands in a constructor.
-    pub(crate) fn is_in_constructor(self, at: u32) -> bool {
+    pub(crate) fn is_in_constructor(&self, at: u32) -> bool {
         match self.rows().get(self.member(at) as usize) {
             Some(row) => match row.label {
                 Label::Constructor { .. } => true,
@@ -118,7 +119,7 @@ impl<'a> Program<'a> {
     }
 
     // The field is one of the class or instance that is made where the row stands.
-    fn is_made_at(self, field: u32, at: u32) -> bool {
+    fn is_made_at(&self, field: u32, at: u32) -> bool {
         let rows = self.rows();
         let Some(maker) = maker_of(rows, self.member(at)) else {
             return false;
@@ -128,9 +129,10 @@ impl<'a> Program<'a> {
     }
 
     // The variable that the target of an assignment assigns (JLS 16): a local, or a field by its simple name, or by `this.` and it.
-    fn assigned_by(self, target: u32) -> Option<u32> {
-        let rows = self.rows();
-        let variable = self.under.declared(target)?;
+    fn assigned_by(&self, target: u32) -> Option<u32> {
+        let under = self.under;
+        let rows = under.rows;
+        let variable = under.declared(target)?;
         match role_at(rows, variable) {
             Role::Local => Some(variable),
             Role::Field => {
@@ -146,7 +148,7 @@ impl<'a> Program<'a> {
     }
 
     /// The variable that is assigned once the parts of the row are done.
-    pub(crate) fn assigned_at(self, at: u32) -> Option<u32> {
+    pub(crate) fn assigned_at(&self, at: u32) -> Option<u32> {
         let first = at.checked_add(1)?;
         match self.rows().get(at as usize)?.label {
             Label::Assign { .. } => self.assigned_by(bare(self.rows(), first)),
@@ -162,12 +164,13 @@ impl<'a> Program<'a> {
     }
 
     /// The local that the row reads.
-    pub(crate) fn read_at(self, operand: Operand, at: u32) -> Option<u32> {
-        let rows = self.rows();
+    pub(crate) fn read_at(&self, operand: Operand, at: u32) -> Option<u32> {
+        let under = self.under;
+        let rows = under.rows;
         if !is_name(rows, at) || operand == Operand::Target {
             return None;
         }
-        let variable = self.under.declared(at)?;
+        let variable = under.declared(at)?;
         match role_at(rows, variable) {
             Role::Local => Some(variable),
             _ => None,
@@ -175,9 +178,10 @@ impl<'a> Program<'a> {
     }
 
     /// The variable to which the operand of an assignment or step refers.
-    pub(crate) fn variable_at(self, at: u32) -> Option<u32> {
-        let variable = self.under.declared(at)?;
-        match role_at(self.rows(), variable) {
+    pub(crate) fn variable_at(&self, at: u32) -> Option<u32> {
+        let under = self.under;
+        let variable = under.declared(at)?;
+        match role_at(under.rows, variable) {
             Role::Local => Some(variable),
             Role::Parameter => Some(variable),
             Role::Field => Some(variable),

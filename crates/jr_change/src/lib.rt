@@ -6,7 +6,9 @@ mod project;
 mod reason;
 mod spelling;
 
-pub use change::{Change, ChangedUnit, Naming, Segment, UnitSource};
+pub use change::{
+    Added, Change, ChangedUnit, Course, Naming, Raised, RowRange, Segment, Target, UnitSource,
+};
 pub use project::{Locks, NO_ROW, Project};
 pub use reason::{ChangeFault, Reason};
 pub use spelling::{Shape, Spelling, Suffix, TypeName};

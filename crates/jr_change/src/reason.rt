@@ -1,6 +1,6 @@
 // Why a request is none.
 
-use jr_base::OutOfMemory;
+use jr_base::{OutOfMemory, Place};
 use jr_edits::EditFault;
 use std::alloc::{AllocError, AllocFailed};
 
@@ -45,8 +45,10 @@ impl Reason {
 #[derive(Clone, Copy, Debug, PartialEq, Eq)]
 pub enum ChangeFault {
     Bad(Reason),
-    /// Such requests are not served yet.
-    NotServed,
+    /// What is to be removed is used there.
+    StillUsed(Place),
+    /// A body has too many points of flow.
+    TooManyPoints,
     OutOfMemory,
 }
 

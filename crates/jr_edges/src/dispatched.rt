@@ -15,7 +15,12 @@ pub struct Lost {
 }
 
 // A call does not find the copy of what it found. A class or method without a copy is passed.
-fn is_lost(alloc: Global, locked: World, copy: &[u32], before: Found) -> Result<bool, OutOfMemory> {
+fn is_lost(
+    alloc: Global,
+    locked: &World,
+    copy: &[u32],
+    before: Found,
+) -> Result<bool, OutOfMemory> {
     let Some(class) = row_for(copy, before.class) else {
         return Ok(false);
     };
@@ -31,8 +36,8 @@ fn is_lost(alloc: Global, locked: World, copy: &[u32], before: Found) -> Result<
 // The first method of a class of which that holds.
 fn lost_in_class(
     alloc: Global,
-    old: World,
-    locked: World,
+    old: &World,
+    locked: &World,
     copy: &[u32],
     class: u32,
 ) -> Result<Option<Lost>, OutOfMemory> {
@@ -51,12 +56,12 @@ fn lost_in_class(
 /// another method, that edge of the changed program comes after the old one, which is lost too.
 pub fn lost_dispatch(
     alloc: Global,
-    old: Project,
-    locked: Project,
+    old: &Project,
+    locked: &Project,
     locks: &Locks,
 ) -> Result<Option<Lost>, OutOfMemory> {
-    let before = old.view.sight.world;
-    let after = locked.view.sight.world;
+    let before = &old.view.sight.world;
+    let after = &locked.view.sight.world;
     let Ok(count) = u32::try_from(before.under.rows.len()) else {
         return Err(OutOfMemory);
     };

@@ -44,6 +44,20 @@ impl Edits {
         self.text_len
     }
 
+    /// Where what stands at an offset stands in the edited text; what is replaced stands where its replacement ends.
+    pub fn moved(&self, at: u32) -> u32 {
+        let mut added = 0u32;
+        let mut removed = 0u32;
+        for edit in &self.edits {
+            if edit.span.end <= at {
+                let length = u32::try_from(edit.text.bytes().len()).unwrap_or(u32::MAX);
+                added = added.saturating_add(length);
+                removed = removed.saturating_add(edit.span.end.saturating_sub(edit.span.start));
+            }
+        }
+        at.saturating_add(added).saturating_sub(removed)
+    }
+
     /// Adds an edit. Insertions at one place stand in the order of their pushes, before a replacement
     /// that begins there.
     pub fn push(&mut self, span: Span, text: Text) -> Result<(), EditFault>

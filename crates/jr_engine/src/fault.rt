@@ -5,8 +5,20 @@ ghost use Rattle.jr_base.specs.Files.{FileMap};
 
 use jr_base::{DeclId, OccId, OutOfMemory, Path, Place, RuleId, Size};
 use jr_change::Reason;
+use jr_flow::FlowFault;
 use jr_front::FrontFault;
 use std::alloc::{AllocError, AllocFailed};
+
+/// Which kind of flow an edge is.
+#[derive(Clone, Copy, Debug, PartialEq, Eq)]
+pub enum LostKind {
+    /// From a statement or event to one that may come next.
+    Control,
+    /// From a class and a method to the method that a call finds.
+    Dispatch,
+    /// From an assignment of a local to a use of it.
+    DefUse,
+}
 
 /// Why files are not changed.
 #[derive(Clone, Copy, Debug, PartialEq, Eq)]
@@ -21,10 +33,16 @@ pub enum EngineFault {
         place: Place,
         lock: DeclId,
     },
-    /// A call of the method finds another one in the class. Both places are in the old files.
+    /// An edge of flow would be lost or added. Both places are in the old files; of dispatch they are those of a class and of a method.
     LostEdge {
-        class: Place,
-        method: Place,
+        kind: LostKind,
+        first: Place,
+        second: Place,
+        is_old: bool,
+    },
+    /// What is to be removed is used at the place in the old files.
+    StillUsed {
+        place: Place,
     },
     /// The files left would break a rule. The place is in them.
     Broken {
@@ -37,8 +55,6 @@ pub enum EngineFault {
     },
     /// The files left would pass a limit.
     TooLarge(Size),
-    /// Such requests are not served yet.
-    NotServed,
     /// An allocation failed.
     OutOfMemory,
 }
@@ -53,8 +69,13 @@ pub enum StepFault {
         lock: DeclId,
     },
     LostEdge {
-        class: Place,
-        method: Place,
+        kind: LostKind,
+        first: Place,
+        second: Place,
+        is_old: bool,
+    },
+    StillUsed {
+        place: Place,
     },
     Broken {
         rule: RuleId,
@@ -64,7 +85,6 @@ pub enum StepFault {
         place: Place,
     },
     TooLarge(Size),
-    NotServed,
     OutOfMemory,
 }
 
@@ -84,11 +104,21 @@ pub fn told(fault: StepFault) -> EngineFault
     match fault {
         StepFault::BadRequest(reason) => EngineFault::BadRequest(reason),
         StepFault::NoSpelling { occ, place, lock } => EngineFault::NoSpelling { occ, place, lock },
-        StepFault::LostEdge { class, method } => EngineFault::LostEdge { class, method },
+        StepFault::LostEdge {
+            kind,
+            first,
+            second,
+            is_old,
+        } => EngineFault::LostEdge {
+            kind,
+            first,
+            second,
+            is_old,
+        },
+        StepFault::StillUsed { place } => EngineFault::StillUsed { place },
         StepFault::Broken { rule, place } => EngineFault::Broken { rule, place },
         StepFault::Differs { place } => EngineFault::Differs { place },
         StepFault::TooLarge(size) => EngineFault::TooLarge(size),
-        StepFault::NotServed => EngineFault::NotServed,
         StepFault::OutOfMemory => EngineFault::OutOfMemory,
     }
 }
@@ -108,5 +138,14 @@ impl From<AllocError> for StepFault {
 impl<T: Drop> From<AllocFailed<T>> for StepFault {
     fn from(_: AllocFailed<T>) -> Self {
         StepFault::OutOfMemory
+    }
+}
+
+impl From<FlowFault> for StepFault {
+    fn from(fault: FlowFault) -> Self {
+        match fault {
+            FlowFault::TooManyPoints => StepFault::TooLarge(Size::Flow),
+            FlowFault::OutOfMemory => StepFault::OutOfMemory,
+        }
     }
 }

@@ -2,6 +2,8 @@
 #![tactic(auto)]
 
 mod asked;
+mod changes;
+mod edges;
 mod fault;
 mod left;
 mod locked;
@@ -12,5 +14,5 @@ mod tried;
 mod verdicts;
 mod writing;
 
-pub use fault::{EngineFault, Refused};
+pub use fault::{EngineFault, LostKind, Refused};
 pub use planning::{plan, plan_all};

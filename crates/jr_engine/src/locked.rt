@@ -10,9 +10,8 @@ use crate::texts::changed_texts;
 use crate::verdicts::unread;
 use jr_base::{DeclId, NodeAt, NodeId, OccId, OutOfMemory};
 use jr_bind::{Bound, bind_under};
-use jr_change::{Locks, Spelling};
+use jr_change::{Locks, NO_ROW, Spelling};
 use jr_defs::{Program, Referent};
-use jr_edges::lost_dispatch;
 use jr_front::Workspace;
 use jr_index::Index;
 use jr_locks::locks;
@@ -98,11 +97,19 @@ pub fn lock(alloc: Global, asked: Asked) -> Result<Locked, StepFault> {
     }
 }
 
-// Which rows with these origins come from constant expressions.
-fn constant_of(alloc: Global, asked: Asked, origin: &[u32]) -> Result<Vec<bool>, OutOfMemory> {
+// Which rows come from constant expressions; of added ones, which are constant under the locks.
+fn constant_of(alloc: Global, asked: Asked, locked: &Locked) -> Result<Vec<bool>, OutOfMemory> {
+    let old = &asked.old.bound.constants;
+    let new = &locked.program.bound.constants;
     let mut all = Vec::new(alloc);
-    for from in origin {
-        all.push(asked.old.bound.constants.value(*from).is_some())?;
+    let mut row = 0u32;
+    for from in &locked.locks.origin {
+        if *from == NO_ROW {
+            all.push(new.value(row).is_some())?;
+        } else {
+            all.push(old.value(*from).is_some())?;
+        }
+        row = row.saturating_add(1);
     }
     Ok(all)
 }
@@ -135,22 +142,10 @@ fn no_spelling(asked: Asked, locked: &Locked, row: u32) -> StepFault {
 
 /// How each reference of the changed program is to be written.
 pub fn spellings(alloc: Global, asked: Asked, locked: &Locked) -> Result<Vec<Spelling>, StepFault> {
-    let constant = constant_of(alloc, asked, &locked.locks.origin)?;
-    match spell(alloc, project_of(&locked.program), &constant) {
+    let constant = constant_of(alloc, asked, locked)?;
+    match spell(alloc, &project_of(&locked.program), &constant) {
         Ok(all) => Ok(all),
         Err(SpellFault::NoSpelling { row, .. }) => Err(no_spelling(asked, locked, row)),
         Err(SpellFault::OutOfMemory) => Err(StepFault::OutOfMemory),
-    }
-}
-
-/// Calls find in each class the methods that they found there.
-pub fn keeps_edges(alloc: Global, asked: Asked, locked: &Locked) -> Result<(), StepFault> {
-    let old = project_of(asked.old);
-    match lost_dispatch(alloc, old, project_of(&locked.program), &locked.locks)? {
-        Some(lost) => Err(StepFault::LostEdge {
-            class: old.marks.name_place(lost.class),
-            method: old.marks.name_place(lost.method),
-        }),
-        None => Ok(()),
     }
 }

@@ -6,9 +6,11 @@ ghost use Rattle.jr_front.specs.Checking.{CheckedAs};
 ghost use Rattle.jr_engine.specs.Planning.{RefusedAs};
 
 use crate::asked::{Asked, project_of};
+use crate::changes::change_of;
+use crate::edges::{is_within_flow, keeps_edges};
 use crate::fault::{EngineFault, Refused, StepFault, told};
 use crate::left::Left;
-use crate::locked::{keeps_edges, lock, spellings};
+use crate::locked::{lock, spellings};
 use crate::texts::changes_nothing;
 use crate::tried::Spelled;
 use crate::verdicts::no_change;
@@ -17,7 +19,6 @@ use jr_base::{Files, OutOfMemory, Path, Request};
 use jr_change::{Change, ChangedUnit};
 use jr_defs::UnitAt;
 use jr_front::{FrontFault, Workspace};
-use jr_names::change;
 use std::alloc::Global;
 
 // What a change leaves.
@@ -155,6 +156,11 @@ fn left_by(
     }
 }
 
+// The number with which a size of the program found is answered: none before the first request of a list.
+fn first_zero(request: u32) -> u32 {
+    if request == 1 { 0 } else { request }
+}
+
 /// What the request of this number leaves of a program; None where it changes nothing.
 pub fn left_behind(
     alloc: Global,
@@ -164,7 +170,10 @@ pub fn left_behind(
 ) -> Result<Option<Left>, Refused>
     ensures { IfErr result (λ refused. (found : FileMap) → RefusedAs found refused.fault) }
 {
-    match change(alloc, project_of(old), asked) {
+    if let Err(fault) = is_within_flow(alloc, old) {
+        return Err(refused_old(alloc, old, first_zero(request), fault));
+    }
+    match change_of(alloc, &project_of(old), asked) {
         Ok(change) => left_by(alloc, old, asked, &change, request),
         Err(fault) => Err(refused_old(alloc, old, request, no_change(fault))),
     }

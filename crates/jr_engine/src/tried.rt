@@ -19,7 +19,7 @@ pub struct Spelled<'a> {
 /// The program is the changed one with its references written so, and each refers to its lock.
 pub fn is_as_spelled(alloc: Global, spelled: Spelled, new: &Workspace) -> Result<(), StepFault> {
     let locked = project_of(&spelled.locked.program);
-    match first_difference(alloc, locked, spelled.spellings, project_of(new))? {
+    match first_difference(alloc, &locked, spelled.spellings, &project_of(new))? {
         Some(row) => Err(StepFault::Differs {
             place: spelled.asked.place_of(&spelled.locked.locks.origin, row),
         }),

@@ -13,7 +13,8 @@ use jr_rule::Rule;
 pub fn no_change(fault: ChangeFault) -> StepFault {
     match fault {
         ChangeFault::Bad(reason) => StepFault::BadRequest(reason),
-        ChangeFault::NotServed => StepFault::NotServed,
+        ChangeFault::StillUsed(place) => StepFault::StillUsed { place },
+        ChangeFault::TooManyPoints => StepFault::TooLarge(Size::Flow),
         ChangeFault::OutOfMemory => StepFault::OutOfMemory,
     }
 }

@@ -11,10 +11,13 @@ use crate::texts::{Texts, first_twice, written_texts};
 use crate::tried::{Spelled, is_as_spelled};
 use crate::verdicts::{broken, not_compiling, unread};
 use jr_base::{CuId, Files, OutOfMemory, Path, Place, Size};
+use jr_change::Course;
 use jr_defs::Program;
+use jr_edits::Edits;
 use jr_front::{FrontFault, Workspace, open_files, open_program};
+use jr_inline::first_retyped;
 use jr_read::read_units;
-use jr_rule::Rule;
+use jr_rule::{Fault, Rule};
 use jr_weave::respelled;
 use std::alloc::Global;
 
@@ -89,11 +92,52 @@ fn too_large(alloc: Global, spelled: Spelled, files: &Files, size: Size) -> Step
     }
 }
 
+// Where what stands at a place before names are spelled stands behind that.
+fn moved(edits: &[Option<Edits>], place: Place) -> Place {
+    match edits.get(place.cu.0 as usize) {
+        Some(Some(edits)) => Place {
+            cu: place.cu,
+            at: edits.moved(place.at),
+        },
+        _ => place,
+    }
+}
+
+// After an inlining each expression that stays has the type that it had.
+fn keeps_types(spelled: Spelled, edits: &[Option<Edits>]) -> Result<(), StepFault> {
+    let asked = spelled.asked;
+    let locked = spelled.locked;
+    let Course::Inlined { .. } = asked.change.course else {
+        return Ok(());
+    };
+    let old = project_of(asked.old);
+    let new = project_of(&locked.program);
+    match first_retyped(&old, &new, &locked.locks, asked.change) {
+        Some(row) => Err(broken(
+            Rule::TypeChange,
+            moved(
+                edits,
+                new.marks.fault_place(Fault {
+                    row,
+                    rule: Rule::TypeChange,
+                }),
+            ),
+        )),
+        None => Ok(()),
+    }
+}
+
 // The files, if they are a program as it was to be written.
-fn left_as(alloc: Global, spelled: Spelled, files: Files) -> Result<Left, StepFault> {
+fn left_as(
+    alloc: Global,
+    spelled: Spelled,
+    edits: &[Option<Edits>],
+    files: Files,
+) -> Result<Left, StepFault> {
     match open_files(alloc, &files) {
         Ok(program) => {
             is_as_spelled(alloc, spelled, &program)?;
+            keeps_types(spelled, edits)?;
             match Left::of(files, program) {
                 Some(left) => Ok(left),
                 None => Err(spelled.asked.differs()),
@@ -107,10 +151,10 @@ fn left_as(alloc: Global, spelled: Spelled, files: Files) -> Result<Left, StepFa
 /// The files that are left where references are written so, if they may be left.
 pub fn left_of(alloc: Global, spelled: Spelled) -> Result<Left, StepFault> {
     let locked = &spelled.locked.program;
-    let edits = respelled(alloc, project_of(locked), spelled.spellings)?;
+    let edits = respelled(alloc, &project_of(locked), spelled.spellings)?;
     let texts = written_texts(alloc, locked.program.units.as_slice(), &edits)?;
     match first_twice(&texts) {
         Some(unit) => Err(twice(alloc, spelled, &texts, unit)),
-        None => left_as(alloc, spelled, files_of(alloc, texts)?),
+        None => left_as(alloc, spelled, &edits, files_of(alloc, texts)?),
     }
 }

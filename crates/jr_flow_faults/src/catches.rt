@@ -23,15 +23,15 @@ pub(crate) fn is_catch(rows: &[Row], at: u32) -> bool {
 
 /// The catches of a program, by their `try` and class.
 #[derive(Drop)]
-pub(crate) struct Catches {
+pub struct Catches {
     table: Chains,
 }
 
 impl Catches {
     /// The catches of the rows. Those whose class an earlier one of the same `try` catches are faults.
-    pub(crate) fn of(
+    pub fn of(
         alloc: Global,
-        under: Tabled,
+        under: &Tabled,
         supers: &Supers,
         out: &mut Vec<Fault>,
     ) -> Result<Catches, OutOfMemory> {
@@ -52,7 +52,7 @@ impl Catches {
     fn add(
         &mut self,
         alloc: Global,
-        under: Tabled,
+        under: &Tabled,
         supers: &Supers,
         at: u32,
         out: &mut Vec<Fault>,
@@ -78,7 +78,7 @@ impl Catches {
     }
 
     /// The `try` catches the class.
-    pub(crate) fn catches(&self, supers: &Supers, over: u32, class: u32) -> bool {
+    pub fn catches(&self, supers: &Supers, over: u32, class: u32) -> bool {
         has_above(supers, &self.table, over, class)
     }
 }
@@ -157,7 +157,7 @@ impl Arrived {
     }
 
     // The catch is of a checked class that the body cannot throw.
-    fn is_unthrown(&self, under: Tabled, supers: &Supers, roots: Roots, at: u32) -> bool {
+    fn is_unthrown(&self, under: &Tabled, supers: &Supers, roots: Roots, at: u32) -> bool {
         let Some(class) = caught_class(under, at) else {
             return false;
         };
@@ -169,7 +169,7 @@ impl Arrived {
     /// The catches of what is never thrown.
     pub(crate) fn note_unthrown(
         &self,
-        under: Tabled,
+        under: &Tabled,
         supers: &Supers,
         roots: Roots,
         out: &mut Vec<Fault>,

@@ -7,7 +7,7 @@ use jr_tables::Chains;
 
 /// The classes of java.lang by which others are checked.
 #[derive(Clone, Copy)]
-pub(crate) struct Roots {
+pub struct Roots {
     throwable: Option<u32>,
     exception: Option<u32>,
     error: Option<u32>,
@@ -35,7 +35,8 @@ fn is_below(supers: &Supers, rows: &[Row], at: u32, root: Option<u32>) -> bool {
 }
 
 impl Roots {
-    pub(crate) fn of(rows: &[Row]) -> Roots {
+    /// The classes that the prelude declares.
+    pub fn of(rows: &[Row]) -> Roots {
         Roots {
             throwable: prelude_type(rows, b"Throwable"),
             exception: prelude_type(rows, b"Exception"),
@@ -45,7 +46,7 @@ impl Roots {
     }
 
     /// Throwable and what is below it, but for Error and RuntimeException and what is below those.
-    pub(crate) fn is_checked(self, supers: &Supers, rows: &[Row], at: u32) -> bool {
+    pub fn is_checked(self, supers: &Supers, rows: &[Row], at: u32) -> bool {
         is_below(supers, rows, at, self.throwable)
             && !is_below(supers, rows, at, self.error)
             && !is_below(supers, rows, at, self.runtime)

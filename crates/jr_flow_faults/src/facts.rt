@@ -58,8 +58,8 @@ fn tell_around(rows: &[Row], facts: &mut [Fact], at: u32) {
 }
 
 /// What is known of each row of a bound program.
-pub fn facts_of(alloc: Global, view: View) -> Result<Vec<Fact>, OutOfMemory> {
-    let under = view.sight.world.under;
+pub fn facts_of(alloc: Global, view: &View) -> Result<Vec<Fact>, OutOfMemory> {
+    let under = &view.sight.world.under;
     let Ok(count) = u32::try_from(under.rows.len()) else {
         return Err(OutOfMemory);
     };

@@ -34,7 +34,7 @@ pub(crate) fn guard_at(rows: &[Row], at: u32) -> Guard {
 }
 
 /// The row is a `try`.
-pub(crate) fn is_try(rows: &[Row], at: u32) -> bool {
+pub fn is_try(rows: &[Row], at: u32) -> bool {
     match guard_at(rows, at) {
         Guard::Try => true,
         _ => false,
@@ -54,10 +54,10 @@ pub(crate) fn loses(facts: &[Fact], all: &[Entry], rows: &[Row], at: u32) -> boo
 
 /// What is known of the rows before, and of statements.
 #[derive(Clone, Copy)]
-pub(crate) struct Around<'a> {
-    pub(crate) rows: &'a [Row],
-    pub(crate) facts: &'a [Fact],
-    pub(crate) all: &'a [Entry],
+pub struct Around<'a> {
+    pub rows: &'a [Row],
+    pub facts: &'a [Fact],
+    pub all: &'a [Entry],
 }
 
 fn guard_in(known: &[Option<u32>], at: u32) -> Option<u32> {
@@ -69,7 +69,7 @@ fn guard_in(known: &[Option<u32>], at: u32) -> Option<u32> {
 
 impl<'a> Around<'a> {
     // The row is the block of the `finally` of a `try`.
-    fn is_last(self, over: u32, at: u32) -> bool {
+    fn is_last(&self, over: u32, at: u32) -> bool {
         match self.facts.get(over as usize) {
             Some(fact) => fact.last == Some(at),
             None => false,
@@ -77,7 +77,7 @@ impl<'a> Around<'a> {
     }
 
     // In a `try` its body is guarded by it; what a catch throws is lost where the `finally` cannot complete.
-    fn guard_in_try(self, known: &[Option<u32>], over: u32, at: u32) -> Option<u32> {
+    fn guard_in_try(&self, known: &[Option<u32>], over: u32, at: u32) -> Option<u32> {
         if at == over.saturating_add(1) {
             return Some(over);
         }
@@ -88,7 +88,7 @@ impl<'a> Around<'a> {
     }
 
     // What meets first what is thrown at a row; nothing where it is lost.
-    fn guard_of(self, known: &[Option<u32>], at: u32) -> Option<u32> {
+    fn guard_of(&self, known: &[Option<u32>], at: u32) -> Option<u32> {
         let over = parent_at(self.rows, at);
         match guard_at(self.rows, over) {
             Guard::Try => self.guard_in_try(known, over, at),
@@ -98,7 +98,7 @@ impl<'a> Around<'a> {
     }
 
     /// For each row what meets first what is thrown there.
-    pub(crate) fn guards(self, alloc: Global) -> Result<Vec<Option<u32>>, OutOfMemory> {
+    pub fn guards(&self, alloc: Global) -> Result<Vec<Option<u32>>, OutOfMemory> {
         let Ok(count) = u32::try_from(self.rows.len()) else {
             return Err(OutOfMemory);
         };
@@ -111,7 +111,7 @@ impl<'a> Around<'a> {
     }
 
     /// What meets next what the `try` does not catch.
-    pub(crate) fn next_guard(self, guards: &[Option<u32>], at: u32) -> Option<u32> {
+    pub fn next_guard(&self, guards: &[Option<u32>], at: u32) -> Option<u32> {
         if loses(self.facts, self.all, self.rows, at) {
             return None;
         }
@@ -120,6 +120,6 @@ impl<'a> Around<'a> {
 }
 
 /// What meets first what is thrown at a row.
-pub(crate) fn first_guard(guards: &[Option<u32>], at: u32) -> Option<u32> {
+pub fn first_guard(guards: &[Option<u32>], at: u32) -> Option<u32> {
     guard_in(guards, at)
 }

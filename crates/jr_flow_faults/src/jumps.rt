@@ -97,7 +97,7 @@ fn continue_to(row: Option<u32>) -> Option<Exit> {
 }
 
 /// Where the jump at a row goes to, if it is one and has a target.
-pub(crate) fn exit_at(under: Tabled, targets: &[Targets], at: u32) -> Option<Exit> {
+pub(crate) fn exit_at(under: &Tabled, targets: &[Targets], at: u32) -> Option<Exit> {
     let row = under.rows.get(at as usize)?;
     match row.label {
         Label::Break { has_label: true } => break_to(under.declared(at)),

@@ -9,5 +9,9 @@ mod jumps;
 mod throwing;
 mod thrown;
 
+pub use catches::Catches;
+pub use classes::Roots;
 pub use facts::facts_of;
+pub use guards::{Around, first_guard, is_try};
 pub use throwing::flow_faults;
+pub use thrown::thrown_at;

@@ -15,8 +15,8 @@ use std::alloc::Global;
 // What is read to follow what is thrown.
 #[derive(Clone, Copy)]
 struct Reading<'a> {
-    view: View<'a>,
-    around: Around<'a>,
+    view: &'a View<'a>,
+    around: &'a Around<'a>,
     guards: &'a [Option<u32>],
     catches: &'a Catches,
     roots: Roots,
@@ -31,44 +31,47 @@ enum End {
 }
 
 impl<'a> Reading<'a> {
-    fn supers(self) -> &'a Supers {
-        self.view.sight.world.supers
+    fn supers(&self) -> &'a Supers {
+        let view = self.view;
+        view.sight.world.supers
     }
 
     // Follows a class from a row outwards: where it is caught or lost, or to its member. Each body on the way throws it.
     fn follow(
-        self,
+        &self,
         alloc: Global,
         arrived: &mut Arrived,
         at: u32,
         class: u32,
     ) -> Result<End, OutOfMemory> {
+        let around = self.around;
         let mut next = first_guard(self.guards, at);
-        for _turn in 0..self.around.rows.len() {
+        for _turn in 0..around.rows.len() {
             let Some(over) = next else {
                 return Ok(End::Caught);
             };
-            if !is_try(self.around.rows, over) {
+            if !is_try(around.rows, over) {
                 return Ok(End::Member(over));
             }
             arrived.add(alloc, self.supers(), over, class)?;
             if self.catches.catches(self.supers(), over, class) {
                 return Ok(End::Caught);
             }
-            next = self.around.next_guard(self.guards, over);
+            next = around.next_guard(self.guards, over);
         }
         Ok(End::Caught)
     }
 
     // A class thrown at a row is neither caught nor declared.
     fn is_uncaught(
-        self,
+        &self,
         alloc: Global,
         arrived: &mut Arrived,
         at: u32,
         class: u32,
     ) -> Result<bool, OutOfMemory> {
-        let under = self.view.sight.world.under;
+        let view = self.view;
+        let under = &view.sight.world.under;
         if !self.roots.is_checked(self.supers(), under.rows, class) {
             return Ok(false);
         }
@@ -80,15 +83,16 @@ impl<'a> Reading<'a> {
 
     // Whether what a row throws is caught or declared.
     fn note_row(
-        self,
+        &self,
         alloc: Global,
         arrived: &mut Arrived,
         at: u32,
         out: &mut Vec<Fault>,
     ) -> Result<(), OutOfMemory> {
-        let under = self.view.sight.world.under;
+        let view = self.view;
+        let under = &view.sight.world.under;
         let mut is_broken = false;
-        for class in thrown_at(alloc, under, self.view.types, at)? {
+        for class in thrown_at(alloc, under, view.types, at)? {
             let is_uncaught = self.is_uncaught(alloc, arrived, at, class)?;
             is_broken = is_broken || is_uncaught;
         }
@@ -101,8 +105,9 @@ impl<'a> Reading<'a> {
         Ok(())
     }
 
-    fn note_all(self, alloc: Global, out: &mut Vec<Fault>) -> Result<(), OutOfMemory> {
-        let under = self.view.sight.world.under;
+    fn note_all(&self, alloc: Global, out: &mut Vec<Fault>) -> Result<(), OutOfMemory> {
+        let view = self.view;
+        let under = &view.sight.world.under;
         let Ok(count) = u32::try_from(under.rows.len()) else {
             return Err(OutOfMemory);
         };
@@ -117,16 +122,16 @@ impl<'a> Reading<'a> {
 // The faults of exceptions.
 fn throw_faults(
     alloc: Global,
-    view: View,
-    around: Around,
+    view: &View,
+    around: &Around,
     out: &mut Vec<Fault>,
 ) -> Result<(), OutOfMemory> {
-    let world = view.sight.world;
+    let world = &view.sight.world;
     let guards = around.guards(alloc)?;
-    let catches = Catches::of(alloc, world.under, world.supers, out)?;
+    let catches = Catches::of(alloc, &world.under, world.supers, out)?;
     let reading = Reading {
-        view,
-        around,
+        view: &*view,
+        around: &*around,
         guards: &guards,
         catches: &catches,
         roots: Roots::of(around.rows),
@@ -135,7 +140,7 @@ fn throw_faults(
 }
 
 /// Adds where the rules on jumps, on reaching and completing, and on checked exceptions are broken.
-pub fn flow_faults(alloc: Global, view: View, out: &mut Vec<Fault>) -> Result<(), OutOfMemory> {
+pub fn flow_faults(alloc: Global, view: &View, out: &mut Vec<Fault>) -> Result<(), OutOfMemory> {
     let rows = view.sight.world.under.rows;
     if rows.len() >= u32::MAX as usize {
         return Err(OutOfMemory);
@@ -149,5 +154,5 @@ pub fn flow_faults(alloc: Global, view: View, out: &mut Vec<Fault>) -> Result<()
         facts: &facts,
         all: &all,
     };
-    throw_faults(alloc, view, around, out)
+    throw_faults(alloc, view, &around, out)
 }

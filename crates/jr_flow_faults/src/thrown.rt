@@ -46,7 +46,7 @@ fn is_thrown_name(rows: &[Row], at: u32) -> bool {
 /// The classes that a method or constructor declares.
 pub(crate) fn declared_classes(
     alloc: Global,
-    under: Tabled,
+    under: &Tabled,
     member: u32,
 ) -> Result<Vec<u32>, OutOfMemory> {
     let mut all = Vec::new(alloc);
@@ -79,7 +79,7 @@ fn thrown_value(
 }
 
 // The classes that what is called declares.
-fn thrown_by_call(alloc: Global, under: Tabled, at: u32) -> Result<Vec<u32>, OutOfMemory> {
+fn thrown_by_call(alloc: Global, under: &Tabled, at: u32) -> Result<Vec<u32>, OutOfMemory> {
     match under.declared(at) {
         Some(member) => declared_classes(alloc, under, member),
         None => Ok(Vec::new(alloc)),
@@ -87,9 +87,9 @@ fn thrown_by_call(alloc: Global, under: Tabled, at: u32) -> Result<Vec<u32>, Out
 }
 
 /// The classes that are thrown at a row, by a throw, a call or a creation.
-pub(crate) fn thrown_at(
+pub fn thrown_at(
     alloc: Global,
-    under: Tabled,
+    under: &Tabled,
     types: &[Option<RowType>],
     at: u32,
 ) -> Result<Vec<u32>, OutOfMemory> {
@@ -107,14 +107,14 @@ pub(crate) fn thrown_at(
 }
 
 /// The class that a catch catches.
-pub(crate) fn caught_class(under: Tabled, at: u32) -> Option<u32> {
+pub(crate) fn caught_class(under: &Tabled, at: u32) -> Option<u32> {
     class_of(under.type_of_declared(at.checked_add(1)?))
 }
 
 // The method or constructor declares the class, or one above it.
 fn declares(
     alloc: Global,
-    under: Tabled,
+    under: &Tabled,
     supers: &Supers,
     member: u32,
     class: u32,
@@ -142,7 +142,7 @@ fn is_constructor(rows: &[Row], at: u32) -> bool {
 // There are constructors in the body, and each of them declares the class, or one above it.
 fn all_declare(
     alloc: Global,
-    under: Tabled,
+    under: &Tabled,
     supers: &Supers,
     body: u32,
     class: u32,
@@ -167,7 +167,7 @@ fn all_declare(
 /// The member lets the class out: a method or constructor that declares it, or an initializer of instances where each constructor does.
 pub(crate) fn lets_out(
     alloc: Global,
-    under: Tabled,
+    under: &Tabled,
     supers: &Supers,
     member: u32,
     class: u32,

@@ -14,7 +14,7 @@ fn is_better(best: (Rule, Place), rule: Rule, place: Place) -> bool {
 }
 
 /// Of the rules that are broken, the first by place, and at one place the one with the least number.
-pub fn first_broken(faults: &[Fault], marks: Marks) -> Option<(Rule, Place)> {
+pub fn first_broken(faults: &[Fault], marks: &Marks) -> Option<(Rule, Place)> {
     let mut first: Option<(Rule, Place)> = None;
     for fault in faults {
         let place = marks.fault_place(*fault);

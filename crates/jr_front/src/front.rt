@@ -29,19 +29,19 @@ use jr_view::View;
 use std::alloc::Global;
 
 // The rules that the program breaks.
-fn faults_of(alloc: Global, marks: Marks, view: View) -> Result<Vec<Fault>, OutOfMemory> {
+fn faults_of(alloc: Global, marks: &Marks, view: &View) -> Result<Vec<Fault>, OutOfMemory> {
     let mut faults = Vec::new(alloc);
     modifier_faults(marks, &mut faults)?;
     member_faults(alloc, view, &mut faults)?;
     name_faults(alloc, view, &mut faults)?;
-    type_faults(alloc, view, &mut faults)?;
+    type_faults(alloc, *view, &mut faults)?;
     flow_faults(alloc, view, &mut faults)?;
     assign_faults(alloc, view, &mut faults)?;
     Ok(faults)
 }
 
 // That no two top-level types have one name, and none that of a package (JLS 7.1, 7.6).
-fn judge_names(alloc: Global, marks: Marks, places: &Places) -> Result<(), FrontFault>
+fn judge_names(alloc: Global, marks: &Marks, places: &Places) -> Result<(), FrontFault>
     ensures { IfErr result IsOfPrograms }
 {
     let mut faults = Vec::new(alloc);
@@ -53,7 +53,7 @@ fn judge_names(alloc: Global, marks: Marks, places: &Places) -> Result<(), Front
 }
 
 // That all names have a declaration.
-fn judge_table(marks: Marks, table: &[Referent]) -> Result<(), FrontFault>
+fn judge_table(marks: &Marks, table: &[Referent]) -> Result<(), FrontFault>
     ensures { IfErr result IsOfPrograms }
 {
     match first_unbound(marks, table) {
@@ -63,7 +63,7 @@ fn judge_table(marks: Marks, table: &[Referent]) -> Result<(), FrontFault>
 }
 
 // That no rule is broken.
-fn judge_rules(alloc: Global, marks: Marks, view: View) -> Result<(), FrontFault>
+fn judge_rules(alloc: Global, marks: &Marks, view: &View) -> Result<(), FrontFault>
     ensures { IfErr result IsOfPrograms }
 {
     let faults = faults_of(alloc, marks, view)?;
@@ -74,7 +74,7 @@ fn judge_rules(alloc: Global, marks: Marks, view: View) -> Result<(), FrontFault
 }
 
 // That the program with this binding compiles.
-fn judge(alloc: Global, marks: Marks, view: View) -> Result<(), FrontFault>
+fn judge(alloc: Global, marks: &Marks, view: &View) -> Result<(), FrontFault>
     ensures { IfErr result IsOfPrograms }
 {
     judge_table(marks, view.sight.world.under.table)?;
@@ -92,7 +92,7 @@ fn judge_paths(program: &Program) -> Result<(), FrontFault>
 }
 
 // The places of rows, where no top-level type has the name of another.
-fn places_of(alloc: Global, marks: Marks) -> Result<Box<Places>, FrontFault>
+fn places_of(alloc: Global, marks: &Marks) -> Result<Box<Places>, FrontFault>
     ensures { IfErr result IsOfPrograms }
 {
     let places = boxed(alloc, Places::of(alloc, marks.rows))?;
@@ -103,7 +103,7 @@ fn places_of(alloc: Global, marks: Marks) -> Result<Box<Places>, FrontFault>
 // The binding, where no type is its own supertype.
 fn bound_of(
     alloc: Global,
-    marks: Marks,
+    marks: &Marks,
     places: &Places,
     scopes: &Scopes,
 ) -> Result<Box<Bound>, FrontFault>
@@ -124,9 +124,9 @@ fn bound_program(
     ensures same { IfOk result (λ workspace. workspace.program ≡ program) }
     ensures err { IfErr result IsOfPrograms }
 {
-    let places = places_of(alloc, Marks::of(&program, &index))?;
+    let places = places_of(alloc, &Marks::of(&program, &index))?;
     let scopes = boxed(alloc, Scopes::of(alloc, index.rows(), &places))?;
-    let bound = bound_of(alloc, Marks::of(&program, &index), &places, &scopes)?;
+    let bound = bound_of(alloc, &Marks::of(&program, &index), &places, &scopes)?;
     Ok(Workspace {
         program,
         index,
@@ -145,7 +145,7 @@ pub fn open_program(alloc: Global, program: Program) -> Result<Workspace, FrontF
     judge_paths(&program)?;
     let index = boxed(alloc, Index::build(alloc, &program))?;
     let workspace = bound_program(alloc, program, index)?;
-    judge(alloc, workspace.marks(), workspace.view())?;
+    judge(alloc, &workspace.marks(), &workspace.view())?;
     Ok(workspace)
 }
 

@@ -119,7 +119,7 @@ fn begin(rows: &[Row], at: u32) -> u32 {
 }
 
 // The modifiers of a declaration are repeated, or are none that it may have.
-fn are_wrong(marks: Marks, tokens: &[Token], at: u32) -> bool {
+fn are_wrong(marks: &Marks, tokens: &[Token], at: u32) -> bool {
     let all = written_at(marks.rows, at);
     if !are_allowed(marks.rows, at, all) || access_count(all) > 1 {
         return true;
@@ -133,7 +133,7 @@ fn are_wrong(marks: Marks, tokens: &[Token], at: u32) -> bool {
 
 // Pushes the declarations among the rows from the first to the end whose modifiers are repeated or not allowed; the tokens are those of their unit.
 fn faults_of_unit(
-    marks: Marks,
+    marks: &Marks,
     tokens: &[Token],
     first: u32,
     end: u32,
@@ -151,7 +151,7 @@ fn faults_of_unit(
 }
 
 /// Pushes the declarations whose modifiers are repeated or not allowed (JLS 8.1.1, 8.3.1, 8.4.3, 8.8.3, 9.1.1, 9.3, 9.4, 9.5).
-pub fn modifier_faults(marks: Marks, out: &mut Vec<Fault>) -> Result<(), OutOfMemory> {
+pub fn modifier_faults(marks: &Marks, out: &mut Vec<Fault>) -> Result<(), OutOfMemory> {
     let mut first = 1;
     for unit in marks.units {
         let end = end_at(marks.rows, first);

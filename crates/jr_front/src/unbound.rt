@@ -38,7 +38,7 @@ fn is_lost(table: &[Referent], at: u32) -> bool {
 }
 
 /// Of the occurrences that have no declaration, or more than one, the first by place (JLS 6.5).
-pub fn first_unbound(marks: Marks, table: &[Referent]) -> Option<Place> {
+pub fn first_unbound(marks: &Marks, table: &[Referent]) -> Option<Place> {
     let rows = marks.rows;
     let mut first = None;
     let Ok(count) = u32::try_from(rows.len()) else {

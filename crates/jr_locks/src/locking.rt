@@ -1,7 +1,7 @@
 // The locks of a changed program.
 
-use crate::agreeing::{Copying, named_anew};
-use crate::moving::{copies_of, table_of};
+use crate::agreeing::{Copying, numbers_of};
+use crate::moving::{Copies, set_added, table_of};
 use crate::origins::origins_of;
 use jr_base::OutOfMemory;
 use jr_change::{Change, Locks};
@@ -14,19 +14,22 @@ fn locks_by(
     alloc: Global,
     old: usize,
     table: &[Referent],
+    change: &Change,
     origin: Vec<u32>,
 ) -> Result<Locks, OutOfMemory> {
-    let copy = copies_of(alloc, &origin, old)?;
-    let table = table_of(alloc, &origin, &copy, table)?;
+    let copies = Copies::of(alloc, &origin, change.inner, old)?;
+    let mut table = table_of(alloc, &origin, &copies, change.raised, table)?;
+    set_added(&mut table, &copies, &change.added);
     Ok(Locks {
         origin,
-        copy,
+        copy: copies.first,
         table,
     })
 }
 
 /// How the rows of the changed program stand to the old ones, and what they must refer to: `table` is what the old rows refer to. None where the
-/// rows are not those that the change says: each copy has the label of its origin, and its identifier or the one that the change gives it.
+/// rows are not those that the change says: each copy has the label of its origin, unless it is turned, and its identifier or the one that the change
+/// gives it.
 pub fn locks(
     alloc: Global,
     old: &[Row],
@@ -34,18 +37,18 @@ pub fn locks(
     change: &Change,
     new: &[Row],
 ) -> Result<Option<Locks>, OutOfMemory> {
-    let Some(origin) = origins_of(alloc, &change.segments, old.len(), new.len())? else {
+    let Some(origins) = origins_of(alloc, &change.segments, old.len(), new.len())? else {
         return Ok(None);
     };
-    let is_anew = named_anew(alloc, &change.naming, old.len())?;
+    let numbers = numbers_of(alloc, &change.namings, old.len())?;
     let copying = Copying {
         old,
-        naming: &change.naming,
-        is_anew: &is_anew,
+        namings: &change.namings,
+        numbers: &numbers,
     };
-    if !copying.are_copies(&origin, new) {
+    if !copying.are_copies(&origins.origin, &origins.is_turned, new) {
         return Ok(None);
     }
-    let locks = locks_by(alloc, old.len(), table, origin)?;
+    let locks = locks_by(alloc, old.len(), table, change, origins.origin)?;
     Ok(Some(locks))
 }

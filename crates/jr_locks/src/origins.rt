@@ -4,18 +4,56 @@ use jr_base::OutOfMemory;
 use jr_change::{NO_ROW, Segment};
 use std::alloc::Global;
 
-fn push_copies(all: &mut Vec<u32>, first: u32, end: u32) -> Result<(), OutOfMemory> {
-    for at in first..end {
-        all.push(at)?;
-    }
-    Ok(())
+/// Where rows come from.
+#[derive(Drop)]
+pub struct Origins {
+    /// The old row of which each row is a copy, or `NO_ROW`.
+    pub origin: Vec<u32>,
+    /// Which rows have another label than the old one.
+    pub is_turned: Vec<bool>,
 }
 
-fn push_glue(all: &mut Vec<u32>, count: u32) -> Result<(), OutOfMemory> {
-    for _turn in 0..count {
-        all.push(NO_ROW)?;
+impl Origins {
+    fn push(&mut self, from: u32, is_turned: bool) -> Result<(), OutOfMemory> {
+        self.origin.push(from)?;
+        self.is_turned.push(is_turned)?;
+        Ok(())
     }
-    Ok(())
+
+    fn push_copies(&mut self, first: u32, end: u32) -> Result<(), OutOfMemory> {
+        for at in first..end {
+            self.push(at, false)?;
+        }
+        Ok(())
+    }
+
+    fn push_glue(&mut self, count: u32) -> Result<(), OutOfMemory> {
+        for _turn in 0..count {
+            self.push(NO_ROW, false)?;
+        }
+        Ok(())
+    }
+
+    // Pushes the rows of a segment, and says whether it can be: its rows are there, and all are at most so many then.
+    fn push_segment(
+        &mut self,
+        segment: Segment,
+        old: usize,
+        most: usize,
+    ) -> Result<bool, OutOfMemory> {
+        let Some(length) = length_of(segment, old) else {
+            return Ok(false);
+        };
+        if length > most.saturating_sub(self.origin.len()) {
+            return Ok(false);
+        }
+        match segment {
+            Segment::Copy { first, end } => self.push_copies(first, end)?,
+            Segment::Turned { row } => self.push(row, true)?,
+            Segment::Glue { count } => self.push_glue(count)?,
+        }
+        Ok(true)
+    }
 }
 
 // How many rows a segment has, unless it copies rows that are not there.
@@ -28,44 +66,28 @@ fn length_of(segment: Segment, old: usize) -> Option<usize> {
                 None
             }
         }
+        Segment::Turned { row } => { if (row as usize) < old { Some(1) } else { None } }
         Segment::Glue { count } => Some(count as usize),
     }
 }
 
-// Pushes the origins of the rows of a segment, and says whether it can be: its rows are there, and all are at most so many then.
-fn push_segment(
-    all: &mut Vec<u32>,
-    segment: Segment,
-    old: usize,
-    most: usize,
-) -> Result<bool, OutOfMemory> {
-    let Some(length) = length_of(segment, old) else {
-        return Ok(false);
-    };
-    if length > most.saturating_sub(all.len()) {
-        return Ok(false);
-    }
-    match segment {
-        Segment::Copy { first, end } => push_copies(all, first, end)?,
-        Segment::Glue { count } => push_glue(all, count)?,
-    }
-    Ok(true)
-}
-
-/// The old row of which each row is a copy, or `NO_ROW`, where the segments are of so many old rows and make so many rows.
+/// The old row of which each row is a copy, where the segments are of so many old rows and make so many rows.
 pub fn origins_of(
     alloc: Global,
     segments: &[Segment],
     old: usize,
     new: usize,
-) -> Result<Option<Vec<u32>>, OutOfMemory> {
-    let mut all = Vec::new(alloc);
+) -> Result<Option<Origins>, OutOfMemory> {
+    let mut all = Origins {
+        origin: Vec::new(alloc),
+        is_turned: Vec::new(alloc),
+    };
     for segment in segments {
-        if !push_segment(&mut all, *segment, old, new)? {
+        if !all.push_segment(*segment, old, new)? {
             return Ok(None);
         }
     }
-    if all.len() == new {
+    if all.origin.len() == new {
         Ok(Some(all))
     } else {
         Ok(None)

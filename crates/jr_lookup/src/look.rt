@@ -23,7 +23,7 @@ fn type_at(types: &[Option<RowType>], at: u32) -> Option<RowType> {
 
 impl<'a> Sight<'a> {
     /// What stands before the dot of a row, in its first child.
-    pub fn left_of(self, types: &[Option<RowType>], place: u32) -> Left {
+    pub fn left_of(&self, types: &[Option<RowType>], place: u32) -> Left {
         let under = self.world.under;
         let Some(child) = under.first_child(place) else {
             return Left::Nothing;
@@ -41,7 +41,7 @@ impl<'a> Sight<'a> {
     }
 
     // The first row where an argument of a call may stand: behind the receiver, or the class that a creation names.
-    fn first_argument(self, place: u32) -> u32 {
+    fn first_argument(&self, place: u32) -> u32 {
         let rows = self.world.under.rows;
         let next = place.saturating_add(1);
         match rows.get(place as usize) {
@@ -61,7 +61,7 @@ impl<'a> Sight<'a> {
 
     // The types of the arguments of a call, if all are known.
     fn arguments(
-        self,
+        &self,
         alloc: Global,
         types: &[Option<RowType>],
         place: u32,
@@ -84,7 +84,7 @@ impl<'a> Sight<'a> {
 
     /// What a method without a receiver refers to: one of the innermost type that has one of the name, else an imported one.
     pub fn method(
-        self,
+        &self,
         alloc: Global,
         place: u32,
         name: u32,
@@ -106,7 +106,7 @@ impl<'a> Sight<'a> {
 
     /// What a method of a receiver refers to.
     pub fn method_of(
-        self,
+        &self,
         alloc: Global,
         place: u32,
         receiver: Receiver,
@@ -130,7 +130,7 @@ impl<'a> Sight<'a> {
 
     // The innermost class round the place that has an inner class as a member gives its objects their enclosing one (JLS 15.9.2).
     fn enclosing_new(
-        self,
+        &self,
         alloc: Global,
         place: u32,
         class: u32,
@@ -150,7 +150,7 @@ impl<'a> Sight<'a> {
 
     /// What a creation of an object of a class refers to: one of its constructors (JLS 15.9.3).
     pub fn creation(
-        self,
+        &self,
         alloc: Global,
         place: u32,
         class: u32,
@@ -177,7 +177,7 @@ impl<'a> Sight<'a> {
     }
 
     // The class whose constructor this(..) or super(..) calls.
-    fn called_class(self, place: u32, which: ThisOrSuper) -> Option<u32> {
+    fn called_class(&self, place: u32, which: ThisOrSuper) -> Option<u32> {
         let around = self.world.under.places.around(place)?;
         match which {
             ThisOrSuper::This => Some(around),
@@ -187,7 +187,7 @@ impl<'a> Sight<'a> {
 
     // What a call of a constructor refers to (JLS 8.8.7.1).
     fn constructor(
-        self,
+        &self,
         alloc: Global,
         place: u32,
         which: ThisOrSuper,
@@ -210,14 +210,14 @@ impl<'a> Sight<'a> {
     }
 
     // The superclass of the innermost class, where that has an instance at the place (JLS 15.11.2).
-    fn super_before(self, place: u32) -> Option<u32> {
+    fn super_before(&self, place: u32) -> Option<u32> {
         let under = self.world.under;
         let around = instance_round(under.rows, under.places, place)?;
         self.world.supers.superclass(around)
     }
 
     // What a field of the superclass refers to.
-    fn super_field(self, alloc: Global, place: u32, name: u32) -> Result<Referent, OutOfMemory> {
+    fn super_field(&self, alloc: Global, place: u32, name: u32) -> Result<Referent, OutOfMemory> {
         match self.super_before(place) {
             Some(over) => {
                 let rows = self.world.named(alloc, MemberKind::Field, over, name)?;
@@ -229,7 +229,7 @@ impl<'a> Sight<'a> {
 
     // What a call refers to, where the types of its arguments are known.
     fn called(
-        self,
+        &self,
         alloc: Global,
         types: &[Option<RowType>],
         place: u32,
@@ -261,7 +261,7 @@ impl<'a> Sight<'a> {
 
     // What a call refers to; where the type of an argument is not known it is not bound.
     fn call(
-        self,
+        &self,
         alloc: Global,
         types: &[Option<RowType>],
         place: u32,
@@ -275,7 +275,7 @@ impl<'a> Sight<'a> {
     }
 
     // The class of a constructor, to which its name refers.
-    fn own_class(self, place: u32) -> Referent {
+    fn own_class(&self, place: u32) -> Referent {
         let rows = self.world.under.rows;
         let body = parent_at(rows, place);
         let class = parent_at(rows, body);
@@ -291,7 +291,7 @@ impl<'a> Sight<'a> {
 
     /// What a row looks for refers to, with this name, given by its number; the types of expressions are those of the rows behind it.
     pub fn look_for(
-        self,
+        &self,
         alloc: Global,
         types: &[Option<RowType>],
         place: u32,
@@ -317,7 +317,7 @@ impl<'a> Sight<'a> {
 
     /// What a row refers to, where all else is as the table says.
     pub fn look(
-        self,
+        &self,
         alloc: Global,
         types: &[Option<RowType>],
         place: u32,

@@ -45,7 +45,7 @@ fn may_be_package(kind: NameKind) -> bool
 
 impl<'a> Sight<'a> {
     /// The class whose members are meant behind the dot; an array has those of Object (JLS 10.7).
-    pub fn receiver(self, left: Left) -> Option<Receiver> {
+    pub fn receiver(&self, left: Left) -> Option<Receiver> {
         match left {
             Left::OfType(class) => Some(Receiver { class, ty: None }),
             Left::Value(ty) => {
@@ -69,7 +69,7 @@ impl<'a> Sight<'a> {
     }
 
     // The fields of the name behind the dot.
-    fn fields_of(self, alloc: Global, left: Left, name: u32) -> Result<Vec<u32>, OutOfMemory> {
+    fn fields_of(&self, alloc: Global, left: Left, name: u32) -> Result<Vec<u32>, OutOfMemory> {
         match self.receiver(left) {
             Some(receiver) => {
                 self.world
@@ -80,7 +80,7 @@ impl<'a> Sight<'a> {
     }
 
     // The member types, or the types of a package, of the name behind the dot.
-    fn types_of(self, alloc: Global, left: Left, name: u32) -> Result<Vec<u32>, OutOfMemory> {
+    fn types_of(&self, alloc: Global, left: Left, name: u32) -> Result<Vec<u32>, OutOfMemory> {
         match left {
             Left::OfType(over) => self.world.named(alloc, MemberKind::Type, over, name),
             Left::Package(Some(package)) => self.scopes.types_of_package(alloc, package, name),
@@ -90,7 +90,7 @@ impl<'a> Sight<'a> {
 
     // A name that may be a field or a type is a field if there is one (JLS 6.5.2).
     fn fields_or_types_of(
-        self,
+        &self,
         alloc: Global,
         left: Left,
         name: u32,
@@ -103,7 +103,7 @@ impl<'a> Sight<'a> {
     }
 
     // The length of an array (JLS 10.7), or nothing.
-    fn length_or_nothing(self, left: Left, name: u32) -> Referent {
+    fn length_or_nothing(&self, left: Left, name: u32) -> Referent {
         match left {
             Left::Value(ty) => {
                 if ty.dims > 0 && name_at(self.world.under.rows, name) == b"length".as_slice() {
@@ -117,7 +117,7 @@ impl<'a> Sight<'a> {
     }
 
     // What a name behind a dot refers to where no declaration is found.
-    fn otherwise(self, left: Left, kind: NameKind, name: u32) -> Referent {
+    fn otherwise(&self, left: Left, kind: NameKind, name: u32) -> Referent {
         if let Left::Package(_) = left {
             return if may_be_package(kind) {
                 Referent::Package
@@ -134,7 +134,7 @@ impl<'a> Sight<'a> {
 
     /// What a name of this kind refers to behind what stands before its dot.
     pub fn qualified(
-        self,
+        &self,
         alloc: Global,
         left: Left,
         kind: NameKind,
@@ -152,7 +152,7 @@ impl<'a> Sight<'a> {
     }
 
     /// What the field of an expression refers to (JLS 15.11.1).
-    pub fn field(self, alloc: Global, left: Left, name: u32) -> Result<Referent, OutOfMemory> {
+    pub fn field(&self, alloc: Global, left: Left, name: u32) -> Result<Referent, OutOfMemory> {
         let found = Candidates {
             rows: self.fields_of(alloc, left, name)?,
             level: None,

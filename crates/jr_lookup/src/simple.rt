@@ -44,12 +44,12 @@ fn is_label(rows: &[Row], at: u32) -> bool
 }
 
 impl<'a> Sight<'a> {
-    fn rows(self) -> &'a [Row] {
+    fn rows(&self) -> &'a [Row] {
         self.world.under.rows
     }
 
     // The locals and parameters of the name that are in scope furthest in. What is declared further in has a larger number.
-    fn locals(self, alloc: Global, place: u32, name: u32) -> Result<Vec<u32>, OutOfMemory> {
+    fn locals(&self, alloc: Global, place: u32, name: u32) -> Result<Vec<u32>, OutOfMemory> {
         let mut over = place;
         for _turn in 0..=place {
             if let Some(local) = self.scopes.local(over, name, place) {
@@ -74,7 +74,7 @@ impl<'a> Sight<'a> {
 
     // The members of the name of the innermost type round the place that has any.
     fn members_around(
-        self,
+        &self,
         alloc: Global,
         kind: MemberKind,
         place: u32,
@@ -100,7 +100,7 @@ impl<'a> Sight<'a> {
 
     /// The innermost type round the place that has a member method of the name (JLS 15.12.1).
     pub fn method_level(
-        self,
+        &self,
         alloc: Global,
         place: u32,
         name: u32,
@@ -123,20 +123,20 @@ impl<'a> Sight<'a> {
     }
 
     /// The unit whose imports hold at the place: in its types, and not in the imports themselves (JLS 6.3).
-    pub fn importing_unit(self, place: u32) -> Option<u32> {
+    pub fn importing_unit(&self, place: u32) -> Option<u32> {
         let top = self.world.under.places.top(place)?;
         self.world.under.places.unit(top)
     }
 
     // What a unit may import without naming it alone: what is public, or not private and of its own package (JLS 7.5.2, 7.5.3).
-    fn can_import(self, unit: u32, at: u32) -> bool {
+    fn can_import(&self, unit: u32, at: u32) -> bool {
         !is_private(self.rows(), at)
             && (is_public(self.rows(), at) || self.world.under.places.is_one_package(unit, at))
     }
 
     // Adds the static members of the name that one static import brings.
     fn add_imported(
-        self,
+        &self,
         alloc: Global,
         all: &mut Vec<u32>,
         kind: MemberKind,
@@ -157,7 +157,7 @@ impl<'a> Sight<'a> {
 
     /// The static members of the name that single static imports bring to a place (JLS 7.5.3).
     pub fn imported(
-        self,
+        &self,
         alloc: Global,
         kind: MemberKind,
         place: u32,
@@ -174,7 +174,7 @@ impl<'a> Sight<'a> {
 
     /// The variables of the name that are visible at the place.
     pub fn variables(
-        self,
+        &self,
         alloc: Global,
         place: u32,
         name: u32,
@@ -198,7 +198,7 @@ impl<'a> Sight<'a> {
 
     // Adds those of some types that a unit may import.
     fn add_importable(
-        self,
+        &self,
         all: &mut Vec<u32>,
         unit: u32,
         types: &[u32],
@@ -212,7 +212,7 @@ impl<'a> Sight<'a> {
     }
 
     // The types of the name that a package, or a type by its members, has for an import on demand.
-    fn demanded(self, alloc: Global, import: u32, name: u32) -> Result<Vec<u32>, OutOfMemory> {
+    fn demanded(&self, alloc: Global, import: u32, name: u32) -> Result<Vec<u32>, OutOfMemory> {
         let under = self.world.under;
         let Some(target) = under.first_child(import) else {
             return Ok(Vec::new(alloc));
@@ -230,7 +230,7 @@ impl<'a> Sight<'a> {
     }
 
     // The types of the name that imports on demand bring, those of java.lang among them.
-    fn on_demand(self, alloc: Global, unit: u32, name: u32) -> Result<Vec<u32>, OutOfMemory> {
+    fn on_demand(&self, alloc: Global, unit: u32, name: u32) -> Result<Vec<u32>, OutOfMemory> {
         let mut all = Vec::new(alloc);
         for import in &self.scopes.imports_on_demand(alloc, unit)? {
             let types = self.demanded(alloc, *import, name)?;
@@ -245,7 +245,7 @@ impl<'a> Sight<'a> {
 
     // The top-level types of the name in the package of the place: those of its own unit, and where the imports leave them those of others.
     fn of_package(
-        self,
+        &self,
         alloc: Global,
         place: u32,
         name: u32,
@@ -265,7 +265,7 @@ impl<'a> Sight<'a> {
     }
 
     // The types of the name that no type round the place has, by imports of one name and by packages.
-    fn types_outside(self, alloc: Global, place: u32, name: u32) -> Result<Vec<u32>, OutOfMemory> {
+    fn types_outside(&self, alloc: Global, place: u32, name: u32) -> Result<Vec<u32>, OutOfMemory> {
         let mut all = self.imported(alloc, MemberKind::Type, place, name)?;
         if let Some(unit) = self.importing_unit(place) {
             for at in &self.imports.single(alloc, unit, name)? {
@@ -280,7 +280,7 @@ impl<'a> Sight<'a> {
 
     /// The member types of the name that types round the place have.
     pub fn types_around(
-        self,
+        &self,
         alloc: Global,
         place: u32,
         name: u32,
@@ -290,7 +290,7 @@ impl<'a> Sight<'a> {
 
     /// The types of the name that are visible at the place, but those that imports on demand bring.
     pub fn types_by_name(
-        self,
+        &self,
         alloc: Global,
         place: u32,
         name: u32,
@@ -306,7 +306,7 @@ impl<'a> Sight<'a> {
     }
 
     /// The types of the name that are visible at the place.
-    pub fn types(self, alloc: Global, place: u32, name: u32) -> Result<Candidates, OutOfMemory> {
+    pub fn types(&self, alloc: Global, place: u32, name: u32) -> Result<Candidates, OutOfMemory> {
         let found = self.types_by_name(alloc, place, name)?;
         if !found.rows.is_empty() {
             return Ok(found);
@@ -321,7 +321,7 @@ impl<'a> Sight<'a> {
     }
 
     /// The labels of the name that are in scope at the place; labels do not shadow one another (JLS 14.7).
-    pub fn labels(self, alloc: Global, place: u32, name: u32) -> Result<Candidates, OutOfMemory> {
+    pub fn labels(&self, alloc: Global, place: u32, name: u32) -> Result<Candidates, OutOfMemory> {
         let mut found = Candidates::none(alloc);
         let mut over = place;
         for _turn in 0..=place {
@@ -341,7 +341,7 @@ impl<'a> Sight<'a> {
 
     // A name that may be a variable or a type is a variable if one is in scope (JLS 6.5.2).
     fn variables_or_types(
-        self,
+        &self,
         alloc: Global,
         place: u32,
         name: u32,
@@ -355,7 +355,7 @@ impl<'a> Sight<'a> {
 
     /// What a simple name of this kind refers to at a place, given by its number.
     pub fn simple(
-        self,
+        &self,
         alloc: Global,
         place: u32,
         kind: NameKind,

@@ -27,7 +27,7 @@ pub struct Left {
 /// The methods that a type has beside each other.
 #[derive(Clone, Copy)]
 pub struct Beside<'a> {
-    pub world: World<'a>,
+    pub world: &'a World<'a>,
     pub thrown: &'a Thrown,
     pub over: u32,
 }
@@ -58,19 +58,21 @@ impl Left {
 
 impl<'a> Beside<'a> {
     // The method is inherited: the type does not declare it.
-    fn is_inherited(self, method: u32) -> bool {
-        declaring_type(self.world.under.rows, method) != Some(self.over)
+    fn is_inherited(&self, method: u32) -> bool {
+        let world = self.world;
+        declaring_type(world.under.rows, method) != Some(self.over)
     }
 
     // The method alone may break a rule below, beside itself.
-    fn is_odd(self, method: u32) -> bool {
-        is_abstract(self.world.under.rows, method)
+    fn is_odd(&self, method: u32) -> bool {
+        let world = self.world;
+        is_abstract(world.under.rows, method)
             || (!is_result_fit(self.world, method, method)
-                || is_narrower(self.world.under.rows, method, method))
+                || is_narrower(world.under.rows, method, method))
     }
 
     // A type below may break a rule at these methods, of one signature.
-    fn is_open(self, group: &[u32]) -> bool {
+    fn is_open(&self, group: &[u32]) -> bool {
         if group.len() > 1 {
             return true;
         }
@@ -83,8 +85,9 @@ impl<'a> Beside<'a> {
     }
 
     // One of the methods is a public one of an instance, and not abstract.
-    fn is_implemented(self, group: &[u32]) -> bool {
-        let rows = self.world.under.rows;
+    fn is_implemented(&self, group: &[u32]) -> bool {
+        let world = self.world;
+        let rows = world.under.rows;
         for method in group {
             if is_public(rows, *method)
                 && (!is_static(rows, *method) && !is_abstract(rows, *method))
@@ -96,10 +99,11 @@ impl<'a> Beside<'a> {
     }
 
     // One of the methods is abstract, and none implements it.
-    fn leaves_some(self, group: &[u32]) -> bool {
+    fn leaves_some(&self, group: &[u32]) -> bool {
+        let world = self.world;
         let lacking = !self.is_implemented(group);
         for method in group {
-            if is_abstract(self.world.under.rows, *method) && lacking {
+            if is_abstract(world.under.rows, *method) && lacking {
                 return true;
             }
         }
@@ -107,7 +111,7 @@ impl<'a> Beside<'a> {
     }
 
     // Of the inherited methods there is one whose result that of the method does not fit.
-    fn disagrees(self, inherited: &[u32], method: u32) -> bool {
+    fn disagrees(&self, inherited: &[u32], method: u32) -> bool {
         for other in inherited {
             if !is_result_fit(self.world, method, *other) {
                 return true;
@@ -117,9 +121,10 @@ impl<'a> Beside<'a> {
     }
 
     // An inherited method that is not abstract disagrees with another.
-    fn has_disagreeing(self, inherited: &[u32]) -> bool {
+    fn has_disagreeing(&self, inherited: &[u32]) -> bool {
+        let world = self.world;
         for method in inherited {
-            if !is_abstract(self.world.under.rows, *method) && self.disagrees(inherited, *method) {
+            if !is_abstract(world.under.rows, *method) && self.disagrees(inherited, *method) {
                 return true;
             }
         }
@@ -127,9 +132,10 @@ impl<'a> Beside<'a> {
     }
 
     // Each of the methods is abstract and inherited, and disagrees with another.
-    fn all_disagree(self, group: &[u32], inherited: &[u32]) -> bool {
+    fn all_disagree(&self, group: &[u32], inherited: &[u32]) -> bool {
+        let world = self.world;
         for method in group {
-            if !is_abstract(self.world.under.rows, *method)
+            if !is_abstract(world.under.rows, *method)
                 || !self.is_inherited(*method)
                 || !self.disagrees(inherited, *method)
             {
@@ -140,8 +146,9 @@ impl<'a> Beside<'a> {
     }
 
     // A method is inherited that is not abstract, beside one of wider access.
-    fn inherits_narrower(self, inherited: &[u32]) -> bool {
-        let rows = self.world.under.rows;
+    fn inherits_narrower(&self, inherited: &[u32]) -> bool {
+        let world = self.world;
+        let rows = world.under.rows;
         for method in inherited {
             if !is_abstract(rows, *method) {
                 for other in inherited {
@@ -155,8 +162,9 @@ impl<'a> Beside<'a> {
     }
 
     // A static method is inherited beside one of an instance.
-    fn inherits_static(self, inherited: &[u32]) -> bool {
-        let rows = self.world.under.rows;
+    fn inherits_static(&self, inherited: &[u32]) -> bool {
+        let world = self.world;
+        let rows = world.under.rows;
         for method in inherited {
             if is_static(rows, *method) {
                 for other in inherited {
@@ -170,9 +178,10 @@ impl<'a> Beside<'a> {
     }
 
     // A method is inherited that is not abstract, and declares more than one beside it allows.
-    fn inherits_throwing(self, inherited: &[u32]) -> bool {
+    fn inherits_throwing(&self, inherited: &[u32]) -> bool {
+        let world = self.world;
         for method in inherited {
-            if !is_abstract(self.world.under.rows, *method) {
+            if !is_abstract(world.under.rows, *method) {
                 for other in inherited {
                     if self.thrown.declares_more(self.world, *method, *other) {
                         return true;
@@ -184,7 +193,7 @@ impl<'a> Beside<'a> {
     }
 
     // The rules that members of one signature break.
-    fn of_group(self, alloc: Global, group: &[u32]) -> Result<Left, OutOfMemory> {
+    fn of_group(&self, alloc: Global, group: &[u32]) -> Result<Left, OutOfMemory> {
         if group.is_empty() || !self.is_open(group) {
             return Ok(Left::NOTHING);
         }
@@ -205,9 +214,10 @@ impl<'a> Beside<'a> {
     }
 
     // The rules that a member breaks which has no signature, since a type in it is not found: nothing is of its signature.
-    fn of_unsigned(self, method: u32) -> Left {
+    fn of_unsigned(&self, method: u32) -> Left {
+        let world = self.world;
         Left {
-            leaves_methods: is_abstract(self.world.under.rows, method),
+            leaves_methods: is_abstract(world.under.rows, method),
             results: true,
             is_open: true,
             ..Left::NOTHING
@@ -215,7 +225,7 @@ impl<'a> Beside<'a> {
     }
 
     // The rules that members break which are sorted by the numbers of their signatures.
-    fn of_sorted(self, alloc: Global, signed: &[(u32, u32)]) -> Result<Left, OutOfMemory> {
+    fn of_sorted(&self, alloc: Global, signed: &[(u32, u32)]) -> Result<Left, OutOfMemory> {
         let mut left = Left::NOTHING;
         let mut group = Vec::new(alloc);
         let mut last = None;
@@ -231,14 +241,12 @@ impl<'a> Beside<'a> {
     }
 
     /// The rules that the methods of a name break, given by its number.
-    pub fn at_name(self, alloc: Global, name: u32) -> Result<Left, OutOfMemory> {
+    pub fn at_name(&self, alloc: Global, name: u32) -> Result<Left, OutOfMemory> {
+        let world = self.world;
         let mut left = Left::NOTHING;
         let mut signed = Vec::new(alloc);
-        for method in &self
-            .world
-            .named(alloc, MemberKind::Method, self.over, name)?
-        {
-            match self.world.members.signatures().number(*method) {
+        for method in &world.named(alloc, MemberKind::Method, self.over, name)? {
+            match world.members.signatures().number(*method) {
                 Some(number) => signed.push((number, *method))?,
                 None => left = left.or(self.of_unsigned(*method)),
             }

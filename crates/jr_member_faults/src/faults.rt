@@ -38,7 +38,7 @@ fn second_rule(role: Role) -> Rule {
 // The rules on what is declared twice that are broken at a row.
 fn declared_faults(
     alloc: Global,
-    world: World,
+    world: &World,
     declared: &mut Declared,
     at: u32,
     out: &mut Vec<Fault>,
@@ -94,9 +94,9 @@ impl<'a> Methods<'a> {
 }
 
 // What the types break by what they inherit, by their rows.
-fn lefts_of(alloc: Global, world: World, thrown: &Thrown) -> Result<Vec<Left>, OutOfMemory> {
+fn lefts_of(alloc: Global, world: &World, thrown: &Thrown) -> Result<Vec<Left>, OutOfMemory> {
     let mut lefts = vec![in alloc; Left::NOTHING; world.under.rows.len()]?;
-    let mut inheriting = Inheriting::new(alloc, world, thrown)?;
+    let mut inheriting = Inheriting::new(alloc, &*world, thrown)?;
     for over in world.supers.order() {
         let left = inheriting.left_by(alloc, *over)?;
         if let Some(place) = lefts.get_mut(*over as usize) {
@@ -127,19 +127,19 @@ fn is_of_members(rows: &[Row], at: u32) -> bool {
 // The rules on members that are broken at a row.
 fn row_faults(
     alloc: Global,
-    view: View,
+    view: &View,
     methods: &mut Methods,
     declared: &mut Declared,
     headers: &mut Headers,
     at: u32,
     out: &mut Vec<Fault>,
 ) -> Result<(), OutOfMemory> {
-    let world = view.sight.world;
+    let world = &view.sight.world;
     let rows = world.under.rows;
     declared_faults(alloc, world, declared, at, out)?;
-    let is_wrong = headers.has_wrong_supertype(world.under, at);
+    let is_wrong = headers.has_wrong_supertype(&world.under, at);
     rule_if(out, is_wrong, at, Rule::Supertypes)?;
-    headers.pass(alloc, world.under, at)?;
+    headers.pass(alloc, &world.under, at)?;
     methods.faults(alloc, at, out)?;
     rule_if(out, stands_wrong(rows, at), at, Rule::Bodies)?;
     let is_static = is_static_there(rows, view.constants, at);
@@ -149,7 +149,7 @@ fn row_faults(
 // The rules that are broken at all rows, where those on what types inherit are known.
 fn all_faults(
     alloc: Global,
-    view: View,
+    view: &View,
     methods: &mut Methods,
     out: &mut Vec<Fault>,
 ) -> Result<(), OutOfMemory> {
@@ -168,8 +168,8 @@ fn all_faults(
 }
 
 /// Adds the rules on members that are broken, as their rows rise: what bodies declare, supertypes, overriding, what types inherit, and bodies.
-pub fn member_faults(alloc: Global, view: View, out: &mut Vec<Fault>) -> Result<(), OutOfMemory> {
-    let world = view.sight.world;
+pub fn member_faults(alloc: Global, view: &View, out: &mut Vec<Fault>) -> Result<(), OutOfMemory> {
+    let world = &view.sight.world;
     let thrown = Thrown::of(alloc, world.under.rows)?;
     let lefts = lefts_of(alloc, world, &thrown)?;
     let uppers = Uppers::new(alloc, world)?;

@@ -22,7 +22,7 @@ impl Headers {
     }
 
     /// A superclass is final, an interface or an inner class, or a superinterface is a class or named before.
-    pub fn has_wrong_supertype(&self, under: Tabled, at: u32) -> bool {
+    pub fn has_wrong_supertype(&self, under: &Tabled, at: u32) -> bool {
         let rows = under.rows;
         let Some(over) = under.declared(at) else {
             return false;
@@ -43,7 +43,7 @@ impl Headers {
     }
 
     /// Adds the row to those so far, if it is a superinterface.
-    pub fn pass(&mut self, alloc: Global, under: Tabled, at: u32) -> Result<(), OutOfMemory> {
+    pub fn pass(&mut self, alloc: Global, under: &Tabled, at: u32) -> Result<(), OutOfMemory> {
         match header_place(under.rows, at) {
             Some(HeaderPlace::Superinterface) => match under.declared(at) {
                 Some(second) => self.superinterfaces.add(

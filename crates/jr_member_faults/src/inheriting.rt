@@ -13,7 +13,7 @@ use std::alloc::Global;
 /// What types inherit, the types that were looked at so far standing above the others.
 #[derive(Drop)]
 pub struct Inheriting<'a> {
-    world: World<'a>,
+    world: &'a World<'a>,
     thrown: &'a Thrown,
     /// The names of methods at which a type below may break a rule too, under the type and 0.
     open: Chains,
@@ -26,7 +26,7 @@ pub struct Inheriting<'a> {
 }
 
 // The abstract methods that classes declare.
-fn abstracts_of(alloc: Global, world: World) -> Result<Chains, OutOfMemory> {
+fn abstracts_of(alloc: Global, world: &World) -> Result<Chains, OutOfMemory> {
     let rows = world.under.rows;
     let Ok(count) = u32::try_from(rows.len()) else {
         return Err(OutOfMemory);
@@ -55,7 +55,7 @@ impl<'a> Inheriting<'a> {
     /// No type was looked at.
     pub fn new(
         alloc: Global,
-        world: World<'a>,
+        world: &'a World<'a>,
         thrown: &'a Thrown,
     ) -> Result<Inheriting<'a>, OutOfMemory> {
         let abstracts = abstracts_of(alloc, world)?;
@@ -86,9 +86,10 @@ impl<'a> Inheriting<'a> {
         names: &mut Vec<u32>,
         over: u32,
     ) -> Result<(), OutOfMemory> {
-        let methods = self.world.members.kind(MemberKind::Method);
+        let world = self.world;
+        let methods = world.members.kind(MemberKind::Method);
         for method in &methods.declared_by(alloc, over)? {
-            self.meet(names, self.world.under.places.name(*method))?;
+            self.meet(names, world.under.places.name(*method))?;
         }
         Ok(())
     }
@@ -100,8 +101,9 @@ impl<'a> Inheriting<'a> {
         names: &mut Vec<u32>,
         from: u32,
     ) -> Result<(), OutOfMemory> {
-        let rows = self.world.under.rows;
-        for over in &self.world.supers.with_above(alloc, rows, from)? {
+        let world = self.world;
+        let rows = world.under.rows;
+        for over in &world.supers.with_above(alloc, rows, from)? {
             self.add_declared(alloc, names, *over)?;
         }
         Ok(())
@@ -116,12 +118,13 @@ impl<'a> Inheriting<'a> {
         over: u32,
         from: u32,
     ) -> Result<(), OutOfMemory> {
-        let rows = self.world.under.rows;
-        if self.world.supers.linked(over) != Some(from) {
+        let world = self.world;
+        let rows = world.under.rows;
+        if world.supers.linked(over) != Some(from) {
             self.add_further(alloc, names, from)?;
         }
         if is_interface(rows, over) && is_class(rows, from) {
-            if let Some(object) = self.world.supers.object() {
+            if let Some(object) = world.supers.object() {
                 self.add_declared(alloc, names, object)?;
             }
         }
@@ -131,13 +134,14 @@ impl<'a> Inheriting<'a> {
     // The names at which a type may break a rule: those of methods that it declares, or that come to it from a further supertype, and those at
     // which its first supertype may. For all others it has the methods of that, and none is added.
     fn names_of(&mut self, alloc: Global, over: u32) -> Result<Vec<u32>, OutOfMemory> {
+        let world = self.world;
         let mut names = Vec::new(alloc);
         self.met.empty()?;
         self.add_declared(alloc, &mut names, over)?;
-        for from in &self.world.supers.direct().rows(alloc, over, 0)? {
+        for from in &world.supers.direct().rows(alloc, over, 0)? {
             self.add_from(alloc, &mut names, over, *from)?;
         }
-        if let Some(up) = self.world.supers.linked(over) {
+        if let Some(up) = world.supers.linked(over) {
             for name in &self.open.rows(alloc, up, 0)? {
                 self.meet(&mut names, *name)?;
             }
@@ -147,7 +151,8 @@ impl<'a> Inheriting<'a> {
 
     // The type stands below a class that declares an abstract method.
     fn is_below_abstract(&self, over: u32) -> bool {
-        let direct = self.world.supers.direct();
+        let world = self.world;
+        let direct = world.supers.direct();
         let mut place = direct.last(over, 0);
         for _turn in 0..direct.len() {
             let Some(here) = place else {
@@ -167,16 +172,18 @@ impl<'a> Inheriting<'a> {
 
     // A call of the abstract method on an object of the class finds an abstract one.
     fn finds_abstract(&self, alloc: Global, class: u32, method: u32) -> Result<bool, OutOfMemory> {
-        match self.world.dispatch(alloc, class, method)? {
-            Some(found) => Ok(is_abstract(self.world.under.rows, found)),
+        let world = self.world;
+        match world.dispatch(alloc, class, method)? {
+            Some(found) => Ok(is_abstract(world.under.rows, found)),
             None => Ok(false),
         }
     }
 
     // An abstract method of a class above the class is found abstract.
     fn leaves_unfound(&self, alloc: Global, class: u32) -> Result<bool, OutOfMemory> {
-        let rows = self.world.under.rows;
-        for over in &self.world.supers.with_above(alloc, rows, class)? {
+        let world = self.world;
+        let rows = world.under.rows;
+        for over in &world.supers.with_above(alloc, rows, class)? {
             if *over != class {
                 for method in &self.abstracts.rows(alloc, *over, 0)? {
                     if self.finds_abstract(alloc, class, *method)? {
@@ -190,11 +197,12 @@ impl<'a> Inheriting<'a> {
 
     // A class that is not abstract leaves a method abstract that it does not have as a member.
     fn leaves_above(&mut self, alloc: Global, over: u32) -> Result<bool, OutOfMemory> {
+        let world = self.world;
         if !self.is_below_abstract(over) {
             return Ok(false);
         }
         let _ = self.below_abstract.add(over);
-        if is_abstract(self.world.under.rows, over) {
+        if is_abstract(world.under.rows, over) {
             return Ok(false);
         }
         self.leaves_unfound(alloc, over)
@@ -202,8 +210,9 @@ impl<'a> Inheriting<'a> {
 
     /// The rules that a type breaks by what it inherits, behind all types above it.
     pub fn left_by(&mut self, alloc: Global, over: u32) -> Result<Left, OutOfMemory> {
+        let world = self.world;
         let beside = Beside {
-            world: self.world,
+            world,
             thrown: self.thrown,
             over,
         };
@@ -222,8 +231,7 @@ impl<'a> Inheriting<'a> {
                 )?;
             }
         }
-        let is_concrete = is_class(self.world.under.rows, over)
-            && !is_abstract(self.world.under.rows, over);
+        let is_concrete = is_class(world.under.rows, over) && !is_abstract(world.under.rows, over);
         let leaves_above = self.leaves_above(alloc, over)?;
         left.leaves_methods = is_concrete && (left.leaves_methods || leaves_above);
         Ok(left)

@@ -21,7 +21,7 @@ pub struct Uppers {
 
 impl Uppers {
     /// The methods by their signatures.
-    pub fn new(alloc: Global, world: World) -> Result<Uppers, OutOfMemory> {
+    pub fn new(alloc: Global, world: &World) -> Result<Uppers, OutOfMemory> {
         let Ok(count) = u32::try_from(world.under.rows.len()) else {
             return Err(OutOfMemory);
         };
@@ -48,7 +48,7 @@ impl Uppers {
     }
 
     // Several methods of the program have the signature.
-    fn is_shared(&self, world: World, method: u32) -> bool {
+    fn is_shared(&self, world: &World, method: u32) -> bool {
         let Some(number) = world.members.signatures().number(method) else {
             return false;
         };
@@ -59,7 +59,7 @@ impl Uppers {
     }
 
     // Looks at the methods of a type.
-    fn enter(&mut self, alloc: Global, world: World, over: u32) -> Result<(), OutOfMemory> {
+    fn enter(&mut self, alloc: Global, world: &World, over: u32) -> Result<(), OutOfMemory> {
         if self.of == Some(over) {
             return Ok(());
         }
@@ -72,7 +72,7 @@ impl Uppers {
     pub fn redefined(
         &mut self,
         alloc: Global,
-        world: World,
+        world: &World,
         method: u32,
     ) -> Result<Vec<u32>, OutOfMemory> {
         let mut all = Vec::new(alloc);
@@ -95,7 +95,7 @@ impl Uppers {
 }
 
 // The static method hides the other, which its type would inherit if it declared nothing.
-fn is_hiding(world: World, method: u32, other: u32) -> bool {
+fn is_hiding(world: &World, method: u32, other: u32) -> bool {
     let rows = world.under.rows;
     match declaring_type(rows, method) {
         Some(over) => match declaring_type(rows, other) {
@@ -107,7 +107,7 @@ fn is_hiding(world: World, method: u32, other: u32) -> bool {
 }
 
 // Of two methods of one signature the first overrides or hides the second.
-fn redefines(alloc: Global, world: World, method: u32, other: u32) -> Result<bool, OutOfMemory> {
+fn redefines(alloc: Global, world: &World, method: u32, other: u32) -> Result<bool, OutOfMemory> {
     if is_static(world.under.rows, method) {
         Ok(is_hiding(world, method, other))
     } else {
@@ -118,13 +118,13 @@ fn redefines(alloc: Global, world: World, method: u32, other: u32) -> Result<boo
 /// How a method differs from those that it overrides or hides.
 #[derive(Clone, Copy)]
 pub struct Redefining<'a> {
-    pub world: World<'a>,
+    pub world: &'a World<'a>,
     pub thrown: &'a Thrown,
 }
 
 impl<'a> Redefining<'a> {
     /// The result does not fit that of one of them.
-    pub fn has_other_result(self, method: u32, redefined: &[u32]) -> bool {
+    pub fn has_other_result(&self, method: u32, redefined: &[u32]) -> bool {
         for other in redefined {
             if !is_result_fit(self.world, method, *other) {
                 return true;
@@ -134,9 +134,10 @@ impl<'a> Redefining<'a> {
     }
 
     /// One of them is of wider access.
-    pub fn is_narrowed(self, method: u32, redefined: &[u32]) -> bool {
+    pub fn is_narrowed(&self, method: u32, redefined: &[u32]) -> bool {
+        let world = self.world;
         for other in redefined {
-            if is_narrower(self.world.under.rows, method, *other) {
+            if is_narrower(world.under.rows, method, *other) {
                 return true;
             }
         }
@@ -144,8 +145,9 @@ impl<'a> Redefining<'a> {
     }
 
     /// A static method hides an instance method, or an instance method overrides a static one.
-    pub fn is_mixed(self, method: u32, redefined: &[u32]) -> bool {
-        let rows = self.world.under.rows;
+    pub fn is_mixed(&self, method: u32, redefined: &[u32]) -> bool {
+        let world = self.world;
+        let rows = world.under.rows;
         for other in redefined {
             if is_static(rows, method) != is_static(rows, *other) {
                 return true;
@@ -155,9 +157,10 @@ impl<'a> Redefining<'a> {
     }
 
     /// One of them is final.
-    pub fn is_over_final(self, redefined: &[u32]) -> bool {
+    pub fn is_over_final(&self, redefined: &[u32]) -> bool {
+        let world = self.world;
         for other in redefined {
-            if written_at(self.world.under.rows, *other).is_final {
+            if written_at(world.under.rows, *other).is_final {
                 return true;
             }
         }
@@ -165,7 +168,7 @@ impl<'a> Redefining<'a> {
     }
 
     /// The method declares a checked class that one of them does not allow.
-    pub fn throws_more(self, method: u32, redefined: &[u32]) -> bool {
+    pub fn throws_more(&self, method: u32, redefined: &[u32]) -> bool {
         for other in redefined {
             if self.thrown.declares_more(self.world, method, *other) {
                 return true;

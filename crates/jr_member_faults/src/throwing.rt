@@ -52,7 +52,7 @@ fn of_prelude(alloc: Global, rows: &[Row], name: &[u8]) -> Result<Vec<u32>, OutO
 }
 
 // One of the types is the class, or stands above it.
-fn is_below(world: World, uppers: &[u32], class: u32) -> bool {
+fn is_below(world: &World, uppers: &[u32], class: u32) -> bool {
     for over in uppers {
         if world.supers.is_at_or_above(world.under.rows, class, *over) {
             return true;
@@ -92,14 +92,14 @@ impl Thrown {
     }
 
     // Throwable and what is below it, but for Error and RuntimeException and what is below those.
-    fn is_checked(&self, world: World, class: u32) -> bool {
+    fn is_checked(&self, world: &World, class: u32) -> bool {
         is_below(world, &self.throwables, class)
             && !is_below(world, &self.errors, class)
             && !is_below(world, &self.runtimes, class)
     }
 
     // The method declares the class or one above it.
-    fn allows(&self, world: World, method: u32, class: u32) -> bool {
+    fn allows(&self, world: &World, method: u32, class: u32) -> bool {
         let mut place = self.names.last(method, 0);
         for _turn in 0..self.names.len() {
             let Some(here) = place else {
@@ -118,7 +118,7 @@ impl Thrown {
     }
 
     // The name is that of a checked class that the method does not allow.
-    fn is_not_allowed(&self, world: World, method: u32, name: u32) -> bool {
+    fn is_not_allowed(&self, world: &World, method: u32, name: u32) -> bool {
         match world.under.declared(name) {
             Some(class) => self.is_checked(world, class) && !self.allows(world, method, class),
             None => false,
@@ -126,7 +126,7 @@ impl Thrown {
     }
 
     /// The first method declares a checked class that the second does not allow.
-    pub fn declares_more(&self, world: World, method: u32, other: u32) -> bool {
+    pub fn declares_more(&self, world: &World, method: u32, other: u32) -> bool {
         let mut place = self.names.last(method, 0);
         for _turn in 0..self.names.len() {
             let Some(here) = place else {

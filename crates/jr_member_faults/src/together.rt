@@ -18,7 +18,7 @@ pub fn is_method(all: &[Row], at: u32) -> bool
 }
 
 /// The result of the first method is that of the second, or a reference subtype of it.
-pub fn is_result_fit(world: World, method: u32, other: u32) -> bool {
+pub fn is_result_fit(world: &World, method: u32, other: u32) -> bool {
     match world.under.type_of_declared(method) {
         Some(first) => match world.under.type_of_declared(other) {
             Some(second) => {

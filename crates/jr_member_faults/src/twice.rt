@@ -57,7 +57,7 @@ fn with_type(lists: &mut Numbering, list: u32, ty: RowType) -> Result<u32, OutOf
 // The number of the parameter types of a constructor, if all are found.
 fn number_parameters(
     lists: &mut Numbering,
-    world: World,
+    world: &World,
     at: u32,
 ) -> Result<Option<u32>, OutOfMemory> {
     let signatures = world.members.signatures();
@@ -94,7 +94,7 @@ impl Declared {
     }
 
     /// The key of what a row declares, if it is a member or constructor.
-    pub fn key(&mut self, world: World, at: u32) -> Result<Option<Key>, OutOfMemory> {
+    pub fn key(&mut self, world: &World, at: u32) -> Result<Option<Key>, OutOfMemory> {
         let rows = world.under.rows;
         match role_at(rows, at) {
             Role::Constructor => {
@@ -153,7 +153,7 @@ impl Declared {
 }
 
 // The key of a member: a method goes by its signature, all else by its name.
-fn member_key(world: World, at: u32) -> Option<Key> {
+fn member_key(world: &World, at: u32) -> Option<Key> {
     let over = declaring_type(world.under.rows, at)?;
     let number = match role_at(world.under.rows, at) {
         Role::Method => world.members.signatures().number(at)?,

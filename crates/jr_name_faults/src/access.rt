@@ -52,7 +52,7 @@ fn is_occurrence(all: &[Row], at: u32) -> bool
 }
 
 // The type of the expression before the dot of a row.
-fn type_before(view: View, at: u32) -> Option<RowType> {
+fn type_before(view: &View, at: u32) -> Option<RowType> {
     let next = at.checked_add(1)?;
     if parent_at(view.sight.world.under.rows, next) != at {
         return None;
@@ -64,7 +64,7 @@ fn type_before(view: View, at: u32) -> Option<RowType> {
 }
 
 // The type through which the members of an expression are reached: a class, or that of Object for an array.
-fn object_before(view: View, at: u32) -> Option<RowType> {
+fn object_before(view: &View, at: u32) -> Option<RowType> {
     let ty = type_before(view, at)?;
     if ty.dims > 0 {
         return Some(class_type(view.sight.world.supers.object()?));
@@ -76,8 +76,8 @@ fn object_before(view: View, at: u32) -> Option<RowType> {
 }
 
 // The declaration is not accessible through what stands before the dot of the row: an expression, or a type.
-fn is_hidden_behind(view: View, row: u32, at: u32) -> bool {
-    let world = view.sight.world;
+fn is_hidden_behind(view: &View, row: u32, at: u32) -> bool {
+    let world = &view.sight.world;
     let object = object_before(view, at);
     let has_type = world.under.named_type(at).is_some();
     if object.is_none() && !has_type {
@@ -88,8 +88,8 @@ fn is_hidden_behind(view: View, row: u32, at: u32) -> bool {
 }
 
 // What the row refers to is not accessible.
-fn is_target_hidden(view: View, at: u32, is_behind: bool) -> bool {
-    let world = view.sight.world;
+fn is_target_hidden(view: &View, at: u32, is_behind: bool) -> bool {
+    let world = &view.sight.world;
     match world.under.declared(at) {
         Some(row) => {
             if is_behind {
@@ -103,7 +103,7 @@ fn is_target_hidden(view: View, at: u32, is_behind: bool) -> bool {
 }
 
 // What stands before the dot is a value of a class, or an array of one, that is not accessible.
-fn is_of_hidden_type(view: View, at: u32) -> bool {
+fn is_of_hidden_type(view: &View, at: u32) -> bool {
     match type_before(view, at) {
         Some(ty) => match ty.element {
             Element::Class(class) => !view.sight.world.is_accessible(class, at, None),
@@ -114,7 +114,7 @@ fn is_of_hidden_type(view: View, at: u32) -> bool {
 }
 
 /// What the row refers to is not accessible, or no member of what stands before its dot is.
-pub fn is_not_accessible(view: View, at: u32) -> bool {
+pub fn is_not_accessible(view: &View, at: u32) -> bool {
     let rows = view.sight.world.under.rows;
     if !is_occurrence(rows, at) {
         return false;

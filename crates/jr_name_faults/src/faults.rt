@@ -52,7 +52,7 @@ fn import_faults(
 // The rules on names that are broken at a row.
 fn row_faults(
     alloc: Global,
-    view: View,
+    view: &View,
     locals: &mut Locals,
     imports: &mut Imports,
     at: u32,
@@ -66,8 +66,8 @@ fn row_faults(
 }
 
 /// Adds the rules on names that are broken, as their rows rise: locals, labels, imports and access.
-pub fn name_faults(alloc: Global, view: View, out: &mut Vec<Fault>) -> Result<(), OutOfMemory> {
-    let world = view.sight.world;
+pub fn name_faults(alloc: Global, view: &View, out: &mut Vec<Fault>) -> Result<(), OutOfMemory> {
+    let world = &view.sight.world;
     let Ok(count) = u32::try_from(world.under.rows.len()) else {
         return Err(OutOfMemory);
     };

@@ -12,7 +12,7 @@ use std::alloc::Global;
 /// What the imports of all units bring by name.
 #[derive(Drop)]
 pub struct Imports<'a> {
-    world: World<'a>,
+    world: &'a World<'a>,
     /// The types that units declare outside any other, under the unit and the name.
     tops: Twins,
     /// The types that imports of single types so far name, under the unit and the name.
@@ -25,7 +25,7 @@ pub struct Imports<'a> {
 
 impl<'a> Imports<'a> {
     /// What the imports bring.
-    pub fn of(alloc: Global, world: World<'a>) -> Result<Imports<'a>, OutOfMemory> {
+    pub fn of(alloc: Global, world: &'a World<'a>) -> Result<Imports<'a>, OutOfMemory> {
         let mut imports = Imports {
             world,
             tops: Twins::new(alloc),
@@ -38,7 +38,8 @@ impl<'a> Imports<'a> {
     }
 
     fn add_rows(&mut self, alloc: Global) -> Result<(), OutOfMemory> {
-        let Ok(count) = u32::try_from(self.world.under.rows.len()) else {
+        let world = self.world;
+        let Ok(count) = u32::try_from(world.under.rows.len()) else {
             return Err(OutOfMemory);
         };
         for at in 0..count {
@@ -50,20 +51,22 @@ impl<'a> Imports<'a> {
 
     // One more row, if it is a type that a unit declares.
     fn add_top(&mut self, alloc: Global, at: u32) -> Result<(), OutOfMemory> {
-        let rows = self.world.under.rows;
+        let world = self.world;
+        let rows = world.under.rows;
         if !is_top_level(rows, at) {
             return Ok(());
         }
-        let name = self.world.under.places.name(at);
+        let name = world.under.places.name(at);
         self.tops.add(alloc, parent_at(rows, at), name, at)
     }
 
     // One more row, if it is an import.
     fn add_import(&mut self, alloc: Global, at: u32) -> Result<(), OutOfMemory> {
-        let unit = parent_at(self.world.under.rows, at);
+        let world = self.world;
+        let unit = parent_at(world.under.rows, at);
         for class in &self.brought_types(alloc, at)? {
             if !self.importers.has_any(unit, *class) {
-                let name = self.world.under.places.name(*class);
+                let name = world.under.places.name(*class);
                 self.types.add(alloc, unit, name, *class)?;
             }
             self.importers.add(alloc, unit, *class, at)?;
@@ -73,26 +76,29 @@ impl<'a> Imports<'a> {
 
     // The type that an import names.
     fn imported_type(&self, at: u32) -> Option<u32> {
-        self.world.under.referred_type(at.checked_add(1)?)
+        let world = self.world;
+        world.under.referred_type(at.checked_add(1)?)
     }
 
     // What a unit may import without naming it alone: what is public, or not private and of its own package.
     fn can_import(&self, unit: u32, at: u32) -> bool {
-        let under = self.world.under;
+        let world = self.world;
+        let under = &world.under;
         !is_private(under.rows, at)
             && (is_public(under.rows, at) || under.places.is_one_package(unit, at))
     }
 
     // The static members of a kind that a single static import brings.
     fn imported(&self, alloc: Global, at: u32, kind: MemberKind) -> Result<Vec<u32>, OutOfMemory> {
+        let world = self.world;
         let mut all = Vec::new(alloc);
         let Some(over) = self.imported_type(at) else {
             return Ok(all);
         };
-        let rows = self.world.under.rows;
+        let rows = world.under.rows;
         let unit = parent_at(rows, at);
-        let name = self.world.under.places.name(at);
-        for member in &self.world.named(alloc, kind, over, name)? {
+        let name = world.under.places.name(at);
+        for member in &world.named(alloc, kind, over, name)? {
             if is_static(rows, *member) && self.can_import(unit, *member) {
                 all.push(*member)?;
             }
@@ -102,7 +108,8 @@ impl<'a> Imports<'a> {
 
     // The types that an import brings by their simple names.
     fn brought_types(&self, alloc: Global, at: u32) -> Result<Vec<u32>, OutOfMemory> {
-        match import_kind(self.world.under.rows, at) {
+        let world = self.world;
+        match import_kind(world.under.rows, at) {
             Some(ImportKind::Single) => {
                 let mut all = Vec::new(alloc);
                 if let Some(class) = self.imported_type(at) {
@@ -117,7 +124,8 @@ impl<'a> Imports<'a> {
 
     // The type that an import of a single type names.
     fn single_type(&self, at: u32) -> Option<u32> {
-        match import_kind(self.world.under.rows, at) {
+        let world = self.world;
+        match import_kind(world.under.rows, at) {
             Some(ImportKind::Single) => self.imported_type(at),
             _ => None,
         }
@@ -125,10 +133,11 @@ impl<'a> Imports<'a> {
 
     /// An import before this one names another type of the same name, or the unit declares one.
     pub fn has_import_clash(&self, at: u32) -> bool {
+        let world = self.world;
         match self.single_type(at) {
             Some(class) => {
-                let unit = parent_at(self.world.under.rows, at);
-                let name = self.world.under.places.name(class);
+                let unit = parent_at(world.under.rows, at);
+                let name = world.under.places.name(class);
                 self.singles.has_other(unit, name, class) || self.tops.has_other(unit, name, class)
             }
             None => false,
@@ -137,10 +146,11 @@ impl<'a> Imports<'a> {
 
     /// Adds an import to those so far.
     pub fn pass(&mut self, alloc: Global, at: u32) -> Result<(), OutOfMemory> {
+        let world = self.world;
         match self.single_type(at) {
             Some(class) => {
-                let unit = parent_at(self.world.under.rows, at);
-                let name = self.world.under.places.name(class);
+                let unit = parent_at(world.under.rows, at);
+                let name = world.under.places.name(class);
                 self.singles.add(alloc, unit, name, class)
             }
             None => Ok(()),
@@ -149,7 +159,8 @@ impl<'a> Imports<'a> {
 
     /// An import names a type by a name that is not canonical.
     pub fn is_import_not_canonical(&self, at: u32) -> bool {
-        let under = self.world.under;
+        let world = self.world;
+        let under = &world.under;
         if import_kind(under.rows, at).is_none() {
             return false;
         }
@@ -188,8 +199,9 @@ impl<'a> Imports<'a> {
 
     // A static import brings a type, and another import or the unit itself has another type of the name.
     fn has_static_clash(&self, alloc: Global, at: u32) -> Result<bool, OutOfMemory> {
-        let unit = parent_at(self.world.under.rows, at);
-        let name = self.world.under.places.name(at);
+        let world = self.world;
+        let unit = parent_at(world.under.rows, at);
+        let name = world.under.places.name(at);
         for class in &self.imported(alloc, at, MemberKind::Type)? {
             if self.is_other_brought(unit, name, at, *class)
                 || self.tops.has_other(unit, name, *class)
@@ -202,7 +214,8 @@ impl<'a> Imports<'a> {
 
     /// A single static import brings nothing, or a type of a name that another type has.
     pub fn has_static_import_fault(&self, alloc: Global, at: u32) -> Result<bool, OutOfMemory> {
-        match import_kind(self.world.under.rows, at) {
+        let world = self.world;
+        match import_kind(world.under.rows, at) {
             Some(ImportKind::StaticSingle) => {
                 let brings_nothing = self.is_import_of_nothing(alloc, at)?;
                 Ok(brings_nothing || self.has_static_clash(alloc, at)?)

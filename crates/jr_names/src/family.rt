@@ -1,9 +1,9 @@
 // The declarations that a rename takes along.
 
-use crate::asking::is_in_prelude;
 use crate::imports::add_imports;
 use jr_base::OutOfMemory;
 use jr_change::Project;
+use jr_draft::is_in_prelude;
 use jr_marks::Marks;
 use jr_places::role_at;
 use jr_rows::{Label, Role, Row};
@@ -12,7 +12,7 @@ use std::alloc::Global;
 /// The declaration alone, or the family of a method; nothing where there is no declaration.
 pub fn family_of(
     alloc: Global,
-    old: Project,
+    old: &Project,
     declared: Option<u32>,
 ) -> Result<Vec<u32>, OutOfMemory> {
     let mut all = Vec::new(alloc);
@@ -26,7 +26,7 @@ pub fn family_of(
 }
 
 /// Some of these declarations stand in the prelude.
-pub fn reaches_prelude(marks: Marks, family: &[u32]) -> bool {
+pub fn reaches_prelude(marks: &Marks, family: &[u32]) -> bool {
     for row in family {
         if is_in_prelude(marks, *row) {
             return true;
@@ -46,7 +46,7 @@ fn is_written(rows: &[Row], at: u32) -> bool {
 // Adds the constructors of a class that are written.
 fn add_constructors(
     alloc: Global,
-    old: Project,
+    old: &Project,
     all: &mut Vec<u32>,
     class: u32,
 ) -> Result<(), OutOfMemory> {
@@ -62,12 +62,12 @@ fn add_constructors(
 /// what gets the name.
 pub fn named_with(
     alloc: Global,
-    old: Project,
+    old: &Project,
     declared: u32,
     family: Vec<u32>,
 ) -> Result<Vec<u32>, OutOfMemory> {
     let mut all = Vec::new(alloc);
-    add_imports(alloc, old.view.sight.world, &mut all, declared, &family)?;
+    add_imports(alloc, &old.view.sight.world, &mut all, declared, &family)?;
     add_constructors(alloc, old, &mut all, declared)?;
     all.extend_from_slice(&family)?;
     all.sort_unstable();

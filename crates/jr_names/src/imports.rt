@@ -7,7 +7,7 @@ use jr_places::parent_at;
 use jr_rows::ImportKind;
 use std::alloc::Global;
 
-fn is_static_import(world: World, at: u32) -> bool {
+fn is_static_import(world: &World, at: u32) -> bool {
     match import_kind(world.rows(), at) {
         Some(ImportKind::StaticSingle) => true,
         _ => false,
@@ -15,7 +15,7 @@ fn is_static_import(world: World, at: u32) -> bool {
 }
 
 // What an import may bring to its unit: what is public, or not private and of the same package.
-fn can_import(world: World, import: u32, at: u32) -> bool {
+fn can_import(world: &World, import: u32, at: u32) -> bool {
     let rows = world.rows();
     let unit = parent_at(rows, import);
     !is_private(rows, at) && (is_public(rows, at) || world.under.places.is_one_package(unit, at))
@@ -24,7 +24,7 @@ fn can_import(world: World, import: u32, at: u32) -> bool {
 // Adds the static members of one kind that an import brings from a type.
 fn add_brought(
     alloc: Global,
-    world: World,
+    world: &World,
     all: &mut Vec<u32>,
     kind: MemberKind,
     import: u32,
@@ -40,7 +40,7 @@ fn add_brought(
 }
 
 // The members that a static import brings.
-fn brought(alloc: Global, world: World, import: u32) -> Result<Vec<u32>, OutOfMemory> {
+fn brought(alloc: Global, world: &World, import: u32) -> Result<Vec<u32>, OutOfMemory> {
     let mut all = Vec::new(alloc);
     if let Some(over) = world.under.named_type(import) {
         add_brought(alloc, world, &mut all, MemberKind::Field, import, over)?;
@@ -63,7 +63,7 @@ fn are_all_in(some: &[u32], others: &[u32]) -> bool {
 /// Adds the static imports of the name of a declaration that bring nothing but these.
 pub fn add_imports(
     alloc: Global,
-    world: World,
+    world: &World,
     all: &mut Vec<u32>,
     declared: u32,
     family: &[u32],

@@ -1,17 +1,12 @@
 // A move of a top-level type to another package.
 
-use crate::asking::{asked, count_units};
-use crate::draft::{Draft, unchanged};
-use crate::order::{order_with, path_of};
-use crate::packages::{
-    Head, count_identifiers, declaration_of, folder_of_package, head_of, name_of_package,
-    package_named,
-};
-use crate::renaming::{edits_of, path_in};
-use jr_base::{OutOfMemory, Path, Span, Text};
+use jr_base::{Path, Span, Text};
 use jr_change::{Change, ChangeFault, Project, Reason, UnitSource};
+use jr_draft::{
+    Draft, Head, Leaving, add_package_rows, asked, declaration_of, edits_of, folder_of_package,
+    head_of, left_apart, name_of_package, order_with, package_named, path_in, unchanged,
+};
 use jr_edits::Edits;
-use jr_lookup::import_kind;
 use jr_marks::Marks;
 use jr_places::{end_at, is_top_level, name_at, parent_at};
 use jr_rows::Row;
@@ -21,12 +16,12 @@ use std::alloc::Global;
 /// What moves the top-level type at an offset to a package.
 pub fn move_type(
     alloc: Global,
-    old: Project,
+    old: &Project,
     file: &[u8],
     at: u32,
     word: &[u8],
 ) -> Result<Change, ChangeFault> {
-    let marks = old.marks;
+    let marks = &old.marks;
     let declared = asked(old, file, at)?;
     let Some(package) = package_named(word) else {
         return Err(ChangeFault::Bad(Reason::BadName));
@@ -43,7 +38,7 @@ pub fn move_type(
     if is_alone(marks.rows, moved) {
         moved_whole(alloc, marks, head, path, package)
     } else {
-        moved_apart(alloc, marks, head, moved, path, package)
+        moved_apart(alloc, marks, head, moved, &path, package)
     }
 }
 
@@ -75,7 +70,7 @@ fn is_alone(rows: &[Row], moved: u32) -> bool {
 // The edits that give a unit a package: the name is replaced, or the declaration put in front, or taken away.
 fn package_edits(
     alloc: Global,
-    marks: Marks,
+    marks: &Marks,
     head: Head,
     package: &[u8],
 ) -> Result<Edits, ChangeFault> {
@@ -97,26 +92,10 @@ fn package_edits(
     Ok(edits)
 }
 
-// Adds the rows of the package declaration of a unit that has another package now. No old row is the origin of an identifier there.
-fn add_package_rows(
-    draft: &mut Draft,
-    package: &[u8],
-    declared: Option<u32>,
-) -> Result<(), OutOfMemory> {
-    if package.is_empty() {
-        return Ok(());
-    }
-    match declared {
-        Some(row) => draft.copy(row, row.saturating_add(1))?,
-        None => draft.glue(1)?,
-    }
-    draft.glue(count_identifiers(package))
-}
-
 // The change in which a unit moves as a whole.
 fn moved_whole(
     alloc: Global,
-    marks: Marks,
+    marks: &Marks,
     head: Head,
     path: Path,
     package: &[u8],
@@ -136,96 +115,24 @@ fn moved_whole(
             draft.keep(alloc, marks, *unit)?;
         }
     }
-    Ok(draft.finish(None))
+    Ok(draft.finish())
 }
 
-// Adds the bytes of the imports of a unit, each with LF.
-fn add_imports(out: &mut Vec<u8>, marks: Marks, head: Head) -> Result<(), OutOfMemory> {
-    let bytes = unit_bytes(marks, head.unit);
-    for at in head.imports..head.types {
-        if import_kind(marks.rows, at).is_some() {
-            out.extend_from_slice(part(bytes, tokens_span(marks, at)))?;
-            out.push(b'\n')?;
-        }
-    }
-    Ok(())
-}
-
-// The text of the new file of a type that leaves its unit.
-fn text_apart(
-    alloc: Global,
-    marks: Marks,
-    head: Head,
-    moved: u32,
-    package: &[u8],
-) -> Result<Text, OutOfMemory> {
-    let mut out = declaration_of(alloc, package)?;
-    add_imports(&mut out, marks, head)?;
-    out.extend_from_slice(part(unit_bytes(marks, moved), extent(marks, moved)))?;
-    out.push(b'\n')?;
-    Ok(Text::new(out))
-}
-
-// Adds the unit of a type that leaves another one.
-fn add_apart(
-    alloc: Global,
-    draft: &mut Draft,
-    marks: Marks,
-    head: Head,
-    moved: u32,
-    path: Path,
-    package: &[u8],
-) -> Result<(), OutOfMemory> {
-    let text = text_apart(alloc, marks, head, moved, package)?;
-    draft.add(path, UnitSource::New(text))?;
-    draft.glue(1)?;
-    add_package_rows(draft, package, None)?;
-    draft.copy(head.imports, head.types)?;
-    draft.copy(moved, end_at(marks.rows, moved))
-}
-
-// Adds the unit that a type leaves.
-fn add_left(
-    alloc: Global,
-    draft: &mut Draft,
-    marks: Marks,
-    head: Head,
-    moved: u32,
-) -> Result<(), ChangeFault> {
-    let unit = marks.unit_of(head.unit);
-    let mut edits = edits_of(alloc, marks, head.unit)?;
-    edits.push(extent(marks, moved), Text::of(alloc, &[])?)?;
-    draft.add(
-        path_of(alloc, marks, unit)?,
-        UnitSource::Edited { unit, edits },
-    )?;
-    draft.copy(head.unit, moved)?;
-    draft.copy(end_at(marks.rows, moved), end_at(marks.rows, head.unit))?;
-    Ok(())
-}
-
-// The change in which a type leaves its unit, where there are others. The new unit is numbered behind the old ones.
+// The change in which a type leaves its unit, where there are others.
 fn moved_apart(
     alloc: Global,
-    marks: Marks,
+    marks: &Marks,
     head: Head,
     moved: u32,
-    path: Path,
+    path: &Path,
     package: &[u8],
 ) -> Result<Change, ChangeFault> {
-    let added = count_units(marks);
-    let left = marks.unit_of(head.unit);
-    let order = order_with(alloc, marks, added, path.bytes())?;
-    let mut draft = Draft::new(alloc, marks)?;
-    for unit in &order {
-        if *unit == added {
-            let path = path.copy(alloc)?;
-            add_apart(alloc, &mut draft, marks, head, moved, path, package)?;
-        } else if *unit == left {
-            add_left(alloc, &mut draft, marks, head, moved)?;
-        } else {
-            draft.keep(alloc, marks, *unit)?;
-        }
-    }
-    Ok(draft.finish(None))
+    let leaving = Leaving {
+        head,
+        row: moved,
+        is_turned: false,
+        package,
+        declaration: part(unit_bytes(marks, moved), extent(marks, moved)),
+    };
+    left_apart(alloc, marks, leaving, path)
 }

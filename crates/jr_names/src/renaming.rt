@@ -1,28 +1,25 @@
 // A rename.
 
-use crate::asking::asked;
-use crate::draft::{Draft, unchanged, unit_row};
 use crate::family::{family_of, named_with, reaches_prelude};
-use crate::order::{order_with, path_of};
 use jr_base::{OutOfMemory, Path, Text, is_identifier};
 use jr_change::{Change, ChangeFault, Naming, Project, Reason, UnitSource};
-use jr_edits::Edits;
+use jr_draft::{Draft, asked, edits_of, order_with, path_in, path_of, unchanged, unit_row};
 use jr_marks::Marks;
 use jr_places::{end_at, is_top_level, name_at};
-use jr_text::{own_span, unit_bytes};
+use jr_text::own_span;
 use std::alloc::Global;
 
 /// What gives the declaration at an offset a name.
 pub fn rename(
     alloc: Global,
-    old: Project,
+    old: &Project,
     file: &[u8],
     at: u32,
     name: &[u8],
 ) -> Result<Change, ChangeFault> {
     let declared = asked(old, file, at)?;
     let family = family_of(alloc, old, declared)?;
-    if reaches_prelude(old.marks, &family) {
+    if reaches_prelude(&old.marks, &family) {
         return Err(ChangeFault::Bad(Reason::ReachesPrelude));
     }
     if !is_identifier(name) {
@@ -32,16 +29,16 @@ pub fn rename(
         return Err(ChangeFault::Bad(Reason::WrongKind));
     };
     if name_at(old.marks.rows, declared) == name {
-        return Ok(unchanged(alloc, old.marks)?);
+        return Ok(unchanged(alloc, &old.marks)?);
     }
     let named = named_with(alloc, old, declared, family)?;
-    renamed(alloc, old.marks, declared, named, name)
+    renamed(alloc, &old.marks, declared, named, name)
 }
 
 // The change in which some rows get a name.
 fn renamed(
     alloc: Global,
-    marks: Marks,
+    marks: &Marks,
     declared: u32,
     named: Vec<u32>,
     name: &[u8],
@@ -59,15 +56,20 @@ fn renamed(
         }
         draft.copy_unit(marks, *unit)?;
     }
-    let naming = Naming {
+    draft.name(Naming {
         name: Text::of(alloc, name)?,
         rows: named,
-    };
-    Ok(draft.finish(Some(naming)))
+    })?;
+    Ok(draft.finish())
 }
 
 // The path of the unit of a declaration that gets a name: a top-level type takes along the file that has its name.
-fn path_with(alloc: Global, marks: Marks, declared: u32, name: &[u8]) -> Result<Path, OutOfMemory> {
+fn path_with(
+    alloc: Global,
+    marks: &Marks,
+    declared: u32,
+    name: &[u8],
+) -> Result<Path, OutOfMemory> {
     let path = path_of(alloc, marks, marks.unit_of(declared))?;
     if !is_top_level(marks.rows, declared) {
         return Ok(path);
@@ -85,26 +87,6 @@ fn folder_of<'a>(path: &'a [u8], name: &[u8]) -> Option<&'a [u8]> {
         Some(folder)
     } else {
         None
-    }
-}
-
-/// The path of the file of a type in a folder that is given with its `/`.
-pub fn path_in(alloc: Global, folder: &[u8], name: &[u8]) -> Result<Path, OutOfMemory> {
-    let mut bytes = Vec::new(alloc);
-    bytes.extend_from_slice(folder)?;
-    bytes.extend_from_slice(name)?;
-    bytes.extend_from_slice(b".java")?;
-    match Path::parse(alloc, &bytes) {
-        Ok(path) => Ok(path),
-        Err(_) => Err(OutOfMemory),
-    }
-}
-
-/// No edits of the unit in which a row stands.
-pub fn edits_of(alloc: Global, marks: Marks, row: u32) -> Result<Edits, OutOfMemory> {
-    match u32::try_from(unit_bytes(marks, row).len()) {
-        Ok(length) => Ok(Edits::new(alloc, length)),
-        Err(_) => Err(OutOfMemory),
     }
 }
 
@@ -126,7 +108,7 @@ fn count_below(rows: &[u32], end: u32) -> usize {
 // The text of a unit in which some rows get a name.
 fn source_of(
     alloc: Global,
-    marks: Marks,
+    marks: &Marks,
     unit: u32,
     named: &[u32],
     name: &[u8],

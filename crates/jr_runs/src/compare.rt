@@ -18,7 +18,7 @@ use std::alloc::Global;
 #[derive(Clone, Copy)]
 struct Sides<'a> {
     alloc: Global,
-    under: Tabled<'a>,
+    under: &'a Tabled<'a>,
     spellings: &'a [Spelling],
     layout: &'a Layout,
     new_rows: &'a [Row],
@@ -64,11 +64,12 @@ fn names_its_own(spelling: &Spelling) -> bool {
 }
 
 impl<'a> Sides<'a> {
-    fn rows(self) -> &'a [Row] {
-        self.under.rows
+    fn rows(&self) -> &'a [Row] {
+        let under = self.under;
+        under.rows
     }
 
-    fn refers(self, at: u32, refers: Refers) -> bool {
+    fn refers(&self, at: u32, refers: Refers) -> bool {
         let found = referent_at(self.new_table, at);
         match refers {
             Refers::To(said) => found == said,
@@ -77,7 +78,7 @@ impl<'a> Sides<'a> {
     }
 
     /// The written row of this number is the item.
-    fn has_item(self, at: u32, item: &Item) -> bool {
+    fn has_item(&self, at: u32, item: &Item) -> bool {
         let Some(row) = self.new_rows.get(at as usize) else {
             return false;
         };
@@ -89,7 +90,7 @@ impl<'a> Sides<'a> {
     }
 
     /// The items stand there one behind the other.
-    fn has_items(self, first: u32, items: &Items) -> bool {
+    fn has_items(&self, first: u32, items: &Items) -> bool {
         let mut at = first;
         for item in &items.all {
             if !self.has_item(at, item) {
@@ -100,7 +101,7 @@ impl<'a> Sides<'a> {
         true
     }
 
-    fn has_label(self, label: &Label, row: u32) -> bool {
+    fn has_label(&self, label: &Label, row: u32) -> bool {
         match self.layout.new_label(self.rows(), self.spellings, row) {
             Some(new) => same_label(&new, label),
             None => match self.rows().get(row as usize) {
@@ -111,15 +112,17 @@ impl<'a> Sides<'a> {
     }
 
     /// What the row refers to, and the row whose identifier it has.
-    fn own(self, row: u32) -> (Referent, u32) {
-        match self.layout.marking.spelling(self.spellings, row) {
+    fn own(&self, row: u32) -> (Referent, u32) {
+        let layout = self.layout;
+        let under = self.under;
+        match layout.marking.spelling(self.spellings, row) {
             Some(spelling) => (spelling.found, named_by(self.rows(), row, spelling.found)),
-            None => (self.under.referent(row), row),
+            None => (under.referent(row), row),
         }
     }
 
     /// The row itself stands in its run, in the row of this number.
-    fn has_own(self, row: u32, parent: u32) -> bool {
+    fn has_own(&self, row: u32, parent: u32) -> bool {
         let at = self.layout.copy(row);
         let Some(new) = self.new_rows.get(at as usize) else {
             return false;
@@ -132,16 +135,16 @@ impl<'a> Sides<'a> {
             && self.refers(at, Refers::To(self.layout.moved(found)))
     }
 
-    fn end_of(self, row: u32) -> u32 {
+    fn end_of(&self, row: u32) -> u32 {
         self.layout.start(end_at(self.rows(), row))
     }
 
     /// The number of what the row stands in, where nothing is written before it.
-    fn parent_of(self, row: u32) -> u32 {
+    fn parent_of(&self, row: u32) -> u32 {
         self.layout.copy(parent_at(self.rows(), row))
     }
 
-    fn place(self, row: u32) -> Place<'a> {
+    fn place(&self, row: u32) -> Place<'a> {
         Place {
             alloc: self.alloc,
             under: self.under,
@@ -153,11 +156,12 @@ impl<'a> Sides<'a> {
     }
 
     /// What is written behind the row stands there.
-    fn has_back(self, row: u32) -> Result<bool, OutOfMemory> {
-        let Some(spelling) = self.layout.marking.spelling(self.spellings, row) else {
+    fn has_back(&self, row: u32) -> Result<bool, OutOfMemory> {
+        let layout = self.layout;
+        let Some(spelling) = layout.marking.spelling(self.spellings, row) else {
             return Ok(true);
         };
-        let own = self.layout.copy(row);
+        let own = layout.copy(row);
         let mut items = Items::new(self.alloc, own.saturating_add(1));
         self.place(row).push_back(&mut items, spelling, own)?;
         Ok(
@@ -168,7 +172,7 @@ impl<'a> Sides<'a> {
     }
 
     /// The run of a row stands there.
-    fn has_run(self, row: u32) -> Result<bool, OutOfMemory> {
+    fn has_run(&self, row: u32) -> Result<bool, OutOfMemory> {
         let start = self.layout.start(row);
         let mut items = Items::new(self.alloc, start);
         let over = self.place(row).push_front(&mut items, self.parent_of(row))?;
@@ -179,13 +183,15 @@ impl<'a> Sides<'a> {
     }
 
     /// Nothing is written before the row or behind it.
-    fn is_plain(self, row: u32) -> bool {
-        self.layout.marking.front(row) == Front::Nothing
-            && self.layout.marking.spelling(self.spellings, row).is_none()
+    fn is_plain(&self, row: u32) -> bool {
+        let layout = self.layout;
+        layout.marking.front(row) == Front::Nothing
+            && layout.marking.spelling(self.spellings, row).is_none()
     }
 
-    fn has_row(self, row: u32) -> Result<bool, OutOfMemory> {
-        if self.layout.marking.is_dropped(row) {
+    fn has_row(&self, row: u32) -> Result<bool, OutOfMemory> {
+        let layout = self.layout;
+        if layout.marking.is_dropped(row) {
             return Ok(true);
         }
         if self.is_plain(row) {
@@ -194,7 +200,7 @@ impl<'a> Sides<'a> {
         self.has_run(row)
     }
 
-    fn first_difference(self) -> Result<Option<u32>, OutOfMemory> {
+    fn first_difference(&self) -> Result<Option<u32>, OutOfMemory> {
         let Ok(count) = u32::try_from(self.rows().len()) else {
             return Err(OutOfMemory);
         };
@@ -207,7 +213,7 @@ impl<'a> Sides<'a> {
     }
 
     /// The last row, where more or fewer rows are written than the runs have.
-    fn difference_of_lengths(self, count: u32) -> Option<u32> {
+    fn difference_of_lengths(&self, count: u32) -> Option<u32> {
         if self.new_rows.len() == self.layout.start(count) as usize {
             None
         } else {
@@ -220,12 +226,12 @@ impl<'a> Sides<'a> {
 /// identifiers, ends or rows round them, or another thing to which one refers. None where the written program is this one as it is spelled.
 pub fn first_difference(
     alloc: Global,
-    locked: Project,
+    locked: &Project,
     spellings: &[Spelling],
-    new: Project,
+    new: &Project,
 ) -> Result<Option<u32>, OutOfMemory> {
-    let under = locked.view.sight.world.under;
-    let written = new.view.sight.world.under;
+    let under = &locked.view.sight.world.under;
+    let written = &new.view.sight.world.under;
     match Layout::of(alloc, under, spellings) {
         Ok(layout) => Sides {
             alloc,

@@ -61,7 +61,7 @@ pub struct Trace<'a> {
 
 impl<'a> Trace<'a> {
     /// What the identifier refers to that has so many behind it in a name of so many.
-    fn refers(self, behind: usize, count: usize) -> Refers {
+    fn refers(&self, behind: usize, count: usize) -> Refers {
         if self.found.len() == count {
             return self.said(count.saturating_sub(behind).saturating_sub(1));
         }
@@ -77,14 +77,14 @@ impl<'a> Trace<'a> {
         }
     }
 
-    fn said(self, number: usize) -> Refers {
+    fn said(&self, number: usize) -> Refers {
         match self.found.get(number) {
             Some(found) => Refers::To(self.layout.moved(*found)),
             None => Refers::ToPart,
         }
     }
 
-    fn to_type(self, of: u32) -> Refers {
+    fn to_type(&self, of: u32) -> Refers {
         Refers::To(Referent::Declared {
             row: self.layout.copy(of),
             level: None,

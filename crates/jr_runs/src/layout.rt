@@ -118,7 +118,7 @@ struct Lengths {
 
 fn lengths_of(
     alloc: Global,
-    under: Tabled,
+    under: &Tabled,
     marking: &Marking,
     spellings: &[Spelling],
     row: u32,
@@ -149,7 +149,11 @@ fn advanced(at: u32, count: usize) -> Result<u32, LayoutFault> {
 
 impl Layout {
     /// The runs of the rows of a program with these spellings.
-    pub fn of(alloc: Global, under: Tabled, spellings: &[Spelling]) -> Result<Layout, LayoutFault> {
+    pub fn of(
+        alloc: Global,
+        under: &Tabled,
+        spellings: &[Spelling],
+    ) -> Result<Layout, LayoutFault> {
         let marking = Marking::of(alloc, under, spellings)?;
         let turned = turned_of(alloc, under.rows, &marking, spellings)?;
         let mut layout = Layout {
@@ -166,7 +170,7 @@ impl Layout {
     fn place(
         &mut self,
         alloc: Global,
-        under: Tabled,
+        under: &Tabled,
         spellings: &[Spelling],
     ) -> Result<(), LayoutFault> {
         let Ok(count) = u32::try_from(under.rows.len()) else {

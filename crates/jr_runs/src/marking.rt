@@ -81,7 +81,7 @@ fn reference_of(rows: &[Row], row: u32) -> Reference {
 }
 
 /// A name, or a call where it may be one, before whose dot no expression stands.
-fn can_be_shaped(under: Tabled, row: u32, may_call: bool) -> bool {
+fn can_be_shaped(under: &Tabled, row: u32, may_call: bool) -> bool {
     match reference_of(under.rows, row) {
         Reference::Name => receiver_of(under, row).is_none(),
         Reference::Call => may_call && receiver_of(under, row).is_none(),
@@ -90,7 +90,7 @@ fn can_be_shaped(under: Tabled, row: u32, may_call: bool) -> bool {
 }
 
 /// The shape is one that the reference can have.
-fn can_have(under: Tabled, row: u32, shape: Shape) -> bool {
+fn can_have(under: &Tabled, row: u32, shape: Shape) -> bool {
     match shape {
         Shape::Kept => true,
         Shape::Cast(_) => receiver_of(under, row).is_some(),
@@ -117,7 +117,7 @@ impl Marking {
     /// What the spellings say.
     pub fn of(
         alloc: Global,
-        under: Tabled,
+        under: &Tabled,
         spellings: &[Spelling],
     ) -> Result<Marking, LayoutFault> {
         let mut all = Marking::none(alloc, under.rows.len())?;
@@ -147,7 +147,7 @@ impl Marking {
 
     fn mark(
         &mut self,
-        under: Tabled,
+        under: &Tabled,
         number: usize,
         spelling: &Spelling,
     ) -> Result<(), LayoutFault> {
@@ -159,7 +159,7 @@ impl Marking {
         self.mark_arguments(under, number, spelling)
     }
 
-    fn drop_parts(&mut self, under: Tabled, row: u32) {
+    fn drop_parts(&mut self, under: &Tabled, row: u32) {
         for at in row.saturating_add(1)..parts_end(under, row) {
             if let Some(slot) = self.dropped.get_mut(at as usize) {
                 *slot = true;
@@ -173,7 +173,7 @@ impl Marking {
         }
     }
 
-    fn mark_receiver(&mut self, under: Tabled, number: usize, spelling: &Spelling) {
+    fn mark_receiver(&mut self, under: &Tabled, number: usize, spelling: &Spelling) {
         if let Shape::Cast(_) = spelling.shape {
             if let Some(receiver) = receiver_of(under, spelling.row) {
                 self.set_front(receiver, Front::Receiver { spelling: number });
@@ -184,7 +184,7 @@ impl Marking {
     /// The casts of arguments, of which there must be as many.
     fn mark_arguments(
         &mut self,
-        under: Tabled,
+        under: &Tabled,
         spelling_number: usize,
         spelling: &Spelling,
     ) -> Result<(), LayoutFault> {

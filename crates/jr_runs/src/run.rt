@@ -13,7 +13,7 @@ use jr_weave::{is_atom, kept_rows, suffix_rows};
 use std::alloc::Global;
 
 /// How many identifiers a suffix has.
-fn count_of(alloc: Global, under: Tabled, suffix: Suffix) -> Result<usize, OutOfMemory> {
+fn count_of(alloc: Global, under: &Tabled, suffix: Suffix) -> Result<usize, OutOfMemory> {
     Ok(suffix_rows(alloc, under, suffix)?.len())
 }
 
@@ -32,7 +32,7 @@ fn argument_cast(spellings: &[Spelling], spelling: usize, number: usize) -> Opti
 }
 
 /// The names of a class in a cast; none of a primitive type.
-fn type_rows(alloc: Global, under: Tabled, ty: TypeName) -> Result<Vec<u32>, OutOfMemory> {
+fn type_rows(alloc: Global, under: &Tabled, ty: TypeName) -> Result<Vec<u32>, OutOfMemory> {
     match ty.element {
         Element::Class(of) => suffix_rows(
             alloc,
@@ -73,7 +73,7 @@ fn parens_of(rows: &[Row], row: u32) -> usize {
 /// How many rows are written before a row.
 pub fn front_length(
     alloc: Global,
-    under: Tabled,
+    under: &Tabled,
     spellings: &[Spelling],
     front: Front,
     row: u32,
@@ -104,7 +104,7 @@ pub fn front_length(
 /// How many rows are written behind a row by its own shape.
 pub fn back_length(
     alloc: Global,
-    under: Tabled,
+    under: &Tabled,
     spelling: &Spelling,
 ) -> Result<usize, OutOfMemory> {
     match spelling.shape {
@@ -127,7 +127,7 @@ pub fn back_length(
 #[derive(Clone, Copy)]
 pub struct Place<'a> {
     pub alloc: Global,
-    pub under: Tabled<'a>,
+    pub under: &'a Tabled<'a>,
     pub spellings: &'a [Spelling],
     pub layout: &'a Layout,
     pub row: u32,
@@ -136,7 +136,7 @@ pub struct Place<'a> {
 }
 
 impl<'a> Place<'a> {
-    fn trace(self, found: &'a [Referent], of: Option<u32>) -> Trace<'a> {
+    fn trace(&self, found: &'a [Referent], of: Option<u32>) -> Trace<'a> {
         Trace {
             layout: self.layout,
             found,
@@ -145,8 +145,9 @@ impl<'a> Place<'a> {
     }
 
     /// The parentheses round a row that is no atom. It gives the number of what the row stands in.
-    fn push_parens(self, items: &mut Items, over: u32) -> Result<u32, OutOfMemory> {
-        if is_atom(self.under.rows, self.row) {
+    fn push_parens(&self, items: &mut Items, over: u32) -> Result<u32, OutOfMemory> {
+        let under = self.under;
+        if is_atom(under.rows, self.row) {
             Ok(over)
         } else {
             items.push(Label::Paren, over, self.end)
@@ -154,7 +155,7 @@ impl<'a> Place<'a> {
     }
 
     fn push_receiver(
-        self,
+        &self,
         items: &mut Items,
         spelling: usize,
         parent: u32,
@@ -176,7 +177,7 @@ impl<'a> Place<'a> {
     }
 
     /// What is said of the identifiers before the last one of a spelling.
-    fn found_before(self, spelling: usize) -> &'a [Referent] {
+    fn found_before(&self, spelling: usize) -> &'a [Referent] {
         match self.spellings.get(spelling) {
             Some(spelling) => spelling.trace.as_slice(),
             None => &[],
@@ -184,7 +185,7 @@ impl<'a> Place<'a> {
     }
 
     fn push_argument(
-        self,
+        &self,
         items: &mut Items,
         spelling: usize,
         number: usize,
@@ -205,8 +206,9 @@ impl<'a> Place<'a> {
     }
 
     /// What is written before the row. It gives the number of what the row stands in.
-    pub fn push_front(self, items: &mut Items, parent: u32) -> Result<u32, OutOfMemory> {
-        match self.layout.marking.front(self.row) {
+    pub fn push_front(&self, items: &mut Items, parent: u32) -> Result<u32, OutOfMemory> {
+        let layout = self.layout;
+        match layout.marking.front(self.row) {
             Front::Nothing => Ok(parent),
             Front::Receiver { spelling } => self.push_receiver(items, spelling, parent),
             Front::Argument { spelling, number } => {
@@ -216,8 +218,9 @@ impl<'a> Place<'a> {
     }
 
     /// What a name before the dot of the row means.
-    fn left_meaning(self) -> Meaning {
-        match self.under.rows.get(self.row as usize) {
+    fn left_meaning(&self) -> Meaning {
+        let under = self.under;
+        match under.rows.get(self.row as usize) {
             Some(row) => match &row.label {
                 Label::Name { kind, .. } => Meaning {
                     kind: left_kind(*kind),
@@ -230,7 +233,7 @@ impl<'a> Place<'a> {
     }
 
     fn push_left(
-        self,
+        &self,
         items: &mut Items,
         spelling: &'a Spelling,
         names: &[u32],
@@ -241,7 +244,7 @@ impl<'a> Place<'a> {
     }
 
     fn push_kept(
-        self,
+        &self,
         items: &mut Items,
         spelling: &'a Spelling,
         over: u32,
@@ -251,7 +254,7 @@ impl<'a> Place<'a> {
     }
 
     fn push_type_before(
-        self,
+        &self,
         items: &mut Items,
         spelling: &'a Spelling,
         of: Suffix,
@@ -263,7 +266,7 @@ impl<'a> Place<'a> {
 
     /// The identifiers before the last one of the name of a type.
     fn push_named(
-        self,
+        &self,
         items: &mut Items,
         spelling: &'a Spelling,
         of: Suffix,
@@ -277,7 +280,7 @@ impl<'a> Place<'a> {
     }
 
     fn push_outer(
-        self,
+        &self,
         items: &mut Items,
         spelling: &'a Spelling,
         outer: Suffix,
@@ -288,7 +291,7 @@ impl<'a> Place<'a> {
     }
 
     fn push_cast_this(
-        self,
+        &self,
         items: &mut Items,
         spelling: &'a Spelling,
         suffix: Suffix,
@@ -302,7 +305,7 @@ impl<'a> Place<'a> {
     }
 
     fn push_cast_outer(
-        self,
+        &self,
         items: &mut Items,
         spelling: &'a Spelling,
         suffix: Suffix,
@@ -323,7 +326,7 @@ impl<'a> Place<'a> {
 
     /// What is written behind the row by its own shape. The row itself has this number.
     pub fn push_back(
-        self,
+        &self,
         items: &mut Items,
         spelling: &'a Spelling,
         over: u32,

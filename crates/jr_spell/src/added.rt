@@ -34,7 +34,7 @@ pub fn push_all(all: &mut Vec<Referent>, items: &[Referent]) -> Result<(), OutOf
 
 impl<'a> Speller<'a> {
     /// Adds the identifiers of the package of a row, by their numbers. The unnamed package has none.
-    pub fn push_package(self, names: &mut Vec<u32>, at: u32) -> Result<(), OutOfMemory> {
+    pub fn push_package(&self, names: &mut Vec<u32>, at: u32) -> Result<(), OutOfMemory> {
         let Some(unit) = self.places().unit(at) else {
             return Ok(());
         };
@@ -46,7 +46,7 @@ impl<'a> Speller<'a> {
     }
 
     // The types whose bodies hold a type, from the innermost one out.
-    fn types_round(self, alloc: Global, class: u32) -> Result<Vec<u32>, OutOfMemory> {
+    fn types_round(&self, alloc: Global, class: u32) -> Result<Vec<u32>, OutOfMemory> {
         let mut all = Vec::new(alloc);
         let mut here = class;
         for _turn in 0..class {
@@ -62,7 +62,7 @@ impl<'a> Speller<'a> {
     }
 
     /// The identifiers of the canonical name of a type before its last one, by their numbers (JLS 6.7).
-    pub fn names_before(self, alloc: Global, class: u32) -> Result<Vec<u32>, OutOfMemory> {
+    pub fn names_before(&self, alloc: Global, class: u32) -> Result<Vec<u32>, OutOfMemory> {
         let mut names = Vec::new(alloc);
         self.push_package(&mut names, class)?;
         let mut round = self.types_round(alloc, class)?;
@@ -76,7 +76,7 @@ impl<'a> Speller<'a> {
 
     // What the last identifiers of the name of a type refer to, so many of them before the last one.
     fn resolve_suffix(
-        self,
+        &self,
         alloc: Global,
         place: u32,
         kind: NameKind,
@@ -98,7 +98,7 @@ impl<'a> Speller<'a> {
 
     // The first of the last identifiers of the name of a type that refer to it at a place.
     fn first_suffix(
-        self,
+        &self,
         alloc: Global,
         place: u32,
         kind: NameKind,
@@ -123,7 +123,7 @@ impl<'a> Speller<'a> {
 
     /// The name of an accessible type at a place where an identifier of this kind stands.
     pub fn added(
-        self,
+        &self,
         alloc: Global,
         place: u32,
         kind: NameKind,
@@ -137,7 +137,7 @@ impl<'a> Speller<'a> {
 
     /// The name of a type in a cast or before `this`.
     pub fn added_type(
-        self,
+        &self,
         alloc: Global,
         place: u32,
         class: u32,
@@ -147,7 +147,7 @@ impl<'a> Speller<'a> {
 
     /// The name of a type before the dot of a member.
     pub fn added_before_dot(
-        self,
+        &self,
         alloc: Global,
         place: u32,
         class: u32,
@@ -157,7 +157,7 @@ impl<'a> Speller<'a> {
 
     /// How the type is written in a cast of an argument.
     pub fn written_type(
-        self,
+        &self,
         alloc: Global,
         place: u32,
         ty: RowType,

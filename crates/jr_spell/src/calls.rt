@@ -16,7 +16,7 @@ use std::alloc::Global;
 
 impl<'a> Speller<'a> {
     // The first row where an argument may stand: behind the receiver, or the class that a creation names.
-    fn first_argument(self, reference: Reference) -> u32 {
+    fn first_argument(&self, reference: &Reference) -> u32 {
         let next = reference.row.saturating_add(1);
         match reference.sought {
             Sought::MethodOf => end_at(self.rows(), next),
@@ -27,9 +27,9 @@ impl<'a> Speller<'a> {
 
     /// The types of the arguments of a call, if all are known.
     pub fn argument_types(
-        self,
+        &self,
         alloc: Global,
-        reference: Reference,
+        reference: &Reference,
     ) -> Result<Option<Vec<RowType>>, OutOfMemory> {
         let mut all = Vec::new(alloc);
         let mut child = self.first_argument(reference);
@@ -48,9 +48,9 @@ impl<'a> Speller<'a> {
 
     /// The types of the parameters of what a call must refer to.
     pub fn parameter_types(
-        self,
+        &self,
         alloc: Global,
-        reference: Reference,
+        reference: &Reference,
     ) -> Result<Option<Vec<RowType>>, OutOfMemory> {
         let mut all = Vec::new(alloc);
         let Some(target) = reference.target() else {
@@ -71,7 +71,7 @@ impl<'a> Speller<'a> {
 
     /// How types are written in casts of the arguments of a call.
     pub fn casts(
-        self,
+        &self,
         alloc: Global,
         place: u32,
         types: &[RowType],
@@ -88,9 +88,9 @@ impl<'a> Speller<'a> {
 
     /// What a method with names or nothing before it refers to.
     pub fn named_method(
-        self,
+        &self,
         alloc: Global,
-        reference: Reference,
+        reference: &Reference,
         arguments: &[RowType],
         before: Before,
     ) -> Result<Referent, OutOfMemory> {
@@ -108,9 +108,9 @@ impl<'a> Speller<'a> {
 
     /// What a method of a receiver refers to.
     pub fn method_of(
-        self,
+        &self,
         alloc: Global,
-        reference: Reference,
+        reference: &Reference,
         arguments: &[RowType],
         receiver: Receiver,
     ) -> Result<Referent, OutOfMemory> {
@@ -120,9 +120,9 @@ impl<'a> Speller<'a> {
 
     /// What a method of an object of a class refers to.
     pub fn method_of_class(
-        self,
+        &self,
         alloc: Global,
-        reference: Reference,
+        reference: &Reference,
         arguments: &[RowType],
         class: u32,
     ) -> Result<Referent, OutOfMemory> {
@@ -135,9 +135,9 @@ impl<'a> Speller<'a> {
 
     // What a method through `super` refers to (JLS 15.12.1).
     fn super_method(
-        self,
+        &self,
         alloc: Global,
-        reference: Reference,
+        reference: &Reference,
         arguments: &[RowType],
     ) -> Result<Referent, OutOfMemory> {
         let Some(around) = instance_round(self.rows(), self.places(), reference.row) else {
@@ -152,7 +152,7 @@ impl<'a> Speller<'a> {
     }
 
     // The class whose constructor is called.
-    fn called_class(self, place: u32, which: ThisOrSuper) -> Option<u32> {
+    fn called_class(&self, place: u32, which: ThisOrSuper) -> Option<u32> {
         let around = self.places().around(place)?;
         match which {
             ThisOrSuper::This => Some(around),
@@ -162,7 +162,7 @@ impl<'a> Speller<'a> {
 
     // What a call of a constructor refers to (JLS 8.8.7.1).
     fn constructor(
-        self,
+        &self,
         alloc: Global,
         place: u32,
         which: ThisOrSuper,
@@ -172,13 +172,13 @@ impl<'a> Speller<'a> {
             return Ok(Referent::Unbound);
         };
         let all = self.world().members.constructors(alloc, class)?;
-        let rows = choose(alloc, self.world(), class, place, None, arguments, &all)?;
+        let rows = choose(alloc, *self.world(), class, place, None, arguments, &all)?;
         Ok(Candidates { rows, level: None }.answer(Referent::Unbound))
     }
 
     // What a creation refers to, the class being that of its lock.
     fn creation(
-        self,
+        &self,
         alloc: Global,
         place: u32,
         arguments: &[RowType],
@@ -191,9 +191,9 @@ impl<'a> Speller<'a> {
 
     /// What a call refers to that can be written in one way alone.
     pub fn fixed_call(
-        self,
+        &self,
         alloc: Global,
-        reference: Reference,
+        reference: &Reference,
         arguments: &[RowType],
     ) -> Result<Referent, OutOfMemory> {
         match reference.sought {

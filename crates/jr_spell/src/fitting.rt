@@ -46,7 +46,7 @@ pub fn level_of(found: Referent) -> Option<u32> {
 
 impl<'a> Speller<'a> {
     // What is found is what the reference must refer to, through any level.
-    fn is_lock(self, reference: Reference, found: Referent) -> bool {
+    fn is_lock(&self, reference: &Reference, found: Referent) -> bool {
         match declaration(reference.lock) {
             Some(target) => declaration(found) == Some(target),
             None => found == reference.lock,
@@ -54,7 +54,7 @@ impl<'a> Speller<'a> {
     }
 
     // The reference reaches an object through its level: a member that is not static, or the class of an inner object.
-    fn has_object(self, reference: Reference) -> bool {
+    fn has_object(&self, reference: &Reference) -> bool {
         match reference.target() {
             Some(target) => match role_at(self.rows(), target) {
                 Role::Constructor => true,
@@ -65,21 +65,21 @@ impl<'a> Speller<'a> {
     }
 
     // The object is that of the lock.
-    fn is_same_object(self, reference: Reference, level: Option<u32>) -> bool {
+    fn is_same_object(&self, reference: &Reference, level: Option<u32>) -> bool {
         match reference.level() {
             Some(lock) => level == Some(lock) || !self.has_object(reference),
             None => true,
         }
     }
 
-    fn is_target_accessible(self, reference: Reference, receiver: Option<RowType>) -> bool {
+    fn is_target_accessible(&self, reference: &Reference, receiver: Option<RowType>) -> bool {
         match reference.target() {
             Some(target) => self.world().is_accessible(target, reference.row, receiver),
             None => true,
         }
     }
 
-    fn names_constant(self, reference: Reference) -> bool {
+    fn names_constant(&self, reference: &Reference) -> bool {
         match reference.target() {
             Some(target) => self.constants().variable(target).is_some(),
             None => false,
@@ -87,12 +87,12 @@ impl<'a> Speller<'a> {
     }
 
     // It is a constant expression exactly where it was one.
-    fn is_constant_as_before(self, reference: Reference, is_constant_form: bool) -> bool {
+    fn is_constant_as_before(&self, reference: &Reference, is_constant_form: bool) -> bool {
         (is_constant_form && self.names_constant(reference)) == self.was_constant(reference.row)
     }
 
     /// What is found in this way is what the reference must refer to: the same declaration on the same object, accessible, and constant as before.
-    pub fn fits(self, reference: Reference, found: Referent, way: Way) -> bool {
+    pub fn fits(&self, reference: &Reference, found: Referent, way: Way) -> bool {
         self.is_lock(reference, found)
             && self.is_same_object(reference, way.level)
             && self.is_target_accessible(reference, way.receiver)
@@ -100,7 +100,7 @@ impl<'a> Speller<'a> {
     }
 
     /// The spelling of this shape, where what it finds fits.
-    pub fn fit_of(self, reference: Reference, shape: Shape, looked: Looked) -> Option<Fit> {
+    pub fn fit_of(&self, reference: &Reference, shape: Shape, looked: Looked) -> Option<Fit> {
         let Looked { found, trace, way } = looked;
         if self.fits(reference, found, way) {
             Some(Fit {

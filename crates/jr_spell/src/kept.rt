@@ -22,7 +22,7 @@ fn way_of(found: Referent, is_constant_form: bool) -> Way {
 
 impl<'a> Speller<'a> {
     // The first type behind the packages before a reference: one before the dot, or what it refers to itself.
-    fn type_behind_packages(self, reference: Reference) -> Option<u32> {
+    fn type_behind_packages(&self, reference: &Reference) -> Option<u32> {
         for nth in 0..reference.chain.len() {
             let class = self.under().referred_type(reference.chain.row(nth));
             if class.is_some() {
@@ -38,7 +38,7 @@ impl<'a> Speller<'a> {
     }
 
     // Adds the identifiers as they stand.
-    fn push_written(self, names: &mut Vec<u32>, reference: Reference) -> Result<(), OutOfMemory> {
+    fn push_written(&self, names: &mut Vec<u32>, reference: &Reference) -> Result<(), OutOfMemory> {
         for nth in 0..reference.chain.len() {
             names.push(self.places().name(reference.chain.row(nth)))?;
         }
@@ -47,9 +47,9 @@ impl<'a> Speller<'a> {
 
     // Adds the identifiers of the package before a reference, if there is one: those of the package of the type behind it.
     fn push_package_part(
-        self,
+        &self,
         names: &mut Vec<u32>,
-        reference: Reference,
+        reference: &Reference,
     ) -> Result<(), OutOfMemory> {
         match self.under().referent(reference.chain.row(0)) {
             Referent::Package => match self.type_behind_packages(reference) {
@@ -62,9 +62,9 @@ impl<'a> Speller<'a> {
 
     // Adds the names of the types before a reference.
     fn push_types_part(
-        self,
+        &self,
         names: &mut Vec<u32>,
-        reference: Reference,
+        reference: &Reference,
     ) -> Result<(), OutOfMemory> {
         for nth in 0..reference.chain.len() {
             if let Some(class) = self.under().referred_type(reference.chain.row(nth)) {
@@ -75,16 +75,16 @@ impl<'a> Speller<'a> {
     }
 
     // A package stands before the reference.
-    fn has_package(self, reference: Reference) -> bool {
+    fn has_package(&self, reference: &Reference) -> bool {
         reference.chain.len() > 0
             && self.under().referent(reference.chain.row(0)) == Referent::Package
     }
 
     /// The packages and types before a reference, by the numbers of the names that they have now; none where a package would become the unnamed one.
     pub fn kept_names(
-        self,
+        &self,
         alloc: Global,
-        reference: Reference,
+        reference: &Reference,
     ) -> Result<Option<Vec<u32>>, OutOfMemory> {
         let mut names = Vec::new(alloc);
         if self.has_package(reference) {
@@ -99,9 +99,9 @@ impl<'a> Speller<'a> {
 
     /// What the last identifier refers to behind packages and types.
     pub fn look_behind(
-        self,
+        &self,
         alloc: Global,
-        reference: Reference,
+        reference: &Reference,
         arguments: &[RowType],
         before: Before,
     ) -> Result<Referent, OutOfMemory> {
@@ -120,9 +120,9 @@ impl<'a> Speller<'a> {
 
     /// What the reference finds behind these packages and types, which may be none.
     pub fn look_behind_names(
-        self,
+        &self,
         alloc: Global,
-        reference: Reference,
+        reference: &Reference,
         arguments: &[RowType],
         names: &[u32],
     ) -> Result<Option<Looked>, OutOfMemory> {
@@ -143,9 +143,9 @@ impl<'a> Speller<'a> {
 
     // What a member of the expression before the dot is.
     fn member_of_value(
-        self,
+        &self,
         alloc: Global,
-        reference: Reference,
+        reference: &Reference,
         arguments: &[RowType],
     ) -> Result<Referent, OutOfMemory> {
         let left = self.sight().left_of(self.types(), reference.row);
@@ -162,7 +162,7 @@ impl<'a> Speller<'a> {
     }
 
     // The type through which a member of the expression before the dot is reached.
-    fn receiver_type(self, reference: Reference) -> Option<RowType> {
+    fn receiver_type(&self, reference: &Reference) -> Option<RowType> {
         let left = self.sight().left_of(self.types(), reference.row);
         match self.sight().receiver(left) {
             Some(receiver) => receiver.ty,
@@ -171,9 +171,9 @@ impl<'a> Speller<'a> {
     }
 
     fn look_behind_value(
-        self,
+        &self,
         alloc: Global,
-        reference: Reference,
+        reference: &Reference,
         arguments: &[RowType],
     ) -> Result<Looked, OutOfMemory> {
         let way = Way {
@@ -190,9 +190,9 @@ impl<'a> Speller<'a> {
 
     // What a reference finds that has nothing before its dot but `super`, and is no name or method.
     fn look_fixed(
-        self,
+        &self,
         alloc: Global,
-        reference: Reference,
+        reference: &Reference,
         arguments: &[RowType],
     ) -> Result<Looked, OutOfMemory> {
         let found = if reference.is_call() {
@@ -214,9 +214,9 @@ impl<'a> Speller<'a> {
     }
 
     fn look_absent(
-        self,
+        &self,
         alloc: Global,
-        reference: Reference,
+        reference: &Reference,
         arguments: &[RowType],
     ) -> Result<Option<Looked>, OutOfMemory> {
         match reference.sought {
@@ -228,9 +228,9 @@ impl<'a> Speller<'a> {
 
     /// What the old shape finds with the new names.
     pub fn look_kept(
-        self,
+        &self,
         alloc: Global,
-        reference: Reference,
+        reference: &Reference,
         arguments: &[RowType],
     ) -> Result<Option<Looked>, OutOfMemory> {
         match reference.dot {
@@ -245,9 +245,9 @@ impl<'a> Speller<'a> {
 
     /// The old shape, where it fits.
     pub fn kept(
-        self,
+        &self,
         alloc: Global,
-        reference: Reference,
+        reference: &Reference,
         arguments: &[RowType],
     ) -> Result<Option<Fit>, OutOfMemory> {
         match self.look_kept(alloc, reference, arguments)? {

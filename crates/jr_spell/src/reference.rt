@@ -109,7 +109,7 @@ fn form_before_dot(dot: Dot, is_static: bool) -> Form {
 
 impl Reference {
     /// The kind of its last identifier, where it is one of a name.
-    pub fn kind(self) -> NameKind {
+    pub fn kind(&self) -> NameKind {
         match self.sought {
             Sought::Simple { kind } => kind,
             Sought::Qualified { kind } => kind,
@@ -118,7 +118,7 @@ impl Reference {
     }
 
     /// The kind of an identifier before its last one.
-    pub fn kind_before(self) -> NameKind {
+    pub fn kind_before(&self) -> NameKind {
         if self.is_call() {
             NameKind::Ambiguous
         } else {
@@ -127,12 +127,12 @@ impl Reference {
     }
 
     /// Whether it is a call.
-    pub fn is_call(self) -> bool {
+    pub fn is_call(&self) -> bool {
         is_call(self.sought)
     }
 
     /// Whether it is an identifier of a name that stands as an expression.
-    pub fn is_variable(self) -> bool {
+    pub fn is_variable(&self) -> bool {
         match self.sought {
             Sought::Simple {
                 kind: NameKind::Variable,
@@ -145,12 +145,12 @@ impl Reference {
     }
 
     /// The declaration that it must refer to.
-    pub fn target(self) -> Option<u32> {
+    pub fn target(&self) -> Option<u32> {
         declaration(self.lock)
     }
 
     /// The level of its lock.
-    pub fn level(self) -> Option<u32> {
+    pub fn level(&self) -> Option<u32> {
         match self.lock {
             Referent::Declared { level, .. } => level,
             _ => None,
@@ -160,7 +160,7 @@ impl Reference {
 
 impl<'a> Speller<'a> {
     // The row refers to a package or type.
-    fn is_package_or_type(self, at: u32) -> bool {
+    fn is_package_or_type(&self, at: u32) -> bool {
         match self.under().referent(at) {
             Referent::Package => true,
             Referent::Declared { row, .. } => is_type(self.rows(), row),
@@ -169,7 +169,7 @@ impl<'a> Speller<'a> {
     }
 
     // What stands before the dot of a row that is a reference.
-    fn dot_of(self, at: u32, sought: Sought) -> Dot {
+    fn dot_of(&self, at: u32, sought: Sought) -> Dot {
         match sought {
             Sought::Qualified { .. } => self.dot_before(at),
             Sought::MethodOf => self.dot_before(at),
@@ -178,7 +178,7 @@ impl<'a> Speller<'a> {
         }
     }
 
-    fn dot_before(self, at: u32) -> Dot {
+    fn dot_before(&self, at: u32) -> Dot {
         if self.is_package_or_type(at.saturating_add(1)) {
             Dot::Names
         } else {
@@ -187,7 +187,7 @@ impl<'a> Speller<'a> {
     }
 
     // The identifiers before the row that belong to it.
-    fn chain_before(self, at: u32, dot: Dot) -> Chain {
+    fn chain_before(&self, at: u32, dot: Dot) -> Chain {
         let first = at.saturating_add(1);
         match dot {
             Dot::Names => Chain {
@@ -198,7 +198,7 @@ impl<'a> Speller<'a> {
         }
     }
 
-    fn form_of_type(self, at: u32) -> Form {
+    fn form_of_type(&self, at: u32) -> Form {
         match import_kind(self.rows(), parent_at(self.rows(), at)) {
             Some(_) => Form::Import,
             None => Form::OfType,
@@ -206,7 +206,7 @@ impl<'a> Speller<'a> {
     }
 
     // The form of an identifier of a name.
-    fn form_of_name(self, at: u32, lock: Referent, dot: Dot) -> Form {
+    fn form_of_name(&self, at: u32, lock: Referent, dot: Dot) -> Form {
         let Some(target) = declaration(lock) else {
             return Form::Fixed;
         };
@@ -217,14 +217,14 @@ impl<'a> Speller<'a> {
         }
     }
 
-    fn form_of_method(self, lock: Referent, dot: Dot) -> Form {
+    fn form_of_method(&self, lock: Referent, dot: Dot) -> Form {
         match declaration(lock) {
             Some(target) => form_before_dot(dot, is_static(self.rows(), target)),
             None => Form::Fixed,
         }
     }
 
-    fn form_of(self, at: u32, lock: Referent, sought: Sought, dot: Dot) -> Form {
+    fn form_of(&self, at: u32, lock: Referent, sought: Sought, dot: Dot) -> Form {
         match sought {
             Sought::Simple { .. } => self.form_of_name(at, lock, dot),
             Sought::Qualified { .. } => self.form_of_name(at, lock, dot),
@@ -237,7 +237,7 @@ impl<'a> Speller<'a> {
     }
 
     // The number of the name that the identifier gets.
-    fn name_of(self, at: u32, lock: Referent, sought: Sought) -> u32 {
+    fn name_of(&self, at: u32, lock: Referent, sought: Sought) -> u32 {
         match declaration(lock) {
             Some(target) => {
                 if has_identifier(sought) {
@@ -250,7 +250,7 @@ impl<'a> Speller<'a> {
         }
     }
 
-    fn reference_to(self, row: u32, lock: Referent, sought: Sought) -> Reference {
+    fn reference_to(&self, row: u32, lock: Referent, sought: Sought) -> Reference {
         let dot = self.dot_of(row, sought);
         Reference {
             row,
@@ -264,7 +264,7 @@ impl<'a> Speller<'a> {
     }
 
     /// The reference at a row, if it is one that has a lock. A package or type before a dot belongs to the reference behind it.
-    pub fn reference(self, row: u32) -> Option<Reference> {
+    pub fn reference(&self, row: u32) -> Option<Reference> {
         if is_before_dot(self.rows(), row) && self.is_package_or_type(row) {
             return None;
         }

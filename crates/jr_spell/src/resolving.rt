@@ -44,17 +44,20 @@ pub fn kind_before(kind: NameKind) -> NameKind {
 }
 
 impl<'a> Speller<'a> {
-    fn left(self, before: Before) -> Left {
+    fn left(&self, before: Before) -> Left {
         match before {
             Before::Nothing => Left::Nothing,
-            Before::Package(package) => self.paths.left(self.rows(), self.places(), package),
+            Before::Package(package) => {
+                let paths = self.paths;
+                paths.left(self.rows(), self.places(), package)
+            }
             Before::OfType(class) => Left::OfType(class),
         }
     }
 
     /// What one identifier refers to.
     pub fn look_up(
-        self,
+        &self,
         alloc: Global,
         place: u32,
         before: Before,
@@ -68,18 +71,17 @@ impl<'a> Speller<'a> {
     }
 
     // The package of this name behind what stands before it.
-    fn package_behind(self, before: Before, name: u32) -> Option<Before> {
+    fn package_behind(&self, before: Before, name: u32) -> Option<Before> {
+        let paths = self.paths;
         match before {
-            Before::Nothing => Some(Before::Package(
-                self.paths.inside(Some(Numbering::EMPTY), name),
-            )),
-            Before::Package(package) => Some(Before::Package(self.paths.inside(package, name))),
+            Before::Nothing => Some(Before::Package(paths.inside(Some(Numbering::EMPTY), name))),
+            Before::Package(package) => Some(Before::Package(paths.inside(package, name))),
             Before::OfType(_) => None,
         }
     }
 
     // What stands before the next identifier, where this one is a package or type.
-    fn next(self, before: Before, name: u32, found: Referent) -> Option<Before> {
+    fn next(&self, before: Before, name: u32, found: Referent) -> Option<Before> {
         match found {
             Referent::Package => self.package_behind(before, name),
             Referent::Declared { row, .. } => {
@@ -95,7 +97,7 @@ impl<'a> Speller<'a> {
 
     /// What identifiers before the last one refer to, from the first one on, where all are packages and types.
     pub fn qualifiers(
-        self,
+        &self,
         alloc: Global,
         place: u32,
         kind: NameKind,
@@ -116,7 +118,7 @@ impl<'a> Speller<'a> {
 
     /// What the last of some identifiers refers to.
     pub fn resolve(
-        self,
+        &self,
         alloc: Global,
         place: u32,
         kind: NameKind,

@@ -16,19 +16,19 @@ use std::alloc::Global;
 
 impl<'a> Speller<'a> {
     // The type that declares what a reference must refer to.
-    fn declaring(self, reference: Reference) -> Option<u32> {
+    fn declaring(&self, reference: &Reference) -> Option<u32> {
         declaring_type(self.rows(), reference.target()?)
     }
 
     // The level of a reference, where it is the innermost type and has an instance.
-    fn innermost_level(self, reference: Reference) -> Option<u32> {
+    fn innermost_level(&self, reference: &Reference) -> Option<u32> {
         let level = reference.level()?;
         let around = instance_round(self.rows(), self.places(), reference.row)?;
         if around == level { Some(level) } else { None }
     }
 
     // The level of a reference, where it has an instance.
-    fn instance_level(self, reference: Reference) -> Option<u32> {
+    fn instance_level(&self, reference: &Reference) -> Option<u32> {
         let level = reference.level()?;
         if has_instance(self.rows(), self.places(), reference.row, level) {
             Some(level)
@@ -39,9 +39,9 @@ impl<'a> Speller<'a> {
 
     // What the name of a reference is as a member of an object of a class.
     fn member_of_class(
-        self,
+        &self,
         alloc: Global,
-        reference: Reference,
+        reference: &Reference,
         arguments: &[RowType],
         class: u32,
     ) -> Result<Referent, OutOfMemory> {
@@ -55,9 +55,9 @@ impl<'a> Speller<'a> {
 
     // The shape, where the member of an object of this class fits; the object is that of the level.
     fn through(
-        self,
+        &self,
         alloc: Global,
-        reference: Reference,
+        reference: &Reference,
         arguments: &[RowType],
         class: u32,
         shape: Shape,
@@ -74,9 +74,9 @@ impl<'a> Speller<'a> {
 
     // `this.x`
     fn on_this(
-        self,
+        &self,
         alloc: Global,
-        reference: Reference,
+        reference: &Reference,
         arguments: &[RowType],
     ) -> Result<Option<Fit>, OutOfMemory> {
         let Some(level) = self.innermost_level(reference) else {
@@ -88,9 +88,9 @@ impl<'a> Speller<'a> {
 
     // `T.this.x`
     fn on_outer(
-        self,
+        &self,
         alloc: Global,
-        reference: Reference,
+        reference: &Reference,
         arguments: &[RowType],
     ) -> Result<Option<Fit>, OutOfMemory> {
         let Some(level) = self.instance_level(reference) else {
@@ -104,7 +104,7 @@ impl<'a> Speller<'a> {
     }
 
     // `super.x`, a field
-    fn on_super(self, alloc: Global, reference: Reference) -> Result<Option<Fit>, OutOfMemory> {
+    fn on_super(&self, alloc: Global, reference: &Reference) -> Result<Option<Fit>, OutOfMemory> {
         let level = self.innermost_level(reference);
         if reference.is_call() || level.is_none() {
             return Ok(None);
@@ -127,9 +127,9 @@ impl<'a> Speller<'a> {
 
     // `((S)this).x`
     fn on_cast_this(
-        self,
+        &self,
         alloc: Global,
-        reference: Reference,
+        reference: &Reference,
         arguments: &[RowType],
         class: u32,
     ) -> Result<Option<Fit>, OutOfMemory> {
@@ -142,9 +142,9 @@ impl<'a> Speller<'a> {
 
     // `((S)T.this).x`
     fn on_cast_outer(
-        self,
+        &self,
         alloc: Global,
-        reference: Reference,
+        reference: &Reference,
         arguments: &[RowType],
         class: u32,
         level: u32,
@@ -163,9 +163,9 @@ impl<'a> Speller<'a> {
 
     // The cast of the object of the level to the type that declares the member.
     fn on_cast_object(
-        self,
+        &self,
         alloc: Global,
-        reference: Reference,
+        reference: &Reference,
         arguments: &[RowType],
     ) -> Result<Option<Fit>, OutOfMemory> {
         let Some(class) = self.declaring(reference) else {
@@ -182,9 +182,9 @@ impl<'a> Speller<'a> {
 
     // An instance member without a receiver, by its object.
     fn instance_fit(
-        self,
+        &self,
         alloc: Global,
-        reference: Reference,
+        reference: &Reference,
         arguments: &[RowType],
     ) -> Result<Option<Fit>, OutOfMemory> {
         let mut fit = self.on_this(alloc, reference, arguments)?;
@@ -202,9 +202,9 @@ impl<'a> Speller<'a> {
 
     // `x`
     fn bare(
-        self,
+        &self,
         alloc: Global,
-        reference: Reference,
+        reference: &Reference,
         arguments: &[RowType],
     ) -> Result<Option<Fit>, OutOfMemory> {
         match self.look_behind_names(alloc, reference, arguments, &[])? {
@@ -215,9 +215,9 @@ impl<'a> Speller<'a> {
 
     // `T.x`
     fn on_type(
-        self,
+        &self,
         alloc: Global,
-        reference: Reference,
+        reference: &Reference,
         arguments: &[RowType],
     ) -> Result<Option<Fit>, OutOfMemory> {
         let Some(class) = self.declaring(reference) else {
@@ -239,9 +239,9 @@ impl<'a> Speller<'a> {
 
     // A static member, by its name alone or behind the type that declares it.
     fn static_fit(
-        self,
+        &self,
         alloc: Global,
-        reference: Reference,
+        reference: &Reference,
         arguments: &[RowType],
     ) -> Result<Option<Fit>, OutOfMemory> {
         if reference.chain.len() > 0 {
@@ -255,9 +255,9 @@ impl<'a> Speller<'a> {
 
     // `((S)e).x`
     fn on_cast(
-        self,
+        &self,
         alloc: Global,
-        reference: Reference,
+        reference: &Reference,
         arguments: &[RowType],
     ) -> Result<Option<Fit>, OutOfMemory> {
         let Some(class) = self.declaring(reference) else {
@@ -271,7 +271,7 @@ impl<'a> Speller<'a> {
     }
 
     // A field through `super`, by a cast of `this`.
-    fn super_fit(self, alloc: Global, reference: Reference) -> Result<Option<Fit>, OutOfMemory> {
+    fn super_fit(&self, alloc: Global, reference: &Reference) -> Result<Option<Fit>, OutOfMemory> {
         match self.declaring(reference) {
             Some(class) => {
                 if instance_round(self.rows(), self.places(), reference.row).is_none() {
@@ -285,9 +285,9 @@ impl<'a> Speller<'a> {
 
     // A type by the last identifiers of its name, so many of them before the last one.
     fn named(
-        self,
+        &self,
         alloc: Global,
-        reference: Reference,
+        reference: &Reference,
         class: u32,
         before: &[u32],
     ) -> Result<Option<Fit>, OutOfMemory> {
@@ -305,7 +305,7 @@ impl<'a> Speller<'a> {
     }
 
     // A type by the shortest end of its name that fits.
-    fn type_fit(self, alloc: Global, reference: Reference) -> Result<Option<Fit>, OutOfMemory> {
+    fn type_fit(&self, alloc: Global, reference: &Reference) -> Result<Option<Fit>, OutOfMemory> {
         let Some(class) = reference.target() else {
             return Ok(None);
         };
@@ -320,7 +320,7 @@ impl<'a> Speller<'a> {
     }
 
     // A type by its whole name.
-    fn import_fit(self, alloc: Global, reference: Reference) -> Result<Option<Fit>, OutOfMemory> {
+    fn import_fit(&self, alloc: Global, reference: &Reference) -> Result<Option<Fit>, OutOfMemory> {
         match reference.target() {
             Some(class) => {
                 let before = self.names_before(alloc, class)?;
@@ -332,9 +332,9 @@ impl<'a> Speller<'a> {
 
     // The first other shape that fits.
     fn reshaped(
-        self,
+        &self,
         alloc: Global,
-        reference: Reference,
+        reference: &Reference,
         arguments: &[RowType],
     ) -> Result<Option<Fit>, OutOfMemory> {
         match reference.form {
@@ -350,9 +350,9 @@ impl<'a> Speller<'a> {
 
     /// The first shape that fits, the arguments having these types.
     pub fn first_fit(
-        self,
+        &self,
         alloc: Global,
-        reference: Reference,
+        reference: &Reference,
         arguments: &[RowType],
     ) -> Result<Option<Fit>, OutOfMemory> {
         let kept = self.kept(alloc, reference, arguments)?;

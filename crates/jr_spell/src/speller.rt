@@ -22,45 +22,45 @@ pub struct Speller<'a> {
 }
 
 impl<'a> Speller<'a> {
-    pub fn sight(self) -> Sight<'a> {
+    pub fn sight(&self) -> &'a Sight<'a> {
         let view = self.view;
-        view.sight
+        &view.sight
     }
 
-    pub fn world(self) -> World<'a> {
+    pub fn world(&self) -> &'a World<'a> {
         let view = self.view;
-        view.sight.world
+        &view.sight.world
     }
 
-    pub fn under(self) -> Tabled<'a> {
+    pub fn under(&self) -> &'a Tabled<'a> {
         let view = self.view;
-        view.sight.world.under
+        &view.sight.world.under
     }
 
-    pub fn rows(self) -> &'a [Row] {
+    pub fn rows(&self) -> &'a [Row] {
         let view = self.view;
         view.sight.world.under.rows
     }
 
-    pub fn places(self) -> &'a Places {
+    pub fn places(&self) -> &'a Places {
         let view = self.view;
         view.sight.world.under.places
     }
 
     /// The types of expressions.
-    pub fn types(self) -> &'a [Option<RowType>] {
+    pub fn types(&self) -> &'a [Option<RowType>] {
         let view = self.view;
         view.types
     }
 
     /// The values of constants.
-    pub fn constants(self) -> &'a Constants {
+    pub fn constants(&self) -> &'a Constants {
         let view = self.view;
         view.constants
     }
 
     /// The type of the expression at a row.
-    pub fn type_at(self, at: u32) -> Option<RowType> {
+    pub fn type_at(&self, at: u32) -> Option<RowType> {
         match self.types().get(at as usize) {
             Some(ty) => *ty,
             None => None,
@@ -68,15 +68,16 @@ impl<'a> Speller<'a> {
     }
 
     /// The reference at the row was a constant expression.
-    pub fn was_constant(self, at: u32) -> bool {
-        match self.constant.get(at as usize) {
+    pub fn was_constant(&self, at: u32) -> bool {
+        let constant = self.constant;
+        match constant.get(at as usize) {
             Some(was) => *was,
             None => false,
         }
     }
 
     /// The row is the prelude's, which has no file to change.
-    pub fn is_prelude(self, at: u32) -> bool {
+    pub fn is_prelude(&self, at: u32) -> bool {
         at < self.written
     }
 }

@@ -17,7 +17,11 @@ const PRELUDE: usize = 2;
 
 impl<'a> Speller<'a> {
     // The spelling without casts of arguments.
-    fn uncast(self, alloc: Global, reference: Reference) -> Result<Option<Spelling>, OutOfMemory> {
+    fn uncast(
+        &self,
+        alloc: Global,
+        reference: &Reference,
+    ) -> Result<Option<Spelling>, OutOfMemory> {
         if !reference.is_call() {
             let fit = self.first_fit(alloc, reference, &[])?;
             return Ok(spelling_of(alloc, reference, fit));
@@ -32,7 +36,7 @@ impl<'a> Speller<'a> {
     }
 
     // The spelling with each argument cast to the type of its parameter.
-    fn cast(self, alloc: Global, reference: Reference) -> Result<Option<Spelling>, OutOfMemory> {
+    fn cast(&self, alloc: Global, reference: &Reference) -> Result<Option<Spelling>, OutOfMemory> {
         let Some(parameters) = self.parameter_types(alloc, reference)? else {
             return Ok(None);
         };
@@ -64,9 +68,9 @@ impl<'a> Speller<'a> {
 
     // The first spelling that fits.
     fn first_spelling(
-        self,
+        &self,
         alloc: Global,
-        reference: Reference,
+        reference: &Reference,
     ) -> Result<Option<Spelling>, OutOfMemory> {
         let spelling = self.uncast(alloc, reference)?;
         if spelling.is_some() || !reference.is_call() || self.is_prelude(reference.row) {
@@ -76,7 +80,7 @@ impl<'a> Speller<'a> {
     }
 
     // The identifiers before the last one stand as they are to be written.
-    fn are_written(self, reference: Reference, names: &[u32]) -> bool {
+    fn are_written(&self, reference: &Reference, names: &[u32]) -> bool {
         if names.len() != reference.chain.len() as usize {
             return false;
         }
@@ -90,7 +94,7 @@ impl<'a> Speller<'a> {
     }
 
     // The old shape needs no new text.
-    fn is_text_kept(self, alloc: Global, reference: Reference) -> Result<bool, OutOfMemory> {
+    fn is_text_kept(&self, alloc: Global, reference: &Reference) -> Result<bool, OutOfMemory> {
         if self.places().name(reference.row) != reference.name {
             return Ok(false);
         }
@@ -104,7 +108,7 @@ impl<'a> Speller<'a> {
     }
 
     // The packages and types before the reference are those of the locks.
-    fn is_trace_kept(self, reference: Reference, trace: &[Referent]) -> bool {
+    fn is_trace_kept(&self, reference: &Reference, trace: &[Referent]) -> bool {
         if trace.len() != reference.chain.len() as usize {
             return false;
         }
@@ -124,9 +128,9 @@ impl<'a> Speller<'a> {
 
     // The reference stays as it stands, and all that it names is as the locks say.
     fn is_plain(
-        self,
+        &self,
         alloc: Global,
-        reference: Reference,
+        reference: &Reference,
         spelling: &Spelling,
     ) -> Result<bool, OutOfMemory> {
         if !is_kept(spelling.shape) || !spelling.casts.is_empty() {
@@ -139,7 +143,7 @@ impl<'a> Speller<'a> {
     }
 
     // What the old shape finds, where it finds anything; for a package also a type that is found in its place.
-    fn found_instead(self, alloc: Global, reference: Reference) -> Result<Referent, OutOfMemory> {
+    fn found_instead(&self, alloc: Global, reference: &Reference) -> Result<Referent, OutOfMemory> {
         let mut arguments = Vec::new(alloc);
         if reference.is_call() {
             if let Some(types) = self.argument_types(alloc, reference)? {
@@ -153,20 +157,25 @@ impl<'a> Speller<'a> {
     }
 
     // Adds the spelling of one row, if it is a reference and does not stay as it stands.
-    fn spell_row(self, alloc: Global, all: &mut Vec<Spelling>, row: u32) -> Result<(), SpellFault> {
+    fn spell_row(
+        &self,
+        alloc: Global,
+        all: &mut Vec<Spelling>,
+        row: u32,
+    ) -> Result<(), SpellFault> {
         let Some(reference) = self.reference(row) else {
             return Ok(());
         };
-        match self.first_spelling(alloc, reference)? {
+        match self.first_spelling(alloc, &reference)? {
             Some(spelling) => {
-                if !self.is_plain(alloc, reference, &spelling)? {
+                if !self.is_plain(alloc, &reference, &spelling)? {
                     all.push(spelling)?;
                 }
                 Ok(())
             }
             None => Err(SpellFault::NoSpelling {
                 row,
-                found: self.found_instead(alloc, reference)?,
+                found: self.found_instead(alloc, &reference)?,
             }),
         }
     }
@@ -192,7 +201,7 @@ fn is_kept(shape: Shape) -> bool {
 }
 
 /// A spelling without casts.
-fn spelling_of(alloc: Global, reference: Reference, fit: Option<Fit>) -> Option<Spelling> {
+fn spelling_of(alloc: Global, reference: &Reference, fit: Option<Fit>) -> Option<Spelling> {
     match fit {
         Some(
             Fit {
@@ -224,17 +233,18 @@ fn first_written(units: &[u32]) -> u32 {
 /// expression exactly where `constant` says so.
 pub fn spell(
     alloc: Global,
-    locked: Project,
+    locked: &Project,
     constant: &[bool],
 ) -> Result<Vec<Spelling>, SpellFault> {
-    let rows = locked.view.sight.world.under.rows;
-    let places = locked.view.sight.world.under.places;
-    let paths = Paths::of(alloc, rows, places, locked.marks.starts)?;
+    let view = &locked.view;
+    let rows = view.sight.world.under.rows;
+    let units = locked.marks.starts;
+    let paths = Paths::of(alloc, rows, view.sight.world.under.places, units)?;
     let speller = Speller {
-        view: &locked.view,
+        view,
         constant,
         paths: &paths,
-        written: first_written(locked.marks.starts),
+        written: first_written(units),
     };
     let mut all = Vec::new(alloc);
     for row in &order_of_occurrences(alloc, rows)? {

@@ -5,4 +5,4 @@ mod gaps;
 mod spans;
 
 pub use gaps::lead;
-pub use spans::{extent, own_span, part, tokens_span, unit_bytes};
+pub use spans::{extent, own_span, part, token_span, tokens_span, unit_bytes};

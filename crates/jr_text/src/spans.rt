@@ -5,19 +5,19 @@ use jr_base::{Span, Token};
 use jr_defs::UnitAt;
 use jr_marks::Marks;
 
-fn unit_at<'p>(marks: Marks<'p>, row: u32) -> Option<&'p UnitAt> {
+fn unit_at<'p>(marks: &Marks<'p>, row: u32) -> Option<&'p UnitAt> {
     marks.units.get(marks.unit_of(row) as usize)
 }
 
 /// The bytes of the unit in which a row stands.
-pub fn unit_bytes<'p>(marks: Marks<'p>, row: u32) -> &'p [u8] {
+pub fn unit_bytes<'p>(marks: &Marks<'p>, row: u32) -> &'p [u8] {
     match unit_at(marks, row) {
         Some(unit) => unit.bytes.bytes(),
         None => &[],
     }
 }
 
-fn tokens_of<'p>(marks: Marks<'p>, row: u32) -> &'p [Token] {
+fn tokens_of<'p>(marks: &Marks<'p>, row: u32) -> &'p [Token] {
     match unit_at(marks, row) {
         Some(unit) => unit.tokens.as_slice(),
         None => &[],
@@ -35,8 +35,8 @@ pub fn part(bytes: &[u8], span: Span) -> &[u8] {
     }
 }
 
-// The span of a token, by its number in the unit of a row; an empty one where there is no such token.
-fn token_span(marks: Marks, row: u32, number: u32) -> Span {
+/// The span of a token, by its number in the unit of a row; an empty one where there is no such token.
+pub fn token_span(marks: &Marks, row: u32, number: u32) -> Span {
     match tokens_of(marks, row).get(number as usize) {
         Some(token) => token.span,
         None => Span { start: 0, end: 0 },
@@ -44,12 +44,12 @@ fn token_span(marks: Marks, row: u32, number: u32) -> Span {
 }
 
 /// The identifier by which a row refers or that it declares.
-pub fn own_span(marks: Marks, row: u32) -> Span {
+pub fn own_span(marks: &Marks, row: u32) -> Span {
     token_span(marks, row, marks.mark(row).own)
 }
 
 /// The bytes of a row from its first token to its last.
-pub fn tokens_span(marks: Marks, row: u32) -> Span {
+pub fn tokens_span(marks: &Marks, row: u32) -> Span {
     let mark = marks.mark(row);
     Span {
         start: token_span(marks, row, mark.first).start,
@@ -58,7 +58,7 @@ pub fn tokens_span(marks: Marks, row: u32) -> Span {
 }
 
 // The gap before the first token of a row.
-fn gap_before(marks: Marks, row: u32) -> Span {
+fn gap_before(marks: &Marks, row: u32) -> Span {
     let first = marks.mark(row).first;
     let mut start = 0;
     if first > 0 {
@@ -71,7 +71,7 @@ fn gap_before(marks: Marks, row: u32) -> Span {
 }
 
 /// What a declaration takes along: its lead, and its bytes from the first token to the last.
-pub fn extent(marks: Marks, row: u32) -> Span {
+pub fn extent(marks: &Marks, row: u32) -> Span {
     let gap = gap_before(marks, row);
     let before = lead(part(unit_bytes(marks, row), gap));
     let start = match u32::try_from(before) {

@@ -1,5 +1,5 @@
 -- From what an input comes to, to the answer to a batch.
-use Rattle.std.proofs.Common.{◌≡◌, ◌⊎◌, inl, inr, ℕ, List, [], Option, Some, None, Result, Ok, Err, Vec, Global, sym, ap, subst, ◌∙◌, arith}
+use Rattle.std.proofs.Common.{◌≡◌, ◌⊎◌, inl, inr, ℕ, List, [], Option, Some, Result, Ok, Err, Vec, Global, sym, ap, subst, ◌∙◌, arith}
 use Rattle.std.proofs.lemmas.Option.{same_Some}
 use Rattle.jr_base.specs.declared.request.Request.{Request}
 use Rattle.jr_batch.specs.Input.{ForInput, IsInputAnswer, LeavesSome}
@@ -18,10 +18,9 @@ use Rattle.jr_top.specs.declared.decide.Decision.TheVariants.{Answer, Refuse, Ch
 use Rattle.jr_top.specs.Performing.{Reported}
 use Rattle.jr_top.specs.Recovering.{Recovers}
 use Rattle.jr_top.specs.Renaming.{AsksRename, files_named}
-use Rattle.jr_top.specs.Served.{AreServed}
 use Rattle.jr_top.specs.declared.status.Phase.TheVariants.{Recovering}
 use Rattle.jr_top.specs.declared.status.Status.{Status}
-use Rattle.jr_top.specs.declared.status.Status.TheVariants.{BadRequest, StoreFault, SourceFault, TooLarge, OutOfMemory, BadJournal, NotYet}
+use Rattle.jr_top.specs.declared.status.Status.TheVariants.{BadRequest, StoreFault, SourceFault, TooLarge, OutOfMemory, BadJournal}
 use Rattle.jr_top.specs.Answers.{IsReported, reported}
 use Rattle.jr_top.proofs.Outcomes.{no_bad_journal}
 use Rattle.jr_top.proofs.PlainAnswers.{IsPlain, unnamed}
@@ -34,11 +33,6 @@ untaken bytes left is = (0, omega arith, is)
 pub no_batch : (words : List (List ℕ)) (file : List ℕ) (at : ℕ) (name : List ℕ) → AsksRename words file at name → AsksBatch words → ⊥
 no_batch words file at name asks batch = subst IsRename (same_Some _ _ (sym asks ∙ batch)) tt
 
--- what follows of the bytes of an input
-pub for_input : (told : Option (List ℕ)) (P Q : List ℕ → Type 0) → ((bytes : List ℕ) → P bytes → Q bytes) → ForInput told P → ForInput told Q
-for_input None P Q each (bytes, here) = (bytes, each bytes here)
-for_input (Some bytes) P Q each here = each bytes here
-
 -- what an input alone comes to
 module _ (heard : Option (List ℕ)) (quiet loud : ℕ) where
   pub heard_alone : (told left : Option Image) (kept outcomes : Image → Type 0) (status said result : Status) (old new : Option (List ℕ)) (fewer more : ℕ) → Answer status ≡ Answer said → Hears heard quiet loud said → left ≡ told
@@ -49,7 +43,7 @@ module _ (heard : Option (List ℕ)) (quiet loud : ℕ) where
 
   module _ (told : Option Image) (before after : ℕ) where
     abbrev Asked : Decision → Type 0
-    Asked decision = (requests : List Request) × ForInput heard (λ bytes. IsInputAnswer bytes (Ok requests)) × AreServed requests × DecidesAll requests told before after decision
+    Asked decision = (requests : List Request) × ForInput heard (λ bytes. IsInputAnswer bytes (Ok requests)) × DecidesAll requests told before after decision
 
     refused_no_answer : (a b : Status) (ps : Vec (List ℕ) Global) → Refuse a ps ≡ Answer b → ⊥
     refused_no_answer a b ps is = cc
@@ -79,7 +73,6 @@ module _ (words : List (List ℕ)) (told left : Option Image) (kept outcomes : I
     heard_so SourceFault h = ((recovered, h), stands)
     heard_so (TooLarge what request) h = ((recovered, h), stands)
     heard_so (BadRequest request reason field) h = ((recovered, h), stands)
-    heard_so NotYet h = ((recovered, h), stands)
     heard_so OutOfMemory h = (inr recovered, stands)
     heard_so other h = absurd h
 
@@ -89,12 +82,6 @@ module _ (words : List (List ℕ)) (told left : Option Image) (kept outcomes : I
     one : (b : Result (List Request) BatchFault) → ForInput heard (λ bs. IsInputAnswer bs b) → b ≡ answer
     one b h = one_answer alloc bytes b answer (subst (λ (t : Option (List ℕ)). ForInput t (λ bs. IsInputAnswer bs b)) heard_is h) q
 
-    some_requests : ForInput heard (λ bs. (requests : List Request) × IsInputAnswer bs (Ok requests) × (AreServed requests → ⊥)) → NotYet ≡ status_of answer
-    some_requests h =
-        let said : (requests : List Request) × IsInputAnswer bytes (Ok requests) × (AreServed requests → ⊥) =
-        subst (λ (t : Option (List ℕ)). ForInput t (λ bs. (requests : List Request) × IsInputAnswer bs (Ok requests) × (AreServed requests → ⊥))) heard_is h in
-        ap status_of (one_answer alloc bytes (Ok said.0) answer said.1 q)
-
     each_exact : (status : Status) → AnswersBatch words told left outcomes before after heard quiet loud status → (status ≡ status_of answer) ⊎ IsBatchFailure before after fewer more quiet loud status
     each_exact BadJournal a = absurd (no_bad_journal files found told is restored a.2)
     each_exact (StoreFault Recovering) a = inr a.2
@@ -103,7 +90,6 @@ module _ (words : List (List ℕ)) (told left : Option Image) (kept outcomes : I
     each_exact SourceFault a = inr a.1
     each_exact (TooLarge what request) a = inl (ap (λ n. TooLarge what n) a.1.0 ∙ ap status_of (one (Err (fault.TooLarge what)) a.1.1))
     each_exact (BadRequest request reason field) a = inl (ap (λ n. BadRequest request n field) a.1.0 ∙ ap status_of (one (Err (fault.Refused request field)) a.1.1))
-    each_exact NotYet a = inl (some_requests a.1)
     each_exact other a = absurd a.1
 
     pub exact : (result : Status) → Reported words Said result old new fewer more → (result ≡ status_of answer) ⊎ IsBatchFailure before after fewer more quiet loud result

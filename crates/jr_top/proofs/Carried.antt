@@ -15,18 +15,19 @@ use Rattle.jr_commit.proofs.Putting.{with_sides_off}
 use Rattle.jr_commit.proofs.Back.{here}
 use Rattle.jr_request.specs.Words.{command_of}
 use Rattle.jr_request.specs.declared.command.Command.{Command}
+use Rattle.jr_request.specs.declared.command.Command.TheVariants.{Demo}
 use Rattle.jr_store.specs.Image.{Image, Tells, Rose, LeavesOnly}
 use Rattle.jr_base.specs.declared.limits.Size.TheVariants.{File, Path}
-use Rattle.jr_top.specs.declared.status.Report.TheVariants.{Changed}
-use Rattle.jr_top.specs.Answers.{AnswersFound, OnFound, Answers, Reports, IsReported, reported}
+use Rattle.jr_top.specs.declared.status.Report.TheVariants.{Changed, Printed}
+use Rattle.jr_top.specs.Answers.{AnswersFound, OnFound, Answers, IsDemonstration, IsDemonstrated, Reports, IsReported, reported}
 use Rattle.jr_top.specs.Crash.{StandsForEither, StandsAfter, IsSettled, Survives, SurvivesSettled}
 use Rattle.jr_top.specs.Line.{line_of}
 use Rattle.jr_top.specs.Performing.{Reported}
 use Rattle.jr_top.specs.Recovering.{NeedsFiles, AsksRecovery, Recovers}
-use Rattle.jr_top.specs.Renaming.{ForTold}
+use Rattle.jr_top.specs.Renaming.{files_named, ForTold}
 use Rattle.jr_top.specs.declared.status.Phase.TheVariants.{Recovering, Reading, Writing}
 use Rattle.jr_top.specs.declared.status.Status.{Status}
-use Rattle.jr_top.specs.declared.status.Status.TheVariants.{Done, NoSpelling, BrokenRule, NotYet, StoreFault, TooLarge, OutOfMemory, BadJournal}
+use Rattle.jr_top.specs.declared.status.Status.TheVariants.{Done, NoSpelling, BrokenRule, NotYet, StoreFault, TooLarge, OutOfMemory, BadJournal, Differs}
 
 -- what a crash leaves before the call stands for the files found
 pub here_by : (f r : Image) (outcomes : Image → Type 0) → StartsRecover f outcomes → Restored f r → (c : Image) → outcomes c → RestoresTo c r
@@ -58,11 +59,12 @@ earlier words found left outcomes before middle after other later a = a
 -- an answer on the files found is one of the call
 pub on_found : (words : List (List ℕ)) (told left : Option Image) (outcomes : Image → Type 0) (before after : ℕ) (status : Status) → OnFound words told left outcomes before after status → Answers words told left outcomes before after status
 on_found words told left outcomes before after OutOfMemory on = inr on
-on_found words told left outcomes before after NotYet on = inr on
+on_found words told left outcomes before after NotYet on = on
 on_found words told left outcomes before after (StoreFault Reading) on = on
 on_found words told left outcomes before after (StoreFault Writing) on = on
 on_found words told left outcomes before after (StoreFault other) on = absurd on.3
-on_found words told left outcomes before after (Done report) on = on
+on_found words told left outcomes before after (Done (Changed files)) on = on
+on_found words told left outcomes before after (Done other) on = absurd on.3
 on_found words told left outcomes before after (NoSpelling request occ place lock) on = on
 on_found words told left outcomes before after (BrokenRule request rule place) on = on
 on_found words told left outcomes before after (TooLarge what request) on = on
@@ -159,6 +161,26 @@ no_recovery words command is never (other, other_is, needs) = never (subst Needs
 pub opened : (told : Option Image) → ((f : Image) → told ≡ Some f → (r : Image) → Restored f r → ⊥) → ForTold told (λ files. IsOpen files × ((r : Image) → Restored files r → ⊥))
 opened None none = tt
 opened (Some f) none = (⊎_elim (λ open_gate. open_gate) (λ shut. absurd (none f refl f (inl (shut, refl)))) (open_or_not f), none f refl)
+
+-- a demonstration
+pub demonstrated : (words : List (List ℕ)) (told left : Option Image) (outcomes : Image → Type 0) (before after : ℕ) (status : Status) → IsDemonstrated status → IsDemonstration words told left → Answers words told left outcomes before after status
+demonstrated words told left outcomes before after (Done (Printed text)) is early = early
+demonstrated words told left outcomes before after (Done other) is early = absurd is
+demonstrated words told left outcomes before after (Differs request place) is early = early
+demonstrated words told left outcomes before after OutOfMemory is early = inl early.0
+demonstrated words told left outcomes before after other is early = absurd is
+
+pub demonstrated_stands : (words : List (List ℕ)) (status : Status) → IsDemonstrated status → (found image : Image) → RestoresTo image found → StandsAfter words found status image
+demonstrated_stands words (Done (Printed text)) is found image stands = stands
+demonstrated_stands words (Done other) is found image stands = absurd is
+demonstrated_stands words (Differs request place) is found image stands = stands
+demonstrated_stands words OutOfMemory is found image stands = stands
+demonstrated_stands words other is found image stands = absurd is
+
+-- it names no file
+pub demonstrated_line : (words : List (List ℕ)) (command : Command) → command_of words ≡ Some command → (NeedsFiles command → ⊥) → (status : Status) → line_of [] status ≡ reported words status
+demonstrated_line words (Demo count) is never status = ap (λ (o : Option Command). line_of (files_named o) status) (sym is)
+demonstrated_line words other is never status = absurd (never tt)
 
 -- what a fault of recovery leaves, where it comes before its first write or in its writes
 module _ (words : List (List ℕ)) (told left : Option Image) (kept outcomes : Image → Type 0) (before after : ℕ) (command : Command) (is : command_of words ≡ Some command) (needs : NeedsFiles command) where

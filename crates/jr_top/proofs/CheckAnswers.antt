@@ -1,12 +1,11 @@
--- From what is said of the files to the answer to a check.
-use Rattle.std.proofs.Common.{◌≡◌, ◌⊎◌, inl, inr, ℕ, zero, suc, ◌+◌, ◌<◌, ◌≤◌, Bool, false, List, [], ◌∷◌, length, Option, Some, None, Ok, Err, IsTrue, refl, sym, ap, subst, ◌∙◌, arith}
+-- From what is said of the files to the answer to a command that reads them.
+use Rattle.std.proofs.Common.{◌≡◌, ◌⊎◌, inl, inr, ℕ, zero, suc, ◌+◌, ◌<◌, ◌≤◌, Bool, false, List, [], ◌∷◌, Option, Some, None, Err, IsTrue, refl, sym, ap, subst, ◌∙◌, arith}
 use Rattle.std.specs.Prelude.{IsSome, Contains, ◌↔◌}
 use Rattle.std.proofs.lemmas.Bool.{false≢true}
 use Rattle.std.specs.FinMap as map
 use Rattle.jr_base.specs.Files.{FileMap}
 use Rattle.jr_base.specs.Paths.{is_java}
 use Rattle.jr_base.specs.declared.limits.Size.{Size}
-use Rattle.jr_base.specs.declared.limits.Size.TheVariants as size
 use Rattle.jr_base.specs.declared.limits.TheConstants.Limits as limits
 use Rattle.jr_lex.specs.declared.fault.LexFault.TheVariants as lexing
 use Rattle.jr_parse.specs.declared.fault.ParseFault.TheVariants as parsing
@@ -16,30 +15,40 @@ use Rattle.jr_front.specs.declared.fault.FrontFault.TheVariants as front
 use Rattle.jr_gather.specs.Gathering.{HoldsFiles, AreFiles, IsTooLarge, many_files, long_path, large_file, much_in_all, size_of, sizes}
 use Rattle.std.proofs.lemmas.Option.{same_Some}
 use Rattle.jr_commit.specs.Restoring.{Restored, RestoresTo, SameFiles, StartsRecover}
-use Rattle.jr_request.specs.declared.command.Command.TheVariants.{Check}
+use Rattle.jr_request.specs.Words.{command_of}
+use Rattle.jr_request.specs.declared.command.Command.{Command}
+use Rattle.jr_request.specs.declared.command.Command.TheVariants.{Check, Refs, Subtypes, Callers}
 use Rattle.jr_store.specs.Image.{Image, AreJava, Tells, Rose}
 use Rattle.jr_top.specs.Answers.{IsFailure}
-use Rattle.jr_top.specs.Checking.{AsksCheck, IsOneProgram, IsVerdict, small, accepted, refused, oversized, Fronted, front_accepts, front_refuses, front_wants_memory, Checks, AnswersCheck, IsCheckedSo, status_of}
+use Rattle.jr_top.specs.Checking.{IsReading, AsksReading, IsOneProgram, IsVerdict, small, accepted, refused, oversized, Fronted, front_accepts, front_refuses, front_wants_memory, IsShown, shows, shows_none, shows_refusal, shows_size, Showed, has_text, has_reason, has_refusal, has_no_memory, IsSaid, Checks, AnswersReading, IsCheckedSo, status_of}
 use Rattle.jr_top.specs.Crash.{Survives}
-use Rattle.jr_top.specs.Decisions.{IsRename}
 use Rattle.jr_top.specs.Line.{line_of}
 use Rattle.jr_top.specs.Performing.{ReportedOf}
-use Rattle.jr_top.specs.Recovering.{Recovers}
+use Rattle.jr_top.specs.Recovering.{NeedsFiles, Recovers}
+use Rattle.jr_top.specs.Reasons.{reason_number}
 use Rattle.jr_top.specs.Renaming.{AsksRename, ForTold}
 use Rattle.jr_top.specs.declared.status.Phase.TheVariants.{Recovering, Reading}
-use Rattle.jr_top.specs.declared.status.Report.TheVariants.{Checked}
+use Rattle.jr_top.specs.declared.status.Report.TheVariants.{Checked, Printed}
 use Rattle.jr_top.specs.declared.status.Status.{Status}
-use Rattle.jr_top.specs.declared.status.Status.TheVariants.{Done, NotCompiling, StoreFault, TooLarge, OutOfMemory, BadJournal}
+use Rattle.jr_top.specs.declared.status.Status.TheVariants.{Done, BadRequest, NotCompiling, StoreFault, TooLarge, OutOfMemory, BadJournal}
 use Rattle.jr_top.proofs.Outcomes.{found_files, no_bad_journal}
 use Rattle.jr_top.proofs.PlainAnswers.{IsPlain}
 
--- words that ask for a rename ask for no check
-pub no_check : (words : List (List ℕ)) (file : List ℕ) (at : ℕ) (name : List ℕ) → AsksRename words file at name → AsksCheck words → ⊥
-no_check words file at name asks check = subst IsRename (same_Some _ _ (sym asks ∙ check)) tt
+-- a command that reads the files needs them
+pub reading_needs : (command : Command) → IsReading command → NeedsFiles command
+reading_needs Check reads = tt
+reading_needs (Refs file at) reads = tt
+reading_needs (Subtypes file at) reads = tt
+reading_needs (Callers file at) reads = tt
+reading_needs other reads = absurd reads
 
--- the line of a check shows these paths
-pub check_plain : (words : List (List ℕ)) → AsksCheck words → (paths : List (List ℕ)) → IsPlain words paths (line_of paths)
-check_plain words asks paths = record { recovery = (Check, asks, tt); shown = λ status. refl }
+-- words that ask for a rename ask for none
+pub no_reading : (words : List (List ℕ)) (file : List ℕ) (at : ℕ) (name : List ℕ) → AsksRename words file at name → AsksReading words → ⊥
+no_reading words file at name asks (command, is, reads) = subst IsReading (same_Some _ _ (sym is ∙ asks)) reads
+
+-- the line shows these paths
+pub reading_plain : (words : List (List ℕ)) → AsksReading words → (paths : List (List ℕ)) → IsPlain words paths (line_of paths)
+reading_plain words (command, is, reads) paths = record { recovery = (command, is, reading_needs command reads); shown = λ status. refl }
 
 rose_earlier : (before middle after : ℕ) → before ≤ middle → Rose middle after → Rose before after
 rose_earlier before middle after later rose = omega arith
@@ -50,22 +59,26 @@ spoken : (told : Option Image) (N P : Image → Type 0) → ForTold told N → (
 spoken None N P none each = tt
 spoken (Some f) N P none each = each f refl none
 
+all_told : (told : Option Image) → ForTold told (λ f. Unit {0})
+all_told None = tt
+all_told (Some f) = tt
+
 abbrev pub IsNoSmall : Image → Type 0
 IsNoSmall f = IsOneProgram f → ⊥
 
 module _ (told : Option Image) (before after : ℕ) where
-  pub small_said : ForTold told IsOneProgram → Checks told [] before after (Done (Checked 1))
+  pub small_said : ForTold told IsOneProgram → Checks (Some Check) told [] before after (Done (Checked 1))
   small_said program = spoken told IsOneProgram (λ f. IsVerdict f [] (Done (Checked 1))) program (λ f is one. small one refl)
 
   module _ (none : ForTold told IsNoSmall) where
-    pub oversized_said : (what : Size) → ((f : Image) → told ≡ Some f → IsTooLarge f what) → Checks told [] before after (TooLarge what 0)
+    pub oversized_said : (what : Size) → ((f : Image) → told ≡ Some f → IsTooLarge f what) → Checks (Some Check) told [] before after (TooLarge what 0)
     oversized_said what large = spoken told IsNoSmall (λ f. IsVerdict f [] (TooLarge what 0)) none (λ f is no. oversized no (large f is) refl)
 
     module _ (found : FileMap) (holds : (f : Image) → told ≡ Some f → HoldsFiles f found) (paths : List (List ℕ)) where
       refused_as : (why : FrontFault) → CheckedAs found (Err why) → paths ≡ map.keys found → (status : Status) → status ≡ status_of why → ForTold told (λ f. IsVerdict f paths status)
       refused_as why checked keys status is = spoken told IsNoSmall (λ f. IsVerdict f paths status) none (λ f told_is no. refused no (holds f told_is) checked keys is)
 
-      by_fault : (why : FrontFault) → CheckedAs found (Err why) → paths ≡ map.keys found → Checks told paths before after (status_of why)
+      by_fault : (why : FrontFault) → CheckedAs found (Err why) → paths ≡ map.keys found → Checks (Some Check) told paths before after (status_of why)
       by_fault (front.TooLarge what) checked keys = refused_as (front.TooLarge what) checked keys (status_of (front.TooLarge what)) refl
       by_fault (front.Lex cu (lexing.BadByte at)) checked keys = refused_as (front.Lex cu (lexing.BadByte at)) checked keys (status_of (front.Lex cu (lexing.BadByte at))) refl
       by_fault (front.Lex cu (lexing.OpenComment at)) checked keys = refused_as (front.Lex cu (lexing.OpenComment at)) checked keys (status_of (front.Lex cu (lexing.OpenComment at))) refl
@@ -84,22 +97,69 @@ module _ (told : Option Image) (before after : ℕ) where
       by_fault (front.Broken rule place) checked keys = refused_as (front.Broken rule place) checked keys (status_of (front.Broken rule place)) refl
       by_fault front.OutOfMemory checked keys = tt
 
-      pub fronted_said : (status : Status) → Fronted found paths status → Checks told paths before after status
+      pub fronted_said : (status : Status) → Fronted found paths status → Checks (Some Check) told paths before after status
       fronted_said status (front_accepts checked is) =
-          subst (Checks told paths before after) (sym is) (spoken told IsNoSmall (λ f. IsVerdict f paths (Done (Checked (map.len found)))) none (λ f told_is no. accepted no (holds f told_is) checked refl))
-      fronted_said status (front_refuses {why = why} checked keys is) = subst (Checks told paths before after) (sym is) (by_fault why checked keys)
-      fronted_said status (front_wants_memory is) = subst (Checks told paths before after) (sym is) tt
+          subst (Checks (Some Check) told paths before after) (sym is) (spoken told IsNoSmall (λ f. IsVerdict f paths (Done (Checked (map.len found)))) none (λ f told_is no. accepted no (holds f told_is) checked refl))
+      fronted_said status (front_refuses {why = why} checked keys is) = subst (Checks (Some Check) told paths before after) (sym is) (by_fault why checked keys)
+      fronted_said status (front_wants_memory is) = subst (Checks (Some Check) told paths before after) (sym is) tt
+
+-- ---- what is shown
+
+-- what is shown is said to a command that is no check
+to_asked : (asked : Option Command) (f : Image) (paths : List (List ℕ)) (status : Status) → (asked ≡ Some Check → ⊥) → IsShown f paths status → IsSaid asked f paths status
+to_asked None f paths status none shown = shown
+to_asked (Some Check) f paths status none shown = absurd (none refl)
+to_asked (Some other) f paths status none shown = shown
+
+module _ (asked : Option Command) (no_check : asked ≡ Some Check → ⊥) (told : Option Image) (before after : ℕ) where
+  told_shown : (paths : List (List ℕ)) (status : Status) → ((f : Image) → told ≡ Some f → IsShown f paths status) → ForTold told (λ f. IsSaid asked f paths status)
+  told_shown paths status each = spoken told (λ f. Unit {0}) (λ f. IsSaid asked f paths status) (all_told told) (λ f is none. to_asked asked f paths status no_check (each f is))
+
+  pub shown_size : (what : Size) → ((f : Image) → told ≡ Some f → IsTooLarge f what) → Checks asked told [] before after (TooLarge what 0)
+  shown_size what large = told_shown [] (TooLarge what 0) (λ f is. shows_size (large f is) refl)
+
+  module _ (found : FileMap) (holds : (f : Image) → told ≡ Some f → HoldsFiles f found) (paths : List (List ℕ)) where
+    shown_refusal : (why : FrontFault) → CheckedAs found (Err why) → paths ≡ map.keys found → (status : Status) → status ≡ status_of why → ForTold told (λ f. IsSaid asked f paths status)
+    shown_refusal why checked keys status is = told_shown paths status (λ f told_is. shows_refusal (holds f told_is) checked keys is)
+
+    shown_fault : (why : FrontFault) → CheckedAs found (Err why) → paths ≡ map.keys found → Checks asked told paths before after (status_of why)
+    shown_fault (front.TooLarge what) checked keys = shown_refusal (front.TooLarge what) checked keys (status_of (front.TooLarge what)) refl
+    shown_fault (front.Lex cu (lexing.BadByte at)) checked keys = shown_refusal (front.Lex cu (lexing.BadByte at)) checked keys (status_of (front.Lex cu (lexing.BadByte at))) refl
+    shown_fault (front.Lex cu (lexing.OpenComment at)) checked keys = shown_refusal (front.Lex cu (lexing.OpenComment at)) checked keys (status_of (front.Lex cu (lexing.OpenComment at))) refl
+    shown_fault (front.Lex cu (lexing.OpenLiteral at)) checked keys = shown_refusal (front.Lex cu (lexing.OpenLiteral at)) checked keys (status_of (front.Lex cu (lexing.OpenLiteral at))) refl
+    shown_fault (front.Lex cu (lexing.BadEscape at)) checked keys = shown_refusal (front.Lex cu (lexing.BadEscape at)) checked keys (status_of (front.Lex cu (lexing.BadEscape at))) refl
+    shown_fault (front.Lex cu (lexing.BadNumber at)) checked keys = shown_refusal (front.Lex cu (lexing.BadNumber at)) checked keys (status_of (front.Lex cu (lexing.BadNumber at))) refl
+    shown_fault (front.Lex cu (lexing.NotUtf8 at)) checked keys = shown_refusal (front.Lex cu (lexing.NotUtf8 at)) checked keys (status_of (front.Lex cu (lexing.NotUtf8 at))) refl
+    shown_fault (front.Lex cu lexing.OutOfMemory) checked keys = tt
+    shown_fault (front.Parse (parsing.NoTree number) place) checked keys = shown_refusal (front.Parse (parsing.NoTree number) place) checked keys (status_of (front.Parse (parsing.NoTree number) place)) refl
+    shown_fault (front.Parse (parsing.TooDeep number) place) checked keys = shown_refusal (front.Parse (parsing.TooDeep number) place) checked keys (status_of (front.Parse (parsing.TooDeep number) place)) refl
+    shown_fault (front.Parse parsing.OutOfMemory place) checked keys = tt
+    shown_fault (front.PathMismatch cu) checked keys = shown_refusal (front.PathMismatch cu) checked keys (status_of (front.PathMismatch cu)) refl
+    shown_fault (front.Duplicate place) checked keys = shown_refusal (front.Duplicate place) checked keys (status_of (front.Duplicate place)) refl
+    shown_fault (front.Cycle place) checked keys = shown_refusal (front.Cycle place) checked keys (status_of (front.Cycle place)) refl
+    shown_fault (front.Unbound place) checked keys = shown_refusal (front.Unbound place) checked keys (status_of (front.Unbound place)) refl
+    shown_fault (front.Broken rule place) checked keys = shown_refusal (front.Broken rule place) checked keys (status_of (front.Broken rule place)) refl
+    shown_fault front.OutOfMemory checked keys = tt
+
+    pub showed_said : (status : Status) → Showed found paths status → Checks asked told paths before after status
+    showed_said status (has_text {text = text} checked is) = subst (Checks asked told paths before after) (sym is) (told_shown paths (Done (Printed text)) (λ f told_is. shows (holds f told_is) checked refl))
+    showed_said status (has_reason reason checked is) =
+        subst (Checks asked told paths before after) (sym is) (told_shown paths (BadRequest 0 (reason_number reason) None) (λ f told_is. shows_none reason (holds f told_is) checked refl))
+    showed_said status (has_refusal {why = why} checked keys is) = subst (Checks asked told paths before after) (sym is) (shown_fault why checked keys)
+    showed_said status (has_no_memory is) = subst (Checks asked told paths before after) (sym is) tt
 
 -- what is said later is said of the whole
-pub said_earlier : (told : Option Image) (paths : List (List ℕ)) (before middle after : ℕ) → before ≤ middle → (status : Status) → Checks told paths middle after status → Checks told paths before after status
-said_earlier told paths before middle after later (Done (Checked files)) h = h
-said_earlier told paths before middle after later (Done other) h = absurd h
-said_earlier told paths before middle after later (NotCompiling why) h = h
-said_earlier told paths before middle after later (TooLarge what request) h = h
-said_earlier told paths before middle after later (StoreFault Reading) h = rose_earlier before middle after later h
-said_earlier told paths before middle after later (StoreFault other) h = absurd h
-said_earlier told paths before middle after later OutOfMemory h = tt
-said_earlier told paths before middle after later other h = absurd h
+pub said_earlier : (asked : Option Command) (told : Option Image) (paths : List (List ℕ)) (before middle after : ℕ) → before ≤ middle → (status : Status) → Checks asked told paths middle after status → Checks asked told paths before after status
+said_earlier asked told paths before middle after later (Done (Checked files)) h = h
+said_earlier asked told paths before middle after later (Done (Printed text)) h = h
+said_earlier asked told paths before middle after later (Done other) h = absurd h
+said_earlier asked told paths before middle after later (BadRequest request reason field) h = h
+said_earlier asked told paths before middle after later (NotCompiling why) h = h
+said_earlier asked told paths before middle after later (TooLarge what request) h = h
+said_earlier asked told paths before middle after later (StoreFault Reading) h = rose_earlier before middle after later h
+said_earlier asked told paths before middle after later (StoreFault other) h = absurd h
+said_earlier asked told paths before middle after later OutOfMemory h = tt
+said_earlier asked told paths before middle after later other h = absurd h
 
 pub none_small : (told : Option Image) (answer : Bool) → answer ≡ false → ForTold told (λ f. IsTrue answer ↔ IsOneProgram f) → ForTold told IsNoSmall
 none_small None answer is says = tt
@@ -159,17 +219,29 @@ module _ (f g : Image) (same : SameFiles f g) where
   verdict_same paths status (refused {found} none holds checked keys is) = refused (λ program. none (same_back program)) (files_same found holds) checked keys is
   verdict_same paths status (oversized {what} none large is) = oversized (λ program. none (same_back program)) (large_same large) is
 
+  shown_same : (paths : List (List ℕ)) (status : Status) → IsShown f paths status → IsShown g paths status
+  shown_same paths status (shows {found} holds checked is) = shows (files_same found holds) checked is
+  shown_same paths status (shows_none {found} reason holds checked is) = shows_none reason (files_same found holds) checked is
+  shown_same paths status (shows_refusal {found} holds checked keys is) = shows_refusal (files_same found holds) checked keys is
+  shown_same paths status (shows_size large is) = shows_size (large_same large) is
+
+  said_same : (asked : Option Command) (paths : List (List ℕ)) (status : Status) → IsSaid asked f paths status → IsSaid asked g paths status
+  said_same (Some Check) paths status said = verdict_same paths status said
+  said_same other paths status said = shown_same paths status said
+
 -- ---- the answer
 
 module _ (words : List (List ℕ)) (paths : List (List ℕ)) (told left : Option Image) (kept outcomes : Image → Type 0) (before after : ℕ) where
   abbrev Said : Status → Type 0
-  Said status = AnswersCheck words paths told left outcomes before after status × Survives words told kept outcomes status
+  Said status = AnswersReading words paths told left outcomes before after status × Survives words told kept outcomes status
 
   -- what was said of the files that recovery has found, which are left
   module _ (middle : ℕ) (later : before ≤ middle) (recovered : Recovers told left) (stands : (f found : Image) → told ≡ Some f → Restored f found → StartsRecover f kept → (c : Image) → outcomes c → RestoresTo c found) where
-    pub checked_so : (status : Status) → Checks left paths middle after status → Said status
+    pub checked_so : (status : Status) → Checks (command_of words) left paths middle after status → Said status
     checked_so (Done (Checked files)) h = ((recovered, h), stands)
+    checked_so (Done (Printed text)) h = ((recovered, h), stands)
     checked_so (Done other) h = absurd h
+    checked_so (BadRequest request reason field) h = ((recovered, h), stands)
     checked_so (NotCompiling why) h = ((recovered, h), stands)
     checked_so (TooLarge what request) h = ((recovered, h), stands)
     checked_so (StoreFault Reading) h = ((recovered, rose_earlier before middle after later h), λ f found told_is restored start c l. inl (stands f found told_is restored start c l))
@@ -182,24 +254,26 @@ module _ (words : List (List ℕ)) (paths : List (List ℕ)) (told left : Option
     as_found : (g : Image) → left ≡ Some g → SameFiles g found → Tells (Some found) left (λ before_it after_it. SameFiles after_it before_it)
     as_found g left_is same = subst (λ (o : Option Image). Tells (Some found) o (λ before_it after_it. SameFiles after_it before_it)) (sym left_is) same
 
-    judged : (status : Status) → Recovers told left → ForTold left (λ f. IsVerdict f paths status) → IsCheckedSo found left status
+    judged : (status : Status) → Recovers told left → ForTold left (λ f. IsSaid (command_of words) f paths status) → IsCheckedSo (command_of words) found left status
     judged status recovered verdict =
         let there = found_files files found told left is restored recovered in
-        let said : IsVerdict there.0 paths status = subst (λ (o : Option Image). ForTold o (λ f. IsVerdict f paths status)) there.1 verdict in
-        record { paths = paths; answer = verdict_same there.0 found there.2 paths status said; files = as_found there.0 there.1 there.2 }
+        let said : IsSaid (command_of words) there.0 paths status = subst (λ (o : Option Image). ForTold o (λ f. IsSaid (command_of words) f paths status)) there.1 verdict in
+        record { paths = paths; answer = said_same there.0 found there.2 (command_of words) paths status said; files = as_found there.0 there.1 there.2 }
 
-    each : (status : Status) → AnswersCheck words paths told left outcomes before after status → IsCheckedSo found left status ⊎ IsFailure before after fewer more status
+    each : (status : Status) → AnswersReading words paths told left outcomes before after status → IsCheckedSo (command_of words) found left status ⊎ IsFailure before after fewer more status
     each BadJournal a = absurd (no_bad_journal files found told is restored a.2)
     each (StoreFault Recovering) a = inr a.2
     each (StoreFault Reading) a = inr a.1
     each (StoreFault other) a = absurd a.1
     each OutOfMemory a = inr tt
     each (Done (Checked files)) a = inl (judged (Done (Checked files)) a.0 a.1)
+    each (Done (Printed text)) a = inl (judged (Done (Printed text)) a.0 a.1)
     each (Done other) a = absurd a.1
+    each (BadRequest request reason field) a = inl (judged (BadRequest request reason field) a.0 a.1)
     each (NotCompiling why) a = inl (judged (NotCompiling why) a.0 a.1)
     each (TooLarge what request) a = inl (judged (TooLarge what request) a.0 a.1)
     each other a = absurd a.1
 
-    pub exact : (result : Status) → ReportedOf (line_of paths) Said result old new fewer more → IsCheckedSo found left result ⊎ IsFailure before after fewer more result
-    exact result (status, said, inl done) = subst (λ (x : Status). IsCheckedSo found left x ⊎ IsFailure before after fewer more x) (sym done.0) (each status said.0)
+    pub exact : (result : Status) → ReportedOf (line_of paths) Said result old new fewer more → IsCheckedSo (command_of words) found left result ⊎ IsFailure before after fewer more result
+    exact result (status, said, inl done) = subst (λ (x : Status). IsCheckedSo (command_of words) found left x ⊎ IsFailure before after fewer more x) (sym done.0) (each status said.0)
     exact result (status, said, inr failed) = inr (subst (IsFailure before after fewer more) (sym failed.0) failed.2)

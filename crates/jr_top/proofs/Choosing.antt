@@ -11,17 +11,17 @@ use Rattle.jr_commit.specs.Restoring.{Restored}
 use Rattle.jr_gather.specs.Gathering.{HoldsFiles, IsTooLarge}
 use Rattle.jr_request.specs.Words.{command_of}
 use Rattle.jr_request.specs.declared.command.Command.{Command}
-use Rattle.jr_request.specs.declared.command.Command.TheVariants.{One, Batch, Check, Undo}
+use Rattle.jr_request.specs.declared.command.Command.TheVariants.{One, Batch, Check, Undo, Refs, Subtypes, Callers}
 use Rattle.jr_store.specs.Image.{Image, Rose}
 use Rattle.jr_thin.specs.Renaming.{Serves}
 use Rattle.jr_top.specs.Batches.{IsNotPlanned}
-use Rattle.jr_top.specs.Decisions.{DecidesRename, DecidesCommand, DecidesFiles, DecidesAll, on_files, is_too_large, is_not_read, is_short, DecidesOne, DecidesInput, Chooses}
+use Rattle.jr_top.specs.Checking.{IsReading}
+use Rattle.jr_top.specs.Decisions.{DecidesRename, DecidesCommand, DecidesAll, on_files, is_too_large, is_not_read, is_short, DecidesOne, DecidesInput, Chooses}
 use Rattle.jr_top.specs.Engine.{IsPassedOn, AsksOne, AsksAll, MayAsk}
 use Rattle.jr_top.specs.Recovering.{Recovers}
-use Rattle.jr_top.specs.Renaming.{AsksRename, Holds, IsUnserved, ForTold}
-use Rattle.jr_top.specs.Served.{IsServed, AreServed, AsksServed}
+use Rattle.jr_top.specs.Renaming.{AsksRename, Holds, ForTold}
 use Rattle.jr_top.specs.declared.decide.Decision.{Decision}
-use Rattle.jr_top.specs.declared.decide.Decision.TheVariants.{Answer, Refuse, Change}
+use Rattle.jr_top.specs.declared.decide.Decision.TheVariants.{Answer, Change}
 use Rattle.jr_top.specs.declared.status.Status.{Status}
 use Rattle.jr_top.specs.declared.status.Status.TheVariants.{NotYet}
 use Rattle.jr_top.proofs.Outcomes.{found_files}
@@ -43,21 +43,24 @@ pub passed_rename : (file : List ℕ) (at : ℕ) (name : List ℕ) (told mid : O
 passed_rename file at name told mid before middle after small decision is decides same later all =
     inr (subst (λ (d : Decision). DecidesRename file at name told before middle d) is decides, earlier_all (Rename file at name ∷ []) told mid before middle after decision same later all)
 
--- a request of a kind that is not served is not for the engine, and of a kind that is served may be
-pub passed_served : (request : Request) (told : Option Image) → IsPassedOn request told → IsServed request
-passed_served (Rename file at name) told passed = tt
-passed_served other told passed = passed
+-- any other request is for the engine
+pub passed_other : (request : Request) (told : Option Image) → ((file : List ℕ) (at : ℕ) (name : List ℕ) → request ≡ Rename file at name → ⊥) → IsPassedOn request told
+passed_other (Rename file at name) told none = absurd (none file at name refl)
+passed_other other told none = tt
 
--- a command that is no batch, check or undo: it is decided on without the engine, or its request is for the engine
+-- a command that is no batch or undo and does not only read: it is decided on without the engine, or its request is for the engine
 pub chosen_one : (command : Command) (heard : Option (List ℕ)) (quiet loud : ℕ) (told : Option Image) (before after : ℕ) (decision : Decision) → Chooses command heard quiet loud told before after decision
-    → (command ≡ Batch → ⊥) → (command ≡ Check → ⊥) → (command ≡ Undo → ⊥)
+    → (command ≡ Batch → ⊥) → (IsReading command → ⊥) → (command ≡ Undo → ⊥)
     → DecidesCommand command told before after decision ⊎ ((request : Request) × (command ≡ One request) × IsPassedOn request told × DecidesAll (request ∷ []) told before after decision)
-chosen_one (One request) heard quiet loud told before after decision (inl small) no_batch no_check no_undo = inl small
-chosen_one (One request) heard quiet loud told before after decision (inr (passed, all)) no_batch no_check no_undo = inr (request, refl, passed, all)
-chosen_one Batch heard quiet loud told before after decision chooses no_batch no_check no_undo = absurd (no_batch refl)
-chosen_one Check heard quiet loud told before after decision chooses no_batch no_check no_undo = absurd (no_check refl)
-chosen_one Undo heard quiet loud told before after decision chooses no_batch no_check no_undo = absurd (no_undo refl)
-chosen_one other heard quiet loud told before after decision chooses no_batch no_check no_undo = inl (chooses, λ never. never)
+chosen_one (One request) heard quiet loud told before after decision (inl small) no_batch no_reading no_undo = inl small
+chosen_one (One request) heard quiet loud told before after decision (inr (passed, all)) no_batch no_reading no_undo = inr (request, refl, passed, all)
+chosen_one Batch heard quiet loud told before after decision chooses no_batch no_reading no_undo = absurd (no_batch refl)
+chosen_one Check heard quiet loud told before after decision chooses no_batch no_reading no_undo = absurd (no_reading tt)
+chosen_one (Refs file at) heard quiet loud told before after decision chooses no_batch no_reading no_undo = absurd (no_reading tt)
+chosen_one (Subtypes file at) heard quiet loud told before after decision chooses no_batch no_reading no_undo = absurd (no_reading tt)
+chosen_one (Callers file at) heard quiet loud told before after decision chooses no_batch no_reading no_undo = absurd (no_reading tt)
+chosen_one Undo heard quiet loud told before after decision chooses no_batch no_reading no_undo = absurd (no_undo refl)
+chosen_one other heard quiet loud told before after decision chooses no_batch no_reading no_undo = inl (chooses, λ never. never)
 
 pub chosen_batch : (command : Command) (heard : Option (List ℕ)) (quiet loud : ℕ) (told : Option Image) (before after : ℕ) (decision : Decision) → command ≡ Batch → Chooses command heard quiet loud told before after decision
     → DecidesInput heard quiet loud told before after decision
@@ -72,7 +75,7 @@ pub chosen_change : (command : Command) (heard : Option (List ℕ)) (quiet loud 
 chosen_change (One request) heard quiet loud told before after plan (inl small) = inl small
 chosen_change (One request) heard quiet loud told before after plan (inr (passed, all)) = inr (request ∷ [], refl, all)
 chosen_change Batch heard quiet loud told before after plan (inl (said, is, hears)) = absurd (changed_no_answer plan said is)
-chosen_change Batch heard quiet loud told before after plan (inr (requests, asked, served, all)) = inr (requests, tt, all)
+chosen_change Batch heard quiet loud told before after plan (inr (requests, asked, all)) = inr (requests, tt, all)
 chosen_change other heard quiet loud told before after plan chooses = absurd (changed_no_answer plan _ chooses)
 
 -- ---- what the words ask for
@@ -89,11 +92,7 @@ one_may words command request is one = subst (λ (o : Option Command). MayAsk o 
 pub batch_may : (words : List (List ℕ)) (requests : List Request) → command_of words ≡ Some Batch → MayAsk (command_of words) requests
 batch_may words requests is = subst (λ (o : Option Command). MayAsk o requests) (sym is) tt
 
--- the engine gets no command that is not served
-pub unserved_never : (words : List (List ℕ)) (found : Option Image) (requests : List Request) → AsksOne words found requests → (AsksServed words → ⊥) → ⊥
-unserved_never words found requests (request, is, one, passed) none = none (One request, is, passed_served request found passed)
-
--- nor a rename that is served without it
+-- the engine gets no rename that is served without it
 pub small_never : (words : List (List ℕ)) (told here : Option Image) (files found : Image) (requests : List Request) (file : List ℕ) (at : ℕ) (name bytes : List ℕ) → told ≡ Some files → Restored files found → Recovers told here
     → AsksOne words here requests → AsksRename words file at name → Holds found file bytes → Serves bytes at name → ⊥
 small_never words told here files found requests file at name bytes told_is restored recovers (request, is, one, passed) asks holds serves =
@@ -106,9 +105,9 @@ small_never words told here files found requests file at name bytes told_is rest
 -- nor a batch that is answered without it
 pub unplanned_never : (words : List (List ℕ)) (told : Option (List ℕ)) (found : Option Image) (requests : List Request) → AsksAll words told found requests → (alloc : Global) (bytes : List ℕ) (answer : Result (List Request) BatchFault)
     → told ≡ Some bytes → IsInputAnswer bytes answer → IsNotPlanned answer → ⊥
-unplanned_never words told found requests (is, asked, served) alloc bytes answer told_is q none =
+unplanned_never words told found requests (is, asked) alloc bytes answer told_is q none =
     let here : IsInputAnswer bytes (Ok requests) = subst (λ (t : Option (List ℕ)). ForInput t (λ bs. IsInputAnswer bs (Ok requests))) told_is asked in
-    subst IsNotPlanned (sym (one_answer alloc bytes (Ok requests) answer here q)) none served
+    subst IsNotPlanned (sym (one_answer alloc bytes (Ok requests) answer here q)) none
 
 -- no files stand behind the journal
 pub never_recovers : (told here : Option Image) (files : Image) → told ≡ Some files → ((restored : Image) → Restored files restored → ⊥) → Recovers told here → ⊥

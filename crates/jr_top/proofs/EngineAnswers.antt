@@ -1,11 +1,9 @@
 -- From what the engine makes of requests to the answer of the call.
-use Rattle.std.proofs.Common.{◌≡◌, ◌≢◌, ◌⊎◌, inl, inr, ⊎_elim, ℕ, zero, suc, ◌≤◌, List, [], ◌∷◌, length, Option, Some, None, Ok, Err, IsTrue, Vec, Global, refl, sym, ap, subst, ◌∙◌, arith}
-use Rattle.std.specs.List.{AllByRecursion}
+use Rattle.std.proofs.Common.{◌≡◌, ◌≢◌, ◌⊎◌, inl, inr, ⊎_elim, ℕ, suc, ◌≤◌, List, [], ◌∷◌, length, Option, Some, None, Ok, Vec, Global, refl, sym, ap, subst, ◌∙◌, arith}
 use Rattle.std.specs.Io.KnownBytes.{Appends}
 use Rattle.std.proofs.lemmas.Option.{same_Some, none-some}
 use Rattle.jr_base.specs.Files.{FileMap}
 use Rattle.jr_base.specs.declared.request.Request.{Request}
-use Rattle.jr_base.specs.declared.request.Request.TheVariants.{Rename}
 use Rattle.jr_commit.specs.Planned.{Planned, StartsCommit, ChangesOnlyPlanned}
 use Rattle.jr_commit.specs.Restoring.{IsOpen, Restored, RestoresTo, SameFiles, StartsRecover}
 use Rattle.jr_commit.specs.SidesAt.{SideAt, with_sides, IsOff}
@@ -14,27 +12,23 @@ use Rattle.jr_commit.proofs.Phases.{shut_image}
 use Rattle.jr_engine.specs.Planning.{PlannedAs}
 use Rattle.jr_engine.specs.declared.fault.EngineFault.{EngineFault}
 use Rattle.jr_engine.specs.declared.fault.EngineFault.TheVariants as engine
-use Rattle.jr_engine.specs.declared.fault.Refused.{Refused}
 use Rattle.jr_front.specs.declared.fault.FrontFault.{FrontFault}
 use Rattle.jr_front.specs.declared.fault.FrontFault.TheVariants as front
 use Rattle.jr_lex.specs.declared.fault.LexFault.TheVariants as lexing
 use Rattle.jr_parse.specs.declared.fault.ParseFault.TheVariants as parsing
-use Rattle.jr_gather.specs.Gathering.{HoldsFiles, IsTooLarge}
+use Rattle.jr_gather.specs.Gathering.{HoldsFiles}
 use Rattle.jr_request.specs.Words.{command_of}
-use Rattle.jr_request.specs.declared.command.Command.{Command}
-use Rattle.jr_request.specs.declared.command.Command.TheVariants.{One, Batch}
 use Rattle.jr_store.specs.Image.{Image, Tells, OnlyTold, Rose, LeavesOnly}
 use Rattle.jr_store.specs.Replay.{image_of}
 use Rattle.jr_top.specs.Answers.{Reports, IsReported, OutcomeOf}
 use Rattle.jr_top.specs.Checking.{status_of}
-use Rattle.jr_top.specs.Crash.{StandsForEither, StandsForChange, StandsAfter, IsSettled, Survives, SurvivesSettled}
-use Rattle.jr_top.specs.Decisions.{IsPlanFor, DecidesFiles, files_differ, files_are_same, is_refused, memory_is_short, DecidesAll, on_files, is_too_large, is_not_read, is_short}
+use Rattle.jr_top.specs.Crash.{StandsForEither, StandsAfter, IsSettled, Survives, SurvivesSettled}
+use Rattle.jr_top.specs.Decisions.{IsPlanFor, files_differ, files_are_same, is_refused, memory_is_short, DecidesAll, on_files, is_too_large, is_not_read, is_short}
 use Rattle.jr_top.specs.Engine.{MayAsk, answer_to, MayReplace, IsReplaced, IsUnchanged, IsPartlyReplaced, IsRefusedAs, Plans, replaced, unchanged, refused, oversized, not_read, not_written, no_memory, PlansAsked, AnswersPlanned, StandsForPlanned}
 use Rattle.jr_top.specs.Line.{line_of}
 use Rattle.jr_top.specs.Performing.{IsTaken, Commits, ReportedOf}
 use Rattle.jr_top.specs.Recovering.{AsksRecovery, Recovers}
 use Rattle.jr_top.specs.Renaming.{ForTold}
-use Rattle.jr_top.specs.declared.decide.Decision.{Decision}
 use Rattle.jr_top.specs.declared.decide.Decision.TheVariants.{Answer, Refuse, Change}
 use Rattle.jr_top.specs.declared.status.Phase.TheVariants.{Reading, Writing}
 use Rattle.jr_top.specs.declared.status.Report.TheVariants.{Changed}
@@ -102,11 +96,11 @@ engine_refusal : (request : ℕ) (why : EngineFault) → IsRefusal (answer_to re
 engine_refusal request (engine.Front why) = front_refusal why
 engine_refusal request (engine.BadRequest reason) = tt
 engine_refusal request (engine.NoSpelling occ place lock) = tt
-engine_refusal request (engine.LostEdge class method) = tt
+engine_refusal request (engine.LostEdge kind first second is_old) = tt
+engine_refusal request (engine.StillUsed place) = tt
 engine_refusal request (engine.Broken rule place) = tt
 engine_refusal request (engine.Differs place) = tt
 engine_refusal request (engine.TooLarge what) = tt
-engine_refusal request engine.NotServed = tt
 engine_refusal request engine.OutOfMemory = tt
 
 refusal_stands : (words : List (List ℕ)) (found image : Image) (status : Status) → IsRefusal status → RestoresTo image found → StandsAfter words found status image

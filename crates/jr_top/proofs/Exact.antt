@@ -17,20 +17,19 @@ use Rattle.jr_thin.specs.Laws.{IsSame}
 use Rattle.jr_thin.specs.Renaming.{IsLost, IsBroken, IsDone, IsRenaming}
 use Rattle.jr_thin.specs.declared.answers.Renaming.{Renaming}
 use Rattle.jr_thin.specs.declared.answers.Renaming.TheVariants as renaming
-use Rattle.jr_top.specs.Answers.{Asks, Answers, IsFailure}
+use Rattle.jr_top.specs.Answers.{Asks, Answers, IsDemonstrated, IsFailure}
 use Rattle.jr_top.specs.Changing.{IsCommitted, IsTooLong}
 use Rattle.jr_top.specs.Crash.{Survives}
 use Rattle.jr_top.specs.Exact.{place_of, answer_of, answer_at, bytes_after, KeepsOtherFiles, IsAnswered}
 use Rattle.jr_top.specs.Performing.{Reported}
 use Rattle.jr_top.specs.Recovering.{AsksRecovery, Recovers}
 use Rattle.jr_top.specs.Renaming.{AsksRename, Holds, ForTold}
-use Rattle.jr_top.specs.Served.{AsksServed}
 use Rattle.jr_top.proofs.Outcomes.{found_files, no_bad_journal, served_asked}
 use Rattle.jr_top.proofs.Settled.{holds_same}
 use Rattle.jr_top.specs.declared.status.Phase.TheVariants.{Recovering, Reading, Writing}
-use Rattle.jr_top.specs.declared.status.Report.TheVariants.{Changed}
+use Rattle.jr_top.specs.declared.status.Report.TheVariants.{Changed, Printed}
 use Rattle.jr_top.specs.declared.status.Status.{Status}
-use Rattle.jr_top.specs.declared.status.Status.TheVariants.{Done, BadWords, NoSpelling, BrokenRule, NotYet, StoreFault, TooLarge, OutOfMemory, BadJournal}
+use Rattle.jr_top.specs.declared.status.Status.TheVariants.{Done, BadWords, NoSpelling, BrokenRule, NotYet, StoreFault, TooLarge, OutOfMemory, BadJournal, Differs}
 
 -- a vector that holds a list of this length
 abbrev held_in : Global → (xs : List ℕ) → length xs ≤ 1048576 → Vec ℕ Global
@@ -108,8 +107,8 @@ module _ (words : List (List ℕ)) (told left : Option Image) (kept outcomes : I
       each BadJournal a = absurd (none_read words none a.1)
       each (StoreFault Recovering) a = absurd (none_read words none a.1)
       each OutOfMemory a = inr tt
-      each NotYet (inl early) = absurd (none_there words none early.1)
-      each NotYet (inr on) = absurd (none_read words none on.1)
+      each (Done (Printed text)) a = absurd (none_there words none a.1)
+      each (Differs request place) a = absurd (none_there words none a.1)
       each other a = absurd (none_read words none a.1)
 
   -- an image that stands for no files
@@ -127,47 +126,24 @@ module _ (words : List (List ℕ)) (told left : Option Image) (kept outcomes : I
       each BadJournal a = inl refl
       each (StoreFault Recovering) a = inr a.2
       each OutOfMemory a = inr tt
-      each NotYet (inl early) = absurd (early.2 asks)
-      each NotYet (inr a) = absurd (never told a.0 is a.2)
+      each (Done (Printed text)) a = absurd (a.2 asks)
+      each (Differs request place) a = absurd (a.2 asks)
       each other a = absurd (never told a.0 is a.2)
 
   -- a command that needs no files
-  pub needs_no_files : (result : Status) → Reported words Said result old new fewer more → IsSome (command_of words) → (AsksRecovery words → ⊥) → (result ≡ NotYet) ⊎ IsFailure before after fewer more result
-  needs_no_files result reported some never = answered (λ status. status ≡ NotYet) each result reported
+  pub needs_no_files : (result : Status) → Reported words Said result old new fewer more → IsSome (command_of words) → (AsksRecovery words → ⊥) → IsDemonstrated result ⊎ IsFailure before after fewer more result
+  needs_no_files result reported some never = answered IsDemonstrated each result reported
     where
-      each : (status : Status) → Answers words told left outcomes before after status → (status ≡ NotYet) ⊎ IsFailure before after fewer more status
+      each : (status : Status) → Answers words told left outcomes before after status → IsDemonstrated status ⊎ IsFailure before after fewer more status
       each BadWords a = absurd (none_there words a.1 some)
       each BadJournal a = absurd (never a.1)
       each (StoreFault Recovering) a = absurd (never a.1)
       each OutOfMemory a = inr tt
-      each NotYet a = inl refl
+      each (Done (Printed text)) a = inl tt
+      each (Differs request place) a = inl tt
       each other a = absurd (never a.1)
 
   module _ (files found : Image) (is : told ≡ Some files) (restored : Restored files found) where
-    -- no command is asked for that is served
-    module _ (none : AsksServed words → ⊥) where
-      unasked : (file : List ℕ) (at : ℕ) (name : List ℕ) → AsksRename words file at name → ⊥
-      unasked file at name asks = none (One (Rename file at name), asks, tt)
-
-      unserved : IsSome (command_of words) → (status : Status) → Answers words told left outcomes before after status → (status ≡ NotYet) ⊎ IsFailure before after fewer more status
-      unserved some BadWords a = absurd (none_there words a.1 some)
-      unserved some BadJournal a = absurd (no_bad_journal files found told is restored a.2)
-      unserved some (StoreFault Recovering) a = inr a.2
-      unserved some (StoreFault Reading) a = inr a.3.2
-      unserved some (StoreFault Writing) a = inr a.3.1
-      unserved some OutOfMemory a = inr tt
-      unserved some NotYet a = inl refl
-      unserved some (Done (Changed zero)) a = let asked = a.3.1 in absurd (unasked asked.0 asked.1 asked.2 asked.3)
-      unserved some (Done (Changed (suc zero))) a = let asked = a.3.0 in absurd (unasked asked.0 asked.1 asked.2 asked.3)
-      unserved some (NoSpelling request occ place lock) a = let asked = a.3.3 in absurd (unasked asked.0 asked.1 asked.2 asked.3)
-      unserved some (BrokenRule request rule place) a = let asked = a.3.4 in absurd (unasked asked.0 asked.1 asked.2 asked.3)
-      unserved some (TooLarge File request) a = let asked = a.3.2 in absurd (unasked asked.0 asked.1 asked.2 asked.3)
-      unserved some (TooLarge Path request) a = let asked = a.3.2 in absurd (unasked asked.0 asked.1 asked.2 asked.3)
-      unserved some other a = absurd a.3
-
-      pub not_served : (result : Status) → Reported words Said result old new fewer more → IsSome (command_of words) → (result ≡ NotYet) ⊎ IsFailure before after fewer more result
-      not_served result reported some = answered (λ status. status ≡ NotYet) (unserved some) result reported
-
     -- a rename is asked for of a file that is held
     module _ (file : List ℕ) (at : ℕ) (name bytes : List ℕ) (asks : AsksRename words file at name) (holds : Holds found file bytes) where
       same_held : (b : List ℕ) → Holds found file b → b ≡ bytes
@@ -234,8 +210,9 @@ module _ (words : List (List ℕ)) (told left : Option Image) (kept outcomes : I
         each (StoreFault Reading) a = inr a.3.2
         each (StoreFault Writing) a = inr a.3.1
         each OutOfMemory a = inr tt
-        each NotYet (inl early) = absurd (early.2 (_, asks, tt))
-        each NotYet (inr a) = absurd (served_asked words file at name asks a.3.1)
+        each NotYet a = absurd (served_asked words file at name asks a.3.1)
+        each (Done (Printed text)) a = absurd (a.2 (_, asks, tt))
+        each (Differs request place) a = absurd (a.2 (_, asks, tt))
         each (Done (Changed zero)) a =
             let asked = asked_here a.0 a.2 (λ b i n. IsDone b i n b) a.3.1 in
             inl (record {

@@ -13,7 +13,7 @@ use Rattle.jr_top.specs.Crash.{Survives}
 use Rattle.jr_top.specs.Performing.{Reported}
 use Rattle.jr_top.specs.declared.status.Phase.TheVariants.{Recovering, Reading, Writing}
 use Rattle.jr_top.specs.declared.status.Status.{Status}
-use Rattle.jr_top.specs.declared.status.Status.TheVariants.{Done, BadWords, NoSpelling, BrokenRule, NotYet, StoreFault, SinkFault, TooLarge, OutOfMemory, BadJournal}
+use Rattle.jr_top.specs.declared.status.Status.TheVariants.{Done, BadWords, NoSpelling, BrokenRule, NotYet, StoreFault, SinkFault, TooLarge, OutOfMemory, BadJournal, Differs}
 
 -- recovery has found the files that the image stood for
 pub found_files : (files found : Image) (told here : Option Image) → told ≡ Some files → Restored files found → Recovers told here → (g : Image) × (here ≡ Some g) × SameFiles g found
@@ -52,8 +52,8 @@ module _ (words : List (List ℕ)) (told left : Option Image) (kept outcomes : I
     served (BrokenRule request rule place) answers = tt
     served (TooLarge what request) answers = tt
     served BadJournal answers = no_bad_journal files found told is restored answers.2
-    served NotYet (inl early) = absurd (early.2 (_, asks, tt))
-    served NotYet (inr (here, asked, recovers, unserved)) = absurd (served_asked words file at name asks unserved.1)
+    served NotYet (here, asked, recovers, unserved) = absurd (served_asked words file at name asks unserved.1)
+    served (Differs request place) answers = absurd (answers.2 (_, asks, tt))
     served (StoreFault Recovering) answers = answers.2
     served (StoreFault Reading) answers = answers.3.2
     served (StoreFault Writing) answers = answers.3.1

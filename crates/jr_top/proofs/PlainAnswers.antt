@@ -6,11 +6,11 @@ use Rattle.jr_commit.specs.Restoring.{IsOpen, KeepsOthers, Restored, RestoresTo,
 use Rattle.jr_commit.proofs.Phases.{shut_image}
 use Rattle.jr_request.specs.Words.{command_of}
 use Rattle.jr_request.specs.declared.command.Command.{Command}
-use Rattle.jr_request.specs.declared.command.Command.TheVariants.{Batch, Check, Undo}
+use Rattle.jr_request.specs.declared.command.Command.TheVariants.{Batch, Check, Undo, Refs, Subtypes, Callers}
 use Rattle.jr_store.specs.Image.{Image, Tells, Rose}
 use Rattle.jr_top.specs.Answers.{Reports, IsReported, reported, OutcomeOf, IsFailure}
 use Rattle.jr_top.specs.Batches.{AsksBatch}
-use Rattle.jr_top.specs.Checking.{AsksCheck}
+use Rattle.jr_top.specs.Checking.{IsReading, AsksReading}
 use Rattle.jr_top.specs.Crash.{Survives}
 use Rattle.jr_top.specs.Line.{line_of}
 use Rattle.jr_top.specs.Performing.{ReportedOf}
@@ -42,10 +42,6 @@ abbrev IsNoBatch : Command → Type 0
 IsNoBatch Batch = ⊥
 IsNoBatch other = Unit {0}
 
-abbrev IsNoCheck : Command → Type 0
-IsNoCheck Check = ⊥
-IsNoCheck other = Unit {0}
-
 abbrev IsNoUndo : Command → Type 0
 IsNoUndo Undo = ⊥
 IsNoUndo other = Unit {0}
@@ -54,9 +50,12 @@ batch_or_not : (command : Command) → (command ≡ Batch) ⊎ (command ≡ Batc
 batch_or_not Batch = inl refl
 batch_or_not other = inr (λ same. subst IsNoBatch same tt)
 
-check_or_not : (command : Command) → (command ≡ Check) ⊎ (command ≡ Check → ⊥)
-check_or_not Check = inl refl
-check_or_not other = inr (λ same. subst IsNoCheck same tt)
+reading_or_not : (command : Command) → IsReading command ⊎ (IsReading command → ⊥)
+reading_or_not Check = inl tt
+reading_or_not (Refs file at) = inl tt
+reading_or_not (Subtypes file at) = inl tt
+reading_or_not (Callers file at) = inl tt
+reading_or_not other = inr (λ reads. reads)
 
 undo_or_not : (command : Command) → (command ≡ Undo) ⊎ (command ≡ Undo → ⊥)
 undo_or_not Undo = inl refl
@@ -70,8 +69,9 @@ by_command one decide words P (command, is, needs) here other =
 pub by_batch : (words : List (List ℕ)) (P : Type 0) → AsksRecovery words → (AsksBatch words → P) → ((AsksBatch words → ⊥) → P) → P
 by_batch = by_command Batch batch_or_not
 
-pub by_check : (words : List (List ℕ)) (P : Type 0) → AsksRecovery words → (AsksCheck words → P) → ((AsksCheck words → ⊥) → P) → P
-by_check = by_command Check check_or_not
+pub by_reading : (words : List (List ℕ)) (P : Type 0) → AsksRecovery words → (AsksReading words → P) → ((AsksReading words → ⊥) → P) → P
+by_reading words P (command, is, needs) here other =
+    elim (reading_or_not command) [ inl reads ↦ here (command, is, reads) | inr none ↦ other (λ asks. none (subst IsReading (same_Some _ _ (sym asks.1 ∙ is)) asks.2)) ]
 
 pub by_undo : (words : List (List ℕ)) (P : Type 0) → AsksRecovery words → (AsksUndo words → P) → ((AsksUndo words → ⊥) → P) → P
 by_undo = by_command Undo undo_or_not

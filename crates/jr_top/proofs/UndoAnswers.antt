@@ -1,10 +1,9 @@
 -- From the plan that takes the last change back, or the reason why there is none, to the answer to an undo.
-use Rattle.std.proofs.Common.{◌≡◌, ◌≢◌, ◌⊎◌, inl, inr, ⊎_elim, ℕ, suc, ◌≤◌, List, [], ◌∷◌, length, Option, Some, None, IsTrue, refl, sym, ap, subst, ◌∙◌, arith}
+use Rattle.std.proofs.Common.{◌≡◌, ◌≢◌, ◌⊎◌, inl, inr, ⊎_elim, ℕ, suc, ◌≤◌, List, [], ◌∷◌, length, Option, Some, None, refl, sym, ap, subst, ◌∙◌, arith}
 use Rattle.std.specs.Prelude.{IsSome}
 use Rattle.std.specs.List.{AllByRecursion}
 use Rattle.std.specs.Io.KnownBytes.{Appends}
 use Rattle.std.proofs.lemmas.Option.{same_Some, none-some}
-use Rattle.jr_base.specs.Paths.{is_java}
 use Rattle.jr_commit.specs.Entries.{PlainEntry}
 use Rattle.jr_commit.specs.Journal.{IsShaped, IsChange, old_sides}
 use Rattle.jr_commit.specs.Planned.{Planned, StartsCommit, ChangesOnlyPlanned}
@@ -28,7 +27,7 @@ use Rattle.jr_top.specs.Performing.{IsTaken, Commits, Reported}
 use Rattle.jr_top.specs.Plain.{AnswersPlain}
 use Rattle.jr_top.specs.Recovering.{Recovers}
 use Rattle.jr_top.specs.Renaming.{AsksRename, files_named, ForTold}
-use Rattle.jr_top.specs.Undoing.{AsksUndo, IsNotUndoable, MayTakeBack, IsTakenBack, IsBack, IsPartlyBack, Undoes, AnswersUndo, IsUndoAnswer, no_undo}
+use Rattle.jr_top.specs.Undoing.{AsksUndo, IsNotUndoable, IsTakenBack, IsBack, IsPartlyBack, Undoes, AnswersUndo, IsUndoAnswer, no_undo}
 use Rattle.jr_top.specs.declared.status.Phase.TheVariants.{Recovering, Reading, Writing}
 use Rattle.jr_top.specs.declared.status.Report.TheVariants.{Changed}
 use Rattle.jr_top.specs.declared.status.Status.{Status}

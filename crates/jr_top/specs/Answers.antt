@@ -13,9 +13,9 @@ use Rattle.jr_top.specs.Recovering.{AsksRecovery, Recovers}
 use Rattle.jr_top.specs.Renaming.{AsksRename, AsksSomeRename, files_named, Holds, ForTold}
 use Rattle.jr_top.specs.Served.{AsksUnserved}
 use Rattle.jr_top.specs.declared.status.Phase.TheVariants.{Recovering, Reading, Writing}
-use Rattle.jr_top.specs.declared.status.Report.TheVariants.{Changed}
+use Rattle.jr_top.specs.declared.status.Report.TheVariants.{Changed, Printed}
 use Rattle.jr_top.specs.declared.status.Status.{Status}
-use Rattle.jr_top.specs.declared.status.Status.TheVariants.{Done, BadWords, NoSpelling, BrokenRule, StoreFault, SinkFault, TooLarge, OutOfMemory, BadJournal, NotYet}
+use Rattle.jr_top.specs.declared.status.Status.TheVariants.{Done, BadWords, NoSpelling, BrokenRule, StoreFault, SinkFault, TooLarge, OutOfMemory, BadJournal, NotYet, Differs}
 
 -- The words ask for the rename of a file, whose path has at most 1,024 bytes, and it holds bytes of which this is so.
 -- What a store does not tell is not known.
@@ -58,6 +58,10 @@ AnswersFound words found left outcomes before after other = ⊥
 abbrev pub OnFound : List (List ℕ) → Option Image → Option Image → (Image → Type 0) → ℕ → ℕ → Status → Type 0
 OnFound words told left outcomes before after status = (found : Option Image) × AsksRecovery words × Recovers told found × AnswersFound words found left outcomes before after status
 
+-- the words ask for a demonstration, which leaves every path as it was
+abbrev pub IsDemonstration : List (List ℕ) → Option Image → Option Image → Type 0
+IsDemonstration words told left = (left ≡ told) × IsSome (command_of words) × (AsksRecovery words → ⊥)
+
 -- When each answer comes, and what it leaves. One before the first write of recovery leaves every path as it was.
 abbrev pub Answers : List (List ℕ) → Option Image → Option Image → (Image → Type 0) → ℕ → ℕ → Status → Type 0
 Answers words told left outcomes before after BadWords = (left ≡ told) × (command_of words ≡ None)
@@ -66,7 +70,8 @@ Answers words told left outcomes before after BadJournal = (left ≡ told) × As
     × ForTold told (λ files. IsOpen files × ((restored : Image) → Restored files restored → ⊥))
 Answers words told left outcomes before after (StoreFault Recovering) = Tells told left KeepsOthers × AsksRecovery words × Rose before after
 Answers words told left outcomes before after OutOfMemory = (left ≡ told) ⊎ OnFound words told left outcomes before after OutOfMemory
-Answers words told left outcomes before after NotYet = ((left ≡ told) × IsSome (command_of words) × (AsksRecovery words → ⊥)) ⊎ OnFound words told left outcomes before after NotYet
+Answers words told left outcomes before after (Done (Printed text)) = IsDemonstration words told left
+Answers words told left outcomes before after (Differs request place) = IsDemonstration words told left
 Answers words told left outcomes before after other = OnFound words told left outcomes before after other
 
 -- The output gets the line. Where it fails, it gets a beginning of the line, and the answer says so.
@@ -99,6 +104,13 @@ IsFailure before after fewer more OutOfMemory = Unit {0}
 IsFailure before after fewer more (StoreFault phase) = Rose before after
 IsFailure before after fewer more SinkFault = Rose fewer more
 IsFailure before after fewer more other = ⊥
+
+-- what may be answered to a demonstration: its text, or that the engine has made something else than was asked for
+abbrev pub IsDemonstrated : Status → Type 0
+IsDemonstrated (Done (Printed text)) = Unit {0}
+IsDemonstrated (Differs request place) = Unit {0}
+IsDemonstrated OutOfMemory = Unit {0}
+IsDemonstrated other = ⊥
 
 -- what may be answered to a rename that is served
 abbrev pub IsServedAnswer : ℕ → ℕ → ℕ → ℕ → Status → Type 0

@@ -9,7 +9,6 @@ use Rattle.jr_request.specs.declared.command.Command.TheVariants.{Batch}
 use Rattle.jr_store.specs.Image.{Image, Rose}
 use Rattle.jr_top.specs.Answers.{IsFailure}
 use Rattle.jr_top.specs.Plain.{AnswersPlain}
-use Rattle.jr_top.specs.Served.{AreServed}
 use Rattle.jr_top.specs.declared.status.Status.{Status}
 use Rattle.jr_top.specs.declared.status.Status.TheVariants.{BadRequest, SourceFault, TooLarge, OutOfMemory, NotYet}
 
@@ -17,12 +16,11 @@ use Rattle.jr_top.specs.declared.status.Status.TheVariants.{BadRequest, SourceFa
 abbrev pub AsksBatch : List (List ℕ) → Type 0
 AsksBatch words = command_of words ≡ Some Batch
 
--- what is answered to an input alone: a refusal by the first test that fails, and that a request is not served yet
+-- what is answered to an input alone: a refusal by the first test that fails
 abbrev pub Hears : Option (List ℕ) → ℕ → ℕ → Status → Type 0
 Hears told quiet loud SourceFault = Rose quiet loud
 Hears told quiet loud (TooLarge what request) = (request ≡ 0) × ForInput told (λ bytes. IsInputAnswer bytes (Err (fault.TooLarge what)))
 Hears told quiet loud (BadRequest request reason field) = (reason ≡ 9) × ForInput told (λ bytes. IsInputAnswer bytes (Err (fault.Refused request field)))
-Hears told quiet loud NotYet = ForInput told (λ bytes. (requests : List Request) × IsInputAnswer bytes (Ok requests) × (AreServed requests → ⊥))
 Hears told quiet loud OutOfMemory = Unit {0}
 Hears told quiet loud other = ⊥
 
@@ -37,12 +35,12 @@ pub record IsHeard (told left : Option Image) (kept outcomes : Image → Type 0)
 abbrev pub AnswersBatch : List (List ℕ) → Option Image → Option Image → (Image → Type 0) → ℕ → ℕ → Option (List ℕ) → ℕ → ℕ → Status → Type 0
 AnswersBatch words told left outcomes before after heard quiet loud status = AnswersPlain words told left outcomes before after (Hears heard quiet loud) status
 
--- the engine does not serve the input: it is refused, or a request is of a kind that is not served
+-- the input is refused, and not for the engine
 abbrev pub IsNotPlanned : Result (List Request) BatchFault → Type 0
-IsNotPlanned (Ok requests) = AreServed requests → ⊥
+IsNotPlanned (Ok requests) = ⊥
 IsNotPlanned (Err why) = Unit {0}
 
--- the answer of the call that is the answer of its input
+-- the answer of the call that is the answer of its input, where that is a refusal
 abbrev pub status_of : Result (List Request) BatchFault → Status
 status_of (Ok requests) = NotYet
 status_of (Err (fault.TooLarge what)) = TooLarge what 0

@@ -2,7 +2,6 @@
 use Rattle.std.specs.Prelude.{◌≡◌, ℕ, ◌≤◌, List, length, Contains, Option, Some, None, Ok, Err}
 use Rattle.std.specs.FinMap as map
 use Rattle.jr_base.specs.Files.{FileMap}
-use Rattle.jr_base.specs.declared.ids.RuleId.{RuleId}
 use Rattle.jr_base.specs.declared.limits.Size.{Size}
 use Rattle.jr_lex.specs.declared.fault.LexFault.TheVariants as lexing
 use Rattle.jr_parse.specs.declared.fault.ParseFault.TheVariants as parsing
@@ -11,22 +10,33 @@ use Rattle.jr_front.specs.Checking.{CheckedAs}
 use Rattle.jr_front.specs.declared.fault.FrontFault.{FrontFault}
 use Rattle.jr_front.specs.declared.fault.FrontFault.TheVariants as front
 use Rattle.jr_gather.specs.Gathering.{HoldsFiles, IsTooLarge}
+use Rattle.jr_change.specs.declared.reason.Reason.{Reason}
 use Rattle.jr_check.specs.Small.{IsSmallProgram}
 use Rattle.jr_commit.specs.Restoring.{SameFiles}
 use Rattle.jr_request.specs.Words.{command_of}
-use Rattle.jr_request.specs.declared.command.Command.TheVariants.{Check}
+use Rattle.jr_request.specs.declared.command.Command.{Command}
+use Rattle.jr_request.specs.declared.command.Command.TheVariants.{Check, Refs, Subtypes, Callers}
 use Rattle.jr_store.specs.Image.{Image, Tells, Rose}
 use Rattle.jr_top.specs.Plain.{AnswersPlain}
+use Rattle.jr_top.specs.Reasons.{reason_number}
 use Rattle.jr_top.specs.Renaming.{IsOnly, ForTold}
 use Rattle.jr_top.specs.declared.status.Phase.TheVariants.{Reading}
-use Rattle.jr_top.specs.declared.status.Report.TheVariants.{Checked}
+use Rattle.jr_top.specs.declared.status.Report.TheVariants.{Checked, Printed}
 use Rattle.jr_top.specs.declared.status.Status.{Status}
-use Rattle.jr_top.specs.declared.status.Status.TheVariants.{Done, NotCompiling, StoreFault, TooLarge, OutOfMemory}
+use Rattle.jr_top.specs.declared.status.Status.TheVariants.{Done, BadRequest, NotCompiling, StoreFault, TooLarge, OutOfMemory}
 use Rattle.jr_top.specs.declared.status.NotCompiling.TheVariants as fault
 
--- the words ask whether the files compile
-abbrev pub AsksCheck : List (List ℕ) → Type 0
-AsksCheck words = command_of words ≡ Some Check
+-- a command that reads the files and leaves them: a check, or a report of uses
+abbrev pub IsReading : Command → Type 0
+IsReading Check = Unit {0}
+IsReading (Refs file at) = Unit {0}
+IsReading (Subtypes file at) = Unit {0}
+IsReading (Callers file at) = Unit {0}
+IsReading other = ⊥
+
+-- the words ask for such a command
+abbrev pub AsksReading : List (List ℕ) → Type 0
+AsksReading words = (command : Command) × (command_of words ≡ Some command) × IsReading command
 
 -- a path of at most 1,024 bytes in no folder, where a unit of the unnamed package stands (JLS 7.2)
 pub record IsTopFile (file : List ℕ) : Type 0 where
@@ -79,23 +89,45 @@ pub data Fronted (found : FileMap) (paths : List (List ℕ)) (status : Status) :
   front_refuses : {why : FrontFault} → CheckedAs found (Err why) → paths ≡ map.keys found → status ≡ status_of why → Fronted found paths status
   front_wants_memory : status ≡ OutOfMemory → Fronted found paths status
 
--- when each answer comes
-abbrev pub Checks : Option Image → List (List ℕ) → ℕ → ℕ → Status → Type 0
-Checks told paths before after (Done (Checked files)) = ForTold told (λ f. IsVerdict f paths (Done (Checked files)))
-Checks told paths before after (NotCompiling why) = ForTold told (λ f. IsVerdict f paths (NotCompiling why))
-Checks told paths before after (TooLarge what request) = ForTold told (λ f. IsVerdict f paths (TooLarge what request))
-Checks told paths before after (StoreFault Reading) = Rose before after
-Checks told paths before after OutOfMemory = Unit {0}
-Checks told paths before after other = ⊥
+-- What is shown of the files: a text of those that compile, or why what is asked for cannot be, and else what the front says of them, unless they are too large
+-- to be read. Of the text nothing is said yet.
+pub data IsShown (f : Image) (paths : List (List ℕ)) (status : Status) : Type 0 where
+  shows : {found : FileMap} {text : List ℕ} → HoldsFiles f found → CheckedAs found (Ok tt) → status ≡ Done (Printed text) → IsShown f paths status
+  shows_none : {found : FileMap} (reason : Reason) → HoldsFiles f found → CheckedAs found (Ok tt) → status ≡ BadRequest 0 (reason_number reason) None → IsShown f paths status
+  shows_refusal : {found : FileMap} {why : FrontFault} → HoldsFiles f found → CheckedAs found (Err why) → paths ≡ map.keys found → status ≡ status_of why → IsShown f paths status
+  shows_size : {what : Size} → IsTooLarge f what → status ≡ TooLarge what 0 → IsShown f paths status
 
--- When each answer to a check comes. The files that recovery has found are read, and left.
-abbrev pub AnswersCheck : List (List ℕ) → List (List ℕ) → Option Image → Option Image → (Image → Type 0) → ℕ → ℕ → Status → Type 0
-AnswersCheck words paths told left outcomes before after status = AnswersPlain words told left outcomes before after (Checks left paths before after) status
+-- what is shown of the files that were read
+pub data Showed (found : FileMap) (paths : List (List ℕ)) (status : Status) : Type 0 where
+  has_text : {text : List ℕ} → CheckedAs found (Ok tt) → status ≡ Done (Printed text) → Showed found paths status
+  has_reason : (reason : Reason) → CheckedAs found (Ok tt) → status ≡ BadRequest 0 (reason_number reason) None → Showed found paths status
+  has_refusal : {why : FrontFault} → CheckedAs found (Err why) → paths ≡ map.keys found → status ≡ status_of why → Showed found paths status
+  has_no_memory : status ≡ OutOfMemory → Showed found paths status
+
+-- what is said of the files to a check, and to another command that reads them
+abbrev pub IsSaid : Option Command → Image → List (List ℕ) → Status → Type 0
+IsSaid (Some Check) f paths status = IsVerdict f paths status
+IsSaid other f paths status = IsShown f paths status
+
+-- when each answer comes
+abbrev pub Checks : Option Command → Option Image → List (List ℕ) → ℕ → ℕ → Status → Type 0
+Checks asked told paths before after (Done (Checked files)) = ForTold told (λ f. IsSaid asked f paths (Done (Checked files)))
+Checks asked told paths before after (Done (Printed text)) = ForTold told (λ f. IsSaid asked f paths (Done (Printed text)))
+Checks asked told paths before after (BadRequest request reason field) = ForTold told (λ f. IsSaid asked f paths (BadRequest request reason field))
+Checks asked told paths before after (NotCompiling why) = ForTold told (λ f. IsSaid asked f paths (NotCompiling why))
+Checks asked told paths before after (TooLarge what request) = ForTold told (λ f. IsSaid asked f paths (TooLarge what request))
+Checks asked told paths before after (StoreFault Reading) = Rose before after
+Checks asked told paths before after OutOfMemory = Unit {0}
+Checks asked told paths before after other = ⊥
+
+-- When each answer to a command comes that reads the files. They are those that recovery has found, and are left.
+abbrev pub AnswersReading : List (List ℕ) → List (List ℕ) → Option Image → Option Image → (Image → Type 0) → ℕ → ℕ → Status → Type 0
+AnswersReading words paths told left outcomes before after status = AnswersPlain words told left outcomes before after (Checks (command_of words) left paths before after) status
 
 -- the answer is that of the files found, and they are left
-pub record IsCheckedSo (found : Image) (left : Option Image) (status : Status) : Type 0 where
+pub record IsCheckedSo (asked : Option Command) (found : Image) (left : Option Image) (status : Status) : Type 0 where
   pub paths : List (List ℕ)
-  pub answer : IsVerdict found paths status
+  pub answer : IsSaid asked found paths status
   pub files : Tells (Some found) left (λ old new. SameFiles new old)
 
 -- what the bytes that were read say: these are the one file's, or there are none such

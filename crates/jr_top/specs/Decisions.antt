@@ -27,7 +27,7 @@ use Rattle.jr_top.specs.Batches.{Hears}
 use Rattle.jr_top.specs.Changing.{IsPlanOf, IsTooLong}
 use Rattle.jr_top.specs.Engine.{IsPassedOn, answer_to}
 use Rattle.jr_top.specs.Renaming.{Holds, IsUnserved, ForTold}
-use Rattle.jr_top.specs.Served.{AreServed, IsServedCommand}
+use Rattle.jr_top.specs.Served.{IsServedCommand}
 use Rattle.jr_top.specs.declared.decide.Decision.{Decision}
 use Rattle.jr_top.specs.declared.decide.Decision.TheVariants.{Answer, Refuse, Change}
 use Rattle.jr_top.specs.declared.decide.Found.{Found}
@@ -140,15 +140,15 @@ pub data DecidesAll (requests : List Request) (told : Option Image) (before afte
 abbrev pub DecidesOne : Request → Option Image → ℕ → ℕ → Decision → Type 0
 DecidesOne request told before after decision = DecidesCommand (command.One request) told before after decision ⊎ (IsPassedOn request told × DecidesAll (request ∷ []) told before after decision)
 
--- what is heard: served requests of the input, or what is answered to it alone
+-- what is heard: the requests of the input, or what is answered to it alone
 abbrev pub HearsSo : Option (List ℕ) → ℕ → ℕ → Heard → Type 0
-HearsSo told quiet loud (heard.Requests requests) = ForInput told (λ bytes. IsInputAnswer bytes (Ok requests.items)) × AreServed requests.items
+HearsSo told quiet loud (heard.Requests requests) = ForInput told (λ bytes. IsInputAnswer bytes (Ok requests.items))
 HearsSo told quiet loud (heard.Answer said) = Hears told quiet loud said
 
 -- when each decision on an input comes: by what it says, or by the requests that it asks for
 abbrev pub DecidesInput : Option (List ℕ) → ℕ → ℕ → Option Image → ℕ → ℕ → Decision → Type 0
 DecidesInput input quiet loud told before after decision = ((said : Status) × (decision ≡ Answer said) × Hears input quiet loud said)
-    ⊎ ((requests : List Request) × ForInput input (λ bytes. IsInputAnswer bytes (Ok requests)) × AreServed requests × DecidesAll requests told before after decision)
+    ⊎ ((requests : List Request) × ForInput input (λ bytes. IsInputAnswer bytes (Ok requests)) × DecidesAll requests told before after decision)
 
 -- when each decision on a command comes
 abbrev pub Chooses : Command → Option (List ℕ) → ℕ → ℕ → Option Image → ℕ → ℕ → Decision → Type 0

@@ -1,19 +1,21 @@
--- The changes that the engine makes: a rename, a move, or a batch of these.
-use Rattle.std.specs.Prelude.{◌≡◌, ◌≢◌, ℕ, suc, List, [], ◌∷◌, length, Option, Some, None, Ok, Err, ⊤}
+-- The changes that the engine makes: one request, or a batch of requests.
+use Rattle.std.specs.Prelude.{◌≡◌, ◌≢◌, ℕ, suc, List, [], ◌∷◌, length, Option, Some, None, Ok, Err, Bool, if◌then◌else◌, ⊤}
 use Rattle.jr_base.specs.Files.{FileMap}
 use Rattle.jr_base.specs.declared.limits.Size.{Size}
 use Rattle.jr_base.specs.declared.request.Request.{Request}
-use Rattle.jr_base.specs.declared.request.Request.TheVariants.{Rename, Move}
+use Rattle.jr_base.specs.declared.request.Request.TheVariants.{Rename}
 use Rattle.jr_batch.specs.Input.{ForInput, IsInputAnswer}
 use Rattle.jr_top.specs.Reasons.{reason_number}
 use Rattle.jr_commit.specs.Differences.{differences}
 use Rattle.jr_commit.specs.Journal.{spelling, new_sides}
 use Rattle.jr_commit.specs.Restoring.{journal_path, gate_path, RestoresTo, SameFiles}
-use Rattle.jr_commit.specs.SidesAt.{SideAt, IsOff}
+use Rattle.jr_commit.specs.SidesAt.{IsOff}
 use Rattle.jr_commit.specs.declared.entry.Version.TheVariants.{Two}
 use Rattle.jr_engine.specs.Planning.{PlannedAs}
 use Rattle.jr_engine.specs.declared.fault.EngineFault.{EngineFault}
 use Rattle.jr_engine.specs.declared.fault.EngineFault.TheVariants as engine
+use Rattle.jr_engine.specs.declared.fault.LostKind.{LostKind}
+use Rattle.jr_engine.specs.declared.fault.LostKind.TheVariants as lost
 use Rattle.jr_engine.specs.declared.fault.Refused.{Refused}
 use Rattle.jr_gather.specs.Gathering.{HoldsFiles, IsTooLarge}
 use Rattle.jr_request.specs.Words.{command_of}
@@ -24,29 +26,29 @@ use Rattle.jr_store.specs.Replay.{image_of}
 use Rattle.jr_top.specs.Checking.{status_of}
 use Rattle.jr_top.specs.Recovering.{AsksRecovery, Recovers}
 use Rattle.jr_top.specs.Renaming.{Holds, IsUnserved, ForTold}
-use Rattle.jr_top.specs.Served.{AreServed}
-use Rattle.jr_top.specs.declared.status.EdgeKind.TheVariants.{Dispatch}
+use Rattle.jr_top.specs.declared.status.EdgeKind.{EdgeKind}
+use Rattle.jr_top.specs.declared.status.EdgeKind.TheVariants.{Control, Dispatch, DefUse}
 use Rattle.jr_top.specs.declared.status.Phase.TheVariants.{Reading, Writing}
 use Rattle.jr_top.specs.declared.status.Report.TheVariants.{Changed}
-use Rattle.jr_top.specs.declared.status.Side.TheVariants.{Old}
+use Rattle.jr_top.specs.declared.status.Side.{Side}
+use Rattle.jr_top.specs.declared.status.Side.TheVariants.{Old, New}
 use Rattle.jr_top.specs.declared.status.Status.{Status}
 use Rattle.jr_top.specs.declared.status.Status.TheVariants as status
 
 -- ---- what is asked for
 
--- the request is for the engine: a move, or a rename that is not served as one in a small file
+-- the request is for the engine: a rename that is not served as one in a small file, or any other
 abbrev pub IsPassedOn : Request → Option Image → Type 0
 IsPassedOn (Rename file at name) told = ForTold told (λ files. (bytes : List ℕ) → Holds files file bytes → IsUnserved file bytes at name)
-IsPassedOn (Move file at into) told = ⊤
-IsPassedOn other told = ⊥
+IsPassedOn other told = ⊤
 
 -- the words ask for one request, which is for the engine
 abbrev pub AsksOne : List (List ℕ) → Option Image → List Request → Type 0
 AsksOne words found requests = (request : Request) × (command_of words ≡ Some (One request)) × (requests ≡ request ∷ []) × IsPassedOn request found
 
--- the words ask for the requests of the input, all of which are served
+-- the words ask for the requests of the input
 abbrev pub AsksAll : List (List ℕ) → Option (List ℕ) → Option Image → List Request → Type 0
-AsksAll words heard found requests = (command_of words ≡ Some Batch) × ForInput heard (λ bytes. IsInputAnswer bytes (Ok requests)) × AreServed requests
+AsksAll words heard found requests = (command_of words ≡ Some Batch) × ForInput heard (λ bytes. IsInputAnswer bytes (Ok requests))
 
 -- the requests that a command may ask for: its own, or those of an input
 abbrev pub MayAsk : Option Command → List Request → Type 0
@@ -56,16 +58,24 @@ MayAsk other requests = ⊥
 
 -- ---- what is answered, and what is left
 
+abbrev pub kind_of : LostKind → EdgeKind
+kind_of lost.Control = Control
+kind_of lost.Dispatch = Dispatch
+kind_of lost.DefUse = DefUse
+
+abbrev pub side_of : Bool → Side
+side_of is_old = if is_old then Old else New
+
 -- the answer to requests that are refused
 abbrev pub answer_to : ℕ → EngineFault → Status
 answer_to request (engine.Front why) = status_of why
 answer_to request (engine.BadRequest reason) = status.BadRequest request (reason_number reason) None
 answer_to request (engine.NoSpelling occ place lock) = status.NoSpelling request occ place lock
-answer_to request (engine.LostEdge class method) = status.LostEdge request (record { kind = Dispatch; first = class; second = method; side = Old })
+answer_to request (engine.LostEdge kind first second is_old) = status.LostEdge request (record { kind = kind_of kind; first = first; second = second; side = side_of is_old })
+answer_to request (engine.StillUsed place) = status.StillUsed place
 answer_to request (engine.Broken rule place) = status.BrokenRule request rule place
 answer_to request (engine.Differs place) = status.Differs request place
 answer_to request (engine.TooLarge what) = status.TooLarge what request
-answer_to request engine.NotServed = status.NotYet
 answer_to request engine.OutOfMemory = status.OutOfMemory
 
 -- old and new differ at the paths of the differences of the files, the journal and the gate at most

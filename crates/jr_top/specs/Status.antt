@@ -1,7 +1,7 @@
 -- The exit status of each answer.
 use Rattle.std.specs.Prelude.{ℕ}
 use Rattle.jr_top.specs.declared.status.Status.{Status}
-use Rattle.jr_top.specs.declared.status.Status.TheVariants.{Done, BadWords, BadRequest, NotCompiling, NoSpelling, LostEdge, BrokenRule, StoreFault, SourceFault, SinkFault, TooLarge, OutOfMemory, BadJournal, NoUndo, NotYet, Differs}
+use Rattle.jr_top.specs.declared.status.Status.TheVariants.{Done, BadWords, BadRequest, NotCompiling, NoSpelling, LostEdge, BrokenRule, StoreFault, SourceFault, SinkFault, TooLarge, OutOfMemory, BadJournal, NoUndo, StillUsed, NotYet, Differs}
 
 abbrev pub number_of : Status → ℕ
 number_of (Done report) = 0
@@ -17,6 +17,7 @@ number_of (TooLarge what request) = 9
 number_of OutOfMemory = 10
 number_of BadJournal = 11
 number_of (NoUndo reason path) = 12
+number_of (StillUsed place) = 13
 number_of SinkFault = 14
 number_of NotYet = 20
 number_of (Differs request place) = 21

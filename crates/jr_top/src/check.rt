@@ -2,6 +2,7 @@
 ghost use Rattle.std.specs.Prelude.{◌≡◌, ◌≤◌, ◌↔◌, [], ◌∷◌, ℕ, List, Some, IsTrue, IfOk, IfSome, MatchOption, length, option_map, Result, map, Vec};
 ghost use Rattle.jr_front.specs.declared.fault.FrontFault.TheVariants as front;
 ghost use Rattle.jr_base.specs.Files.{plain};
+ghost use Rattle.jr_request.specs.declared.command.Command.TheVariants.{Check};
 ghost use Rattle.jr_store.specs.Image.{Image, HasStoreCause, LeavesOnly};
 ghost use Rattle.jr_top.specs.Checking.{IsTopFile, IsOneProgram, IsRead, Fronted, Checks, status_of};
 ghost use Rattle.jr_top.specs.Renaming.{ForTold};
@@ -78,8 +79,8 @@ fn is_one_program<S: Store>(alloc: Global, store: &mut S) -> Result<bool, StoreE
     }
 }
 
-// The paths of the files.
-fn paths_of(alloc: Global, found: &[(Path, Vec<u8>)]) -> Result<Vec<Path>, OutOfMemory>
+/// The paths of the files.
+pub fn paths_of(alloc: Global, found: &[(Path, Vec<u8>)]) -> Result<Vec<Path>, OutOfMemory>
     ensures { IfOk result (λ paths. paths.items ≡ map (λ e. e.0) (plain found.now)) }
 {
     let mut paths = Vec::new(alloc);
@@ -139,8 +140,8 @@ pub fn refusal(fault: FrontFault) -> Status
     }
 }
 
-// What is answered without paths.
-fn plainly(alloc: Global, status: Status) -> Verdict
+/// What is answered without paths.
+pub fn plainly(alloc: Global, status: Status) -> Verdict
     ensures status { result.status ≡ status }
     ensures paths { result.paths.items ≡ [] }
 {
@@ -171,7 +172,7 @@ fn judge(alloc: Global, found: &Files) -> Verdict
 
 // What is said of files that are not one small program.
 fn check_all<S: Store>(alloc: Global, store: &mut S) -> Verdict
-    ensures answer { (ForTold (S.files store.old) (λ files. IsOneProgram files → ⊥)) → Checks (S.files store.old) result.paths.items (S.faults store.old) (S.faults store.new) result.status }
+    ensures answer { (ForTold (S.files store.old) (λ files. IsOneProgram files → ⊥)) → Checks (Some Check) (S.files store.old) result.paths.items (S.faults store.old) (S.faults store.new) result.status }
     ensures files { S.files store.new ≡ S.files store.old }
     ensures later { S.faults store.old ≤ S.faults store.new }
     ensures crash { (c : Image) → S.may_leave store.new c → S.may_leave store.old c }
@@ -192,7 +193,7 @@ fn check_all<S: Store>(alloc: Global, store: &mut S) -> Verdict
 
 /// Says whether the files compile, and if not, why and where.
 pub fn check<S: Store>(alloc: Global, store: &mut S) -> Verdict
-    ensures answer { Checks (S.files store.old) result.paths.items (S.faults store.old) (S.faults store.new) result.status }
+    ensures answer { Checks (Some Check) (S.files store.old) result.paths.items (S.faults store.old) (S.faults store.new) result.status }
     ensures files { S.files store.new ≡ S.files store.old }
     ensures later { S.faults store.old ≤ S.faults store.new }
     ensures crash { (c : Image) → S.may_leave store.new c → S.may_leave store.old c }

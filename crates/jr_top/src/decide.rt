@@ -210,8 +210,7 @@ fn decide_one<S: Store>(alloc: Global, request: &Request, store: &mut S) -> Deci
                 small
             }
         }
-        Request::Move { .. } => decide_all(alloc, Asked::One(request), store),
-        _ => Decision::Answer(Status::NotYet),
+        _ => decide_all(alloc, Asked::One(request), store),
     }
 }
 

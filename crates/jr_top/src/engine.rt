@@ -3,7 +3,7 @@ ghost use Rattle.std.specs.Prelude.{◌≡◌, ◌≤◌, ◌∷◌, [], IfOk, O
 ghost use Rattle.jr_store.specs.Image.{Image, LeavesOnly};
 ghost use Rattle.jr_engine.specs.Planning.{IsAccepted, PlannedAs};
 ghost use Rattle.jr_top.specs.Decisions.{requests_of, IsPlanFor, DecidesFiles, DecidesAll};
-ghost use Rattle.jr_top.specs.Engine.{answer_to};
+ghost use Rattle.jr_top.specs.Engine.{answer_to, kind_of, side_of};
 ghost use Rattle.jr_top.specs.Reasons.{reason_number};
 
 use crate::check::refusal;
@@ -12,7 +12,7 @@ use crate::status::{Edge, EdgeKind, Phase, Report, Side, Status};
 use jr_base::{Files, OutOfMemory, Request};
 use jr_change::Reason;
 use jr_commit::{Plan, journal_fits};
-use jr_engine::{EngineFault, Refused, plan, plan_all};
+use jr_engine::{EngineFault, LostKind, Refused, plan, plan_all};
 use jr_gather::{Gathered, gather};
 use jr_store::{Store, StoreError};
 use std::alloc::Global;
@@ -34,8 +34,8 @@ fn plan_asked(alloc: Global, asked: Asked<'_>, found: &Files) -> Result<Files, R
     }
 }
 
-// The number by which a reason is answered.
-fn reason_number(reason: Reason) -> u8
+/// The number by which a reason is answered.
+pub fn reason_number(reason: Reason) -> u8
     ensures { result ≡ reason_number reason }
 {
     match reason {
@@ -48,6 +48,22 @@ fn reason_number(reason: Reason) -> u8
         Reason::BadRange => 7,
         Reason::BadSuperclass => 8,
     }
+}
+
+fn kind_of(kind: LostKind) -> EdgeKind
+    ensures { result ≡ kind_of kind }
+{
+    match kind {
+        LostKind::Control => EdgeKind::Control,
+        LostKind::Dispatch => EdgeKind::Dispatch,
+        LostKind::DefUse => EdgeKind::DefUse,
+    }
+}
+
+fn side_of(is_old: bool) -> Side
+    ensures { result ≡ side_of is_old }
+{
+    if is_old { Side::Old } else { Side::New }
 }
 
 // The answer to requests that are refused.
@@ -67,15 +83,21 @@ fn answer_to(request: u32, fault: EngineFault) -> Status
             place,
             lock,
         },
-        EngineFault::LostEdge { class, method } => Status::LostEdge {
+        EngineFault::LostEdge {
+            kind,
+            first,
+            second,
+            is_old,
+        } => Status::LostEdge {
             request,
             edge: Edge {
-                kind: EdgeKind::Dispatch,
-                first: class,
-                second: method,
-                side: Side::Old,
+                kind: kind_of(kind),
+                first,
+                second,
+                side: side_of(is_old),
             },
         },
+        EngineFault::StillUsed { place } => Status::StillUsed { place },
         EngineFault::Broken { rule, place } => Status::BrokenRule {
             request,
             rule,
@@ -83,7 +105,6 @@ fn answer_to(request: u32, fault: EngineFault) -> Status
         },
         EngineFault::Differs { place } => Status::Differs { request, place },
         EngineFault::TooLarge(what) => Status::TooLarge { what, request },
-        EngineFault::NotServed => Status::NotYet,
         EngineFault::OutOfMemory => Status::OutOfMemory,
     }
 }

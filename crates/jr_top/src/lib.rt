@@ -6,6 +6,7 @@ mod decide;
 mod engine;
 mod hear;
 mod lines;
+mod show;
 mod status;
 mod top;
 mod turns;

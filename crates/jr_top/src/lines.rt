@@ -52,6 +52,10 @@ pub fn line_of(alloc: Global, paths: &[Path], status: &Status) -> Result<Vec<u8>
         Status::OutOfMemory => whole(alloc, "out of memory\n"),
         Status::BadJournal => whole(alloc, "bad journal\n"),
         Status::NoUndo { reason, path } => no_undo(alloc, *reason, path),
+        Status::StillUsed { place } => LineWriter::new(alloc)
+            .text("still used: ")?
+            .place(paths, *place)?
+            .end(),
         Status::NotYet => whole(alloc, "not yet\n"),
         Status::Differs { request, place } => LineWriter::of_request(alloc, *request)?
             .text("differs: ")?

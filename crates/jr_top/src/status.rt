@@ -127,6 +127,10 @@ pub enum Status {
         reason: u8,
         path: Option<Path>,
     },
+    /// What is to be removed is used at the place.
+    StillUsed {
+        place: Place,
+    },
     /// What is asked for is not served yet.
     NotYet,
     /// The changed text does not read as it is to at the place.
@@ -157,6 +161,7 @@ impl Status {
             Status::OutOfMemory => 10,
             Status::BadJournal => 11,
             Status::NoUndo { .. } => 12,
+            Status::StillUsed { .. } => 13,
             Status::SinkFault => 14,
             Status::NotYet => 20,
             Status::Differs { .. } => 21,

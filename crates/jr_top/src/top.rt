@@ -1,5 +1,5 @@
 // The top call: from the words, the store and the output to the answer.
-ghost use Rattle.std.specs.Prelude.{◌≡◌, ◌≢◌, ◌⊎◌, ◌↔◌, [], ℕ, List, Some, None, Result, OnOk, IsSome, IsTrue};
+ghost use Rattle.std.specs.Prelude.{◌≡◌, ◌≢◌, ◌⊎◌, ◌↔◌, [], ℕ, List, Some, None, Result, OnOk, IsSome, MatchOption};
 ghost use Rattle.jr_base.specs.declared.request.Request.{Request};
 ghost use Rattle.jr_batch.specs.Input.{IsInputAnswer, LeavesSome};
 ghost use Rattle.jr_batch.specs.declared.fault.BatchFault.{BatchFault};
@@ -10,9 +10,9 @@ ghost use Rattle.jr_request.specs.Words.{command_of};
 ghost use Rattle.jr_store.specs.Image.{Image, Tells, OnlyTold, LeavesOnly, HasCause};
 ghost use Rattle.jr_thin.specs.Renaming.{Serves, IsRenaming};
 ghost use Rattle.jr_thin.specs.declared.answers.Renaming.{Renaming};
-ghost use Rattle.jr_top.specs.Answers.{AnswersFound, Answers, Reports, IsReported, reported, Outcome, OutcomeOf, IsFailure, IsServedAnswer};
+ghost use Rattle.jr_top.specs.Answers.{AnswersFound, Answers, Reports, IsReported, reported, Outcome, OutcomeOf, IsFailure, IsDemonstrated, IsServedAnswer};
 ghost use Rattle.jr_top.specs.Batches.{AsksBatch, Hears, IsHeard, AnswersBatch, IsNotPlanned, status_of, IsBatchFailure};
-ghost use Rattle.jr_top.specs.Checking.{AsksCheck, Checks, AnswersCheck, IsCheckedSo};
+ghost use Rattle.jr_top.specs.Checking.{IsReading, AsksReading, Checks, AnswersReading, IsCheckedSo};
 ghost use Rattle.jr_top.specs.Crash.{StandsForEither, Survives, IsSettled, SurvivesSettled, LeavesStart};
 ghost use Rattle.jr_top.specs.Engine.{AsksOne, AsksAll, PlansAsked, AnswersPlanned};
 ghost use Rattle.jr_top.specs.Exact.{IsAnswered};
@@ -20,18 +20,19 @@ ghost use Rattle.jr_top.specs.Line.{line_of};
 ghost use Rattle.jr_top.specs.Recovering.{AsksRecovery, NeedsFiles};
 ghost use Rattle.jr_top.specs.Renaming.{AsksRename, Holds};
 ghost use Rattle.jr_top.specs.Performing.{IsTaken, Commits, Reported, ReportedOf};
-ghost use Rattle.jr_top.specs.Served.{AsksServed};
 ghost use Rattle.jr_top.specs.Undoing.{AsksUndo, Undoes, AnswersUndo, IsUndoAnswer};
 ghost use Rattle.jr_top.specs.declared.status.Status.{Status};
-ghost use Rattle.jr_top.specs.declared.status.Status.TheVariants.{BadJournal, BadWords, NotYet};
+ghost use Rattle.jr_top.specs.declared.status.Status.TheVariants.{BadJournal, BadWords};
 
-use crate::check::{Verdict, check};
+use crate::check::Verdict;
 use crate::decide::{Decision, decide};
 use crate::lines::line_of;
+use crate::show::{is_reading, read_files};
 use crate::status::{Phase, Report, Status};
 use crate::undo::refusal;
-use jr_base::{Path, Text};
+use jr_base::{CuId, Path, Place, Text};
 use jr_commit::{Plan, RecoverFault, commit, plan_undo, recover};
+use jr_demo::{DemoFault, demo};
 use jr_request::{Command, RequestFault, read_words};
 use jr_store::{Failed, Sink, Source, Store};
 use std::alloc::Global;
@@ -103,7 +104,7 @@ fn obey<S: Store, I: Source, O: Sink>(
     input: &mut I,
     out: &mut O,
 ) -> Status
-    ensures answer { (words : List (List ℕ)) → command_of words ≡ Some command.now → (command.now ≡ Command.Batch → ⊥) → (command.now ≡ Command.Check → ⊥) → (command.now ≡ Command.Undo → ⊥) →
+    ensures answer { (words : List (List ℕ)) → command_of words ≡ Some command.now → (command.now ≡ Command.Batch → ⊥) → (IsReading command.now → ⊥) → (command.now ≡ Command.Undo → ⊥) →
         Reported words (λ status. AnswersFound words (S.files store.old) (S.files store.new) (S.may_leave store.new) (S.faults store.old) (S.faults store.new) status
         × SurvivesSettled words (S.files store.old) (S.may_leave store.old) (S.may_leave store.new) status) result (O.contents out.old) (O.contents out.new) (O.faults out.old) (O.faults out.new)
         ⊎ ((paths : List (List ℕ)) × ReportedOf (line_of paths) (λ status. PlansAsked (AsksOne words) paths (S.files store.old) (S.files store.new) (S.may_leave store.new) (S.faults store.old) (S.faults store.new) status
@@ -140,7 +141,7 @@ fn take_back<S: Store, O: Sink>(alloc: Global, store: &mut S, out: &mut O) -> St
     }
 }
 
-// Checks the files, takes the last change back, or does what another command asks for, on the files found.
+// Reads the files and leaves them, takes the last change back, or does what another command asks for, on the files found.
 fn serve<S: Store, I: Source, O: Sink>(
     alloc: Global,
     command: &Command,
@@ -148,7 +149,7 @@ fn serve<S: Store, I: Source, O: Sink>(
     input: &mut I,
     out: &mut O,
 ) -> Status
-    ensures answer { (words : List (List ℕ)) → command_of words ≡ Some command.now → (command.now ≡ Command.Batch → ⊥) → (command.now ≡ Command.Check → ⊥) → (command.now ≡ Command.Undo → ⊥) →
+    ensures answer { (words : List (List ℕ)) → command_of words ≡ Some command.now → (command.now ≡ Command.Batch → ⊥) → (IsReading command.now → ⊥) → (command.now ≡ Command.Undo → ⊥) →
         Reported words (λ status. AnswersFound words (S.files store.old) (S.files store.new) (S.may_leave store.new) (S.faults store.old) (S.faults store.new) status
         × SurvivesSettled words (S.files store.old) (S.may_leave store.old) (S.may_leave store.new) status) result (O.contents out.old) (O.contents out.new) (O.faults out.old) (O.faults out.new)
         ⊎ ((paths : List (List ℕ)) × ReportedOf (line_of paths) (λ status. PlansAsked (AsksOne words) paths (S.files store.old) (S.files store.new) (S.may_leave store.new) (S.faults store.old) (S.faults store.new) status
@@ -157,37 +158,58 @@ fn serve<S: Store, I: Source, O: Sink>(
         × IsReported status [] result (O.contents out.old) (O.contents out.new) (O.faults out.old) (O.faults out.new))
         ⊎ ((paths : List (List ℕ)) × ReportedOf (line_of paths) (λ status. PlansAsked (AsksAll words (I.left input.old)) paths (S.files store.old) (S.files store.new) (S.may_leave store.new) (S.faults store.old) (S.faults store.new) status
         × SurvivesSettled words (S.files store.old) (S.may_leave store.old) (S.may_leave store.new) status) result (O.contents out.old) (O.contents out.new) (O.faults out.old) (O.faults out.new)) }
-    ensures check { command.now ≡ Command.Check → (paths : List (List ℕ)) × (status : Status) × Checks (S.files store.old) paths (S.faults store.old) (S.faults store.new) status
+    ensures reading { IsReading command.now → (paths : List (List ℕ)) × (status : Status) × Checks (Some command.now) (S.files store.old) paths (S.faults store.old) (S.faults store.new) status
         × IsReported status paths result (O.contents out.old) (O.contents out.new) (O.faults out.old) (O.faults out.new) }
     ensures undo { (words : List (List ℕ)) → AsksUndo words → command.now ≡ Command.Undo →
         Reported words (λ status. Undoes (S.files store.old) (S.files store.new) (S.may_leave store.new) (S.faults store.old) (S.faults store.new) status
         × SurvivesSettled words (S.files store.old) (S.may_leave store.old) (S.may_leave store.new) status) result (O.contents out.old) (O.contents out.new) (O.faults out.old) (O.faults out.new) }
-    ensures check_files { command.now ≡ Command.Check → S.files store.new ≡ S.files store.old }
-    ensures check_crash { command.now ≡ Command.Check → (c : Image) → S.may_leave store.new c → S.may_leave store.old c }
+    ensures reading_files { IsReading command.now → S.files store.new ≡ S.files store.old }
+    ensures reading_crash { IsReading command.now → (c : Image) → S.may_leave store.new c → S.may_leave store.old c }
     ensures next { MayBegin (S.files store.old) (S.may_leave store.old) → LeavesStart (S.faults store.old) (S.faults store.new) (MayBegin (S.files store.new) (S.may_leave store.new)) result }
     ensures any_moment { (words : List (List ℕ)) (f r : Image) → command_of words ≡ Some command.now → S.files store.old ≡ Some f → IsSettled f r (S.may_leave store.old) →
         LeavesOnly S.moment S.left_since store.old store.new (StandsForEither words r) }
     ensures unread { (command.now ≡ Command.Batch → ⊥) → input.new ≡ input.old }
     ensures taken { (bytes : List ℕ) → I.left input.old ≡ Some bytes → LeavesSome bytes (I.left input.new) }
 {
+    if is_reading(command) {
+        let Verdict { status, paths } = read_files(alloc, command, store);
+        return report(alloc, status, &paths, out);
+    }
     match command {
-        Command::Check => {
-            let Verdict { status, paths } = check(alloc, store);
-            report(alloc, status, &paths, out)
-        }
         Command::Undo => take_back(alloc, store, out),
         _ => obey(alloc, command, store, input, out),
     }
 }
 
-// Whether the command reads the files.
-fn needs_files(command: &Command) -> bool
-    ensures { IsTrue result ↔ NeedsFiles command.now }
+// How many classes a demonstration makes; None of a command that needs the files.
+fn count_of(command: &Command) -> Option<u32>
+    ensures { MatchOption result (NeedsFiles command.now) (λ count. NeedsFiles command.now → ⊥) }
 {
     match command {
-        Command::Demo(_) => false,
-        _ => true,
+        Command::Demo(count) => Some(*count),
+        _ => None,
     }
+}
+
+// What a demonstration says.
+fn demonstrated(alloc: Global, count: u32) -> Status
+    ensures { IsDemonstrated result }
+{
+    match demo(alloc, count) {
+        Ok(text) => Status::Done(Report::Printed(text)),
+        Err(DemoFault::Refused) => Status::Differs {
+            request: 0,
+            place: Place { cu: CuId(0), at: 0 },
+        },
+        Err(DemoFault::OutOfMemory) => Status::OutOfMemory,
+    }
+}
+
+// Shows what the engine makes of a workspace of so many classes in memory.
+fn demonstrate<O: Sink>(alloc: Global, count: u32, out: &mut O) -> Status
+    ensures { (status : Status) × IsDemonstrated status × IsReported status [] result (O.contents out.old) (O.contents out.new) (O.faults out.old) (O.faults out.new) }
+{
+    report(alloc, demonstrated(alloc, count), &[], out)
 }
 
 // Puts back what an earlier run left half done, and does what a command asks for.
@@ -198,7 +220,7 @@ fn recover_first<S: Store, I: Source, O: Sink>(
     input: &mut I,
     out: &mut O,
 ) -> Status
-    ensures answer { (words : List (List ℕ)) → command_of words ≡ Some command.now → NeedsFiles command.now → (command.now ≡ Command.Batch → ⊥) → (command.now ≡ Command.Check → ⊥) → (command.now ≡ Command.Undo → ⊥) →
+    ensures answer { (words : List (List ℕ)) → command_of words ≡ Some command.now → NeedsFiles command.now → (command.now ≡ Command.Batch → ⊥) → (IsReading command.now → ⊥) → (command.now ≡ Command.Undo → ⊥) →
         Reported words (λ status. Answers words (S.files store.old) (S.files store.new) (S.may_leave store.new) (S.faults store.old) (S.faults store.new) status
         × Survives words (S.files store.old) (S.may_leave store.old) (S.may_leave store.new) status) result (O.contents out.old) (O.contents out.new) (O.faults out.old) (O.faults out.new)
         ⊎ ((paths : List (List ℕ)) × ReportedOf (line_of paths) (λ status. AnswersPlanned words (AsksOne words) paths (S.files store.old) (S.files store.new) (S.may_leave store.new) (S.faults store.old) (S.faults store.new) status
@@ -208,8 +230,8 @@ fn recover_first<S: Store, I: Source, O: Sink>(
         × Survives words (S.files store.old) (S.may_leave store.old) (S.may_leave store.new) status) result (O.contents out.old) (O.contents out.new) (O.faults out.old) (O.faults out.new)
         ⊎ ((paths : List (List ℕ)) × ReportedOf (line_of paths) (λ status. AnswersPlanned words (AsksAll words (I.left input.old)) paths (S.files store.old) (S.files store.new) (S.may_leave store.new) (S.faults store.old) (S.faults store.new) status
         × Survives words (S.files store.old) (S.may_leave store.old) (S.may_leave store.new) status) result (O.contents out.old) (O.contents out.new) (O.faults out.old) (O.faults out.new)) }
-    ensures check { (words : List (List ℕ)) → AsksCheck words → command.now ≡ Command.Check →
-        (paths : List (List ℕ)) × ReportedOf (line_of paths) (λ status. AnswersCheck words paths (S.files store.old) (S.files store.new) (S.may_leave store.new) (S.faults store.old) (S.faults store.new) status
+    ensures reading { (words : List (List ℕ)) → AsksReading words → command_of words ≡ Some command.now → IsReading command.now →
+        (paths : List (List ℕ)) × ReportedOf (line_of paths) (λ status. AnswersReading words paths (S.files store.old) (S.files store.new) (S.may_leave store.new) (S.faults store.old) (S.faults store.new) status
         × Survives words (S.files store.old) (S.may_leave store.old) (S.may_leave store.new) status) result (O.contents out.old) (O.contents out.new) (O.faults out.old) (O.faults out.new) }
     ensures undo { (words : List (List ℕ)) → AsksUndo words → command.now ≡ Command.Undo →
         Reported words (λ status. AnswersUndo words (S.files store.old) (S.files store.new) (S.may_leave store.new) (S.faults store.old) (S.faults store.new) status
@@ -242,7 +264,7 @@ fn perform<S: Store, I: Source, O: Sink>(
     input: &mut I,
     out: &mut O,
 ) -> Status
-    ensures answer { (AsksBatch words.now → ⊥) → (AsksCheck words.now → ⊥) → (AsksUndo words.now → ⊥) → Reported words.now (λ status. Answers words.now (S.files store.old) (S.files store.new) (S.may_leave store.new) (S.faults store.old) (S.faults store.new) status
+    ensures answer { (AsksBatch words.now → ⊥) → (AsksReading words.now → ⊥) → (AsksUndo words.now → ⊥) → Reported words.now (λ status. Answers words.now (S.files store.old) (S.files store.new) (S.may_leave store.new) (S.faults store.old) (S.faults store.new) status
         × Survives words.now (S.files store.old) (S.may_leave store.old) (S.may_leave store.new) status) result (O.contents out.old) (O.contents out.new) (O.faults out.old) (O.faults out.new)
         ⊎ ((paths : List (List ℕ)) × ReportedOf (line_of paths) (λ status. AnswersPlanned words.now (AsksOne words.now) paths (S.files store.old) (S.files store.new) (S.may_leave store.new) (S.faults store.old) (S.faults store.new) status
         × Survives words.now (S.files store.old) (S.may_leave store.old) (S.may_leave store.new) status) result (O.contents out.old) (O.contents out.new) (O.faults out.old) (O.faults out.new)) }
@@ -250,7 +272,7 @@ fn perform<S: Store, I: Source, O: Sink>(
         × Survives words.now (S.files store.old) (S.may_leave store.old) (S.may_leave store.new) status) result (O.contents out.old) (O.contents out.new) (O.faults out.old) (O.faults out.new)
         ⊎ ((paths : List (List ℕ)) × ReportedOf (line_of paths) (λ status. AnswersPlanned words.now (AsksAll words.now (I.left input.old)) paths (S.files store.old) (S.files store.new) (S.may_leave store.new) (S.faults store.old) (S.faults store.new) status
         × Survives words.now (S.files store.old) (S.may_leave store.old) (S.may_leave store.new) status) result (O.contents out.old) (O.contents out.new) (O.faults out.old) (O.faults out.new)) }
-    ensures check { AsksCheck words.now → (paths : List (List ℕ)) × ReportedOf (line_of paths) (λ status. AnswersCheck words.now paths (S.files store.old) (S.files store.new) (S.may_leave store.new) (S.faults store.old) (S.faults store.new) status
+    ensures reading { AsksReading words.now → (paths : List (List ℕ)) × ReportedOf (line_of paths) (λ status. AnswersReading words.now paths (S.files store.old) (S.files store.new) (S.may_leave store.new) (S.faults store.old) (S.faults store.new) status
         × Survives words.now (S.files store.old) (S.may_leave store.old) (S.may_leave store.new) status) result (O.contents out.old) (O.contents out.new) (O.faults out.old) (O.faults out.new) }
     ensures undo { AsksUndo words.now → Reported words.now (λ status. AnswersUndo words.now (S.files store.old) (S.files store.new) (S.may_leave store.new) (S.faults store.old) (S.faults store.new) status
         × Survives words.now (S.files store.old) (S.may_leave store.old) (S.may_leave store.new) status) result (O.contents out.old) (O.contents out.new) (O.faults out.old) (O.faults out.new) }
@@ -266,16 +288,15 @@ fn perform<S: Store, I: Source, O: Sink>(
         Err(RequestFault::BadWords) => return report(alloc, Status::BadWords, &[], out),
         Err(_) => return report(alloc, Status::OutOfMemory, &[], out),
     };
-    if !needs_files(&command) {
-        return report(alloc, Status::NotYet, &[], out);
+    if let Some(count) = count_of(&command) {
+        return demonstrate(alloc, count, out);
     }
     recover_first(alloc, &command, store, input, out)
 }
 
 /// Does what the words ask for, and writes one line.
 ///
-/// The first word is the folder, which is not read here. Every command but `demo` begins with recovery. A check is served, an
-/// undo, a rename, a move, and a batch of these two. The input of a batch is read after recovery, before the files. Want of
+/// The first word is the folder, which is not read here. Every command but `demo` begins with recovery, and all others but `run` are served. The input of a batch is read after recovery, before the files. Want of
 /// memory may be answered at any time before the first write of the commit, unless recovery has begun to write and not ended.
 pub fn refactor<S: Store, I: Source, O: Sink>(
     alloc: Global,
@@ -285,9 +306,9 @@ pub fn refactor<S: Store, I: Source, O: Sink>(
     out: &mut O,
 ) -> Status
     // Each answer has its cause, the files left are those that it says, and a crash leaves such files. A rename in a small
-    // file that is done is the requested change. Of other renames and of moves the files left are those that the engine
+    // file that is done is the requested change. Of other requests the files left are those that the engine
     // made of the files found: the front accepts both, and each other path is as it was.
-    ensures answer { (AsksBatch words.now → ⊥) → (AsksCheck words.now → ⊥) → (AsksUndo words.now → ⊥) → Outcome words.now (λ status. Answers words.now (S.files store.old) (S.files store.new) (S.may_leave store.new) (S.faults store.old) (S.faults store.new) status
+    ensures answer { (AsksBatch words.now → ⊥) → (AsksReading words.now → ⊥) → (AsksUndo words.now → ⊥) → Outcome words.now (λ status. Answers words.now (S.files store.old) (S.files store.new) (S.may_leave store.new) (S.faults store.old) (S.faults store.new) status
         × Survives words.now (S.files store.old) (S.may_leave store.old) (S.may_leave store.new) status) (O.contents out.old) (O.contents out.new) (O.faults out.old) (O.faults out.new) result
         ⊎ ((paths : List (List ℕ)) × OutcomeOf (line_of paths) (λ status. AnswersPlanned words.now (AsksOne words.now) paths (S.files store.old) (S.files store.new) (S.may_leave store.new) (S.faults store.old) (S.faults store.new) status
         × Survives words.now (S.files store.old) (S.may_leave store.old) (S.may_leave store.new) status) (O.contents out.old) (O.contents out.new) (O.faults out.old) (O.faults out.new) result) }
@@ -298,8 +319,8 @@ pub fn refactor<S: Store, I: Source, O: Sink>(
         ⊎ ((paths : List (List ℕ)) × OutcomeOf (line_of paths) (λ status. AnswersPlanned words.now (AsksAll words.now (I.left input.old)) paths (S.files store.old) (S.files store.new) (S.may_leave store.new) (S.faults store.old) (S.faults store.new) status
         × Survives words.now (S.files store.old) (S.may_leave store.old) (S.may_leave store.new) status) (O.contents out.old) (O.contents out.new) (O.faults out.old) (O.faults out.new) result) }
 
-    // So has each answer to a check: what the front says of the files found, whose paths its line names.
-    ensures check { AsksCheck words.now → (paths : List (List ℕ)) × OutcomeOf (line_of paths) (λ status. AnswersCheck words.now paths (S.files store.old) (S.files store.new) (S.may_leave store.new) (S.faults store.old) (S.faults store.new) status
+    // So has each answer to a check or a report: what the front says of the files found, whose paths its line names, or a text where they compile.
+    ensures reading { AsksReading words.now → (paths : List (List ℕ)) × OutcomeOf (line_of paths) (λ status. AnswersReading words.now paths (S.files store.old) (S.files store.new) (S.may_leave store.new) (S.faults store.old) (S.faults store.new) status
         × Survives words.now (S.files store.old) (S.may_leave store.old) (S.may_leave store.new) status) (O.contents out.old) (O.contents out.new) (O.faults out.old) (O.faults out.new) result }
 
     // So has each answer to an undo: the change of the journal is taken back, or the first reason why not.
@@ -315,13 +336,9 @@ pub fn refactor<S: Store, I: Source, O: Sink>(
         → AsksRename words.now file at name → Holds found file bytes → Serves bytes at name → IsRenaming bytes at name comes_to
         → IsAnswered found file bytes comes_to (S.files store.new) result ⊎ IsFailure (S.faults store.old) (S.faults store.new) (O.faults out.old) (O.faults out.new) result }
 
-    // A command that asks for no rename, move, batch, check or undo is not served yet.
-    ensures not_served { (files found : Image) → S.files store.old ≡ Some files → Restored files found → IsSome (command_of words.now) → (AsksServed words.now → ⊥)
-        → (result ≡ NotYet) ⊎ IsFailure (S.faults store.old) (S.faults store.new) (O.faults out.old) (O.faults out.new) result }
-
-    // Nor is one that needs no files.
+    // A command that needs no files is a demonstration, and says what that gave.
     ensures needs_no_files { IsSome (command_of words.now) → (AsksRecovery words.now → ⊥)
-        → (result ≡ NotYet) ⊎ IsFailure (S.faults store.old) (S.faults store.new) (O.faults out.old) (O.faults out.new) result }
+        → IsDemonstrated result ⊎ IsFailure (S.faults store.old) (S.faults store.new) (O.faults out.old) (O.faults out.new) result }
 
     // Where the gate is open over no journal that can be read, no command goes on.
     ensures bad_journal { (files : Image) → S.files store.old ≡ Some files → ((restored : Image) → Restored files restored → ⊥) → AsksRecovery words.now
@@ -336,9 +353,9 @@ pub fn refactor<S: Store, I: Source, O: Sink>(
         → I.left input.old ≡ Some bytes → IsInputAnswer bytes answer → IsNotPlanned answer
         → (result ≡ status_of answer) ⊎ IsBatchFailure (S.faults store.old) (S.faults store.new) (O.faults out.old) (O.faults out.new) (I.faults input.old) (I.faults input.new) result }
 
-    // A check leaves the files, and gets one of the answers that these have.
-    ensures check_exact { (files found : Image) → S.files store.old ≡ Some files → Restored files found → AsksCheck words.now
-        → IsCheckedSo found (S.files store.new) result ⊎ IsFailure (S.faults store.old) (S.faults store.new) (O.faults out.old) (O.faults out.new) result }
+    // A check or a report leaves the files, and gets one of the answers that these have.
+    ensures reading_exact { (files found : Image) → S.files store.old ≡ Some files → Restored files found → AsksReading words.now
+        → IsCheckedSo (command_of words.now) found (S.files store.new) result ⊎ IsFailure (S.faults store.old) (S.faults store.new) (O.faults out.old) (O.faults out.new) result }
 
     // An undo gets the one answer that the files and the journal have, and leaves the files so: the change is taken back
     // exactly where it can be.

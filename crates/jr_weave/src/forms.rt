@@ -54,13 +54,13 @@ fn is_name(rows: &[Row], at: u32) -> bool {
 }
 
 /// The row is an identifier of a name that refers to a package or a type.
-pub fn is_part(under: Tabled, at: u32) -> bool {
+pub fn is_part(under: &Tabled, at: u32) -> bool {
     is_name(under.rows, at)
         && (under.referent(at) == Referent::Package || under.referred_type(at).is_some())
 }
 
 /// The number behind the package and type qualifiers of a reference, which follow its row; the number after the row where it has none.
-pub fn parts_end(under: Tabled, row: u32) -> u32 {
+pub fn parts_end(under: &Tabled, row: u32) -> u32 {
     let first = row.saturating_add(1);
     if before_of(under.rows, row) != Before::Name {
         return first;
@@ -75,7 +75,7 @@ pub fn parts_end(under: Tabled, row: u32) -> u32 {
 }
 
 /// The expression before the dot of a reference, a variable among them, if it has one.
-pub fn receiver_of(under: Tabled, row: u32) -> Option<u32> {
+pub fn receiver_of(under: &Tabled, row: u32) -> Option<u32> {
     let first = row.saturating_add(1);
     match before_of(under.rows, row) {
         Before::Nothing => None,
@@ -162,7 +162,7 @@ pub fn has_own_identifier(rows: &[Row], at: u32) -> bool {
 }
 
 /// The identifiers of the package in whose unit a row stands, from the last one back.
-pub fn push_package(all: &mut Vec<u32>, under: Tabled, of: u32) -> Result<(), OutOfMemory> {
+pub fn push_package(all: &mut Vec<u32>, under: &Tabled, of: u32) -> Result<(), OutOfMemory> {
     let Some(unit) = under.places.unit(of) else {
         return Ok(());
     };
@@ -184,7 +184,7 @@ fn is_package(rows: &[Row], at: u32) -> bool {
 }
 
 /// The rows of a type and of the types round it, from the innermost out, so many at most.
-fn push_types(all: &mut Vec<u32>, under: Tabled, of: u32, most: u32) -> Result<(), OutOfMemory> {
+fn push_types(all: &mut Vec<u32>, under: &Tabled, of: u32, most: u32) -> Result<(), OutOfMemory> {
     let mut at = of;
     for _turn in 0..most {
         all.push(at)?;
@@ -210,14 +210,14 @@ fn first_of(alloc: Global, all: &[u32], count: u32) -> Result<Vec<u32>, OutOfMem
 
 /// The rows whose identifiers make the last identifiers of the canonical name of a type, from its last one back (JLS 6.7). There are fewer
 /// where the name is shorter.
-pub fn suffix_rows(alloc: Global, under: Tabled, suffix: Suffix) -> Result<Vec<u32>, OutOfMemory> {
+pub fn suffix_rows(alloc: Global, under: &Tabled, suffix: Suffix) -> Result<Vec<u32>, OutOfMemory> {
     let mut all = Vec::new(alloc);
     push_types(&mut all, under, suffix.of, suffix.count)?;
     push_package(&mut all, under, suffix.of)?;
     first_of(alloc, &all, suffix.count)
 }
 
-fn type_declared(under: Tabled, found: Referent) -> Option<u32> {
+fn type_declared(under: &Tabled, found: Referent) -> Option<u32> {
     match found {
         Referent::Declared { row, .. } => {
             if is_type(under.rows, row) {
@@ -233,7 +233,7 @@ fn type_declared(under: Tabled, found: Referent) -> Option<u32> {
 /// The identifiers from one on, which are those of a package: the package of the type behind them, or themselves where none stands there.
 fn push_kept_package(
     all: &mut Vec<u32>,
-    under: Tabled,
+    under: &Tabled,
     behind: Option<u32>,
     first: u32,
     end: u32,
@@ -251,7 +251,7 @@ fn push_kept_package(
 /// now, a package as a whole by that of the type behind it.
 pub fn kept_rows(
     alloc: Global,
-    under: Tabled,
+    under: &Tabled,
     spelling: &Spelling,
 ) -> Result<Vec<u32>, OutOfMemory> {
     let mut all = Vec::new(alloc);

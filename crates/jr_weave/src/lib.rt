@@ -10,4 +10,5 @@ pub use forms::{
     argument_after, first_argument, has_own_identifier, is_atom, is_part, kept_rows, named_by,
     parts_end, receiver_of, suffix_rows,
 };
-pub use weave::respelled;
+pub use pen::word_of;
+pub use weave::{MOST_BYTES, respelled};

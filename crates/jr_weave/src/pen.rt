@@ -58,27 +58,27 @@ impl Pen {
     }
 
     /// The package of the unit of a row.
-    pub fn put_package(&mut self, under: Tabled, of: u32) -> Result<(), OutOfMemory> {
+    pub fn put_package(&mut self, under: &Tabled, of: u32) -> Result<(), OutOfMemory> {
         let mut names = Vec::new(self.alloc);
         push_package(&mut names, under, of)?;
         self.put_names(under.rows, &names)
     }
 
     /// The last identifiers of a type's name.
-    fn put_suffix(&mut self, under: Tabled, suffix: Suffix) -> Result<(), OutOfMemory> {
+    fn put_suffix(&mut self, under: &Tabled, suffix: Suffix) -> Result<(), OutOfMemory> {
         let names = suffix_rows(self.alloc, under, suffix)?;
         self.put_names(under.rows, &names)
     }
 
     /// `(S)`
-    fn put_cast(&mut self, under: Tabled, suffix: Suffix) -> Result<(), OutOfMemory> {
+    fn put_cast(&mut self, under: &Tabled, suffix: Suffix) -> Result<(), OutOfMemory> {
         self.put(b"(")?;
         self.put_suffix(under, suffix)?;
         self.put(b")")
     }
 
     /// `((S)this)`
-    pub fn put_cast_this(&mut self, under: Tabled, suffix: Suffix) -> Result<(), OutOfMemory> {
+    pub fn put_cast_this(&mut self, under: &Tabled, suffix: Suffix) -> Result<(), OutOfMemory> {
         self.put(b"(")?;
         self.put_cast(under, suffix)?;
         self.put(b"this)")
@@ -87,7 +87,7 @@ impl Pen {
     /// `((S)T.this)`
     fn put_cast_outer(
         &mut self,
-        under: Tabled,
+        under: &Tabled,
         suffix: Suffix,
         outer: Suffix,
     ) -> Result<(), OutOfMemory> {
@@ -98,7 +98,7 @@ impl Pen {
     }
 
     /// What stands before the dot in a shape that has it; nothing in the others.
-    fn put_before(&mut self, under: Tabled, shape: Shape) -> Result<(), OutOfMemory> {
+    fn put_before(&mut self, under: &Tabled, shape: Shape) -> Result<(), OutOfMemory> {
         match shape {
             Shape::This => self.put(b"this"),
             Shape::Super => self.put(b"super"),
@@ -114,7 +114,12 @@ impl Pen {
     }
 
     /// A reference by its shape, whose last identifier is that of this row.
-    pub fn put_shape(&mut self, under: Tabled, shape: Shape, name: u32) -> Result<(), OutOfMemory> {
+    pub fn put_shape(
+        &mut self,
+        under: &Tabled,
+        shape: Shape,
+        name: u32,
+    ) -> Result<(), OutOfMemory> {
         match shape {
             Shape::Named(suffix) => self.put_suffix(under, suffix),
             Shape::Bare => self.put(name_at(under.rows, name)),
@@ -129,7 +134,7 @@ impl Pen {
     /// What opens before a receiver that is cast: `((S)`, and one more where it is no atom.
     pub fn open_receiver(
         &mut self,
-        under: Tabled,
+        under: &Tabled,
         suffix: Suffix,
         is_atom: bool,
     ) -> Result<(), OutOfMemory> {
@@ -141,7 +146,7 @@ impl Pen {
     /// What opens before an argument that is cast: `(P)`, and `(` where it is no atom.
     pub fn open_argument(
         &mut self,
-        under: Tabled,
+        under: &Tabled,
         ty: TypeName,
         is_atom: bool,
     ) -> Result<(), OutOfMemory> {
@@ -151,7 +156,7 @@ impl Pen {
         if is_atom { Ok(()) } else { self.put(b"(") }
     }
 
-    fn put_type(&mut self, under: Tabled, ty: TypeName) -> Result<(), OutOfMemory> {
+    fn put_type(&mut self, under: &Tabled, ty: TypeName) -> Result<(), OutOfMemory> {
         match ty.element {
             Element::Class(of) => self.put_suffix(
                 under,
@@ -170,7 +175,7 @@ impl Pen {
 }
 
 /// The word of a primitive type; none for what cannot be written.
-fn word_of(element: Element) -> &'static [u8] {
+pub fn word_of(element: Element) -> &'static [u8] {
     match element {
         Element::Boolean => b"boolean",
         Element::Byte => b"byte",

@@ -46,8 +46,8 @@ pub struct Piece {
 #[derive(Clone, Copy)]
 pub struct Site<'a> {
     pub alloc: Global,
-    pub marks: Marks<'a>,
-    pub under: Tabled<'a>,
+    pub marks: &'a Marks<'a>,
+    pub under: &'a Tabled<'a>,
     /// The number of the spelling whose pieces are made.
     pub number: usize,
     /// The unit of its row.
@@ -56,23 +56,25 @@ pub struct Site<'a> {
 
 impl<'a> Site<'a> {
     /// Where a spelling is written.
-    pub fn of(alloc: Global, project: Project<'a>, number: usize, row: u32) -> Site<'a> {
+    pub fn of(alloc: Global, project: &'a Project<'a>, number: usize, row: u32) -> Site<'a> {
         Site {
             alloc,
-            marks: project.marks,
-            under: project.view.sight.world.under,
+            marks: &project.marks,
+            under: &project.view.sight.world.under,
             number,
             unit: project.marks.unit_of(row),
         }
     }
 
-    fn rows(self) -> &'a [Row] {
-        self.under.rows
+    fn rows(&self) -> &'a [Row] {
+        let under = self.under;
+        under.rows
     }
 
     /// The place of a token of the unit; a token that is not there is no place for a spelling.
-    fn span_of(self, token: u32) -> Result<Span, OutOfMemory> {
-        let Some(unit) = self.marks.units.get(self.unit as usize) else {
+    fn span_of(&self, token: u32) -> Result<Span, OutOfMemory> {
+        let marks = self.marks;
+        let Some(unit) = marks.units.get(self.unit as usize) else {
             return Err(OutOfMemory);
         };
         match unit.tokens.as_slice().get(token as usize) {
@@ -81,12 +83,13 @@ impl<'a> Site<'a> {
         }
     }
 
-    fn own_span(self, row: u32) -> Result<Span, OutOfMemory> {
-        self.span_of(self.marks.mark(row).own)
+    fn own_span(&self, row: u32) -> Result<Span, OutOfMemory> {
+        let marks = self.marks;
+        self.span_of(marks.mark(row).own)
     }
 
     fn push(
-        self,
+        &self,
         all: &mut Vec<Piece>,
         span: Span,
         order: u32,
@@ -103,7 +106,12 @@ impl<'a> Site<'a> {
     }
 
     /// The identifier of a row becomes that of another one, where their texts differ.
-    fn push_identifier(self, all: &mut Vec<Piece>, row: u32, name: u32) -> Result<(), OutOfMemory> {
+    fn push_identifier(
+        &self,
+        all: &mut Vec<Piece>,
+        row: u32,
+        name: u32,
+    ) -> Result<(), OutOfMemory> {
         if name_at(self.rows(), row) == name_at(self.rows(), name) {
             return Ok(());
         }
@@ -112,13 +120,13 @@ impl<'a> Site<'a> {
     }
 
     /// The last identifier of a reference.
-    fn push_own(self, all: &mut Vec<Piece>, spelling: &Spelling) -> Result<(), OutOfMemory> {
+    fn push_own(&self, all: &mut Vec<Piece>, spelling: &Spelling) -> Result<(), OutOfMemory> {
         let row = spelling.row;
         self.push_identifier(all, row, named_by(self.rows(), row, spelling.found))
     }
 
     /// The bytes from the identifier of the row `first` to that of the row `last`.
-    fn span_between(self, first: u32, last: u32) -> Result<Span, OutOfMemory> {
+    fn span_between(&self, first: u32, last: u32) -> Result<Span, OutOfMemory> {
         let start = self.own_span(first)?.start;
         let end = self.own_span(last)?.end;
         Ok(Span { start, end })
@@ -126,7 +134,7 @@ impl<'a> Site<'a> {
 
     /// The identifiers of a package, which stand in these rows from the last one back, become those of the package of a type.
     fn push_package(
-        self,
+        &self,
         all: &mut Vec<Piece>,
         first: u32,
         end: u32,
@@ -141,7 +149,11 @@ impl<'a> Site<'a> {
     }
 
     /// The qualifiers of a reference that keeps its shape.
-    fn push_kept_parts(self, all: &mut Vec<Piece>, spelling: &Spelling) -> Result<(), OutOfMemory> {
+    fn push_kept_parts(
+        &self,
+        all: &mut Vec<Piece>,
+        spelling: &Spelling,
+    ) -> Result<(), OutOfMemory> {
         let names = kept_rows(self.alloc, self.under, spelling)?;
         let first = spelling.row.saturating_add(1);
         let end = parts_end(self.under, spelling.row);
@@ -163,7 +175,7 @@ impl<'a> Site<'a> {
 
     /// The identifiers of types, which stand in the rows from one on.
     fn push_types(
-        self,
+        &self,
         all: &mut Vec<Piece>,
         first: u32,
         types: &[u32],
@@ -177,20 +189,21 @@ impl<'a> Site<'a> {
     }
 
     /// The identifiers of a reference that keeps its shape.
-    fn push_kept(self, all: &mut Vec<Piece>, spelling: &Spelling) -> Result<(), OutOfMemory> {
+    fn push_kept(&self, all: &mut Vec<Piece>, spelling: &Spelling) -> Result<(), OutOfMemory> {
         self.push_kept_parts(all, spelling)?;
         self.push_own(all, spelling)
     }
 
     /// What opens before a row and closes behind it.
     fn push_round(
-        self,
+        &self,
         all: &mut Vec<Piece>,
         row: u32,
         opening: Wording,
         closing: Wording,
     ) -> Result<(), OutOfMemory> {
-        let mark = self.marks.mark(row);
+        let marks = self.marks;
+        let mark = marks.mark(row);
         let start = self.span_of(mark.first)?.start;
         let end = self.span_of(mark.after.saturating_sub(1))?.end;
         self.push(all, empty_span(start), row, opening)?;
@@ -200,7 +213,7 @@ impl<'a> Site<'a> {
 
     /// The cast of a receiver, and the identifier behind it.
     fn push_receiver_cast(
-        self,
+        &self,
         all: &mut Vec<Piece>,
         spelling: &Spelling,
     ) -> Result<(), OutOfMemory> {
@@ -215,14 +228,19 @@ impl<'a> Site<'a> {
     }
 
     /// `((S)this)` in place of `super`, and the identifier behind it.
-    fn push_super_cast(self, all: &mut Vec<Piece>, spelling: &Spelling) -> Result<(), OutOfMemory> {
-        let span = self.span_of(self.marks.mark(spelling.row).first)?;
+    fn push_super_cast(
+        &self,
+        all: &mut Vec<Piece>,
+        spelling: &Spelling,
+    ) -> Result<(), OutOfMemory> {
+        let marks = self.marks;
+        let span = self.span_of(marks.mark(spelling.row).first)?;
         self.push(all, span, spelling.row, Wording::ThisCast)?;
         self.push_own(all, spelling)
     }
 
     /// Another shape in place of the qualifiers and the identifier.
-    fn push_shape(self, all: &mut Vec<Piece>, spelling: &Spelling) -> Result<(), OutOfMemory> {
+    fn push_shape(&self, all: &mut Vec<Piece>, spelling: &Spelling) -> Result<(), OutOfMemory> {
         if !has_own_identifier(self.rows(), spelling.row) {
             return Err(OutOfMemory);
         }
@@ -231,7 +249,7 @@ impl<'a> Site<'a> {
         self.push(all, span, spelling.row, Wording::Shape)
     }
 
-    fn push_cast_this(self, all: &mut Vec<Piece>, spelling: &Spelling) -> Result<(), OutOfMemory> {
+    fn push_cast_this(&self, all: &mut Vec<Piece>, spelling: &Spelling) -> Result<(), OutOfMemory> {
         if is_super_select(self.rows(), spelling.row) {
             self.push_super_cast(all, spelling)
         } else {
@@ -239,7 +257,7 @@ impl<'a> Site<'a> {
         }
     }
 
-    fn push_reference(self, all: &mut Vec<Piece>, spelling: &Spelling) -> Result<(), OutOfMemory> {
+    fn push_reference(&self, all: &mut Vec<Piece>, spelling: &Spelling) -> Result<(), OutOfMemory> {
         match spelling.shape {
             Shape::Kept => self.push_kept(all, spelling),
             Shape::Cast(_) => self.push_receiver_cast(all, spelling),
@@ -249,7 +267,7 @@ impl<'a> Site<'a> {
     }
 
     fn push_argument_cast(
-        self,
+        &self,
         all: &mut Vec<Piece>,
         row: u32,
         number: usize,
@@ -264,17 +282,18 @@ impl<'a> Site<'a> {
     }
 
     fn push_opening(
-        self,
+        &self,
         all: &mut Vec<Piece>,
         row: u32,
         opening: Wording,
     ) -> Result<(), OutOfMemory> {
-        let start = self.span_of(self.marks.mark(row).first)?.start;
+        let marks = self.marks;
+        let start = self.span_of(marks.mark(row).first)?.start;
         self.push(all, empty_span(start), row, opening)
     }
 
     /// The casts of arguments, of which there must be as many.
-    fn push_casts(self, all: &mut Vec<Piece>, spelling: &Spelling) -> Result<(), OutOfMemory> {
+    fn push_casts(&self, all: &mut Vec<Piece>, spelling: &Spelling) -> Result<(), OutOfMemory> {
         let mut next = first_argument(self.rows(), spelling.row);
         for number in 0..spelling.casts.len() {
             let Some(argument) = next else {
@@ -287,14 +306,14 @@ impl<'a> Site<'a> {
     }
 
     /// All that a spelling changes.
-    pub fn push_all(self, all: &mut Vec<Piece>, spelling: &Spelling) -> Result<(), OutOfMemory> {
+    pub fn push_all(&self, all: &mut Vec<Piece>, spelling: &Spelling) -> Result<(), OutOfMemory> {
         self.push_reference(all, spelling)?;
         self.push_casts(all, spelling)
     }
 }
 
 /// The number behind the qualifiers that are types, among those in these rows.
-fn types_end(under: Tabled, first: u32, end: u32) -> u32 {
+fn types_end(under: &Tabled, first: u32, end: u32) -> u32 {
     for at in first..end {
         if under.referred_type(at).is_none() {
             return at;

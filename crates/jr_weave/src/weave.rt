@@ -12,17 +12,17 @@ use jr_supers::Tabled;
 use std::alloc::Global;
 
 /// How many bytes all that is written may have.
-const MOST_BYTES: usize = 67108864;
+pub const MOST_BYTES: usize = 67108864;
 
 fn pieces_of(
     alloc: Global,
-    project: Project,
+    project: &Project,
     spellings: &[Spelling],
 ) -> Result<Vec<Piece>, OutOfMemory> {
     let mut all = Vec::new(alloc);
     for number in 0..spellings.len() {
         if let Some(spelling) = spellings.get(number) {
-            Site::of(alloc, project, number, spelling.row).push_all(&mut all, spelling)?;
+            Site::of(alloc, &*project, number, spelling.row).push_all(&mut all, spelling)?;
         }
     }
     Ok(all)
@@ -51,7 +51,7 @@ fn cast_of(shape: Shape) -> Option<Suffix> {
     }
 }
 
-fn put_this_cast(pen: &mut Pen, under: Tabled, spelling: &Spelling) -> Result<(), OutOfMemory> {
+fn put_this_cast(pen: &mut Pen, under: &Tabled, spelling: &Spelling) -> Result<(), OutOfMemory> {
     match cast_of(spelling.shape) {
         Some(suffix) => pen.put_cast_this(under, suffix),
         None => Ok(()),
@@ -60,7 +60,7 @@ fn put_this_cast(pen: &mut Pen, under: Tabled, spelling: &Spelling) -> Result<()
 
 fn open_receiver(
     pen: &mut Pen,
-    under: Tabled,
+    under: &Tabled,
     spelling: &Spelling,
     is_atom: bool,
 ) -> Result<(), OutOfMemory> {
@@ -72,7 +72,7 @@ fn open_receiver(
 
 fn open_argument(
     pen: &mut Pen,
-    under: Tabled,
+    under: &Tabled,
     spelling: &Spelling,
     number: usize,
     is_atom: bool,
@@ -83,14 +83,14 @@ fn open_argument(
     }
 }
 
-fn put_shape(pen: &mut Pen, under: Tabled, spelling: &Spelling) -> Result<(), OutOfMemory> {
+fn put_shape(pen: &mut Pen, under: &Tabled, spelling: &Spelling) -> Result<(), OutOfMemory> {
     let name = named_by(under.rows, spelling.row, spelling.found);
     pen.put_shape(under, spelling.shape, name)
 }
 
 fn put_wording(
     pen: &mut Pen,
-    under: Tabled,
+    under: &Tabled,
     spelling: &Spelling,
     wording: Wording,
 ) -> Result<(), OutOfMemory> {
@@ -110,7 +110,7 @@ fn put_wording(
 
 fn text_of(
     pen: &mut Pen,
-    under: Tabled,
+    under: &Tabled,
     spellings: &[Spelling],
     piece: Piece,
 ) -> Result<Text, OutOfMemory> {
@@ -167,18 +167,19 @@ fn no_edits(alloc: Global, count: usize) -> Result<Vec<Option<Edits>>, OutOfMemo
 /// All that is written has 64 MiB at most. What is no spelling of its row is answered like want of memory.
 pub fn respelled(
     alloc: Global,
-    locked: Project,
+    locked: &Project,
     spellings: &[Spelling],
 ) -> Result<Vec<Option<Edits>>, OutOfMemory> {
-    let under = locked.view.sight.world.under;
+    let under = &locked.view.sight.world.under;
+    let units = locked.marks.units;
     let pieces = pieces_of(alloc, locked, spellings)?;
     let keys = keys_of(alloc, &pieces)?;
     let mut pen = Pen::new(alloc, MOST_BYTES);
-    let mut all = no_edits(alloc, locked.marks.units.len())?;
+    let mut all = no_edits(alloc, units.len())?;
     for (_, (_, number)) in &keys {
         if let Some(piece) = pieces.get(*number) {
             let text = text_of(&mut pen, under, spellings, *piece)?;
-            push_edit(alloc, locked.marks.units, &mut all, *piece, text)?;
+            push_edit(alloc, units, &mut all, *piece, text)?;
         }
     }
     Ok(all)

@@ -14,14 +14,24 @@ refactor DIR COMMAND ..: changes the Java source below the folder DIR, keeping w
 
   rename FILE OFFSET NAME   gives what is declared or named at the byte offset of the file another name
   move FILE OFFSET PACKAGE  moves the type at the byte offset of the file to the package, `-` for the unnamed one
+  extract FILE FROM TO NAME puts the statements between the byte offsets of the file into a method of that name
+  inline FILE OFFSET        replaces the uses of the local at the byte offset of the file by its initializer
+  pullup FILE OFFSET        puts the method at the byte offset of the file into the superclass
+  delete FILE OFFSET        removes the method, type or field at the byte offset of the file, where nothing uses it
+  repackage OLD NEW         gives all files of a package another package
+  lift FILE OFFSET          makes the member type at the byte offset of the file a type of a file of its own
   check                     says whether the files compile, and if not, why and where
   undo                      takes the last change back, where no file of it was edited since
-  batch                     does renames and moves, read as JSON from standard input, one after the other, all or none
+  batch                     does renames, moves, extractions, inlinings and pull ups, read as JSON from standard input,
+                            one after the other, all or none
+  refs FILE OFFSET          lists the references to what is declared or named at the byte offset of the file
+  subtypes FILE OFFSET      lists the types below the one at the byte offset of the file
+  callers FILE OFFSET       lists what may call the method at the byte offset of the file
+  demo COUNT                renames, moves and extracts in a workspace of so many classes in memory
 
-All other commands are answered `not yet`.
-Each answer is one line on standard output, and a status: 0 done, 1 bad words, 2 bad request, 3 not compiling,
+`run` is answered `not yet`. Each answer but that of a report is one line on standard output, and a status: 0 done, 1 bad words, 2 bad request, 3 not compiling,
 4 no spelling, 5 lost edge, 6 broken rule, 7 store fault, 8 input fault, 9 too large, 10 out of memory, 11 bad journal,
-12 no undo, 14 output fault, 20 not yet, 21 differs.
+12 no undo, 13 still used, 14 output fault, 20 not yet, 21 differs.
 A run that was stopped while it wrote is first undone, by the files .refactor-gate and .refactor-journal.
 ";
 

@@ -1,9 +1,5 @@
 // Renames and moves in any folder, and batches of these.
-use jr_base::{Files, Path, Text};
-use jr_store::{MemSink, MemSource, MemStore};
-use jr_top::refactor;
-use std::alloc::Global;
-use std::process::Abort;
+use crate::calling::{call, comes_to, holds, says};
 use std::test::Fail;
 
 const SHADOWED: &str = "class A { int x; int f(int y) { return x + y; } }";
@@ -13,84 +9,6 @@ const QUALIFIED: &str = "class A { int x; int f(int x) { return this.x + x; } }"
 const BASE: &str = "package p; public class A { void m() { } }";
 
 const DERIVED: &str = "package p; public class B extends A { void m() { } }";
-
-// What a call comes to.
-#[derive(Drop)]
-struct Called {
-    number: u8,
-    line: Vec<u8>,
-    files: Files,
-}
-
-fn words_of(alloc: Global, line: &str) -> Result<Vec<Text>, Fail> {
-    let mut words = Vec::new(alloc);
-    for word in line.split(' ') {
-        words.push(Text::new(word.as_bytes().to_vec(alloc)?))?;
-    }
-    Ok(words)
-}
-
-fn store_of(alloc: Global, files: &[(&str, &str)]) -> Result<MemStore, Fail> {
-    let mut held = Files::new(alloc);
-    for (path, text) in files {
-        held.insert(
-            Path::parse(alloc, path.as_bytes())?,
-            text.as_bytes().to_vec(alloc)?,
-        )?;
-    }
-    Ok(MemStore::new(alloc, held, Vec::new(alloc))?)
-}
-
-// The answer to the words on these files, with these bytes as input.
-fn call(alloc: Global, files: &[(&str, &str)], words: &str, input: &str) -> Result<Called, Fail> {
-    let mut store = store_of(alloc, files)?;
-    let mut input = MemSource::new(input.as_bytes().to_vec(alloc)?, Vec::new(alloc));
-    let mut out = MemSink::new(alloc, Vec::new(alloc))?;
-    let words = words_of(alloc, words)?;
-    let status = refactor(alloc, &words, &mut store, &mut input, &mut out);
-    Ok(Called {
-        number: status.number(),
-        line: out.bytes().to_vec(alloc)?,
-        files: store.files(alloc)?,
-    })
-}
-
-// The path holds this text; the empty text stands for no file.
-fn holds(
-    rt: &impl Abort,
-    alloc: Global,
-    called: &Called,
-    path: &str,
-    text: &str,
-) -> Result<(), Fail> {
-    let path = Path::parse(alloc, path.as_bytes())?;
-    let left = match called.files.get(&path) {
-        Some(bytes) => bytes.as_slice() == text.as_bytes(),
-        None => text.is_empty(),
-    };
-    assert!(rt; left);
-    Ok(())
-}
-
-fn says(rt: &impl Abort, called: &Called, number: u8, line: &str) {
-    assert_eq!(rt; called.number, number);
-    assert!(rt; called.line.as_slice() == line.as_bytes());
-}
-
-// One file, whose change is done or refused with this line.
-fn comes_to(
-    rt: &impl Abort,
-    alloc: Global,
-    text: &str,
-    words: &str,
-    number: u8,
-    line: &str,
-    left: &str,
-) -> Result<(), Fail> {
-    let called = call(alloc, &[("A.java", text)], words, "")?;
-    says(rt, &called, number, line);
-    holds(rt, alloc, &called, "A.java", left)
-}
 
 #[test]
 fn a_field_is_qualified(rt: HostRuntime) -> Result<(), Fail> {
@@ -313,9 +231,9 @@ fn a_batch_is_done_whole_or_not(rt: HostRuntime) -> Result<(), Fail> {
     let second = call(alloc, &files, ". batch", refused)?;
     says(&rt, &second, 2, "request 2: bad request: 5\n");
     holds(&rt, alloc, &second, "A.java", SHADOWED)?;
-    let unserved = r#"[{"do":"rename","file":"A.java","at":27,"name":"z"},
+    let no_local = r#"[{"do":"rename","file":"A.java","at":27,"name":"z"},
         {"do":"inline","file":"A.java","at":14}]"#;
-    let called = call(alloc, &files, ". batch", unserved)?;
-    says(&rt, &called, 20, "not yet\n");
+    let called = call(alloc, &files, ". batch", no_local)?;
+    says(&rt, &called, 2, "request 2: bad request: 6\n");
     holds(&rt, alloc, &called, "A.java", SHADOWED)
 }

@@ -1,5 +1,11 @@
-//! Tests of renames, moves and batches of these, on a store in memory.
+//! Tests of requests of every kind, of runs and of reports, on a store in memory.
 #![tactic(auto)]
 
 #[cfg(test)]
+mod calling;
+#[cfg(test)]
 mod changes;
+#[cfg(test)]
+mod moves;
+#[cfg(test)]
+mod shown;

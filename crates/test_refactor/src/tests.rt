@@ -106,9 +106,8 @@ fn a_rename_is_refused(rt: HostRuntime) -> Result<(), Fail> {
     // The store is not called: its first call would fail.
     let bad = call(alloc, OLD, ". rename A.java x b", 1, 0)?;
     expect(&rt, &bad, 1, "bad words\n", OLD);
-    // Only the gate is read: the second call of the store would fail.
-    let inline = call(alloc, OLD, ". inline A.java 27", 2, 0)?;
-    expect(&rt, &inline, 20, "not yet\n", OLD);
+    let parameter = call(alloc, OLD, ". inline A.java 27", 0, 0)?;
+    expect(&rt, &parameter, 2, "bad request: 6\n", OLD);
     let elsewhere = call(alloc, OLD, ". rename B.java 27 b", 0, 0)?;
     expect(&rt, &elsewhere, 2, "bad request: 1\n", OLD);
     let keyword = call(alloc, OLD, ". rename A.java 27 int", 0, 0)?;

@@ -1,4 +1,5 @@
-use Rattle.std.proofs.Common.{◌≡◌, List, ℕ, sym, subst}
+use Rattle.std.proofs.Common.{List, ℕ, Some, sym, subst}
+use Rattle.jr_request.specs.declared.command.Command.TheVariants.{Check}
 use Rattle.jr_top.specs.Checking.{Checks}
 use Rattle.jr_top.specs.declared.status.Status.{Status}
 use Rattle.jr_top.specs.declared.status.Status.TheVariants.{TooLarge}
@@ -18,6 +19,6 @@ returns-in-Ok-TooLarge-clause-answer g c none =
     let before = S.faults c.args.store.now in
     let after = S.faults c.gather.new.store in
     let what = c.in-Ok-TooLarge.what in
-    subst (λ (s : Status). Checks told c.plainly.result.paths.items before after s) (sym c.plainly.ensures.status)
-    (subst (λ (paths : List (List ℕ)). Checks told paths before after (TooLarge what 0)) (sym c.plainly.ensures.paths)
+    subst (λ (s : Status). Checks (Some Check) told c.plainly.result.paths.items before after s) (sym c.plainly.ensures.status)
+    (subst (λ (paths : List (List ℕ)). Checks (Some Check) told paths before after (TooLarge what 0)) (sym c.plainly.ensures.paths)
     (oversized_said told before after none what (λ f is. rw c.in-Ok-TooLarge.field-0-is at (c.in-Ok-TooLarge.ensures.found f is))))

@@ -1,4 +1,4 @@
-use Rattle.jr_top.proofs.OneFile.{none_one, some_one}
+use Rattle.jr_top.proofs.OneFile.{none_one}
 use Rattle.jr_top.proofs.check.is_one_program.Goals as goal
 
 pub returns-in-None-clause-one : goal.returns-in-None-clause-one

@@ -9,7 +9,6 @@ returns-in-Requests-clause-decision g c =
     let heard = c.in-Requests.ensures.answer in
     inr (
       c.in-Requests.requests.items,
-      heard.0,
-      heard.1,
+      heard,
       subst (λ (rs : List Request). DecidesAll rs (S.files c.args.store.now) (S.faults c.args.store.now) (S.faults c.decide_all.new.store) c.decide_all.result) c.deref.ensures.value c.decide_all.ensures.decision,
     )

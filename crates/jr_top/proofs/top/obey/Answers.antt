@@ -18,7 +18,7 @@ use Rattle.jr_top.proofs.top.obey.Goals as goal
 -- ---- one request, and what is not served
 
 pub returns-in-Answer-clause-answer : goal.returns-in-Answer-clause-answer
-returns-in-Answer-clause-answer g c words is no_batch no_check never_undo =
+returns-in-Answer-clause-answer g c words is no_batch no_reading never_undo =
     let S = g.S.Store in
     let O = g.O.Sink in
     let I = g.I.Source in
@@ -44,10 +44,10 @@ returns-in-Answer-clause-answer g c words is no_batch no_check never_undo =
     (λ all.
     inr (reports_answered words (AsksOne words) told left kept outcomes before after (all.0 ∷ []) (asks_one words c.args.command.now all.0 told is all.1 all.2) c.decide.ensures.files c.decide.ensures.crash
     status c.report.result old new quiet loud all.3 c.report.ensures))
-    (chosen_one c.args.command.now heard (I.faults c.args.input.now) (I.faults c.decide.new.input) told before after (Answer status) c.in-Answer.ensures.decision no_batch no_check never_undo)
+    (chosen_one c.args.command.now heard (I.faults c.args.input.now) (I.faults c.decide.new.input) told before after (Answer status) c.in-Answer.ensures.decision no_batch no_reading never_undo)
 
 pub returns-in-Refuse-clause-answer : goal.returns-in-Refuse-clause-answer
-returns-in-Refuse-clause-answer g c words is no_batch no_check never_undo =
+returns-in-Refuse-clause-answer g c words is no_batch no_reading never_undo =
     let S = g.S.Store in
     let O = g.O.Sink in
     let I = g.I.Source in
@@ -75,7 +75,7 @@ returns-in-Refuse-clause-answer g c words is no_batch no_check never_undo =
     (λ all.
     inr (reports_refused words (AsksOne words) told left kept outcomes before after (all.0 ∷ []) (asks_one words c.args.command.now all.0 told is all.1 all.2) c.decide.ensures.files c.decide.ensures.crash
     status c.report-in-Refuse.result paths old new quiet loud all.3 shown))
-    (chosen_one c.args.command.now (I.left c.args.input.now) (I.faults c.args.input.now) (I.faults c.decide.new.input) told before after (Refuse status paths) c.in-Refuse.ensures.decision no_batch no_check never_undo)
+    (chosen_one c.args.command.now (I.left c.args.input.now) (I.faults c.args.input.now) (I.faults c.decide.new.input) told before after (Refuse status paths) c.in-Refuse.ensures.decision no_batch no_reading never_undo)
 
 pub returns-in-Answer-clause-any_moment : goal.returns-in-Answer-clause-any_moment
 returns-in-Answer-clause-any_moment g c words f r is told settled =
@@ -110,7 +110,7 @@ returns-in-Change-clause-any_moment g c words f r is told settled =
     (chosen_change c.args.command.now (I.left c.args.input.now) (I.faults c.args.input.now) (I.faults c.decide.new.input) files before middle plan c.in-Change.ensures.decision)
 
 pub returns-in-Change-clause-answer : goal.returns-in-Change-clause-answer
-returns-in-Change-clause-answer g c words is no_batch no_check never_undo =
+returns-in-Change-clause-answer g c words is no_batch no_reading never_undo =
     let S = g.S.Store in
     let O = g.O.Sink in
     let I = g.I.Source in
@@ -143,7 +143,7 @@ returns-in-Change-clause-answer g c words is no_batch no_check never_undo =
     let run = returns-in-Change-clause-any_moment g c words f r is told_is settled in
     run.each image (g.met.S.Store.counts_now c.change.new.store (S.moment c.args.store.now) image run.later l))
     done.1 done.2))
-    (chosen_one c.args.command.now (I.left c.args.input.now) (I.faults c.args.input.now) (I.faults c.decide.new.input) told before middle (Change plan) c.in-Change.ensures.decision no_batch no_check never_undo)
+    (chosen_one c.args.command.now (I.left c.args.input.now) (I.faults c.args.input.now) (I.faults c.decide.new.input) told before middle (Change plan) c.in-Change.ensures.decision no_batch no_reading never_undo)
 
 -- ---- a batch
 
@@ -169,7 +169,7 @@ returns-in-Answer-clause-batch g c words asks is_batch =
     ⊎_elim
     (λ alone. inl (heard_alone heard quiet loud told left kept outcomes status alone.0 c.report.result old new fewer more alone.1 alone.2 c.decide.ensures.files c.decide.ensures.crash c.report.ensures))
     (λ all.
-    inr (reports_answered words (AsksAll words heard) told left kept outcomes before after all.0 (asks, all.1, all.2) c.decide.ensures.files c.decide.ensures.crash status c.report.result old new fewer more all.3 c.report.ensures))
+    inr (reports_answered words (AsksAll words heard) told left kept outcomes before after all.0 (asks, all.1) c.decide.ensures.files c.decide.ensures.crash status c.report.result old new fewer more all.2 c.report.ensures))
     (chosen_batch c.args.command.now heard quiet loud told before after (Answer status) is_batch c.in-Answer.ensures.decision)
 
 pub returns-in-Refuse-clause-batch : goal.returns-in-Refuse-clause-batch
@@ -195,7 +195,7 @@ returns-in-Refuse-clause-batch g c words asks is_batch =
     let shown : IsReported status paths.items c.report-in-Refuse.result old new fewer more
     = subst (λ (ps : List (List ℕ)). IsReported status ps c.report-in-Refuse.result old new fewer more) c.deref.ensures.value c.report-in-Refuse.ensures in
     let all = no_input_refusal heard quiet loud told before after status paths (chosen_batch c.args.command.now heard quiet loud told before after (Refuse status paths) is_batch c.in-Refuse.ensures.decision) in
-    inr (reports_refused words (AsksAll words heard) told left kept outcomes before after all.0 (asks, all.1, all.2) c.decide.ensures.files c.decide.ensures.crash status c.report-in-Refuse.result paths old new fewer more all.3 shown)
+    inr (reports_refused words (AsksAll words heard) told left kept outcomes before after all.0 (asks, all.1) c.decide.ensures.files c.decide.ensures.crash status c.report-in-Refuse.result paths old new fewer more all.2 shown)
 
 pub returns-in-Change-clause-batch : goal.returns-in-Change-clause-batch
 returns-in-Change-clause-batch g c words asks is_batch =
@@ -215,8 +215,8 @@ returns-in-Change-clause-batch g c words asks is_batch =
     let quiet = I.faults c.args.input.now in
     let loud = I.faults c.decide.new.input in
     let all = no_input_change heard quiet loud told before middle plan (chosen_batch c.args.command.now heard quiet loud told before middle (Change plan) is_batch c.in-Change.ensures.decision) in
-    let made = plan_of all.0 told before middle plan all.3 in
-    inr (reports_changed words (AsksAll words heard) told left kept outcomes before after all.0 (asks, all.1, all.2) (batch_may words all.0 asks)
+    let made = plan_of all.0 told before middle plan all.2 in
+    inr (reports_changed words (AsksAll words heard) told left kept outcomes before after all.0 (asks, all.1) (batch_may words all.0 asks)
     made.0 made.1 plan made.2 made.3 made.4 made.5 middle (S.files c.decide.new.store) (S.may_leave c.decide.new.store) done.0 c.change.result
     (O.contents c.args.out.now) (O.contents c.change.new.out) (O.faults c.args.out.now) (O.faults c.change.new.out) c.decide.ensures.files c.decide.ensures.later c.decide.ensures.crash
     (λ f r told_is settled image l.

@@ -1,6 +1,8 @@
-use Rattle.std.proofs.Common.{◌≡◌, ⊎_elim, Option, Some, List, ℕ, [], inl, inr, refl, sym, ap, subst}
+use Rattle.std.proofs.Common.{◌≡◌, ⊎_elim, Option, Some, [], inl, inr, refl, sym, ap, subst}
 use Rattle.std.specs.Prelude.{Err}
 use Rattle.jr_commit.specs.Restoring.{IsOpen, Restored, SameFiles, StartsRecover}
+use Rattle.jr_request.specs.Words.{command_of}
+use Rattle.jr_request.specs.declared.command.Command.{Command}
 use Rattle.jr_store.specs.Image.{Image}
 use Rattle.jr_top.specs.Batches.{Hears}
 use Rattle.jr_top.specs.Checking.{Checks}
@@ -8,7 +10,7 @@ use Rattle.jr_top.specs.Crash.{StandsForEither}
 use Rattle.jr_top.specs.Engine.{AsksOne, AsksAll}
 use Rattle.jr_top.specs.Recovering.{Recovers}
 use Rattle.jr_top.proofs.BatchAnswers.{untaken, batch_plain, heard_so}
-use Rattle.jr_top.proofs.CheckAnswers.{check_plain, checked_so}
+use Rattle.jr_top.proofs.CheckAnswers.{reading_plain, checked_so}
 use Rattle.jr_top.proofs.UndoAnswers.{undo_plain, recovery_said, carried_undo}
 use Rattle.jr_top.proofs.EngineAnswers.{carried_planned}
 use Rattle.jr_top.proofs.PlainAnswers.{no_memory, journal, failed, stands, said_so}
@@ -21,7 +23,7 @@ use Rattle.jr_top.proofs.Starts.{begun, at_fault, earlier_start}
 use Rattle.jr_top.proofs.top.recover_first.Goals as goal
 
 pub returns-in-Ok-clause-answer : goal.returns-in-Ok-clause-answer
-returns-in-Ok-clause-answer g c words is needs no_batch no_check never_undo =
+returns-in-Ok-clause-answer g c words is needs no_batch no_reading never_undo =
     let S = g.S.Store in
     let O = g.O.Sink in
     let found = recovers c.in-Ok.field-0 (S.files c.args.store.now) (S.files c.recover.new.store) c.in-Ok.ensures.answer c.in-Ok.ensures.done c.recover.ensures.others in
@@ -32,7 +34,7 @@ returns-in-Ok-clause-answer g c words is needs no_batch no_check never_undo =
     (λ planned. inr (carried_planned words (AsksOne words) (S.files c.args.store.now) (S.files c.serve.new.store) (S.may_leave c.args.store.now) (S.may_leave c.serve.new.store) (S.faults c.args.store.now) (S.faults c.serve.new.store)
     (c.args.command.now, is, needs) (S.files c.recover.new.store) (S.may_leave c.recover.new.store) (S.faults c.recover.new.store) c.recover.ensures.later found c.in-Ok.ensures.after
     c.serve.result (O.contents c.args.out.now) (O.contents c.serve.new.out) (O.faults c.args.out.now) (O.faults c.serve.new.out) planned))
-    (c.serve.ensures.answer words is no_batch no_check never_undo)
+    (c.serve.ensures.answer words is no_batch no_reading never_undo)
 
 pub returns-in-Ok-clause-any_moment : goal.returns-in-Ok-clause-any_moment
 returns-in-Ok-clause-any_moment g c words f r is told restored start =
@@ -44,7 +46,7 @@ returns-in-Ok-clause-any_moment g c words f r is told restored start =
     (settled (S.files c.args.store.now) (S.files c.recover.new.store) (S.may_leave c.recover.new.store) f there.0 r found told there.1 restored (c.in-Ok.ensures.after f r told restored start)))
 
 pub returns-in-Err-Failed-clause-answer : goal.returns-in-Err-Failed-clause-answer
-returns-in-Err-Failed-clause-answer g c words is needs no_batch no_check never_undo =
+returns-in-Err-Failed-clause-answer g c words is needs no_batch no_reading never_undo =
     let S = g.S.Store in
     let O = g.O.Sink in
     inl (recovery_failed words (S.files c.args.store.now) (S.files c.recover.new.store) (S.may_leave c.args.store.now) (S.may_leave c.recover.new.store) (S.faults c.args.store.now) (S.faults c.recover.new.store) c.args.command.now is needs
@@ -60,7 +62,7 @@ returns-in-Err-Failed-clause-any_moment g c words f r is told restored start =
     weaker S.moment S.left_since c.args.store.now c.recover.new.store (StandsForEither words r) _ (c.recover.ensures.any_moment f r told restored start) (λ image l. inl l)
 
 pub returns-in-Err-BadJournal-clause-answer : goal.returns-in-Err-BadJournal-clause-answer
-returns-in-Err-BadJournal-clause-answer g c words is needs no_batch no_check never_undo =
+returns-in-Err-BadJournal-clause-answer g c words is needs no_batch no_reading never_undo =
     let S = g.S.Store in
     let O = g.O.Sink in
     let same = c.in-Err-BadJournal.ensures.unchanged (ap Err c.in-Err-BadJournal.field-0-is) in
@@ -73,7 +75,7 @@ returns-in-Err-BadJournal-clause-any_moment g c words f r is told restored start
     weaker S.moment S.left_since c.args.store.now c.recover.new.store (StandsForEither words r) _ (c.recover.ensures.any_moment f r told restored start) (λ image l. inl l)
 
 pub returns-in-Err-OutOfMemory-clause-answer : goal.returns-in-Err-OutOfMemory-clause-answer
-returns-in-Err-OutOfMemory-clause-answer g c words is needs no_batch no_check never_undo =
+returns-in-Err-OutOfMemory-clause-answer g c words is needs no_batch no_reading never_undo =
     let S = g.S.Store in
     let O = g.O.Sink in
     let same = c.in-Err-OutOfMemory.ensures.unchanged_memory (ap Err c.in-Err-OutOfMemory.field-0-is) in
@@ -152,10 +154,10 @@ returns-in-Err-OutOfMemory-clause-batch g c words asks is_batch =
     (Hears (I.left i) (I.faults i) (I.faults i))
     c.report-in-Err-OutOfMemory.result (O.contents c.args.out.now) (O.contents c.report-in-Err-OutOfMemory.new.out) (O.faults c.args.out.now) (O.faults c.report-in-Err-OutOfMemory.new.out) same.0 same.1 c.report-in-Err-OutOfMemory.ensures)
 
--- ---- a check
+-- ---- a command that reads the files
 
-pub returns-in-Ok-clause-check : goal.returns-in-Ok-clause-check
-returns-in-Ok-clause-check g c words asks is_check =
+pub returns-in-Ok-clause-reading : goal.returns-in-Ok-clause-reading
+returns-in-Ok-clause-reading g c words asks is reads =
     let S = g.S.Store in
     let O = g.O.Sink in
     let told = S.files c.args.store.now in
@@ -166,26 +168,27 @@ returns-in-Ok-clause-check g c words asks is_check =
     let before = S.faults c.args.store.now in
     let middle = S.faults c.recover.new.store in
     let after = S.faults c.serve.new.store in
-    let all = c.serve.ensures.check is_check in
+    let all = c.serve.ensures.reading reads in
     let paths = all.0 in
-    let says = Checks left paths before after in
-    let asked = check_plain words asks paths in
-    let same : left ≡ found = c.serve.ensures.check_files is_check in
+    let says = Checks (command_of words) left paths before after in
+    let asked = reading_plain words asks paths in
+    let same : left ≡ found = c.serve.ensures.reading_files reads in
     let recovered : Recovers told left = subst (Recovers told) (sym same) (recovers c.in-Ok.field-0 told found c.in-Ok.ensures.answer c.in-Ok.ensures.done c.recover.ensures.others) in
-    let checks : Checks left paths middle after all.1 = subst (λ (t : Option Image). Checks t paths middle after all.1) (sym same) all.2 in
+    let checks : Checks (command_of words) left paths middle after all.1 =
+    subst (λ (o : Option Command). Checks o left paths middle after all.1) (sym is) (subst (λ (t : Option Image). Checks (Some c.args.command.now) t paths middle after all.1) (sym same) all.2) in
     let closed : (f r : Image) → told ≡ Some f → Restored f r → StartsRecover f kept → (image : Image) → outcomes image → (IsOpen image → ⊥) × SameFiles image r
-    = λ f r told_is restored start image l. c.in-Ok.ensures.after f r told_is restored start image (c.serve.ensures.check_crash is_check image l) in
+    = λ f r told_is restored start image l. c.in-Ok.ensures.after f r told_is restored start image (c.serve.ensures.reading_crash reads image l) in
     let answer = said_so words asked told left kept outcomes before after says recovered closed all.1 c.serve.result (O.contents c.args.out.now) (O.contents c.serve.new.out) (O.faults c.args.out.now) (O.faults c.serve.new.out)
     (checked_so words paths told left kept outcomes before after middle c.recover.ensures.later recovered (stands words asked told left kept outcomes before after says closed) all.1 checks) all.3 in
     (paths, answer)
 
-pub returns-in-Err-Failed-clause-check : goal.returns-in-Err-Failed-clause-check
-returns-in-Err-Failed-clause-check g c words asks is_check =
+pub returns-in-Err-Failed-clause-reading : goal.returns-in-Err-Failed-clause-reading
+returns-in-Err-Failed-clause-reading g c words asks is reads =
     let S = g.S.Store in
     let O = g.O.Sink in (
       [],
-      failed words (check_plain words asks []) (S.files c.args.store.now) (S.files c.recover.new.store) (S.may_leave c.args.store.now) (S.may_leave c.recover.new.store) (S.faults c.args.store.now) (S.faults c.recover.new.store)
-          (Checks (S.files c.recover.new.store) [] (S.faults c.args.store.now) (S.faults c.recover.new.store))
+      failed words (reading_plain words asks []) (S.files c.args.store.now) (S.files c.recover.new.store) (S.may_leave c.args.store.now) (S.may_leave c.recover.new.store) (S.faults c.args.store.now) (S.faults c.recover.new.store)
+          (Checks (command_of words) (S.files c.recover.new.store) [] (S.faults c.args.store.now) (S.faults c.recover.new.store))
           c.write_line.result (O.contents c.args.out.now) (O.contents c.write_line.new.out) (O.faults c.args.out.now) (O.faults c.write_line.new.out) c.recover.ensures.others (c.in-Err-Failed.ensures.failed (ap Err c.in-Err-Failed.field-0-is))
           (λ f r told restored start image l.
           let run = c.recover.ensures.any_moment f r told restored start in
@@ -193,25 +196,25 @@ returns-in-Err-Failed-clause-check g c words asks is_check =
           c.write_line.ensures,
     )
 
-pub returns-in-Err-BadJournal-clause-check : goal.returns-in-Err-BadJournal-clause-check
-returns-in-Err-BadJournal-clause-check g c words asks is_check =
+pub returns-in-Err-BadJournal-clause-reading : goal.returns-in-Err-BadJournal-clause-reading
+returns-in-Err-BadJournal-clause-reading g c words asks is reads =
     let S = g.S.Store in
     let O = g.O.Sink in
     let same = c.in-Err-BadJournal.ensures.unchanged (ap Err c.in-Err-BadJournal.field-0-is) in (
       [],
-      journal words (check_plain words asks []) (S.files c.args.store.now) (S.files c.recover.new.store) (S.may_leave c.args.store.now) (S.may_leave c.recover.new.store) (S.faults c.args.store.now) (S.faults c.recover.new.store)
-          (Checks (S.files c.recover.new.store) [] (S.faults c.args.store.now) (S.faults c.recover.new.store))
+      journal words (reading_plain words asks []) (S.files c.args.store.now) (S.files c.recover.new.store) (S.may_leave c.args.store.now) (S.may_leave c.recover.new.store) (S.faults c.args.store.now) (S.faults c.recover.new.store)
+          (Checks (command_of words) (S.files c.recover.new.store) [] (S.faults c.args.store.now) (S.faults c.recover.new.store))
           c.report.result (O.contents c.args.out.now) (O.contents c.report.new.out) (O.faults c.args.out.now) (O.faults c.report.new.out) same.0 same.1 (c.in-Err-BadJournal.ensures.bad (ap Err c.in-Err-BadJournal.field-0-is)) c.report.ensures,
     )
 
-pub returns-in-Err-OutOfMemory-clause-check : goal.returns-in-Err-OutOfMemory-clause-check
-returns-in-Err-OutOfMemory-clause-check g c words asks is_check =
+pub returns-in-Err-OutOfMemory-clause-reading : goal.returns-in-Err-OutOfMemory-clause-reading
+returns-in-Err-OutOfMemory-clause-reading g c words asks is reads =
     let S = g.S.Store in
     let O = g.O.Sink in
     let same = c.in-Err-OutOfMemory.ensures.unchanged_memory (ap Err c.in-Err-OutOfMemory.field-0-is) in (
       [],
-      no_memory words (check_plain words asks []) (S.files c.args.store.now) (S.files c.recover.new.store) (S.may_leave c.args.store.now) (S.may_leave c.recover.new.store) (S.faults c.args.store.now) (S.faults c.recover.new.store)
-          (Checks (S.files c.recover.new.store) [] (S.faults c.args.store.now) (S.faults c.recover.new.store))
+      no_memory words (reading_plain words asks []) (S.files c.args.store.now) (S.files c.recover.new.store) (S.may_leave c.args.store.now) (S.may_leave c.recover.new.store) (S.faults c.args.store.now) (S.faults c.recover.new.store)
+          (Checks (command_of words) (S.files c.recover.new.store) [] (S.faults c.args.store.now) (S.faults c.recover.new.store))
           c.report-in-Err-OutOfMemory.result (O.contents c.args.out.now) (O.contents c.report-in-Err-OutOfMemory.new.out) (O.faults c.args.out.now) (O.faults c.report-in-Err-OutOfMemory.new.out) same.0 same.1 c.report-in-Err-OutOfMemory.ensures,
     )
 

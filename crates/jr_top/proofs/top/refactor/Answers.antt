@@ -1,17 +1,18 @@
 use Rattle.std.proofs.Common.{◌≡◌, ◌⊎◌, ⊎_elim, inl, inr, ◌∙◌, sym}
 use Rattle.std.proofs.lemmas.Option.{none-some}
-use Rattle.jr_request.specs.declared.command.Command.TheVariants.{Batch, Check, Undo}
+use Rattle.jr_request.specs.declared.command.Command.TheVariants.{Batch, Undo}
 use Rattle.jr_top.proofs.BatchAnswers.{batch_plain, exact as batch_answer, no_batch}
-use Rattle.jr_top.proofs.CheckAnswers.{check_plain, exact as check_answer, no_check}
-use Rattle.jr_top.proofs.PlainAnswers.{behind, outcome as plain_outcome, unreadable as plain_unreadable, by_batch, by_check, by_undo}
+use Rattle.jr_top.proofs.CheckAnswers.{reading_plain, exact as reading_answer, no_reading, reading_needs}
+use Rattle.jr_top.proofs.PlainAnswers.{behind, outcome as plain_outcome, unreadable as plain_unreadable, by_batch, by_reading, by_undo}
 use Rattle.jr_top.proofs.UndoAnswers.{no_undo_asked, outcome as undo_outcome, unreadable as undo_unreadable, exact as undo_answer}
-use Rattle.jr_top.proofs.Choosing.{small_never, unserved_never, unplanned_never, never_recovers}
+use Rattle.jr_top.proofs.Choosing.{small_never, unplanned_never, never_recovers}
 use Rattle.jr_top.proofs.EngineAnswers.{outcome as planned_outcome, asked_of}
-use Rattle.jr_top.proofs.Exact.{bad_words, needs_no_files, not_served, unreadable, exact}
+use Rattle.jr_top.proofs.Exact.{bad_words, needs_no_files, unreadable, exact}
 use Rattle.jr_top.proofs.Outcomes.{outcome, complete}
 use Rattle.jr_top.specs.Answers.{IsFailure}
 use Rattle.jr_top.specs.Engine.{AsksOne, AsksAll}
 use Rattle.jr_top.specs.Batches.{Hears}
+use Rattle.jr_request.specs.Words.{command_of}
 use Rattle.jr_top.specs.Checking.{Checks}
 use Rattle.jr_top.specs.declared.status.Status.TheVariants.{BadJournal}
 use Rattle.jr_top.proofs.top.refactor.Goals as goal
@@ -39,13 +40,13 @@ returns-clause-batch g c asks =
     (S.faults c.perform.new.store) (g.O.Sink.contents c.args.out.now) (g.O.Sink.contents c.perform.new.out) (g.O.Sink.faults c.args.out.now) (g.O.Sink.faults c.perform.new.out) c.perform.result planned))
     (c.perform.ensures.batch asks)
 
-pub returns-clause-check : goal.returns-clause-check
-returns-clause-check g c asks =
+pub returns-clause-reading : goal.returns-clause-reading
+returns-clause-reading g c asks =
     let S = g.S.Store in
-    let said = c.perform.ensures.check asks in (
+    let said = c.perform.ensures.reading asks in (
       said.0,
-      plain_outcome c.args.words.now (check_plain c.args.words.now asks said.0) (S.files c.args.store.now) (S.files c.perform.new.store) (S.may_leave c.args.store.now) (S.may_leave c.perform.new.store) (S.faults c.args.store.now) (S.faults c.perform.new.store)
-          (Checks (S.files c.perform.new.store) said.0 (S.faults c.args.store.now) (S.faults c.perform.new.store))
+      plain_outcome c.args.words.now (reading_plain c.args.words.now asks said.0) (S.files c.args.store.now) (S.files c.perform.new.store) (S.may_leave c.args.store.now) (S.may_leave c.perform.new.store) (S.faults c.args.store.now) (S.faults c.perform.new.store)
+          (Checks (command_of c.args.words.now) (S.files c.perform.new.store) said.0 (S.faults c.args.store.now) (S.faults c.perform.new.store))
           (g.O.Sink.contents c.args.out.now) (g.O.Sink.contents c.perform.new.out) (g.O.Sink.faults c.args.out.now) (g.O.Sink.faults c.perform.new.out) (λ never. never) c.perform.result (behind said),
     )
 
@@ -60,7 +61,7 @@ returns-clause-complete g c files found told restored file at name bytes asks ho
     let a = asked_of c.args.words.now (AsksOne c.args.words.now) (S.files c.args.store.now) (S.files c.perform.new.store) (S.may_leave c.args.store.now) (S.may_leave c.perform.new.store) (S.faults c.args.store.now)
     (S.faults c.perform.new.store) (g.O.Sink.contents c.args.out.now) (g.O.Sink.contents c.perform.new.out) (g.O.Sink.faults c.args.out.now) (g.O.Sink.faults c.perform.new.out) c.perform.result planned in
     absurd (small_never c.args.words.now (S.files c.args.store.now) a.0 files found a.1 file at name bytes told restored a.3 a.4 asks holds serves))
-    (c.perform.ensures.answer (no_batch c.args.words.now file at name asks) (no_check c.args.words.now file at name asks) (no_undo_asked c.args.words.now file at name asks))
+    (c.perform.ensures.answer (no_batch c.args.words.now file at name asks) (no_reading c.args.words.now file at name asks) (no_undo_asked c.args.words.now file at name asks))
 
 pub returns-clause-read_back : goal.returns-clause-read_back
 returns-clause-read_back g c f r h told restored start is =
@@ -79,20 +80,7 @@ returns-clause-exact g c files found told restored file at name bytes comes_to a
     let a = asked_of c.args.words.now (AsksOne c.args.words.now) (S.files c.args.store.now) (S.files c.perform.new.store) (S.may_leave c.args.store.now) (S.may_leave c.perform.new.store) (S.faults c.args.store.now)
     (S.faults c.perform.new.store) (g.O.Sink.contents c.args.out.now) (g.O.Sink.contents c.perform.new.out) (g.O.Sink.faults c.args.out.now) (g.O.Sink.faults c.perform.new.out) c.perform.result planned in
     absurd (small_never c.args.words.now (S.files c.args.store.now) a.0 files found a.1 file at name bytes told restored a.3 a.4 asks holds serves))
-    (c.perform.ensures.answer (no_batch c.args.words.now file at name asks) (no_check c.args.words.now file at name asks) (no_undo_asked c.args.words.now file at name asks))
-
-pub returns-clause-not_served : goal.returns-clause-not_served
-returns-clause-not_served g c files found told restored some none =
-    let S = g.S.Store in
-    ⊎_elim
-    (λ said. not_served c.args.words.now (S.files c.args.store.now) (S.files c.perform.new.store) (S.may_leave c.args.store.now) (S.may_leave c.perform.new.store) (S.faults c.args.store.now) (S.faults c.perform.new.store)
-    (g.O.Sink.contents c.args.out.now) (g.O.Sink.contents c.perform.new.out) (g.O.Sink.faults c.args.out.now) (g.O.Sink.faults c.perform.new.out)
-    files found told restored none c.perform.result said some)
-    (λ planned.
-    let a = asked_of c.args.words.now (AsksOne c.args.words.now) (S.files c.args.store.now) (S.files c.perform.new.store) (S.may_leave c.args.store.now) (S.may_leave c.perform.new.store) (S.faults c.args.store.now)
-    (S.faults c.perform.new.store) (g.O.Sink.contents c.args.out.now) (g.O.Sink.contents c.perform.new.out) (g.O.Sink.faults c.args.out.now) (g.O.Sink.faults c.perform.new.out) c.perform.result planned in
-    absurd (unserved_never c.args.words.now a.0 a.1 a.4 none))
-    (c.perform.ensures.answer (λ batch. none (Batch, batch, tt)) (λ check. none (Check, check, tt)) (λ undo. none (Undo, undo, tt)))
+    (c.perform.ensures.answer (no_batch c.args.words.now file at name asks) (no_reading c.args.words.now file at name asks) (no_undo_asked c.args.words.now file at name asks))
 
 pub returns-clause-needs_no_files : goal.returns-clause-needs_no_files
 returns-clause-needs_no_files g c some never =
@@ -105,7 +93,7 @@ returns-clause-needs_no_files g c some never =
     let a = asked_of c.args.words.now (AsksOne c.args.words.now) (S.files c.args.store.now) (S.files c.perform.new.store) (S.may_leave c.args.store.now) (S.may_leave c.perform.new.store) (S.faults c.args.store.now)
     (S.faults c.perform.new.store) (g.O.Sink.contents c.args.out.now) (g.O.Sink.contents c.perform.new.out) (g.O.Sink.faults c.args.out.now) (g.O.Sink.faults c.perform.new.out) c.perform.result planned in
     absurd (never a.2))
-    (c.perform.ensures.answer (λ batch. never (Batch, batch, tt)) (λ check. never (Check, check, tt)) (λ undo. never (Undo, undo, tt)))
+    (c.perform.ensures.answer (λ batch. never (Batch, batch, tt)) (λ asks. never (asks.0, asks.1, reading_needs asks.0 asks.2)) (λ undo. never (Undo, undo, tt)))
 
 pub returns-clause-bad_words : goal.returns-clause-bad_words
 returns-clause-bad_words g c none =
@@ -118,7 +106,7 @@ returns-clause-bad_words g c none =
     let a = asked_of c.args.words.now (AsksOne c.args.words.now) (S.files c.args.store.now) (S.files c.perform.new.store) (S.may_leave c.args.store.now) (S.may_leave c.perform.new.store) (S.faults c.args.store.now)
     (S.faults c.perform.new.store) (g.O.Sink.contents c.args.out.now) (g.O.Sink.contents c.perform.new.out) (g.O.Sink.faults c.args.out.now) (g.O.Sink.faults c.perform.new.out) c.perform.result planned in
     absurd (none-some a.2.0 (sym none ∙ a.2.1)))
-    (c.perform.ensures.answer (λ batch. none-some Batch (sym none ∙ batch)) (λ check. none-some Check (sym none ∙ check)) (λ undo. none-some Undo (sym none ∙ undo)))
+    (c.perform.ensures.answer (λ batch. none-some Batch (sym none ∙ batch)) (λ asks. none-some asks.0 (sym none ∙ asks.1)) (λ undo. none-some Undo (sym none ∙ undo)))
 
 pub returns-clause-bad_journal : goal.returns-clause-bad_journal
 returns-clause-bad_journal g c files told none asks =
@@ -140,17 +128,17 @@ returns-clause-bad_journal g c files told none asks =
     let a = asked_of words (AsksAll words (I.left c.args.input.now)) (S.files before) (S.files after) (S.may_leave before) (S.may_leave after) (S.faults before) (S.faults after) old new fewer more c.perform.result planned in
     absurd (never_recovers (S.files before) a.0 files told none a.3))
     (c.perform.ensures.batch batch))
-    (λ no_batch. by_check words ((c.perform.result ≡ BadJournal) ⊎ IsFailure (S.faults before) (S.faults after) fewer more c.perform.result) asks
-    (λ check. plain_unreadable words (check_plain words check (c.perform.ensures.check check).0) (S.files before) (S.files after) (S.may_leave before) (S.may_leave after) (S.faults before) (S.faults after)
-    (Checks (S.files after) (c.perform.ensures.check check).0 (S.faults before) (S.faults after)) old new fewer more files told none c.perform.result (behind (c.perform.ensures.check check)))
-    (λ no_check. by_undo words ((c.perform.result ≡ BadJournal) ⊎ IsFailure (S.faults before) (S.faults after) fewer more c.perform.result) asks
+    (λ no_batch. by_reading words ((c.perform.result ≡ BadJournal) ⊎ IsFailure (S.faults before) (S.faults after) fewer more c.perform.result) asks
+    (λ reading. plain_unreadable words (reading_plain words reading (c.perform.ensures.reading reading).0) (S.files before) (S.files after) (S.may_leave before) (S.may_leave after) (S.faults before) (S.faults after)
+    (Checks (command_of words) (S.files after) (c.perform.ensures.reading reading).0 (S.faults before) (S.faults after)) old new fewer more files told none c.perform.result (behind (c.perform.ensures.reading reading)))
+    (λ no_reading_asked. by_undo words ((c.perform.result ≡ BadJournal) ⊎ IsFailure (S.faults before) (S.faults after) fewer more c.perform.result) asks
     (λ undo. undo_unreadable words (S.files before) (S.files after) (S.may_leave before) (S.may_leave after) (S.faults before) (S.faults after) old new fewer more files told none c.perform.result (c.perform.ensures.undo undo))
     (λ never_undo. ⊎_elim
     (λ said. unreadable words (S.files before) (S.files after) (S.may_leave before) (S.may_leave after) (S.faults before) (S.faults after) old new fewer more c.perform.result said files told none asks)
     (λ planned.
     let a = asked_of words (AsksOne words) (S.files before) (S.files after) (S.may_leave before) (S.may_leave after) (S.faults before) (S.faults after) old new fewer more c.perform.result planned in
     absurd (never_recovers (S.files before) a.0 files told none a.3))
-    (c.perform.ensures.answer no_batch no_check never_undo))))
+    (c.perform.ensures.answer no_batch no_reading_asked never_undo))))
 
 pub returns-clause-undo : goal.returns-clause-undo
 returns-clause-undo g c asks =
@@ -180,9 +168,9 @@ returns-clause-batch_exact g c files found bytes answer told restored asks heard
     absurd (unplanned_never c.args.words.now (I.left c.args.input.now) a.0 a.1 a.4 c.args.alloc bytes answer heard q unplanned))
     (c.perform.ensures.batch asks)
 
-pub returns-clause-check_exact : goal.returns-clause-check_exact
-returns-clause-check_exact g c files found told restored asks =
+pub returns-clause-reading_exact : goal.returns-clause-reading_exact
+returns-clause-reading_exact g c files found told restored asks =
     let S = g.S.Store in
-    check_answer c.args.words.now (c.perform.ensures.check asks).0 (S.files c.args.store.now) (S.files c.perform.new.store) (S.may_leave c.args.store.now) (S.may_leave c.perform.new.store) (S.faults c.args.store.now) (S.faults c.perform.new.store)
+    reading_answer c.args.words.now (c.perform.ensures.reading asks).0 (S.files c.args.store.now) (S.files c.perform.new.store) (S.may_leave c.args.store.now) (S.may_leave c.perform.new.store) (S.faults c.args.store.now) (S.faults c.perform.new.store)
     (g.O.Sink.contents c.args.out.now) (g.O.Sink.contents c.perform.new.out) (g.O.Sink.faults c.args.out.now) (g.O.Sink.faults c.perform.new.out)
-    files found told restored c.perform.result (behind (c.perform.ensures.check asks))
+    files found told restored c.perform.result (behind (c.perform.ensures.reading asks))

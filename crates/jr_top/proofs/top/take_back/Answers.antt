@@ -1,4 +1,4 @@
-use Rattle.std.proofs.Common.{◌≡◌, sym, ◌∙◌, ap, inl}
+use Rattle.std.proofs.Common.{◌∙◌, ap, inl}
 use Rattle.std.specs.Prelude.{Err}
 use Rattle.jr_top.specs.Crash.{StandsForEither}
 use Rattle.jr_top.proofs.Carried.{weaker}

@@ -7,15 +7,15 @@ use std::alloc::Global;
 use std::cmp::Ordering;
 
 /// A copy of the path of an old unit.
-pub fn path_of(alloc: Global, marks: Marks, unit: u32) -> Result<Path, OutOfMemory> {
+pub fn path_of(alloc: Global, marks: &Marks, unit: u32) -> Result<Path, OutOfMemory> {
     match marks.units.get(unit as usize) {
         Some(placed) => placed.path.copy(alloc),
         None => Err(OutOfMemory),
     }
 }
 
-// A unit of this path and number stands before an old unit.
-fn is_before(marks: Marks, path: &[u8], number: u32, unit: u32) -> bool {
+/// A unit of this path and number stands before an old unit that keeps its path.
+pub fn is_before(marks: &Marks, path: &[u8], number: u32, unit: u32) -> bool {
     match marks.units.get(unit as usize) {
         Some(placed) => match path.cmp(placed.path.bytes()) {
             Ordering::Less => true,
@@ -30,7 +30,7 @@ fn is_before(marks: Marks, path: &[u8], number: u32, unit: u32) -> bool {
 /// one where it is new. Of two units of one path the one of the lower number comes first.
 pub fn order_with(
     alloc: Global,
-    marks: Marks,
+    marks: &Marks,
     moved: u32,
     path: &[u8],
 ) -> Result<Vec<u32>, OutOfMemory> {

@@ -1,6 +1,6 @@
 // Packages of units, and their names as bytes.
 
-use jr_base::{OutOfMemory, is_identifier};
+use jr_base::{OutOfMemory, Path, is_identifier};
 use jr_lookup::import_kind;
 use jr_places::{end_at, name_at, parent_at};
 use jr_rows::{Label, Row};
@@ -53,24 +53,29 @@ pub fn head_of(rows: &[Row], unit: u32) -> Head {
     }
 }
 
-/// The name that a package declaration declares; nothing for the unnamed package.
-pub fn name_of_package(
-    alloc: Global,
-    rows: &[Row],
-    package: Option<u32>,
-) -> Result<Vec<u8>, OutOfMemory> {
+/// The name in a package declaration, or in an import that is not static, as its identifiers with dots between them (JLS 6.2).
+pub fn name_below(alloc: Global, rows: &[Row], over: u32) -> Result<Vec<u8>, OutOfMemory> {
     let mut all = Vec::new(alloc);
-    let Some(declared) = package else {
-        return Ok(all);
-    };
-    let end = end_at(rows, declared);
-    for back in 1..end.saturating_sub(declared) {
+    let end = end_at(rows, over);
+    for back in 1..end.saturating_sub(over) {
         if back > 1 {
             all.push(b'.')?;
         }
         all.extend_from_slice(name_at(rows, end.saturating_sub(back)))?;
     }
     Ok(all)
+}
+
+/// The name that a package declaration declares; nothing for the unnamed package.
+pub fn name_of_package(
+    alloc: Global,
+    rows: &[Row],
+    package: Option<u32>,
+) -> Result<Vec<u8>, OutOfMemory> {
+    match package {
+        Some(declared) => name_below(alloc, rows, declared),
+        None => Ok(Vec::new(alloc)),
+    }
 }
 
 /// The package that a word of a request names, as its bytes; none for the unnamed package. There is no answer where the word names none.
@@ -126,4 +131,35 @@ pub fn declaration_of(alloc: Global, package: &[u8]) -> Result<Vec<u8>, OutOfMem
     all.extend_from_slice(package)?;
     all.extend_from_slice(b";\n")?;
     Ok(all)
+}
+
+/// What stands behind the last of these bytes: all where there is none.
+pub fn behind_last(bytes: &[u8], mark: u8) -> &[u8] {
+    let count = bytes.len();
+    for back in 0..count {
+        let behind = count - back;
+        if bytes[behind - 1] == mark {
+            return &bytes[behind..];
+        }
+    }
+    bytes
+}
+
+/// The path of a file in a folder that is given with its `/`.
+pub fn path_below(alloc: Global, folder: &[u8], file: &[u8]) -> Result<Path, OutOfMemory> {
+    let mut bytes = Vec::new(alloc);
+    bytes.extend_from_slice(folder)?;
+    bytes.extend_from_slice(file)?;
+    match Path::parse(alloc, &bytes) {
+        Ok(path) => Ok(path),
+        Err(_) => Err(OutOfMemory),
+    }
+}
+
+/// The path of the file of a type in a folder that is given with its `/`.
+pub fn path_in(alloc: Global, folder: &[u8], name: &[u8]) -> Result<Path, OutOfMemory> {
+    let mut file = Vec::new(alloc);
+    file.extend_from_slice(name)?;
+    file.extend_from_slice(b".java")?;
+    path_below(alloc, folder, &file)
 }

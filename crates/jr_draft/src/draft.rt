@@ -1,0 +1,148 @@
+// A change as it is put together.
+
+use crate::asking::{PRELUDE, count_units};
+use crate::order::path_of;
+use jr_base::{OutOfMemory, Path};
+use jr_change::{Added, Change, ChangedUnit, Course, Naming, Segment, Target, UnitSource};
+use jr_edits::Edits;
+use jr_marks::Marks;
+use jr_places::end_at;
+use jr_text::unit_bytes;
+use std::alloc::Global;
+
+/// The units and rows of a changed program so far.
+#[derive(Drop)]
+pub struct Draft {
+    units: Vec<ChangedUnit>,
+    segments: Vec<Segment>,
+    namings: Vec<Naming>,
+    added: Vec<Added>,
+    count: u32,
+}
+
+/// The row of a unit; behind the last unit that behind the last row.
+pub fn unit_row(marks: &Marks, unit: u32) -> u32 {
+    match marks.starts.get(unit as usize) {
+        Some(row) => *row,
+        None => end_at(marks.rows, 0),
+    }
+}
+
+impl Draft {
+    fn empty(alloc: Global) -> Draft {
+        Draft {
+            units: Vec::new(alloc),
+            segments: Vec::new(alloc),
+            namings: Vec::new(alloc),
+            added: Vec::new(alloc),
+            count: 0,
+        }
+    }
+
+    /// The program and the prelude.
+    pub fn new(alloc: Global, marks: &Marks) -> Result<Draft, OutOfMemory> {
+        let mut draft = Draft::empty(alloc);
+        draft.copy(0, unit_row(marks, PRELUDE))?;
+        Ok(draft)
+    }
+
+    /// How many rows there are so far: the number of the next one.
+    pub fn rows(&self) -> u32 {
+        self.count
+    }
+
+    /// Adds copies of the rows from the first up to before the end.
+    pub fn copy(&mut self, first: u32, end: u32) -> Result<(), OutOfMemory> {
+        if first < end {
+            self.segments.push(Segment::Copy { first, end })?;
+            self.count = self.count.saturating_add(end - first);
+        }
+        Ok(())
+    }
+
+    /// Adds a copy of one row with another label.
+    pub fn turned(&mut self, row: u32) -> Result<(), OutOfMemory> {
+        self.segments.push(Segment::Turned { row })?;
+        self.count = self.count.saturating_add(1);
+        Ok(())
+    }
+
+    /// Adds so many rows that come from no old row.
+    pub fn glue(&mut self, count: u32) -> Result<(), OutOfMemory> {
+        if count > 0 {
+            self.segments.push(Segment::Glue { count })?;
+            self.count = self.count.saturating_add(count);
+        }
+        Ok(())
+    }
+
+    /// Adds a row that comes from no old row and must refer to this.
+    pub fn refer(&mut self, target: Target, level: Option<u32>) -> Result<(), OutOfMemory> {
+        self.added.push(Added {
+            row: self.count,
+            target,
+            level,
+        })?;
+        self.glue(1)
+    }
+
+    /// Gives old rows, as they rise, an identifier.
+    pub fn name(&mut self, naming: Naming) -> Result<(), OutOfMemory> {
+        self.namings.push(naming)?;
+        Ok(())
+    }
+
+    /// Adds a unit, but not its rows.
+    pub fn add(&mut self, path: Path, source: UnitSource) -> Result<(), OutOfMemory> {
+        self.units.push(ChangedUnit { path, source })?;
+        Ok(())
+    }
+
+    /// Adds copies of all rows of a unit.
+    pub fn copy_unit(&mut self, marks: &Marks, unit: u32) -> Result<(), OutOfMemory> {
+        let row = unit_row(marks, unit);
+        self.copy(row, end_at(marks.rows, row))
+    }
+
+    /// Adds an old unit as it is.
+    pub fn keep(&mut self, alloc: Global, marks: &Marks, unit: u32) -> Result<(), OutOfMemory> {
+        self.add(path_of(alloc, marks, unit)?, UnitSource::Kept(unit))?;
+        self.copy_unit(marks, unit)
+    }
+
+    /// The change, in which each body stays as it is.
+    pub fn finish(self) -> Change {
+        self.finish_as(Course::Same)
+    }
+
+    /// The change, which does this to the order in which statements run.
+    pub fn finish_as(self, course: Course) -> Change {
+        Change {
+            units: self.units,
+            segments: self.segments,
+            namings: self.namings,
+            added: self.added,
+            inner: None,
+            raised: None,
+            course,
+        }
+    }
+}
+
+/// The change that keeps all.
+pub fn unchanged(alloc: Global, marks: &Marks) -> Result<Change, OutOfMemory> {
+    let mut draft = Draft::empty(alloc);
+    for unit in PRELUDE..count_units(marks) {
+        draft.add(path_of(alloc, marks, unit)?, UnitSource::Kept(unit))?;
+    }
+    draft.copy(0, end_at(marks.rows, 0))?;
+    Ok(draft.finish())
+}
+
+/// No edits of the unit in which a row stands.
+pub fn edits_of(alloc: Global, marks: &Marks, row: u32) -> Result<Edits, OutOfMemory> {
+    match u32::try_from(unit_bytes(marks, row).len()) {
+        Ok(length) => Ok(Edits::new(alloc, length)),
+        Err(_) => Err(OutOfMemory),
+    }
+}

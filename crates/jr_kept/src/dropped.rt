@@ -1,0 +1,133 @@
+// Definitions that keep a local from being replaced by its initializer.
+
+use crate::defining::defining_row;
+use crate::edges::{Edge, Firsts};
+use crate::flows::{is_within, rows_of};
+use crate::spreading::{spread, ways_back, ways_of};
+use jr_base::OutOfMemory;
+use jr_change::RowRange;
+use jr_flow::{Graph, Point, PointKind};
+use jr_rows::Row;
+use jr_tables::Stamps;
+use std::alloc::Global;
+
+/// A local with an initializer that is assigned nowhere else, in the graph of its body.
+#[derive(Clone, Copy)]
+struct Declared<'a> {
+    graph: &'a Graph,
+    local: u32,
+    /// The rows of the local and its initializer.
+    range: RowRange,
+}
+
+/// The points between the definition of the local and its uses, without the definition itself.
+#[derive(Drop)]
+struct Between {
+    behind: Stamps,
+    before: Stamps,
+}
+
+// The numbers of the points of a kind.
+fn points_of(alloc: Global, graph: &Graph, kind: PointKind) -> Result<Vec<u32>, OutOfMemory> {
+    let mut all = Vec::new(alloc);
+    let mut number = 0u32;
+    for point in &graph.points {
+        if point.kind == kind {
+            all.push(number)?;
+        }
+        number = number.saturating_add(1);
+    }
+    Ok(all)
+}
+
+impl<'a> Declared<'a> {
+    fn is_in_initializer(&self, row: u32) -> bool {
+        row != self.local && is_within(self.range, row)
+    }
+
+    // The place of a local among those of the body.
+    fn place(&self, local: u32) -> u32 {
+        let graph = self.graph;
+        local.saturating_sub(graph.body)
+    }
+
+    // The locals that are used in the initializer.
+    fn used(&self, alloc: Global, count: usize) -> Result<Stamps, OutOfMemory> {
+        let mut all = Stamps::new(alloc, count)?;
+        let graph = self.graph;
+        for point in &graph.points {
+            if let PointKind::Use { local } = point.kind {
+                if self.is_in_initializer(point.row) {
+                    let _ = all.add(self.place(local));
+                }
+            }
+        }
+        Ok(all)
+    }
+
+    // The points at which it gets its value, as a set.
+    fn barred(&self, alloc: Global, definitions: &[u32]) -> Result<Stamps, OutOfMemory> {
+        let graph = self.graph;
+        let mut all = Stamps::new(alloc, graph.points.len())?;
+        for point in definitions {
+            let _ = all.add(*point);
+        }
+        Ok(all)
+    }
+
+    // The points on ways from its definition to a use of it that do not come back to the definition.
+    fn between(&self, alloc: Global) -> Result<Between, OutOfMemory> {
+        let graph = self.graph;
+        let local = self.local;
+        let count = graph.points.len();
+        let definitions = points_of(alloc, graph, PointKind::Definition { local })?;
+        let uses = points_of(alloc, graph, PointKind::Use { local })?;
+        let barred = self.barred(alloc, &definitions)?;
+        let ways = ways_of(alloc, graph)?;
+        let behind = spread(alloc, &ways, &definitions, &barred, count)?;
+        let back = ways_back(alloc, graph)?;
+        let before = spread(alloc, &back, &uses, &barred, count)?;
+        Ok(Between { behind, before })
+    }
+
+    // The point is a definition in the initializer, or one between of a local that is used there.
+    fn disturbs(&self, number: u32, point: Point, used: &Stamps, between: &Between) -> bool {
+        let PointKind::Definition { local } = point.kind else {
+            return false;
+        };
+        if self.is_in_initializer(point.row) {
+            return true;
+        }
+        used.has(self.place(local)) && between.behind.has(number) && between.before.has(number)
+    }
+}
+
+/// Puts an edge from each definition to itself that stands in the initializer of the local, or that gives a local which is used there another value on a
+/// way from its definition to one of its uses.
+pub(crate) fn put_disturbing(
+    alloc: Global,
+    rows: &[Row],
+    graph: &Graph,
+    local: u32,
+    lost: &mut Firsts,
+) -> Result<(), OutOfMemory> {
+    let declared = Declared {
+        graph,
+        local,
+        range: rows_of(rows, local),
+    };
+    let used = declared.used(alloc, rows.len())?;
+    let between = declared.between(alloc)?;
+    let mut number = 0u32;
+    for point in &graph.points {
+        if declared.disturbs(number, *point, &used, &between) {
+            let row = defining_row(rows, point.row);
+            lost.put_new(Edge {
+                first: row,
+                second: row,
+            });
+        }
+        number = number.saturating_add(1);
+    }
+    Ok(())
+}

@@ -1,0 +1,67 @@
+// A body before and after the change.
+
+use crate::names::Names;
+use jr_base::OutOfMemory;
+use jr_change::RowRange;
+use jr_flow::{Graph, bodies};
+use jr_places::end_at;
+use jr_rows::{Label, Row};
+use std::alloc::Global;
+
+/// The flow of a body before and after the change.
+#[derive(Clone, Copy)]
+pub(crate) struct Flows<'a> {
+    pub(crate) names: Names<'a>,
+    pub(crate) before: &'a Graph,
+    /// The rows of the changed program.
+    pub(crate) rows: &'a [Row],
+    pub(crate) after: &'a Graph,
+    /// The rows of the changed program at which the points of `after` stand.
+    pub(crate) span: RowRange,
+    /// The old row of which each row of the changed program is a copy, or `NO_ROW`.
+    pub(crate) origin: &'a [u32],
+}
+
+/// The rows of a declaration.
+pub(crate) fn rows_of(rows: &[Row], at: u32) -> RowRange {
+    RowRange {
+        first: at,
+        end: end_at(rows, at),
+    }
+}
+
+/// The row lies in the range.
+pub(crate) fn is_within(range: RowRange, row: u32) -> bool {
+    range.first <= row && row < range.end
+}
+
+/// How many rows a range has.
+pub(crate) fn count_rows(range: RowRange) -> usize {
+    range.end.saturating_sub(range.first) as usize
+}
+
+/// The row is a parameter, of a method or of a catch.
+pub(crate) fn is_parameter(rows: &[Row], at: u32) -> bool {
+    match rows.get(at as usize) {
+        Some(row) => match row.label {
+            Label::Parameter { .. } => true,
+            _ => false,
+        },
+        None => false,
+    }
+}
+
+/// The body in which a row stands.
+pub(crate) fn body_round(
+    alloc: Global,
+    rows: &[Row],
+    row: u32,
+) -> Result<Option<u32>, OutOfMemory> {
+    let mut found = None;
+    for body in &bodies(alloc, rows)? {
+        if is_within(rows_of(rows, *body), row) {
+            found = Some(*body);
+        }
+    }
+    Ok(found)
+}

@@ -1,0 +1,223 @@
+// What a change loses.
+
+use crate::arriving::put_lost_definitions;
+use crate::control::lost_control;
+use crate::dropped::put_disturbing;
+use crate::edges::{Edge, Firsts};
+use crate::flows::{Flows, body_round, rows_of};
+use crate::handing::Handing;
+use crate::joined::joined;
+use crate::names::Names;
+use jr_base::{OutOfMemory, Place};
+use jr_change::{Change, Course, Locks, NO_ROW, Project, RowRange};
+use jr_flow::{FlowFault, Graph, graph};
+use jr_locks::row_for;
+use std::alloc::Global;
+
+/// An edge between two nodes of a body that stands on one side of a change alone. Both places are in the old files.
+#[derive(Clone, Copy, Debug, PartialEq, Eq)]
+pub struct LostEdge {
+    pub first: Place,
+    pub second: Place,
+    /// It stands in the old program, and not in the changed one.
+    pub is_old: bool,
+}
+
+/// The first edge of control that a change loses, and the first edge from a definition of a local to a use of it. Edges of the old program come first, and
+/// then those whose first node comes first, and whose second node does.
+#[derive(Clone, Copy, Debug, PartialEq, Eq)]
+pub struct LostFlow {
+    pub control: Option<LostEdge>,
+    pub def_use: Option<LostEdge>,
+}
+
+fn placed(old: &Project, edge: Edge, is_old: bool) -> LostEdge {
+    LostEdge {
+        first: old.marks.node_place(edge.first),
+        second: old.marks.node_place(edge.second),
+        is_old,
+    }
+}
+
+fn first_of(old: &Project, lost: Firsts) -> Option<LostEdge> {
+    match lost.before {
+        Some(edge) => Some(placed(old, edge, true)),
+        None => match lost.after {
+            Some(edge) => Some(placed(old, edge, false)),
+            None => None,
+        },
+    }
+}
+
+fn nothing() -> LostFlow {
+    LostFlow {
+        control: None,
+        def_use: None,
+    }
+}
+
+// What is lost where the body round an old row has no copy.
+fn lost_at(old: &Project, row: u32) -> LostFlow {
+    let edge = Edge {
+        first: row,
+        second: row,
+    };
+    LostFlow {
+        control: Some(placed(old, edge, true)),
+        def_use: None,
+    }
+}
+
+fn lost_in_inlined(
+    alloc: Global,
+    old: &Project,
+    flows: &Flows,
+    local: u32,
+) -> Result<LostFlow, OutOfMemory> {
+    let control = lost_control(alloc, flows)?;
+    let mut lost = Firsts::none();
+    let handing = Handing::none(alloc);
+    put_lost_definitions(alloc, flows, &handing, &mut lost)?;
+    put_disturbing(alloc, flows.names.rows, flows.before, local, &mut lost)?;
+    Ok(LostFlow {
+        control: first_of(old, control),
+        def_use: first_of(old, lost),
+    })
+}
+
+// The statement, where it has no copy.
+fn dropped(copy: &[u32], statement: u32) -> u32 {
+    match row_for(copy, statement) {
+        Some(_) => NO_ROW,
+        None => statement,
+    }
+}
+
+fn lost_by_inlining(
+    alloc: Global,
+    old: &Project,
+    locked: &Project,
+    locks: &Locks,
+    local: u32,
+    statement: u32,
+) -> Result<LostFlow, FlowFault> {
+    let Some(body) = body_round(alloc, old.marks.rows, local)? else {
+        return Ok(lost_at(old, local));
+    };
+    let Some(copy) = row_for(&locks.copy, body) else {
+        return Ok(lost_at(old, local));
+    };
+    let before = graph(alloc, &old.view, body)?;
+    let after = graph(alloc, &locked.view, copy)?;
+    let flows = Flows {
+        names: Names {
+            rows: old.marks.rows,
+            body,
+            dropped: dropped(&locks.copy, statement),
+        },
+        before: &before,
+        rows: locked.marks.rows,
+        after: &after,
+        span: rows_of(locked.marks.rows, copy),
+        origin: locks.origin.as_slice(),
+    };
+    let lost = lost_in_inlined(alloc, old, &flows, local)?;
+    Ok(lost)
+}
+
+fn lost_in_extracted(
+    alloc: Global,
+    old: &Project,
+    flows: &Flows,
+    call: u32,
+    method: u32,
+) -> Result<LostFlow, OutOfMemory> {
+    let control = lost_control(alloc, flows)?;
+    let mut lost = Firsts::none();
+    let handing = Handing::of(alloc, flows, call, method)?;
+    put_lost_definitions(alloc, flows, &handing, &mut lost)?;
+    Ok(LostFlow {
+        control: first_of(old, control),
+        def_use: first_of(old, lost),
+    })
+}
+
+// The rows of two ranges, and those between.
+fn both(one: RowRange, other: RowRange) -> RowRange {
+    RowRange {
+        first: one.first.min(other.first),
+        end: one.end.max(other.end),
+    }
+}
+
+// The graph of a body with that of the method in place of the call.
+fn joined_graph(
+    alloc: Global,
+    locked: &Project,
+    body: u32,
+    call: u32,
+    method: u32,
+) -> Result<Graph, FlowFault> {
+    let outer = graph(alloc, &locked.view, body)?;
+    let inner = graph(alloc, &locked.view, method)?;
+    let joined = joined(alloc, &outer, &inner, call)?;
+    Ok(joined)
+}
+
+fn lost_by_extracting(
+    alloc: Global,
+    old: &Project,
+    locked: &Project,
+    locks: &Locks,
+    call: u32,
+    method: u32,
+) -> Result<LostFlow, FlowFault> {
+    let rows = locked.marks.rows;
+    let Some(copy) = body_round(alloc, rows, call)? else {
+        return Ok(lost_at(old, 0));
+    };
+    let Some(body) = row_for(&locks.origin, copy) else {
+        return Ok(lost_at(old, 0));
+    };
+    let before = graph(alloc, &old.view, body)?;
+    let after = joined_graph(alloc, locked, copy, call, method)?;
+    let flows = Flows {
+        names: Names {
+            rows: old.marks.rows,
+            body,
+            dropped: NO_ROW,
+        },
+        before: &before,
+        rows,
+        after: &after,
+        span: both(rows_of(rows, copy), rows_of(rows, method)),
+        origin: locks.origin.as_slice(),
+    };
+    let lost = lost_in_extracted(alloc, old, &flows, call, method)?;
+    Ok(lost)
+}
+
+/// The first edge of control and the first edge from a definition to a use that the change loses, where `locked` is the changed program under its locks,
+/// before names are spelled. Nodes are named by what they are copies of, and what is added is passed over.
+///
+/// A change that leaves each body as it is, or takes whole ones away, loses none. Where a local is replaced by its initializer, each event stands once, and
+/// no local that is used in the initializer gets another value before a use of the replaced one. Where statements go into a method of their own, the points
+/// of the method stand in place of its call.
+pub fn lost_flow(
+    alloc: Global,
+    old: &Project,
+    locked: &Project,
+    locks: &Locks,
+    change: &Change,
+) -> Result<LostFlow, FlowFault> {
+    match change.course {
+        Course::Same => Ok(nothing()),
+        Course::Removed(_) => Ok(nothing()),
+        Course::Inlined { local, statement } => {
+            lost_by_inlining(alloc, old, locked, locks, local, statement)
+        }
+        Course::Extracted { call, method } => {
+            lost_by_extracting(alloc, old, locked, locks, call, method)
+        }
+    }
+}

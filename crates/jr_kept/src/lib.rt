@@ -1,0 +1,21 @@
+//! Which edges of control and which definitions of uses a change loses where it moves code (JLS 11.3, 14, 15.7).
+#![tactic(auto)]
+
+mod arriving;
+mod control;
+mod copies;
+mod defining;
+mod dropped;
+mod edges;
+mod flows;
+mod gathering;
+mod handing;
+mod joined;
+mod kept;
+mod lists;
+mod names;
+mod reached;
+mod search;
+mod spreading;
+
+pub use kept::{LostEdge, LostFlow, lost_flow};

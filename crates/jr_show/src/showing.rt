@@ -1,0 +1,75 @@
+// What is shown of files.
+
+ghost use Rattle.jr_show.specs.Showing.{ShownAs};
+
+use crate::fault::ShowFault;
+use jr_base::{Files, Text};
+use jr_change::{ChangeFault, Project, Reason};
+use jr_front::{Workspace, open_files};
+use jr_report::{Report, report};
+use std::alloc::Global;
+
+/// What is asked of files that compile.
+#[derive(Clone, Copy, Debug)]
+pub enum Question<'a> {
+    /// The references to the declaration at the offset.
+    References { file: &'a [u8], at: u32 },
+    /// The types below the one at the offset.
+    Subtypes { file: &'a [u8], at: u32 },
+    /// The callers of the method at the offset.
+    Callers { file: &'a [u8], at: u32 },
+}
+
+// Why there is no answer.
+enum Unanswered {
+    Bad(Reason),
+    OutOfMemory,
+}
+
+// What is reported of a program.
+fn reported(
+    alloc: Global,
+    project: &Project,
+    what: Report,
+    file: &[u8],
+    at: u32,
+) -> Result<Text, Unanswered> {
+    match report(alloc, project, what, file, at) {
+        Ok(text) => Ok(text),
+        Err(ChangeFault::Bad(reason)) => Err(Unanswered::Bad(reason)),
+        Err(_) => Err(Unanswered::OutOfMemory),
+    }
+}
+
+// The answer to a question on a program.
+fn answered(
+    alloc: Global,
+    workspace: &Workspace,
+    question: Question<'_>,
+) -> Result<Text, Unanswered> {
+    let project = Project {
+        marks: workspace.marks(),
+        view: workspace.view(),
+    };
+    match question {
+        Question::References { file, at } => {
+            reported(alloc, &project, Report::References, file, at)
+        }
+        Question::Subtypes { file, at } => reported(alloc, &project, Report::Subtypes, file, at),
+        Question::Callers { file, at } => reported(alloc, &project, Report::Callers, file, at),
+    }
+}
+
+/// What is shown of files that compile, or why nothing is.
+pub fn show(alloc: Global, files: &Files, question: Question<'_>) -> Result<Text, ShowFault>
+    ensures { ShownAs files.now result }
+{
+    match open_files(alloc, files) {
+        Ok(workspace) => match answered(alloc, &workspace, question) {
+            Ok(text) => Ok(text),
+            Err(Unanswered::Bad(reason)) => Err(ShowFault::Bad(reason)),
+            Err(Unanswered::OutOfMemory) => Err(ShowFault::OutOfMemory),
+        },
+        Err(fault) => Err(ShowFault::Front(fault)),
+    }
+}
