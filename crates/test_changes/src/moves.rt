@@ -45,7 +45,7 @@ fn a_local_is_inlined(rt: HostRuntime) -> Result<(), Fail> {
         assigned,
         ". inline A.java 36",
         5,
-        "lost edge: def-use A.java:27 A.java:43\n",
+        "lost edge: def-use A.java:27 A.java:40\n",
         assigned,
     )
 }
@@ -108,6 +108,6 @@ fn packages_and_member_types_go_elsewhere(rt: HostRuntime) -> Result<(), Fail> {
     let nested = [("A.java", "class A { static class N { } N n; }")];
     let lifted = call(alloc, &nested, ". lift A.java 23", "")?;
     says(&rt, &lifted, 0, "done, files changed: 2\n");
-    holds(&rt, alloc, &lifted, "A.java", "class A { N n; }")?;
-    holds(&rt, alloc, &lifted, "N.java", " class N { }\n")
+    holds(&rt, alloc, &lifted, "A.java", "class A {  N n; }")?;
+    holds(&rt, alloc, &lifted, "N.java", "class N { }\n")
 }
