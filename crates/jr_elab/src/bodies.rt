@@ -1,13 +1,10 @@
 // Bodies of methods, constructors, initializers and fields (JLS 8.3 to 8.8).
 
-use crate::constants::{constant, ty};
-use crate::names::this_of;
-use crate::parts::Parts;
-use crate::source::Source;
 use crate::statements::{Making, make};
 use jr_base::{Boxed, DeclId, Items, OutOfMemory};
 use jr_core::{Body, Code};
 use jr_defs::{Element, RowType};
+use jr_expressions::{Parts, Source, constant_of, this_of, type_of};
 use jr_members::{is_static, written_at};
 use jr_rows::Label;
 use jr_ty::Const;
@@ -75,7 +72,7 @@ fn field_code(
 // The value of a field that is a constant variable.
 fn field_constant(source: Source, at: u32) -> Result<Option<Const>, OutOfMemory> {
     match source.constants().variable(at) {
-        Some(value) => Ok(Some(constant(source, value)?)),
+        Some(value) => Ok(Some(constant_of(source, value)?)),
         None => Ok(None),
     }
 }
@@ -94,7 +91,7 @@ fn field(source: Source, making: &mut Making, at: u32) -> Result<Body, OutOfMemo
     let code = field_code(source, &mut making.codes, at, class, is_static)?;
     let declared = declared_type(source, at)?;
     let constant = field_constant(source, at)?;
-    let ty = ty(source, declared)?;
+    let ty = type_of(source, declared)?;
     Ok(Body {
         decl: source.decl(at),
         class: source.type_id(class),
@@ -120,7 +117,7 @@ fn callable(
     make_below(source, making, at)?;
     let code = making.codes.before(source.alloc, source.end(at))?;
     let params = parameters(source, at)?;
-    let ty = ty(source, result_type)?;
+    let ty = type_of(source, result_type)?;
     Ok(Body {
         decl: source.decl(at),
         class: source.type_id(class),

@@ -1,8 +1,8 @@
 // Classes and interfaces (JLS 8.1, 9.1).
 
-use crate::source::Source;
 use jr_base::{DeclId, Items, OutOfMemory, TypeId};
 use jr_core::Class;
+use jr_expressions::Source;
 use jr_members::{declaring_type, is_inner};
 use jr_places::{is_interface, is_type};
 use jr_rows::Label;

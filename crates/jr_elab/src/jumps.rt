@@ -1,13 +1,11 @@
 // Jumps, `switch` and `try` (JLS 14.11, 14.15 to 14.20).
 
-use crate::conversions::converted;
-use crate::parts::Parts;
-use crate::source::Source;
 use crate::statements::Making;
 use jr_base::{Boxed, DeclId, OutOfMemory, TypeId};
 use jr_constants::as_int;
 use jr_core::{Catch, Code, Group, SwitchLabel};
 use jr_defs::{Element, RowType};
+use jr_expressions::{Parts, Source, converted};
 
 // The labeled statement that a jump names.
 fn target(source: Source, at: u32, has_label: bool) -> Result<Option<DeclId>, OutOfMemory> {

@@ -2,10 +2,9 @@
 
 use crate::bodies::bodies_of;
 use crate::classes::classes_of;
-use crate::ids::Ids;
-use crate::source::Source;
 use jr_base::OutOfMemory;
 use jr_core::Core;
+use jr_expressions::{Ids, Source};
 use jr_view::View;
 use std::alloc::Global;
 

@@ -1,13 +1,11 @@
 // Statements by what their rows are (JLS 14).
 
-use crate::expressions::{constant_expression, operating};
 use crate::jumps::{catch, group, jump, returned, switch, switch_case, switch_default, try_catch};
 use crate::loops::{do_while, for_loop, while_loop};
-use crate::parts::Parts;
-use crate::source::Source;
 use jr_base::OutOfMemory;
 use jr_core::{Catch, Code, Group, SwitchLabel};
 use jr_defs::RowType;
+use jr_expressions::{Parts, Source, add_constant, add_expression};
 use jr_rows::Label;
 use std::alloc::Global;
 
@@ -98,14 +96,14 @@ fn plain_statement(
             has_first,
             has_condition,
         } => for_loop(source, codes, at, *has_first, *has_condition),
-        _ => operating(source, codes, at, label),
+        _ => add_expression(source, codes, at, label),
     }
 }
 
 /// Makes what the row is, where the parts below it are made.
 pub fn make(source: Source, making: &mut Making, at: u32) -> Result<(), OutOfMemory> {
     if let Some(value) = source.value(at) {
-        return constant_expression(source, &mut making.codes, at, value);
+        return add_constant(source, &mut making.codes, at, value);
     }
     let Some(label) = source.label(at) else {
         return Ok(());

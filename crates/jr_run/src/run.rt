@@ -5,7 +5,8 @@ use crate::report::Naming;
 use crate::start::start_of;
 use jr_base::{OutOfMemory, Text};
 use jr_change::Project;
-use jr_elab::{Ids, elaborate};
+use jr_elab::elaborate;
+use jr_expressions::Ids;
 use jr_machine::run;
 use std::alloc::Global;
 

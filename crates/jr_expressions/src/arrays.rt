@@ -1,6 +1,6 @@
 // Arrays and initializers (JLS 10.6, 15.10, 15.13).
 
-use crate::constants::ty;
+use crate::constants::type_of;
 use crate::conversions::{converted, promoted};
 use crate::parts::Parts;
 use crate::source::Source;
@@ -63,7 +63,7 @@ pub fn value(source: Source, codes: &mut Parts<Code>, at: u32) -> Result<(), Out
 pub fn list(source: Source, codes: &mut Parts<Code>, at: u32) -> Result<(), OutOfMemory> {
     let wanted = wanted_type(source, at)?;
     let items = codes.before(source.alloc, source.end(at))?;
-    let ty = ty(source, wanted)?;
+    let ty = type_of(source, wanted)?;
     codes.push(
         at,
         Code::NewArray {
@@ -108,7 +108,7 @@ pub fn new_array(
     }
     let made = source.type_of(at)?;
     let dims = lengths(source, codes, first, count)?;
-    let ty = ty(source, made)?;
+    let ty = type_of(source, made)?;
     codes.push(
         at,
         Code::NewArray {

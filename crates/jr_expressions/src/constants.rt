@@ -13,7 +13,7 @@ fn text(source: Source, number: u32) -> Result<Const, OutOfMemory> {
 }
 
 /// The value of a constant expression (JLS 15.28).
-pub fn constant(source: Source, value: Value) -> Result<Const, OutOfMemory> {
+pub fn constant_of(source: Source, value: Value) -> Result<Const, OutOfMemory> {
     match value {
         Value::Bool(is_true) => Ok(Const::Bool(is_true)),
         Value::Byte(number) => Ok(Const::Byte(number)),
@@ -44,7 +44,7 @@ fn array(alloc: Global, item: Ty) -> Result<Ty, OutOfMemory> {
 }
 
 /// A type in a core.
-pub fn ty(source: Source, given: RowType) -> Result<Ty, OutOfMemory> {
+pub fn type_of(source: Source, given: RowType) -> Result<Ty, OutOfMemory> {
     let mut made = element(source, given.element);
     for _dim in 0..given.dims {
         made = array(source.alloc, made)?;

@@ -14,8 +14,8 @@ use jr_constants::Value;
 use jr_core::Code;
 use jr_rows::Label;
 
-/// A constant expression, unless it stands in another one.
-pub fn constant_expression(
+/// Makes a constant expression, unless it stands in another one.
+pub fn add_constant(
     source: Source,
     codes: &mut Parts<Code>,
     at: u32,
@@ -27,8 +27,8 @@ pub fn constant_expression(
     codes.push(at, literal(source, value)?.into_inner())
 }
 
-/// An expression that names something or makes it. Rows of types and declarations make no code.
-pub fn naming(
+// An expression that names something or makes it.
+fn add_named(
     source: Source,
     codes: &mut Parts<Code>,
     at: u32,
@@ -53,8 +53,8 @@ pub fn naming(
     }
 }
 
-/// An expression that has operands.
-pub fn operating(
+/// Makes the expression at a row, or a call of a constructor, whose parts are made. Rows of types and declarations make no code.
+pub fn add_expression(
     source: Source,
     codes: &mut Parts<Code>,
     at: u32,
@@ -73,6 +73,6 @@ pub fn operating(
         Label::Binary { op } => binary(source, codes, at, *op),
         Label::Conditional => conditional(source, codes, at),
         Label::Assign { op } => assign(source, codes, at, *op),
-        _ => naming(source, codes, at, label),
+        _ => add_named(source, codes, at, label),
     }
 }

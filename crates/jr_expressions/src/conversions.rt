@@ -1,6 +1,6 @@
 // Conversions of values (JLS 5.1, 5.2, 5.6, 15.18.1.1).
 
-use crate::constants::{constant, ty};
+use crate::constants::{constant_of, type_of};
 use crate::parts::Parts;
 use crate::source::Source;
 use jr_base::{Boxed, OutOfMemory};
@@ -40,12 +40,12 @@ fn conversion_of(from: RowType, value: Option<Value>, to: RowType) -> Conversion
 
 /// A literal of this value.
 pub fn literal(source: Source, value: Value) -> Result<Boxed<Code>, OutOfMemory> {
-    let value = constant(source, value)?;
+    let value = constant_of(source, value)?;
     Ok(Boxed::new(source.alloc, Code::Lit { value: Some(value) })?)
 }
 
 fn cast(source: Source, value: Boxed<Code>, to: RowType) -> Result<Boxed<Code>, OutOfMemory> {
-    let ty = ty(source, to)?;
+    let ty = type_of(source, to)?;
     Ok(Boxed::new(source.alloc, Code::Cast { ty, value })?)
 }
 

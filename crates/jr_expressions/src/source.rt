@@ -21,21 +21,25 @@ pub struct Source<'a> {
 }
 
 impl<'a> Source<'a> {
+    /// The rows of the program.
     pub fn rows(self) -> &'a [Row] {
         let view = self.view;
         view.sight.world.under.rows
     }
 
+    /// The rows under their binding.
     pub fn under(self) -> Tabled<'a> {
         let view = self.view;
         view.sight.world.under
     }
 
+    /// The binding with supertypes and members.
     pub fn world(self) -> World<'a> {
         let view = self.view;
         view.sight.world
     }
 
+    /// The values of constants.
     pub fn constants(self) -> &'a Constants {
         let view = self.view;
         view.constants

@@ -1,6 +1,6 @@
 // Expressions with operators (JLS 15.14 to 15.26).
 
-use crate::constants::ty;
+use crate::constants::type_of;
 use crate::conversions::{converted, shown};
 use crate::parts::Parts;
 use crate::source::Source;
@@ -170,7 +170,7 @@ fn written(source: Source, at: u32) -> Result<RowType, OutOfMemory> {
 pub fn instance_test(source: Source, codes: &mut Parts<Code>, at: u32) -> Result<(), OutOfMemory> {
     let tested = written(source, source.second(at))?;
     let value = codes.boxed(source.alloc, source.first(at))?;
-    let ty = ty(source, tested)?;
+    let ty = type_of(source, tested)?;
     codes.push(at, Code::IsA { value, ty })
 }
 
@@ -187,7 +187,7 @@ fn reference_cast(
         return codes.hand_on(operand, at);
     }
     let value = codes.boxed(source.alloc, operand)?;
-    let ty = ty(source, to)?;
+    let ty = type_of(source, to)?;
     codes.push(at, Code::Cast { ty, value })
 }
 
