@@ -28,15 +28,15 @@ impl<'a> Source<'a> {
     }
 
     /// The rows under their binding.
-    pub fn under(self) -> Tabled<'a> {
+    pub fn under(self) -> &'a Tabled<'a> {
         let view = self.view;
-        view.sight.world.under
+        &view.sight.world.under
     }
 
     /// The binding with supertypes and members.
-    pub fn world(self) -> World<'a> {
+    pub fn world(self) -> &'a World<'a> {
         let view = self.view;
-        view.sight.world
+        &view.sight.world
     }
 
     /// The values of constants.
