@@ -11,7 +11,7 @@ use jr_ty::Const;
 use jr_types::plain_type;
 
 // Makes what stands below a row, from the last row back.
-fn make_below(source: Source, making: &mut Making, at: u32) -> Result<(), OutOfMemory> {
+fn make_below(source: &Source, making: &mut Making, at: u32) -> Result<(), OutOfMemory> {
     for row in (source.first(at)..source.end(at)).rev() {
         make(source, making, row)?;
     }
@@ -19,7 +19,7 @@ fn make_below(source: Source, making: &mut Making, at: u32) -> Result<(), OutOfM
 }
 
 // The parameters of a method or constructor.
-fn parameters(source: Source, at: u32) -> Result<Items<DeclId>, OutOfMemory> {
+fn parameters(source: &Source, at: u32) -> Result<Items<DeclId>, OutOfMemory> {
     let mut all = Items::new(source.alloc);
     let end = source.end(at);
     let mut child = source.first(at);
@@ -37,7 +37,7 @@ fn parameters(source: Source, at: u32) -> Result<Items<DeclId>, OutOfMemory> {
 
 // The field as the place to which its initializer is assigned.
 fn place_of_field(
-    source: Source,
+    source: &Source,
     at: u32,
     class: u32,
     is_static: bool,
@@ -53,7 +53,7 @@ fn place_of_field(
 
 // The assignment of a field's initializer to it, if it has one.
 fn field_code(
-    source: Source,
+    source: &Source,
     codes: &mut Parts<Code>,
     at: u32,
     class: u32,
@@ -70,21 +70,21 @@ fn field_code(
 }
 
 // The value of a field that is a constant variable.
-fn field_constant(source: Source, at: u32) -> Result<Option<Const>, OutOfMemory> {
+fn field_constant(source: &Source, at: u32) -> Result<Option<Const>, OutOfMemory> {
     match source.constants().variable(at) {
         Some(value) => Ok(Some(constant_of(source, value)?)),
         None => Ok(None),
     }
 }
 
-fn declared_type(source: Source, at: u32) -> Result<RowType, OutOfMemory> {
+fn declared_type(source: &Source, at: u32) -> Result<RowType, OutOfMemory> {
     match source.under().type_of_declared(at) {
         Some(ty) => Ok(ty),
         None => Err(OutOfMemory),
     }
 }
 
-fn field(source: Source, making: &mut Making, at: u32) -> Result<Body, OutOfMemory> {
+fn field(source: &Source, making: &mut Making, at: u32) -> Result<Body, OutOfMemory> {
     let class = source.class_round(at)?;
     let is_static = is_static(source.rows(), at);
     make_below(source, making, at)?;
@@ -106,7 +106,7 @@ fn field(source: Source, making: &mut Making, at: u32) -> Result<Body, OutOfMemo
 
 // A method, constructor or initializer with a result of this type.
 fn callable(
-    source: Source,
+    source: &Source,
     making: &mut Making,
     at: u32,
     is_static: bool,
@@ -130,7 +130,7 @@ fn callable(
     })
 }
 
-fn method(source: Source, making: &mut Making, at: u32) -> Result<Body, OutOfMemory> {
+fn method(source: &Source, making: &mut Making, at: u32) -> Result<Body, OutOfMemory> {
     let result_type = declared_type(source, at)?;
     let is_static = is_static(source.rows(), at);
     callable(source, making, at, is_static, result_type)
@@ -138,7 +138,7 @@ fn method(source: Source, making: &mut Making, at: u32) -> Result<Body, OutOfMem
 
 // A constructor or initializer.
 fn creating(
-    source: Source,
+    source: &Source,
     making: &mut Making,
     at: u32,
     is_static: bool,
@@ -148,7 +148,7 @@ fn creating(
 
 // Adds the body that a row declares, if it declares one.
 fn add_body(
-    source: Source,
+    source: &Source,
     making: &mut Making,
     bodies: &mut Items<Body>,
     at: u32,
@@ -167,7 +167,7 @@ fn add_body(
 }
 
 /// The bodies of a program.
-pub fn bodies_of(source: Source) -> Result<Items<Body>, OutOfMemory> {
+pub fn bodies_of(source: &Source) -> Result<Items<Body>, OutOfMemory> {
     let mut bodies = Items::new(source.alloc);
     let mut making = Making::new(source.alloc);
     for at in 0..source.count()? {

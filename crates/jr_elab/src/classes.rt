@@ -8,7 +8,7 @@ use jr_places::{is_interface, is_type};
 use jr_rows::Label;
 
 // The direct superinterfaces, in their order.
-fn faces(source: Source, at: u32) -> Result<Items<TypeId>, OutOfMemory> {
+fn faces(source: &Source, at: u32) -> Result<Items<TypeId>, OutOfMemory> {
     let mut all = Items::new(source.alloc);
     let mut supers = source.world().supers.direct().rows(source.alloc, at, 0)?;
     supers.reverse();
@@ -20,7 +20,7 @@ fn faces(source: Source, at: u32) -> Result<Items<TypeId>, OutOfMemory> {
     Ok(all)
 }
 
-fn superclass(source: Source, at: u32) -> Option<TypeId> {
+fn superclass(source: &Source, at: u32) -> Option<TypeId> {
     match source.world().supers.superclass(at) {
         Some(over) => Some(source.type_id(over)),
         None => None,
@@ -28,7 +28,7 @@ fn superclass(source: Source, at: u32) -> Option<TypeId> {
 }
 
 // The class whose instance encloses each instance.
-fn enclosing(source: Source, at: u32) -> Option<TypeId> {
+fn enclosing(source: &Source, at: u32) -> Option<TypeId> {
     if !is_inner(source.rows(), at) {
         return None;
     }
@@ -39,7 +39,7 @@ fn enclosing(source: Source, at: u32) -> Option<TypeId> {
 }
 
 // The row of the body of a type: its last child.
-fn body_of(source: Source, at: u32) -> u32 {
+fn body_of(source: &Source, at: u32) -> u32 {
     let end = source.end(at);
     let mut child = source.first(at);
     for _turn in source.first(at)..end {
@@ -53,7 +53,7 @@ fn body_of(source: Source, at: u32) -> u32 {
 }
 
 // Adds the fields of a declaration of fields.
-fn add_fields(source: Source, all: &mut Items<DeclId>, at: u32) -> Result<(), OutOfMemory> {
+fn add_fields(source: &Source, all: &mut Items<DeclId>, at: u32) -> Result<(), OutOfMemory> {
     let end = source.end(at);
     let mut child = source.second(at);
     for _turn in source.first(at)..end {
@@ -67,7 +67,7 @@ fn add_fields(source: Source, all: &mut Items<DeclId>, at: u32) -> Result<(), Ou
 }
 
 // The fields and initializers that a type declares.
-fn members(source: Source, at: u32) -> Result<Items<DeclId>, OutOfMemory> {
+fn members(source: &Source, at: u32) -> Result<Items<DeclId>, OutOfMemory> {
     let mut all = Items::new(source.alloc);
     let body = body_of(source, at);
     let end = source.end(body);
@@ -87,7 +87,7 @@ fn members(source: Source, at: u32) -> Result<Items<DeclId>, OutOfMemory> {
 }
 
 // For each method that a class has, the method that a call of it finds (JLS 15.12.4.4).
-fn found(source: Source, at: u32) -> Result<Items<(DeclId, DeclId)>, OutOfMemory> {
+fn found(source: &Source, at: u32) -> Result<Items<(DeclId, DeclId)>, OutOfMemory> {
     let mut all = Items::new(source.alloc);
     for found in &source.world().found_in(source.alloc, at)? {
         all.push((source.decl(found.method), source.decl(found.found)))?;
@@ -95,7 +95,7 @@ fn found(source: Source, at: u32) -> Result<Items<(DeclId, DeclId)>, OutOfMemory
     Ok(all)
 }
 
-fn class(source: Source, at: u32) -> Result<Class, OutOfMemory> {
+fn class(source: &Source, at: u32) -> Result<Class, OutOfMemory> {
     let faces = faces(source, at)?;
     let members = members(source, at)?;
     let found = found(source, at)?;
@@ -110,7 +110,7 @@ fn class(source: Source, at: u32) -> Result<Class, OutOfMemory> {
 }
 
 /// The classes and interfaces of a program.
-pub fn classes_of(source: Source) -> Result<Items<Class>, OutOfMemory> {
+pub fn classes_of(source: &Source) -> Result<Items<Class>, OutOfMemory> {
     let mut classes = Items::new(source.alloc);
     for at in 0..source.count()? {
         if is_type(source.rows(), at) {

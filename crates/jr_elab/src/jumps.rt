@@ -8,7 +8,7 @@ use jr_defs::{Element, RowType};
 use jr_expressions::{Parts, Source, converted};
 
 // The labeled statement that a jump names.
-fn target(source: Source, at: u32, has_label: bool) -> Result<Option<DeclId>, OutOfMemory> {
+fn target(source: &Source, at: u32, has_label: bool) -> Result<Option<DeclId>, OutOfMemory> {
     if !has_label {
         return Ok(None);
     }
@@ -20,7 +20,7 @@ fn target(source: Source, at: u32, has_label: bool) -> Result<Option<DeclId>, Ou
 
 /// `break` or `continue`
 pub fn jump(
-    source: Source,
+    source: &Source,
     codes: &mut Parts<Code>,
     at: u32,
     has_label: bool,
@@ -36,7 +36,7 @@ pub fn jump(
 
 // What a method gives back, as a value of the type of its result.
 fn given_back(
-    source: Source,
+    source: &Source,
     codes: &mut Parts<Code>,
     at: u32,
     wanted: Option<RowType>,
@@ -52,7 +52,7 @@ fn given_back(
 
 /// `return`
 pub fn returned(
-    source: Source,
+    source: &Source,
     codes: &mut Parts<Code>,
     at: u32,
     wanted: Option<RowType>,
@@ -63,7 +63,7 @@ pub fn returned(
 
 /// `case value:`
 pub fn switch_case(
-    source: Source,
+    source: &Source,
     codes: &mut Parts<Code>,
     labels: &mut Parts<SwitchLabel>,
     at: u32,
@@ -85,7 +85,7 @@ pub fn switch_default(labels: &mut Parts<SwitchLabel>, at: u32) -> Result<(), Ou
 }
 
 /// Labels of a `switch` with the statements after them.
-pub fn group(source: Source, making: &mut Making, at: u32) -> Result<(), OutOfMemory> {
+pub fn group(source: &Source, making: &mut Making, at: u32) -> Result<(), OutOfMemory> {
     let end = source.end(at);
     let labels = making.labels.before(source.alloc, end)?;
     let stmts = making.codes.before(source.alloc, end)?;
@@ -94,7 +94,7 @@ pub fn group(source: Source, making: &mut Making, at: u32) -> Result<(), OutOfMe
 
 /// `switch (value) { group .. }`
 pub fn switch(
-    source: Source,
+    source: &Source,
     codes: &mut Parts<Code>,
     groups: &mut Parts<Group>,
     at: u32,
@@ -105,7 +105,7 @@ pub fn switch(
 }
 
 // The class of the parameter of a catch.
-fn caught(source: Source, parameter: u32) -> Result<TypeId, OutOfMemory> {
+fn caught(source: &Source, parameter: u32) -> Result<TypeId, OutOfMemory> {
     match source.under().type_of_declared(parameter) {
         Some(ty) => match ty.element {
             Element::Class(class) => Ok(source.type_id(class)),
@@ -117,7 +117,7 @@ fn caught(source: Source, parameter: u32) -> Result<TypeId, OutOfMemory> {
 
 /// `catch (class param) body`
 pub fn catch(
-    source: Source,
+    source: &Source,
     codes: &mut Parts<Code>,
     catches: &mut Parts<Catch>,
     at: u32,
@@ -131,7 +131,7 @@ pub fn catch(
 
 /// `try body catch .. finally last`
 pub fn try_catch(
-    source: Source,
+    source: &Source,
     making: &mut Making,
     at: u32,
     has_finally: bool,

@@ -6,21 +6,21 @@ use jr_expressions::{Parts, Source};
 use jr_rows::Label;
 
 /// `do body while (cond);`
-pub fn do_while(source: Source, codes: &mut Parts<Code>, at: u32) -> Result<(), OutOfMemory> {
+pub fn do_while(source: &Source, codes: &mut Parts<Code>, at: u32) -> Result<(), OutOfMemory> {
     let body = codes.boxed(source.alloc, source.first(at))?;
     let cond = codes.boxed(source.alloc, source.second(at))?;
     codes.push(at, Code::Do { body, cond })
 }
 
 /// `while (cond) body`
-pub fn while_loop(source: Source, codes: &mut Parts<Code>, at: u32) -> Result<(), OutOfMemory> {
+pub fn while_loop(source: &Source, codes: &mut Parts<Code>, at: u32) -> Result<(), OutOfMemory> {
     let cond = codes.boxed(source.alloc, source.first(at))?;
     let body = codes.boxed(source.alloc, source.second(at))?;
     codes.push(at, Code::While { cond, body })
 }
 
 // The expressions before a row, as statements.
-fn evals(source: Source, codes: &mut Parts<Code>, end: u32) -> Result<Items<Code>, OutOfMemory> {
+fn evals(source: &Source, codes: &mut Parts<Code>, end: u32) -> Result<Items<Code>, OutOfMemory> {
     let mut all = Items::new(source.alloc);
     for _turn in 0..codes.len() {
         let Some(row) = codes.top() else {
@@ -36,7 +36,7 @@ fn evals(source: Source, codes: &mut Parts<Code>, end: u32) -> Result<Items<Code
 }
 
 // The first part of the header of a `for`.
-fn header(source: Source, codes: &mut Parts<Code>, at: u32) -> Result<Items<Code>, OutOfMemory> {
+fn header(source: &Source, codes: &mut Parts<Code>, at: u32) -> Result<Items<Code>, OutOfMemory> {
     match source.label(at) {
         Some(Label::ForExprs) => evals(source, codes, source.end(at)),
         _ => codes.before(source.alloc, source.end(at)),
@@ -44,7 +44,7 @@ fn header(source: Source, codes: &mut Parts<Code>, at: u32) -> Result<Items<Code
 }
 
 fn header_if(
-    source: Source,
+    source: &Source,
     codes: &mut Parts<Code>,
     at: u32,
     has_first: bool,
@@ -57,7 +57,7 @@ fn header_if(
 }
 
 fn condition_if(
-    source: Source,
+    source: &Source,
     codes: &mut Parts<Code>,
     at: u32,
     has_condition: bool,
@@ -70,12 +70,12 @@ fn condition_if(
 }
 
 // The row behind this one, if it is there.
-fn behind(source: Source, at: u32, is_there: bool) -> u32 {
+fn behind(source: &Source, at: u32, is_there: bool) -> u32 {
     if is_there { source.end(at) } else { at }
 }
 
 // The last of the siblings from a row on that end with the row round them.
-fn last_from(source: Source, from: u32, end: u32) -> u32 {
+fn last_from(source: &Source, from: u32, end: u32) -> u32 {
     let mut child = from;
     for _turn in from..end {
         let next = source.end(child);
@@ -89,7 +89,7 @@ fn last_from(source: Source, from: u32, end: u32) -> u32 {
 
 /// `for (first; cond; update) body`
 pub fn for_loop(
-    source: Source,
+    source: &Source,
     codes: &mut Parts<Code>,
     at: u32,
     has_first: bool,

@@ -12,7 +12,7 @@ use std::alloc::Global;
 /// answered for want of memory.
 pub fn elaborate(alloc: Global, view: &View, ids: &Ids) -> Result<Core, OutOfMemory> {
     let source = Source { alloc, view, ids };
-    let classes = classes_of(source)?;
-    let bodies = bodies_of(source)?;
+    let classes = classes_of(&source)?;
+    let bodies = bodies_of(&source)?;
     Ok(Core { classes, bodies })
 }

@@ -34,20 +34,20 @@ impl Making {
 }
 
 /// `{ .. }` as a statement
-fn nest(source: Source, codes: &mut Parts<Code>, at: u32) -> Result<(), OutOfMemory> {
+fn nest(source: &Source, codes: &mut Parts<Code>, at: u32) -> Result<(), OutOfMemory> {
     let stmts = codes.before(source.alloc, source.end(at))?;
     codes.push(at, Code::Nest { stmts })
 }
 
 /// One declared local variable
-fn local(source: Source, codes: &mut Parts<Code>, at: u32) -> Result<(), OutOfMemory> {
+fn local(source: &Source, codes: &mut Parts<Code>, at: u32) -> Result<(), OutOfMemory> {
     let init = codes.boxed_if(source.alloc, source.child(at))?;
     let local = source.decl(at);
     codes.push(at, Code::Local { local, init })
 }
 
 /// `if (cond) yes else no`
-fn choice(source: Source, codes: &mut Parts<Code>, at: u32) -> Result<(), OutOfMemory> {
+fn choice(source: &Source, codes: &mut Parts<Code>, at: u32) -> Result<(), OutOfMemory> {
     let cond = codes.boxed(source.alloc, source.first(at))?;
     let yes = codes.boxed(source.alloc, source.second(at))?;
     let no = codes.boxed_if(source.alloc, source.third_child(at))?;
@@ -55,27 +55,27 @@ fn choice(source: Source, codes: &mut Parts<Code>, at: u32) -> Result<(), OutOfM
 }
 
 /// An expression as a statement
-fn eval(source: Source, codes: &mut Parts<Code>, at: u32) -> Result<(), OutOfMemory> {
+fn eval(source: &Source, codes: &mut Parts<Code>, at: u32) -> Result<(), OutOfMemory> {
     let value = codes.boxed(source.alloc, source.first(at))?;
     codes.push(at, Code::Eval { value })
 }
 
 /// `label: body`
-fn labeled(source: Source, codes: &mut Parts<Code>, at: u32) -> Result<(), OutOfMemory> {
+fn labeled(source: &Source, codes: &mut Parts<Code>, at: u32) -> Result<(), OutOfMemory> {
     let body = codes.boxed(source.alloc, source.first(at))?;
     let label = source.decl(at);
     codes.push(at, Code::Labeled { label, body })
 }
 
 /// `throw value;`
-fn thrown(source: Source, codes: &mut Parts<Code>, at: u32) -> Result<(), OutOfMemory> {
+fn thrown(source: &Source, codes: &mut Parts<Code>, at: u32) -> Result<(), OutOfMemory> {
     let value = codes.boxed(source.alloc, source.first(at))?;
     codes.push(at, Code::Throw { value })
 }
 
 // A statement that holds no other lists than one of statements.
 fn plain_statement(
-    source: Source,
+    source: &Source,
     codes: &mut Parts<Code>,
     at: u32,
     label: &Label,
@@ -101,7 +101,7 @@ fn plain_statement(
 }
 
 /// Makes what the row is, where the parts below it are made.
-pub fn make(source: Source, making: &mut Making, at: u32) -> Result<(), OutOfMemory> {
+pub fn make(source: &Source, making: &mut Making, at: u32) -> Result<(), OutOfMemory> {
     if let Some(value) = source.value(at) {
         return add_constant(source, &mut making.codes, at, value);
     }

@@ -10,13 +10,13 @@ use jr_defs::RowType;
 use jr_rows::Label;
 
 /// `array[at]`
-pub fn index(source: Source, codes: &mut Parts<Code>, at: u32) -> Result<(), OutOfMemory> {
+pub fn index(source: &Source, codes: &mut Parts<Code>, at: u32) -> Result<(), OutOfMemory> {
     let array = codes.boxed(source.alloc, source.first(at))?;
     let place = promoted(source, codes, source.second(at))?;
     codes.push(at, Code::Index { array, at: place })
 }
 
-fn is_list(source: Source, at: u32) -> bool {
+fn is_list(source: &Source, at: u32) -> bool {
     match source.label(at) {
         Some(Label::List) => true,
         _ => false,
@@ -24,7 +24,7 @@ fn is_list(source: Source, at: u32) -> bool {
 }
 
 // The type of the variable or array whose initializer stands right below a row.
-fn initialized_type(source: Source, over: u32) -> Result<RowType, OutOfMemory> {
+fn initialized_type(source: &Source, over: u32) -> Result<RowType, OutOfMemory> {
     match source.label(over) {
         Some(Label::NewArray { .. }) => source.type_of(over),
         _ => match source.under().type_of_declared(over) {
@@ -35,7 +35,7 @@ fn initialized_type(source: Source, over: u32) -> Result<RowType, OutOfMemory> {
 }
 
 // The type of what an initializer or an item of one is the value of.
-fn wanted_type(source: Source, at: u32) -> Result<RowType, OutOfMemory> {
+fn wanted_type(source: &Source, at: u32) -> Result<RowType, OutOfMemory> {
     let mut over = source.parent(at);
     let mut depth: usize = 0;
     for _turn in 0..=at {
@@ -53,14 +53,14 @@ fn wanted_type(source: Source, at: u32) -> Result<RowType, OutOfMemory> {
 }
 
 /// An expression as initializer or as item of one.
-pub fn value(source: Source, codes: &mut Parts<Code>, at: u32) -> Result<(), OutOfMemory> {
+pub fn value(source: &Source, codes: &mut Parts<Code>, at: u32) -> Result<(), OutOfMemory> {
     let wanted = wanted_type(source, at)?;
     let value = converted(source, codes, source.first(at), wanted)?;
     codes.push(at, value.into_inner())
 }
 
 /// `{ item, .. }`, which creates an array.
-pub fn list(source: Source, codes: &mut Parts<Code>, at: u32) -> Result<(), OutOfMemory> {
+pub fn list(source: &Source, codes: &mut Parts<Code>, at: u32) -> Result<(), OutOfMemory> {
     let wanted = wanted_type(source, at)?;
     let items = codes.before(source.alloc, source.end(at))?;
     let ty = type_of(source, wanted)?;
@@ -76,7 +76,7 @@ pub fn list(source: Source, codes: &mut Parts<Code>, at: u32) -> Result<(), OutO
 
 // So many lengths, from a row on.
 fn lengths(
-    source: Source,
+    source: &Source,
     codes: &mut Parts<Code>,
     from: u32,
     count: usize,
@@ -92,7 +92,7 @@ fn lengths(
 
 /// A creation of an array, by its lengths or by a list.
 pub fn new_array(
-    source: Source,
+    source: &Source,
     codes: &mut Parts<Code>,
     at: u32,
     has_name: bool,

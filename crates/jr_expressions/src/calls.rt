@@ -18,14 +18,14 @@ struct Called {
     level: Option<u32>,
 }
 
-fn callee(source: Source, at: u32) -> Result<Called, OutOfMemory> {
+fn callee(source: &Source, at: u32) -> Result<Called, OutOfMemory> {
     match source.under().referent(at) {
         Referent::Declared { row, level } => Ok(Called { row, level }),
         _ => Err(OutOfMemory),
     }
 }
 
-fn parameter(source: Source, row: u32, nth: u32) -> Result<RowType, OutOfMemory> {
+fn parameter(source: &Source, row: u32, nth: u32) -> Result<RowType, OutOfMemory> {
     let members = source.world().members;
     match members.signatures().parameter(row, nth) {
         Some(ty) => Ok(ty),
@@ -35,7 +35,7 @@ fn parameter(source: Source, row: u32, nth: u32) -> Result<RowType, OutOfMemory>
 
 // The arguments of a call, from this row on, as values of the types of the parameters.
 fn arguments(
-    source: Source,
+    source: &Source,
     codes: &mut Parts<Code>,
     at: u32,
     from: u32,
@@ -56,7 +56,7 @@ fn arguments(
 }
 
 // The object on which a method without a receiver is called.
-fn implied_object(source: Source, method: Called) -> Result<Option<Boxed<Code>>, OutOfMemory> {
+fn implied_object(source: &Source, method: Called) -> Result<Option<Boxed<Code>>, OutOfMemory> {
     if is_static(source.rows(), method.row) {
         return Ok(None);
     }
@@ -64,7 +64,7 @@ fn implied_object(source: Source, method: Called) -> Result<Option<Boxed<Code>>,
 }
 
 fn object_of_call(
-    source: Source,
+    source: &Source,
     codes: &mut Parts<Code>,
     at: u32,
     kind: ReceiverKind,
@@ -79,7 +79,7 @@ fn object_of_call(
     }
 }
 
-fn first_argument(source: Source, at: u32, kind: ReceiverKind) -> u32 {
+fn first_argument(source: &Source, at: u32, kind: ReceiverKind) -> u32 {
     match kind {
         ReceiverKind::Absent | ReceiverKind::Super => source.first(at),
         ReceiverKind::Expression | ReceiverKind::Name => source.second(at),
@@ -95,7 +95,7 @@ fn is_super(kind: ReceiverKind) -> bool {
 
 /// A call of a method.
 pub fn call(
-    source: Source,
+    source: &Source,
     codes: &mut Parts<Code>,
     at: u32,
     kind: ReceiverKind,
@@ -116,7 +116,7 @@ pub fn call(
 }
 
 // The object that encloses the new one, where its class is an inner class.
-fn enclosing_object(source: Source, made: Called) -> Result<Option<Boxed<Code>>, OutOfMemory> {
+fn enclosing_object(source: &Source, made: Called) -> Result<Option<Boxed<Code>>, OutOfMemory> {
     match constructed_class(source.rows(), made.row) {
         Some(class) => {
             if is_inner(source.rows(), class) {
@@ -130,7 +130,7 @@ fn enclosing_object(source: Source, made: Called) -> Result<Option<Boxed<Code>>,
 }
 
 /// A creation of an object.
-pub fn creation(source: Source, codes: &mut Parts<Code>, at: u32) -> Result<(), OutOfMemory> {
+pub fn creation(source: &Source, codes: &mut Parts<Code>, at: u32) -> Result<(), OutOfMemory> {
     let made = callee(source, at)?;
     let outer = enclosing_object(source, made)?;
     let args = arguments(source, codes, at, source.second(at), made.row)?;
@@ -146,7 +146,7 @@ pub fn creation(source: Source, codes: &mut Parts<Code>, at: u32) -> Result<(), 
 
 /// `this(..)` or `super(..)`.
 pub fn constructor_call(
-    source: Source,
+    source: &Source,
     codes: &mut Parts<Code>,
     at: u32,
     which: ThisOrSuper,
@@ -168,7 +168,7 @@ pub fn constructor_call(
 }
 
 /// The call `super()` of a constructor that begins with no call of a constructor. That of Object calls none.
-pub fn implicit_call(source: Source, codes: &mut Parts<Code>, at: u32) -> Result<(), OutOfMemory> {
+pub fn implicit_call(source: &Source, codes: &mut Parts<Code>, at: u32) -> Result<(), OutOfMemory> {
     match source.under().declared(at) {
         Some(row) => codes.push(
             at,

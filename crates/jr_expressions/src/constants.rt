@@ -7,13 +7,13 @@ use jr_defs::{Element, RowType};
 use jr_ty::{Const, Ty};
 use std::alloc::Global;
 
-fn text(source: Source, number: u32) -> Result<Const, OutOfMemory> {
+fn text(source: &Source, number: u32) -> Result<Const, OutOfMemory> {
     let units = Vec::from_slice(source.alloc, source.constants().units(number))?;
     Ok(Const::Str(Units::new(units)))
 }
 
 /// The value of a constant expression (JLS 15.28).
-pub fn constant_of(source: Source, value: Value) -> Result<Const, OutOfMemory> {
+pub fn constant_of(source: &Source, value: Value) -> Result<Const, OutOfMemory> {
     match value {
         Value::Bool(is_true) => Ok(Const::Bool(is_true)),
         Value::Byte(number) => Ok(Const::Byte(number)),
@@ -25,7 +25,7 @@ pub fn constant_of(source: Source, value: Value) -> Result<Const, OutOfMemory> {
     }
 }
 
-fn element(source: Source, element: Element) -> Ty {
+fn element(source: &Source, element: Element) -> Ty {
     match element {
         Element::Boolean => Ty::Boolean,
         Element::Byte => Ty::Byte,
@@ -44,7 +44,7 @@ fn array(alloc: Global, item: Ty) -> Result<Ty, OutOfMemory> {
 }
 
 /// A type in a core.
-pub fn type_of(source: Source, given: RowType) -> Result<Ty, OutOfMemory> {
+pub fn type_of(source: &Source, given: RowType) -> Result<Ty, OutOfMemory> {
     let mut made = element(source, given.element);
     for _dim in 0..given.dims {
         made = array(source.alloc, made)?;

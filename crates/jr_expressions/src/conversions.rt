@@ -39,19 +39,19 @@ fn conversion_of(from: RowType, value: Option<Value>, to: RowType) -> Conversion
 }
 
 /// A literal of this value.
-pub fn literal(source: Source, value: Value) -> Result<Boxed<Code>, OutOfMemory> {
+pub fn literal(source: &Source, value: Value) -> Result<Boxed<Code>, OutOfMemory> {
     let value = constant_of(source, value)?;
     Ok(Boxed::new(source.alloc, Code::Lit { value: Some(value) })?)
 }
 
-fn cast(source: Source, value: Boxed<Code>, to: RowType) -> Result<Boxed<Code>, OutOfMemory> {
+fn cast(source: &Source, value: Boxed<Code>, to: RowType) -> Result<Boxed<Code>, OutOfMemory> {
     let ty = type_of(source, to)?;
     Ok(Boxed::new(source.alloc, Code::Cast { ty, value })?)
 }
 
 /// The value at a row, as one of the type: a conversion to another primitive type is written out, and that of a constant is made.
 pub fn converted(
-    source: Source,
+    source: &Source,
     codes: &mut Parts<Code>,
     at: u32,
     to: RowType,
@@ -70,7 +70,7 @@ pub fn converted(
 
 /// The value at a row as an int: an index or a length, promoted (JLS 15.10, 15.13).
 pub fn promoted(
-    source: Source,
+    source: &Source,
     codes: &mut Parts<Code>,
     at: u32,
 ) -> Result<Boxed<Code>, OutOfMemory> {
@@ -79,7 +79,7 @@ pub fn promoted(
 
 /// The value at a row, as a string where it is joined to one.
 pub fn shown(
-    source: Source,
+    source: &Source,
     codes: &mut Parts<Code>,
     at: u32,
     is_joined: bool,

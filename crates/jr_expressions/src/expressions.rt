@@ -16,7 +16,7 @@ use jr_rows::Label;
 
 /// Makes a constant expression, unless it stands in another one.
 pub fn add_constant(
-    source: Source,
+    source: &Source,
     codes: &mut Parts<Code>,
     at: u32,
     value: Value,
@@ -29,7 +29,7 @@ pub fn add_constant(
 
 // An expression that names something or makes it.
 fn add_named(
-    source: Source,
+    source: &Source,
     codes: &mut Parts<Code>,
     at: u32,
     label: &Label,
@@ -55,7 +55,7 @@ fn add_named(
 
 /// Makes the expression at a row, or a call of a constructor, whose parts are made. Rows of types and declarations make no code.
 pub fn add_expression(
-    source: Source,
+    source: &Source,
     codes: &mut Parts<Code>,
     at: u32,
     label: &Label,

@@ -12,13 +12,13 @@ use jr_places::role_at;
 use jr_rows::Role;
 
 /// The instance of a class.
-pub fn this_of(source: Source, class: u32) -> Result<Boxed<Code>, OutOfMemory> {
+pub fn this_of(source: &Source, class: u32) -> Result<Boxed<Code>, OutOfMemory> {
     let class = source.type_id(class);
     Ok(Boxed::new(source.alloc, Code::This { class })?)
 }
 
 /// The instance of the class as whose member a name was found.
-pub fn this_at(source: Source, level: Option<u32>) -> Result<Boxed<Code>, OutOfMemory> {
+pub fn this_at(source: &Source, level: Option<u32>) -> Result<Boxed<Code>, OutOfMemory> {
     match level {
         Some(class) => this_of(source, class),
         None => Err(OutOfMemory),
@@ -27,7 +27,7 @@ pub fn this_at(source: Source, level: Option<u32>) -> Result<Boxed<Code>, OutOfM
 
 /// `this`, or `T.this`.
 pub fn this(
-    source: Source,
+    source: &Source,
     codes: &mut Parts<Code>,
     at: u32,
     is_qualified: bool,
@@ -49,7 +49,7 @@ pub fn this(
 }
 
 // The value of a constant variable that stands before a dot (JLS 15.28); other names have theirs in the table of constants.
-fn constant_name(source: Source, at: u32, row: u32) -> Option<Value> {
+fn constant_name(source: &Source, at: u32, row: u32) -> Option<Value> {
     let under = source.under();
     let is_constant_form = source.child(at).is_none() || under.named_type(at).is_some();
     if is_constant_form {
@@ -62,7 +62,7 @@ fn constant_name(source: Source, at: u32, row: u32) -> Option<Value> {
 // The object of a field that is named: what stands before its dot, if that is no type, or else an instance of the class as whose member it was
 // found.
 fn object_of_name(
-    source: Source,
+    source: &Source,
     codes: &mut Parts<Code>,
     at: u32,
     row: u32,
@@ -80,7 +80,7 @@ fn object_of_name(
 
 // A variable by its name.
 fn variable(
-    source: Source,
+    source: &Source,
     codes: &mut Parts<Code>,
     at: u32,
     row: u32,
@@ -103,13 +103,13 @@ fn variable(
 }
 
 // The length of the array in the first child.
-fn length(source: Source, codes: &mut Parts<Code>, at: u32) -> Result<(), OutOfMemory> {
+fn length(source: &Source, codes: &mut Parts<Code>, at: u32) -> Result<(), OutOfMemory> {
     let array = codes.boxed(source.alloc, source.first(at))?;
     codes.push(at, Code::Length { array })
 }
 
 /// A name; one of a type or package makes no code.
-pub fn name(source: Source, codes: &mut Parts<Code>, at: u32) -> Result<(), OutOfMemory> {
+pub fn name(source: &Source, codes: &mut Parts<Code>, at: u32) -> Result<(), OutOfMemory> {
     match source.under().referent(at) {
         Referent::ArrayLength => length(source, codes, at),
         Referent::Declared { row, level } => match constant_name(source, at, row) {
@@ -121,7 +121,7 @@ pub fn name(source: Source, codes: &mut Parts<Code>, at: u32) -> Result<(), OutO
 }
 
 /// `e.name`
-pub fn select(source: Source, codes: &mut Parts<Code>, at: u32) -> Result<(), OutOfMemory> {
+pub fn select(source: &Source, codes: &mut Parts<Code>, at: u32) -> Result<(), OutOfMemory> {
     match source.under().referent(at) {
         Referent::ArrayLength => length(source, codes, at),
         Referent::Declared { row, .. } => {
@@ -139,7 +139,7 @@ pub fn select(source: Source, codes: &mut Parts<Code>, at: u32) -> Result<(), Ou
 }
 
 /// `super.name`
-pub fn super_select(source: Source, codes: &mut Parts<Code>, at: u32) -> Result<(), OutOfMemory> {
+pub fn super_select(source: &Source, codes: &mut Parts<Code>, at: u32) -> Result<(), OutOfMemory> {
     let Some(row) = source.under().declared(at) else {
         return Err(OutOfMemory);
     };

@@ -20,7 +20,7 @@ fn is_plus(op: Symbol) -> bool {
 
 /// `left && right` or `left || right`
 fn logical(
-    source: Source,
+    source: &Source,
     codes: &mut Parts<Code>,
     at: u32,
     is_and: bool,
@@ -34,7 +34,7 @@ fn logical(
     }
 }
 
-fn strict(source: Source, codes: &mut Parts<Code>, at: u32, op: Symbol) -> Result<(), OutOfMemory> {
+fn strict(source: &Source, codes: &mut Parts<Code>, at: u32, op: Symbol) -> Result<(), OutOfMemory> {
     let is_joined = is_plus(op) && source.is_string(at)?;
     let op = binary_operator(op)?;
     let left = shown(source, codes, source.first(at), is_joined)?;
@@ -44,7 +44,7 @@ fn strict(source: Source, codes: &mut Parts<Code>, at: u32, op: Symbol) -> Resul
 
 /// `left op right`
 pub fn binary(
-    source: Source,
+    source: &Source,
     codes: &mut Parts<Code>,
     at: u32,
     op: Symbol,
@@ -58,7 +58,7 @@ pub fn binary(
 
 // The right side of `target op= value`.
 fn added(
-    source: Source,
+    source: &Source,
     codes: &mut Parts<Code>,
     at: u32,
     op: Symbol,
@@ -68,7 +68,7 @@ fn added(
 }
 
 fn compound(
-    source: Source,
+    source: &Source,
     codes: &mut Parts<Code>,
     at: u32,
     sign: Symbol,
@@ -86,7 +86,7 @@ fn compound(
     )
 }
 
-fn plain(source: Source, codes: &mut Parts<Code>, at: u32) -> Result<(), OutOfMemory> {
+fn plain(source: &Source, codes: &mut Parts<Code>, at: u32) -> Result<(), OutOfMemory> {
     let wanted = source.type_of(source.first(at))?;
     let target = codes.boxed(source.alloc, source.first(at))?;
     let value = converted(source, codes, source.second(at), wanted)?;
@@ -102,7 +102,7 @@ fn plain(source: Source, codes: &mut Parts<Code>, at: u32) -> Result<(), OutOfMe
 
 /// `target = value` or `target op= value`
 pub fn assign(
-    source: Source,
+    source: &Source,
     codes: &mut Parts<Code>,
     at: u32,
     sign: Symbol,
@@ -115,7 +115,7 @@ pub fn assign(
 
 /// `op value`
 pub fn unary(
-    source: Source,
+    source: &Source,
     codes: &mut Parts<Code>,
     at: u32,
     op: Symbol,
@@ -127,7 +127,7 @@ pub fn unary(
 
 /// `op target`
 pub fn step_before(
-    source: Source,
+    source: &Source,
     codes: &mut Parts<Code>,
     at: u32,
     op: Symbol,
@@ -139,7 +139,7 @@ pub fn step_before(
 
 /// `target op`
 pub fn step_after(
-    source: Source,
+    source: &Source,
     codes: &mut Parts<Code>,
     at: u32,
     op: Symbol,
@@ -150,7 +150,7 @@ pub fn step_after(
 }
 
 /// `cond ? yes : no`
-pub fn conditional(source: Source, codes: &mut Parts<Code>, at: u32) -> Result<(), OutOfMemory> {
+pub fn conditional(source: &Source, codes: &mut Parts<Code>, at: u32) -> Result<(), OutOfMemory> {
     let wanted = source.type_of(at)?;
     let cond = codes.boxed(source.alloc, source.first(at))?;
     let yes = converted(source, codes, source.second(at), wanted)?;
@@ -159,7 +159,7 @@ pub fn conditional(source: Source, codes: &mut Parts<Code>, at: u32) -> Result<(
 }
 
 // The type that is written at a row.
-fn written(source: Source, at: u32) -> Result<RowType, OutOfMemory> {
+fn written(source: &Source, at: u32) -> Result<RowType, OutOfMemory> {
     match source.under().type_at(at) {
         Some(ty) => Ok(ty),
         None => Err(OutOfMemory),
@@ -167,7 +167,7 @@ fn written(source: Source, at: u32) -> Result<RowType, OutOfMemory> {
 }
 
 /// `value instanceof type`
-pub fn instance_test(source: Source, codes: &mut Parts<Code>, at: u32) -> Result<(), OutOfMemory> {
+pub fn instance_test(source: &Source, codes: &mut Parts<Code>, at: u32) -> Result<(), OutOfMemory> {
     let tested = written(source, source.second(at))?;
     let value = codes.boxed(source.alloc, source.first(at))?;
     let ty = type_of(source, tested)?;
@@ -176,7 +176,7 @@ pub fn instance_test(source: Source, codes: &mut Parts<Code>, at: u32) -> Result
 
 // A cast between reference types; one that widens is no code.
 fn reference_cast(
-    source: Source,
+    source: &Source,
     codes: &mut Parts<Code>,
     at: u32,
     to: RowType,
@@ -192,7 +192,7 @@ fn reference_cast(
 }
 
 /// `(type) value`
-pub fn cast(source: Source, codes: &mut Parts<Code>, at: u32) -> Result<(), OutOfMemory> {
+pub fn cast(source: &Source, codes: &mut Parts<Code>, at: u32) -> Result<(), OutOfMemory> {
     let to = written(source, source.first(at))?;
     if is_reference(to) {
         return reference_cast(source, codes, at, to);
