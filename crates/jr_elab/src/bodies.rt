@@ -4,7 +4,7 @@ use crate::statements::{Making, make};
 use jr_base::{Boxed, DeclId, Items, OutOfMemory};
 use jr_core::{Body, Code};
 use jr_defs::{Element, RowType};
-use jr_expressions::{Parts, Source, constant_of, this_of, type_of};
+use jr_expressions::{Parts, Source, add, constant_of, this_of, type_of};
 use jr_members::{is_static, written_at};
 use jr_rows::Label;
 use jr_ty::Const;
@@ -154,24 +154,30 @@ fn add_body(
     at: u32,
 ) -> Result<(), OutOfMemory> {
     match source.label(at) {
-        Some(Label::Field { .. }) => bodies.push(field(source, making, at)?)?,
-        Some(Label::Method { .. }) => bodies.push(method(source, making, at)?)?,
-        Some(Label::Constructor { .. }) => bodies.push(creating(source, making, at, false)?)?,
-        Some(Label::DefaultConstructor) => bodies.push(creating(source, making, at, false)?)?,
+        Some(Label::Field { .. }) => add(bodies, field(source, making, at)),
+        Some(Label::Method { .. }) => add(bodies, method(source, making, at)),
+        Some(Label::Constructor { .. }) => add(bodies, creating(source, making, at, false)),
+        Some(Label::DefaultConstructor) => add(bodies, creating(source, making, at, false)),
         Some(Label::Initializer { is_static }) => {
-            bodies.push(creating(source, making, at, *is_static)?)?
+            add(bodies, creating(source, making, at, *is_static))
         }
-        _ => (),
+        _ => Ok(()),
     }
-    Ok(())
+}
+
+// The bodies of a program, made with these parts.
+fn add_bodies(source: &Source, making: &mut Making) -> Result<Items<Body>, OutOfMemory> {
+    let mut bodies = Items::new(source.alloc);
+    for at in 0..source.count()? {
+        add_body(source, making, &mut bodies, at)?;
+    }
+    Ok(bodies)
 }
 
 /// The bodies of a program.
 pub fn bodies_of(source: &Source) -> Result<Items<Body>, OutOfMemory> {
-    let mut bodies = Items::new(source.alloc);
     let mut making = Making::new(source.alloc);
-    for at in 0..source.count()? {
-        add_body(source, &mut making, &mut bodies, at)?;
-    }
-    Ok(bodies)
+    let bodies = add_bodies(source, &mut making);
+    drop(making);
+    bodies
 }

@@ -2,7 +2,7 @@
 
 use jr_base::{DeclId, Items, OutOfMemory, TypeId};
 use jr_core::Class;
-use jr_expressions::Source;
+use jr_expressions::{Source, add};
 use jr_members::{declaring_type, is_inner};
 use jr_places::{is_interface, is_type};
 use jr_rows::Label;
@@ -114,7 +114,7 @@ pub fn classes_of(source: &Source) -> Result<Items<Class>, OutOfMemory> {
     let mut classes = Items::new(source.alloc);
     for at in 0..source.count()? {
         if is_type(source.rows(), at) {
-            classes.push(class(source, at)?)?;
+            add(&mut classes, class(source, at))?;
         }
     }
     Ok(classes)

@@ -2,7 +2,7 @@
 
 use crate::constants::type_of;
 use crate::conversions::{converted, promoted};
-use crate::parts::Parts;
+use crate::parts::{Parts, add_boxed};
 use crate::source::Source;
 use jr_base::{Items, OutOfMemory};
 use jr_core::Code;
@@ -56,7 +56,7 @@ fn wanted_type(source: &Source, at: u32) -> Result<RowType, OutOfMemory> {
 pub fn value(source: &Source, codes: &mut Parts<Code>, at: u32) -> Result<(), OutOfMemory> {
     let wanted = wanted_type(source, at)?;
     let value = converted(source, codes, source.first(at), wanted)?;
-    codes.push(at, value.into_inner())
+    codes.push_boxed(at, value)
 }
 
 /// `{ item, .. }`, which creates an array.
@@ -84,7 +84,7 @@ fn lengths(
     let mut all = Items::new(source.alloc);
     let mut child = from;
     for _turn in 0..count {
-        all.push(promoted(source, codes, child)?.into_inner())?;
+        add_boxed(&mut all, promoted(source, codes, child))?;
         child = source.end(child);
     }
     Ok(all)

@@ -2,7 +2,7 @@
 
 use crate::conversions::converted;
 use crate::names::this_at;
-use crate::parts::Parts;
+use crate::parts::{Parts, add_boxed};
 use crate::source::Source;
 use jr_base::{Boxed, Items, OutOfMemory};
 use jr_core::Code;
@@ -49,7 +49,7 @@ fn arguments(
             break;
         }
         let wanted = parameter(source, method, turn.saturating_sub(from))?;
-        all.push(converted(source, codes, child, wanted)?.into_inner())?;
+        add_boxed(&mut all, converted(source, codes, child, wanted))?;
         child = source.end(child);
     }
     Ok(all)
@@ -86,13 +86,6 @@ fn first_argument(source: &Source, at: u32, kind: ReceiverKind) -> u32 {
     }
 }
 
-fn is_super(kind: ReceiverKind) -> bool {
-    match kind {
-        ReceiverKind::Super => true,
-        _ => false,
-    }
-}
-
 /// A call of a method.
 pub fn call(
     source: &Source,
@@ -108,7 +101,7 @@ pub fn call(
         at,
         Code::Call {
             receiver,
-            is_super: is_super(kind),
+            is_super: kind == ReceiverKind::Super,
             method: source.decl(method.row),
             args,
         },

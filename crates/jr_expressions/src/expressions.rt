@@ -24,7 +24,7 @@ pub fn add_constant(
     if source.value(source.parent(at)).is_some() {
         return Ok(());
     }
-    codes.push(at, literal(source, value)?.into_inner())
+    codes.push_boxed(at, literal(source, value)?)
 }
 
 // An expression that names something or makes it.

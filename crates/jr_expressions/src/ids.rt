@@ -47,13 +47,6 @@ fn declaring_node(label: &Label) -> u32 {
     }
 }
 
-fn is_unit(label: &Label) -> bool {
-    match label {
-        Label::Unit => true,
-        _ => false,
-    }
-}
-
 fn is_default_constructor(rows: &[Row], at: u32) -> bool {
     match rows.get(at as usize) {
         Some(row) => match row.label {
@@ -72,7 +65,7 @@ impl Ids {
         let mut units: u32 = 0;
         let mut node: u32 = 0;
         for row in rows {
-            if is_unit(&row.label) {
+            if let Label::Unit = row.label {
                 unit = units;
                 units = units.saturating_add(1);
                 node = 0;

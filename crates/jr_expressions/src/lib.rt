@@ -19,5 +19,5 @@ pub use conversions::converted;
 pub use expressions::{add_constant, add_expression};
 pub use ids::Ids;
 pub use names::this_of;
-pub use parts::Parts;
+pub use parts::{Parts, add};
 pub use source::Source;

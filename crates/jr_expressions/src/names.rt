@@ -113,7 +113,7 @@ pub fn name(source: &Source, codes: &mut Parts<Code>, at: u32) -> Result<(), Out
     match source.under().referent(at) {
         Referent::ArrayLength => length(source, codes, at),
         Referent::Declared { row, level } => match constant_name(source, at, row) {
-            Some(value) => codes.push(at, literal(source, value)?.into_inner()),
+            Some(value) => codes.push_boxed(at, literal(source, value)?),
             None => variable(source, codes, at, row, level),
         },
         _ => Ok(()),

@@ -5,18 +5,11 @@ use crate::conversions::{converted, shown};
 use crate::parts::Parts;
 use crate::source::Source;
 use crate::symbols::{binary_operator, step_operator, unary_operator};
-use jr_base::{Boxed, OutOfMemory, Symbol};
+use jr_base::{OutOfMemory, Symbol};
 use jr_core::Code;
 use jr_defs::RowType;
 use jr_supers::is_reference;
 use jr_types::operator_of;
-
-fn is_plus(op: Symbol) -> bool {
-    match op {
-        Symbol::Plus => true,
-        _ => false,
-    }
-}
 
 /// `left && right` or `left || right`
 fn logical(
@@ -34,8 +27,13 @@ fn logical(
     }
 }
 
-fn strict(source: &Source, codes: &mut Parts<Code>, at: u32, op: Symbol) -> Result<(), OutOfMemory> {
-    let is_joined = is_plus(op) && source.is_string(at)?;
+fn strict(
+    source: &Source,
+    codes: &mut Parts<Code>,
+    at: u32,
+    op: Symbol,
+) -> Result<(), OutOfMemory> {
+    let is_joined = op == Symbol::Plus && source.is_string(at)?;
     let op = binary_operator(op)?;
     let left = shown(source, codes, source.first(at), is_joined)?;
     let right = shown(source, codes, source.second(at), is_joined)?;
@@ -56,17 +54,6 @@ pub fn binary(
     }
 }
 
-// The right side of `target op= value`.
-fn added(
-    source: &Source,
-    codes: &mut Parts<Code>,
-    at: u32,
-    op: Symbol,
-) -> Result<Boxed<Code>, OutOfMemory> {
-    let is_joined = is_plus(op) && source.is_string(source.first(at))?;
-    shown(source, codes, source.second(at), is_joined)
-}
-
 fn compound(
     source: &Source,
     codes: &mut Parts<Code>,
@@ -74,8 +61,9 @@ fn compound(
     sign: Symbol,
 ) -> Result<(), OutOfMemory> {
     let op = binary_operator(sign)?;
+    let is_joined = sign == Symbol::Plus && source.is_string(source.first(at))?;
     let target = codes.boxed(source.alloc, source.first(at))?;
-    let value = added(source, codes, at, sign)?;
+    let value = shown(source, codes, source.second(at), is_joined)?;
     codes.push(
         at,
         Code::Assign {
@@ -198,5 +186,5 @@ pub fn cast(source: &Source, codes: &mut Parts<Code>, at: u32) -> Result<(), Out
         return reference_cast(source, codes, at, to);
     }
     let value = converted(source, codes, source.second(at), to)?;
-    codes.push(at, value.into_inner())
+    codes.push_boxed(at, value)
 }

@@ -1,4 +1,5 @@
-// Parts that wait for the row round them.
+// Parts that wait for the row round them. What they are is a parameter, since each exit of a function would write out what becomes of a part of a
+// known type.
 
 use jr_base::{Boxed, Items, OutOfMemory};
 use std::alloc::Global;
@@ -8,6 +9,21 @@ use std::alloc::Global;
 pub struct Parts<T> {
     rows: Vec<u32>,
     parts: Vec<T>,
+}
+
+/// Adds an item to a list, if it was made.
+pub fn add<T: Drop>(all: &mut Items<T>, made: Result<T, OutOfMemory>) -> Result<(), OutOfMemory> {
+    all.push(made?)?;
+    Ok(())
+}
+
+/// Adds what a box holds to a list, if it was made.
+pub fn add_boxed<T: Drop>(
+    all: &mut Items<T>,
+    made: Result<Boxed<T>, OutOfMemory>,
+) -> Result<(), OutOfMemory> {
+    all.push(made?.into_inner())?;
+    Ok(())
 }
 
 impl<T: Drop> Parts<T> {
@@ -39,6 +55,11 @@ impl<T: Drop> Parts<T> {
         self.rows.push(row)?;
         self.parts.push(part)?;
         Ok(())
+    }
+
+    /// Puts what a box holds on top, as the part of a row.
+    pub fn push_boxed(&mut self, row: u32, part: Boxed<T>) -> Result<(), OutOfMemory> {
+        self.push(row, part.into_inner())
     }
 
     /// Takes the part on top off.
