@@ -92,16 +92,16 @@ fn add_word(text: &mut Vec<u8>, word: &str) -> Result<(), OutOfMemory> {
 
 impl<'a> Naming<'a> {
     // Adds the canonical name of a type.
-    fn add_type(self, text: &mut Vec<u8>, row: u32) -> Result<(), OutOfMemory> {
+    fn add_type(&self, text: &mut Vec<u8>, row: u32) -> Result<(), OutOfMemory> {
         let view = self.view;
-        let under = view.sight.world.under;
+        let under = &view.sight.world.under;
         let name = canonical_name(self.alloc, under.rows, under.places, row)?;
         text.extend_from_slice(&name)?;
         Ok(())
     }
 
     // Adds the canonical name of a class.
-    fn add_class(self, text: &mut Vec<u8>, class: DeclId) -> Result<(), OutOfMemory> {
+    fn add_class(&self, text: &mut Vec<u8>, class: DeclId) -> Result<(), OutOfMemory> {
         let view = self.view;
         match self.ids.find(view.sight.world.under.rows, class) {
             Some(row) => self.add_type(text, row),
@@ -110,7 +110,7 @@ impl<'a> Naming<'a> {
     }
 
     // Adds a method behind the canonical name of its class.
-    fn add_method(self, text: &mut Vec<u8>, method: DeclId) -> Result<(), OutOfMemory> {
+    fn add_method(&self, text: &mut Vec<u8>, method: DeclId) -> Result<(), OutOfMemory> {
         let view = self.view;
         let rows = view.sight.world.under.rows;
         let Some(row) = self.ids.find(rows, method) else {
@@ -125,7 +125,7 @@ impl<'a> Naming<'a> {
     }
 
     // Adds how a run ended.
-    fn add_end(self, text: &mut Vec<u8>, end: RunEnd) -> Result<(), OutOfMemory> {
+    fn add_end(&self, text: &mut Vec<u8>, end: RunEnd) -> Result<(), OutOfMemory> {
         match end {
             RunEnd::Running => add_word(text, "-- running"),
             RunEnd::Ended => add_word(text, "-- ended"),
@@ -145,7 +145,7 @@ impl<'a> Naming<'a> {
     }
 
     /// What a run printed, and how it ended.
-    pub fn report(self, ran: &Ran) -> Result<Text, OutOfMemory> {
+    pub fn report(&self, ran: &Ran) -> Result<Text, OutOfMemory> {
         let mut text = Vec::new(self.alloc);
         add_printed(self.alloc, &mut text, ran.printed.units())?;
         self.add_end(&mut text, ran.end)?;

@@ -15,7 +15,7 @@ use std::alloc::Global;
 
 // The class of this canonical name.
 fn find_class(alloc: Global, view: &View, name: &[u8]) -> Result<Option<u32>, OutOfMemory> {
-    let under = view.sight.world.under;
+    let under = &view.sight.world.under;
     let rows = under.rows;
     let Ok(count) = u32::try_from(rows.len()) else {
         return Err(OutOfMemory);
@@ -41,7 +41,7 @@ fn is_array_of_strings(rows: &[Row], ty: RowType) -> bool {
 }
 
 // The method has one parameter, of type String[].
-fn takes_strings(world: World, at: u32) -> bool {
+fn takes_strings(world: &World, at: u32) -> bool {
     let signatures = world.members.signatures();
     match signatures.parameter(at, 0) {
         Some(ty) => { signatures.count(at) == Some(1) && is_array_of_strings(world.under.rows, ty) }
@@ -49,7 +49,7 @@ fn takes_strings(world: World, at: u32) -> bool {
     }
 }
 
-fn gives_nothing(under: Tabled, at: u32) -> bool {
+fn gives_nothing(under: &Tabled, at: u32) -> bool {
     match under.type_of_declared(at) {
         Some(ty) => is_void(ty),
         None => false,
@@ -62,16 +62,16 @@ fn is_named_main(rows: &[Row], at: u32) -> bool {
 
 // A static void `main(String[])`.
 fn is_start(view: &View, at: u32) -> bool {
-    let world = view.sight.world;
+    let world = &view.sight.world;
     is_named_main(world.under.rows, at)
         && is_static(world.under.rows, at)
-        && gives_nothing(world.under, at)
+        && gives_nothing(&world.under, at)
         && takes_strings(world, at)
 }
 
 // The method of a class that a run can start with: one that it declares or inherits.
 fn start_in(alloc: Global, view: &View, class: u32) -> Result<Option<u32>, OutOfMemory> {
-    let world = view.sight.world;
+    let world = &view.sight.world;
     for at in &world.methods_of(alloc, class)? {
         if is_start(view, *at) {
             let name = world.under.places.name(*at);
