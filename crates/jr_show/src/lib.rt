@@ -1,4 +1,4 @@
-//! What is shown of files that compile: where declarations are used.
+//! What is shown of files that compile: the output of a run, and where declarations are used.
 #![tactic(auto)]
 
 mod fault;

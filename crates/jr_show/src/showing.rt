@@ -7,11 +7,14 @@ use jr_base::{Files, Text};
 use jr_change::{ChangeFault, Project, Reason};
 use jr_front::{Workspace, open_files};
 use jr_report::{Report, report};
+use jr_run::{RunFault, run_text};
 use std::alloc::Global;
 
 /// What is asked of files that compile.
 #[derive(Clone, Copy, Debug)]
 pub enum Question<'a> {
+    /// What the class prints in so many steps.
+    Run { class: &'a [u8], steps: u64 },
     /// The references to the declaration at the offset.
     References { file: &'a [u8], at: u32 },
     /// The types below the one at the offset.
@@ -41,6 +44,15 @@ fn reported(
     }
 }
 
+// What the class of a program prints.
+fn printed(alloc: Global, project: &Project, class: &[u8], steps: u64) -> Result<Text, Unanswered> {
+    match run_text(alloc, project, class, steps) {
+        Ok(text) => Ok(text),
+        Err(RunFault::Bad(reason)) => Err(Unanswered::Bad(reason)),
+        Err(RunFault::OutOfMemory) => Err(Unanswered::OutOfMemory),
+    }
+}
+
 // The answer to a question on a program.
 fn answered(
     alloc: Global,
@@ -52,6 +64,7 @@ fn answered(
         view: workspace.view(),
     };
     match question {
+        Question::Run { class, steps } => printed(alloc, &project, class, steps),
         Question::References { file, at } => {
             reported(alloc, &project, Report::References, file, at)
         }

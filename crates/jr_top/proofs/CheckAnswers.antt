@@ -17,7 +17,7 @@ use Rattle.std.proofs.lemmas.Option.{same_Some}
 use Rattle.jr_commit.specs.Restoring.{Restored, RestoresTo, SameFiles, StartsRecover}
 use Rattle.jr_request.specs.Words.{command_of}
 use Rattle.jr_request.specs.declared.command.Command.{Command}
-use Rattle.jr_request.specs.declared.command.Command.TheVariants.{Check, Refs, Subtypes, Callers}
+use Rattle.jr_request.specs.declared.command.Command.TheVariants.{Check, Run, Refs, Subtypes, Callers}
 use Rattle.jr_store.specs.Image.{Image, AreJava, Tells, Rose}
 use Rattle.jr_top.specs.Answers.{IsFailure}
 use Rattle.jr_top.specs.Checking.{IsReading, AsksReading, IsOneProgram, IsVerdict, small, accepted, refused, oversized, Fronted, front_accepts, front_refuses, front_wants_memory, IsShown, shows, shows_none, shows_refusal, shows_size, Showed, has_text, has_reason, has_refusal, has_no_memory, IsSaid, Checks, AnswersReading, IsCheckedSo, status_of}
@@ -37,6 +37,7 @@ use Rattle.jr_top.proofs.PlainAnswers.{IsPlain}
 -- a command that reads the files needs them
 pub reading_needs : (command : Command) → IsReading command → NeedsFiles command
 reading_needs Check reads = tt
+reading_needs (Run class steps) reads = tt
 reading_needs (Refs file at) reads = tt
 reading_needs (Subtypes file at) reads = tt
 reading_needs (Callers file at) reads = tt

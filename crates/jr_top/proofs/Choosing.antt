@@ -11,7 +11,7 @@ use Rattle.jr_commit.specs.Restoring.{Restored}
 use Rattle.jr_gather.specs.Gathering.{HoldsFiles, IsTooLarge}
 use Rattle.jr_request.specs.Words.{command_of}
 use Rattle.jr_request.specs.declared.command.Command.{Command}
-use Rattle.jr_request.specs.declared.command.Command.TheVariants.{One, Batch, Check, Undo, Refs, Subtypes, Callers}
+use Rattle.jr_request.specs.declared.command.Command.TheVariants.{One, Batch, Check, Undo, Run, Refs, Subtypes, Callers}
 use Rattle.jr_store.specs.Image.{Image, Rose}
 use Rattle.jr_thin.specs.Renaming.{Serves}
 use Rattle.jr_top.specs.Batches.{IsNotPlanned}
@@ -56,6 +56,7 @@ chosen_one (One request) heard quiet loud told before after decision (inl small)
 chosen_one (One request) heard quiet loud told before after decision (inr (passed, all)) no_batch no_reading no_undo = inr (request, refl, passed, all)
 chosen_one Batch heard quiet loud told before after decision chooses no_batch no_reading no_undo = absurd (no_batch refl)
 chosen_one Check heard quiet loud told before after decision chooses no_batch no_reading no_undo = absurd (no_reading tt)
+chosen_one (Run class steps) heard quiet loud told before after decision chooses no_batch no_reading no_undo = absurd (no_reading tt)
 chosen_one (Refs file at) heard quiet loud told before after decision chooses no_batch no_reading no_undo = absurd (no_reading tt)
 chosen_one (Subtypes file at) heard quiet loud told before after decision chooses no_batch no_reading no_undo = absurd (no_reading tt)
 chosen_one (Callers file at) heard quiet loud told before after decision chooses no_batch no_reading no_undo = absurd (no_reading tt)

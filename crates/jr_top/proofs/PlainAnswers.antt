@@ -6,7 +6,7 @@ use Rattle.jr_commit.specs.Restoring.{IsOpen, KeepsOthers, Restored, RestoresTo,
 use Rattle.jr_commit.proofs.Phases.{shut_image}
 use Rattle.jr_request.specs.Words.{command_of}
 use Rattle.jr_request.specs.declared.command.Command.{Command}
-use Rattle.jr_request.specs.declared.command.Command.TheVariants.{Batch, Check, Undo, Refs, Subtypes, Callers}
+use Rattle.jr_request.specs.declared.command.Command.TheVariants.{Batch, Check, Undo, Run, Refs, Subtypes, Callers}
 use Rattle.jr_store.specs.Image.{Image, Tells, Rose}
 use Rattle.jr_top.specs.Answers.{Reports, IsReported, reported, OutcomeOf, IsFailure}
 use Rattle.jr_top.specs.Batches.{AsksBatch}
@@ -52,6 +52,7 @@ batch_or_not other = inr (λ same. subst IsNoBatch same tt)
 
 reading_or_not : (command : Command) → IsReading command ⊎ (IsReading command → ⊥)
 reading_or_not Check = inl tt
+reading_or_not (Run class steps) = inl tt
 reading_or_not (Refs file at) = inl tt
 reading_or_not (Subtypes file at) = inl tt
 reading_or_not (Callers file at) = inl tt

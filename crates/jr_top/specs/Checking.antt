@@ -15,7 +15,7 @@ use Rattle.jr_check.specs.Small.{IsSmallProgram}
 use Rattle.jr_commit.specs.Restoring.{SameFiles}
 use Rattle.jr_request.specs.Words.{command_of}
 use Rattle.jr_request.specs.declared.command.Command.{Command}
-use Rattle.jr_request.specs.declared.command.Command.TheVariants.{Check, Refs, Subtypes, Callers}
+use Rattle.jr_request.specs.declared.command.Command.TheVariants.{Check, Run, Refs, Subtypes, Callers}
 use Rattle.jr_store.specs.Image.{Image, Tells, Rose}
 use Rattle.jr_top.specs.Plain.{AnswersPlain}
 use Rattle.jr_top.specs.Reasons.{reason_number}
@@ -26,9 +26,10 @@ use Rattle.jr_top.specs.declared.status.Status.{Status}
 use Rattle.jr_top.specs.declared.status.Status.TheVariants.{Done, BadRequest, NotCompiling, StoreFault, TooLarge, OutOfMemory}
 use Rattle.jr_top.specs.declared.status.NotCompiling.TheVariants as fault
 
--- a command that reads the files and leaves them: a check, or a report of uses
+-- a command that reads the files and leaves them: a check, a run, or a report of uses
 abbrev pub IsReading : Command → Type 0
 IsReading Check = Unit {0}
+IsReading (Run class steps) = Unit {0}
 IsReading (Refs file at) = Unit {0}
 IsReading (Subtypes file at) = Unit {0}
 IsReading (Callers file at) = Unit {0}

@@ -1,14 +1,15 @@
--- Which commands are served on files: all but a run and a demonstration.
+-- Which commands are served on files: all but a demonstration.
 use Rattle.std.specs.Prelude.{◌≡◌, ℕ, List, Some, ⊤}
 use Rattle.jr_request.specs.Words.{command_of}
 use Rattle.jr_request.specs.declared.command.Command.{Command}
-use Rattle.jr_request.specs.declared.command.Command.TheVariants.{One, Batch, Check, Undo, Refs, Subtypes, Callers}
+use Rattle.jr_request.specs.declared.command.Command.TheVariants.{One, Batch, Check, Undo, Run, Refs, Subtypes, Callers}
 
 -- a command that is served on files
 abbrev pub IsServedCommand : Command → Type 0
 IsServedCommand (One request) = ⊤
 IsServedCommand Batch = ⊤
 IsServedCommand Check = ⊤
+IsServedCommand (Run class steps) = ⊤
 IsServedCommand (Refs file at) = ⊤
 IsServedCommand (Subtypes file at) = ⊤
 IsServedCommand (Callers file at) = ⊤

@@ -20,6 +20,7 @@ pub fn is_reading(command: &Command) -> bool
 {
     match command {
         Command::Check => true,
+        Command::Run { .. } => true,
         Command::Refs { .. } => true,
         Command::Subtypes { .. } => true,
         Command::Callers { .. } => true,
@@ -83,6 +84,17 @@ pub fn read_files<S: Store>(alloc: Global, command: &Command, store: &mut S) -> 
 {
     match command {
         Command::Check => check(alloc, store),
+        Command::Run { class, steps } => {
+            let class = class.bytes();
+            show_all(
+                alloc,
+                Question::Run {
+                    class,
+                    steps: *steps,
+                },
+                store,
+            )
+        }
         Command::Refs { file, at } => {
             let file = file.bytes();
             show_all(alloc, Question::References { file, at: *at }, store)

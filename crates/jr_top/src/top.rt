@@ -296,7 +296,7 @@ fn perform<S: Store, I: Source, O: Sink>(
 
 /// Does what the words ask for, and writes one line.
 ///
-/// The first word is the folder, which is not read here. Every command but `demo` begins with recovery, and all others but `run` are served. The input of a batch is read after recovery, before the files. Want of
+/// The first word is the folder, which is not read here. Every command but `demo` begins with recovery, and all others are served. The input of a batch is read after recovery, before the files. Want of
 /// memory may be answered at any time before the first write of the commit, unless recovery has begun to write and not ended.
 pub fn refactor<S: Store, I: Source, O: Sink>(
     alloc: Global,
@@ -319,7 +319,7 @@ pub fn refactor<S: Store, I: Source, O: Sink>(
         ⊎ ((paths : List (List ℕ)) × OutcomeOf (line_of paths) (λ status. AnswersPlanned words.now (AsksAll words.now (I.left input.old)) paths (S.files store.old) (S.files store.new) (S.may_leave store.new) (S.faults store.old) (S.faults store.new) status
         × Survives words.now (S.files store.old) (S.may_leave store.old) (S.may_leave store.new) status) (O.contents out.old) (O.contents out.new) (O.faults out.old) (O.faults out.new) result) }
 
-    // So has each answer to a check or a report: what the front says of the files found, whose paths its line names, or a text where they compile.
+    // So has each answer to a check, a run or a report: what the front says of the files found, whose paths its line names, or a text where they compile.
     ensures reading { AsksReading words.now → (paths : List (List ℕ)) × OutcomeOf (line_of paths) (λ status. AnswersReading words.now paths (S.files store.old) (S.files store.new) (S.may_leave store.new) (S.faults store.old) (S.faults store.new) status
         × Survives words.now (S.files store.old) (S.may_leave store.old) (S.may_leave store.new) status) (O.contents out.old) (O.contents out.new) (O.faults out.old) (O.faults out.new) result }
 
@@ -353,7 +353,7 @@ pub fn refactor<S: Store, I: Source, O: Sink>(
         → I.left input.old ≡ Some bytes → IsInputAnswer bytes answer → IsNotPlanned answer
         → (result ≡ status_of answer) ⊎ IsBatchFailure (S.faults store.old) (S.faults store.new) (O.faults out.old) (O.faults out.new) (I.faults input.old) (I.faults input.new) result }
 
-    // A check or a report leaves the files, and gets one of the answers that these have.
+    // A check, a run or a report leaves the files, and gets one of the answers that these have.
     ensures reading_exact { (files found : Image) → S.files store.old ≡ Some files → Restored files found → AsksReading words.now
         → IsCheckedSo (command_of words.now) found (S.files store.new) result ⊎ IsFailure (S.faults store.old) (S.faults store.new) (O.faults out.old) (O.faults out.new) result }
 

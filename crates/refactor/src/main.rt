@@ -24,14 +24,15 @@ refactor DIR COMMAND ..: changes the Java source below the folder DIR, keeping w
   undo                      takes the last change back, where no file of it was edited since
   batch                     does renames, moves, extractions, inlinings and pull ups, read as JSON from standard input,
                             one after the other, all or none
+  run CLASS STEPS           runs the main method of the class for so many steps of the reference machine
   refs FILE OFFSET          lists the references to what is declared or named at the byte offset of the file
   subtypes FILE OFFSET      lists the types below the one at the byte offset of the file
   callers FILE OFFSET       lists what may call the method at the byte offset of the file
   demo COUNT                renames, moves and extracts in a workspace of so many classes in memory
 
-`run` is answered `not yet`. Each answer but that of a report is one line on standard output, and a status: 0 done, 1 bad words, 2 bad request, 3 not compiling,
+Each answer but that of a run or report is one line on standard output, and a status: 0 done, 1 bad words, 2 bad request, 3 not compiling,
 4 no spelling, 5 lost edge, 6 broken rule, 7 store fault, 8 input fault, 9 too large, 10 out of memory, 11 bad journal,
-12 no undo, 13 still used, 14 output fault, 20 not yet, 21 differs.
+12 no undo, 13 still used, 14 output fault, 21 differs.
 A run that was stopped while it wrote is first undone, by the files .refactor-gate and .refactor-journal.
 ";
 

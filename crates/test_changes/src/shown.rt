@@ -1,6 +1,30 @@
-// Reports and demonstrations.
+// Runs, reports and demonstrations.
 use crate::calling::comes_to;
 use std::test::Fail;
+
+#[test]
+fn a_program_is_run(rt: HostRuntime) -> Result<(), Fail> {
+    let alloc = rt.alloc();
+    let product = "class A { public static void main(String[] s) { System.out.println(6 * 7); } }";
+    let cases = [
+        (". run A 1000", 0, "42\n-- ended\n"),
+        (". run A 0", 0, "-- running\n"),
+        (". run B 5", 2, "bad request: 1\n"),
+    ];
+    for (words, number, line) in cases {
+        comes_to(&rt, alloc, product, words, number, line, product)?;
+    }
+    let zero = "class A { public static void main(String[] s) { int z = 0; z = 1 / z; } }";
+    comes_to(
+        &rt,
+        alloc,
+        zero,
+        ". run A 1000",
+        0,
+        "-- uncaught java.lang.ArithmeticException\n",
+        zero,
+    )
+}
 
 #[test]
 fn uses_are_reported(rt: HostRuntime) -> Result<(), Fail> {

@@ -1,0 +1,12 @@
+//! Elaboration: the core of a program that compiles, made from its rows. Each body is made from its last row back, when the parts below a row are
+//! there already, so that no function calls itself.
+#![tactic(auto)]
+
+mod bodies;
+mod classes;
+mod jumps;
+mod loops;
+mod program;
+mod statements;
+
+pub use program::elaborate;
