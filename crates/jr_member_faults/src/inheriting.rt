@@ -6,6 +6,7 @@ use crate::together::is_method;
 use jr_base::OutOfMemory;
 use jr_members::{MemberKind, World, declaring_type, is_abstract};
 use jr_places::{is_class, is_interface};
+use jr_rows::Row;
 use jr_supers::entry_before;
 use jr_tables::{Chains, Entry, Stamps};
 use std::alloc::Global;
