@@ -27,17 +27,28 @@ fn add_edges(
     Ok(())
 }
 
-// The types that are not settled, under those that wait for them.
-fn edges_of(alloc: Global, setting: Setting, settled: &mut Settled) -> Result<Chains, OutOfMemory> {
+// The types for which types wait that are not settled.
+fn add_all_edges(
+    alloc: Global,
+    setting: Setting,
+    settled: &mut Settled,
+    edges: &mut Chains,
+) -> Result<(), OutOfMemory> {
     let Ok(count) = u32::try_from(setting.rows.len()) else {
         return Err(OutOfMemory);
     };
-    let mut edges = Chains::new(alloc);
     for at in 0..count {
         if is_type(setting.rows, at) && !settled.has(at) {
-            add_edges(alloc, setting, settled, &mut edges, at)?;
+            add_edges(alloc, setting, settled, edges, at)?;
         }
     }
+    Ok(())
+}
+
+// The types that are not settled, under those that wait for them.
+fn edges_of(alloc: Global, setting: Setting, settled: &mut Settled) -> Result<Chains, OutOfMemory> {
+    let mut edges = Chains::new(alloc);
+    add_all_edges(alloc, setting, settled, &mut edges)?;
     Ok(edges)
 }
 
@@ -101,6 +112,22 @@ impl Counts {
                 self.raise(edge.row);
             }
         }
+    }
+
+    // The first type that was not left out and waits for itself.
+    fn first_on_cycle(
+        &self,
+        alloc: Global,
+        edges: &Chains,
+        met: &mut Stamps,
+    ) -> Result<Option<u32>, OutOfMemory> {
+        for place in 0..edges.len() {
+            let at = first_at(edges, place);
+            if self.count(at) > 0 && reaches_itself(alloc, edges, met, at)? {
+                return Ok(Some(at));
+            }
+        }
+        Ok(None)
     }
 
     // Finds the types that wait and for which none waits.
@@ -191,13 +218,12 @@ pub fn first_on_cycle(
     settled: &mut Settled,
 ) -> Result<Option<u32>, OutOfMemory> {
     let edges = edges_of(alloc, setting, settled)?;
-    let mut met = Stamps::new(alloc, setting.rows.len())?;
-    let counts = counts_of(alloc, &edges, &mut met, setting.rows.len())?;
-    for place in 0..edges.len() {
-        let at = first_at(&edges, place);
-        if counts.count(at) > 0 && reaches_itself(alloc, &edges, &mut met, at)? {
-            return Ok(Some(at));
-        }
-    }
-    Ok(None)
+    first_waiting(alloc, &edges, setting.rows.len())
+}
+
+// The first type that waits for itself, of types that are below a bound.
+fn first_waiting(alloc: Global, edges: &Chains, bound: usize) -> Result<Option<u32>, OutOfMemory> {
+    let mut met = Stamps::new(alloc, bound)?;
+    let counts = counts_of(alloc, edges, &mut met, bound)?;
+    counts.first_on_cycle(alloc, edges, &mut met)
 }

@@ -5,9 +5,10 @@ use crate::boxes::{imports_of, members_of, supers_of};
 use crate::filling::{Filling, Known};
 use crate::headers::Setting;
 use jr_base::OutOfMemory;
+use jr_constants::Constants;
 use jr_defs::Referent;
-use jr_lookup::{Scopes, Sight};
-use jr_members::World;
+use jr_lookup::{Imports, Scopes, Sight};
+use jr_members::{Members, World};
 use jr_places::{Places, is_type, sought_at};
 use jr_rows::{Row, Sought};
 use jr_supers::{Supers, Tabled};
@@ -139,6 +140,43 @@ fn all_rebound(
     Ok(all)
 }
 
+/// What is made of supertypes and a table.
+#[derive(Drop)]
+struct Made {
+    members: Box<Members>,
+    imports: Box<Imports>,
+    constants: Box<Constants>,
+}
+
+// The members, imports and constants under the locks; the types of expressions go to the table.
+fn made_by(
+    alloc: Global,
+    setting: Setting,
+    supers: &Supers,
+    filling: &mut Filling,
+) -> Result<Made, OutOfMemory> {
+    let under = Tabled {
+        rows: setting.rows,
+        places: setting.places,
+        table: &filling.table,
+    };
+    let members = members_of(alloc, under, supers)?;
+    let imports = imports_of(alloc, under)?;
+    let known = Known {
+        setting,
+        supers: &*supers,
+        members: &members,
+        imports: &imports,
+    };
+    let constants = filling.find_constants(alloc, known)?;
+    filling.find_types(known)?;
+    Ok(Made {
+        members,
+        imports,
+        constants,
+    })
+}
+
 // The program under the locks, where their supertypes have no cycle.
 fn bind_locked(
     alloc: Global,
@@ -147,29 +185,15 @@ fn bind_locked(
     locks: Vec<Referent>,
 ) -> Result<Bound, OutOfMemory> {
     let mut filling = Filling::new(alloc, setting.rows, locks)?;
-    let under = Tabled {
-        rows: setting.rows,
-        places: setting.places,
-        table: &filling.table,
-    };
-    let members = members_of(alloc, under, &supers)?;
-    let imports = imports_of(alloc, under)?;
-    let known = Known {
-        setting,
-        supers: &supers,
-        members: &members,
-        imports: &imports,
-    };
-    let constants = filling.find_constants(alloc, known)?;
-    filling.find_types(known)?;
+    let made = made_by(alloc, setting, &supers, &mut filling)?;
     let Filling { table, types, .. } = filling;
     Ok(Bound {
         table,
         types,
         supers,
-        members,
-        imports,
-        constants,
+        members: made.members,
+        imports: made.imports,
+        constants: made.constants,
     })
 }
 

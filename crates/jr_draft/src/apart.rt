@@ -1,14 +1,14 @@
 // Units that lose a declaration, and types that leave their unit for one of their own.
 
 use crate::asking::count_units;
-use crate::draft::{Draft, edits_of, unit_row};
+use crate::draft::{Draft, unit_row};
 use crate::order::{order_with, path_of};
-use crate::packages::{Head, count_identifiers, declaration_of};
+use crate::packages::{Head, count_identifiers, declaration_of, path_of_type};
 use jr_base::{OutOfMemory, Path, Span, Text};
 use jr_change::{Change, ChangeFault, RowRange, UnitSource};
 use jr_lookup::import_kind;
 use jr_marks::Marks;
-use jr_places::end_at;
+use jr_places::{end_at, name_at};
 use jr_text::{extent, part, tokens_span, unit_bytes};
 use std::alloc::Global;
 
@@ -22,12 +22,8 @@ pub fn add_without(
 ) -> Result<(), ChangeFault> {
     let unit = marks.unit_of(rows.first);
     let row = unit_row(marks, unit);
-    let mut edits = edits_of(alloc, marks, rows.first)?;
-    edits.push(span, Text::of(alloc, &[])?)?;
-    draft.add(
-        path_of(alloc, marks, unit)?,
-        UnitSource::Edited { unit, edits },
-    )?;
+    draft.open(alloc, marks, unit, path_of(alloc, marks, unit)?)?;
+    draft.replace(alloc, span, &[])?;
     draft.copy(row, rows.first)?;
     draft.copy(rows.end, end_at(marks.rows, row))?;
     Ok(())
@@ -61,7 +57,7 @@ fn add_imports(out: &mut Vec<u8>, marks: &Marks, head: Head) -> Result<(), OutOf
 }
 
 // The text of the new unit.
-fn text_apart(alloc: Global, marks: &Marks, leaving: Leaving) -> Result<Text, OutOfMemory> {
+fn text_apart(alloc: Global, marks: &Marks, leaving: &Leaving) -> Result<Text, OutOfMemory> {
     let mut out = declaration_of(alloc, leaving.package)?;
     add_imports(&mut out, marks, leaving.head)?;
     out.extend_from_slice(leaving.declaration)?;
@@ -87,7 +83,7 @@ pub fn add_package_rows(
 }
 
 // Adds the rows of the new unit.
-fn add_rows_apart(draft: &mut Draft, marks: &Marks, leaving: Leaving) -> Result<(), OutOfMemory> {
+fn add_rows_apart(draft: &mut Draft, marks: &Marks, leaving: &Leaving) -> Result<(), OutOfMemory> {
     let end = end_at(marks.rows, leaving.row);
     draft.glue(1)?;
     add_package_rows(draft, leaving.package, None)?;
@@ -105,7 +101,7 @@ fn add_apart(
     alloc: Global,
     draft: &mut Draft,
     marks: &Marks,
-    leaving: Leaving,
+    leaving: &Leaving,
     path: &Path,
 ) -> Result<(), OutOfMemory> {
     let text = text_apart(alloc, marks, leaving)?;
@@ -118,7 +114,7 @@ fn add_left(
     alloc: Global,
     draft: &mut Draft,
     marks: &Marks,
-    leaving: Leaving,
+    leaving: &Leaving,
 ) -> Result<(), ChangeFault> {
     let rows = RowRange {
         first: leaving.row,
@@ -127,26 +123,37 @@ fn add_left(
     add_without(alloc, draft, marks, rows, extent(marks, leaving.row))
 }
 
-/// The change in which a type leaves its unit for a new one at this path: the package declaration, the imports of the old unit and the declaration,
-/// each with LF. The new unit is numbered behind the old ones.
-pub fn left_apart(
+// Adds all units in this order, in which the number behind the old ones is that of the new unit.
+fn add_units(
     alloc: Global,
+    draft: &mut Draft,
     marks: &Marks,
-    leaving: Leaving,
+    leaving: &Leaving,
     path: &Path,
-) -> Result<Change, ChangeFault> {
+    order: &[u32],
+) -> Result<(), ChangeFault> {
     let added = count_units(marks);
     let left = marks.unit_of(leaving.row);
-    let order = order_with(alloc, marks, added, path.bytes())?;
-    let mut draft = Draft::new(alloc, marks)?;
-    for unit in &order {
+    for unit in order {
         if *unit == added {
-            add_apart(alloc, &mut draft, marks, leaving, path)?;
+            add_apart(alloc, draft, marks, leaving, path)?;
         } else if *unit == left {
-            add_left(alloc, &mut draft, marks, leaving)?;
+            add_left(alloc, draft, marks, leaving)?;
         } else {
             draft.keep(alloc, marks, *unit)?;
         }
     }
-    Ok(draft.finish())
+    Ok(())
+}
+
+impl<'a> Leaving<'a> {
+    /// The change in which the type leaves its unit for one of its name in the folder of the package: the package declaration, the imports of the old
+    /// unit and the declaration, each with LF. The new unit is numbered behind the old ones.
+    pub fn to_own_file(&self, alloc: Global, marks: &Marks) -> Result<Change, ChangeFault> {
+        let path = path_of_type(alloc, self.package, name_at(marks.rows, self.row))?;
+        let order = order_with(alloc, marks, count_units(marks), path.bytes())?;
+        let mut draft = Draft::new(alloc, marks)?;
+        add_units(alloc, &mut draft, marks, self, &path, &order)?;
+        Ok(draft.finish())
+    }
 }

@@ -2,8 +2,10 @@
 
 use crate::asking::{PRELUDE, count_units};
 use crate::order::path_of;
-use jr_base::{OutOfMemory, Path};
-use jr_change::{Added, Change, ChangedUnit, Course, Naming, Segment, Target, UnitSource};
+use jr_base::{OutOfMemory, Path, Span, Text};
+use jr_change::{
+    Added, Change, ChangeFault, ChangedUnit, Course, Naming, Segment, Target, UnitSource,
+};
 use jr_edits::Edits;
 use jr_marks::Marks;
 use jr_places::end_at;
@@ -104,10 +106,59 @@ impl Draft {
         self.copy(row, end_at(marks.rows, row))
     }
 
+    /// Adds an old unit at a path, to be edited, but not its rows.
+    pub fn open(
+        &mut self,
+        alloc: Global,
+        marks: &Marks,
+        unit: u32,
+        path: Path,
+    ) -> Result<(), OutOfMemory> {
+        match u32::try_from(unit_bytes(marks, unit_row(marks, unit)).len()) {
+            Ok(length) => {
+                let edits = Edits::new(alloc, length);
+                self.add(path, UnitSource::Edited { unit, edits })
+            }
+            Err(_) => Err(OutOfMemory),
+        }
+    }
+
+    /// Replaces bytes of the unit that was added last. One that is not to be edited stays as it is.
+    pub fn replace(&mut self, alloc: Global, span: Span, bytes: &[u8]) -> Result<(), ChangeFault> {
+        if let Some(last) = self.units.last_mut() {
+            if let UnitSource::Edited { edits, .. } = &mut last.source {
+                edits.push(span, Text::of(alloc, bytes)?)?;
+            }
+        }
+        Ok(())
+    }
+
     /// Adds an old unit as it is.
     pub fn keep(&mut self, alloc: Global, marks: &Marks, unit: u32) -> Result<(), OutOfMemory> {
         self.add(path_of(alloc, marks, unit)?, UnitSource::Kept(unit))?;
         self.copy_unit(marks, unit)
+    }
+
+    /// Adds the old units from the first up to before the end as they are.
+    pub fn keep_all(
+        &mut self,
+        alloc: Global,
+        marks: &Marks,
+        first: u32,
+        end: u32,
+    ) -> Result<(), OutOfMemory> {
+        for unit in first..end {
+            self.keep(alloc, marks, unit)?;
+        }
+        Ok(())
+    }
+
+    // Adds all units as they are, but not their rows.
+    fn keep_texts(&mut self, alloc: Global, marks: &Marks) -> Result<(), OutOfMemory> {
+        for unit in PRELUDE..count_units(marks) {
+            self.add(path_of(alloc, marks, unit)?, UnitSource::Kept(unit))?;
+        }
+        Ok(())
     }
 
     /// The change, in which each body stays as it is.
@@ -132,17 +183,7 @@ impl Draft {
 /// The change that keeps all.
 pub fn unchanged(alloc: Global, marks: &Marks) -> Result<Change, OutOfMemory> {
     let mut draft = Draft::empty(alloc);
-    for unit in PRELUDE..count_units(marks) {
-        draft.add(path_of(alloc, marks, unit)?, UnitSource::Kept(unit))?;
-    }
+    draft.keep_texts(alloc, marks)?;
     draft.copy(0, end_at(marks.rows, 0))?;
     Ok(draft.finish())
-}
-
-/// No edits of the unit in which a row stands.
-pub fn edits_of(alloc: Global, marks: &Marks, row: u32) -> Result<Edits, OutOfMemory> {
-    match u32::try_from(unit_bytes(marks, row).len()) {
-        Ok(length) => Ok(Edits::new(alloc, length)),
-        Err(_) => Err(OutOfMemory),
-    }
 }

@@ -163,3 +163,9 @@ pub fn path_in(alloc: Global, folder: &[u8], name: &[u8]) -> Result<Path, OutOfM
     file.extend_from_slice(b".java")?;
     path_below(alloc, folder, &file)
 }
+
+/// The path of the file of a type of a package.
+pub fn path_of_type(alloc: Global, package: &[u8], name: &[u8]) -> Result<Path, OutOfMemory> {
+    let folder = folder_of_package(alloc, package)?;
+    path_in(alloc, &folder, name)
+}

@@ -4,9 +4,9 @@ use crate::locals::locals_of;
 use crate::pen::{Extraction, Pen};
 use crate::run::{Run, run_at};
 use crate::thrown::thrown_out;
-use jr_base::{OutOfMemory, Span, is_identifier};
-use jr_change::{Change, ChangeFault, Project, Reason, RowRange, UnitSource};
-use jr_draft::{PRELUDE, count_units, edits_of, path_of, unit_of_file, unit_row};
+use jr_base::{Span, is_identifier};
+use jr_change::{Change, ChangeFault, Project, Reason, RowRange};
+use jr_draft::{PRELUDE, count_units, path_of, unit_of_file, unit_row};
 use jr_marks::Marks;
 use jr_members::is_static;
 use jr_places::{end_at, parent_at};
@@ -30,9 +30,16 @@ pub fn extract(
     if !is_identifier(name) {
         return Err(ChangeFault::Bad(Reason::BadName));
     }
-    let Some(run) = run_at(&old.marks, unit, Span { start, end }) else {
-        return Err(ChangeFault::Bad(Reason::BadRange));
-    };
+    match run_at(&old.marks, unit, Span { start, end }) {
+        Some(run) => extracted(alloc, old, run, name),
+        None => Err(ChangeFault::Bad(Reason::BadRange)),
+    }
+}
+
+// The change that makes a method of a run.
+fn extracted(alloc: Global, old: &Project, run: Run, name: &[u8]) -> Result<Change, ChangeFault> {
+    let locals = locals_of(alloc, &old.view, run)?;
+    let thrown = thrown_out(alloc, &old.view, run)?;
     let rows = old.marks.rows;
     let added = Extraction {
         run,
@@ -40,10 +47,10 @@ pub fn extract(
         name,
         class: parent_at(rows, parent_at(rows, run.member)),
         is_static: is_static(rows, run.member),
-        locals: locals_of(alloc, &old.view, run)?,
-        thrown: thrown_out(alloc, &old.view, run)?,
+        locals: &locals,
+        thrown: &thrown,
     };
-    changed(alloc, &old.marks, unit, &added)
+    changed(alloc, &old.marks, &added)
 }
 
 // The last of consecutive statements.
@@ -68,53 +75,49 @@ fn span_of(marks: &Marks, run: Run) -> Span {
 }
 
 // The change in which one unit has the added statement and method.
-fn changed(
-    alloc: Global,
-    marks: &Marks,
-    changing: u32,
-    added: &Extraction,
-) -> Result<Change, ChangeFault> {
+fn changed(alloc: Global, marks: &Marks, added: &Extraction) -> Result<Change, ChangeFault> {
     let mut pen = Pen::new(alloc, marks)?;
-    for unit in PRELUDE..count_units(marks) {
-        if unit == changing {
-            add_unit(alloc, &mut pen, marks, unit, added)?;
-        } else {
-            pen.draft.keep(alloc, marks, unit)?;
-        }
-    }
+    add_units(alloc, &mut pen, marks, added)?;
     Ok(pen.finish())
 }
 
-// Adds the unit with the added statement and method.
-fn add_unit(
+// Adds all units, of which that of the run is changed.
+fn add_units(
     alloc: Global,
     pen: &mut Pen,
     marks: &Marks,
-    unit: u32,
     added: &Extraction,
 ) -> Result<(), ChangeFault> {
-    let rows = marks.rows;
+    let unit = marks.unit_of(added.run.member);
+    pen.draft.keep_all(alloc, marks, PRELUDE, unit)?;
+    pen.draft
+        .open(alloc, marks, unit, path_of(alloc, marks, unit)?)?;
+    put_changed(pen, marks, added)?;
+    pen.draft
+        .keep_all(alloc, marks, unit.saturating_add(1), count_units(marks))?;
+    Ok(())
+}
+
+// Changes the unit that was added last, and adds its rows.
+fn put_changed(pen: &mut Pen, marks: &Marks, added: &Extraction) -> Result<(), ChangeFault> {
     let run = added.run;
-    let top = unit_row(marks, unit);
-    let behind = end_at(rows, run.member);
-    let place = tokens_span(marks, run.member).end;
-    let mut edits = edits_of(alloc, marks, top)?;
+    let top = unit_row(marks, marks.unit_of(run.member));
+    let behind = end_at(marks.rows, run.member);
     pen.draft.copy(top, run.rows.first)?;
     pen.put_statement(added, behind.saturating_sub(run.rows.end))?;
-    edits.push(span_of(marks, run), pen.take())?;
+    pen.replace(span_of(marks, run))?;
     pen.draft.copy(run.rows.end, behind)?;
     pen.put_method(added)?;
-    edits.push(
-        Span {
-            start: place,
-            end: place,
-        },
-        pen.take(),
-    )?;
-    pen.draft.copy(behind, end_at(rows, top))?;
-    pen.draft.add(
-        path_of(alloc, marks, unit)?,
-        UnitSource::Edited { unit, edits },
-    )?;
+    pen.replace(behind_member(marks, run.member))?;
+    pen.draft.copy(behind, end_at(marks.rows, top))?;
     Ok(())
+}
+
+// Where the method is put: behind the last token of the member in which the run stands.
+fn behind_member(marks: &Marks, member: u32) -> Span {
+    let place = tokens_span(marks, member).end;
+    Span {
+        start: place,
+        end: place,
+    }
 }

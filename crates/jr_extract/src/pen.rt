@@ -2,8 +2,8 @@
 
 use crate::locals::{Locals, Variable};
 use crate::run::Run;
-use jr_base::{OutOfMemory, Text};
-use jr_change::{Change, Course, RowRange, Target};
+use jr_base::{OutOfMemory, Span};
+use jr_change::{Change, ChangeFault, Course, RowRange, Target};
 use jr_defs::{Element, RowType};
 use jr_draft::Draft;
 use jr_marks::Marks;
@@ -13,7 +13,7 @@ use jr_weave::word_of;
 use std::alloc::Global;
 
 /// What a run becomes.
-#[derive(Drop)]
+#[derive(Clone, Copy)]
 pub(crate) struct Extraction<'a> {
     pub(crate) run: Run,
     /// The bytes of the run.
@@ -23,9 +23,9 @@ pub(crate) struct Extraction<'a> {
     /// The class in which it stands.
     pub(crate) class: u32,
     pub(crate) is_static: bool,
-    pub(crate) locals: Locals,
+    pub(crate) locals: &'a Locals,
     /// The classes that it throws.
-    pub(crate) thrown: Vec<u32>,
+    pub(crate) thrown: &'a [u32],
 }
 
 /// A draft, and what is written of a text. Each form is written as its bytes and as the rows that are read of these.
@@ -44,10 +44,11 @@ pub(crate) struct Pen<'a> {
 impl<'a> Pen<'a> {
     /// The program and the prelude.
     pub(crate) fn new(alloc: Global, marks: &Marks<'a>) -> Result<Pen<'a>, OutOfMemory> {
+        let draft = Draft::new(alloc, marks)?;
         Ok(Pen {
             alloc,
             rows: marks.rows,
-            draft: Draft::new(alloc, marks)?,
+            draft,
             text: Vec::new(alloc),
             call: 0,
             method: RowRange { first: 0, end: 0 },
@@ -71,10 +72,10 @@ impl<'a> Pen<'a> {
         change
     }
 
-    /// What is written since the last text was taken.
-    pub(crate) fn take(&mut self) -> Text {
-        let bytes = std::mem::replace(&mut self.text, Vec::new(self.alloc));
-        Text::new(bytes)
+    /// Puts what is written since the last time in place of bytes of the unit that was added last.
+    pub(crate) fn replace(&mut self, span: Span) -> Result<(), ChangeFault> {
+        let text = std::mem::replace(&mut self.text, Vec::new(self.alloc));
+        self.draft.replace(self.alloc, span, &text)
     }
 
     fn put(&mut self, bytes: &[u8]) -> Result<(), OutOfMemory> {
@@ -145,9 +146,13 @@ impl<'a> Pen<'a> {
         let method = behind(self.call, &added.locals.parameters, between);
         self.draft.refer(Target::New(method), Some(added.class))?;
         self.put(added.name)?;
+        self.put_arguments(&added.locals.parameters)
+    }
+
+    fn put_arguments(&mut self, parameters: &[Variable]) -> Result<(), OutOfMemory> {
         self.put(b"(")?;
         let mut is_first = true;
-        for parameter in &added.locals.parameters {
+        for parameter in parameters {
             if !is_first {
                 self.put(b", ")?;
             }
@@ -195,20 +200,29 @@ impl<'a> Pen<'a> {
         Ok(())
     }
 
-    // Writes what stands before the body of the method.
-    fn put_head(&mut self, added: &Extraction) -> Result<(), OutOfMemory> {
+    fn put_result(&mut self, given: Option<Variable>) -> Result<(), OutOfMemory> {
+        match given {
+            Some(variable) => self.put_type(variable.ty),
+            None => self.put(b"void"),
+        }
+    }
+
+    fn put_modifiers(&mut self, is_static: bool) -> Result<(), OutOfMemory> {
         self.put(b"\n\nprivate ")?;
-        if added.is_static {
+        if is_static {
             self.put(b"static ")?;
         }
-        match added.locals.result {
-            Some(variable) => self.put_type(variable.ty)?,
-            None => self.put(b"void")?,
-        }
+        Ok(())
+    }
+
+    // Writes what stands before the body of the method.
+    fn put_head(&mut self, added: &Extraction) -> Result<(), OutOfMemory> {
+        self.put_modifiers(added.is_static)?;
+        self.put_result(added.locals.result)?;
         self.put(b" ")?;
         self.put(added.name)?;
         self.put_parameters(&added.locals.parameters)?;
-        self.put_thrown(&added.thrown)
+        self.put_thrown(added.thrown)
     }
 
     fn put_return(&mut self, given: Option<Variable>) -> Result<(), OutOfMemory> {
@@ -221,16 +235,27 @@ impl<'a> Pen<'a> {
         self.put(b";\n")
     }
 
-    fn put_body(&mut self, added: &Extraction) -> Result<(), OutOfMemory> {
-        self.draft.glue(1)?;
-        self.put(b" {\n")?;
-        for local in &added.locals.fresh {
+    // Writes the declarations of the locals that the method does not take.
+    fn put_fresh(&mut self, fresh: &[Variable]) -> Result<(), OutOfMemory> {
+        for local in fresh {
             self.put_local(*local)?;
             self.put(b";\n")?;
         }
+        Ok(())
+    }
+
+    // Writes the run.
+    fn put_run(&mut self, added: &Extraction) -> Result<(), OutOfMemory> {
         self.draft.copy(added.run.rows.first, added.run.rows.end)?;
         self.put(added.text)?;
-        self.put(b"\n")?;
+        self.put(b"\n")
+    }
+
+    fn put_body(&mut self, added: &Extraction) -> Result<(), OutOfMemory> {
+        self.draft.glue(1)?;
+        self.put(b" {\n")?;
+        self.put_fresh(&added.locals.fresh)?;
+        self.put_run(added)?;
         self.put_return(added.locals.result)?;
         self.put(b"}")
     }

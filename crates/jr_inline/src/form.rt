@@ -1,10 +1,11 @@
 // The form in which an initializer stands in place of a use.
 
 use crate::local::Local;
-use jr_base::{OutOfMemory, Text};
+use jr_base::OutOfMemory;
 use jr_change::{Project, Target};
 use jr_defs::{Element, RowType};
 use jr_draft::Draft;
+use jr_marks::Marks;
 use jr_places::{end_at, name_at};
 use jr_rows::{Label, NamePlace, Row};
 use jr_text::{part, tokens_span, unit_bytes};
@@ -108,13 +109,16 @@ impl Form {
     }
 
     /// The text of the initializer at a row in this form.
-    pub fn text(self, alloc: Global, old: &Project, value: u32) -> Result<Text, OutOfMemory> {
-        let marks = &old.marks;
+    pub fn text(self, alloc: Global, old: &Project, value: u32) -> Result<Vec<u8>, OutOfMemory> {
         let mut out = Vec::new(alloc);
-        self.put_front(&mut out, marks.rows)?;
+        self.put(&mut out, &old.marks, value)?;
+        Ok(out)
+    }
+
+    fn put(self, out: &mut Vec<u8>, marks: &Marks, value: u32) -> Result<(), OutOfMemory> {
+        self.put_front(out, marks.rows)?;
         out.extend_from_slice(part(unit_bytes(marks, value), tokens_span(marks, value)))?;
-        self.put_back(&mut out)?;
-        Ok(Text::new(out))
+        self.put_back(out)
     }
 
     /// Adds the rows of that text: parentheses and cast come from no old row.

@@ -44,10 +44,10 @@ fn copied_uses(alloc: Global, flows: &Flows) -> Result<Vec<(u32, u32)>, OutOfMem
 
 impl Comparing {
     fn new(alloc: Global, flows: &Flows) -> Result<Comparing, OutOfMemory> {
-        let gathering = Gathering::new(alloc, flows)?;
         let before = rows_of(flows.names.rows, flows.names.body);
         let old = Stamps::new(alloc, count_rows(before))?;
         let done = Stamps::new(alloc, count_rows(flows.span))?;
+        let gathering = Gathering::new(alloc, flows)?;
         Ok(Comparing {
             gathering,
             old,
@@ -99,6 +99,42 @@ impl Comparing {
         self.put_new_alone(flows, old, lost);
         Ok(())
     }
+
+    // Compares what reaches uses, each with its old row.
+    fn compare_all(
+        &mut self,
+        flows: &Flows,
+        reaches: &Reaches,
+        handing: &Handing,
+        uses: &[(u32, u32)],
+        lost: &mut Firsts,
+    ) -> Result<(), OutOfMemory> {
+        for pair in uses {
+            self.compare(flows, reaches, handing, *pair, lost)?;
+        }
+        Ok(())
+    }
+}
+
+// The definitions that reach each use before and after the change.
+fn reaches_of(alloc: Global, flows: &Flows) -> Result<Reaches, OutOfMemory> {
+    let span = rows_of(flows.names.rows, flows.names.body);
+    let before = definitions_by_use(alloc, flows.before, span)?;
+    let after = definitions_by_use(alloc, flows.after, flows.span)?;
+    Ok(Reaches { before, after })
+}
+
+// Compares what reaches each use that is a copy.
+fn compare_uses(
+    alloc: Global,
+    flows: &Flows,
+    reaches: &Reaches,
+    handing: &Handing,
+    lost: &mut Firsts,
+) -> Result<(), OutOfMemory> {
+    let uses = copied_uses(alloc, flows)?;
+    let mut comparing = Comparing::new(alloc, flows)?;
+    comparing.compare_all(flows, reaches, handing, &uses, lost)
 }
 
 /// Puts the first edges from a definition to a use that are lost, where both are named by what they are copies of: for each use that is a copy the
@@ -109,13 +145,6 @@ pub(crate) fn put_lost_definitions(
     handing: &Handing,
     lost: &mut Firsts,
 ) -> Result<(), OutOfMemory> {
-    let span = rows_of(flows.names.rows, flows.names.body);
-    let before = definitions_by_use(alloc, flows.before, span)?;
-    let after = definitions_by_use(alloc, flows.after, flows.span)?;
-    let reaches = Reaches { before, after };
-    let mut comparing = Comparing::new(alloc, flows)?;
-    for pair in &copied_uses(alloc, flows)? {
-        comparing.compare(flows, &reaches, handing, *pair, lost)?;
-    }
-    Ok(())
+    let reaches = reaches_of(alloc, flows)?;
+    compare_uses(alloc, flows, &reaches, handing, lost)
 }

@@ -27,6 +27,20 @@ struct Searches {
 }
 
 impl Searches {
+    // Puts the first edges that stand on one side alone.
+    fn compare_all(
+        &mut self,
+        old: &Side,
+        new: &Side,
+        names: &Names,
+        lost: &mut Firsts,
+    ) -> Result<(), OutOfMemory> {
+        for name in 0..names.count() {
+            self.compare(old, new, names, name, lost)?;
+        }
+        Ok(())
+    }
+
     // Puts the first edges from the node of a name that stand on one side alone.
     fn compare(
         &mut self,
@@ -59,27 +73,29 @@ fn put_edges_of_one_side(
     let before = Search::new(alloc, old.count(), count)?;
     let after = Search::new(alloc, new.count(), count)?;
     let mut searches = Searches { before, after };
-    for name in 0..count {
-        searches.compare(old, new, names, name, lost)?;
-    }
-    Ok(())
+    searches.compare_all(old, new, names, lost)
+}
+
+// Puts the edges that stand on one side alone, where the old side is this.
+fn put_edges_beside(
+    alloc: Global,
+    old: &Side,
+    flows: &Flows,
+    lost: &mut Firsts,
+) -> Result<(), OutOfMemory> {
+    let names = &flows.names;
+    let after = flows.after;
+    let of_points = names.of_new(alloc, after, flows.origin)?;
+    let new = Side::of(alloc, flows.rows, after, of_points, names.count())?;
+    put_edges_of_one_side(alloc, old, &new, names, lost)
 }
 
 fn put_lost_edges(alloc: Global, flows: &Flows, lost: &mut Firsts) -> Result<(), OutOfMemory> {
     let names = &flows.names;
-    let count = names.count();
     let before = flows.before;
-    let after = flows.after;
-    let old = Side::of(
-        alloc,
-        names.rows,
-        before,
-        names.of_old(alloc, before)?,
-        count,
-    )?;
-    let new_names = names.of_new(alloc, after, flows.origin)?;
-    let new = Side::of(alloc, flows.rows, after, new_names, count)?;
-    put_edges_of_one_side(alloc, &old, &new, names, lost)
+    let of_points = names.of_old(alloc, before)?;
+    let old = Side::of(alloc, names.rows, before, of_points, names.count())?;
+    put_edges_beside(alloc, &old, flows, lost)
 }
 
 /// The first edges of control that are lost, where nodes are named by what they are copies of: two named nodes are joined by steps over points without a

@@ -77,17 +77,33 @@ impl<'a> Declared<'a> {
 
     // The points on ways from its definition to a use of it that do not come back to the definition.
     fn between(&self, alloc: Global) -> Result<Between, OutOfMemory> {
+        let local = self.local;
+        let definitions = points_of(alloc, self.graph, PointKind::Definition { local })?;
+        let barred = self.barred(alloc, &definitions)?;
+        let behind = self.behind(alloc, &definitions, &barred)?;
+        let before = self.before(alloc, &barred)?;
+        Ok(Between { behind, before })
+    }
+
+    // The points behind these that ways reach without coming to a barred point.
+    fn behind(
+        &self,
+        alloc: Global,
+        points: &[u32],
+        barred: &Stamps,
+    ) -> Result<Stamps, OutOfMemory> {
+        let graph = self.graph;
+        let ways = ways_of(alloc, graph)?;
+        spread(alloc, &ways, points, barred, graph.points.len())
+    }
+
+    // The points before its uses from which ways come that do not come to a barred point.
+    fn before(&self, alloc: Global, barred: &Stamps) -> Result<Stamps, OutOfMemory> {
         let graph = self.graph;
         let local = self.local;
-        let count = graph.points.len();
-        let definitions = points_of(alloc, graph, PointKind::Definition { local })?;
         let uses = points_of(alloc, graph, PointKind::Use { local })?;
-        let barred = self.barred(alloc, &definitions)?;
-        let ways = ways_of(alloc, graph)?;
-        let behind = spread(alloc, &ways, &definitions, &barred, count)?;
         let back = ways_back(alloc, graph)?;
-        let before = spread(alloc, &back, &uses, &barred, count)?;
-        Ok(Between { behind, before })
+        spread(alloc, &back, &uses, barred, graph.points.len())
     }
 
     // The point is a definition in the initializer, or one between of a local that is used there.

@@ -24,15 +24,25 @@ pub(crate) fn definitions_by_use(
     span: RowRange,
 ) -> Result<Lists, OutOfMemory> {
     let mut pairs = Vec::new(alloc);
-    for (definition, used) in &reaching(alloc, graph)? {
+    put_pairs(&mut pairs, graph, &reaching(alloc, graph)?)?;
+    pairs.sort_unstable();
+    Lists::of(alloc, span.first, count_rows(span), &pairs)
+}
+
+// Puts the row of each use with that of a definition which reaches it; these are given by the numbers of their points.
+fn put_pairs(
+    pairs: &mut Vec<(u32, u32)>,
+    graph: &Graph,
+    reaching: &[(u32, u32)],
+) -> Result<(), OutOfMemory> {
+    for (definition, used) in reaching {
         if let Some(from) = row_of(graph, *definition) {
             if let Some(to) = row_of(graph, *used) {
                 pairs.push((to, from))?;
             }
         }
     }
-    pairs.sort_unstable();
-    Lists::of(alloc, span.first, count_rows(span), &pairs)
+    Ok(())
 }
 
 /// The definitions that reach one use of the changed program.

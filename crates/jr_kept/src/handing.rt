@@ -124,12 +124,13 @@ impl Handing {
     ) -> Result<Handing, OutOfMemory> {
         let rows = flows.rows;
         let count = flows.span.end.saturating_sub(flows.span.first);
-        let mut handing = Handing {
-            first: flows.span.first,
-            uses: vec![in alloc; NO_ROW; count as usize]?,
-        };
         let parameters = parameters(alloc, rows, method)?;
         let arguments = below(alloc, rows, call)?;
+        let uses = vec![in alloc; NO_ROW; count as usize]?;
+        let mut handing = Handing {
+            first: flows.span.first,
+            uses,
+        };
         handing.put_parameters(&parameters, &arguments);
         handing.put_assigned(flows, call, method);
         Ok(handing)

@@ -162,19 +162,32 @@ fn push_inner(
     Ok(())
 }
 
-fn joined_steps(
-    alloc: Global,
+// The steps of the body, and those of the method at each call.
+fn push_all(
+    all: &mut Vec<Step>,
     outer: &Stepped,
     inner: &Stepped,
     calls: &[u32],
-) -> Result<Vec<Step>, OutOfMemory> {
-    let mut all = Vec::new(alloc);
-    push_outer(&mut all, outer, inner, calls)?;
+) -> Result<(), OutOfMemory> {
+    push_outer(all, outer, inner, calls)?;
     let mut base = outer.count;
     for call in calls {
-        push_inner(&mut all, outer, inner, *call, base)?;
+        push_inner(all, outer, inner, *call, base)?;
         base = sum(base, inner.count)?;
     }
+    Ok(())
+}
+
+fn joined_steps(
+    alloc: Global,
+    outer: &Graph,
+    inner: &Graph,
+    calls: &[u32],
+) -> Result<Vec<Step>, OutOfMemory> {
+    let around = Stepped::of(alloc, outer)?;
+    let inside = Stepped::of(alloc, inner)?;
+    let mut all = Vec::new(alloc);
+    push_all(&mut all, &around, &inside, calls)?;
     Ok(all)
 }
 
@@ -200,9 +213,7 @@ fn joined_whole(
 ) -> Result<Graph, OutOfMemory> {
     let calls = calls_of(alloc, outer, call)?;
     let points = joined_points(alloc, outer, inner, calls.len())?;
-    let around = Stepped::of(alloc, outer)?;
-    let inside = Stepped::of(alloc, inner)?;
-    let steps = joined_steps(alloc, &around, &inside, &calls)?;
+    let steps = joined_steps(alloc, outer, inner, &calls)?;
     Ok(Graph {
         body: outer.body,
         points,

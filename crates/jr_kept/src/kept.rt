@@ -73,7 +73,7 @@ fn lost_in_inlined(
     old: &Project,
     flows: &Flows,
     local: u32,
-) -> Result<LostFlow, OutOfMemory> {
+) -> Result<LostFlow, FlowFault> {
     let control = lost_control(alloc, flows)?;
     let mut lost = Firsts::none();
     let handing = Handing::none(alloc);
@@ -107,22 +107,22 @@ fn lost_by_inlining(
     let Some(copy) = row_for(&locks.copy, body) else {
         return Ok(lost_at(old, local));
     };
+    let names = Names {
+        rows: old.marks.rows,
+        body,
+        dropped: dropped(&locks.copy, statement),
+    };
     let before = graph(alloc, &old.view, body)?;
     let after = graph(alloc, &locked.view, copy)?;
     let flows = Flows {
-        names: Names {
-            rows: old.marks.rows,
-            body,
-            dropped: dropped(&locks.copy, statement),
-        },
+        names,
         before: &before,
         rows: locked.marks.rows,
         after: &after,
         span: rows_of(locked.marks.rows, copy),
         origin: locks.origin.as_slice(),
     };
-    let lost = lost_in_inlined(alloc, old, &flows, local)?;
-    Ok(lost)
+    lost_in_inlined(alloc, old, &flows, local)
 }
 
 fn lost_in_extracted(
@@ -131,7 +131,7 @@ fn lost_in_extracted(
     flows: &Flows,
     call: u32,
     method: u32,
-) -> Result<LostFlow, OutOfMemory> {
+) -> Result<LostFlow, FlowFault> {
     let control = lost_control(alloc, flows)?;
     let mut lost = Firsts::none();
     let handing = Handing::of(alloc, flows, call, method)?;
@@ -193,8 +193,7 @@ fn lost_by_extracting(
         span: both(rows_of(rows, copy), rows_of(rows, method)),
         origin: locks.origin.as_slice(),
     };
-    let lost = lost_in_extracted(alloc, old, &flows, call, method)?;
-    Ok(lost)
+    lost_in_extracted(alloc, old, &flows, call, method)
 }
 
 /// The first edge of control and the first edge from a definition to a use that the change loses, where `locked` is the changed program under its locks,

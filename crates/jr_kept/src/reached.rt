@@ -30,19 +30,27 @@ fn kept_points(alloc: Global, graph: &Graph) -> Result<Kept, OutOfMemory> {
         points: Vec::new(alloc),
         numbers: Vec::new(alloc),
     };
-    let mut number = 0u32;
-    let mut next = 0u32;
-    for point in &graph.points {
-        if number < OWN || reached.has(number) {
-            kept.points.push(*point)?;
-            kept.numbers.push(next)?;
-            next = next.saturating_add(1);
-        } else {
-            kept.numbers.push(NO_ROW)?;
-        }
-        number = number.saturating_add(1);
-    }
+    kept.put_all(graph, &reached)?;
     Ok(kept)
+}
+
+impl Kept {
+    // Puts the points that are reached, and the graph's own.
+    fn put_all(&mut self, graph: &Graph, reached: &Stamps) -> Result<(), OutOfMemory> {
+        let mut number = 0u32;
+        let mut next = 0u32;
+        for point in &graph.points {
+            if number < OWN || reached.has(number) {
+                self.points.push(*point)?;
+                self.numbers.push(next)?;
+                next = next.saturating_add(1);
+            } else {
+                self.numbers.push(NO_ROW)?;
+            }
+            number = number.saturating_add(1);
+        }
+        Ok(())
+    }
 }
 
 fn number_of(numbers: &[u32], point: u32) -> Option<u32> {

@@ -197,20 +197,31 @@ impl<'a> Beside<'a> {
         if group.is_empty() || !self.is_open(group) {
             return Ok(Left::NOTHING);
         }
+        let inherited = self.inherited(alloc, group)?;
+        Ok(self.of_inherited(group, &inherited))
+    }
+
+    // Those of the methods that are inherited.
+    fn inherited(&self, alloc: Global, group: &[u32]) -> Result<Vec<u32>, OutOfMemory> {
         let mut inherited = Vec::new(alloc);
         for method in group {
             if self.is_inherited(*method) {
                 inherited.push(*method)?;
             }
         }
-        Ok(Left {
+        Ok(inherited)
+    }
+
+    // The rules that members of one signature break, of which these are inherited.
+    fn of_inherited(&self, group: &[u32], inherited: &[u32]) -> Left {
+        Left {
             leaves_methods: self.leaves_some(group),
-            results: self.has_disagreeing(&inherited) || self.all_disagree(group, &inherited),
-            access: self.inherits_narrower(&inherited),
-            statics: self.inherits_static(&inherited),
-            throws: self.inherits_throwing(&inherited),
+            results: self.has_disagreeing(inherited) || self.all_disagree(group, inherited),
+            access: self.inherits_narrower(inherited),
+            statics: self.inherits_static(inherited),
+            throws: self.inherits_throwing(inherited),
             is_open: true,
-        })
+        }
     }
 
     // The rules that a member breaks which has no signature, since a type in it is not found: nothing is of its signature.

@@ -79,31 +79,46 @@ impl<'a> Methods<'a> {
         let left = self.left_at(at);
         let redefining = self.redefining;
         let over = self.uppers.redefined(alloc, redefining.world, at)?;
-        let results = redefining.has_other_result(at, &over) || left.results;
-        let access = redefining.is_narrowed(at, &over) || left.access;
-        let statics = redefining.is_mixed(at, &over) || left.statics;
-        let finals = redefining.is_over_final(&over);
-        let throws = redefining.throws_more(at, &over) || left.throws;
-        rule_if(out, left.leaves_methods, at, Rule::AbstractMembers)?;
-        rule_if(out, results, at, Rule::Results)?;
-        rule_if(out, access, at, Rule::NarrowedAccess)?;
-        rule_if(out, statics, at, Rule::StaticOverride)?;
-        rule_if(out, finals, at, Rule::FinalOverride)?;
-        rule_if(out, throws, at, Rule::OverrideThrows)
+        method_faults(&redefining, left, at, &over, out)
     }
+}
+
+// The rules that are broken at a row by the methods that it overrides or hides, or by what it inherits as a type.
+fn method_faults(
+    redefining: &Redefining,
+    left: Left,
+    at: u32,
+    over: &[u32],
+    out: &mut Vec<Fault>,
+) -> Result<(), OutOfMemory> {
+    let results = redefining.has_other_result(at, over) || left.results;
+    let access = redefining.is_narrowed(at, over) || left.access;
+    let statics = redefining.is_mixed(at, over) || left.statics;
+    let throws = redefining.throws_more(at, over) || left.throws;
+    rule_if(out, left.leaves_methods, at, Rule::AbstractMembers)?;
+    rule_if(out, results, at, Rule::Results)?;
+    rule_if(out, access, at, Rule::NarrowedAccess)?;
+    rule_if(out, statics, at, Rule::StaticOverride)?;
+    rule_if(out, redefining.is_over_final(over), at, Rule::FinalOverride)?;
+    rule_if(out, throws, at, Rule::OverrideThrows)
 }
 
 // What the types break by what they inherit, by their rows.
 fn lefts_of(alloc: Global, world: &World, thrown: &Thrown) -> Result<Vec<Left>, OutOfMemory> {
     let mut lefts = vec![in alloc; Left::NOTHING; world.under.rows.len()]?;
-    let mut inheriting = Inheriting::new(alloc, &*world, thrown)?;
-    for over in world.supers.order() {
-        let left = inheriting.left_by(alloc, *over)?;
-        if let Some(place) = lefts.get_mut(*over as usize) {
-            *place = left;
-        }
-    }
+    put_lefts(alloc, world, thrown, &mut lefts)?;
     Ok(lefts)
+}
+
+// Puts what each type breaks by what it inherits under its row.
+fn put_lefts(
+    alloc: Global,
+    world: &World,
+    thrown: &Thrown,
+    lefts: &mut [Left],
+) -> Result<(), OutOfMemory> {
+    let mut inheriting = Inheriting::new(alloc, &*world, &*thrown)?;
+    inheriting.put_lefts(alloc, world.supers.order(), lefts)
 }
 
 // A row at which a rule on members may be broken: a type, member, constructor or initializer, or a name in a header.
@@ -153,15 +168,27 @@ fn all_faults(
     methods: &mut Methods,
     out: &mut Vec<Fault>,
 ) -> Result<(), OutOfMemory> {
+    let mut declared = Declared::new(alloc);
+    let mut headers = Headers::new(alloc);
+    put_faults(alloc, view, methods, &mut declared, &mut headers, out)
+}
+
+// The same, with what bodies declare and what headers name.
+fn put_faults(
+    alloc: Global,
+    view: &View,
+    methods: &mut Methods,
+    declared: &mut Declared,
+    headers: &mut Headers,
+    out: &mut Vec<Fault>,
+) -> Result<(), OutOfMemory> {
     let rows = view.sight.world.under.rows;
     let Ok(count) = u32::try_from(rows.len()) else {
         return Err(OutOfMemory);
     };
-    let mut declared = Declared::new(alloc);
-    let mut headers = Headers::new(alloc);
     for at in 0..count {
         if is_of_members(rows, at) {
-            row_faults(alloc, view, methods, &mut declared, &mut headers, at, out)?;
+            row_faults(alloc, view, methods, declared, headers, at, out)?;
         }
     }
     Ok(())
@@ -169,14 +196,24 @@ fn all_faults(
 
 /// Adds the rules on members that are broken, as their rows rise: what bodies declare, supertypes, overriding, what types inherit, and bodies.
 pub fn member_faults(alloc: Global, view: &View, out: &mut Vec<Fault>) -> Result<(), OutOfMemory> {
+    let thrown = Thrown::of(alloc, view.sight.world.under.rows)?;
+    faults_with(alloc, view, &thrown, out)
+}
+
+// The same, where it is known what methods declare as thrown.
+fn faults_with(
+    alloc: Global,
+    view: &View,
+    thrown: &Thrown,
+    out: &mut Vec<Fault>,
+) -> Result<(), OutOfMemory> {
     let world = &view.sight.world;
-    let thrown = Thrown::of(alloc, world.under.rows)?;
-    let lefts = lefts_of(alloc, world, &thrown)?;
+    let lefts = lefts_of(alloc, world, thrown)?;
     let uppers = Uppers::new(alloc, world)?;
     let mut methods = Methods {
         redefining: Redefining {
             world,
-            thrown: &thrown,
+            thrown: &*thrown,
         },
         uppers,
         lefts,

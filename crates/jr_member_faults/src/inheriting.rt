@@ -6,6 +6,7 @@ use crate::together::is_method;
 use jr_base::OutOfMemory;
 use jr_members::{MemberKind, World, declaring_type, is_abstract};
 use jr_places::{is_class, is_interface};
+use jr_rows::Row;
 use jr_supers::entry_before;
 use jr_tables::{Chains, Entry, Stamps};
 use std::alloc::Global;
@@ -33,22 +34,35 @@ fn abstracts_of(alloc: Global, world: &World) -> Result<Chains, OutOfMemory> {
     };
     let mut abstracts = Chains::new(alloc);
     for row in 0..count {
-        if is_method(rows, row) && is_abstract(rows, row) {
-            if let Some(first) = declaring_type(rows, row) {
-                if is_class(rows, first) {
-                    abstracts.add(
-                        alloc,
-                        Entry {
-                            first,
-                            second: 0,
-                            row,
-                        },
-                    )?;
-                }
-            }
-        }
+        add_abstract(alloc, rows, &mut abstracts, row)?;
     }
     Ok(abstracts)
+}
+
+// Adds a row under the class that declares it, if it is an abstract method of one.
+fn add_abstract(
+    alloc: Global,
+    rows: &[Row],
+    abstracts: &mut Chains,
+    row: u32,
+) -> Result<(), OutOfMemory> {
+    if !is_method(rows, row) || !is_abstract(rows, row) {
+        return Ok(());
+    }
+    let Some(first) = declaring_type(rows, row) else {
+        return Ok(());
+    };
+    if !is_class(rows, first) {
+        return Ok(());
+    }
+    abstracts.add(
+        alloc,
+        Entry {
+            first,
+            second: 0,
+            row,
+        },
+    )
 }
 
 impl<'a> Inheriting<'a> {
@@ -58,9 +72,9 @@ impl<'a> Inheriting<'a> {
         world: &'a World<'a>,
         thrown: &'a Thrown,
     ) -> Result<Inheriting<'a>, OutOfMemory> {
-        let abstracts = abstracts_of(alloc, world)?;
         let below_abstract = Stamps::new(alloc, world.under.rows.len())?;
         let met = Stamps::new(alloc, world.under.rows.len())?;
+        let abstracts = abstracts_of(alloc, world)?;
         Ok(Inheriting {
             world,
             thrown,
@@ -131,22 +145,49 @@ impl<'a> Inheriting<'a> {
         Ok(())
     }
 
-    // The names at which a type may break a rule: those of methods that it declares, or that come to it from a further supertype, and those at
-    // which its first supertype may. For all others it has the methods of that, and none is added.
-    fn names_of(&mut self, alloc: Global, over: u32) -> Result<Vec<u32>, OutOfMemory> {
+    // Adds the names of the methods that come to a type from its supertypes and not by the first alone.
+    fn add_from_all(
+        &mut self,
+        alloc: Global,
+        names: &mut Vec<u32>,
+        over: u32,
+    ) -> Result<(), OutOfMemory> {
         let world = self.world;
-        let mut names = Vec::new(alloc);
-        self.met.empty()?;
-        self.add_declared(alloc, &mut names, over)?;
         for from in &world.supers.direct().rows(alloc, over, 0)? {
-            self.add_from(alloc, &mut names, over, *from)?;
+            self.add_from(alloc, names, over, *from)?;
         }
-        if let Some(up) = world.supers.linked(over) {
-            for name in &self.open.rows(alloc, up, 0)? {
-                self.meet(&mut names, *name)?;
-            }
+        Ok(())
+    }
+
+    // Adds the names at which the first supertype of a type may break a rule.
+    fn add_open(
+        &mut self,
+        alloc: Global,
+        names: &mut Vec<u32>,
+        over: u32,
+    ) -> Result<(), OutOfMemory> {
+        let world = self.world;
+        let Some(up) = world.supers.linked(over) else {
+            return Ok(());
+        };
+        for name in &self.open.rows(alloc, up, 0)? {
+            self.meet(names, *name)?;
         }
-        Ok(names)
+        Ok(())
+    }
+
+    // Adds the names at which a type may break a rule: those of methods that it declares, or that come to it from a further supertype, and those at
+    // which its first supertype may. For all others it has the methods of that, and none is added.
+    fn add_names(
+        &mut self,
+        alloc: Global,
+        names: &mut Vec<u32>,
+        over: u32,
+    ) -> Result<(), OutOfMemory> {
+        self.met.empty()?;
+        self.add_declared(alloc, names, over)?;
+        self.add_from_all(alloc, names, over)?;
+        self.add_open(alloc, names, over)
     }
 
     // The type stands below a class that declares an abstract method.
@@ -184,12 +225,18 @@ impl<'a> Inheriting<'a> {
         let world = self.world;
         let rows = world.under.rows;
         for over in &world.supers.with_above(alloc, rows, class)? {
-            if *over != class {
-                for method in &self.abstracts.rows(alloc, *over, 0)? {
-                    if self.finds_abstract(alloc, class, *method)? {
-                        return Ok(true);
-                    }
-                }
+            if *over != class && self.leaves_unfound_of(alloc, class, *over)? {
+                return Ok(true);
+            }
+        }
+        Ok(false)
+    }
+
+    // An abstract method of the other class is found abstract.
+    fn leaves_unfound_of(&self, alloc: Global, class: u32, over: u32) -> Result<bool, OutOfMemory> {
+        for method in &self.abstracts.rows(alloc, over, 0)? {
+            if self.finds_abstract(alloc, class, *method)? {
+                return Ok(true);
             }
         }
         Ok(false)
@@ -208,29 +255,68 @@ impl<'a> Inheriting<'a> {
         self.leaves_unfound(alloc, over)
     }
 
-    /// The rules that a type breaks by what it inherits, behind all types above it.
-    pub fn left_by(&mut self, alloc: Global, over: u32) -> Result<Left, OutOfMemory> {
-        let world = self.world;
+    // The rules that a type breaks by the methods of a name.
+    fn left_at(&mut self, alloc: Global, over: u32, name: u32) -> Result<Left, OutOfMemory> {
         let beside = Beside {
-            world,
+            world: self.world,
             thrown: self.thrown,
             over,
         };
+        let found = beside.at_name(alloc, name)?;
+        if found.is_open {
+            self.open.add(
+                alloc,
+                Entry {
+                    first: over,
+                    second: 0,
+                    row: name,
+                },
+            )?;
+        }
+        Ok(found)
+    }
+
+    // The rules that a type breaks by the methods of some names.
+    fn left_at_all(
+        &mut self,
+        alloc: Global,
+        over: u32,
+        names: &[u32],
+    ) -> Result<Left, OutOfMemory> {
         let mut left = Left::NOTHING;
-        for name in &self.names_of(alloc, over)? {
-            let found = beside.at_name(alloc, *name)?;
-            left = left.or(found);
-            if found.is_open {
-                self.open.add(
-                    alloc,
-                    Entry {
-                        first: over,
-                        second: 0,
-                        row: *name,
-                    },
-                )?;
+        for name in names {
+            left = left.or(self.left_at(alloc, over, *name)?);
+        }
+        Ok(left)
+    }
+
+    // The rules that a type breaks by methods that have a name in common.
+    fn left_by_names(&mut self, alloc: Global, over: u32) -> Result<Left, OutOfMemory> {
+        let mut names = Vec::new(alloc);
+        self.add_names(alloc, &mut names, over)?;
+        self.left_at_all(alloc, over, &names)
+    }
+
+    /// Puts the rules that each type breaks by what it inherits under its row; the types stand behind those above them.
+    pub fn put_lefts(
+        &mut self,
+        alloc: Global,
+        order: &[u32],
+        lefts: &mut [Left],
+    ) -> Result<(), OutOfMemory> {
+        for over in order {
+            let left = self.left_by(alloc, *over)?;
+            if let Some(place) = lefts.get_mut(*over as usize) {
+                *place = left;
             }
         }
+        Ok(())
+    }
+
+    // The rules that a type breaks by what it inherits, behind all types above it.
+    fn left_by(&mut self, alloc: Global, over: u32) -> Result<Left, OutOfMemory> {
+        let world = self.world;
+        let mut left = self.left_by_names(alloc, over)?;
         let is_concrete = is_class(world.under.rows, over) && !is_abstract(world.under.rows, over);
         let leaves_above = self.leaves_above(alloc, over)?;
         left.leaves_methods = is_concrete && (left.leaves_methods || leaves_above);

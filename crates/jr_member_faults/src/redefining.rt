@@ -19,6 +19,29 @@ pub struct Uppers {
     above: Vec<u32>,
 }
 
+// Adds a row under the number of its signature, if it is a method that has one.
+fn add_signed(
+    alloc: Global,
+    world: &World,
+    signed: &mut Chains,
+    row: u32,
+) -> Result<(), OutOfMemory> {
+    if !is_method(world.under.rows, row) {
+        return Ok(());
+    }
+    match world.members.signatures().number(row) {
+        Some(first) => signed.add(
+            alloc,
+            Entry {
+                first,
+                second: 0,
+                row,
+            },
+        ),
+        None => Ok(()),
+    }
+}
+
 impl Uppers {
     /// The methods by their signatures.
     pub fn new(alloc: Global, world: &World) -> Result<Uppers, OutOfMemory> {
@@ -27,18 +50,7 @@ impl Uppers {
         };
         let mut signed = Chains::new(alloc);
         for row in 0..count {
-            if is_method(world.under.rows, row) {
-                if let Some(first) = world.members.signatures().number(row) {
-                    signed.add(
-                        alloc,
-                        Entry {
-                            first,
-                            second: 0,
-                            row,
-                        },
-                    )?;
-                }
-            }
+            add_signed(alloc, world, &mut signed, row)?;
         }
         Ok(Uppers {
             signed,
@@ -76,22 +88,46 @@ impl Uppers {
         method: u32,
     ) -> Result<Vec<u32>, OutOfMemory> {
         let mut all = Vec::new(alloc);
+        self.add_redefined(alloc, world, method, &mut all)?;
+        Ok(all)
+    }
+
+    // Adds the methods that a method overrides or hides.
+    fn add_redefined(
+        &mut self,
+        alloc: Global,
+        world: &World,
+        method: u32,
+        all: &mut Vec<u32>,
+    ) -> Result<(), OutOfMemory> {
         if !is_method(world.under.rows, method) || !self.is_shared(world, method) {
-            return Ok(all);
+            return Ok(());
         }
         let Some(over) = declaring_type(world.under.rows, method) else {
-            return Ok(all);
+            return Ok(());
         };
         self.enter(alloc, world, over)?;
         for upper in &self.above {
-            for other in &world.members.declared_like(alloc, *upper, method)? {
-                if redefines(alloc, world, method, *other)? {
-                    all.push(*other)?;
-                }
-            }
+            add_redefined_of(alloc, world, *upper, method, all)?;
         }
-        Ok(all)
+        Ok(())
     }
+}
+
+// Adds the methods of a type that a method overrides or hides.
+fn add_redefined_of(
+    alloc: Global,
+    world: &World,
+    upper: u32,
+    method: u32,
+    all: &mut Vec<u32>,
+) -> Result<(), OutOfMemory> {
+    for other in &world.members.declared_like(alloc, upper, method)? {
+        if redefines(alloc, world, method, *other)? {
+            all.push(*other)?;
+        }
+    }
+    Ok(())
 }
 
 // The static method hides the other, which its type would inherit if it declared nothing.

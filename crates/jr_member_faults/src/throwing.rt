@@ -61,28 +61,39 @@ fn is_below(world: &World, uppers: &[u32], class: u32) -> bool {
     false
 }
 
+// Adds the names of the classes that methods declare as thrown.
+fn add_names(alloc: Global, rows: &[Row], names: &mut Chains) -> Result<(), OutOfMemory> {
+    let Ok(count) = u32::try_from(rows.len()) else {
+        return Err(OutOfMemory);
+    };
+    for row in 0..count {
+        if is_thrown_name(rows, row) {
+            names.add(
+                alloc,
+                Entry {
+                    first: parent_at(rows, row),
+                    second: 0,
+                    row,
+                },
+            )?;
+        }
+    }
+    Ok(())
+}
+
+fn names_of(alloc: Global, rows: &[Row]) -> Result<Chains, OutOfMemory> {
+    let mut names = Chains::new(alloc);
+    add_names(alloc, rows, &mut names)?;
+    Ok(names)
+}
+
 impl Thrown {
     /// What the methods declare.
     pub fn of(alloc: Global, rows: &[Row]) -> Result<Thrown, OutOfMemory> {
-        let Ok(count) = u32::try_from(rows.len()) else {
-            return Err(OutOfMemory);
-        };
-        let mut names = Chains::new(alloc);
-        for row in 0..count {
-            if is_thrown_name(rows, row) {
-                names.add(
-                    alloc,
-                    Entry {
-                        first: parent_at(rows, row),
-                        second: 0,
-                        row,
-                    },
-                )?;
-            }
-        }
         let throwables = of_prelude(alloc, rows, b"Throwable")?;
         let errors = of_prelude(alloc, rows, b"Error")?;
         let runtimes = of_prelude(alloc, rows, b"RuntimeException")?;
+        let names = names_of(alloc, rows)?;
         Ok(Thrown {
             names,
             throwables,

@@ -72,20 +72,23 @@ impl Packages {
         )
     }
 
-    // The packages of the units.
-    fn of(alloc: Global, rows: &[Row], places: &Places) -> Result<Packages, OutOfMemory> {
-        let Ok(count) = u32::try_from(rows.len()) else {
-            return Err(OutOfMemory);
-        };
-        let mut packages = Packages {
+    fn new(alloc: Global) -> Packages {
+        Packages {
             paths: Numbering::new(alloc),
             units: Chains::new(alloc),
             named: Chains::new(alloc),
+        }
+    }
+
+    // All rows that are units of named packages.
+    fn add_all(&mut self, alloc: Global, rows: &[Row], places: &Places) -> Result<(), OutOfMemory> {
+        let Ok(count) = u32::try_from(rows.len()) else {
+            return Err(OutOfMemory);
         };
         for at in 0..count {
-            packages.add(alloc, rows, places, at)?;
+            self.add(alloc, rows, places, at)?;
         }
-        Ok(packages)
+        Ok(())
     }
 
     // The number of the package of a unit; the unnamed one has that of the empty list.
@@ -111,6 +114,64 @@ impl Packages {
     }
 }
 
+/// Types outside any other so far, under their packages and names.
+#[derive(Drop)]
+struct Tops {
+    packages: Packages,
+    types: Chains,
+}
+
+impl Tops {
+    // None, so far.
+    fn new(alloc: Global) -> Tops {
+        Tops {
+            packages: Packages::new(alloc),
+            types: Chains::new(alloc),
+        }
+    }
+
+    // One more type.
+    fn add(
+        &mut self,
+        alloc: Global,
+        rows: &[Row],
+        places: &Places,
+        row: u32,
+        out: &mut Vec<Fault>,
+    ) -> Result<(), OutOfMemory> {
+        let first = self.packages.package(parent_at(rows, row));
+        let second = places.name(row);
+        let is_second = self.types.last(first, second).is_some();
+        if is_second || self.packages.has_subpackage(first, second) {
+            out.push(Fault {
+                row,
+                rule: Rule::TypeNames,
+            })?;
+        }
+        self.types.add(alloc, Entry { first, second, row })
+    }
+
+    // All types outside any other.
+    fn add_all(
+        &mut self,
+        alloc: Global,
+        rows: &[Row],
+        places: &Places,
+        out: &mut Vec<Fault>,
+    ) -> Result<(), OutOfMemory> {
+        self.packages.add_all(alloc, rows, places)?;
+        let Ok(count) = u32::try_from(rows.len()) else {
+            return Err(OutOfMemory);
+        };
+        for row in 0..count {
+            if is_top_level(rows, row) {
+                self.add(alloc, rows, places, row, out)?;
+            }
+        }
+        Ok(())
+    }
+}
+
 /// Adds the types outside any other that have the name of one before them in their package, or of a subpackage, as their rows rise.
 pub fn top_type_faults(
     alloc: Global,
@@ -118,24 +179,6 @@ pub fn top_type_faults(
     places: &Places,
     out: &mut Vec<Fault>,
 ) -> Result<(), OutOfMemory> {
-    let Ok(count) = u32::try_from(rows.len()) else {
-        return Err(OutOfMemory);
-    };
-    let packages = Packages::of(alloc, rows, places)?;
-    let mut tops = Chains::new(alloc);
-    for row in 0..count {
-        if !is_top_level(rows, row) {
-            continue;
-        }
-        let first = packages.package(parent_at(rows, row));
-        let second = places.name(row);
-        if tops.last(first, second).is_some() || packages.has_subpackage(first, second) {
-            out.push(Fault {
-                row,
-                rule: Rule::TypeNames,
-            })?;
-        }
-        tops.add(alloc, Entry { first, second, row })?;
-    }
-    Ok(())
+    let mut tops = Tops::new(alloc);
+    tops.add_all(alloc, rows, places, out)
 }

@@ -68,13 +68,26 @@ fn row_faults(
 /// Adds the rules on names that are broken, as their rows rise: locals, labels, imports and access.
 pub fn name_faults(alloc: Global, view: &View, out: &mut Vec<Fault>) -> Result<(), OutOfMemory> {
     let world = &view.sight.world;
-    let Ok(count) = u32::try_from(world.under.rows.len()) else {
+    let mut locals = Locals::new(alloc, world.under.rows, world.under.places)?;
+    let mut imports = Imports::new(alloc, world);
+    put_faults(alloc, view, &mut locals, &mut imports, out)
+}
+
+// The same, where no row was looked at.
+fn put_faults(
+    alloc: Global,
+    view: &View,
+    locals: &mut Locals,
+    imports: &mut Imports,
+    out: &mut Vec<Fault>,
+) -> Result<(), OutOfMemory> {
+    locals.add_parameters(alloc)?;
+    imports.add_rows(alloc)?;
+    let Ok(count) = u32::try_from(view.sight.world.under.rows.len()) else {
         return Err(OutOfMemory);
     };
-    let mut locals = Locals::new(alloc, world.under.rows, world.under.places)?;
-    let mut imports = Imports::of(alloc, world)?;
     for at in 0..count {
-        row_faults(alloc, view, &mut locals, &mut imports, at, out)?;
+        row_faults(alloc, view, locals, imports, at, out)?;
     }
     Ok(())
 }

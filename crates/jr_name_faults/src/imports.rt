@@ -24,20 +24,19 @@ pub struct Imports<'a> {
 }
 
 impl<'a> Imports<'a> {
-    /// What the imports bring.
-    pub fn of(alloc: Global, world: &'a World<'a>) -> Result<Imports<'a>, OutOfMemory> {
-        let mut imports = Imports {
+    /// No imports.
+    pub fn new(alloc: Global, world: &'a World<'a>) -> Imports<'a> {
+        Imports {
             world,
             tops: Twins::new(alloc),
             singles: Twins::new(alloc),
             types: Twins::new(alloc),
             importers: Twins::new(alloc),
-        };
-        imports.add_rows(alloc)?;
-        Ok(imports)
+        }
     }
 
-    fn add_rows(&mut self, alloc: Global) -> Result<(), OutOfMemory> {
+    /// Adds what the imports bring, and what units declare.
+    pub fn add_rows(&mut self, alloc: Global) -> Result<(), OutOfMemory> {
         let world = self.world;
         let Ok(count) = u32::try_from(world.under.rows.len()) else {
             return Err(OutOfMemory);
@@ -172,12 +171,18 @@ impl<'a> Imports<'a> {
         }
     }
 
+    // A single static import brings a member of the kind.
+    fn brings(&self, alloc: Global, at: u32, kind: MemberKind) -> Result<bool, OutOfMemory> {
+        let members = self.imported(alloc, at, kind)?;
+        Ok(!members.is_empty())
+    }
+
     // A single static import brings nothing.
     fn is_import_of_nothing(&self, alloc: Global, at: u32) -> Result<bool, OutOfMemory> {
-        let fields = self.imported(alloc, at, MemberKind::Field)?;
-        let methods = self.imported(alloc, at, MemberKind::Method)?;
-        let types = self.imported(alloc, at, MemberKind::Type)?;
-        Ok(fields.is_empty() && methods.is_empty() && types.is_empty())
+        let brings = self.brings(alloc, at, MemberKind::Field)?
+            || self.brings(alloc, at, MemberKind::Method)?
+            || self.brings(alloc, at, MemberKind::Type)?;
+        Ok(!brings)
     }
 
     // Another import of the unit brings another type of the name.

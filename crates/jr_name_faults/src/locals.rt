@@ -67,39 +67,42 @@ fn block_end(rows: &[Row], block: u32) -> u32 {
 }
 
 impl<'a> Locals<'a> {
-    /// No scope is open.
+    /// No scope is open, and no parameters are known.
     pub fn new(
         alloc: Global,
         rows: &'a [Row],
         places: &'a Places,
     ) -> Result<Locals<'a>, OutOfMemory> {
-        let Ok(count) = u32::try_from(rows.len()) else {
-            return Err(OutOfMemory);
-        };
         let variables = Ends::new(alloc, rows.len())?;
         let labels = Ends::new(alloc, rows.len())?;
-        let mut parameters = Chains::new(alloc);
+        Ok(Locals {
+            rows,
+            places,
+            variables,
+            labels,
+            parameters: Chains::new(alloc),
+            listed: Chains::new(alloc),
+        })
+    }
+
+    /// Adds all parameters.
+    pub fn add_parameters(&mut self, alloc: Global) -> Result<(), OutOfMemory> {
+        let Ok(count) = u32::try_from(self.rows.len()) else {
+            return Err(OutOfMemory);
+        };
         for row in 0..count {
-            if is_parameter(rows, row) {
-                let first = parent_at(rows, row);
-                parameters.add(
+            if is_parameter(self.rows, row) {
+                self.parameters.add(
                     alloc,
                     Entry {
-                        first,
+                        first: parent_at(self.rows, row),
                         second: 0,
                         row,
                     },
                 )?;
             }
         }
-        Ok(Locals {
-            rows,
-            places,
-            variables,
-            labels,
-            parameters,
-            listed: Chains::new(alloc),
-        })
+        Ok(())
     }
 
     /// Opens the scopes of the parameters beside a block, if the row is one.

@@ -58,18 +58,26 @@ fn add_constructors(
     Ok(())
 }
 
-/// The rows that get the new name with a family, as they rise: the family itself, the names of the constructors of a class, and the static imports of
+/// The rows that get the new name with a declaration, as they rise: its family, the names of the constructors of a class, and the static imports of
 /// what gets the name.
-pub fn named_with(
-    alloc: Global,
-    old: &Project,
-    declared: u32,
-    family: Vec<u32>,
-) -> Result<Vec<u32>, OutOfMemory> {
+pub fn named_with(alloc: Global, old: &Project, declared: u32) -> Result<Vec<u32>, OutOfMemory> {
+    let family = family_of(alloc, old, Some(declared))?;
     let mut all = Vec::new(alloc);
-    add_imports(alloc, &old.view.sight.world, &mut all, declared, &family)?;
-    add_constructors(alloc, old, &mut all, declared)?;
-    all.extend_from_slice(&family)?;
+    add_named(alloc, old, &mut all, declared, &family)?;
     all.sort_unstable();
     Ok(all)
+}
+
+// Adds all that get the name, in no order.
+fn add_named(
+    alloc: Global,
+    old: &Project,
+    all: &mut Vec<u32>,
+    declared: u32,
+    family: &[u32],
+) -> Result<(), OutOfMemory> {
+    add_imports(alloc, &old.view.sight.world, all, declared, family)?;
+    add_constructors(alloc, old, all, declared)?;
+    all.extend_from_slice(family)?;
+    Ok(())
 }

@@ -1,12 +1,11 @@
 // A move of a top-level type to another package.
 
-use jr_base::{Path, Span, Text};
-use jr_change::{Change, ChangeFault, Project, Reason, UnitSource};
+use jr_base::{OutOfMemory, Path, Span};
+use jr_change::{Change, ChangeFault, Project, Reason};
 use jr_draft::{
-    Draft, Head, Leaving, add_package_rows, asked, declaration_of, edits_of, folder_of_package,
-    head_of, left_apart, name_of_package, order_with, package_named, path_in, unchanged,
+    Draft, Head, Leaving, add_package_rows, asked, declaration_of, head_of, name_of_package,
+    order_with, package_named, path_of_type, unchanged,
 };
-use jr_edits::Edits;
 use jr_marks::Marks;
 use jr_places::{end_at, is_top_level, name_at, parent_at};
 use jr_rows::Row;
@@ -29,17 +28,30 @@ pub fn move_type(
     let Some(moved) = top_level(marks.rows, declared) else {
         return Err(ChangeFault::Bad(Reason::WrongKind));
     };
-    let head = head_of(marks.rows, parent_at(marks.rows, moved));
-    if name_of_package(alloc, marks.rows, head.package)?.as_slice() == package {
+    if is_of_package(alloc, marks.rows, moved, package)? {
         return Ok(unchanged(alloc, marks)?);
     }
-    let folder = folder_of_package(alloc, package)?;
-    let path = path_in(alloc, &folder, name_at(marks.rows, moved))?;
     if is_alone(marks.rows, moved) {
-        moved_whole(alloc, marks, head, path, package)
+        moved_whole(alloc, marks, moved, package)
     } else {
-        moved_apart(alloc, marks, head, moved, &path, package)
+        moved_apart(alloc, marks, moved, package)
     }
+}
+
+// What stands before the types of the unit of a top-level type.
+fn head_round(rows: &[Row], moved: u32) -> Head {
+    head_of(rows, parent_at(rows, moved))
+}
+
+// A top-level type is of the package.
+fn is_of_package(
+    alloc: Global,
+    rows: &[Row],
+    moved: u32,
+    package: &[u8],
+) -> Result<bool, OutOfMemory> {
+    let name = name_of_package(alloc, rows, head_round(rows, moved).package)?;
+    Ok(name.as_slice() == package)
 }
 
 // The declaration, if it is a top-level type.
@@ -67,54 +79,78 @@ fn is_alone(rows: &[Row], moved: u32) -> bool {
     true
 }
 
-// The edits that give a unit a package: the name is replaced, or the declaration put in front, or taken away.
-fn package_edits(
+// Gives the unit that was added last a package: the name is replaced, or the declaration put in front, or taken away.
+fn replace_package(
     alloc: Global,
+    draft: &mut Draft,
     marks: &Marks,
     head: Head,
     package: &[u8],
-) -> Result<Edits, ChangeFault> {
-    let mut edits = edits_of(alloc, marks, head.unit)?;
+) -> Result<(), ChangeFault> {
     match head.package {
         Some(declared) => {
             if package.is_empty() {
-                edits.push(tokens_span(marks, declared), Text::of(alloc, &[])?)?;
+                draft.replace(alloc, tokens_span(marks, declared), &[])
             } else {
                 let name = tokens_span(marks, declared.saturating_add(1));
-                edits.push(name, Text::of(alloc, package)?)?;
+                draft.replace(alloc, name, package)
             }
         }
         None => {
-            let front = Span { start: 0, end: 0 };
-            edits.push(front, Text::new(declaration_of(alloc, package)?))?;
+            let text = declaration_of(alloc, package)?;
+            draft.replace(alloc, Span { start: 0, end: 0 }, &text)
         }
     }
-    Ok(edits)
 }
 
-// The change in which a unit moves as a whole.
-fn moved_whole(
+// Adds the unit that moves as a whole.
+fn add_moved(
     alloc: Global,
+    draft: &mut Draft,
     marks: &Marks,
     head: Head,
-    path: Path,
+    path: &Path,
     package: &[u8],
-) -> Result<Change, ChangeFault> {
+) -> Result<(), ChangeFault> {
+    draft.open(alloc, marks, marks.unit_of(head.unit), path.copy(alloc)?)?;
+    replace_package(alloc, draft, marks, head, package)?;
+    draft.copy(head.unit, head.unit.saturating_add(1))?;
+    add_package_rows(draft, package, head.package)?;
+    draft.copy(head.imports, end_at(marks.rows, head.unit))?;
+    Ok(())
+}
+
+// Adds all units, of which one moves.
+fn add_units(
+    alloc: Global,
+    draft: &mut Draft,
+    marks: &Marks,
+    head: Head,
+    path: &Path,
+    package: &[u8],
+) -> Result<(), ChangeFault> {
     let moved = marks.unit_of(head.unit);
-    let order = order_with(alloc, marks, moved, path.bytes())?;
-    let mut draft = Draft::new(alloc, marks)?;
-    for unit in &order {
+    for unit in &order_with(alloc, marks, moved, path.bytes())? {
         if *unit == moved {
-            let edits = package_edits(alloc, marks, head, package)?;
-            let source = UnitSource::Edited { unit: moved, edits };
-            draft.add(path.copy(alloc)?, source)?;
-            draft.copy(head.unit, head.unit.saturating_add(1))?;
-            add_package_rows(&mut draft, package, head.package)?;
-            draft.copy(head.imports, end_at(marks.rows, head.unit))?;
+            add_moved(alloc, draft, marks, head, path, package)?;
         } else {
             draft.keep(alloc, marks, *unit)?;
         }
     }
+    Ok(())
+}
+
+// The change in which the unit of a type moves as a whole.
+fn moved_whole(
+    alloc: Global,
+    marks: &Marks,
+    moved: u32,
+    package: &[u8],
+) -> Result<Change, ChangeFault> {
+    let head = head_round(marks.rows, moved);
+    let path = path_of_type(alloc, package, name_at(marks.rows, moved))?;
+    let mut draft = Draft::new(alloc, marks)?;
+    add_units(alloc, &mut draft, marks, head, &path, package)?;
     Ok(draft.finish())
 }
 
@@ -122,17 +158,15 @@ fn moved_whole(
 fn moved_apart(
     alloc: Global,
     marks: &Marks,
-    head: Head,
     moved: u32,
-    path: &Path,
     package: &[u8],
 ) -> Result<Change, ChangeFault> {
     let leaving = Leaving {
-        head,
+        head: head_round(marks.rows, moved),
         row: moved,
         is_turned: false,
         package,
         declaration: part(unit_bytes(marks, moved), extent(marks, moved)),
     };
-    left_apart(alloc, marks, leaving, path)
+    leaving.to_own_file(alloc, marks)
 }

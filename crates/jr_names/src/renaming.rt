@@ -3,7 +3,7 @@
 use crate::family::{family_of, named_with, reaches_prelude};
 use jr_base::{OutOfMemory, Path, Text, is_identifier};
 use jr_change::{Change, ChangeFault, Naming, Project, Reason, UnitSource};
-use jr_draft::{Draft, asked, edits_of, order_with, path_in, path_of, unchanged, unit_row};
+use jr_draft::{Draft, asked, order_with, path_in, path_of, unchanged, unit_row};
 use jr_marks::Marks;
 use jr_places::{end_at, is_top_level, name_at};
 use jr_text::own_span;
@@ -18,49 +18,70 @@ pub fn rename(
     name: &[u8],
 ) -> Result<Change, ChangeFault> {
     let declared = asked(old, file, at)?;
-    let family = family_of(alloc, old, declared)?;
-    if reaches_prelude(&old.marks, &family) {
-        return Err(ChangeFault::Bad(Reason::ReachesPrelude));
-    }
+    judge_family(alloc, old, declared)?;
     if !is_identifier(name) {
         return Err(ChangeFault::Bad(Reason::BadName));
     }
-    let Some(declared) = declared else {
-        return Err(ChangeFault::Bad(Reason::WrongKind));
-    };
-    if name_at(old.marks.rows, declared) == name {
-        return Ok(unchanged(alloc, &old.marks)?);
+    match declared {
+        Some(row) => renamed(alloc, old, row, name),
+        None => Err(ChangeFault::Bad(Reason::WrongKind)),
     }
-    let named = named_with(alloc, old, declared, family)?;
-    renamed(alloc, &old.marks, declared, named, name)
 }
 
-// The change in which some rows get a name.
+// That no declaration which gets the name stands in the prelude.
+fn judge_family(alloc: Global, old: &Project, declared: Option<u32>) -> Result<(), ChangeFault> {
+    let family = family_of(alloc, old, declared)?;
+    if reaches_prelude(&old.marks, &family) {
+        Err(ChangeFault::Bad(Reason::ReachesPrelude))
+    } else {
+        Ok(())
+    }
+}
+
+// The change in which a declaration gets a name.
 fn renamed(
     alloc: Global,
-    marks: &Marks,
+    old: &Project,
     declared: u32,
-    named: Vec<u32>,
     name: &[u8],
 ) -> Result<Change, ChangeFault> {
-    let moved = marks.unit_of(declared);
-    let path = path_with(alloc, marks, declared, name)?;
-    let order = order_with(alloc, marks, moved, path.bytes())?;
-    let mut draft = Draft::new(alloc, marks)?;
-    for unit in &order {
-        let source = source_of(alloc, marks, *unit, &named, name)?;
-        if *unit == moved {
-            draft.add(path.copy(alloc)?, source)?;
-        } else {
-            draft.add(path_of(alloc, marks, *unit)?, source)?;
-        }
-        draft.copy_unit(marks, *unit)?;
+    let marks = &old.marks;
+    if name_at(marks.rows, declared) == name {
+        return Ok(unchanged(alloc, marks)?);
     }
-    draft.name(Naming {
-        name: Text::of(alloc, name)?,
-        rows: named,
-    })?;
+    let mut draft = Draft::new(alloc, marks)?;
+    add_renamed(alloc, &mut draft, old, declared, name)?;
     Ok(draft.finish())
+}
+
+// Adds all units with the new name, and which rows get it.
+fn add_renamed(
+    alloc: Global,
+    draft: &mut Draft,
+    old: &Project,
+    declared: u32,
+    name: &[u8],
+) -> Result<(), ChangeFault> {
+    let marks = &old.marks;
+    let rows = named_with(alloc, old, declared)?;
+    let path = path_with(alloc, marks, declared, name)?;
+    let renaming = Renaming {
+        moved: marks.unit_of(declared),
+        path: &path,
+        rows: &rows,
+        name,
+    };
+    renaming.add_units(alloc, draft, marks)?;
+    let name = Text::of(alloc, name)?;
+    draft.name(Naming { name, rows })?;
+    Ok(())
+}
+
+/// Numbers from `first` to before `after`.
+#[derive(Clone, Copy)]
+struct Range {
+    first: usize,
+    after: usize,
 }
 
 // The path of the unit of a declaration that gets a name: a top-level type takes along the file that has its name.
@@ -105,25 +126,75 @@ fn count_below(rows: &[u32], end: u32) -> usize {
     low
 }
 
-// The text of a unit in which some rows get a name.
-fn source_of(
-    alloc: Global,
-    marks: &Marks,
-    unit: u32,
-    named: &[u32],
-    name: &[u8],
-) -> Result<UnitSource, ChangeFault> {
-    let row = unit_row(marks, unit);
-    let first = count_below(named, row);
-    let after = count_below(named, end_at(marks.rows, row));
-    if first >= after {
-        return Ok(UnitSource::Kept(unit));
+// Which of some rows stand in a unit.
+fn rows_in(rows: &[u32], marks: &Marks, unit: u32) -> Range {
+    let top = unit_row(marks, unit);
+    Range {
+        first: count_below(rows, top),
+        after: count_below(rows, end_at(marks.rows, top)),
     }
-    let mut edits = edits_of(alloc, marks, row)?;
-    for at in first..after {
-        if let Some(row) = named.get(at) {
-            edits.push(own_span(marks, *row), Text::of(alloc, name)?)?;
+}
+
+/// Rows that get a name.
+#[derive(Clone, Copy)]
+struct Renaming<'a> {
+    /// The unit that goes to this path.
+    moved: u32,
+    path: &'a Path,
+    rows: &'a [u32],
+    name: &'a [u8],
+}
+
+impl<'a> Renaming<'a> {
+    // The path that a unit gets.
+    fn path_of(self, alloc: Global, marks: &Marks, unit: u32) -> Result<Path, OutOfMemory> {
+        if unit == self.moved {
+            self.path.copy(alloc)
+        } else {
+            path_of(alloc, marks, unit)
         }
     }
-    Ok(UnitSource::Edited { unit, edits })
+
+    // Adds a unit in which the rows of these numbers get the name.
+    fn add_edited(
+        self,
+        alloc: Global,
+        draft: &mut Draft,
+        marks: &Marks,
+        unit: u32,
+        named: Range,
+    ) -> Result<(), ChangeFault> {
+        draft.open(alloc, marks, unit, self.path_of(alloc, marks, unit)?)?;
+        for at in named.first..named.after {
+            if let Some(row) = self.rows.get(at) {
+                draft.replace(alloc, own_span(marks, *row), self.name)?;
+            }
+        }
+        Ok(())
+    }
+
+    // Adds a unit, but not its rows.
+    fn add_unit(
+        self,
+        alloc: Global,
+        draft: &mut Draft,
+        marks: &Marks,
+        unit: u32,
+    ) -> Result<(), ChangeFault> {
+        let named = rows_in(self.rows, marks, unit);
+        if named.first < named.after {
+            return self.add_edited(alloc, draft, marks, unit, named);
+        }
+        draft.add(self.path_of(alloc, marks, unit)?, UnitSource::Kept(unit))?;
+        Ok(())
+    }
+
+    // Adds all units in the order of their new paths.
+    fn add_units(self, alloc: Global, draft: &mut Draft, marks: &Marks) -> Result<(), ChangeFault> {
+        for unit in &order_with(alloc, marks, self.moved, self.path.bytes())? {
+            self.add_unit(alloc, draft, marks, *unit)?;
+            draft.copy_unit(marks, *unit)?;
+        }
+        Ok(())
+    }
 }

@@ -6,23 +6,27 @@
 
 mod outline;
 
+use jr_rows::Row;
 use outline::{Outline, outline_of};
 use std::alloc::Global;
 use std::io::Read;
 use std::process::ExitCode;
 use std::{io, str};
 
+fn print_rows(rt: &HostRuntime, rows: &[Row]) -> io::Result<()> {
+    for row in rows {
+        let name = match str::from_utf8(row.name.bytes()) {
+            Ok("") | Err(_) => "-",
+            Ok(name) => name,
+        };
+        println!(rt; "{} {} {:?}", row.parent, name, row.label)?;
+    }
+    Ok(())
+}
+
 fn print(rt: &HostRuntime, outline: &Outline) -> io::Result<()> {
     match outline {
-        Outline::Rows(rows) => {
-            for row in rows.as_slice() {
-                let name = match str::from_utf8(row.name.bytes()) {
-                    Ok("") | Err(_) => "-",
-                    Ok(name) => name,
-                };
-                println!(rt; "{} {} {:?}", row.parent, name, row.label)?;
-            }
-        }
+        Outline::Rows(rows) => print_rows(rt, rows.as_slice())?,
         Outline::NoTokens => println!(rt; "fault of the lexer")?,
         Outline::NoTree(at) => println!(rt; "fault at token {}", at)?,
         Outline::TooDeep(at) => println!(rt; "fault of depth at token {}", at)?,

@@ -2,14 +2,12 @@
 
 use jr_base::{OutOfMemory, Span};
 use jr_change::{Change, ChangeFault, Project, Reason};
-use jr_draft::{
-    Leaving, asked, folder_of_package, head_of, left_apart, name_of_package, path_in, unit_row,
-};
+use jr_draft::{Leaving, asked, head_of, name_of_package, unit_row};
 use jr_marks::Marks;
 use jr_members::{
     declaring_type, is_in_interface, is_private, is_protected, is_static, written_at,
 };
-use jr_places::{is_type, name_at};
+use jr_places::is_type;
 use jr_rows::Row;
 use jr_text::{extent, part, token_span, tokens_span, unit_bytes};
 use std::alloc::Global;
@@ -18,22 +16,25 @@ use std::alloc::Global;
 /// that cannot be. It is static, also implicitly, and neither private nor protected (JLS 8.5.1, 9.5).
 pub fn lift(alloc: Global, old: &Project, file: &[u8], at: u32) -> Result<Change, ChangeFault> {
     let marks = &old.marks;
-    let Some(lifted) = liftable(marks.rows, asked(old, file, at)?) else {
-        return Err(ChangeFault::Bad(Reason::WrongKind));
-    };
-    let head = head_of(marks.rows, unit_row(marks, marks.unit_of(lifted)));
+    match liftable(marks.rows, asked(old, file, at)?) {
+        Some(row) => lifted(alloc, marks, row),
+        None => Err(ChangeFault::Bad(Reason::WrongKind)),
+    }
+}
+
+// The change in which a member type is taken out of its type.
+fn lifted(alloc: Global, marks: &Marks, row: u32) -> Result<Change, ChangeFault> {
+    let head = head_of(marks.rows, unit_row(marks, marks.unit_of(row)));
     let package = name_of_package(alloc, marks.rows, head.package)?;
-    let folder = folder_of_package(alloc, &package)?;
-    let path = path_in(alloc, &folder, name_at(marks.rows, lifted))?;
-    let declaration = text_lifted(alloc, marks, lifted)?;
+    let declaration = text_lifted(alloc, marks, row)?;
     let leaving = Leaving {
         head,
-        row: lifted,
+        row,
         is_turned: true,
         package: &package,
         declaration: &declaration,
     };
-    left_apart(alloc, marks, leaving, &path)
+    leaving.to_own_file(alloc, marks)
 }
 
 // The declaration, if it is a member type that can be lifted.

@@ -1,14 +1,13 @@
 // A package that gets another name.
 
 use jr_base::{OutOfMemory, Path, Text};
-use jr_change::{Change, ChangeFault, Naming, Project, Reason, Target, UnitSource};
+use jr_change::{Change, ChangeFault, Naming, Project, Reason, Target};
 use jr_defs::Referent;
 use jr_draft::{
-    Draft, Head, PRELUDE, add_package_rows, behind_last, count_identifiers, count_units, edits_of,
+    Draft, Head, PRELUDE, add_package_rows, behind_last, count_identifiers, count_units,
     folder_of_package, head_of, is_before, name_below, name_of_package, package_named, path_below,
     path_of, unchanged, unit_row,
 };
-use jr_edits::Edits;
 use jr_lookup::import_kind;
 use jr_marks::Marks;
 use jr_places::end_at;
@@ -29,14 +28,13 @@ pub fn repackage(
         from: name_asked(from)?,
         to: name_asked(to)?,
     };
-    let moved = asked.moved_units(alloc)?;
-    if moved.is_empty() {
+    if !asked.has_units(alloc)? {
         return Err(ChangeFault::Bad(Reason::NoFile));
     }
     if from == to {
         return Ok(unchanged(alloc, &old.marks)?);
     }
-    asked.change(alloc, &moved)
+    asked.change(alloc)
 }
 
 // The package that a word names; the unnamed one has no name.
@@ -48,6 +46,10 @@ fn name_asked(word: &[u8]) -> Result<&[u8], ChangeFault> {
     }
 }
 
+fn is_on_demand(rows: &[Row], at: u32) -> bool {
+    matches!(import_kind(rows, at), Some(ImportKind::OnDemand))
+}
+
 /// The package that gets a name.
 #[derive(Clone, Copy)]
 struct Repackaging<'a> {
@@ -56,12 +58,11 @@ struct Repackaging<'a> {
     to: &'a [u8],
 }
 
-/// A unit that moves.
-#[derive(Drop)]
-struct MovedUnit {
-    unit: u32,
-    /// Where it goes.
-    path: Path,
+/// Units that move, by their numbers, to a folder that is given with its `/`.
+#[derive(Clone, Copy)]
+struct Moving<'m> {
+    units: &'m [u32],
+    folder: &'m [u8],
 }
 
 impl<'a> Repackaging<'a> {
@@ -86,42 +87,50 @@ impl<'a> Repackaging<'a> {
         Ok(package.as_slice() == self.from)
     }
 
+    // There are units of the package.
+    fn has_units(self, alloc: Global) -> Result<bool, OutOfMemory> {
+        for unit in PRELUDE..count_units(self.marks()) {
+            if self.is_moved(alloc, unit)? {
+                return Ok(true);
+            }
+        }
+        Ok(false)
+    }
+
+    // The units of the package, by their numbers. By their new paths they stand in the same order, since all are of one folder.
+    fn moved_units(self, alloc: Global) -> Result<Vec<u32>, OutOfMemory> {
+        let mut all = Vec::new(alloc);
+        for unit in PRELUDE..count_units(self.marks()) {
+            if self.is_moved(alloc, unit)? {
+                all.push(unit)?;
+            }
+        }
+        Ok(all)
+    }
+
     // The path of a unit below a folder.
     fn path_below(self, alloc: Global, folder: &[u8], unit: u32) -> Result<Path, OutOfMemory> {
         let path = path_of(alloc, self.marks(), unit)?;
         path_below(alloc, folder, behind_last(path.bytes(), b'/'))
     }
 
-    // The units of the package, by their numbers. By their new paths they stand in the same order, since all are of one folder.
-    fn moved_units(self, alloc: Global) -> Result<Vec<MovedUnit>, OutOfMemory> {
-        let folder = folder_of_package(alloc, self.to)?;
-        let mut all = Vec::new(alloc);
-        for unit in PRELUDE..count_units(self.marks()) {
-            if self.is_moved(alloc, unit)? {
-                let path = self.path_below(alloc, &folder, unit)?;
-                all.push(MovedUnit { unit, path })?;
-            }
+    // What the import stands for is a package, and not a type of its name.
+    fn is_of_package(self, at: u32) -> bool {
+        let project = self.project;
+        let name = at.saturating_add(1);
+        match project.view.sight.world.under.referent(name) {
+            Referent::Package => true,
+            _ => false,
         }
-        Ok(all)
     }
 
     // The row is an import on demand of the package, and not of a type of that name.
     fn imports_package(self, alloc: Global, at: u32) -> Result<bool, OutOfMemory> {
-        match import_kind(self.rows(), at) {
-            Some(ImportKind::OnDemand) => (),
-            _ => return Ok(false),
+        if !is_on_demand(self.rows(), at) || !self.is_of_package(at) {
+            return Ok(false);
         }
-        let project = self.project;
-        match project
-            .view
-            .sight
-            .world
-            .under
-            .referent(at.saturating_add(1))
-        {
-            Referent::Package => Ok(name_below(alloc, self.rows(), at)?.as_slice() == self.from),
-            _ => Ok(false),
-        }
+        let name = name_below(alloc, self.rows(), at)?;
+        Ok(name.as_slice() == self.from)
     }
 
     // There is such an import.
@@ -134,24 +143,24 @@ impl<'a> Repackaging<'a> {
         Ok(false)
     }
 
-    // A name gets the new text.
-    fn push_edit(self, alloc: Global, edits: &mut Edits, name: u32) -> Result<(), ChangeFault> {
-        edits.push(tokens_span(self.marks(), name), Text::of(alloc, self.to)?)?;
-        Ok(())
+    // In the unit that was added last a name becomes the new one.
+    fn replace_name(self, alloc: Global, draft: &mut Draft, name: u32) -> Result<(), ChangeFault> {
+        draft.replace(alloc, tokens_span(self.marks(), name), self.to)
     }
 
-    // The edits of the imports of a unit, and of its package declaration where it moves.
-    fn edits(self, alloc: Global, head: Head, declared: Option<u32>) -> Result<Edits, ChangeFault> {
-        let mut edits = edits_of(alloc, self.marks(), head.unit)?;
-        if let Some(declared) = declared {
-            self.push_edit(alloc, &mut edits, declared.saturating_add(1))?;
-        }
+    // The imports of the unit that was added last name the new package.
+    fn replace_imports(
+        self,
+        alloc: Global,
+        draft: &mut Draft,
+        head: Head,
+    ) -> Result<(), ChangeFault> {
         for at in head.imports..head.types {
             if self.imports_package(alloc, at)? {
-                self.push_edit(alloc, &mut edits, at.saturating_add(1))?;
+                self.replace_name(alloc, draft, at.saturating_add(1))?;
             }
         }
-        Ok(edits)
+        Ok(())
     }
 
     // Adds the rows of the name in an import on demand: the last identifier is that of the old one, those before it come from no old row.
@@ -188,63 +197,97 @@ impl<'a> Repackaging<'a> {
         self,
         alloc: Global,
         draft: &mut Draft,
-        moved: &MovedUnit,
+        unit: u32,
+        path: Path,
     ) -> Result<(), ChangeFault> {
-        let head = self.head(moved.unit);
-        let path = moved.path.copy(alloc)?;
-        let edits = self.edits(alloc, head, head.package)?;
-        let unit = moved.unit;
-        draft.add(path, UnitSource::Edited { unit, edits })?;
+        let head = self.head(unit);
+        draft.open(alloc, self.marks(), unit, path)?;
+        if let Some(declared) = head.package {
+            self.replace_name(alloc, draft, declared.saturating_add(1))?;
+        }
+        self.replace_imports(alloc, draft, head)?;
         draft.copy(head.unit, head.unit.saturating_add(1))?;
         add_package_rows(draft, self.to, head.package)?;
         self.add_rows(alloc, draft, head, head.imports)?;
         Ok(())
     }
 
-    // Adds a unit that stays where it is.
-    fn add_stayed(self, alloc: Global, draft: &mut Draft, unit: u32) -> Result<(), ChangeFault> {
-        let head = self.head(unit);
-        if !self.has_import(alloc, head)? {
-            draft.keep(alloc, self.marks(), unit)?;
-            return Ok(());
-        }
-        let path = path_of(alloc, self.marks(), unit)?;
-        let edits = self.edits(alloc, head, None)?;
-        draft.add(path, UnitSource::Edited { unit, edits })?;
+    // Adds a unit that stays where it is and has such an import.
+    fn add_importing(
+        self,
+        alloc: Global,
+        draft: &mut Draft,
+        unit: u32,
+        head: Head,
+    ) -> Result<(), ChangeFault> {
+        let marks = self.marks();
+        draft.open(alloc, marks, unit, path_of(alloc, marks, unit)?)?;
+        self.replace_imports(alloc, draft, head)?;
         self.add_rows(alloc, draft, head, head.unit)?;
         Ok(())
     }
 
-    // Adds the first of the moved units, as far as they stand before one that stays. It gives the others.
-    fn add_before<'m>(
-        self,
-        alloc: Global,
-        draft: &mut Draft,
-        moved: &'m [MovedUnit],
-        unit: u32,
-    ) -> Result<&'m [MovedUnit], ChangeFault> {
-        let mut left = moved;
-        for next in moved {
-            if !is_before(self.marks(), next.path.bytes(), next.unit, unit) {
-                return Ok(left);
-            }
-            self.add_moved(alloc, draft, next)?;
-            if let [_, rest @ ..] = left {
-                left = rest;
-            }
+    // Adds a unit that stays where it is.
+    fn add_stayed(self, alloc: Global, draft: &mut Draft, unit: u32) -> Result<(), ChangeFault> {
+        let head = self.head(unit);
+        if self.has_import(alloc, head)? {
+            self.add_importing(alloc, draft, unit, head)
+        } else {
+            draft.keep(alloc, self.marks(), unit)?;
+            Ok(())
         }
-        Ok(left)
     }
 
-    // Adds units that move.
-    fn add_all(
+    // Adds the moved unit of this number among them if it stands before a unit that stays.
+    fn adds_before(
         self,
         alloc: Global,
         draft: &mut Draft,
-        moved: &[MovedUnit],
+        moving: Moving,
+        number: usize,
+        unit: u32,
+    ) -> Result<bool, ChangeFault> {
+        let Some(next) = moving.units.get(number) else {
+            return Ok(false);
+        };
+        let path = self.path_below(alloc, moving.folder, *next)?;
+        if !is_before(self.marks(), path.bytes(), *next, unit) {
+            return Ok(false);
+        }
+        self.add_moved(alloc, draft, *next, path)?;
+        Ok(true)
+    }
+
+    // Adds the moved units from one on, as far as they stand before a unit that stays. It gives the number of the next one.
+    fn add_before(
+        self,
+        alloc: Global,
+        draft: &mut Draft,
+        moving: Moving,
+        first: usize,
+        unit: u32,
+    ) -> Result<usize, ChangeFault> {
+        for number in first..moving.units.len() {
+            if !self.adds_before(alloc, draft, moving, number, unit)? {
+                return Ok(number);
+            }
+        }
+        Ok(moving.units.len())
+    }
+
+    // Adds the moved units from one on.
+    fn add_left(
+        self,
+        alloc: Global,
+        draft: &mut Draft,
+        moving: Moving,
+        first: usize,
     ) -> Result<(), ChangeFault> {
-        for next in moved {
-            self.add_moved(alloc, draft, next)?;
+        for number in first..moving.units.len() {
+            if let Some(unit) = moving.units.get(number) {
+                let path = self.path_below(alloc, moving.folder, *unit)?;
+                self.add_moved(alloc, draft, *unit, path)?;
+            }
         }
         Ok(())
     }
@@ -254,16 +297,27 @@ impl<'a> Repackaging<'a> {
         self,
         alloc: Global,
         draft: &mut Draft,
-        moved: &[MovedUnit],
+        moving: Moving,
     ) -> Result<(), ChangeFault> {
-        let mut left = moved;
+        let mut next = 0;
         for unit in PRELUDE..count_units(self.marks()) {
             if !self.is_moved(alloc, unit)? {
-                left = self.add_before(alloc, draft, left, unit)?;
+                next = self.add_before(alloc, draft, moving, next, unit)?;
                 self.add_stayed(alloc, draft, unit)?;
             }
         }
-        self.add_all(alloc, draft, left)
+        self.add_left(alloc, draft, moving, next)
+    }
+
+    // Adds all units, of which those of the package move.
+    fn add_all(self, alloc: Global, draft: &mut Draft) -> Result<(), ChangeFault> {
+        let units = self.moved_units(alloc)?;
+        let folder = folder_of_package(alloc, self.to)?;
+        let moving = Moving {
+            units: &units,
+            folder: &folder,
+        };
+        self.add_units(alloc, draft, moving)
     }
 
     // The identifiers that imports on demand of the package end in, as they rise.
@@ -288,10 +342,10 @@ impl<'a> Repackaging<'a> {
         })
     }
 
-    // The change in which these units move.
-    fn change(self, alloc: Global, moved: &[MovedUnit]) -> Result<Change, ChangeFault> {
+    // The change in which the units of the package move.
+    fn change(self, alloc: Global) -> Result<Change, ChangeFault> {
         let mut draft = Draft::new(alloc, self.marks())?;
-        self.add_units(alloc, &mut draft, moved)?;
+        self.add_all(alloc, &mut draft)?;
         draft.name(self.naming(alloc)?)?;
         Ok(draft.finish())
     }

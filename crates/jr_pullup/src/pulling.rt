@@ -1,9 +1,9 @@
 // The pull up of a method.
 
 use crate::pulled::Pulled;
-use jr_base::{OutOfMemory, Span, Text};
-use jr_change::{Change, ChangeFault, Project, Raised, RowRange, UnitSource};
-use jr_draft::{Draft, PRELUDE, asked, count_units, edits_of, path_of, unit_row};
+use jr_base::{OutOfMemory, Span};
+use jr_change::{Change, ChangeFault, Project, Raised, RowRange};
+use jr_draft::{Draft, PRELUDE, asked, count_units, path_of, unit_row};
 use jr_marks::Marks;
 use jr_places::end_at;
 use jr_rows::Row;
@@ -30,29 +30,40 @@ fn before_brace(marks: &Marks, body: u32) -> Span {
 }
 
 // The extent of the method and LF.
-fn moved_text(alloc: Global, marks: &Marks, method: u32) -> Result<Text, OutOfMemory> {
+fn moved_text(alloc: Global, marks: &Marks, method: u32) -> Result<Vec<u8>, OutOfMemory> {
     let mut out = Vec::new(alloc);
     out.extend_from_slice(part(unit_bytes(marks, method), extent(marks, method)))?;
     out.push(b'\n')?;
-    Ok(Text::new(out))
+    Ok(out)
 }
 
-// The text of a unit that the method leaves or to which it comes.
-fn source_of(
+// The method comes to the unit that was added last.
+fn add_method(
     alloc: Global,
+    draft: &mut Draft,
+    marks: &Marks,
+    pulled: Pulled,
+) -> Result<(), ChangeFault> {
+    let text = moved_text(alloc, marks, pulled.method)?;
+    draft.replace(alloc, before_brace(marks, pulled.body), &text)
+}
+
+// Adds a unit that the method leaves or to which it comes, but not its rows.
+fn add_edited(
+    alloc: Global,
+    draft: &mut Draft,
     marks: &Marks,
     pulled: Pulled,
     unit: u32,
-) -> Result<UnitSource, ChangeFault> {
-    let mut edits = edits_of(alloc, marks, unit_row(marks, unit))?;
+) -> Result<(), ChangeFault> {
+    draft.open(alloc, marks, unit, path_of(alloc, marks, unit)?)?;
     if unit == marks.unit_of(pulled.body) {
-        let text = moved_text(alloc, marks, pulled.method)?;
-        edits.push(before_brace(marks, pulled.body), text)?;
+        add_method(alloc, draft, marks, pulled)?;
     }
     if unit == marks.unit_of(pulled.method) {
-        edits.push(extent(marks, pulled.method), Text::of(alloc, &[])?)?;
+        draft.replace(alloc, extent(marks, pulled.method), &[])?;
     }
-    Ok(UnitSource::Edited { unit, edits })
+    Ok(())
 }
 
 // Adds copies of the rows from the first up to before the end, but for those of the method.
@@ -86,28 +97,43 @@ fn add_rows(
     copy_without(draft, rows, pulled.method, behind, end)
 }
 
-// The change in which a method goes to the superclass.
-fn raised(alloc: Global, marks: &Marks, pulled: Pulled) -> Result<Change, ChangeFault> {
+// Adds all units, of which the method leaves one and comes to one.
+fn add_units(
+    alloc: Global,
+    draft: &mut Draft,
+    marks: &Marks,
+    pulled: Pulled,
+) -> Result<(), ChangeFault> {
     let left = marks.unit_of(pulled.method);
     let reached = marks.unit_of(pulled.body);
-    let mut draft = Draft::new(alloc, marks)?;
     for unit in PRELUDE..count_units(marks) {
         if unit == left || unit == reached {
-            let source = source_of(alloc, marks, pulled, unit)?;
-            draft.add(path_of(alloc, marks, unit)?, source)?;
-            add_rows(&mut draft, marks, pulled, unit)?;
+            add_edited(alloc, draft, marks, pulled, unit)?;
+            add_rows(draft, marks, pulled, unit)?;
         } else {
             draft.keep(alloc, marks, unit)?;
         }
     }
-    let mut change = draft.finish();
-    change.raised = Some(Raised {
+    Ok(())
+}
+
+// What the change says of levels in the method.
+fn raised_by(marks: &Marks, pulled: Pulled) -> Raised {
+    Raised {
         method: RowRange {
             first: pulled.method,
             end: end_at(marks.rows, pulled.method),
         },
         from: pulled.class,
         to: pulled.superclass,
-    });
+    }
+}
+
+// The change in which a method goes to the superclass.
+fn raised(alloc: Global, marks: &Marks, pulled: Pulled) -> Result<Change, ChangeFault> {
+    let mut draft = Draft::new(alloc, marks)?;
+    add_units(alloc, &mut draft, marks, pulled)?;
+    let mut change = draft.finish();
+    change.raised = Some(raised_by(marks, pulled));
     Ok(change)
 }

@@ -3,11 +3,13 @@
 
 mod fault;
 mod lexed;
+mod outline;
 mod prelude;
 mod program;
 mod sizes;
 
 pub use fault::ReadFault;
 pub use lexed::Lexed;
+pub use outline::rows_of_source;
 pub use prelude::{io_source, lang_source};
 pub use program::{read, read_unit, read_units};
