@@ -1,4 +1,7 @@
 // Units that lose a declaration, and types that leave their unit for one of their own.
+ghost use Rattle.std.specs.Prelude.{◌≡◌, IfErr, OnOk};
+ghost use Rattle.jr_marks.specs.Places.{IsOrdered};
+ghost use Rattle.jr_draft.specs.Drafting as drafting;
 
 use crate::asking::count_units;
 use crate::draft::{Draft, edits_of, unit_row};
@@ -19,7 +22,10 @@ pub fn add_without(
     marks: &Marks,
     rows: RowRange,
     span: Span,
-) -> Result<(), ChangeFault> {
+) -> Result<(), ChangeFault>
+    ensures ok { OnOk result (IsOrdered marks.now → draft.new ≡ drafting.without marks.now rows span draft.old) }
+    ensures fault { IfErr result (λ fault. fault ≡ ChangeFault.OutOfMemory) }
+{
     let unit = marks.unit_of(rows.first);
     let row = unit_row(marks, unit);
     let mut edits = edits_of(alloc, marks, rows.first)?;
