@@ -1,5 +1,5 @@
 use Rattle.std.proofs.Common.{arith}
-use Rattle.jr_delete.proofs.Leaving.{left_more, left_all}
+use Rattle.jr_delete.proofs.Answering.{left_more, left_all}
 use Rattle.jr_delete.proofs.without.Goals as goal
 
 pub loop-unit-preserved : goal.loop-unit-preserved
