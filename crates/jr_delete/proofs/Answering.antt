@@ -56,7 +56,7 @@ pub gone_or_not : (old : Project) (d : ℕ) (rows : RowRange) (span : Span) (ans
 gone_or_not old d rows span (Ok change) same none bytes made failed = IsDeleted.gone (sym (none ∙ ap (first_use old) same)) (record {
   span = span;
   bytes = bytes;
-  change = subst (λ rows. IsFinished (left_of old.marks rows span (length old.marks.units.now)) (course.Removed rows) change) same made;
+  finished = subst (λ rows. IsFinished (left_of old.marks rows span (length old.marks.units.now)) (course.Removed rows) change) same made;
 })
 gone_or_not old d rows span (Err why) same none bytes made failed = subst (λ why. IsDeleted old d (Err why)) (sym failed) IsDeleted.memory
 

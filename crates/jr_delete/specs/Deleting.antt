@@ -105,10 +105,10 @@ left_of m r span zero = begun m
 left_of m r span (suc unit) = let before = left_of m r span unit in if nat_lt unit 2 then before else with_unit_left m r span unit before
 
 -- the change in which a declaration is gone, and all else is as it was
-pub record IsWithout (m : Marks) (d : ℕ) (change : Change) : Type 0 where
+pub record IsWithout (m : Marks) (d : ℕ) (made : Change) : Type 0 where
   pub span : Span
   pub bytes : IsSpanOf m d span
-  pub change : IsFinished (left_of m (removed m.rows.now d) span (length m.units.now)) (course.Removed (removed m.rows.now d)) change
+  pub finished : IsFinished (left_of m (removed m.rows.now d) span (length m.units.now)) (course.Removed (removed m.rows.now d)) made
 
 -- what comes of a declaration that can go: the first use, or the change; or want of memory
 pub data IsDeleted (old : Project) (d : ℕ) : Result Change ChangeFault → Type 0 where

@@ -79,4 +79,4 @@ pub record IsFinished (d : Drafted) (course : Course) (change : Change) : Type 0
   pub added : change.added.items ≡ d.added
   pub inner : change.inner ≡ None
   pub raised : change.raised ≡ None
-  pub course : change.course ≡ course
+  pub does : change.course ≡ course

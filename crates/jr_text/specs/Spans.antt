@@ -29,15 +29,16 @@ own_span m n = token_span m n (mark_of m n).own
 abbrev pub tokens_span : Marks → ℕ → Span
 tokens_span m n = record { start = (token_span m n (mark_of m n).first).start; end = (token_span m n ((mark_of m n).after - 1)).end }
 
--- where the gap before the first token of a row begins: at the end of the token before it
-abbrev pub gap_start : Marks → ℕ → ℕ
-gap_start m n = if nat_eq (mark_of m n).first 0 then 0 else (token_span m n ((mark_of m n).first - 1)).end
+-- where the token before one ends
+abbrev pub end_before : Marks → ℕ → ℕ → ℕ
+end_before m n number = if nat_eq number 0 then 0 else (token_span m n (number - 1)).end
 
+-- the gap before the first token of a row
 abbrev pub gap_before : Marks → ℕ → Span
-gap_before m n = record { start = gap_start m n; end = (token_span m n (mark_of m n).first).start }
+gap_before m n = record { start = end_before m n (mark_of m n).first; end = (token_span m n (mark_of m n).first).start }
 
 -- what a declaration takes along: from somewhere in the gap before its first token to the end of its last one
 pub record IsExtent (m : Marks) (n : ℕ) (span : Span) : Type 0 where
-  pub behind : gap_start m n ≤ span.start
-  pub before : gap_start m n ≤ (token_span m n (mark_of m n).first).start → span.start ≤ (token_span m n (mark_of m n).first).start
+  pub behind : (gap_before m n).start ≤ span.start
+  pub before : (gap_before m n).start ≤ (gap_before m n).end → span.start ≤ (gap_before m n).end
   pub last : span.end ≡ (tokens_span m n).end

@@ -68,18 +68,37 @@ pub fn tokens_span(marks: &Marks, row: u32) -> Span
     }
 }
 
+// Where the token before this one ends.
+fn end_before(marks: &Marks, row: u32, number: u32) -> u32
+    ensures { IsOrdered marks.now → result ≡ spans.end_before marks.now row number }
+{
+    if number == 0 {
+        0
+    } else {
+        token_span(marks, row, number - 1).end
+    }
+}
+
 // The gap before the first token of a row.
 fn gap_before(marks: &Marks, row: u32) -> Span
     ensures { IsOrdered marks.now → result ≡ spans.gap_before marks.now row }
 {
     let first = marks.mark(row).first;
-    let mut start = 0;
-    if first > 0 {
-        start = token_span(marks, row, first - 1).end;
-    }
     Span {
-        start,
+        start: end_before(marks, row, first),
         end: token_span(marks, row, first).start,
+    }
+}
+
+// The place behind so many bytes of a gap.
+fn behind_bytes(gap: Span, count: usize) -> u32
+    requires { count ≤ gap.end - gap.start }
+    ensures behind { gap.start ≤ result }
+    ensures within { gap.start ≤ gap.end → result ≤ gap.end }
+{
+    match u32::try_from(count) {
+        Ok(count) => gap.start + count,
+        Err(_) => gap.start,
     }
 }
 
@@ -89,12 +108,8 @@ pub fn extent(marks: &Marks, row: u32) -> Span
 {
     let gap = gap_before(marks, row);
     let before = lead(part(unit_bytes(marks, row), gap));
-    let start = match u32::try_from(before) {
-        Ok(count) => gap.start.saturating_add(count),
-        Err(_) => gap.end,
-    };
     Span {
-        start,
+        start: behind_bytes(gap, before),
         end: tokens_span(marks, row).end,
     }
 }
