@@ -32,6 +32,7 @@ pub fn delete(alloc: Global, old: &Project, file: &[u8], at: u32) -> Result<Chan
 }
 
 // The same, of a declaration that can go.
+#[tactic(auto, using(crate::proofs::Answering::used_there, crate::proofs::Answering::gone_or_not))]
 fn delete_row(alloc: Global, old: &Project, removed: u32) -> Result<Change, ChangeFault>
     ensures { IsOrdered old.now.marks → removed + 1 < 2 ^ 32 → deleting.IsDeleted old.now removed result }
 {
