@@ -1,5 +1,5 @@
 -- Rows that are written, and what comes of a declaration.
-use Rattle.std.proofs.Common.{◌≡◌, refl, sym, ◌∙◌, ap, subst, ⊎_elim, arith, ℕ, ◌+◌, ◌<◌, ◌≤◌, length, Option, Some, None, Result, Ok, Err, Bool, true, false, cond, nat_eq, nat_lt, Decides, add-one}
+use Rattle.std.proofs.Common.{◌≡◌, refl, sym, ◌∙◌, ap, subst, ⊎_elim, arith, ℕ, ◌+◌, ◌^◌, ◌<◌, ◌≤◌, List, length, Option, Some, None, Result, Ok, Err, Bool, true, false, cond, nat_eq, nat_lt, Decides, add-one}
 use Rattle.std.proofs.lemmas.Bool.{cases_lt}
 use Rattle.jr_rows.specs.declared.label.Role.{Role}
 use Rattle.jr_rows.specs.declared.label.Role.TheVariants as role
@@ -17,10 +17,11 @@ use Rattle.jr_change.specs.declared.reason.ChangeFault.{ChangeFault}
 use Rattle.jr_change.specs.declared.reason.ChangeFault.TheVariants as fault
 use Rattle.std.proofs.lemmas.Bool.Decides.{Decides-ltb}
 use Rattle.jr_marks.specs.declared.marks.Marks.{Marks}
-use Rattle.jr_marks.specs.Places.{place_of_name}
-use Rattle.jr_draft.specs.Asking.{rows_of}
+use Rattle.jr_marks.specs.Places.{place_of_name, IsOrdered}
+use Rattle.jr_change.specs.declared.reason.Reason.TheVariants as reason
+use Rattle.jr_draft.specs.Asking.{rows_of, asked}
 use Rattle.jr_draft.specs.Drafting.{Drafted, IsFinished}
-use Rattle.jr_delete.specs.Deleting.{removed, first_use, left_of, with_unit_left, IsSpanOf, IsDeleted, removable, removable_by}
+use Rattle.jr_delete.specs.Deleting.{removed, first_use, left_of, with_unit_left, IsSpanOf, IsDeleted, IsAnswer, removable, removable_by}
 
 -- what declares something is written
 pub declares_within : (p : Rows) (n : ℕ) (r : Role) → (r ≡ role.Nothing → ⊥) → role_at p n ≡ r → n < length p
@@ -73,3 +74,14 @@ left_more m rows span unit before more behind h made = rw add-one (made ∙ ap (
 pub left_all : (m : Marks) (rows : RowRange) (span : Span) (unit count : ℕ) (draft : Drafted) (change : Change) → unit ≡ count → draft ≡ left_of m rows span unit → IsFinished draft (course.Removed rows) change
     → IsFinished (left_of m rows span count) (course.Removed rows) change
 left_all m rows span unit count draft change same h made = subst (λ draft. IsFinished draft (course.Removed rows) change) (h ∙ ap (left_of m rows span) same) made
+
+-- the answers to a request
+pub refused_so : (old : Project) (file : List ℕ) (at : ℕ) (why : ChangeFault) → Err why ≡ asked old file at → IsAnswer old file at (Err why)
+refused_so old file at why h = IsAnswer.refused (sym h)
+
+pub stays_so : (old : Project) (file : List ℕ) (at : ℕ) (found : Option ℕ) → Ok found ≡ asked old file at → None ≡ removable (rows_of old) found → IsAnswer old file at (Err (fault.Bad reason.WrongKind))
+stays_so old file at found h none = IsAnswer.stays (sym h) (sym none)
+
+pub goes_so : (old : Project) (file : List ℕ) (at : ℕ) (found : Option ℕ) (d : ℕ) (answer : Result Change ChangeFault) → IsOrdered old.marks → Ok found ≡ asked old file at → Some d ≡ removable (rows_of old) found
+    → (IsOrdered old.marks → d + 1 < 2 ^ 32 → IsDeleted old d answer) → IsAnswer old file at answer
+goes_so old file at found d answer ordered h some made = let lt = removable_within (rows_of old) found d (sym some) in let few = ordered.few in IsAnswer.goes (sym h) (sym some) (made ordered (omega arith))

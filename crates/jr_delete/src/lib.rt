@@ -18,6 +18,7 @@ use std::alloc::Global;
 
 /// What removes the declaration at an offset of a file, or the first reason why it cannot go. It is a method, a class or interface, or a field without
 /// initializer (JLS 8.3, 8.4, 8.5, 9.1). It is still used where what stays refers to what goes; the first such occurrence is told.
+#[tactic(auto, using(crate::proofs::Answering::refused_so, crate::proofs::Answering::stays_so, crate::proofs::Answering::goes_so))]
 pub fn delete(alloc: Global, old: &Project, file: &[u8], at: u32) -> Result<Change, ChangeFault>
     ensures { IsOrdered old.now.marks → deleting.IsAnswer old.now file.now at result }
 {
