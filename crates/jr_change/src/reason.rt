@@ -53,24 +53,44 @@ pub enum ChangeFault {
 }
 
 impl From<OutOfMemory> for ChangeFault {
+    ghost use Rattle.std.specs.Prelude.{◌≡◌};
+    ghost use Rattle.jr_change.specs.declared.reason.ChangeFault.TheVariants.{OutOfMemory};
+
+    ghost from_gives = { λ _ fault. fault ≡ OutOfMemory };
+
     fn from(_: OutOfMemory) -> Self {
         ChangeFault::OutOfMemory
     }
 }
 
 impl From<AllocError> for ChangeFault {
+    ghost use Rattle.std.specs.Prelude.{◌≡◌};
+    ghost use Rattle.jr_change.specs.declared.reason.ChangeFault.TheVariants.{OutOfMemory};
+
+    ghost from_gives = { λ _ fault. fault ≡ OutOfMemory };
+
     fn from(_: AllocError) -> Self {
         ChangeFault::OutOfMemory
     }
 }
 
 impl<T: Drop> From<AllocFailed<T>> for ChangeFault {
+    ghost use Rattle.std.specs.Prelude.{◌≡◌};
+    ghost use Rattle.jr_change.specs.declared.reason.ChangeFault.TheVariants.{OutOfMemory};
+
+    ghost from_gives = { λ _ fault. fault ≡ OutOfMemory };
+
     fn from(_: AllocFailed<T>) -> Self {
         ChangeFault::OutOfMemory
     }
 }
 
 impl From<EditFault> for ChangeFault {
+    ghost use Rattle.std.specs.Prelude.{◌≡◌};
+    ghost use Rattle.jr_change.specs.declared.reason.ChangeFault.TheVariants.{OutOfMemory};
+
+    ghost from_gives = { λ _ fault. fault ≡ OutOfMemory };
+
     fn from(_: EditFault) -> Self {
         ChangeFault::OutOfMemory
     }

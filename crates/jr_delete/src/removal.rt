@@ -1,4 +1,7 @@
 // What goes with a declaration.
+ghost use Rattle.std.specs.Prelude.{◌≡◌, ◌+◌, ◌^◌, ◌<◌, length};
+ghost use Rattle.jr_marks.specs.Places.{IsOrdered};
+ghost use Rattle.jr_delete.specs.Deleting as deleting;
 
 use jr_base::Span;
 use jr_change::RowRange;
@@ -15,7 +18,9 @@ pub struct Removal {
 }
 
 /// The declaration, if it is of a kind that can be removed.
-pub fn removable(rows: &[Row], declared: Option<u32>) -> Option<u32> {
+pub fn removable(rows: &[Row], declared: Option<u32>) -> Option<u32>
+    ensures { length rows.now < 2 ^ 32 → result ≡ deleting.removable rows.now declared }
+{
     let row = declared?;
     match role_at(rows, row) {
         Role::Type => Some(row),
@@ -26,7 +31,9 @@ pub fn removable(rows: &[Row], declared: Option<u32>) -> Option<u32> {
 }
 
 // The field, if nothing stands below it.
-fn without_initializer(rows: &[Row], field: u32) -> Option<u32> {
+fn without_initializer(rows: &[Row], field: u32) -> Option<u32>
+    ensures { field + 1 < 2 ^ 32 → result ≡ deleting.field_alone rows.now field }
+{
     if end_at(rows, field) == field.saturating_add(1) {
         Some(field)
     } else {
@@ -35,7 +42,9 @@ fn without_initializer(rows: &[Row], field: u32) -> Option<u32> {
 }
 
 // The rows of a declaration.
-fn rows_of(rows: &[Row], at: u32) -> RowRange {
+fn rows_of(rows: &[Row], at: u32) -> RowRange
+    ensures { at + 1 < 2 ^ 32 → result ≡ deleting.removed rows.now at }
+{
     RowRange {
         first: at,
         end: end_at(rows, at),
@@ -43,53 +52,68 @@ fn rows_of(rows: &[Row], at: u32) -> RowRange {
 }
 
 /// What is removed with a declaration.
-pub fn removal_of(marks: &Marks, removed: u32) -> Removal {
-    match role_at(marks.rows, removed) {
-        Role::Field => removal_of_field(marks, removed),
-        _ => removal_of_all(marks, removed),
+pub fn removal_of(marks: &Marks, removed: u32) -> Removal
+    ensures rows { removed + 1 < 2 ^ 32 → result.rows ≡ deleting.removed marks.now.rows.now removed }
+    ensures span { IsOrdered marks.now → deleting.IsSpanOf marks.now removed result.span }
+{
+    Removal {
+        rows: rows_of(marks.rows, removed),
+        span: span_of(marks, removed),
     }
 }
 
-// A declaration with its lead.
-fn removal_of_all(marks: &Marks, removed: u32) -> Removal {
-    Removal {
-        rows: rows_of(marks.rows, removed),
-        span: extent(marks, removed),
+// The bytes of a declaration with its lead.
+fn span_of(marks: &Marks, removed: u32) -> Span
+    ensures { IsOrdered marks.now → deleting.IsSpanOf marks.now removed result }
+{
+    match role_at(marks.rows, removed) {
+        Role::Field => span_of_field(marks, removed),
+        _ => extent(marks, removed),
     }
 }
 
 // Of several fields of one declaration only this one, with the comma before it or, where it is the first, behind it.
-fn removal_of_field(marks: &Marks, field: u32) -> Removal {
-    let rows = rows_of(marks.rows, field);
+fn span_of_field(marks: &Marks, field: u32) -> Span
+    ensures { IsOrdered marks.now → deleting.IsFieldSpan marks.now field (deleting.field_before marks.now.rows.now field) (deleting.field_behind marks.now.rows.now field) result }
+{
     if let Some(before) = field_before(marks.rows, field) {
-        let span = Span {
+        return Span {
             start: tokens_span(marks, before).end,
             end: tokens_span(marks, field).end,
         };
-        return Removal { rows, span };
     }
     match field_behind(marks.rows, field) {
-        Some(next) => {
-            let span = Span {
-                start: own_span(marks, field).start,
-                end: own_span(marks, next).start,
-            };
-            Removal { rows, span }
-        }
-        None => removal_of_all(marks, parent_at(marks.rows, field)),
+        Some(next) => Span {
+            start: own_span(marks, field).start,
+            end: own_span(marks, next).start,
+        },
+        None => extent(marks, parent_at(marks.rows, field)),
+    }
+}
+
+fn is_field(rows: &[Row], at: u32) -> bool
+    ensures { result ≡ deleting.is_field rows.now at }
+{
+    match role_at(rows, at) {
+        Role::Field => true,
+        _ => false,
     }
 }
 
 // The row is a field of this declaration of fields.
-fn is_field_of(rows: &[Row], declaration: u32, at: u32) -> bool {
-    role_at(rows, at) == Role::Field && parent_at(rows, at) == declaration
+fn is_field_of(rows: &[Row], declaration: u32, at: u32) -> bool
+    ensures { result ≡ deleting.is_field_of rows.now declaration at }
+{
+    is_field(rows, at) && parent_at(rows, at) == declaration
 }
 
 // The field before another one in its declaration.
-fn field_before(rows: &[Row], field: u32) -> Option<u32> {
+fn field_before(rows: &[Row], field: u32) -> Option<u32>
+    ensures { result ≡ deleting.field_before rows.now field }
+{
     let declaration = parent_at(rows, field);
     let mut before = None;
-    for at in declaration..field {
+    for at in 0..field {
         if is_field_of(rows, declaration, at) {
             before = Some(at);
         }
@@ -98,9 +122,11 @@ fn field_before(rows: &[Row], field: u32) -> Option<u32> {
 }
 
 // The field behind another one in its declaration.
-fn field_behind(rows: &[Row], field: u32) -> Option<u32> {
+fn field_behind(rows: &[Row], field: u32) -> Option<u32>
+    ensures { result ≡ deleting.field_behind rows.now field }
+{
     let declaration = parent_at(rows, field);
-    for at in end_at(rows, field)..end_at(rows, declaration) {
+    for at in field.saturating_add(1)..end_at(rows, 0) {
         if is_field_of(rows, declaration, at) {
             return Some(at);
         }

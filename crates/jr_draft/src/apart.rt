@@ -1,7 +1,10 @@
 // Units that lose a declaration, and types that leave their unit for one of their own.
+ghost use Rattle.std.specs.Prelude.{◌≡◌, IfErr, OnOk};
+ghost use Rattle.jr_marks.specs.Places.{IsOrdered};
+ghost use Rattle.jr_draft.specs.Drafting as drafting;
 
 use crate::asking::count_units;
-use crate::draft::{Draft, unit_row};
+use crate::draft::{Draft, edits_of, unit_row};
 use crate::order::{order_with, path_of};
 use crate::packages::{Head, count_identifiers, declaration_of, path_of_type};
 use jr_base::{OutOfMemory, Path, Span, Text};
@@ -19,11 +22,18 @@ pub fn add_without(
     marks: &Marks,
     rows: RowRange,
     span: Span,
-) -> Result<(), ChangeFault> {
+) -> Result<(), ChangeFault>
+    ensures ok { OnOk result (IsOrdered marks.now → draft.new ≡ drafting.without marks.now rows span draft.old) }
+    ensures fault { IfErr result (λ fault. fault ≡ ChangeFault.OutOfMemory) }
+{
     let unit = marks.unit_of(rows.first);
     let row = unit_row(marks, unit);
-    draft.open(alloc, marks, unit, path_of(alloc, marks, unit)?)?;
-    draft.replace(alloc, span, &[])?;
+    let mut edits = edits_of(alloc, marks, rows.first)?;
+    edits.push(span, Text::of(alloc, &[])?)?;
+    draft.add(
+        path_of(alloc, marks, unit)?,
+        UnitSource::Edited { unit, edits },
+    )?;
     draft.copy(row, rows.first)?;
     draft.copy(rows.end, end_at(marks.rows, row))?;
     Ok(())

@@ -1,4 +1,8 @@
 // A change as it is put together.
+ghost use Rattle.std.specs.Prelude.{◌≡◌, ◌<◌, IfOk, OnOk, length};
+ghost use Rattle.jr_marks.specs.Places.{IsOrdered};
+ghost use Rattle.jr_text.specs.Spans.{unit_bytes};
+ghost use Rattle.jr_draft.specs.Drafting as drafting;
 
 use crate::asking::{PRELUDE, count_units};
 use crate::order::path_of;
@@ -11,8 +15,9 @@ use jr_marks::Marks;
 use jr_places::end_at;
 use jr_text::unit_bytes;
 use std::alloc::Global;
+use std::marker::Model;
 
-/// The units and rows of a changed program so far.
+/// The units and rows of a changed program so far. Contracts see its lists.
 #[derive(Drop)]
 pub struct Draft {
     units: Vec<ChangedUnit>,
@@ -22,8 +27,18 @@ pub struct Draft {
     count: u32,
 }
 
+impl Model for Draft {
+    ghost use Rattle.jr_draft.specs.Drafting.{Drafted};
+
+    ghost Value = { Drafted };
+
+    ghost view = { λ d. record { units = d.units.items; segments = d.segments.items; namings = d.namings.items; added = d.added.items } };
+}
+
 /// The row of a unit; behind the last unit that behind the last row.
-pub fn unit_row(marks: &Marks, unit: u32) -> u32 {
+pub fn unit_row(marks: &Marks, unit: u32) -> u32
+    ensures { result ≡ drafting.unit_row marks.now unit }
+{
     match marks.starts.get(unit as usize) {
         Some(row) => *row,
         None => end_at(marks.rows, 0),
@@ -31,7 +46,9 @@ pub fn unit_row(marks: &Marks, unit: u32) -> u32 {
 }
 
 impl Draft {
-    fn empty(alloc: Global) -> Draft {
+    fn empty(alloc: Global) -> Draft
+        ensures { result ≡ drafting.nothing }
+    {
         Draft {
             units: Vec::new(alloc),
             segments: Vec::new(alloc),
@@ -42,7 +59,9 @@ impl Draft {
     }
 
     /// The program and the prelude.
-    pub fn new(alloc: Global, marks: &Marks) -> Result<Draft, OutOfMemory> {
+    pub fn new(alloc: Global, marks: &Marks) -> Result<Draft, OutOfMemory>
+        ensures { IfOk result (λ draft. draft ≡ drafting.begun marks.now) }
+    {
         let mut draft = Draft::empty(alloc);
         draft.copy(0, unit_row(marks, PRELUDE))?;
         Ok(draft)
@@ -54,7 +73,9 @@ impl Draft {
     }
 
     /// Adds copies of the rows from the first up to before the end.
-    pub fn copy(&mut self, first: u32, end: u32) -> Result<(), OutOfMemory> {
+    pub fn copy(&mut self, first: u32, end: u32) -> Result<(), OutOfMemory>
+        ensures { OnOk result (self.new ≡ drafting.copied self.old first end) }
+    {
         if first < end {
             self.segments.push(Segment::Copy { first, end })?;
             self.count = self.count.saturating_add(end - first);
@@ -95,13 +116,17 @@ impl Draft {
     }
 
     /// Adds a unit, but not its rows.
-    pub fn add(&mut self, path: Path, source: UnitSource) -> Result<(), OutOfMemory> {
+    pub fn add(&mut self, path: Path, source: UnitSource) -> Result<(), OutOfMemory>
+        ensures { OnOk result (self.new ≡ drafting.with_unit self.old (record { path = path; source = source })) }
+    {
         self.units.push(ChangedUnit { path, source })?;
         Ok(())
     }
 
     /// Adds copies of all rows of a unit.
-    pub fn copy_unit(&mut self, marks: &Marks, unit: u32) -> Result<(), OutOfMemory> {
+    pub fn copy_unit(&mut self, marks: &Marks, unit: u32) -> Result<(), OutOfMemory>
+        ensures { OnOk result (IsOrdered marks.now → unit < length marks.now.units.now → self.new ≡ drafting.rows_kept marks.now unit self.old) }
+    {
         let row = unit_row(marks, unit);
         self.copy(row, end_at(marks.rows, row))
     }
@@ -134,7 +159,9 @@ impl Draft {
     }
 
     /// Adds an old unit as it is.
-    pub fn keep(&mut self, alloc: Global, marks: &Marks, unit: u32) -> Result<(), OutOfMemory> {
+    pub fn keep(&mut self, alloc: Global, marks: &Marks, unit: u32) -> Result<(), OutOfMemory>
+        ensures { OnOk result (IsOrdered marks.now → unit < length marks.now.units.now → self.new ≡ drafting.kept marks.now unit self.old) }
+    {
         self.add(path_of(alloc, marks, unit)?, UnitSource::Kept(unit))?;
         self.copy_unit(marks, unit)
     }
@@ -162,12 +189,16 @@ impl Draft {
     }
 
     /// The change, in which each body stays as it is.
-    pub fn finish(self) -> Change {
+    pub fn finish(self) -> Change
+        ensures { drafting.IsFinished self Course.Same result }
+    {
         self.finish_as(Course::Same)
     }
 
     /// The change, which does this to the order in which statements run.
-    pub fn finish_as(self, course: Course) -> Change {
+    pub fn finish_as(self, course: Course) -> Change
+        ensures { drafting.IsFinished self course result }
+    {
         Change {
             units: self.units,
             segments: self.segments,
@@ -186,4 +217,14 @@ pub fn unchanged(alloc: Global, marks: &Marks) -> Result<Change, OutOfMemory> {
     draft.keep_texts(alloc, marks)?;
     draft.copy(0, end_at(marks.rows, 0))?;
     Ok(draft.finish())
+}
+
+/// No edits of the unit in which a row stands.
+pub fn edits_of(alloc: Global, marks: &Marks, row: u32) -> Result<Edits, OutOfMemory>
+    ensures { IfOk result (λ edits. IsOrdered marks.now → edits ≡ drafting.no_edits (length (unit_bytes marks.now row))) }
+{
+    match u32::try_from(unit_bytes(marks, row).len()) {
+        Ok(length) => Ok(Edits::new(alloc, length)),
+        Err(_) => Err(OutOfMemory),
+    }
 }

@@ -8,7 +8,7 @@ mod order;
 mod packages;
 
 pub use apart::{Leaving, add_package_rows, add_without};
-pub use asking::{PRELUDE, asked, count_units, is_in_prelude, named_at, unit_of_file};
+pub use asking::{PRELUDE, asked, count_units, is_in_prelude, named_at, refers_to, unit_of_file};
 pub use draft::{Draft, unchanged, unit_row};
 pub use order::{is_before, order_with, path_of};
 pub use packages::{

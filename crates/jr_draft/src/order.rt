@@ -1,4 +1,6 @@
 // The order of the units of a changed program.
+ghost use Rattle.std.specs.Prelude.{◌≡◌, IfOk};
+ghost use Rattle.jr_draft.specs.Drafting as drafting;
 
 use crate::asking::{PRELUDE, count_units};
 use jr_base::{OutOfMemory, Path};
@@ -7,7 +9,9 @@ use std::alloc::Global;
 use std::cmp::Ordering;
 
 /// A copy of the path of an old unit.
-pub fn path_of(alloc: Global, marks: &Marks, unit: u32) -> Result<Path, OutOfMemory> {
+pub fn path_of(alloc: Global, marks: &Marks, unit: u32) -> Result<Path, OutOfMemory>
+    ensures { IfOk result (λ path. path ≡ drafting.path_of marks.now unit) }
+{
     match marks.units.get(unit as usize) {
         Some(placed) => placed.path.copy(alloc),
         None => Err(OutOfMemory),

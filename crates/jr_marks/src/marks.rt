@@ -1,4 +1,7 @@
 // Places of rows, and rows at places.
+ghost use Rattle.std.specs.Prelude.{◌≡◌, slice_get};
+ghost use Rattle.jr_rows.specs.Rows.{label};
+ghost use Rattle.jr_marks.specs.Places as places;
 
 use crate::searching::{count_up_to, identifier_at};
 use jr_base::{CuId, Place, Token};
@@ -32,13 +35,17 @@ impl<'p> Marks<'p> {
     }
 
     /// The number of the unit in which a row stands; 0 for the row of the program.
-    pub fn unit_of(&self, row: u32) -> u32 {
+    pub fn unit_of(&self, row: u32) -> u32
+        ensures { places.IsOrdered self.now → result ≡ places.unit_of self.now row }
+    {
         let count = count_up_to(self.starts, row);
         u32::try_from(count).unwrap_or(NO_TOKEN).saturating_sub(1)
     }
 
     /// The place of an occurrence or declaration: the identifier by which the row refers or that it declares, else its first token.
-    pub fn name_place(&self, row: u32) -> Place {
+    pub fn name_place(&self, row: u32) -> Place
+        ensures { places.IsOrdered self.now → result ≡ places.place_of_name self.now row }
+    {
         self.token_place(row, own_or_first(self.mark(row)))
     }
 
@@ -61,16 +68,40 @@ impl<'p> Marks<'p> {
 
     /// The row whose identifier holds the offset: what declares or refers by a name. What is not written and creations, which share the
     /// identifier of another row, are passed over.
-    pub fn row_at(&self, unit: u32, offset: u32) -> Option<u32> {
+    pub fn row_at(&self, unit: u32, offset: u32) -> Option<u32>
+        ensures { places.IsOrdered self.now → result ≡ places.row_at_offset self.now unit offset }
+    {
         let token = identifier_at(self.tokens(unit), offset)?;
         let start = *self.starts.get(unit as usize)?;
-        let end = self.rows.get(start as usize)?.end;
+        self.row_in(start, token)
+    }
+
+    // The first row from this one on, up to its end, whose own identifier is the token.
+    fn row_in(&self, start: u32, token: u32) -> Option<u32>
+        ensures { result ≡ places.row_in self.now start token }
+    {
+        match self.rows.get(start as usize) {
+            Some(row) => self.first_named(start, row.end, token),
+            None => None,
+        }
+    }
+
+    fn first_named(&self, start: u32, end: u32, token: u32) -> Option<u32>
+        ensures { result ≡ places.first_named self.now start end token }
+    {
         for row in start..end {
-            if self.mark(row).own == token && has_own_name(self.rows, row) {
+            if self.is_named_by(token, row) {
                 return Some(row);
             }
         }
         None
+    }
+
+    // The row's own identifier is this token.
+    fn is_named_by(&self, token: u32, row: u32) -> bool
+        ensures { result ≡ places.is_named_by self.now token row }
+    {
+        self.mark(row).own == token && has_own_name(self.rows, row)
     }
 
     /// The place of the first token of a row.
@@ -79,7 +110,9 @@ impl<'p> Marks<'p> {
     }
 
     /// The mark of a row; that of no token past the last row.
-    pub fn mark(&self, row: u32) -> Mark {
+    pub fn mark(&self, row: u32) -> Mark
+        ensures { result ≡ places.mark_of self.now row }
+    {
         match self.marks.get(row as usize) {
             Some(mark) => *mark,
             None => Mark {
@@ -90,7 +123,9 @@ impl<'p> Marks<'p> {
         }
     }
 
-    fn tokens(&self, unit: u32) -> &'p [Token] {
+    fn tokens(&self, unit: u32) -> &'p [Token]
+        ensures { result.now ≡ places.tokens_of self.now unit }
+    {
         match self.units.get(unit as usize) {
             Some(placed) => placed.tokens.as_slice(),
             None => &[],
@@ -98,7 +133,9 @@ impl<'p> Marks<'p> {
     }
 
     /// The place of a token of the unit of a row; 0 in the prelude, and where there is no such token.
-    fn token_place(&self, row: u32, token: u32) -> Place {
+    fn token_place(&self, row: u32, token: u32) -> Place
+        ensures { places.IsOrdered self.now → result ≡ places.place_in self.now (places.unit_of self.now row) token }
+    {
         let unit = self.unit_of(row);
         let mut at = 0;
         if unit >= PRELUDE {
@@ -108,7 +145,9 @@ impl<'p> Marks<'p> {
     }
 }
 
-fn own_or_first(mark: Mark) -> u32 {
+fn own_or_first(mark: Mark) -> u32
+    ensures { result ≡ places.own_or_first mark }
+{
     if mark.own == NO_TOKEN {
         mark.first
     } else {
@@ -116,7 +155,9 @@ fn own_or_first(mark: Mark) -> u32 {
     }
 }
 
-fn start_of(tokens: &[Token], number: u32) -> u32 {
+fn start_of(tokens: &[Token], number: u32) -> u32
+    ensures { result ≡ places.start_by (slice_get tokens.now number) }
+{
     match tokens.get(number as usize) {
         Some(token) => token.span.start,
         None => 0,
@@ -131,7 +172,9 @@ fn declares(rows: &[Row], at: u32) -> bool {
 }
 
 /// Whether the identifier of a row is its own alone.
-fn has_own_name(rows: &[Row], at: u32) -> bool {
+fn has_own_name(rows: &[Row], at: u32) -> bool
+    ensures { result ≡ places.has_own_name rows.now at }
+{
     let Some(row) = rows.get(at as usize) else {
         return false;
     };
