@@ -37,9 +37,34 @@ abbrev pub removable : Rows → Option ℕ → Option ℕ
 removable p None = None
 removable p (Some d) = removable_by (role_at p d) p d
 
--- the rows of a declaration
+-- a row and all below it
+abbrev pub rows_at : Rows → ℕ → RowRange
+rows_at p n = record { first = n; end = end p n }
+
+abbrev pub is_field : Rows → ℕ → Bool
+is_field p k = same_role (role_at p k) role.Field
+
+abbrev pub is_field_of : Rows → ℕ → ℕ → Bool
+is_field_of p declaration k = is_field p k && nat_eq (parent p k) declaration
+
+-- the fields before and behind one in its declaration
+abbrev pub field_before : Rows → ℕ → Option ℕ
+field_before p d = last_below d (is_field_of p (parent p d))
+
+abbrev pub field_behind : Rows → ℕ → Option ℕ
+field_behind p d = first_below (end p 0) (λ k. nat_lt d k && is_field_of p (parent p d) k)
+
+abbrev pub is_alone : Option ℕ → Option ℕ → Bool
+is_alone None None = true
+is_alone _ _ = false
+
+-- the only field of its declaration
+abbrev pub is_only_field : Rows → ℕ → Bool
+is_only_field p d = is_field p d && is_alone (field_before p d) (field_behind p d)
+
+-- the rows of a declaration: of the only field of one, whose row stands before it, those of all of it
 abbrev pub removed : Rows → ℕ → RowRange
-removed p d = record { first = d; end = end p d }
+removed p d = if nat_lt (parent p d) d then (if is_only_field p d then rows_at p (parent p d) else rows_at p d) else rows_at p d
 
 -- ---- uses
 
@@ -65,19 +90,6 @@ abbrev pub first_use : Project → RowRange → Option ℕ
 first_use old r = first_among old r (occurrences (rows_of old))
 
 -- ---- the bytes that go
-
-abbrev pub is_field : Rows → ℕ → Bool
-is_field p k = same_role (role_at p k) role.Field
-
-abbrev pub is_field_of : Rows → ℕ → ℕ → Bool
-is_field_of p declaration k = is_field p k && nat_eq (parent p k) declaration
-
--- the fields before and behind one in its declaration
-abbrev pub field_before : Rows → ℕ → Option ℕ
-field_before p d = last_below d (is_field_of p (parent p d))
-
-abbrev pub field_behind : Rows → ℕ → Option ℕ
-field_behind p d = first_below (end p 0) (λ k. nat_lt d k && is_field_of p (parent p d) k)
 
 -- one of several fields goes with the comma before it or, where it is the first, behind it; one alone goes with its whole declaration
 abbrev pub IsFieldSpan : Marks → ℕ → Option ℕ → Option ℕ → Span → Type 0

@@ -41,13 +41,48 @@ fn without_initializer(rows: &[Row], field: u32) -> Option<u32>
     }
 }
 
-// The rows of a declaration.
+// A row and all below it.
 fn rows_of(rows: &[Row], at: u32) -> RowRange
-    ensures { at + 1 < 2 ^ 32 → result ≡ deleting.removed rows.now at }
+    ensures { at + 1 < 2 ^ 32 → result ≡ deleting.rows_at rows.now at }
 {
     RowRange {
         first: at,
         end: end_at(rows, at),
+    }
+}
+
+fn is_alone(before: Option<u32>, behind: Option<u32>) -> bool
+    ensures { result ≡ deleting.is_alone before behind }
+{
+    match before {
+        Some(_) => false,
+        None => match behind {
+            Some(_) => false,
+            None => true,
+        },
+    }
+}
+
+// The row is the only field of its declaration.
+fn is_only_field(rows: &[Row], at: u32) -> bool
+    ensures { result ≡ deleting.is_only_field rows.now at }
+{
+    is_field(rows, at) && is_alone(field_before(rows, at), field_behind(rows, at))
+}
+
+// The rows of a declaration; of the only field of one those of all of it.
+fn removed_rows(rows: &[Row], at: u32) -> RowRange
+    ensures { at + 1 < 2 ^ 32 → result ≡ deleting.removed rows.now at }
+{
+    let over = parent_at(rows, at);
+    if over < at {
+        if is_only_field(rows, at) {
+            rows_of(rows, over)
+        } else {
+            rows_of(rows, at)
+        }
+    } else {
+        rows_of(rows, at)
     }
 }
 
@@ -57,7 +92,7 @@ pub fn removal_of(marks: &Marks, removed: u32) -> Removal
     ensures span { IsOrdered marks.now → deleting.IsSpanOf marks.now removed result.span }
 {
     Removal {
-        rows: rows_of(marks.rows, removed),
+        rows: removed_rows(marks.rows, removed),
         span: span_of(marks, removed),
     }
 }
