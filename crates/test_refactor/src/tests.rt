@@ -49,12 +49,7 @@ fn store_of(alloc: Global, text: &str, store_fails: u64) -> Result<MemStore, Fai
 }
 
 fn left_in(alloc: Global, store: &MemStore) -> Result<Vec<u8>, Fail> {
-    left_at(alloc, store, "A.java")
-}
-
-// What a path holds: nothing where there is no file.
-fn left_at(alloc: Global, store: &MemStore, path: &str) -> Result<Vec<u8>, Fail> {
-    let path = Path::parse(alloc, path.as_bytes())?;
+    let path = Path::parse(alloc, b"A.java")?;
     let files = store.files(alloc)?;
     match files.get(&path) {
         Some(bytes) => Ok(bytes.to_vec(alloc)?),
@@ -304,67 +299,6 @@ fn a_stop_is_recovered_from(rt: HostRuntime) -> Result<(), Fail> {
         }
     }
     Ok(())
-}
-
-// A rename takes eleven calls: one recovers, two read, and eight write the journal, the gate, the file and the gate again, each with a sync behind it.
-#[test]
-fn each_call_of_the_store_fails_in_turn(rt: HostRuntime) -> Result<(), Fail> {
-    let alloc = rt.alloc();
-    for failing in 1..12u64 {
-        let mut line = "store fault: writing\n";
-        if failing < 4 {
-            line = "store fault: reading\n";
-        }
-        if failing == 1 {
-            line = "store fault: recovering\n";
-        }
-        let found = if failing < 9 { OLD } else { NEW };
-        let recovered = if failing < 11 { OLD } else { NEW };
-        let mut store = store_of(alloc, OLD, failing)?;
-        expect(&rt, &call_on(alloc, &mut store, RENAME)?, 7, line, found);
-        let again = call_again(alloc, &mut store)?;
-        expect(&rt, &again, 0, "ok, files: 1\n", recovered);
-    }
-    Ok(())
-}
-
-// A change that takes the class to package p, of so many calls of the store: stopped in any that writes, and recovered, it leaves all old or all new.
-fn move_is_stopped(
-    rt: &impl Abort,
-    alloc: Global,
-    words: &str,
-    input: &str,
-    calls: u64,
-) -> Result<(), Fail> {
-    let mut whole = store_of(alloc, OLD, 0)?;
-    let mut input = MemSource::new(input.as_bytes().to_vec(alloc)?, Vec::new(alloc));
-    let mut out = MemSink::new(alloc, Vec::new(alloc))?;
-    let words = words_of(alloc, words)?;
-    let done = refactor(alloc, &words, &mut whole, &mut input, &mut out);
-    assert_eq!(rt; done.number(), 0);
-    let moved = left_at(alloc, &whole, "p/A.java")?;
-    assert!(rt; left_in(alloc, &whole)?.is_empty() && !moved.is_empty());
-    for stop in 4..calls + 1 {
-        for pick in 0..4u64 {
-            let mut image = whole.image(alloc, stop, pick)?;
-            assert_eq!(rt; call_again(alloc, &mut image)?.number, 0);
-            let here = left_in(alloc, &image)?;
-            let there = left_at(alloc, &image, "p/A.java")?;
-            let is_old = here.as_slice() == OLD.as_bytes() && there.is_empty();
-            let is_new = here.is_empty() && there.as_slice() == moved.as_slice();
-            assert!(rt; is_old || is_new);
-        }
-    }
-    Ok(())
-}
-
-#[test]
-fn a_stop_in_a_move_or_a_batch_is_recovered_from(rt: HostRuntime) -> Result<(), Fail> {
-    let alloc = rt.alloc();
-    move_is_stopped(&rt, alloc, ". move A.java 6 p", "", 12)?;
-    let both = r#"[{"do":"rename","file":"A.java","at":27,"name":"b"},
-        {"do":"move","file":"A.java","at":6,"package":"p"}]"#;
-    move_is_stopped(&rt, alloc, ". batch", both, 12)
 }
 
 // The answer to a check where an earlier run was stopped: the gate is open, and this is the journal.
