@@ -524,7 +524,7 @@ impl Settled {
     fn add_settled(&mut self, alloc: Global, setting: Setting, at: u32) -> Result<(), OutOfMemory> {
         let _ = self.passed.types.add(at);
         let supers = std::mem::replace(&mut *self.supers, Supers::nothing(alloc));
-        let more = supers.with_type(self.under(setting), at);
+        let more = supers.with_type(alloc, self.under(setting), at);
         put(&mut self.supers, more)?;
         let under = Tabled {
             rows: setting.rows,

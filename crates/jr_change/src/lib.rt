@@ -4,11 +4,10 @@
 mod change;
 mod project;
 mod reason;
-mod spelling;
 
 pub use change::{
     Added, Change, ChangedUnit, Course, Naming, Raised, RowRange, Segment, Target, UnitSource,
 };
+pub use jr_shapes::{Shape, Spelling, Suffix, TypeName};
 pub use project::{Locks, NO_ROW, Project};
 pub use reason::{ChangeFault, Reason};
-pub use spelling::{Shape, Spelling, Suffix, TypeName};

@@ -16,10 +16,26 @@ pub struct Spelled<'a> {
     pub spellings: &'a [Spelling],
 }
 
+// The row of the changed program whose run does not stand in the new one.
+fn difference(alloc: Global, spelled: Spelled, new: &Workspace) -> Result<Option<u32>, StepFault> {
+    let locked = project_of(&spelled.locked.program);
+    let found = project_of(new);
+    let under = &locked.view.sight.world.under;
+    let written = &found.view.sight.world.under;
+    let spellings = spelled.spellings;
+    Ok(first_difference(
+        alloc,
+        under.rows,
+        under.table,
+        spellings,
+        written.rows,
+        written.table,
+    )?)
+}
+
 /// The program is the changed one with its references written so, and each refers to its lock.
 pub fn is_as_spelled(alloc: Global, spelled: Spelled, new: &Workspace) -> Result<(), StepFault> {
-    let locked = project_of(&spelled.locked.program);
-    match first_difference(alloc, &locked, spelled.spellings, &project_of(new))? {
+    match difference(alloc, spelled, new)? {
         Some(row) => Err(StepFault::Differs {
             place: spelled.asked.place_of(&spelled.locked.locks.origin, row),
         }),

@@ -1,8 +1,8 @@
 -- The first row with each name, one row at a time.
 use Rattle.std.proofs.lemmas.Bool.{false≢true}
 use Rattle.std.proofs.lemmas.Slice.Eq.{bytes_eq-Decides}
-use Rattle.std.proofs.Common.{Decides, ◌≡◌, refl, sym, ◌∙◌, ap, ap₂, subst, ℕ, ◌+◌, Bool, true, false, cond, List, Option, Some, None, add-one, [], ◌∷◌, ◌++◌}
-use Rattle.std.specs.Prelude.{bytes_eq, unwrap_or}
+use Rattle.std.proofs.Common.{Decides, ◌≡◌, refl, sym, ◌∙◌, ap, ap₂, subst, ℕ, ◌+◌, ◌<◌, Bool, true, false, cond, List, Option, Some, None, add-one, length, [], ◌∷◌, ◌++◌}
+use Rattle.std.specs.Prelude.{bytes_eq, unwrap_or, slice_index_or}
 use Rattle.std.specs.Borrow.{Bor}
 use Rattle.std.specs.Option.{option_or}
 use Rattle.std.specs.HashMap.{HashMap, IsEmpty}
@@ -10,6 +10,8 @@ use Rattle.std.specs.Map.{lookup}
 use Rattle.jr_rows.specs.Rows.{Rows, name}
 use Rattle.jr_plain.specs.Search.{first_below}
 use Rattle.std.proofs.lemmas.Option.{none-some}
+use Rattle.jr_tables.specs.Tabulated.{tabulated}
+use Rattle.jr_tables.proofs.Tables.{tabulated_at}
 use Rattle.jr_places.specs.Names.{name_row, text_at, IsNamed, Numbers}
 
 pub named_start : {S : Type 0} (p : Rows) (numbers : HashMap (Bor (List ℕ)) ℕ S) (all : List ℕ) → IsEmpty numbers → all ≡ [] → IsNamed p 0 numbers all
@@ -49,3 +51,6 @@ numbers_same numbers text at found had = record { kept = λ q. by (text_at numbe
     by (Some x) b d e = refl
     by None false d e = refl
     by None true d e = absurd (none-some found (e ∙ ap (text_at numbers) (d.0 refl) ∙ sym had))
+
+pub named_at : (p : Rows) (names : List ℕ) (n : ℕ) → names ≡ tabulated (name_row p) (length p) → n < length p → slice_index_or names n n ≡ name_row p n
+named_at p names n e lt = ap (λ xs. slice_index_or xs n n) e ∙ tabulated_at (name_row p) n (length p) n lt

@@ -3,3 +3,4 @@ pub mod Childs
 pub mod Names
 pub mod Above
 pub mod Units
+pub mod Places

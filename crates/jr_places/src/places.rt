@@ -1,4 +1,8 @@
 // What is computed from rows alone.
+ghost use Rattle.std.specs.Prelude.{◌≡◌, ◌<◌, IfOk, length, slice_index_or};
+ghost use Rattle.jr_rows.specs.Rows.{Rows};
+ghost use Rattle.jr_places.specs.Names.{name_row};
+ghost use Rattle.jr_places.specs.Places.{ArePlaces};
 
 use crate::around::arounds_of;
 use crate::names::names_of;
@@ -17,6 +21,16 @@ pub struct Places {
     packages: Packages,
 }
 
+// The name that a table has for a row.
+fn name_in(names: &[u32], at: u32) -> u32
+    ensures { result ≡ slice_index_or names.now at at }
+{
+    match names.get(at as usize) {
+        Some(name) => *name,
+        None => at,
+    }
+}
+
 // What a table has for a row.
 fn item(all: &[Option<u32>], at: u32) -> Option<u32> {
     match all.get(at as usize) {
@@ -27,7 +41,9 @@ fn item(all: &[Option<u32>], at: u32) -> Option<u32> {
 
 impl Places {
     /// The tables of the rows.
-    pub fn of(alloc: Global, rows: &[Row]) -> Result<Places, OutOfMemory> {
+    pub fn of(alloc: Global, rows: &[Row]) -> Result<Places, OutOfMemory>
+        ensures { IfOk result (λ places. ArePlaces rows.now places) }
+    {
         if rows.len() >= u32::MAX as usize {
             return Err(OutOfMemory);
         }
@@ -46,11 +62,10 @@ impl Places {
     }
 
     /// The number of the name of a row: the first row with that name.
-    pub fn name(&self, at: u32) -> u32 {
-        match self.names.get(at as usize) {
-            Some(name) => *name,
-            None => at,
-        }
+    pub fn name(&self, at: u32) -> u32
+        ensures { (p : Rows) → ArePlaces p self.now → at < length p → result ≡ name_row p at }
+    {
+        name_in(&self.names, at)
     }
 
     /// The innermost type whose body holds the row.

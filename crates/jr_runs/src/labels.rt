@@ -1,11 +1,17 @@
 // Equality of labels.
+ghost use Rattle.std.specs.Prelude.{◌≡◌, ◌↔◌, IsTrue, None};
+ghost use Rattle.jr_rows.specs.declared.label.Label.TheVariants as is;
+ghost use Rattle.jr_runs.specs.Labels as spec;
 
+use crate::kinds::same_kind;
 use jr_base::{Kind, Symbol};
 use jr_rows::{ImportKind, Label, Modifiers, NameKind, NamePlace, ReceiverKind};
 use jr_tree::{Primitive, ThisOrSuper};
 
 /// The number of a label of a declaration that has nothing besides.
-fn number_of_declaration(label: &Label) -> Option<u8> {
+fn number_of_declaration(label: &Label) -> Option<u8>
+    ensures { result ≡ spec.number_of_declaration label.now }
+{
     match label {
         Label::Program => Some(0),
         Label::Unit => Some(1),
@@ -20,7 +26,9 @@ fn number_of_declaration(label: &Label) -> Option<u8> {
 }
 
 /// The number of a label of a simple statement that has nothing besides.
-fn number_of_simple(label: &Label) -> Option<u8> {
+fn number_of_simple(label: &Label) -> Option<u8>
+    ensures { result ≡ spec.number_of_simple label.now }
+{
     match label {
         Label::Block => Some(10),
         Label::Nest => Some(11),
@@ -35,7 +43,9 @@ fn number_of_simple(label: &Label) -> Option<u8> {
 }
 
 /// The number of a label of another statement that has nothing besides.
-fn number_of_statement(label: &Label) -> Option<u8> {
+fn number_of_statement(label: &Label) -> Option<u8>
+    ensures { result ≡ spec.number_of_statement label.now }
+{
     match label {
         Label::ForLocals => Some(20),
         Label::ForExprs => Some(21),
@@ -52,7 +62,9 @@ fn number_of_statement(label: &Label) -> Option<u8> {
 }
 
 /// The number of a label of an expression that has nothing besides.
-fn number_of_expression(label: &Label) -> Option<u8> {
+fn number_of_expression(label: &Label) -> Option<u8>
+    ensures { result ≡ spec.number_of_expression label.now }
+{
     match label {
         Label::Conditional => Some(30),
         Label::IsA => Some(31),
@@ -66,7 +78,9 @@ fn number_of_expression(label: &Label) -> Option<u8> {
     }
 }
 
-fn first_some(one: Option<u8>, other: Option<u8>) -> Option<u8> {
+fn first_some(one: Option<u8>, other: Option<u8>) -> Option<u8>
+    ensures { result ≡ spec.first_some one other }
+{
     match one {
         Some(number) => Some(number),
         None => other,
@@ -74,91 +88,67 @@ fn first_some(one: Option<u8>, other: Option<u8>) -> Option<u8> {
 }
 
 /// The number of a label that has nothing besides.
-fn number_of(label: &Label) -> Option<u8> {
+fn number_of(label: &Label) -> Option<u8>
+    ensures { result ≡ spec.number_of label.now }
+{
     first_some(
         first_some(number_of_declaration(label), number_of_simple(label)),
         first_some(number_of_statement(label), number_of_expression(label)),
     )
 }
 
-/// Equality of tokens.
-pub fn same_kind(one: &Kind, other: &Kind) -> bool {
-    match one {
-        Kind::Word(word) => match other {
-            Kind::Word(again) => *again == *word,
-            _ => false,
-        },
-        Kind::Ident(name) => match other {
-            Kind::Ident(again) => again.bytes() == name.bytes(),
-            _ => false,
-        },
-        Kind::Str(text) => match other {
-            Kind::Str(again) => again.units() == text.units(),
-            _ => false,
-        },
-        Kind::Sym(symbol) => match other {
-            Kind::Sym(again) => *again == *symbol,
-            _ => false,
-        },
-        _ => same_number(one, other),
-    }
+fn same_modifiers(one: Modifiers, other: Modifiers) -> bool
+    ensures { IsTrue result ↔ (one ≡ other) }
+{
+    one == other
 }
 
-fn same_number(one: &Kind, other: &Kind) -> bool {
-    match one {
-        Kind::Int(value) => match other {
-            Kind::Int(again) => *again == *value,
-            _ => false,
-        },
-        Kind::IntMin => matches!(other, Kind::IntMin),
-        Kind::Long(value) => match other {
-            Kind::Long(again) => *again == *value,
-            _ => false,
-        },
-        Kind::LongMin => matches!(other, Kind::LongMin),
-        Kind::Char(unit) => match other {
-            Kind::Char(again) => *again == *unit,
-            _ => false,
-        },
-        _ => false,
-    }
-}
-
-fn is_import(label: &Label, kind: ImportKind) -> bool {
+fn is_import(label: &Label, kind: ImportKind) -> bool
+    ensures { IsTrue result ↔ (label.now ≡ is.Import kind) }
+{
     match label {
         Label::Import { kind: again } => *again == kind,
         _ => false,
     }
 }
 
-fn is_class(label: &Label, modifiers: Modifiers, is_member: bool) -> bool {
+fn is_class(label: &Label, modifiers: Modifiers, is_member: bool) -> bool
+    ensures { IsTrue result ↔ (label.now ≡ is.Class modifiers is_member) }
+{
     match label {
         Label::Class {
             modifiers: again,
             is_member: inside,
-        } => *again == modifiers && *inside == is_member,
+        } => same_modifiers(*again, modifiers) && *inside == is_member,
         _ => false,
     }
 }
 
-fn is_interface(label: &Label, modifiers: Modifiers, is_member: bool) -> bool {
+fn is_interface(label: &Label, modifiers: Modifiers, is_member: bool) -> bool
+    ensures { IsTrue result ↔ (label.now ≡ is.Interface modifiers is_member) }
+{
     match label {
         Label::Interface {
             modifiers: again,
             is_member: inside,
-        } => *again == modifiers && *inside == is_member,
+        } => same_modifiers(*again, modifiers) && *inside == is_member,
         _ => false,
     }
 }
 
-fn is_empty(label: &Label, is_member: bool) -> bool {
+fn is_empty(label: &Label, is_member: bool) -> bool
+    ensures { IsTrue result ↔ (label.now ≡ is.EmptyDecl is_member) }
+{
     match label {
         Label::EmptyDecl { is_member: inside } => *inside == is_member,
         _ => false,
     }
 }
 
-fn same_type(one: &Label, other: &Label) -> bool {
+fn same_type(one: &Label, other: &Label) -> bool
+    ensures sound { IsTrue result → one.now ≡ other.now }
+    ensures whole { IsTrue (spec.is_type_like one.now) → one.now ≡ other.now → IsTrue result }
+{
     match one {
         Label::Import { kind } => is_import(other, *kind),
         Label::Class {
@@ -170,53 +160,66 @@ fn same_type(one: &Label, other: &Label) -> bool {
             is_member,
         } => is_interface(other, *modifiers, *is_member),
         Label::EmptyDecl { is_member } => is_empty(other, *is_member),
-        _ => same_member(one, other),
-    }
-}
-
-fn is_fields(label: &Label, modifiers: Modifiers) -> bool {
-    match label {
-        Label::Fields { modifiers: again } => *again == modifiers,
         _ => false,
     }
 }
 
-fn is_field(label: &Label, modifiers: Modifiers, dims: usize) -> bool {
+fn is_fields(label: &Label, modifiers: Modifiers) -> bool
+    ensures { IsTrue result ↔ (label.now ≡ is.Fields modifiers) }
+{
+    match label {
+        Label::Fields { modifiers: again } => same_modifiers(*again, modifiers),
+        _ => false,
+    }
+}
+
+fn is_field(label: &Label, modifiers: Modifiers, dims: usize) -> bool
+    ensures { IsTrue result ↔ (label.now ≡ is.Field modifiers dims) }
+{
     match label {
         Label::Field {
             modifiers: again,
             dims: count,
-        } => *again == modifiers && *count == dims,
+        } => same_modifiers(*again, modifiers) && *count == dims,
         _ => false,
     }
 }
 
-fn is_method(label: &Label, modifiers: Modifiers, is_void: bool, has_body: bool) -> bool {
+fn is_method(label: &Label, modifiers: Modifiers, is_void: bool, has_body: bool) -> bool
+    ensures { IsTrue result ↔ (label.now ≡ is.Method modifiers is_void has_body) }
+{
     match label {
         Label::Method {
             modifiers: again,
             is_void: void,
             has_body: body,
-        } => *again == modifiers && *void == is_void && *body == has_body,
+        } => same_modifiers(*again, modifiers) && *void == is_void && *body == has_body,
         _ => false,
     }
 }
 
-fn is_constructor(label: &Label, modifiers: Modifiers) -> bool {
+fn is_constructor(label: &Label, modifiers: Modifiers) -> bool
+    ensures { IsTrue result ↔ (label.now ≡ is.Constructor modifiers) }
+{
     match label {
-        Label::Constructor { modifiers: again } => *again == modifiers,
+        Label::Constructor { modifiers: again } => same_modifiers(*again, modifiers),
         _ => false,
     }
 }
 
-fn is_initializer(label: &Label, is_static: bool) -> bool {
+fn is_initializer(label: &Label, is_static: bool) -> bool
+    ensures { IsTrue result ↔ (label.now ≡ is.Initializer is_static) }
+{
     match label {
         Label::Initializer { is_static: again } => *again == is_static,
         _ => false,
     }
 }
 
-fn same_member(one: &Label, other: &Label) -> bool {
+fn same_member(one: &Label, other: &Label) -> bool
+    ensures sound { IsTrue result → one.now ≡ other.now }
+    ensures whole { IsTrue (spec.is_member_like one.now) → one.now ≡ other.now → IsTrue result }
+{
     match one {
         Label::Fields { modifiers } => is_fields(other, *modifiers),
         Label::Field { modifiers, dims } => is_field(other, *modifiers, *dims),
@@ -227,11 +230,13 @@ fn same_member(one: &Label, other: &Label) -> bool {
         } => is_method(other, *modifiers, *is_void, *has_body),
         Label::Constructor { modifiers } => is_constructor(other, *modifiers),
         Label::Initializer { is_static } => is_initializer(other, *is_static),
-        _ => same_variable(one, other),
+        _ => false,
     }
 }
 
-fn is_parameter(label: &Label, is_final: bool, dims: usize) -> bool {
+fn is_parameter(label: &Label, is_final: bool, dims: usize) -> bool
+    ensures { IsTrue result ↔ (label.now ≡ is.Parameter is_final dims) }
+{
     match label {
         Label::Parameter {
             is_final: again,
@@ -241,7 +246,9 @@ fn is_parameter(label: &Label, is_final: bool, dims: usize) -> bool {
     }
 }
 
-fn is_local(label: &Label, is_final: bool, dims: usize) -> bool {
+fn is_local(label: &Label, is_final: bool, dims: usize) -> bool
+    ensures { IsTrue result ↔ (label.now ≡ is.Local is_final dims) }
+{
     match label {
         Label::Local {
             is_final: again,
@@ -251,7 +258,10 @@ fn is_local(label: &Label, is_final: bool, dims: usize) -> bool {
     }
 }
 
-fn same_variable(one: &Label, other: &Label) -> bool {
+fn same_variable(one: &Label, other: &Label) -> bool
+    ensures sound { IsTrue result → one.now ≡ other.now }
+    ensures whole { IsTrue (spec.is_variable_like one.now) → one.now ≡ other.now → IsTrue result }
+{
     match one {
         Label::Parameter { is_final, dims } => is_parameter(other, *is_final, *dims),
         Label::Local { is_final, dims } => is_local(other, *is_final, *dims),
@@ -259,7 +269,9 @@ fn same_variable(one: &Label, other: &Label) -> bool {
     }
 }
 
-fn is_for(label: &Label, has_first: bool, has_condition: bool) -> bool {
+fn is_for(label: &Label, has_first: bool, has_condition: bool) -> bool
+    ensures { IsTrue result ↔ (label.now ≡ is.For has_first has_condition) }
+{
     match label {
         Label::For {
             has_first: first,
@@ -269,35 +281,46 @@ fn is_for(label: &Label, has_first: bool, has_condition: bool) -> bool {
     }
 }
 
-fn is_break(label: &Label, has_label: bool) -> bool {
+fn is_break(label: &Label, has_label: bool) -> bool
+    ensures { IsTrue result ↔ (label.now ≡ is.Break has_label) }
+{
     match label {
         Label::Break { has_label: again } => *again == has_label,
         _ => false,
     }
 }
 
-fn is_continue(label: &Label, has_label: bool) -> bool {
+fn is_continue(label: &Label, has_label: bool) -> bool
+    ensures { IsTrue result ↔ (label.now ≡ is.Continue has_label) }
+{
     match label {
         Label::Continue { has_label: again } => *again == has_label,
         _ => false,
     }
 }
 
-fn is_try(label: &Label, has_finally: bool) -> bool {
+fn is_try(label: &Label, has_finally: bool) -> bool
+    ensures { IsTrue result ↔ (label.now ≡ is.Try has_finally) }
+{
     match label {
         Label::Try { has_finally: again } => *again == has_finally,
         _ => false,
     }
 }
 
-fn is_constructor_call(label: &Label, which: ThisOrSuper) -> bool {
+fn is_constructor_call(label: &Label, which: ThisOrSuper) -> bool
+    ensures { IsTrue result ↔ (label.now ≡ is.ConstructorCall which) }
+{
     match label {
         Label::ConstructorCall { which: again } => *again == which,
         _ => false,
     }
 }
 
-fn same_statement(one: &Label, other: &Label) -> bool {
+fn same_statement(one: &Label, other: &Label) -> bool
+    ensures sound { IsTrue result → one.now ≡ other.now }
+    ensures whole { IsTrue (spec.is_statement_like one.now) → one.now ≡ other.now → IsTrue result }
+{
     match one {
         Label::For {
             has_first,
@@ -311,42 +334,55 @@ fn same_statement(one: &Label, other: &Label) -> bool {
     }
 }
 
-fn is_assign(label: &Label, op: Symbol) -> bool {
+fn is_assign(label: &Label, op: Symbol) -> bool
+    ensures { IsTrue result ↔ (label.now ≡ is.Assign op) }
+{
     match label {
         Label::Assign { op: again } => *again == op,
         _ => false,
     }
 }
 
-fn is_binary(label: &Label, op: Symbol) -> bool {
+fn is_binary(label: &Label, op: Symbol) -> bool
+    ensures { IsTrue result ↔ (label.now ≡ is.Binary op) }
+{
     match label {
         Label::Binary { op: again } => *again == op,
         _ => false,
     }
 }
 
-fn is_unary(label: &Label, op: Symbol) -> bool {
+fn is_unary(label: &Label, op: Symbol) -> bool
+    ensures { IsTrue result ↔ (label.now ≡ is.Unary op) }
+{
     match label {
         Label::Unary { op: again } => *again == op,
         _ => false,
     }
 }
 
-fn is_step_before(label: &Label, op: Symbol) -> bool {
+fn is_step_before(label: &Label, op: Symbol) -> bool
+    ensures { IsTrue result ↔ (label.now ≡ is.PreStep op) }
+{
     match label {
         Label::PreStep { op: again } => *again == op,
         _ => false,
     }
 }
 
-fn is_step_behind(label: &Label, op: Symbol) -> bool {
+fn is_step_behind(label: &Label, op: Symbol) -> bool
+    ensures { IsTrue result ↔ (label.now ≡ is.PostStep op) }
+{
     match label {
         Label::PostStep { op: again } => *again == op,
         _ => false,
     }
 }
 
-fn same_operation(one: &Label, other: &Label) -> bool {
+fn same_operation(one: &Label, other: &Label) -> bool
+    ensures sound { IsTrue result → one.now ≡ other.now }
+    ensures whole { IsTrue (spec.is_operation_like one.now) → one.now ≡ other.now → IsTrue result }
+{
     match one {
         Label::Assign { op } => is_assign(other, *op),
         Label::Binary { op } => is_binary(other, *op),
@@ -357,7 +393,9 @@ fn same_operation(one: &Label, other: &Label) -> bool {
     }
 }
 
-fn is_name(label: &Label, kind: NameKind, place: NamePlace, is_qualified: bool) -> bool {
+pub fn is_name(label: &Label, kind: NameKind, place: NamePlace, is_qualified: bool) -> bool
+    ensures { IsTrue result ↔ (label.now ≡ is.Name kind place is_qualified) }
+{
     match label {
         Label::Name {
             kind: again,
@@ -368,7 +406,9 @@ fn is_name(label: &Label, kind: NameKind, place: NamePlace, is_qualified: bool) 
     }
 }
 
-fn is_type_use(label: &Label, primitive: Option<Primitive>, dims: usize) -> bool {
+pub fn is_type_use(label: &Label, primitive: Option<Primitive>, dims: usize) -> bool
+    ensures { IsTrue result ↔ (label.now ≡ is.TypeUse primitive dims) }
+{
     match label {
         Label::TypeUse {
             primitive: again,
@@ -378,14 +418,18 @@ fn is_type_use(label: &Label, primitive: Option<Primitive>, dims: usize) -> bool
     }
 }
 
-fn is_literal(label: &Label, kind: &Kind) -> bool {
+fn is_literal(label: &Label, kind: &Kind) -> bool
+    ensures { IsTrue result ↔ (label.now ≡ is.Literal kind.now) }
+{
     match label {
         Label::Literal { kind: again } => same_kind(again, kind),
         _ => false,
     }
 }
 
-fn is_this(label: &Label, is_qualified: bool) -> bool {
+pub fn is_this(label: &Label, is_qualified: bool) -> bool
+    ensures { IsTrue result ↔ (label.now ≡ is.This is_qualified) }
+{
     match label {
         Label::This {
             is_qualified: again,
@@ -394,14 +438,18 @@ fn is_this(label: &Label, is_qualified: bool) -> bool {
     }
 }
 
-fn is_call(label: &Label, receiver: ReceiverKind) -> bool {
+pub fn is_call(label: &Label, receiver: ReceiverKind) -> bool
+    ensures { IsTrue result ↔ (label.now ≡ is.Call receiver) }
+{
     match label {
         Label::Call { receiver: again } => *again == receiver,
         _ => false,
     }
 }
 
-fn is_new_array(label: &Label, primitive: Option<Primitive>, lengths: usize, more: usize) -> bool {
+fn is_new_array(label: &Label, primitive: Option<Primitive>, lengths: usize, more: usize) -> bool
+    ensures { IsTrue result ↔ (label.now ≡ is.NewArray primitive lengths more) }
+{
     match label {
         Label::NewArray {
             primitive: again,
@@ -412,7 +460,10 @@ fn is_new_array(label: &Label, primitive: Option<Primitive>, lengths: usize, mor
     }
 }
 
-fn same_operand(one: &Label, other: &Label) -> bool {
+fn same_operand(one: &Label, other: &Label) -> bool
+    ensures sound { IsTrue result → one.now ≡ other.now }
+    ensures whole { IsTrue (spec.is_operand_like one.now) → one.now ≡ other.now → IsTrue result }
+{
     match one {
         Label::Name {
             kind,
@@ -432,15 +483,27 @@ fn same_operand(one: &Label, other: &Label) -> bool {
     }
 }
 
+// Equality of labels that have something besides.
+#[tactic(auto, using(crate::proofs::Numbered::is_some_like))]
+fn same_other(one: &Label, other: &Label) -> bool
+    requires { spec.number_of one.now ≡ None }
+    ensures { IsTrue result ↔ (one.now ≡ other.now) }
+{
+    same_type(one, other)
+        || same_member(one, other)
+        || same_variable(one, other)
+        || same_statement(one, other)
+        || same_operation(one, other)
+        || same_operand(one, other)
+}
+
 /// Equality of labels.
-pub fn same_label(one: &Label, other: &Label) -> bool {
+#[tactic(auto, using(crate::proofs::Numbered::numbered_are_same))]
+pub fn same_label(one: &Label, other: &Label) -> bool
+    ensures { IsTrue result ↔ (one.now ≡ other.now) }
+{
     match number_of(one) {
         Some(number) => number_of(other) == Some(number),
-        None => {
-            same_type(one, other)
-                || same_statement(one, other)
-                || same_operation(one, other)
-                || same_operand(one, other)
-        }
+        None => same_other(one, other),
     }
 }

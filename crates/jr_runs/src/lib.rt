@@ -2,11 +2,20 @@
 #![tactic(auto)]
 
 mod compare;
-mod items;
+mod equal;
+mod item;
+mod kinds;
 mod labels;
-mod layout;
+mod law;
 mod marking;
-mod run;
+mod placing;
+mod plan;
+mod shaping;
+mod suiting;
+mod turning;
+mod writing;
 
 pub use compare::first_difference;
-pub use labels::{same_kind, same_label};
+pub use kinds::same_kind;
+pub use labels::same_label;
+pub use law::locks_are_kept;

@@ -1,38 +1,216 @@
 // Which types stand above which (JLS 4.10.2).
+ghost use Rattle.std.specs.Prelude.{◌≡◌, ◌++◌, suc, flat_map, slice_set, IfOk, OnOk, Some, None, Decides};
+ghost use Rattle.jr_defs.specs.Referents.{Table};
+ghost use Rattle.jr_defs.specs.Supertypes.{Above as AboveIn};
+ghost use Rattle.jr_plain.specs.Headed.{IsHeaded};
+ghost use Rattle.jr_supers.specs.Above as tell;
+ghost use Rattle.jr_supers.specs.Direct.{supers_in};
 
+use crate::pairs::Pairs;
 use crate::supers::{Direct, entry_before};
 use jr_base::OutOfMemory;
 use jr_places::{is_interface, is_object};
 use jr_rows::Row;
-use jr_tables::{Chains, Entry};
 use std::alloc::Global;
 
 /// Where a type stands among those above it by first supertypes.
 #[derive(Clone, Copy, Debug, PartialEq, Eq)]
 pub struct Link {
     /// How many stand above it so.
-    depth: u32,
-    up: Option<u32>,
+    pub depth: u32,
+    pub up: Option<u32>,
     /// One of those above it so, or itself where there is none.
-    jump: u32,
+    pub jump: u32,
     /// The nearest type, from this one up, that has more supertypes than the one above it here.
-    branching: Option<u32>,
-    has_object: bool,
+    pub branching: Option<u32>,
+    pub has_object: bool,
 }
 
 /// The types above each type.
 #[derive(Drop)]
 pub struct Above {
-    links: Vec<Option<Link>>,
-    /// What stands above a type through its further supertypes, under the keys of both.
-    pairs: Chains,
-    /// The same, under the key of the type and 0.
-    further: Chains,
+    pub links: Vec<Option<Link>>,
+    /// A type and what stands above it through its further supertypes.
+    pub pairs: Pairs,
 }
 
-// The link of a type below one with this link: the jump goes as far as two equal jumps above it, or to the next.
-fn link_below(links: &[Option<Link>], up: u32, over: Link) -> Link {
-    let jump = match link_at(links, over.jump) {
+fn link_at(links: &[Option<Link>], at: u32) -> Option<Link>
+    ensures { result ≡ tell.link_at links.now at }
+{
+    match links.get(at as usize) {
+        Some(link) => *link,
+        None => None,
+    }
+}
+
+fn up_at(links: &[Option<Link>], at: u32) -> Option<u32>
+    ensures { result ≡ tell.up_at links.now at }
+{
+    match link_at(links, at) {
+        Some(link) => link.up,
+        None => None,
+    }
+}
+
+// How many types stand on the way up from a type by first supertypes.
+fn turns_from(links: &[Option<Link>], at: u32) -> usize
+    ensures { result ≡ suc (tell.depth_of (tell.link_at links.now at)) }
+{
+    match link_at(links, at) {
+        Some(link) => link.depth as usize + 1,
+        None => 1,
+    }
+}
+
+// The nearest type above that has further supertypes.
+fn branching_above(links: &[Option<Link>], at: u32) -> Option<u32>
+    ensures { result ≡ tell.branching_above links.now at }
+{
+    match up_at(links, at) {
+        Some(up) => match link_at(links, up) {
+            Some(link) => link.branching,
+            None => None,
+        },
+        None => None,
+    }
+}
+
+// One step up from a type with this link, by the jump where that is not too far.
+fn jump_up(here: u32, link: Link, far: Option<Link>, depth: u32) -> u32
+    ensures { result ≡ tell.jump_up depth here link far }
+{
+    match far {
+        Some(far) => {
+            if depth <= far.depth && far.depth < link.depth {
+                link.jump
+            } else {
+                link.up.unwrap_or(here)
+            }
+        }
+        None => link.up.unwrap_or(here),
+    }
+}
+
+// One step up, unless the type is no deeper.
+fn step_up(links: &[Option<Link>], here: u32, depth: u32) -> Option<u32>
+    ensures { result ≡ tell.step_up links.now depth here }
+{
+    match link_at(links, here) {
+        Some(link) => {
+            if link.depth <= depth {
+                None
+            } else {
+                Some(jump_up(here, link, link_at(links, link.jump), depth))
+            }
+        }
+        None => None,
+    }
+}
+
+// The type so deep above another by first supertypes.
+#[tactic(auto, using(crate::proofs::Walking::climb_more, crate::proofs::Walking::climb_stop, crate::proofs::Walking::climb_last))]
+fn at_depth(links: &[Option<Link>], at: u32, depth: u32) -> u32
+    ensures { result ≡ tell.at_depth links.now at depth }
+{
+    let turns = turns_from(links, at);
+    let mut here = at;
+    for _turn in 0..turns {
+        match step_up(links, here, depth) {
+            Some(over) => here = over,
+            None => return here,
+        }
+    }
+    here
+}
+
+// The one stands above the other by first supertypes.
+fn is_linked(links: &[Option<Link>], at: u32, low: Link, over: u32) -> bool
+    ensures { result ≡ tell.is_linked links.now at low over }
+{
+    match link_at(links, over) {
+        Some(high) => high.depth < low.depth && at_depth(links, at, high.depth) == over,
+        None => false,
+    }
+}
+
+// The one stands above the other through the further supertypes of that or of one above it.
+#[tactic(auto, using(crate::proofs::Walking::branched_found, crate::proofs::Walking::branched_none, crate::proofs::Walking::branched_last))]
+fn is_branched(links: &[Option<Link>], pairs: &Pairs, low: Link, over: u32) -> bool
+    ensures { result ≡ tell.is_branched links.now pairs.now low over }
+{
+    let mut branching = low.branching;
+    let turns = low.depth as usize + 1;
+    for _turn in 0..turns {
+        match branching {
+            Some(here) => {
+                if pairs.has(here, over) {
+                    return true;
+                }
+                branching = branching_above(links, here);
+            }
+            None => return false,
+        }
+    }
+    false
+}
+
+// Adds a type, and what stands above it through its further supertypes.
+fn add_uppers(alloc: Global, pairs: &Pairs, all: &mut Vec<u32>, at: u32) -> Result<(), OutOfMemory>
+    ensures { OnOk result (all.new.items ≡ all.old.items ++ tell.with_uppers pairs.now at) }
+{
+    all.push(at)?;
+    for over in &pairs.uppers(alloc, at)? {
+        all.push(*over)?;
+    }
+    Ok(())
+}
+
+// Adds a type and the types above it, but for Object above interfaces.
+#[tactic(auto, using(crate::proofs::Walking::added_none, crate::proofs::Walking::added_last))]
+fn add_above(
+    alloc: Global,
+    links: &[Option<Link>],
+    pairs: &Pairs,
+    all: &mut Vec<u32>,
+    at: u32,
+) -> Result<(), OutOfMemory>
+    ensures { OnOk result (all.new.items ≡ all.old.items ++ tell.at_or_above links.now pairs.now at) }
+{
+    let turns = turns_from(links, at);
+    let mut up = Some(at);
+    for _turn in 0..turns {
+        match up {
+            Some(here) => {
+                add_uppers(alloc, pairs, all, here)?;
+                up = up_at(links, here);
+            }
+            None => return Ok(()),
+        }
+    }
+    Ok(())
+}
+
+// The types in a list and those above them.
+fn all_above(
+    alloc: Global,
+    links: &[Option<Link>],
+    pairs: &Pairs,
+    lows: &[u32],
+) -> Result<Vec<u32>, OutOfMemory>
+    ensures { IfOk result (λ all. all.items ≡ flat_map (tell.at_or_above links.now pairs.now) lows.now) }
+{
+    let mut all = Vec::new(alloc);
+    for low in lows {
+        add_above(alloc, links, pairs, &mut all, *low)?;
+    }
+    Ok(all)
+}
+
+// Where the jump of a type ends that stands right below one with this link: as far as two equal jumps above that, or at that.
+fn jump_over(links: &[Option<Link>], up: u32, over: Link) -> u32
+    ensures { result ≡ tell.jump_over links.now up over }
+{
+    match link_at(links, over.jump) {
         Some(far) => match link_at(links, far.jump) {
             Some(farther) => {
                 if over.depth.saturating_sub(far.depth) == far.depth.saturating_sub(farther.depth) {
@@ -44,42 +222,192 @@ fn link_below(links: &[Option<Link>], up: u32, over: Link) -> Link {
             None => up,
         },
         None => up,
-    };
-    Link {
-        depth: over.depth.saturating_add(1),
-        up: Some(up),
-        jump,
-        branching: over.branching,
-        has_object: over.has_object,
     }
 }
 
-fn link_at(links: &[Option<Link>], at: u32) -> Option<Link> {
-    match links.get(at as usize) {
-        Some(link) => *link,
+fn top_link(at: u32, branches: bool, has_object: bool) -> Link
+    ensures { result ≡ tell.top_link at branches has_object }
+{
+    Link {
+        depth: 0,
+        up: None,
+        jump: at,
+        branching: if branches { Some(at) } else { None },
+        has_object,
+    }
+}
+
+// The link of a type by its first supertype.
+fn new_link(
+    links: &[Option<Link>],
+    at: u32,
+    branches: bool,
+    has_object: bool,
+    first: Option<u32>,
+) -> Result<Link, OutOfMemory>
+    ensures { IfOk result (λ link. link ≡ tell.new_link links.now at branches has_object first) }
+{
+    let Some(up) = first else {
+        return Ok(top_link(at, branches, has_object));
+    };
+    let Some(over) = link_at(links, up) else {
+        return Ok(top_link(at, branches, has_object));
+    };
+    let Some(depth) = over.depth.checked_add(1) else {
+        return Err(OutOfMemory);
+    };
+    Ok(Link {
+        depth,
+        up: Some(up),
+        jump: jump_over(links, up, over),
+        branching: if branches { Some(at) } else { over.branching },
+        has_object,
+    })
+}
+
+// The first of the supertypes, which stands last, where it is a type that is known.
+fn known_first(links: &[Option<Link>], supers: &[u32]) -> Option<u32>
+    ensures { result ≡ tell.known_first links.now supers.now }
+{
+    known_only(links, last_of(supers))
+}
+
+fn last_of(all: &[u32]) -> Option<u32>
+    ensures { result ≡ tell.last_from None all.now }
+{
+    let mut before = None;
+    for at in all {
+        before = Some(*at);
+    }
+    before
+}
+
+fn known_only(links: &[Option<Link>], at: Option<u32>) -> Option<u32>
+    ensures { result ≡ tell.known_only links.now at }
+{
+    match at {
+        Some(at) => match link_at(links, at) {
+            Some(_) => Some(at),
+            None => None,
+        },
         None => None,
     }
 }
 
-// Where a type stands whose first supertype is known, or none.
-fn link_of(links: &[Option<Link>], at: u32, first: Option<u32>) -> Link {
-    let top = Link {
-        depth: 0,
-        up: None,
-        jump: at,
-        branching: None,
-        has_object: false,
-    };
-    match first {
-        Some(up) => match link_at(links, up) {
-            Some(over) => link_below(links, up, over),
-            None => Link {
-                branching: Some(at),
-                ..top
-            },
-        },
-        None => top,
+fn push_item(all: &mut Vec<u32>, item: Option<u32>) -> Result<(), OutOfMemory>
+    ensures { OnOk result (all.new.items ≡ all.old.items ++ tell.item_list item) }
+{
+    match item {
+        Some(at) => {
+            all.push(at)?;
+            Ok(())
+        }
+        None => Ok(()),
     }
+}
+
+fn push_unknown(
+    all: &mut Vec<u32>,
+    links: &[Option<Link>],
+    item: Option<u32>,
+) -> Result<(), OutOfMemory>
+    ensures { OnOk result (all.new.items ≡ all.old.items ++ tell.unknown_list links.now item) }
+{
+    match item {
+        Some(at) => match link_at(links, at) {
+            Some(_) => Ok(()),
+            None => {
+                all.push(at)?;
+                Ok(())
+            }
+        },
+        None => Ok(()),
+    }
+}
+
+// The others.
+fn further(alloc: Global, links: &[Option<Link>], supers: &[u32]) -> Result<Vec<u32>, OutOfMemory>
+    ensures { IfOk result (λ all. all.items ≡ tell.further links.now supers.now) }
+{
+    let mut all = Vec::new(alloc);
+    let mut before = None;
+    for over in supers {
+        push_item(&mut all, before)?;
+        before = Some(*over);
+    }
+    push_unknown(&mut all, links, before)?;
+    Ok(all)
+}
+
+// Object is one of the supertypes, or above one.
+fn reach_object(rows: &[Row], links: &[Option<Link>], supers: &[u32]) -> bool
+    ensures { result ≡ tell.reach_object rows.now links.now supers.now }
+{
+    for over in supers {
+        if is_object(rows, *over) || has_object(links, *over) {
+            return true;
+        }
+    }
+    false
+}
+
+fn has_object(links: &[Option<Link>], at: u32) -> bool
+    ensures { result ≡ tell.object_of (tell.link_at links.now at) }
+{
+    match link_at(links, at) {
+        Some(link) => link.has_object,
+        None => false,
+    }
+}
+
+fn put(links: &mut Vec<Option<Link>>, at: u32, link: Link)
+    ensures { links.new.items ≡ slice_set links.old.items at (Some link) }
+{
+    if (at as usize) < links.len() {
+        links[at as usize] = Some(link);
+    }
+}
+
+// What stands above the further supertypes of a type, and these.
+fn highs_of(
+    alloc: Global,
+    links: &[Option<Link>],
+    pairs: &Pairs,
+    supers: &[u32],
+) -> Result<Vec<u32>, OutOfMemory>
+    ensures { IfOk result (λ all. all.items ≡ tell.highs_of links.now pairs.now supers.now) }
+{
+    let others = further(alloc, links, supers)?;
+    all_above(alloc, links, pairs, &others)
+}
+
+// The link of a type by its supertypes.
+fn link_for(
+    rows: &[Row],
+    links: &[Option<Link>],
+    at: u32,
+    supers: &[u32],
+    branches: bool,
+) -> Result<Link, OutOfMemory>
+    ensures { IfOk result (λ link. link ≡ tell.link_for rows.now links.now at supers.now branches) }
+{
+    let has_object = is_under_object(rows, links, at, supers);
+    let first = known_first(links, supers);
+    new_link(links, at, branches, has_object, first)
+}
+
+// Object stands above the type.
+fn is_under_object(rows: &[Row], links: &[Option<Link>], at: u32, supers: &[u32]) -> bool
+    ensures { result ≡ tell.is_under_object rows.now links.now at supers.now }
+{
+    is_interface(rows, at) || reach_object(rows, links, supers)
+}
+
+#[tactic(auto, using(crate::proofs::Keys::some_item_is))]
+fn has_items(all: &[u32]) -> bool
+    ensures { result ≡ tell.is_some_item all.now }
+{
+    !all.is_empty()
 }
 
 impl Above {
@@ -87,151 +415,68 @@ impl Above {
     pub fn nothing(alloc: Global) -> Above {
         Above {
             links: Vec::new(alloc),
-            pairs: Chains::new(alloc),
-            further: Chains::new(alloc),
+            pairs: Pairs::new(alloc),
         }
     }
 
     /// No types yet.
-    pub fn new(alloc: Global, rows: &[Row]) -> Result<Above, OutOfMemory> {
+    pub fn new(alloc: Global, rows: &[Row]) -> Result<Above, OutOfMemory>
+        ensures { IfOk result (λ above. tell.tables above ≡ tell.no_tables rows.now) }
+    {
         Ok(Above {
             links: vec![in alloc; None; rows.len()]?,
-            pairs: Chains::new(alloc),
-            further: Chains::new(alloc),
+            pairs: Pairs::new(alloc),
         })
-    }
-
-    fn link(&self, at: u32) -> Option<Link> {
-        link_at(&self.links, at)
     }
 
     /// The first supertype, where it is a type of its own.
-    pub fn first(&self, at: u32) -> Option<u32> {
-        self.link(at)?.up
+    pub fn first(&self, at: u32) -> Option<u32>
+        ensures { result ≡ tell.up_at self.now.links.items at }
+    {
+        up_at(&self.links, at)
     }
 
-    // One more type above another through its further supertypes.
-    fn push(self, at: u32, over: u32) -> Result<Above, OutOfMemory> {
-        if self.pairs.last(at, over).is_some() {
-            return Ok(self);
-        }
-        let Above {
-            links,
-            pairs,
-            further,
-        } = self;
-        let pairs = pairs.push(Entry {
-            first: at,
-            second: over,
-            row: over,
-        })?;
-        let further = further.push(Entry {
-            first: at,
-            second: 0,
-            row: over,
-        })?;
-        Ok(Above {
-            links,
-            pairs,
-            further,
-        })
-    }
-
-    // What stands above a type through its further supertypes, and so above another one too.
-    fn push_further(self, at: u32, over: u32) -> Result<Above, OutOfMemory> {
-        let mut above = self;
-        let mut place = above.further.last(over, 0);
-        for _turn in 0..above.further.len() {
-            let Some(here) = place else {
-                return Ok(above);
-            };
-            place = entry_before(&above.further, here);
-            if let Some(entry) = above.further.entry(here) {
-                above = above.push(at, entry.row)?;
+    /// One more type, behind its supertypes. A type that is there already stays as it is.
+    pub fn with_type(
+        self,
+        alloc: Global,
+        rows: &[Row],
+        direct: &Direct,
+        at: u32,
+    ) -> Result<Above, OutOfMemory>
+        ensures { IfOk result (λ above. tell.tables above ≡ tell.with_type rows.now (supers_in direct.now.supers at) at (tell.tables self)) }
+    {
+        match self.link(at) {
+            Some(_) => Ok(self),
+            None => {
+                let supers = direct.supers.rows(alloc, at, 0)?;
+                self.with_new(alloc, rows, &supers, at)
             }
         }
-        Ok(above)
     }
 
-    // A further supertype, and all that stands above it.
-    fn push_all(self, at: u32, over: u32) -> Result<Above, OutOfMemory> {
-        let mut above = self;
-        let mut up = Some(over);
-        for _turn in 0..above.links.len() {
-            let Some(here) = up else {
-                return Ok(above);
-            };
-            above = above.push(at, here)?;
-            above = above.push_further(at, here)?;
-            up = above.first(here);
-        }
-        Ok(above)
+    fn link(&self, at: u32) -> Option<Link>
+        ensures { result ≡ tell.link_at self.now.links.items at }
+    {
+        link_at(&self.links, at)
     }
 
-    // The supertypes of a type, from the last back; the first is its link.
-    fn push_supers(self, direct: &Direct, at: u32) -> Result<Above, OutOfMemory> {
-        let mut above = self;
-        let mut place = direct.supers.last(at, 0);
-        for _turn in 0..direct.supers.len() {
-            let Some(here) = place else {
-                return Ok(above);
-            };
-            place = entry_before(&direct.supers, here);
-            let over = match direct.supers.entry(here) {
-                Some(entry) => entry.row,
-                None => at,
-            };
-            if place.is_some() || above.link(over).is_none() {
-                above = above.push_all(at, over)?;
-            }
-        }
-        Ok(above)
-    }
-
-    // Object stands above the type.
-    fn reaches_object(&self, rows: &[Row], direct: &Direct, at: u32) -> bool {
-        if is_interface(rows, at) {
-            return true;
-        }
-        let mut place = direct.supers.last(at, 0);
-        for _turn in 0..direct.supers.len() {
-            let Some(here) = place else {
-                return false;
-            };
-            if let Some(entry) = direct.supers.entry(here) {
-                if is_object(rows, entry.row) {
-                    return true;
-                }
-                if let Some(link) = self.link(entry.row) {
-                    if link.has_object {
-                        return true;
-                    }
-                }
-            }
-            place = entry_before(&direct.supers, here);
-        }
-        false
-    }
-
-    /// One more type, behind its supertypes.
-    pub fn with_type(self, rows: &[Row], direct: &Direct, at: u32) -> Result<Above, OutOfMemory> {
-        let has_object = self.reaches_object(rows, direct, at);
-        let first = first_super(direct, at);
-        let link = link_of(&self.links, at, first);
-        let mut above = self.push_supers(direct, at)?;
-        let is_branching = above.further.last(at, 0).is_some();
-        if let Some(place) = above.links.get_mut(at as usize) {
-            *place = Some(Link {
-                has_object,
-                branching: if is_branching {
-                    Some(at)
-                } else {
-                    link.branching
-                },
-                ..link
-            });
-        }
-        Ok(above)
+    // One more type, with its supertypes from the last back.
+    fn with_new(
+        self,
+        alloc: Global,
+        rows: &[Row],
+        supers: &[u32],
+        at: u32,
+    ) -> Result<Above, OutOfMemory>
+        ensures { IfOk result (λ above. tell.tables above ≡ tell.with_new rows.now supers.now at (tell.tables self)) }
+    {
+        let Above { mut links, pairs } = self;
+        let highs = highs_of(alloc, &links, &pairs, supers)?;
+        let link = link_for(rows, &links, at, supers, has_items(&highs))?;
+        let pairs = pairs.add_all(at, &highs)?;
+        put(&mut links, at, link);
+        Ok(Above { links, pairs })
     }
 
     /// The types above the types in this order.
@@ -240,109 +485,43 @@ impl Above {
         rows: &[Row],
         direct: &Direct,
         order: &[u32],
-    ) -> Result<Above, OutOfMemory> {
+    ) -> Result<Above, OutOfMemory>
+        ensures { IfOk result (λ above. tell.tables above ≡ tell.with_types rows.now direct.now.supers (tell.no_tables rows.now) order.now) }
+    {
         let mut above = Above::new(alloc, rows)?;
         for at in order {
-            above = above.with_type(rows, direct, *at)?;
+            above = above.with_type(alloc, rows, direct, *at)?;
         }
         Ok(above)
     }
 
-    // The type so deep above another by first supertypes.
-    fn at_depth(&self, at: u32, low: Link, depth: u32) -> u32 {
-        let mut here = at;
-        let mut link = low;
-        for _turn in 0..low.depth {
-            if link.depth <= depth {
-                return here;
-            }
-            let next = match self.link(link.jump) {
-                Some(far) => {
-                    if far.depth >= depth && far.depth < link.depth {
-                        link.jump
-                    } else {
-                        link.up.unwrap_or(here)
-                    }
-                }
-                None => link.up.unwrap_or(here),
-            };
-            let Some(over) = self.link(next) else {
-                return here;
-            };
-            here = next;
-            link = over;
-        }
-        here
-    }
-
-    // The one stands above the other by first supertypes.
-    fn is_linked(&self, at: u32, low: Link, over: u32) -> bool {
-        match self.link(over) {
-            Some(high) => high.depth < low.depth && self.at_depth(at, low, high.depth) == over,
-            None => false,
-        }
-    }
-
-    // The one stands above the other through the further supertypes of that or of one above it.
-    fn is_branched(&self, low: Link, over: u32) -> bool {
-        let mut branching = low.branching;
-        for _turn in 0..=low.depth {
-            let Some(here) = branching else {
-                return false;
-            };
-            if self.pairs.last(here, over).is_some() {
-                return true;
-            }
-            branching = match self.first(here) {
-                Some(up) => match self.link(up) {
-                    Some(link) => link.branching,
-                    None => None,
-                },
-                None => None,
-            };
-        }
-        false
-    }
-
     /// The type `over` stands strictly above the type `at`.
-    pub fn is_above(&self, rows: &[Row], at: u32, over: u32) -> bool {
-        match self.link(at) {
+    pub fn is_above(&self, rows: &[Row], at: u32, over: u32) -> bool
+        ensures above { (t : Table) → IsHeaded rows.now → tell.HasNoOtherObject rows.now → tell.AreAllAbove rows.now t (tell.tables self.now) → Decides result (AboveIn rows.now t at over) }
+    {
+        self.is_above_by_tables(rows, at, over)
+    }
+
+    /// The same, as the tables have it.
+    pub fn is_above_by_tables(&self, rows: &[Row], at: u32, over: u32) -> bool
+        ensures { result ≡ tell.is_above_in rows.now (tell.tables self.now) at over }
+    {
+        match link_at(&self.links, at) {
             Some(low) => {
                 (low.has_object && is_object(rows, over))
-                    || self.is_linked(at, low, over)
-                    || self.is_branched(low, over)
+                    || is_linked(&self.links, at, low, over)
+                    || is_branched(&self.links, &self.pairs, low, over)
             }
             None => false,
         }
-    }
-
-    // Adds what stands above a type through its further supertypes.
-    fn add_further(&self, all: &mut Vec<u32>, at: u32) -> Result<(), OutOfMemory> {
-        let mut place = self.further.last(at, 0);
-        for _turn in 0..self.further.len() {
-            let Some(here) = place else {
-                return Ok(());
-            };
-            if let Some(entry) = self.further.entry(here) {
-                all.push(entry.row)?;
-            }
-            place = entry_before(&self.further, here);
-        }
-        Ok(())
     }
 
     /// A type and the types above it; some may stand there twice, and Object may be absent above an interface.
-    pub fn with_above(&self, alloc: Global, at: u32) -> Result<Vec<u32>, OutOfMemory> {
+    pub fn with_above(&self, alloc: Global, at: u32) -> Result<Vec<u32>, OutOfMemory>
+        ensures { IfOk result (λ all. all.items ≡ tell.at_or_above self.now.links.items self.now.pairs at) }
+    {
         let mut all = Vec::new(alloc);
-        let mut up = Some(at);
-        for _turn in 0..self.links.len() {
-            let Some(here) = up else {
-                return Ok(all);
-            };
-            all.push(here)?;
-            self.add_further(&mut all, here)?;
-            up = self.first(here);
-        }
+        add_above(alloc, &self.links, &self.pairs, &mut all, at)?;
         Ok(all)
     }
 }

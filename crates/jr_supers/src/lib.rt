@@ -2,6 +2,8 @@
 #![tactic(auto)]
 
 mod above;
+mod ordering;
+mod pairs;
 mod signatures;
 mod subtypes;
 mod supers;

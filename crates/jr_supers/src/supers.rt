@@ -1,10 +1,17 @@
 // The direct supertypes of each type, and an order in which supertypes come first (JLS 8.1.4, 8.1.5, 9.1.3).
 
-use crate::tabled::Tabled;
+ghost use Rattle.std.specs.Prelude.{◌≡◌, ◌+◌, ◌<◌, ◌^◌, ◌++◌, None, Some, IfOk, length, replicate, slice_index_or, slice_set};
+ghost use Rattle.jr_rows.specs.Rows.{label};
+ghost use Rattle.jr_defs.specs.Referents.{entries};
+ghost use Rattle.jr_plain.specs.Supertypes.{is_superclass_label};
+ghost use Rattle.jr_supers.specs.Direct as direct;
+
+use crate::tabled::{Tabled, referent_in};
 use jr_base::OutOfMemory;
+use jr_defs::Referent;
 use jr_places::{end_at, is_class, is_object, is_type, parent_at};
 use jr_rows::{Label, NamePlace, Row};
-use jr_tables::{Chains, Entry, Stamps};
+use jr_tables::{Chains, Entry};
 use std::alloc::Global;
 
 /// The place of a name in a header.
@@ -15,7 +22,9 @@ pub enum HeaderPlace {
 }
 
 /// Where a name in a header stands, if the row is the last identifier of one.
-pub fn header_place(rows: &[Row], at: u32) -> Option<HeaderPlace> {
+pub fn header_place(rows: &[Row], at: u32) -> Option<HeaderPlace>
+    ensures { result ≡ direct.header_place (label rows.now at) }
+{
     match rows.get(at as usize) {
         Some(row) => match row.label {
             Label::Name { place, .. } => match place {
@@ -29,23 +38,44 @@ pub fn header_place(rows: &[Row], at: u32) -> Option<HeaderPlace> {
     }
 }
 
+// The row is the last identifier of the name of a superclass.
+fn is_superclass_name(rows: &[Row], at: u32) -> bool
+    ensures { result ≡ is_superclass_label (label rows.now at) }
+{
+    match rows.get(at as usize) {
+        Some(row) => match row.label {
+            Label::Name { place, .. } => match place {
+                NamePlace::Superclass => true,
+                _ => false,
+            },
+            _ => false,
+        },
+        None => false,
+    }
+}
+
 /// The class names its superclass, which stands first below it.
-pub fn names_superclass(rows: &[Row], at: u32) -> bool {
+pub fn names_superclass(rows: &[Row], at: u32) -> bool
+    ensures { at + 1 < 2 ^ 32 → result ≡ direct.names_first rows.now at }
+{
     match at.checked_add(1) {
-        Some(next) => {
-            parent_at(rows, next) == at && header_place(rows, next) == Some(HeaderPlace::Superclass)
-        }
+        Some(next) => parent_at(rows, next) == at && is_superclass_name(rows, next),
         None => false,
     }
 }
 
 /// The class has Object as its superclass, since it names none.
-pub fn has_implied_superclass(rows: &[Row], at: u32) -> bool {
+pub fn has_implied_superclass(rows: &[Row], at: u32) -> bool
+    ensures { at + 1 < 2 ^ 32 → result ≡ direct.has_implied rows.now at }
+{
     is_class(rows, at) && !names_superclass(rows, at) && !is_object(rows, at)
 }
 
 /// The class Object, if there is one.
-pub fn find_object(rows: &[Row]) -> Option<u32> {
+#[tactic(auto, using(crate::proofs::Firsts::object_found))]
+pub fn find_object(rows: &[Row]) -> Option<u32>
+    ensures { length rows.now < 2 ^ 32 → result ≡ direct.object_row rows.now }
+{
     let Ok(count) = u32::try_from(rows.len()) else {
         return None;
     };
@@ -66,41 +96,128 @@ pub struct Direct {
     pub object: Option<u32>,
 }
 
-// What a row adds to the supertypes: Object for a class that names none, or what a name in a header refers to.
-fn super_at(under: Tabled, object: Option<u32>, at: u32) -> Option<(u32, u32)> {
-    if has_implied_superclass(under.rows, at) {
-        return Some((at, object?));
+fn super_entry(over: u32, row: u32) -> Entry
+    ensures { result ≡ direct.super_entry over row }
+{
+    Entry {
+        first: over,
+        second: 0,
+        row,
     }
-    match header_place(under.rows, at) {
-        Some(_) => Some((parent_at(under.rows, at), under.declared(at)?)),
+}
+
+fn implied_entry(at: u32, object: Option<u32>) -> Option<Entry>
+    ensures { result ≡ direct.implied_entry at object }
+{
+    match object {
+        Some(row) => Some(super_entry(at, row)),
         None => None,
     }
 }
 
-// The row adds a superclass.
-fn is_superclass_at(rows: &[Row], at: u32) -> bool {
-    is_class(rows, at) || header_place(rows, at) == Some(HeaderPlace::Superclass)
+fn declared_entry(at: u32, referent: Referent) -> Option<Entry>
+    ensures { result ≡ direct.declared_entry at referent }
+{
+    match referent {
+        Referent::Declared { row, .. } => Some(super_entry(at, row)),
+        _ => None,
+    }
 }
 
-// One more supertype.
-fn with_super(
-    supers: Chains,
-    superclasses: &mut Vec<Option<u32>>,
-    rows: &[Row],
-    at: u32,
-    over: u32,
-    row: u32,
-) -> Result<Chains, OutOfMemory> {
-    if is_superclass_at(rows, at) {
-        if let Some(place) = superclasses.get_mut(over as usize) {
-            *place = Some(row);
-        }
+// What a row adds to the supertypes: Object for a class that names none, or what a name in a header refers to.
+fn super_at(rows: &[Row], table: &[Referent], object: Option<u32>, at: u32) -> Option<Entry>
+    ensures { at + 1 < 2 ^ 32 → result ≡ direct.super_at rows.now (entries table.now) object at }
+{
+    if has_implied_superclass(rows, at) {
+        return implied_entry(at, object);
     }
-    supers.push(Entry {
-        first: over,
-        second: 0,
-        row,
-    })
+    match header_place(rows, at) {
+        Some(_) => declared_entry(parent_at(rows, at), referent_in(table, at)),
+        None => None,
+    }
+}
+
+fn push_entry(supers: Chains, entry: Option<Entry>) -> Result<Chains, OutOfMemory>
+    ensures { IfOk result (λ more. more ≡ supers ++ direct.entry_list entry) }
+{
+    match entry {
+        Some(entry) => supers.push(entry),
+        None => Ok(supers),
+    }
+}
+
+// The supertypes under a table, in the order of the rows.
+fn supers_under(
+    alloc: Global,
+    rows: &[Row],
+    table: &[Referent],
+    object: Option<u32>,
+) -> Result<Chains, OutOfMemory>
+    requires { length rows.now < 2 ^ 32 }
+    ensures { IfOk result (λ supers. supers ≡ direct.super_entries rows.now (entries table.now) object (length rows.now)) }
+{
+    let mut supers = Chains::new(alloc);
+    for at in 0..rows.len() {
+        let entry = super_at(rows, table, object, at as u32);
+        supers = push_entry(supers, entry)?;
+    }
+    Ok(supers)
+}
+
+// The row adds a superclass.
+fn is_superclass_at(rows: &[Row], at: u32) -> bool
+    ensures { result ≡ direct.is_superclass_at rows.now at }
+{
+    is_class(rows, at) || is_superclass_name(rows, at)
+}
+
+fn put_entry(all: &mut Vec<Option<u32>>, entry: Option<Entry>)
+    ensures { all.new.items ≡ direct.put_entry entry all.old.items }
+{
+    if let Some(entry) = entry {
+        put_row(all, entry.first, entry.row);
+    }
+}
+
+fn put_row(all: &mut Vec<Option<u32>>, at: u32, row: u32)
+    ensures { all.new.items ≡ slice_set all.old.items at (Some row) }
+{
+    if (at as usize) < all.len() {
+        all[at as usize] = Some(row);
+    }
+}
+
+// The superclass that a row adds.
+fn put_superclass(rows: &[Row], all: &mut Vec<Option<u32>>, at: u32, entry: Option<Entry>)
+    ensures { all.new.items ≡ direct.with_superclass rows.now at entry all.old.items }
+{
+    if is_superclass_at(rows, at) {
+        put_entry(all, entry);
+    }
+}
+
+fn no_superclasses(alloc: Global, rows: &[Row]) -> Result<Vec<Option<u32>>, OutOfMemory>
+    ensures { IfOk result (λ all. all.items ≡ replicate (length rows.now) None) }
+{
+    Ok(vec![in alloc; None; rows.len()]?)
+}
+
+// The superclass of each class under a table.
+fn superclasses_under(
+    alloc: Global,
+    rows: &[Row],
+    table: &[Referent],
+    object: Option<u32>,
+) -> Result<Vec<Option<u32>>, OutOfMemory>
+    requires { length rows.now < 2 ^ 32 }
+    ensures { IfOk result (λ all. all.items ≡ direct.superclass_list rows.now (entries table.now) object (length rows.now)) }
+{
+    let mut all = no_superclasses(alloc, rows)?;
+    for at in 0..rows.len() {
+        let entry = super_at(rows, table, object, at as u32);
+        put_superclass(rows, &mut all, at as u32, entry);
+    }
+    Ok(all)
 }
 
 impl Direct {
@@ -129,12 +246,9 @@ impl Direct {
             mut superclasses,
             object,
         } = self;
-        let supers = match super_at(under, object, at) {
-            Some((over, row)) => {
-                with_super(supers, &mut superclasses, under.rows, at, over, row)?
-            }
-            None => supers,
-        };
+        let entry = super_at(under.rows, under.table, object, at);
+        put_superclass(under.rows, &mut superclasses, at, entry);
+        let supers = push_entry(supers, entry)?;
         Ok(Direct {
             supers,
             superclasses,
@@ -157,18 +271,17 @@ impl Direct {
     }
 
     /// The direct supertypes under a table.
-    pub fn of(alloc: Global, under: Tabled) -> Result<Direct, OutOfMemory> {
-        let object = find_object(under.rows);
-        let mut supers = Chains::new(alloc);
-        let mut superclasses = vec![in alloc; None; under.rows.len()]?;
-        let Ok(count) = u32::try_from(under.rows.len()) else {
+    pub fn of(alloc: Global, under: Tabled) -> Result<Direct, OutOfMemory>
+        ensures supers { IfOk result (λ found. found.supers ≡ direct.super_entries under.entry.rows.now (entries under.entry.table.now) (direct.object_row under.entry.rows.now) (length under.entry.rows.now)) }
+        ensures superclasses { IfOk result (λ found. found.superclasses.items ≡ direct.superclass_list under.entry.rows.now (entries under.entry.table.now) (direct.object_row under.entry.rows.now) (length under.entry.rows.now)) }
+        ensures object { IfOk result (λ found. found.object ≡ direct.object_row under.entry.rows.now) }
+    {
+        if under.rows.len() >= u32::MAX as usize {
             return Err(OutOfMemory);
-        };
-        for at in 0..count {
-            if let Some((over, row)) = super_at(under, object, at) {
-                supers = with_super(supers, &mut superclasses, under.rows, at, over, row)?;
-            }
         }
+        let object = find_object(under.rows);
+        let supers = supers_under(alloc, under.rows, under.table, object)?;
+        let superclasses = superclasses_under(alloc, under.rows, under.table, object)?;
         Ok(Direct {
             supers,
             superclasses,
@@ -177,58 +290,12 @@ impl Direct {
     }
 
     /// The superclass of a class.
-    pub fn superclass(&self, at: u32) -> Option<u32> {
+    pub fn superclass(&self, at: u32) -> Option<u32>
+        ensures { result ≡ slice_index_or self.now.superclasses.items at None }
+    {
         match self.superclasses.get(at as usize) {
             Some(found) => *found,
             None => None,
-        }
-    }
-}
-
-// A type that is being ordered, and the place of its next supertype to look at.
-#[derive(Clone, Copy)]
-struct Open {
-    at: u32,
-    next: Option<u32>,
-}
-
-// The types in an order, so far.
-#[derive(Drop)]
-struct Ordering {
-    met: Stamps,
-    open: Vec<Open>,
-    order: Vec<u32>,
-}
-
-impl Ordering {
-    // Begins a type, unless it was met before.
-    fn begin(&mut self, rows: &[Row], direct: &Direct, at: u32) -> Result<(), OutOfMemory> {
-        if is_type(rows, at) && self.met.add(at) {
-            self.open.push(Open {
-                at,
-                next: direct.supers.last(at, 0),
-            })?;
-        }
-        Ok(())
-    }
-
-    // One supertype of the type that is open, or that type itself where it has no more.
-    fn step(&mut self, rows: &[Row], direct: &Direct, top: Open) -> Result<(), OutOfMemory> {
-        match top.next {
-            Some(place) => {
-                if let Some(over) = direct.supers.entry(place) {
-                    self.open.push(Open {
-                        at: top.at,
-                        next: entry_before(&direct.supers, place),
-                    })?;
-                    return self.begin(rows, direct, over.row);
-                }
-                Ok(())
-            }
-            None => {
-                self.order.push(top.at)?;
-                Ok(())
-            }
         }
     }
 }
@@ -240,39 +307,4 @@ pub fn entry_before(chains: &Chains, place: u32) -> Option<u32> {
     } else {
         None
     }
-}
-
-// Orders a type behind its supertypes.
-fn order_from(
-    rows: &[Row],
-    direct: &Direct,
-    ordering: &mut Ordering,
-    at: u32,
-    turns: usize,
-) -> Result<(), OutOfMemory> {
-    ordering.begin(rows, direct, at)?;
-    for _turn in 0..turns {
-        match ordering.open.pop() {
-            Some(top) => ordering.step(rows, direct, top)?,
-            None => return Ok(()),
-        }
-    }
-    Ok(())
-}
-
-/// The types, each behind its supertypes unless these are on a cycle.
-pub fn order_of(alloc: Global, rows: &[Row], direct: &Direct) -> Result<Vec<u32>, OutOfMemory> {
-    let Ok(count) = u32::try_from(rows.len()) else {
-        return Err(OutOfMemory);
-    };
-    let mut ordering = Ordering {
-        met: Stamps::new(alloc, rows.len())?,
-        open: Vec::new(alloc),
-        order: Vec::new(alloc),
-    };
-    let turns = rows.len().saturating_mul(2).saturating_add(1);
-    for at in 0..count {
-        order_from(rows, direct, &mut ordering, at, turns)?;
-    }
-    Ok(ordering.order)
 }

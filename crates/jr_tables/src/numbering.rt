@@ -1,4 +1,6 @@
 // Numbers of lists of numbers.
+ghost use Rattle.std.specs.Prelude.{◌≡◌, IfOk};
+ghost use Rattle.jr_tables.specs.Numbers.{number_in, IsNumbering, Adds};
 
 use jr_base::OutOfMemory;
 use std::alloc::Global;
@@ -16,7 +18,9 @@ impl Numbering {
     pub const EMPTY: u32 = 0;
 
     /// No list but the empty one has a number.
-    pub fn new(alloc: Global) -> Numbering {
+    pub fn new(alloc: Global) -> Numbering
+        ensures { IsNumbering result }
+    {
         Numbering {
             steps: HashMap::new(alloc),
             count: 0,
@@ -24,12 +28,16 @@ impl Numbering {
     }
 
     /// The number of a list with one item more, if it has one.
-    pub fn find(&self, list: u32, item: u32) -> Option<u32> {
+    pub fn find(&self, list: u32, item: u32) -> Option<u32>
+        ensures { result ≡ number_in self.now list item }
+    {
         self.steps.get(&(list, item)).copied()
     }
 
     /// The number of a list with one item more, which is a new one where it had none.
-    pub fn number(&mut self, list: u32, item: u32) -> Result<u32, OutOfMemory> {
+    pub fn number(&mut self, list: u32, item: u32) -> Result<u32, OutOfMemory>
+        ensures { IsNumbering self.old → IfOk result (λ number. Adds self.old self.new list item number) }
+    {
         if let Some(known) = self.find(list, item) {
             return Ok(known);
         }

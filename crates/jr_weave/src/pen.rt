@@ -1,11 +1,11 @@
 // The bytes that are written.
 
-use crate::forms::{push_package, suffix_rows};
 use jr_base::{OutOfMemory, Text};
 use jr_change::{Shape, Suffix, TypeName};
 use jr_defs::Element;
 use jr_places::name_at;
 use jr_rows::Row;
+use jr_shapes::{push_package, suffix_rows};
 use jr_supers::Tabled;
 use std::alloc::Global;
 
@@ -60,13 +60,13 @@ impl Pen {
     /// The package of the unit of a row.
     pub fn put_package(&mut self, under: &Tabled, of: u32) -> Result<(), OutOfMemory> {
         let mut names = Vec::new(self.alloc);
-        push_package(&mut names, under, of)?;
+        push_package(&mut names, under.rows, of)?;
         self.put_names(under.rows, &names)
     }
 
     /// The last identifiers of a type's name.
     fn put_suffix(&mut self, under: &Tabled, suffix: Suffix) -> Result<(), OutOfMemory> {
-        let names = suffix_rows(self.alloc, under, suffix)?;
+        let names = suffix_rows(self.alloc, under.rows, suffix)?;
         self.put_names(under.rows, &names)
     }
 

@@ -1,14 +1,12 @@
 // The places at which spellings change the texts of units.
 
-use crate::forms::{
-    argument_after, first_argument, has_own_identifier, is_atom, kept_rows, named_by, parts_end,
-    receiver_of,
-};
+use crate::forms::{first_argument, kept_rows, parts_end, receiver_of};
 use jr_base::{OutOfMemory, Span};
 use jr_change::{Project, Shape, Spelling};
 use jr_marks::Marks;
 use jr_places::name_at;
 use jr_rows::{Label, Row};
+use jr_shapes::{argument_after, has_own_identifier, is_atom, named_by};
 use jr_supers::Tabled;
 use std::alloc::Global;
 
@@ -156,7 +154,7 @@ impl<'a> Site<'a> {
     ) -> Result<(), OutOfMemory> {
         let names = kept_rows(self.alloc, self.under, spelling)?;
         let first = spelling.row.saturating_add(1);
-        let end = parts_end(self.under, spelling.row);
+        let end = parts_end(self.alloc, self.under, spelling.row)?;
         let package = types_end(self.under, first, end);
         let count = package.saturating_sub(first) as usize;
         let Some((types, left)) = names.as_slice().split_at_checked(count) else {
@@ -244,7 +242,7 @@ impl<'a> Site<'a> {
         if !has_own_identifier(self.rows(), spelling.row) {
             return Err(OutOfMemory);
         }
-        let first = parts_end(self.under, spelling.row).saturating_sub(1);
+        let first = parts_end(self.alloc, self.under, spelling.row)?.saturating_sub(1);
         let span = self.span_between(first, spelling.row)?;
         self.push(all, span, spelling.row, Wording::Shape)
     }
@@ -294,7 +292,7 @@ impl<'a> Site<'a> {
 
     /// The casts of arguments, of which there must be as many.
     fn push_casts(&self, all: &mut Vec<Piece>, spelling: &Spelling) -> Result<(), OutOfMemory> {
-        let mut next = first_argument(self.rows(), spelling.row);
+        let mut next = first_argument(self.under, spelling.row);
         for number in 0..spelling.casts.len() {
             let Some(argument) = next else {
                 return Err(OutOfMemory);

@@ -1,6 +1,5 @@
 // Edits of the texts of units by spellings.
 
-use crate::forms::named_by;
 use crate::pen::Pen;
 use crate::pieces::{Piece, Site, Wording};
 use jr_base::{OutOfMemory, Text};
@@ -8,6 +7,7 @@ use jr_change::{Project, Shape, Spelling, Suffix};
 use jr_defs::UnitAt;
 use jr_edits::Edits;
 use jr_places::name_at;
+use jr_shapes::named_by;
 use jr_supers::Tabled;
 use std::alloc::Global;
 

@@ -1,0 +1,3 @@
+pub mod Qualifiers
+pub mod Suffixes
+pub mod Pushes

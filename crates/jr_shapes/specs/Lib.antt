@@ -1,0 +1,3 @@
+pub mod Parts
+pub mod Arguments
+pub mod Names

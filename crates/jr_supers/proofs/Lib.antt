@@ -1,0 +1,16 @@
+pub mod Walking
+pub mod Keys
+pub mod Chained
+pub mod Telling
+pub mod Stepping
+pub mod Directs
+pub mod Firsts
+pub mod Ordered
+pub mod Built
+pub mod Subtyped
+pub mod Listing
+pub mod Listed
+pub mod Superclassed
+pub mod Written
+pub mod Signed
+pub mod Signing

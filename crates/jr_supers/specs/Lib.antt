@@ -1,0 +1,7 @@
+pub mod Pairs
+pub mod Above
+pub mod Direct
+pub mod Order
+pub mod Supers
+pub mod Tabled
+pub mod Signatures
