@@ -18,3 +18,4 @@ mod Values
 pub mod Lengths
 pub mod Undoing
 pub mod Beginning
+pub mod Returning

@@ -123,7 +123,7 @@ plan_is bytes es is = record {
   gate_is = λ _. refl;
 }
 
-news_held : (files : Image) (es : List PlainEntry) → AllByRecursion (HoldsNew files) es → AllByRecursion (λ e. files e.0 ≡ e.1) (new_sides es)
+pub news_held : (files : Image) (es : List PlainEntry) → AllByRecursion (HoldsNew files) es → AllByRecursion (λ e. files e.0 ≡ e.1) (new_sides es)
 news_held files [] all = tt
 news_held files ((path, old, None) ∷ es) all = news_held files es all.1
 news_held files ((path, old, Some new) ∷ es) all = (sym (same_Some new (files path) all.0), news_held files es all.1)

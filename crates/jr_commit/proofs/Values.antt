@@ -175,11 +175,11 @@ olds_at f old [] same java at = tt
 olds_at f old ((path, None, new) ∷ es) same java at = olds_at f old es same java.1 at.1
 olds_at f old ((path, Some side, new) ∷ es) same java at = (same path java.0 ∙ sym (same_Some side (finite.get old path) at.0), olds_at f old es same java.1 at.1)
 
-first_sides : (old new : FileMap) (es : List PlainEntry) → AllByRecursion (λ e. (e.1 ≡ Some (finite.get old e.0)) × (e.2 ≡ Some (finite.get new e.0)) × (e.1 ≢ e.2)) es → AllByRecursion (λ e. e.1 ≡ Some (finite.get old e.0)) es
+pub first_sides : (old new : FileMap) (es : List PlainEntry) → AllByRecursion (λ e. (e.1 ≡ Some (finite.get old e.0)) × (e.2 ≡ Some (finite.get new e.0)) × (e.1 ≢ e.2)) es → AllByRecursion (λ e. e.1 ≡ Some (finite.get old e.0)) es
 first_sides old new [] all = tt
 first_sides old new (e ∷ es) all = (all.0.0, first_sides old new es all.1)
 
-second_sides : (old new : FileMap) (es : List PlainEntry) → AllByRecursion (λ e. (e.1 ≡ Some (finite.get old e.0)) × (e.2 ≡ Some (finite.get new e.0)) × (e.1 ≢ e.2)) es → AllByRecursion (λ e. e.2 ≡ Some (finite.get new e.0)) es
+pub second_sides : (old new : FileMap) (es : List PlainEntry) → AllByRecursion (λ e. (e.1 ≡ Some (finite.get old e.0)) × (e.2 ≡ Some (finite.get new e.0)) × (e.1 ≢ e.2)) es → AllByRecursion (λ e. e.2 ≡ Some (finite.get new e.0)) es
 second_sides old new [] all = tt
 second_sides old new (e ∷ es) all = (all.0.1, second_sides old new es all.1)
 
@@ -192,7 +192,7 @@ gives_new old new steps is f same q java =
     ∙ back (new_sides es) f (image_of new) q (news_at (image_of new) new es (λ _. refl) (second_sides old new es diff.sides))
     (λ off. same q java ∙ diff.others q (subst (λ ps. IsNoneOf ps q) (names_news (pairs (finite.entries old) (finite.entries new))) off))
 
-read_again : (ps : List Pair) → length (spelling Two (changes ps)) ≤ 50331648 → journal_at (spelling Two (changes ps)) ≡ Some (Two, changes ps)
+pub read_again : (ps : List Pair) → length (spelling Two (changes ps)) ≤ 50331648 → journal_at (spelling Two (changes ps)) ≡ Some (Two, changes ps)
 read_again ps short =
     let es = changes ps in
     let a = length-append (magic Two) (number (length es) ++ (entries_text Two es ++ ending)) in

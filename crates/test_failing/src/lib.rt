@@ -1,0 +1,9 @@
+//! Tests of changes in which a call of the store fails, or which are stopped at one.
+#![tactic(auto)]
+
+#[cfg(test)]
+mod failing;
+#[cfg(test)]
+mod stops;
+#[cfg(test)]
+mod store;
