@@ -1,37 +1,19 @@
 // Files that the front accepts.
 
-ghost use Rattle.std.specs.Prelude.{◌≡◌, IsTrue, IfOk, IfErr, IfSome, Ok, Err, map};
+ghost use Rattle.std.specs.Prelude.{◌≡◌, IsTrue, IfSome, map};
 ghost use Rattle.std.specs.List.{AllByRecursion};
 ghost use Rattle.jr_base.specs.Files.{plain};
 ghost use Rattle.jr_base.specs.Paths.{is_java};
-ghost use Rattle.jr_front.specs.Checking.{CheckedAs};
-ghost use Rattle.jr_engine.specs.Planning.{IsAccepted};
+ghost use Rattle.jr_engine.specs.Steps.{IsOpened, IsRead, opened_by};
 
 use jr_base::{Files, Path};
 use jr_front::Workspace;
-use std::marker::Model;
 
-/// Files that the front accepts, and their program. Contracts see the files.
+/// Files that the front accepts, and their program.
 #[derive(Drop)]
 pub struct Left {
-    files: Files,
-    program: Workspace,
-}
-
-impl Model for Left {
-    ghost use Rattle.std.specs.Prelude.{ℕ};
-    ghost use Rattle.std.specs.FinMap as map;
-    ghost use Rattle.std.specs.Coded.{coded_ℕ, coded_list};
-    ghost use Rattle.jr_base.specs.Files.{FileMap};
-    ghost use Rattle.jr_engine.specs.Planning.{IsAccepted};
-
-    ghost Value = { FileMap };
-
-    ghost coded = { map.code (coded_list coded_ℕ) (coded_list coded_ℕ) };
-
-    ghost view = { λ left. left.files };
-
-    ghost invariant = { λ left. IsAccepted left.files };
+    pub files: Files,
+    pub program: Workspace,
 }
 
 // All paths end in `.java`.
@@ -49,36 +31,18 @@ fn are_java(files: &[(Path, Vec<u8>)]) -> bool
 }
 
 impl Left {
+    #[tactic(auto, using(crate::proofs::Stepping::opened_so))]
     /// The files that were opened; None where a path does not end in `.java`.
     pub fn of(files: Files, program: Workspace) -> Option<Left>
-        requires { CheckedAs files (Ok tt) }
-        ensures { IfSome result (λ left. left ≡ files) }
+        requires { IsRead files program }
+        ensures files { IfSome result (λ left. left.files ≡ files) }
+        ensures program { IfSome result (λ left. left.program ≡ program) }
+        ensures opened { IfSome result (λ left. IsOpened (opened_by left)) }
     {
         if are_java(files.entries()) {
             Some(Left { files, program })
         } else {
             None
         }
-    }
-
-    /// The program of the files.
-    pub fn program(&self) -> &Workspace {
-        &self.program
-    }
-
-    /// The files.
-    pub fn files(&self) -> &Files
-        ensures same { result.now ≡ self.now }
-        ensures accepted { IsAccepted result.now }
-    {
-        &self.files
-    }
-
-    /// The files alone.
-    pub fn into_files(self) -> Files
-        ensures same { result ≡ self }
-        ensures accepted { IsAccepted result }
-    {
-        self.files
     }
 }

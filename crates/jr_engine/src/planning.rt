@@ -2,7 +2,8 @@
 
 ghost use Rattle.std.specs.Prelude.{◌≡◌, IfOk, IfErr, Ok, [], ◌∷◌};
 ghost use Rattle.jr_base.specs.Files.{FileMap};
-ghost use Rattle.jr_engine.specs.Planning.{PlannedAs, RefusedAs, IsAccepted};
+ghost use Rattle.jr_engine.specs.Planning.{PlannedAs, RefusedAs};
+ghost use Rattle.jr_engine.specs.Steps.{IsOpened, IsStep, AreSteps, opened_by};
 
 use crate::fault::Refused;
 use crate::left::Left;
@@ -23,9 +24,10 @@ fn copied(alloc: Global, files: &Files) -> Result<Files, Refused>
 }
 
 // The files found with their program. A front that accepts a path without `.java` is answered for want of memory.
+#[tactic(auto, using(crate::proofs::Stepping::read_so))]
 fn opened(alloc: Global, files: &Files) -> Result<Left, Refused>
-    ensures ok { IfOk result (λ found. found ≡ files.now) }
-    ensures accepted { IfOk result (λ _. IsAccepted files.now) }
+    ensures same { IfOk result (λ found. found.files ≡ files.now) }
+    ensures opened { IfOk result (λ found. IsOpened (opened_by found)) }
     ensures err { IfErr result (λ refused. RefusedAs files.now refused.fault) }
 {
     let copy = copied(alloc, files)?;
@@ -40,26 +42,34 @@ fn opened(alloc: Global, files: &Files) -> Result<Left, Refused>
 
 // What the request of this number leaves of what is there.
 fn next(alloc: Global, now: Left, request: &Request, number: u32) -> Result<Left, Refused>
-    ensures { IfErr result (λ refused. (found : FileMap) → RefusedAs found refused.fault) }
+    requires { IsOpened (opened_by now) }
+    ensures opened { IfOk result (λ left. IsOpened (opened_by left)) }
+    ensures step { IfOk result (λ left. IsStep (opened_by now) request.now (opened_by left)) }
+    ensures err { IfErr result (λ refused. (found : FileMap) → RefusedAs found refused.fault) }
 {
-    match left_behind(alloc, now.program(), request, number)? {
+    match left_behind(alloc, &now.program, request, number)? {
         Some(left) => Ok(left),
         None => Ok(now),
     }
 }
 
 // What requests leave of what is there.
-fn left_by_all(alloc: Global, found: Left, requests: &[Request]) -> Result<Files, Refused>
-    ensures ok { IfOk result (λ left. IsAccepted left) }
+#[tactic(auto, using(crate::proofs::Stepping::at_first))]
+fn left_by_all(alloc: Global, found: Left, requests: &[Request]) -> Result<Left, Refused>
+    requires { IsOpened (opened_by found) }
+    ensures opened { IfOk result (λ left. IsOpened (opened_by left)) }
+    ensures steps { IfOk result (λ left. AreSteps (opened_by found) requests.now (opened_by left)) }
     ensures err { IfErr result (λ refused. (found : FileMap) → RefusedAs found refused.fault) }
 {
     let mut now = found;
+    let mut rest = requests;
     let mut number: u32 = 0;
-    for request in requests {
+    while let Some((request, after)) = rest.split_first() {
         number = number.saturating_add(1);
         now = next(alloc, now, request, number)?;
+        rest = after;
     }
-    Ok(now.into_files())
+    Ok(now)
 }
 
 /// The files that a request leaves. Where it changes nothing they are those found.
@@ -68,7 +78,7 @@ pub fn plan(alloc: Global, files: &Files, request: &Request) -> Result<Files, Re
 {
     let found = opened(alloc, files)?;
     match next(alloc, found, request, 0) {
-        Ok(left) => Ok(left.into_files()),
+        Ok(left) => Ok(left.files),
         Err(refused) => Err(refused),
     }
 }
@@ -79,7 +89,7 @@ pub fn plan_all(alloc: Global, files: &Files, requests: &[Request]) -> Result<Fi
 {
     let found = opened(alloc, files)?;
     match left_by_all(alloc, found, requests) {
-        Ok(left) => Ok(left),
+        Ok(left) => Ok(left.files),
         Err(refused) => Err(refused),
     }
 }

@@ -1,9 +1,10 @@
 // One request of a program.
 
-ghost use Rattle.std.specs.Prelude.{IfErr, Err};
+ghost use Rattle.std.specs.Prelude.{IfOk, IfErr, Err};
 ghost use Rattle.jr_base.specs.Files.{FileMap};
 ghost use Rattle.jr_front.specs.Checking.{CheckedAs};
 ghost use Rattle.jr_engine.specs.Planning.{RefusedAs};
+ghost use Rattle.jr_engine.specs.Steps.{LeftBy, IsFollowed};
 
 use crate::asked::{Asked, project_of};
 use crate::changes::change_of;
@@ -22,7 +23,9 @@ use jr_front::{FrontFault, Workspace};
 use std::alloc::Global;
 
 // What a change leaves.
-fn followed(alloc: Global, asked: Asked) -> Result<Left, StepFault> {
+fn followed(alloc: Global, asked: Asked) -> Result<Left, StepFault>
+    ensures { IfOk result (λ left. IsFollowed asked.entry.old.now asked.entry.request.now left) }
+{
     let locked = lock(alloc, asked)?;
     let spellings = spellings(alloc, asked, &locked)?;
     keeps_edges(alloc, asked, &locked)?;
@@ -140,7 +143,8 @@ fn left_by(
     change: &Change,
     request: u32,
 ) -> Result<Option<Left>, Refused>
-    ensures { IfErr result (λ refused. (found : FileMap) → RefusedAs found refused.fault) }
+    ensures ok { IfOk result (LeftBy old.now asked.now) }
+    ensures err { IfErr result (λ refused. (found : FileMap) → RefusedAs found refused.fault) }
 {
     if changes_nothing(old.program.units.as_slice(), change) {
         return Ok(None);
@@ -168,7 +172,8 @@ pub fn left_behind(
     asked: &Request,
     request: u32,
 ) -> Result<Option<Left>, Refused>
-    ensures { IfErr result (λ refused. (found : FileMap) → RefusedAs found refused.fault) }
+    ensures ok { IfOk result (LeftBy old.now asked.now) }
+    ensures err { IfErr result (λ refused. (found : FileMap) → RefusedAs found refused.fault) }
 {
     if let Err(fault) = is_within_flow(alloc, old) {
         return Err(refused_old(alloc, old, first_zero(request), fault));

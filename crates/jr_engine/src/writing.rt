@@ -3,6 +3,7 @@
 ghost use Rattle.std.specs.Prelude.{map, IfOk};
 ghost use Rattle.std.specs.List.{AllByRecursion};
 ghost use Rattle.jr_tree.specs.Shape.{IsShaped};
+ghost use Rattle.jr_engine.specs.Written.{IsLeftOf};
 
 use crate::asked::project_of;
 use crate::fault::StepFault;
@@ -128,12 +129,15 @@ fn keeps_types(spelled: Spelled, edits: &[Option<Edits>]) -> Result<(), StepFaul
 }
 
 // The files, if they are a program as it was to be written.
+#[tactic(auto, using(crate::proofs::Stepping::read_so, crate::proofs::Stepping::written_so))]
 fn left_as(
     alloc: Global,
     spelled: Spelled,
     edits: &[Option<Edits>],
     files: Files,
-) -> Result<Left, StepFault> {
+) -> Result<Left, StepFault>
+    ensures { IfOk result (λ left. IsLeftOf spelled.entry.locked.now left) }
+{
     match open_files(alloc, &files) {
         Ok(program) => {
             is_as_spelled(alloc, spelled, &program)?;
@@ -149,7 +153,9 @@ fn left_as(
 }
 
 /// The files that are left where references are written so, if they may be left.
-pub fn left_of(alloc: Global, spelled: Spelled) -> Result<Left, StepFault> {
+pub fn left_of(alloc: Global, spelled: Spelled) -> Result<Left, StepFault>
+    ensures { IfOk result (λ left. IsLeftOf spelled.entry.locked.now left) }
+{
     let locked = &spelled.locked.program;
     let edits = respelled(alloc, &project_of(locked), spelled.spellings)?;
     let texts = written_texts(alloc, locked.program.units.as_slice(), &edits)?;

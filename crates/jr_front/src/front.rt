@@ -2,6 +2,7 @@
 ghost use Rattle.std.specs.Prelude.{◌≡◌, IfErr, IfOk, Ok, map};
 ghost use Rattle.std.specs.List.{AllByRecursion};
 ghost use Rattle.jr_tree.specs.Shape.{IsShaped};
+ghost use Rattle.jr_defs.specs.Program.{rows_of};
 ghost use Rattle.jr_read.specs.Reading.{ReadsAs};
 ghost use Rattle.jr_front.specs.Checking.{CheckedAs, IsOfPrograms, forgotten};
 
@@ -13,7 +14,7 @@ use crate::unbound::first_unbound;
 use crate::workspace::Workspace;
 use jr_assign_faults::assign_faults;
 use jr_base::{Files, OutOfMemory};
-use jr_bind::{Binding, Bound, bind, boxed};
+use jr_bind::{Binding, Bound, bind};
 use jr_defs::{Program, Referent};
 use jr_flow_faults::flow_faults;
 use jr_index::Index;
@@ -27,6 +28,24 @@ use jr_rule::Fault;
 use jr_type_faults::type_faults;
 use jr_view::View;
 use std::alloc::Global;
+
+// What was made, in a box.
+fn boxed<T: Drop>(alloc: Global, made: Result<T, OutOfMemory>) -> Result<Box<T>, OutOfMemory>
+    ensures { IfOk result (λ all. made ≡ Ok all.value) }
+{
+    match made {
+        Ok(all) => Ok(Box::new(alloc, all)?),
+        Err(fault) => Err(fault),
+    }
+}
+
+// The rows of a program whose units are shaped.
+fn index_of(alloc: Global, program: &Program) -> Result<Box<Index>, OutOfMemory>
+    requires { AllByRecursion IsShaped (map (λ u. u.unit) program.now.units) }
+    ensures { IfOk result (λ index. index.value ≡ rows_of program.now) }
+{
+    boxed(alloc, Index::build(alloc, program))
+}
 
 // The rules that the program breaks.
 fn faults_of(alloc: Global, marks: &Marks, view: &View) -> Result<Vec<Fault>, OutOfMemory> {
@@ -122,6 +141,7 @@ fn bound_program(
     index: Box<Index>,
 ) -> Result<Workspace, FrontFault>
     ensures same { IfOk result (λ workspace. workspace.program ≡ program) }
+    ensures rows { IfOk result (λ workspace. workspace.index.value ≡ index.value) }
     ensures err { IfErr result IsOfPrograms }
 {
     let places = places_of(alloc, &Marks::of(&program, &index))?;
@@ -140,10 +160,11 @@ fn bound_program(
 pub fn open_program(alloc: Global, program: Program) -> Result<Workspace, FrontFault>
     requires { AllByRecursion IsShaped (map (λ u. u.unit) program.units) }
     ensures same { IfOk result (λ workspace. workspace.program ≡ program) }
+    ensures rows { IfOk result (λ workspace. workspace.index.value ≡ rows_of program) }
     ensures err { IfErr result IsOfPrograms }
 {
     judge_paths(&program)?;
-    let index = boxed(alloc, Index::build(alloc, &program))?;
+    let index = index_of(alloc, &program)?;
     let workspace = bound_program(alloc, program, index)?;
     judge(alloc, &workspace.marks(), &workspace.view())?;
     Ok(workspace)
@@ -153,6 +174,7 @@ pub fn open_program(alloc: Global, program: Program) -> Result<Workspace, FrontF
 #[tactic(auto, using(crate::proofs::Reading::read_shaped, crate::proofs::Reading::opened, crate::proofs::Reading::opened_program))]
 pub fn open_files(alloc: Global, files: &Files) -> Result<Workspace, FrontFault>
     ensures ok { IfOk result (λ workspace. ReadsAs files.now (Ok workspace.program)) }
+    ensures rows { IfOk result (λ workspace. workspace.index.value ≡ rows_of workspace.program) }
     ensures checked { CheckedAs files.now (forgotten result) }
 {
     match read(alloc, files) {

@@ -1,4 +1,8 @@
+use Rattle.jr_engine.proofs.Stepping.{planned_so}
 use Rattle.jr_engine.proofs.planning.plan_all.Goals as goal
 
 pub returns-in-Err : goal.returns-in-Err
 returns-in-Err c = c.in-Err.ensures.err c.args.files.now
+
+pub returns-in-Ok : goal.returns-in-Ok
+returns-in-Ok c = planned_so c.args.files.now c.in_ok-found.found c.in-Ok.left c.args.requests.now c.in_ok-found.ensures.same c.in_ok-found.ensures.opened c.in-Ok.ensures.opened c.in-Ok.ensures.steps

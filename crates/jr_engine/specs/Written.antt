@@ -1,0 +1,23 @@
+-- A changed program under its locks with its spellings, as the code holds it.
+use Rattle.jr_front.specs.declared.workspace.Workspace.{Workspace}
+use Rattle.jr_rows.specs.Rows.{Rows}
+use Rattle.jr_defs.specs.Referents.{Table, entries}
+use Rattle.jr_runs.specs.Respelled.{IsRespelled}
+use Rattle.jr_engine.specs.Steps.{IsWritten, rows_in, table_in, opened_by}
+use Rattle.jr_engine.specs.declared.left.Left.{Left}
+use Rattle.jr_engine.specs.declared.locked.Locked.{Locked}
+use Rattle.jr_engine.specs.declared.tried.Spelled.{Spelled}
+
+abbrev pub rows_of : Locked → Rows
+rows_of locked = rows_in locked.program
+
+abbrev pub locks_of : Locked → Table
+locks_of locked = entries locked.locks.table.items
+
+-- the new program is the changed one, written so
+abbrev pub IsSpelledIn : Spelled → Workspace → Type 0
+IsSpelledIn s new = IsRespelled (rows_of s.locked.now) (locks_of s.locked.now) s.spellings.now (rows_in new) (table_in new)
+
+-- the files left are the changed program
+abbrev pub IsLeftOf : Locked → Left → Type 0
+IsLeftOf locked left = IsWritten (rows_of locked) (locks_of locked) (opened_by left)
