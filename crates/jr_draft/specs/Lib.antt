@@ -1,2 +1,5 @@
 pub mod Drafting
 pub mod Asking
+pub mod Packages
+pub mod Ordering
+pub mod Parting

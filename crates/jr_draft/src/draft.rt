@@ -32,7 +32,7 @@ impl Model for Draft {
 
     ghost Value = { Drafted };
 
-    ghost view = { λ d. record { units = d.units.items; segments = d.segments.items; namings = d.namings.items; added = d.added.items } };
+    ghost view = { λ d. record { units = d.units.items; segments = d.segments.items; namings = d.namings.items; added = d.added.items; count = d.count } };
 }
 
 /// The row of a unit; behind the last unit that behind the last row.
@@ -68,7 +68,9 @@ impl Draft {
     }
 
     /// How many rows there are so far: the number of the next one.
-    pub fn rows(&self) -> u32 {
+    pub fn rows(&self) -> u32
+        ensures { result ≡ self.now.count }
+    {
         self.count
     }
 
@@ -84,14 +86,18 @@ impl Draft {
     }
 
     /// Adds a copy of one row with another label.
-    pub fn turned(&mut self, row: u32) -> Result<(), OutOfMemory> {
+    pub fn turned(&mut self, row: u32) -> Result<(), OutOfMemory>
+        ensures { OnOk result (self.new ≡ drafting.turned self.old row) }
+    {
         self.segments.push(Segment::Turned { row })?;
         self.count = self.count.saturating_add(1);
         Ok(())
     }
 
     /// Adds so many rows that come from no old row.
-    pub fn glue(&mut self, count: u32) -> Result<(), OutOfMemory> {
+    pub fn glue(&mut self, count: u32) -> Result<(), OutOfMemory>
+        ensures { OnOk result (self.new ≡ drafting.glued self.old count) }
+    {
         if count > 0 {
             self.segments.push(Segment::Glue { count })?;
             self.count = self.count.saturating_add(count);
@@ -100,7 +106,9 @@ impl Draft {
     }
 
     /// Adds a row that comes from no old row and must refer to this.
-    pub fn refer(&mut self, target: Target, level: Option<u32>) -> Result<(), OutOfMemory> {
+    pub fn refer(&mut self, target: Target, level: Option<u32>) -> Result<(), OutOfMemory>
+        ensures { OnOk result (self.new ≡ drafting.referred self.old target level) }
+    {
         self.added.push(Added {
             row: self.count,
             target,
@@ -110,7 +118,9 @@ impl Draft {
     }
 
     /// Gives old rows, as they rise, an identifier.
-    pub fn name(&mut self, naming: Naming) -> Result<(), OutOfMemory> {
+    pub fn name(&mut self, naming: Naming) -> Result<(), OutOfMemory>
+        ensures { OnOk result (self.new ≡ drafting.with_naming self.old naming) }
+    {
         self.namings.push(naming)?;
         Ok(())
     }
@@ -160,7 +170,7 @@ impl Draft {
 
     /// Adds an old unit as it is.
     pub fn keep(&mut self, alloc: Global, marks: &Marks, unit: u32) -> Result<(), OutOfMemory>
-        ensures { OnOk result (IsOrdered marks.now → unit < length marks.now.units.now → self.new ≡ drafting.kept marks.now unit self.old) }
+        ensures { OnOk result (IsOrdered marks.now → self.new ≡ drafting.kept marks.now unit self.old) }
     {
         self.add(path_of(alloc, marks, unit)?, UnitSource::Kept(unit))?;
         self.copy_unit(marks, unit)
@@ -180,10 +190,19 @@ impl Draft {
         Ok(())
     }
 
+    // Adds a unit as it is, but not its rows.
+    fn keep_text(&mut self, alloc: Global, marks: &Marks, unit: u32) -> Result<(), OutOfMemory>
+        ensures { OnOk result (self.new ≡ drafting.text_kept marks.now unit self.old) }
+    {
+        self.add(path_of(alloc, marks, unit)?, UnitSource::Kept(unit))
+    }
+
     // Adds all units as they are, but not their rows.
-    fn keep_texts(&mut self, alloc: Global, marks: &Marks) -> Result<(), OutOfMemory> {
+    fn keep_texts(&mut self, alloc: Global, marks: &Marks) -> Result<(), OutOfMemory>
+        ensures { OnOk result (IsOrdered marks.now → self.old ≡ drafting.nothing → self.new ≡ drafting.texts_kept marks.now (length marks.now.units.now)) }
+    {
         for unit in PRELUDE..count_units(marks) {
-            self.add(path_of(alloc, marks, unit)?, UnitSource::Kept(unit))?;
+            self.keep_text(alloc, marks, unit)?;
         }
         Ok(())
     }
@@ -212,7 +231,9 @@ impl Draft {
 }
 
 /// The change that keeps all.
-pub fn unchanged(alloc: Global, marks: &Marks) -> Result<Change, OutOfMemory> {
+pub fn unchanged(alloc: Global, marks: &Marks) -> Result<Change, OutOfMemory>
+    ensures { IfOk result (λ change. IsOrdered marks.now → drafting.IsFinished (drafting.unchanged marks.now) Course.Same change) }
+{
     let mut draft = Draft::empty(alloc);
     draft.keep_texts(alloc, marks)?;
     draft.copy(0, end_at(marks.rows, 0))?;

@@ -50,7 +50,7 @@ fn is_of_package(
     moved: u32,
     package: &[u8],
 ) -> Result<bool, OutOfMemory> {
-    let name = name_of_package(alloc, rows, head_round(rows, moved).package)?;
+    let name = name_of_package(alloc, rows, head_round(rows, moved).declared)?;
     Ok(name.as_slice() == package)
 }
 
@@ -87,7 +87,7 @@ fn replace_package(
     head: Head,
     package: &[u8],
 ) -> Result<(), ChangeFault> {
-    match head.package {
+    match head.declared {
         Some(declared) => {
             if package.is_empty() {
                 draft.replace(alloc, tokens_span(marks, declared), &[])
@@ -115,7 +115,7 @@ fn add_moved(
     draft.open(alloc, marks, marks.unit_of(head.unit), path.copy(alloc)?)?;
     replace_package(alloc, draft, marks, head, package)?;
     draft.copy(head.unit, head.unit.saturating_add(1))?;
-    add_package_rows(draft, package, head.package)?;
+    add_package_rows(draft, package, head.declared)?;
     draft.copy(head.imports, end_at(marks.rows, head.unit))?;
     Ok(())
 }
@@ -161,12 +161,14 @@ fn moved_apart(
     moved: u32,
     package: &[u8],
 ) -> Result<Change, ChangeFault> {
+    let span = extent(marks, moved);
     let leaving = Leaving {
         head: head_round(marks.rows, moved),
         row: moved,
         is_turned: false,
-        package,
-        declaration: part(unit_bytes(marks, moved), extent(marks, moved)),
+        named: package,
+        declaration: part(unit_bytes(marks, moved), span),
+        span,
     };
     leaving.to_own_file(alloc, marks)
 }

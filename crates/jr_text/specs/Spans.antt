@@ -1,5 +1,5 @@
 -- Where rows stand in the bytes of their units.
-use Rattle.std.specs.Prelude.{◌≡◌, ℕ, ◌-◌, ◌≤◌, ◌<◌, if◌then◌else◌, List, [], length, Option, Some, None, nat_eq, slice_get}
+use Rattle.std.specs.Prelude.{◌≡◌, ℕ, ◌-◌, ◌≤◌, ◌<◌, ◌&&◌, if◌then◌else◌, List, [], length, Option, Some, None, nat_eq, nat_le, slice_get, slice_range}
 use Rattle.jr_base.specs.declared.token.Span.{Span}
 use Rattle.jr_base.specs.declared.token.Token.{Token}
 use Rattle.jr_defs.specs.declared.program.UnitAt.{UnitAt}
@@ -13,6 +13,10 @@ bytes_by (Some unit) = unit.bytes
 -- the bytes of the unit of a row
 abbrev pub unit_bytes : Marks → ℕ → List ℕ
 unit_bytes m n = bytes_by (slice_get m.units.now (unit_of m n))
+
+-- the bytes of a span; none where it does not stand in the text
+abbrev pub part : List ℕ → Span → List ℕ
+part bytes span = if nat_le span.start span.end && nat_le span.end (length bytes) then slice_range bytes span.start span.end else []
 
 abbrev pub span_by : Option Token → Span
 span_by None = record { start = 0; end = 0 }

@@ -29,7 +29,8 @@ fn tokens_of<'p>(marks: &Marks<'p>, row: u32) -> &'p [Token]
 
 /// The bytes of a span; none where it does not stand in the text.
 pub fn part(bytes: &[u8], span: Span) -> &[u8]
-    ensures { length result.now ≤ span.end - span.start }
+    ensures short { length result.now ≤ span.end - span.start }
+    ensures exact { result.now ≡ spans.part bytes.now span }
 {
     let start = span.start as usize;
     let end = span.end as usize;
