@@ -9,6 +9,7 @@ use Rattle.jr_commit.specs.Restoring.{IsOpen, Restored, RestoresTo, SameFiles, S
 use Rattle.jr_commit.specs.SidesAt.{SideAt, with_sides, IsOff}
 use Rattle.jr_commit.proofs.Moments.{goes_further}
 use Rattle.jr_commit.proofs.Phases.{shut_image}
+use Rattle.jr_commit.proofs.Returning.{undoable_between}
 use Rattle.jr_engine.specs.Planning.{PlannedAs}
 use Rattle.jr_engine.specs.declared.fault.EngineFault.{EngineFault}
 use Rattle.jr_engine.specs.declared.fault.EngineFault.TheVariants as engine
@@ -67,7 +68,7 @@ changed_no_refusal : (p : Planned) (b : Status) (ps : Vec (List ℕ) Global) →
 changed_no_refusal p b ps is = cc
 
 -- an answer that is no change and no fault
-abbrev IsRefusal : Status → Type 0
+abbrev pub IsRefusal : Status → Type 0
 IsRefusal (Done report) = ⊥
 IsRefusal (StoreFault phase) = ⊥
 IsRefusal SinkFault = ⊥
@@ -92,7 +93,7 @@ front_refusal (front.Unbound place) = tt
 front_refusal (front.Broken rule place) = tt
 front_refusal front.OutOfMemory = tt
 
-engine_refusal : (request : ℕ) (why : EngineFault) → IsRefusal (answer_to request why)
+pub engine_refusal : (request : ℕ) (why : EngineFault) → IsRefusal (answer_to request why)
 engine_refusal request (engine.Front why) = front_refusal why
 engine_refusal request (engine.BadRequest reason) = tt
 engine_refusal request (engine.NoSpelling occ place lock) = tt
@@ -155,6 +156,7 @@ module _ (requests : List Request) (found left : FileMap) (plan : Planned) (plan
       counted = count ∙ ap length is.steps;
       files = λ q java. taken.files q java ∙ is.gives f held_as q java;
       journal = (taken.journal some).0 ∙ ap Some is.journal;
+      undoable = undoable_between found left plan.journal g (is.kept some) (taken.journal some).0 (λ q java. taken.files q java ∙ is.gives f held_as q java);
       gate = (taken.journal some).1;
       others = others_as g taken.others;
     }

@@ -15,3 +15,5 @@ mod Starts
 mod Accepted
 mod EngineAnswers
 mod Choosing
+mod Returns
+mod InTurn

@@ -46,11 +46,11 @@ abbrev IsNoUndo : Command → Type 0
 IsNoUndo Undo = ⊥
 IsNoUndo other = Unit {0}
 
-batch_or_not : (command : Command) → (command ≡ Batch) ⊎ (command ≡ Batch → ⊥)
+pub batch_or_not : (command : Command) → (command ≡ Batch) ⊎ (command ≡ Batch → ⊥)
 batch_or_not Batch = inl refl
 batch_or_not other = inr (λ same. subst IsNoBatch same tt)
 
-reading_or_not : (command : Command) → IsReading command ⊎ (IsReading command → ⊥)
+pub reading_or_not : (command : Command) → IsReading command ⊎ (IsReading command → ⊥)
 reading_or_not Check = inl tt
 reading_or_not (Run class steps) = inl tt
 reading_or_not (Refs file at) = inl tt
@@ -58,7 +58,7 @@ reading_or_not (Subtypes file at) = inl tt
 reading_or_not (Callers file at) = inl tt
 reading_or_not other = inr (λ reads. reads)
 
-undo_or_not : (command : Command) → (command ≡ Undo) ⊎ (command ≡ Undo → ⊥)
+pub undo_or_not : (command : Command) → (command ≡ Undo) ⊎ (command ≡ Undo → ⊥)
 undo_or_not Undo = inl refl
 undo_or_not other = inr (λ same. subst IsNoUndo same tt)
 

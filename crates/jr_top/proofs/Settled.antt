@@ -88,21 +88,24 @@ module _ (f : Image) (file old new : List ℕ) (plan : Planned) (holds : Holds f
     )
 
     pub committed : (g : Image) → IsTaken plan f g → IsCommitted file at name f g
-    committed g taken = record {
-      changed = record {
-        before = old;
-        after = new;
-        held = holds;
-        renamed = done;
-        differs = differs;
-        fits = fits;
-        there = taken.files file holds.only.0 ∙ ap (λ (h : Image). h file) after_is ∙ put_here file (Some new) f;
-        others = λ q java other. taken.files q java ∙ ap (λ (h : Image). h q) after_is ∙ put_off file (Some new) f q other;
-      };
-      journal = (taken.journal some_step).0 ∙ ap Some is.journal;
-      gate = (taken.journal some_step).1;
-      others = λ q other no_journal no_gate. taken.others q no_journal no_gate (off_one file old new plan is q other);
-    }
+    committed g taken =
+        let there : g file ≡ Some new = taken.files file holds.only.0 ∙ ap (λ (h : Image). h file) after_is ∙ put_here file (Some new) f in
+        record {
+          changed = record {
+            before = old;
+            after = new;
+            held = holds;
+            renamed = done;
+            differs = differs;
+            fits = fits;
+            there = there;
+            others = λ q java other. taken.files q java ∙ ap (λ (h : Image). h q) after_is ∙ put_off file (Some new) f q other;
+          };
+          journal = (taken.journal some_step).0 ∙ ap Some is.journal;
+          undoable = record { journal = (plan.journal, (taken.journal some_step).0, is.kept); holds = (ap Some (sym there), tt) };
+          gate = (taken.journal some_step).1;
+          others = λ q other no_journal no_gate. taken.others q no_journal no_gate (off_one file old new plan is q other);
+        }
 
     -- what is left by a change that is done stands for it
     pub stands_committed : (words : List (List ℕ)) (r g : Image) → AsksRename words file at name → SameFiles f r → IsTaken plan f g → (IsOpen g → ⊥) → StandsForChange words r g

@@ -3,10 +3,12 @@ use Rattle.std.specs.Prelude.{◌≡◌, ◌≢◌, ℕ, ◌<◌, ◌≤◌, Lis
 use Rattle.std.specs.Global.{Vec}
 use Rattle.std.specs.List.{AllByRecursion}
 use Rattle.jr_base.specs.Paths.{is_java}
-use Rattle.jr_commit.specs.Journal.{spelling, PutsBack}
+use Rattle.jr_commit.specs.Entries.{PlainEntry}
+use Rattle.jr_commit.specs.Journal.{spelling, IsIn, PutsBack}
 use Rattle.jr_commit.specs.Planned.{Planned}
 use Rattle.jr_commit.specs.Restoring.{journal_path, gate_path}
 use Rattle.jr_commit.specs.SidesAt.{SideAt}
+use Rattle.jr_commit.specs.Undoing.{IsUndoable}
 use Rattle.jr_commit.specs.declared.entry.Version.TheVariants.{Two}
 use Rattle.jr_store.specs.Image.{Image}
 use Rattle.jr_thin.specs.Renaming.{IsDone}
@@ -27,23 +29,29 @@ pub record IsChanged (file : List ℕ) (at : ℕ) (name : List ℕ) (old new : I
 abbrev pub IsTooLong : List ℕ → ℕ → List ℕ → Type 0
 IsTooLong old at name = (new : Vec ℕ) × IsDone old at name new.items × (1048576 < length new.items)
 
+-- the entry of the change of one file, alone
+abbrev pub entry_of : List ℕ → List ℕ → List ℕ → List PlainEntry
+entry_of file before after = (file, Some (Some before), Some (Some after)) ∷ []
+
 -- the journal of the change of one file, in version 2
 abbrev pub journal_of : List ℕ → List ℕ → List ℕ → List ℕ
-journal_of file before after = spelling Two ((file, Some (Some before), Some (Some after)) ∷ [])
+journal_of file before after = spelling Two (entry_of file before after)
 
 -- old and new differ at the file, the journal and the gate at most
 abbrev pub MayChange : List ℕ → Image → Image → Type 0
 MayChange file old new = (q : List ℕ) → q ≢ file → q ≢ journal_path → q ≢ gate_path → new q ≡ old q
 
--- The file is changed, the journal is that of the change, the gate is closed, and nothing else has changed.
+-- The file is changed, the journal is that of the change, which can be taken back, the gate is closed, and nothing else has changed.
 pub record IsCommitted (file : List ℕ) (at : ℕ) (name : List ℕ) (old new : Image) : Type 0 where
   pub changed : IsChanged file at name old new
   pub journal : new journal_path ≡ Some (journal_of file changed.before changed.after)
+  pub undoable : IsUndoable new (entry_of file changed.before changed.after)
   pub gate : new gate_path ≡ None
   pub others : MayChange file old new
 
--- The plan writes the one file, and its journal is that of the change. Where the file is held, so is each old side.
+-- The plan writes the one file, and its journal is that of the change, in the grammar. Where the file is held, so is each old side.
 pub record IsPlanOf (file before after : List ℕ) (plan : Planned) : Type 0 where
   pub steps : plan.steps ≡ (file, Some after) ∷ []
   pub journal : plan.journal ≡ journal_of file before after
+  pub kept : IsIn Two plan.journal (entry_of file before after)
   pub olds : (files : Image) → Holds files file before → (olds : List SideAt) → PutsBack plan.journal olds → AllByRecursion (λ e. files e.0 ≡ e.1) olds

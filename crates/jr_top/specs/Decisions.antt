@@ -9,7 +9,7 @@ use Rattle.jr_base.specs.declared.request.Request.{Request}
 use Rattle.jr_base.specs.declared.request.Request.TheVariants.{Rename}
 use Rattle.jr_batch.specs.Input.{ForInput, IsInputAnswer}
 use Rattle.jr_commit.specs.Differences.{differences}
-use Rattle.jr_commit.specs.Journal.{spelling, new_sides, PutsBack}
+use Rattle.jr_commit.specs.Journal.{spelling, new_sides, IsIn, PutsBack}
 use Rattle.jr_commit.specs.Planned.{Planned}
 use Rattle.jr_commit.specs.Restoring.{SameFiles}
 use Rattle.jr_commit.specs.SidesAt.{SideAt, with_sides}
@@ -110,10 +110,11 @@ DecidesCommand other told before after decision = (decision ≡ Answer NotYet) �
 abbrev pub Decides : List (List ℕ) → Option Image → ℕ → ℕ → Decision → Type 0
 Decides words told before after decision = (command : Command) × (command_of words ≡ Some command) × DecidesCommand command told before after decision
 
--- The plan makes the files left of those found: its steps and its journal are those of their differences.
+-- The plan makes the files left of those found: its steps and its journal are those of their differences, and the journal is in the grammar where there is a step.
 pub record IsPlanFor (found left : FileMap) (plan : Planned) : Type 0 where
   pub journal : plan.journal ≡ spelling Two (differences found left)
   pub steps : plan.steps ≡ new_sides (differences found left)
+  pub kept : plan.steps ≢ [] → IsIn Two plan.journal (differences found left)
   pub gives : (f : Image) → SameFiles f (image_of found) → SameFiles (with_sides plan.steps f) (image_of left)
   pub olds : (f : Image) → SameFiles f (image_of found) → (olds : List SideAt) → PutsBack plan.journal olds → AllByRecursion (λ e. f e.0 ≡ e.1) olds
 

@@ -10,6 +10,7 @@ use Rattle.jr_commit.specs.Differences.{differences}
 use Rattle.jr_commit.specs.Journal.{spelling, new_sides}
 use Rattle.jr_commit.specs.Restoring.{journal_path, gate_path, RestoresTo, SameFiles}
 use Rattle.jr_commit.specs.SidesAt.{IsOff}
+use Rattle.jr_commit.specs.Undoing.{IsUndoable}
 use Rattle.jr_commit.specs.declared.entry.Version.TheVariants.{Two}
 use Rattle.jr_engine.specs.Planning.{PlannedAs}
 use Rattle.jr_engine.specs.declared.fault.EngineFault.{EngineFault}
@@ -83,7 +84,7 @@ abbrev pub MayReplace : FileMap → FileMap → Image → Image → Type 0
 MayReplace found left old new = (q : List ℕ) → IsOff (new_sides (differences found left)) q → q ≢ journal_path → q ≢ gate_path → new q ≡ old q
 
 -- The files left are those that the engine made of the files found, as many differ as is answered, and no other path has changed. The journal is that of
--- the change, and the gate is closed.
+-- the change, which can be taken back, and the gate is closed.
 pub record IsReplaced (requests : List Request) (count : ℕ) (old new : Image) : Type 0 where
   pub found : FileMap
   pub left : FileMap
@@ -92,6 +93,7 @@ pub record IsReplaced (requests : List Request) (count : ℕ) (old new : Image) 
   pub counted : count ≡ length (new_sides (differences found left))
   pub files : SameFiles new (image_of left)
   pub journal : new journal_path ≡ Some (spelling Two (differences found left))
+  pub undoable : IsUndoable new (differences found left)
   pub gate : new gate_path ≡ None
   pub others : MayReplace found left old new
 

@@ -73,6 +73,14 @@ IsUndoAnswer found left (Done (Changed files)) = (es : List PlainEntry) × IsUnd
 IsUndoAnswer found left (NoUndo reason path) = IsNotUndoable found reason path × Tells (Some found) left (λ old new. SameFiles new old)
 IsUndoAnswer found left other = ⊥
 
+-- neither the files nor the journal have changed
+abbrev pub IsKept : Image → Image → Type 0
+IsKept before after = SameFiles after before × (after journal_path ≡ before journal_path)
+
+-- the answer is done, with so many files, and the files left are the old ones
+abbrev pub GivesBack : ℕ → Image → Option Image → Status → Type 0
+GivesBack count old left said = (said ≡ Done (Changed count)) × Tells (Some old) left (λ was now. SameFiles now was)
+
 -- the answer where there is no plan
 abbrev pub no_undo : UndoFault → Status
 no_undo fault.Failed = StoreFault Reading

@@ -93,6 +93,7 @@ fn plan_of(alloc: Global, path: &Path, old: Vec<u8>, new: Vec<u8>) -> Result<Pla
     let after = one_file(alloc, path, new)?;
     journal_fits(&before, &after);
     let plan = Plan::new(alloc, &before, &after)?;
+    let _journal = &plan.journal;
     Ok(plan)
 }
 

@@ -117,6 +117,7 @@ fn plan_between(alloc: Global, found: &Files, left: &Files) -> Result<Plan, OutO
 {
     journal_fits(found, left);
     let plan = Plan::new(alloc, found, left)?;
+    let _journal = &plan.journal;
     Ok(plan)
 }
 

@@ -14,4 +14,4 @@ mod undo;
 
 pub use status::{Edge, EdgeKind, NotCompiling, Phase, Report, Side, Status};
 pub use top::refactor;
-pub use turns::in_turn;
+pub use turns::{an_undo_gives_back_what_was, in_turn};
