@@ -10,8 +10,13 @@ use Rattle.jr_read.specs.Reading.{ReadsAs}
 use Rattle.jr_front.specs.Checking.{accepted}
 use Rattle.jr_front.specs.declared.workspace.Workspace.{Workspace}
 use Rattle.jr_engine.specs.Planning.{IsAccepted, PlannedAs}
-use Rattle.jr_engine.specs.Steps.{Opened, IsOpened, IsRead, IsStep, stays, leaves, AreSteps, none, more, IsFollowed, opened, opened_by, rows_in}
-use Rattle.jr_engine.specs.Written.{IsSpelledIn, IsLeftOf}
+use Rattle.jr_engine.specs.Steps.{Opened, IsOpened, IsRead, IsStep, stays, leaves, AreSteps, none, more, IsFollowed, opened, opened_by, rows_in, table_in}
+use Rattle.jr_rows.specs.Rows.{Rows}
+use Rattle.jr_defs.specs.Referents.{entries}
+use Rattle.jr_change.specs.declared.project.Locks.{Locks}
+use Rattle.jr_locks.specs.Changed.{IsChanged}
+use Rattle.jr_engine.specs.Written.{IsSpelledIn, IsLeftOf, IsLockedBy, rows_of as rows_under, locks_of}
+use Rattle.jr_engine.specs.declared.asked.Asked.{Asked}
 use Rattle.jr_engine.specs.declared.fault.StepFault.{StepFault}
 use Rattle.jr_engine.specs.declared.left.Left.{Left}
 use Rattle.jr_engine.specs.declared.locked.Locked.{Locked}
@@ -29,13 +34,23 @@ accepted_so o is = record { checked = accepted is.reads; java = is.java }
 pub written_so : (s : Spelled) (left : Left) (w : Workspace) → left.program ≡ w → IsOpened (opened_by left) → IsSpelledIn s w → IsLeftOf s.locked.now left
 written_so s left w same is spelled = record { opened = is; spellings = s.spellings.now; respelled = subst (λ (v : Workspace). IsSpelledIn s v) (sym same) spelled }
 
-followed : (old : Workspace) (request : Request) (locked : Locked) (left : Left) → IsLeftOf locked left → IsFollowed old request left
-followed old request locked left is = record { ends = is.opened; step = λ files. leaves is }
+followed : (asked : Asked) (locked : Locked) (left : Left) → IsLockedBy asked locked → IsLeftOf locked left → IsFollowed asked.old.now asked.request.now left
+followed asked locked left by is = record { ends = is.opened; step = λ files. leaves asked.change.now by is }
 
-pub followed_so : (old : Workspace) (request : Request) (locked : Locked) (result : Result Left StepFault) → IfOk result (λ left. IsLeftOf locked left)
-    → IfOk result (λ left. IsFollowed old request left)
-followed_so old request locked (Ok left) is = followed old request locked left is
-followed_so old request locked (Err why) is = tt
+pub followed_so : (asked : Asked) (locked : Locked) (result : Result Left StepFault) → IsLockedBy asked locked → IfOk result (λ left. IsLeftOf locked left)
+    → IfOk result (λ left. IsFollowed asked.old.now asked.request.now left)
+followed_so asked locked (Ok left) by is = followed asked locked left by is
+followed_so asked locked (Err why) by is = tt
+
+pub locked_so : (asked : Asked) (locked : Locked) (rows : Rows) (locks : Locks) → IsChanged (rows_in asked.old.now) (table_in asked.old.now) asked.change.now rows (entries locks.table.items)
+    → rows_under locked ≡ rows → locked.locks ≡ locks → IsLockedBy asked locked
+locked_so asked locked rows locks h same kept = subst (λ (r : Rows). IsChanged (rows_in asked.old.now) (table_in asked.old.now) asked.change.now r (locks_of locked)) (sym same)
+    (subst (λ (l : Locks). IsChanged (rows_in asked.old.now) (table_in asked.old.now) asked.change.now rows (entries l.table.items)) (sym kept) h)
+
+pub locked_result : (asked : Asked) (rows : Rows) (locks : Locks) (result : Result Locked StepFault) → IsChanged (rows_in asked.old.now) (table_in asked.old.now) asked.change.now rows (entries locks.table.items)
+    → IfOk result (λ locked. locked.program.index.value ≡ rows) → IfOk result (λ locked. locked.locks ≡ locks) → IfOk result (IsLockedBy asked)
+locked_result asked rows locks (Ok locked) h same kept = locked_so asked locked rows locks h same kept
+locked_result asked rows locks (Err why) h same kept = tt
 
 -- ---- steps one after another
 

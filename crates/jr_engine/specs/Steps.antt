@@ -10,6 +10,8 @@ use Rattle.jr_defs.specs.Program.{rows_of}
 use Rattle.jr_defs.specs.Referents.{Table, entries}
 use Rattle.jr_defs.specs.declared.program.Program.{Program}
 use Rattle.jr_shapes.specs.declared.spelling.Spelling.{Spelling}
+use Rattle.jr_change.specs.declared.change.Change.{Change}
+use Rattle.jr_locks.specs.Changed.{IsChanged}
 use Rattle.jr_runs.specs.Respelled.{IsRespelled}
 use Rattle.jr_read.specs.Reading.{ReadsAs}
 use Rattle.jr_front.specs.declared.workspace.Workspace.{Workspace}
@@ -35,10 +37,11 @@ pub record IsWritten (rows : Rows) (locks : Table) (left : Opened) : Type 0 wher
   pub spellings : List Spelling
   pub respelled : IsRespelled rows locks spellings left.rows left.table
 
--- what a request leaves: the files as they are, or those of a changed program under its locks
+-- What a request leaves: the files as they are, or those of a changed program in which each row that comes from an old one must refer to what that referred to,
+-- where it stands now.
 pub data IsStep (old : Opened) (request : Request) : Opened → Type 0 where
   stays : IsStep old request old
-  leaves : {rows : Rows} {locks : Table} {left : Opened} → IsWritten rows locks left → IsStep old request left
+  leaves : {rows : Rows} {locks : Table} {left : Opened} (change : Change) → IsChanged old.rows old.table change rows locks → IsWritten rows locks left → IsStep old request left
 
 -- a step a request, each from what the one before has left
 pub data AreSteps : Opened → List Request → Opened → Type 0 where

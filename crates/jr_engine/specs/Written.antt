@@ -3,7 +3,9 @@ use Rattle.jr_front.specs.declared.workspace.Workspace.{Workspace}
 use Rattle.jr_rows.specs.Rows.{Rows}
 use Rattle.jr_defs.specs.Referents.{Table, entries}
 use Rattle.jr_runs.specs.Respelled.{IsRespelled}
+use Rattle.jr_locks.specs.Changed.{IsChanged}
 use Rattle.jr_engine.specs.Steps.{IsWritten, rows_in, table_in, opened_by}
+use Rattle.jr_engine.specs.declared.asked.Asked.{Asked}
 use Rattle.jr_engine.specs.declared.left.Left.{Left}
 use Rattle.jr_engine.specs.declared.locked.Locked.{Locked}
 use Rattle.jr_engine.specs.declared.tried.Spelled.{Spelled}
@@ -21,3 +23,7 @@ IsSpelledIn s new = IsRespelled (rows_of s.locked.now) (locks_of s.locked.now) s
 -- the files left are the changed program
 abbrev pub IsLeftOf : Locked → Left → Type 0
 IsLeftOf locked left = IsWritten (rows_of locked) (locks_of locked) (opened_by left)
+
+-- the changed program comes from the old one by the change, with the locks that follow
+abbrev pub IsLockedBy : Asked → Locked → Type 0
+IsLockedBy a locked = IsChanged (rows_in a.old.now) (table_in a.old.now) a.change.now (rows_of locked) (locks_of locked)

@@ -1,8 +1,9 @@
 // The changed program under its locks.
 
-ghost use Rattle.std.specs.Prelude.{map, IfOk};
+ghost use Rattle.std.specs.Prelude.{◌≡◌, map, IfOk};
 ghost use Rattle.std.specs.List.{AllByRecursion};
 ghost use Rattle.jr_tree.specs.Shape.{IsShaped};
+ghost use Rattle.jr_engine.specs.Written.{IsLockedBy};
 
 use crate::asked::{Asked, project_of};
 use crate::fault::StepFault;
@@ -55,7 +56,10 @@ fn locked_rows(
     program: Program,
     index: Box<Index>,
     locks: Locks,
-) -> Result<Locked, StepFault> {
+) -> Result<Locked, StepFault>
+    ensures rows { IfOk result (λ locked. locked.program.index.value ≡ index.value) }
+    ensures locks { IfOk result (λ locked. locked.locks ≡ locks) }
+{
     let rows = index.rows();
     let places = boxed(alloc, Places::of(alloc, rows))?;
     let scopes = boxed(alloc, Scopes::of(alloc, rows, &places))?;
@@ -75,8 +79,10 @@ fn locked_rows(
 }
 
 // The program under its locks, if its rows are those that the change says.
+#[tactic(auto, using(crate::proofs::Stepping::locked_result))]
 fn locked_program(alloc: Global, asked: Asked, program: Program) -> Result<Locked, StepFault>
     requires { AllByRecursion IsShaped (map (λ u. u.unit) program.units) }
+    ensures { IfOk result (IsLockedBy asked.entry) }
 {
     let index = boxed(alloc, Index::build(alloc, &program))?;
     let old = asked.old.index.rows();
@@ -88,7 +94,9 @@ fn locked_program(alloc: Global, asked: Asked, program: Program) -> Result<Locke
 }
 
 /// The changed program under its locks.
-pub fn lock(alloc: Global, asked: Asked) -> Result<Locked, StepFault> {
+pub fn lock(alloc: Global, asked: Asked) -> Result<Locked, StepFault>
+    ensures { IfOk result (IsLockedBy asked.entry) }
+{
     let units = asked.old.program.units.as_slice();
     let texts = changed_texts(alloc, units, asked.change)?;
     match read_units(alloc, &texts) {

@@ -1,5 +1,10 @@
 // The locks of a changed program.
 
+ghost use Rattle.std.specs.Prelude.{◌≡◌, IfOk, IfSome, length};
+ghost use Rattle.jr_defs.specs.Referents.{entries};
+ghost use Rattle.jr_locks.specs.Changed.{IsChanged};
+ghost use Rattle.jr_locks.specs.Locked.{AllLocked};
+
 use crate::agreeing::{Copying, numbers_of};
 use crate::moving::{Copies, set_added, table_of};
 use crate::origins::origins_of;
@@ -10,13 +15,17 @@ use jr_rows::Row;
 use std::alloc::Global;
 
 // The locks by the origins of rows.
+#[tactic(auto, using(crate::proofs::Locked::locked_by))]
 fn locks_by(
     alloc: Global,
-    old: usize,
+    old: u32,
     table: &[Referent],
     change: &Change,
     origin: Vec<u32>,
-) -> Result<Locks, OutOfMemory> {
+) -> Result<Locks, OutOfMemory>
+    ensures origin { IfOk result (λ locks. locks.origin.items ≡ origin.items) }
+    ensures locked { IfOk result (λ locks. AllLocked origin.items old (entries table.now) change.now.raised change.now.added.items (entries locks.table.items) (length origin.items)) }
+{
     let copies = Copies::of(alloc, &origin, change.inner, old)?;
     let mut table = table_of(alloc, &origin, &copies, change.raised, table)?;
     set_added(&mut table, &copies, &change.added);
@@ -30,13 +39,19 @@ fn locks_by(
 /// How the rows of the changed program stand to the old ones, and what they must refer to: `table` is what the old rows refer to. None where the
 /// rows are not those that the change says: each copy has the label of its origin, unless it is turned, and its identifier or the one that the change
 /// gives it.
+#[tactic(auto, using(crate::proofs::Locked::changed_by))]
 pub fn locks(
     alloc: Global,
     old: &[Row],
     table: &[Referent],
     change: &Change,
     new: &[Row],
-) -> Result<Option<Locks>, OutOfMemory> {
+) -> Result<Option<Locks>, OutOfMemory>
+    ensures { IfOk result (λ found. IfSome found (λ locks. IsChanged old.now (entries table.now) change.now new.now (entries locks.table.items))) }
+{
+    let Ok(count) = u32::try_from(old.len()) else {
+        return Err(OutOfMemory);
+    };
     let Some(origins) = origins_of(alloc, &change.segments, old.len(), new.len())? else {
         return Ok(None);
     };
@@ -49,6 +64,6 @@ pub fn locks(
     if !copying.are_copies(&origins.origin, &origins.is_turned, new) {
         return Ok(None);
     }
-    let locks = locks_by(alloc, old.len(), table, change, origins.origin)?;
+    let locks = locks_by(alloc, count, table, change, origins.origin)?;
     Ok(Some(locks))
 }

@@ -1,40 +1,78 @@
 // Rows and targets of the old program as those of the changed one.
 
+ghost use Rattle.std.specs.Prelude.{◌≡◌, ◌≤◌, IfOk, length, slice_set};
+ghost use Rattle.jr_defs.specs.Referents.{entries};
+ghost use Rattle.jr_defs.specs.declared.referent.Referent.TheVariants as Referent;
+ghost use Rattle.jr_locks.specs.Origins.{no_row, origin_of, row_by};
+ghost use Rattle.jr_locks.specs.Locked as locked;
+ghost use Rattle.jr_locks.specs.Copies as told;
+
 use jr_base::OutOfMemory;
 use jr_change::{Added, NO_ROW, Raised, RowRange, Target};
 use jr_defs::Referent;
 use std::alloc::Global;
 
 /// What a table of copies or origins has for a row, if it is one.
-pub fn row_for(all: &[u32], at: u32) -> Option<u32> {
+pub fn row_for(all: &[u32], at: u32) -> Option<u32>
+    ensures { result ≡ row_by (origin_of all.now at) }
+{
     match all.get(at as usize) {
         Some(row) => { if *row == NO_ROW { None } else { Some(*row) } }
         None => None,
     }
 }
 
+// The origin of a row.
+fn origin_at(origin: &[u32], at: usize) -> u32
+    ensures { result ≡ origin_of origin.now at }
+{
+    match origin.get(at) {
+        Some(from) => *from,
+        None => NO_ROW,
+    }
+}
+
+// Makes a row the copy of an old one that has none.
+#[tactic(auto, using(std::proofs::lemmas::List::set_past))]
+fn set_first(copy: &mut [u32], from: u32, at: u32)
+    ensures { copy.new ≡ told.with_first copy.old from at }
+{
+    let place = from as usize;
+    if place < copy.len() && copy[place] == NO_ROW {
+        copy[place] = at;
+    }
+}
+
+// Makes a row the copy of its origin.
+fn set_row(copy: &mut [u32], origin: &[u32], at: u32)
+    ensures { copy.new ≡ told.with_row origin.now at copy.old }
+{
+    if let Some(from) = row_for(origin, at) {
+        set_first(copy, from, at);
+    }
+}
+
 /// The first copy of each of so many old rows that the rows from `first` to before `end` have, or `NO_ROW`.
+#[tactic(auto, using(crate::proofs::Told::none_told, crate::proofs::Told::told_more, crate::proofs::Told::told_to))]
 fn copies_in(
     alloc: Global,
     origin: &[u32],
     range: RowRange,
     old: usize,
-) -> Result<Vec<u32>, OutOfMemory> {
+) -> Result<Vec<u32>, OutOfMemory>
+    requires { old ≤ no_row }
+    ensures { IfOk result (λ copy. told.AreTold origin.now old copy.items range.first range.end) }
+{
     let mut copy = vec![in alloc; NO_ROW; old]?;
     for at in range.first..range.end {
-        let Some(from) = row_for(origin, at) else {
-            continue;
-        };
-        if let Some(first) = copy.get_mut(from as usize) {
-            if *first == NO_ROW {
-                *first = at;
-            }
-        }
+        set_row(&mut copy, origin, at);
     }
     Ok(copy)
 }
 
-fn is_within(range: RowRange, at: u32) -> bool {
+fn is_within(range: RowRange, at: u32) -> bool
+    ensures { result ≡ locked.is_within range at }
+{
     range.first <= at && at < range.end
 }
 
@@ -47,14 +85,24 @@ pub struct Copies {
     range: RowRange,
 }
 
+// Takes over what others tell of an old row that has no copy.
+fn set_later(all: &mut [u32], later: &[u32], at: u32)
+    ensures { all.new ≡ told.with_later later.now at all.old }
+{
+    set_first(all, at, origin_at(later, at as usize));
+}
+
 // The first copy outside the range, which may be before or behind it.
+#[tactic(auto, using(crate::proofs::Told::later_more))]
 fn copies_outside(
     alloc: Global,
     origin: &[u32],
     range: RowRange,
     count: u32,
-    old: usize,
-) -> Result<Vec<u32>, OutOfMemory> {
+    old: u32,
+) -> Result<Vec<u32>, OutOfMemory>
+    ensures { IfOk result (λ all. told.IsSound origin.now all.items) }
+{
     let before = RowRange {
         first: 0,
         end: range.first,
@@ -63,26 +111,26 @@ fn copies_outside(
         first: range.end,
         end: count,
     };
-    let mut all = copies_in(alloc, origin, before, old)?;
-    let later = copies_in(alloc, origin, behind, old)?;
-    for at in 0..all.len() {
-        if all[at] == NO_ROW {
-            if let Some(row) = later.get(at) {
-                all[at] = *row;
-            }
-        }
+    let mut all = copies_in(alloc, origin, before, old as usize)?;
+    let later = copies_in(alloc, origin, behind, old as usize)?;
+    for at in 0..old {
+        set_later(&mut all, &later, at);
     }
     Ok(all)
 }
 
 impl Copies {
     /// The copies of so many old rows, where those that are declared twice are found among the rows of the range.
+    #[tactic(auto, using(crate::proofs::Locked::copies_by, crate::proofs::Told::nothing_is_sound))]
     pub fn of(
         alloc: Global,
         origin: &[u32],
         inner: Option<RowRange>,
-        old: usize,
-    ) -> Result<Copies, OutOfMemory> {
+        old: u32,
+    ) -> Result<Copies, OutOfMemory>
+        ensures copies { IfOk result (λ copies. told.AreCopies origin.now copies) }
+        ensures count { IfOk result (λ copies. told.old_count copies ≡ old) }
+    {
         let Ok(count) = u32::try_from(origin.len()) else {
             return Err(OutOfMemory);
         };
@@ -90,11 +138,11 @@ impl Copies {
             first: 0,
             end: count,
         };
-        let first = copies_in(alloc, origin, whole, old)?;
+        let first = copies_in(alloc, origin, whole, old as usize)?;
         match inner {
             Some(range) => Ok(Copies {
                 first,
-                inner: copies_in(alloc, origin, range, old)?,
+                inner: copies_in(alloc, origin, range, old as usize)?,
                 outer: copies_outside(alloc, origin, range, count, old)?,
                 range,
             }),
@@ -107,28 +155,45 @@ impl Copies {
         }
     }
 
-    // The copy of an old row as it is seen from a row.
-    fn seen(&self, from: u32, row: u32) -> Option<u32> {
-        let mut near = &self.outer;
+    // The copies among which what is seen from a row is looked for first.
+    #[tactic(auto, using(crate::proofs::Locked::near_inner, crate::proofs::Locked::near_outer))]
+    fn near(&self, from: u32) -> &[u32]
+        ensures { told.IsNear self.now result.now }
+    {
         if is_within(self.range, from) {
-            near = &self.inner;
+            &self.inner
+        } else {
+            &self.outer
         }
-        match row_for(near, row) {
+    }
+
+    // The copy of an old row as it is seen from a row.
+    #[tactic(auto, using(crate::proofs::Locked::finds_near, crate::proofs::Locked::finds_first))]
+    fn seen(&self, from: u32, row: u32) -> Option<u32>
+        ensures { told.Finds self.now row result }
+    {
+        match row_for(self.near(from), row) {
             Some(copy) => Some(copy),
             None => row_for(&self.first, row),
         }
     }
 
     // The copy of a declaration, through the copy of its level. Where one has no copy, nothing is bound.
-    fn moved_declaration(&self, from: u32, row: u32, level: Option<u32>) -> Referent {
-        let Some(row) = self.seen(from, row) else {
-            return Referent::Unbound;
-        };
-        self.at_level(from, row, level)
+    #[tactic(auto, using(crate::proofs::Locked::locks_copy, crate::proofs::Locked::locks_gone))]
+    fn moved_declaration(&self, from: u32, row: u32, level: Option<u32>) -> Referent
+        ensures { told.LocksTo self.now (Referent.Declared row level) result }
+    {
+        match self.seen(from, row) {
+            Some(copy) => self.at_level(from, copy, level),
+            None => Referent::Unbound,
+        }
     }
 
     // A declaration through the copy of its level.
-    fn at_level(&self, from: u32, row: u32, level: Option<u32>) -> Referent {
+    #[tactic(auto, using(crate::proofs::Locked::locks_plain, crate::proofs::Locked::locks_over, crate::proofs::Locked::locks_nothing))]
+    fn at_level(&self, from: u32, row: u32, level: Option<u32>) -> Referent
+        ensures { told.LocksAt self.now row level result }
+    {
         match level {
             None => Referent::Declared { row, level: None },
             Some(over) => match self.seen(from, over) {
@@ -142,10 +207,16 @@ impl Copies {
     }
 
     // What a row must refer to whose old row referred to this.
-    fn moved(&self, from: u32, target: Referent) -> Referent {
+    #[tactic(auto, using(crate::proofs::Locked::locks_unbound, crate::proofs::Locked::locks_ambiguous, crate::proofs::Locked::locks_length, crate::proofs::Locked::locks_package))]
+    fn moved(&self, from: u32, target: Referent) -> Referent
+        ensures { told.LocksTo self.now target result }
+    {
         match target {
             Referent::Declared { row, level } => self.moved_declaration(from, row, level),
-            _ => target,
+            Referent::Unbound => Referent::Unbound,
+            Referent::Ambiguous => Referent::Ambiguous,
+            Referent::ArrayLength => Referent::ArrayLength,
+            Referent::Package => Referent::Package,
         }
     }
 
@@ -159,14 +230,10 @@ impl Copies {
     }
 }
 
-// The level of an old row, where that of a method that is pulled up is another.
-fn raised_level(raised: Option<Raised>, from: u32, target: Referent) -> Referent {
-    let Some(raised) = raised else {
-        return target;
-    };
-    if !is_within(raised.method, from) {
-        return target;
-    }
+// The level of an old row in a method that is pulled up.
+fn raised_level(raised: Raised, target: Referent) -> Referent
+    ensures { result ≡ locked.raised_level raised target }
+{
     match target {
         Referent::Declared {
             row,
@@ -179,46 +246,79 @@ fn raised_level(raised: Option<Raised>, from: u32, target: Referent) -> Referent
     }
 }
 
-// What a copy of the old row must refer to.
+// The level of an old row, where that of a method that is pulled up is another.
+fn raised_to(raised: Option<Raised>, from: u32, target: Referent) -> Referent
+    ensures { result ≡ locked.raised_to raised from target }
+{
+    match raised {
+        Some(raised) if is_within(raised.method, from) => raised_level(raised, target),
+        _ => target,
+    }
+}
+
+// What an old row refers to.
+fn target_at(table: &[Referent], from: u32) -> Referent
+    ensures { result ≡ entries table.now from }
+{
+    match table.get(from as usize) {
+        Some(target) => *target,
+        None => Referent::Unbound,
+    }
+}
+
+// What a row of this origin must refer to.
+#[tactic(auto, using(crate::proofs::Locked::locks_none, crate::proofs::Locked::locks_some))]
 fn lock_of(
     copies: &Copies,
     raised: Option<Raised>,
     table: &[Referent],
     row: u32,
     from: u32,
-) -> Referent {
-    match table.get(from as usize) {
-        Some(target) => copies.moved(row, raised_level(raised, from, *target)),
-        None => Referent::Unbound,
+) -> Referent
+    ensures { told.LocksFrom copies.now from (locked.raised_to raised from (entries table.now from)) result }
+{
+    if from == NO_ROW {
+        return Referent::Unbound;
     }
+    copies.moved(row, raised_to(raised, from, target_at(table, from)))
 }
 
 /// What rows with these origins must refer to: the copy of what the old row referred to. What comes from no old row is unbound.
+#[tactic(auto, using(crate::proofs::Locked::none_made, crate::proofs::Locked::made_next))]
 pub fn table_of(
     alloc: Global,
     origin: &[u32],
     copies: &Copies,
     raised: Option<Raised>,
     table: &[Referent],
-) -> Result<Vec<Referent>, OutOfMemory> {
+) -> Result<Vec<Referent>, OutOfMemory>
+    requires { told.AreCopies origin.now copies.now }
+    ensures { IfOk result (λ all. told.AreMade origin.now copies.now (entries table.now) raised all.items (length origin.now)) }
+{
     let mut all = Vec::new(alloc);
     let mut row = 0u32;
-    for from in origin {
-        if *from == NO_ROW {
-            all.push(Referent::Unbound)?;
-        } else {
-            all.push(lock_of(copies, raised, table, row, *from))?;
-        }
+    for at in 0..origin.len() {
+        all.push(lock_of(copies, raised, table, row, origin_at(origin, at)))?;
         row = row.saturating_add(1);
     }
     Ok(all)
 }
 
+#[tactic(auto, using(std::proofs::lemmas::List::set_past))]
+fn set_lock(all: &mut [Referent], row: u32, lock: Referent)
+    ensures { all.new ≡ slice_set all.old row lock }
+{
+    if (row as usize) < all.len() {
+        all[row as usize] = lock;
+    }
+}
+
 /// Sets what added rows refer to.
-pub fn set_added(all: &mut [Referent], copies: &Copies, added: &[Added]) {
+#[tactic(auto, using(crate::proofs::Locked::keeps_all))]
+pub fn set_added(all: &mut [Referent], copies: &Copies, added: &[Added])
+    ensures { told.KeepsOthers added.now all.old all.new }
+{
     for one in added {
-        if let Some(item) = all.get_mut(one.row as usize) {
-            *item = copies.added(*one);
-        }
+        set_lock(all, one.row, copies.added(*one));
     }
 }

@@ -1,5 +1,9 @@
 // Where the rows of a changed program come from.
 
+ghost use Rattle.std.specs.Prelude.{◌≡◌, ◌-◌, ◌≤◌, ◌∷◌, [], IsTrue, IfOk, IfSome, OnOk, true, false, length, replicate};
+ghost use Rattle.jr_locks.specs.Origins as spec;
+ghost use Rattle.jr_locks.specs.Adding.{Adds};
+
 use jr_base::OutOfMemory;
 use jr_change::{NO_ROW, Segment};
 use std::alloc::Global;
@@ -14,24 +18,46 @@ pub struct Origins {
 }
 
 impl Origins {
-    fn push(&mut self, from: u32, is_turned: bool) -> Result<(), OutOfMemory> {
+    fn push(&mut self, from: u32, is_turned: bool) -> Result<(), OutOfMemory>
+        ensures { OnOk result (Adds self.old self.new (from ∷ []) (is_turned ∷ [])) }
+    {
         self.origin.push(from)?;
         self.is_turned.push(is_turned)?;
         Ok(())
     }
 
-    fn push_copies(&mut self, first: u32, end: u32) -> Result<(), OutOfMemory> {
+    #[tactic(auto, using(crate::proofs::Adding::adds_none, crate::proofs::Adding::adds_copy))]
+    fn push_copies(&mut self, first: u32, end: u32) -> Result<(), OutOfMemory>
+        requires { first ≤ end }
+        ensures { OnOk result (Adds self.old self.new (spec.run first (end - first)) (replicate (end - first) false)) }
+    {
         for at in first..end {
             self.push(at, false)?;
         }
         Ok(())
     }
 
-    fn push_glue(&mut self, count: u32) -> Result<(), OutOfMemory> {
-        for _turn in 0..count {
+    #[tactic(auto, using(crate::proofs::Adding::adds_none, crate::proofs::Adding::adds_glue))]
+    fn push_glue(&mut self, count: u32) -> Result<(), OutOfMemory>
+        ensures { OnOk result (Adds self.old self.new (replicate count spec.no_row) (replicate count false)) }
+    {
+        for turn in 0..count {
+            let _ = turn;
             self.push(NO_ROW, false)?;
         }
         Ok(())
+    }
+
+    // Pushes the rows of a segment whose rows are there.
+    fn push_rows(&mut self, segment: Segment) -> Result<(), OutOfMemory>
+        requires { spec.IsRun segment }
+        ensures { OnOk result (Adds self.old self.new (spec.of_segment segment) (spec.turned_in segment)) }
+    {
+        match segment {
+            Segment::Copy { first, end } => self.push_copies(first, end),
+            Segment::Turned { row } => self.push(row, true),
+            Segment::Glue { count } => self.push_glue(count),
+        }
     }
 
     // Pushes the rows of a segment, and says whether it can be: its rows are there, and all are at most so many then.
@@ -40,24 +66,24 @@ impl Origins {
         segment: Segment,
         old: usize,
         most: usize,
-    ) -> Result<bool, OutOfMemory> {
+    ) -> Result<bool, OutOfMemory>
+        ensures { IfOk result (λ can. IsTrue can → Adds self.old self.new (spec.of_segment segment) (spec.turned_in segment)) }
+    {
         let Some(length) = length_of(segment, old) else {
             return Ok(false);
         };
         if length > most.saturating_sub(self.origin.len()) {
             return Ok(false);
         }
-        match segment {
-            Segment::Copy { first, end } => self.push_copies(first, end)?,
-            Segment::Turned { row } => self.push(row, true)?,
-            Segment::Glue { count } => self.push_glue(count)?,
-        }
+        self.push_rows(segment)?;
         Ok(true)
     }
 }
 
 // How many rows a segment has, unless it copies rows that are not there.
-fn length_of(segment: Segment, old: usize) -> Option<usize> {
+fn length_of(segment: Segment, old: usize) -> Option<usize>
+    ensures { IfSome result (λ _. spec.IsRun segment) }
+{
     match segment {
         Segment::Copy { first, end } => {
             if first <= end && end as usize <= old {
@@ -72,12 +98,17 @@ fn length_of(segment: Segment, old: usize) -> Option<usize> {
 }
 
 /// The old row of which each row is a copy, where the segments are of so many old rows and make so many rows.
+#[tactic(auto, using(crate::proofs::Adding::begun, crate::proofs::Adding::begun_more, crate::proofs::Adding::ended_origin, crate::proofs::Adding::ended_turned))]
 pub fn origins_of(
     alloc: Global,
     segments: &[Segment],
     old: usize,
     new: usize,
-) -> Result<Option<Origins>, OutOfMemory> {
+) -> Result<Option<Origins>, OutOfMemory>
+    ensures origin { IfOk result (λ found. IfSome found (λ all. all.origin.items ≡ spec.origins segments.now)) }
+    ensures turned { IfOk result (λ found. IfSome found (λ all. all.is_turned.items ≡ spec.turned segments.now)) }
+    ensures count { IfOk result (λ found. IfSome found (λ all. length all.origin.items ≡ new)) }
+{
     let mut all = Origins {
         origin: Vec::new(alloc),
         is_turned: Vec::new(alloc),

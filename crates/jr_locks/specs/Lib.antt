@@ -1,0 +1,5 @@
+pub mod Origins
+pub mod Locked
+pub mod Changed
+pub mod Copies
+pub mod Adding
