@@ -76,6 +76,8 @@ one_step first last request step = more step none
 
 pub planned_so : (files : FileMap) (first last : Left) (requests : List Request) → first.files ≡ files → IsOpened (opened_by first) → IsOpened (opened_by last)
     → AreSteps (opened_by first) requests (opened_by last) → PlannedAs files requests (Ok last.files)
-planned_so files first last requests same is will steps =
-    (subst (λ (f : FileMap). IsAccepted f) same (accepted_so (opened_by first) is), accepted_so (opened_by last) will,
-     record { first = opened_by first; last = opened_by last; begins = same; ends = refl; opened = is; steps = steps })
+planned_so files first last requests same is will steps = (
+  subst (λ (f : FileMap). IsAccepted f) same (accepted_so (opened_by first) is),
+  accepted_so (opened_by last) will,
+  record { first = opened_by first; last = opened_by last; begins = same; ends = refl; opened = is; steps = steps },
+)

@@ -24,16 +24,16 @@ pub adds_copy : (old now new : Origins) (first at : ℕ) → first ≤ at → Ad
 adds_copy old now new first at low h k =
     let e : at + 1 - first ≡ (at - first) + 1 = omega (arith, low) in let f : first + (at - first) ≡ at = omega (arith, low) in
     subst (λ n. Adds old new (run first n) (replicate n false)) (sym e)
-      (subst (λ xs. Adds old new xs (replicate ((at - first) + 1) false)) (ap (λ n. run first (at - first) ++ n ∷ []) (sym f) ∙ more_run first (at - first))
-        (subst (λ ys. Adds old new (run first (at - first) ++ at ∷ []) ys) (replicate_more (at - first) false)
-          (adds_both old now new (run first (at - first)) (at ∷ []) (replicate (at - first) false) (false ∷ []) h k)))
+    (subst (λ xs. Adds old new xs (replicate ((at - first) + 1) false)) (ap (λ n. run first (at - first) ++ n ∷ []) (sym f) ∙ more_run first (at - first))
+    (subst (λ ys. Adds old new (run first (at - first) ++ at ∷ []) ys) (replicate_more (at - first) false)
+    (adds_both old now new (run first (at - first)) (at ∷ []) (replicate (at - first) false) (false ∷ []) h k)))
 
 pub adds_glue : (old now new : Origins) (k : ℕ) → Adds old now (replicate k no_row) (replicate k false) → Adds now new (no_row ∷ []) (false ∷ [])
     → Adds old new (replicate (k + 1) no_row) (replicate (k + 1) false)
 adds_glue old now new k h one =
     subst (λ xs. Adds old new xs (replicate (k + 1) false)) (replicate_more k no_row)
-      (subst (λ ys. Adds old new (replicate k no_row ++ no_row ∷ []) ys) (replicate_more k false)
-        (adds_both old now new (replicate k no_row) (no_row ∷ []) (replicate k false) (false ∷ []) h one))
+    (subst (λ ys. Adds old new (replicate k no_row ++ no_row ∷ []) ys) (replicate_more k false)
+    (adds_both old now new (replicate k no_row) (no_row ∷ []) (replicate k false) (false ∷ []) h one))
 
 -- ---- segments
 

@@ -42,8 +42,10 @@ seen_near origin near old d c h e = seen (ap (origin_of origin) (sym (row_is (or
 
 pub seen_first : (origin first : List ℕ) (old d : ℕ) (found : Option ℕ) → AreTold origin old first 0 (length origin) → found ≡ row_by (origin_of first d) → IsSeen origin old d found
 seen_first origin first old d (Some c) h e = seen_near origin first old d c h.sound (sym e)
-seen_first origin first old d None h e = unseen (record { no = λ c inside lt is.
-    h.whole.each d c (omega arith) lt (subst (λ n. d < n) (sym h.count) inside) is (no_row_is (origin_of first d) (sym e)) })
+seen_first origin first old d None h e = unseen (record {
+  no = λ c inside lt is.
+      h.whole.each d c (omega arith) lt (subst (λ n. d < n) (sym h.count) inside) is (no_row_is (origin_of first d) (sym e));
+})
 
 -- ---- what is found, whatever the origins
 
@@ -105,13 +107,15 @@ none_locked origin old t raised all = record { each = λ n lt said. absurd (omeg
 
 pub locked_more : (origin : List ℕ) (old : ℕ) (t : Table) (raised : Option Raised) (all : List Referent) (lock : Referent) (k : ℕ) → length all ≡ k
     → AllLocked origin old t raised [] (entries all) k → HasLock origin old t raised k lock → AllLocked origin old t raised [] (entries (all ++ lock ∷ [])) (k + 1)
-locked_more origin old t raised all lock k long h now = record { each = λ n lt said real. ⊎_elim
-    (λ below. subst (λ r. IsLockOf origin old (raised_to raised (origin_of origin n) (t (origin_of origin n))) r)
-        (sym (get_or_append_left all (lock ∷ []) Unbound n (omega (arith, below, long)))) (h.each n below said real))
-    (λ here. let e : n ≡ k = omega (arith, here, lt) in
-        subst (λ m. HasLock origin old t raised m (entries (all ++ lock ∷ []) m)) (sym e)
-          (λ some. subst (λ r. IsLockOf origin old (raised_to raised (origin_of origin k) (t (origin_of origin k))) r) (sym (get_or_push all lock Unbound k long)) (now some)) real)
-    (cases_lt n k) }
+locked_more origin old t raised all lock k long h now = record {
+  each = λ n lt said real. ⊎_elim
+      (λ below. subst (λ r. IsLockOf origin old (raised_to raised (origin_of origin n) (t (origin_of origin n))) r)
+      (sym (get_or_append_left all (lock ∷ []) Unbound n (omega (arith, below, long)))) (h.each n below said real))
+      (λ here. let e : n ≡ k = omega (arith, here, lt) in
+      subst (λ m. HasLock origin old t raised m (entries (all ++ lock ∷ []) m)) (sym e)
+      (λ some. subst (λ r. IsLockOf origin old (raised_to raised (origin_of origin k) (t (origin_of origin k))) r) (sym (get_or_push all lock Unbound k long)) (now some)) real)
+      (cases_lt n k);
+}
 
 pub made_more : (origin : List ℕ) (c : Copies) (t : Table) (raised : Option Raised) (all : List Referent) (lock : Referent) (k : ℕ)
     → AreMade origin c t raised all k → HasLock origin (old_count c) t raised k lock → AreMade origin c t raised (all ++ lock ∷ []) (k + 1)
@@ -167,8 +171,10 @@ keeps_at added i d old new next lock lt h set = keeps_more added i (slice_index_
 
 pub locked_beside : (origin : List ℕ) (old : ℕ) (t : Table) (raised : Option Raised) (added : List Added) (all next : List Referent) (count : ℕ)
     → AllLocked origin old t raised [] (entries all) count → KeepsOthers added all next → AllLocked origin old t raised added (entries next) count
-locked_beside origin old t raised added all next count h kept = record { each = λ n lt said real.
-    subst (λ r. IsLockOf origin old (raised_to raised (origin_of origin n) (t (origin_of origin n))) r) (sym (kept.each n said)) (h.each n lt refl real) }
+locked_beside origin old t raised added all next count h kept = record {
+  each = λ n lt said real.
+      subst (λ r. IsLockOf origin old (raised_to raised (origin_of origin n) (t (origin_of origin n))) r) (sym (kept.each n said)) (h.each n lt refl real);
+}
 
 pub locked_by : (origin : List ℕ) (c : Copies) (old : ℕ) (t : Table) (raised : Option Raised) (added : List Added) (all next : List Referent) → old_count c ≡ old
     → AreMade origin c t raised all (length origin) → KeepsOthers added all next → AllLocked origin old t raised added (entries next) (length origin)
@@ -181,5 +187,5 @@ changed_by old t change rows origin locks count size is long h = record {
   count = ap length (sym is) ∙ long;
   locked = subst (λ n. AllLocked (origins_by change) n t change.raised change.added.items (entries locks) (length rows)) size
       (subst (λ n. AllLocked (origins_by change) count t change.raised change.added.items (entries locks) n) long
-        (subst (λ from. AllLocked from count t change.raised change.added.items (entries locks) (length origin)) is h));
+      (subst (λ from. AllLocked from count t change.raised change.added.items (entries locks) (length origin)) is h));
 }

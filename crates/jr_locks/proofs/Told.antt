@@ -53,9 +53,9 @@ module _ (origin copies : List ℕ) (d at : ℕ) where
   was : (e : ℕ) → ((e ≡ d) × (origin_of (with_first copies d at) e ≡ at) × (d < length copies)) ⊎ (origin_of (with_first copies d at) e ≡ origin_of copies e)
   was e = ⊎_elim
       (λ here. ⊎_elim
-          (λ inside. by (nat_eq (origin_of copies d) no_row) refl inside here)
-          (λ past. inr (kept_past past e))
-          (cases_lt d (length copies)))
+      (λ inside. by (nat_eq (origin_of copies d) no_row) refl inside here)
+      (λ past. inr (kept_past past e))
+      (cases_lt d (length copies)))
       (λ apart. inr (kept_other e apart))
       (cases_eq e d)
     where
@@ -64,13 +64,15 @@ module _ (origin copies : List ℕ) (d at : ℕ) where
       by false taken inside here = inr (kept_there taken e)
 
   sound_more : IsSound origin copies → (origin_of origin at ≡ d) ⊎ (at ≡ no_row) → IsSound origin (with_first copies d at)
-  sound_more h is = record { each = λ e told. ⊎_elim
-      (λ now. ⊎_elim
-          (λ from. ap (origin_of origin) now.1 ∙ from ∙ sym now.0)
-          (λ none. absurd (told (now.1 ∙ none)))
-          is)
-      (λ old. ap (origin_of origin) old ∙ h.each e (λ none. told (old ∙ none)))
-      (was e) }
+  sound_more h is = record {
+    each = λ e told. ⊎_elim
+        (λ now. ⊎_elim
+        (λ from. ap (origin_of origin) now.1 ∙ from ∙ sym now.0)
+        (λ none. absurd (told (now.1 ∙ none)))
+        is)
+        (λ old. ap (origin_of origin) old ∙ h.each e (λ none. told (old ∙ none)))
+        (was e);
+  }
 
   still : (e : ℕ) → at ≢ no_row → origin_of copies e ≢ no_row → origin_of (with_first copies d at) e ≢ no_row
   still e real told none = ⊎_elim (λ now. real (sym now.1 ∙ none)) (λ old. told (sym old ∙ none)) (was e)
@@ -88,21 +90,25 @@ told_more origin copies old first at fits small h = by (nat_eq (origin_of origin
     by : (b : Bool) → nat_eq (origin_of origin at) no_row ≡ b → AreTold origin old (if b then copies else with_first copies (origin_of origin at) at) first (at + 1)
     by true none = record {
       sound = h.sound;
-      whole = record { each = λ d c low high inside is. ⊎_elim
-          (λ below. h.whole.each d c low below inside is)
-          (λ here. let e : c ≡ at = omega (arith, here, high) in let f : d ≡ no_row = sym is ∙ ap (origin_of origin) e ∙ (Decides-eqb (origin_of origin at) no_row).0 none in
-              let l = h.count in absurd (omega (arith, f, inside, l, fits)))
-          (cases_lt c at) };
+      whole = record {
+        each = λ d c low high inside is. ⊎_elim
+            (λ below. h.whole.each d c low below inside is)
+            (λ here. let e : c ≡ at = omega (arith, here, high) in let f : d ≡ no_row = sym is ∙ ap (origin_of origin) e ∙ (Decides-eqb (origin_of origin at) no_row).0 none in
+            let l = h.count in absurd (omega (arith, f, inside, l, fits)))
+            (cases_lt c at);
+      };
       count = h.count;
     }
     by false some = let from = origin_of origin at in record {
       sound = sound_more origin copies from at h.sound (inl refl);
-      whole = record { each = λ d c low high inside is. ⊎_elim
-          (λ below. still origin copies from at d (λ e. absurd (omega (arith, e, small))) (h.whole.each d c low below (subst (λ k. d < k) (long origin copies from at) inside) is))
-          (λ here. let e : c ≡ at = omega (arith, here, high) in let f : from ≡ d = sym (ap (origin_of origin) e) ∙ is in
-              subst (λ k. origin_of (with_first copies from at) k ≢ no_row) f
-                (told_now origin copies from at (λ g. absurd (omega (arith, g, small))) (subst (λ k. k < length copies) (sym f) (subst (λ k. d < k) (long origin copies from at) inside))))
-          (cases_lt c at) };
+      whole = record {
+        each = λ d c low high inside is. ⊎_elim
+            (λ below. still origin copies from at d (λ e. absurd (omega (arith, e, small))) (h.whole.each d c low below (subst (λ k. d < k) (long origin copies from at) inside) is))
+            (λ here. let e : c ≡ at = omega (arith, here, high) in let f : from ≡ d = sym (ap (origin_of origin) e) ∙ is in
+            subst (λ k. origin_of (with_first copies from at) k ≢ no_row) f
+            (told_now origin copies from at (λ g. absurd (omega (arith, g, small))) (subst (λ k. k < length copies) (sym f) (subst (λ k. d < k) (long origin copies from at) inside))))
+            (cases_lt c at);
+      };
       count = long origin copies from at ∙ h.count;
     }
 

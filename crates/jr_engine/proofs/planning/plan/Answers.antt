@@ -9,4 +9,4 @@ returns-in-Err c = c.in-Err.ensures.err c.args.files.now
 pub returns-in-Ok : goal.returns-in-Ok
 returns-in-Ok c = let first = c.in_ok-found.found in let last = c.in-Ok.left in
     planned_so c.args.files.now first last (c.args.request.now ∷ []) c.in_ok-found.ensures.same c.in_ok-found.ensures.opened c.in-Ok.ensures.opened
-      (one_step (opened_by first) (opened_by last) c.args.request.now c.in-Ok.ensures.step)
+    (one_step (opened_by first) (opened_by last) c.args.request.now c.in-Ok.ensures.step)
