@@ -1,13 +1,13 @@
-use Rattle.std.proofs.Common.{arith, refl, sym}
+use Rattle.std.proofs.Common.{rules, arith, sym, subst, ◌∙◌, ◌≡◌, [], All, ◌+◌, ◌<◌, ◌^◌}
 use Rattle.jr_package.specs.Repackaging.{imports_package}
 use Rattle.jr_package.proofs.Steps.{such_start, such_step, such_end, within_more}
 use Rattle.jr_package.proofs.units.Package.imports.Goals as goal
 
 pub loop-at-init : goal.loop-at-init
-loop-at-init c = record {
-  none = λ lt. refl;
-  such = sym (such_start c.args.head.imports (imports_package c.args.self.now.marks.now.rows.now c.args.self.now.table.now c.args.self.now.from.now));
-  within = λ k d lt. absurd (omega arith);
+loop-at-init c = let empty : c.new-all.result.items ≡ [] = search rules in record {
+  none = λ lt. empty;
+  such = empty ∙ sym (such_start c.args.head.imports (imports_package c.args.self.now.marks.now.rows.now c.args.self.now.table.now c.args.self.now.from.now));
+  within = subst (All (λ k. k + 1 < 2 ^ 32)) (sym empty) (λ k d lt. absurd (omega arith));
 }
 
 pub loop-at-preserved : goal.loop-at-preserved
