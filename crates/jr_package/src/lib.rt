@@ -2,7 +2,9 @@
 #![tactic(auto)]
 
 mod lifting;
+mod moving;
 mod repackaging;
+mod units;
 
 pub use lifting::lift;
 pub use repackaging::repackage;
