@@ -151,7 +151,7 @@ TEXTS = {
 
 
 def chosen(rng, text):
-    return re.sub(r'<([^<>{};]*\|[^<>{};]*)>', lambda m: rng.choice(m.group(1).split('|')), text)
+    return re.sub(r'<(?! )([^<>{};]*\|[^<>{};]*)>', lambda m: rng.choice(m.group(1).split('|')), text)
 
 
 def with_files(files, text):
