@@ -1,1 +1,9 @@
 pub mod Accessed
+pub mod Heritage
+pub mod Keyed
+pub mod Climbing
+pub mod Gathering
+pub mod Doing
+pub mod Declaring
+pub mod Having
+pub mod Overridden

@@ -1,12 +1,21 @@
 // Overriding, the method that a call finds, and families (JLS 8.4.8.1, 15.12.4.4).
+ghost use Rattle.std.specs.Prelude.{◌≡◌};
+ghost use Rattle.jr_rows.specs.declared.label.Role.TheVariants as role;
+ghost use Rattle.jr_rows.specs.Rows.{role_at};
+ghost use Rattle.jr_defs.specs.Referents.{Table};
+ghost use Rattle.jr_plain.specs.Overriding as plain;
+ghost use Rattle.jr_supers.specs.Signatures.{AreSignatures};
+ghost use Rattle.jr_supers.specs.Supers.{AreSupersOf};
+ghost use Rattle.jr_members.specs.Overridden as tell;
 
+use crate::declared::MemberKind;
 use crate::members::World;
 use crate::modifiers::{
     declaring_type, is_in_interface, is_private, is_protected, is_public, is_static,
 };
-use crate::named::MemberKind;
 use jr_base::OutOfMemory;
 use jr_places::{is_class, is_interface};
+use jr_rows::Row;
 use jr_tables::{Chains, Entry, Stamps};
 use std::alloc::Global;
 
@@ -18,22 +27,41 @@ pub struct Found {
     pub found: u32,
 }
 
+// An instance method, and one that is not private, where it is told whether they have one signature; where an interface declares the first, the
+// other is public.
+fn may_override(rows: &[Row], method: u32, other: u32, are_same: bool) -> bool
+    ensures { result ≡ tell.may_override rows.now method other are_same }
+{
+    are_same
+        && !is_static(rows, method)
+        && !is_private(rows, other)
+        && (!is_in_interface(rows, method) || is_public(rows, other))
+}
+
 impl<'a> World<'a> {
-    // An instance method, and one of its signature, not private, in a type strictly above; where an interface declares the first, the other is
-    // public.
-    fn is_above_method(self, method: u32, other: u32) -> bool {
-        let rows = self.under.rows;
-        let may = self.members.signatures().are_same(method, other)
-            && !is_static(rows, method)
-            && !is_private(rows, other)
-            && (!is_in_interface(rows, method) || is_public(rows, other));
-        match declaring_type(rows, method) {
-            Some(at) => match declaring_type(rows, other) {
-                Some(over) => may && self.is_above(at, over),
+    // The type of the first method is strictly below that of the second.
+    fn is_declared_below(self, method: u32, other: u32) -> bool
+        ensures { (t : Table) → AreSupersOf self.entry.under.rows.now t self.entry.supers.now → result ≡ plain.is_declared_below self.entry.under.rows.now t method other }
+    {
+        match declaring_type(self.under.rows, method) {
+            Some(at) => match declaring_type(self.under.rows, other) {
+                Some(over) => self.is_above(at, over),
                 None => false,
             },
             None => false,
         }
+    }
+
+    // An instance method, and one of its signature, not private, in a type strictly above; where an interface declares the first, the other is
+    // public.
+    fn is_above_method(self, method: u32, other: u32) -> bool
+        ensures { (t : Table) → AreSupersOf self.entry.under.rows.now t self.entry.supers.now → AreSignatures self.entry.under.rows.now t self.entry.members.now.callables.signatures → role_at self.entry.under.rows.now method ≡ role.Method → role_at self.entry.under.rows.now other ≡ role.Method → result ≡ plain.is_above_method self.entry.under.rows.now t method other }
+    {
+        let are_same = self.members.signatures().are_same(method, other);
+        if !may_override(self.under.rows, method, other, are_same) {
+            return false;
+        }
+        self.is_declared_below(method, other)
     }
 
     // The first method overrides the second without another between.

@@ -2,16 +2,21 @@
 #![tactic(auto)]
 
 mod access;
+mod callables;
+mod declared;
 mod dispatch;
+mod law;
 mod members;
 mod modifiers;
 mod named;
 
+pub use declared::MemberKind;
 pub use dispatch::Found;
+pub use law::members_are_held;
 pub use members::{Members, World, has, kind_of};
 pub use modifiers::{
     access_of, constructed_class, declaring_type, is_abstract, is_final, is_in_interface, is_inner,
     is_member_role, is_private, is_protected, is_public, is_static, needs_no_object, passes,
     written_at,
 };
-pub use named::{MemberKind, Named, Sources, can_inherit};
+pub use named::{Named, Sources, can_inherit};

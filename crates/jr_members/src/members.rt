@@ -1,15 +1,29 @@
 // The members of the types of a program (JLS 8.2, 9.2).
-ghost use Rattle.std.specs.Prelude.{◌≡◌, ◌&&◌, not};
+ghost use Rattle.std.specs.Prelude.{◌≡◌, ◌&&◌, not, true, length, Decides, IfOk};
+ghost use Rattle.jr_rows.specs.Rows as all_rows;
+ghost use Rattle.jr_rows.specs.Rows.{Rows};
+ghost use Rattle.jr_defs.specs.Referents.{Table};
+ghost use Rattle.jr_defs.specs.Supertypes.{Above};
+ghost use Rattle.jr_defs.specs.Overriding.{Has};
+ghost use Rattle.jr_plain.specs.Enclosing.{is_constructor_of};
 ghost use Rattle.jr_plain.specs.Modifiers as modifiers;
 ghost use Rattle.jr_plain.specs.Search as search;
+ghost use Rattle.jr_plain.specs.Supertypes as supers;
+ghost use Rattle.jr_supers.specs.Signatures.{AreSignatures};
+ghost use Rattle.jr_supers.specs.Supers.{AreSupersOf};
+ghost use Rattle.jr_supers.specs.Tabled.{is_callable};
+ghost use Rattle.jr_members.specs.Held.{ObjectIsBare};
+ghost use Rattle.jr_members.specs.Keys as keys;
 
-use crate::modifiers::{constructed_class, declaring_type, is_in_interface, is_public, is_static};
-use crate::named::{MemberKind, Named, Sources, are_any_same};
+use crate::callables::Callables;
+use crate::declared::MemberKind;
+use crate::modifiers::{declaring_type, is_in_interface, is_method, is_public, is_static};
+use crate::named::{Named, Sources, are_any_same};
 use jr_base::OutOfMemory;
 use jr_places::{is_interface, role_at};
 use jr_rows::{Role, Row};
 use jr_supers::{Signatures, Supers, Tabled};
-use jr_tables::{Chains, Entry, Stamps};
+use jr_tables::Stamps;
 use std::alloc::Global;
 
 /// Members of the three kinds.
@@ -18,16 +32,6 @@ struct Kinds {
     fields: Named,
     types: Named,
     methods: Named,
-}
-
-/// Methods and constructors.
-#[derive(Drop)]
-struct Callables {
-    signatures: Signatures,
-    /// Methods under the keys of the types that declare them and the numbers of their signatures.
-    by_signature: Chains,
-    /// Constructors under the key of the class and 0.
-    constructors: Chains,
 }
 
 /// The members of the types of a program under a table, by kind and name.
@@ -69,63 +73,6 @@ impl Kinds {
     }
 }
 
-// Where a method stands under the type that declares it and the number of its signature.
-fn signed_entry(rows: &[Row], signatures: &Signatures, at: u32) -> Option<Entry> {
-    match role_at(rows, at) {
-        Role::Method => Some(Entry {
-            first: declaring_type(rows, at)?,
-            second: signatures.number(at)?,
-            row: at,
-        }),
-        _ => None,
-    }
-}
-
-impl Callables {
-    // Nothing, with these signatures.
-    fn new(alloc: Global, signatures: Signatures) -> Callables {
-        Callables {
-            signatures,
-            by_signature: Chains::new(alloc),
-            constructors: Chains::new(alloc),
-        }
-    }
-
-    // One more row, if it is a method or constructor.
-    fn add_row(&mut self, alloc: Global, rows: &[Row], at: u32) -> Result<(), OutOfMemory> {
-        if let Some(entry) = signed_entry(rows, &self.signatures, at) {
-            self.by_signature.add(alloc, entry)?;
-        }
-        if let Some(first) = constructed_class(rows, at) {
-            self.constructors.add(
-                alloc,
-                Entry {
-                    first,
-                    second: 0,
-                    row: at,
-                },
-            )?;
-        }
-        Ok(())
-    }
-
-    fn add_rows(&mut self, alloc: Global, rows: &[Row]) -> Result<(), OutOfMemory> {
-        let Ok(count) = u32::try_from(rows.len()) else {
-            return Err(OutOfMemory);
-        };
-        for at in 0..count {
-            self.add_row(alloc, rows, at)?;
-        }
-        Ok(())
-    }
-
-    fn of(alloc: Global, under: Tabled) -> Result<Callables, OutOfMemory> {
-        let mut callables = Callables::new(alloc, Signatures::of(alloc, under)?);
-        callables.add_rows(alloc, under.rows)?;
-        Ok(callables)
-    }
-}
-
 impl Members {
     /// The members under a table, whose supertypes should have no cycle.
     pub fn of(alloc: Global, under: Tabled, supers: &Supers) -> Result<Members, OutOfMemory> {
@@ -164,26 +111,24 @@ impl Members {
     }
 
     /// The signatures of methods and constructors.
-    pub fn signatures(&self) -> &Signatures {
+    pub fn signatures(&self) -> &Signatures
+        ensures { result.now ≡ self.now.callables.signatures }
+    {
         &self.callables.signatures
     }
 
     /// The constructors of a class, from the last back.
-    pub fn constructors(&self, alloc: Global, over: u32) -> Result<Vec<u32>, OutOfMemory> {
-        self.callables.constructors.rows(alloc, over, 0)
+    pub fn constructors(&self, alloc: Global, over: u32) -> Result<Vec<u32>, OutOfMemory>
+        ensures { (p : Rows) → keys.AreCallables p self.now.callables → IfOk result (λ rows. rows.items ≡ keys.falling (length p) (is_constructor_of p over)) }
+    {
+        self.callables.constructors(alloc, over)
     }
 
     /// The methods that a type declares with the signature of a method, from the last back.
-    pub fn declared_like(
-        &self,
-        alloc: Global,
-        over: u32,
-        at: u32,
-    ) -> Result<Vec<u32>, OutOfMemory> {
-        match self.callables.signatures.number(at) {
-            Some(number) => self.callables.by_signature.rows(alloc, over, number),
-            None => Ok(Vec::new(alloc)),
-        }
+    pub fn declared_like(&self, alloc: Global, over: u32, at: u32) -> Result<Vec<u32>, OutOfMemory>
+        ensures { (p : Rows) (t : Table) → keys.AreCallables p self.now.callables → AreSignatures p t self.now.callables.signatures → is_callable (all_rows.role_at p at) ≡ true → IfOk result (λ rows. rows.items ≡ keys.falling (length p) (keys.is_declared_like p t over at)) }
+    {
+        self.callables.declared_like(alloc, over, at)
     }
 
     /// The members of one kind.
@@ -291,18 +236,23 @@ impl<'a> World<'a> {
     }
 
     /// The type `over` stands strictly above the type `at`.
-    pub fn is_above(self, at: u32, over: u32) -> bool {
+    pub fn is_above(self, at: u32, over: u32) -> bool
+        ensures plain { (t : Table) → AreSupersOf self.entry.under.rows.now t self.entry.supers.now → result ≡ supers.is_above self.entry.under.rows.now t at over }
+        ensures above { (t : Table) → AreSupersOf self.entry.under.rows.now t self.entry.supers.now → Decides result (Above self.entry.under.rows.now t at over) }
+    {
         self.supers.is_above(self.under.rows, at, over)
     }
 
     /// The class has the method: it is declared in the class or in a type above it.
-    pub fn has_method(self, over: u32, at: u32) -> bool {
-        match role_at(self.under.rows, at) {
-            Role::Method => match declaring_type(self.under.rows, at) {
-                Some(declaring) => { self.supers.is_at_or_above(self.under.rows, over, declaring) }
-                None => false,
-            },
-            _ => false,
+    pub fn has_method(self, over: u32, at: u32) -> bool
+        ensures { (t : Table) → AreSupersOf self.entry.under.rows.now t self.entry.supers.now → ObjectIsBare self.entry.under.rows.now → Decides result (Has self.entry.under.rows.now t over at) }
+    {
+        if !is_method(self.under.rows, at) {
+            return false;
+        }
+        match declaring_type(self.under.rows, at) {
+            Some(declaring) => self.supers.is_at_or_above(self.under.rows, over, declaring),
+            None => false,
         }
     }
 }

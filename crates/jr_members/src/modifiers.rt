@@ -176,7 +176,7 @@ fn is_field(all: &[Row], at: u32) -> bool
     }
 }
 
-fn is_method(all: &[Row], at: u32) -> bool
+pub fn is_method(all: &[Row], at: u32) -> bool
     ensures { result ≡ same.same_role (rows.role_at all.now at) role.Method }
 {
     match role_at(all, at) {

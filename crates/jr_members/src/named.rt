@@ -1,34 +1,26 @@
 // The members of one kind by their names, declared and inherited (JLS 8.2, 8.3, 8.4.8, 8.5).
+ghost use Rattle.std.specs.Prelude.{◌≡◌, length, IfOk};
+ghost use Rattle.jr_rows.specs.Rows.{Rows};
+ghost use Rattle.jr_plain.specs.Search.{any_below};
+ghost use Rattle.jr_places.specs.Places.{ArePlaces};
+ghost use Rattle.jr_members.specs.Keys as keys;
+ghost use Rattle.jr_members.specs.Named as tell;
+ghost use Rattle.jr_members.specs.declared.declared.MemberKind.{MemberKind as KindOf};
 
-use crate::modifiers::{
-    declaring_type, is_in_interface, is_private, is_protected, is_public, passes,
-};
+use crate::declared::{Declared, MemberKind};
+use crate::modifiers::{is_in_interface, is_private, is_protected, is_public, passes};
 use jr_base::OutOfMemory;
-use jr_places::{is_interface, role_at};
-use jr_rows::{Role, Row};
+use jr_places::is_interface;
+use jr_rows::Row;
 use jr_supers::{Signatures, Supers, Tabled, entry_before};
 use jr_tables::{Chains, Entry, Stamps};
 use std::alloc::Global;
-
-/// Fields, member types and methods, which have names apart from each other.
-#[derive(Clone, Copy, Debug, PartialEq, Eq)]
-pub enum MemberKind {
-    Field,
-    Type,
-    Method,
-}
 
 /// The members of one kind. A type has a list for each name that it declares, or that comes to it from several supertypes; for all other names
 /// it has what its first supertype has, as far as that is inherited.
 #[derive(Drop)]
 pub struct Named {
-    kind: MemberKind,
-    /// What each type declares, under the keys of the type and the name.
-    own: Chains,
-    /// The same, under the key of the type and 0.
-    declared: Chains,
-    /// The same, under the key of the name and 0.
-    by_name: Chains,
+    declared: Declared,
     /// The lists, under the keys of the type and the name.
     lists: Chains,
 }
@@ -41,21 +33,13 @@ pub struct Sources<'a> {
     pub signatures: &'a Signatures,
 }
 
-// The kind of member that the row declares.
-fn kind_at(rows: &[Row], at: u32) -> Option<MemberKind> {
-    match role_at(rows, at) {
-        Role::Field => Some(MemberKind::Field),
-        Role::Type => Some(MemberKind::Type),
-        Role::Method => Some(MemberKind::Method),
-        _ => None,
-    }
-}
-
 // The way from a type up to one above it by first supertypes.
 #[derive(Clone, Copy)]
 struct Way {
     from: u32,
     here: u32,
+    /// The last type is not the first.
+    has_steps: bool,
     /// All types on it but the last stand in one package.
     is_in_one_package: bool,
     /// Some type on it but the first is an interface.
@@ -63,27 +47,53 @@ struct Way {
 }
 
 impl Way {
+    // The way from a type to itself.
+    fn from(over: u32) -> Way
+        ensures { result ≡ tell.way_from over }
+    {
+        Way {
+            from: over,
+            here: over,
+            has_steps: false,
+            is_in_one_package: true,
+            has_interface: false,
+        }
+    }
+
     // One type further up.
     fn next(self, under: Tabled, up: u32) -> Way {
+        let is_same = under.places.is_one_package(self.from, self.here);
+        self.next_by(under.rows, up, is_same)
+    }
+
+    // One type further up, where it is told whether the last one is of the package of the first.
+    fn next_by(self, rows: &[Row], up: u32, is_same: bool) -> Way
+        ensures { result ≡ tell.next_by rows.now self up is_same }
+    {
         Way {
             from: self.from,
             here: up,
-            is_in_one_package: self.is_in_one_package
-                && under.places.is_one_package(self.from, self.here),
-            has_interface: self.has_interface || is_interface(under.rows, up),
+            has_steps: true,
+            is_in_one_package: self.is_in_one_package && is_same,
+            has_interface: self.has_interface || is_interface(rows, up),
         }
     }
 
     // A member of the last type is one of the first, where no type between has a list of its own.
     fn carries(self, under: Tabled, at: u32) -> bool {
-        if self.from == self.here {
-            return true;
-        }
-        let reaches = is_public(under.rows, at)
-            || (is_protected(under.rows, at)
-                || (self.is_in_one_package && under.places.is_one_package(self.from, at)));
-        !is_private(under.rows, at)
-            && (reaches && (!self.has_interface || is_in_interface(under.rows, at)))
+        let is_same = under.places.is_one_package(self.from, at);
+        self.carries_by(under.rows, at, is_same)
+    }
+
+    // The same, where it is told whether the member is of the package of the first.
+    fn carries_by(self, rows: &[Row], at: u32, is_same: bool) -> bool
+        ensures { result ≡ tell.carries_by rows.now self at is_same }
+    {
+        !self.has_steps
+            || (!is_private(rows, at)
+                && ((is_public(rows, at)
+                    || (is_protected(rows, at) || (self.is_in_one_package && is_same)))
+                    && (!self.has_interface || is_in_interface(rows, at))))
     }
 }
 
@@ -98,46 +108,9 @@ impl Named {
     /// No members.
     pub fn new(alloc: Global, kind: MemberKind) -> Named {
         Named {
-            kind,
-            own: Chains::new(alloc),
-            declared: Chains::new(alloc),
-            by_name: Chains::new(alloc),
+            declared: Declared::new(alloc, kind),
             lists: Chains::new(alloc),
         }
-    }
-
-    // One more declared member.
-    fn add_declared(
-        &mut self,
-        alloc: Global,
-        over: u32,
-        name: u32,
-        row: u32,
-    ) -> Result<(), OutOfMemory> {
-        self.own.add(
-            alloc,
-            Entry {
-                first: over,
-                second: name,
-                row,
-            },
-        )?;
-        self.declared.add(
-            alloc,
-            Entry {
-                first: over,
-                second: 0,
-                row,
-            },
-        )?;
-        self.by_name.add(
-            alloc,
-            Entry {
-                first: name,
-                second: 0,
-                row,
-            },
-        )
     }
 
     // One more item of a list.
@@ -159,25 +132,13 @@ impl Named {
     }
 
     /// The members of this kind that the bodies declare; no type has a list yet.
-    pub fn declared(alloc: Global, under: Tabled, kind: MemberKind) -> Result<Named, OutOfMemory> {
-        let mut named = Named::new(alloc, kind);
-        named.declare(alloc, under)?;
-        Ok(named)
-    }
-
-    // Adds the members that the bodies declare.
-    fn declare(&mut self, alloc: Global, under: Tabled) -> Result<(), OutOfMemory> {
-        let Ok(count) = u32::try_from(under.rows.len()) else {
-            return Err(OutOfMemory);
-        };
-        for at in 0..count {
-            if kind_at(under.rows, at) == Some(self.kind) {
-                if let Some(over) = declaring_type(under.rows, at) {
-                    self.add_declared(alloc, over, under.places.name(at), at)?;
-                }
-            }
-        }
-        Ok(())
+    pub fn declared(alloc: Global, under: Tabled, kind: MemberKind) -> Result<Named, OutOfMemory>
+        ensures { ArePlaces under.entry.rows.now under.entry.places.now → IfOk result (λ named. keys.AreDeclared under.entry.rows.now kind named.declared) }
+    {
+        Ok(Named {
+            declared: Declared::of(alloc, under, kind)?,
+            lists: Chains::new(alloc),
+        })
     }
 
     // What of a list the way carries.
@@ -213,15 +174,10 @@ impl Named {
         over: u32,
         name: u32,
     ) -> Result<Vec<u32>, OutOfMemory> {
-        if self.by_name.last(name, 0).is_none() {
+        if !self.declared.has_name(name) {
             return Ok(Vec::new(alloc));
         }
-        let mut way = Way {
-            from: over,
-            here: over,
-            is_in_one_package: true,
-            has_interface: false,
-        };
+        let mut way = Way::from(over);
         for _turn in 0..under.rows.len() {
             if let Some(last) = self.lists.last(way.here, name) {
                 return self.carried(alloc, under, way, last);
@@ -235,28 +191,36 @@ impl Named {
     }
 
     /// The declared members that have a name, from the last in the program back.
-    pub fn all_of_name(&self, alloc: Global, name: u32) -> Result<Vec<u32>, OutOfMemory> {
-        self.by_name.rows(alloc, name, 0)
+    pub fn all_of_name(&self, alloc: Global, name: u32) -> Result<Vec<u32>, OutOfMemory>
+        ensures { (p : Rows) (kind : KindOf) → keys.AreDeclared p kind self.now.declared → IfOk result (λ rows. rows.items ≡ keys.falling (length p) (keys.is_named p kind name)) }
+    {
+        self.declared.by_name(alloc, name)
     }
 
     /// Whether any member of the program has the name.
-    pub fn has_name(&self, name: u32) -> bool {
-        self.by_name.last(name, 0).is_some()
+    pub fn has_name(&self, name: u32) -> bool
+        ensures { (p : Rows) (kind : KindOf) → keys.AreDeclared p kind self.now.declared → result ≡ any_below (length p) (keys.is_named p kind name) }
+    {
+        self.declared.has_name(name)
     }
 
     /// What a type declares under a name, from the last back.
-    pub fn own(&self, alloc: Global, over: u32, name: u32) -> Result<Vec<u32>, OutOfMemory> {
-        self.own.rows(alloc, over, name)
+    pub fn own(&self, alloc: Global, over: u32, name: u32) -> Result<Vec<u32>, OutOfMemory>
+        ensures { (p : Rows) (kind : KindOf) → keys.AreDeclared p kind self.now.declared → IfOk result (λ rows. rows.items ≡ keys.falling (length p) (keys.is_declared_as p kind over name)) }
+    {
+        self.declared.own(alloc, over, name)
     }
 
     /// What a type declares, from the last back.
-    pub fn declared_by(&self, alloc: Global, over: u32) -> Result<Vec<u32>, OutOfMemory> {
-        self.declared.rows(alloc, over, 0)
+    pub fn declared_by(&self, alloc: Global, over: u32) -> Result<Vec<u32>, OutOfMemory>
+        ensures { (p : Rows) (kind : KindOf) → keys.AreDeclared p kind self.now.declared → IfOk result (λ rows. rows.items ≡ keys.falling (length p) (keys.is_declared_by p kind over)) }
+    {
+        self.declared.by_type(alloc, over)
     }
 
     // The type declares nothing that hides or overrides the member.
     fn is_left(&self, sources: Sources, own: &[u32], at: u32) -> bool {
-        match self.kind {
+        match self.declared.kind {
             MemberKind::Method => !are_any_same(sources.signatures, own, at),
             _ => own.is_empty(),
         }
@@ -295,7 +259,7 @@ impl Named {
         if self.lists.last(over, name).is_some() {
             return Ok(());
         }
-        let own = self.own.rows(alloc, over, name)?;
+        let own = self.declared.own(alloc, over, name)?;
         for at in &own {
             self.add_listed(alloc, over, name, *at)?;
         }
@@ -315,7 +279,7 @@ impl Named {
         over: u32,
         declaring: u32,
     ) -> Result<(), OutOfMemory> {
-        for at in &self.declared.rows(alloc, declaring, 0)? {
+        for at in &self.declared.by_type(alloc, declaring)? {
             let name = sources.under.places.name(*at);
             self.add_list(alloc, sources, met, over, name)?;
         }

@@ -3,3 +3,4 @@ pub mod Childs
 pub mod Naming
 pub mod Holding
 pub mod Uniting
+pub mod Packing

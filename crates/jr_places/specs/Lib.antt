@@ -4,3 +4,4 @@ pub mod Names
 pub mod Above
 pub mod Units
 pub mod Places
+pub mod Packages

@@ -1,11 +1,14 @@
 // What is computed from rows alone.
-ghost use Rattle.std.specs.Prelude.{◌≡◌, ◌<◌, IfOk, length, slice_index_or};
+ghost use Rattle.std.specs.Prelude.{◌≡◌, ◌<◌, IfOk, length};
+ghost use Rattle.jr_rows.specs.Local.{IsLocal};
 ghost use Rattle.jr_rows.specs.Rows.{Rows};
+ghost use Rattle.jr_plain.specs.Packages.{is_same_package};
 ghost use Rattle.jr_places.specs.Names.{name_row};
+ghost use Rattle.jr_places.specs.Packages.{PackagesAreNamed};
 ghost use Rattle.jr_places.specs.Places.{ArePlaces};
 
 use crate::around::arounds_of;
-use crate::names::names_of;
+use crate::names::{name_in, names_of};
 use crate::units::{Packages, tops_of, units_of};
 use jr_base::OutOfMemory;
 use jr_rows::Row;
@@ -19,16 +22,6 @@ pub struct Places {
     units: Vec<Option<u32>>,
     tops: Vec<Option<u32>>,
     packages: Packages,
-}
-
-// The name that a table has for a row.
-fn name_in(names: &[u32], at: u32) -> u32
-    ensures { result ≡ slice_index_or names.now at at }
-{
-    match names.get(at as usize) {
-        Some(name) => *name,
-        None => at,
-    }
 }
 
 // What a table has for a row.
@@ -89,7 +82,9 @@ impl Places {
     }
 
     /// Both rows stand in one package.
-    pub fn is_one_package(&self, one: u32, other: u32) -> bool {
+    pub fn is_one_package(&self, one: u32, other: u32) -> bool
+        ensures { (p : Rows) → ArePlaces p self.now → IsLocal p → PackagesAreNamed p → result ≡ is_same_package p one other }
+    {
         self.packages.is_one(one, other)
     }
 

@@ -1,7 +1,16 @@
 // The unit, the top-level type and the package of each row.
-ghost use Rattle.std.specs.Prelude.{◌≡◌, ◌^◌, ◌<◌, IfOk, length};
+ghost use Rattle.std.specs.Prelude.{◌≡◌, ◌-◌, ◌^◌, ◌<◌, ◌≤◌, None, IfOk, length, slice_index_or};
+ghost use Rattle.jr_rows.specs.Rows.{Rows, label, end};
+ghost use Rattle.jr_rows.specs.Tree.{IsTree};
+ghost use Rattle.jr_rows.specs.Local.{IsLocal};
+ghost use Rattle.jr_plain.specs.Packages.{is_same_package};
+ghost use Rattle.jr_tables.specs.Numbers.{IsNumbering};
+ghost use Rattle.jr_tables.specs.Tabulated.{tabulated};
+ghost use Rattle.jr_places.specs.Names.{name_row};
+ghost use Rattle.jr_places.specs.Packages as tell;
 ghost use Rattle.jr_places.specs.Units.{unit_by, units, top_by, tops};
 
+use crate::names::name_in;
 use crate::reading::{end_at, is_top_level, is_unit, parent_at};
 use jr_base::OutOfMemory;
 use jr_rows::{Label, Row};
@@ -73,16 +82,26 @@ fn number_name(
     names: &[u32],
     paths: &mut Numbering,
     at: u32,
-) -> Result<u32, OutOfMemory> {
+) -> Result<u32, OutOfMemory>
+    ensures { IsNumbering paths.old → names.now ≡ tabulated (name_row rows.now) (length rows.now) → length rows.now < 2 ^ 32 → at < length rows.now → at < end rows.now at → end rows.now at ≤ length rows.now → IfOk result (λ number. tell.Numbered paths.old paths.new number (tell.names_to rows.now at (end rows.now at - at))) }
+{
     let mut number = Numbering::EMPTY;
     for place in at..end_at(rows, at) {
-        let name = match names.get(place as usize) {
-            Some(name) => *name,
-            None => place,
-        };
-        number = paths.number(number, name)?;
+        number = paths.number(number, name_in(names, place))?;
     }
     Ok(number)
+}
+
+fn is_package(rows: &[Row], at: u32) -> bool
+    ensures { result ≡ tell.is_package (label rows.now at) }
+{
+    match rows.get(at as usize) {
+        Some(row) => match row.label {
+            Label::Package => true,
+            _ => false,
+        },
+        None => false,
+    }
 }
 
 // The number of the package that a unit declares.
@@ -91,19 +110,24 @@ fn number_package(
     names: &[u32],
     paths: &mut Numbering,
     unit: u32,
-) -> Result<u32, OutOfMemory> {
-    let Some(declared) = unit.checked_add(1) else {
+) -> Result<u32, OutOfMemory>
+    ensures { IsNumbering paths.old → names.now ≡ tabulated (name_row rows.now) (length rows.now) → length rows.now < 2 ^ 32 → IsTree rows.now → tell.PackagesAreNamed rows.now → unit < length rows.now → IfOk result (λ number. tell.Numbered paths.old paths.new number (tell.path_of rows.now unit)) }
+{
+    let declared = unit.saturating_add(1);
+    if !is_package(rows, declared) {
         return Ok(Numbering::EMPTY);
-    };
-    match rows.get(declared as usize) {
-        Some(row) => match row.label {
-            Label::Package => match declared.checked_add(1) {
-                Some(name) => number_name(rows, names, paths, name),
-                None => Ok(Numbering::EMPTY),
-            },
-            _ => Ok(Numbering::EMPTY),
-        },
-        None => Ok(Numbering::EMPTY),
+    }
+    let name = declared.saturating_add(1);
+    number_name(rows, names, paths, name)
+}
+
+// The number that a row has.
+fn known_at(known: &[Option<u32>], at: u32) -> Option<u32>
+    ensures { result ≡ slice_index_or known.now at None }
+{
+    match known.get(at as usize) {
+        Some(number) => *number,
+        None => None,
     }
 }
 
@@ -114,21 +138,21 @@ fn number_row(
     paths: &mut Numbering,
     known: &[Option<u32>],
     at: u32,
-) -> Result<Option<u32>, OutOfMemory> {
-    if is_unit(rows, at) {
-        let number = number_package(rows, names, paths, at)?;
-        return Ok(Some(number));
+) -> Result<Option<u32>, OutOfMemory>
+    ensures { names.now ≡ tabulated (name_row rows.now) (length rows.now) → length rows.now < 2 ^ 32 → IsLocal rows.now → tell.PackagesAreNamed rows.now → at < length rows.now → tell.ArePackagesTo rows.now paths.old known.now at → IfOk result (λ found. tell.PackageAt rows.now paths.old paths.new at found) }
+{
+    if !is_unit(rows, at) {
+        return Ok(known_at(known, parent_at(rows, at)));
     }
-    match known.get(parent_at(rows, at) as usize) {
-        Some(number) => Ok(*number),
-        None => Ok(None),
-    }
+    let number = number_package(rows, names, paths, at)?;
+    Ok(Some(number))
 }
 
 impl Packages {
     /// The packages of the units, where each row's name has the number that is given.
     pub fn of(alloc: Global, rows: &[Row], names: &[u32]) -> Result<Packages, OutOfMemory>
         requires { length rows.now < 2 ^ 32 }
+        ensures { names.now ≡ tabulated (name_row rows.now) (length rows.now) → IsLocal rows.now → tell.PackagesAreNamed rows.now → IfOk result (λ packages. tell.ArePackages rows.now packages) }
     {
         let mut paths = Numbering::new(alloc);
         let mut of_rows = Vec::new(alloc);
@@ -140,37 +164,40 @@ impl Packages {
     }
 
     /// The number of the package of a row. The program is in none.
-    pub fn of_row(&self, at: u32) -> Option<u32> {
-        match self.of_rows.get(at as usize) {
-            Some(number) => *number,
-            None => None,
-        }
+    pub fn of_row(&self, at: u32) -> Option<u32>
+        ensures { result ≡ slice_index_or self.now.of_rows.items at None }
+    {
+        known_at(&self.of_rows, at)
     }
 
     /// Both rows stand in one package.
-    pub fn is_one(&self, one: u32, other: u32) -> bool {
-        match self.of_row(one) {
-            Some(first) => match self.of_row(other) {
-                Some(second) => first == second,
-                None => false,
-            },
-            None => false,
-        }
+    pub fn is_one(&self, one: u32, other: u32) -> bool
+        ensures { (p : Rows) → IsLocal p → tell.ArePackages p self.now → result ≡ is_same_package p one other }
+    {
+        is_same(self.of_row(one), self.of_row(other))
     }
 
     /// The number of the package that a name spells, by the row of its last identifier, if it has units.
     pub fn spelled(&self, rows: &[Row], names: &[u32], at: u32) -> Option<u32> {
         let mut number = Numbering::EMPTY;
         for place in at..end_at(rows, at) {
-            let name = match names.get(place as usize) {
-                Some(name) => *name,
-                None => place,
-            };
-            match self.paths.find(number, name) {
+            match self.paths.find(number, name_in(names, place)) {
                 Some(next) => number = next,
                 None => return None,
             }
         }
         Some(number)
+    }
+}
+
+fn is_same(one: Option<u32>, other: Option<u32>) -> bool
+    ensures { result ≡ tell.same_some one other }
+{
+    match one {
+        Some(first) => match other {
+            Some(second) => first == second,
+            None => false,
+        },
+        None => false,
     }
 }

@@ -14,3 +14,4 @@ pub mod Superclassed
 pub mod Written
 pub mod Signed
 pub mod Signing
+pub mod Counted

@@ -1,5 +1,5 @@
 -- The parameter types of methods and constructors, and numbers of their signatures (JLS 8.4.2).
-use Rattle.std.specs.Prelude.{◌≡◌, ℕ, ◌+◌, ◌≤◌, ◌<◌, Bool, true, false, List, [], ◌∷◌, ◌++◌, length, take, drop, Option, Some, None, option_map, slice_index_or, if◌then◌else◌, nat_eq}
+use Rattle.std.specs.Prelude.{◌≡◌, ℕ, ◌+◌, ◌≤◌, ◌<◌, Bool, true, false, List, [], ◌∷◌, ◌++◌, length, take, drop, Option, Some, None, option_map, slice_index_or, slice_get, if◌then◌else◌, nat_eq, nat_le}
 use Rattle.jr_rows.specs.declared.label.Role.TheVariants as role
 use Rattle.jr_rows.specs.Rows.{Rows, role_at}
 use Rattle.jr_defs.specs.declared.referent.Element.{Element}
@@ -63,6 +63,16 @@ part types first count = take count (drop first types)
 
 abbrev pub number_of : Option Signature → Option ℕ
 number_of s = option_map (λ s. s.number) s
+
+-- the type of a parameter in the list of all
+abbrev pub parameter_in : List RowType → ℕ → Option Signature → Option RowType
+parameter_in types nth None = None
+parameter_in types nth (Some s) = if nat_le s.count nth then None else slice_get types (s.first + nth)
+
+-- an item of a list that was found
+abbrev pub nth_of : Option (List RowType) → ℕ → Option RowType
+nth_of None nth = None
+nth_of (Some all) nth = slice_get all nth
 
 -- both have numbers, which are one
 abbrev pub same_numbers : Option ℕ → Option ℕ → Bool

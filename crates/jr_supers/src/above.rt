@@ -436,6 +436,13 @@ impl Above {
         up_at(&self.links, at)
     }
 
+    /// How many types stand on the way up from a type by first supertypes, with itself.
+    pub fn turns(&self, at: u32) -> usize
+        ensures { result ≡ suc (tell.depth_of (tell.link_at self.now.links.items at)) }
+    {
+        turns_from(&self.links, at)
+    }
+
     /// One more type, behind its supertypes. A type that is there already stays as it is.
     pub fn with_type(
         self,

@@ -35,12 +35,12 @@ fn meet(met: &mut Vec<bool>, at: u32)
 }
 
 // Adds the types of a list.
-fn push_types(open: &mut Vec<Open>, rows: &[Row], all: &[u32]) -> Result<(), OutOfMemory>
-    ensures { OnOk result (open.new.items ≡ open.old.items ++ tell.entering rows.now all.now) }
+fn push_types(waiting: &mut Vec<Open>, rows: &[Row], all: &[u32]) -> Result<(), OutOfMemory>
+    ensures { OnOk result (waiting.new.items ≡ waiting.old.items ++ tell.entering rows.now all.now) }
 {
     for at in all {
         if is_type(rows, *at) {
-            open.push(Open {
+            waiting.push(Open {
                 at: *at,
                 leaves: false,
             })?;
@@ -55,11 +55,11 @@ fn step(
     rows: &[Row],
     supers: &Chains,
     met: &mut Vec<bool>,
-    open: &mut Vec<Open>,
+    waiting: &mut Vec<Open>,
     order: &mut Vec<u32>,
     top: Open,
 ) -> Result<(), OutOfMemory>
-    ensures { OnOk result (tell.searching met.new.items open.new.items order.new.items ≡ tell.step rows.now supers.now top (tell.searching met.old.items open.old.items order.old.items)) }
+    ensures { OnOk result (tell.searching met.new.items waiting.new.items order.new.items ≡ tell.step rows.now supers.now top (tell.searching met.old.items waiting.old.items order.old.items)) }
 {
     if top.leaves {
         order.push(top.at)?;
@@ -69,12 +69,12 @@ fn step(
         return Ok(());
     }
     meet(met, top.at);
-    open.push(Open {
+    waiting.push(Open {
         at: top.at,
         leaves: true,
     })?;
     let all = supers.rows(alloc, top.at, 0)?;
-    push_types(open, rows, &all)
+    push_types(waiting, rows, &all)
 }
 
 // The numbers of the rows.
@@ -98,19 +98,19 @@ fn none_met(alloc: Global, rows: &[Row]) -> Result<Vec<bool>, OutOfMemory>
     Ok(vec![in alloc; false; rows.len()]?)
 }
 
-// Each turn takes an open type off, and a type is entered once.
+// Each turn takes a waiting type off, and a type is entered once.
 fn ordered(
     alloc: Global,
     rows: &[Row],
     supers: &Chains,
     met: &mut Vec<bool>,
-    open: &mut Vec<Open>,
+    waiting: &mut Vec<Open>,
 ) -> Result<Vec<u32>, OutOfMemory>
-    ensures { tell.HasNoLoop supers.now → tell.IsSearching rows.now supers.now (tell.searching met.old.items open.old.items []) → IfOk result (λ order. tell.IsOrderOf rows.now supers.now order.items) }
+    ensures { tell.HasNoLoop supers.now → tell.IsSearching rows.now supers.now (tell.searching met.old.items waiting.old.items []) → IfOk result (λ order. tell.IsOrderOf rows.now supers.now order.items) }
 {
     let mut order = Vec::new(alloc);
-    while let Some(top) = open.pop() {
-        step(alloc, rows, supers, met, open, &mut order, top)?;
+    while let Some(top) = waiting.pop() {
+        step(alloc, rows, supers, met, waiting, &mut order, top)?;
     }
     Ok(order)
 }
@@ -120,7 +120,7 @@ pub fn order_of(alloc: Global, rows: &[Row], supers: &Chains) -> Result<Vec<u32>
     ensures { tell.HasNoLoop supers.now → IfOk result (λ order. tell.IsOrderOf rows.now supers.now order.items) }
 {
     let mut met = none_met(alloc, rows)?;
-    let mut open = Vec::new(alloc);
-    push_types(&mut open, rows, &all_rows(alloc, rows)?)?;
-    ordered(alloc, rows, supers, &mut met, &mut open)
+    let mut waiting = Vec::new(alloc);
+    push_types(&mut waiting, rows, &all_rows(alloc, rows)?)?;
+    ordered(alloc, rows, supers, &mut met, &mut waiting)
 }

@@ -260,18 +260,17 @@ impl Signatures {
     }
 
     /// How many parameters the method has, if the types of all are found.
-    pub fn count(&self, at: u32) -> Option<u32> {
-        Some(self.signature(at)?.count)
+    pub fn count(&self, at: u32) -> Option<u32>
+        ensures { (p : Rows) (t : Table) → tell.AreSignatures p t self.now → is_callable_role (all_rows.role_at p at) ≡ true → result ≡ option_map (λ all. length all) (plain.parameters p t at) }
+    {
+        count_of(self.signature(at))
     }
 
     /// The type of a parameter, counted from 0.
-    pub fn parameter(&self, at: u32, nth: u32) -> Option<RowType> {
-        let signature = self.signature(at)?;
-        if nth >= signature.count {
-            return None;
-        }
-        let place = signature.first.checked_add(nth)?;
-        self.types.get(place as usize).copied()
+    pub fn parameter(&self, at: u32, nth: u32) -> Option<RowType>
+        ensures { (p : Rows) (t : Table) → tell.AreSignatures p t self.now → is_callable_role (all_rows.role_at p at) ≡ true → result ≡ tell.nth_of (plain.parameters p t at) nth }
+    {
+        parameter_in(&self.types, self.signature(at), nth)
     }
 
     /// Both have one name and the same parameter types.
@@ -279,6 +278,30 @@ impl Signatures {
         ensures { (p : Rows) (t : Table) → tell.AreSignatures p t self.now → is_callable_role (all_rows.role_at p one) ≡ true → is_callable_role (all_rows.role_at p other) ≡ true → result ≡ plain.is_same_signature p t one other }
     {
         same_numbers(self.number(one), self.number(other))
+    }
+}
+
+fn count_of(signature: Option<Signature>) -> Option<u32>
+    ensures { result ≡ option_map (λ s. s.count) signature }
+{
+    match signature {
+        Some(signature) => Some(signature.count),
+        None => None,
+    }
+}
+
+// The type of a parameter in the list of all.
+fn parameter_in(types: &[RowType], signature: Option<Signature>, nth: u32) -> Option<RowType>
+    ensures { result ≡ tell.parameter_in types.now nth signature }
+{
+    match signature {
+        Some(signature) => {
+            if nth >= signature.count {
+                return None;
+            }
+            types.get(signature.first as usize + nth as usize).copied()
+        }
+        None => None,
     }
 }
 

@@ -1,11 +1,12 @@
 // The supertypes of the types of a program, and subtyping (JLS 4.10).
-ghost use Rattle.std.specs.Prelude.{◌≡◌, ◌++◌, None, IfOk, OnOk, Decides};
+ghost use Rattle.std.specs.Prelude.{◌≡◌, ◌++◌, suc, None, IfOk, OnOk, Decides};
 ghost use Rattle.jr_defs.specs.Referents.{Table, entries};
 ghost use Rattle.jr_defs.specs.Supertypes.{Above as AboveIn, AtOrAbove, Subtype, Superclass};
 ghost use Rattle.jr_rows.specs.Rows.{Rows};
 ghost use Rattle.jr_plain.specs.Same as same;
 ghost use Rattle.jr_plain.specs.Search.{Finds};
 ghost use Rattle.jr_plain.specs.Supertypes as plain;
+ghost use Rattle.jr_supers.specs.Above.{up_at, depth_of, link_at};
 ghost use Rattle.jr_supers.specs.Supers as tell;
 
 use crate::above::{Above, first_super};
@@ -97,8 +98,17 @@ impl Supers {
     }
 
     /// The first of the direct supertypes, where that is a type and stands before this one in the order.
-    pub fn linked(&self, at: u32) -> Option<u32> {
+    pub fn linked(&self, at: u32) -> Option<u32>
+        ensures { result ≡ up_at self.now.above.links.items at }
+    {
         self.above.first(at)
+    }
+
+    /// How many types stand on the way up from a type by `linked`, with itself.
+    pub fn turns(&self, at: u32) -> usize
+        ensures { result ≡ suc (depth_of (link_at self.now.above.links.items at)) }
+    {
+        self.above.turns(at)
     }
 
     /// The superclass.

@@ -1,4 +1,6 @@
 // A set of numbers that is emptied at once.
+ghost use Rattle.std.specs.Prelude.{◌≡◌, ℕ, IfOk, OnOk};
+ghost use Rattle.jr_tables.specs.Stamps.{is_stamped, IsStamping, IsEmptied, AddsStamp};
 
 use jr_base::OutOfMemory;
 use std::alloc::Global;
@@ -12,7 +14,10 @@ pub struct Stamps {
 
 impl Stamps {
     /// No numbers, out of those below the bound.
-    pub fn new(alloc: Global, bound: usize) -> Result<Stamps, OutOfMemory> {
+    #[tactic(auto, using(crate::proofs::Stamping::emptied_new))]
+    pub fn new(alloc: Global, bound: usize) -> Result<Stamps, OutOfMemory>
+        ensures { IfOk result (λ stamps. IsEmptied stamps bound) }
+    {
         Ok(Stamps {
             stamps: vec![in alloc; 0u32; bound]?,
             round: 1,
@@ -20,7 +25,10 @@ impl Stamps {
     }
 
     /// Takes all numbers out.
-    pub fn empty(&mut self) -> Result<(), OutOfMemory> {
+    #[tactic(auto, using(crate::proofs::Stamping::emptied_next))]
+    pub fn empty(&mut self) -> Result<(), OutOfMemory>
+        ensures { (bound : ℕ) → IsStamping self.old bound → OnOk result (IsEmptied self.new bound) }
+    {
         let Some(next) = self.round.checked_add(1) else {
             return Err(OutOfMemory);
         };
@@ -29,7 +37,9 @@ impl Stamps {
     }
 
     /// The number is in the set.
-    pub fn has(&self, at: u32) -> bool {
+    pub fn has(&self, at: u32) -> bool
+        ensures { result ≡ is_stamped self.now at }
+    {
         match self.stamps.get(at as usize) {
             Some(stamp) => *stamp == self.round,
             None => false,
@@ -37,15 +47,15 @@ impl Stamps {
     }
 
     /// Puts a number in, if it is below the bound. It was not in the set before.
-    pub fn add(&mut self, at: u32) -> bool {
-        let round = self.round;
-        match self.stamps.get_mut(at as usize) {
-            Some(stamp) => {
-                let is_new = *stamp != round;
-                *stamp = round;
-                is_new
-            }
-            None => false,
+    #[tactic(auto, using(crate::proofs::Stamping::adds_past, crate::proofs::Stamping::adds_at))]
+    pub fn add(&mut self, at: u32) -> bool
+        ensures { (bound : ℕ) → IsStamping self.old bound → AddsStamp self.old self.new bound at result }
+    {
+        if at as usize >= self.stamps.len() {
+            return false;
         }
+        let is_new = !self.has(at);
+        self.stamps[at as usize] = self.round;
+        is_new
     }
 }

@@ -5,7 +5,7 @@ use Rattle.jr_supers.proofs.Ordered.{one_step, one_turn, ends, no_items, nothing
 use Rattle.jr_supers.proofs.ordering.ordered.Goals as goal
 
 pub loop-top-init : goal.loop-top-init
-loop-top-init c = λ none start. subst (λ xs. IsSearching c.args.rows.now c.args.supers.now (searching c.args.met.now.items c.args.open.now.items xs)) (sym c.new-order.ensures.items) start
+loop-top-init c = λ none start. subst (λ xs. IsSearching c.args.rows.now c.args.supers.now (searching c.args.met.now.items c.args.waiting.now.items xs)) (sym c.new-order.ensures.items) start
 
 pub loop-top-smaller : goal.loop-top-smaller
 loop-top-smaller c = one_turn c.args.rows.now c.args.supers.now _ _ _ _ _ _ _ c.in-Some.top (c.pop.ensures.items ∙ ap (λ o. c.pop.new.self.items ++ option_to_list o) c.in-Some.is) c.in_ok-step.ensures
@@ -16,4 +16,4 @@ loop-top-preserved c = λ none start. subst (IsSearching c.args.rows.now c.args.
 
 pub returns : goal.returns
 returns c = λ none start. let absent : c.pop.result ≡ None = search in
-    ends c.args.rows.now c.args.supers.now _ _ _ (c.loop-top.invariant none start) (no_items _ (let len = nothing_left c.pop.result _ _ _ absent c.pop.ensures.cases in omega (arith, len, c.loop-top.open.ok.0)))
+    ends c.args.rows.now c.args.supers.now _ _ _ (c.loop-top.invariant none start) (no_items _ (let len = nothing_left c.pop.result _ _ _ absent c.pop.ensures.cases in omega (arith, len, c.loop-top.waiting.ok.0)))

@@ -1,0 +1,5 @@
+pub mod Keys
+pub mod Held
+pub mod Named
+pub mod Gathered
+pub mod Overridden
