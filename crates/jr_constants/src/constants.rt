@@ -1,11 +1,11 @@
 // Constant variables and constant expressions (JLS 4.12.4, 15.28).
 
-ghost use Rattle.std.specs.Prelude.{◌≡◌, ◌+◌, ◌<◌, ◌^◌, if◌then◌else◌, Some, None};
+ghost use Rattle.std.specs.Prelude.{◌≡◌, ◌+◌, ◌<◌, ◌^◌, if◌then◌else◌, Some, None, slice_get, slice_index_or};
 ghost use Rattle.jr_rows.specs.Rows.{label};
 ghost use Rattle.jr_defs.specs.Operators as defined;
 ghost use Rattle.jr_plain.specs.Declarations as declared;
 ghost use Rattle.jr_plain.specs.Constants as plain;
-ghost use Rattle.jr_constants.specs.Values.{seen, seen_if};
+ghost use Rattle.jr_constants.specs.Values.{seen, seen_if, text_at};
 
 use crate::operators::{bool_value, number_value, unary_value};
 use crate::texts::Texts;
@@ -38,7 +38,9 @@ pub struct Constants {
 }
 
 // What a table has for a row.
-fn item(all: &[Option<Value>], at: u32) -> Option<Value> {
+fn item(all: &[Option<Value>], at: u32) -> Option<Value>
+    ensures { result ≡ slice_index_or all.now at None }
+{
     match all.get(at as usize) {
         Some(value) => *value,
         None => None,
@@ -165,17 +167,23 @@ impl Constants {
     }
 
     /// The value of an expression, if it is constant.
-    pub fn value(&self, at: u32) -> Option<Value> {
+    pub fn value(&self, at: u32) -> Option<Value>
+        ensures { result ≡ slice_index_or self.now.values.items at None }
+    {
         item(&self.values, at)
     }
 
     /// The value of a variable, if it is constant.
-    pub fn variable(&self, at: u32) -> Option<Value> {
+    pub fn variable(&self, at: u32) -> Option<Value>
+        ensures { result ≡ slice_index_or self.now.variables.items at None }
+    {
         item(&self.variables, at)
     }
 
     /// The units of a constant string.
-    pub fn units(&self, text: u32) -> &[u16] {
+    pub fn units(&self, text: u32) -> &[u16]
+        ensures { result.now ≡ text_at (slice_get self.now.texts text) }
+    {
         self.texts.units(text)
     }
 

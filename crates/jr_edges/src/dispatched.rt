@@ -3,7 +3,7 @@
 use jr_base::OutOfMemory;
 use jr_change::{Locks, Project};
 use jr_locks::row_for;
-use jr_members::{Found, World};
+use jr_dispatch::{Found, Methods};
 use jr_places::is_class;
 use std::alloc::Global;
 
@@ -17,7 +17,7 @@ pub struct Lost {
 // A call does not find the copy of what it found. A class or method without a copy is passed.
 fn is_lost(
     alloc: Global,
-    locked: &World,
+    locked: Methods,
     copy: &[u32],
     before: Found,
 ) -> Result<bool, OutOfMemory> {
@@ -36,8 +36,8 @@ fn is_lost(
 // The first method of a class of which that holds.
 fn lost_in_class(
     alloc: Global,
-    old: &World,
-    locked: &World,
+    old: Methods,
+    locked: Methods,
     copy: &[u32],
     class: u32,
 ) -> Result<Option<Lost>, OutOfMemory> {
@@ -60,8 +60,8 @@ pub fn lost_dispatch(
     locked: &Project,
     locks: &Locks,
 ) -> Result<Option<Lost>, OutOfMemory> {
-    let before = &old.view.sight.world;
-    let after = &locked.view.sight.world;
+    let before = Methods::of(&old.view.sight.world);
+    let after = Methods::of(&locked.view.sight.world);
     let Ok(count) = u32::try_from(before.under.rows.len()) else {
         return Err(OutOfMemory);
     };

@@ -3,6 +3,7 @@
 use jr_base::{DeclId, Items, OutOfMemory, TypeId};
 use jr_core::Class;
 use jr_expressions::{Source, add};
+use jr_dispatch::Methods;
 use jr_members::{declaring_type, is_inner};
 use jr_places::{is_interface, is_type};
 use jr_rows::Label;
@@ -89,7 +90,7 @@ fn members(source: &Source, at: u32) -> Result<Items<DeclId>, OutOfMemory> {
 // For each method that a class has, the method that a call of it finds (JLS 15.12.4.4).
 fn found(source: &Source, at: u32) -> Result<Items<(DeclId, DeclId)>, OutOfMemory> {
     let mut all = Items::new(source.alloc);
-    for found in &source.world().found_in(source.alloc, at)? {
+    for found in &Methods::of(source.world()).found_in(source.alloc, at)? {
         all.push((source.decl(found.method), source.decl(found.found)))?;
     }
     Ok(all)

@@ -4,6 +4,7 @@ use crate::beside::{Beside, Left};
 use crate::throwing::Thrown;
 use crate::together::is_method;
 use jr_base::OutOfMemory;
+use jr_dispatch::Methods;
 use jr_members::{MemberKind, World, declaring_type, is_abstract};
 use jr_places::{is_class, is_interface};
 use jr_rows::Row;
@@ -214,7 +215,7 @@ impl<'a> Inheriting<'a> {
     // A call of the abstract method on an object of the class finds an abstract one.
     fn finds_abstract(&self, alloc: Global, class: u32, method: u32) -> Result<bool, OutOfMemory> {
         let world = self.world;
-        match world.dispatch(alloc, class, method)? {
+        match Methods::of(world).dispatch(alloc, class, method)? {
             Some(found) => Ok(is_abstract(world.under.rows, found)),
             None => Ok(false),
         }

@@ -4,6 +4,7 @@ use crate::access::is_narrower;
 use crate::throwing::Thrown;
 use crate::together::{is_method, is_result_fit};
 use jr_base::OutOfMemory;
+use jr_dispatch::Methods;
 use jr_members::{World, can_inherit, declaring_type, is_static, written_at};
 use jr_supers::entry_before;
 use jr_tables::{Chains, Entry};
@@ -147,7 +148,7 @@ fn redefines(alloc: Global, world: &World, method: u32, other: u32) -> Result<bo
     if is_static(world.under.rows, method) {
         Ok(is_hiding(world, method, other))
     } else {
-        world.overrides(alloc, method, other)
+        Methods::of(world).overrides(alloc, method, other)
     }
 }
 

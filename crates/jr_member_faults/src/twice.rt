@@ -1,10 +1,10 @@
 // Members and constructors that a body declares twice, and types in a type of their name (JLS 8.1, 8.3, 8.4.2, 8.5, 8.8.2).
 
 use jr_base::OutOfMemory;
-use jr_defs::{Element, RowType};
 use jr_members::{World, constructed_class, declaring_type};
 use jr_places::{Places, is_type, role_at};
 use jr_rows::{Role, Row};
+use jr_supers::with_type;
 use jr_tables::{Chains, Entry, Numbering};
 use std::alloc::Global;
 
@@ -19,39 +19,6 @@ pub struct Declared {
     /// Constructors, under the class and the numbers of their lists of parameter types.
     constructors: Chains,
     lists: Numbering,
-}
-
-// The number of an element type among its kind.
-fn kind_of(element: Element) -> u32 {
-    match element {
-        Element::Boolean => 0,
-        Element::Byte => 1,
-        Element::Short => 2,
-        Element::Char => 3,
-        Element::Int => 4,
-        Element::Long => 5,
-        Element::Null => 6,
-        Element::Void => 7,
-        Element::Class(_) => 8,
-    }
-}
-
-// The row of a class, or nothing to tell apart.
-fn row_of(element: Element) -> u32 {
-    match element {
-        Element::Class(row) => row,
-        _ => 0,
-    }
-}
-
-// The number of a list with one type more.
-fn with_type(lists: &mut Numbering, list: u32, ty: RowType) -> Result<u32, OutOfMemory> {
-    let Ok(dims) = u32::try_from(ty.dims) else {
-        return Err(OutOfMemory);
-    };
-    let kind = lists.number(list, kind_of(ty.element))?;
-    let class = lists.number(kind, row_of(ty.element))?;
-    lists.number(class, dims)
 }
 
 // The number of the parameter types of a constructor, if all are found.

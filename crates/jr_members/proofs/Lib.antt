@@ -6,4 +6,3 @@ pub mod Gathering
 pub mod Doing
 pub mod Declaring
 pub mod Having
-pub mod Overridden

@@ -2,4 +2,3 @@ pub mod Keys
 pub mod Held
 pub mod Named
 pub mod Gathered
-pub mod Overridden

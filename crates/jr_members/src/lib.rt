@@ -1,17 +1,16 @@
-//! Members of types by kind and name, access, overriding, the method that a call finds, and families of methods, by rows under a table.
+//! Members of types by kind and name, and access, by rows under a table.
 #![tactic(auto)]
 
 mod access;
 mod callables;
 mod declared;
-mod dispatch;
 mod law;
 mod members;
 mod modifiers;
 mod named;
 
-pub use declared::MemberKind;
-pub use dispatch::Found;
+pub use callables::Callables;
+pub use declared::{Declared, MemberKind};
 pub use law::members_are_held;
 pub use members::{Members, World, has, kind_of};
 pub use modifiers::{

@@ -117,6 +117,13 @@ impl Members {
         &self.callables.signatures
     }
 
+    /// Methods by their signatures, and constructors.
+    pub fn callables(&self) -> &Callables
+        ensures { result.now ≡ self.now.callables }
+    {
+        &self.callables
+    }
+
     /// The constructors of a class, from the last back.
     pub fn constructors(&self, alloc: Global, over: u32) -> Result<Vec<u32>, OutOfMemory>
         ensures { (p : Rows) → keys.AreCallables p self.now.callables → IfOk result (λ rows. rows.items ≡ keys.falling (length p) (is_constructor_of p over)) }

@@ -190,6 +190,13 @@ impl Named {
         Ok(Vec::new(alloc))
     }
 
+    /// The members that bodies declare.
+    pub fn in_bodies(&self) -> &Declared
+        ensures { result.now ≡ self.now.declared }
+    {
+        &self.declared
+    }
+
     /// The declared members that have a name, from the last in the program back.
     pub fn all_of_name(&self, alloc: Global, name: u32) -> Result<Vec<u32>, OutOfMemory>
         ensures { (p : Rows) (kind : KindOf) → keys.AreDeclared p kind self.now.declared → IfOk result (λ rows. rows.items ≡ keys.falling (length p) (keys.is_named p kind name)) }

@@ -3,6 +3,7 @@
 use crate::imports::add_imports;
 use jr_base::OutOfMemory;
 use jr_change::Project;
+use jr_dispatch::family;
 use jr_draft::is_in_prelude;
 use jr_marks::Marks;
 use jr_places::role_at;
@@ -18,7 +19,7 @@ pub fn family_of(
     let mut all = Vec::new(alloc);
     if let Some(row) = declared {
         match role_at(old.marks.rows, row) {
-            Role::Method => return old.view.sight.world.family(alloc, row),
+            Role::Method => return family(alloc, &old.view.sight.world, row),
             _ => all.push(row)?,
         }
     }

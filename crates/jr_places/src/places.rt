@@ -1,5 +1,5 @@
 // What is computed from rows alone.
-ghost use Rattle.std.specs.Prelude.{◌≡◌, ◌<◌, IfOk, length};
+ghost use Rattle.std.specs.Prelude.{◌≡◌, ◌<◌, IfOk, length, None, slice_index_or};
 ghost use Rattle.jr_rows.specs.Local.{IsLocal};
 ghost use Rattle.jr_rows.specs.Rows.{Rows};
 ghost use Rattle.jr_plain.specs.Packages.{is_same_package};
@@ -25,7 +25,9 @@ pub struct Places {
 }
 
 // What a table has for a row.
-fn item(all: &[Option<u32>], at: u32) -> Option<u32> {
+fn item(all: &[Option<u32>], at: u32) -> Option<u32>
+    ensures { result ≡ slice_index_or all.now at None }
+{
     match all.get(at as usize) {
         Some(found) => *found,
         None => None,
@@ -62,7 +64,9 @@ impl Places {
     }
 
     /// The innermost type whose body holds the row.
-    pub fn around(&self, at: u32) -> Option<u32> {
+    pub fn around(&self, at: u32) -> Option<u32>
+        ensures { result ≡ slice_index_or self.now.arounds.items at None }
+    {
         item(&self.arounds, at)
     }
 

@@ -2,6 +2,7 @@
 
 use crate::listed::subtypes;
 use jr_base::OutOfMemory;
+use jr_dispatch::Methods;
 use jr_members::{MemberKind, World, declaring_type, is_in_interface};
 use jr_places::{name_at, role_at};
 use jr_rows::Role;
@@ -17,7 +18,7 @@ fn is_found_in(
     method: u32,
 ) -> Result<bool, OutOfMemory> {
     for class in classes {
-        if world.dispatch(alloc, *class, other)? == Some(method) {
+        if Methods::of(world).dispatch(alloc, *class, other)? == Some(method) {
             return Ok(true);
         }
     }
@@ -33,7 +34,7 @@ fn is_found(
     other: u32,
     method: u32,
 ) -> Result<bool, OutOfMemory> {
-    if world.dispatch(alloc, declaring, other)? == Some(method) {
+    if Methods::of(world).dispatch(alloc, declaring, other)? == Some(method) {
         return Ok(true);
     }
     if !is_in_interface(world.under.rows, other) {

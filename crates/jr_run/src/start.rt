@@ -5,6 +5,7 @@ use crate::names::canonical_name;
 use jr_base::OutOfMemory;
 use jr_change::{Project, Reason};
 use jr_defs::{Element, RowType};
+use jr_dispatch::Methods;
 use jr_members::{MemberKind, World, has, is_static};
 use jr_places::{is_class, name_at};
 use jr_rows::Row;
@@ -72,7 +73,7 @@ fn is_start(view: &View, at: u32) -> bool {
 // The method of a class that a run can start with: one that it declares or inherits.
 fn start_in(alloc: Global, view: &View, class: u32) -> Result<Option<u32>, OutOfMemory> {
     let world = &view.sight.world;
-    for at in &world.methods_of(alloc, class)? {
+    for at in &Methods::of(world).methods_of(alloc, class)? {
         if is_start(view, *at) {
             let name = world.under.places.name(*at);
             let members = world.named(alloc, MemberKind::Method, class, name)?;

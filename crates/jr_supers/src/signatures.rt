@@ -63,8 +63,8 @@ fn row_of(element: Element) -> u32
     }
 }
 
-// The number of a list with one type more.
-fn with_type(numbers: &mut Numbering, list: u32, ty: RowType) -> Result<u32, OutOfMemory>
+/// The number of a list of types with one type more.
+pub fn with_type(numbers: &mut Numbering, list: u32, ty: RowType) -> Result<u32, OutOfMemory>
     ensures { IsNumbering numbers.old → IfOk result (λ number. tell.Continues numbers.old numbers.new list number (tell.with_type ty)) }
 {
     let Ok(dims) = u32::try_from(ty.dims) else {

@@ -1,4 +1,4 @@
-// Overriding, the method that a call finds, and families (JLS 8.4.8.1, 15.12.4.4).
+// Overriding, and the method that a call finds (JLS 8.4.8.1, 15.12.4.4).
 ghost use Rattle.std.specs.Prelude.{◌≡◌};
 ghost use Rattle.jr_rows.specs.declared.label.Role.TheVariants as role;
 ghost use Rattle.jr_rows.specs.Rows.{role_at};
@@ -6,17 +6,17 @@ ghost use Rattle.jr_defs.specs.Referents.{Table};
 ghost use Rattle.jr_plain.specs.Overriding as plain;
 ghost use Rattle.jr_supers.specs.Signatures.{AreSignatures};
 ghost use Rattle.jr_supers.specs.Supers.{AreSupersOf};
-ghost use Rattle.jr_members.specs.Overridden as tell;
+ghost use Rattle.jr_dispatch.specs.Overridden as tell;
 
-use crate::declared::MemberKind;
-use crate::members::World;
-use crate::modifiers::{
-    declaring_type, is_in_interface, is_private, is_protected, is_public, is_static,
-};
 use jr_base::OutOfMemory;
+use jr_members::{
+    Callables, Declared, MemberKind, World, declaring_type, has, is_in_interface, is_private,
+    is_protected, is_public, is_static,
+};
 use jr_places::{is_class, is_interface};
 use jr_rows::Row;
-use jr_tables::{Chains, Entry, Stamps};
+use jr_supers::{Supers, Tabled};
+use jr_tables::Stamps;
 use std::alloc::Global;
 
 /// A class, a method that it has, and the method that a call of it finds there.
@@ -38,14 +38,33 @@ fn may_override(rows: &[Row], method: u32, other: u32, are_same: bool) -> bool
         && (!is_in_interface(rows, method) || is_public(rows, other))
 }
 
-impl<'a> World<'a> {
+/// Rows under a table, with what calls read: supertypes, and the methods that bodies declare.
+#[derive(Clone, Copy)]
+pub struct Methods<'a> {
+    pub under: Tabled<'a>,
+    pub supers: &'a Supers,
+    pub callables: &'a Callables,
+    pub declared: &'a Declared,
+}
+
+impl<'a> Methods<'a> {
+    /// Those of a world.
+    pub fn of(world: &World<'a>) -> Methods<'a> {
+        Methods {
+            under: world.under,
+            supers: world.supers,
+            callables: world.members.callables(),
+            declared: world.members.kind(MemberKind::Method).in_bodies(),
+        }
+    }
+
     // The type of the first method is strictly below that of the second.
     fn is_declared_below(self, method: u32, other: u32) -> bool
         ensures { (t : Table) → AreSupersOf self.entry.under.rows.now t self.entry.supers.now → result ≡ plain.is_declared_below self.entry.under.rows.now t method other }
     {
         match declaring_type(self.under.rows, method) {
             Some(at) => match declaring_type(self.under.rows, other) {
-                Some(over) => self.is_above(at, over),
+                Some(over) => self.supers.is_above(self.under.rows, at, over),
                 None => false,
             },
             None => false,
@@ -55,9 +74,9 @@ impl<'a> World<'a> {
     // An instance method, and one of its signature, not private, in a type strictly above; where an interface declares the first, the other is
     // public.
     fn is_above_method(self, method: u32, other: u32) -> bool
-        ensures { (t : Table) → AreSupersOf self.entry.under.rows.now t self.entry.supers.now → AreSignatures self.entry.under.rows.now t self.entry.members.now.callables.signatures → role_at self.entry.under.rows.now method ≡ role.Method → role_at self.entry.under.rows.now other ≡ role.Method → result ≡ plain.is_above_method self.entry.under.rows.now t method other }
+        ensures { (t : Table) → AreSupersOf self.entry.under.rows.now t self.entry.supers.now → AreSignatures self.entry.under.rows.now t self.entry.callables.now.signatures → role_at self.entry.under.rows.now method ≡ role.Method → role_at self.entry.under.rows.now other ≡ role.Method → result ≡ plain.is_above_method self.entry.under.rows.now t method other }
     {
-        let are_same = self.members.signatures().are_same(method, other);
+        let are_same = self.callables.signatures.are_same(method, other);
         if !may_override(self.under.rows, method, other, are_same) {
             return false;
         }
@@ -80,7 +99,7 @@ impl<'a> World<'a> {
         method: u32,
     ) -> Result<(), OutOfMemory> {
         for other in like {
-            if self.overrides_directly(method, *other) && !crate::members::has(met, *other) {
+            if self.overrides_directly(method, *other) && !has(met, *other) {
                 met.push(*other)?;
             }
         }
@@ -95,10 +114,7 @@ impl<'a> World<'a> {
         other: u32,
     ) -> Result<bool, OutOfMemory> {
         let name = self.under.places.name(method);
-        let like = self
-            .members
-            .kind(MemberKind::Method)
-            .all_of_name(alloc, name)?;
+        let like = self.declared.by_name(alloc, name)?;
         let mut met = Vec::new(alloc);
         self.add_overridden(&like, &mut met, method)?;
         for turn in 0..like.len() {
@@ -124,6 +140,50 @@ impl<'a> World<'a> {
         self.overrides_through(alloc, method, other)
     }
 
+    // Adds the supertypes of a type that are no interfaces and are not met yet, behind the rest.
+    fn add_classes(
+        self,
+        alloc: Global,
+        met: &mut Stamps,
+        all: &mut Vec<u32>,
+        at: u32,
+    ) -> Result<(), OutOfMemory> {
+        for over in &self.supers.direct().rows(alloc, at, 0)? {
+            if !is_interface(self.under.rows, *over) && met.add(*over) {
+                all.push(*over)?;
+            }
+        }
+        Ok(())
+    }
+
+    // The type declares a method of the signature.
+    fn is_declared_like(self, alloc: Global, at: u32, method: u32) -> Result<bool, OutOfMemory> {
+        let own = self.callables.declared_like(alloc, at, method)?;
+        Ok(!own.is_empty())
+    }
+
+    // A class has a public method of a class as a member: it comes down to it by supertypes that are no interfaces, and none of which declares
+    // one of its signature but the one that declares it (JLS 8.4.8).
+    fn inherits(self, alloc: Global, class: u32, method: u32) -> Result<bool, OutOfMemory> {
+        let declaring = declaring_type(self.under.rows, method);
+        let mut met = Stamps::new(alloc, self.under.rows.len())?;
+        let mut all = Vec::new(alloc);
+        let _ = met.add(class);
+        all.push(class)?;
+        for turn in 0..self.under.rows.len() {
+            let Some(next) = all.get(turn).copied() else {
+                return Ok(false);
+            };
+            if declaring == Some(next) {
+                return Ok(true);
+            }
+            if !self.is_declared_like(alloc, next, method)? {
+                self.add_classes(alloc, &mut met, &mut all, next)?;
+            }
+        }
+        Ok(false)
+    }
+
     // A method of an interface above the class, and a public member of the class of its signature.
     fn implements(
         self,
@@ -137,13 +197,13 @@ impl<'a> World<'a> {
             return Ok(false);
         };
         if !is_interface(rows, over)
-            || !self.is_above(class, over)
+            || !self.supers.is_above(rows, class, over)
             || !is_public(rows, method)
-            || !self.members.signatures().are_same(method, other)
+            || !self.callables.signatures.are_same(method, other)
         {
             return Ok(false);
         }
-        self.is_member(alloc, class, method)
+        self.inherits(alloc, class, method)
     }
 
     // A method serves a call of another on an object of the class.
@@ -172,7 +232,7 @@ impl<'a> World<'a> {
         if declaring_type(self.under.rows, called) == Some(declaring) {
             first = Some(called);
         }
-        for method in &self.members.declared_like(alloc, declaring, called)? {
+        for method in &self.callables.declared_like(alloc, declaring, called)? {
             if self.serves(alloc, class, called, *method)? {
                 first = Some(*method);
             }
@@ -217,11 +277,7 @@ impl<'a> World<'a> {
     pub fn methods_of(self, alloc: Global, class: u32) -> Result<Vec<u32>, OutOfMemory> {
         let mut all = Vec::new(alloc);
         for over in &self.supers.with_above(alloc, self.under.rows, class)? {
-            for method in &self
-                .members
-                .kind(MemberKind::Method)
-                .declared_by(alloc, *over)?
-            {
+            for method in &self.declared.by_type(alloc, *over)? {
                 all.push(*method)?;
             }
         }
@@ -241,104 +297,6 @@ impl<'a> World<'a> {
                 })?;
             }
         }
-        Ok(all)
-    }
-
-    // One link between two methods, both ways.
-    fn with_link(links: Chains, one: u32, other: u32) -> Result<Chains, OutOfMemory> {
-        let links = links.push(Entry {
-            first: one,
-            second: 0,
-            row: other,
-        })?;
-        links.push(Entry {
-            first: other,
-            second: 0,
-            row: one,
-        })
-    }
-
-    // The links of a method to those that it overrides.
-    fn with_overridden(
-        self,
-        alloc: Global,
-        links: Chains,
-        method: u32,
-    ) -> Result<Chains, OutOfMemory> {
-        let mut links = links;
-        let Some(declaring) = declaring_type(self.under.rows, method) else {
-            return Ok(links);
-        };
-        for over in &self.supers.with_above(alloc, self.under.rows, declaring)? {
-            for other in &self.members.declared_like(alloc, *over, method)? {
-                if self.overrides(alloc, method, *other)? {
-                    links = World::with_link(links, method, *other)?;
-                }
-            }
-        }
-        Ok(links)
-    }
-
-    // The links between the methods of one signature that a type has as members.
-    fn with_members(
-        self,
-        alloc: Global,
-        links: Chains,
-        over: u32,
-        method: u32,
-    ) -> Result<Chains, OutOfMemory> {
-        let mut links = links;
-        let name = self.under.places.name(method);
-        let mut before = None;
-        for other in &self.named(alloc, MemberKind::Method, over, name)? {
-            if self.members.signatures().are_same(*other, method) {
-                if let Some(last) = before {
-                    links = World::with_link(links, last, *other)?;
-                }
-                before = Some(*other);
-            }
-        }
-        Ok(links)
-    }
-
-    // The links between all methods of the signature of one.
-    fn links_of(self, alloc: Global, method: u32) -> Result<Chains, OutOfMemory> {
-        let mut links = Chains::new(alloc);
-        let name = self.under.places.name(method);
-        let like = self
-            .members
-            .kind(MemberKind::Method)
-            .all_of_name(alloc, name)?;
-        for other in &like {
-            if self.members.signatures().are_same(*other, method) {
-                links = self.with_overridden(alloc, links, *other)?;
-            }
-        }
-        for over in self.supers.order() {
-            links = self.with_members(alloc, links, *over, method)?;
-        }
-        Ok(links)
-    }
-
-    /// The methods that are renamed together: those linked by overriding, or by a type that has both as members with one signature, and so on,
-    /// as they rise.
-    pub fn family(self, alloc: Global, method: u32) -> Result<Vec<u32>, OutOfMemory> {
-        let links = self.links_of(alloc, method)?;
-        let mut met = Stamps::new(alloc, self.under.rows.len())?;
-        let mut all = Vec::new(alloc);
-        all.push(method)?;
-        let _ = met.add(method);
-        for turn in 0..self.under.rows.len() {
-            let Some(next) = all.get(turn).copied() else {
-                break;
-            };
-            for other in &links.rows(alloc, next, 0)? {
-                if met.add(*other) {
-                    all.push(*other)?;
-                }
-            }
-        }
-        all.sort_unstable();
         Ok(all)
     }
 }

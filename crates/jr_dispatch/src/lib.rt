@@ -1,0 +1,8 @@
+//! Overriding, the method that a call finds, and families of methods, by rows under a table.
+#![tactic(auto)]
+
+mod dispatch;
+mod family;
+
+pub use dispatch::{Found, Methods};
+pub use family::family;
