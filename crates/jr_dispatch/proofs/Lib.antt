@@ -1,1 +1,2 @@
 mod Overridden
+mod Having

@@ -9,7 +9,7 @@ use Rattle.jr_plain.specs.Modifiers.{is_public, is_private, is_static, is_in_int
 use Rattle.jr_plain.specs.Types.{is_same_signature}
 use Rattle.jr_plain.specs.Supertypes.{is_above}
 use Rattle.jr_plain.specs.Overriding as plain
-use Rattle.jr_members.specs.Overridden.{may_override}
+use Rattle.jr_dispatch.specs.Overridden.{may_override}
 
 -- the type of one method is strictly below that of another, where it is told which types declare them
 abbrev pub below_by : Rows → Table → Option ℕ → Option ℕ → Bool

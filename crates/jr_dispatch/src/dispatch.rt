@@ -1,17 +1,19 @@
 // Overriding, and the method that a call finds (JLS 8.4.8.1, 15.12.4.4).
-ghost use Rattle.std.specs.Prelude.{◌≡◌};
+ghost use Rattle.std.specs.Prelude.{◌≡◌, Decides};
 ghost use Rattle.jr_rows.specs.declared.label.Role.TheVariants as role;
 ghost use Rattle.jr_rows.specs.Rows.{role_at};
 ghost use Rattle.jr_defs.specs.Referents.{Table};
+ghost use Rattle.jr_defs.specs.Overriding.{Has};
 ghost use Rattle.jr_plain.specs.Overriding as plain;
 ghost use Rattle.jr_supers.specs.Signatures.{AreSignatures};
 ghost use Rattle.jr_supers.specs.Supers.{AreSupersOf};
+ghost use Rattle.jr_members.specs.Held.{ObjectIsBare};
 ghost use Rattle.jr_dispatch.specs.Overridden as tell;
 
 use jr_base::OutOfMemory;
 use jr_members::{
-    Callables, Declared, MemberKind, World, declaring_type, has, is_in_interface, is_private,
-    is_protected, is_public, is_static,
+    Callables, Declared, MemberKind, World, declaring_type, has, is_in_interface, is_method,
+    is_private, is_protected, is_public, is_static,
 };
 use jr_places::{is_class, is_interface};
 use jr_rows::Row;
@@ -55,6 +57,19 @@ impl<'a> Methods<'a> {
             supers: world.supers,
             callables: world.members.callables(),
             declared: world.members.kind(MemberKind::Method).in_bodies(),
+        }
+    }
+
+    /// The class has the method: it is declared in the class or in a type above it.
+    pub fn has_method(self, over: u32, at: u32) -> bool
+        ensures { (t : Table) → AreSupersOf self.entry.under.rows.now t self.entry.supers.now → ObjectIsBare self.entry.under.rows.now → Decides result (Has self.entry.under.rows.now t over at) }
+    {
+        if !is_method(self.under.rows, at) {
+            return false;
+        }
+        match declaring_type(self.under.rows, at) {
+            Some(declaring) => self.supers.is_at_or_above(self.under.rows, over, declaring),
+            None => false,
         }
     }
 

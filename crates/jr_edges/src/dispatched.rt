@@ -2,8 +2,8 @@
 
 use jr_base::OutOfMemory;
 use jr_change::{Locks, Project};
-use jr_locks::row_for;
 use jr_dispatch::{Found, Methods};
+use jr_locks::row_for;
 use jr_places::is_class;
 use std::alloc::Global;
 

@@ -2,8 +2,8 @@
 
 use jr_base::{DeclId, Items, OutOfMemory, TypeId};
 use jr_core::Class;
-use jr_expressions::{Source, add};
 use jr_dispatch::Methods;
+use jr_expressions::{Source, add};
 use jr_members::{declaring_type, is_inner};
 use jr_places::{is_interface, is_type};
 use jr_rows::Label;

@@ -5,4 +5,3 @@ pub mod Climbing
 pub mod Gathering
 pub mod Doing
 pub mod Declaring
-pub mod Having

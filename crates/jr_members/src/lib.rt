@@ -15,7 +15,7 @@ pub use law::members_are_held;
 pub use members::{Members, World, has, kind_of};
 pub use modifiers::{
     access_of, constructed_class, declaring_type, is_abstract, is_final, is_in_interface, is_inner,
-    is_member_role, is_private, is_protected, is_public, is_static, needs_no_object, passes,
-    written_at,
+    is_member_role, is_method, is_private, is_protected, is_public, is_static, needs_no_object,
+    passes, written_at,
 };
 pub use named::{Named, Sources, can_inherit};

@@ -4,7 +4,6 @@ ghost use Rattle.jr_rows.specs.Rows as all_rows;
 ghost use Rattle.jr_rows.specs.Rows.{Rows};
 ghost use Rattle.jr_defs.specs.Referents.{Table};
 ghost use Rattle.jr_defs.specs.Supertypes.{Above};
-ghost use Rattle.jr_defs.specs.Overriding.{Has};
 ghost use Rattle.jr_plain.specs.Enclosing.{is_constructor_of};
 ghost use Rattle.jr_plain.specs.Modifiers as modifiers;
 ghost use Rattle.jr_plain.specs.Search as search;
@@ -12,12 +11,11 @@ ghost use Rattle.jr_plain.specs.Supertypes as supers;
 ghost use Rattle.jr_supers.specs.Signatures.{AreSignatures};
 ghost use Rattle.jr_supers.specs.Supers.{AreSupersOf};
 ghost use Rattle.jr_supers.specs.Tabled.{is_callable};
-ghost use Rattle.jr_members.specs.Held.{ObjectIsBare};
 ghost use Rattle.jr_members.specs.Keys as keys;
 
 use crate::callables::Callables;
 use crate::declared::MemberKind;
-use crate::modifiers::{declaring_type, is_in_interface, is_method, is_public, is_static};
+use crate::modifiers::{declaring_type, is_in_interface, is_public, is_static};
 use crate::named::{Named, Sources, are_any_same};
 use jr_base::OutOfMemory;
 use jr_places::{is_interface, role_at};
@@ -248,19 +246,6 @@ impl<'a> World<'a> {
         ensures above { (t : Table) → AreSupersOf self.entry.under.rows.now t self.entry.supers.now → Decides result (Above self.entry.under.rows.now t at over) }
     {
         self.supers.is_above(self.under.rows, at, over)
-    }
-
-    /// The class has the method: it is declared in the class or in a type above it.
-    pub fn has_method(self, over: u32, at: u32) -> bool
-        ensures { (t : Table) → AreSupersOf self.entry.under.rows.now t self.entry.supers.now → ObjectIsBare self.entry.under.rows.now → Decides result (Has self.entry.under.rows.now t over at) }
-    {
-        if !is_method(self.under.rows, at) {
-            return false;
-        }
-        match declaring_type(self.under.rows, at) {
-            Some(declaring) => self.supers.is_at_or_above(self.under.rows, over, declaring),
-            None => false,
-        }
     }
 }
 

@@ -2,8 +2,8 @@ use Rattle.std.proofs.Common.{◌≡◌, sym, ◌∙◌, ap, subst, true}
 use Rattle.jr_rows.specs.declared.label.Role.TheVariants as role
 use Rattle.jr_supers.specs.Signatures.{AreSignatures}
 use Rattle.jr_supers.specs.Tabled.{is_callable}
-use Rattle.jr_members.proofs.Overridden.{above_refused, above_allowed}
-use Rattle.jr_members.proofs.members.World.is_above_method.Goals as goal
+use Rattle.jr_dispatch.proofs.Overridden.{above_refused, above_allowed}
+use Rattle.jr_dispatch.proofs.dispatch.Methods.is_above_method.Goals as goal
 
 pub returns-then-not-may_override : goal.returns-then-not-may_override
 returns-then-not-may_override c = λ t supers signed method other. let p = c.args.self.under.rows.now in

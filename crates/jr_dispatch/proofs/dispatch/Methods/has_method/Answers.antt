@@ -1,6 +1,6 @@
 use Rattle.std.proofs.Common.{sym, ◌∙◌}
-use Rattle.jr_members.proofs.Having.{has_none, has_unheld, has_held}
-use Rattle.jr_members.proofs.members.World.has_method.Goals as goal
+use Rattle.jr_dispatch.proofs.Having.{has_none, has_unheld, has_held}
+use Rattle.jr_dispatch.proofs.dispatch.Methods.has_method.Goals as goal
 
 pub returns-then-not-is_method : goal.returns-then-not-is_method
 returns-then-not-is_method c = λ t supers bare. has_none c.args.self.under.rows.now t c.args.over c.args.at (sym c.is_method.ensures ∙ c.if-not-is_method.true)
