@@ -7,6 +7,7 @@ ghost use Rattle.jr_plain.specs.Same as same;
 ghost use Rattle.jr_plain.specs.Search.{Finds};
 ghost use Rattle.jr_plain.specs.Supertypes as plain;
 ghost use Rattle.jr_supers.specs.Above.{up_at, depth_of, link_at};
+ghost use Rattle.jr_supers.specs.Direct.{HasSupers};
 ghost use Rattle.jr_supers.specs.Supers as tell;
 
 use crate::above::{Above, first_super};
@@ -31,7 +32,8 @@ pub struct Supers {
 impl Supers {
     /// The supertypes under a table.
     pub fn of(alloc: Global, under: Tabled) -> Result<Supers, OutOfMemory>
-        ensures { tell.IsWellHeaded under.entry.rows.now → tell.HasNoCycle under.entry.rows.now (entries under.entry.table.now) → IfOk result (λ supers. tell.AreSupersOf under.entry.rows.now (entries under.entry.table.now) supers) }
+        ensures direct { tell.IsWellHeaded under.entry.rows.now → IfOk result (λ supers. HasSupers under.entry.rows.now (entries under.entry.table.now) supers.direct.supers) }
+        ensures all { tell.IsWellHeaded under.entry.rows.now → tell.HasNoCycle under.entry.rows.now (entries under.entry.table.now) → IfOk result (λ supers. tell.AreSupersOf under.entry.rows.now (entries under.entry.table.now) supers) }
     {
         let direct = Direct::of(alloc, under)?;
         let order = order_of(alloc, under.rows, &direct.supers)?;
