@@ -1,0 +1,2 @@
+pub mod StandApart
+pub mod Rising
