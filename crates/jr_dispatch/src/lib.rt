@@ -2,7 +2,7 @@
 #![tactic(auto)]
 
 mod dispatch;
-mod family;
+mod families;
 
 pub use dispatch::{Found, Methods};
-pub use family::family;
+pub use families::family;
