@@ -1,6 +1,6 @@
 #!/usr/bin/env bash
 # Tries the script `refactor` over a stub in place of the program, in a small repository made for it: what it builds, passes on, says
-# and leaves. The status is 0 where all is as wanted. Not part of the gate; with a path it tries the program at the path as well.
+# and leaves. The status is 0 where all is as wanted. With a path it tries the program at the path as well. Not part of the gate.
 #   tools/wrapper.sh [PROGRAM]
 set -u
 unset CDPATH
@@ -286,7 +286,7 @@ try_dry_runs() {
   stub 0 '' 'echo new >A.java'
   "$repo/refactor" --dry-run "$folder" check >/dev/full 2>/dev/null
   same 'a dry run, no room for the difference: status' 74 $?
-  for at in TERM INT HUP; do
+  for at in TERM INT HUP QUIT; do
     interrupt "a dry run stopped by $at" "$at" --dry-run "$folder" check
     interrupt "a run stopped by $at" "$at" "$folder" check
   done
