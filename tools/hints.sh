@@ -87,7 +87,7 @@ why_unread() {
   for own in .refactor-gate .refactor-journal; do
     [ -L "$1/$own" ] && { say "$2: $own is a link"; return; }
   done
-  found=$(cd "$1" && find . 2>/dev/null | LC_ALL=C.UTF-8 grep -axv -m 1 '.*')
+  found=$(cd "$1" && find . 2>/dev/null | LC_ALL=C.UTF-8 grep -axv -m 1 '.*' | sed 's,^\./,,' | LC_ALL=C cat -v)
   [ -n "$found" ] && { say "$2: a name is no UTF-8: $found"; return; }
   return 1
 }
@@ -118,6 +118,7 @@ explain() {
 
 # What helps to read an answer: its status, the command, the folder, what that is called, and the file with the answer.
 help_with() {
+  case $3 in '' | /*) ;; *) set -- "$1" "$2" "./$3" "$4" "$5" ;; esac
   case $1 in
     1) say "$(usage "$2")" ;;
     3 | 4 | 5 | 6 | 13 | 21) locate "$3" "$5" '' ;;

@@ -224,7 +224,9 @@ try_faults() {
   : >"$folder/$(printf 'a\377b')"
   stub 7 'store fault: reading\n'
   call "$folder" check
-  has 'a name that is no UTF-8' "$room/err" 'a name is no UTF-8: '
+  wanted 'a name that is no UTF-8' 7 'store fault: reading\n' "$folder: a name is no UTF-8: aM-^?b"
+  (cd "$room" && mkdir -p ./-n && ln -sf x ./-n/.refactor-gate && "$repo/refactor" -n check 2>"$room/err" >/dev/null)
+  has 'a folder whose name begins with a dash' "$room/err" '.refactor-gate is a link'
   make_folder
 }
 
@@ -256,9 +258,12 @@ try_dry_runs() {
   stub 7 'store fault: writing\n'
   ln -s A.java "$folder/L.java"
   ln -s nowhere "$folder/M.java"
+  mkfifo "$folder/pipe"
   call --dry-run "$folder" rename A.java 30 x
-  same 'a dry run with links: standard output' 'store fault: writing' "$(cat "$room/out")"
-  rm "$folder/L.java" "$folder/M.java"
+  same 'a dry run with links: standard output' 'store fault: writing
+File a/pipe is a fifo while file b/pipe is a fifo' "$(cat "$room/out")"
+  has 'a dry run with links' "$room/err" 'perhaps since '
+  rm "$folder/L.java" "$folder/M.java" "$folder/pipe"
   chmod 555 "$folder/shop"
   chmod 755 "$folder"
   stub 0 'done, files changed: 0\n'
@@ -345,6 +350,7 @@ try_builds() {
   kill -s TERM "$pid"
   wait "$pid"
   same 'a build that is stopped: status' 143 $?
+  same 'a build that is stopped: nothing left' '' "$(ls "$TMPDIR")"
   same 'a build that is stopped: rt' 'ended' "$(kill -0 "$(cat "$STUB/pid")" 2>/dev/null || echo ended)"
   put_program
 }
