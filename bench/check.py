@@ -50,7 +50,7 @@ def peers(folder, ecj):
 def main():
     parser = argparse.ArgumentParser(description=__doc__, formatter_class=argparse.RawDescriptionHelpFormatter)
     top = os.path.join(os.path.dirname(os.path.abspath(__file__)), '..')
-    parser.add_argument('--bin', default=os.path.join(top, 'refactor'))
+    parser.add_argument('--bin', default=os.path.join(top, 'crates', 'refactor', 'out', 'refactor'))
     parser.add_argument('--files', type=int, default=4000)
     parser.add_argument('--runs', type=int, default=3)
     parser.add_argument('--ecj')

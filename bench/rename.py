@@ -121,7 +121,7 @@ def compare(program, files, runs):
 def main():
     parser = argparse.ArgumentParser()
     top = os.path.join(os.path.dirname(os.path.abspath(__file__)), '..')
-    parser.add_argument('--bin', default=os.path.join(top, 'refactor'))
+    parser.add_argument('--bin', default=os.path.join(top, 'crates', 'refactor', 'out', 'refactor'))
     parser.add_argument('--runs', type=int, default=5)
     parser.add_argument('--files', type=int, default=4000)
     parser.add_argument('--batch', type=int, default=1000)
