@@ -6,8 +6,8 @@ use Rattle.std.proofs.lemmas.Bool.Decides.{Decides-eqb}
 use Rattle.std.proofs.lemmas.List.{length-replicate, length-set, get_or-replicate, get_or-set_same, get_or-set_other, get_or_past}
 use Rattle.jr_change.specs.declared.change.RowRange.{RowRange}
 use Rattle.jr_locks.specs.Origins.{no_row, origin_of}
-use Rattle.jr_locks.specs.Locked.{IsFirstCopyOf, IsGone, every, between, is_within, is_outside, is_in, is_beside}
-use Rattle.jr_locks.specs.Copies.{AreTold, AreToldTo, AreJoined, AreToldNear, AreAllTold, old_count, near_in, earlier, with_first, with_row, with_later}
+use Rattle.jr_locks.specs.Locked.{IsFirstCopyOf, every, between, is_within, is_outside, is_in, is_beside}
+use Rattle.jr_locks.specs.Copies.{AreTold, AreToldTo, AreJoined, AreToldNear, AreAllTold, old_count, earlier, with_first, with_row, with_later}
 use Rattle.jr_locks.specs.declared.moving.Copies.{Copies}
 
 -- ---- rows of a range

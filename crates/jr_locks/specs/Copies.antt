@@ -1,5 +1,5 @@
 -- Copies of old rows, as the code looks them up.
-use Rattle.std.specs.Prelude.{◌≡◌, ◌≢◌, ℕ, ◌<◌, ◌≤◌, Bool, false, IsTrue, List, [], length, Option, Some, None, if◌then◌else◌, nat_eq, slice_set}
+use Rattle.std.specs.Prelude.{◌≡◌, ◌≢◌, ℕ, ◌<◌, ◌≤◌, Bool, false, List, [], length, Option, Some, None, if◌then◌else◌, nat_eq, slice_set}
 use Rattle.jr_defs.specs.declared.referent.Referent.{Referent}
 use Rattle.jr_defs.specs.declared.referent.Referent.TheVariants.{Unbound, Ambiguous, ArrayLength, Package, Declared}
 use Rattle.jr_defs.specs.Referents.{Table, entries}
@@ -7,7 +7,7 @@ use Rattle.jr_change.specs.declared.change.Added.{Added}
 use Rattle.jr_change.specs.declared.change.Raised.{Raised}
 use Rattle.jr_change.specs.declared.change.RowRange.{RowRange}
 use Rattle.jr_locks.specs.Origins.{no_row, origin_of, row_by}
-use Rattle.jr_locks.specs.Locked.{IsFirstCopyOf, IsGone, IsSeenFrom, IsLockOf, AllLocked, every, is_within, is_in, is_beside, is_added, raised_to}
+use Rattle.jr_locks.specs.Locked.{IsFirstCopyOf, IsGone, IsSeenFrom, AllLocked, every, is_within, is_in, is_beside, is_added, raised_to}
 use Rattle.jr_locks.specs.declared.moving.Copies.{Copies}
 
 -- ---- one table
