@@ -1,4 +1,7 @@
 // A program that compiles, with its tables.
+ghost use Rattle.std.specs.Prelude.{◌≡◌, length};
+ghost use Rattle.jr_index.specs.NodeRows.{unit_rows};
+
 use jr_bind::Bound;
 use jr_defs::Program;
 use jr_index::Index;
@@ -23,12 +26,23 @@ pub struct Workspace {
 
 impl Workspace {
     /// Where the rows stand in texts.
-    pub fn marks(&self) -> Marks<'_> {
-        Marks::of(&self.program, &self.index)
+    pub fn marks(&self) -> Marks<'_>
+        ensures units { result.units.now ≡ self.now.program.units }
+        ensures rows { result.rows.now ≡ self.now.index.value }
+        ensures starts { result.starts.now ≡ unit_rows self.now.index.value (length self.now.index.value) }
+    {
+        Marks {
+            units: self.program.units.as_slice(),
+            rows: self.index.rows(),
+            marks: self.index.marks(),
+            starts: self.index.units(),
+        }
     }
 
     /// The tables.
-    pub fn view(&self) -> View<'_> {
+    pub fn view(&self) -> View<'_>
+        ensures { result.sight.world.under.table.now ≡ self.now.bound.value.table.items }
+    {
         view_of(self.index.rows(), &self.places, &self.scopes, &self.bound)
     }
 }
@@ -39,7 +53,9 @@ pub fn view_of<'a>(
     places: &'a Places,
     scopes: &'a Scopes,
     bound: &'a Bound,
-) -> View<'a> {
+) -> View<'a>
+    ensures { result.sight.world.under.table.now ≡ bound.now.table.items }
+{
     let under = Tabled {
         rows,
         places,
