@@ -1,3 +1,5 @@
 pub mod Told
 pub mod Locked
+pub mod Changing
+pub mod Numbers
 pub mod Adding

@@ -3,141 +3,105 @@ use Rattle.std.proofs.Common.{◌≡◌, ◌≢◌, refl, sym, ◌∙◌, ap, su
 use Rattle.std.specs.Prelude.{if◌then◌else◌, zero, suc, slice_set, slice_index_or}
 use Rattle.std.proofs.lemmas.Bool.{cases_lt, true≢false}
 use Rattle.std.proofs.lemmas.Bool.Decides.{Decides-eqb}
-use Rattle.std.proofs.lemmas.Option.{none-some, same_Some}
 use Rattle.std.proofs.lemmas.List.{length-set, get_or_default, get_or-set_other, get_or_append_left, get_or_push, length_push}
 use Rattle.jr_defs.specs.declared.referent.Referent.{Referent}
 use Rattle.jr_defs.specs.declared.referent.Referent.TheVariants.{Unbound, Ambiguous, ArrayLength, Package, Declared}
 use Rattle.jr_defs.specs.Referents.{Table, entries}
 use Rattle.jr_change.specs.declared.change.Added.{Added}
 use Rattle.jr_change.specs.declared.change.Raised.{Raised}
-use Rattle.jr_locks.specs.Origins.{no_row, origin_of, row_by}
-use Rattle.jr_locks.specs.Copies.{IsSound, IsSeen, seen, unseen, AreTold, AreCopies, AreMade, IsNear, Finds, LocksAt, LocksTo, LocksFrom, old_count, KeepsOthers}
+use Rattle.jr_change.specs.declared.change.RowRange.{RowRange}
+use Rattle.jr_locks.specs.Origins.{no_row, origin_of}
+use Rattle.jr_locks.specs.Copies.{AreTold, AreToldNear, AreAllTold, AreMade, IsSeen, seen, unseen, old_count, near_in, seen_in, or_first, over_level, at_level, copy_at, moved_in, lock_in, KeepsOthers}
 use Rattle.jr_locks.specs.declared.moving.Copies.{Copies}
-use Rattle.jr_rows.specs.Rows.{Rows}
-use Rattle.jr_change.specs.declared.change.Change.{Change}
-use Rattle.jr_locks.specs.Changed.{IsChanged, origins_by}
-use Rattle.jr_locks.specs.Locked.{IsCopyOf, IsGone, no_level, at_copy, IsLockOf, unbound, ambiguous, array_length, a_package, copied, gone, gone_over, raised_to, HasLock, AllLocked, is_added}
+use Rattle.jr_locks.specs.Locked.{IsSeenFrom, beside, beyond, every, is_beside, no_level, at_copy, IsLockOf, unbound, ambiguous, array_length, a_package, copied, gone, gone_over, raised_to, HasLock, AllLocked, is_added}
 
 -- ---- one declaration
 
-row_is : (n c : ℕ) → row_by n ≡ Some c → n ≡ c
-row_is n c = by (nat_eq n no_row)
-  where
-    by : (b : Bool) → (if b then None else Some n) ≡ Some c → n ≡ c
-    by true e = absurd (none-some c e)
-    by false e = same_Some n c e
+near_seen : (range : Option RowRange) (origin near : List ℕ) (old n d : ℕ) → AreToldNear range (is_beside range n) origin old near → origin_of near d ≢ no_row
+    → IsSeenFrom range origin old n d (origin_of near d)
+near_seen None origin near old n d none some = absurd (some (ap (λ xs. origin_of xs d) none))
+near_seen (Some range) origin near old n d h some = beside (h.first d some)
 
-real_row : (n c : ℕ) → row_by n ≡ Some c → n ≢ no_row
-real_row n c e f = absurd (none-some c (sym (ap (λ b. (if b then None else Some n)) ((Decides-eqb n no_row).1 f)) ∙ e))
+first_seen : (range : Option RowRange) (origin near first : List ℕ) (old n d : ℕ) → AreToldNear range (is_beside range n) origin old near → origin_of near d ≡ no_row → AreTold every origin old first
+    → origin_of first d ≢ no_row → IsSeenFrom range origin old n d (origin_of first d)
+first_seen None origin near first old n d h none all some = let f = all.first d some in beside (record { copy = f.copy; one = refl; first = λ e lt one is. f.first e lt refl is })
+first_seen (Some range) origin near first old n d h none all some = beyond (h.whole d none) (all.first d some)
 
-no_row_is : (n : ℕ) → row_by n ≡ None → n ≡ no_row
-no_row_is n = by (nat_eq n no_row) refl
-  where
-    by : (b : Bool) → nat_eq n no_row ≡ b → (if b then None else Some n) ≡ None → n ≡ no_row
-    by true is e = (Decides-eqb n no_row).0 is
-    by false is e = absurd (none-some n (sym e))
+module _ (origin : List ℕ) (c : Copies) (h : AreAllTold origin c) (n : ℕ) where
+  seen_so : (d : ℕ) → IsSeen c.range origin (old_count c) n d (seen_in c n d)
+  seen_so d = by (nat_eq (origin_of (near_in c n) d) no_row) refl
+    where
+      by_first : (b : Bool) → nat_eq (origin_of c.first.items d) no_row ≡ b → origin_of (near_in c n) d ≡ no_row → IsSeen c.range origin (old_count c) n d (if b then None else Some (origin_of c.first.items d))
+      by_first true none also = unseen (h.first.whole d ((Decides-eqb (origin_of c.first.items d) no_row).0 none))
+      by_first false some also = seen (first_seen c.range origin (near_in c n) c.first.items (old_count c) n d (h.near n) also h.first
+          (λ e. true≢false (sym ((Decides-eqb (origin_of c.first.items d) no_row).1 e) ∙ some)))
+      by : (b : Bool) → nat_eq (origin_of (near_in c n) d) no_row ≡ b → IsSeen c.range origin (old_count c) n d (or_first (if b then None else Some (origin_of (near_in c n) d)) c d)
+      by true none = by_first (nat_eq (origin_of c.first.items d) no_row) refl ((Decides-eqb (origin_of (near_in c n) d) no_row).0 none)
+      by false some = seen (near_seen c.range origin (near_in c n) (old_count c) n d (h.near n) (λ e. true≢false (sym ((Decides-eqb (origin_of (near_in c n) d) no_row).1 e) ∙ some)))
 
-pub seen_near : (origin near : List ℕ) (old d c : ℕ) → IsSound origin near → row_by (origin_of near d) ≡ Some c → IsSeen origin old d (Some c)
-seen_near origin near old d c h e = seen (ap (origin_of origin) (sym (row_is (origin_of near d) c e)) ∙ h.each d (real_row (origin_of near d) c e))
+  over_so : (copy d s : ℕ) (found : Option ℕ) → IsSeenFrom c.range origin (old_count c) n d copy → IsSeen c.range origin (old_count c) n s found
+      → IsLockOf c.range origin (old_count c) n (Declared d (Some s)) (over_level copy found)
+  over_so copy d s (Some over) is (seen also) = copied is (at_copy also)
+  over_so copy d s None is (unseen none) = gone_over none
 
-pub seen_first : (origin first : List ℕ) (old d : ℕ) (found : Option ℕ) → AreTold origin old first 0 (length origin) → found ≡ row_by (origin_of first d) → IsSeen origin old d found
-seen_first origin first old d (Some c) h e = seen_near origin first old d c h.sound (sym e)
-seen_first origin first old d None h e = unseen (record {
-  no = λ c inside lt is.
-      h.whole.each d c (omega arith) lt (subst (λ n. d < n) (sym h.count) inside) is (no_row_is (origin_of first d) (sym e));
-})
+  level_so : (copy d : ℕ) (level : Option ℕ) → IsSeenFrom c.range origin (old_count c) n d copy → IsLockOf c.range origin (old_count c) n (Declared d level) (at_level c n copy level)
+  level_so copy d None is = copied is no_level
+  level_so copy d (Some s) is = over_so copy d s (seen_in c n s) is (seen_so s)
 
--- ---- what is found, whatever the origins
+  copy_so : (d : ℕ) (level found : Option ℕ) → IsSeen c.range origin (old_count c) n d found → IsLockOf c.range origin (old_count c) n (Declared d level) (copy_at c n found level)
+  copy_so d level (Some copy) (seen is) = level_so copy d level is
+  copy_so d level None (unseen none) = gone none
 
-pub near_inner : (c : Copies) (near : List ℕ) → near ≡ c.inner.items → IsNear c near
-near_inner c near same = record { each = λ origin h. subst (λ xs. IsSound origin xs) (sym same) h.inner }
+  moved_so : (target : Referent) → IsLockOf c.range origin (old_count c) n target (moved_in c n target)
+  moved_so (Declared d level) = copy_so d level (seen_in c n d) (seen_so d)
+  moved_so Unbound = unbound
+  moved_so Ambiguous = ambiguous
+  moved_so ArrayLength = array_length
+  moved_so Package = a_package
 
-pub near_outer : (c : Copies) (near : List ℕ) → near ≡ c.outer.items → IsNear c near
-near_outer c near same = record { each = λ origin h. subst (λ xs. IsSound origin xs) (sym same) h.outer }
-
-pub finds_near : (c : Copies) (near : List ℕ) (d e : ℕ) → IsNear c near → Some e ≡ row_by (origin_of near d) → Finds c d (Some e)
-finds_near c near d e h is = record { each = λ origin copies. seen_near origin near (old_count c) d e (h.each origin copies) (sym is) }
-
-pub finds_first : (c : Copies) (d : ℕ) (found : Option ℕ) → found ≡ row_by (origin_of c.first.items d) → Finds c d found
-finds_first c d found is = record { each = λ origin copies. seen_first origin c.first.items (old_count c) d found copies.first is }
-
-seen_is : (origin : List ℕ) (old d c : ℕ) → IsSeen origin old d (Some c) → IsCopyOf origin c d
-seen_is origin old d c (seen is) = is
-
-gone_is : (origin : List ℕ) (old d : ℕ) → IsSeen origin old d None → IsGone origin old d
-gone_is origin old d (unseen is) = is
-
-pub locks_plain : (c : Copies) (copy : ℕ) → LocksAt c copy None (Declared copy None)
-locks_plain c copy = record { each = λ origin d copies is. copied is no_level }
-
-pub locks_over : (c : Copies) (copy s over : ℕ) → Finds c s (Some over) → LocksAt c copy (Some s) (Declared copy (Some over))
-locks_over c copy s over found = record { each = λ origin d copies is. copied is (at_copy (seen_is origin (old_count c) s over (found.each origin copies))) }
-
-pub locks_nothing : (c : Copies) (copy s : ℕ) → Finds c s None → LocksAt c copy (Some s) Unbound
-locks_nothing c copy s found = record { each = λ origin d copies is. gone_over (gone_is origin (old_count c) s (found.each origin copies)) }
-
-pub locks_copy : (c : Copies) (d copy : ℕ) (level : Option ℕ) (lock : Referent) → Finds c d (Some copy) → LocksAt c copy level lock → LocksTo c (Declared d level) lock
-locks_copy c d copy level lock found at = record { each = λ origin copies. at.each origin d copies (seen_is origin (old_count c) d copy (found.each origin copies)) }
-
-pub locks_gone : (c : Copies) (d : ℕ) (level : Option ℕ) → Finds c d None → LocksTo c (Declared d level) Unbound
-locks_gone c d level found = record { each = λ origin copies. gone (gone_is origin (old_count c) d (found.each origin copies)) }
-
-pub locks_unbound : (c : Copies) → LocksTo c Unbound Unbound
-locks_unbound c = record { each = λ origin copies. unbound }
-
-pub locks_ambiguous : (c : Copies) → LocksTo c Ambiguous Ambiguous
-locks_ambiguous c = record { each = λ origin copies. ambiguous }
-
-pub locks_length : (c : Copies) → LocksTo c ArrayLength ArrayLength
-locks_length c = record { each = λ origin copies. array_length }
-
-pub locks_package : (c : Copies) → LocksTo c Package Package
-locks_package c = record { each = λ origin copies. a_package }
-
-pub locks_none : (c : Copies) (from : ℕ) (target lock : Referent) → from ≡ no_row → LocksFrom c from target lock
-locks_none c from target lock none = record { each = λ real. absurd (real none) }
-
-pub locks_some : (c : Copies) (from : ℕ) (target lock : Referent) → LocksTo c target lock → LocksFrom c from target lock
-locks_some c from target lock h = record { each = λ real. h }
+  lock_so : (t : Table) (raised : Option Raised) → HasLock c.range origin (old_count c) t raised n (lock_in c raised t n (origin_of origin n))
+  lock_so t raised real = by (nat_eq (origin_of origin n) no_row) refl
+    where
+      by : (b : Bool) → nat_eq (origin_of origin n) no_row ≡ b → IsLockOf c.range origin (old_count c) n (raised_to raised (origin_of origin n) (t (origin_of origin n)))
+          (if b then Unbound else moved_in c n (raised_to raised (origin_of origin n) (t (origin_of origin n))))
+      by true none = absurd (real ((Decides-eqb (origin_of origin n) no_row).0 none))
+      by false some = moved_so (raised_to raised (origin_of origin n) (t (origin_of origin n)))
 
 -- ---- one row more
 
-pub none_locked : (origin : List ℕ) (old : ℕ) (t : Table) (raised : Option Raised) (all : List Referent) → AllLocked origin old t raised [] (entries all) 0
-none_locked origin old t raised all = record { each = λ n lt said. absurd (omega (arith, lt)) }
+module _ (inner : Option RowRange) (origin : List ℕ) (old : ℕ) (t : Table) (raised : Option Raised) where
+  none_locked : (all : List Referent) → AllLocked inner origin old t raised [] (entries all) 0
+  none_locked all = record { each = λ n lt said. absurd (omega (arith, lt)) }
 
-pub locked_more : (origin : List ℕ) (old : ℕ) (t : Table) (raised : Option Raised) (all : List Referent) (lock : Referent) (k : ℕ) → length all ≡ k
-    → AllLocked origin old t raised [] (entries all) k → HasLock origin old t raised k lock → AllLocked origin old t raised [] (entries (all ++ lock ∷ [])) (k + 1)
-locked_more origin old t raised all lock k long h now = record {
-  each = λ n lt said real. ⊎_elim
-      (λ below. subst (λ r. IsLockOf origin old (raised_to raised (origin_of origin n) (t (origin_of origin n))) r)
-      (sym (get_or_append_left all (lock ∷ []) Unbound n (omega (arith, below, long)))) (h.each n below said real))
-      (λ here. let e : n ≡ k = omega (arith, here, lt) in
-      subst (λ m. HasLock origin old t raised m (entries (all ++ lock ∷ []) m)) (sym e)
-      (λ some. subst (λ r. IsLockOf origin old (raised_to raised (origin_of origin k) (t (origin_of origin k))) r) (sym (get_or_push all lock Unbound k long)) (now some)) real)
-      (cases_lt n k);
-}
+  locked_more : (all : List Referent) (lock : Referent) (k : ℕ) → length all ≡ k → AllLocked inner origin old t raised [] (entries all) k → HasLock inner origin old t raised k lock
+      → AllLocked inner origin old t raised [] (entries (all ++ lock ∷ [])) (k + 1)
+  locked_more all lock k long h now = record {
+    each = λ n lt said real. ⊎_elim
+        (λ below. subst (λ r. IsLockOf inner origin old n (raised_to raised (origin_of origin n) (t (origin_of origin n))) r)
+        (sym (get_or_append_left all (lock ∷ []) Unbound n (omega (arith, below, long)))) (h.each n below said real))
+        (λ here. let e : n ≡ k = omega (arith, here, lt) in
+        subst (λ m. HasLock inner origin old t raised m (entries (all ++ lock ∷ []) m)) (sym e)
+        (λ some. subst (λ r. IsLockOf inner origin old k (raised_to raised (origin_of origin k) (t (origin_of origin k))) r) (sym (get_or_push all lock Unbound k long)) (now some)) real)
+        (cases_lt n k);
+  }
 
-pub made_more : (origin : List ℕ) (c : Copies) (t : Table) (raised : Option Raised) (all : List Referent) (lock : Referent) (k : ℕ)
-    → AreMade origin c t raised all k → HasLock origin (old_count c) t raised k lock → AreMade origin c t raised (all ++ lock ∷ []) (k + 1)
-made_more origin c t raised all lock k h now = record {
-  long = length_push all lock ∙ ap (λ n. n + 1) h.long;
-  locked = locked_more origin (old_count c) t raised all lock k h.long h.locked now;
-}
-
-pub made_next : (origin : List ℕ) (c : Copies) (t : Table) (raised : Option Raised) (all : List Referent) (lock : Referent) (k from : ℕ) → AreCopies origin c
-    → AreMade origin c t raised all k → from ≡ origin_of origin k → LocksFrom c from (raised_to raised from (t from)) lock → AreMade origin c t raised (all ++ lock ∷ []) (k + 1)
-made_next origin c t raised all lock k from copies h is now = made_more origin c t raised all lock k h
-    (λ real. subst (λ m. IsLockOf origin (old_count c) (raised_to raised m (t m)) lock) is ((now.each (λ none. real (sym is ∙ none))).each origin copies))
-
-pub copies_by : (origin : List ℕ) (c : Copies) (old count : ℕ) → AreTold origin old c.first.items 0 count → count ≡ length origin → IsSound origin c.inner.items → IsSound origin c.outer.items → AreCopies origin c
-copies_by origin c old count h all inner outer = record {
-  first = record { sound = h.sound; whole = record { each = λ d e low high inside is. h.whole.each d e low (omega (arith, high, all)) inside is }; count = refl };
-  inner = inner;
-  outer = outer;
-}
+  locked_beside : (added : List Added) (all next : List Referent) (count : ℕ) → AllLocked inner origin old t raised [] (entries all) count → KeepsOthers added all next
+      → AllLocked inner origin old t raised added (entries next) count
+  locked_beside added all next count h kept = record {
+    each = λ n lt said real.
+        subst (λ r. IsLockOf inner origin old n (raised_to raised (origin_of origin n) (t (origin_of origin n))) r) (sym (kept.each n said)) (h.each n lt refl real);
+  }
 
 pub none_made : (origin : List ℕ) (c : Copies) (t : Table) (raised : Option Raised) → AreMade origin c t raised [] 0
-none_made origin c t raised = record { long = refl; locked = none_locked origin (old_count c) t raised [] }
+none_made origin c t raised = record { long = refl; locked = none_locked c.range origin (old_count c) t raised [] }
+
+pub made_next : (origin : List ℕ) (c : Copies) (t : Table) (raised : Option Raised) (all : List Referent) (lock : Referent) (k n from : ℕ) → AreAllTold origin c → n ≡ k → from ≡ origin_of origin k
+    → lock ≡ lock_in c raised t n from → AreMade origin c t raised all k → AreMade origin c t raised (all ++ lock ∷ []) (k + 1)
+made_next origin c t raised all lock k n from told same is made h = record {
+  long = length_push all lock ∙ ap (λ m. m + 1) h.long;
+  locked = locked_more c.range origin (old_count c) t raised all lock k h.long h.locked
+      (subst (λ r. HasLock c.range origin (old_count c) t raised k r) (sym (made ∙ ap (λ m. lock_in c raised t m from) same ∙ ap (lock_in c raised t k) is)) (lock_so origin c told k t raised));
+}
 
 -- ---- added rows
 
@@ -169,23 +133,9 @@ pub keeps_at : (added : List Added) (i : ℕ) (d : Added) (old new next : List R
     → next ≡ slice_set new (slice_index_or added i d).row lock → KeepsOthers added old next
 keeps_at added i d old new next lock lt h set = keeps_more added i (slice_index_or added i d) old new next lock lt (get_or_default added i d (slice_index_or added i d) lt) h set
 
-pub locked_beside : (origin : List ℕ) (old : ℕ) (t : Table) (raised : Option Raised) (added : List Added) (all next : List Referent) (count : ℕ)
-    → AllLocked origin old t raised [] (entries all) count → KeepsOthers added all next → AllLocked origin old t raised added (entries next) count
-locked_beside origin old t raised added all next count h kept = record {
-  each = λ n lt said real.
-      subst (λ r. IsLockOf origin old (raised_to raised (origin_of origin n) (t (origin_of origin n))) r) (sym (kept.each n said)) (h.each n lt refl real);
-}
-
-pub locked_by : (origin : List ℕ) (c : Copies) (old : ℕ) (t : Table) (raised : Option Raised) (added : List Added) (all next : List Referent) → old_count c ≡ old
-    → AreMade origin c t raised all (length origin) → KeepsOthers added all next → AllLocked origin old t raised added (entries next) (length origin)
-locked_by origin c old t raised added all next count made kept =
-    subst (λ n. AllLocked origin n t raised added (entries next) (length origin)) count (locked_beside origin (old_count c) t raised added all next (length origin) made.locked kept)
-
-pub changed_by : (old : Rows) (t : Table) (change : Change) (rows : Rows) (origin : List ℕ) (locks : List Referent) (count : ℕ) → count ≡ length old → origin ≡ origins_by change
-    → length origin ≡ length rows → AllLocked origin count t change.raised change.added.items (entries locks) (length origin) → IsChanged old t change rows (entries locks)
-changed_by old t change rows origin locks count size is long h = record {
-  count = ap length (sym is) ∙ long;
-  locked = subst (λ n. AllLocked (origins_by change) n t change.raised change.added.items (entries locks) (length rows)) size
-      (subst (λ n. AllLocked (origins_by change) count t change.raised change.added.items (entries locks) n) long
-      (subst (λ from. AllLocked from count t change.raised change.added.items (entries locks) (length origin)) is h));
-}
+pub locked_by : (origin : List ℕ) (c : Copies) (inner : Option RowRange) (old : ℕ) (t : Table) (raised : Option Raised) (added : List Added) (all next : List Referent) → old_count c ≡ old
+    → c.range ≡ inner → AreMade origin c t raised all (length origin) → KeepsOthers added all next → AllLocked inner origin old t raised added (entries next) (length origin)
+locked_by origin c inner old t raised added all next count is made kept =
+    subst (λ (r : Option RowRange). AllLocked r origin old t raised added (entries next) (length origin)) is
+    (subst (λ n. AllLocked c.range origin n t raised added (entries next) (length origin)) count
+    (locked_beside c.range origin (old_count c) t raised added all next (length origin) made.locked kept))

@@ -22,8 +22,8 @@ pub fn row_for(all: &[u32], at: u32) -> Option<u32>
     }
 }
 
-// The origin of a row.
-fn origin_at(origin: &[u32], at: usize) -> u32
+/// The origin of a row.
+pub fn origin_at(origin: &[u32], at: usize) -> u32
     ensures { result ≡ origin_of origin.now at }
 {
     match origin.get(at) {
@@ -52,8 +52,20 @@ fn set_row(copy: &mut [u32], origin: &[u32], at: u32)
     }
 }
 
+// Tells of each old row its first copy among the rows of a range, where nothing is told yet.
+#[tactic(auto, using(crate::proofs::Told::told_next, crate::proofs::Told::told_range))]
+fn tell_copies(copy: &mut [u32], origin: &[u32], range: RowRange, old: usize)
+    requires few { old ≤ no_row }
+    requires begun { told.AreToldTo origin.now old copy.old range range.first }
+    ensures { told.AreTold (locked.is_within range) origin.now old copy.new }
+{
+    for at in range.first..range.end {
+        set_row(copy, origin, at);
+    }
+}
+
 /// The first copy of each of so many old rows that the rows from `first` to before `end` have, or `NO_ROW`.
-#[tactic(auto, using(crate::proofs::Told::none_told, crate::proofs::Told::told_more, crate::proofs::Told::told_to))]
+#[tactic(auto, using(crate::proofs::Told::told_begun))]
 fn copies_in(
     alloc: Global,
     origin: &[u32],
@@ -61,12 +73,10 @@ fn copies_in(
     old: usize,
 ) -> Result<Vec<u32>, OutOfMemory>
     requires { old ≤ no_row }
-    ensures { IfOk result (λ copy. told.AreTold origin.now old copy.items range.first range.end) }
+    ensures { IfOk result (λ copy. told.AreTold (locked.is_within range) origin.now old copy.items) }
 {
     let mut copy = vec![in alloc; NO_ROW; old]?;
-    for at in range.first..range.end {
-        set_row(&mut copy, origin, at);
-    }
+    tell_copies(&mut copy, origin, range, old);
     Ok(copy)
 }
 
@@ -76,13 +86,22 @@ fn is_within(range: RowRange, at: u32) -> bool
     range.first <= at && at < range.end
 }
 
-/// The copies of old rows: the first outside some rows, the first among these, and the first of all.
+fn is_in(range: Option<RowRange>, at: u32) -> bool
+    ensures { result ≡ locked.is_in range at }
+{
+    match range {
+        Some(range) => is_within(range, at),
+        None => false,
+    }
+}
+
+/// The copies of old rows: the first of all, and where there is a range, the first among its rows and the first outside.
 #[derive(Drop)]
 pub struct Copies {
     pub first: Vec<u32>,
     inner: Vec<u32>,
     outer: Vec<u32>,
-    range: RowRange,
+    range: Option<RowRange>,
 }
 
 // Takes over what others tell of an old row that has no copy.
@@ -92,8 +111,19 @@ fn set_later(all: &mut [u32], later: &[u32], at: u32)
     set_first(all, at, origin_at(later, at as usize));
 }
 
+// The first table, and what the second one tells of old rows of which the first tells nothing.
+#[tactic(auto, using(crate::proofs::Told::none_joined, crate::proofs::Told::joined_more))]
+fn join(all: &mut [u32], later: &[u32], old: u32)
+    requires { length all.old ≡ old }
+    ensures { told.AreJoined all.old later.now all.new old }
+{
+    for at in 0..old {
+        set_later(all, later, at);
+    }
+}
+
 // The first copy outside the range, which may be before or behind it.
-#[tactic(auto, using(crate::proofs::Told::later_more))]
+#[tactic(auto, using(crate::proofs::Told::told_outside))]
 fn copies_outside(
     alloc: Global,
     origin: &[u32],
@@ -101,7 +131,8 @@ fn copies_outside(
     count: u32,
     old: u32,
 ) -> Result<Vec<u32>, OutOfMemory>
-    ensures { IfOk result (λ all. told.IsSound origin.now all.items) }
+    requires { count ≡ length origin.now }
+    ensures { IfOk result (λ all. told.AreTold (locked.is_outside range) origin.now old all.items) }
 {
     let before = RowRange {
         first: 0,
@@ -113,23 +144,22 @@ fn copies_outside(
     };
     let mut all = copies_in(alloc, origin, before, old as usize)?;
     let later = copies_in(alloc, origin, behind, old as usize)?;
-    for at in 0..old {
-        set_later(&mut all, &later, at);
-    }
+    join(&mut all, &later, old);
     Ok(all)
 }
 
 impl Copies {
     /// The copies of so many old rows, where those that are declared twice are found among the rows of the range.
-    #[tactic(auto, using(crate::proofs::Locked::copies_by, crate::proofs::Told::nothing_is_sound))]
+    #[tactic(auto, using(crate::proofs::Told::told_by_range, crate::proofs::Told::told_by_all))]
     pub fn of(
         alloc: Global,
         origin: &[u32],
         inner: Option<RowRange>,
         old: u32,
     ) -> Result<Copies, OutOfMemory>
-        ensures copies { IfOk result (λ copies. told.AreCopies origin.now copies) }
+        ensures copies { IfOk result (λ copies. told.AreAllTold origin.now copies) }
         ensures count { IfOk result (λ copies. told.old_count copies ≡ old) }
+        ensures range { IfOk result (λ copies. copies.range ≡ inner) }
     {
         let Ok(count) = u32::try_from(origin.len()) else {
             return Err(OutOfMemory);
@@ -144,23 +174,22 @@ impl Copies {
                 first,
                 inner: copies_in(alloc, origin, range, old as usize)?,
                 outer: copies_outside(alloc, origin, range, count, old)?,
-                range,
+                range: inner,
             }),
             None => Ok(Copies {
                 first,
                 inner: Vec::new(alloc),
                 outer: Vec::new(alloc),
-                range: RowRange { first: 0, end: 0 },
+                range: None,
             }),
         }
     }
 
     // The copies among which what is seen from a row is looked for first.
-    #[tactic(auto, using(crate::proofs::Locked::near_inner, crate::proofs::Locked::near_outer))]
     fn near(&self, from: u32) -> &[u32]
-        ensures { told.IsNear self.now result.now }
+        ensures { result.now ≡ told.near_in self.now from }
     {
-        if is_within(self.range, from) {
+        if is_in(self.range, from) {
             &self.inner
         } else {
             &self.outer
@@ -168,9 +197,8 @@ impl Copies {
     }
 
     // The copy of an old row as it is seen from a row.
-    #[tactic(auto, using(crate::proofs::Locked::finds_near, crate::proofs::Locked::finds_first))]
     fn seen(&self, from: u32, row: u32) -> Option<u32>
-        ensures { told.Finds self.now row result }
+        ensures { result ≡ told.seen_in self.now from row }
     {
         match row_for(self.near(from), row) {
             Some(copy) => Some(copy),
@@ -179,9 +207,8 @@ impl Copies {
     }
 
     // The copy of a declaration, through the copy of its level. Where one has no copy, nothing is bound.
-    #[tactic(auto, using(crate::proofs::Locked::locks_copy, crate::proofs::Locked::locks_gone))]
     fn moved_declaration(&self, from: u32, row: u32, level: Option<u32>) -> Referent
-        ensures { told.LocksTo self.now (Referent.Declared row level) result }
+        ensures { result ≡ told.moved_declaration self.now from row level }
     {
         match self.seen(from, row) {
             Some(copy) => self.at_level(from, copy, level),
@@ -190,9 +217,8 @@ impl Copies {
     }
 
     // A declaration through the copy of its level.
-    #[tactic(auto, using(crate::proofs::Locked::locks_plain, crate::proofs::Locked::locks_over, crate::proofs::Locked::locks_nothing))]
     fn at_level(&self, from: u32, row: u32, level: Option<u32>) -> Referent
-        ensures { told.LocksAt self.now row level result }
+        ensures { result ≡ told.at_level self.now from row level }
     {
         match level {
             None => Referent::Declared { row, level: None },
@@ -207,9 +233,8 @@ impl Copies {
     }
 
     // What a row must refer to whose old row referred to this.
-    #[tactic(auto, using(crate::proofs::Locked::locks_unbound, crate::proofs::Locked::locks_ambiguous, crate::proofs::Locked::locks_length, crate::proofs::Locked::locks_package))]
     fn moved(&self, from: u32, target: Referent) -> Referent
-        ensures { told.LocksTo self.now target result }
+        ensures { result ≡ told.moved_in self.now from target }
     {
         match target {
             Referent::Declared { row, level } => self.moved_declaration(from, row, level),
@@ -267,7 +292,6 @@ fn target_at(table: &[Referent], from: u32) -> Referent
 }
 
 // What a row of this origin must refer to.
-#[tactic(auto, using(crate::proofs::Locked::locks_none, crate::proofs::Locked::locks_some))]
 fn lock_of(
     copies: &Copies,
     raised: Option<Raised>,
@@ -275,7 +299,7 @@ fn lock_of(
     row: u32,
     from: u32,
 ) -> Referent
-    ensures { told.LocksFrom copies.now from (locked.raised_to raised from (entries table.now from)) result }
+    ensures { result ≡ told.lock_in copies.now raised (entries table.now) row from }
 {
     if from == NO_ROW {
         return Referent::Unbound;
@@ -292,7 +316,7 @@ pub fn table_of(
     raised: Option<Raised>,
     table: &[Referent],
 ) -> Result<Vec<Referent>, OutOfMemory>
-    requires { told.AreCopies origin.now copies.now }
+    requires { told.AreAllTold origin.now copies.now }
     ensures { IfOk result (λ all. told.AreMade origin.now copies.now (entries table.now) raised all.items (length origin.now)) }
 {
     let mut all = Vec::new(alloc);
