@@ -1,21 +1,14 @@
 // Whether edges of flow are kept, and whether there are too many points of flow.
 
-ghost use Rattle.std.specs.Prelude.{IfOk};
-ghost use Rattle.jr_headed.specs.Founded.{IsProgram};
-ghost use Rattle.jr_engine.specs.Steps.{rows_in};
-ghost use Rattle.jr_engine.specs.Written.{IsLockedBy, KeepsCallsIn, rows_of};
-
 use crate::asked::{Asked, project_of};
 use crate::fault::{LostKind, StepFault};
 use crate::locked::Locked;
-use jr_base::Size;
-use jr_change::Course;
-use jr_edges::{Kept, Lost, lost_dispatch};
+use jr_base::{OutOfMemory, Size};
+use jr_change::{Course, Project};
+use jr_edges::lost_dispatch;
 use jr_flow::has_too_many_points;
 use jr_front::Workspace;
 use jr_kept::{LostEdge, lost_flow};
-use jr_places::Places;
-use jr_supers::Tabled;
 use std::alloc::Global;
 
 // The answer where an edge is lost.
@@ -45,52 +38,25 @@ fn is_changed_within_flow(alloc: Global, asked: Asked, locked: &Locked) -> Resul
     }
 }
 
-// The edge that is lost where a call finds another method than before.
-fn lost_call(asked: Asked, lost: Lost) -> StepFault {
-    let marks = asked.old.marks();
-    StepFault::LostEdge {
-        kind: LostKind::Dispatch,
-        first: marks.name_place(lost.class),
-        second: marks.name_place(lost.method),
-        is_old: true,
-    }
-}
-
-// Calls find in each class the methods that they found there. Rows that are not well founded are none of a program that compiles.
-fn keeps_calls(alloc: Global, asked: Asked, locked: &Locked) -> Result<(), StepFault>
-    requires { IsProgram (rows_in asked.entry.old.now) }
-    requires { IsProgram (rows_of locked.now) }
-    requires { IsLockedBy asked.entry locked.now }
-    ensures { IfOk result (λ _. KeepsCallsIn asked.entry locked.now) }
-{
-    let rows = asked.old.index.rows();
-    let places = Places::of(alloc, rows)?;
-    let old = Tabled {
-        rows,
-        places: &places,
-        table: &asked.old.bound.table,
-    };
-    let rows = locked.program.index.rows();
-    let places = Places::of(alloc, rows)?;
-    let new = Tabled {
-        rows,
-        places: &places,
-        table: &locked.locks.table,
-    };
-    match lost_dispatch(alloc, old, new, &locked.locks.copy)? {
-        Kept::All => Ok(()),
-        Kept::Lost(lost) => Err(lost_call(asked, lost)),
-        Kept::Unknown => Err(asked.differs()),
+// The first call that finds another method than before, as an edge.
+fn lost_call(
+    alloc: Global,
+    old: &Project,
+    new: &Project,
+    locked: &Locked,
+) -> Result<Option<LostEdge>, OutOfMemory> {
+    match lost_dispatch(alloc, old, new, &locked.locks)? {
+        Some(lost) => Ok(Some(LostEdge {
+            first: old.marks.name_place(lost.class),
+            second: old.marks.name_place(lost.method),
+            is_old: true,
+        })),
+        None => Ok(None),
     }
 }
 
 /// Control goes as before, calls find in each class the methods that they found there, and uses of locals the values that they had.
-pub fn keeps_edges(alloc: Global, asked: Asked, locked: &Locked) -> Result<(), StepFault>
-    requires { IsProgram (rows_in asked.entry.old.now) }
-    requires { IsProgram (rows_of locked.now) }
-    requires { IsLockedBy asked.entry locked.now }
-    ensures { IfOk result (λ _. KeepsCallsIn asked.entry locked.now) }
-{
+pub fn keeps_edges(alloc: Global, asked: Asked, locked: &Locked) -> Result<(), StepFault> {
     is_changed_within_flow(alloc, asked, locked)?;
     let old = project_of(asked.old);
     let new = project_of(&locked.program);
@@ -98,7 +64,9 @@ pub fn keeps_edges(alloc: Global, asked: Asked, locked: &Locked) -> Result<(), S
     if let Some(edge) = flow.control {
         return Err(lost(LostKind::Control, edge));
     }
-    keeps_calls(alloc, asked, locked)?;
+    if let Some(edge) = lost_call(alloc, &old, &new, locked)? {
+        return Err(lost(LostKind::Dispatch, edge));
+    }
     match flow.def_use {
         Some(edge) => Err(lost(LostKind::DefUse, edge)),
         None => Ok(()),

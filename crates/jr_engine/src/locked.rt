@@ -3,8 +3,7 @@
 ghost use Rattle.std.specs.Prelude.{◌≡◌, map, IfOk};
 ghost use Rattle.std.specs.List.{AllByRecursion};
 ghost use Rattle.jr_tree.specs.Shape.{IsShaped};
-ghost use Rattle.jr_headed.specs.Founded.{IsProgram};
-ghost use Rattle.jr_engine.specs.Written.{IsLockedBy, rows_of};
+ghost use Rattle.jr_engine.specs.Written.{IsLockedBy};
 
 use crate::asked::{Asked, project_of};
 use crate::fault::StepFault;
@@ -80,11 +79,10 @@ fn locked_rows(
 }
 
 // The program under its locks, if its rows are those that the change says.
-#[tactic(auto, using(crate::proofs::Stepping::locked_result, crate::proofs::Stepping::locked_shaped))]
+#[tactic(auto, using(crate::proofs::Stepping::locked_result))]
 fn locked_program(alloc: Global, asked: Asked, program: Program) -> Result<Locked, StepFault>
     requires { AllByRecursion IsShaped (map (λ u. u.unit) program.units) }
-    ensures locked { IfOk result (IsLockedBy asked.entry) }
-    ensures shaped { IfOk result (λ locked. IsProgram (rows_of locked)) }
+    ensures { IfOk result (IsLockedBy asked.entry) }
 {
     let index = boxed(alloc, Index::build(alloc, &program))?;
     let old = asked.old.index.rows();
@@ -97,8 +95,7 @@ fn locked_program(alloc: Global, asked: Asked, program: Program) -> Result<Locke
 
 /// The changed program under its locks.
 pub fn lock(alloc: Global, asked: Asked) -> Result<Locked, StepFault>
-    ensures locked { IfOk result (IsLockedBy asked.entry) }
-    ensures shaped { IfOk result (λ locked. IsProgram (rows_of locked)) }
+    ensures { IfOk result (IsLockedBy asked.entry) }
 {
     let units = asked.old.program.units.as_slice();
     let texts = changed_texts(alloc, units, asked.change)?;
