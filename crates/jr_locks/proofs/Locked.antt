@@ -35,6 +35,7 @@ module _ (origin : List ℕ) (c : Copies) (h : AreAllTold origin c) (n : ℕ) wh
       by_first true none also = unseen (h.first.whole d ((Decides-eqb (origin_of c.first.items d) no_row).0 none))
       by_first false some also = seen (first_seen c.range origin (near_in c n) c.first.items (old_count c) n d (h.near n) also h.first
           (λ e. true≢false (sym ((Decides-eqb (origin_of c.first.items d) no_row).1 e) ∙ some)))
+
       by : (b : Bool) → nat_eq (origin_of (near_in c n) d) no_row ≡ b → IsSeen c.range origin (old_count c) n d (or_first (if b then None else Some (origin_of (near_in c n) d)) c d)
       by true none = by_first (nat_eq (origin_of c.first.items d) no_row) refl ((Decides-eqb (origin_of (near_in c n) d) no_row).0 none)
       by false some = seen (near_seen c.range origin (near_in c n) (old_count c) n d (h.near n) (λ e. true≢false (sym ((Decides-eqb (origin_of (near_in c n) d) no_row).1 e) ∙ some)))

@@ -65,9 +65,11 @@ numbered_more namings old numbers next k number one lt is same set h = record {
   where
     found : (own : Text) → name_at namings number own ≡ one.name
     found own = ap (λ m. name_at namings m own) same ∙ ap (λ (n : Option Naming). name_or n own) (slice_get-get_or namings k one lt ∙ ap Some (sym is))
+
     by : (b : Bool) (m : ℕ) (own : Text) → name_at namings (if b then number else m) own ≡ (if b then one.name else name_at namings m own)
     by true m own = found own
     by false m own = refl
+
     now : (d : ℕ) (own : Text) → d < old → name_in namings next d own ≡ (if has_row one.rows.items d then one.name else name_in namings numbers d own)
     now d own inside = let l = h.count in let long = length_number numbers one.rows.items number in
         ap (λ xs. name_in namings xs d own) set ∙ name_is namings (with_number numbers one.rows.items number) d own (omega (arith, l, long, inside))

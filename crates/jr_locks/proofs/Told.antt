@@ -136,6 +136,7 @@ module _ (origin copies : List ℕ) (old first at : ℕ) where
     where
       above : (c : ℕ) → is_within (span first (at + 1)) c ≡ true → at ≤ c → c ≡ at
       above c one le = let w = between_is first (at + 1) c one in omega (arith, w.1, le)
+
       by : (b : Bool) → nat_eq (origin_of origin at) no_row ≡ b → AreTold (is_within (span first (at + 1))) origin old (if b then copies else with_first copies (origin_of origin at) at)
       by true none = record {
         count = h.count;
