@@ -25,7 +25,7 @@ use std::alloc::Global;
 
 // What a change leaves.
 fn followed(alloc: Global, asked: Asked) -> Result<Left, StepFault>
-    requires { IsAskedFor asked.entry }
+    requires { IsAskedFor asked }
     ensures { IfOk result (λ left. IsFollowed asked.entry.old.now asked.entry.request.now left) }
 {
     let locked = lock(alloc, asked)?;
