@@ -1,6 +1,6 @@
 -- What one request after another leaves of files.
-use Rattle.std.specs.Prelude.{◌≡◌, List, [], ◌∷◌, Option, Some, None, Ok, IsTrue}
-use Rattle.std.specs.FinMap as map
+use Rattle.std.specs.Prelude.{◌≡◌, List, [], ◌∷◌, true, Option, Some, None, Ok, IsTrue, length}
+use Rattle.std.specs.FinMap as files
 use Rattle.std.specs.List.{AllByRecursion}
 use Rattle.jr_base.specs.Files.{FileMap}
 use Rattle.jr_base.specs.Paths.{is_java}
@@ -10,7 +10,12 @@ use Rattle.jr_defs.specs.Program.{rows_of}
 use Rattle.jr_defs.specs.Referents.{Table, entries}
 use Rattle.jr_defs.specs.declared.program.Program.{Program}
 use Rattle.jr_shapes.specs.declared.spelling.Spelling.{Spelling}
+use Rattle.jr_index.specs.NodeRows.{unit_rows}
+use Rattle.jr_marks.specs.Places.{IsOrdered}
 use Rattle.jr_change.specs.declared.change.Change.{Change}
+use Rattle.jr_change.specs.declared.project.Project.{Project}
+use Rattle.jr_draft.specs.Asking.{table_of}
+use Rattle.jr_asked.specs.Requested.{IsAskedBy, keeps_all}
 use Rattle.jr_locks.specs.Changed.{IsChanged}
 use Rattle.jr_runs.specs.Respelled.{IsRespelled}
 use Rattle.jr_read.specs.Reading.{ReadsAs}
@@ -28,7 +33,7 @@ pub record IsOpened (o : Opened) : Type 0 where
   pub program : Program
   pub reads : ReadsAs o.files (Ok program)
   pub are : o.rows ≡ rows_of program
-  pub java : AllByRecursion (λ path. IsTrue (is_java path)) (map.keys o.files)
+  pub java : AllByRecursion (λ path. IsTrue (is_java path)) (files.keys o.files)
 
 -- The files left are a changed program that is written with some spellings: each of its rows stands there, and by the table that the binder gave for
 -- the rows of the files left each reference refers to its lock.
@@ -37,11 +42,28 @@ pub record IsWritten (rows : Rows) (locks : Table) (left : Opened) : Type 0 wher
   pub spellings : List Spelling
   pub respelled : IsRespelled rows locks spellings left.rows left.table
 
--- What a request leaves: the files as they are, or those of a changed program in which each row that comes from an old one must refer to what that referred to,
--- where it stands now.
+-- the program of the files with its tables, as changes read it
+pub record IsProjectOf (o : Opened) (old : Project) : Type 0 where
+  pub program : Program
+  pub reads : ReadsAs o.files (Ok program)
+  pub units : old.marks.units.now ≡ program.units
+  pub rows : old.marks.rows.now ≡ o.rows
+  pub starts : old.marks.starts.now ≡ unit_rows o.rows (length o.rows)
+  pub table : entries (table_of old) ≡ o.table
+  pub ordered : IsOrdered old.marks
+
+-- the change is that for which the request asks
+pub record IsRequested (o : Opened) (request : Request) (change : Change) : Type 0 where
+  pub old : Project
+  pub project : IsProjectOf o old
+  pub asked : IsAskedBy old request (Ok change)
+
+-- What a request leaves: the files as they are, where the change for which it asks keeps all units, or those of a changed program in which each row that comes from
+-- an old one must refer to what that referred to, where it stands now.
 pub data IsStep (old : Opened) (request : Request) : Opened → Type 0 where
-  stays : IsStep old request old
-  leaves : {rows : Rows} {locks : Table} {left : Opened} (change : Change) → IsChanged old.rows old.table change rows locks → IsWritten rows locks left → IsStep old request left
+  stays : {change : Change} (asked : IsRequested old request change) → keeps_all asked.project.program.units change.units.items ≡ true → IsStep old request old
+  leaves : {rows : Rows} {locks : Table} {left : Opened} (change : Change) → IsRequested old request change → IsChanged old.rows old.table change rows locks → IsWritten rows locks left
+      → IsStep old request left
 
 -- a step a request, each from what the one before has left
 pub data AreSteps : Opened → List Request → Opened → Type 0 where
@@ -58,22 +80,37 @@ abbrev pub table_in : Workspace → Table
 table_in w = entries w.bound.value.table.items
 
 abbrev pub opened : FileMap → Workspace → Opened
-opened files w = record { files = files; rows = rows_in w; table = table_in w }
+opened found w = record { files = found; rows = rows_in w; table = table_in w }
 
 abbrev pub opened_by : Left → Opened
 opened_by left = opened left.files left.program
 
 -- the program is that of the files
-pub record IsRead (files : FileMap) (w : Workspace) : Type 0 where
-  pub reads : ReadsAs files (Ok w.program)
+pub record IsRead (found : FileMap) (w : Workspace) : Type 0 where
+  pub reads : ReadsAs found (Ok w.program)
   pub are : rows_in w ≡ rows_of w.program
+
+-- the program is that of the files, whose paths end in `.java`
+pub record IsHeld (left : Left) : Type 0 where
+  pub read : IsRead left.files left.program
+  pub java : AllByRecursion (λ path. IsTrue (is_java path)) (files.keys left.files)
 
 -- whatever the files of the old program, these are what the request leaves of them
 pub record IsFollowed (old : Workspace) (request : Request) (left : Left) : Type 0 where
-  pub ends : IsOpened (opened_by left)
-  pub step : (files : FileMap) → IsStep (opened files old) request (opened_by left)
+  pub ends : IsHeld left
+  pub step : (found : FileMap) → IsRead found old → IsStep (opened found old) request (opened_by left)
 
--- what is left by a request of a program: nothing where it changes nothing
+-- what is left by a request of a program: the files as they are, or others
 abbrev pub LeftBy : Workspace → Request → Option Left → Type 0
-LeftBy old request None = Unit {0}
+LeftBy old request None = (found : FileMap) → IsRead found old → IsStep (opened found old) request (opened found old)
 LeftBy old request (Some left) = IsFollowed old request left
+
+-- the project is that of the program, and the change that for which the request asks
+pub record IsAskedOf (w : Workspace) (request : Request) (change : Change) : Type 0 where
+  pub old : Project
+  pub units : old.marks.units.now ≡ w.program.units
+  pub rows : old.marks.rows.now ≡ rows_in w
+  pub starts : old.marks.starts.now ≡ unit_rows (rows_in w) (length (rows_in w))
+  pub table : table_of old ≡ w.bound.value.table.items
+  pub ordered : IsOrdered old.marks
+  pub asked : IsAskedBy old request (Ok change)

@@ -4,7 +4,7 @@ use Rattle.jr_rows.specs.Rows.{Rows}
 use Rattle.jr_defs.specs.Referents.{Table, entries}
 use Rattle.jr_runs.specs.Respelled.{IsRespelled}
 use Rattle.jr_locks.specs.Changed.{IsChanged}
-use Rattle.jr_engine.specs.Steps.{IsWritten, rows_in, table_in, opened_by}
+use Rattle.jr_engine.specs.Steps.{IsWritten, IsHeld, IsAskedOf, rows_in, table_in, opened_by}
 use Rattle.jr_engine.specs.declared.asked.Asked.{Asked}
 use Rattle.jr_engine.specs.declared.left.Left.{Left}
 use Rattle.jr_engine.specs.declared.locked.Locked.{Locked}
@@ -22,7 +22,11 @@ IsSpelledIn s new = IsRespelled (rows_of s.locked.now) (locks_of s.locked.now) s
 
 -- the files left are the changed program
 abbrev pub IsLeftOf : Locked → Left → Type 0
-IsLeftOf locked left = IsWritten (rows_of locked) (locks_of locked) (opened_by left)
+IsLeftOf locked left = IsWritten (rows_of locked) (locks_of locked) (opened_by left) × IsHeld left
+
+-- the change is that for which the request asks
+abbrev pub IsAskedFor : Asked → Type 0
+IsAskedFor a = IsAskedOf a.old.now a.request.now a.change.now
 
 -- the changed program comes from the old one by the change, with the locks that follow
 abbrev pub IsLockedBy : Asked → Locked → Type 0

@@ -1,5 +1,10 @@
 // What is asked of a program, and places in its files.
 
+ghost use Rattle.std.specs.Prelude.{◌≡◌, length};
+ghost use Rattle.jr_index.specs.NodeRows.{unit_rows};
+ghost use Rattle.jr_draft.specs.Asking.{table_of};
+ghost use Rattle.jr_engine.specs.Steps.{rows_in};
+
 use crate::fault::StepFault;
 use jr_base::{CuId, Place, Request, Text};
 use jr_change::{Change, Project};
@@ -19,7 +24,12 @@ pub struct Asked<'a> {
 }
 
 /// The program with its tables and texts.
-pub fn project_of(workspace: &Workspace) -> Project<'_> {
+pub fn project_of(workspace: &Workspace) -> Project<'_>
+    ensures units { result.marks.units.now ≡ workspace.now.program.units }
+    ensures rows { result.marks.rows.now ≡ rows_in workspace.now }
+    ensures starts { result.marks.starts.now ≡ unit_rows (rows_in workspace.now) (length (rows_in workspace.now)) }
+    ensures table { table_of result ≡ workspace.now.bound.value.table.items }
+{
     Project {
         marks: workspace.marks(),
         view: workspace.view(),

@@ -4,7 +4,7 @@ ghost use Rattle.std.specs.Prelude.{◌≡◌, IsTrue, IfSome, map};
 ghost use Rattle.std.specs.List.{AllByRecursion};
 ghost use Rattle.jr_base.specs.Files.{plain};
 ghost use Rattle.jr_base.specs.Paths.{is_java};
-ghost use Rattle.jr_engine.specs.Steps.{IsOpened, IsRead, opened_by};
+ghost use Rattle.jr_engine.specs.Steps.{IsHeld, IsRead};
 
 use jr_base::{Files, Path};
 use jr_front::Workspace;
@@ -31,13 +31,13 @@ fn are_java(files: &[(Path, Vec<u8>)]) -> bool
 }
 
 impl Left {
-    #[tactic(auto, using(crate::proofs::Stepping::opened_so))]
+    #[tactic(auto, using(crate::proofs::Stepping::held_so))]
     /// The files that were opened; None where a path does not end in `.java`.
     pub fn of(files: Files, program: Workspace) -> Option<Left>
         requires { IsRead files program }
         ensures files { IfSome result (λ left. left.files ≡ files) }
         ensures program { IfSome result (λ left. left.program ≡ program) }
-        ensures opened { IfSome result (λ left. IsOpened (opened_by left)) }
+        ensures held { IfSome result IsHeld }
     {
         if are_java(files.entries()) {
             Some(Left { files, program })

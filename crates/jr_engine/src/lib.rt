@@ -2,7 +2,6 @@
 #![tactic(auto)]
 
 mod asked;
-mod changes;
 mod edges;
 mod fault;
 mod left;

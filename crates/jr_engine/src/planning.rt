@@ -3,7 +3,7 @@
 ghost use Rattle.std.specs.Prelude.{◌≡◌, IfOk, IfErr, Ok, [], ◌∷◌};
 ghost use Rattle.jr_base.specs.Files.{FileMap};
 ghost use Rattle.jr_engine.specs.Planning.{PlannedAs, RefusedAs};
-ghost use Rattle.jr_engine.specs.Steps.{IsOpened, IsStep, AreSteps, opened_by};
+ghost use Rattle.jr_engine.specs.Steps.{IsHeld, IsStep, AreSteps, opened_by};
 
 use crate::fault::Refused;
 use crate::left::Left;
@@ -27,7 +27,7 @@ fn copied(alloc: Global, files: &Files) -> Result<Files, Refused>
 #[tactic(auto, using(crate::proofs::Stepping::read_so))]
 fn opened(alloc: Global, files: &Files) -> Result<Left, Refused>
     ensures same { IfOk result (λ found. found.files ≡ files.now) }
-    ensures opened { IfOk result (λ found. IsOpened (opened_by found)) }
+    ensures held { IfOk result IsHeld }
     ensures err { IfErr result (λ refused. RefusedAs files.now refused.fault) }
 {
     let copy = copied(alloc, files)?;
@@ -42,8 +42,8 @@ fn opened(alloc: Global, files: &Files) -> Result<Left, Refused>
 
 // What the request of this number leaves of what is there.
 fn next(alloc: Global, now: Left, request: &Request, number: u32) -> Result<Left, Refused>
-    requires { IsOpened (opened_by now) }
-    ensures opened { IfOk result (λ left. IsOpened (opened_by left)) }
+    requires { IsHeld now }
+    ensures held { IfOk result IsHeld }
     ensures step { IfOk result (λ left. IsStep (opened_by now) request.now (opened_by left)) }
     ensures err { IfErr result (λ refused. (found : FileMap) → RefusedAs found refused.fault) }
 {
@@ -56,8 +56,8 @@ fn next(alloc: Global, now: Left, request: &Request, number: u32) -> Result<Left
 // What requests leave of what is there.
 #[tactic(auto, using(crate::proofs::Stepping::at_first))]
 fn left_by_all(alloc: Global, found: Left, requests: &[Request]) -> Result<Left, Refused>
-    requires { IsOpened (opened_by found) }
-    ensures opened { IfOk result (λ left. IsOpened (opened_by left)) }
+    requires { IsHeld found }
+    ensures held { IfOk result IsHeld }
     ensures steps { IfOk result (λ left. AreSteps (opened_by found) requests.now (opened_by left)) }
     ensures err { IfErr result (λ refused. (found : FileMap) → RefusedAs found refused.fault) }
 {

@@ -4,26 +4,28 @@ ghost use Rattle.std.specs.Prelude.{IfOk, IfErr, Err};
 ghost use Rattle.jr_base.specs.Files.{FileMap};
 ghost use Rattle.jr_front.specs.Checking.{CheckedAs};
 ghost use Rattle.jr_engine.specs.Planning.{RefusedAs};
-ghost use Rattle.jr_engine.specs.Steps.{LeftBy, IsFollowed};
+ghost use Rattle.jr_engine.specs.Steps.{LeftBy, IsFollowed, IsAskedOf};
+ghost use Rattle.jr_engine.specs.Written.{IsAskedFor};
 
 use crate::asked::{Asked, project_of};
-use crate::changes::change_of;
 use crate::edges::{is_within_flow, keeps_edges};
 use crate::fault::{EngineFault, Refused, StepFault, told};
 use crate::left::Left;
 use crate::locked::{lock, spellings};
-use crate::texts::changes_nothing;
 use crate::tried::Spelled;
 use crate::verdicts::no_change;
 use crate::writing::left_of;
+use jr_asked::{change_of, changes_nothing};
 use jr_base::{Files, OutOfMemory, Path, Request};
 use jr_change::{Change, ChangedUnit};
 use jr_defs::UnitAt;
 use jr_front::{FrontFault, Workspace};
+use jr_ordered::is_ordered;
 use std::alloc::Global;
 
 // What a change leaves.
 fn followed(alloc: Global, asked: Asked) -> Result<Left, StepFault>
+    requires { IsAskedFor asked }
     ensures { IfOk result (λ left. IsFollowed asked.entry.old.now asked.entry.request.now left) }
 {
     let locked = lock(alloc, asked)?;
@@ -143,10 +145,11 @@ fn left_by(
     change: &Change,
     request: u32,
 ) -> Result<Option<Left>, Refused>
+    requires { IsAskedOf old.now asked.now change.now }
     ensures ok { IfOk result (LeftBy old.now asked.now) }
     ensures err { IfErr result (λ refused. (found : FileMap) → RefusedAs found refused.fault) }
 {
-    if changes_nothing(old.program.units.as_slice(), change) {
+    if changes_nothing(old.program.units.as_slice(), &change.units) {
         return Ok(None);
     }
     let asked = Asked {
@@ -157,6 +160,20 @@ fn left_by(
     match followed(alloc, asked) {
         Ok(left) => Ok(Some(left)),
         Err(fault) => Err(refused_change(alloc, asked, request, fault)),
+    }
+}
+
+// The change for which a request asks of a program. Marks of a program are in order; others are answered for want of memory.
+fn asked_of(alloc: Global, old: &Workspace, request: &Request) -> Result<Change, StepFault>
+    ensures { IfOk result (IsAskedOf old.now request.now) }
+{
+    let project = project_of(old);
+    if !is_ordered(&project.marks) {
+        return Err(StepFault::OutOfMemory);
+    }
+    match change_of(alloc, &project, request) {
+        Ok(change) => Ok(change),
+        Err(fault) => Err(no_change(fault)),
     }
 }
 
@@ -178,8 +195,8 @@ pub fn left_behind(
     if let Err(fault) = is_within_flow(alloc, old) {
         return Err(refused_old(alloc, old, first_zero(request), fault));
     }
-    match change_of(alloc, &project_of(old), asked) {
+    match asked_of(alloc, old, asked) {
         Ok(change) => left_by(alloc, old, asked, &change, request),
-        Err(fault) => Err(refused_old(alloc, old, request, no_change(fault))),
+        Err(fault) => Err(refused_old(alloc, old, request, fault)),
     }
 }

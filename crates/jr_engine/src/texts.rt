@@ -101,27 +101,3 @@ pub fn first_twice(texts: &[(Path, Vec<u8>)]) -> Option<u32> {
     }
     None
 }
-
-// The unit is an old one as it is, of this number.
-fn is_kept(units: &[UnitAt], number: usize, changed: &ChangedUnit) -> bool {
-    match changed.source {
-        UnitSource::Kept(from) => match units.get(number) {
-            Some(unit) => from as usize == number && unit.path.bytes() == changed.path.bytes(),
-            None => false,
-        },
-        _ => false,
-    }
-}
-
-/// The change keeps all units.
-pub fn changes_nothing(units: &[UnitAt], change: &Change) -> bool {
-    if change.units.len() != units.len().saturating_sub(PRELUDE) {
-        return false;
-    }
-    for at in 0..change.units.len() {
-        if !is_kept(units, at.saturating_add(PRELUDE), &change.units[at]) {
-            return false;
-        }
-    }
-    true
-}

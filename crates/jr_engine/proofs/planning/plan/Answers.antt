@@ -8,5 +8,5 @@ returns-in-Err c = c.in-Err.ensures.err c.args.files.now
 
 pub returns-in-Ok : goal.returns-in-Ok
 returns-in-Ok c = let first = c.in_ok-found.found in let last = c.in-Ok.left in
-    planned_so c.args.files.now first last (c.args.request.now ∷ []) c.in_ok-found.ensures.same c.in_ok-found.ensures.opened c.in-Ok.ensures.opened
+    planned_so c.args.files.now first last (c.args.request.now ∷ []) c.in_ok-found.ensures.same c.in_ok-found.ensures.held c.in-Ok.ensures.held
     (one_step (opened_by first) (opened_by last) c.args.request.now c.in-Ok.ensures.step)

@@ -5,4 +5,4 @@ pub returns-in-Err : goal.returns-in-Err
 returns-in-Err c = c.in-Err.ensures.err c.args.files.now
 
 pub returns-in-Ok : goal.returns-in-Ok
-returns-in-Ok c = planned_so c.args.files.now c.in_ok-found.found c.in-Ok.left c.args.requests.now c.in_ok-found.ensures.same c.in_ok-found.ensures.opened c.in-Ok.ensures.opened c.in-Ok.ensures.steps
+returns-in-Ok c = planned_so c.args.files.now c.in_ok-found.found c.in-Ok.left c.args.requests.now c.in_ok-found.ensures.same c.in_ok-found.ensures.held c.in-Ok.ensures.held c.in-Ok.ensures.steps

@@ -1,5 +1,8 @@
 // The change for which a request asks.
 
+ghost use Rattle.jr_marks.specs.Places.{IsOrdered};
+ghost use Rattle.jr_asked.specs.Requested.{IsAskedBy};
+
 use jr_base::Request;
 use jr_change::{Change, ChangeFault, Project};
 use jr_delete::delete;
@@ -11,7 +14,9 @@ use jr_pullup::pull_up;
 use std::alloc::Global;
 
 /// What a request changes of a program, or the first reason why it is none.
-pub fn change_of(alloc: Global, old: &Project, request: &Request) -> Result<Change, ChangeFault> {
+pub fn change_of(alloc: Global, old: &Project, request: &Request) -> Result<Change, ChangeFault>
+    ensures { IsOrdered old.now.marks → IsAskedBy old.now request.now result }
+{
     match request {
         Request::Rename { file, at, name } => rename(alloc, old, file.bytes(), *at, name.bytes()),
         Request::Move { file, at, package } => {
