@@ -214,7 +214,7 @@ module _ (words : List (List ℕ)) (told left : Option Image) (kept outcomes : I
         each (Done (Changed zero)) a =
             let asked = asked_here a.0 a.2 (λ b i n. IsDone b i n b) a.3.1 in
             inl (record {
-              answer = same_status (renaming.Renamed (held_in alloc bytes small)) asked.1 (Done (Changed 0)) _ asked.0 (sym (unchanged bytes bytes refl)) refl;
+              answer = same_status (renaming.Renamed (held_in alloc bytes small)) asked.1 (Done (Changed 0)) (renamed_answer bytes bytes) asked.0 (sym (unchanged bytes bytes refl)) refl;
               files = subst (λ (b : List ℕ). Tells (Some found) left (KeepsOtherFiles file b)) (sym (same_text 0 bytes small asked.1)) (as_found a.0 a.2 a.3.0);
             })
         each (Done (Changed (suc zero))) a =
@@ -222,27 +222,27 @@ module _ (words : List (List ℕ)) (told left : Option Image) (kept outcomes : I
             let one = one_asked words asked.0 file asked.1 at asked.2 name asked.3 asks in
             let m = made_here a.0 a.2 asked.0 asked.1 asked.2 asked.3 asked.5 in
             inl (record {
-              answer = same_status (renaming.Renamed (held_in alloc m.0 m.1.2)) m.1.0 (Done (Changed 1)) _ (subst (λ (p : List ℕ). length p ≤ 1024) one.0 asked.4) (sym (changed bytes m.0 m.1.1 m.1.2)) refl;
+              answer = same_status (renaming.Renamed (held_in alloc m.0 m.1.2)) m.1.0 (Done (Changed 1)) (renamed_answer bytes m.0) (subst (λ (p : List ℕ). length p ≤ 1024) one.0 asked.4) (sym (changed bytes m.0 m.1.1 m.1.2)) refl;
               files = subst (λ (b : List ℕ). Tells (Some found) left (KeepsOtherFiles file b)) (sym (same_text 1 m.0 m.1.2 m.1.0)) m.1.3;
             })
         each (NoSpelling request occ place lock) a =
             let asked = asked_here a.0 a.2 (λ b i n. IsLost b i n occ place.at lock) a.3.3 in
             inl (record {
-              answer = same_status (renaming.NoSpelling occ place.at lock) asked.1 (NoSpelling request occ place lock) _ asked.0
+              answer = same_status (renaming.NoSpelling occ place.at lock) asked.1 (NoSpelling request occ place lock) (NoSpelling 0 occ (place_of place.at) lock) asked.0
                   (ap (λ q. NoSpelling q occ place lock) a.3.1 ∙ ap (λ u. NoSpelling 0 occ (record { cu = record { 0 = u }; at = place.at }) lock) a.3.2) refl;
               files = as_found a.0 a.2 a.3.0;
             })
         each (BrokenRule request rule place) a =
             let asked = asked_here a.0 a.2 (λ b i n. IsBroken b i n place.at) a.3.4 in
             inl (record {
-              answer = same_status (renaming.BrokenRule place.at) asked.1 (BrokenRule request rule place) _ asked.0
+              answer = same_status (renaming.BrokenRule place.at) asked.1 (BrokenRule request rule place) (BrokenRule 0 (record { 0 = 6 }) (place_of place.at)) asked.0
                   (ap (λ q. BrokenRule q rule place) a.3.1 ∙ ap (λ k. BrokenRule 0 (record { 0 = k }) place) a.3.2 ∙ ap (λ u. BrokenRule 0 (record { 0 = 6 }) (record { cu = record { 0 = u }; at = place.at })) a.3.3) refl;
               files = as_found a.0 a.2 a.3.0;
             })
         each (TooLarge File request) a =
             let asked = asked_here a.0 a.2 IsTooLong a.3.2 in
             inl (record {
-              answer = same_status (renaming.Renamed asked.1.0) asked.1.1 (TooLarge File request) _ asked.0 (ap (TooLarge File) a.3.1 ∙ sym (long bytes asked.1.0.items small asked.1.2)) refl;
+              answer = same_status (renaming.Renamed asked.1.0) asked.1.1 (TooLarge File request) (renamed_answer bytes asked.1.0.items) asked.0 (ap (TooLarge File) a.3.1 ∙ sym (long bytes asked.1.0.items small asked.1.2)) refl;
               files = as_found a.0 a.2 a.3.0;
             })
         each (TooLarge Path request) a =

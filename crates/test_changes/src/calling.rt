@@ -3,8 +3,8 @@ use jr_base::OutOfMemory;
 use std::alloc::Global;
 use test_calls::comes_to;
 
-/// Whether the words get this number and this line on one file, and leave this text in it.
-pub fn gives(
+// Whether the words get this number and this line on one file, and leave this text in it.
+fn gives(
     alloc: Global,
     text: &str,
     words: &str,
