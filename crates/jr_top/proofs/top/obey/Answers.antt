@@ -98,7 +98,7 @@ returns-in-Change-clause-any_moment g c words f r is told settled =
     ⊎_elim
     (λ asked.
     either_run S.moment S.left_since words f r kept (S.may_leave c.decide.new.store) c.args.store.now c.decide.new.store c.change.new.store asked.0 asked.1 asked.2 plan asked.3
-    files told settled c.decide.ensures.crash asked.6 c.decide.ensures.any_moment (c.change.ensures.any_moment f (c.decide.ensures.files ∙ told)))
+    files told settled c.decide.ensures.crash asked.4.2 c.decide.ensures.any_moment (c.change.ensures.any_moment f (c.decide.ensures.files ∙ told)))
     (λ all.
     let made = plan_of all.0 files before middle plan all.2 in
     run_planned all.0 made.0 made.1 plan made.3 made.4 f (told_for_files files made.0 made.2 f told) words (may_ask words c.args.command.now all.0 is all.1) S.moment S.left_since r kept (S.may_leave c.decide.new.store)
@@ -122,8 +122,8 @@ returns-in-Change-clause-answer g c words is no_batch =
     ⊎_elim
     (λ asked.
     inl (reports_change words told left kept outcomes before after done.0 c.change.result (O.contents c.args.out.now) (O.contents c.change.new.out) (O.faults c.args.out.now) (O.faults c.change.new.out)
-    (changed words told left kept outcomes before after asked.0 asked.1 asked.2 plan asked.3 asked.4 asked.5 middle (S.files c.decide.new.store) (S.may_leave c.decide.new.store) done.0
-    c.decide.ensures.files c.decide.ensures.later c.decide.ensures.crash asked.6
+    (changed words told left kept outcomes before after asked.0 asked.1 asked.2 plan asked.3 asked.4.0 asked.4.1 middle (S.files c.decide.new.store) (S.may_leave c.decide.new.store) done.0
+    c.decide.ensures.files c.decide.ensures.later c.decide.ensures.crash asked.4.2
     (λ f r told_is settled image l.
     let run = returns-in-Change-clause-any_moment g c words f r is told_is settled in
     run.each image (g.met.S.Store.counts_now c.change.new.store (S.moment c.args.store.now) image run.later l))
