@@ -367,7 +367,7 @@ class Trials:
             return
         self.counts[words[0] + ' ' + re.sub(r'[\w/.]+\.java:\d+|prelude', 'P', line.strip())] += 1
         self.keep(old.files, words, line, '')
-        if err.strip() or status not in (0, 2, 3, 4, 5, 6, 9, 13, 20) or line.startswith('differs'):
+        if err.strip() or status not in (0, 2, 3, 4, 5, 6, 9, 13) or line.startswith('differs'):
             self.found('answer', old.files, words, line, 'status %d %s' % (status, err[:400]))
             return
         if took > 10:

@@ -80,7 +80,7 @@ def main():
         ours = [subprocess.run([os.path.abspath(args.bin), folder, 'check'], capture_output=True, text=True).stdout == 'ok, files: 1\n' for folder in folders]
     different = [(text, mine) for text, mine, its in zip(sources, ours, theirs, strict=True) if mine != (its == 'true')]
     for text, mine in different[:10]:
-        print(f'check says {"ok" if mine else "not yet"}: {text}', end='')
+        print(f'check says {"ok" if mine else "not ok"}: {text}', end='')
     print(f'{args.count} sources, {sum(ours)} compile, {len(different)} differ')
     return 1 if different else 0
 

@@ -1,12 +1,11 @@
 -- Files that the front accepts are within the limits of a plan.
-use Rattle.std.proofs.Common.{◌≡◌, ℕ, ◌+◌, ◌-◌, ◌≤◌, nat_lt, Bool, true, false, List, [], ◌∷◌, length, map, Option, Some, None, Ok, refl, sym, ◌∙◌, arith}
+use Rattle.std.proofs.Common.{◌≡◌, ℕ, ◌-◌, ◌≤◌, nat_lt, Bool, true, false, List, [], ◌∷◌, length, map, Some, None, Ok, refl, sym, arith}
 use Rattle.std.specs.Prelude.{◌||◌, if◌then◌else◌}
 use Rattle.std.specs.FinMap as finite
 use Rattle.std.specs.List.{AllByRecursion}
 use Rattle.std.proofs.lemmas.Bool.{ltb-false, false≢true}
 use Rattle.std.proofs.lemmas.List.Sums.{sum_by-cons}
 use Rattle.jr_base.specs.Files.{FileMap}
-use Rattle.jr_base.specs.declared.limits.Size.{Size}
 use Rattle.jr_base.specs.declared.limits.Size.TheVariants as size
 use Rattle.jr_base.specs.declared.limits.TheConstants.Limits as limits
 use Rattle.jr_commit.specs.Differences.{File}

@@ -1,5 +1,5 @@
 -- From what an input comes to, to the answer to a batch.
-use Rattle.std.proofs.Common.{◌≡◌, ◌⊎◌, inl, inr, ℕ, List, [], Option, Some, Result, Ok, Err, Vec, Global, sym, ap, subst, ◌∙◌, arith}
+use Rattle.std.proofs.Common.{◌≡◌, ◌⊎◌, inl, inr, ℕ, List, [], Option, Some, Ok, Err, Vec, Global, sym, ap, subst, ◌∙◌, arith}
 use Rattle.std.proofs.lemmas.Option.{same_Some}
 use Rattle.jr_base.specs.declared.request.Request.{Request}
 use Rattle.jr_batch.specs.Input.{ForInput, IsInputAnswer, LeavesSome}
@@ -77,21 +77,23 @@ module _ (words : List (List ℕ)) (told left : Option Image) (kept outcomes : I
     heard_so other h = absurd h
 
   -- the one answer of an input that is told
-  module _ (old new : Option (List ℕ)) (fewer more : ℕ) (alloc : Global) (files found : Image) (is : told ≡ Some files) (restored : Restored files found) (bytes : List ℕ) (answer : Result (List Request) BatchFault)
-      (heard_is : heard ≡ Some bytes) (q : IsInputAnswer bytes answer) where
-    one : (b : Result (List Request) BatchFault) → ForInput heard (λ bs. IsInputAnswer bs b) → b ≡ answer
-    one b h = one_answer alloc bytes b answer (subst (λ (t : Option (List ℕ)). ForInput t (λ bs. IsInputAnswer bs b)) heard_is h) q
+  module _ (old new : Option (List ℕ)) (fewer more : ℕ) (alloc : Global) (files found : Image) (is : told ≡ Some files) (restored : Restored files found) (bytes : List ℕ) (why : BatchFault)
+      (heard_is : heard ≡ Some bytes) (q : IsInputAnswer bytes (Err why)) where
+    one : (other : BatchFault) → ForInput heard (λ bs. IsInputAnswer bs (Err other)) → other ≡ why
+    one other h =
+        let same : Err other ≡ Err why = one_answer alloc bytes (Err other) (Err why) (subst (λ (t : Option (List ℕ)). ForInput t (λ bs. IsInputAnswer bs (Err other))) heard_is h) q in
+        cc
 
-    each_exact : (status : Status) → AnswersBatch words told left outcomes before after heard quiet loud status → (status ≡ status_of answer) ⊎ IsBatchFailure before after fewer more quiet loud status
+    each_exact : (status : Status) → AnswersBatch words told left outcomes before after heard quiet loud status → (status ≡ status_of why) ⊎ IsBatchFailure before after fewer more quiet loud status
     each_exact BadJournal a = absurd (no_bad_journal files found told is restored a.2)
     each_exact (StoreFault Recovering) a = inr a.2
     each_exact (StoreFault other) a = absurd a.1
     each_exact OutOfMemory a = inr tt
     each_exact SourceFault a = inr a.1
-    each_exact (TooLarge what request) a = inl (ap (λ n. TooLarge what n) a.1.0 ∙ ap status_of (one (Err (fault.TooLarge what)) a.1.1))
-    each_exact (BadRequest request reason field) a = inl (ap (λ n. BadRequest request n field) a.1.0 ∙ ap status_of (one (Err (fault.Refused request field)) a.1.1))
+    each_exact (TooLarge what request) a = inl (ap (λ n. TooLarge what n) a.1.0 ∙ ap status_of (one (fault.TooLarge what) a.1.1))
+    each_exact (BadRequest request reason field) a = inl (ap (λ n. BadRequest request n field) a.1.0 ∙ ap status_of (one (fault.Refused request field) a.1.1))
     each_exact other a = absurd a.1
 
-    pub exact : (result : Status) → Reported words Said result old new fewer more → (result ≡ status_of answer) ⊎ IsBatchFailure before after fewer more quiet loud result
-    exact result (status, said, inl done) = subst (λ (x : Status). (x ≡ status_of answer) ⊎ IsBatchFailure before after fewer more quiet loud x) (sym done.0) (each_exact status said.0)
+    pub exact : (result : Status) → Reported words Said result old new fewer more → (result ≡ status_of why) ⊎ IsBatchFailure before after fewer more quiet loud result
+    exact result (status, said, inl done) = subst (λ (x : Status). (x ≡ status_of why) ⊎ IsBatchFailure before after fewer more quiet loud x) (sym done.0) (each_exact status said.0)
     exact result (status, said, inr failed) = inr (subst (IsBatchFailure before after fewer more quiet loud) (sym failed.0) failed.2)

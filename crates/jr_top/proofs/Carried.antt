@@ -27,7 +27,7 @@ use Rattle.jr_top.specs.Recovering.{NeedsFiles, AsksRecovery, Recovers}
 use Rattle.jr_top.specs.Renaming.{files_named, ForTold}
 use Rattle.jr_top.specs.declared.status.Phase.TheVariants.{Recovering, Reading, Writing}
 use Rattle.jr_top.specs.declared.status.Status.{Status}
-use Rattle.jr_top.specs.declared.status.Status.TheVariants.{Done, NoSpelling, BrokenRule, NotYet, StoreFault, TooLarge, OutOfMemory, BadJournal, Differs}
+use Rattle.jr_top.specs.declared.status.Status.TheVariants.{Done, NoSpelling, BrokenRule, StoreFault, TooLarge, OutOfMemory, BadJournal, Differs}
 
 -- what a crash leaves before the call stands for the files found
 pub here_by : (f r : Image) (outcomes : Image → Type 0) → StartsRecover f outcomes → Restored f r → (c : Image) → outcomes c → RestoresTo c r
@@ -59,7 +59,6 @@ earlier words found left outcomes before middle after other later a = a
 -- an answer on the files found is one of the call
 pub on_found : (words : List (List ℕ)) (told left : Option Image) (outcomes : Image → Type 0) (before after : ℕ) (status : Status) → OnFound words told left outcomes before after status → Answers words told left outcomes before after status
 on_found words told left outcomes before after OutOfMemory on = inr on
-on_found words told left outcomes before after NotYet on = on
 on_found words told left outcomes before after (StoreFault Reading) on = on
 on_found words told left outcomes before after (StoreFault Writing) on = on
 on_found words told left outcomes before after (StoreFault other) on = absurd on.3

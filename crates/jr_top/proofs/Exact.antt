@@ -20,16 +20,16 @@ use Rattle.jr_thin.specs.declared.answers.Renaming.TheVariants as renaming
 use Rattle.jr_top.specs.Answers.{Asks, Answers, IsDemonstrated, IsFailure}
 use Rattle.jr_top.specs.Changing.{IsCommitted, IsTooLong}
 use Rattle.jr_top.specs.Crash.{Survives}
-use Rattle.jr_top.specs.Exact.{place_of, answer_of, answer_at, bytes_after, KeepsOtherFiles, IsAnswered}
+use Rattle.jr_top.specs.Exact.{place_of, renamed_answer, answer_of, answer_at, bytes_after, KeepsOtherFiles, IsAnswered}
 use Rattle.jr_top.specs.Performing.{Reported}
 use Rattle.jr_top.specs.Recovering.{AsksRecovery, Recovers}
 use Rattle.jr_top.specs.Renaming.{AsksRename, Holds, ForTold}
-use Rattle.jr_top.proofs.Outcomes.{found_files, no_bad_journal, served_asked}
+use Rattle.jr_top.proofs.Outcomes.{found_files, no_bad_journal}
 use Rattle.jr_top.proofs.Settled.{holds_same}
 use Rattle.jr_top.specs.declared.status.Phase.TheVariants.{Recovering, Reading, Writing}
 use Rattle.jr_top.specs.declared.status.Report.TheVariants.{Changed, Printed}
 use Rattle.jr_top.specs.declared.status.Status.{Status}
-use Rattle.jr_top.specs.declared.status.Status.TheVariants.{Done, BadWords, NoSpelling, BrokenRule, NotYet, StoreFault, TooLarge, OutOfMemory, BadJournal, Differs}
+use Rattle.jr_top.specs.declared.status.Status.TheVariants.{Done, BadWords, NoSpelling, BrokenRule, StoreFault, TooLarge, OutOfMemory, BadJournal, Differs}
 
 -- a vector that holds a list of this length
 abbrev held_in : Global → (xs : List ℕ) → length xs ≤ 1048576 → Vec ℕ Global
@@ -40,10 +40,9 @@ held_in alloc xs fits =
 same_answer : (bytes : List ℕ) (r s : Renaming) → IsSame r s → answer_of bytes r ≡ answer_of bytes s
 same_answer bytes renaming.NotServed renaming.NotServed same = refl
 same_answer bytes (renaming.NoSpelling occ at lock) (renaming.NoSpelling occ2 at2 lock2) same =
-    ap (λ o. NoSpelling 0 o (place_of at) lock) same.0 ∙ ap (λ a. NoSpelling 0 occ2 (place_of a) lock) same.1 ∙ ap (λ l. NoSpelling 0 occ2 (place_of at2) l) same.2
-same_answer bytes (renaming.BrokenRule at) (renaming.BrokenRule at2) same = ap (λ a. BrokenRule 0 (record { 0 = 6 }) (place_of a)) same
-same_answer bytes (renaming.Renamed new) (renaming.Renamed new2) same =
-    ap (λ items. if bytes_eq items bytes then Done (Changed 0) else (if nat_lt 1048576 (length items) then TooLarge File 0 else Done (Changed 1))) same
+    ap (λ o. Some (NoSpelling 0 o (place_of at) lock)) same.0 ∙ ap (λ a. Some (NoSpelling 0 occ2 (place_of a) lock)) same.1 ∙ ap (λ l. Some (NoSpelling 0 occ2 (place_of at2) l)) same.2
+same_answer bytes (renaming.BrokenRule at) (renaming.BrokenRule at2) same = ap (λ a. Some (BrokenRule 0 (record { 0 = 6 }) (place_of a))) same
+same_answer bytes (renaming.Renamed new) (renaming.Renamed new2) same = ap (λ items. Some (renamed_answer bytes items)) same
 same_answer bytes r s never = absurd never
 
 -- the new bytes are left where the rename is done
@@ -193,9 +192,9 @@ module _ (words : List (List ℕ)) (told left : Option Image) (kept outcomes : I
 
       module _ (alloc : Global) (r : Renaming) (renames : IsRenaming bytes at name r) where
         -- what comes to another answer to the rename comes to this one
-        same_status : (s : Renaming) → IsRenaming bytes at name s → (status : Status) → length file ≤ 1024 → status ≡ answer_of bytes s → status ≡ answer_at file bytes r
-        same_status s other status short status_is =
-            status_is ∙ same_answer bytes s r (one_answer bytes at name s r other renames) ∙ sym (ap (λ b. if b then TooLarge Path 0 else answer_of bytes r) (le-ltb 1024 (length file) short))
+        same_status : (s : Renaming) → IsRenaming bytes at name s → (status said : Status) → length file ≤ 1024 → status ≡ said → Some said ≡ answer_of bytes s → Some status ≡ answer_at file bytes r
+        same_status s other status said short status_is said_is =
+            ap Some status_is ∙ said_is ∙ same_answer bytes s r (one_answer bytes at name s r other renames) ∙ sym (ap (λ b. if b then Some (TooLarge Path 0) else answer_of bytes r) (le-ltb 1024 (length file) short))
 
         same_text : (n : ℕ) (text : List ℕ) (fits : length text ≤ 1048576) → IsDone bytes at name text → bytes_after bytes (Done (Changed n)) r ≡ text
         same_text n text fits done = same_bytes bytes n r (held_in alloc text fits) (one_answer bytes at name r (renaming.Renamed (held_in alloc text fits)) renames done)
@@ -210,13 +209,12 @@ module _ (words : List (List ℕ)) (told left : Option Image) (kept outcomes : I
         each (StoreFault Reading) a = inr a.3.2
         each (StoreFault Writing) a = inr a.3.1
         each OutOfMemory a = inr tt
-        each NotYet a = absurd (served_asked words file at name asks a.3.1)
         each (Done (Printed text)) a = absurd (a.2 (_, asks, tt))
         each (Differs request place) a = absurd (a.2 (_, asks, tt))
         each (Done (Changed zero)) a =
             let asked = asked_here a.0 a.2 (λ b i n. IsDone b i n b) a.3.1 in
             inl (record {
-              answer = same_status (renaming.Renamed (held_in alloc bytes small)) asked.1 (Done (Changed 0)) asked.0 (sym (unchanged bytes bytes refl));
+              answer = same_status (renaming.Renamed (held_in alloc bytes small)) asked.1 (Done (Changed 0)) (renamed_answer bytes bytes) asked.0 (sym (unchanged bytes bytes refl)) refl;
               files = subst (λ (b : List ℕ). Tells (Some found) left (KeepsOtherFiles file b)) (sym (same_text 0 bytes small asked.1)) (as_found a.0 a.2 a.3.0);
             })
         each (Done (Changed (suc zero))) a =
@@ -224,34 +222,34 @@ module _ (words : List (List ℕ)) (told left : Option Image) (kept outcomes : I
             let one = one_asked words asked.0 file asked.1 at asked.2 name asked.3 asks in
             let m = made_here a.0 a.2 asked.0 asked.1 asked.2 asked.3 asked.5 in
             inl (record {
-              answer = same_status (renaming.Renamed (held_in alloc m.0 m.1.2)) m.1.0 (Done (Changed 1)) (subst (λ (p : List ℕ). length p ≤ 1024) one.0 asked.4) (sym (changed bytes m.0 m.1.1 m.1.2));
+              answer = same_status (renaming.Renamed (held_in alloc m.0 m.1.2)) m.1.0 (Done (Changed 1)) (renamed_answer bytes m.0) (subst (λ (p : List ℕ). length p ≤ 1024) one.0 asked.4) (sym (changed bytes m.0 m.1.1 m.1.2)) refl;
               files = subst (λ (b : List ℕ). Tells (Some found) left (KeepsOtherFiles file b)) (sym (same_text 1 m.0 m.1.2 m.1.0)) m.1.3;
             })
         each (NoSpelling request occ place lock) a =
             let asked = asked_here a.0 a.2 (λ b i n. IsLost b i n occ place.at lock) a.3.3 in
             inl (record {
-              answer = same_status (renaming.NoSpelling occ place.at lock) asked.1 (NoSpelling request occ place lock) asked.0
-                  (ap (λ q. NoSpelling q occ place lock) a.3.1 ∙ ap (λ u. NoSpelling 0 occ (record { cu = record { 0 = u }; at = place.at }) lock) a.3.2);
+              answer = same_status (renaming.NoSpelling occ place.at lock) asked.1 (NoSpelling request occ place lock) (NoSpelling 0 occ (place_of place.at) lock) asked.0
+                  (ap (λ q. NoSpelling q occ place lock) a.3.1 ∙ ap (λ u. NoSpelling 0 occ (record { cu = record { 0 = u }; at = place.at }) lock) a.3.2) refl;
               files = as_found a.0 a.2 a.3.0;
             })
         each (BrokenRule request rule place) a =
             let asked = asked_here a.0 a.2 (λ b i n. IsBroken b i n place.at) a.3.4 in
             inl (record {
-              answer = same_status (renaming.BrokenRule place.at) asked.1 (BrokenRule request rule place) asked.0
-                  (ap (λ q. BrokenRule q rule place) a.3.1 ∙ ap (λ k. BrokenRule 0 (record { 0 = k }) place) a.3.2 ∙ ap (λ u. BrokenRule 0 (record { 0 = 6 }) (record { cu = record { 0 = u }; at = place.at })) a.3.3);
+              answer = same_status (renaming.BrokenRule place.at) asked.1 (BrokenRule request rule place) (BrokenRule 0 (record { 0 = 6 }) (place_of place.at)) asked.0
+                  (ap (λ q. BrokenRule q rule place) a.3.1 ∙ ap (λ k. BrokenRule 0 (record { 0 = k }) place) a.3.2 ∙ ap (λ u. BrokenRule 0 (record { 0 = 6 }) (record { cu = record { 0 = u }; at = place.at })) a.3.3) refl;
               files = as_found a.0 a.2 a.3.0;
             })
         each (TooLarge File request) a =
             let asked = asked_here a.0 a.2 IsTooLong a.3.2 in
             inl (record {
-              answer = same_status (renaming.Renamed asked.1.0) asked.1.1 (TooLarge File request) asked.0 (ap (TooLarge File) a.3.1 ∙ sym (long bytes asked.1.0.items small asked.1.2));
+              answer = same_status (renaming.Renamed asked.1.0) asked.1.1 (TooLarge File request) (renamed_answer bytes asked.1.0.items) asked.0 (ap (TooLarge File) a.3.1 ∙ sym (long bytes asked.1.0.items small asked.1.2)) refl;
               files = as_found a.0 a.2 a.3.0;
             })
         each (TooLarge Path request) a =
             let asked = a.3.2 in
             let one = one_asked words asked.0 file asked.1 at asked.2 name asked.3 asks in
             inl (record {
-              answer = ap (TooLarge Path) a.3.1 ∙ sym (ap (λ b. if b then TooLarge Path 0 else answer_of bytes r) (lt-ltb 1024 (length file) (subst (λ (p : List ℕ). 1024 < length p) one.0 asked.4)));
+              answer = ap (λ n. Some (TooLarge Path n)) a.3.1 ∙ sym (ap (λ b. if b then Some (TooLarge Path 0) else answer_of bytes r) (lt-ltb 1024 (length file) (subst (λ (p : List ℕ). 1024 < length p) one.0 asked.4)));
               files = as_found a.0 a.2 a.3.0;
             })
         each other a = absurd a.3

@@ -7,13 +7,12 @@ use Rattle.jr_store.specs.Image.{Image}
 use Rattle.jr_thin.specs.Renaming.{Serves}
 use Rattle.jr_top.specs.Recovering.{Recovers}
 use Rattle.jr_top.specs.Renaming.{AsksRename, Holds, ForTold}
-use Rattle.jr_top.specs.Served.{IsServedCommand, AsksUnserved}
 use Rattle.jr_top.specs.Answers.{Answers, reported, Outcome, IsServedAnswer}
 use Rattle.jr_top.specs.Crash.{Survives}
 use Rattle.jr_top.specs.Performing.{Reported}
 use Rattle.jr_top.specs.declared.status.Phase.TheVariants.{Recovering, Reading, Writing}
 use Rattle.jr_top.specs.declared.status.Status.{Status}
-use Rattle.jr_top.specs.declared.status.Status.TheVariants.{Done, BadWords, NoSpelling, BrokenRule, NotYet, StoreFault, SinkFault, TooLarge, OutOfMemory, BadJournal, Differs}
+use Rattle.jr_top.specs.declared.status.Status.TheVariants.{Done, BadWords, NoSpelling, BrokenRule, StoreFault, SinkFault, TooLarge, OutOfMemory, BadJournal, Differs}
 
 -- recovery has found the files that the image stood for
 pub found_files : (files found : Image) (told here : Option Image) → told ≡ Some files → Restored files found → Recovers told here → (g : Image) × (here ≡ Some g) × SameFiles g found
@@ -25,10 +24,6 @@ found_files files found (Some f) (Some g) is restored recovers = (g, refl, recov
 pub no_bad_journal : (files found : Image) (told : Option Image) → told ≡ Some files → Restored files found → ForTold told (λ files. IsOpen files × ((r : Image) → Restored files r → ⊥)) → ⊥
 no_bad_journal files found None is restored bad = none-some files is
 no_bad_journal files found (Some f) is restored bad = bad.1 found (subst (λ (i : Image). Restored i found) (sym (same_Some f files is)) restored)
-
--- words that ask for a rename ask for a command that is served
-pub served_asked : (words : List (List ℕ)) (file : List ℕ) (at : ℕ) (name : List ℕ) → AsksRename words file at name → AsksUnserved words → ⊥
-served_asked words file at name asks (command, is, unserved) = unserved (subst IsServedCommand (same_Some _ _ (sym asks ∙ is)) tt)
 
 module _ (words : List (List ℕ)) (told left : Option Image) (kept outcomes : Image → Type 0) (before after : ℕ) (old new : Option (List ℕ)) (fewer more : ℕ) where
   abbrev Said : Status → Type 0
@@ -52,7 +47,6 @@ module _ (words : List (List ℕ)) (told left : Option Image) (kept outcomes : I
     served (BrokenRule request rule place) answers = tt
     served (TooLarge what request) answers = tt
     served BadJournal answers = no_bad_journal files found told is restored answers.2
-    served NotYet (here, asked, recovers, unserved) = absurd (served_asked words file at name asks unserved.1)
     served (Differs request place) answers = absurd (answers.2 (_, asks, tt))
     served (StoreFault Recovering) answers = answers.2
     served (StoreFault Reading) answers = answers.3.2

@@ -1,8 +1,5 @@
 -- From what was decided, and what was done then, to the answer.
 use Rattle.std.proofs.Common.{◌≡◌, ◌≢◌, ℕ, ◌≤◌, List, [], ◌∷◌, length, Option, Some, None, refl, sym, ap, subst, ◌∙◌, inl, inr, ⊎_elim, ◌⊎◌, arith, Vec, Global}
-use Rattle.jr_base.specs.declared.request.Request.TheVariants.{Rename}
-use Rattle.jr_request.specs.declared.command.Command.{Command}
-use Rattle.jr_request.specs.declared.command.Command.TheVariants.{One}
 use Rattle.jr_commit.specs.Planned.{Planned, ChangesOnlyPlanned}
 use Rattle.jr_commit.specs.Restoring.{RestoresTo, SameFiles}
 use Rattle.jr_store.specs.Image.{Image, Tells, OnlyTold, Rose}
@@ -19,29 +16,16 @@ use Rattle.jr_top.proofs.Settled.{settled_stands, starts, restores_same, stands_
 use Rattle.jr_thin.specs.Renaming.{IsDone}
 use Rattle.jr_top.specs.Line.{line_of}
 use Rattle.jr_top.specs.Renaming.{AsksRename, files_named, Holds, ForTold}
-use Rattle.jr_top.specs.Decisions.{HoldsSome, DecidesRename, DecidesCommand, Decides}
+use Rattle.jr_top.specs.Decisions.{HoldsSome, Decides}
 use Rattle.jr_base.specs.declared.limits.Size.TheVariants.{File, Path}
 use Rattle.jr_top.specs.Answers.{LeavesChange, AnswersFound, Reports, IsReported, reported}
-use Rattle.jr_top.specs.Served.{IsServedCommand}
-use Rattle.jr_top.specs.declared.decide.Decision.{Decision}
-use Rattle.jr_top.specs.declared.decide.Decision.TheVariants.{Answer, Refuse, Change}
+use Rattle.jr_top.specs.declared.decide.Decision.TheVariants.{Answer, Refuse}
 use Rattle.jr_top.specs.declared.status.Phase.TheVariants.{Reading, Writing}
 use Rattle.jr_top.specs.declared.status.Report.TheVariants.{Changed}
 use Rattle.jr_top.specs.declared.status.Status.{Status}
-use Rattle.jr_top.specs.declared.status.Status.TheVariants.{Done, NoSpelling, BrokenRule, NotYet, StoreFault, TooLarge, OutOfMemory}
+use Rattle.jr_top.specs.declared.status.Status.TheVariants.{Done, NoSpelling, BrokenRule, StoreFault, TooLarge, OutOfMemory}
 
 module _ (words : List (List ℕ)) (told : Option Image) (before after : ℕ) where
-  -- a decision on a command is one on a rename, or says that it is not served
-  split : (command : Command) (decision : Decision) → DecidesCommand command told before after decision → ((decision ≡ Answer NotYet) × (IsServedCommand command → ⊥))
-      ⊎ ((file : List ℕ) × (at : ℕ) × (name : List ℕ) × (command ≡ One (Rename file at name)) × DecidesRename file at name told before after decision)
-  split (One (Rename file at name)) decision (differs, decides) = inr (file, at, name, refl, decides)
-  split other decision decides = inl decides
-
-  -- a command of which it is said is not served
-  unserved_of : (command : Command) → DecidesCommand command told before after (Answer NotYet) → IsServedCommand command → ⊥
-  unserved_of (One (Rename file at name)) (differs, decides) served = differs refl
-  unserved_of other (is, unserved) served = unserved served
-
   some_held : (t : Option Image) (file : List ℕ) → HoldsSome t file (λ bytes. Unit {0}) → ForTold t (λ files. (bytes : List ℕ) × Holds files file bytes)
   some_held None file held = tt
   some_held (Some files) file held = (held.0, held.1)
@@ -49,108 +33,32 @@ module _ (words : List (List ℕ)) (told : Option Image) (before after : ℕ) wh
   -- an answer that leaves the files
   pub answered : (left : Option Image) (outcomes : Image → Type 0) (status : Status) → left ≡ told → Decides words told before after (Answer status) →
       AnswersFound words told left outcomes before after status × (line_of [] status ≡ reported words status)
-  answered left outcomes (Done (Changed files)) same (command, is, decides) = go (split command (Answer (Done (Changed files))) decides)
-    where
-      go : ((Answer (Done (Changed files)) ≡ Answer NotYet) × (IsServedCommand command → ⊥))
-          ⊎ ((file : List ℕ) × (at : ℕ) × (name : List ℕ) × (command ≡ One (Rename file at name)) × DecidesRename file at name told before after (Answer (Done (Changed files)))) →
-          AnswersFound words told left outcomes before after (Done (Changed files)) × (line_of [] (Done (Changed files)) ≡ reported words (Done (Changed files)))
-      go (inl other) = absurd (let e : Answer (Done (Changed files)) ≡ Answer NotYet = other.0 in cc)
-      go (inr (file, at, name, rename, (none, short, held))) =
-          (subst (λ (n : ℕ). LeavesChange words told left outcomes n) (sym none) (same, (file, at, name, is ∙ ap Some rename, short, held)), refl)
-  answered left outcomes (TooLarge Path request) same (command, is, decides) = go (split command (Answer (TooLarge Path request)) decides)
-    where
-      go : ((Answer (TooLarge Path request) ≡ Answer NotYet) × (IsServedCommand command → ⊥))
-          ⊎ ((file : List ℕ) × (at : ℕ) × (name : List ℕ) × (command ≡ One (Rename file at name)) × DecidesRename file at name told before after (Answer (TooLarge Path request))) →
-          AnswersFound words told left outcomes before after (TooLarge Path request) × (line_of [] (TooLarge Path request) ≡ reported words (TooLarge Path request))
-      go (inl other) = absurd (let e : Answer (TooLarge Path request) ≡ Answer NotYet = other.0 in cc)
-      go (inr (file, at, name, rename, (single, long, held))) = ((same, single, (file, at, name, is ∙ ap Some rename, long, some_held told file held)), refl)
-  answered left outcomes (TooLarge File request) same (command, is, decides) = go (split command (Answer (TooLarge File request)) decides)
-    where
-      go : ((Answer (TooLarge File request) ≡ Answer NotYet) × (IsServedCommand command → ⊥))
-          ⊎ ((file : List ℕ) × (at : ℕ) × (name : List ℕ) × (command ≡ One (Rename file at name)) × DecidesRename file at name told before after (Answer (TooLarge File request))) →
-          AnswersFound words told left outcomes before after (TooLarge File request) × (line_of [] (TooLarge File request) ≡ reported words (TooLarge File request))
-      go (inl other) = absurd (let e : Answer (TooLarge File request) ≡ Answer NotYet = other.0 in cc)
-      go (inr (file, at, name, rename, (single, short, held))) = ((same, single, (file, at, name, is ∙ ap Some rename, short, held)), refl)
-  answered left outcomes NotYet same (command, is, decides) = ((same, (command, is, unserved_of command decides)), refl)
-  answered left outcomes (StoreFault Reading) same (command, is, decides) = go (split command (Answer (StoreFault Reading)) decides)
-    where
-      go : ((Answer (StoreFault Reading) ≡ Answer NotYet) × (IsServedCommand command → ⊥))
-          ⊎ ((file : List ℕ) × (at : ℕ) × (name : List ℕ) × (command ≡ One (Rename file at name)) × DecidesRename file at name told before after (Answer (StoreFault Reading))) →
-          AnswersFound words told left outcomes before after (StoreFault Reading) × (line_of [] (StoreFault Reading) ≡ reported words (StoreFault Reading))
-      go (inl other) = absurd (let e : Answer (StoreFault Reading) ≡ Answer NotYet = other.0 in cc)
-      go (inr (file, at, name, rename, rose)) = ((same, (file, at, name, is ∙ ap Some rename), rose), refl)
+  answered left outcomes (Done (Changed files)) same (file, at, name, asked, (none, short, held)) =
+      (subst (λ (n : ℕ). LeavesChange words told left outcomes n) (sym none) (same, (file, at, name, asked, short, held)), refl)
+  answered left outcomes (TooLarge Path request) same (file, at, name, asked, (single, long, held)) = ((same, single, (file, at, name, asked, long, some_held told file held)), refl)
+  answered left outcomes (TooLarge File request) same (file, at, name, asked, (single, short, held)) = ((same, single, (file, at, name, asked, short, held)), refl)
+  answered left outcomes (StoreFault Reading) same (file, at, name, asked, rose) = ((same, (file, at, name, asked), rose), refl)
   answered left outcomes OutOfMemory same decides = (same, refl)
-  answered left outcomes other same (command, is, decides) = go (split command (Answer other) decides)
-    where
-      go : ((Answer other ≡ Answer NotYet) × (IsServedCommand command → ⊥))
-          ⊎ ((file : List ℕ) × (at : ℕ) × (name : List ℕ) × (command ≡ One (Rename file at name)) × DecidesRename file at name told before after (Answer other)) →
-          AnswersFound words told left outcomes before after other × (line_of [] other ≡ reported words other)
-      go (inl not_yet) = absurd (let e : Answer other ≡ Answer NotYet = not_yet.0 in cc)
-      go (inr (file, at, name, rename, never)) = absurd never
+  answered left outcomes other same (file, at, name, asked, never) = absurd never
 
   -- an answer that leaves the files, and shows a place
   pub refused : (left : Option Image) (outcomes : Image → Type 0) (status : Status) (paths : Vec (List ℕ) Global) → left ≡ told → Decides words told before after (Refuse status paths) →
       AnswersFound words told left outcomes before after status × (line_of paths.items status ≡ reported words status)
-  refused left outcomes (NoSpelling request occ place lock) paths same (command, is, decides) = go (split command (Refuse (NoSpelling request occ place lock) paths) decides)
-    where
-      go : ((Refuse (NoSpelling request occ place lock) paths ≡ Answer NotYet) × (IsServedCommand command → ⊥))
-          ⊎ ((file : List ℕ) × (at : ℕ) × (name : List ℕ) × (command ≡ One (Rename file at name)) × DecidesRename file at name told before after (Refuse (NoSpelling request occ place lock) paths)) →
-          AnswersFound words told left outcomes before after (NoSpelling request occ place lock) × (line_of paths.items (NoSpelling request occ place lock) ≡ reported words (NoSpelling request occ place lock))
-      go (inl not_yet) = absurd (let e : Refuse (NoSpelling request occ place lock) paths ≡ Answer NotYet = not_yet.0 in cc)
-      go (inr (file, at, name, rename, (single, unit, named, short, held))) =
-          let asked = is ∙ ap Some rename in
-          ((same, single, unit, (file, at, name, asked, short, held)), ap (λ (ps : List (List ℕ)). line_of ps (NoSpelling request occ place lock)) (named ∙ sym (ap files_named asked)))
-  refused left outcomes (BrokenRule request rule place) paths same (command, is, decides) = go (split command (Refuse (BrokenRule request rule place) paths) decides)
-    where
-      go : ((Refuse (BrokenRule request rule place) paths ≡ Answer NotYet) × (IsServedCommand command → ⊥))
-          ⊎ ((file : List ℕ) × (at : ℕ) × (name : List ℕ) × (command ≡ One (Rename file at name)) × DecidesRename file at name told before after (Refuse (BrokenRule request rule place) paths)) →
-          AnswersFound words told left outcomes before after (BrokenRule request rule place) × (line_of paths.items (BrokenRule request rule place) ≡ reported words (BrokenRule request rule place))
-      go (inl not_yet) = absurd (let e : Refuse (BrokenRule request rule place) paths ≡ Answer NotYet = not_yet.0 in cc)
-      go (inr (file, at, name, rename, (single, six, unit, named, short, held))) =
-          let asked = is ∙ ap Some rename in
-          ((same, single, six, unit, (file, at, name, asked, short, held)), ap (λ (ps : List (List ℕ)). line_of ps (BrokenRule request rule place)) (named ∙ sym (ap files_named asked)))
-  refused left outcomes other paths same (command, is, decides) = go (split command (Refuse other paths) decides)
-    where
-      go : ((Refuse other paths ≡ Answer NotYet) × (IsServedCommand command → ⊥))
-          ⊎ ((file : List ℕ) × (at : ℕ) × (name : List ℕ) × (command ≡ One (Rename file at name)) × DecidesRename file at name told before after (Refuse other paths)) →
-          AnswersFound words told left outcomes before after other × (line_of paths.items other ≡ reported words other)
-      go (inl not_yet) = absurd (let e : Refuse other paths ≡ Answer NotYet = not_yet.0 in cc)
-      go (inr (file, at, name, rename, never)) = absurd never
-
-  -- a change of the file that is named
-  pub renames : (plan : Planned) → Decides words told before after (Change plan) →
-      (file : List ℕ) × (at : ℕ) × (name : List ℕ) × AsksRename words file at name × (length file ≤ 1024) × (length plan.steps ≡ 1)
-      × HoldsSome told file (λ old. (new : List ℕ) × IsDone old at name new × (new ≢ old) × (length new ≤ 1048576) × IsPlanOf file old new plan)
-  renames plan (command, is, decides) = go (split command (Change plan) decides)
-    where
-      go : ((Change plan ≡ Answer NotYet) × (IsServedCommand command → ⊥))
-          ⊎ ((file : List ℕ) × (at : ℕ) × (name : List ℕ) × (command ≡ One (Rename file at name)) × DecidesRename file at name told before after (Change plan)) →
-          (file : List ℕ) × (at : ℕ) × (name : List ℕ) × AsksRename words file at name × (length file ≤ 1024) × (length plan.steps ≡ 1)
-          × HoldsSome told file (λ old. (new : List ℕ) × IsDone old at name new × (new ≢ old) × (length new ≤ 1048576) × IsPlanOf file old new plan)
-      go (inl not_yet) = absurd (let e : Change plan ≡ Answer NotYet = not_yet.0 in cc)
-      go (inr (file, at, name, rename, (short, one, held))) = (file, at, name, is ∙ ap Some rename, short, one, held)
+  refused left outcomes (NoSpelling request occ place lock) paths same (file, at, name, asked, (single, unit, named, short, held)) =
+      ((same, single, unit, (file, at, name, asked, short, held)), ap (λ (ps : List (List ℕ)). line_of ps (NoSpelling request occ place lock)) (named ∙ sym (ap files_named asked)))
+  refused left outcomes (BrokenRule request rule place) paths same (file, at, name, asked, (single, six, unit, named, short, held)) =
+      ((same, single, six, unit, (file, at, name, asked, short, held)), ap (λ (ps : List (List ℕ)). line_of ps (BrokenRule request rule place)) (named ∙ sym (ap files_named asked)))
+  refused left outcomes other paths same (file, at, name, asked, never) = absurd never
 
   -- after an answer that leaves the files a crash leaves those found
   pub stays : (status : Status) → Decides words told before after (Answer status) → (found image : Image) → RestoresTo image found → StandsAfter words found status image
-  stays (Done (Changed files)) (command, is, decides) found image stands = go (split command (Answer (Done (Changed files))) decides)
-    where
-      go : ((Answer (Done (Changed files)) ≡ Answer NotYet) × (IsServedCommand command → ⊥))
-          ⊎ ((file : List ℕ) × (at : ℕ) × (name : List ℕ) × (command ≡ One (Rename file at name)) × DecidesRename file at name told before after (Answer (Done (Changed files)))) →
-          StandsAfter words found (Done (Changed files)) image
-      go (inl other) = absurd (let e : Answer (Done (Changed files)) ≡ Answer NotYet = other.0 in cc)
-      go (inr (file, at, name, rename, (none, short, held))) = subst (λ (n : ℕ). StandsAfter words found (Done (Changed n)) image) (sym none) stands
-  stays (Done other) (command, is, decides) found image stands = stands
+  stays (Done (Changed files)) (file, at, name, asked, (none, short, held)) found image stands = subst (λ (n : ℕ). StandsAfter words found (Done (Changed n)) image) (sym none) stands
+  stays (Done other) decides found image stands = stands
   stays (StoreFault phase) decides found image stands = inl stands
   stays other decides found image stands = stands
 
   pub stays_refused : (status : Status) (paths : Vec (List ℕ) Global) → Decides words told before after (Refuse status paths) → (found image : Image) → RestoresTo image found → StandsAfter words found status image
-  stays_refused (Done report) paths (command, is, decides) found image stands = go (split command (Refuse (Done report) paths) decides)
-    where
-      go : ((Refuse (Done report) paths ≡ Answer NotYet) × (IsServedCommand command → ⊥))
-          ⊎ ((file : List ℕ) × (at : ℕ) × (name : List ℕ) × (command ≡ One (Rename file at name)) × DecidesRename file at name told before after (Refuse (Done report) paths)) →
-          StandsAfter words found (Done report) image
-      go (inl other) = absurd (let e : Refuse (Done report) paths ≡ Answer NotYet = other.0 in cc)
-      go (inr (file, at, name, rename, never)) = absurd never
+  stays_refused (Done report) paths (file, at, name, asked, never) found image stands = absurd never
   stays_refused (StoreFault phase) paths decides found image stands = inl stands
   stays_refused other paths decides found image stands = stands
 

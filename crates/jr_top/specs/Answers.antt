@@ -11,11 +11,10 @@ use Rattle.jr_top.specs.Changing.{IsCommitted, IsTooLong, MayChange}
 use Rattle.jr_top.specs.Line.{line_of}
 use Rattle.jr_top.specs.Recovering.{AsksRecovery, Recovers}
 use Rattle.jr_top.specs.Renaming.{AsksRename, AsksSomeRename, files_named, Holds, ForTold}
-use Rattle.jr_top.specs.Served.{AsksUnserved}
 use Rattle.jr_top.specs.declared.status.Phase.TheVariants.{Recovering, Reading, Writing}
 use Rattle.jr_top.specs.declared.status.Report.TheVariants.{Changed, Printed}
 use Rattle.jr_top.specs.declared.status.Status.{Status}
-use Rattle.jr_top.specs.declared.status.Status.TheVariants.{Done, BadWords, NoSpelling, BrokenRule, StoreFault, SinkFault, TooLarge, OutOfMemory, BadJournal, NotYet, Differs}
+use Rattle.jr_top.specs.declared.status.Status.TheVariants.{Done, BadWords, NoSpelling, BrokenRule, StoreFault, SinkFault, TooLarge, OutOfMemory, BadJournal, Differs}
 
 -- The words ask for the rename of a file, whose path has at most 1,024 bytes, and it holds bytes of which this is so.
 -- What a store does not tell is not known.
@@ -47,7 +46,6 @@ AnswersFound words found left outcomes before after (TooLarge Path request) = (l
 -- the changed text is longer than 1,048,576 bytes
 AnswersFound words found left outcomes before after (TooLarge File request) = (left ≡ found) × (request ≡ 0)
     × Asks words found IsTooLong
-AnswersFound words found left outcomes before after NotYet = (left ≡ found) × AsksUnserved words
 AnswersFound words found left outcomes before after (StoreFault Reading) = (left ≡ found) × AsksSomeRename words × Rose before after
 AnswersFound words found left outcomes before after (StoreFault Writing) = ((file : List ℕ) × (at : ℕ) × (name : List ℕ) × AsksRename words file at name
     × Tells found left (MayChange file)) × Rose before after

@@ -1,6 +1,5 @@
 -- The answers to a batch.
-use Rattle.std.specs.Prelude.{◌≡◌, ℕ, List, Option, Some, Result, Ok, Err}
-use Rattle.jr_base.specs.declared.request.Request.{Request}
+use Rattle.std.specs.Prelude.{◌≡◌, ℕ, List, Option, Some, Err}
 use Rattle.jr_batch.specs.Input.{ForInput, IsInputAnswer}
 use Rattle.jr_batch.specs.declared.fault.BatchFault.{BatchFault}
 use Rattle.jr_batch.specs.declared.fault.BatchFault.TheVariants as fault
@@ -10,7 +9,7 @@ use Rattle.jr_store.specs.Image.{Image, Rose}
 use Rattle.jr_top.specs.Answers.{IsFailure}
 use Rattle.jr_top.specs.Plain.{AnswersPlain}
 use Rattle.jr_top.specs.declared.status.Status.{Status}
-use Rattle.jr_top.specs.declared.status.Status.TheVariants.{BadRequest, SourceFault, TooLarge, OutOfMemory, NotYet}
+use Rattle.jr_top.specs.declared.status.Status.TheVariants.{BadRequest, SourceFault, TooLarge, OutOfMemory}
 
 -- the words ask for the requests of the input
 abbrev pub AsksBatch : List (List ℕ) → Type 0
@@ -35,18 +34,12 @@ pub record IsHeard (told left : Option Image) (kept outcomes : Image → Type 0)
 abbrev pub AnswersBatch : List (List ℕ) → Option Image → Option Image → (Image → Type 0) → ℕ → ℕ → Option (List ℕ) → ℕ → ℕ → Status → Type 0
 AnswersBatch words told left outcomes before after heard quiet loud status = AnswersPlain words told left outcomes before after (Hears heard quiet loud) status
 
--- the input is refused, and not for the engine
-abbrev pub IsNotPlanned : Result (List Request) BatchFault → Type 0
-IsNotPlanned (Ok requests) = ⊥
-IsNotPlanned (Err why) = Unit {0}
-
--- the answer of the call that is the answer of its input, where that is a refusal
-abbrev pub status_of : Result (List Request) BatchFault → Status
-status_of (Ok requests) = NotYet
-status_of (Err (fault.TooLarge what)) = TooLarge what 0
-status_of (Err (fault.Refused element field)) = BadRequest element 9 field
-status_of (Err fault.SourceFault) = SourceFault
-status_of (Err fault.OutOfMemory) = OutOfMemory
+-- the answer of the call to an input that is refused so
+abbrev pub status_of : BatchFault → Status
+status_of (fault.TooLarge what) = TooLarge what 0
+status_of (fault.Refused element field) = BadRequest element 9 field
+status_of fault.SourceFault = SourceFault
+status_of fault.OutOfMemory = OutOfMemory
 
 -- what may be answered in place of any answer to a batch: want of memory, or a fault whose count rose
 abbrev pub IsBatchFailure : ℕ → ℕ → ℕ → ℕ → ℕ → ℕ → Status → Type 0

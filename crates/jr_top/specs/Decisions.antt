@@ -17,17 +17,15 @@ use Rattle.jr_commit.specs.declared.entry.Version.TheVariants.{Two}
 use Rattle.jr_engine.specs.Planning.{PlannedAs}
 use Rattle.jr_engine.specs.declared.fault.Refused.{Refused}
 use Rattle.jr_gather.specs.Gathering.{HoldsFiles, IsTooLarge}
-use Rattle.jr_request.specs.Words.{command_of}
 use Rattle.jr_request.specs.declared.command.Command.{Command}
 use Rattle.jr_request.specs.declared.command.Command.TheVariants as command
 use Rattle.jr_store.specs.Image.{Image, Rose}
 use Rattle.jr_store.specs.Replay.{image_of}
-use Rattle.jr_thin.specs.Renaming.{Serves, IsLost, IsBroken, IsDone}
+use Rattle.jr_thin.specs.Renaming.{IsLost, IsBroken, IsDone}
 use Rattle.jr_top.specs.Batches.{Hears}
 use Rattle.jr_top.specs.Changing.{IsPlanOf, IsTooLong}
 use Rattle.jr_top.specs.Engine.{IsPassedOn, answer_to}
-use Rattle.jr_top.specs.Renaming.{Holds, IsUnserved, ForTold}
-use Rattle.jr_top.specs.Served.{IsServedCommand}
+use Rattle.jr_top.specs.Renaming.{AsksRename, Holds, ForTold}
 use Rattle.jr_top.specs.declared.decide.Decision.{Decision}
 use Rattle.jr_top.specs.declared.decide.Decision.TheVariants.{Answer, Refuse, Change}
 use Rattle.jr_top.specs.declared.decide.Found.{Found}
@@ -38,7 +36,7 @@ use Rattle.jr_top.specs.declared.hear.Heard.TheVariants as heard
 use Rattle.jr_top.specs.declared.status.Phase.TheVariants.{Reading}
 use Rattle.jr_top.specs.declared.status.Report.TheVariants.{Changed}
 use Rattle.jr_top.specs.declared.status.Status.{Status}
-use Rattle.jr_top.specs.declared.status.Status.TheVariants.{Done, NoSpelling, BrokenRule, StoreFault, TooLarge, OutOfMemory, NotYet}
+use Rattle.jr_top.specs.declared.status.Status.TheVariants.{Done, NoSpelling, BrokenRule, StoreFault, TooLarge, OutOfMemory}
 
 -- the one path is that of a `.java` file
 pub record IsOnePath (paths : List (List ℕ)) (file : List ℕ) : Type 0 where
@@ -63,14 +61,9 @@ IsHeld files file None = (bytes : List ℕ) → Holds files file bytes → ⊥
 abbrev pub HoldsSome : Option Image → List ℕ → (List ℕ → Type 0) → Type 0
 HoldsSome told file P = ForTold told (λ files. (bytes : List ℕ) × Holds files file bytes × P bytes)
 
--- whatever bytes the file holds, this is so of them
-abbrev pub HoldsOnly : Option Image → List ℕ → (List ℕ → Type 0) → Type 0
-HoldsOnly told file P = ForTold told (λ files. (bytes : List ℕ) → Holds files file bytes → P bytes)
-
--- when each decision on a rename comes
+-- when each decision on a rename comes that is not left to the engine
 abbrev pub DecidesRename : List ℕ → ℕ → List ℕ → Option Image → ℕ → ℕ → Decision → Type 0
 DecidesRename file at name told before after (Answer (Done (Changed files))) = (files ≡ 0) × (length file ≤ 1024) × HoldsSome told file (λ bytes. IsDone bytes at name bytes)
-DecidesRename file at name told before after (Answer NotYet) = HoldsOnly told file (λ bytes. IsUnserved file bytes at name)
 DecidesRename file at name told before after (Answer (StoreFault Reading)) = Rose before after
 DecidesRename file at name told before after (Answer (TooLarge Path request)) = (request ≡ 0) × (1024 < length file) × HoldsSome told file (λ bytes. Unit {0})
 DecidesRename file at name told before after (Answer (TooLarge File request)) = (request ≡ 0) × (length file ≤ 1024) × HoldsSome told file (λ bytes. IsTooLong bytes at name)
@@ -86,7 +79,6 @@ DecidesRename file at name told before after other = ⊥
 -- the same, where the bytes that the file holds are known
 abbrev pub DecidesFound : Found → ℕ → List ℕ → Decision → Type 0
 DecidesFound found at name (Answer (Done (Changed files))) = (files ≡ 0) × IsDone found.bytes.items at name found.bytes.items
-DecidesFound found at name (Answer NotYet) = Serves found.bytes.items at name → ⊥
 DecidesFound found at name (Answer (TooLarge File request)) = (request ≡ 0) × IsTooLong found.bytes.items at name
 DecidesFound found at name (Answer OutOfMemory) = Unit {0}
 DecidesFound found at name (Refuse (NoSpelling request occ place lock) paths) =
@@ -101,14 +93,14 @@ abbrev pub IsRename : Command → Type 0
 IsRename (command.One (Rename file at name)) = Unit {0}
 IsRename other = ⊥
 
--- when each decision on a command comes that is not the engine's: a rename in a small file is served, and of other commands those are not served that it does not serve either
-abbrev pub DecidesCommand : Command → Option Image → ℕ → ℕ → Decision → Type 0
-DecidesCommand (command.One (Rename file at name)) told before after decision = (decision ≢ Answer NotYet) × DecidesRename file at name told before after decision
-DecidesCommand other told before after decision = (decision ≡ Answer NotYet) × (IsServedCommand other → ⊥)
+-- when each decision on one request comes that is not the engine's: on a rename
+abbrev pub DecidesAlone : Request → Option Image → ℕ → ℕ → Decision → Type 0
+DecidesAlone (Rename file at name) told before after decision = DecidesRename file at name told before after decision
+DecidesAlone other told before after decision = ⊥
 
--- when each decision on the words comes
+-- when each decision on the words comes that is not the engine's
 abbrev pub Decides : List (List ℕ) → Option Image → ℕ → ℕ → Decision → Type 0
-Decides words told before after decision = (command : Command) × (command_of words ≡ Some command) × DecidesCommand command told before after decision
+Decides words told before after decision = (file : List ℕ) × (at : ℕ) × (name : List ℕ) × AsksRename words file at name × DecidesRename file at name told before after decision
 
 -- The plan makes the files left of those found: its steps and its journal are those of their differences, and the journal is in the grammar where there is a step.
 pub record IsPlanFor (found left : FileMap) (plan : Planned) : Type 0 where
@@ -139,7 +131,7 @@ pub data DecidesAll (requests : List Request) (told : Option Image) (before afte
 
 -- when each decision on one request comes
 abbrev pub DecidesOne : Request → Option Image → ℕ → ℕ → Decision → Type 0
-DecidesOne request told before after decision = DecidesCommand (command.One request) told before after decision ⊎ (IsPassedOn request told × DecidesAll (request ∷ []) told before after decision)
+DecidesOne request told before after decision = DecidesAlone request told before after decision ⊎ (IsPassedOn request told × DecidesAll (request ∷ []) told before after decision)
 
 -- what is heard: the requests of the input, or what is answered to it alone
 abbrev pub HearsSo : Option (List ℕ) → ℕ → ℕ → Heard → Type 0
@@ -151,8 +143,14 @@ abbrev pub DecidesInput : Option (List ℕ) → ℕ → ℕ → Option Image →
 DecidesInput input quiet loud told before after decision = ((said : Status) × (decision ≡ Answer said) × Hears input quiet loud said)
     ⊎ ((requests : List Request) × ForInput input (λ bytes. IsInputAnswer bytes (Ok requests)) × DecidesAll requests told before after decision)
 
--- when each decision on a command comes
+-- a command that asks for changes: one request, or those of the input
+abbrev pub IsChanging : Command → Type 0
+IsChanging (command.One request) = Unit {0}
+IsChanging command.Batch = Unit {0}
+IsChanging other = ⊥
+
+-- when each decision on a command comes that asks for changes
 abbrev pub Chooses : Command → Option (List ℕ) → ℕ → ℕ → Option Image → ℕ → ℕ → Decision → Type 0
 Chooses (command.One request) input quiet loud told before after decision = DecidesOne request told before after decision
 Chooses command.Batch input quiet loud told before after decision = DecidesInput input quiet loud told before after decision
-Chooses other input quiet loud told before after decision = decision ≡ Answer NotYet
+Chooses other input quiet loud told before after decision = ⊥

@@ -12,6 +12,5 @@ pub mod Plain
 pub mod Reasons
 pub mod Recovering
 pub mod Renaming
-pub mod Served
 pub mod Status
 pub mod Undoing

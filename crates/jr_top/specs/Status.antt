@@ -1,7 +1,7 @@
 -- The exit status of each answer.
 use Rattle.std.specs.Prelude.{ℕ}
 use Rattle.jr_top.specs.declared.status.Status.{Status}
-use Rattle.jr_top.specs.declared.status.Status.TheVariants.{Done, BadWords, BadRequest, NotCompiling, NoSpelling, LostEdge, BrokenRule, StoreFault, SourceFault, SinkFault, TooLarge, OutOfMemory, BadJournal, NoUndo, StillUsed, NotYet, Differs}
+use Rattle.jr_top.specs.declared.status.Status.TheVariants.{Done, BadWords, BadRequest, NotCompiling, NoSpelling, LostEdge, BrokenRule, StoreFault, SourceFault, SinkFault, TooLarge, OutOfMemory, BadJournal, NoUndo, StillUsed, Differs}
 
 abbrev pub number_of : Status → ℕ
 number_of (Done report) = 0
@@ -19,5 +19,4 @@ number_of BadJournal = 11
 number_of (NoUndo reason path) = 12
 number_of (StillUsed place) = 13
 number_of SinkFault = 14
-number_of NotYet = 20
 number_of (Differs request place) = 21

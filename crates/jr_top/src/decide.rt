@@ -1,15 +1,14 @@
 // What is to be done, before anything is written.
-ghost use Rattle.std.specs.Prelude.{◌≡◌, ◌≢◌, ◌≤◌, ◌∷◌, [], ◌↔◌, ℕ, List, Some, IsTrue, IfOk, IfSome, length, option_map};
+ghost use Rattle.std.specs.Prelude.{◌≡◌, ◌≢◌, ◌≤◌, ◌∷◌, [], ◌↔◌, ℕ, List, Some, IsTrue, IfOk, IfSome, MatchOption, length, option_map};
 ghost use Rattle.std.specs.FinMap as map;
 ghost use Rattle.jr_base.specs.Paths.{is_java};
 ghost use Rattle.jr_batch.specs.Input.{LeavesSome};
 ghost use Rattle.jr_store.specs.Image.{Image, HasStoreCause, LeavesOnly};
-ghost use Rattle.jr_thin.specs.Renaming.{IsDone};
+ghost use Rattle.jr_thin.specs.Renaming.{Serves, IsDone};
 ghost use Rattle.jr_top.specs.Changing.{IsPlanOf};
+ghost use Rattle.jr_top.specs.Engine.{IsPassedOn};
 ghost use Rattle.jr_top.specs.Renaming.{ForTold};
-ghost use Rattle.jr_top.specs.Decisions.{IsOnePath, IsShortPath, IsHeld, found_bytes, DecidesFound, DecidesRename, DecidesOne, DecidesInput, Chooses};
-ghost use Rattle.jr_top.specs.declared.decide.Decision.TheVariants as answers;
-ghost use Rattle.jr_top.specs.declared.status.Status.TheVariants.{NotYet};
+ghost use Rattle.jr_top.specs.Decisions.{IsOnePath, IsShortPath, IsHeld, found_bytes, DecidesFound, DecidesRename, DecidesOne, DecidesInput, IsChanging, Chooses};
 
 use crate::engine::{Asked, decide_all};
 use crate::hear::{Heard, hear};
@@ -122,15 +121,15 @@ fn decide_bytes(alloc: Global, found: Found, bytes: Vec<u8>, at: u32, name: &[u8
     }
 }
 
-// What the rename of bytes that were found asks for.
-fn decide_found(alloc: Global, found: Found, at: u32, name: &[u8]) -> Decision
+// What the rename of bytes that were found asks for; None where it is not served without the engine.
+fn decide_found(alloc: Global, found: Found, at: u32, name: &[u8]) -> Option<Decision>
     requires path { IsShortPath found.paths.items }
     requires small { length found.bytes.items ≤ 65536 }
-    ensures { DecidesFound found at name.now result }
+    ensures { MatchOption result (Serves found.bytes.items at name.now → ⊥) (DecidesFound found at name.now) }
 {
     match rename(alloc, &found.bytes, at, name) {
-        Ok(Renaming::NotServed) => Decision::Answer(Status::NotYet),
-        Ok(Renaming::NoSpelling { occ, at, lock }) => Decision::Refuse {
+        Ok(Renaming::NotServed) => None,
+        Ok(Renaming::NoSpelling { occ, at, lock }) => Some(Decision::Refuse {
             status: Status::NoSpelling {
                 request: 0,
                 occ,
@@ -138,32 +137,33 @@ fn decide_found(alloc: Global, found: Found, at: u32, name: &[u8]) -> Decision
                 lock,
             },
             paths: found.paths,
-        },
-        Ok(Renaming::BrokenRule { at }) => Decision::Refuse {
+        }),
+        Ok(Renaming::BrokenRule { at }) => Some(Decision::Refuse {
             status: Status::BrokenRule {
                 request: 0,
                 rule: RuleId(6),
                 place: Place { cu: CuId(2), at },
             },
             paths: found.paths,
-        },
-        Ok(Renaming::Renamed(bytes)) => decide_bytes(alloc, found, bytes, at, name),
-        Err(_) => Decision::Answer(Status::OutOfMemory),
+        }),
+        Ok(Renaming::Renamed(bytes)) => Some(decide_bytes(alloc, found, bytes, at, name)),
+        Err(_) => Some(Decision::Answer(Status::OutOfMemory)),
     }
 }
 
+// What the rename in a store with one small file asks for; None where it is not served without the engine.
 fn decide_rename<S: Store>(
     alloc: Global,
     file: &Text,
     at: u32,
     name: &Text,
     store: &mut S,
-) -> Decision
+) -> Option<Decision>
     ensures files { S.files store.new ≡ S.files store.old }
     ensures later { S.faults store.old ≤ S.faults store.new }
     ensures crash { (c : Image) → S.may_leave store.new c → S.may_leave store.old c }
     ensures any_moment { LeavesOnly S.moment S.left_since store.old store.new (S.may_leave store.old) }
-    ensures decision { DecidesRename file.now at name.now (S.files store.old) (S.faults store.old) (S.faults store.new) result }
+    ensures decision { MatchOption result (IsPassedOn (Request.Rename file.now at name.now) (S.files store.old)) (DecidesRename file.now at name.now (S.files store.old) (S.faults store.old) (S.faults store.new)) }
 {
     match find(alloc, file.bytes(), store) {
         Ok(Some(found)) if file.bytes().len() <= 1024 => decide_found(
@@ -172,25 +172,15 @@ fn decide_rename<S: Store>(
             at,
             name.bytes(),
         ),
-        Ok(Some(_)) => Decision::Answer(Status::TooLarge {
+        Ok(Some(_)) => Some(Decision::Answer(Status::TooLarge {
             what: Size::Path,
             request: 0,
-        }),
-        Ok(None) => Decision::Answer(Status::NotYet),
-        Err(StoreError::Failed) => Decision::Answer(Status::StoreFault {
+        })),
+        Ok(None) => None,
+        Err(StoreError::Failed) => Some(Decision::Answer(Status::StoreFault {
             phase: Phase::Reading,
-        }),
-        Err(StoreError::OutOfMemory) => Decision::Answer(Status::OutOfMemory),
-    }
-}
-
-// Whether the rename is none that is served in a small file.
-fn is_not_small(decision: &Decision) -> bool
-    ensures { IsTrue result ↔ (decision.now ≡ answers.Answer NotYet) }
-{
-    match decision {
-        Decision::Answer(Status::NotYet) => true,
-        _ => false,
+        })),
+        Err(StoreError::OutOfMemory) => Some(Decision::Answer(Status::OutOfMemory)),
     }
 }
 
@@ -203,14 +193,10 @@ fn decide_one<S: Store>(alloc: Global, request: &Request, store: &mut S) -> Deci
     ensures decision { DecidesOne request.now (S.files store.old) (S.faults store.old) (S.faults store.new) result }
 {
     match request {
-        Request::Rename { file, at, name } => {
-            let small = decide_rename(alloc, file, *at, name, store);
-            if is_not_small(&small) {
-                decide_all(alloc, Asked::One(request), store)
-            } else {
-                small
-            }
-        }
+        Request::Rename { file, at, name } => match decide_rename(alloc, file, *at, name, store) {
+            Some(decision) => decision,
+            None => decide_all(alloc, Asked::One(request), store),
+        },
         _ => decide_all(alloc, Asked::One(request), store),
     }
 }
@@ -230,13 +216,14 @@ fn decide_input<S: Store, I: Source>(alloc: Global, store: &mut S, input: &mut I
     }
 }
 
-/// What a command asks for that changes files. Nothing is written, and the input is read for a batch alone.
+/// What a command asks for that changes files: one request, or those of the input. Nothing is written, and the input is read for a batch alone.
 pub fn decide<S: Store, I: Source>(
     alloc: Global,
     command: &Command,
     store: &mut S,
     input: &mut I,
 ) -> Decision
+    requires { IsChanging command.now }
     ensures files { S.files store.new ≡ S.files store.old }
     ensures later { S.faults store.old ≤ S.faults store.new }
     ensures crash { (c : Image) → S.may_leave store.new c → S.may_leave store.old c }
@@ -248,6 +235,6 @@ pub fn decide<S: Store, I: Source>(
     match command {
         Command::One(request) => decide_one(alloc, request, store),
         Command::Batch => decide_input(alloc, store, input),
-        _ => Decision::Answer(Status::NotYet),
+        _ => unreachable!(),
     }
 }

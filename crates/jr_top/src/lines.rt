@@ -56,7 +56,6 @@ pub fn line_of(alloc: Global, paths: &[Path], status: &Status) -> Result<Vec<u8>
             .text("still used: ")?
             .place(paths, *place)?
             .end(),
-        Status::NotYet => whole(alloc, "not yet\n"),
         Status::Differs { request, place } => LineWriter::of_request(alloc, *request)?
             .text("differs: ")?
             .place(paths, *place)?

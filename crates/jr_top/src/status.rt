@@ -131,8 +131,6 @@ pub enum Status {
     StillUsed {
         place: Place,
     },
-    /// What is asked for is not served yet.
-    NotYet,
     /// The changed text does not read as it is to at the place.
     Differs {
         request: u32,
@@ -163,7 +161,6 @@ impl Status {
             Status::NoUndo { .. } => 12,
             Status::StillUsed { .. } => 13,
             Status::SinkFault => 14,
-            Status::NotYet => 20,
             Status::Differs { .. } => 21,
         }
     }

@@ -1,6 +1,5 @@
 // The top call: from the words, the store and the output to the answer.
-ghost use Rattle.std.specs.Prelude.{◌≡◌, ◌≢◌, ◌⊎◌, ◌↔◌, [], ℕ, List, Some, None, Result, OnOk, IsSome, MatchOption};
-ghost use Rattle.jr_base.specs.declared.request.Request.{Request};
+ghost use Rattle.std.specs.Prelude.{◌≡◌, ◌≢◌, ◌⊎◌, ◌↔◌, [], ℕ, List, Some, None, Err, OnOk, IsSome, MatchOption};
 ghost use Rattle.jr_batch.specs.Input.{IsInputAnswer, LeavesSome};
 ghost use Rattle.jr_batch.specs.declared.fault.BatchFault.{BatchFault};
 ghost use Rattle.jr_commit.specs.Planned.{StartsCommit, ChangesOnlyPlanned};
@@ -11,9 +10,10 @@ ghost use Rattle.jr_store.specs.Image.{Image, Tells, OnlyTold, LeavesOnly, HasCa
 ghost use Rattle.jr_thin.specs.Renaming.{Serves, IsRenaming};
 ghost use Rattle.jr_thin.specs.declared.answers.Renaming.{Renaming};
 ghost use Rattle.jr_top.specs.Answers.{AnswersFound, Answers, Reports, IsReported, reported, Outcome, OutcomeOf, IsFailure, IsDemonstrated, IsServedAnswer};
-ghost use Rattle.jr_top.specs.Batches.{AsksBatch, Hears, IsHeard, AnswersBatch, IsNotPlanned, status_of, IsBatchFailure};
+ghost use Rattle.jr_top.specs.Batches.{AsksBatch, Hears, IsHeard, AnswersBatch, status_of, IsBatchFailure};
 ghost use Rattle.jr_top.specs.Checking.{IsReading, AsksReading, Checks, AnswersReading, IsCheckedSo};
 ghost use Rattle.jr_top.specs.Crash.{StandsForEither, Survives, IsSettled, SurvivesSettled, LeavesStart};
+ghost use Rattle.jr_top.specs.Decisions.{IsChanging};
 ghost use Rattle.jr_top.specs.Engine.{AsksOne, AsksAll, PlansAsked, AnswersPlanned};
 ghost use Rattle.jr_top.specs.Exact.{IsAnswered};
 ghost use Rattle.jr_top.specs.Line.{line_of};
@@ -104,7 +104,8 @@ fn obey<S: Store, I: Source, O: Sink>(
     input: &mut I,
     out: &mut O,
 ) -> Status
-    ensures answer { (words : List (List ℕ)) → command_of words ≡ Some command.now → (command.now ≡ Command.Batch → ⊥) → (IsReading command.now → ⊥) → (command.now ≡ Command.Undo → ⊥) →
+    requires { IsChanging command.now }
+    ensures answer { (words : List (List ℕ)) → command_of words ≡ Some command.now → (command.now ≡ Command.Batch → ⊥) →
         Reported words (λ status. AnswersFound words (S.files store.old) (S.files store.new) (S.may_leave store.new) (S.faults store.old) (S.faults store.new) status
         × SurvivesSettled words (S.files store.old) (S.may_leave store.old) (S.may_leave store.new) status) result (O.contents out.old) (O.contents out.new) (O.faults out.old) (O.faults out.new)
         ⊎ ((paths : List (List ℕ)) × ReportedOf (line_of paths) (λ status. PlansAsked (AsksOne words) paths (S.files store.old) (S.files store.new) (S.may_leave store.new) (S.faults store.old) (S.faults store.new) status
@@ -149,6 +150,7 @@ fn serve<S: Store, I: Source, O: Sink>(
     input: &mut I,
     out: &mut O,
 ) -> Status
+    requires { NeedsFiles command.now }
     ensures answer { (words : List (List ℕ)) → command_of words ≡ Some command.now → (command.now ≡ Command.Batch → ⊥) → (IsReading command.now → ⊥) → (command.now ≡ Command.Undo → ⊥) →
         Reported words (λ status. AnswersFound words (S.files store.old) (S.files store.new) (S.may_leave store.new) (S.faults store.old) (S.faults store.new) status
         × SurvivesSettled words (S.files store.old) (S.may_leave store.old) (S.may_leave store.new) status) result (O.contents out.old) (O.contents out.new) (O.faults out.old) (O.faults out.new)
@@ -220,7 +222,8 @@ fn recover_first<S: Store, I: Source, O: Sink>(
     input: &mut I,
     out: &mut O,
 ) -> Status
-    ensures answer { (words : List (List ℕ)) → command_of words ≡ Some command.now → NeedsFiles command.now → (command.now ≡ Command.Batch → ⊥) → (IsReading command.now → ⊥) → (command.now ≡ Command.Undo → ⊥) →
+    requires { NeedsFiles command.now }
+    ensures answer { (words : List (List ℕ)) → command_of words ≡ Some command.now → (command.now ≡ Command.Batch → ⊥) → (IsReading command.now → ⊥) → (command.now ≡ Command.Undo → ⊥) →
         Reported words (λ status. Answers words (S.files store.old) (S.files store.new) (S.may_leave store.new) (S.faults store.old) (S.faults store.new) status
         × Survives words (S.files store.old) (S.may_leave store.old) (S.may_leave store.new) status) result (O.contents out.old) (O.contents out.new) (O.faults out.old) (O.faults out.new)
         ⊎ ((paths : List (List ℕ)) × ReportedOf (line_of paths) (λ status. AnswersPlanned words (AsksOne words) paths (S.files store.old) (S.files store.new) (S.may_leave store.new) (S.faults store.old) (S.faults store.new) status
@@ -296,7 +299,7 @@ fn perform<S: Store, I: Source, O: Sink>(
 
 /// Does what the words ask for, and writes one line.
 ///
-/// The first word is the folder, which is not read here. Every command but `demo` begins with recovery, and all others are served. The input of a batch is read after recovery, before the files. Want of
+/// The first word is the folder, which is not read here. Every command but `demo` begins with recovery. The input of a batch is read after recovery, before the files. Want of
 /// memory may be answered at any time before the first write of the commit, unless recovery has begun to write and not ended.
 pub fn refactor<S: Store, I: Source, O: Sink>(
     alloc: Global,
@@ -348,10 +351,10 @@ pub fn refactor<S: Store, I: Source, O: Sink>(
     ensures bad_words { command_of words.now ≡ None
         → (result ≡ BadWords) ⊎ IsFailure (S.faults store.old) (S.faults store.new) (O.faults out.old) (O.faults out.new) result }
 
-    // A batch that the engine does not serve gets the one answer that its input has.
-    ensures batch_exact { (files found : Image) (bytes : List ℕ) (answer : Result (List Request) BatchFault) → S.files store.old ≡ Some files → Restored files found → AsksBatch words.now
-        → I.left input.old ≡ Some bytes → IsInputAnswer bytes answer → IsNotPlanned answer
-        → (result ≡ status_of answer) ⊎ IsBatchFailure (S.faults store.old) (S.faults store.new) (O.faults out.old) (O.faults out.new) (I.faults input.old) (I.faults input.new) result }
+    // A batch whose input is refused gets the one answer that this has.
+    ensures batch_exact { (files found : Image) (bytes : List ℕ) (why : BatchFault) → S.files store.old ≡ Some files → Restored files found → AsksBatch words.now
+        → I.left input.old ≡ Some bytes → IsInputAnswer bytes (Err why)
+        → (result ≡ status_of why) ⊎ IsBatchFailure (S.faults store.old) (S.faults store.new) (O.faults out.old) (O.faults out.new) (I.faults input.old) (I.faults input.new) result }
 
     // A check, a run or a report leaves the files, and gets one of the answers that these have.
     ensures reading_exact { (files found : Image) → S.files store.old ≡ Some files → Restored files found → AsksReading words.now

@@ -2,7 +2,7 @@
 #![tactic(auto)]
 
 use jr_base::{OutOfMemory, Text};
-use jr_store::{FolderStore, StdSink, StdSource};
+use jr_store::{FolderStore, Sink, Source, StdSink, StdSource, Store};
 use jr_top::refactor;
 use std::alloc::Global;
 use std::process::ExitCode;
@@ -65,19 +65,41 @@ fn information(words: &[Text]) -> Option<&'static str> {
     }
 }
 
-fn run(rt: &HostRuntime, alloc: Global) -> Result<u8, OutOfMemory> {
-    let words = arguments(rt, alloc)?;
-    if let Some(text) = information(&words) {
-        return match rt.print(text) {
-            Ok(()) => Ok(0),
-            Err(_) => Ok(14),
-        };
+fn inform(rt: &HostRuntime, text: &str) -> u8 {
+    match rt.print(text) {
+        Ok(()) => 0,
+        Err(_) => 14,
     }
-    let dir = folder(alloc, &words)?;
-    let mut store = FolderStore::new(rt, alloc, dir)?;
+}
+
+// The contract of the call is read here alone, where a store, an input and an output have no parts.
+fn number_of<S: Store, I: Source, O: Sink>(
+    alloc: Global,
+    words: &[Text],
+    store: &mut S,
+    input: &mut I,
+    out: &mut O,
+) -> u8 {
+    refactor(alloc, words, store, input, out).number()
+}
+
+fn on_store<S: Store>(rt: &HostRuntime, alloc: Global, words: &[Text], store: &mut S) -> u8 {
     let mut input = StdSource::new(rt.stdin());
     let mut out = StdSink::new(io::writer(rt));
-    Ok(refactor(alloc, &words, &mut store, &mut input, &mut out).number())
+    number_of(alloc, words, store, &mut input, &mut out)
+}
+
+fn in_folder(rt: &HostRuntime, alloc: Global, words: &[Text]) -> Result<u8, OutOfMemory> {
+    let mut store = FolderStore::new(rt, alloc, folder(alloc, words)?)?;
+    Ok(on_store(rt, alloc, words, &mut store))
+}
+
+fn run(rt: &HostRuntime, alloc: Global) -> Result<u8, OutOfMemory> {
+    let words = arguments(rt, alloc)?;
+    match information(&words) {
+        Some(text) => Ok(inform(rt, text)),
+        None => in_folder(rt, alloc, &words),
+    }
 }
 
 fn main(rt: HostRuntime) -> ExitCode {

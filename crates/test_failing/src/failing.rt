@@ -1,10 +1,11 @@
 // Each call of the store in a rename fails in turn. There are eleven: one recovers, two read, and eight write the journal, the gate, the file and the gate again, each with
 // a sync behind it.
-use crate::store::{OLD, answers, are_left, recovers, store_of};
+use crate::one::{OLD, are_left, store_of};
 use jr_base::OutOfMemory;
 use jr_store::MemStore;
 use std::alloc::Global;
 use std::test::Fail;
+use test_calls::{answers, recovers};
 
 const NEW: &str = "class A { static int f(int b) { return b + 1; } }";
 

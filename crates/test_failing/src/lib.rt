@@ -4,6 +4,6 @@
 #[cfg(test)]
 mod failing;
 #[cfg(test)]
-mod stops;
+mod one;
 #[cfg(test)]
-mod store;
+mod stops;

@@ -1,9 +1,10 @@
 // A move and a batch are stopped at each call of the store that writes. There are twelve calls: one recovers, two read, and nine write.
-use crate::store::{OLD, answers, are_left, recovers, store_of};
+use crate::one::{OLD, are_left, store_of};
 use jr_base::OutOfMemory;
 use jr_store::MemStore;
 use std::alloc::Global;
 use std::test::Fail;
+use test_calls::{answers, recovers};
 
 const MOVED: &str = "package p;\nclass A { static int f(int a) { return a + 1; } }";
 

@@ -1,8 +1,8 @@
 use Rattle.std.proofs.Common.{sym, subst}
 use Rattle.jr_request.specs.declared.command.Command.{Command}
 use Rattle.jr_top.specs.Decisions.{Chooses}
-use Rattle.jr_commit.proofs.Moments.{read_never}
 use Rattle.jr_top.proofs.BatchAnswers.{untaken}
+use Rattle.jr_top.proofs.Choosing.{no_other}
 use Rattle.jr_top.proofs.decide.decide.Goals as goal
 
 pub returns-in-One-clause-decision : goal.returns-in-One-clause-decision
@@ -12,13 +12,8 @@ returns-in-One-clause-decision g c =
     let i = c.args.input.now in
     subst (λ (k : Command). Chooses k (I.left i) (I.faults i) (I.faults i) (S.files c.args.store.now) (S.faults c.args.store.now) (S.faults c.decide_one.new.store) c.decide_one.result) (sym c.in-One.is) c.decide_one.ensures.decision
 
-pub returns-in_default-clause-any_moment : goal.returns-in_default-clause-any_moment
-returns-in_default-clause-any_moment g c =
-    let S = g.S.Store in
-    read_never S.may_leave S.moment S.left_since c.args.store.now (g.met.S.Store.only_now c.args.store.now)
-
-pub returns-in_default-clause-taken : goal.returns-in_default-clause-taken
-returns-in_default-clause-taken g c bytes is = untaken bytes (g.I.Source.left c.args.input.now) is
+pub unreachable-requires : goal.unreachable-requires
+unreachable-requires g c = no_other c.args.command.now c.requires c.in_default.not-One c.in_default.not-Batch
 
 pub returns-in-One-clause-taken : goal.returns-in-One-clause-taken
 returns-in-One-clause-taken g c bytes is = untaken bytes (g.I.Source.left c.args.input.now) is

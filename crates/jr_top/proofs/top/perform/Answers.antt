@@ -44,8 +44,11 @@ returns-in-Some-clause-answer g c no_batch no_reading never_undo =
 
 pub returns-clause-answer : goal.returns-clause-answer
 returns-clause-answer g c no_batch no_reading never_undo =
-    c.recover_first.ensures.answer c.args.words.now c.in-Ok.ensures c.in_default.ensures (λ batch. no_batch (c.in-Ok.ensures ∙ ap Some batch))
+    c.recover_first.ensures.answer c.args.words.now c.in-Ok.ensures (λ batch. no_batch (c.in-Ok.ensures ∙ ap Some batch))
     (λ reads. no_reading (c.in-Ok.command, c.in-Ok.ensures, reads)) (λ undo. never_undo (c.in-Ok.ensures ∙ ap Some undo))
+
+pub recover_first-requires : goal.recover_first-requires
+recover_first-requires g c = c.in_default.ensures
 
 pub returns-clause-any_moment : goal.returns-clause-any_moment
 returns-clause-any_moment g c f r told restored start = c.recover_first.ensures.any_moment c.args.words.now f r c.in-Ok.ensures told restored start

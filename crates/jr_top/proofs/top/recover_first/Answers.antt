@@ -23,16 +23,16 @@ use Rattle.jr_top.proofs.Starts.{begun, at_fault, earlier_start}
 use Rattle.jr_top.proofs.top.recover_first.Goals as goal
 
 pub returns-in-Ok-clause-answer : goal.returns-in-Ok-clause-answer
-returns-in-Ok-clause-answer g c words is needs no_batch no_reading never_undo =
+returns-in-Ok-clause-answer g c words is no_batch no_reading never_undo =
     let S = g.S.Store in
     let O = g.O.Sink in
     let found = recovers c.in-Ok.field-0 (S.files c.args.store.now) (S.files c.recover.new.store) c.in-Ok.ensures.answer c.in-Ok.ensures.done c.recover.ensures.others in
     ⊎_elim
-    (λ said. inl (carried words c.args.command.now is needs (S.files c.args.store.now) (S.files c.recover.new.store) (S.files c.serve.new.store) (S.may_leave c.args.store.now) (S.may_leave c.recover.new.store) (S.may_leave c.serve.new.store)
+    (λ said. inl (carried words c.args.command.now is c.requires (S.files c.args.store.now) (S.files c.recover.new.store) (S.files c.serve.new.store) (S.may_leave c.args.store.now) (S.may_leave c.recover.new.store) (S.may_leave c.serve.new.store)
     (S.faults c.args.store.now) (S.faults c.recover.new.store) (S.faults c.serve.new.store) c.recover.ensures.later found c.in-Ok.ensures.after
     c.serve.result (O.contents c.args.out.now) (O.contents c.serve.new.out) (O.faults c.args.out.now) (O.faults c.serve.new.out) said))
     (λ planned. inr (carried_planned words (AsksOne words) (S.files c.args.store.now) (S.files c.serve.new.store) (S.may_leave c.args.store.now) (S.may_leave c.serve.new.store) (S.faults c.args.store.now) (S.faults c.serve.new.store)
-    (c.args.command.now, is, needs) (S.files c.recover.new.store) (S.may_leave c.recover.new.store) (S.faults c.recover.new.store) c.recover.ensures.later found c.in-Ok.ensures.after
+    (c.args.command.now, is, c.requires) (S.files c.recover.new.store) (S.may_leave c.recover.new.store) (S.faults c.recover.new.store) c.recover.ensures.later found c.in-Ok.ensures.after
     c.serve.result (O.contents c.args.out.now) (O.contents c.serve.new.out) (O.faults c.args.out.now) (O.faults c.serve.new.out) planned))
     (c.serve.ensures.answer words is no_batch no_reading never_undo)
 
@@ -46,10 +46,10 @@ returns-in-Ok-clause-any_moment g c words f r is told restored start =
     (settled (S.files c.args.store.now) (S.files c.recover.new.store) (S.may_leave c.recover.new.store) f there.0 r found told there.1 restored (c.in-Ok.ensures.after f r told restored start)))
 
 pub returns-in-Err-Failed-clause-answer : goal.returns-in-Err-Failed-clause-answer
-returns-in-Err-Failed-clause-answer g c words is needs no_batch no_reading never_undo =
+returns-in-Err-Failed-clause-answer g c words is no_batch no_reading never_undo =
     let S = g.S.Store in
     let O = g.O.Sink in
-    inl (recovery_failed words (S.files c.args.store.now) (S.files c.recover.new.store) (S.may_leave c.args.store.now) (S.may_leave c.recover.new.store) (S.faults c.args.store.now) (S.faults c.recover.new.store) c.args.command.now is needs
+    inl (recovery_failed words (S.files c.args.store.now) (S.files c.recover.new.store) (S.may_leave c.args.store.now) (S.may_leave c.recover.new.store) (S.faults c.args.store.now) (S.faults c.recover.new.store) c.args.command.now is c.requires
     c.write_line.result (O.contents c.args.out.now) (O.contents c.write_line.new.out) (O.faults c.args.out.now) (O.faults c.write_line.new.out) c.recover.ensures.others (c.in-Err-Failed.ensures.failed (ap Err c.in-Err-Failed.field-0-is))
     (λ f r told restored start image l.
     let run = c.recover.ensures.any_moment f r told restored start in
@@ -62,11 +62,11 @@ returns-in-Err-Failed-clause-any_moment g c words f r is told restored start =
     weaker S.moment S.left_since c.args.store.now c.recover.new.store (StandsForEither words r) _ (c.recover.ensures.any_moment f r told restored start) (λ image l. inl l)
 
 pub returns-in-Err-BadJournal-clause-answer : goal.returns-in-Err-BadJournal-clause-answer
-returns-in-Err-BadJournal-clause-answer g c words is needs no_batch no_reading never_undo =
+returns-in-Err-BadJournal-clause-answer g c words is no_batch no_reading never_undo =
     let S = g.S.Store in
     let O = g.O.Sink in
     let same = c.in-Err-BadJournal.ensures.unchanged (ap Err c.in-Err-BadJournal.field-0-is) in
-    inl (bad_journal words (S.files c.args.store.now) (S.files c.recover.new.store) (S.may_leave c.args.store.now) (S.may_leave c.recover.new.store) (S.faults c.args.store.now) (S.faults c.recover.new.store) c.args.command.now is needs
+    inl (bad_journal words (S.files c.args.store.now) (S.files c.recover.new.store) (S.may_leave c.args.store.now) (S.may_leave c.recover.new.store) (S.faults c.args.store.now) (S.faults c.recover.new.store) c.args.command.now is c.requires
     c.report.result (O.contents c.args.out.now) (O.contents c.report.new.out) (O.faults c.args.out.now) (O.faults c.report.new.out) same.0 same.1 (c.in-Err-BadJournal.ensures.bad (ap Err c.in-Err-BadJournal.field-0-is)) c.report.ensures)
 
 pub returns-in-Err-BadJournal-clause-any_moment : goal.returns-in-Err-BadJournal-clause-any_moment
@@ -75,7 +75,7 @@ returns-in-Err-BadJournal-clause-any_moment g c words f r is told restored start
     weaker S.moment S.left_since c.args.store.now c.recover.new.store (StandsForEither words r) _ (c.recover.ensures.any_moment f r told restored start) (λ image l. inl l)
 
 pub returns-in-Err-OutOfMemory-clause-answer : goal.returns-in-Err-OutOfMemory-clause-answer
-returns-in-Err-OutOfMemory-clause-answer g c words is needs no_batch no_reading never_undo =
+returns-in-Err-OutOfMemory-clause-answer g c words is no_batch no_reading never_undo =
     let S = g.S.Store in
     let O = g.O.Sink in
     let same = c.in-Err-OutOfMemory.ensures.unchanged_memory (ap Err c.in-Err-OutOfMemory.field-0-is) in

@@ -5,7 +5,7 @@ use Rattle.jr_top.proofs.BatchAnswers.{batch_plain, exact as batch_answer, no_ba
 use Rattle.jr_top.proofs.CheckAnswers.{reading_plain, exact as reading_answer, no_reading, reading_needs}
 use Rattle.jr_top.proofs.PlainAnswers.{behind, outcome as plain_outcome, unreadable as plain_unreadable, by_batch, by_reading, by_undo}
 use Rattle.jr_top.proofs.UndoAnswers.{no_undo_asked, outcome as undo_outcome, unreadable as undo_unreadable, exact as undo_answer}
-use Rattle.jr_top.proofs.Choosing.{small_never, unplanned_never, never_recovers}
+use Rattle.jr_top.proofs.Choosing.{small_never, refused_never, never_recovers}
 use Rattle.jr_top.proofs.EngineAnswers.{outcome as planned_outcome, asked_of}
 use Rattle.jr_top.proofs.Exact.{bad_words, needs_no_files, unreadable, exact}
 use Rattle.jr_top.proofs.Outcomes.{outcome, complete}
@@ -154,18 +154,18 @@ returns-clause-undo_exact g c files found told restored asks =
     files found told restored c.perform.result (c.perform.ensures.undo asks)
 
 pub returns-clause-batch_exact : goal.returns-clause-batch_exact
-returns-clause-batch_exact g c files found bytes answer told restored asks heard q unplanned =
+returns-clause-batch_exact g c files found bytes why told restored asks heard q =
     let S = g.S.Store in
     let I = g.I.Source in
     ⊎_elim
     (λ said. batch_answer c.args.words.now (S.files c.args.store.now) (S.files c.perform.new.store) (S.may_leave c.args.store.now) (S.may_leave c.perform.new.store) (S.faults c.args.store.now) (S.faults c.perform.new.store)
     (I.left c.args.input.now) (I.faults c.args.input.now) (I.faults c.perform.new.input)
     (g.O.Sink.contents c.args.out.now) (g.O.Sink.contents c.perform.new.out) (g.O.Sink.faults c.args.out.now) (g.O.Sink.faults c.perform.new.out)
-    c.args.alloc files found told restored bytes answer heard q c.perform.result said)
+    c.args.alloc files found told restored bytes why heard q c.perform.result said)
     (λ planned.
     let a = asked_of c.args.words.now (AsksAll c.args.words.now (I.left c.args.input.now)) (S.files c.args.store.now) (S.files c.perform.new.store) (S.may_leave c.args.store.now) (S.may_leave c.perform.new.store) (S.faults c.args.store.now)
     (S.faults c.perform.new.store) (g.O.Sink.contents c.args.out.now) (g.O.Sink.contents c.perform.new.out) (g.O.Sink.faults c.args.out.now) (g.O.Sink.faults c.perform.new.out) c.perform.result planned in
-    absurd (unplanned_never c.args.words.now (I.left c.args.input.now) a.0 a.1 a.4 c.args.alloc bytes answer heard q unplanned))
+    absurd (refused_never c.args.words.now (I.left c.args.input.now) a.0 a.1 a.4 c.args.alloc bytes why heard q))
     (c.perform.ensures.batch asks)
 
 pub returns-clause-reading_exact : goal.returns-clause-reading_exact

@@ -1,8 +1,10 @@
-use Rattle.std.proofs.Common.{List, ℕ, Some, ap, subst, ◌∙◌, inl}
+use Rattle.std.proofs.Common.{List, ℕ, Some, sym, ap, subst, ◌∙◌, inl}
+use Rattle.std.proofs.lemmas.Bool.{false≢true}
 use Rattle.jr_top.specs.Answers.{IsReported}
 use Rattle.jr_top.specs.Checking.{IsReading}
 use Rattle.jr_top.specs.Crash.{StandsForEither}
 use Rattle.jr_top.proofs.Carried.{weaker}
+use Rattle.jr_top.proofs.Choosing.{changing}
 use Rattle.jr_top.proofs.Settled.{settled_stands}
 use Rattle.jr_commit.specs.Restoring.{MayBegin}
 use Rattle.jr_commit.proofs.Beginning.{reads_begin}
@@ -39,6 +41,12 @@ returns-then-is_reading-clause-next g c begins =
     let s = c.read_files-status.new.store in
     begun (S.faults c.args.store.now) (S.faults s) (MayBegin (S.files s) (S.may_leave s))
     (reads_begin (S.files c.args.store.now) (S.files s) (S.may_leave c.args.store.now) (S.may_leave s) c.read_files-status.ensures.files c.read_files-status.ensures.crash begins) c.report.result
+
+pub obey-requires : goal.obey-requires
+obey-requires g c = changing c.args.command.now c.requires (λ reads. false≢true (sym c.if-is_reading.false ∙ c.is_reading.ensures.1 reads)) c.in_default.not-Undo
+
+pub returns-in_default-clause-answer : goal.returns-in_default-clause-answer
+returns-in_default-clause-answer g c words is no_batch no_reading never_undo = c.obey.ensures.answer words is no_batch
 
 pub returns-in-Undo-clause-any_moment : goal.returns-in-Undo-clause-any_moment
 returns-in-Undo-clause-any_moment g c words f r is told settled = c.take_back.ensures.any_moment words f r (is ∙ ap Some c.in-Undo.is) told settled
