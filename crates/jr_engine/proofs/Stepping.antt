@@ -60,6 +60,7 @@ requested found w request change is a = record {
 
 -- a change that keeps all units leaves the files as they are
 pub stays_so : (w : Workspace) (request : Request) (change : Change) → IsAskedOf w request change → keeps_all w.program.units change.units.items ≡ true → LeftBy w request None
+unfolding requested
 stays_so w request change a keeps = λ found is. stays (requested found w request change is a) keeps
 
 followed : (asked : Asked) (locked : Locked) (left : Left) → IsAskedFor asked → IsLockedBy asked locked → IsLeftOf locked left → IsFollowed asked.old.now asked.request.now left
