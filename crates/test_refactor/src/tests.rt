@@ -356,48 +356,51 @@ const FIRST: &str = "JRJ1\n\x00\x00\x00\x01F\x00\x00\x00\x06A.java\x00\x00\x00\x
 const SECOND: &str =
     "JRJ2\n\x00\x00\x00\x01\x00\x00\x00\x06A.javaF\x00\x00\x00\x12class A { int a; }F\x00\x00\x00\x12class A { int b; }END\n";
 
-// What a check comes to where an earlier run was stopped: the gate is open, and this is the journal.
-fn is_checked_over(
+// Whether a check of these files gets this number and this line, and leaves this text.
+fn is_checked(
     alloc: Global,
-    journal: &str,
+    texts: &[(&str, &str)],
     number: u8,
     line: &str,
     left: &str,
 ) -> Result<bool, OutOfMemory> {
-    let texts = [
-        (".refactor-gate", "1"),
-        (".refactor-journal", journal),
-        ("A.java", OLD),
-    ];
-    comes_to(alloc, &texts, CHECK, "", number, line, &[("A.java", left)])
+    comes_to(alloc, texts, CHECK, "", number, line, &[("A.java", left)])
 }
+
+// An earlier run was stopped: the gate is open, and this is the journal.
+const OVER_FIRST: [(&str, &str); 3] = [
+    (".refactor-gate", "1"),
+    (".refactor-journal", FIRST),
+    ("A.java", OLD),
+];
+
+const OVER_SECOND: [(&str, &str); 3] = [
+    (".refactor-gate", "1"),
+    (".refactor-journal", SECOND),
+    ("A.java", OLD),
+];
 
 #[test]
 fn a_journal_is_read(rt: HostRuntime) -> Result<(), Fail> {
     let alloc = rt.alloc();
-    assert!(rt; is_checked_over(alloc, FIRST, 0, SOUND, "class A { }")?);
-    assert!(rt; is_checked_over(alloc, SECOND, 0, SOUND, "class A { int a; }")?);
-    assert!(rt; is_checked_over(alloc, "JRJ2\n", 11, "bad journal\n", OLD)?);
+    assert!(rt; is_checked(alloc, &OVER_FIRST, 0, SOUND, "class A { }")?);
+    assert!(rt; is_checked(alloc, &OVER_SECOND, 0, SOUND, "class A { int a; }")?);
     Ok(())
 }
 
-fn is_no_journal_refused(alloc: Global) -> Result<bool, OutOfMemory> {
-    let texts = [(".refactor-gate", "1"), ("A.java", OLD)];
-    comes_to(
-        alloc,
-        &texts,
-        CHECK,
-        "",
-        11,
-        "bad journal\n",
-        &[("A.java", OLD)],
-    )
-}
+const OVER_CUT: [(&str, &str); 3] = [
+    (".refactor-gate", "1"),
+    (".refactor-journal", "JRJ2\n"),
+    ("A.java", OLD),
+];
+
+const OVER_NONE: [(&str, &str); 2] = [(".refactor-gate", "1"), ("A.java", OLD)];
 
 #[test]
 fn a_bad_journal_is_refused(rt: HostRuntime) -> Result<(), Fail> {
     let alloc = rt.alloc();
-    assert!(rt; is_no_journal_refused(alloc)?);
+    assert!(rt; is_checked(alloc, &OVER_CUT, 11, "bad journal\n", OLD)?);
+    assert!(rt; is_checked(alloc, &OVER_NONE, 11, "bad journal\n", OLD)?);
     Ok(())
 }
 
