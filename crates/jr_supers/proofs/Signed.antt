@@ -1,25 +1,21 @@
 -- Signatures have one number where their names and types are the same.
-use Rattle.std.proofs.Common.{◌≡◌, refl, sym, ◌∙◌, ap, ap₂, subst, ⊎_elim, arith, le_antisymm, ℕ, zero, suc, ◌<◌, ◌≤◌, Bool, true, false, cond, ◌&&◌, List, [], ◌∷◌, ◌++◌, append_assoc, append-nil, Option, Some, None, nat_eq, Decides}
-use Rattle.std.specs.Prelude.{bytes_eq, unwrap_or, slice_index_or}
-use Rattle.std.specs.Option.{option_or}
-use Rattle.std.proofs.lemmas.Bool.{false≢true, cases_eq, cases_lt}
+use Rattle.std.proofs.Common.{◌≡◌, refl, sym, ◌∙◌, ap, ap₂, subst, ℕ, Bool, true, false, ◌&&◌, List, [], ◌∷◌, ◌++◌, append_assoc, append-nil, Option, Some, None, nat_eq, Decides}
+use Rattle.std.specs.Prelude.{bytes_eq, slice_index_or}
 use Rattle.std.proofs.lemmas.Bool.Decides.{Decides-eqb}
 use Rattle.std.proofs.lemmas.Slice.Eq.{bytes_eq-Decides}
-use Rattle.std.proofs.lemmas.Option.{none-some}
 use Rattle.jr_rows.specs.Rows.{Rows, name, role_at}
 use Rattle.jr_defs.specs.declared.referent.Element.{Element}
 use Rattle.jr_defs.specs.declared.referent.Element.TheVariants as element
 use Rattle.jr_defs.specs.declared.referent.RowType.{RowType}
 use Rattle.jr_defs.specs.Referents.{Table}
-use Rattle.jr_plain.specs.Search.{first_below}
 use Rattle.jr_plain.specs.Same.{same_types}
 use Rattle.jr_plain.specs.Types.{parameters, is_same_signature, are_same_types}
 use Rattle.jr_plain.proofs.Same.{types_tell}
-use Rattle.jr_plain.proofs.Searches.{finds_first}
 use Rattle.jr_plain.proofs.Tests.{both, like}
 use Rattle.jr_tables.specs.Numbers.{IsOneToOne, IsNumberOf}
 use Rattle.jr_tables.proofs.Numbered.{one_number, one_list}
 use Rattle.jr_places.specs.Names.{name_row}
+use Rattle.jr_places.proofs.Packing.{name_tells}
 use Rattle.jr_supers.specs.declared.signatures.Signature.{Signature}
 use Rattle.jr_supers.specs.declared.signatures.Signatures as code
 use Rattle.jr_supers.specs.Tabled.{is_callable}
@@ -75,35 +71,9 @@ back_first (a ∷ more) xs = back_first more (with_type a xs)
 same_lists : (a b : List RowType) (x y : ℕ) → with_types a (x ∷ []) ≡ with_types b (y ∷ []) → (x ≡ y) × (a ≡ b)
 same_lists a b x y e = (sym (back_first a (x ∷ [])) ∙ ap first_back e ∙ back_first b (y ∷ []), sym (back_types a (x ∷ [])) ∙ ap types_back e ∙ back_types b (y ∷ []))
 
--- ---- names
-
-none_first : (test : ℕ → Bool) (n : ℕ) → first_below n test ≡ None → (j : ℕ) → j < n → test j ≡ true → ⊥
-none_first test zero e j lt h = absurd (omega arith)
-none_first test (suc n) e j lt h = by (first_below n test) refl (test n) refl e (λ is less. none_first test n is j less h)
-  where
-    by : (o : Option ℕ) → first_below n test ≡ o → (b : Bool) → test n ≡ b → option_or o (cond b (Some n) None) ≡ None → (first_below n test ≡ None → j < n → ⊥) → ⊥
-    by (Some k) is b here e more = none-some k (sym e)
-    by None is true here e more = none-some n (sym e)
-    by None is false here e more = ⊎_elim (λ same. false≢true (sym here ∙ ap test (sym same) ∙ h)) (λ apart. more is (omega arith)) (cases_eq j n)
+-- ---- signatures
 
 module _ (p : Rows) where
-  -- the first row with the name of n
-  abbrev IsLeast : ℕ → ℕ → Type 0
-  IsLeast n k = (name p n ≡ name p k) × ((j : ℕ) → name p n ≡ name p j → k ≤ j)
-
-  least_is : (n : ℕ) → IsLeast n (name_row p n)
-  least_is n = by (first_below n (λ k. bytes_eq (name p n) (name p k))) refl
-    where
-      by : (o : Option ℕ) → first_below n (λ k. bytes_eq (name p n) (name p k)) ≡ o → (name p n ≡ name p (unwrap_or o n)) × ((j : ℕ) → name p n ≡ name p j → unwrap_or o n ≤ j)
-      by (Some k) e = let first = (finds_first (λ k. bytes_eq (name p n) (name p k)) (λ k. name p n ≡ name p k) (λ k. bytes_eq-Decides (name p n) (name p k)) n k).0 e in (first.1, first.2)
-      by None e = (refl, λ j same. ⊎_elim (λ lt. absurd (none_first (λ k. bytes_eq (name p n) (name p k)) n e j lt ((bytes_eq-Decides (name p n) (name p j)).1 same))) (λ le. le) (cases_lt j n))
-
-  name_tells : (m k : ℕ) → Decides (nat_eq (name_row p m) (name_row p k)) (name p m ≡ name p k)
-  name_tells m k = like (Decides-eqb (name_row p m) (name_row p k)) (λ e. (least_is m).0 ∙ ap (name p) e ∙ sym (least_is k).0)
-      (λ same. le_antisymm ((least_is m).1 (name_row p k) (same ∙ (least_is k).0)) ((least_is k).1 (name_row p m) (sym same ∙ (least_is m).0)))
-
-  -- ---- signatures
-
   -- two numbers are one where names and types are
   module _ (numbers : ℕ → ℕ → Option ℕ) (one : IsOneToOne numbers) where
     same_by_numbers : (m k n r : ℕ) (a b : List RowType) → IsNumberOf numbers n (with_types a (name_row p m ∷ [])) → IsNumberOf numbers r (with_types b (name_row p k ∷ []))
@@ -111,9 +81,9 @@ module _ (p : Rows) where
     same_by_numbers m k n r a b h j = one_test (nat_eq n r) (bytes_eq (name p m) (name p k) && same_types a b) ((name p m ≡ name p k) × (a ≡ b))
         (like (Decides-eqb n r)
         (λ e. let same = same_lists a b (name_row p m) (name_row p k) (one_list numbers one n _ _ h (subst (λ x. IsNumberOf numbers x (with_types b (name_row p k ∷ []))) (sym e) j)) in
-        ((name_tells m k).0 ((Decides-eqb (name_row p m) (name_row p k)).1 same.0), same.1))
+        ((name_tells p m k).0 ((Decides-eqb (name_row p m) (name_row p k)).1 same.0), same.1))
         (λ same. one_number numbers n r (with_types b (name_row p k ∷ []))
-        (subst (λ xs. IsNumberOf numbers n xs) (ap₂ (λ x xs. with_types xs (x ∷ [])) ((Decides-eqb (name_row p m) (name_row p k)).0 ((name_tells m k).1 same.0)) same.1) h) j))
+        (subst (λ xs. IsNumberOf numbers n xs) (ap₂ (λ x xs. with_types xs (x ∷ [])) ((Decides-eqb (name_row p m) (name_row p k)).0 ((name_tells p m k).1 same.0)) same.1) h) j))
         (both (bytes_eq-Decides (name p m) (name p k)) (types_tell a b))
 
     none_same : (b : Bool) → false ≡ (b && false)
