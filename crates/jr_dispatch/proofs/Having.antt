@@ -53,7 +53,7 @@ module _ (p : Rows) (t : Table) where
     above_then (Above.further up more) k = Above.further up (above_then more k)
     above_then (Above.object i o) k = over_object o k (λ x e. Above.object i e)
 
-    at_then : (c r s : ℕ) → AtOrAbove p t c r → AtOrAbove p t r s → AtOrAbove p t c s
+    pub at_then : (c r s : ℕ) → AtOrAbove p t c r → AtOrAbove p t r s → AtOrAbove p t c s
     at_then c r s (inl e) k = subst (λ x. AtOrAbove p t x s) (sym e) k
     at_then c r s (inr h) (inl e) = inr (subst (λ x. Above p t c x) e h)
     at_then c r s (inr h) (inr k) = inr (above_then h k)

@@ -1,2 +1,9 @@
 mod Overridden
-mod Having
+pub mod Having
+mod Leading
+pub mod Overriding
+mod Searching
+mod Inheriting
+mod Serving
+mod Climbing
+mod Edging

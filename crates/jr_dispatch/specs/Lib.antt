@@ -1,1 +1,3 @@
 pub mod Overridden
+pub mod Methods
+pub mod Dispatching

@@ -1,19 +1,26 @@
 // Overriding, and the method that a call finds (JLS 8.4.8.1, 15.12.4.4).
-ghost use Rattle.std.specs.Prelude.{◌≡◌, Decides};
+ghost use Rattle.std.specs.Prelude.{◌≡◌, ◌++◌, if◌then◌else◌, ℕ, [], ◌∷◌, suc, None, Some, false, length, slice_get, Decides, IfOk, OnOk};
 ghost use Rattle.jr_rows.specs.declared.label.Role.TheVariants as role;
 ghost use Rattle.jr_rows.specs.Rows.{role_at};
 ghost use Rattle.jr_defs.specs.Referents.{Table};
-ghost use Rattle.jr_defs.specs.Overriding.{Has};
+ghost use Rattle.jr_defs.specs.Declarations.{IsClass};
+ghost use Rattle.jr_defs.specs.Enclosing.{DeclaredIn};
+ghost use Rattle.jr_defs.specs.Members.{CanInherit, MemberOf};
+ghost use Rattle.jr_defs.specs.Overriding.{Has, Overrides, Implements, Serves, FoundFrom};
+ghost use Rattle.jr_plain.specs.Search.{Reaches};
 ghost use Rattle.jr_plain.specs.Overriding as plain;
 ghost use Rattle.jr_supers.specs.Signatures.{AreSignatures};
-ghost use Rattle.jr_supers.specs.Supers.{AreSupersOf};
+ghost use Rattle.jr_supers.specs.Supers.{AreSupersOf, ListsOnce, once, is_last as is_last_of};
+ghost use Rattle.jr_tables.specs.Stamps.{IsStamping};
 ghost use Rattle.jr_members.specs.Held.{ObjectIsBare};
+ghost use Rattle.jr_dispatch.specs.Methods.{AreMethods};
 ghost use Rattle.jr_dispatch.specs.Overridden as tell;
+ghost use Rattle.jr_dispatch.specs.Dispatching as dispatching;
 
 use jr_base::OutOfMemory;
 use jr_members::{
-    Callables, Declared, MemberKind, World, declaring_type, has, is_in_interface, is_method,
-    is_private, is_protected, is_public, is_static,
+    Callables, Declared, MemberKind, World, declaring_type, is_in_interface, is_method, is_private,
+    is_protected, is_public, is_static, passes,
 };
 use jr_places::{is_class, is_interface};
 use jr_rows::Row;
@@ -38,6 +45,84 @@ fn may_override(rows: &[Row], method: u32, other: u32, are_same: bool) -> bool
         && !is_static(rows, method)
         && !is_private(rows, other)
         && (!is_in_interface(rows, method) || is_public(rows, other))
+}
+
+// The body of the type declares the method.
+fn is_declared_in(rows: &[Row], at: u32, method: u32) -> bool
+    ensures { Decides result (DeclaredIn rows.now at method) }
+{
+    match declaring_type(rows, method) {
+        Some(over) => over == at,
+        None => false,
+    }
+}
+
+// Puts a number behind the one list or the other.
+fn put(
+    first: &mut Vec<u32>,
+    second: &mut Vec<u32>,
+    at: u32,
+    is_first: bool,
+) -> Result<(), OutOfMemory>
+    ensures first { OnOk result (first.new.items ≡ first.old.items ++ (if is_first then at ∷ [] else [])) }
+    ensures second { OnOk result (second.new.items ≡ second.old.items ++ (if is_first then [] else at ∷ [])) }
+{
+    if is_first {
+        first.push(at)?;
+    } else {
+        second.push(at)?;
+    }
+    Ok(())
+}
+
+// Stamps a type, if it passes the method on.
+fn mark_if(rows: &[Row], met: &mut Stamps, over: u32, method: u32)
+    ensures { (bound : ℕ) → IsStamping met.old bound → dispatching.IsMarkedIf rows.now over method met.old met.new bound }
+{
+    if !passes(rows, over, method) {
+        return;
+    }
+    let _ = met.add(over);
+}
+
+// The number, or the one before, if it is not.
+fn latest(before: Option<u32>, at: u32, is: bool) -> Option<u32>
+    ensures { result ≡ (if is then Some at else before) }
+{
+    if is { Some(at) } else { before }
+}
+
+fn item_at(all: &[u32], at: usize) -> Option<u32>
+    ensures { result ≡ slice_get all.now at }
+{
+    match all.get(at) {
+        Some(item) => Some(*item),
+        None => None,
+    }
+}
+
+fn is_last(last: Option<u32>, at: u32) -> bool
+    ensures { result ≡ is_last_of last at }
+{
+    match last {
+        Some(before) => before == at,
+        None => false,
+    }
+}
+
+// A list that rises, with each item once.
+fn without_repeats(alloc: Global, all: &[u32]) -> Result<Vec<u32>, OutOfMemory>
+    ensures { IfOk result (λ out. out.items ≡ once None all.now) }
+{
+    let mut out = Vec::new(alloc);
+    let mut last = None;
+    for at in all {
+        if !is_last(last, *at) {
+            out.push(*at)?;
+        }
+        last = Some(*at);
+    }
+    Ok(out)
 }
 
 /// Rows under a table, with what calls read: supertypes, and the methods that bodies declare.
@@ -98,105 +183,199 @@ impl<'a> Methods<'a> {
         self.is_declared_below(method, other)
     }
 
-    // The first method overrides the second without another between.
-    fn overrides_directly(self, method: u32, other: u32) -> bool {
-        let rows = self.under.rows;
-        let is_reached = is_public(rows, other)
-            || (is_protected(rows, other) || self.under.places.is_one_package(method, other));
-        is_reached && self.is_above_method(method, other)
+    // The second method is public, protected, or of the package of the first.
+    fn is_reachable(self, method: u32, other: u32) -> bool
+        ensures { (t : Table) → AreMethods self.entry.under.rows.now t self.entry → result ≡ plain.is_reachable self.entry.under.rows.now method other }
+    {
+        if is_public(self.under.rows, other) {
+            return true;
+        }
+        if is_protected(self.under.rows, other) {
+            return true;
+        }
+        self.under.places.is_one_package(method, other)
     }
 
-    // Of these methods, those that one of them overrides directly and that are not met yet, behind the rest.
-    fn add_overridden(
+    // The first method overrides the second without another between.
+    fn overrides_directly(self, method: u32, other: u32) -> bool
+        ensures { (t : Table) → AreMethods self.entry.under.rows.now t self.entry → role_at self.entry.under.rows.now method ≡ role.Method → role_at self.entry.under.rows.now other ≡ role.Method → result ≡ tell.overrides_directly self.entry.under.rows.now t method other }
+    {
+        if !self.is_reachable(method, other) {
+            return false;
+        }
+        self.is_above_method(method, other)
+    }
+
+    // Of these methods, those that one overrides directly go behind the ones that are met, and the others behind the rest.
+    fn divide(
         self,
-        like: &[u32],
+        left: &[u32],
         met: &mut Vec<u32>,
+        rest: &mut Vec<u32>,
         method: u32,
-    ) -> Result<(), OutOfMemory> {
-        for other in like {
-            if self.overrides_directly(method, *other) && !has(met, *other) {
-                met.push(*other)?;
-            }
+    ) -> Result<(), OutOfMemory>
+        ensures { (t : Table) → AreMethods self.entry.under.rows.now t self.entry → role_at self.entry.under.rows.now method ≡ role.Method → dispatching.AreMethodRows self.entry.under.rows.now left.now → OnOk result (tell.Divides (tell.overrides_directly self.entry.under.rows.now t) method left.now met.old.items met.new.items rest.old.items rest.new.items) }
+    {
+        for other in left {
+            let is_direct = self.overrides_directly(method, *other);
+            put(met, rest, *other, is_direct)?;
         }
         Ok(())
     }
 
-    // The first method overrides the second through others (JLS 8.4.8.1).
-    fn overrides_through(
+    // The others, where those that one overrides directly go behind the ones that are met.
+    fn others(
         self,
         alloc: Global,
+        left: &[u32],
+        met: &mut Vec<u32>,
         method: u32,
-        other: u32,
-    ) -> Result<bool, OutOfMemory> {
+    ) -> Result<Vec<u32>, OutOfMemory>
+        ensures { (t : Table) → AreMethods self.entry.under.rows.now t self.entry → role_at self.entry.under.rows.now method ≡ role.Method → dispatching.AreMethodRows self.entry.under.rows.now left.now → IfOk result (λ rest. tell.Divides (tell.overrides_directly self.entry.under.rows.now t) method left.now met.old.items met.new.items [] rest.items) }
+    {
+        let mut rest = Vec::new(alloc);
+        self.divide(left, met, &mut rest, method)?;
+        Ok(rest)
+    }
+
+    // The first method overrides the second through others (JLS 8.4.8.1).
+    fn overrides_through(self, alloc: Global, method: u32, other: u32) -> Result<bool, OutOfMemory>
+        ensures { (t : Table) → AreMethods self.entry.under.rows.now t self.entry → role_at self.entry.under.rows.now method ≡ role.Method → IfOk result (λ is. Decides is (Reaches (tell.OverridesDirectly self.entry.under.rows.now t) method other)) }
+    {
         let name = self.under.places.name(method);
         let like = self.declared.by_name(alloc, name)?;
         let mut met = Vec::new(alloc);
-        self.add_overridden(&like, &mut met, method)?;
+        let mut left = self.others(alloc, &like, &mut met, method)?;
         for turn in 0..like.len() {
-            let Some(next) = met.get(turn).copied() else {
+            let Some(next) = item_at(&met, turn) else {
                 return Ok(false);
             };
             if next == other {
                 return Ok(true);
             }
-            self.add_overridden(&like, &mut met, next)?;
+            left = self.others(alloc, &left, &mut met, next)?;
         }
         Ok(false)
     }
 
-    /// The first method overrides the second, inherited or not.
-    pub fn overrides(self, alloc: Global, method: u32, other: u32) -> Result<bool, OutOfMemory> {
+    /// The first method overrides the second, inherited or not. Both rows are methods.
+    pub fn overrides(self, alloc: Global, method: u32, other: u32) -> Result<bool, OutOfMemory>
+        ensures { (t : Table) → AreMethods self.entry.under.rows.now t self.entry → role_at self.entry.under.rows.now method ≡ role.Method → role_at self.entry.under.rows.now other ≡ role.Method → IfOk result (λ is. Decides is (Overrides self.entry.under.rows.now t method other)) }
+    {
         if !self.is_above_method(method, other) {
             return Ok(false);
         }
-        if self.overrides_directly(method, other) {
+        if self.is_reachable(method, other) {
             return Ok(true);
         }
-        self.overrides_through(alloc, method, other)
-    }
-
-    // Adds the supertypes of a type that are no interfaces and are not met yet, behind the rest.
-    fn add_classes(
-        self,
-        alloc: Global,
-        met: &mut Stamps,
-        all: &mut Vec<u32>,
-        at: u32,
-    ) -> Result<(), OutOfMemory> {
-        for over in &self.supers.direct().rows(alloc, at, 0)? {
-            if !is_interface(self.under.rows, *over) && met.add(*over) {
-                all.push(*over)?;
-            }
-        }
-        Ok(())
+        let is = self.overrides_through(alloc, method, other)?;
+        Ok(is)
     }
 
     // The type declares a method of the signature.
-    fn is_declared_like(self, alloc: Global, at: u32, method: u32) -> Result<bool, OutOfMemory> {
+    fn is_declared_like(self, alloc: Global, at: u32, method: u32) -> Result<bool, OutOfMemory>
+        ensures { (t : Table) → AreMethods self.entry.under.rows.now t self.entry → role_at self.entry.under.rows.now method ≡ role.Method → IfOk result (λ is. Decides is (dispatching.DeclaresLike self.entry.under.rows.now t at method)) }
+    {
         let own = self.callables.declared_like(alloc, at, method)?;
         Ok(!own.is_empty())
     }
 
-    // A class has a public method of a class as a member: it comes down to it by supertypes that are no interfaces, and none of which declares
-    // one of its signature but the one that declares it (JLS 8.4.8).
-    fn inherits(self, alloc: Global, class: u32, method: u32) -> Result<bool, OutOfMemory> {
-        let declaring = declaring_type(self.under.rows, method);
+    // The type may inherit the method: it is not private, and without an access modifier only inside its package.
+    fn can_inherit(self, at: u32, method: u32) -> bool
+        ensures { (t : Table) → AreMethods self.entry.under.rows.now t self.entry → Decides result (CanInherit self.entry.under.rows.now at method) }
+    {
+        if is_private(self.under.rows, method) {
+            return false;
+        }
+        self.is_reachable(at, method)
+    }
+
+    // Stamps the supertypes of a type that pass the method on.
+    fn mark_supers(
+        self,
+        alloc: Global,
+        met: &mut Stamps,
+        at: u32,
+        method: u32,
+    ) -> Result<(), OutOfMemory>
+        ensures { (t : Table) (bound : ℕ) → AreMethods self.entry.under.rows.now t self.entry → IsStamping met.old bound → OnOk result (dispatching.IsMarked self.entry.under.rows.now t at method met.old met.new bound) }
+    {
+        let supers = self.supers.direct().rows(alloc, at, 0)?;
+        for over in &supers {
+            mark_if(self.under.rows, met, *over, method);
+        }
+        Ok(())
+    }
+
+    // A type that is stamped declares the method; or else the supertypes from which it has it are stamped (JLS 8.4.8).
+    fn visit(
+        self,
+        alloc: Global,
+        met: &mut Stamps,
+        at: u32,
+        method: u32,
+    ) -> Result<bool, OutOfMemory>
+        ensures { (t : Table) → AreMethods self.entry.under.rows.now t self.entry → role_at self.entry.under.rows.now method ≡ role.Method → IsStamping met.old (length self.entry.under.rows.now) → IfOk result (λ is. dispatching.IsVisited self.entry.under.rows.now t at method met.old met.new (length self.entry.under.rows.now) is) }
+    {
+        if !met.has(at) {
+            return Ok(false);
+        }
+        if is_declared_in(self.under.rows, at, method) {
+            return Ok(true);
+        }
+        if !self.can_inherit(at, method) {
+            return Ok(false);
+        }
+        let is_replaced = self.is_declared_like(alloc, at, method)?;
+        if is_replaced {
+            return Ok(false);
+        }
+        self.mark_supers(alloc, met, at, method)?;
+        Ok(false)
+    }
+
+    // A class has the method as a member: it comes down to it by supertypes none of which declares one of its signature but the one that
+    // declares it (JLS 8.4.8). From the last type in the order back, each is seen before its supertypes.
+    fn is_member(self, alloc: Global, class: u32, method: u32) -> Result<bool, OutOfMemory>
+        ensures { (t : Table) → AreMethods self.entry.under.rows.now t self.entry → IsClass self.entry.under.rows.now class → role_at self.entry.under.rows.now method ≡ role.Method → IfOk result (λ is. Decides is (MemberOf self.entry.under.rows.now t class method)) }
+    {
         let mut met = Stamps::new(alloc, self.under.rows.len())?;
-        let mut all = Vec::new(alloc);
         let _ = met.add(class);
-        all.push(class)?;
-        for turn in 0..self.under.rows.len() {
-            let Some(next) = all.get(turn).copied() else {
-                return Ok(false);
-            };
-            if declaring == Some(next) {
+        let order = self.supers.order();
+        for turn in 0..order.len() {
+            let at = order[order.len() - 1 - turn];
+            let is_found = self.visit(alloc, &mut met, at, method)?;
+            if is_found {
                 return Ok(true);
-            }
-            if !self.is_declared_like(alloc, next, method)? {
-                self.add_classes(alloc, &mut met, &mut all, next)?;
             }
         }
         Ok(false)
+    }
+
+    // A method of an interface above the class.
+    fn is_of_interface_above(self, class: u32, method: u32) -> bool
+        ensures { (t : Table) → AreSupersOf self.entry.under.rows.now t self.entry.supers.now → result ≡ tell.is_of_interface_above self.entry.under.rows.now t class method }
+    {
+        match declaring_type(self.under.rows, method) {
+            Some(over) => {
+                is_interface(self.under.rows, over)
+                    && self.supers.is_above(self.under.rows, class, over)
+            }
+            None => false,
+        }
+    }
+
+    // A method of an interface above the class, and a public method of its signature.
+    fn is_like_of_interface(self, class: u32, method: u32, other: u32) -> bool
+        ensures { (t : Table) → AreMethods self.entry.under.rows.now t self.entry → role_at self.entry.under.rows.now method ≡ role.Method → role_at self.entry.under.rows.now other ≡ role.Method → Decides result (dispatching.IsLikeOfInterface self.entry.under.rows.now t class method other) }
+    {
+        if !is_public(self.under.rows, method) {
+            return false;
+        }
+        if !self.is_of_interface_above(class, other) {
+            return false;
+        }
+        self.callables.signatures.are_same(method, other)
     }
 
     // A method of an interface above the class, and a public member of the class of its signature.
@@ -206,19 +385,14 @@ impl<'a> Methods<'a> {
         class: u32,
         method: u32,
         other: u32,
-    ) -> Result<bool, OutOfMemory> {
-        let rows = self.under.rows;
-        let Some(over) = declaring_type(rows, other) else {
-            return Ok(false);
-        };
-        if !is_interface(rows, over)
-            || !self.supers.is_above(rows, class, over)
-            || !is_public(rows, method)
-            || !self.callables.signatures.are_same(method, other)
-        {
+    ) -> Result<bool, OutOfMemory>
+        ensures { (t : Table) → AreMethods self.entry.under.rows.now t self.entry → IsClass self.entry.under.rows.now class → role_at self.entry.under.rows.now method ≡ role.Method → role_at self.entry.under.rows.now other ≡ role.Method → IfOk result (λ is. Decides is (Implements self.entry.under.rows.now t class method other)) }
+    {
+        if !self.is_like_of_interface(class, method, other) {
             return Ok(false);
         }
-        self.inherits(alloc, class, method)
+        let is = self.is_member(alloc, class, method)?;
+        Ok(is)
     }
 
     // A method serves a call of another on an object of the class.
@@ -228,11 +402,36 @@ impl<'a> Methods<'a> {
         class: u32,
         called: u32,
         method: u32,
-    ) -> Result<bool, OutOfMemory> {
-        if method == called || self.overrides(alloc, method, called)? {
+    ) -> Result<bool, OutOfMemory>
+        ensures { (t : Table) → AreMethods self.entry.under.rows.now t self.entry → IsClass self.entry.under.rows.now class → role_at self.entry.under.rows.now method ≡ role.Method → role_at self.entry.under.rows.now called ≡ role.Method → IfOk result (λ is. Decides is (Serves self.entry.under.rows.now t class called method)) }
+    {
+        if method == called {
             return Ok(true);
         }
-        self.implements(alloc, class, method, called)
+        let is_overriding = self.overrides(alloc, method, called)?;
+        if is_overriding {
+            return Ok(true);
+        }
+        let is = self.implements(alloc, class, method, called)?;
+        Ok(is)
+    }
+
+    // The last of these methods that serves the call.
+    fn last_serving(
+        self,
+        alloc: Global,
+        class: u32,
+        called: u32,
+        all: &[u32],
+    ) -> Result<Option<u32>, OutOfMemory>
+        ensures { (t : Table) → AreMethods self.entry.under.rows.now t self.entry → IsClass self.entry.under.rows.now class → role_at self.entry.under.rows.now called ≡ role.Method → dispatching.AreMethodRows self.entry.under.rows.now all.now → IfOk result (λ last. dispatching.IsLastOf (Serves self.entry.under.rows.now t class called) None all.now last) }
+    {
+        let mut last = None;
+        for method in all {
+            let is_serving = self.serves(alloc, class, called, *method)?;
+            last = latest(last, *method, is_serving);
+        }
+        Ok(last)
     }
 
     // The first method in the text of a body that serves the call.
@@ -242,24 +441,27 @@ impl<'a> Methods<'a> {
         class: u32,
         called: u32,
         declaring: u32,
-    ) -> Result<Option<u32>, OutOfMemory> {
-        let mut first = None;
-        if declaring_type(self.under.rows, called) == Some(declaring) {
-            first = Some(called);
+    ) -> Result<Option<u32>, OutOfMemory>
+        ensures { (t : Table) → AreMethods self.entry.under.rows.now t self.entry → IsClass self.entry.under.rows.now class → role_at self.entry.under.rows.now called ≡ role.Method → IfOk result (λ first. dispatching.IsFirstServing self.entry.under.rows.now t class called declaring first) }
+    {
+        let like = self.callables.declared_like(alloc, declaring, called)?;
+        let found = self.last_serving(alloc, class, called, &like)?;
+        let is_own = is_declared_in(self.under.rows, declaring, called);
+        match found {
+            Some(method) => Ok(Some(method)),
+            None => Ok(latest(None, called, is_own)),
         }
-        for method in &self.callables.declared_like(alloc, declaring, called)? {
-            if self.serves(alloc, class, called, *method)? {
-                first = Some(*method);
-            }
-        }
-        Ok(first)
     }
 
     // The method that a call finds from a class up its superclasses.
-    fn found_from(self, alloc: Global, class: u32, called: u32) -> Result<u32, OutOfMemory> {
+    fn found_from(self, alloc: Global, class: u32, called: u32) -> Result<u32, OutOfMemory>
+        ensures { (t : Table) → AreMethods self.entry.under.rows.now t self.entry → IsClass self.entry.under.rows.now class → role_at self.entry.under.rows.now called ≡ role.Method → IfOk result (λ method. FoundFrom self.entry.under.rows.now t class called class method) }
+    {
+        let turns = self.supers.order().len().saturating_add(1);
         let mut declaring = class;
-        for _turn in 0..self.under.rows.len() {
-            if let Some(method) = self.first_serving(alloc, class, called, declaring)? {
+        for _turn in 0..turns {
+            let first = self.first_serving(alloc, class, called, declaring)?;
+            if let Some(method) = first {
                 return Ok(method);
             }
             match self.supers.superclass(declaring) {
@@ -277,8 +479,13 @@ impl<'a> Methods<'a> {
         alloc: Global,
         class: u32,
         method: u32,
-    ) -> Result<Option<u32>, OutOfMemory> {
-        if !is_class(self.under.rows, class) || !self.has_method(class, method) {
+    ) -> Result<Option<u32>, OutOfMemory>
+        ensures { (t : Table) → AreMethods self.entry.under.rows.now t self.entry → IfOk result (λ found. dispatching.IsFoundAs self.entry.under.rows.now t class method found) }
+    {
+        if !is_class(self.under.rows, class) {
+            return Ok(None);
+        }
+        if !self.has_method(class, method) {
             return Ok(None);
         }
         if is_private(self.under.rows, method) || is_static(self.under.rows, method) {
@@ -288,29 +495,62 @@ impl<'a> Methods<'a> {
         Ok(Some(found))
     }
 
-    /// The methods that a class has, as they rise.
-    pub fn methods_of(self, alloc: Global, class: u32) -> Result<Vec<u32>, OutOfMemory> {
+    // Adds the methods that a type declares.
+    fn add_declared(self, alloc: Global, all: &mut Vec<u32>, at: u32) -> Result<(), OutOfMemory>
+        ensures { (t : Table) → AreMethods self.entry.under.rows.now t self.entry → OnOk result (all.new.items ≡ all.old.items ++ dispatching.declared_methods self.entry.under.rows.now at) }
+    {
+        let methods = self.declared.by_type(alloc, at)?;
+        for method in &methods {
+            all.push(*method)?;
+        }
+        Ok(())
+    }
+
+    /// The methods that a class has, as they rise, each once.
+    pub fn methods_of(self, alloc: Global, class: u32) -> Result<Vec<u32>, OutOfMemory>
+        ensures { (t : Table) → AreMethods self.entry.under.rows.now t self.entry → IfOk result (λ all. ListsOnce all.items (Has self.entry.under.rows.now t class)) }
+    {
         let mut all = Vec::new(alloc);
-        for over in &self.supers.with_above(alloc, self.under.rows, class)? {
-            for method in &self.declared.by_type(alloc, *over)? {
-                all.push(*method)?;
-            }
+        let overs = self.supers.with_above(alloc, self.under.rows, class)?;
+        for over in &overs {
+            self.add_declared(alloc, &mut all, *over)?;
         }
         all.sort_unstable();
-        Ok(all)
+        let out = without_repeats(alloc, &all)?;
+        Ok(out)
+    }
+
+    // Adds what a call of a method of the class finds there, if it has the method.
+    fn add_found(
+        self,
+        alloc: Global,
+        all: &mut Vec<Found>,
+        class: u32,
+        method: u32,
+    ) -> Result<(), OutOfMemory>
+        ensures { (t : Table) → AreMethods self.entry.under.rows.now t self.entry → OnOk result (dispatching.AddsFound self.entry.under.rows.now t class method all.old.items all.new.items) }
+    {
+        match self.dispatch(alloc, class, method)? {
+            Some(found) => {
+                all.push(Found {
+                    class,
+                    method,
+                    found,
+                })?;
+                Ok(())
+            }
+            None => Ok(()),
+        }
     }
 
     /// What calls of the methods of a class find there, as the methods rise.
-    pub fn found_in(self, alloc: Global, class: u32) -> Result<Vec<Found>, OutOfMemory> {
+    pub fn found_in(self, alloc: Global, class: u32) -> Result<Vec<Found>, OutOfMemory>
+        ensures { (t : Table) → AreMethods self.entry.under.rows.now t self.entry → IfOk result (λ all. dispatching.AreFoundIn self.entry.under.rows.now t class all.items) }
+    {
         let mut all = Vec::new(alloc);
-        for method in &self.methods_of(alloc, class)? {
-            if let Some(found) = self.dispatch(alloc, class, *method)? {
-                all.push(Found {
-                    class,
-                    method: *method,
-                    found,
-                })?;
-            }
+        let methods = self.methods_of(alloc, class)?;
+        for method in &methods {
+            self.add_found(alloc, &mut all, class, *method)?;
         }
         Ok(all)
     }

@@ -1,10 +1,17 @@
 // What calls find in classes, before and after (JLS 15.12.4.4).
+ghost use Rattle.std.specs.Prelude.{◌≡◌, ℕ, ◌<◌, ◌^◌, length, Option, IfOk, Decides};
+ghost use Rattle.jr_defs.specs.Referents.{Table, entries};
+ghost use Rattle.jr_places.specs.Places.{ArePlaces};
+ghost use Rattle.jr_dispatch.specs.Methods.{AreMethods, AreCalled};
+ghost use Rattle.jr_headed.specs.Founded.{IsProgram, IsWellFounded};
+ghost use Rattle.jr_edges.specs.Dispatched as tell;
 
 use jr_base::OutOfMemory;
-use jr_change::{Locks, Project};
-use jr_dispatch::{Found, Methods};
+use jr_dispatch::{Called, Found, Methods};
+use jr_headed::is_well_founded;
 use jr_locks::row_for;
 use jr_places::is_class;
+use jr_supers::Tabled;
 use std::alloc::Global;
 
 /// A class and a method that it had, by rows of the old program: a call of the method finds there another one than it found.
@@ -14,37 +21,56 @@ pub struct Lost {
     pub method: u32,
 }
 
-// A call does not find the copy of what it found. A class or method without a copy is passed.
-fn is_lost(
-    alloc: Global,
-    locked: Methods,
-    copy: &[u32],
-    before: Found,
-) -> Result<bool, OutOfMemory> {
-    let Some(class) = row_for(copy, before.class) else {
-        return Ok(false);
-    };
-    let Some(method) = row_for(copy, before.method) else {
-        return Ok(false);
-    };
-    let Some(found) = locked.dispatch(alloc, class, method)? else {
-        return Ok(true);
-    };
-    Ok(row_for(copy, before.found) != Some(found))
+/// Whether calls find what they found.
+#[derive(Clone, Copy, Debug, PartialEq, Eq)]
+pub enum Kept {
+    All,
+    /// The first class, and of it the first method, whose call does not.
+    Lost(Lost),
+    /// The rows of a program are not well founded under its table, as those of one that compiles are.
+    Unknown,
 }
 
-// The first method of a class of which that holds.
-fn lost_in_class(
+// The copy of an old row was found.
+fn is_copy_found(copy: &[u32], at: u32, found: Option<u32>) -> bool
+    ensures { result ≡ tell.is_copy_found copy.now at found }
+{
+    let Some(row) = row_for(copy, at) else {
+        return false;
+    };
+    match found {
+        Some(method) => row == method,
+        None => false,
+    }
+}
+
+// A call finds the copy of what it found. A class or method without a copy is passed.
+fn is_kept(alloc: Global, locked: Methods, copy: &[u32], before: Found) -> Result<bool, OutOfMemory>
+    ensures { (l : Table) → AreMethods locked.entry.under.rows.now l locked.entry → IfOk result (λ is. Decides is (tell.KeepsCall locked.entry.under.rows.now l copy.now before.class before.method before.found)) }
+{
+    let Some(class) = row_for(copy, before.class) else {
+        return Ok(true);
+    };
+    let Some(method) = row_for(copy, before.method) else {
+        return Ok(true);
+    };
+    let found = locked.dispatch(alloc, class, method)?;
+    Ok(is_copy_found(copy, before.found, found))
+}
+
+// The first edge of a list that is not kept.
+fn first_lost(
     alloc: Global,
-    old: Methods,
     locked: Methods,
     copy: &[u32],
-    class: u32,
-) -> Result<Option<Lost>, OutOfMemory> {
-    for before in &old.found_in(alloc, class)? {
-        if is_lost(alloc, locked, copy, *before)? {
+    all: &[Found],
+) -> Result<Option<Lost>, OutOfMemory>
+    ensures { (l : Table) → AreMethods locked.entry.under.rows.now l locked.entry → IfOk result (λ lost. tell.IsFirstLost locked.entry.under.rows.now l copy.now all.now lost) }
+{
+    for before in all {
+        if !is_kept(alloc, locked, copy, *before)? {
             return Ok(Some(Lost {
-                class,
+                class: before.class,
                 method: before.method,
             }));
         }
@@ -52,26 +78,90 @@ fn lost_in_class(
     Ok(None)
 }
 
-/// The first class, and of it the first method that it had, by old rows, whose call there does not find the copy of what it found. Where it finds
-/// another method, that edge of the changed program comes after the old one, which is lost too.
-pub fn lost_dispatch(
+// The first method of a class whose call is not kept.
+fn lost_in_class(
     alloc: Global,
-    old: &Project,
-    locked: &Project,
-    locks: &Locks,
-) -> Result<Option<Lost>, OutOfMemory> {
-    let before = Methods::of(&old.view.sight.world);
-    let after = Methods::of(&locked.view.sight.world);
-    let Ok(count) = u32::try_from(before.under.rows.len()) else {
-        return Err(OutOfMemory);
-    };
-    for class in 0..count {
-        if !is_class(before.under.rows, class) {
-            continue;
-        }
-        if let Some(lost) = lost_in_class(alloc, before, after, &locks.copy, class)? {
+    old: Methods,
+    locked: Methods,
+    copy: &[u32],
+    class: u32,
+) -> Result<Option<Lost>, OutOfMemory>
+    ensures { (t l : Table) → AreMethods old.entry.under.rows.now t old.entry → AreMethods locked.entry.under.rows.now l locked.entry → IfOk result (λ lost. tell.IsClassTold locked.entry.under.rows.now l copy.now old.entry.under.rows.now t class lost) }
+{
+    if !is_class(old.under.rows, class) {
+        return Ok(None);
+    }
+    let all = old.found_in(alloc, class)?;
+    first_lost(alloc, locked, copy, &all)
+}
+
+// The first such class before the end.
+fn lost_before(
+    alloc: Global,
+    old: Methods,
+    locked: Methods,
+    copy: &[u32],
+    end: u32,
+) -> Result<Option<Lost>, OutOfMemory>
+    ensures { (t l : Table) → AreMethods old.entry.under.rows.now t old.entry → AreMethods locked.entry.under.rows.now l locked.entry → IfOk result (λ lost. tell.AreTold locked.entry.under.rows.now l copy.now old.entry.under.rows.now t end lost) }
+{
+    for class in 0..end {
+        if let Some(lost) = lost_in_class(alloc, old, locked, copy, class)? {
             return Ok(Some(lost));
         }
     }
     Ok(None)
+}
+
+// Of all classes.
+fn lost_of_all(
+    alloc: Global,
+    old: Methods,
+    locked: Methods,
+    copy: &[u32],
+) -> Result<Kept, OutOfMemory>
+    ensures { (t l : Table) → AreMethods old.entry.under.rows.now t old.entry → AreMethods locked.entry.under.rows.now l locked.entry → IfOk result (λ kept. tell.IsTold old.entry.under.rows.now t locked.entry.under.rows.now l copy.now kept) }
+{
+    let Ok(end) = u32::try_from(old.under.rows.len()) else {
+        return Err(OutOfMemory);
+    };
+    match lost_before(alloc, old, locked, copy, end)? {
+        Some(lost) => Ok(Kept::Lost(lost)),
+        None => Ok(Kept::All),
+    }
+}
+
+// With the tables of the changed program.
+fn lost_under(alloc: Global, old: Methods, new: Tabled, copy: &[u32]) -> Result<Kept, OutOfMemory>
+    ensures { (t : Table) → AreMethods old.entry.under.rows.now t old.entry → IsProgram new.entry.rows.now → IsWellFounded new.entry.rows.now (entries new.entry.table.now) → ArePlaces new.entry.rows.now new.entry.places.now → IfOk result (λ kept. tell.IsTold old.entry.under.rows.now t new.entry.rows.now (entries new.entry.table.now) copy.now kept) }
+{
+    let after = Called::of(alloc, new)?;
+    lost_of_all(alloc, old, after.methods(new), copy)
+}
+
+// With the tables of both programs.
+fn lost_between(alloc: Global, old: Tabled, new: Tabled, copy: &[u32]) -> Result<Kept, OutOfMemory>
+    ensures { IsProgram old.entry.rows.now → IsProgram new.entry.rows.now → IsWellFounded old.entry.rows.now (entries old.entry.table.now) → IsWellFounded new.entry.rows.now (entries new.entry.table.now) → ArePlaces old.entry.rows.now old.entry.places.now → ArePlaces new.entry.rows.now new.entry.places.now → IfOk result (λ kept. tell.IsTold old.entry.rows.now (entries old.entry.table.now) new.entry.rows.now (entries new.entry.table.now) copy.now kept) }
+{
+    let before = Called::of(alloc, old)?;
+    lost_under(alloc, before.methods(old), new, copy)
+}
+
+/// Whether calls in the copies of classes find the copies of what they found, and the first class, and of it the first method, by old rows, where
+/// not. Where a call finds another method, that edge of the changed program comes after the old one, which is lost too.
+pub fn lost_dispatch(
+    alloc: Global,
+    old: Tabled,
+    new: Tabled,
+    copy: &[u32],
+) -> Result<Kept, OutOfMemory>
+    ensures { IsProgram old.entry.rows.now → IsProgram new.entry.rows.now → ArePlaces old.entry.rows.now old.entry.places.now → ArePlaces new.entry.rows.now new.entry.places.now → IfOk result (λ kept. tell.IsTold old.entry.rows.now (entries old.entry.table.now) new.entry.rows.now (entries new.entry.table.now) copy.now kept) }
+{
+    if !is_well_founded(alloc, old)? {
+        return Ok(Kept::Unknown);
+    }
+    if !is_well_founded(alloc, new)? {
+        return Ok(Kept::Unknown);
+    }
+    lost_between(alloc, old, new, copy)
 }

@@ -1,0 +1,3 @@
+pub mod Finding
+pub mod Losing
+pub mod Between

@@ -1,0 +1,141 @@
+-- In the rows of shaped units names in headers stand below types, and that of a superclass first.
+use Rattle.std.proofs.Common.{◌≡◌, ◌⊎◌, inl, inr, sym, ◌∙◌, ap, subst, arith, ℕ, suc, ◌+◌, ◌<◌, ◌≤◌, List, [], ◌∷◌, ◌++◌, length, length-append}
+use Rattle.std.specs.Prelude.{⊤}
+use Rattle.std.specs.List.{AllByRecursion}
+use Rattle.std.proofs.Math.ListN.{get_or-append}
+use Rattle.std.proofs.lemmas.Bool.{cases_lt}
+use Rattle.std.proofs.lemmas.List.{get_or-append-add, get_or_default, get_or_past}
+use Rattle.jr_tree.specs.declared.tree.Unit as declared_unit
+use Rattle.jr_tree.specs.Shape.{IsShaped}
+use Rattle.jr_rows.specs.declared.label.Label.{Label}
+use Rattle.jr_rows.specs.declared.label.Label.TheVariants as is
+use Rattle.jr_rows.specs.declared.label.NamePlace.TheVariants as place
+use Rattle.jr_rows.specs.declared.row.Row.{Row}
+use Rattle.jr_rows.specs.Forest.{Forest, none, more, size}
+use Rattle.jr_rows.specs.Rows.{Rows, rows_from, row, label, parent, program_rows}
+use Rattle.jr_rows.specs.Below.{IsTypeLabel, Under, Fits}
+use Rattle.jr_rows.proofs.Trees.{at_index, nothing, past, length_rows, units_forest}
+use Rattle.jr_rows.proofs.FittingStmts.{units_fit}
+use Rattle.jr_defs.specs.Supertypes.{IsSuperclassLabel}
+use Rattle.jr_plain.proofs.Headed.{headed_from_local}
+use Rattle.jr_rows.proofs.Locals.{each_program_is_local}
+use Rattle.jr_headed.specs.Heads.{ProgramsAreHeaded}
+use Rattle.jr_one_method.proofs.Ordered.{NamesNone, NamesFirst, Ordered, units_ordered}
+
+-- ---- the rows of a forest
+
+-- from the number on the rows are those of the forest, whose roots are below the row over
+abbrev HasRows : Rows → ℕ → ℕ → Forest → Type 0
+HasRows p over at none = ⊤
+HasRows p over at (more l x kids rest) = (label p at ≡ l) × (parent p at ≡ over) × HasRows p at (at + 1) kids × HasRows p over (at + 1 + size kids) rest
+
+-- from the number on the rows are these
+abbrev Holds : Rows → ℕ → Rows → Type 0
+Holds p at rs = (i : ℕ) → i < length rs → row p (at + i) ≡ at_index rs i
+
+holds_first : (p : Rows) (at : ℕ) (h : Row) (ks rs : Rows) → Holds p at (h ∷ ks ++ rs) → row p at ≡ h
+holds_first p at h ks rs w = let z : at ≡ at + 0 = omega arith in ap (row p) z ∙ w 0 (omega arith)
+
+holds_left : (p : Rows) (at : ℕ) (h : Row) (ks rs : Rows) → Holds p at (h ∷ ks ++ rs) → Holds p (at + 1) ks
+holds_left p at h ks rs w i l = let s = length-append ks rs in let z : at + 1 + i ≡ at + suc i = omega arith in
+    ap (row p) z ∙ w (suc i) (omega arith) ∙ get_or-append ks rs nothing i l
+
+holds_right : (p : Rows) (at : ℕ) (h : Row) (ks rs : Rows) → Holds p at (h ∷ ks ++ rs) → Holds p (at + 1 + length ks) rs
+holds_right p at h ks rs w i l = let s = length-append ks rs in let z : at + 1 + length ks + i ≡ at + suc (length ks + i) = omega arith in
+    ap (row p) z ∙ w (suc (length ks + i)) (omega arith) ∙ get_or-append-add ks rs i nothing
+
+has_rows : (p : Rows) (over before at : ℕ) (f : Forest) → Holds p at (rows_from over before at f) → HasRows p over at f
+has_rows p over before at none w = tt
+has_rows p over before at (more l x kids rest) w =
+    let below = rows_from at at (at + 1) kids in let behind = rows_from over at (at + 1 + size kids) rest in
+    let head : Row = record { label = l; name = x; parent = over; end = at + 1 + size kids; previous = before } in
+    let e = holds_first p at head below behind w in (
+      ap (λ r. r.label) e,
+      ap (λ r. r.parent) e,
+      has_rows p at at (at + 1) kids (holds_left p at head below behind w),
+      has_rows p over at (at + 1 + size kids) rest (subst (λ n. Holds p (at + 1 + n) behind) (length_rows at at (at + 1) kids) (holds_right p at head below behind w)),
+    )
+
+-- ---- the name of a superclass stands first
+
+-- below a label that is no type none stands
+none_below : (over : Label) (f : Forest) → (IsTypeLabel over → ⊥) → Fits over f → NamesNone f
+none_below over none no' fits = tt
+none_below over (more l x kids rest) no' fits = (λ s. no' (asked over l s fits.0), none_below over rest no' fits.3)
+  where
+    asked : (over l : Label) → IsSuperclassLabel l → Under over l → IsTypeLabel over
+    asked over (is.Name k place.Superclass b) s u = by over u
+      where
+        by : (over : Label) → Under over (is.Name k place.Superclass b) → IsTypeLabel over
+        by (is.Name j at c) u = absurd u
+        by (is.Import form) u = absurd u
+        by is.Package u = absurd u
+        by _ u = u.0
+    asked over _ s u = absurd s
+
+is_type_or_not : (l : Label) → IsTypeLabel l ⊎ (IsTypeLabel l → ⊥)
+is_type_or_not (is.Class m b) = inl tt
+is_type_or_not (is.Interface m b) = inl tt
+is_type_or_not _ = inr (λ h. h)
+
+names_first : (l : Label) (kids : Forest) → Fits l kids → (IsTypeLabel l → NamesFirst kids) → NamesFirst kids
+names_first l kids fits own = elim (is_type_or_not l) [ inl k ↦ own k | inr no' ↦ first kids (none_below l kids no' fits) ]
+  where
+    first : (f : Forest) → NamesNone f → NamesFirst f
+    first none h = tt
+    first (more l x kids rest) h = h.1
+
+module _ (p : Rows) where
+  -- the row, if it names a superclass, stands right behind the one over it
+  abbrev IsBehind : ℕ → Type 0
+  IsBehind n = IsSuperclassLabel (label p n) → n ≡ parent p n + 1
+
+  which : (n at mid : ℕ) → at ≤ n → (n ≡ at) ⊎ ((at + 1 ≤ n) × (n < mid)) ⊎ (mid ≤ n)
+  which n at mid ge = elim (split n at) [ inl q ↦ inl (omega arith) | inr q ↦ elim (below n mid) [ inl r ↦ inr (inl (omega arith, r)) | inr r ↦ inr (inr r) ] ]
+    where
+      split : (n at : ℕ) → (n ≤ at) ⊎ (at + 1 ≤ n)
+      split n at = grind arith
+
+      below : (n mid : ℕ) → (n < mid) ⊎ (mid ≤ n)
+      below n mid = grind arith
+
+  by_place : (at size_of_kids size_of_rest n : ℕ) → at ≤ n → n < at + (1 + size_of_kids + size_of_rest) → IsBehind at → ((n : ℕ) → at + 1 ≤ n → n < at + 1 + size_of_kids → IsBehind n)
+      → ((n : ℕ) → at + 1 + size_of_kids ≤ n → n < at + 1 + size_of_kids + size_of_rest → IsBehind n) → IsBehind n
+  by_place at k r n ge lt own inside behind = elim (which n at (at + 1 + k) ge) [
+    | inl q ↦ subst IsBehind (sym q) own
+    | inr w ↦ elim w [ inl q ↦ inside n q.0 q.1 | inr q ↦ behind n q (omega arith) ]
+  ]
+
+  mutual
+    -- below a row
+    kids_behind : (f : Forest) (over : ℕ) (lo : Label) → HasRows p over (over + 1) f → Fits lo f → Ordered f → NamesFirst f → (n : ℕ) → over + 1 ≤ n → n < over + 1 + size f → IsBehind n
+    kids_behind none over lo w fits o first n ge lt = absurd (omega arith)
+    kids_behind (more l x kids rest) over lo w fits o first n ge lt = by_place (over + 1) (size kids) (size rest) n ge lt (λ s. ap (λ m. m + 1) (sym w.1))
+        (λ n. kids_behind kids (over + 1) l w.2 fits.2 o.1 (names_first l kids fits.2 o.0) n) (λ n. rest_behind rest over (over + 1 + 1 + size kids) lo w.3 fits.3 o.2 first n)
+
+    -- behind such rows
+    rest_behind : (f : Forest) (over at : ℕ) (lo : Label) → HasRows p over at f → Fits lo f → Ordered f → NamesNone f → (n : ℕ) → at ≤ n → n < at + size f → IsBehind n
+    rest_behind none over at lo w fits o no' n ge lt = absurd (omega arith)
+    rest_behind (more l x kids rest) over at lo w fits o no' n ge lt = by_place at (size kids) (size rest) n ge lt (λ s. absurd (no'.0 (subst IsSuperclassLabel w.0 s)))
+        (λ n. kids_behind kids at l w.2 fits.2 o.1 (names_first l kids fits.2 o.0) n) (λ n. rest_behind rest over (at + 1 + size kids) lo w.3 fits.3 o.2 no'.1 n)
+
+-- ---- programs
+
+within : (p : Rows) (n : ℕ) → IsSuperclassLabel (label p n) → n < length p
+within p n s = elim (cases_lt n (length p)) [ inl lt ↦ lt | inr le ↦ absurd (subst IsSuperclassLabel (ap (λ r. r.label) (get_or_past p n (past n) le)) s) ]
+
+is_behind : (units : List declared_unit.Unit) → AllByRecursion IsShaped units → (n : ℕ) → IsSuperclassLabel (label (program_rows units) n) → n ≡ parent (program_rows units) n + 1
+is_behind units shaped n s =
+    let p = program_rows units in let all = units_forest units in
+    let w = has_rows p 0 0 0 (more is.Program [] all none) (λ i l. let z : 0 + i ≡ i = omega arith in ap (row p) z ∙ get_or_default p i (past i) nothing l) in
+    let long = length_rows 0 0 0 (more is.Program [] all none) in let lt = within p n s in
+    elim (first_or n) [
+      | inl e ↦ absurd (subst IsSuperclassLabel (ap (label p) e ∙ w.0) s)
+      | inr le ↦ rest_behind p all 0 1 is.Program w.2 (units_fit units shaped) (units_ordered units shaped) (none_below is.Program all (λ h. h) (units_fit units shaped)) n le (omega arith) s
+    ]
+  where
+    first_or : (n : ℕ) → (n ≡ 0) ⊎ (1 ≤ n)
+    first_or n = grind arith
+
+pub headed_programs : ProgramsAreHeaded
+headed_programs units shaped = (headed_from_local (program_rows units) (each_program_is_local units shaped), is_behind units shaped)
