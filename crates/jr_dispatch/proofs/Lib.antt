@@ -6,4 +6,6 @@ mod Searching
 mod Inheriting
 mod Serving
 mod Climbing
+mod Descending
+mod Ascending
 mod Edging

@@ -16,6 +16,10 @@ use Rattle.jr_plain.specs.Overriding.{is_above_method, is_reachable}
 abbrev pub may_override : Rows → ℕ → ℕ → Bool → Bool
 may_override p m k same = same && not (is_static p m) && not (is_private p k) && (not (is_in_interface p m) || is_public p k)
 
+-- a call of m finds m itself
+abbrev pub is_fixed : Rows → ℕ → Bool
+is_fixed p m = is_private p m || is_static p m
+
 -- m overrides k without another between
 abbrev pub overrides_directly : Rows → Table → ℕ → ℕ → Bool
 overrides_directly p t m k = is_reachable p m k && is_above_method p t m k

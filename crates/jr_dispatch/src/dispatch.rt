@@ -47,6 +47,13 @@ fn may_override(rows: &[Row], method: u32, other: u32, are_same: bool) -> bool
         && (!is_in_interface(rows, method) || is_public(rows, other))
 }
 
+// A private or static method: a call of it finds the method itself.
+fn is_fixed(rows: &[Row], method: u32) -> bool
+    ensures { result ≡ tell.is_fixed rows.now method }
+{
+    is_private(rows, method) || is_static(rows, method)
+}
+
 // The body of the type declares the method.
 fn is_declared_in(rows: &[Row], at: u32, method: u32) -> bool
     ensures { Decides result (DeclaredIn rows.now at method) }
@@ -488,7 +495,7 @@ impl<'a> Methods<'a> {
         if !self.has_method(class, method) {
             return Ok(None);
         }
-        if is_private(self.under.rows, method) || is_static(self.under.rows, method) {
+        if is_fixed(self.under.rows, method) {
             return Ok(Some(method));
         }
         let found = self.found_from(alloc, class, method)?;

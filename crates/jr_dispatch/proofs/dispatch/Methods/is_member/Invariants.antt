@@ -1,0 +1,12 @@
+use Rattle.std.proofs.Common.{◌≡◌, ◌-◌, take, length}
+use Rattle.jr_rows.specs.declared.label.Role.TheVariants as role
+use Rattle.jr_rows.specs.Rows.{role_at}
+use Rattle.jr_defs.specs.Referents.{Table}
+use Rattle.jr_defs.specs.Declarations.{IsClass}
+use Rattle.jr_dispatch.specs.Methods.{AreMethods}
+use Rattle.jr_dispatch.specs.Dispatching.{IsSeeking}
+use Rattle.jr_dispatch.proofs.dispatch.Methods.is_member.Given as goal
+
+abbrev pub invariant-loop-turn : goal.invariant-loop-turn
+invariant-loop-turn l = (t : Table) → AreMethods l.self.under.rows.now t l.self → IsClass l.self.under.rows.now l.class → role_at l.self.under.rows.now l.method ≡ role.Method
+    → IsSeeking l.self.under.rows.now t l.class l.method l.met (take (length l.order - l.turn) l.order)
