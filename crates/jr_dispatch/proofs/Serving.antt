@@ -1,7 +1,8 @@
 -- The first method in the text of a body that serves a call (JLS 15.12.4.4).
-use Rattle.std.proofs.Common.{◌≡◌, ◌⊎◌, refl, sym, ◌∙◌, ap, subst, inl, inr, ⊎_elim, arith, ℕ, zero, suc, ◌<◌, ◌≤◌, Bool, true, false, cond, not, ◌&&◌, List, [], ◌∷◌, length, Option, Some, None, nat_eq, Decides}
+use Rattle.std.proofs.Common.{◌≡◌, ◌⊎◌, refl, sym, ◌∙◌, ap, subst, inl, inr, ⊎_elim, arith, ℕ, zero, suc, ◌+◌, ◌<◌, ◌≤◌, Bool, true, false, cond, not, ◌&&◌, List, [], ◌∷◌, length, drop, get_or, Option, Some, None, nat_eq, Decides}
 use Rattle.std.proofs.lemmas.Bool.{false≢true}
 use Rattle.std.proofs.lemmas.Bool.Decides.{Decides-eqb}
+use Rattle.std.proofs.lemmas.List.{drop_more}
 use Rattle.std.proofs.lemmas.Option.{none-some, same_Some}
 use Rattle.jr_rows.specs.declared.label.Role.TheVariants as role
 use Rattle.jr_rows.specs.Rows.{Rows, role_at}
@@ -76,6 +77,11 @@ module _ (P : ℕ → Type 0) where
   pub last_more : (b : Bool) (x : ℕ) (before : Option ℕ) (rest : List ℕ) (found : Option ℕ) → Decides b (P x) → IsLastOf P (cond b (Some x) before) rest found → IsLastOf P before (x ∷ rest) found
   last_more true x before rest found d h = IsLastOf.yes (d.0 refl) h
   last_more false x before rest found d h = IsLastOf.no (λ is. false≢true (d.1 is)) h
+
+  pub last_step : (rows : List ℕ) (i d : ℕ) (before after : Option ℕ) (b : Bool) (found : Option ℕ) → i < length rows → Decides b (P (get_or rows i d)) → after ≡ cond b (Some (get_or rows i d)) before
+      → IsLastOf P after (drop (i + 1) rows) found → IsLastOf P before (drop i rows) found
+  last_step rows i d before after b found lt tells is h = subst (λ xs. IsLastOf P before xs found) (sym (drop_more rows i d lt))
+      (last_more b (get_or rows i d) before (drop (i + 1) rows) found tells (subst (λ o. IsLastOf P o (drop (i + 1) rows) found) is h))
 
 module _ (p : Rows) (t : Table) (headed : IsHeaded p) (c m b : ℕ) (method : role_at p m ≡ role.Method) where
   served_like : (f : ℕ) → Serves p t c m f → (f ≡ m) ⊎ SameMethods p t f m

@@ -11,8 +11,8 @@ returns-in-Some c = λ t h class m. let p = c.args.self.under.rows.now in
     serving_some p t h.supers.well.headed c.args.class c.args.called c.args.declaring m _ is _
     (subst (λ o. IsLastOf (Serves p t c.args.class c.args.called) None c.deref.result.now o) c.in-Some.is (c.in_ok-found.ensures t h class m (like_methods p t h.supers.well.headed c.args.class c.args.called c.args.declaring m _ is)))
 
-pub returns-in-None : goal.returns-in-None
-returns-in-None c = λ t h class m. let p = c.args.self.under.rows.now in
+pub returns : goal.returns
+returns c = λ t h class m. let p = c.args.self.under.rows.now in
     let is = c.deref.ensures.value ∙ c.in_ok-like.ensures p t h.callables h.signatures (ap is_callable m) in
     subst (λ o. IsFirstServing p t c.args.class c.args.called c.args.declaring o) (sym c.latest.ensures)
     (serving_none p t h.supers.well.headed c.args.class c.args.called c.args.declaring m _ is _ c.is_declared_in-is_own.ensures
