@@ -9,4 +9,4 @@ use Rattle.jr_dispatch.proofs.dispatch.Methods.found_from.Given as goal
 
 abbrev pub invariant-loop-turn : goal.invariant-loop-turn
 invariant-loop-turn l = (t : Table) → AreMethods l.self.under.rows.now t l.self → IsClass l.self.under.rows.now l.class → role_at l.self.under.rows.now l.called ≡ role.Method
-    → IsClimbing l.self.under.rows.now t l.class l.called l.declaring (l.turns - l.turn)
+    → IsClimbing l.self.under.rows.now t l.class l.called l.declaring (l.turns - l._turn)
