@@ -1,5 +1,5 @@
 // Overriding, and the method that a call finds (JLS 8.4.8.1, 15.12.4.4).
-ghost use Rattle.std.specs.Prelude.{◌≡◌, ◌++◌, if◌then◌else◌, ℕ, [], ◌∷◌, suc, None, Some, false, length, slice_get, Decides, IfOk, OnOk};
+ghost use Rattle.std.specs.Prelude.{◌≡◌, ◌+◌, ◌++◌, if◌then◌else◌, ℕ, [], ◌∷◌, suc, None, Some, false, length, slice_get, Decides, IfOk, OnOk};
 ghost use Rattle.jr_rows.specs.declared.label.Role.TheVariants as role;
 ghost use Rattle.jr_rows.specs.Rows.{role_at};
 ghost use Rattle.jr_defs.specs.Referents.{Table};
@@ -106,6 +106,13 @@ fn item_at(all: &[u32], at: usize) -> Option<u32>
         Some(item) => Some(*item),
         None => None,
     }
+}
+
+// One more than there are items.
+fn one_more(all: &[u32]) -> usize
+    ensures { result ≡ length all.now + 1 }
+{
+    all.len() + 1
 }
 
 fn is_last(last: Option<u32>, at: u32) -> bool
@@ -464,7 +471,7 @@ impl<'a> Methods<'a> {
     fn found_from(self, alloc: Global, class: u32, called: u32) -> Result<u32, OutOfMemory>
         ensures { (t : Table) → AreMethods self.entry.under.rows.now t self.entry → IsClass self.entry.under.rows.now class → role_at self.entry.under.rows.now called ≡ role.Method → IfOk result (λ method. FoundFrom self.entry.under.rows.now t class called class method) }
     {
-        let turns = self.supers.order().len().saturating_add(1);
+        let turns = one_more(self.supers.order());
         let mut declaring = class;
         for _turn in 0..turns {
             let first = self.first_serving(alloc, class, called, declaring)?;
