@@ -1,13 +1,12 @@
 -- The way up superclasses ends, and a call finds a method on it (JLS 15.12.4.4).
-use Rattle.std.proofs.Common.{◌≡◌, ◌⊎◌, refl, sym, ◌∙◌, subst, inl, inr, ⊎_elim, arith, ℕ, zero, suc, ◌+◌, ◌<◌, ◌≤◌, Bool, true, false, ◌||◌, List, [], ◌∷◌, length, Option, Some, None, Decides}
+use Rattle.std.proofs.Common.{◌≡◌, ◌⊎◌, sym, ◌∙◌, subst, inl, inr, ⊎_elim, arith, ℕ, zero, suc, ◌+◌, ◌≤◌, Bool, true, false, ◌||◌, List, [], ◌∷◌, length, Option, Some, None, Decides}
 use Rattle.std.proofs.lemmas.Bool.{false≢true, or_cases, or_left, or_right}
 use Rattle.std.proofs.lemmas.Option.{none-some}
 use Rattle.jr_rows.specs.Rows.{Rows}
 use Rattle.jr_defs.specs.Referents.{Table}
-use Rattle.jr_defs.specs.Declarations.{IsType, IsClass}
-use Rattle.jr_defs.specs.Modifiers.{IsPrivate, IsStatic}
+use Rattle.jr_defs.specs.Declarations.{IsType}
 use Rattle.jr_defs.specs.Supertypes.{SuperAt, Super, Superclass}
-use Rattle.jr_defs.specs.Overriding.{Has, ServesNot, ServesFirst, FoundFrom, Found, Dispatches}
+use Rattle.jr_defs.specs.Overriding.{Has, FoundFrom, Found}
 use Rattle.jr_plain.specs.Search.{has, Finds}
 use Rattle.jr_plain.specs.Headed.{IsHeaded}
 use Rattle.jr_plain.specs.Declarations.{is_class}
@@ -17,7 +16,7 @@ use Rattle.jr_plain.proofs.Declared.{type_tells, class_tells}
 use Rattle.jr_plain.proofs.Modified.{private_tells, static_tells}
 use Rattle.jr_plain.proofs.Supertyped.{superclass_source}
 use Rattle.jr_tables.specs.declared.chains.Entry.{Entry}
-use Rattle.jr_supers.specs.Direct.{supers_in, HasSupers}
+use Rattle.jr_supers.specs.Direct.{HasSupers}
 use Rattle.jr_supers.specs.Order.{IsSuperIn, AreBehind, IsOrderOf}
 use Rattle.jr_dispatch.specs.Dispatching.{IsFirstServing, EndsIn, IsFoundAs}
 use Rattle.jr_dispatch.proofs.Leading.{in_cons}

@@ -1,19 +1,19 @@
 -- What a class has of its supertypes, by types that are stamped from the last in the order back.
-use Rattle.std.proofs.Common.{◌≡◌, ◌⊎◌, refl, sym, ◌∙◌, ap, subst, inl, inr, ⊎_elim, arith, ℕ, zero, suc, ◌<◌, Bool, true, false, not, ◌&&◌, ◌||◌, Option, Some, None, List, [], ◌∷◌, ◌++◌, length, take, drop, get_or, nat_eq, Decides}
+use Rattle.std.proofs.Common.{◌≡◌, ◌⊎◌, refl, sym, ◌∙◌, ap, subst, inl, inr, ⊎_elim, arith, ℕ, zero, suc, ◌<◌, Bool, true, false, not, ◌&&◌, Some, None, List, [], ◌∷◌, ◌++◌, length, take, drop, get_or, nat_eq, Decides}
 use Rattle.std.proofs.lemmas.Bool.{false≢true}
 use Rattle.std.proofs.lemmas.Bool.Decides.{Decides-eqb}
 use Rattle.std.proofs.lemmas.Option.{none-some, same_Some}
 use Rattle.jr_rows.specs.declared.label.Role.{Role}
 use Rattle.jr_rows.specs.declared.label.Role.TheVariants as role
-use Rattle.jr_rows.specs.Rows.{Rows, label, role_at}
+use Rattle.jr_rows.specs.Rows.{Rows, role_at}
 use Rattle.jr_defs.specs.Referents.{Table}
-use Rattle.jr_defs.specs.Declarations.{IsType, IsClass, IsInterface, IsObject}
+use Rattle.jr_defs.specs.Declarations.{IsType, IsInterface, IsObject}
 use Rattle.jr_defs.specs.Enclosing.{DeclaredIn}
 use Rattle.jr_defs.specs.Supertypes.{Super}
 use Rattle.jr_defs.specs.Members.{CanInherit, Passes, Replaces, IsLeft, MemberOf, SameMethods}
 use Rattle.jr_plain.specs.Search.{has, Lists}
 use Rattle.jr_plain.specs.Headed.{IsHeaded}
-use Rattle.jr_plain.specs.Members.{passes, can_inherit}
+use Rattle.jr_plain.specs.Members.{passes}
 use Rattle.jr_plain.specs.Modifiers.{is_private}
 use Rattle.jr_plain.specs.Overriding.{is_reachable}
 use Rattle.jr_plain.proofs.Tests.{both, like}
@@ -26,7 +26,7 @@ use Rattle.jr_plain.proofs.Membership.{passes_tells, can_inherit_tells}
 use Rattle.jr_plain.proofs.Typed.{signature_tells}
 use Rattle.jr_tables.specs.declared.stamps.Stamps.{Stamps}
 use Rattle.jr_tables.specs.Stamps.{is_stamped, IsStamping, IsEmptied, AddsStamp}
-use Rattle.jr_supers.specs.Direct.{supers_in, HasSupers}
+use Rattle.jr_supers.specs.Direct.{HasSupers}
 use Rattle.jr_supers.specs.Order.{IsSuperIn, AreBehind, IsOrderOf}
 use Rattle.jr_tables.specs.declared.chains.Entry.{Entry}
 use Rattle.jr_tables.specs.Chains.{rows_under}

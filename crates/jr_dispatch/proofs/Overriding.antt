@@ -1,24 +1,20 @@
 -- A method overrides another where it may, and single steps lead there (JLS 8.4.8.1).
-use Rattle.std.proofs.Common.{◌≡◌, ◌⊎◌, refl, sym, ◌∙◌, ap, ap₂, subst, inl, inr, ⊎_elim, ℕ, Bool, true, false, ◌&&◌, ◌||◌, Option, Some, Decides}
+use Rattle.std.proofs.Common.{◌≡◌, ◌⊎◌, refl, sym, ◌∙◌, ap, ap₂, subst, inl, ⊎_elim, ℕ, Bool, true, false, ◌&&◌, ◌||◌, Decides}
 use Rattle.std.proofs.lemmas.Bool.{false≢true}
 use Rattle.std.proofs.lemmas.Option.{same_Some}
-use Rattle.jr_rows.specs.declared.label.Role.TheVariants as role
-use Rattle.jr_rows.specs.Rows.{Rows, role_at}
+use Rattle.jr_rows.specs.Rows.{Rows}
 use Rattle.jr_rows.specs.Tree.{IsTree}
 use Rattle.jr_defs.specs.Referents.{Table}
-use Rattle.jr_defs.specs.Enclosing.{DeclaredIn}
 use Rattle.jr_defs.specs.Modifiers.{InInterface, IsPublic, IsProtected}
 use Rattle.jr_defs.specs.Packages.{SamePackage}
 use Rattle.jr_defs.specs.Types.{Parameters, SameSignature}
 use Rattle.jr_defs.specs.Supertypes.{Above}
-use Rattle.jr_defs.specs.Members.{SameMethods}
 use Rattle.jr_defs.specs.Overriding.{IsAboveMethod, Overrides}
 use Rattle.jr_plain.specs.Search.{Reaches}
 use Rattle.jr_plain.specs.Headed.{IsHeaded}
 use Rattle.jr_plain.specs.Overriding.{is_above_method, is_reachable}
 use Rattle.jr_plain.specs.Modifiers.{is_public, is_protected}
 use Rattle.jr_plain.specs.Packages.{is_same_package}
-use Rattle.jr_plain.specs.Types.{parameters}
 use Rattle.jr_plain.proofs.Tests.{both, either, like, decide}
 use Rattle.jr_plain.proofs.Modified.{in_interface_tells, public_tells, protected_tells}
 use Rattle.jr_plain.proofs.Packaged.{same_package_tells}

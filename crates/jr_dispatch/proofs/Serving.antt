@@ -1,7 +1,6 @@
 -- The first method in the text of a body that serves a call (JLS 15.12.4.4).
-use Rattle.std.proofs.Common.{◌≡◌, ◌⊎◌, refl, sym, ◌∙◌, ap, subst, inl, inr, ⊎_elim, arith, ℕ, zero, suc, ◌+◌, ◌<◌, ◌≤◌, Bool, true, false, cond, not, ◌&&◌, List, [], ◌∷◌, length, drop, get_or, Option, Some, None, nat_eq, Decides}
+use Rattle.std.proofs.Common.{◌≡◌, ◌⊎◌, refl, sym, ◌∙◌, subst, inl, inr, ⊎_elim, arith, ℕ, zero, suc, ◌+◌, ◌<◌, ◌≤◌, Bool, true, false, cond, ◌&&◌, List, [], ◌∷◌, length, drop, get_or, Option, Some, None, Decides}
 use Rattle.std.proofs.lemmas.Bool.{false≢true}
-use Rattle.std.proofs.lemmas.Bool.Decides.{Decides-eqb}
 use Rattle.std.proofs.lemmas.List.{drop_more}
 use Rattle.std.proofs.lemmas.Option.{none-some, same_Some}
 use Rattle.jr_rows.specs.declared.label.Role.TheVariants as role
@@ -9,11 +8,10 @@ use Rattle.jr_rows.specs.Rows.{Rows, role_at}
 use Rattle.jr_defs.specs.Referents.{Table}
 use Rattle.jr_defs.specs.Declarations.{IsInterface}
 use Rattle.jr_defs.specs.Enclosing.{DeclaredIn}
-use Rattle.jr_defs.specs.Modifiers.{IsPublic}
 use Rattle.jr_defs.specs.Types.{SameSignature}
 use Rattle.jr_defs.specs.Supertypes.{Above}
 use Rattle.jr_defs.specs.Members.{SameMethods, MemberOf}
-use Rattle.jr_defs.specs.Overriding.{Overrides, Implements, Serves, ServesNot, ServesFirst}
+use Rattle.jr_defs.specs.Overriding.{Overrides, Implements, Serves, ServesFirst}
 use Rattle.jr_plain.specs.Search.{has, Lists}
 use Rattle.jr_plain.specs.Headed.{IsHeaded}
 use Rattle.jr_plain.specs.Declarations.{is_interface}

@@ -7,14 +7,12 @@ use Rattle.jr_defs.specs.Referents.{Table}
 use Rattle.jr_defs.specs.Declarations.{IsClass, IsInterface}
 use Rattle.jr_defs.specs.Enclosing.{DeclaredIn}
 use Rattle.jr_defs.specs.Modifiers.{IsPublic}
-use Rattle.jr_defs.specs.Types.{SameSignature}
 use Rattle.jr_defs.specs.Supertypes.{Super, Superclass, Above}
-use Rattle.jr_defs.specs.Members.{CanInherit, Passes, SameMethods}
+use Rattle.jr_defs.specs.Members.{Passes, SameMethods}
 use Rattle.jr_defs.specs.Overriding.{Has, ServesNot, ServesFirst, Dispatches}
 use Rattle.jr_plain.specs.Search.{has}
 use Rattle.jr_tables.specs.declared.stamps.Stamps.{Stamps}
 use Rattle.jr_tables.specs.Stamps.{is_stamped, IsStamping}
-use Rattle.jr_supers.specs.Order.{AreBehind}
 use Rattle.jr_members.specs.declared.declared.MemberKind.TheVariants as kind
 use Rattle.jr_members.specs.Held.{Holds}
 use Rattle.jr_members.specs.Keys.{falling, is_declared_by}

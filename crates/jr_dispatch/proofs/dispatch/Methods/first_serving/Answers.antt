@@ -1,4 +1,4 @@
-use Rattle.std.proofs.Common.{◌≡◌, sym, ◌∙◌, ap, subst, cond, Option, Some, None}
+use Rattle.std.proofs.Common.{sym, ◌∙◌, ap, subst, None}
 use Rattle.jr_supers.specs.Tabled.{is_callable}
 use Rattle.jr_defs.specs.Overriding.{Serves}
 use Rattle.jr_dispatch.specs.Dispatching.{IsLastOf, IsFirstServing}

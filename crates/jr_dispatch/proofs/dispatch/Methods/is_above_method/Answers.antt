@@ -1,5 +1,4 @@
-use Rattle.std.proofs.Common.{◌≡◌, sym, ◌∙◌, ap, true}
-use Rattle.jr_rows.specs.declared.label.Role.TheVariants as role
+use Rattle.std.proofs.Common.{sym, ◌∙◌, ap}
 use Rattle.jr_supers.specs.Tabled.{is_callable}
 use Rattle.jr_dispatch.proofs.Overridden.{above_refused, above_allowed}
 use Rattle.jr_dispatch.proofs.dispatch.Methods.is_above_method.Goals as goal

@@ -1,4 +1,4 @@
-use Rattle.std.proofs.Common.{◌≡◌, sym, arith, refl}
+use Rattle.std.proofs.Common.{arith, refl}
 use Rattle.jr_dispatch.proofs.Descending.{member_start, member_next, member_found, member_end}
 use Rattle.jr_dispatch.proofs.dispatch.Methods.is_member.Goals as goal
 

@@ -1,4 +1,4 @@
-use Rattle.std.proofs.Common.{subst, arith, sym, None}
+use Rattle.std.proofs.Common.{subst, arith, sym}
 use Rattle.std.proofs.lemmas.List.{drop_all}
 use Rattle.jr_defs.specs.Overriding.{Serves}
 use Rattle.jr_dispatch.specs.Dispatching.{IsLastOf}

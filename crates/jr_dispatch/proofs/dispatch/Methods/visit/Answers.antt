@@ -1,5 +1,4 @@
-use Rattle.std.proofs.Common.{sym, ◌∙◌, false, true}
-use Rattle.jr_plain.proofs.Tests.{decide}
+use Rattle.std.proofs.Common.{sym, ◌∙◌}
 use Rattle.std.proofs.lemmas.Bool.{false≢true}
 use Rattle.jr_dispatch.proofs.Inheriting.{visited_apart, visited_there, visited_closed, visited_replaced, visited_marked}
 use Rattle.jr_dispatch.proofs.dispatch.Methods.visit.Goals as goal
