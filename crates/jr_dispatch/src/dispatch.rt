@@ -1,5 +1,5 @@
 // Overriding, and the method that a call finds (JLS 8.4.8.1, 15.12.4.4).
-ghost use Rattle.std.specs.Prelude.{◌≡◌, ◌+◌, ◌++◌, if◌then◌else◌, ℕ, [], ◌∷◌, None, Some, false, length, slice_get, Decides, IfOk, OnOk};
+ghost use Rattle.std.specs.Prelude.{◌≡◌, ◌++◌, if◌then◌else◌, ℕ, [], ◌∷◌, suc, None, Some, false, length, slice_get, Decides, IfOk, OnOk};
 ghost use Rattle.jr_rows.specs.declared.label.Role.TheVariants as role;
 ghost use Rattle.jr_rows.specs.Rows.{role_at};
 ghost use Rattle.jr_defs.specs.Referents.{Table};
@@ -110,7 +110,7 @@ fn item_at(all: &[u32], at: usize) -> Option<u32>
 
 // One more than there are items.
 fn one_more(all: &[u32]) -> usize
-    ensures { result ≡ length all.now + 1 }
+    ensures { result ≡ suc (length all.now) }
 {
     all.len() + 1
 }
