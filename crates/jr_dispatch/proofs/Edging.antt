@@ -1,14 +1,10 @@
 -- The methods that a class has, and what calls of them find there.
-use Rattle.std.proofs.Common.{◌≡◌, ◌⊎◌, refl, sym, ◌∙◌, ap, subst, inl, inr, ⊎_elim, arith, ℕ, zero, suc, ◌<◌, Bool, true, false, List, [], ◌∷◌, ◌++◌, map, flat_map, length, append-nil, append_assoc, Option, Some, None, nat_eq, Decides}
-use Rattle.std.specs.List.Sorted.{IsPermutation, IsNonDecreasing, IsStrictlyIncreasing}
-use Rattle.std.proofs.lemmas.Bool.{false≢true}
-use Rattle.std.proofs.lemmas.Bool.Decides.{Decides-eqb}
+use Rattle.std.proofs.Common.{◌≡◌, ◌⊎◌, refl, sym, ◌∙◌, ap, subst, ⊎_elim, arith, ℕ, true, List, [], ◌∷◌, ◌++◌, map, flat_map, append-nil, append_assoc, Option, Some, None, nat_eq}
+use Rattle.std.specs.List.Sorted.{IsStrictlyIncreasing}
 use Rattle.std.proofs.lemmas.List.Sorted.{list_any-IsPermutation}
-use Rattle.jr_rows.specs.declared.label.Role.TheVariants as role
-use Rattle.jr_rows.specs.Rows.{Rows, role_at}
+use Rattle.jr_rows.specs.Rows.{Rows}
 use Rattle.jr_defs.specs.Referents.{Table}
 use Rattle.jr_defs.specs.Declarations.{IsClass}
-use Rattle.jr_defs.specs.Enclosing.{DeclaredIn}
 use Rattle.jr_defs.specs.Supertypes.{AtOrAbove}
 use Rattle.jr_defs.specs.Members.{MemberOf}
 use Rattle.jr_defs.specs.Overriding.{Has, Dispatches}
@@ -16,7 +12,7 @@ use Rattle.jr_plain.specs.Search.{has, Lists}
 use Rattle.jr_plain.proofs.Tests.{like, decide}
 use Rattle.jr_plain.proofs.Searches.{flat_of}
 use Rattle.jr_plain.proofs.Declared.{class_tells}
-use Rattle.jr_supers.specs.Supers.{once, ListsOnce}
+use Rattle.jr_supers.specs.Supers.{once, ListsOnce, SortsOnce}
 use Rattle.jr_supers.proofs.Listing.{once_has, once_is, once_increases}
 use Rattle.jr_members.specs.declared.declared.MemberKind.TheVariants as kind
 use Rattle.jr_members.specs.Held.{ObjectIsBare}
@@ -25,6 +21,13 @@ use Rattle.jr_dispatch.specs.declared.dispatch.Found as code
 use Rattle.jr_dispatch.specs.Dispatching.{declared_methods, edge_list, IsFoundAs, AddsFound, method_of, AreEdges, AreFoundIn}
 use Rattle.jr_dispatch.proofs.Leading.{head_in, rest_in}
 use Rattle.jr_dispatch.proofs.Having.{member_declared, at_then}
+
+-- one type more of a list is done
+pub flat_more : (f : ℕ → List ℕ) (all left more done new : List ℕ) (x : ℕ) → left ≡ x ∷ more → new ≡ done ++ f x → done ++ flat_map f left ≡ all → new ++ flat_map f more ≡ all
+flat_more f all left more done new x is e before = ap (λ xs. xs ++ flat_map f more) e ∙ append_assoc done (f x) (flat_map f more) ∙ ap (λ xs. done ++ flat_map f xs) (sym is) ∙ before
+
+pub flat_end : (f : ℕ → List ℕ) (all left done : List ℕ) → left ≡ [] → done ++ flat_map f left ≡ all → done ≡ all
+flat_end f all left done is before = sym (append-nil done) ∙ ap (λ xs. done ++ flat_map f xs) (sym is) ∙ before
 
 module _ (p : Rows) (t : Table) (c : ℕ) where
   -- ---- methods
@@ -35,15 +38,17 @@ module _ (p : Rows) (t : Table) (c : ℕ) where
         (λ h. let own = (type_listed p kind.Method h.0 m).0 h.2 in record { method = own.0; holder = h.0; above = h.1; member = MemberOf.declared own.1 })
         (λ h. let k = member_declared p t h.holder m h.member in (k.0, at_then p t bare c h.holder k.0 h.above k.1, (type_listed p kind.Method k.0 m).1 (h.method, k.2)))
 
-    pub methods_once : (overs all sorted out : List ℕ) → Lists overs (AtOrAbove p t c) → all ≡ flat_map (declared_methods p) overs → IsPermutation all sorted → IsNonDecreasing sorted → out ≡ once None sorted
-        → ListsOnce out (Has p t c)
-    methods_once overs all sorted out lists is moved rising same = subst (λ xs. ListsOnce xs (Has p t c)) (sym same) (record {
-      rises = once_increases sorted rising;
+    methods_once : (overs all out : List ℕ) → Lists overs (AtOrAbove p t c) → all ≡ flat_map (declared_methods p) overs → SortsOnce all out → ListsOnce out (Has p t c)
+    methods_once overs all out lists is s = subst (λ xs. ListsOnce xs (Has p t c)) (sym s.is) (record {
+      rises = once_increases s.sorted s.rising;
       has = λ m. (
-        (λ at. (methods_listed overs lists m).0 (ap (λ xs. has xs m) (sym is) ∙ list_any-IsPermutation (λ k. nat_eq k m) all sorted moved ∙ once_is sorted m at)),
-        (λ held. once_has sorted m (sym (list_any-IsPermutation (λ k. nat_eq k m) all sorted moved) ∙ ap (λ xs. has xs m) is ∙ (methods_listed overs lists m).1 held)),
+        (λ at. (methods_listed overs lists m).0 (ap (λ xs. has xs m) (sym is) ∙ list_any-IsPermutation (λ k. nat_eq k m) all s.sorted s.moved ∙ once_is s.sorted m at)),
+        (λ held. once_has s.sorted m (sym (list_any-IsPermutation (λ k. nat_eq k m) all s.sorted s.moved) ∙ ap (λ xs. has xs m) is ∙ (methods_listed overs lists m).1 held)),
       );
     })
+
+    pub methods_told : (overs given all passed out : List ℕ) → given ≡ overs → ListsOnce overs (AtOrAbove p t c) → all ≡ flat_map (declared_methods p) given → passed ≡ all → SortsOnce passed out → ListsOnce out (Has p t c)
+    methods_told overs given all passed out same lists is also s = methods_once overs passed out lists.has (also ∙ is ∙ ap (λ xs. flat_map (declared_methods p) xs) same) s
 
   -- ---- edges
 

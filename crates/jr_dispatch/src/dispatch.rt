@@ -1,5 +1,6 @@
 // Overriding, and the method that a call finds (JLS 8.4.8.1, 15.12.4.4).
 ghost use Rattle.std.specs.Prelude.{◌≡◌, ◌++◌, if◌then◌else◌, ℕ, [], ◌∷◌, suc, None, Some, false, length, slice_get, Decides, IfOk, OnOk};
+ghost use Rattle.std.specs.List.{flat_map};
 ghost use Rattle.jr_rows.specs.declared.label.Role.TheVariants as role;
 ghost use Rattle.jr_rows.specs.Rows.{role_at};
 ghost use Rattle.jr_defs.specs.Referents.{Table};
@@ -10,7 +11,7 @@ ghost use Rattle.jr_defs.specs.Overriding.{Has, Overrides, Implements, Serves, F
 ghost use Rattle.jr_plain.specs.Search.{Reaches};
 ghost use Rattle.jr_plain.specs.Overriding as plain;
 ghost use Rattle.jr_supers.specs.Signatures.{AreSignatures};
-ghost use Rattle.jr_supers.specs.Supers.{AreSupersOf, ListsOnce, once, is_last as is_last_of};
+ghost use Rattle.jr_supers.specs.Supers.{AreSupersOf, ListsOnce, SortsOnce, once, is_last as is_last_of};
 ghost use Rattle.jr_tables.specs.Stamps.{IsStamping};
 ghost use Rattle.jr_members.specs.Held.{ObjectIsBare};
 ghost use Rattle.jr_dispatch.specs.Methods.{AreMethods};
@@ -137,6 +138,37 @@ fn without_repeats(alloc: Global, all: &[u32]) -> Result<Vec<u32>, OutOfMemory>
         last = Some(*at);
     }
     Ok(out)
+}
+
+// The items in order, each once.
+fn sorted_once(alloc: Global, all: &mut [u32]) -> Result<Vec<u32>, OutOfMemory>
+    ensures { IfOk result (λ out. SortsOnce all.old out.items) }
+{
+    all.sort_unstable();
+    let out = without_repeats(alloc, all)?;
+    Ok(out)
+}
+
+// Puts what a call finds behind a list, if it finds a method.
+fn push_found(
+    all: &mut Vec<Found>,
+    class: u32,
+    method: u32,
+    found: Option<u32>,
+) -> Result<(), OutOfMemory>
+    ensures { OnOk result (all.new.items ≡ all.old.items ++ dispatching.edge_list class method found) }
+{
+    match found {
+        Some(found) => {
+            all.push(Found {
+                class,
+                method,
+                found,
+            })?;
+            Ok(())
+        }
+        None => Ok(()),
+    }
 }
 
 /// Rows under a table, with what calls read: supertypes, and the methods that bodies declare.
@@ -514,23 +546,28 @@ impl<'a> Methods<'a> {
         ensures { (t : Table) → AreMethods self.entry.under.rows.now t self.entry → OnOk result (all.new.items ≡ all.old.items ++ dispatching.declared_methods self.entry.under.rows.now at) }
     {
         let methods = self.declared.by_type(alloc, at)?;
-        for method in &methods {
-            all.push(*method)?;
-        }
+        all.extend_from_slice(&methods)?;
         Ok(())
+    }
+
+    // The methods that these types declare.
+    fn all_declared(self, alloc: Global, overs: &[u32]) -> Result<Vec<u32>, OutOfMemory>
+        ensures { (t : Table) → AreMethods self.entry.under.rows.now t self.entry → IfOk result (λ all. all.items ≡ flat_map (dispatching.declared_methods self.entry.under.rows.now) overs.now) }
+    {
+        let mut all = Vec::new(alloc);
+        for over in overs {
+            self.add_declared(alloc, &mut all, *over)?;
+        }
+        Ok(all)
     }
 
     /// The methods that a class has, as they rise, each once.
     pub fn methods_of(self, alloc: Global, class: u32) -> Result<Vec<u32>, OutOfMemory>
         ensures { (t : Table) → AreMethods self.entry.under.rows.now t self.entry → IfOk result (λ all. ListsOnce all.items (Has self.entry.under.rows.now t class)) }
     {
-        let mut all = Vec::new(alloc);
         let overs = self.supers.with_above(alloc, self.under.rows, class)?;
-        for over in &overs {
-            self.add_declared(alloc, &mut all, *over)?;
-        }
-        all.sort_unstable();
-        let out = without_repeats(alloc, &all)?;
+        let mut all = self.all_declared(alloc, &overs)?;
+        let out = sorted_once(alloc, &mut all)?;
         Ok(out)
     }
 
@@ -544,28 +581,33 @@ impl<'a> Methods<'a> {
     ) -> Result<(), OutOfMemory>
         ensures { (t : Table) → AreMethods self.entry.under.rows.now t self.entry → OnOk result (dispatching.AddsFound self.entry.under.rows.now t class method all.old.items all.new.items) }
     {
-        match self.dispatch(alloc, class, method)? {
-            Some(found) => {
-                all.push(Found {
-                    class,
-                    method,
-                    found,
-                })?;
-                Ok(())
-            }
-            None => Ok(()),
+        let found = self.dispatch(alloc, class, method)?;
+        push_found(all, class, method, found)?;
+        Ok(())
+    }
+
+    // What calls of these methods find in the class.
+    fn all_found(
+        self,
+        alloc: Global,
+        class: u32,
+        methods: &[u32],
+    ) -> Result<Vec<Found>, OutOfMemory>
+        ensures { (t : Table) → AreMethods self.entry.under.rows.now t self.entry → ListsOnce methods.now (Has self.entry.under.rows.now t class) → IfOk result (λ all. dispatching.AreFoundIn self.entry.under.rows.now t class all.items) }
+    {
+        let mut all = Vec::new(alloc);
+        for method in methods {
+            self.add_found(alloc, &mut all, class, *method)?;
         }
+        Ok(all)
     }
 
     /// What calls of the methods of a class find there, as the methods rise.
     pub fn found_in(self, alloc: Global, class: u32) -> Result<Vec<Found>, OutOfMemory>
         ensures { (t : Table) → AreMethods self.entry.under.rows.now t self.entry → IfOk result (λ all. dispatching.AreFoundIn self.entry.under.rows.now t class all.items) }
     {
-        let mut all = Vec::new(alloc);
         let methods = self.methods_of(alloc, class)?;
-        for method in &methods {
-            self.add_found(alloc, &mut all, class, *method)?;
-        }
+        let all = self.all_found(alloc, class, &methods)?;
         Ok(all)
     }
 }
