@@ -3,7 +3,8 @@
 ghost use Rattle.std.specs.Prelude.{◌≡◌, map, IfOk};
 ghost use Rattle.std.specs.List.{AllByRecursion};
 ghost use Rattle.jr_tree.specs.Shape.{IsShaped};
-ghost use Rattle.jr_engine.specs.Written.{IsLockedBy};
+ghost use Rattle.jr_headed.specs.Founded.{IsProgram};
+ghost use Rattle.jr_engine.specs.Written.{IsLockedBy, rows_of};
 
 use crate::asked::{Asked, project_of};
 use crate::fault::StepFault;
@@ -79,10 +80,11 @@ fn locked_rows(
 }
 
 // The program under its locks, if its rows are those that the change says.
-#[tactic(auto, using(crate::proofs::Stepping::locked_result))]
+#[tactic(auto, using(crate::proofs::Stepping::locked_result, crate::proofs::Stepping::locked_shaped))]
 fn locked_program(alloc: Global, asked: Asked, program: Program) -> Result<Locked, StepFault>
     requires { AllByRecursion IsShaped (map (λ u. u.unit) program.units) }
-    ensures { IfOk result (IsLockedBy asked.entry) }
+    ensures locked { IfOk result (IsLockedBy asked.entry) }
+    ensures shaped { IfOk result (λ locked. IsProgram (rows_of locked)) }
 {
     let index = boxed(alloc, Index::build(alloc, &program))?;
     let old = asked.old.index.rows();
@@ -95,7 +97,8 @@ fn locked_program(alloc: Global, asked: Asked, program: Program) -> Result<Locke
 
 /// The changed program under its locks.
 pub fn lock(alloc: Global, asked: Asked) -> Result<Locked, StepFault>
-    ensures { IfOk result (IsLockedBy asked.entry) }
+    ensures locked { IfOk result (IsLockedBy asked.entry) }
+    ensures shaped { IfOk result (λ locked. IsProgram (rows_of locked)) }
 {
     let units = asked.old.program.units.as_slice();
     let texts = changed_texts(alloc, units, asked.change)?;
