@@ -100,7 +100,8 @@ fn kept_between(
     kept_behind(alloc, before, rows, locks, copy)
 }
 
-// Calls find in each class the methods that they found there. Rows that are not well founded under their table are none of a program that compiles: what was to be written differs.
+// Calls find in each class the methods that they found there. Rows that are not well founded under their table are none of a program that
+// compiles, and nothing is told of their calls.
 fn keeps_calls(alloc: Global, asked: Asked, locked: &Locked) -> Result<(), StepFault>
     requires old { IsProgram (rows_in asked.old.now) }
     requires new { IsProgram (rows_of locked.now) }
