@@ -1,27 +1,35 @@
 -- What is known of a step by its parts, and of steps one after another.
-use Rattle.std.proofs.Common.{◌≡◌, ◌∙◌, ap, refl, true, None, List, [], ◌∷◌, Result, Ok, Err, IfOk, IsTrue, length, arith, sym, subst}
+use Rattle.std.proofs.Common.{◌≡◌, ◌∙◌, ap, refl, true, None, List, [], ◌∷◌, ℕ, Result, Ok, Err, IfOk, IsTrue, length, map, arith, sym, subst}
 use Rattle.std.specs.FinMap as files
 use Rattle.std.specs.List.{AllByRecursion}
 use Rattle.jr_base.specs.Files.{FileMap}
 use Rattle.jr_base.specs.Paths.{is_java}
 use Rattle.jr_base.specs.declared.request.Request.{Request}
+use Rattle.jr_tree.specs.Shape.{IsShaped}
 use Rattle.jr_defs.specs.Program.{rows_of}
+use Rattle.jr_defs.specs.declared.program.Program.{Program}
 use Rattle.jr_read.specs.Reading.{ReadsAs}
 use Rattle.jr_front.specs.Checking.{accepted}
+use Rattle.jr_front.proofs.Reading.{read_shaped}
 use Rattle.jr_front.specs.declared.workspace.Workspace.{Workspace}
 use Rattle.jr_engine.specs.Planning.{IsAccepted, PlannedAs}
 use Rattle.jr_engine.specs.Steps.{Opened, IsOpened, IsRead, IsHeld, IsAskedOf, IsRequested, LeftBy, IsStep, stays, leaves, AreSteps, none, more, IsFollowed, opened, opened_by, rows_in, table_in}
 use Rattle.jr_rows.specs.Rows.{Rows}
 use Rattle.jr_defs.specs.Referents.{entries}
+use Rattle.jr_defs.specs.declared.referent.Referent.{Referent}
 use Rattle.jr_index.specs.NodeRows.{unit_rows}
 use Rattle.jr_marks.specs.Places.{IsOrdered}
 use Rattle.jr_change.specs.declared.change.Change.{Change}
 use Rattle.jr_change.specs.declared.project.Locks.{Locks}
 use Rattle.jr_change.specs.declared.project.Project.{Project}
+use Rattle.jr_headed.specs.Founded.{IsProgram}
 use Rattle.jr_draft.specs.Asking.{table_of}
 use Rattle.jr_asked.specs.Requested.{IsAskedBy, keeps_all}
-use Rattle.jr_locks.specs.Changed.{IsChanged}
-use Rattle.jr_engine.specs.Written.{IsSpelledIn, IsLeftOf, IsAskedFor, IsLockedBy, rows_of as rows_under, locks_of}
+use Rattle.jr_locks.specs.Changed.{IsChanged, origins_by, copies_by}
+use Rattle.jr_edges.specs.Dispatched.{KeepsDispatch, IsTold}
+use Rattle.jr_edges.specs.declared.dispatched.Kept.{Kept}
+use Rattle.jr_edges.specs.declared.dispatched.Kept.TheVariants.{All}
+use Rattle.jr_engine.specs.Written.{IsSpelledIn, IsLeftOf, IsAskedFor, IsLockedBy, KeepsCallsIn, rows_of as rows_under, locks_of}
 use Rattle.jr_engine.specs.declared.asked.Asked.{Asked}
 use Rattle.jr_engine.specs.declared.fault.StepFault.{StepFault}
 use Rattle.jr_engine.specs.declared.left.Left.{Left}
@@ -37,6 +45,9 @@ held_so left is java = record { read = is; java = java }
 -- files that are held are those of their program
 pub held_opened : (left : Left) → IsHeld left → IsOpened (opened_by left)
 held_opened left is = record { program = left.program.program; reads = is.read.reads; are = is.read.are; java = is.java }
+
+pub held_shaped : (left : Left) → IsHeld left → IsProgram (rows_in left.program)
+held_shaped left is = record { units = map (λ u. u.unit) left.program.program.units; shaped = read_shaped left.files left.program.program is.read.reads; rows_are = is.read.are }
 
 pub accepted_so : (o : Opened) → IsOpened o → IsAccepted o.files
 accepted_so o is = record { checked = accepted is.reads; java = is.java }
@@ -63,23 +74,49 @@ pub stays_so : (w : Workspace) (request : Request) (change : Change) → IsAsked
 unfolding requested
 stays_so w request change a keeps = λ found is. stays (requested found w request change is a) keeps
 
-followed : (asked : Asked) (locked : Locked) (left : Left) → IsAskedFor asked → IsLockedBy asked locked → IsLeftOf locked left → IsFollowed asked.old.now asked.request.now left
-followed asked locked left a by is = record { ends = is.1; step = λ found read. leaves asked.change.now (requested found asked.old.now asked.request.now asked.change.now read a) by is.0 }
+followed : (asked : Asked) (locked : Locked) (left : Left) → IsAskedFor asked → IsLockedBy asked locked → KeepsCallsIn asked locked → IsLeftOf locked left → IsFollowed asked.old.now asked.request.now left
+followed asked locked left a by kept is = record { ends = is.1; step = λ found read. leaves asked.change.now (requested found asked.old.now asked.request.now asked.change.now read a) by.changed kept is.0 }
 
-pub followed_so : (asked : Asked) (locked : Locked) (result : Result Left StepFault) → IsAskedFor asked → IsLockedBy asked locked → IfOk result (λ left. IsLeftOf locked left)
+pub followed_so : (asked : Asked) (locked : Locked) (result : Result Left StepFault) → IsAskedFor asked → IsLockedBy asked locked → KeepsCallsIn asked locked → IfOk result (λ left. IsLeftOf locked left)
     → IfOk result (λ left. IsFollowed asked.old.now asked.request.now left)
-followed_so asked locked (Ok left) a by is = followed asked locked left a by is
-followed_so asked locked (Err why) a by is = tt
+followed_so asked locked (Ok left) a by kept is = followed asked locked left a by kept is
+followed_so asked locked (Err why) a by kept is = tt
 
 locked_so : (asked : Asked) (locked : Locked) (rows : Rows) (locks : Locks) → IsChanged (rows_in asked.old.now) (table_in asked.old.now) asked.change.now rows (entries locks.table.items)
-    → rows_under locked ≡ rows → locked.locks ≡ locks → IsLockedBy asked locked
-locked_so asked locked rows locks h same kept = subst (λ (r : Rows). IsChanged (rows_in asked.old.now) (table_in asked.old.now) asked.change.now r (locks_of locked)) (sym same)
-    (subst (λ (l : Locks). IsChanged (rows_in asked.old.now) (table_in asked.old.now) asked.change.now rows (entries l.table.items)) (sym kept) h)
+    → locks.copy.items ≡ copies_by (origins_by asked.change.now) (length (rows_in asked.old.now)) → rows_under locked ≡ rows → locked.locks ≡ locks → IsLockedBy asked locked
+locked_so asked locked rows locks h copies same kept = record {
+  changed = subst (λ (r : Rows). IsChanged (rows_in asked.old.now) (table_in asked.old.now) asked.change.now r (locks_of locked)) (sym same)
+      (subst (λ (l : Locks). IsChanged (rows_in asked.old.now) (table_in asked.old.now) asked.change.now rows (entries l.table.items)) (sym kept) h);
+  copies = ap (λ (l : Locks). l.copy.items) kept ∙ copies;
+}
 
 pub locked_result : (asked : Asked) (rows : Rows) (locks : Locks) (result : Result Locked StepFault) → IsChanged (rows_in asked.old.now) (table_in asked.old.now) asked.change.now rows (entries locks.table.items)
-    → IfOk result (λ locked. locked.program.index.value ≡ rows) → IfOk result (λ locked. locked.locks ≡ locks) → IfOk result (IsLockedBy asked)
-locked_result asked rows locks (Ok locked) h same kept = locked_so asked locked rows locks h same kept
-locked_result asked rows locks (Err why) h same kept = tt
+    → locks.copy.items ≡ copies_by (origins_by asked.change.now) (length (rows_in asked.old.now)) → IfOk result (λ locked. locked.program.index.value ≡ rows)
+    → IfOk result (λ locked. locked.locks ≡ locks) → IfOk result (IsLockedBy asked)
+locked_result asked rows locks (Ok locked) h copies same kept = locked_so asked locked rows locks h copies same kept
+locked_result asked rows locks (Err why) h copies same kept = tt
+
+pub locked_shaped : (program : Program) (rows : Rows) (result : Result Locked StepFault) → AllByRecursion IsShaped (map (λ u. u.unit) program.units) → rows ≡ rows_of program
+    → IfOk result (λ locked. locked.program.index.value ≡ rows) → IfOk result (λ locked. IsProgram (rows_under locked))
+locked_shaped program rows (Ok locked) shaped are same = record { units = map (λ u. u.unit) program.units; shaped = shaped; rows_are = same ∙ are }
+locked_shaped program rows (Err why) shaped are same = tt
+
+-- ---- what calls find
+
+-- what is told of the calls of rows, tables and copies is told of the old and the changed program, whose rows, tables and copies they are
+pub kept_so : (asked : Asked) (locked : Locked) (p q : Rows) (t l : List Referent) (copy : List ℕ) (kept : Kept) → p ≡ rows_in asked.old.now → t ≡ asked.old.now.bound.value.table.items → q ≡ rows_under locked
+    → l ≡ locked.locks.table.items → copy ≡ locked.locks.copy.items → IsLockedBy asked locked → IsProgram (rows_in asked.old.now) → IsProgram (rows_under locked)
+    → (IsProgram p → IsProgram q → IsTold p (entries t) q (entries l) copy kept) → kept ≡ All → KeepsCallsIn asked locked
+kept_so asked locked p q t l copy kept rows table new locks copies is old_is new_is told all =
+    let copied : List ℕ = copies_by (origins_by asked.change.now) (length (rows_in asked.old.now)) in
+    let first : IsTold p (entries t) q (entries l) copy kept = told (subst (λ (r : Rows). IsProgram r) (sym rows) old_is) (subst (λ (r : Rows). IsProgram r) (sym new) new_is) in
+    let second : KeepsDispatch p (entries t) q (entries l) copy = subst (λ (k : Kept). IsTold p (entries t) q (entries l) copy k) all first in
+    let third : KeepsDispatch p (entries t) q (entries l) copied = subst (λ (c : List ℕ). KeepsDispatch p (entries t) q (entries l) c) (copies ∙ is.copies) second in
+    let fourth : KeepsDispatch p (entries t) q (locks_of locked) copied = subst (λ (s : List Referent). KeepsDispatch p (entries t) q (entries s) copied) locks third in
+    let fifth : KeepsDispatch p (entries t) (rows_under locked) (locks_of locked) copied = subst (λ (r : Rows). KeepsDispatch p (entries t) r (locks_of locked) copied) new fourth in
+    let sixth : KeepsDispatch p (table_in asked.old.now) (rows_under locked) (locks_of locked) copied =
+    subst (λ (s : List Referent). KeepsDispatch p (entries s) (rows_under locked) (locks_of locked) copied) table fifth in
+    subst (λ (r : Rows). KeepsDispatch r (table_in asked.old.now) (rows_under locked) (locks_of locked) copied) rows sixth
 
 -- ---- steps one after another
 

@@ -16,7 +16,8 @@ use Rattle.jr_change.specs.declared.change.Change.{Change}
 use Rattle.jr_change.specs.declared.project.Project.{Project}
 use Rattle.jr_draft.specs.Asking.{table_of}
 use Rattle.jr_asked.specs.Requested.{IsAskedBy, keeps_all}
-use Rattle.jr_locks.specs.Changed.{IsChanged}
+use Rattle.jr_locks.specs.Changed.{IsChanged, origins_by, copies_by}
+use Rattle.jr_edges.specs.Dispatched.{KeepsDispatch}
 use Rattle.jr_runs.specs.Respelled.{IsRespelled}
 use Rattle.jr_read.specs.Reading.{ReadsAs}
 use Rattle.jr_front.specs.declared.workspace.Workspace.{Workspace}
@@ -58,11 +59,15 @@ pub record IsRequested (o : Opened) (request : Request) (change : Change) : Type
   pub project : IsProjectOf o old
   pub asked : IsAskedBy old request (Ok change)
 
+-- a call finds in each class, where it still stands, the method that it found there (JLS 15.12.4.4)
+abbrev pub KeepsCalls : Opened → Change → Rows → Table → Type 0
+KeepsCalls old change rows locks = KeepsDispatch old.rows old.table rows locks (copies_by (origins_by change) (length old.rows))
+
 -- What a request leaves: the files as they are, where the change for which it asks keeps all units, or those of a changed program in which each row that comes from
--- an old one must refer to what that referred to, where it stands now.
+-- an old one must refer to what that referred to, where it stands now, and calls find what they found.
 pub data IsStep (old : Opened) (request : Request) : Opened → Type 0 where
   stays : {change : Change} (asked : IsRequested old request change) → keeps_all asked.project.program.units change.units.items ≡ true → IsStep old request old
-  leaves : {rows : Rows} {locks : Table} {left : Opened} (change : Change) → IsRequested old request change → IsChanged old.rows old.table change rows locks → IsWritten rows locks left
+  leaves : {rows : Rows} {locks : Table} {left : Opened} (change : Change) → IsRequested old request change → IsChanged old.rows old.table change rows locks → KeepsCalls old change rows locks → IsWritten rows locks left
       → IsStep old request left
 
 -- a step a request, each from what the one before has left

@@ -1,9 +1,11 @@
 -- A changed program under its locks with its spellings, as the code holds it.
+use Rattle.std.specs.Prelude.{◌≡◌, length}
 use Rattle.jr_front.specs.declared.workspace.Workspace.{Workspace}
 use Rattle.jr_rows.specs.Rows.{Rows}
 use Rattle.jr_defs.specs.Referents.{Table, entries}
 use Rattle.jr_runs.specs.Respelled.{IsRespelled}
-use Rattle.jr_locks.specs.Changed.{IsChanged}
+use Rattle.jr_locks.specs.Changed.{IsChanged, origins_by, copies_by}
+use Rattle.jr_edges.specs.Dispatched.{KeepsDispatch}
 use Rattle.jr_engine.specs.Steps.{IsWritten, IsHeld, IsAskedOf, rows_in, table_in, opened_by}
 use Rattle.jr_engine.specs.declared.asked.Asked.{Asked}
 use Rattle.jr_engine.specs.declared.left.Left.{Left}
@@ -28,6 +30,11 @@ IsLeftOf locked left = IsWritten (rows_of locked) (locks_of locked) (opened_by l
 abbrev pub IsAskedFor : Asked → Type 0
 IsAskedFor a = IsAskedOf a.old.now a.request.now a.change.now
 
--- the changed program comes from the old one by the change, with the locks that follow
-abbrev pub IsLockedBy : Asked → Locked → Type 0
-IsLockedBy a locked = IsChanged (rows_in a.old.now) (table_in a.old.now) a.change.now (rows_of locked) (locks_of locked)
+-- the changed program comes from the old one by the change, with the locks that follow and the first copies of old rows
+pub record IsLockedBy (a : Asked) (locked : Locked) : Type 0 where
+  pub changed : IsChanged (rows_in a.old.now) (table_in a.old.now) a.change.now (rows_of locked) (locks_of locked)
+  pub copies : locked.locks.copy.items ≡ copies_by (origins_by a.change.now) (length (rows_in a.old.now))
+
+-- calls find in the changed program what they found in the old one
+abbrev pub KeepsCallsIn : Asked → Locked → Type 0
+KeepsCallsIn a locked = KeepsDispatch (rows_in a.old.now) (table_in a.old.now) (rows_of locked) (locks_of locked) (copies_by (origins_by a.change.now) (length (rows_in a.old.now)))

@@ -1,9 +1,11 @@
 // The changed program under its locks.
 
-ghost use Rattle.std.specs.Prelude.{◌≡◌, map, IfOk};
+ghost use Rattle.std.specs.Prelude.{◌≡◌, map, Ok, IfOk};
 ghost use Rattle.std.specs.List.{AllByRecursion};
 ghost use Rattle.jr_tree.specs.Shape.{IsShaped};
-ghost use Rattle.jr_engine.specs.Written.{IsLockedBy};
+ghost use Rattle.jr_rows.specs.Rows.{program_rows};
+ghost use Rattle.jr_headed.specs.Founded.{IsProgram};
+ghost use Rattle.jr_engine.specs.Written.{IsLockedBy, rows_of};
 
 use crate::asked::{Asked, project_of};
 use crate::fault::StepFault;
@@ -30,9 +32,22 @@ pub struct Locked {
     pub locks: Locks,
 }
 
-// A value in a box.
-fn boxed<T: Drop>(alloc: Global, made: Result<T, OutOfMemory>) -> Result<Box<T>, OutOfMemory> {
-    Ok(Box::new(alloc, made?)?)
+// What was made, in a box.
+fn boxed<T: Drop>(alloc: Global, made: Result<T, OutOfMemory>) -> Result<Box<T>, OutOfMemory>
+    ensures { IfOk result (λ all. made ≡ Ok all.value) }
+{
+    match made {
+        Ok(all) => Ok(Box::new(alloc, all)?),
+        Err(fault) => Err(fault),
+    }
+}
+
+// The rows of a program whose units are shaped.
+fn index_of(alloc: Global, program: &Program) -> Result<Box<Index>, OutOfMemory>
+    requires { AllByRecursion IsShaped (map (λ u. u.unit) program.now.units) }
+    ensures { IfOk result (λ index. index.value ≡ program_rows (map (λ u. u.unit) program.now.units)) }
+{
+    boxed(alloc, Index::build(alloc, program))
 }
 
 // What the rows are under their locks. There is no answer where a type stands above itself under them.
@@ -82,9 +97,10 @@ fn locked_rows(
 #[tactic(auto, using(crate::proofs::Stepping::locked_result))]
 fn locked_program(alloc: Global, asked: Asked, program: Program) -> Result<Locked, StepFault>
     requires { AllByRecursion IsShaped (map (λ u. u.unit) program.units) }
-    ensures { IfOk result (IsLockedBy asked.entry) }
+    ensures locked { IfOk result (IsLockedBy asked.entry) }
+    ensures shaped { IfOk result (λ locked. IsProgram (rows_of locked)) }
 {
-    let index = boxed(alloc, Index::build(alloc, &program))?;
+    let index = index_of(alloc, &program)?;
     let old = asked.old.index.rows();
     let table = &asked.old.bound.table;
     match locks(alloc, old, table, asked.change, index.rows())? {
@@ -95,7 +111,8 @@ fn locked_program(alloc: Global, asked: Asked, program: Program) -> Result<Locke
 
 /// The changed program under its locks.
 pub fn lock(alloc: Global, asked: Asked) -> Result<Locked, StepFault>
-    ensures { IfOk result (IsLockedBy asked.entry) }
+    ensures locked { IfOk result (IsLockedBy asked.entry) }
+    ensures shaped { IfOk result (λ locked. IsProgram (rows_of locked)) }
 {
     let units = asked.old.program.units.as_slice();
     let texts = changed_texts(alloc, units, asked.change)?;

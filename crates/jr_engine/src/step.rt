@@ -3,8 +3,9 @@
 ghost use Rattle.std.specs.Prelude.{IfOk, IfErr, Err};
 ghost use Rattle.jr_base.specs.Files.{FileMap};
 ghost use Rattle.jr_front.specs.Checking.{CheckedAs};
+ghost use Rattle.jr_headed.specs.Founded.{IsProgram};
 ghost use Rattle.jr_engine.specs.Planning.{RefusedAs};
-ghost use Rattle.jr_engine.specs.Steps.{LeftBy, IsFollowed, IsAskedOf};
+ghost use Rattle.jr_engine.specs.Steps.{LeftBy, IsFollowed, IsAskedOf, rows_in};
 ghost use Rattle.jr_engine.specs.Written.{IsAskedFor};
 
 use crate::asked::{Asked, project_of};
@@ -25,7 +26,8 @@ use std::alloc::Global;
 
 // What a change leaves.
 fn followed(alloc: Global, asked: Asked) -> Result<Left, StepFault>
-    requires { IsAskedFor asked }
+    requires shaped { IsProgram (rows_in asked.old.now) }
+    requires asked { IsAskedFor asked }
     ensures { IfOk result (λ left. IsFollowed asked.entry.old.now asked.entry.request.now left) }
 {
     let locked = lock(alloc, asked)?;
@@ -145,7 +147,8 @@ fn left_by(
     change: &Change,
     request: u32,
 ) -> Result<Option<Left>, Refused>
-    requires { IsAskedOf old.now asked.now change.now }
+    requires shaped { IsProgram (rows_in old.now) }
+    requires asked { IsAskedOf old.now asked.now change.now }
     ensures ok { IfOk result (LeftBy old.now asked.now) }
     ensures err { IfErr result (λ refused. (found : FileMap) → RefusedAs found refused.fault) }
 {
@@ -189,6 +192,7 @@ pub fn left_behind(
     asked: &Request,
     request: u32,
 ) -> Result<Option<Left>, Refused>
+    requires { IsProgram (rows_in old.now) }
     ensures ok { IfOk result (LeftBy old.now asked.now) }
     ensures err { IfErr result (λ refused. (found : FileMap) → RefusedAs found refused.fault) }
 {
