@@ -1,4 +1,6 @@
 // Static imports of what is renamed (JLS 7.5.3).
+ghost use Rattle.std.specs.Prelude.{OnOk};
+ghost use Rattle.jr_names.specs.Renaming.{AddsSome};
 
 use jr_base::OutOfMemory;
 use jr_lookup::import_kind;
@@ -61,13 +63,16 @@ fn are_all_in(some: &[u32], others: &[u32]) -> bool {
 }
 
 /// Adds the static imports of the name of a declaration that bring nothing but these.
+#[tactic(auto, using(crate::proofs::Named::adds_none, crate::proofs::Named::adds_one))]
 pub fn add_imports(
     alloc: Global,
     world: &World,
     all: &mut Vec<u32>,
     declared: u32,
     family: &[u32],
-) -> Result<(), OutOfMemory> {
+) -> Result<(), OutOfMemory>
+    ensures { OnOk result (AddsSome all.old.items all.new.items) }
+{
     let Ok(count) = u32::try_from(world.rows().len()) else {
         return Err(OutOfMemory);
     };
