@@ -1,7 +1,8 @@
 -- Paths by what stands before their end.
-use Rattle.std.proofs.Common.{◌≡◌, ◌≢◌, sym, ◌∙◌, ap, ℕ, List, [], ◌∷◌, ◌++◌, Option, Some, None, append_assoc, IfSome, IsNone, MatchOption, Bor}
-use Rattle.std.specs.Prelude.{codes}
-use Rattle.std.proofs.lemmas.Option.{none-some}
+use Rattle.std.proofs.Common.{◌≡◌, ◌≢◌, sym, ◌∙◌, ap, subst, ℕ, List, [], ◌∷◌, ◌++◌, Option, Some, None, append_assoc, nat_eq, length, ◌⊎◌, inl, inr, ◌↔◌, Bool, true, false, IsTrue, Bor}
+use Rattle.std.specs.Prelude.{codes, IfSome, IsNone, MatchOption}
+use Rattle.std.proofs.lemmas.Bool.{false≢true, true≢false}
+use Rattle.std.proofs.lemmas.List.{append_cancel_right}
 use Rattle.jr_names.specs.Renaming.{IsFolder, IsFileOf}
 
 -- ---- what stands before a tail
@@ -12,9 +13,33 @@ stripped path tail (Some x) h = h
 
 pub not_stripped : (path tail : List ℕ) (r : Option (Bor (List ℕ))) → MatchOption r ((front : List ℕ) → path ≢ front ++ tail) (λ x. path ≡ x.now ++ tail) → IsNone r → (front : List ℕ) → path ≡ front ++ tail → ⊥
 not_stripped path tail None h none front is = h front is
-not_stripped path tail (Some x) h none front is = absurd cc
+not_stripped path tail (Some x) h none front is = true≢false none
+
+-- ---- folders
+
+pub tells_folder : (folder : List ℕ) (front : List ℕ) (b : Bool) → (b ≡ true → folder ≡ front ++ 47 ∷ []) × ((front : List ℕ) → folder ≡ front ++ 47 ∷ [] → b ≡ true) → (folder ≡ [] → ⊥) → IsTrue b ↔ IsFolder folder
+tells_folder folder front b tells some = ((λ is. inr (front , tells.0 is)) , (λ h. elim h [ inl none ↦ absurd (some none) | inr ends ↦ tells.1 ends.0 ends.1 ]))
 
 -- ---- files of types
 
+-- the path ends in the name of a type and the ending of a source
+abbrev pub ends_so : (folder type : List ℕ) → List ℕ
+ends_so folder type = (folder ++ type) ++ codes ".java"
+
 pub file_of : (path stem folder type : List ℕ) → path ≡ stem ++ codes ".java" → stem ≡ folder ++ type → IsFolder folder → IsFileOf path folder type
 file_of path stem folder type is also whole = record { path_is = is ∙ ap (λ xs. xs ++ codes ".java") also ∙ append_assoc folder type (codes ".java"); whole = whole }
+
+stem_of : (path stem folder type : List ℕ) → path ≡ stem ++ codes ".java" → IsFileOf path folder type → stem ≡ folder ++ type
+stem_of path stem folder type is h = append_cancel_right stem (folder ++ type) (codes ".java") (sym is ∙ h.path_is ∙ sym (append_assoc folder type (codes ".java")))
+
+pub no_source : (path type : List ℕ) → ((front : List ℕ) → path ≡ front ++ codes ".java" → ⊥) → (folder : List ℕ) → IsFileOf path folder type → ⊥
+no_source path type none folder h = none (folder ++ type) (h.path_is ∙ sym (append_assoc folder type (codes ".java")))
+
+pub no_name : (path stem type : List ℕ) → path ≡ stem ++ codes ".java" → ((front : List ℕ) → stem ≡ front ++ type → ⊥) → (folder : List ℕ) → IsFileOf path folder type → ⊥
+no_name path stem type is none folder h = none folder (stem_of path stem folder type is h)
+
+pub no_folder : (path stem front type : List ℕ) → path ≡ stem ++ codes ".java" → stem ≡ front ++ type → (IsFolder front → ⊥) → (folder : List ℕ) → IsFileOf path folder type → ⊥
+no_folder path stem front type is also none folder h = none (subst IsFolder (append_cancel_right folder front type (sym (stem_of path stem folder type is h) ∙ also)) h.whole)
+
+pub some_there : (xs : List ℕ) (b : Bool) → b ≡ nat_eq (length xs) 0 → b ≡ false → xs ≡ [] → ⊥
+some_there xs b is other none = false≢true (sym other ∙ is ∙ ap (λ ys. nat_eq (length ys) 0) none)
