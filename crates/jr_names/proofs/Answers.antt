@@ -12,10 +12,11 @@ use Rattle.jr_change.specs.declared.change.Naming.{Naming}
 use Rattle.jr_change.specs.declared.project.Project.{Project}
 use Rattle.jr_change.specs.declared.reason.ChangeFault.{ChangeFault}
 use Rattle.jr_change.specs.declared.reason.ChangeFault.TheVariants as fault
+use Rattle.jr_change.specs.declared.reason.Reason.{Reason}
 use Rattle.jr_change.specs.declared.reason.Reason.TheVariants as reason
 use Rattle.jr_draft.specs.Asking.{asked}
 use Rattle.jr_draft.specs.Drafting.{IsFinished, unchanged, with_naming}
-use Rattle.jr_names.specs.Renaming.{IsFamilyOf, IsNamedWith, IsPathWith, IsRenamed, IsNewName, IsNewlyNamed, IsNamed, IsAskedFor, IsRenameAnswer, reaches_prelude, renamed}
+use Rattle.jr_names.specs.Renaming.{IsFamilyOf, IsNamedWith, IsPathWith, IsRenamed, IsNewName, IsNewlyNamed, IsRenamable, IsNamed, IsAskedFor, IsRenameAnswer, reaches_prelude, renamed}
 
 pub refused_so : (old : Project) (file : List ℕ) (at : ℕ) (to : List ℕ) (why : ChangeFault) → Err why ≡ asked old file at → IsRenameAnswer old file at to (Err why)
 refused_so old file at to why h = IsRenameAnswer.refused (sym h)
@@ -32,18 +33,23 @@ module _ (m : Marks) (found : Option ℕ) (to : List ℕ) where
   together_so family answer is made = IsAskedFor.together is made
 
 module _ (m : Marks) (family to : List ℕ) where
-  pub reaches_so : (found : Option ℕ) (b : Bool) → b ≡ true → b ≡ reaches_prelude m family → IsNamed m found family to (Err (fault.Bad reason.ReachesPrelude))
-  reaches_so found b is h = IsNamed.reaches (sym h ∙ is)
+  pub reaches_so : (found : Option ℕ) (b : Bool) → b ≡ true → b ≡ reaches_prelude m family → IsRenamable m found family to (Err reason.ReachesPrelude)
+  reaches_so found b is h = IsRenamable.reaches (sym h ∙ is)
 
-  pub bad_name_so : (found : Option ℕ) (b c : Bool) → b ≡ false → b ≡ reaches_prelude m family → c ≡ false → (IsTrue c ↔ IsIdentifier to) → IsNamed m found family to (Err (fault.Bad reason.BadName))
-  bad_name_so found b c is h fails tells = IsNamed.bad_name (sym h ∙ is) (λ named. false≢true (sym fails ∙ tells.1 named))
+  pub bad_name_so : (found : Option ℕ) (b c : Bool) → b ≡ false → b ≡ reaches_prelude m family → c ≡ false → (IsTrue c ↔ IsIdentifier to) → IsRenamable m found family to (Err reason.BadName)
+  bad_name_so found b c is h fails tells = IsRenamable.bad_name (sym h ∙ is) (λ named. false≢true (sym fails ∙ tells.1 named))
 
-  pub nothing_so : (b c : Bool) → b ≡ false → b ≡ reaches_prelude m family → c ≡ true → (IsTrue c ↔ IsIdentifier to) → IsNamed m None family to (Err (fault.Bad reason.WrongKind))
-  nothing_so b c is h holds tells = IsNamed.nothing (sym h ∙ is) (tells.0 holds) refl
+  pub nothing_so : (b c : Bool) → b ≡ false → b ≡ reaches_prelude m family → c ≡ true → (IsTrue c ↔ IsIdentifier to) → IsRenamable m None family to (Err reason.WrongKind)
+  nothing_so b c is h holds tells = IsRenamable.nothing (sym h ∙ is) (tells.0 holds) refl
 
-  pub named_so : (d : ℕ) (b c : Bool) (answer : Result Change ChangeFault) → b ≡ false → b ≡ reaches_prelude m family → c ≡ true → (IsTrue c ↔ IsIdentifier to) → IsNewlyNamed m d family to answer
-      → IsNamed m (Some d) family to answer
-  named_so d b c answer is h holds tells made = IsNamed.named (sym h ∙ is) (tells.0 holds) refl made
+  pub able_so : (d : ℕ) (b c : Bool) → b ≡ false → b ≡ reaches_prelude m family → c ≡ true → (IsTrue c ↔ IsIdentifier to) → IsRenamable m (Some d) family to (Ok d)
+  able_so d b c is h holds tells = IsRenamable.able (sym h ∙ is) (tells.0 holds) refl
+
+  pub refused_with : (found : Option ℕ) (why : Reason) → IsRenamable m found family to (Err why) → IsNamed m found family to (Err (fault.Bad why))
+  refused_with found why h = IsNamed.refused h
+
+  pub named_so : (found : Option ℕ) (d : ℕ) (answer : Result Change ChangeFault) → IsRenamable m found family to (Ok d) → IsNewlyNamed m d family to answer → IsNamed m found family to answer
+  named_so found d answer able made = IsNamed.named able made
 
   failed_so : (d : ℕ) (why : ChangeFault) → why ≡ fault.OutOfMemory → IsNewlyNamed m d family to (Err why)
   failed_so d why failed = subst (λ why. IsNewlyNamed m d family to (Err why)) (sym failed) IsNewlyNamed.memory

@@ -21,6 +21,7 @@ use Rattle.jr_change.specs.declared.change.UnitSource.TheVariants as source
 use Rattle.jr_change.specs.declared.project.Project.{Project}
 use Rattle.jr_change.specs.declared.reason.ChangeFault.{ChangeFault}
 use Rattle.jr_change.specs.declared.reason.ChangeFault.TheVariants as fault
+use Rattle.jr_change.specs.declared.reason.Reason.{Reason}
 use Rattle.jr_change.specs.declared.reason.Reason.TheVariants as reason
 use Rattle.jr_draft.specs.Asking.{asked, is_in_prelude}
 use Rattle.jr_draft.specs.Drafting.{Drafted, IsFinished, begun, no_edits, path_of, rows_kept, unchanged, unit_row, with_naming, with_unit}
@@ -154,12 +155,17 @@ pub data IsNewlyNamed (m : Marks) (d : ℕ) (family to : List ℕ) : Result Chan
   other : {change : Change} → bytes_eq (name m.rows.now d) to ≡ false → IsNewName m d family to change → IsNewlyNamed m d family to (Ok change)
   memory : IsNewlyNamed m d family to (Err fault.OutOfMemory)
 
+-- the declaration, if it can have the name, or the first reason why it cannot
+pub data IsRenamable (m : Marks) (found : Option ℕ) (family to : List ℕ) : Result ℕ Reason → Type 0 where
+  reaches : reaches_prelude m family ≡ true → IsRenamable m found family to (Err reason.ReachesPrelude)
+  bad_name : reaches_prelude m family ≡ false → (IsIdentifier to → ⊥) → IsRenamable m found family to (Err reason.BadName)
+  nothing : reaches_prelude m family ≡ false → IsIdentifier to → found ≡ None → IsRenamable m found family to (Err reason.WrongKind)
+  able : {d : ℕ} → reaches_prelude m family ≡ false → IsIdentifier to → found ≡ Some d → IsRenamable m found family to (Ok d)
+
 -- what comes of the declaration that is asked for, with those that are renamed together with it
 pub data IsNamed (m : Marks) (found : Option ℕ) (family to : List ℕ) : Result Change ChangeFault → Type 0 where
-  reaches : reaches_prelude m family ≡ true → IsNamed m found family to (Err (fault.Bad reason.ReachesPrelude))
-  bad_name : reaches_prelude m family ≡ false → (IsIdentifier to → ⊥) → IsNamed m found family to (Err (fault.Bad reason.BadName))
-  nothing : reaches_prelude m family ≡ false → IsIdentifier to → found ≡ None → IsNamed m found family to (Err (fault.Bad reason.WrongKind))
-  named : {d : ℕ} {answer : Result Change ChangeFault} → reaches_prelude m family ≡ false → IsIdentifier to → found ≡ Some d → IsNewlyNamed m d family to answer → IsNamed m found family to answer
+  refused : {why : Reason} → IsRenamable m found family to (Err why) → IsNamed m found family to (Err (fault.Bad why))
+  named : {d : ℕ} {answer : Result Change ChangeFault} → IsRenamable m found family to (Ok d) → IsNewlyNamed m d family to answer → IsNamed m found family to answer
 
 -- the same, whatever its family is; or want of memory
 pub data IsAskedFor (m : Marks) (found : Option ℕ) (to : List ℕ) : Result Change ChangeFault → Type 0 where

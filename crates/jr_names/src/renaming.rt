@@ -53,7 +53,7 @@ fn asked_for(
 }
 
 // What comes of it with its family.
-#[tactic(auto, using(crate::proofs::Answers::reaches_so, crate::proofs::Answers::bad_name_so, crate::proofs::Answers::nothing_so, crate::proofs::Answers::named_so))]
+#[tactic(auto, using(crate::proofs::Answers::refused_with, crate::proofs::Answers::named_so))]
 fn named(
     alloc: Global,
     old: &Project,
@@ -64,15 +64,31 @@ fn named(
     ensures { IsOrdered old.now.marks → keys.AreCallables old.now.marks.rows.now old.now.view.sight.world.members.now.callables
         → spec.IsNamed old.now.marks declared family.now name.now result }
 {
-    if reaches_prelude(&old.marks, family) {
-        return Err(ChangeFault::Bad(Reason::ReachesPrelude));
+    match renamable(&old.marks, declared, family, name) {
+        Ok(row) => newly_named(alloc, old, row, family, name),
+        Err(why) => Err(ChangeFault::Bad(why)),
+    }
+}
+
+// The declaration, if it can have the name, or the first reason why it cannot.
+#[tactic(auto, using(crate::proofs::Answers::reaches_so, crate::proofs::Answers::bad_name_so, crate::proofs::Answers::nothing_so, crate::proofs::Answers::able_so))]
+fn renamable(
+    marks: &Marks,
+    declared: Option<u32>,
+    family: &[u32],
+    name: &[u8],
+) -> Result<u32, Reason>
+    ensures { IsOrdered marks.now → spec.IsRenamable marks.now declared family.now name.now result }
+{
+    if reaches_prelude(marks, family) {
+        return Err(Reason::ReachesPrelude);
     }
     if !is_identifier(name) {
-        return Err(ChangeFault::Bad(Reason::BadName));
+        return Err(Reason::BadName);
     }
     match declared {
-        Some(row) => newly_named(alloc, old, row, family, name),
-        None => Err(ChangeFault::Bad(Reason::WrongKind)),
+        Some(row) => Ok(row),
+        None => Err(Reason::WrongKind),
     }
 }
 
@@ -89,9 +105,10 @@ fn newly_named(
         → spec.IsNewlyNamed old.now.marks declared family.now name.now result }
 {
     if name_at(old.marks.rows, declared) == name {
-        return unchanged_all(alloc, &old.marks);
+        unchanged_all(alloc, &old.marks)
+    } else {
+        changed(alloc, old, declared, family, name)
     }
-    changed(alloc, old, declared, family, name)
 }
 
 // The change that keeps all.
