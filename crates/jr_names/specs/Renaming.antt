@@ -1,9 +1,11 @@
 -- What a request to give a declaration another name comes to (JLS 6.1, 6.3, 7.5.3, 8.4.8, 8.8).
-use Rattle.std.specs.Prelude.{◌≡◌, ◌⊎◌, ℕ, Bool, true, false, ◌&&◌, ◌||◌, if◌then◌else◌, List, [], ◌∷◌, ◌++◌, length, Option, Some, None, Result, Ok, Err, codes, bytes_eq, nat_eq, nat_le, nat_lt}
+use Rattle.std.specs.Prelude.{◌≡◌, ◌⊎◌, ℕ, Bool, true, false, ◌&&◌, ◌||◌, if◌then◌else◌, List, [], ◌∷◌, ◌++◌, All, length, Option, Some, None, Result, Ok, Err, codes, bytes_eq, nat_eq, nat_le, nat_lt}
 use Rattle.std.specs.List.Sorted.{IsPermutation, IsNonDecreasing}
 use Rattle.jr_base.specs.Identifiers.{IsIdentifier}
 use Rattle.jr_rows.specs.declared.label.Label.{Label}
 use Rattle.jr_rows.specs.declared.label.Label.TheVariants as is
+use Rattle.jr_rows.specs.declared.label.ImportKind.{ImportKind}
+use Rattle.jr_rows.specs.declared.label.ImportKind.TheVariants as import
 use Rattle.jr_rows.specs.declared.label.Role.TheVariants as role
 use Rattle.jr_rows.specs.Rows.{Rows, label, name, end, role_at}
 use Rattle.jr_plain.specs.Enclosing.{is_constructor_of, is_top_level}
@@ -55,21 +57,40 @@ written p (k ∷ ks) = if is_written p k then k ∷ written p ks else written p 
 abbrev pub constructors_of : Rows → ℕ → List ℕ
 constructors_of p d = written p (falling (length p) (is_constructor_of p d))
 
--- the rows that get the name of a declaration, as they rise: some static imports, the constructors of a class and the family
+abbrev pub is_static_kind : ImportKind → Bool
+is_static_kind import.StaticSingle = true
+is_static_kind _ = false
+
+abbrev pub is_single_static : Label → Bool
+is_single_static (is.Import kind) = is_static_kind kind
+is_single_static _ = false
+
+-- a static import of the name of a declaration
+abbrev pub is_import_of : Rows → ℕ → ℕ → Bool
+is_import_of p d i = is_single_static (label p i) && bytes_eq (name p i) (name p d)
+
+-- static imports of the name of a declaration
+abbrev pub AreImportsOf : Rows → ℕ → List ℕ → Type 0
+AreImportsOf p d imports = All (λ i. is_import_of p d i ≡ true) imports
+
+-- the rows that get the name of a declaration, as they rise: some static imports of its name, the constructors of a class and the family
 pub record IsNamedWith (p : Rows) (d : ℕ) (family rows : List ℕ) : Type 0 where
   pub imports : List ℕ
+  pub are_imports : AreImportsOf p d imports
   pub moved : IsPermutation (imports ++ constructors_of p d ++ family) rows
   pub rising : IsNonDecreasing rows
 
 -- behind what was there stand some static imports, the constructors and the family
 pub record AddsNamed (p : Rows) (d : ℕ) (family old new : List ℕ) : Type 0 where
   pub imports : List ℕ
+  pub are_imports : AreImportsOf p d imports
   pub added : new ≡ old ++ imports ++ constructors_of p d ++ family
 
--- something stands behind what was there
-pub record AddsSome (old new : List ℕ) : Type 0 where
-  pub found : List ℕ
-  pub added : new ≡ old ++ found
+-- some static imports stand behind what was there
+pub record AddsImports (p : Rows) (d : ℕ) (old new : List ℕ) : Type 0 where
+  pub imports : List ℕ
+  pub are_imports : AreImportsOf p d imports
+  pub added : new ≡ old ++ imports
 
 -- ---- paths
 

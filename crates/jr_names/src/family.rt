@@ -123,7 +123,14 @@ fn add_named(
     ensures { OnOk result (keys.AreCallables old.now.marks.rows.now old.now.view.sight.world.members.now.callables
         → spec.AddsNamed old.now.marks.rows.now declared family.now all.old.items all.new.items) }
 {
-    add_imports(alloc, &old.view.sight.world, all, declared, family)?;
+    add_imports(
+        alloc,
+        &old.view.sight.world,
+        old.marks.rows,
+        all,
+        declared,
+        family,
+    )?;
     add_constructors(alloc, old, all, declared)?;
     all.extend_from_slice(family)?;
     Ok(())
