@@ -1,10 +1,11 @@
 -- Steps of loops over rows and units that get a name.
-use Rattle.std.proofs.Common.{◌≡◌, refl, sym, ◌∙◌, ap, ℕ, ◌+◌, ◌<◌, ◌≤◌, Bool, true, false, ◌||◌, List, [], ◌∷◌, ◌++◌, length, drop, append-nil, append_assoc}
+use Rattle.std.proofs.Common.{◌≡◌, refl, sym, ◌∙◌, ap, arith, ℕ, suc, ◌+◌, ◌<◌, ◌≤◌, Bool, true, false, ◌||◌, List, [], ◌∷◌, ◌++◌, length, drop, append-nil, append_assoc}
 use Rattle.std.specs.Prelude.{if◌then◌else◌, slice_index_or}
 use Rattle.std.proofs.lemmas.List.{drop_more, drop_all}
 use Rattle.std.proofs.lemmas.List.Elements.{All-nil, All-push, All-append}
 use Rattle.jr_marks.specs.declared.marks.Marks.{Marks}
 use Rattle.jr_rows.specs.Rows.{Rows}
+use Rattle.jr_plain.specs.Search.{all_such}
 use Rattle.jr_edits.specs.Place.{EditList}
 use Rattle.jr_draft.specs.Asking.{is_in_prelude}
 use Rattle.jr_draft.specs.Drafting.{Drafted, begun}
@@ -26,6 +27,13 @@ module _ (p : Rows) (d : ℕ) where
     are_imports = All-append (λ i. is_import_of p d i ≡ true) h.imports k.imports h.are_imports k.are_imports;
     added = k.added ∙ ap (λ xs. xs ++ k.imports) h.added ∙ append_assoc old h.imports k.imports;
   }
+
+-- ---- what passes
+
+module _ (test : ℕ → Bool) where
+  pub such_more : (start all more : List ℕ) (n : ℕ) → all ≡ start ++ all_such n test → more ≡ all ++ (if test n then n ∷ [] else []) → more ≡ start ++ all_such (n + 1) test
+  such_more start all more n h made = let next : suc n ≡ n + 1 = omega arith in
+      made ∙ ap (λ xs. xs ++ (if test n then n ∷ [] else [])) h ∙ append_assoc start (all_such n test) (if test n then n ∷ [] else []) ∙ ap (λ k. start ++ all_such k test) next
 
 pub order_so : (m : Marks) (moved : ℕ) (path to rows order : List ℕ) (old new : Drafted) → order ≡ order_with m moved path → old ≡ begun m → new ≡ with_all m moved path to rows order old → new ≡ renamed m moved path to rows
 order_so m moved path to rows order old new h e made = made ∙ (λ i. with_all m moved path to rows (h i) (e i))

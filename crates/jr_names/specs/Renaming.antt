@@ -9,11 +9,11 @@ use Rattle.jr_rows.specs.declared.label.ImportKind.TheVariants as import
 use Rattle.jr_rows.specs.declared.label.Role.TheVariants as role
 use Rattle.jr_rows.specs.Rows.{Rows, label, name, end, role_at}
 use Rattle.jr_plain.specs.Enclosing.{is_constructor_of, is_top_level}
+use Rattle.jr_plain.specs.Search.{all_such}
 use Rattle.jr_marks.specs.declared.marks.Marks.{Marks}
 use Rattle.jr_marks.specs.Places.{unit_of}
 use Rattle.jr_edits.specs.Place.{EditList, pushed}
 use Rattle.jr_text.specs.Spans.{own_span, unit_bytes}
-use Rattle.jr_members.specs.Keys.{falling}
 use Rattle.jr_change.specs.declared.change.Change.{Change}
 use Rattle.jr_change.specs.declared.change.ChangedUnit.{ChangedUnit}
 use Rattle.jr_change.specs.declared.change.Course.TheVariants as course
@@ -49,13 +49,16 @@ is_written_label _ = false
 abbrev pub is_written : Rows → ℕ → Bool
 is_written p k = is_written_label (label p k)
 
-abbrev pub written : Rows → List ℕ → List ℕ
-written p [] = []
-written p (k ∷ ks) = if is_written p k then k ∷ written p ks else written p ks
+-- a constructor of the class that is written (JLS 8.8): its name is that of the class
+abbrev pub has_class_name : Rows → ℕ → ℕ → Bool
+has_class_name p d k = is_written p k && is_constructor_of p d k
+
+abbrev pub constructor_at : Rows → ℕ → ℕ → List ℕ
+constructor_at p d k = if has_class_name p d k then k ∷ [] else []
 
 -- the constructors of a class that are written
 abbrev pub constructors_of : Rows → ℕ → List ℕ
-constructors_of p d = written p (falling (length p) (is_constructor_of p d))
+constructors_of p d = all_such (length p) (has_class_name p d)
 
 abbrev pub is_static_kind : ImportKind → Bool
 is_static_kind import.StaticSingle = true

@@ -1,8 +1,10 @@
 // The declarations that a rename takes along.
-ghost use Rattle.std.specs.Prelude.{◌≡◌, ◌++◌, ◌∷◌, [], Some, IfOk, OnOk, length};
-ghost use Rattle.jr_plain.specs.Enclosing.{is_constructor_of};
+ghost use Rattle.std.specs.Prelude.{◌≡◌, ◌++◌, ◌∷◌, [], Some, IfOk, OnOk};
+ghost use Rattle.jr_rows.specs.Rows as all_rows;
+ghost use Rattle.jr_rows.specs.declared.label.Role.TheVariants as role;
+ghost use Rattle.jr_plain.specs.Enclosing as enclosing;
+ghost use Rattle.jr_plain.specs.Same.{same_role};
 ghost use Rattle.jr_marks.specs.Places.{IsOrdered};
-ghost use Rattle.jr_members.specs.Keys as keys;
 ghost use Rattle.jr_names.specs.Renaming as spec;
 
 use crate::imports::add_imports;
@@ -11,7 +13,7 @@ use jr_change::Project;
 use jr_dispatch::family;
 use jr_draft::is_in_prelude;
 use jr_marks::Marks;
-use jr_places::role_at;
+use jr_places::{is_body_of, parent_at, role_at};
 use jr_rows::{Label, Role, Row};
 use std::alloc::Global;
 
@@ -70,29 +72,55 @@ fn is_written(rows: &[Row], at: u32) -> bool
     }
 }
 
-// Adds those of some constructors that are written.
-fn add_written(all: &mut Vec<u32>, rows: &[Row], constructors: &[u32]) -> Result<(), OutOfMemory>
-    ensures { OnOk result (all.new.items ≡ all.old.items ++ spec.written rows.now constructors.now) }
+fn is_constructor(rows: &[Row], at: u32) -> bool
+    ensures { result ≡ same_role (all_rows.role_at rows.now at) role.Constructor }
 {
-    for at in constructors {
-        if is_written(rows, *at) {
-            all.push(*at)?;
-        }
+    match role_at(rows, at) {
+        Role::Constructor => true,
+        _ => false,
+    }
+}
+
+fn is_constructor_of(rows: &[Row], class: u32, at: u32) -> bool
+    ensures { result ≡ enclosing.is_constructor_of rows.now class at }
+{
+    is_constructor(rows, at) && is_body_of(rows, class, parent_at(rows, at))
+}
+
+// A constructor of a class that is written.
+fn has_class_name(rows: &[Row], class: u32, at: u32) -> bool
+    ensures { result ≡ spec.has_class_name rows.now class at }
+{
+    is_written(rows, at) && is_constructor_of(rows, class, at)
+}
+
+// Adds a row, if it is such a constructor.
+fn add_constructor(
+    all: &mut Vec<u32>,
+    rows: &[Row],
+    class: u32,
+    at: u32,
+) -> Result<(), OutOfMemory>
+    ensures { OnOk result (all.new.items ≡ all.old.items ++ spec.constructor_at rows.now class at) }
+{
+    if has_class_name(rows, class, at) {
+        all.push(at)?;
     }
     Ok(())
 }
 
 // Adds the constructors of a class that are written.
-fn add_constructors(
-    alloc: Global,
-    old: &Project,
-    all: &mut Vec<u32>,
-    class: u32,
-) -> Result<(), OutOfMemory>
-    ensures { OnOk result (keys.AreCallables old.now.marks.rows.now old.now.view.sight.world.members.now.callables → all.new.items ≡ all.old.items ++ spec.constructors_of old.now.marks.rows.now class) }
+#[tactic(auto, using(crate::proofs::Named::such_more))]
+fn add_constructors(all: &mut Vec<u32>, rows: &[Row], class: u32) -> Result<(), OutOfMemory>
+    ensures { OnOk result (all.new.items ≡ all.old.items ++ spec.constructors_of rows.now class) }
 {
-    let constructors = old.view.sight.world.members.constructors(alloc, class)?;
-    add_written(all, old.marks.rows, &constructors)
+    let Ok(count) = u32::try_from(rows.len()) else {
+        return Err(OutOfMemory);
+    };
+    for at in 0..count {
+        add_constructor(all, rows, class, at)?;
+    }
+    Ok(())
 }
 
 /// The rows that get the new name with a declaration, as they rise: its family, the names of the constructors of a class, and the static imports of
@@ -103,8 +131,7 @@ pub fn named_with(
     declared: u32,
     family: &[u32],
 ) -> Result<Vec<u32>, OutOfMemory>
-    ensures { IfOk result (λ rows. keys.AreCallables old.now.marks.rows.now old.now.view.sight.world.members.now.callables
-        → spec.IsNamedWith old.now.marks.rows.now declared family.now rows.items) }
+    ensures { IfOk result (λ rows. spec.IsNamedWith old.now.marks.rows.now declared family.now rows.items) }
 {
     let mut all = Vec::new(alloc);
     add_named(alloc, old, &mut all, declared, family)?;
@@ -120,8 +147,7 @@ fn add_named(
     declared: u32,
     family: &[u32],
 ) -> Result<(), OutOfMemory>
-    ensures { OnOk result (keys.AreCallables old.now.marks.rows.now old.now.view.sight.world.members.now.callables
-        → spec.AddsNamed old.now.marks.rows.now declared family.now all.old.items all.new.items) }
+    ensures { OnOk result (spec.AddsNamed old.now.marks.rows.now declared family.now all.old.items all.new.items) }
 {
     add_imports(
         alloc,
@@ -131,7 +157,7 @@ fn add_named(
         declared,
         family,
     )?;
-    add_constructors(alloc, old, all, declared)?;
+    add_constructors(all, old.marks.rows, declared)?;
     all.extend_from_slice(family)?;
     Ok(())
 }

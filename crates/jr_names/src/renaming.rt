@@ -1,7 +1,6 @@
 // A rename.
 ghost use Rattle.std.specs.Prelude.{◌≡◌, IfErr, IfOk};
 ghost use Rattle.jr_marks.specs.Places.{IsOrdered};
-ghost use Rattle.jr_members.specs.Keys as keys;
 ghost use Rattle.jr_change.specs.declared.change.Course.TheVariants as course;
 ghost use Rattle.jr_change.specs.declared.reason.ChangeFault.TheVariants as ChangeFault;
 ghost use Rattle.jr_draft.specs.Drafting as drafting;
@@ -26,8 +25,7 @@ pub fn rename(
     at: u32,
     name: &[u8],
 ) -> Result<Change, ChangeFault>
-    ensures { IsOrdered old.now.marks → keys.AreCallables old.now.marks.rows.now old.now.view.sight.world.members.now.callables
-        → spec.IsRenameAnswer old.now file.now at name.now result }
+    ensures { IsOrdered old.now.marks → spec.IsRenameAnswer old.now file.now at name.now result }
 {
     match asked(old, file, at) {
         Ok(declared) => asked_for(alloc, old, declared, name),
@@ -43,8 +41,7 @@ fn asked_for(
     declared: Option<u32>,
     name: &[u8],
 ) -> Result<Change, ChangeFault>
-    ensures { IsOrdered old.now.marks → keys.AreCallables old.now.marks.rows.now old.now.view.sight.world.members.now.callables
-        → spec.IsAskedFor old.now.marks declared name.now result }
+    ensures { IsOrdered old.now.marks → spec.IsAskedFor old.now.marks declared name.now result }
 {
     match family_of(alloc, old, declared) {
         Ok(family) => named(alloc, old, declared, &family, name),
@@ -61,8 +58,7 @@ fn named(
     family: &[u32],
     name: &[u8],
 ) -> Result<Change, ChangeFault>
-    ensures { IsOrdered old.now.marks → keys.AreCallables old.now.marks.rows.now old.now.view.sight.world.members.now.callables
-        → spec.IsNamed old.now.marks declared family.now name.now result }
+    ensures { IsOrdered old.now.marks → spec.IsNamed old.now.marks declared family.now name.now result }
 {
     match renamable(&old.marks, declared, family, name) {
         Ok(row) => newly_named(alloc, old, row, family, name),
@@ -101,8 +97,7 @@ fn newly_named(
     family: &[u32],
     name: &[u8],
 ) -> Result<Change, ChangeFault>
-    ensures { IsOrdered old.now.marks → keys.AreCallables old.now.marks.rows.now old.now.view.sight.world.members.now.callables
-        → spec.IsNewlyNamed old.now.marks declared family.now name.now result }
+    ensures { IsOrdered old.now.marks → spec.IsNewlyNamed old.now.marks declared family.now name.now result }
 {
     if name_at(old.marks.rows, declared) == name {
         unchanged_all(alloc, &old.marks)
@@ -128,8 +123,7 @@ fn changed(
     family: &[u32],
     name: &[u8],
 ) -> Result<Change, ChangeFault>
-    ensures ok { IfOk result (λ change. IsOrdered old.now.marks → keys.AreCallables old.now.marks.rows.now old.now.view.sight.world.members.now.callables
-        → spec.IsNewName old.now.marks declared family.now name.now change) }
+    ensures ok { IfOk result (λ change. IsOrdered old.now.marks → spec.IsNewName old.now.marks declared family.now name.now change) }
     ensures fault { IfErr result (λ fault. fault ≡ ChangeFault.OutOfMemory) }
 {
     let rows = named_with(alloc, old, declared, family)?;

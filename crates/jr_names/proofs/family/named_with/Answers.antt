@@ -5,7 +5,7 @@ use Rattle.jr_names.specs.Renaming.{constructors_of}
 use Rattle.jr_names.proofs.family.named_with.Goals as goal
 
 pub returns : goal.returns
-returns c = λ are. let h = c.in_ok-add_named.ensures are in record {
+returns c = let h = c.in_ok-add_named.ensures in record {
   imports = h.imports;
   are_imports = h.are_imports;
   moved = subst (λ xs. IsPermutation xs c.sort_unstable.new.self.items)
