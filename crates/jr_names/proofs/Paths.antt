@@ -18,7 +18,7 @@ not_stripped path tail (Some x) h none front is = true≢false none
 -- ---- folders
 
 pub tells_folder : (folder : List ℕ) (front : List ℕ) (b : Bool) → (b ≡ true → folder ≡ front ++ 47 ∷ []) × ((front : List ℕ) → folder ≡ front ++ 47 ∷ [] → b ≡ true) → (folder ≡ [] → ⊥) → IsTrue b ↔ IsFolder folder
-tells_folder folder front b tells some = ((λ is. inr (front , tells.0 is)) , (λ h. elim h [ inl none ↦ absurd (some none) | inr ends ↦ tells.1 ends.0 ends.1 ]))
+tells_folder folder front b tells some = ((λ is. inr (front, tells.0 is)), (λ h. elim h [ inl none ↦ absurd (some none) | inr ends ↦ tells.1 ends.0 ends.1 ]))
 
 -- ---- files of types
 

@@ -95,12 +95,7 @@ fn has_class_name(rows: &[Row], class: u32, at: u32) -> bool
 }
 
 // Adds a row, if it is such a constructor.
-fn add_constructor(
-    all: &mut Vec<u32>,
-    rows: &[Row],
-    class: u32,
-    at: u32,
-) -> Result<(), OutOfMemory>
+fn add_constructor(all: &mut Vec<u32>, rows: &[Row], class: u32, at: u32) -> Result<(), OutOfMemory>
     ensures { OnOk result (all.new.items ≡ all.old.items ++ spec.constructor_at rows.now class at) }
 {
     if has_class_name(rows, class, at) {

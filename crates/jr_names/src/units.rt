@@ -50,7 +50,13 @@ fn folder_before<'a>(path: &'a [u8], stem: &'a [u8], name: &[u8]) -> Option<&'a 
     ensures none { IsNone result → (folder : List ℕ) → spec.IsFileOf path.now folder name.now → ⊥ }
 {
     match before(stem, name) {
-        Some(folder) => { if is_folder(folder) { Some(folder) } else { None } }
+        Some(folder) => {
+            if is_folder(folder) {
+                Some(folder)
+            } else {
+                None
+            }
+        }
         None => None,
     }
 }
@@ -258,7 +264,12 @@ impl<'a> Renaming<'a> {
 
     /// Adds all units in the order of their new paths, with copies of their rows.
     #[tactic(auto, using(crate::proofs::Named::order_so))]
-    pub fn add_all(&self, alloc: Global, draft: &mut Draft, marks: &Marks) -> Result<(), ChangeFault>
+    pub fn add_all(
+        &self,
+        alloc: Global,
+        draft: &mut Draft,
+        marks: &Marks,
+    ) -> Result<(), ChangeFault>
         ensures ok { OnOk result (IsOrdered marks.now → draft.old ≡ drafting.begun marks.now
             → draft.new ≡ spec.renamed marks.now self.now.moved self.now.path.now self.now.to.now self.now.rows.now) }
         ensures fault { IfErr result (λ fault. fault ≡ ChangeFault.OutOfMemory) }
