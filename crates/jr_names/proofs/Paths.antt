@@ -1,9 +1,14 @@
 -- Paths by what stands before their end.
-use Rattle.std.proofs.Common.{◌≡◌, ◌≢◌, sym, ◌∙◌, ap, subst, ℕ, List, [], ◌∷◌, ◌++◌, Option, Some, None, append_assoc, nat_eq, length, ◌⊎◌, inl, inr, ◌↔◌, Bool, true, false, IsTrue, Bor}
-use Rattle.std.specs.Prelude.{codes, IfSome, IsNone, MatchOption}
+use Rattle.std.proofs.Common.{◌≡◌, ◌≢◌, sym, ◌∙◌, ap, subst, ℕ, List, [], ◌∷◌, ◌++◌, Option, Some, None, Result, Ok, Err, append_assoc, nat_eq, length, ◌⊎◌, inl, inr, ◌↔◌, Bool, true, false, IsTrue, Bor}
+use Rattle.std.specs.Prelude.{codes, IfOk, IfSome, IsNone, MatchOption}
 use Rattle.std.proofs.lemmas.Bool.{false≢true, true≢false}
 use Rattle.std.proofs.lemmas.List.{append_cancel_right}
-use Rattle.jr_names.specs.Renaming.{IsFolder, IsFileOf}
+use Rattle.jr_rows.specs.Rows.{name}
+use Rattle.jr_plain.specs.Enclosing.{is_top_level}
+use Rattle.jr_marks.specs.declared.marks.Marks.{Marks}
+use Rattle.jr_marks.specs.Places.{unit_of}
+use Rattle.jr_draft.specs.Drafting.{path_of}
+use Rattle.jr_names.specs.Renaming.{IsFolder, IsFileOf, IsPathWith}
 
 -- ---- what stands before a tail
 
@@ -43,3 +48,24 @@ no_folder path stem front type is also none folder h = none (subst IsFolder (app
 
 pub some_there : (xs : List ℕ) (b : Bool) → b ≡ nat_eq (length xs) 0 → b ≡ false → xs ≡ [] → ⊥
 some_there xs b is other none = false≢true (sym other ∙ is ∙ ap (λ ys. nat_eq (length ys) 0) none)
+
+-- ---- paths of declarations that get a name
+
+module _ (m : Marks) (d : ℕ) (to : List ℕ) where
+  pub along_path : (folder path type : List ℕ) {E : Type 0} (r : Result (List ℕ) E) → type ≡ name m.rows.now d → IsFileOf path folder type → IfOk r (λ new. new ≡ folder ++ (to ++ codes ".java"))
+      → IfOk r (λ new. path ≡ path_of m (unit_of m d) → is_top_level m.rows.now d ≡ true → IsPathWith m d to new)
+  along_path folder path type (Ok new) also file made = λ is top. subst (IsPathWith m d to) (sym made) (IsPathWith.along top (subst (λ xs. IsFileOf xs folder (name m.rows.now d)) is (subst (IsFileOf path folder) also file)))
+  along_path folder path type (Err why) also file made = tt
+
+  pub other_path : (path type : List ℕ) → type ≡ name m.rows.now d → ((folder : List ℕ) → IsFileOf path folder type → ⊥)
+      → path ≡ path_of m (unit_of m d) → is_top_level m.rows.now d ≡ true → IsPathWith m d to path
+  other_path path type also none is top = subst (IsPathWith m d to) (sym is)
+      (IsPathWith.other top (λ folder file. none folder (subst (λ xs. IsFileOf xs folder type) (sym is) (subst (IsFileOf (path_of m (unit_of m d)) folder) (sym also) file))))
+
+  pub top_path : (path : List ℕ) (unit : ℕ) (b : Bool) {E : Type 0} (r : Result (List ℕ) E) → unit ≡ unit_of m d → path ≡ path_of m unit → b ≡ is_top_level m.rows.now d → b ≡ true
+      → IfOk r (λ new. path ≡ path_of m (unit_of m d) → is_top_level m.rows.now d ≡ true → IsPathWith m d to new) → IfOk r (λ new. IsPathWith m d to new)
+  top_path path unit b (Ok new) there is same top made = made (is ∙ ap (path_of m) there) (sym same ∙ top)
+  top_path path unit b (Err why) there is same top made = tt
+
+  pub inside_path : (path : List ℕ) (unit : ℕ) (b : Bool) → unit ≡ unit_of m d → path ≡ path_of m unit → b ≡ is_top_level m.rows.now d → b ≡ false → IsPathWith m d to path
+  inside_path path unit b there is same top = subst (IsPathWith m d to) (sym (is ∙ ap (path_of m) there)) (IsPathWith.inside (sym same ∙ top))

@@ -62,6 +62,7 @@ fn folder_before<'a>(path: &'a [u8], stem: &'a [u8], name: &[u8]) -> Option<&'a 
 }
 
 // The path of the unit of a top-level type that gets a name: it takes along the file that has its name.
+#[tactic(auto, using(crate::proofs::Paths::along_path, crate::proofs::Paths::other_path))]
 fn path_along(
     alloc: Global,
     marks: &Marks,
@@ -69,8 +70,8 @@ fn path_along(
     to: &[u8],
     path: Path,
 ) -> Result<Path, OutOfMemory>
-    requires { path ≡ drafting.path_of marks.now (unit_of marks.now declared) }
-    ensures { IfOk result (λ new. is_top_level marks.now.rows.now declared ≡ true → spec.IsPathWith marks.now declared to.now new) }
+    ensures { IfOk result (λ new. path ≡ drafting.path_of marks.now (unit_of marks.now declared) → is_top_level marks.now.rows.now declared ≡ true
+        → spec.IsPathWith marks.now declared to.now new) }
 {
     match folder_of(path.bytes(), name_at(marks.rows, declared)) {
         Some(folder) => path_in(alloc, folder, to),
@@ -79,6 +80,7 @@ fn path_along(
 }
 
 /// The path of the unit of a declaration that gets a name.
+#[tactic(auto, using(crate::proofs::Paths::top_path, crate::proofs::Paths::inside_path))]
 pub fn path_with(
     alloc: Global,
     marks: &Marks,
