@@ -5,7 +5,7 @@ use Rattle.std.specs.Prelude.{IfOk, IfErr}
 use Rattle.jr_base.specs.Identifiers.{IsIdentifier}
 use Rattle.jr_rows.specs.Rows.{name}
 use Rattle.jr_marks.specs.declared.marks.Marks.{Marks}
-use Rattle.jr_marks.specs.Places.{unit_of}
+use Rattle.jr_marks.specs.Places.{IsOrdered, unit_of}
 use Rattle.jr_change.specs.declared.change.Change.{Change}
 use Rattle.jr_change.specs.declared.change.Course.TheVariants as course
 use Rattle.jr_change.specs.declared.change.Naming.{Naming}
@@ -49,7 +49,7 @@ module _ (m : Marks) (family to : List ℕ) where
   refused_with found why h = IsNamed.refused h
 
   pub named_so : (found : Option ℕ) (d : ℕ) (answer : Result Change ChangeFault) → IsRenamable m found family to (Ok d) → IsNewlyNamed m d family to answer → IsNamed m found family to answer
-  named_so found d answer able made = IsNamed.named able made
+  named_so found d answer can made = IsNamed.named can made
 
   failed_so : (d : ℕ) (why : ChangeFault) → why ≡ fault.OutOfMemory → IsNewlyNamed m d family to (Err why)
   failed_so d why failed = subst (λ why. IsNewlyNamed m d family to (Err why)) (sym failed) IsNewlyNamed.memory
@@ -69,15 +69,15 @@ module _ (m : Marks) (family to : List ℕ) where
   new_name d rows (Ok change) named made = record { rows = rows; named = named; renamed = made }
   new_name d rows (Err why) named made = tt
 
-pub renamed_so : (m : Marks) (d : ℕ) (to rows path : List ℕ) (naming : Naming) (moved : ℕ) (answer : Result Change ChangeFault) → IsPathWith m d to path → naming.name ≡ to → naming.rows.items ≡ rows → moved ≡ unit_of m d
-    → IfOk answer (λ change. IsFinished (with_naming (renamed m moved path to naming.rows.items) naming) course.Same change) → IfOk answer (λ change. IsRenamed m d to rows change)
-renamed_so m d to rows path naming moved (Ok change) is_path name_is named is made = record {
+pub renamed_so : (m : Marks) (d : ℕ) (to path : List ℕ) (naming : Naming) (moved : ℕ) (answer : Result Change ChangeFault) → (IsOrdered m → IsPathWith m d to path) → naming.name ≡ to
+    → (IsOrdered m → moved ≡ unit_of m d) → IfOk answer (λ change. IsOrdered m → IsFinished (with_naming (renamed m moved path to naming.rows.items) naming) course.Same change)
+    → IfOk answer (λ change. IsOrdered m → IsRenamed m d to naming.rows.items change)
+renamed_so m d to path naming moved (Ok change) is_path name_is is made = λ ordered. record {
   path = path;
-  is_path = is_path;
+  is_path = is_path ordered;
   naming = naming;
   name_is = name_is;
-  named = named;
-  finished = subst (λ k. IsFinished (with_naming (renamed m k path to rows) naming) course.Same change) is
-      (subst (λ ns. IsFinished (with_naming (renamed m moved path to ns) naming) course.Same change) named made);
+  named = refl;
+  finished = subst (λ k. IsFinished (with_naming (renamed m k path to naming.rows.items) naming) course.Same change) (is ordered) (made ordered);
 }
-renamed_so m d to rows path naming moved (Err why) is_path name_is named is made = tt
+renamed_so m d to path naming moved (Err why) is_path name_is is made = tt

@@ -131,7 +131,6 @@ fn changed(
 }
 
 // The change in which these rows have the name.
-#[tactic(auto, using(crate::proofs::Answers::renamed_so))]
 fn with_rows(
     alloc: Global,
     marks: &Marks,

@@ -62,7 +62,7 @@ fn folder_before<'a>(path: &'a [u8], stem: &'a [u8], name: &[u8]) -> Option<&'a 
 }
 
 // The path of the unit of a top-level type that gets a name: it takes along the file that has its name.
-#[tactic(auto, using(crate::proofs::Paths::along_path, crate::proofs::Paths::other_path))]
+#[tactic(auto, using(crate::proofs::Paths::other_path))]
 fn path_along(
     alloc: Global,
     marks: &Marks,
