@@ -1,17 +1,40 @@
 // Static imports of what is renamed (JLS 7.5.3).
+ghost use Rattle.std.specs.Prelude.{◌≡◌, OnOk};
+ghost use Rattle.jr_rows.specs.Rows.{label};
+ghost use Rattle.jr_names.specs.Renaming as spec;
 
 use jr_base::OutOfMemory;
-use jr_lookup::import_kind;
 use jr_members::{MemberKind, World, has, is_private, is_public, is_static};
-use jr_places::parent_at;
-use jr_rows::ImportKind;
+use jr_places::{name_at, parent_at};
+use jr_rows::{ImportKind, Label, Row};
 use std::alloc::Global;
 
-fn is_static_import(world: &World, at: u32) -> bool {
-    match import_kind(world.rows(), at) {
-        Some(ImportKind::StaticSingle) => true,
+fn is_static_kind(kind: ImportKind) -> bool
+    ensures { result ≡ spec.is_static_kind kind }
+{
+    match kind {
+        ImportKind::StaticSingle => true,
         _ => false,
     }
+}
+
+fn is_single_static(rows: &[Row], at: u32) -> bool
+    ensures { result ≡ spec.is_single_static (label rows.now at) }
+{
+    match rows.get(at as usize) {
+        Some(row) => match row.label {
+            Label::Import { kind } => is_static_kind(kind),
+            _ => false,
+        },
+        None => false,
+    }
+}
+
+// A static import of the name of a declaration.
+fn is_import_of(rows: &[Row], declared: u32, at: u32) -> bool
+    ensures { result ≡ spec.is_import_of rows.now declared at }
+{
+    is_single_static(rows, at) && name_at(rows, at) == name_at(rows, declared)
 }
 
 // What an import may bring to its unit: what is public, or not private and of the same package.
@@ -60,25 +83,46 @@ fn are_all_in(some: &[u32], others: &[u32]) -> bool {
     !some.is_empty()
 }
 
-/// Adds the static imports of the name of a declaration that bring nothing but these.
-pub fn add_imports(
+// Adds a row, if it is a static import of the name of a declaration that brings nothing but these.
+#[tactic(auto, using(crate::proofs::Named::adds_none, crate::proofs::Named::adds_one))]
+fn add_import(
     alloc: Global,
     world: &World,
+    rows: &[Row],
     all: &mut Vec<u32>,
     declared: u32,
     family: &[u32],
-) -> Result<(), OutOfMemory> {
-    let Ok(count) = u32::try_from(world.rows().len()) else {
+    at: u32,
+) -> Result<(), OutOfMemory>
+    ensures { OnOk result (spec.AddsImports rows.now declared all.old.items all.new.items) }
+{
+    if !is_import_of(rows, declared, at) {
+        return Ok(());
+    }
+    let members = brought(alloc, world, at)?;
+    if are_all_in(&members, family) {
+        all.push(at)?;
+    }
+    Ok(())
+}
+
+/// Adds the static imports of the name of a declaration that bring nothing but these.
+#[tactic(auto, using(crate::proofs::Named::adds_none, crate::proofs::Named::adds_more))]
+pub fn add_imports(
+    alloc: Global,
+    world: &World,
+    rows: &[Row],
+    all: &mut Vec<u32>,
+    declared: u32,
+    family: &[u32],
+) -> Result<(), OutOfMemory>
+    ensures { OnOk result (spec.AddsImports rows.now declared all.old.items all.new.items) }
+{
+    let Ok(count) = u32::try_from(rows.len()) else {
         return Err(OutOfMemory);
     };
-    let name = world.under.places.name(declared);
     for at in 0..count {
-        if is_static_import(world, at) && world.under.places.name(at) == name {
-            let members = brought(alloc, world, at)?;
-            if are_all_in(&members, family) {
-                all.push(at)?;
-            }
-        }
+        add_import(alloc, world, rows, all, declared, family, at)?;
     }
     Ok(())
 }

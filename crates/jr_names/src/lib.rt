@@ -5,6 +5,7 @@ mod family;
 mod imports;
 mod moving;
 mod renaming;
+mod units;
 
 pub use moving::move_type;
 pub use renaming::rename;

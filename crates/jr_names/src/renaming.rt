@@ -1,200 +1,175 @@
 // A rename.
+ghost use Rattle.std.specs.Prelude.{◌≡◌, IfErr, IfOk};
+ghost use Rattle.jr_marks.specs.Places.{IsOrdered};
+ghost use Rattle.jr_change.specs.declared.change.Course.TheVariants as course;
+ghost use Rattle.jr_change.specs.declared.reason.ChangeFault.TheVariants as ChangeFault;
+ghost use Rattle.jr_draft.specs.Drafting as drafting;
+ghost use Rattle.jr_names.specs.Renaming as spec;
 
 use crate::family::{family_of, named_with, reaches_prelude};
-use jr_base::{OutOfMemory, Path, Text, is_identifier};
-use jr_change::{Change, ChangeFault, Naming, Project, Reason, UnitSource};
-use jr_draft::{Draft, asked, order_with, path_in, path_of, unchanged, unit_row};
+use crate::units::{Renaming, path_with};
+use jr_base::{Path, Text, is_identifier};
+use jr_change::{Change, ChangeFault, Naming, Project, Reason};
+use jr_draft::{Draft, asked, unchanged};
 use jr_marks::Marks;
-use jr_places::{end_at, is_top_level, name_at};
-use jr_text::own_span;
+use jr_places::name_at;
 use std::alloc::Global;
 
-/// What gives the declaration at an offset a name.
+/// What gives the declaration at an offset a name, or the first reason why that cannot be (JLS 6.1): with it go its family, if it is a method, the
+/// constructors of a class, and static imports of nothing else; a top-level type takes along the file that has its name.
+#[tactic(auto, using(crate::proofs::Answers::refused_so, crate::proofs::Answers::answered_so))]
 pub fn rename(
     alloc: Global,
     old: &Project,
     file: &[u8],
     at: u32,
     name: &[u8],
-) -> Result<Change, ChangeFault> {
-    let declared = asked(old, file, at)?;
-    judge_family(alloc, old, declared)?;
+) -> Result<Change, ChangeFault>
+    ensures { IsOrdered old.now.marks → spec.IsRenameAnswer old.now file.now at name.now result }
+{
+    match asked(old, file, at) {
+        Ok(declared) => asked_for(alloc, old, declared, name),
+        Err(why) => Err(why),
+    }
+}
+
+// What comes of the declaration that is asked for.
+#[tactic(auto, using(crate::proofs::Answers::together_so, crate::proofs::Answers::no_memory))]
+fn asked_for(
+    alloc: Global,
+    old: &Project,
+    declared: Option<u32>,
+    name: &[u8],
+) -> Result<Change, ChangeFault>
+    ensures { IsOrdered old.now.marks → spec.IsAskedFor old.now.marks declared name.now result }
+{
+    match family_of(alloc, old, declared) {
+        Ok(family) => named(alloc, old, declared, &family, name),
+        Err(_) => Err(ChangeFault::OutOfMemory),
+    }
+}
+
+// What comes of it with its family.
+#[tactic(auto, using(crate::proofs::Answers::refused_with, crate::proofs::Answers::named_so))]
+fn named(
+    alloc: Global,
+    old: &Project,
+    declared: Option<u32>,
+    family: &[u32],
+    name: &[u8],
+) -> Result<Change, ChangeFault>
+    ensures { IsOrdered old.now.marks → spec.IsNamed old.now.marks declared family.now name.now result }
+{
+    match renamable(&old.marks, declared, family, name) {
+        Ok(row) => newly_named(alloc, old, row, family, name),
+        Err(why) => Err(ChangeFault::Bad(why)),
+    }
+}
+
+// The declaration, if it can have the name, or the first reason why it cannot.
+#[tactic(auto, using(crate::proofs::Answers::reaches_so, crate::proofs::Answers::bad_name_so, crate::proofs::Answers::nothing_so, crate::proofs::Answers::able_so))]
+fn renamable(
+    marks: &Marks,
+    declared: Option<u32>,
+    family: &[u32],
+    name: &[u8],
+) -> Result<u32, Reason>
+    ensures { IsOrdered marks.now → spec.IsRenamable marks.now declared family.now name.now result }
+{
+    if reaches_prelude(marks, family) {
+        return Err(Reason::ReachesPrelude);
+    }
     if !is_identifier(name) {
-        return Err(ChangeFault::Bad(Reason::BadName));
+        return Err(Reason::BadName);
     }
     match declared {
-        Some(row) => renamed(alloc, old, row, name),
-        None => Err(ChangeFault::Bad(Reason::WrongKind)),
+        Some(row) => Ok(row),
+        None => Err(Reason::WrongKind),
     }
 }
 
-// That no declaration which gets the name stands in the prelude.
-fn judge_family(alloc: Global, old: &Project, declared: Option<u32>) -> Result<(), ChangeFault> {
-    let family = family_of(alloc, old, declared)?;
-    if reaches_prelude(&old.marks, &family) {
-        Err(ChangeFault::Bad(Reason::ReachesPrelude))
+// What comes of a declaration that can have the name.
+#[tactic(auto, using(crate::proofs::Answers::same_so, crate::proofs::Answers::other_so))]
+fn newly_named(
+    alloc: Global,
+    old: &Project,
+    declared: u32,
+    family: &[u32],
+    name: &[u8],
+) -> Result<Change, ChangeFault>
+    ensures { IsOrdered old.now.marks → spec.IsNewlyNamed old.now.marks declared family.now name.now result }
+{
+    if name_at(old.marks.rows, declared) == name {
+        unchanged_all(alloc, &old.marks)
     } else {
-        Ok(())
+        changed(alloc, old, declared, family, name)
     }
 }
 
-// The change in which a declaration gets a name.
-fn renamed(
+// The change that keeps all.
+fn unchanged_all(alloc: Global, marks: &Marks) -> Result<Change, ChangeFault>
+    ensures ok { IfOk result (λ change. IsOrdered marks.now → drafting.IsFinished (drafting.unchanged marks.now) course.Same change) }
+    ensures fault { IfErr result (λ fault. fault ≡ ChangeFault.OutOfMemory) }
+{
+    Ok(unchanged(alloc, marks)?)
+}
+
+// The change in which a declaration has the name.
+#[tactic(auto, using(crate::proofs::Answers::new_name))]
+fn changed(
     alloc: Global,
     old: &Project,
     declared: u32,
+    family: &[u32],
     name: &[u8],
-) -> Result<Change, ChangeFault> {
-    let marks = &old.marks;
-    if name_at(marks.rows, declared) == name {
-        return Ok(unchanged(alloc, marks)?);
-    }
-    let mut draft = Draft::new(alloc, marks)?;
-    add_renamed(alloc, &mut draft, old, declared, name)?;
-    Ok(draft.finish())
+) -> Result<Change, ChangeFault>
+    ensures ok { IfOk result (λ change. IsOrdered old.now.marks → spec.IsNewName old.now.marks declared family.now name.now change) }
+    ensures fault { IfErr result (λ fault. fault ≡ ChangeFault.OutOfMemory) }
+{
+    let rows = named_with(alloc, old, declared, family)?;
+    with_rows(alloc, &old.marks, declared, name, rows)
 }
 
-// Adds all units with the new name, and which rows get it.
-fn add_renamed(
-    alloc: Global,
-    draft: &mut Draft,
-    old: &Project,
-    declared: u32,
-    name: &[u8],
-) -> Result<(), ChangeFault> {
-    let marks = &old.marks;
-    let rows = named_with(alloc, old, declared)?;
-    let path = path_with(alloc, marks, declared, name)?;
-    let renaming = Renaming {
-        moved: marks.unit_of(declared),
-        path: &path,
-        rows: &rows,
-        name,
-    };
-    renaming.add_units(alloc, draft, marks)?;
-    let name = Text::of(alloc, name)?;
-    draft.name(Naming { name, rows })?;
-    Ok(())
-}
-
-/// Numbers from `first` to before `after`.
-#[derive(Clone, Copy)]
-struct Range {
-    first: usize,
-    after: usize,
-}
-
-// The path of the unit of a declaration that gets a name: a top-level type takes along the file that has its name.
-fn path_with(
+// The change in which these rows have the name.
+fn with_rows(
     alloc: Global,
     marks: &Marks,
     declared: u32,
     name: &[u8],
-) -> Result<Path, OutOfMemory> {
-    let path = path_of(alloc, marks, marks.unit_of(declared))?;
-    if !is_top_level(marks.rows, declared) {
-        return Ok(path);
-    }
-    match folder_of(path.bytes(), name_at(marks.rows, declared)) {
-        Some(folder) => path_in(alloc, folder, name),
-        None => Ok(path),
-    }
+    rows: Vec<u32>,
+) -> Result<Change, ChangeFault>
+    ensures ok { IfOk result (λ change. IsOrdered marks.now → spec.IsRenamed marks.now declared name.now rows.items change) }
+    ensures fault { IfErr result (λ fault. fault ≡ ChangeFault.OutOfMemory) }
+{
+    let path = path_with(alloc, marks, declared, name)?;
+    let naming = Naming {
+        name: Text::of(alloc, name)?,
+        rows,
+    };
+    finished(alloc, marks, marks.unit_of(declared), &path, name, naming)
 }
 
-// The folder with its `/` of a file that has the name of a type.
-fn folder_of<'a>(path: &'a [u8], name: &[u8]) -> Option<&'a [u8]> {
-    let folder = path.strip_suffix(b".java")?.strip_suffix(name)?;
-    if folder.is_empty() || folder.ends_with(b"/") {
-        Some(folder)
-    } else {
-        None
-    }
-}
-
-// How many rows, from the first on, are below this one.
-fn count_below(rows: &[u32], end: u32) -> usize {
-    let mut low = 0;
-    let mut high = rows.len();
-    while low < high {
-        let middle = low + (high - low) / 2;
-        if rows[middle] < end {
-            low = middle + 1;
-        } else {
-            high = middle;
-        }
-    }
-    low
-}
-
-// Which of some rows stand in a unit.
-fn rows_in(rows: &[u32], marks: &Marks, unit: u32) -> Range {
-    let top = unit_row(marks, unit);
-    Range {
-        first: count_below(rows, top),
-        after: count_below(rows, end_at(marks.rows, top)),
-    }
-}
-
-/// Rows that get a name.
-#[derive(Clone, Copy)]
-struct Renaming<'a> {
-    /// The unit that goes to this path.
+// The change of this naming, where a unit goes to a path.
+fn finished(
+    alloc: Global,
+    marks: &Marks,
     moved: u32,
-    path: &'a Path,
-    rows: &'a [u32],
-    name: &'a [u8],
-}
-
-impl<'a> Renaming<'a> {
-    // The path that a unit gets.
-    fn path_of(self, alloc: Global, marks: &Marks, unit: u32) -> Result<Path, OutOfMemory> {
-        if unit == self.moved {
-            self.path.copy(alloc)
-        } else {
-            path_of(alloc, marks, unit)
-        }
-    }
-
-    // Adds a unit in which the rows of these numbers get the name.
-    fn add_edited(
-        self,
-        alloc: Global,
-        draft: &mut Draft,
-        marks: &Marks,
-        unit: u32,
-        named: Range,
-    ) -> Result<(), ChangeFault> {
-        draft.open(alloc, marks, unit, self.path_of(alloc, marks, unit)?)?;
-        for at in named.first..named.after {
-            if let Some(row) = self.rows.get(at) {
-                draft.replace(alloc, own_span(marks, *row), self.name)?;
-            }
-        }
-        Ok(())
-    }
-
-    // Adds a unit, but not its rows.
-    fn add_unit(
-        self,
-        alloc: Global,
-        draft: &mut Draft,
-        marks: &Marks,
-        unit: u32,
-    ) -> Result<(), ChangeFault> {
-        let named = rows_in(self.rows, marks, unit);
-        if named.first < named.after {
-            return self.add_edited(alloc, draft, marks, unit, named);
-        }
-        draft.add(self.path_of(alloc, marks, unit)?, UnitSource::Kept(unit))?;
-        Ok(())
-    }
-
-    // Adds all units in the order of their new paths.
-    fn add_units(self, alloc: Global, draft: &mut Draft, marks: &Marks) -> Result<(), ChangeFault> {
-        for unit in &order_with(alloc, marks, self.moved, self.path.bytes())? {
-            self.add_unit(alloc, draft, marks, *unit)?;
-            draft.copy_unit(marks, *unit)?;
-        }
-        Ok(())
-    }
+    path: &Path,
+    name: &[u8],
+    naming: Naming,
+) -> Result<Change, ChangeFault>
+    ensures ok { IfOk result (λ change. IsOrdered marks.now
+        → drafting.IsFinished (drafting.with_naming (spec.renamed marks.now moved path.now name.now naming.rows.items) naming) course.Same change) }
+    ensures fault { IfErr result (λ fault. fault ≡ ChangeFault.OutOfMemory) }
+{
+    let mut draft = Draft::new(alloc, marks)?;
+    let renaming = Renaming {
+        moved,
+        path,
+        rows: &naming.rows,
+        to: name,
+    };
+    renaming.add_all(alloc, &mut draft, marks)?;
+    draft.name(naming)?;
+    Ok(draft.finish())
 }
