@@ -1,5 +1,5 @@
 // Says of each program on standard input what javac makes of it: errors, declarations, what each name refers to, families of methods, and what its Main prints.
-// A program is a count of files, and for each a path, a count of characters and the characters; a line of answers each, and `.` at the end.
+// A program is a count of files, and for each a path, a count of characters and the characters; behind the first count `run` where it is to run, or `names` where names are all that is asked; a line of answers each, and `.` at the end.
 import com.sun.source.tree.*;
 import com.sun.source.util.*;
 import com.sun.tools.javac.code.Symbol;
@@ -400,6 +400,7 @@ public class Bindings {
         for (String head = line(in); head != null; head = line(in)) {
             String[] words = head.split(" ");
             boolean wantsRun = words.length > 1 && words[1].equals("run");
+            boolean wantsNames = words.length > 1 && words[1].equals("names");
             out = new StringBuilder();
             List<Source> sources = new ArrayList<>();
             SOURCES.clear();
@@ -431,6 +432,8 @@ public class Bindings {
                         say("U " + sourceOf(cu.getSourceFile()).number);
                         new Scan(cu, trees.getSourcePositions()).scan(cu, null);
                     }
+                }
+                if (!bad && !wantsNames) {
                     families(units, task);
                     task.generate();
                     for (Diagnostic<? extends JavaFileObject> d : found.getDiagnostics()) {

@@ -1,9 +1,9 @@
 #!/usr/bin/env python3
 """Holds `check` against javac rule by rule: random programs that javac takes, each with one text more that breaks a rule, or that only nearly does.
 
-  broken.py --bin REFACTOR --classes DIR [--count N] [--seed S] [--rules R,..]
+  broken.py --many MANY --classes DIR [--count N] [--seed S] [--rules R,..] [--each K] [--seconds T]
 
-DIR is as for change.py. Each program is made by small.py and gets one text of TEXTS at a random place: members in a class, statements in a method of a
+MANY is the program of many.txt, and DIR is as for change.py. K texts go into one program in turn. Each program is made by small.py and gets one text of TEXTS at a random place: members in a class, statements in a method of a
 class, or files. Of N programs the rules take turns. Both are to take it, or both to refuse it, and `check` is to name the rule of the text. Where the two are known to differ
 (docs/DECISIONS.md) the text says so, and such are counted apart. Differences are shown, and the exit status is 1 where there is one.
 """
@@ -12,9 +12,10 @@ import collections
 import random
 import re
 import sys
+import time
 
 import change
-import small
+import many
 
 # Of each rule: texts that break it, and texts that do not. A text is of members, of statements of a method (`>`), of statements of a static method (`>>`),
 # or of files (`= PATH` before each). `~` before it: javac takes it although it breaks the rule of the profile; `!`: javac refuses what the profile has not the rule for.
@@ -206,53 +207,83 @@ def with_text(rng, files, text):
     return out
 
 
+class Case:
+    """A program with a text, and what javac says of it."""
+
+    def __init__(self, rule, text, is_bad, base, files, errors):
+        self.rule, self.is_bad, self.base, self.files, self.errors = rule, is_bad, base, files, errors
+        self.known = text.startswith('~ ')
+        self.text = text[2:] if self.known else text
+
+
+def cases(args, javac, rng, bases):
+    """Of each rule in turn a program that a text breaks, and one that a text does not break."""
+    rules = [int(r) for r in args.rules.split(',') if r] or sorted(TEXTS)
+    for n in range(args.count):
+        rule = rules[n // 2 % len(rules)]
+        text = rng.choice(TEXTS[rule][n % 2])
+        if n % args.each == 0:
+            facts = change.make(javac, rng, collections.Counter())
+            bases.append(facts.files)
+        files = with_text(rng, bases[-1], text[2:] if text.startswith('~ ') else text)
+        if files is not None:
+            yield Case(rule, text, n % 2 == 0, len(bases) - 1, files, change.Facts(files, javac.ask(files, 'names')).errors)
+
+
+class Judge:
+    def __init__(self, args):
+        self.args, self.wrong, self.counts, self.kinds = args, 0, collections.Counter(), collections.Counter()
+
+    def batch(self, bases, found):
+        """Judges cases; those whose program without the text is not accepted are left out."""
+        first = found[0].base if found else 0
+        said = many.answers(self.args.many, bases[first:] + [case.files for case in found])
+        for case, answer in zip(found, said[len(bases) - first:]):
+            if said[case.base - first].fault:
+                self.counts['not accepted without the text'] += 1
+            else:
+                self.judge(case, answer.fault)
+
+    def judge(self, case, fault):
+        self.counts['broken' if case.is_bad else 'kept'] += 1
+        if case.known:
+            self.counts['javac takes it, as is known'] += 1
+        if bool(fault) != case.is_bad or bool(case.errors) != (case.is_bad and not case.known):
+            self.wrong += 1
+            shown = ''.join(f'--- {p}\n{t}' for p, t in case.files if 'z' in t.replace('z.Z', '') or 'Z' in t)
+            print(f'##### rule {case.rule}: {case.text}\n# refactor: {fault or "ok"}; javac: {(case.errors or ["takes it"])[0]}\n' + shown, flush=True)
+        elif case.is_bad:
+            self.kinds[case.rule, fault.split(' ')[1] if fault.startswith('rule ') else re.split(r'\W', fault)[0]] += 1
+
+    def show(self):
+        for key, count in sorted(self.counts.items()):
+            print(f'{count:6} {key}')
+        rules = sorted({rule for rule, _ in self.kinds})
+        print('named for each rule: ' + '; '.join(f'{rule}: ' + ', '.join(f'{what} {count}' for (r, what), count in sorted(self.kinds.items()) if r == rule) for rule in rules))
+
+
 def main():
     parser = argparse.ArgumentParser(description=__doc__, formatter_class=argparse.RawDescriptionHelpFormatter)
-    parser.add_argument('--bin', required=True)
+    parser.add_argument('--many', required=True)
     parser.add_argument('--classes', required=True)
     parser.add_argument('--count', type=int, default=200)
     parser.add_argument('--seed', type=int, default=1)
+    parser.add_argument('--each', type=int, default=24)
     parser.add_argument('--rules', default='')
+    parser.add_argument('--seconds', type=float, default=1e9)
     args = parser.parse_args()
-    args.others, args.moves, args.found, args.kept = [], 0, '/dev/stdout', '/dev/null'
-    rules = [int(r) for r in args.rules.split(',') if r] or sorted(TEXTS)
-    trials, rng, wrong, counts, kinds = change.Trials(args), random.Random(args.seed), 0, collections.Counter(), collections.Counter()
-    files, left = None, 0
-    for n in range(args.count):
-        rule = rules[n // 2 % len(rules)]
-        bad, good = TEXTS[rule]
-        text = rng.choice(bad if n % 2 == 0 else good)
-        known = text.startswith('~ ')
-        text = text[2:] if known else text
-        while left == 0:
-            facts = change.make(trials.javac, rng, collections.Counter())
-            if facts:
-                trials.fill(facts.files)
-                if trials.refactor('check')[1] == 0:
-                    files, left = facts.files, 12
-        left -= 1
-        made = with_text(rng, files, text)
-        if made is None:
-            continue
-        errors = change.Facts(made, trials.javac.ask(made)).errors
-        trials.fill(made)
-        said, status, err, _ = trials.refactor('check')
-        m = re.search(r'rule (\d+)', said)
-        is_bad = n % 2 == 0
-        counts['broken' if is_bad else 'kept'] += 1
-        wanted = is_bad and not known
-        if (status == 3) != is_bad or bool(errors) != wanted:
-            wrong += 1
-            print(f'##### rule {rule}: {text}\n# refactor: {said.strip()}; javac: {(errors or ["takes it"])[0]}\n' + ''.join(f'--- {p}\n{t}' for p, t in made if 'z' in t.replace('z.Z', '') or 'Z' in t))
-        elif is_bad:
-            kinds[rule, m.group(1) if m else said.split(':')[1].strip() if ':' in said else said.strip()] += 1
-        if known:
-            counts['javac takes it, as is known'] += 1
-    for key, count in sorted(counts.items()):
-        print(f'{count:6} {key}')
-    print('named for each rule: ' + '; '.join(f'{rule}: ' + ', '.join(f'{what} {count}' for (r, what), count in sorted(kinds.items()) if r == rule) for rule in rules))
-    trials.javac.close()
-    sys.exit(1 if wrong else 0)
+    javac, judge, bases, found, end = change.Javac(args.classes), Judge(args), [], [], time.time() + args.seconds
+    for case in cases(args, javac, random.Random(args.seed), bases):
+        found.append(case)
+        if len(found) == 200:
+            judge.batch(bases, found)
+            found = []
+        if time.time() > end:
+            break
+    judge.batch(bases, found)
+    judge.show()
+    javac.close()
+    sys.exit(1 if judge.wrong else 0)
 
 
 if __name__ == '__main__':

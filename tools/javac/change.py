@@ -41,19 +41,19 @@ def identifiers(text):
 
 class Javac:
     def __init__(self, classes):
-        self.command = ['nice', '-n', '5', 'java', '-Xss8m', '-Xmx700m', '-XX:+UseSerialGC', '-XX:TieredStopAtLevel=1',
+        self.command = ['java', '-Xss8m', '-Xmx700m', '-XX:+UseSerialGC', '-XX:TieredStopAtLevel=1',
                         '--add-exports', 'jdk.compiler/com.sun.tools.javac.tree=ALL-UNNAMED', '--add-exports', 'jdk.compiler/com.sun.tools.javac.code=ALL-UNNAMED',
                         '-cp', classes, 'Bindings']
         self.asked = 0
         self.process = None
 
-    def ask(self, files, run=False):
-        """files: list of (path, text). The lines of Bindings."""
+    def ask(self, files, how=''):
+        """files: list of (path, text); how: `run`, or `names` for names alone. The lines of Bindings."""
         self.asked += 1
         if self.process is None or self.asked % 3000 == 0:
             self.close()
             self.process = subprocess.Popen(self.command, stdin=subprocess.PIPE, stdout=subprocess.PIPE, stderr=subprocess.DEVNULL)
-        out = [('%d%s\n' % (len(files), ' run' if run else '')).encode()]
+        out = [('%d%s\n' % (len(files), ' ' + how if how else '')).encode()]
         for path, text in files:
             data = text.encode()
             out.append(('%s\n%d\n' % (path, len(data))).encode() + data)
@@ -298,7 +298,7 @@ class Trials:
 
     def refactor(self, *words):
         start = resource.getrusage(resource.RUSAGE_CHILDREN).ru_utime
-        r = subprocess.run(['nice', '-n', '5', self.args.bin, self.folder] + list(words), stdout=subprocess.PIPE, stderr=subprocess.PIPE, timeout=300)
+        r = subprocess.run([self.args.bin, self.folder] + list(words), stdout=subprocess.PIPE, stderr=subprocess.PIPE, timeout=300)
         return r.stdout.decode(errors='replace'), r.returncode, r.stderr.decode(errors='replace'), resource.getrusage(resource.RUSAGE_CHILDREN).ru_utime - start
 
     def found(self, what, files, words, line, detail=''):
@@ -387,12 +387,12 @@ class Trials:
         if line.strip() != 'done, files changed: %d' % changed:
             self.found('count', old.files, words, line, 'changed %d' % changed)
         new_files = sorted(left.items())
-        new = Facts(new_files, self.javac.ask(new_files, True))
+        new = Facts(new_files, self.javac.ask(new_files, 'run'))
         empty = {m.group(1) for m in map(EMPTY.search, new.errors) if m}
         if empty:
             self.counts['done with an import on demand of a package without units'] += 1
             new_files = without_imports(new_files, empty)
-            new = Facts(new_files, self.javac.ask(new_files, True))
+            new = Facts(new_files, self.javac.ask(new_files, 'run'))
         if new.errors:
             self.found('does not compile', old.files, words, line, ' '.join(new.errors[:2]) + '\n' + diff(before, left))
             return
@@ -494,7 +494,7 @@ def make(javac, rng, counts):
         counts['program: tried'] += 1
         if sum(len(t) for _, t in files) > 4500:
             continue
-        block = javac.ask(files, True)
+        block = javac.ask(files, 'run')
         if not any(l.startswith('E ') for l in block):
             return Facts(files, block)
         for l in block[:1]:

@@ -1,6 +1,6 @@
 """Holds `run` against java, on random programs.
 
-  runs.py --bin REFACTOR --classes DIR [--count N] [--seed S] [--steps N]
+  runs.py --bin REFACTOR --classes DIR [--count N] [--seed S] [--steps N] [--seconds T]
 
 DIR is as for change.py. Each program prints, ends or throws; `run` is to print the same and to end alike. Identity hashes are left out of both texts. Programs
 that the check does not accept are shown; they and those that the steps do not suffice for are counted apart. Differences are shown, and the exit status is 1 where there is one.
@@ -10,6 +10,7 @@ import collections
 import random
 import re
 import sys
+import time
 
 import change
 
@@ -31,10 +32,13 @@ def main():
     parser.add_argument('--count', type=int, default=50)
     parser.add_argument('--seed', type=int, default=1)
     parser.add_argument('--steps', type=int, default=1000000)
+    parser.add_argument('--seconds', type=float, default=1e9)
     args = parser.parse_args()
     args.others, args.moves, args.found, args.kept = [], 0.3, '/dev/stdout', '/dev/null'
-    trials, wrong, counts = change.Trials(args), 0, collections.Counter()
+    trials, wrong, counts, end_time = change.Trials(args), 0, collections.Counter(), time.time() + args.seconds
     for n in range(args.count):
+        if time.time() > end_time:
+            break
         facts = change.make(trials.javac, random.Random(args.seed * 100003 + n), collections.Counter())
         if not facts or not facts.output:
             counts['none'] += 1

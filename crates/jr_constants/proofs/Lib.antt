@@ -1,2 +1,4 @@
 pub mod Digits
 pub mod Adding
+pub mod Told
+pub mod Parts

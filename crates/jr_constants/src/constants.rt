@@ -2,18 +2,16 @@
 
 ghost use Rattle.std.specs.Prelude.{◌≡◌, ◌+◌, ◌<◌, ◌^◌, if◌then◌else◌, Some, None, slice_get, slice_index_or};
 ghost use Rattle.jr_rows.specs.Rows.{label};
-ghost use Rattle.jr_defs.specs.Operators as defined;
 ghost use Rattle.jr_plain.specs.Declarations as declared;
 ghost use Rattle.jr_plain.specs.Constants as plain;
-ghost use Rattle.jr_constants.specs.Values.{seen, seen_if, text_at};
+ghost use Rattle.jr_constants.specs.Values.{text_at};
 
-use crate::operators::{bool_value, number_value, unary_value};
+use crate::row_value::{assigned, item, value_of};
 use crate::texts::Texts;
-use crate::value::{Value, assigned_to, cast_to, chosen};
-use jr_base::{Keyword, Kind, OutOfMemory, Symbol};
-use jr_defs::{Element, RowType};
+use crate::value::Value;
+use jr_base::OutOfMemory;
 use jr_members::is_final;
-use jr_places::{end_at, is_string, parent_at, role_at, sought_at};
+use jr_places::{end_at, parent_at, role_at, sought_at};
 use jr_rows::{Label, NameKind, Role, Row, Sought};
 use jr_supers::Tabled;
 use std::alloc::Global;
@@ -35,16 +33,6 @@ pub struct Constants {
     variables: Vec<Option<Value>>,
     progress: Vec<Progress>,
     open: Vec<u32>,
-}
-
-// What a table has for a row.
-fn item(all: &[Option<Value>], at: u32) -> Option<Value>
-    ensures { result ≡ slice_index_or all.now at None }
-{
-    match all.get(at as usize) {
-        Some(value) => *value,
-        None => None,
-    }
 }
 
 fn is_variable(rows: &[Row], at: u32) -> bool
@@ -102,59 +90,6 @@ pub fn has_constant_form(under: Tabled, at: u32) -> bool {
     }
 }
 
-fn word_value(word: Keyword) -> Option<Value> {
-    match word {
-        Keyword::True => Some(Value::Bool(true)),
-        Keyword::False => Some(Value::Bool(false)),
-        _ => None,
-    }
-}
-
-// The string as a value of the class String.
-fn text_as(rows: &[Row], element: Element, value: Value) -> Option<Value>
-    ensures { seen_if result ≡ plain.text_as rows.now element (seen value) }
-{
-    match element {
-        Element::Class(at) => match value {
-            Value::Str(_) => {
-                if is_string(rows, at) {
-                    Some(value)
-                } else {
-                    None
-                }
-            }
-            _ => None,
-        },
-        _ => None,
-    }
-}
-
-/// The constant as a value of a variable of the type (JLS 5.2).
-fn assigned(rows: &[Row], ty: RowType, value: Value) -> Option<Value>
-    ensures { seen_if result ≡ plain.converted_as rows.now defined.assigned_to ty (seen value) }
-{
-    if ty.dims > 0 {
-        return None;
-    }
-    match assigned_to(ty.element, value) {
-        Some(found) => Some(found),
-        None => text_as(rows, ty.element, value),
-    }
-}
-
-/// The constant after a cast to the type (JLS 5.5).
-fn cast(rows: &[Row], ty: RowType, value: Value) -> Option<Value>
-    ensures { seen_if result ≡ plain.converted_as rows.now defined.cast_to ty (seen value) }
-{
-    if ty.dims > 0 {
-        return None;
-    }
-    match cast_to(ty.element, value) {
-        Some(found) => Some(found),
-        None => text_as(rows, ty.element, value),
-    }
-}
-
 impl Constants {
     fn new(alloc: Global, rows: &[Row]) -> Result<Constants, OutOfMemory> {
         Ok(Constants {
@@ -187,122 +122,6 @@ impl Constants {
         self.texts.units(text)
     }
 
-    // The value of the row, if it is a child of the other.
-    fn part(&self, rows: &[Row], over: u32, at: u32) -> Option<Value> {
-        if parent_at(rows, at) == over {
-            self.value(at)
-        } else {
-            None
-        }
-    }
-
-    fn first(&self, rows: &[Row], at: u32) -> Option<Value> {
-        self.part(rows, at, at.checked_add(1)?)
-    }
-
-    fn second(&self, rows: &[Row], at: u32) -> Option<Value> {
-        self.part(rows, at, end_at(rows, at.checked_add(1)?))
-    }
-
-    fn third(&self, rows: &[Row], at: u32) -> Option<Value> {
-        self.part(rows, at, end_at(rows, end_at(rows, at.checked_add(1)?)))
-    }
-
-    // The value of a literal; null has none (JLS 15.8.1).
-    fn literal(&mut self, alloc: Global, kind: &Kind) -> Result<Option<Value>, OutOfMemory> {
-        match kind {
-            Kind::Int(number) => Ok(Some(Value::Int(*number))),
-            Kind::IntMin => Ok(Some(Value::Int(i32::MIN))),
-            Kind::Long(number) => Ok(Some(Value::Long(*number))),
-            Kind::LongMin => Ok(Some(Value::Long(i64::MIN))),
-            Kind::Char(unit) => Ok(Some(Value::Char(*unit))),
-            Kind::Str(units) => {
-                let copy = units.copy(alloc)?;
-                let number = self.texts.add(copy)?;
-                Ok(Some(Value::Str(number)))
-            }
-            Kind::Word(word) => Ok(word_value(*word)),
-            _ => Ok(None),
-        }
-    }
-
-    // The value of the variable that a row refers to, where it is read as a constant.
-    fn referred(&self, under: Tabled, constant: &[bool], at: u32) -> Option<Value> {
-        match constant.get(at as usize) {
-            Some(true) => self.variable(under.declared(at)?),
-            _ => None,
-        }
-    }
-
-    fn cast_value(&self, under: Tabled, at: u32) -> Option<Value> {
-        let ty = under.type_at(under.first_child(at)?)?;
-        cast(under.rows, ty, self.second(under.rows, at)?)
-    }
-
-    fn chosen_value(&self, rows: &[Row], at: u32) -> Option<Value> {
-        match self.first(rows, at)? {
-            Value::Bool(test) => chosen(test, self.second(rows, at)?, self.third(rows, at)?),
-            _ => None,
-        }
-    }
-
-    // An operator on two constants.
-    fn binary(
-        &mut self,
-        alloc: Global,
-        rows: &[Row],
-        at: u32,
-        op: Symbol,
-    ) -> Result<Option<Value>, OutOfMemory> {
-        let Some(left) = self.first(rows, at) else {
-            return Ok(None);
-        };
-        let Some(right) = self.second(rows, at) else {
-            return Ok(None);
-        };
-        match left {
-            Value::Str(_) => self.texts.value(alloc, op, left, right),
-            Value::Bool(first) => match right {
-                Value::Str(_) => self.texts.value(alloc, op, left, right),
-                Value::Bool(second) => Ok(bool_value(op, first, second)),
-                _ => Ok(None),
-            },
-            _ => match right {
-                Value::Str(_) => self.texts.value(alloc, op, left, right),
-                _ => Ok(number_value(op, left, right)),
-            },
-        }
-    }
-
-    fn unary(&self, rows: &[Row], at: u32, op: Symbol) -> Option<Value> {
-        unary_value(op, self.first(rows, at)?)
-    }
-
-    // The value of an expression, where those of its parts are known.
-    fn value_of(
-        &mut self,
-        alloc: Global,
-        under: Tabled,
-        constant: &[bool],
-        at: u32,
-    ) -> Result<Option<Value>, OutOfMemory> {
-        match under.rows.get(at as usize) {
-            Some(row) => match &row.label {
-                Label::Literal { kind } => self.literal(alloc, kind),
-                Label::Name { .. } => Ok(self.referred(under, constant, at)),
-                Label::Select => Ok(self.referred(under, constant, at)),
-                Label::SuperSelect => Ok(self.referred(under, constant, at)),
-                Label::Paren => Ok(self.first(under.rows, at)),
-                Label::Cast => Ok(self.cast_value(under, at)),
-                Label::Unary { op } => Ok(self.unary(under.rows, at, *op)),
-                Label::Binary { op } => self.binary(alloc, under.rows, at, *op),
-                Label::Conditional => Ok(self.chosen_value(under.rows, at)),
-                _ => Ok(None),
-            },
-            None => Ok(None),
-        }
-    }
-
     fn set_value(
         &mut self,
         alloc: Global,
@@ -310,7 +129,15 @@ impl Constants {
         constant: &[bool],
         at: u32,
     ) -> Result<(), OutOfMemory> {
-        let value = self.value_of(alloc, under, constant, at)?;
+        let value = value_of(
+            alloc,
+            under,
+            constant,
+            &self.variables,
+            &self.values,
+            &mut self.texts,
+            at,
+        )?;
         if let Some(place) = self.values.get_mut(at as usize) {
             *place = value;
         }

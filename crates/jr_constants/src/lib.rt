@@ -3,6 +3,7 @@
 
 mod constants;
 mod operators;
+mod row_value;
 mod texts;
 mod value;
 

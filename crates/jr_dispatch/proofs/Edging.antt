@@ -1,5 +1,5 @@
 -- The methods that a class has, and what calls of them find there.
-use Rattle.std.proofs.Common.{◌≡◌, ◌⊎◌, refl, sym, ◌∙◌, ap, subst, ⊎_elim, arith, ℕ, true, List, [], ◌∷◌, ◌++◌, map, flat_map, append-nil, append_assoc, Option, Some, None, nat_eq}
+use Rattle.std.proofs.Common.{◌≡◌, refl, sym, ◌∙◌, ap, subst, ⊎_elim, arith, ℕ, true, List, [], ◌∷◌, ◌++◌, map, flat_map, append-nil, append_assoc, Option, Some, None, nat_eq}
 use Rattle.std.specs.List.Sorted.{IsStrictlyIncreasing}
 use Rattle.std.proofs.lemmas.List.Sorted.{list_any-IsPermutation}
 use Rattle.jr_rows.specs.Rows.{Rows}

@@ -9,3 +9,5 @@ mod Climbing
 mod Descending
 mod Ascending
 mod Edging
+mod Linking
+mod Spreading

@@ -135,7 +135,7 @@ module _ (test : ℕ → ℕ → Bool) (m k : ℕ) (like : List ℕ) where
 -- ---- methods of one name
 
 module _ (p : Rows) where
-  named_listed : (x : ℕ) → Lists (falling (length p) (is_named p kind.Method x)) (λ d. (role_at p d ≡ role.Method) × (((c : ℕ) × DeclaredIn p c d) × (name_row p d ≡ x)))
+  pub named_listed : (x : ℕ) → Lists (falling (length p) (is_named p kind.Method x)) (λ d. (role_at p d ≡ role.Method) × (((c : ℕ) × DeclaredIn p c d) × (name_row p d ≡ x)))
   named_listed x = falling_lists (is_named p kind.Method x) (λ d. (role_at p d ≡ role.Method) × (((c : ℕ) × DeclaredIn p c d) × (name_row p d ≡ x))) (length p)
       (λ d. both (role_tells (role_at p d) role.Method) (both (some_tells (λ c. DeclaredIn p c d) (declaring_type p d) (declaring_finds p d)) (Decides-eqb (name_row p d) x)))
       (λ d k. member_below p d k.1.0.1.member)

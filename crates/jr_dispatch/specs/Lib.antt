@@ -1,3 +1,4 @@
 pub mod Overridden
 pub mod Methods
 pub mod Dispatching
+pub mod Families

@@ -11,6 +11,8 @@ use Rattle.jr_supers.specs.Supers.{AreSupersOf}
 use Rattle.jr_members.specs.declared.declared.MemberKind.TheVariants as kind
 use Rattle.jr_members.specs.Held.{ObjectIsBare}
 use Rattle.jr_members.specs.Keys.{AreCallables, AreDeclared}
+use Rattle.jr_members.specs.declared.members.World.{World}
+use Rattle.jr_members.specs.Worlds.{IsWorld}
 use Rattle.jr_dispatch.specs.declared.dispatch.Methods as methods
 use Rattle.jr_dispatch.specs.declared.called.Called as called
 
@@ -36,3 +38,8 @@ pub record AreMethods (p : Rows) (t : Table) (all : methods.Methods) : Type 0 wh
   pub signatures : AreSignatures p t all.callables.now.signatures
   pub callables : AreCallables p all.callables.now
   pub declared : AreDeclared p kind.Method all.declared.now
+
+-- a world in which Object names nothing in its header
+pub record IsWholeWorld (t : Table) (world : World) : Type 0 where
+  pub world_is : IsWorld t world
+  pub bare : ObjectIsBare world.under.rows.now

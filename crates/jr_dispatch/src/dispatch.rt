@@ -14,7 +14,7 @@ ghost use Rattle.jr_supers.specs.Signatures.{AreSignatures};
 ghost use Rattle.jr_supers.specs.Supers.{AreSupersOf, ListsOnce, SortsOnce, once, is_last as is_last_of};
 ghost use Rattle.jr_tables.specs.Stamps.{IsStamping};
 ghost use Rattle.jr_members.specs.Held.{ObjectIsBare};
-ghost use Rattle.jr_dispatch.specs.Methods.{AreMethods};
+ghost use Rattle.jr_dispatch.specs.Methods.{AreMethods, IsWholeWorld};
 ghost use Rattle.jr_dispatch.specs.Overridden as tell;
 ghost use Rattle.jr_dispatch.specs.Dispatching as dispatching;
 
@@ -100,7 +100,7 @@ fn latest(before: Option<u32>, at: u32, is: bool) -> Option<u32>
     if is { Some(at) } else { before }
 }
 
-fn item_at(all: &[u32], at: usize) -> Option<u32>
+pub fn item_at(all: &[u32], at: usize) -> Option<u32>
     ensures { result ≡ slice_get all.now at }
 {
     match all.get(at) {
@@ -141,7 +141,7 @@ fn without_repeats(alloc: Global, all: &[u32]) -> Result<Vec<u32>, OutOfMemory>
 }
 
 // The items in order, each once.
-fn sorted_once(alloc: Global, all: &mut [u32]) -> Result<Vec<u32>, OutOfMemory>
+pub fn sorted_once(alloc: Global, all: &mut [u32]) -> Result<Vec<u32>, OutOfMemory>
     ensures { IfOk result (λ out. SortsOnce all.old out.items) }
 {
     all.sort_unstable();
@@ -182,7 +182,10 @@ pub struct Methods<'a> {
 
 impl<'a> Methods<'a> {
     /// Those of a world.
-    pub fn of(world: &World<'a>) -> Methods<'a> {
+    pub fn of(world: &World<'a>) -> Methods<'a>
+        ensures under { result.under ≡ world.now.under }
+        ensures methods { (t : Table) → IsWholeWorld t world.now → AreMethods world.now.under.rows.now t result }
+    {
         Methods {
             under: world.under,
             supers: world.supers,

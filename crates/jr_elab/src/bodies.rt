@@ -2,9 +2,10 @@
 
 use crate::statements::{Making, make};
 use jr_base::{Boxed, DeclId, Items, OutOfMemory};
+use jr_codes::{Parts, Source, add, constant_of, type_of};
 use jr_core::{Body, Code};
 use jr_defs::{Element, RowType};
-use jr_expressions::{Parts, Source, add, constant_of, this_of, type_of};
+use jr_expressions::this_of;
 use jr_members::{is_static, written_at};
 use jr_rows::Label;
 use jr_ty::Const;

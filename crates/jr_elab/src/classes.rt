@@ -1,9 +1,9 @@
 // Classes and interfaces (JLS 8.1, 9.1).
 
 use jr_base::{DeclId, Items, OutOfMemory, TypeId};
+use jr_codes::{Source, add};
 use jr_core::Class;
 use jr_dispatch::Methods;
-use jr_expressions::{Source, add};
 use jr_members::{declaring_type, is_inner};
 use jr_places::{is_interface, is_type};
 use jr_rows::Label;

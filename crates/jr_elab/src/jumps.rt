@@ -2,10 +2,11 @@
 
 use crate::statements::Making;
 use jr_base::{Boxed, DeclId, OutOfMemory, TypeId};
+use jr_codes::{Parts, Source};
 use jr_constants::as_int;
 use jr_core::{Catch, Code, Group, SwitchLabel};
 use jr_defs::{Element, RowType};
-use jr_expressions::{Parts, Source, converted};
+use jr_expressions::converted;
 
 // The labeled statement that a jump names.
 fn target(source: &Source, at: u32, has_label: bool) -> Result<Option<DeclId>, OutOfMemory> {

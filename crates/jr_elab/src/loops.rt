@@ -1,8 +1,8 @@
 // Loops (JLS 14.12 to 14.14).
 
 use jr_base::{Boxed, Items, OutOfMemory};
+use jr_codes::{Parts, Source};
 use jr_core::Code;
-use jr_expressions::{Parts, Source};
 use jr_rows::Label;
 
 /// `do body while (cond);`

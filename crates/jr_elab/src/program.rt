@@ -3,8 +3,8 @@
 use crate::bodies::bodies_of;
 use crate::classes::classes_of;
 use jr_base::OutOfMemory;
+use jr_codes::{Ids, Source};
 use jr_core::Core;
-use jr_expressions::{Ids, Source};
 use jr_view::View;
 use std::alloc::Global;
 

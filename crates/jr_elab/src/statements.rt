@@ -3,9 +3,10 @@
 use crate::jumps::{catch, group, jump, returned, switch, switch_case, switch_default, try_catch};
 use crate::loops::{do_while, for_loop, while_loop};
 use jr_base::OutOfMemory;
+use jr_codes::{Parts, Source};
 use jr_core::{Catch, Code, Group, SwitchLabel};
 use jr_defs::RowType;
-use jr_expressions::{Parts, Source, add_constant, add_expression};
+use jr_expressions::{add_constant, add_expression};
 use jr_rows::Label;
 use std::alloc::Global;
 

@@ -1,88 +1,166 @@
 // Calls and creations (JLS 8.8.7, 15.9, 15.12).
+ghost use Rattle.std.specs.Prelude.{◌≡◌, true, false, [], IfOk, OnOk, Some, None};
+ghost use Rattle.jr_core.specs.declared.code.Code.TheVariants as c;
+ghost use Rattle.jr_codes.specs.Making.{code, of_none};
+ghost use Rattle.jr_codes.specs.Waiting.{waiting};
+ghost use Rattle.jr_rows.specs.declared.label.ReceiverKind.TheVariants as on;
+ghost use Rattle.jr_defs.specs.declared.referent.Referent.TheVariants as r;
+ghost use Rattle.jr_expressions.specs.Names as names;
+ghost use Rattle.jr_expressions.specs.Calls as made;
+ghost use Rattle.jr_supers.specs.Signatures.{AreSignatures, nth_of};
+ghost use Rattle.jr_expressions.specs.Passing.{AddsArgument, TakesArguments};
+ghost use Rattle.jr_codes.specs.Reads.{rows_of, table_of, signatures_of, facts, Becomes};
 
 use crate::conversions::converted;
 use crate::names::this_at;
-use crate::parts::{Parts, add_boxed};
-use crate::source::Source;
 use jr_base::{Boxed, Items, OutOfMemory};
+use jr_codes::{Parts, Source, add_item};
 use jr_core::Code;
 use jr_defs::{Referent, RowType};
 use jr_members::{constructed_class, is_inner, is_static};
+use jr_places::role_at;
 use jr_rows::ReceiverKind;
+use jr_supers::is_callable;
 use jr_tree::ThisOrSuper;
 
-/// What a call refers to: the method or constructor, and the class as whose member it was found, or whose instance encloses the new object.
-#[derive(Clone, Copy)]
-struct Called {
-    row: u32,
-    level: Option<u32>,
-}
-
-fn callee(source: &Source, at: u32) -> Result<Called, OutOfMemory> {
-    match source.under().referent(at) {
-        Referent::Declared { row, level } => Ok(Called { row, level }),
-        _ => Err(OutOfMemory),
+fn counted(count: usize) -> Result<u32, OutOfMemory>
+    ensures { IfOk result (λ number. number ≡ count) }
+{
+    match u32::try_from(count) {
+        Ok(number) => Ok(number),
+        Err(_) => Err(OutOfMemory),
     }
 }
 
-fn parameter(source: &Source, row: u32, nth: u32) -> Result<RowType, OutOfMemory> {
-    let members = source.world().members;
-    match members.signatures().parameter(row, nth) {
+// The type of a parameter, counted from 0.
+fn parameter(source: &Source, method: u32, nth: u32) -> Result<RowType, OutOfMemory>
+    ensures { IfOk result (λ ty. AreSignatures (rows_of source.now) (table_of source.now) (signatures_of source.now) → nth_of ((facts source.now).parameters method) nth ≡ Some ty) }
+{
+    if !is_callable(role_at(source.rows(), method)) {
+        return Err(OutOfMemory);
+    }
+    match source.parameter(method, nth) {
         Some(ty) => Ok(ty),
         None => Err(OutOfMemory),
     }
 }
 
-// The arguments of a call, from this row on, as values of the types of the parameters.
+// Adds the code of a row as the next argument of a call.
+fn add_argument(
+    source: &Source,
+    codes: &mut Parts<Code>,
+    all: &mut Items<Code>,
+    method: u32,
+    row: u32,
+) -> Result<(), OutOfMemory>
+    ensures { OnOk result (AddsArgument source.now method row (waiting codes.old) (waiting codes.new) all.old all.new) }
+{
+    let nth = counted(all.len())?;
+    let wanted = parameter(source, method, nth)?;
+    let argument = converted(source, codes, row, wanted)?;
+    add_item(all, argument)
+}
+
+// The arguments that stand before a row, as values of the types of the parameters.
 fn arguments(
     source: &Source,
     codes: &mut Parts<Code>,
-    at: u32,
-    from: u32,
     method: u32,
-) -> Result<Items<Code>, OutOfMemory> {
+    end: u32,
+) -> Result<Items<Code>, OutOfMemory>
+    ensures { IfOk result (λ all. TakesArguments source.now method end (waiting codes.old) (waiting codes.new) all) }
+{
     let mut all = Items::new(source.alloc);
-    let end = source.end(at);
-    let mut child = from;
-    for turn in from..end {
-        if child >= end {
-            break;
-        }
-        let wanted = parameter(source, method, turn.saturating_sub(from))?;
-        add_boxed(&mut all, converted(source, codes, child, wanted))?;
-        child = source.end(child);
+    while let Some(row) = codes.next(end) {
+        add_argument(source, codes, &mut all, method, row)?;
     }
     Ok(all)
 }
 
-// The object on which a method without a receiver is called.
-fn implied_object(source: &Source, method: Called) -> Result<Option<Boxed<Code>>, OutOfMemory> {
-    if is_static(source.rows(), method.row) {
-        return Ok(None);
-    }
-    Ok(Some(this_at(source, method.level)?))
+// ---- calls of methods
+
+fn call_on(
+    source: &Source,
+    codes: &mut Parts<Code>,
+    at: u32,
+    row: u32,
+    receiver: Option<Boxed<Code>>,
+    is_super: bool,
+) -> Result<(), OutOfMemory>
+    ensures { OnOk result (Becomes source.now at (λ parts. made.call_on (facts source.now) row receiver is_super parts) (waiting codes.old) (waiting codes.new)) }
+{
+    let args = arguments(source, codes, row, source.end(at))?;
+    let method = source.decl(row);
+    codes.push(
+        at,
+        Code::Call {
+            receiver,
+            is_super,
+            method,
+            args,
+        },
+    )
 }
 
-fn object_of_call(
+// A method of the object of the class as whose member it was found.
+fn own_call(
+    source: &Source,
+    codes: &mut Parts<Code>,
+    at: u32,
+    row: u32,
+    level: Option<u32>,
+) -> Result<(), OutOfMemory>
+    ensures { OnOk result (Becomes source.now at (λ parts. made.call_alone (facts source.now) row (names.object (facts source.now) level) parts) (waiting codes.old) (waiting codes.new)) }
+{
+    let on = Some(this_at(source, level)?);
+    call_on(source, codes, at, row, on, false)
+}
+
+// A call with no dot.
+fn call_alone(
+    source: &Source,
+    codes: &mut Parts<Code>,
+    at: u32,
+    row: u32,
+    level: Option<u32>,
+) -> Result<(), OutOfMemory>
+    ensures { OnOk result (Becomes source.now at (λ parts. made.call_by on.Absent (facts source.now) at row level parts) (waiting codes.old) (waiting codes.new)) }
+{
+    if is_static(source.rows(), row) {
+        call_on(source, codes, at, row, None, false)
+    } else {
+        own_call(source, codes, at, row, level)
+    }
+}
+
+// A call behind a dot.
+fn call_behind(
+    source: &Source,
+    codes: &mut Parts<Code>,
+    at: u32,
+    row: u32,
+) -> Result<(), OutOfMemory>
+    ensures { OnOk result (Becomes source.now at (λ parts. made.call_behind (facts source.now) at row parts) (waiting codes.old) (waiting codes.new)) }
+{
+    let on = codes.boxed_if(source.alloc, source.child(at))?;
+    call_on(source, codes, at, row, on, false)
+}
+
+fn call_by(
     source: &Source,
     codes: &mut Parts<Code>,
     at: u32,
     kind: ReceiverKind,
-    method: Called,
-) -> Result<Option<Boxed<Code>>, OutOfMemory> {
+    row: u32,
+    level: Option<u32>,
+) -> Result<(), OutOfMemory>
+    ensures { OnOk result (Becomes source.now at (λ parts. made.call_by kind (facts source.now) at row level parts) (waiting codes.old) (waiting codes.new)) }
+{
     match kind {
-        ReceiverKind::Absent => implied_object(source, method),
-        ReceiverKind::Super => Ok(None),
-        ReceiverKind::Expression | ReceiverKind::Name => {
-            codes.boxed_if(source.alloc, source.child(at))
-        }
-    }
-}
-
-fn first_argument(source: &Source, at: u32, kind: ReceiverKind) -> u32 {
-    match kind {
-        ReceiverKind::Absent | ReceiverKind::Super => source.first(at),
-        ReceiverKind::Expression | ReceiverKind::Name => source.second(at),
+        ReceiverKind::Absent => call_alone(source, codes, at, row, level),
+        ReceiverKind::Super => call_on(source, codes, at, row, None, true),
+        ReceiverKind::Expression => call_behind(source, codes, at, row),
+        ReceiverKind::Name => call_behind(source, codes, at, row),
     }
 }
 
@@ -92,46 +170,108 @@ pub fn call(
     codes: &mut Parts<Code>,
     at: u32,
     kind: ReceiverKind,
-) -> Result<(), OutOfMemory> {
-    let method = callee(source, at)?;
-    let receiver = object_of_call(source, codes, at, kind, method)?;
-    let first = first_argument(source, at, kind);
-    let args = arguments(source, codes, at, first, method.row)?;
-    codes.push(
-        at,
-        Code::Call {
-            receiver,
-            is_super: kind == ReceiverKind::Super,
-            method: source.decl(method.row),
-            args,
-        },
-    )
+) -> Result<(), OutOfMemory>
+    ensures { OnOk result (Becomes source.now at (λ parts. made.call_made ((facts source.now).refers at) kind (facts source.now) at parts) (waiting codes.old) (waiting codes.new)) }
+{
+    match source.under().referent(at) {
+        Referent::Declared { row, level } => call_by(source, codes, at, kind, row, level),
+        _ => Err(OutOfMemory),
+    }
 }
 
-// The object that encloses the new one, where its class is an inner class.
-fn enclosing_object(source: &Source, made: Called) -> Result<Option<Boxed<Code>>, OutOfMemory> {
-    match constructed_class(source.rows(), made.row) {
-        Some(class) => {
-            if is_inner(source.rows(), class) {
-                Ok(Some(this_at(source, made.level)?))
-            } else {
-                Ok(None)
-            }
-        }
-        None => Ok(None),
+// ---- creations
+
+fn is_of_inner(source: &Source, class: Option<u32>) -> bool
+    ensures { result ≡ made.is_of_inner (facts source.now) class }
+{
+    match class {
+        Some(class) => is_inner(source.rows(), class),
+        None => false,
+    }
+}
+
+fn new_in(
+    source: &Source,
+    codes: &mut Parts<Code>,
+    at: u32,
+    row: u32,
+    outer: Option<Boxed<Code>>,
+) -> Result<(), OutOfMemory>
+    ensures { OnOk result (Becomes source.now at (λ parts. made.new_in (facts source.now) row outer parts) (waiting codes.old) (waiting codes.new)) }
+{
+    let args = arguments(source, codes, row, source.end(at))?;
+    let ctor = source.decl(row);
+    codes.push(at, Code::New { outer, ctor, args })
+}
+
+// An object that another one encloses.
+fn new_inside(
+    source: &Source,
+    codes: &mut Parts<Code>,
+    at: u32,
+    row: u32,
+    level: Option<u32>,
+) -> Result<(), OutOfMemory>
+    ensures { OnOk result (Becomes source.now at (λ parts. made.new_inside (facts source.now) row (names.object (facts source.now) level) parts) (waiting codes.old) (waiting codes.new)) }
+{
+    let outer = Some(this_at(source, level)?);
+    new_in(source, codes, at, row, outer)
+}
+
+fn new_of(
+    source: &Source,
+    codes: &mut Parts<Code>,
+    at: u32,
+    row: u32,
+    level: Option<u32>,
+) -> Result<(), OutOfMemory>
+    ensures { OnOk result (Becomes source.now at (λ parts. made.new_made (r.Declared row level) (facts source.now) at parts) (waiting codes.old) (waiting codes.new)) }
+{
+    if is_of_inner(source, constructed_class(source.rows(), row)) {
+        new_inside(source, codes, at, row, level)
+    } else {
+        new_in(source, codes, at, row, None)
     }
 }
 
 /// A creation of an object.
-pub fn creation(source: &Source, codes: &mut Parts<Code>, at: u32) -> Result<(), OutOfMemory> {
-    let made = callee(source, at)?;
-    let outer = enclosing_object(source, made)?;
-    let args = arguments(source, codes, at, source.second(at), made.row)?;
+pub fn creation(source: &Source, codes: &mut Parts<Code>, at: u32) -> Result<(), OutOfMemory>
+    ensures { OnOk result (Becomes source.now at (λ parts. made.new_made ((facts source.now).refers at) (facts source.now) at parts) (waiting codes.old) (waiting codes.new)) }
+{
+    match source.under().referent(at) {
+        Referent::Declared { row, level } => new_of(source, codes, at, row, level),
+        _ => Err(OutOfMemory),
+    }
+}
+
+// ---- calls of constructors
+
+fn is_super_of(which: ThisOrSuper) -> bool
+    ensures { result ≡ made.is_super_of which }
+{
+    match which {
+        ThisOrSuper::This => false,
+        ThisOrSuper::Super => true,
+    }
+}
+
+fn constructor_of(
+    source: &Source,
+    codes: &mut Parts<Code>,
+    at: u32,
+    which: ThisOrSuper,
+    row: u32,
+) -> Result<(), OutOfMemory>
+    ensures { OnOk result (Becomes source.now at (λ parts. made.constructor_of which (facts source.now) row parts) (waiting codes.old) (waiting codes.new)) }
+{
+    let args = arguments(source, codes, row, source.end(at))?;
+    let is_super = is_super_of(which);
+    let ctor = source.decl(row);
     codes.push(
         at,
-        Code::New {
-            outer,
-            ctor: source.decl(made.row),
+        Code::CtorCall {
+            is_super,
+            ctor,
             args,
         },
     )
@@ -143,34 +283,43 @@ pub fn constructor_call(
     codes: &mut Parts<Code>,
     at: u32,
     which: ThisOrSuper,
-) -> Result<(), OutOfMemory> {
-    let made = callee(source, at)?;
-    let args = arguments(source, codes, at, source.first(at), made.row)?;
-    let is_super = match which {
-        ThisOrSuper::This => false,
-        ThisOrSuper::Super => true,
-    };
+) -> Result<(), OutOfMemory>
+    ensures { OnOk result (Becomes source.now at (λ parts. made.constructor_call_made ((facts source.now).refers at) which (facts source.now) parts) (waiting codes.old) (waiting codes.new)) }
+{
+    match source.under().referent(at) {
+        Referent::Declared { row, .. } => constructor_of(source, codes, at, which, row),
+        _ => Err(OutOfMemory),
+    }
+}
+
+// `super()`
+fn implicit_of(
+    source: &Source,
+    codes: &mut Parts<Code>,
+    at: u32,
+    row: u32,
+) -> Result<(), OutOfMemory>
+    ensures { OnOk result (Becomes source.now at (λ parts. of_none parts (code (c.CtorCall true ((facts source.now).decl row) []))) (waiting codes.old) (waiting codes.new)) }
+{
+    let is_super = true;
+    let ctor = source.decl(row);
+    let args = Items::new(source.alloc);
     codes.push(
         at,
         Code::CtorCall {
             is_super,
-            ctor: source.decl(made.row),
+            ctor,
             args,
         },
     )
 }
 
 /// The call `super()` of a constructor that begins with no call of a constructor. That of Object calls none.
-pub fn implicit_call(source: &Source, codes: &mut Parts<Code>, at: u32) -> Result<(), OutOfMemory> {
-    match source.under().declared(at) {
-        Some(row) => codes.push(
-            at,
-            Code::CtorCall {
-                is_super: true,
-                ctor: source.decl(row),
-                args: Items::new(source.alloc),
-            },
-        ),
-        None => Ok(()),
+pub fn implicit_call(source: &Source, codes: &mut Parts<Code>, at: u32) -> Result<(), OutOfMemory>
+    ensures { OnOk result (Becomes source.now at (λ parts. made.implicit_call_made ((facts source.now).refers at) (facts source.now) parts) (waiting codes.old) (waiting codes.new)) }
+{
+    match source.under().referent(at) {
+        Referent::Declared { row, .. } => implicit_of(source, codes, at, row),
+        _ => Ok(()),
     }
 }

@@ -1,4 +1,11 @@
 // Expressions by what their rows are (JLS 15).
+ghost use Rattle.std.specs.Prelude.{None, OnOk};
+ghost use Rattle.jr_core.specs.declared.code.Code.TheVariants as c;
+ghost use Rattle.jr_constants.specs.Values.{value_in};
+ghost use Rattle.jr_codes.specs.Making.{of_none, of_one, code};
+ghost use Rattle.jr_codes.specs.Waiting.{waiting};
+ghost use Rattle.jr_expressions.specs.Expressions as made;
+ghost use Rattle.jr_codes.specs.Reads.{texts_of, facts, Becomes};
 
 use crate::arrays::{index, list, new_array, value};
 use crate::calls::{call, constructor_call, creation, implicit_call};
@@ -7,12 +14,24 @@ use crate::names::{name, select, super_select, this};
 use crate::operators::{
     assign, binary, cast, conditional, instance_test, step_after, step_before, unary,
 };
-use crate::parts::Parts;
-use crate::source::Source;
 use jr_base::OutOfMemory;
+use jr_codes::{Parts, Source};
 use jr_constants::Value;
 use jr_core::Code;
 use jr_rows::Label;
+
+// A constant expression that stands in no other one.
+fn whole_constant(
+    source: &Source,
+    codes: &mut Parts<Code>,
+    at: u32,
+    value: Value,
+) -> Result<(), OutOfMemory>
+    ensures { OnOk result (Becomes source.now at (λ parts. of_none parts (code (c.Lit (Some (value_in (texts_of source.now) value))))) (waiting codes.old) (waiting codes.new)) }
+{
+    let made = literal(source, value)?;
+    codes.push_boxed(at, made)
+}
 
 /// Makes a constant expression, unless it stands in another one.
 pub fn add_constant(
@@ -20,11 +39,28 @@ pub fn add_constant(
     codes: &mut Parts<Code>,
     at: u32,
     value: Value,
-) -> Result<(), OutOfMemory> {
+) -> Result<(), OutOfMemory>
+    ensures { OnOk result (Becomes source.now at (λ parts. made.constant_made (value_in (texts_of source.now) value) (facts source.now) at parts) (waiting codes.old) (waiting codes.new)) }
+{
     if source.value(source.parent(at)).is_some() {
         return Ok(());
     }
-    codes.push_boxed(at, literal(source, value)?)
+    whole_constant(source, codes, at, value)
+}
+
+// `(e)`
+fn parenthesized(source: &Source, codes: &mut Parts<Code>, at: u32) -> Result<(), OutOfMemory>
+    ensures { OnOk result (Becomes source.now at (λ parts. of_one parts (λ m a. code a)) (waiting codes.old) (waiting codes.new)) }
+{
+    codes.hand_on(source.first(at), at)
+}
+
+// `null`
+fn null(source: &Source, codes: &mut Parts<Code>, at: u32) -> Result<(), OutOfMemory>
+    ensures { OnOk result (Becomes source.now at (λ parts. of_none parts (code (c.Lit None))) (waiting codes.old) (waiting codes.new)) }
+{
+    let _ = source;
+    codes.push(at, Code::Lit { value: None })
 }
 
 // An expression that names something or makes it.
@@ -33,13 +69,15 @@ fn add_named(
     codes: &mut Parts<Code>,
     at: u32,
     label: &Label,
-) -> Result<(), OutOfMemory> {
+) -> Result<(), OutOfMemory>
+    ensures { OnOk result (Becomes source.now at (λ parts. made.named_made label.now (facts source.now) at parts) (waiting codes.old) (waiting codes.new)) }
+{
     match label {
         Label::Name { .. } => name(source, codes, at),
         Label::Select => select(source, codes, at),
         Label::SuperSelect => super_select(source, codes, at),
         Label::This { is_qualified } => this(source, codes, at, *is_qualified),
-        Label::Literal { .. } => codes.push(at, Code::Lit { value: None }),
+        Label::Literal { .. } => null(source, codes, at),
         Label::Call { receiver } => call(source, codes, at, *receiver),
         Label::New => creation(source, codes, at),
         Label::ConstructorCall { which } => constructor_call(source, codes, at, *which),
@@ -59,9 +97,11 @@ pub fn add_expression(
     codes: &mut Parts<Code>,
     at: u32,
     label: &Label,
-) -> Result<(), OutOfMemory> {
+) -> Result<(), OutOfMemory>
+    ensures { OnOk result (Becomes source.now at (λ parts. made.expression_made label.now (facts source.now) at parts) (waiting codes.old) (waiting codes.new)) }
+{
     match label {
-        Label::Paren => codes.hand_on(source.first(at), at),
+        Label::Paren => parenthesized(source, codes, at),
         Label::Index => index(source, codes, at),
         Label::Value => value(source, codes, at),
         Label::List => list(source, codes, at),

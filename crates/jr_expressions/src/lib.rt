@@ -4,20 +4,11 @@
 
 mod arrays;
 mod calls;
-mod constants;
 mod conversions;
 mod expressions;
-mod ids;
 mod names;
 mod operators;
-mod parts;
-mod source;
-mod symbols;
 
-pub use constants::{constant_of, type_of};
 pub use conversions::converted;
 pub use expressions::{add_constant, add_expression};
-pub use ids::Ids;
 pub use names::this_of;
-pub use parts::{Parts, add};
-pub use source::Source;

@@ -1,1 +1,5 @@
 pub mod Answering
+pub mod Scoping
+pub mod Outward
+pub mod Instancing
+pub mod Leveling

@@ -1,5 +1,5 @@
 // What an occurrence may refer to, and the answer (JLS 6.5).
-ghost use Rattle.std.specs.Prelude.{◌≡◌, nat_eq};
+ghost use Rattle.std.specs.Prelude.{◌≡◌, [], None, nat_eq};
 ghost use Rattle.std.specs.List.{list_all};
 ghost use Rattle.jr_plain.specs.Lists.{at_level};
 ghost use Rattle.jr_plain.specs.Referents as plain;
@@ -38,7 +38,10 @@ fn answer_of(found: &[u32], level: Option<u32>, otherwise: Referent) -> Referent
 
 impl Candidates {
     /// None.
-    pub fn none(alloc: Global) -> Candidates {
+    pub fn none(alloc: Global) -> Candidates
+        ensures rows { result.rows.items ≡ [] }
+        ensures level { result.level ≡ None }
+    {
         Candidates {
             rows: Vec::new(alloc),
             level: None,

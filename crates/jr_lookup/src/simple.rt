@@ -1,8 +1,15 @@
 // Names without a dot (JLS 6.3, 6.3.1, 6.5.2, 15.12.1).
-ghost use Rattle.std.specs.Prelude.{◌≡◌};
+ghost use Rattle.std.specs.Prelude.{◌≡◌, IfOk, Decides};
+ghost use Rattle.jr_base.specs.declared.text.Text.{Text};
 ghost use Rattle.jr_rows.specs.declared.label.Role.TheVariants as role;
 ghost use Rattle.jr_rows.specs.Rows as program;
+ghost use Rattle.jr_defs.specs.Lookup.{MethodLevel};
+ghost use Rattle.jr_defs.specs.Referents.{Table};
 ghost use Rattle.jr_plain.specs.Same as same;
+ghost use Rattle.jr_plain.specs.Search.{Finds};
+ghost use Rattle.jr_members.specs.Worlds.{IsWorld};
+ghost use Rattle.jr_lookup.specs.Levels as tell;
+ghost use Rattle.jr_lookup.specs.Outward.{IsInnermostSuch, IsNumberOf};
 
 use crate::candidates::Candidates;
 use crate::imports::Imports;
@@ -23,13 +30,12 @@ pub struct Sight<'a> {
 }
 
 // Fields have the type through which they are found as their level.
-fn level_of(rows: &[Row], found: &[u32], over: u32) -> Option<u32> {
-    match found.first() {
-        Some(row) => match role_at(rows, *row) {
-            Role::Field => Some(over),
-            _ => None,
-        },
-        None => None,
+fn level_of(kind: MemberKind, over: u32) -> Option<u32>
+    ensures { result ≡ tell.level_by kind over }
+{
+    match kind {
+        MemberKind::Field => Some(over),
+        _ => None,
     }
 }
 
@@ -52,7 +58,7 @@ impl<'a> Sight<'a> {
     fn locals(&self, alloc: Global, place: u32, name: u32) -> Result<Vec<u32>, OutOfMemory> {
         let mut over = place;
         for _turn in 0..=place {
-            if let Some(local) = self.scopes.local(over, name, place) {
+            if let Some(local) = self.scopes.local(alloc, over, name, place)? {
                 let mut found = Vec::new(alloc);
                 found.push(local)?;
                 return Ok(found);
@@ -72,6 +78,50 @@ impl<'a> Sight<'a> {
         Ok(Vec::new(alloc))
     }
 
+    // The type has a member of the kind and name.
+    fn has_member(
+        &self,
+        alloc: Global,
+        kind: MemberKind,
+        over: u32,
+        name: u32,
+    ) -> Result<bool, OutOfMemory>
+        ensures { (t : Table) → IsWorld t self.now.world → IfOk result (λ is. Decides is (tell.HasMemberAs self.now.world.under.rows.now t kind name over)) }
+    {
+        let found = self.world.named(alloc, kind, over, name)?;
+        Ok(!found.is_empty())
+    }
+
+    // The innermost type round the place that has a member of the kind and name.
+    fn innermost_with(
+        &self,
+        alloc: Global,
+        kind: MemberKind,
+        place: u32,
+        name: u32,
+    ) -> Result<Option<u32>, OutOfMemory>
+        ensures { (t : Table) → IsWorld t self.now.world → IfOk result (λ found. Finds found (IsInnermostSuch self.now.world.under.rows.now (tell.HasMemberAs self.now.world.under.rows.now t kind name) place)) }
+    {
+        if !self.world.members.kind(kind).has_name(name) {
+            return Ok(None);
+        }
+        let mut around = self.world.under.places.around(place);
+        for _turn in 0..place {
+            match around {
+                Some(over) => {
+                    let is_such = self.has_member(alloc, kind, over, name)?;
+                    if is_such {
+                        return Ok(Some(over));
+                    }
+                    let next = self.world.under.places.around(over);
+                    around = next;
+                }
+                None => return Ok(None),
+            }
+        }
+        Ok(None)
+    }
+
     // The members of the name of the innermost type round the place that has any.
     fn members_around(
         &self,
@@ -79,23 +129,18 @@ impl<'a> Sight<'a> {
         kind: MemberKind,
         place: u32,
         name: u32,
-    ) -> Result<Candidates, OutOfMemory> {
-        if !self.world.members.kind(kind).has_name(name) {
-            return Ok(Candidates::none(alloc));
-        }
-        let mut around = self.world.under.places.around(place);
-        for _turn in 0..=place {
-            let Some(over) = around else {
-                return Ok(Candidates::none(alloc));
-            };
-            let rows = self.world.named(alloc, kind, over, name)?;
-            if !rows.is_empty() {
-                let level = level_of(self.rows(), &rows, over);
-                return Ok(Candidates { rows, level });
+    ) -> Result<Candidates, OutOfMemory>
+        ensures { (t : Table) → IsWorld t self.now.world → IfOk result (λ found. tell.AreMembersAround self.now.world.under.rows.now t kind place name found.rows.items found.level) }
+    {
+        let found = self.innermost_with(alloc, kind, place, name)?;
+        match found {
+            Some(over) => {
+                let rows = self.world.named(alloc, kind, over, name)?;
+                let level = level_of(kind, over);
+                Ok(Candidates { rows, level })
             }
-            around = self.world.under.places.around(over);
+            None => Ok(Candidates::none(alloc)),
         }
-        Ok(Candidates::none(alloc))
     }
 
     /// The innermost type round the place that has a member method of the name (JLS 15.12.1).
@@ -104,22 +149,10 @@ impl<'a> Sight<'a> {
         alloc: Global,
         place: u32,
         name: u32,
-    ) -> Result<Option<u32>, OutOfMemory> {
-        if !self.world.members.kind(MemberKind::Method).has_name(name) {
-            return Ok(None);
-        }
-        let mut around = self.world.under.places.around(place);
-        for _turn in 0..=place {
-            let Some(over) = around else {
-                return Ok(None);
-            };
-            let found = self.world.named(alloc, MemberKind::Method, over, name)?;
-            if !found.is_empty() {
-                return Ok(Some(over));
-            }
-            around = self.world.under.places.around(over);
-        }
-        Ok(None)
+    ) -> Result<Option<u32>, OutOfMemory>
+        ensures { (t : Table) (x : Text) → IsWorld t self.now.world → IsNumberOf self.now.world.under.rows.now name x → IfOk result (λ found. Finds found (MethodLevel self.now.world.under.rows.now t x place)) }
+    {
+        self.innermost_with(alloc, MemberKind::Method, place, name)
     }
 
     /// The unit whose imports hold at the place: in its types, and not in the imports themselves (JLS 6.3).

@@ -1,6 +1,6 @@
 -- Lists under keys, and more of them.
 use Rattle.std.proofs.Common.{◌≡◌, ◌⊎◌, refl, sym, ◌∙◌, ap, ap₂, subst, inl, inr, ⊎_elim, arith, ℕ, zero, suc, ◌<◌, Bool, true, false, cond, ◌&&◌, ◌||◌, List, [], ◌∷◌, ◌++◌, append_assoc, append-nil, map, length, length-append, Option, Some, None, is_some, nat_eq, Decides}
-use Rattle.std.proofs.lemmas.Bool.{false≢true, or_left, or_right, or_cases, and_from, and_parts}
+use Rattle.std.proofs.lemmas.Bool.{false≢true, false_from_ne_true, cond_both, or_left, or_right, or_cases, and_from, and_parts}
 use Rattle.std.proofs.lemmas.Bool.Decides.{Decides-eqb}
 use Rattle.std.proofs.Math.Seq.{get_or-append_seam}
 use Rattle.std.proofs.Math.ListN.{get_or-append}
@@ -15,7 +15,10 @@ use Rattle.jr_supers.proofs.Keys.{item_in, item_of}
 use Rattle.jr_members.specs.declared.declared.MemberKind.{MemberKind}
 use Rattle.jr_members.specs.Keys.{entry_for}
 use Rattle.jr_members.specs.Held.{IsHeldAs}
+use Rattle.jr_members.specs.Each.{StandOnce, ListsEach}
 use Rattle.jr_members.specs.Named.{under, has_list, entries_for, IsTold, AreLists, IsDone}
+use Rattle.jr_members.specs.Gathered.{KeepsLists}
+use Rattle.jr_members.proofs.Each.{not_both, front_has, rest_has}
 
 -- ---- a list is there where it has items
 
@@ -83,6 +86,21 @@ all_added (r ∷ all) lists c x e y d = let rest = all_added all (lists ++ entry
           (λ h. ⊎_elim (λ a. inl (one.1 (inr (h.0, h.1, (Decides-eqb r d).0 a)))) (λ a. inr (h.0, h.1, a)) (or_cases (nat_eq r d) (has all d) h.2)) k)),
     )
 
+-- ---- each once
+
+one_once : (lists : List Entry) (c x r e y : ℕ) → StandOnce (under lists e y) → has (under lists c x) r ≡ false → StandOnce (under (lists ++ entry_for c x r ∷ []) e y)
+one_once lists c x r e y h apart = subst StandOnce (sym (under_pushed lists (entry_for c x r) e y)) (cond_both (nat_eq c e && nat_eq x y) (r ∷ under lists e y) (under lists e y) StandOnce
+    (λ key. let both = and_parts (nat_eq c e) (nat_eq x y) key in (subst (λ e. has (under lists e y) r ≡ false) ((Decides-eqb c e).0 both.0) (subst (λ y. has (under lists c y) r ≡ false) ((Decides-eqb x y).0 both.1) apart), h))
+    (λ key. h))
+
+all_once : (all : List ℕ) (lists : List Entry) (c x : ℕ) → StandOnce all → ((d : ℕ) → has all d ≡ true → has (under lists c x) d ≡ false) → ((e y : ℕ) → StandOnce (under lists e y)) → (e y : ℕ) → StandOnce (under (lists ++ entries_for c x all) e y)
+all_once [] lists c x stand apart h e y = subst (λ l. StandOnce (under l e y)) (sym (append-nil lists)) (h e y)
+all_once (r ∷ all) lists c x stand apart h e y = subst (λ l. StandOnce (under l e y)) (append_assoc lists (entry_for c x r ∷ []) (entries_for c x all))
+    (all_once all (lists ++ entry_for c x r ∷ []) c x stand.1 further (λ e y. one_once lists c x r e y (h e y) (apart r (front_has r all))) e y)
+  where
+    further : (d : ℕ) → has all d ≡ true → has (under (lists ++ entry_for c x r ∷ []) c x) d ≡ false
+    further d k = false_from_ne_true _ (λ a. ⊎_elim (λ b. not_both (apart d (rest_has r d all k)) b) (λ b. not_both stand.0 (subst (λ d. has all d ≡ true) (sym b.2) k)) ((one_added lists c x r c x d).0 a))
+
 -- ---- one list more
 
 module _ (p : Rows) (t : Table) (links : List (Option Link)) (kind : MemberKind) where
@@ -96,14 +114,26 @@ module _ (p : Rows) (t : Table) (links : List (Option Link)) (kind : MemberKind)
     held = λ y d k. ⊎_elim (λ a. inl ((all_added all lists c x e y d).1 (inl a))) (λ a. inr a) (h.held y d k);
   }
 
-  module _ (lists : List Entry) (c x : ℕ) (all : List ℕ) (listed : Lists all (IsHeldAs p t kind c x)) where
+  module _ (lists : List Entry) (c x : ℕ) (all : List ℕ) (listed : ListsEach all (IsHeldAs p t kind c x)) where
     pub new_told : IsTold p t kind (lists ++ entries_for c x all) c x
-    new_told d h = (all_added all lists c x c x d).1 (inr (refl, refl, (listed d).1 h))
+    new_told d h = (all_added all lists c x c x d).1 (inr (refl, refl, (listed.lists d).1 h))
 
-    pub more_lists : AreLists p t kind lists → AreLists p t kind (lists ++ entries_for c x all)
-    more_lists h = record {
-      sound = λ e y d k. ⊎_elim (λ a. h.sound e y d a) (λ a. subst (λ e. IsHeldAs p t kind e y d) a.0 (subst (λ y. IsHeldAs p t kind c y d) a.1 ((listed d).0 a.2))) ((all_added all lists c x e y d).0 k);
+    pub more_lists : has_list lists c x ≡ false → AreLists p t kind lists → AreLists p t kind (lists ++ entries_for c x all)
+    more_lists none h = record {
+      sound = λ e y d k. ⊎_elim (λ a. h.sound e y d a) (λ a. subst (λ e. IsHeldAs p t kind e y d) a.0 (subst (λ y. IsHeldAs p t kind c y d) a.1 ((listed.lists d).0 a.2))) ((all_added all lists c x e y d).0 k);
       whole = λ e y some. let i = some_listed (lists ++ entries_for c x all) e y some in
           ⊎_elim (λ a. told_more lists c x all e y (h.whole e y (listed_some lists e y i.0 a)))
           (λ a. subst (λ e. IsTold p t kind (lists ++ entries_for c x all) e y) a.0 (subst (λ y. IsTold p t kind (lists ++ entries_for c x all) c y) a.1 new_told)) ((all_added all lists c x e y i.0).0 i.1);
+      once = all_once all lists c x listed.once (λ d k. false_from_ne_true _ (λ a. none_listed lists c x d none a)) h.once;
     }
+
+    pub keeps_more : has_list lists c x ≡ false → AreLists p t kind lists → KeepsLists p t links kind lists (lists ++ entries_for c x all)
+    keeps_more none h = record { all = more_lists none h; told = λ e y k. told_more lists c x all e y k; done = λ e k. done_more lists c x all e k }
+
+  -- ---- what is kept
+
+  pub keeps_itself : (lists : List Entry) → AreLists p t kind lists → KeepsLists p t links kind lists lists
+  keeps_itself lists h = record { all = h; told = λ c x k. k; done = λ c k. k }
+
+  pub keeps_then : (lists more most : List Entry) → KeepsLists p t links kind lists more → KeepsLists p t links kind more most → KeepsLists p t links kind lists most
+  keeps_then lists more most h k = record { all = k.all; told = λ c x a. k.told c x (h.told c x a); done = λ c a. k.done c (h.done c a) }

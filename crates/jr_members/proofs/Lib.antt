@@ -1,3 +1,4 @@
+pub mod Each
 pub mod Accessed
 pub mod Heritage
 pub mod Keyed
@@ -5,3 +6,8 @@ pub mod Climbing
 pub mod Gathering
 pub mod Doing
 pub mod Declaring
+pub mod Ways
+pub mod Adding
+pub mod Objects
+pub mod Rounded
+pub mod Accessing

@@ -17,6 +17,7 @@ use Rattle.jr_supers.specs.Above.{link_at, depth_of, up_at, OnChain}
 use Rattle.jr_members.specs.declared.declared.MemberKind.{MemberKind}
 use Rattle.jr_members.specs.declared.named.Way.{Way}
 use Rattle.jr_members.specs.Keys.{entry_for}
+use Rattle.jr_members.specs.Each.{StandOnce}
 use Rattle.jr_members.specs.Held.{IsDeclaredAs, IsHeldAs}
 
 -- ---- lists
@@ -35,10 +36,11 @@ entries_for c x all = map (entry_for c x) all
 abbrev pub IsTold : Rows → Table → MemberKind → List Entry → ℕ → ℕ → Type 0
 IsTold p t kind lists c x = (d : ℕ) → IsHeldAs p t kind c x d → has (under lists c x) d ≡ true
 
--- each list has the members of its type under its name
+-- each list has the members of its type under its name, each once
 pub record AreLists (p : Rows) (t : Table) (kind : MemberKind) (lists : List Entry) : Type 0 where
   pub sound : (c x d : ℕ) → has (under lists c x) d ≡ true → IsHeldAs p t kind c x d
   pub whole : (c x : ℕ) → has_list lists c x ≡ true → IsTold p t kind lists c x
+  pub once : (c x : ℕ) → StandOnce (under lists c x)
 
 -- c has a list for each name that it declares, and under other names what it inherits from its first supertype alone
 pub record IsDone (p : Rows) (t : Table) (links : List (Option Link)) (kind : MemberKind) (lists : List Entry) (c : ℕ) : Type 0 where
@@ -93,3 +95,9 @@ pub record IsNearest (p : Rows) (t : Table) (kind : MemberKind) (lists : List En
   pub is : IsWay p t kind x way
   pub from_is : way.from ≡ c
   pub listed : Lists (under lists way.here x) (IsHeldAs p t kind way.here x)
+
+-- ---- tests
+
+-- the member d is not private, and without an access modifier it is told whether it is of the package (JLS 8.2)
+abbrev pub is_open : Rows → ℕ → Bool → Bool
+is_open p d same = not (is_private p d) && (is_public p d || (is_protected p d || same))

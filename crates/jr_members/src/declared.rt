@@ -1,5 +1,5 @@
 // The members of one kind that the bodies of types declare, by type and name (JLS 8.2).
-ghost use Rattle.std.specs.Prelude.{◌≡◌, ◌++◌, ◌+◌, ◌<◌, [], length, option_map, IfOk, OnOk};
+ghost use Rattle.std.specs.Prelude.{◌≡◌, ◌++◌, ◌+◌, ◌<◌, [], length, flat_map, option_map, IfOk, OnOk};
 ghost use Rattle.jr_rows.specs.Rows as all_rows;
 ghost use Rattle.jr_rows.specs.Rows.{Rows};
 ghost use Rattle.jr_plain.specs.Search.{any_below};
@@ -177,6 +177,26 @@ impl Declared {
         ensures { (p : Rows) (kind : KindOf) → tell.AreDeclared p kind self.now → IfOk result (λ rows. rows.items ≡ tell.falling (length p) (tell.is_declared_by p kind over)) }
     {
         self.by_type.rows(alloc, over, 0)
+    }
+
+    /// What types declare, each from its last back.
+    pub fn by_types(&self, alloc: Global, types: &[u32]) -> Result<Vec<u32>, OutOfMemory>
+        ensures { (p : Rows) (kind : KindOf) → tell.AreDeclared p kind self.now → IfOk result (λ rows. rows.items ≡ flat_map (λ c. tell.falling (length p) (tell.is_declared_by p kind c)) types.now) }
+    {
+        let mut all = Vec::new(alloc);
+        for over in types {
+            self.push_type(alloc, *over, &mut all)?;
+        }
+        Ok(all)
+    }
+
+    // Adds what a type declares.
+    fn push_type(&self, alloc: Global, over: u32, all: &mut Vec<u32>) -> Result<(), OutOfMemory>
+        ensures { (p : Rows) (kind : KindOf) → tell.AreDeclared p kind self.now → OnOk result (all.new.items ≡ all.old.items ++ tell.falling (length p) (tell.is_declared_by p kind over)) }
+    {
+        let own = self.by_type(alloc, over)?;
+        all.extend_from_slice(&own)?;
+        Ok(())
     }
 
     /// The declared members that have a name, from the last in the program back.

@@ -1,18 +1,29 @@
 // The members of one kind by their names, declared and inherited (JLS 8.2, 8.3, 8.4.8, 8.5).
-ghost use Rattle.std.specs.Prelude.{◌≡◌, length, IfOk};
+ghost use Rattle.std.specs.Prelude.{◌≡◌, ◌++◌, ◌∷◌, [], ℕ, List, length, filter, Decides, IfOk, OnOk};
 ghost use Rattle.jr_rows.specs.Rows.{Rows};
-ghost use Rattle.jr_plain.specs.Search.{any_below};
+ghost use Rattle.jr_defs.specs.Referents.{Table};
+ghost use Rattle.jr_defs.specs.Members.{CanInherit};
+ghost use Rattle.jr_plain.specs.Members as members;
+ghost use Rattle.jr_plain.specs.Search.{any_below, Lists};
 ghost use Rattle.jr_places.specs.Places.{ArePlaces};
+ghost use Rattle.jr_tables.specs.Stamps.{IsStamping};
+ghost use Rattle.jr_members.specs.Each as each;
+ghost use Rattle.jr_members.specs.Gathered as gather;
+ghost use Rattle.jr_members.specs.Held.{IsHeldAs};
 ghost use Rattle.jr_members.specs.Keys as keys;
 ghost use Rattle.jr_members.specs.Named as tell;
+ghost use Rattle.jr_members.specs.Sources as given;
 ghost use Rattle.jr_members.specs.declared.declared.MemberKind.{MemberKind as KindOf};
 
 use crate::declared::{Declared, MemberKind};
-use crate::modifiers::{is_in_interface, is_private, is_protected, is_public, passes};
+use crate::inheriting::inherited;
+use crate::lists::{push_each, push_if};
+use crate::modifiers::{is_in_interface, is_private, is_protected, is_public};
+use crate::wanted::naming_types;
 use jr_base::OutOfMemory;
 use jr_places::is_interface;
 use jr_rows::Row;
-use jr_supers::{Signatures, Supers, Tabled, entry_before};
+use jr_supers::{Signatures, Supers, Tabled};
 use jr_tables::{Chains, Entry, Stamps};
 use std::alloc::Global;
 
@@ -61,7 +72,9 @@ impl Way {
     }
 
     // One type further up.
-    fn next(self, under: Tabled, up: u32) -> Way {
+    fn next(self, under: Tabled, up: u32) -> Way
+        ensures { given.ArePlaced under.entry.rows.now under.entry.places.now → result ≡ tell.next_way under.entry.rows.now self up }
+    {
         let is_same = under.places.is_one_package(self.from, self.here);
         self.next_by(under.rows, up, is_same)
     }
@@ -80,7 +93,9 @@ impl Way {
     }
 
     // A member of the last type is one of the first, where no type between has a list of its own.
-    fn carries(self, under: Tabled, at: u32) -> bool {
+    fn carries(self, under: Tabled, at: u32) -> bool
+        ensures { given.ArePlaced under.entry.rows.now under.entry.places.now → result ≡ tell.carries under.entry.rows.now self at }
+    {
         let is_same = under.places.is_one_package(self.from, at);
         self.carries_by(under.rows, at, is_same)
     }
@@ -97,11 +112,77 @@ impl Way {
     }
 }
 
+// The member is not private, and without an access modifier it is told whether it is of the package.
+fn is_open(rows: &[Row], at: u32, is_same: bool) -> bool
+    ensures { result ≡ tell.is_open rows.now at is_same }
+{
+    !is_private(rows, at) && (is_public(rows, at) || (is_protected(rows, at) || is_same))
+}
+
 /// The type may inherit the member: it is not private, and without an access modifier only inside its package (JLS 8.2).
-pub fn can_inherit(under: Tabled, over: u32, at: u32) -> bool {
-    !is_private(under.rows, at)
-        && (is_public(under.rows, at)
-            || (is_protected(under.rows, at) || under.places.is_one_package(over, at)))
+pub fn can_inherit(under: Tabled, over: u32, at: u32) -> bool
+    ensures plain { given.ArePlaced under.entry.rows.now under.entry.places.now → result ≡ members.can_inherit under.entry.rows.now over at }
+    ensures inherits { given.ArePlaced under.entry.rows.now under.entry.places.now → Decides result (CanInherit under.entry.rows.now over at) }
+{
+    let is_same = under.places.is_one_package(over, at);
+    is_open(under.rows, at, is_same)
+}
+
+// The type has a list for the name.
+fn is_listed(lists: &Chains, over: u32, name: u32) -> bool
+    ensures { result ≡ tell.has_list lists.now over name }
+{
+    lists.last(over, name).is_some()
+}
+
+// The way up to the nearest type that has a list for the name, or to the last type.
+fn way_up(lists: &Chains, under: Tabled, supers: &Supers, over: u32, name: u32) -> Way
+    ensures { (t : Table) (kind : KindOf) → given.AreSeen under.entry.rows.now t under.entry.places.now supers.now → given.CanClimb under.entry.rows.now t supers.now kind lists.now over → tell.IsNearest under.entry.rows.now t kind lists.now over name result }
+{
+    let mut way = Way::from(over);
+    for _turn in 0..supers.turns(over) {
+        if is_listed(lists, way.here, name) {
+            return way;
+        }
+        match supers.linked(way.here) {
+            Some(up) => way = way.next(under, up),
+            None => return way,
+        }
+    }
+    way
+}
+
+// What of a list the way carries.
+fn carried(alloc: Global, under: Tabled, way: Way, all: &[u32]) -> Result<Vec<u32>, OutOfMemory>
+    ensures { given.ArePlaced under.entry.rows.now under.entry.places.now → IfOk result (λ found. found.items ≡ filter (tell.carries under.entry.rows.now way) all.now) }
+{
+    let mut found = Vec::new(alloc);
+    for at in all {
+        let carries = way.carries(under, *at);
+        push_if(&mut found, carries, *at)?;
+    }
+    Ok(found)
+}
+
+// Puts what a list has under the keys of the type and the name.
+fn add_all(
+    alloc: Global,
+    lists: &mut Chains,
+    over: u32,
+    name: u32,
+    all: &[u32],
+) -> Result<(), OutOfMemory>
+    ensures { OnOk result (lists.new ≡ lists.old ++ tell.entries_for over name all.now) }
+{
+    for at in all {
+        let entry = Entry {
+            first: over,
+            second: name,
+            row: *at,
+        };
+        lists.add(alloc, entry)?;
+    }
+    Ok(())
 }
 
 impl Named {
@@ -113,27 +194,10 @@ impl Named {
         }
     }
 
-    // One more item of a list.
-    fn add_listed(
-        &mut self,
-        alloc: Global,
-        over: u32,
-        name: u32,
-        row: u32,
-    ) -> Result<(), OutOfMemory> {
-        self.lists.add(
-            alloc,
-            Entry {
-                first: over,
-                second: name,
-                row,
-            },
-        )
-    }
-
     /// The members of this kind that the bodies declare; no type has a list yet.
     pub fn declared(alloc: Global, under: Tabled, kind: MemberKind) -> Result<Named, OutOfMemory>
-        ensures { ArePlaces under.entry.rows.now under.entry.places.now → IfOk result (λ named. keys.AreDeclared under.entry.rows.now kind named.declared) }
+        ensures declared { ArePlaces under.entry.rows.now under.entry.places.now → IfOk result (λ named. keys.AreDeclared under.entry.rows.now kind named.declared) }
+        ensures none { IfOk result (λ named. named.lists ≡ []) }
     {
         Ok(Named {
             declared: Declared::of(alloc, under, kind)?,
@@ -141,31 +205,7 @@ impl Named {
         })
     }
 
-    // What of a list the way carries.
-    fn carried(
-        &self,
-        alloc: Global,
-        under: Tabled,
-        way: Way,
-        last: u32,
-    ) -> Result<Vec<u32>, OutOfMemory> {
-        let mut all = Vec::new(alloc);
-        let mut place = Some(last);
-        for _turn in 0..self.lists.len() {
-            let Some(here) = place else {
-                return Ok(all);
-            };
-            if let Some(entry) = self.lists.entry(here) {
-                if way.carries(under, entry.row) {
-                    all.push(entry.row)?;
-                }
-            }
-            place = entry_before(&self.lists, here);
-        }
-        Ok(all)
-    }
-
-    /// The members of a type that have a name, but what an interface has of Object.
+    /// The members of a type that have a name, but what an interface has of Object, each once (JLS 8.2).
     pub fn of_name(
         &self,
         alloc: Global,
@@ -173,21 +213,16 @@ impl Named {
         supers: &Supers,
         over: u32,
         name: u32,
-    ) -> Result<Vec<u32>, OutOfMemory> {
-        if !self.declared.has_name(name) {
+    ) -> Result<Vec<u32>, OutOfMemory>
+        ensures { (t : Table) (kind : KindOf) → given.AreSeen under.entry.rows.now t under.entry.places.now supers.now → keys.AreDeclared under.entry.rows.now kind self.now.declared → given.CanClimb under.entry.rows.now t supers.now kind self.now.lists over → IfOk result (λ all. each.ListsEach all.items (IsHeldAs under.entry.rows.now t kind over name)) }
+    {
+        let has_name = self.declared.has_name(name);
+        if !has_name {
             return Ok(Vec::new(alloc));
         }
-        let mut way = Way::from(over);
-        for _turn in 0..under.rows.len() {
-            if let Some(last) = self.lists.last(way.here, name) {
-                return self.carried(alloc, under, way, last);
-            }
-            match supers.linked(way.here) {
-                Some(up) => way = way.next(under, up),
-                None => return Ok(Vec::new(alloc)),
-            }
-        }
-        Ok(Vec::new(alloc))
+        let way = way_up(&self.lists, under, supers, over, name);
+        let all = self.lists.rows(alloc, way.here, name)?;
+        carried(alloc, under, way, &all)
     }
 
     /// The members that bodies declare.
@@ -225,33 +260,64 @@ impl Named {
         self.declared.by_type(alloc, over)
     }
 
-    // The type declares nothing that hides or overrides the member.
-    fn is_left(&self, sources: Sources, own: &[u32], at: u32) -> bool {
-        match self.declared.kind {
-            MemberKind::Method => !are_any_same(sources.signatures, own, at),
-            _ => own.is_empty(),
-        }
-    }
-
-    // Adds what a type inherits of a name from one supertype.
-    fn add_inherited(
-        &mut self,
+    // Adds to a list, whose items are stamped, what a type inherits of the name from one supertype.
+    fn push_inherited(
+        &self,
         alloc: Global,
         sources: Sources,
-        met: &mut Stamps,
+        stamps: &mut Stamps,
+        all: &mut Vec<u32>,
         own: &[u32],
         over: u32,
         from: u32,
         name: u32,
-    ) -> Result<(), OutOfMemory> {
-        for at in &self.of_name(alloc, sources.under, sources.supers, from, name)? {
-            let inherits = passes(sources.under.rows, from, *at)
-                && (can_inherit(sources.under, over, *at) && self.is_left(sources, own, *at));
-            if inherits && met.add(*at) {
-                self.add_listed(alloc, over, name, *at)?;
-            }
+    ) -> Result<(), OutOfMemory>
+        ensures { (t : Table) (kind : KindOf) (rest : List ℕ) → given.AreSources t kind sources.entry → gather.CanGather sources.entry.under.rows.now t sources.entry.supers.now kind self.now over → gather.IsGatheringIn sources.entry.under.rows.now t kind over name own.now stamps.old all.old.items (from ∷ rest) → OnOk result (gather.IsGatheringIn sources.entry.under.rows.now t kind over name own.now stamps.new all.new.items rest) }
+    {
+        let found = self.of_name(alloc, sources.under, sources.supers, from, name)?;
+        let some = inherited(alloc, self.declared.kind, sources, own, over, from, &found)?;
+        push_each(stamps, all, &some)
+    }
+
+    // The same, from all supertypes.
+    fn push_from(
+        &self,
+        alloc: Global,
+        sources: Sources,
+        stamps: &mut Stamps,
+        all: &mut Vec<u32>,
+        own: &[u32],
+        direct: &[u32],
+        over: u32,
+        name: u32,
+    ) -> Result<(), OutOfMemory>
+        ensures { (t : Table) (kind : KindOf) → given.AreSources t kind sources.entry → gather.CanGather sources.entry.under.rows.now t sources.entry.supers.now kind self.now over → gather.IsGatheringIn sources.entry.under.rows.now t kind over name own.now stamps.old all.old.items direct.now → OnOk result (gather.IsGatheringIn sources.entry.under.rows.now t kind over name own.now stamps.new all.new.items []) }
+    {
+        for from in direct {
+            self.push_inherited(alloc, sources, stamps, all, own, over, *from, name)?;
         }
         Ok(())
+    }
+
+    // What a type declares and inherits under the name.
+    fn gathered(
+        &self,
+        alloc: Global,
+        sources: Sources,
+        stamps: &mut Stamps,
+        over: u32,
+        name: u32,
+    ) -> Result<Vec<u32>, OutOfMemory>
+        ensures listed { (t : Table) (kind : KindOf) → given.AreSources t kind sources.entry → gather.CanGather sources.entry.under.rows.now t sources.entry.supers.now kind self.now over → IsStamping stamps.old (length sources.entry.under.rows.now) → IfOk result (λ all. each.ListsEach all.items (IsHeldAs sources.entry.under.rows.now t kind over name)) }
+        ensures counted { (t : Table) (kind : KindOf) → given.AreSources t kind sources.entry → gather.CanGather sources.entry.under.rows.now t sources.entry.supers.now kind self.now over → IsStamping stamps.old (length sources.entry.under.rows.now) → OnOk result (IsStamping stamps.new (length sources.entry.under.rows.now)) }
+    {
+        let own = self.declared.own(alloc, over, name)?;
+        stamps.empty()?;
+        let mut all = Vec::new(alloc);
+        push_each(stamps, &mut all, &own)?;
+        let direct = sources.supers.direct().rows(alloc, over, 0)?;
+        self.push_from(alloc, sources, stamps, &mut all, &own, &direct, over, name)?;
+        Ok(all)
     }
 
     // Adds the list of a type for a name, where it has none yet.
@@ -259,53 +325,43 @@ impl Named {
         &mut self,
         alloc: Global,
         sources: Sources,
-        met: &mut Stamps,
+        stamps: &mut Stamps,
         over: u32,
         name: u32,
-    ) -> Result<(), OutOfMemory> {
-        if self.lists.last(over, name).is_some() {
+    ) -> Result<(), OutOfMemory>
+        ensures { (t : Table) (kind : KindOf) → given.AreSources t kind sources.entry → gather.CanAddTo sources.entry.under.rows.now t sources.entry.supers.now kind self.old stamps.old over → OnOk result (gather.AddsList sources.entry.under.rows.now t sources.entry.supers.now kind over name self.old self.new stamps.new) }
+    {
+        if is_listed(&self.lists, over, name) {
             return Ok(());
         }
-        let own = self.declared.own(alloc, over, name)?;
-        for at in &own {
-            self.add_listed(alloc, over, name, *at)?;
-        }
-        met.empty()?;
-        for from in &sources.supers.direct().rows(alloc, over, 0)? {
-            self.add_inherited(alloc, sources, met, &own, over, *from, name)?;
-        }
-        Ok(())
+        let all = self.gathered(alloc, sources, stamps, over, name)?;
+        add_all(alloc, &mut self.lists, over, name, &all)
     }
 
-    // Adds the lists of a type for the names that a type declares.
+    // Adds the lists of a type for the names of these rows.
     fn add_lists(
         &mut self,
         alloc: Global,
         sources: Sources,
-        met: &mut Stamps,
+        stamps: &mut Stamps,
         over: u32,
-        declaring: u32,
-    ) -> Result<(), OutOfMemory> {
-        for at in &self.declared.by_type(alloc, declaring)? {
+        rows: &[u32],
+    ) -> Result<(), OutOfMemory>
+        ensures { (t : Table) (kind : KindOf) → given.AreSources t kind sources.entry → gather.CanAddTo sources.entry.under.rows.now t sources.entry.supers.now kind self.old stamps.old over → Lists rows.now (gather.IsWantedAs sources.entry.under.rows.now t (given.links_of sources.entry.supers.now) kind over) → OnOk result (gather.AddsType sources.entry.under.rows.now t sources.entry.supers.now kind over self.old self.new stamps.new) }
+    {
+        for at in rows {
             let name = sources.under.places.name(*at);
-            self.add_list(alloc, sources, met, over, name)?;
+            self.add_list(alloc, sources, stamps, over, name)?;
         }
         Ok(())
     }
 
-    // Adds the lists of a type for all that comes to it from a supertype beside its first one.
-    fn add_further(
-        &mut self,
-        alloc: Global,
-        sources: Sources,
-        met: &mut Stamps,
-        over: u32,
-        from: u32,
-    ) -> Result<(), OutOfMemory> {
-        for declaring in &sources.supers.with_above(alloc, sources.under.rows, from)? {
-            self.add_lists(alloc, sources, met, over, *declaring)?;
-        }
-        Ok(())
+    // The rows for whose names a type has a list.
+    fn wanted(&self, alloc: Global, sources: Sources, over: u32) -> Result<Vec<u32>, OutOfMemory>
+        ensures { (t : Table) (kind : KindOf) → given.AreSources t kind sources.entry → keys.AreDeclared sources.entry.under.rows.now kind self.now.declared → IfOk result (λ rows. Lists rows.items (gather.IsWantedAs sources.entry.under.rows.now t (given.links_of sources.entry.supers.now) kind over)) }
+    {
+        let types = naming_types(alloc, sources.under.rows, sources.supers, over)?;
+        self.declared.by_types(alloc, &types)
     }
 
     /// Adds the lists of one type, behind those of its supertypes.
@@ -313,17 +369,13 @@ impl Named {
         &mut self,
         alloc: Global,
         sources: Sources,
-        met: &mut Stamps,
+        stamps: &mut Stamps,
         over: u32,
-    ) -> Result<(), OutOfMemory> {
-        self.add_lists(alloc, sources, met, over, over)?;
-        let linked = sources.supers.linked(over);
-        for from in &sources.supers.direct().rows(alloc, over, 0)? {
-            if linked != Some(*from) {
-                self.add_further(alloc, sources, met, over, *from)?;
-            }
-        }
-        Ok(())
+    ) -> Result<(), OutOfMemory>
+        ensures { (t : Table) (kind : KindOf) → given.AreSources t kind sources.entry → gather.CanAddTo sources.entry.under.rows.now t sources.entry.supers.now kind self.old stamps.old over → OnOk result (gather.AddsType sources.entry.under.rows.now t sources.entry.supers.now kind over self.old self.new stamps.new) }
+    {
+        let rows = self.wanted(alloc, sources, over)?;
+        self.add_lists(alloc, sources, stamps, over, &rows)
     }
 
     // Adds the lists of all types, in an order in which supertypes come first.
@@ -331,10 +383,13 @@ impl Named {
         &mut self,
         alloc: Global,
         sources: Sources,
-        met: &mut Stamps,
-    ) -> Result<(), OutOfMemory> {
-        for over in sources.supers.order() {
-            self.add_type(alloc, sources, met, *over)?;
+        stamps: &mut Stamps,
+    ) -> Result<(), OutOfMemory>
+        ensures { (t : Table) (kind : KindOf) → given.AreSources t kind sources.entry → gather.CanAdd sources.entry.under.rows.now t kind self.old stamps.old → self.old.lists ≡ [] → OnOk result (gather.AddsAll sources.entry.under.rows.now t sources.entry.supers.now kind self.new stamps.new) }
+    {
+        let order = sources.supers.order();
+        for over in order {
+            self.add_type(alloc, sources, stamps, *over)?;
         }
         Ok(())
     }
@@ -343,21 +398,13 @@ impl Named {
     pub fn of(
         alloc: Global,
         sources: Sources,
-        met: &mut Stamps,
+        stamps: &mut Stamps,
         kind: MemberKind,
-    ) -> Result<Named, OutOfMemory> {
+    ) -> Result<Named, OutOfMemory>
+        ensures { (t : Table) → given.AreSources t kind sources.entry → IsStamping stamps.old (length sources.entry.under.rows.now) → IfOk result (λ named. gather.AddsAll sources.entry.under.rows.now t sources.entry.supers.now kind named stamps.new) }
+    {
         let mut named = Named::declared(alloc, sources.under, kind)?;
-        named.add_types(alloc, sources, met)?;
+        named.add_types(alloc, sources, stamps)?;
         Ok(named)
     }
-}
-
-/// One of the methods has the signature of a method.
-pub fn are_any_same(signatures: &Signatures, all: &[u32], at: u32) -> bool {
-    for other in all {
-        if signatures.are_same(*other, at) {
-            return true;
-        }
-    }
-    false
 }

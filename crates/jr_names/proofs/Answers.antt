@@ -21,15 +21,15 @@ use Rattle.jr_names.specs.Renaming.{IsFamilyOf, IsNamedWith, IsPathWith, IsRenam
 pub refused_so : (old : Project) (file : List ℕ) (at : ℕ) (to : List ℕ) (why : ChangeFault) → Err why ≡ asked old file at → IsRenameAnswer old file at to (Err why)
 refused_so old file at to why h = IsRenameAnswer.refused (sym h)
 
-pub answered_so : (old : Project) (file : List ℕ) (at : ℕ) (to : List ℕ) (found : Option ℕ) (answer : Result Change ChangeFault) → Ok found ≡ asked old file at → IsAskedFor old.marks found to answer
+pub answered_so : (old : Project) (file : List ℕ) (at : ℕ) (to : List ℕ) (found : Option ℕ) (answer : Result Change ChangeFault) → Ok found ≡ asked old file at → IsAskedFor old found to answer
     → IsRenameAnswer old file at to answer
 answered_so old file at to found answer h made = IsRenameAnswer.answered (sym h) made
 
-module _ (m : Marks) (found : Option ℕ) (to : List ℕ) where
-  pub no_memory : IsAskedFor m found to (Err fault.OutOfMemory)
+module _ (old : Project) (found : Option ℕ) (to : List ℕ) where
+  pub no_memory : IsAskedFor old found to (Err fault.OutOfMemory)
   no_memory = IsAskedFor.memory
 
-  pub together_so : (family : List ℕ) (answer : Result Change ChangeFault) → IsFamilyOf m.rows.now found family → IsNamed m found family to answer → IsAskedFor m found to answer
+  pub together_so : (family : List ℕ) (answer : Result Change ChangeFault) → IsFamilyOf old found family → IsNamed old.marks found family to answer → IsAskedFor old found to answer
   together_so family answer is made = IsAskedFor.together is made
 
 module _ (m : Marks) (family to : List ℕ) where

@@ -1,3 +1,4 @@
 pub mod Named
 pub mod Paths
+pub mod Together
 pub mod Answers

@@ -8,8 +8,11 @@ use Rattle.jr_rows.specs.declared.label.ImportKind.{ImportKind}
 use Rattle.jr_rows.specs.declared.label.ImportKind.TheVariants as import
 use Rattle.jr_rows.specs.declared.label.Role.TheVariants as role
 use Rattle.jr_rows.specs.Rows.{Rows, label, name, end, role_at}
+use Rattle.jr_defs.specs.Referents.{Table}
 use Rattle.jr_plain.specs.Enclosing.{is_constructor_of, is_top_level}
 use Rattle.jr_plain.specs.Search.{all_such}
+use Rattle.jr_dispatch.specs.Families as families
+use Rattle.jr_dispatch.specs.Methods.{IsWholeWorld}
 use Rattle.jr_marks.specs.declared.marks.Marks.{Marks}
 use Rattle.jr_marks.specs.Places.{unit_of}
 use Rattle.jr_edits.specs.Place.{EditList, pushed}
@@ -31,10 +34,16 @@ use Rattle.jr_draft.specs.Ordering.{order_with}
 
 -- ---- what gets the name
 
--- the declarations that are renamed together: the one that is asked for alone, where it is no method; of a method its family, whatever that is
-abbrev pub IsFamilyOf : Rows → Option ℕ → List ℕ → Type 0
-IsFamilyOf p None family = family ≡ []
-IsFamilyOf p (Some d) family = (role_at p d ≡ role.Method → ⊥) → family ≡ d ∷ []
+-- what is renamed together with a declaration: itself alone, where it is no method; of a method its family (JLS 8.4.8.1), by any table under which the world of the program is whole
+pub record IsOfDeclaration (old : Project) (d : ℕ) (family : List ℕ) : Type 0 where
+  pub alone : (role_at old.marks.rows.now d ≡ role.Method → ⊥) → family ≡ d ∷ []
+  pub together : (t : Table) → IsWholeWorld t old.view.sight.world → old.view.sight.world.under.rows.now ≡ old.marks.rows.now → role_at old.marks.rows.now d ≡ role.Method
+      → families.IsFamilyOf old.marks.rows.now t d family
+
+-- the declarations that are renamed together with the one that is asked for; none, where there is none
+abbrev pub IsFamilyOf : Project → Option ℕ → List ℕ → Type 0
+IsFamilyOf old None family = family ≡ []
+IsFamilyOf old (Some d) family = IsOfDeclaration old d family
 
 -- one of them stands in the prelude
 abbrev pub reaches_prelude : Marks → List ℕ → Bool
@@ -191,12 +200,12 @@ pub data IsNamed (m : Marks) (found : Option ℕ) (family to : List ℕ) : Resul
   refused : {why : Reason} → IsRenamable m found family to (Err why) → IsNamed m found family to (Err (fault.Bad why))
   named : {d : ℕ} {answer : Result Change ChangeFault} → IsRenamable m found family to (Ok d) → IsNewlyNamed m d family to answer → IsNamed m found family to answer
 
--- the same, whatever its family is; or want of memory
-pub data IsAskedFor (m : Marks) (found : Option ℕ) (to : List ℕ) : Result Change ChangeFault → Type 0 where
-  together : {family : List ℕ} {answer : Result Change ChangeFault} → IsFamilyOf m.rows.now found family → IsNamed m found family to answer → IsAskedFor m found to answer
-  memory : IsAskedFor m found to (Err fault.OutOfMemory)
+-- the same with its family; or want of memory
+pub data IsAskedFor (old : Project) (found : Option ℕ) (to : List ℕ) : Result Change ChangeFault → Type 0 where
+  together : {family : List ℕ} {answer : Result Change ChangeFault} → IsFamilyOf old found family → IsNamed old.marks found family to answer → IsAskedFor old found to answer
+  memory : IsAskedFor old found to (Err fault.OutOfMemory)
 
 -- the answer: why there is no such declaration, or what comes of it
 pub data IsRenameAnswer (old : Project) (file : List ℕ) (at : ℕ) (to : List ℕ) : Result Change ChangeFault → Type 0 where
   refused : {why : ChangeFault} → asked old file at ≡ Err why → IsRenameAnswer old file at to (Err why)
-  answered : {found : Option ℕ} {answer : Result Change ChangeFault} → asked old file at ≡ Ok found → IsAskedFor old.marks found to answer → IsRenameAnswer old file at to answer
+  answered : {found : Option ℕ} {answer : Result Change ChangeFault} → asked old file at ≡ Ok found → IsAskedFor old found to answer → IsRenameAnswer old file at to answer

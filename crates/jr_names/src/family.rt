@@ -1,5 +1,5 @@
 // The declarations that a rename takes along.
-ghost use Rattle.std.specs.Prelude.{◌≡◌, ◌++◌, ◌∷◌, [], Some, IfOk, OnOk};
+ghost use Rattle.std.specs.Prelude.{◌≡◌, ◌++◌, ◌∷◌, [], IfOk, OnOk};
 ghost use Rattle.jr_rows.specs.Rows as all_rows;
 ghost use Rattle.jr_rows.specs.declared.label.Role.TheVariants as role;
 ghost use Rattle.jr_plain.specs.Enclosing as enclosing;
@@ -27,7 +27,7 @@ fn alone(alloc: Global, row: u32) -> Result<Vec<u32>, OutOfMemory>
 
 // A declaration alone, or the family of a method.
 fn family_with(alloc: Global, old: &Project, row: u32) -> Result<Vec<u32>, OutOfMemory>
-    ensures { IfOk result (λ family. spec.IsFamilyOf old.now.marks.rows.now (Some row) family.items) }
+    ensures { IfOk result (λ family. spec.IsOfDeclaration old.now row family.items) }
 {
     match role_at(old.marks.rows, row) {
         Role::Method => family(alloc, &old.view.sight.world, row),
@@ -41,7 +41,7 @@ pub fn family_of(
     old: &Project,
     declared: Option<u32>,
 ) -> Result<Vec<u32>, OutOfMemory>
-    ensures { IfOk result (λ family. spec.IsFamilyOf old.now.marks.rows.now declared family.items) }
+    ensures { IfOk result (λ family. spec.IsFamilyOf old.now declared family.items) }
 {
     match declared {
         Some(row) => family_with(alloc, old, row),

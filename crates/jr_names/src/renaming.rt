@@ -41,7 +41,7 @@ fn asked_for(
     declared: Option<u32>,
     name: &[u8],
 ) -> Result<Change, ChangeFault>
-    ensures { IsOrdered old.now.marks → spec.IsAskedFor old.now.marks declared name.now result }
+    ensures { IsOrdered old.now.marks → spec.IsAskedFor old.now declared name.now result }
 {
     match family_of(alloc, old, declared) {
         Ok(family) => named(alloc, old, declared, &family, name),

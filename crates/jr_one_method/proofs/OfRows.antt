@@ -1,5 +1,5 @@
 -- In the rows of shaped units the name of a superclass stands right behind its type.
-use Rattle.std.proofs.Common.{◌≡◌, ◌⊎◌, inl, inr, sym, ◌∙◌, ap, subst, arith, ℕ, suc, ◌+◌, ◌-◌, ◌<◌, ◌≤◌, List, [], ◌∷◌, ◌++◌, length, length-append}
+use Rattle.std.proofs.Common.{◌≡◌, ◌⊎◌, inl, inr, sym, ◌∙◌, ap, subst, arith, ℕ, suc, ◌+◌, ◌<◌, ◌≤◌, List, [], ◌∷◌, ◌++◌, length, length-append}
 use Rattle.std.specs.Prelude.{⊤}
 use Rattle.std.specs.List.{AllByRecursion}
 use Rattle.std.proofs.Math.ListN.{get_or-append}
@@ -12,7 +12,7 @@ use Rattle.jr_rows.specs.declared.label.Label.TheVariants as is
 use Rattle.jr_rows.specs.declared.label.NamePlace.TheVariants as place
 use Rattle.jr_rows.specs.declared.row.Row.{Row}
 use Rattle.jr_rows.specs.Forest.{Forest, none, more, size}
-use Rattle.jr_rows.specs.Rows.{Rows, rows_from, row, label, parent, end, program_rows}
+use Rattle.jr_rows.specs.Rows.{Rows, rows_from, row, label, parent, program_rows}
 use Rattle.jr_rows.specs.Below.{IsTypeLabel, Under, Fits}
 use Rattle.jr_rows.proofs.Trees.{at_index, nothing, past, length_rows, units_forest}
 use Rattle.jr_rows.proofs.FittingStmts.{units_fit}
@@ -122,7 +122,8 @@ module _ (p : Rows) where
 within : (p : Rows) (n : ℕ) → IsSuperclassLabel (label p n) → n < length p
 within p n s = elim (cases_lt n (length p)) [ inl lt ↦ lt | inr le ↦ absurd (subst IsSuperclassLabel (ap (λ r. r.label) (get_or_past p n (past n) le)) s) ]
 
-is_behind : (units : List declared_unit.Unit) → AllByRecursion IsShaped units → (n : ℕ) → IsSuperclassLabel (label (program_rows units) n) → n ≡ parent (program_rows units) n + 1
+-- the name of a superclass stands right behind the type over it
+pub is_behind : (units : List declared_unit.Unit) → AllByRecursion IsShaped units → (n : ℕ) → IsSuperclassLabel (label (program_rows units) n) → n ≡ parent (program_rows units) n + 1
 is_behind units shaped n s =
     let p = program_rows units in let all = units_forest units in
     let w = has_rows p 0 0 0 (more is.Program [] all none) (λ i l. let z : 0 + i ≡ i = omega arith in ap (row p) z ∙ get_or_default p i (past i) nothing l) in

@@ -4,3 +4,4 @@ pub mod Naming
 pub mod Holding
 pub mod Uniting
 pub mod Packing
+pub mod Topping

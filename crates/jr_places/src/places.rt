@@ -2,9 +2,11 @@
 ghost use Rattle.std.specs.Prelude.{◌≡◌, ◌<◌, IfOk, length, None, slice_index_or};
 ghost use Rattle.jr_rows.specs.Local.{IsLocal};
 ghost use Rattle.jr_rows.specs.Rows.{Rows};
+ghost use Rattle.jr_rows.specs.Tree.{IsTree};
+ghost use Rattle.jr_plain.specs.Enclosing.{is_same_top_level};
 ghost use Rattle.jr_plain.specs.Packages.{is_same_package};
 ghost use Rattle.jr_places.specs.Names.{name_row};
-ghost use Rattle.jr_places.specs.Packages.{PackagesAreNamed};
+ghost use Rattle.jr_places.specs.Packages.{PackagesAreNamed, same_some};
 ghost use Rattle.jr_places.specs.Places.{ArePlaces};
 
 use crate::around::arounds_of;
@@ -31,6 +33,19 @@ fn item(all: &[Option<u32>], at: u32) -> Option<u32>
     match all.get(at as usize) {
         Some(found) => *found,
         None => None,
+    }
+}
+
+// Both are there, and are one.
+fn are_one(one: Option<u32>, other: Option<u32>) -> bool
+    ensures { result ≡ same_some one other }
+{
+    match one {
+        Some(first) => match other {
+            Some(second) => first == second,
+            None => false,
+        },
+        None => false,
     }
 }
 
@@ -76,7 +91,9 @@ impl Places {
     }
 
     /// The top-level type that holds the row.
-    pub fn top(&self, at: u32) -> Option<u32> {
+    pub fn top(&self, at: u32) -> Option<u32>
+        ensures { result ≡ slice_index_or self.now.tops.items at None }
+    {
         item(&self.tops, at)
     }
 
@@ -98,13 +115,9 @@ impl Places {
     }
 
     /// Both rows stand in one top-level type.
-    pub fn is_one_top(&self, one: u32, other: u32) -> bool {
-        match self.top(one) {
-            Some(first) => match self.top(other) {
-                Some(second) => first == second,
-                None => false,
-            },
-            None => false,
-        }
+    pub fn is_one_top(&self, one: u32, other: u32) -> bool
+        ensures { (p : Rows) → ArePlaces p self.now → IsTree p → IsLocal p → result ≡ is_same_top_level p one other }
+    {
+        are_one(self.top(one), self.top(other))
     }
 }

@@ -2,7 +2,7 @@
 
 use crate::names::canonical_name;
 use jr_base::{DeclId, OutOfMemory, Text};
-use jr_expressions::Ids;
+use jr_codes::Ids;
 use jr_machine_defs::{Ran, RunEnd};
 use jr_members::declaring_type;
 use jr_places::name_at;

@@ -5,8 +5,8 @@ use crate::report::Naming;
 use crate::start::start_of;
 use jr_base::{OutOfMemory, Text};
 use jr_change::Project;
+use jr_codes::Ids;
 use jr_elab::elaborate;
-use jr_expressions::Ids;
 use jr_machine::run;
 use std::alloc::Global;
 

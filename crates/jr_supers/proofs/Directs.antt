@@ -27,7 +27,7 @@ use Rattle.jr_tables.specs.declared.chains.Entry.{Entry}
 use Rattle.jr_tables.specs.Chains.{entry_at, rows_under}
 use Rattle.jr_supers.specs.declared.supers.HeaderPlace.{HeaderPlace}
 use Rattle.jr_supers.specs.declared.supers.HeaderPlace.TheVariants as header
-use Rattle.jr_supers.specs.Direct.{header_place, names_first, has_implied, object_row, super_entry, implied_entry, declared_entry, named_entry, super_at, entry_list, super_entries, supers_in, HasSupers, SuperclassesStandFirst}
+use Rattle.jr_supers.specs.Direct.{header_place, names_first, has_implied, object_row, super_entry, implied_entry, declared_entry, named_entry, super_at, entry_list, super_entries, supers_in, FallsFrom, HasSupers, SuperclassesStandFirst}
 use Rattle.jr_supers.specs.Above.{HasNoOtherObject}
 
 -- ---- one entry more
@@ -181,10 +181,38 @@ module _ (p : Rows) (t : Table) (headed : IsHeaded p) (one : HasNoOtherObject p)
       (⊎_elim (λ k. (n, omega arith, k)) (λ k. let h = (entries_tell n c s).0 k in let lt = h.1 in (h.0, omega arith, h.2)))
       (λ h. let lt = h.1 in ⊎_elim (λ e. inl (subst (λ m. super_at p t (object_row p) m ≡ Some (super_entry c s)) e h.2)) (λ apart. inr ((entries_tell n c s).1 (h.0, omega arith, h.2))) (cases_eq h.0 n))
 
+  -- ---- in the order of their places
+
+  falls_kept : (n c : ℕ) (all : List ℕ) → ((s : ℕ) → SuperAt p t c n s → ⊥) → FallsFrom p t c n all → FallsFrom p t c (suc n) all
+  falls_kept n c [] none h = λ m s lt at. ⊎_elim (λ same. none s (subst (λ k. SuperAt p t c k s) same at)) (λ apart. h m s (omega arith) at) (cases_eq m n)
+  falls_kept n c (s ∷ more) none h = let lt = h.1 in
+      (h.0, omega arith, h.2, (λ k r low high at. ⊎_elim (λ same. none r (subst (λ m. SuperAt p t c m r) same at)) (λ apart. h.3 k r low (omega arith) at) (cases_eq k n)), h.4)
+
+  falls_more : (n c : ℕ) (all : List Entry) (o : Option Entry) → super_at p t (object_row p) n ≡ o → FallsFrom p t c n (supers_in all c) → FallsFrom p t c (suc n) (supers_in (all ++ entry_list o) c)
+  unfolding Adds
+  falls_more n c all None e h = subst (λ xs. FallsFrom p t c (suc n) (supers_in xs c)) (sym (append-nil all)) (falls_kept n c (supers_in all c) (λ s at. none-some (super_entry c s) (sym e ∙ adds_into c s at)) h)
+  falls_more n c all (Some x) e h = subst (λ xs. FallsFrom p t c (suc n) xs) (sym listed) (by (nat_eq x.first c) refl)
+    where
+      zero_key : x.second ≡ 0
+      zero_key = keyed n x e
+
+      listed : supers_in (all ++ x ∷ []) c ≡ cond (nat_eq x.first c && true) (x.row ∷ supers_in all c) (supers_in all c)
+      listed = rows_pushed all x c 0 ∙ ap (λ k. cond (nat_eq x.first c && nat_eq k 0) (x.row ∷ supers_in all c) (supers_in all c)) zero_key
+
+      by : (b : Bool) → nat_eq x.first c ≡ b → FallsFrom p t c (suc n) (cond (b && true) (x.row ∷ supers_in all c) (supers_in all c))
+      by true is = let first = (Decides-eqb x.first c).0 is in
+          (n, omega arith, adds_out n c x.row (has_implied p n) refl (e ∙ ap Some (λ i. record { first = first i; second = zero_key i; row = x.row })), (λ k r low high at. absurd (omega arith)), h)
+      by false is = falls_kept n c (supers_in all c) (λ s at. absurd (false≢true (sym is ∙ (Decides-eqb x.first c).1 (ap (λ x. x.first) (same_Some x (super_entry c s) (sym e ∙ adds_into c s at)))))) h
+
+  falls_to : (n c : ℕ) → FallsFrom p t c n (supers_in (super_entries p t (object_row p) n) c)
+  falls_to zero c = λ m s lt at. absurd (omega arith)
+  falls_to (suc n) c = falls_more n c (super_entries p t (object_row p) n) (super_at p t (object_row p) n) refl (falls_to n c)
+
   pub has_supers : HasSupers p t (super_entries p t (object_row p) (length p))
   unfolding Adds
   has_supers = record {
     each = λ c s. like (entries_tell (length p) c s) (λ h. record { place = h.0; at = adds_out h.0 c s (has_implied p h.0) refl h.2 }) (λ h. (h.place, place_below c s h.at, adds_into c s h.at));
+    falls = falls_to (length p);
   }
 
   pub adds_super : (n c s : ℕ) → super_at p t (object_row p) n ≡ Some (super_entry c s) → SuperAt p t c n s

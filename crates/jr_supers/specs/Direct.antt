@@ -1,5 +1,5 @@
 -- The direct supertypes of types, as entries under their types (JLS 8.1.4, 8.1.5, 9.1.3).
-use Rattle.std.specs.Prelude.{◌≡◌, ℕ, zero, suc, ◌+◌, Bool, not, ◌&&◌, ◌||◌, replicate, slice_set, if◌then◌else◌, List, [], ◌∷◌, ◌++◌, length, Option, Some, None, nat_eq}
+use Rattle.std.specs.Prelude.{◌≡◌, ℕ, zero, suc, ◌+◌, ◌<◌, Bool, not, ◌&&◌, ◌||◌, replicate, slice_set, if◌then◌else◌, List, [], ◌∷◌, ◌++◌, length, Option, Some, None, nat_eq}
 use Rattle.jr_rows.specs.declared.label.Label.{Label}
 use Rattle.jr_rows.specs.declared.label.Label.TheVariants as is
 use Rattle.jr_rows.specs.declared.label.NamePlace.TheVariants as place
@@ -7,7 +7,7 @@ use Rattle.jr_rows.specs.Rows.{Rows, label, parent}
 use Rattle.jr_defs.specs.declared.referent.Referent.{Referent}
 use Rattle.jr_defs.specs.declared.referent.Referent.TheVariants.{Declared}
 use Rattle.jr_defs.specs.Referents.{Table}
-use Rattle.jr_defs.specs.Supertypes.{IsSuperclassLabel, Super}
+use Rattle.jr_defs.specs.Supertypes.{IsSuperclassLabel, SuperAt, Super}
 use Rattle.jr_plain.specs.Search.{first_below, Lists}
 use Rattle.jr_plain.specs.Declarations.{is_class, is_object}
 use Rattle.jr_plain.specs.Supertypes.{is_superclass_label}
@@ -81,9 +81,15 @@ superclass_list p t object (suc n) = with_superclass p n (super_at p t object n)
 abbrev pub supers_in : List Entry → ℕ → List ℕ
 supers_in supers c = rows_under supers c 0 (length supers)
 
--- the direct supertypes of each type are under its key
+-- these are the direct supertypes of c at the places below n, from the last back
+abbrev pub FallsFrom : Rows → Table → ℕ → ℕ → List ℕ → Type 0
+FallsFrom p t c n [] = (m s : ℕ) → m < n → SuperAt p t c m s → ⊥
+FallsFrom p t c n (s ∷ more) = (m : ℕ) × (m < n) × SuperAt p t c m s × ((k r : ℕ) → m < k → k < n → SuperAt p t c k r → ⊥) × FallsFrom p t c m more
+
+-- the direct supertypes of each type are under its key, in the order of their places
 pub record HasSupers (p : Rows) (t : Table) (supers : List Entry) : Type 0 where
   pub each : (c : ℕ) → Lists (supers_in supers c) (Super p t c)
+  pub falls : (c : ℕ) → FallsFrom p t c (length p) (supers_in supers c)
 
 -- the name of a superclass stands first below its class
 abbrev pub SuperclassesStandFirst : Rows → Type 0

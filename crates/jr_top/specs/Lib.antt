@@ -12,5 +12,6 @@ pub mod Plain
 pub mod Reasons
 pub mod Recovering
 pub mod Renaming
+pub mod Showing
 pub mod Status
 pub mod Undoing

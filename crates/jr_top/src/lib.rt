@@ -3,10 +3,14 @@
 
 mod check;
 mod decide;
+mod demo_fault;
 mod engine;
 mod hear;
 mod lines;
+mod refactoring;
 mod show;
+mod show_fault;
+mod showing;
 mod status;
 mod top;
 mod turns;

@@ -6,11 +6,12 @@ ghost use Rattle.jr_top.specs.Checking.{IsReading, Showed, Checks};
 
 use crate::check::{Verdict, check, paths_of, plainly, refusal};
 use crate::engine::reason_number;
+use crate::show_fault::ShowFault;
+use crate::showing::{Question, show};
 use crate::status::{Phase, Report, Status};
 use jr_base::Files;
 use jr_gather::{Gathered, gather};
 use jr_request::Command;
-use jr_show::{Question, ShowFault, show};
 use jr_store::{Store, StoreError};
 use std::alloc::Global;
 

@@ -26,13 +26,14 @@ ghost use Rattle.jr_top.specs.declared.status.Status.TheVariants.{BadJournal, Ba
 
 use crate::check::Verdict;
 use crate::decide::{Decision, decide};
+use crate::demo_fault::DemoFault;
 use crate::lines::line_of;
+use crate::refactoring::demo;
 use crate::show::{is_reading, read_files};
 use crate::status::{Phase, Report, Status};
 use crate::undo::refusal;
 use jr_base::{CuId, Path, Place, Text};
 use jr_commit::{Plan, RecoverFault, commit, plan_undo, recover};
-use jr_demo::{DemoFault, demo};
 use jr_request::{Command, RequestFault, read_words};
 use jr_store::{Failed, Sink, Source, Store};
 use std::alloc::Global;

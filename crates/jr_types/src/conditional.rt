@@ -2,10 +2,13 @@
 
 ghost use Rattle.std.specs.Prelude.{◌≡◌, ◌&&◌, if◌then◌else◌, Some, None};
 ghost use Rattle.jr_defs.specs.Operators as defined;
+ghost use Rattle.jr_defs.specs.Referents.{Table};
+ghost use Rattle.jr_plain.specs.Conversions as conversions;
 ghost use Rattle.jr_plain.specs.Typing as plain;
+ghost use Rattle.jr_supers.specs.Supers.{AreSupersOf};
 ghost use Rattle.jr_types.specs.Seen.{int_if, operands};
 
-use crate::conversions::{is_null, is_void, plain_if, plain_of, promote};
+use crate::conversions::{is_null, is_same_type, is_void, plain_if, plain_of, promote};
 use jr_defs::{Element, RowType};
 use jr_rows::Row;
 use jr_supers::{Supers, is_reference};
@@ -122,7 +125,9 @@ fn number_type(first: Operand, second: Operand) -> Option<RowType>
 }
 
 // The wider of two reference types.
-fn wider_type(rows: &[Row], supers: &Supers, first: RowType, second: RowType) -> Option<RowType> {
+fn wider_type(rows: &[Row], supers: &Supers, first: RowType, second: RowType) -> Option<RowType>
+    ensures { (t : Table) → AreSupersOf rows.now t supers.now → result ≡ plain.wider_type rows.now t first second }
+{
     if supers.is_subtype(rows, first, second) {
         Some(second)
     } else if supers.is_subtype(rows, second, first) {
@@ -132,20 +137,17 @@ fn wider_type(rows: &[Row], supers: &Supers, first: RowType, second: RowType) ->
     }
 }
 
-/// The type of `?:` on two operands.
-pub fn conditional_type(
-    rows: &[Row],
-    supers: &Supers,
-    first: Operand,
-    second: Operand,
-) -> Option<RowType> {
-    if first.ty == second.ty {
-        return if is_void(first.ty) {
-            None
-        } else {
-            Some(first.ty)
-        };
-    }
+// The type, unless it is void.
+fn unless_void(ty: RowType) -> Option<RowType>
+    ensures { result ≡ (if conversions.is_plain conversions.is_void ty then None else Some ty) }
+{
+    if is_void(ty) { None } else { Some(ty) }
+}
+
+// The type of `?:` on two operands of different types.
+fn mixed_type(rows: &[Row], supers: &Supers, first: Operand, second: Operand) -> Option<RowType>
+    ensures { (t : Table) → AreSupersOf rows.now t supers.now → result ≡ plain.mixed_type rows.now t (operands first.value second.value) 0 1 first.ty second.ty }
+{
     if is_reference(first.ty) && is_reference(second.ty) {
         return wider_type(rows, supers, first.ty, second.ty);
     }
@@ -156,4 +158,20 @@ pub fn conditional_type(
         return Some(first.ty);
     }
     number_type(first, second)
+}
+
+/// The type of `?:` on two operands.
+pub fn conditional_type(
+    rows: &[Row],
+    supers: &Supers,
+    first: Operand,
+    second: Operand,
+) -> Option<RowType>
+    ensures { (t : Table) → AreSupersOf rows.now t supers.now → result ≡ plain.conditional_type rows.now t (operands first.value second.value) 0 1 first.ty second.ty }
+{
+    if is_same_type(first.ty, second.ty) {
+        unless_void(first.ty)
+    } else {
+        mixed_type(rows, supers, first, second)
+    }
 }

@@ -1,8 +1,12 @@
 // Promotion and casts (JLS 5.5, 5.6).
-ghost use Rattle.std.specs.Prelude.{◌≡◌, ◌&&◌, ◌||◌, option_map};
+ghost use Rattle.std.specs.Prelude.{◌≡◌, ◌⊎◌, ◌≤◌, option_map};
+ghost use Rattle.jr_defs.specs.Referents.{Table};
 ghost use Rattle.jr_defs.specs.Types as types;
 ghost use Rattle.jr_plain.specs.Conversions as plain;
+ghost use Rattle.jr_plain.specs.Same.{same_type};
 ghost use Rattle.jr_plain.specs.Supertypes as supertypes;
+ghost use Rattle.jr_supers.specs.Supers.{AreSupersOf};
+ghost use Rattle.jr_types.specs.Casts as casts;
 
 use jr_defs::{Element, RowType};
 use jr_members::is_final;
@@ -163,6 +167,23 @@ pub fn is_condition(ty: RowType) -> bool
     }
 }
 
+/// The type is plain and primitive.
+pub fn is_plain_primitive(ty: RowType) -> bool
+    ensures { result ≡ plain.is_plain plain.is_primitive ty }
+{
+    match plain_of(ty) {
+        Some(element) => is_primitive(element),
+        None => false,
+    }
+}
+
+/// Both types are one.
+pub fn is_same_type(first: RowType, second: RowType) -> bool
+    ensures { result ≡ same_type first second }
+{
+    first == second
+}
+
 /// Class, interface and array types, and that of null.
 pub fn is_reference_or_null(ty: RowType) -> bool
     ensures { result ≡ plain.is_reference_or_null ty }
@@ -171,12 +192,11 @@ pub fn is_reference_or_null(ty: RowType) -> bool
 }
 
 // One of the two types is a subtype of the other.
-fn is_related(rows: &[Row], supers: &Supers, from: RowType, to: RowType) -> bool {
-    if !is_reference(to) {
-        return false;
-    }
-    (is_reference_or_null(from) && supers.is_subtype(rows, from, to))
-        || (is_reference(from) && supers.is_subtype(rows, to, from))
+fn is_related(rows: &[Row], supers: &Supers, from: RowType, to: RowType) -> bool
+    ensures { (t : Table) → AreSupersOf rows.now t supers.now → result ≡ plain.is_related rows.now t from to }
+{
+    (is_reference_or_null(from) && is_reference(to) && supers.is_subtype(rows, from, to))
+        || (is_reference(from) && is_reference(to) && supers.is_subtype(rows, to, from))
 }
 
 // A cast between a class and an interface, or two interfaces, neither of them below the other.
@@ -198,7 +218,7 @@ fn is_castable_class(rows: &[Row], from: Element, to: Element) -> bool
 
 // A cast between plain types, but for subtypes.
 fn is_castable_plain(rows: &[Row], from: Element, to: Element) -> bool
-    ensures { result ≡ ((plain.is_numeric from && plain.is_numeric to) || (plain.is_boolean from && plain.is_boolean to) || plain.is_castable_class rows.now from to) }
+    ensures { result ≡ casts.is_castable_plain rows.now from to }
 {
     (is_numeric(from) && is_numeric(to))
         || (is_boolean(from) && is_boolean(to))
@@ -206,29 +226,70 @@ fn is_castable_plain(rows: &[Row], from: Element, to: Element) -> bool
 }
 
 // The type of the items of an array type.
-fn item(ty: RowType) -> RowType {
+fn item(ty: RowType) -> RowType
+    ensures { result ≡ casts.item ty }
+{
     RowType {
         element: ty.element,
         dims: ty.dims.saturating_sub(1),
     }
 }
 
-/// A cast from one type to another is allowed (JLS 5.5).
-pub fn is_castable(rows: &[Row], supers: &Supers, from: RowType, to: RowType) -> bool {
-    let mut low = from;
-    let mut high = to;
-    for _turn in 0..=from.dims {
-        if is_related(rows, supers, low, high) {
-            return true;
-        }
-        if low.dims == 0 || high.dims == 0 {
-            return low.dims == high.dims && is_castable_plain(rows, low.element, high.element);
-        }
-        low = item(low);
-        high = item(high);
-        if !is_reference(low) || !is_reference(high) {
-            return false;
-        }
+// A cast between two types of which one at least has no items.
+fn is_castable_end(rows: &[Row], supers: &Supers, from: RowType, to: RowType) -> bool
+    ensures { (t : Table) → AreSupersOf rows.now t supers.now → result ≡ casts.is_castable_end rows.now t from to }
+{
+    (from.dims == 0 && to.dims == 0 && is_castable_plain(rows, from.element, to.element))
+        || is_related(rows, supers, from, to)
+}
+
+// A cast between two array types, where it is told of their items.
+fn is_castable_over(
+    rows: &[Row],
+    supers: &Supers,
+    from: RowType,
+    to: RowType,
+    is_inner: bool,
+) -> bool
+    ensures { (t : Table) → AreSupersOf rows.now t supers.now → result ≡ casts.is_castable_over rows.now t from to is_inner }
+{
+    (is_reference(item(from)) && is_reference(item(to)) && is_inner)
+        || is_related(rows, supers, from, to)
+}
+
+// The type with other dimensions.
+fn with_dims(ty: RowType, dims: usize) -> RowType
+    ensures { result ≡ types.array ty.element dims }
+{
+    RowType {
+        element: ty.element,
+        dims,
     }
-    false
+}
+
+// The lesser number.
+fn least(first: usize, second: usize) -> usize
+    ensures below_first { result ≤ first }
+    ensures below_second { result ≤ second }
+    ensures one { (first ≡ result) ⊎ (second ≡ result) }
+{
+    if first < second { first } else { second }
+}
+
+/// A cast from one type to another is allowed (JLS 5.5). From the innermost types that both have, out to the two.
+pub fn is_castable(rows: &[Row], supers: &Supers, from: RowType, to: RowType) -> bool
+    ensures { (t : Table) → AreSupersOf rows.now t supers.now → result ≡ plain.is_castable rows.now t from to }
+{
+    let shared = least(from.dims, to.dims);
+    let low = from.dims - shared;
+    let high = to.dims - shared;
+    let first_low = with_dims(from, low);
+    let first_high = with_dims(to, high);
+    let mut is = is_castable_end(rows, supers, first_low, first_high);
+    for more in 0..shared {
+        let next_low = with_dims(from, low + more + 1);
+        let next_high = with_dims(to, high + more + 1);
+        is = is_castable_over(rows, supers, next_low, next_high, is);
+    }
+    is
 }

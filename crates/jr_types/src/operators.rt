@@ -1,14 +1,19 @@
 // Types of operators (JLS 15.14, 15.15, 15.17 to 15.26).
 
-ghost use Rattle.std.specs.Prelude.{◌≡◌};
+ghost use Rattle.std.specs.Prelude.{◌≡◌, ◌||◌, if◌then◌else◌, Some, None};
+ghost use Rattle.jr_defs.specs.Referents.{Table};
+ghost use Rattle.jr_defs.specs.Types as types;
 ghost use Rattle.jr_defs.specs.Typing as typing;
+ghost use Rattle.jr_defs.specs.declared.referent.Element.TheVariants as element;
 ghost use Rattle.jr_plain.specs.Conversions as conversions;
+ghost use Rattle.jr_plain.specs.Same.{same_type};
 ghost use Rattle.jr_plain.specs.Typing as plain;
+ghost use Rattle.jr_supers.specs.Supers.{AreSupersOf};
 ghost use Rattle.jr_types.specs.Seen.{class_seen};
 
 use crate::conversions::{
-    is_boolean, is_castable, is_condition, is_number, is_numeric, is_primitive,
-    is_reference_or_null, is_void, plain_if, plain_of, plain_type, promote, promoted,
+    is_boolean, is_castable, is_condition, is_number, is_numeric, is_plain_primitive,
+    is_reference_or_null, is_same_type, is_void, plain_if, plain_of, plain_type, promote, promoted,
 };
 use jr_base::Symbol;
 use jr_defs::{Element, RowType};
@@ -165,7 +170,9 @@ fn bitwise_type(first: RowType, second: RowType) -> Option<RowType>
     }
 }
 
-fn boolean_if(test: bool) -> Option<RowType> {
+fn boolean_if(test: bool) -> Option<RowType>
+    ensures { result ≡ (if test then Some (types.plain element.Boolean) else None) }
+{
     if test {
         Some(plain_type(Element::Boolean))
     } else {
@@ -173,14 +180,35 @@ fn boolean_if(test: bool) -> Option<RowType> {
     }
 }
 
+fn comparison_type(first: RowType, second: RowType) -> Option<RowType>
+    ensures { result ≡ plain.from_plain plain.comparison_type first second }
+{
+    boolean_if(is_number(first) && is_number(second))
+}
+
+fn logical_type(first: RowType, second: RowType) -> Option<RowType>
+    ensures { result ≡ plain.from_plain plain.logical_type first second }
+{
+    boolean_if(is_condition(first) && is_condition(second))
+}
+
+// One type may be cast to the other, or both are one.
+fn is_castable_either(rows: &[Row], supers: &Supers, first: RowType, second: RowType) -> bool
+    ensures { (t : Table) → AreSupersOf rows.now t supers.now → result ≡ (conversions.is_castable rows.now t first second || (conversions.is_castable rows.now t second first || same_type first second)) }
+{
+    is_castable(rows, supers, first, second)
+        || (is_castable(rows, supers, second, first) || is_same_type(first, second))
+}
+
 // Two operands that may be compared (JLS 15.21).
-fn is_comparable(rows: &[Row], supers: &Supers, first: RowType, second: RowType) -> bool {
+fn is_comparable(rows: &[Row], supers: &Supers, first: RowType, second: RowType) -> bool
+    ensures { (t : Table) → AreSupersOf rows.now t supers.now → result ≡ plain.is_comparable rows.now t first second }
+{
     (is_number(first) && is_number(second))
         || (is_condition(first) && is_condition(second))
         || (is_reference_or_null(first)
             && is_reference_or_null(second)
-            && (is_castable(rows, supers, first, second)
-                || (is_castable(rows, supers, second, first) || first == second)))
+            && is_castable_either(rows, supers, first, second))
 }
 
 /// The type of a binary operator on operands of two types (JLS 15.17 to 15.24).
@@ -190,15 +218,17 @@ pub fn binary_type(
     class: OperatorClass,
     first: RowType,
     second: RowType,
-) -> Option<RowType> {
+) -> Option<RowType>
+    ensures { (t : Table) → AreSupersOf rows.now t supers.now → result ≡ plain.binary_type rows.now t (class_seen class) first second }
+{
     match class {
         OperatorClass::Plus => sum_type(rows, first, second),
         OperatorClass::Arithmetic => arithmetic_type(first, second),
         OperatorClass::Shift => shift_type(first, second),
-        OperatorClass::Comparison => boolean_if(is_number(first) && is_number(second)),
+        OperatorClass::Comparison => comparison_type(first, second),
         OperatorClass::Equality => boolean_if(is_comparable(rows, supers, first, second)),
         OperatorClass::Bitwise => bitwise_type(first, second),
-        OperatorClass::Logical => boolean_if(is_condition(first) && is_condition(second)),
+        OperatorClass::Logical => logical_type(first, second),
         OperatorClass::Other => None,
     }
 }
@@ -231,6 +261,33 @@ pub fn unary_type(op: Symbol, operand: RowType) -> Option<RowType>
     }
 }
 
+fn is_plus(op: Symbol) -> bool
+    ensures { result ≡ plain.is_plus op }
+{
+    match op {
+        Symbol::Plus => true,
+        _ => false,
+    }
+}
+
+// What an operator gives may be cast to the type.
+fn is_cast_back(rows: &[Row], supers: &Supers, to: RowType, outcome: Option<RowType>) -> bool
+    ensures { (t : Table) → AreSupersOf rows.now t supers.now → result ≡ plain.is_cast_back rows.now t to outcome }
+{
+    match outcome {
+        Some(from) => is_castable(rows, supers, from, to),
+        None => false,
+    }
+}
+
+// What the operator gives on the two types may be cast to the first.
+fn is_back(rows: &[Row], supers: &Supers, op: Symbol, place: RowType, value: RowType) -> bool
+    ensures { (t : Table) → AreSupersOf rows.now t supers.now → result ≡ plain.is_cast_back rows.now t place (plain.binary_type rows.now t (typing.class_of op) place value) }
+{
+    let outcome = binary_type(rows, supers, class_of(op), place, value);
+    is_cast_back(rows, supers, place, outcome)
+}
+
 /// A compound assignment to a place of the first type (JLS 15.26.2).
 pub fn is_compound(
     rows: &[Row],
@@ -238,19 +295,11 @@ pub fn is_compound(
     op: Symbol,
     place: RowType,
     value: RowType,
-) -> bool {
-    if op == Symbol::Plus && is_string_type(rows, place) && !is_void(value) {
-        return true;
-    }
-    if place.dims > 0
-        || value.dims > 0
-        || !is_primitive(place.element)
-        || !is_primitive(value.element)
-    {
-        return false;
-    }
-    match binary_type(rows, supers, class_of(op), place, value) {
-        Some(outcome) => is_castable(rows, supers, outcome, place),
-        None => false,
-    }
+) -> bool
+    ensures { (t : Table) → AreSupersOf rows.now t supers.now → result ≡ plain.is_compound rows.now t op place value }
+{
+    (is_plus(op) && is_string_type(rows, place) && !is_void(value))
+        || (is_plain_primitive(place)
+            && is_plain_primitive(value)
+            && is_back(rows, supers, op, place, value))
 }

@@ -1,11 +1,10 @@
 // The answers of the top call on a store and an output in memory.
+use crate::calls::{answers, answers_with, comes_to, gives, recovers, source_of};
+use crate::files::{are_left, path_of, store_of};
 use jr_base::OutOfMemory;
 use jr_store::{MemSource, MemStore, Store};
 use std::alloc::Global;
 use std::test::Fail;
-use test_calls::{
-    answers, answers_with, are_left, comes_to, gives, path_of, recovers, source_of, store_of,
-};
 
 const OLD: &str = "class A { static int f(int a) { return a + 1; } }";
 

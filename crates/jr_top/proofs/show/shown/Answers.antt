@@ -1,6 +1,6 @@
 use Rattle.std.proofs.Common.{Err, None, ap, map, subst, ◌∙◌}
-use Rattle.jr_show.specs.Showing.{ShownAs}
-use Rattle.jr_show.specs.declared.fault.ShowFault.{ShowFault}
+use Rattle.jr_top.specs.Showing.{ShownAs}
+use Rattle.jr_top.specs.declared.show_fault.ShowFault.{ShowFault}
 use Rattle.jr_top.specs.Checking.{has_text, has_reason, has_refusal}
 use Rattle.jr_top.specs.declared.status.Status.TheVariants.{BadRequest}
 use Rattle.jr_top.proofs.show.shown.Goals as goal

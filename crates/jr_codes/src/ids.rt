@@ -1,0 +1,130 @@
+// The nodes by which declarations are known.
+ghost use Rattle.std.specs.Prelude.{◌≡◌};
+ghost use Rattle.jr_rows.specs.Rows as rows_of;
+ghost use Rattle.jr_plain.specs.Modifiers as modifiers;
+ghost use Rattle.jr_codes.specs.Reads.{node_at, decl_at};
+
+use jr_base::{CuId, DeclId, NodeAt, NodeId, OutOfMemory};
+use jr_places::{parent_at, role_at};
+use jr_rows::{Label, NamePlace, ReceiverKind, Role, Row};
+use std::alloc::Global;
+
+/// The nodes of the rows of a program, by which a core knows its declarations.
+#[derive(Drop)]
+pub struct Ids {
+    nodes: Vec<NodeAt>,
+}
+
+/// How many nodes of its tree a row stands for.
+fn node_count(label: &Label) -> u32 {
+    match label {
+        Label::Program => 0,
+        Label::Name { place, .. } => match place {
+            NamePlace::Qualifier => 0,
+            NamePlace::Expression => 2,
+            NamePlace::Receiver => 2,
+            _ => 1,
+        },
+        Label::Class { is_member, .. } => 1 + *is_member as u32,
+        Label::Interface { is_member, .. } => 1 + *is_member as u32,
+        Label::EmptyDecl { is_member } => 1 + *is_member as u32,
+        Label::Body => 0,
+        Label::DefaultConstructor => 0,
+        Label::ImplicitCall => 0,
+        Label::Case => 0,
+        Label::Default => 0,
+        Label::Call { receiver } => match receiver {
+            ReceiverKind::Expression => 2,
+            ReceiverKind::Super => 2,
+            _ => 1,
+        },
+        _ => 1,
+    }
+}
+
+/// Which of its nodes declares what the row declares: the type itself, not the member that holds it.
+fn declaring_node(label: &Label) -> u32 {
+    match label {
+        Label::Class { is_member, .. } => *is_member as u32,
+        Label::Interface { is_member, .. } => *is_member as u32,
+        _ => 0,
+    }
+}
+
+fn is_default_constructor(rows: &[Row], at: u32) -> bool
+    ensures { result ≡ modifiers.is_default_constructor (rows_of.label rows.now at) }
+{
+    match rows.get(at as usize) {
+        Some(row) => match row.label {
+            Label::DefaultConstructor => true,
+            _ => false,
+        },
+        None => false,
+    }
+}
+
+impl Ids {
+    /// The nodes of the rows.
+    pub fn of(alloc: Global, rows: &[Row]) -> Result<Ids, OutOfMemory> {
+        let mut nodes = Vec::new(alloc);
+        let mut unit: u32 = 0;
+        let mut units: u32 = 0;
+        let mut node: u32 = 0;
+        for row in rows {
+            if let Label::Unit = row.label {
+                unit = units;
+                units = units.saturating_add(1);
+                node = 0;
+            }
+            nodes.push(NodeAt {
+                cu: CuId(unit),
+                node: NodeId(node.saturating_add(declaring_node(&row.label))),
+            })?;
+            node = node.saturating_add(node_count(&row.label));
+        }
+        Ok(Ids { nodes })
+    }
+
+    fn node(&self, at: u32) -> NodeAt
+        ensures { result ≡ node_at self.now.nodes.items at }
+    {
+        match self.nodes.get(at as usize) {
+            Some(node) => *node,
+            None => NodeAt {
+                cu: CuId(u32::MAX),
+                node: NodeId(u32::MAX),
+            },
+        }
+    }
+
+    /// The declaration at a row. A constructor that is not written is part 1 of its class.
+    #[tactic(auto, using(crate::proofs::Folding::own_decl, crate::proofs::Folding::other_decl))]
+    pub fn decl(&self, rows: &[Row], at: u32) -> DeclId
+        ensures { result ≡ decl_at self.now.nodes.items rows.now at }
+    {
+        if is_default_constructor(rows, at) {
+            DeclId {
+                at: self.node(parent_at(rows, parent_at(rows, at))),
+                part: 1,
+            }
+        } else {
+            DeclId {
+                at: self.node(at),
+                part: 0,
+            }
+        }
+    }
+
+    /// The row of a declaration.
+    pub fn find(&self, rows: &[Row], decl: DeclId) -> Option<u32> {
+        let Ok(count) = u32::try_from(rows.len()) else {
+            return None;
+        };
+        for at in 0..count {
+            if role_at(rows, at) != Role::Nothing && self.decl(rows, at) == decl {
+                return Some(at);
+            }
+        }
+        None
+    }
+}

@@ -1,0 +1,244 @@
+-- Parts of rows that stand side by side, and the step of one row.
+use Rattle.std.proofs.Common.{◌≡◌, refl, sym, ◌∙◌, ap, subst, ℕ, ◌+◌, ◌<◌, ◌≤◌, Bool, true, false, cond, ◌&&◌, List, [], ◌∷◌, ◌++◌, append_assoc, Option, Some, None, arith}
+use Rattle.std.proofs.lemmas.Bool.{false≢true}
+use Rattle.jr_core.specs.declared.code.Catch.{Catch}
+use Rattle.jr_core.specs.declared.code.Group.{Group}
+use Rattle.jr_core.specs.declared.code.SwitchLabel.{SwitchLabel}
+use Rattle.jr_defs.specs.declared.referent.RowType.{RowType}
+use Rattle.jr_rows.specs.Rows.{end}
+use Rattle.jr_codes.specs.declared.source.Source.{Source}
+use Rattle.jr_codes.specs.Facts.{Facts}
+use Rattle.jr_codes.specs.Making.{Below, Made, code, nothing, unknown, AreBefore, BeginsFrom, Parted, Stands}
+use Rattle.jr_codes.specs.Reads.{rows_of, facts, IsReadAt, Becomes}
+use Rattle.jr_expressions.specs.Statements.{Part, code_part, case_part, group_part, catch_part, Parts, strange, comes_of, as_code, as_case, as_group, as_catch, with_row, those, codes, is_code, all_are, alone, made_at, PartsAt, none, one, pass}
+use Rattle.jr_expressions.specs.Stacks.{Stacks, stacks_of, AreFrom, IsParted, ComesTo, Makes, WaitsFrom, AreDeep}
+
+-- each row from one up to another ends there at the latest
+pub record AreNested (f : Facts) (from stop : ℕ) : Type 0 where
+  pub more : (k : ℕ) → from ≤ k → k < stop → k < end f.rows k
+  pub inside : (k : ℕ) → from ≤ k → k < stop → end f.rows k ≤ stop
+
+up_to : (a b k : ℕ) → a < b → b ≤ k → a ≤ k
+up_to a b k lt le = omega (arith, lt, le)
+
+itself : (n : ℕ) → n ≤ n
+itself n = omega arith
+
+narrower : (f : Facts) (from to stop : ℕ) → from < to → AreNested f from stop → AreNested f to stop
+narrower f from to stop lt h = record {
+  more = λ k le less. h.more k (up_to from to k lt le) less;
+  inside = λ k le less. h.inside k (up_to from to k lt le) less;
+}
+
+meets : (a e : ℕ) → a ≤ e → e ≤ a → e ≡ a
+meets a e le ge = omega (arith, le, ge)
+
+before_stop : (a e stop : ℕ) → a < e → e ≤ stop → a < stop
+before_stop a e stop lt le = omega (arith, lt, le)
+
+-- parts up to a row, and parts from it on
+pub joined : {f : Facts} {outcome : Option RowType} {a e stop : ℕ} {ys xs : Parts} → AreNested f a e → a ≤ e → e ≤ stop → PartsAt f outcome a e xs → PartsAt f outcome e stop ys
+    → PartsAt f outcome a stop (xs ++ ys)
+joined {f} {outcome} {a} {e} {stop} {ys} nested le far (none past) behind = subst (λ k. PartsAt f outcome k stop ys) (meets a e le past) behind
+joined {f} {outcome} {a} {e} {stop} {ys} nested le far (one lt below made rest) behind =
+    one (before_stop a e stop lt far) below made (joined (narrower f a (end f.rows a) e (nested.more a (itself a) lt) nested) (nested.inside a (itself a) lt) far rest behind)
+joined {f} {outcome} {a} {e} {stop} {ys} nested le far (pass {below = inner} {rest = outer} lt below made rest) behind =
+    subst (PartsAt f outcome a stop) (sym (append_assoc inner outer ys))
+    (pass (before_stop a e stop lt far) below made (joined (narrower f a (end f.rows a) e (nested.more a (itself a) lt) nested) (nested.inside a (itself a) lt) far rest behind))
+
+-- ---- where parts stand
+
+before_both : {T : Type 0} → (e : ℕ) (xs ys : List (ℕ × T)) → AreBefore e xs → AreBefore e ys → AreBefore e (xs ++ ys)
+before_both e [] ys first second = second
+before_both e (p ∷ xs) ys first second = (first.0, before_both e xs ys first.1 second)
+
+before_wider : {T : Type 0} → (e stop : ℕ) (xs : List (ℕ × T)) → e ≤ stop → AreBefore e xs → AreBefore stop xs
+before_wider e stop [] le h = tt
+before_wider e stop (p ∷ xs) le h = (before_stop p.0 e stop h.0 le, before_wider e stop xs le h.1)
+
+from_both : {T : Type 0} → (a : ℕ) (xs ys : List (ℕ × T)) → AreFrom a xs → AreFrom a ys → AreFrom a (xs ++ ys)
+from_both a [] ys first second = second
+from_both a (p ∷ xs) ys first second = (first.0, from_both a xs ys first.1 second)
+
+from_wider : {T : Type 0} → (a b : ℕ) (xs : List (ℕ × T)) → a < b → AreFrom b xs → AreFrom a xs
+from_wider a b [] lt h = tt
+from_wider a b (p ∷ xs) lt h = (up_to a b p.0 lt h.0, from_wider a b xs lt h.1)
+
+begins : {T : Type 0} → (a : ℕ) (xs : List (ℕ × T)) → AreFrom a xs → BeginsFrom a xs
+begins a [] h = tt
+begins a (p ∷ xs) h = h.0
+
+next_less : (a k : ℕ) → a + 1 ≤ k → a < k
+next_less a k le = omega (arith, le)
+
+one_more : (a : ℕ) → a < a + 1
+one_more a = omega arith
+
+below_nested : (f : Facts) (a : ℕ) → AreDeep f → AreNested f (a + 1) (end f.rows a)
+below_nested f a deep = record {
+  more = λ k le less. deep.more a k (next_less a k le) less;
+  inside = λ k le less. deep.inside a k (next_less a k le) less;
+}
+
+pub all_before : {f : Facts} {outcome : Option RowType} {a e : ℕ} {xs : Parts} → AreDeep f → AreNested f a e → PartsAt f outcome a e xs → AreBefore e xs
+all_before {f} {outcome} {a} {e} deep nested (none past) = tt
+all_before {f} {outcome} {a} {e} deep nested (one lt below made behind) =
+    (lt, all_before deep (narrower f a (end f.rows a) e (nested.more a (itself a) lt) nested) behind)
+all_before {f} {outcome} {a} {e} deep nested (pass {below = inner} {rest = outer} lt below made behind) =
+    before_both e inner outer (before_wider (end f.rows a) e inner (nested.inside a (itself a) lt) (all_before deep (below_nested f a deep) below))
+    (all_before deep (narrower f a (end f.rows a) e (nested.more a (itself a) lt) nested) behind)
+
+pub all_from : {f : Facts} {outcome : Option RowType} {a e : ℕ} {xs : Parts} → AreDeep f → AreNested f a e → PartsAt f outcome a e xs → AreFrom a xs
+all_from {f} {outcome} {a} {e} deep nested (none past) = tt
+all_from {f} {outcome} {a} {e} deep nested (one {rest = rest} lt below made behind) =
+    let more = nested.more a (itself a) lt in (itself a, from_wider a (end f.rows a) rest more (all_from deep (narrower f a (end f.rows a) e more nested) behind))
+all_from {f} {outcome} {a} {e} deep nested (pass {below = inner} {rest = outer} lt below made behind) =
+    let more = nested.more a (itself a) lt in
+    from_both a inner outer (from_wider a (a + 1) inner (one_more a) (all_from deep (below_nested f a deep) below))
+    (from_wider a (end f.rows a) outer more (all_from deep (narrower f a (end f.rows a) e more nested) behind))
+
+-- ---- parts of one kind
+
+row_joined : {T : Type 0} → (n : ℕ) (o : Option T) (xs ys : List (ℕ × T)) → with_row n o (xs ++ ys) ≡ with_row n o xs ++ ys
+row_joined n None xs ys = refl
+row_joined n (Some x) xs ys = refl
+
+pub those_joined : {T : Type 0} → (kind : Part → Option T) (xs ys : Parts) → those kind (xs ++ ys) ≡ those kind xs ++ those kind ys
+those_joined kind [] ys = refl
+those_joined kind (p ∷ xs) ys = ap (with_row p.0 (kind p.1)) (those_joined kind xs ys) ∙ row_joined p.0 (kind p.1) (those kind xs) (those kind ys)
+
+row_before : {T : Type 0} → (e n : ℕ) (o : Option T) (all : List (ℕ × T)) → n < e → AreBefore e all → AreBefore e (with_row n o all)
+row_before e n None all lt h = h
+row_before e n (Some x) all lt h = (lt, h)
+
+those_before : {T : Type 0} → (kind : Part → Option T) (e : ℕ) (parts : Parts) → AreBefore e parts → AreBefore e (those kind parts)
+those_before kind e [] h = tt
+those_before kind e (p ∷ parts) h = row_before e p.0 (kind p.1) (those kind parts) h.0 (those_before kind e parts h.1)
+
+row_from : {T : Type 0} → (a n : ℕ) (o : Option T) (all : List (ℕ × T)) → a ≤ n → AreFrom a all → AreFrom a (with_row n o all)
+row_from a n None all le h = h
+row_from a n (Some x) all le h = (le, h)
+
+those_from : {T : Type 0} → (kind : Part → Option T) (a : ℕ) (parts : Parts) → AreFrom a parts → AreFrom a (those kind parts)
+those_from kind a [] h = tt
+those_from kind a (p ∷ parts) h = row_from a p.0 (kind p.1) (those kind parts) h.0 (those_from kind a parts h.1)
+
+-- those of a kind inside a row, and behind it
+pub those_parted : {T : Type 0} {e : ℕ} {all : List (ℕ × T)} (kind : Part → Option T) (inner outer : Parts) → IsParted e inner outer → all ≡ those kind (inner ++ outer)
+    → Parted e all (those kind inner) (those kind outer)
+those_parted {T} {e} {all} kind inner outer h is = record {
+  is = is ∙ those_joined kind inner outer;
+  inside = those_before kind e inner h.inside;
+  after = begins e (those kind outer) (those_from kind e outer h.after);
+}
+
+left_side : (a b : Bool) → a && b ≡ true → a ≡ true
+left_side true b h = refl
+left_side false b h = absurd (false≢true h)
+
+right_side : (a b : Bool) → a && b ≡ true → b ≡ true
+right_side true b h = h
+right_side false b h = absurd (false≢true h)
+
+none_of : {T : Type 0} → (kind : Part → Option T) → ((x : Part) → is_code x ≡ true → kind x ≡ None) → (parts : Parts) → all_are is_code parts ≡ true → those kind parts ≡ []
+none_of kind away [] h = refl
+none_of kind away (p ∷ parts) h =
+    ap (λ o. with_row p.0 o (those kind parts)) (away p.1 (left_side (is_code p.1) (all_are is_code parts) h)) ∙ none_of kind away parts (right_side (is_code p.1) (all_are is_code parts) h)
+
+no_case : (x : Part) → is_code x ≡ true → as_case x ≡ None
+no_case (code_part x) h = refl
+no_case (case_part x) h = absurd (false≢true h)
+no_case (group_part x) h = refl
+no_case (catch_part x) h = refl
+
+no_group : (x : Part) → is_code x ≡ true → as_group x ≡ None
+no_group (code_part x) h = refl
+no_group (case_part x) h = refl
+no_group (group_part x) h = absurd (false≢true h)
+no_group (catch_part x) h = refl
+
+no_catch : (x : Part) → is_code x ≡ true → as_catch x ≡ None
+no_catch (code_part x) h = refl
+no_catch (case_part x) h = refl
+no_catch (group_part x) h = refl
+no_catch (catch_part x) h = absurd (false≢true h)
+
+-- ---- a row whose code comes of the codes below it
+
+abbrev stacks : Below → List (ℕ × SwitchLabel) → List (ℕ × Group) → List (ℕ × Catch) → Stacks
+stacks a b d e = record { of_code = a; of_label = b; of_group = d; of_catch = e }
+
+pub stacks_are : {now : Stacks} (parts : Parts) → now.of_code ≡ codes parts → now.of_label ≡ those as_case parts → now.of_group ≡ those as_group parts → now.of_catch ≡ those as_catch parts → now ≡ stacks_of parts
+stacks_are {now} parts a b d e =
+    ap (λ x. stacks x now.of_label now.of_group now.of_catch) a ∙ ap (λ x. stacks (codes parts) x now.of_group now.of_catch) b
+    ∙ ap (λ x. stacks (codes parts) (those as_case parts) x now.of_catch) d ∙ ap (λ x. stacks (codes parts) (those as_case parts) (those as_group parts) x) e
+
+-- the stacks of the other kinds are what they were
+pub record SameOthers (old new : Stacks) : Type 0 where
+  pub label : new.of_label ≡ old.of_label
+  pub group : new.of_group ≡ old.of_group
+  pub catch : new.of_catch ≡ old.of_catch
+
+left_of : {T : Type 0} {now was : List (ℕ × T)} (kind : Part → Option T) → ((x : Part) → is_code x ≡ true → kind x ≡ None) → (inner outer : Parts) → all_are is_code inner ≡ true → now ≡ was
+    → was ≡ those kind (inner ++ outer) → now ≡ those kind outer
+left_of kind away inner outer all same is = same ∙ is ∙ those_joined kind inner outer ∙ ap (λ xs. xs ++ those kind outer) (none_of kind away inner all)
+
+made_to : (m : Made) (n : ℕ) (inner outer : Parts) (old new : Stacks) → all_are is_code inner ≡ true → old ≡ stacks_of (inner ++ outer) → SameOthers old new
+    → Stands m n (codes inner) (codes outer) new.of_code → ComesTo (comes_of m) n inner outer new
+made_to (code x) n inner outer old new all was same st =
+    stacks_are ((n, code_part x) ∷ outer) st (left_of as_case no_case inner outer all same.label (ap (λ s. s.of_label) was)) (left_of as_group no_group inner outer all same.group (ap (λ s. s.of_group) was))
+    (left_of as_catch no_catch inner outer all same.catch (ap (λ s. s.of_catch) was))
+made_to nothing n inner outer old new all was same st =
+    stacks_are (inner ++ outer) (st ∙ sym (those_joined as_code inner outer)) (same.label ∙ ap (λ s. s.of_label) was) (same.group ∙ ap (λ s. s.of_group) was) (same.catch ∙ ap (λ s. s.of_catch) was)
+made_to unknown n inner outer old new all was same st = tt
+
+alone_to : (b : Bool) (m : Made) (n : ℕ) (inner outer : Parts) (old new : Stacks) → all_are is_code inner ≡ b → old ≡ stacks_of (inner ++ outer) → SameOthers old new
+    → Stands m n (codes inner) (codes outer) new.of_code → ComesTo (cond b (comes_of m) strange) n inner outer new
+alone_to true m n inner outer old new all was same st = made_to m n inner outer old new all was same st
+alone_to false m n inner outer old new all was same st = tt
+
+pub plain_makes : {s : Source} {outcome : Option RowType} {n : ℕ} {old new : Stacks} (made : Below → Made) → (IsReadAt s n → (inner : Parts) → made_at (facts s) outcome n inner ≡ alone inner (λ below. comes_of (made below)))
+    → Becomes s n made old.of_code new.of_code → SameOthers old new → Makes s outcome n old new
+plain_makes {s} {outcome} {n} {old} {new} made is becomes same = record {
+  makes = λ read inner outer h was. subst (λ m. ComesTo m n inner outer new) (sym (is read inner))
+      (alone_to (all_are is_code inner) (made (codes inner)) n inner outer old new refl was same
+      (becomes.stands read (codes inner) (codes outer) (those_parted as_code inner outer h (ap (λ s. s.of_code) was))));
+}
+
+-- ---- the step of one row
+
+not_past : (n stop : ℕ) → n < stop → stop ≤ n → ⊥
+not_past n stop lt le = omega (arith, lt, le)
+
+after_row : (f : Facts) (n : ℕ) → n < end f.rows n → n + 1 ≤ end f.rows n
+after_row f n lt = omega (arith, lt)
+
+step : {s : Source} {outcome : Option RowType} {n stop : ℕ} {old new : Stacks} (inner outer : Parts) → IsReadAt s n → AreDeep (facts s) → AreNested (facts s) n stop → n < stop
+    → WaitsFrom (facts s) outcome (n + 1) stop old → Makes s outcome n old new → PartsAt (facts s) outcome (n + 1) (end (rows_of s) n) inner → PartsAt (facts s) outcome (end (rows_of s) n) stop outer
+    → ComesTo (made_at (facts s) outcome n inner) n inner outer new
+step {s} {outcome} {n} {stop} {old} {new} inner outer read deep nested lt was makes below behind =
+    let more = nested.more n (itself n) lt in
+    makes.makes read inner outer
+    (record { inside = all_before deep (below_nested (facts s) n deep) below; after = all_from deep (narrower (facts s) n (end (rows_of s) n) stop more nested) behind })
+    (was.waits (inner ++ outer) (joined (below_nested (facts s) n deep) (after_row (facts s) n more) (nested.inside n (itself n) lt) below behind))
+
+step_waits : {s : Source} {outcome : Option RowType} {n stop : ℕ} {old new : Stacks} → IsReadAt s n → AreDeep (facts s) → AreNested (facts s) n stop → n < stop → WaitsFrom (facts s) outcome (n + 1) stop old
+    → Makes s outcome n old new → (parts : Parts) → PartsAt (facts s) outcome n stop parts → new ≡ stacks_of parts
+step_waits {s} {outcome} {n} {stop} {old} {new} read deep nested lt was makes parts (none past) = absurd (not_past n stop lt past)
+step_waits {s} {outcome} {n} {stop} {old} {new} read deep nested lt was makes parts (one {below = inner} {rest = outer} {x = x} less below here behind) =
+    subst (λ m. ComesTo m n inner outer new) here (step inner outer read deep nested lt was makes below behind)
+step_waits {s} {outcome} {n} {stop} {old} {new} read deep nested lt was makes parts (pass {below = inner} {rest = outer} less below here behind) =
+    subst (λ m. ComesTo m n inner outer new) here (step inner outer read deep nested lt was makes below behind)
+
+pub row_waits : {s : Source} {outcome : Option RowType} {n stop : ℕ} {old new : Stacks} → IsReadAt s n → AreDeep (facts s) → AreNested (facts s) n stop → n < stop → WaitsFrom (facts s) outcome (n + 1) stop old
+    → Makes s outcome n old new → WaitsFrom (facts s) outcome n stop new
+row_waits read deep nested lt was makes = record { waits = λ parts h. step_waits read deep nested lt was makes parts h }
+
+nothing_left : {f : Facts} {outcome : Option RowType} {n stop : ℕ} (parts : Parts) → stop ≤ n → PartsAt f outcome n stop parts → parts ≡ []
+nothing_left {f} {outcome} {n} {stop} parts past (none le) = refl
+nothing_left {f} {outcome} {n} {stop} parts past (one lt below made rest) = absurd (not_past n stop lt past)
+nothing_left {f} {outcome} {n} {stop} parts past (pass lt below made rest) = absurd (not_past n stop lt past)
+
+-- before the last row nothing waits
+pub none_waits : {f : Facts} {outcome : Option RowType} {n stop : ℕ} → stop ≤ n → WaitsFrom f outcome n stop (stacks_of [])
+none_waits past = record { waits = λ parts h. ap stacks_of (sym (nothing_left parts past h)) }

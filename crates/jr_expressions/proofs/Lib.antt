@@ -1,0 +1,9 @@
+pub mod Converting
+pub mod Standing
+pub mod Operated
+pub mod Named
+pub mod Passed
+pub mod Called
+pub mod Initialized
+pub mod Labels
+pub mod Joined

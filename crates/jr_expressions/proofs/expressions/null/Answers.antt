@@ -1,0 +1,9 @@
+use Rattle.std.proofs.Common.{None}
+use Rattle.std.proofs.lemmas.Result.{on_ok_weaker}
+use Rattle.jr_core.specs.declared.code.Code.TheVariants as v
+use Rattle.jr_codes.specs.Making.{code}
+use Rattle.jr_expressions.proofs.Standing.{none_becomes}
+use Rattle.jr_expressions.proofs.expressions.null.Goals as goal
+
+pub returns : goal.returns
+returns c = on_ok_weaker c.push.result (none_becomes (code (v.Lit None))) c.push.ensures

@@ -1,0 +1,7 @@
+pub mod Names
+pub mod Calls
+pub mod Expressions
+pub mod Passing
+pub mod Statements
+pub mod Stacks
+pub mod Bodies

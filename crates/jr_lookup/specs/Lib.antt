@@ -1,0 +1,4 @@
+pub mod Scopes
+pub mod Outward
+pub mod Instances
+pub mod Levels
