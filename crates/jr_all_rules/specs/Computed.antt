@@ -1,7 +1,7 @@
 -- All rules of compiling that are defined so far, computed.
 use Rattle.std.specs.Prelude.{ℕ, Bool, true, not, List, ◌++◌, length}
 use Rattle.std.specs.List.{list_any}
-use Rattle.jr_rows.specs.Rows.{Rows}
+use Rattle.jr_tree.specs.Rows.{Rows}
 use Rattle.jr_defs.specs.Referents.{Table}
 use Rattle.jr_plain.specs.Search.{all_below, has}
 use Rattle.jr_plain.specs.Overriding.{overriding}

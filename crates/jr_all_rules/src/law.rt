@@ -1,6 +1,6 @@
 // The rules on names, members, types and static contexts together.
 ghost use Rattle.std.specs.Prelude.{◌≡◌, ℕ, ◌≤◌, ◌<◌, length, Decides};
-ghost use Rattle.jr_rows.specs.Rows.{Rows};
+ghost use Rattle.jr_tree.specs.Rows.{Rows};
 ghost use Rattle.jr_defs.specs.declared.referent.Referent.TheVariants.{Unbound};
 ghost use Rattle.jr_defs.specs.Referents.{Table};
 ghost use Rattle.jr_defs.specs.Formed.{IsFormed};

@@ -1,6 +1,6 @@
 -- One more row in a table.
 use Rattle.std.proofs.Common.{◌≡◌, sym, ◌∙◌, ap, ℕ, ◌+◌, List, [], ◌∷◌, ◌++◌, add-one, get_or}
-use Rattle.jr_rows.specs.Rows.{Rows}
+use Rattle.jr_tree.specs.Rows.{Rows}
 use Rattle.jr_assign.specs.Changes.{member_at, members}
 
 pub one_member : (p : Rows) (n : ℕ) (all seen items : List ℕ) (made : ℕ) → all ≡ members p n → seen ≡ all

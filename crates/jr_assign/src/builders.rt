@@ -1,6 +1,6 @@
 // Finals that are changed where they may not be (JLS 4.12.4, 8.3.1.2).
 ghost use Rattle.std.specs.Prelude.{◌≡◌, ◌++◌, ◌<◌, ◌^◌, OnOk, length};
-ghost use Rattle.jr_rows.specs.Rows.{label};
+ghost use Rattle.jr_tree.specs.Rows.{label};
 ghost use Rattle.jr_assign.specs.Changes.{builds, is_fixed, is_changed_wrongly, member_in, fault_if, changes};
 
 use crate::fact::{Fact, fact_of};
@@ -8,8 +8,8 @@ use crate::member::member_of;
 use crate::parts::{body_of_field, is_interface, is_valued};
 use jr_base::OutOfMemory;
 use jr_places::parent_at;
-use jr_rows::{Label, Row};
 use jr_rule::{Fault, Rule};
+use jr_tree::{Label, Row};
 
 // The member is a constructor or an initializer that stands in this body.
 fn is_builder(rows: &[Row], member: u32, body: u32) -> bool

@@ -9,8 +9,8 @@ use crate::sets::{Set, Sets};
 use crate::walk::{Known, walk};
 use jr_base::OutOfMemory;
 use jr_places::{end_at, parent_at};
-use jr_rows::{Label, Row};
 use jr_rule::{Fault, Rule};
+use jr_tree::{Label, Row};
 use std::alloc::Global;
 
 // What a member of a body is to the making of its class and of instances.

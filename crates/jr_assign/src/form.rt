@@ -1,7 +1,7 @@
 // How the parts of a row follow one another.
 
 use jr_base::Symbol;
-use jr_rows::{Label, Row};
+use jr_tree::{Label, Row};
 
 /// What a row is to what is assigned before and behind its parts.
 #[derive(Clone, Copy, PartialEq, Eq)]

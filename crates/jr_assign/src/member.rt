@@ -1,11 +1,11 @@
 // The member that holds each row.
 ghost use Rattle.std.specs.Prelude.{◌≡◌, ◌<◌, ◌^◌, IfOk, length};
-ghost use Rattle.jr_rows.specs.Rows.{label};
+ghost use Rattle.jr_tree.specs.Rows.{label};
 ghost use Rattle.jr_assign.specs.Changes as changes;
 
 use jr_base::OutOfMemory;
 use jr_places::parent_at;
-use jr_rows::{Label, Row};
+use jr_tree::{Label, Row};
 use std::alloc::Global;
 
 fn is_member(label: &Label) -> bool

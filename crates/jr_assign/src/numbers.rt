@@ -4,7 +4,7 @@ use crate::member::member_of;
 use crate::parts::{body_of_field, is_class, is_valued};
 use jr_base::OutOfMemory;
 use jr_places::parent_at;
-use jr_rows::{Label, Row};
+use jr_tree::{Label, Row};
 use std::alloc::Global;
 
 /// For each row the number of the variable that it declares, and how many variables a body (its fields) or a member (its locals) has.

@@ -1,11 +1,11 @@
 // Parts of rows.
 ghost use Rattle.std.specs.Prelude.{◌≡◌};
-ghost use Rattle.jr_rows.specs.Rows.{label};
+ghost use Rattle.jr_tree.specs.Rows.{label};
 ghost use Rattle.jr_assign.specs.Changes as changes;
 
 use crate::fact::{Fact, fact_of};
 use jr_places::{end_at, parent_at};
-use jr_rows::{Label, Row};
+use jr_tree::{Label, Row};
 
 /// The sibling before a row, or the row round it where it is the first.
 pub(crate) fn previous_at(rows: &[Row], at: u32) -> u32 {

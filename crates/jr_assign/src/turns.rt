@@ -4,7 +4,7 @@ use crate::fact::Fact;
 use crate::form::{Form, form_at};
 use crate::parts::{ForParts, first_of, for_parts};
 use jr_places::{end_at, parent_at};
-use jr_rows::Row;
+use jr_tree::Row;
 
 /// A step of the walk.
 #[derive(Clone, Copy)]

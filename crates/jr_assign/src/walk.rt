@@ -8,8 +8,8 @@ use crate::sets::{Set, Sets};
 use crate::turns::{Turn, turn_behind, turn_inside};
 use jr_base::OutOfMemory;
 use jr_places::{end_at, parent_at};
-use jr_rows::Row;
 use jr_rule::{Fault, Rule};
+use jr_tree::Row;
 use std::alloc::Global;
 
 /// What is known of the rows of a program.

@@ -7,8 +7,7 @@ use jr_base::OutOfMemory;
 use jr_flow_faults::facts_of;
 use jr_places::{end_at, parent_at};
 use jr_reach::{Exit, no_fact as no_flow};
-use jr_rows::{Label, Row};
-use jr_tree::ThisOrSuper;
+use jr_tree::{Label, Row, ThisOrSuper};
 use jr_view::View;
 use std::alloc::Global;
 

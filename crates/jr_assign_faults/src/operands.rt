@@ -2,7 +2,7 @@
 
 use jr_base::Symbol;
 use jr_places::parent_at;
-use jr_rows::{Label, Row};
+use jr_tree::{Label, Row};
 
 /// What a row is to an assignment or step.
 #[derive(Clone, Copy, PartialEq, Eq)]

@@ -2,8 +2,8 @@
 
 use crate::operands::{Operand, bare};
 use jr_places::{end_at, parent_at, role_at};
-use jr_rows::{Label, Role, Row};
 use jr_supers::Tabled;
+use jr_tree::{Label, Role, Row};
 
 /// A program under its table, and for each row the member that holds it.
 #[derive(Clone, Copy)]

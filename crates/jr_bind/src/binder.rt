@@ -10,8 +10,8 @@ use jr_defs::{Referent, RowType};
 use jr_lookup::{Imports, Scopes};
 use jr_members::Members;
 use jr_places::Places;
-use jr_rows::Row;
 use jr_supers::{Supers, Tabled};
+use jr_tree::Row;
 use std::alloc::Global;
 
 /// What occurrences refer to, with the types of expressions.

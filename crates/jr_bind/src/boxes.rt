@@ -4,8 +4,8 @@ use jr_base::OutOfMemory;
 use jr_constants::Constants;
 use jr_lookup::Imports;
 use jr_members::Members;
-use jr_rows::Row;
 use jr_supers::{Supers, Tabled};
+use jr_tree::Row;
 use std::alloc::Global;
 
 /// What was made, in a box.

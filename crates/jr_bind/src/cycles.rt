@@ -2,8 +2,7 @@
 
 use crate::headers::{Setting, Settled};
 use jr_base::OutOfMemory;
-use jr_places::is_type;
-use jr_tables::{Chains, Entry, Stamps};
+use jr_places::{Chains, Entry, Stamps, is_type};
 use std::alloc::Global;
 
 // The types for which a type waits, under that type.

@@ -8,8 +8,8 @@ use jr_constants::{Constants, Value, constant_forms};
 use jr_defs::{Referent, RowType};
 use jr_lookup::{Imports, Sight};
 use jr_members::{Members, World};
-use jr_rows::Row;
 use jr_supers::{Supers, Tabled};
+use jr_tree::Row;
 use jr_types::{Typing, find_string};
 use std::alloc::Global;
 

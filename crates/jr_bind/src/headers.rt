@@ -6,10 +6,9 @@ use jr_base::OutOfMemory;
 use jr_defs::Referent;
 use jr_lookup::{Candidates, Imports, Left, Scopes, Sight};
 use jr_members::{Members, World, declaring_type};
-use jr_places::{Places, end_at, is_type, parent_at};
-use jr_rows::{NameKind, Row, Sought};
+use jr_places::{Places, Stamps, end_at, is_type, parent_at};
 use jr_supers::{Supers, Tabled, find_object, header_place};
-use jr_tables::Stamps;
+use jr_tree::{NameKind, Row, Sought};
 use std::alloc::Global;
 
 /// What rows alone give.

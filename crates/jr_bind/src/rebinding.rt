@@ -10,8 +10,8 @@ use jr_defs::Referent;
 use jr_lookup::{Imports, Scopes, Sight};
 use jr_members::{Members, World};
 use jr_places::{Places, is_type, sought_at};
-use jr_rows::{Row, Sought};
 use jr_supers::{Supers, Tabled};
+use jr_tree::{Row, Sought};
 use std::alloc::Global;
 
 /// A row whose lookup gives another declaration than its lock.

@@ -3,8 +3,8 @@
 use jr_base::OutOfMemory;
 use jr_lookup::import_kind;
 use jr_places::{parent_at, sought_at};
-use jr_rows::{Label, NameKind, NamePlace, Row, Sought};
 use jr_supers::header_place;
+use jr_tree::{Label, NameKind, NamePlace, Row, Sought};
 use std::alloc::Global;
 
 /// When a row is bound: what names refer to in headers comes first, then in imports, then types, then variables and packages, then all else.

@@ -3,7 +3,7 @@ use Rattle.std.proofs.Common.{◌≡◌, refl, sym, ◌∙◌, ap, subst, inl, i
 use Rattle.std.proofs.Math.Path.{fun_ext}
 use Rattle.std.proofs.lemmas.Bool.{false≢true, cases_eq}
 use Rattle.std.proofs.lemmas.Bool.Decides.{Decides-eqb}
-use Rattle.jr_rows.specs.Rows.{Rows, name, sought_at}
+use Rattle.jr_tree.specs.Rows.{Rows, name, sought_at}
 use Rattle.jr_defs.specs.Referents.{Table}
 use Rattle.jr_defs.specs.Imports.{ImportsHold}
 use Rattle.jr_defs.specs.Formed.{SeeksType, NamesTypeFirst, IsFormed}

@@ -1,8 +1,8 @@
 -- What the rules ask of a binding: that an expression has one type at most, and that occurrences are found.
 use Rattle.std.proofs.Common.{◌≡◌, refl, ap, subst, arith, ℕ, ◌≤◌, ◌<◌, ◌||◌, not, length, Option, Decides}
-use Rattle.jr_rows.specs.Labels.{sought_by}
-use Rattle.jr_rows.specs.declared.label.Sought.TheVariants as sought
-use Rattle.jr_rows.specs.Rows.{Rows, name}
+use Rattle.jr_tree.specs.Labels.{sought_by}
+use Rattle.jr_tree.specs.declared.label.Sought.TheVariants as sought
+use Rattle.jr_tree.specs.Rows.{Rows, name}
 use Rattle.jr_defs.specs.declared.referent.Referent.{Referent}
 use Rattle.jr_defs.specs.declared.referent.Referent.TheVariants.{Declared, Unbound, Ambiguous}
 use Rattle.jr_defs.specs.Referents.{Table, none}

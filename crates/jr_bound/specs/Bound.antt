@@ -1,6 +1,6 @@
 -- The binding of a program, from its rows alone.
 use Rattle.std.specs.Prelude.{if◌then◌else◌, Option, Some, None}
-use Rattle.jr_rows.specs.Rows.{Rows}
+use Rattle.jr_tree.specs.Rows.{Rows}
 use Rattle.jr_defs.specs.Referents.{Table, entries}
 use Rattle.jr_headers.specs.Growing.{header_table, has_settled_headers}
 use Rattle.jr_binding.specs.Bound.{bound}

@@ -1,6 +1,6 @@
 -- Whether each occurrence refers to one thing, and whether a program keeps all rules that are defined so far, as tests.
 use Rattle.std.specs.Prelude.{Bool, not, ◌&&◌, ◌||◌, length}
-use Rattle.jr_rows.specs.Rows.{Rows}
+use Rattle.jr_tree.specs.Rows.{Rows}
 use Rattle.jr_defs.specs.declared.referent.Referent.{Referent}
 use Rattle.jr_defs.specs.declared.referent.Referent.TheVariants.{Unbound, Ambiguous}
 use Rattle.jr_defs.specs.Referents.{Table}

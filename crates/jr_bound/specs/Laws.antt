@@ -1,6 +1,6 @@
 -- The laws of the binding of a program of files.
 use Rattle.std.specs.Prelude.{◌≡◌, ◌⊎◌, ◌↔◌, ℕ, true, false, Some, None, Decides}
-use Rattle.jr_rows.specs.Rows.{Rows}
+use Rattle.jr_tree.specs.Rows.{Rows}
 use Rattle.jr_defs.specs.Referents.{Table}
 use Rattle.jr_defs.specs.Overriding.{Found}
 use Rattle.jr_defs.specs.Compiling.{KeepsRules}

@@ -1,7 +1,7 @@
 // The binding of a program of files.
 ghost use Rattle.jr_prelude.specs.Laws.{OfFiles};
 ghost use Rattle.std.specs.Prelude.{Decides};
-ghost use Rattle.jr_rows.specs.Rows.{Rows};
+ghost use Rattle.jr_tree.specs.Rows.{Rows};
 ghost use Rattle.jr_defs.specs.Referents.{Table};
 ghost use Rattle.jr_defs.specs.Compiling.{AllFound};
 ghost use Rattle.jr_bound.specs.Found.{all_found};

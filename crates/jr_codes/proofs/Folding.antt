@@ -15,9 +15,9 @@ use Rattle.jr_constants.specs.declared.value.Value.TheVariants as v
 use Rattle.jr_constants.specs.Values.{seen, seen_if, value_in, value_in_if}
 use Rattle.jr_codes.specs.Conversions.{folded}
 use Rattle.jr_codes.specs.Facts.{arrays}
-use Rattle.jr_rows.specs.declared.label.Label.{Label}
-use Rattle.jr_rows.specs.declared.label.Label.TheVariants as is
-use Rattle.jr_rows.specs.Rows.{Rows, label, parent}
+use Rattle.jr_tree.specs.declared.label.Label.{Label}
+use Rattle.jr_tree.specs.declared.label.Label.TheVariants as is
+use Rattle.jr_tree.specs.Rows.{Rows, label, parent}
 use Rattle.jr_plain.specs.Modifiers.{is_default_constructor}
 use Rattle.jr_codes.specs.Reads.{node_at, decl_by, decl_at}
 

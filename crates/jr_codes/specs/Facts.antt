@@ -4,7 +4,7 @@ use Rattle.jr_base.specs.declared.ids.DeclId.{DeclId}
 use Rattle.jr_ty.specs.declared.constant.Const.{Const}
 use Rattle.jr_ty.specs.declared.ty.Ty.{Ty}
 use Rattle.jr_ty.specs.declared.ty.Ty.TheVariants as ty
-use Rattle.jr_rows.specs.Rows.{Rows, end}
+use Rattle.jr_tree.specs.Rows.{Rows, end}
 use Rattle.jr_defs.specs.declared.referent.Element.{Element}
 use Rattle.jr_defs.specs.declared.referent.Element.TheVariants as element
 use Rattle.jr_defs.specs.declared.referent.RowType.{RowType}

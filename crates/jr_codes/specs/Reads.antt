@@ -2,9 +2,9 @@
 use Rattle.std.specs.Prelude.{ℕ, ◌+◌, ◌<◌, ◌^◌, List, if◌then◌else◌, Option, Some, None, length, nat_lt, slice_index_or}
 use Rattle.jr_base.specs.declared.ids.DeclId.{DeclId}
 use Rattle.jr_base.specs.declared.ids.NodeAt.{NodeAt}
-use Rattle.jr_rows.specs.declared.label.Label.{Label}
-use Rattle.jr_rows.specs.declared.label.Label.TheVariants as is
-use Rattle.jr_rows.specs.Rows.{Rows, label, parent, end}
+use Rattle.jr_tree.specs.declared.label.Label.{Label}
+use Rattle.jr_tree.specs.declared.label.Label.TheVariants as is
+use Rattle.jr_tree.specs.Rows.{Rows, label, parent, end}
 use Rattle.jr_defs.specs.Referents.{Table, entries}
 use Rattle.jr_plain.specs.Supertypes.{is_subtype}
 use Rattle.jr_plain.specs.Types.{parameters}

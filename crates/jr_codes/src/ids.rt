@@ -1,12 +1,12 @@
 // The nodes by which declarations are known.
 ghost use Rattle.std.specs.Prelude.{◌≡◌};
-ghost use Rattle.jr_rows.specs.Rows as rows_of;
+ghost use Rattle.jr_tree.specs.Rows as rows_of;
 ghost use Rattle.jr_plain.specs.Modifiers as modifiers;
 ghost use Rattle.jr_codes.specs.Reads.{node_at, decl_at};
 
 use jr_base::{CuId, DeclId, NodeAt, NodeId, OutOfMemory};
 use jr_places::{parent_at, role_at};
-use jr_rows::{Label, NamePlace, ReceiverKind, Role, Row};
+use jr_tree::{Label, NamePlace, ReceiverKind, Role, Row};
 use std::alloc::Global;
 
 /// The nodes of the rows of a program, by which a core knows its declarations.

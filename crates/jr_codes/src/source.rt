@@ -1,7 +1,7 @@
 // What elaboration reads.
 ghost use Rattle.std.specs.Prelude.{◌≡◌, ◌+◌, ◌<◌, ◌^◌, true, Some, IfOk, slice_get};
 ghost use Rattle.jr_constants.specs.Values.{text_at};
-ghost use Rattle.jr_rows.specs.Rows as all_rows;
+ghost use Rattle.jr_tree.specs.Rows as all_rows;
 ghost use Rattle.jr_codes.specs.Conversions.{is_text};
 ghost use Rattle.jr_codes.specs.Facts.{has_child};
 ghost use Rattle.jr_codes.specs.Reads.{value_at, variable_at, texts_of, rows_of, table_of, signatures_of, facts, decl_at, child_of};
@@ -15,8 +15,8 @@ use jr_constants::{Constants, Value};
 use jr_defs::RowType;
 use jr_members::World;
 use jr_places::{end_at, parent_at};
-use jr_rows::{Label, Row};
 use jr_supers::Tabled;
+use jr_tree::{Label, Row};
 use jr_types::is_string_type;
 use jr_view::View;
 use std::alloc::Global;

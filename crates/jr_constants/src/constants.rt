@@ -1,7 +1,7 @@
 // Constant variables and constant expressions (JLS 4.12.4, 15.28).
 
 ghost use Rattle.std.specs.Prelude.{◌≡◌, ◌+◌, ◌<◌, ◌^◌, if◌then◌else◌, Some, None, slice_get, slice_index_or};
-ghost use Rattle.jr_rows.specs.Rows.{label};
+ghost use Rattle.jr_tree.specs.Rows.{label};
 ghost use Rattle.jr_plain.specs.Declarations as declared;
 ghost use Rattle.jr_plain.specs.Constants as plain;
 ghost use Rattle.jr_constants.specs.Values.{text_at};
@@ -12,8 +12,8 @@ use crate::value::Value;
 use jr_base::OutOfMemory;
 use jr_members::is_final;
 use jr_places::{end_at, parent_at, role_at, sought_at};
-use jr_rows::{Label, NameKind, Role, Row, Sought};
 use jr_supers::Tabled;
+use jr_tree::{Label, NameKind, Role, Row, Sought};
 use std::alloc::Global;
 
 /// What stands in the way of the value of a variable.

@@ -16,8 +16,8 @@ use crate::value::{Value, assigned_to, cast_to, chosen};
 use jr_base::{Keyword, Kind, OutOfMemory, Symbol, Units};
 use jr_defs::{Element, RowType};
 use jr_places::{is_string, parent_at};
-use jr_rows::{Label, Row};
 use jr_supers::Tabled;
+use jr_tree::{Label, Row};
 use std::alloc::Global;
 
 // What a table has for a row.

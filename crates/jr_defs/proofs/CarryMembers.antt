@@ -2,12 +2,12 @@
 use Rattle.std.proofs.Common.{◌≡◌, ◌⊎◌, ℕ, ◌<◌, ◌≤◌, refl, sym, ◌∙◌, ap, subst, inl, inr, List}
 use Rattle.std.specs.Prelude.{IsTrue, Option}
 use Rattle.jr_base.specs.declared.text.Text.{Text}
-use Rattle.jr_rows.specs.declared.label.Label.{Label}
-use Rattle.jr_rows.specs.declared.label.Label.TheVariants as is
-use Rattle.jr_rows.specs.declared.label.Role.{Role}
-use Rattle.jr_rows.specs.declared.label.Role.TheVariants as role
-use Rattle.jr_rows.specs.Labels.{role_of}
-use Rattle.jr_rows.specs.Rows.{Rows, label, name, role_at}
+use Rattle.jr_tree.specs.declared.label.Label.{Label}
+use Rattle.jr_tree.specs.declared.label.Label.TheVariants as is
+use Rattle.jr_tree.specs.declared.label.Role.{Role}
+use Rattle.jr_tree.specs.declared.label.Role.TheVariants as role
+use Rattle.jr_tree.specs.Labels.{role_of}
+use Rattle.jr_tree.specs.Rows.{Rows, label, name, role_at}
 use Rattle.jr_defs.specs.declared.referent.Space.{Space}
 use Rattle.jr_defs.specs.Referents.{Table}
 use Rattle.jr_defs.specs.Declarations.{IsOf, Declares, IsType, IsClass, IsInterface, IsInterfaceLabel, IsClassLabel, IsObject}

@@ -2,22 +2,22 @@
 use Rattle.std.proofs.Common.{◌≡◌, ◌⊎◌, ℕ, suc, zero, ◌+◌, ◌<◌, ◌≤◌, refl, sym, ◌∙◌, ap, subst, inl, inr, arith, [], length}
 use Rattle.std.proofs.lemmas.List.{get_or_past}
 use Rattle.std.specs.Prelude.{Bool, true, false, Option, Some, None}
-use Rattle.jr_rows.specs.declared.label.Label.{Label}
-use Rattle.jr_rows.specs.declared.label.Label.TheVariants as is
-use Rattle.jr_rows.specs.declared.label.ImportKind.{ImportKind}
-use Rattle.jr_rows.specs.declared.label.NameKind.{NameKind}
-use Rattle.jr_rows.specs.declared.label.NameKind.TheVariants as kind
-use Rattle.jr_rows.specs.declared.label.NamePlace.{NamePlace}
-use Rattle.jr_rows.specs.declared.label.NamePlace.TheVariants as place
-use Rattle.jr_rows.specs.declared.label.Role.TheVariants as role
-use Rattle.jr_rows.specs.declared.label.Sought.{Sought}
-use Rattle.jr_rows.specs.declared.label.Sought.TheVariants as sought
-use Rattle.jr_rows.specs.declared.row.Row.{Row}
-use Rattle.jr_rows.specs.Exprs.{left_kind}
-use Rattle.jr_rows.specs.Labels.{role_of, sought_by, name_sought}
-use Rattle.jr_rows.specs.Rows.{Rows, row, label, parent, end, role_at, sought_at}
-use Rattle.jr_rows.specs.Below.{IsQualifier, IsOtherName, IsTypeLabel, IsUnitOrBody, IsUnitLabel, IsProgramLabel, Under, IsQualifierOf, IsTypeName}
-use Rattle.jr_rows.specs.Local.{HasQualifier, HasTypeName, StartsAt, IsLocal}
+use Rattle.jr_tree.specs.declared.label.Label.{Label}
+use Rattle.jr_tree.specs.declared.label.Label.TheVariants as is
+use Rattle.jr_tree.specs.declared.label.ImportKind.{ImportKind}
+use Rattle.jr_tree.specs.declared.label.NameKind.{NameKind}
+use Rattle.jr_tree.specs.declared.label.NameKind.TheVariants as kind
+use Rattle.jr_tree.specs.declared.label.NamePlace.{NamePlace}
+use Rattle.jr_tree.specs.declared.label.NamePlace.TheVariants as place
+use Rattle.jr_tree.specs.declared.label.Role.TheVariants as role
+use Rattle.jr_tree.specs.declared.label.Sought.{Sought}
+use Rattle.jr_tree.specs.declared.label.Sought.TheVariants as sought
+use Rattle.jr_tree.specs.declared.row.Row.{Row}
+use Rattle.jr_tree.specs.Exprs.{left_kind}
+use Rattle.jr_tree.specs.Labels.{role_of, sought_by, name_sought}
+use Rattle.jr_tree.specs.Rows.{Rows, row, label, parent, end, role_at, sought_at}
+use Rattle.jr_tree.specs.Below.{IsQualifier, IsOtherName, IsTypeLabel, IsUnitOrBody, IsUnitLabel, IsProgramLabel, Under, IsQualifierOf, IsTypeName}
+use Rattle.jr_tree.specs.Local.{HasQualifier, HasTypeName, StartsAt, IsLocal}
 use Rattle.jr_defs.specs.Declarations.{IsType, IsObject}
 use Rattle.jr_defs.specs.Enclosing.{BodyOf, InBody, DeclaredIn, InTopLevel, IsMemberRole, holder}
 use Rattle.jr_defs.specs.Supertypes.{IsSuperclassLabel, IsSuperinterfaceLabel}

@@ -1,6 +1,6 @@
 -- A call finds one method: a type has at most one superclass, and in each body the first that serves is one.
 use Rattle.std.proofs.Common.{le_antisymm, ◌≡◌, ◌⊎◌, refl, sym, ◌∙◌, subst, ⊎_elim, ℕ, Option}
-use Rattle.jr_rows.specs.Rows.{Rows}
+use Rattle.jr_tree.specs.Rows.{Rows}
 use Rattle.jr_defs.specs.declared.referent.Referent.TheVariants.{Declared}
 use Rattle.jr_defs.specs.Referents.{Table}
 use Rattle.jr_defs.specs.Supertypes.{Superclass}

@@ -17,14 +17,14 @@ use Rattle.jr_tree.specs.Mirror.Exprs as x
 use Rattle.jr_tree.specs.Mirror.Stmts as s
 use Rattle.jr_tree.specs.Mirror.Decls as d
 use Rattle.jr_ty.specs.declared.constant.Const.TheVariants as c
-use Rattle.jr_rows.specs.declared.label.Label.TheVariants as is
-use Rattle.jr_rows.specs.declared.label.NameKind.TheVariants as kind
-use Rattle.jr_rows.specs.declared.label.NamePlace.TheVariants as place
-use Rattle.jr_rows.specs.declared.label.Role.TheVariants as role
-use Rattle.jr_rows.specs.declared.label.Sought.TheVariants as sought
-use Rattle.jr_rows.specs.Forest.{none, node}
-use Rattle.jr_rows.specs.Decls.{unit_labels}
-use Rattle.jr_rows.specs.Rows.{Rows, rows_from, label, name, parent, end, role_at, sought_at}
+use Rattle.jr_tree.specs.declared.label.Label.TheVariants as is
+use Rattle.jr_tree.specs.declared.label.NameKind.TheVariants as kind
+use Rattle.jr_tree.specs.declared.label.NamePlace.TheVariants as place
+use Rattle.jr_tree.specs.declared.label.Role.TheVariants as role
+use Rattle.jr_tree.specs.declared.label.Sought.TheVariants as sought
+use Rattle.jr_tree.specs.Forest.{none, node}
+use Rattle.jr_tree.specs.Decls.{unit_labels}
+use Rattle.jr_tree.specs.Rows.{Rows, rows_from, label, name, parent, end, role_at, sought_at}
 use Rattle.jr_defs.specs.declared.referent.Element.TheVariants as element
 use Rattle.jr_defs.specs.declared.referent.Referent.TheVariants.{Unbound, Declared}
 use Rattle.jr_defs.specs.declared.referent.Space.TheVariants as space

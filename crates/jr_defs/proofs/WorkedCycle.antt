@@ -5,18 +5,18 @@ use Rattle.std.proofs.Common.{◌≡◌, ◌⊎◌, ℕ, suc, zero, ◌+◌, ◌
 use Rattle.std.proofs.lemmas.List.{get_or_past}
 use Rattle.std.specs.Prelude.{Option, Some, None, false, codes}
 use Rattle.jr_base.specs.declared.text.Text.{Text}
-use Rattle.jr_rows.specs.declared.label.Label.{Label}
-use Rattle.jr_rows.specs.declared.label.Label.TheVariants as is
-use Rattle.jr_rows.specs.declared.label.NameKind.TheVariants as kind
-use Rattle.jr_rows.specs.declared.label.NamePlace.TheVariants as place
-use Rattle.jr_rows.specs.declared.label.Role.TheVariants as role
-use Rattle.jr_rows.specs.declared.label.Sought.{Sought}
-use Rattle.jr_rows.specs.declared.label.Sought.TheVariants as sought
+use Rattle.jr_tree.specs.declared.label.Label.{Label}
+use Rattle.jr_tree.specs.declared.label.Label.TheVariants as is
+use Rattle.jr_tree.specs.declared.label.NameKind.TheVariants as kind
+use Rattle.jr_tree.specs.declared.label.NamePlace.TheVariants as place
+use Rattle.jr_tree.specs.declared.label.Role.TheVariants as role
+use Rattle.jr_tree.specs.declared.label.Sought.{Sought}
+use Rattle.jr_tree.specs.declared.label.Sought.TheVariants as sought
 use Rattle.jr_tree.specs.Mirror.Decls as d
-use Rattle.jr_rows.specs.Labels.{role_of}
-use Rattle.jr_rows.specs.Forest.{none, node}
-use Rattle.jr_rows.specs.Decls.{unit_labels}
-use Rattle.jr_rows.specs.Rows.{Rows, rows_from, row, label, name, parent, end, role_at, sought_at}
+use Rattle.jr_tree.specs.Labels.{role_of}
+use Rattle.jr_tree.specs.Forest.{none, node}
+use Rattle.jr_tree.specs.Decls.{unit_labels}
+use Rattle.jr_tree.specs.Rows.{Rows, rows_from, row, label, name, parent, end, role_at, sought_at}
 use Rattle.jr_defs.specs.declared.referent.Referent.{Referent}
 use Rattle.jr_defs.specs.declared.referent.Referent.TheVariants.{Unbound, Declared}
 use Rattle.jr_defs.specs.declared.referent.Space.TheVariants as space

@@ -1,7 +1,7 @@
 -- Compiling: the files read, stand at their places, bind, and break no rule. Of the rules those on names and on members are here.
 use Rattle.std.specs.Prelude.{◌≡◌, ◌⊎◌, ℕ}
 use Rattle.jr_base.specs.Files.{FileMap}
-use Rattle.jr_rows.specs.Rows.{Rows}
+use Rattle.jr_tree.specs.Rows.{Rows}
 use Rattle.jr_defs.specs.declared.program.Program.{Program}
 use Rattle.jr_defs.specs.declared.referent.Referent.TheVariants.{Unbound, Ambiguous}
 use Rattle.jr_defs.specs.Referents.{Table}

@@ -2,11 +2,11 @@
 use Rattle.std.specs.Prelude.{◌≡◌, ◌⊎◌, ℕ, ◌<◌, ◌≤◌, List, [], ◌∷◌, Option, Some, None}
 use Rattle.jr_base.specs.declared.text.Text.{Text}
 use Rattle.jr_tree.specs.declared.tree.ThisOrSuper.TheVariants as which
-use Rattle.jr_rows.specs.declared.label.Role.TheVariants as role
-use Rattle.jr_rows.specs.declared.label.NameKind.TheVariants as kind
-use Rattle.jr_rows.specs.declared.label.Sought.{Sought}
-use Rattle.jr_rows.specs.declared.label.Sought.TheVariants as sought
-use Rattle.jr_rows.specs.Rows.{Rows, label, name, parent, role_at, sought_at}
+use Rattle.jr_tree.specs.declared.label.Role.TheVariants as role
+use Rattle.jr_tree.specs.declared.label.NameKind.TheVariants as kind
+use Rattle.jr_tree.specs.declared.label.Sought.{Sought}
+use Rattle.jr_tree.specs.declared.label.Sought.TheVariants as sought
+use Rattle.jr_tree.specs.Rows.{Rows, label, name, parent, role_at, sought_at}
 use Rattle.jr_defs.specs.declared.referent.Element.{Element}
 use Rattle.jr_defs.specs.declared.referent.Element.TheVariants as element
 use Rattle.jr_defs.specs.declared.referent.RowType.{RowType}

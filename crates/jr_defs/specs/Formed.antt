@@ -1,15 +1,15 @@
 -- What rows of a program have besides being those of a tree: which rows stand below which.
 use Rattle.std.specs.Prelude.{◌≡◌, ◌⊎◌, ℕ, ◌+◌, ◌<◌, Bool, true, false, Option, Some, None}
-use Rattle.jr_rows.specs.declared.label.Label.{Label}
-use Rattle.jr_rows.specs.declared.label.Label.TheVariants as is
-use Rattle.jr_rows.specs.declared.label.ImportKind.{ImportKind}
-use Rattle.jr_rows.specs.declared.label.NameKind.{NameKind}
-use Rattle.jr_rows.specs.declared.label.NameKind.TheVariants as kind
-use Rattle.jr_rows.specs.declared.label.Sought.{Sought}
-use Rattle.jr_rows.specs.declared.label.Sought.TheVariants as sought
-use Rattle.jr_rows.specs.Exprs.{left_kind}
-use Rattle.jr_rows.specs.Rows.{Rows, label, parent, end, sought_at}
-use Rattle.jr_rows.specs.Tree.{IsTree}
+use Rattle.jr_tree.specs.declared.label.Label.{Label}
+use Rattle.jr_tree.specs.declared.label.Label.TheVariants as is
+use Rattle.jr_tree.specs.declared.label.ImportKind.{ImportKind}
+use Rattle.jr_tree.specs.declared.label.NameKind.{NameKind}
+use Rattle.jr_tree.specs.declared.label.NameKind.TheVariants as kind
+use Rattle.jr_tree.specs.declared.label.Sought.{Sought}
+use Rattle.jr_tree.specs.declared.label.Sought.TheVariants as sought
+use Rattle.jr_tree.specs.Exprs.{left_kind}
+use Rattle.jr_tree.specs.Rows.{Rows, label, parent, end, sought_at}
+use Rattle.jr_tree.specs.Tree.{IsTree}
 use Rattle.jr_defs.specs.Declarations.{IsType, IsObject}
 use Rattle.jr_defs.specs.Enclosing.{InTopLevel, InBody, DeclaredIn}
 use Rattle.jr_defs.specs.Headers.{NamesHeader, IsIdentifierOf}

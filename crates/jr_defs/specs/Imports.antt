@@ -1,10 +1,10 @@
 -- What imports bring into scope (JLS 7.5).
 use Rattle.std.specs.Prelude.{◌≡◌, ◌⊎◌, ℕ, ◌+◌, ◌<◌, ◌≤◌, List, [], ◌∷◌, codes, Option}
 use Rattle.jr_base.specs.declared.text.Text.{Text}
-use Rattle.jr_rows.specs.declared.label.Label.TheVariants as is
-use Rattle.jr_rows.specs.declared.label.ImportKind.{ImportKind}
-use Rattle.jr_rows.specs.declared.label.ImportKind.TheVariants as importing
-use Rattle.jr_rows.specs.Rows.{Rows, label, name, parent, end, role_at}
+use Rattle.jr_tree.specs.declared.label.Label.TheVariants as is
+use Rattle.jr_tree.specs.declared.label.ImportKind.{ImportKind}
+use Rattle.jr_tree.specs.declared.label.ImportKind.TheVariants as importing
+use Rattle.jr_tree.specs.Rows.{Rows, label, name, parent, end, role_at}
 use Rattle.jr_defs.specs.declared.referent.Referent.TheVariants.{Package, Declared}
 use Rattle.jr_defs.specs.Referents.{Table}
 use Rattle.jr_defs.specs.Declarations.{IsType}

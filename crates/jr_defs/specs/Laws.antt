@@ -2,10 +2,10 @@
 use Rattle.std.specs.Prelude.{◌≡◌, ℕ, Bool, IsTrue, List, Option}
 use Rattle.std.specs.List.{AllByRecursion}
 use Rattle.jr_base.specs.declared.text.Text.{Text}
-use Rattle.jr_rows.specs.declared.label.Sought.{Sought}
+use Rattle.jr_tree.specs.declared.label.Sought.{Sought}
 use Rattle.jr_tree.specs.declared.tree.Unit as declared_unit
 use Rattle.jr_tree.specs.Shape.{IsShaped}
-use Rattle.jr_rows.specs.Rows.{Rows, program_rows}
+use Rattle.jr_tree.specs.Rows.{Rows, program_rows}
 use Rattle.jr_defs.specs.declared.referent.Referent.{Referent}
 use Rattle.jr_defs.specs.declared.referent.Referent.TheVariants.{Declared}
 use Rattle.jr_defs.specs.Referents.{Table}

@@ -1,9 +1,9 @@
 -- Members: what a type declares and what it inherits (JLS 8.2, 8.3, 8.4.8, 8.5, 9.2).
 use Rattle.std.specs.Prelude.{◌≡◌, ◌⊎◌, ℕ, ◌<◌}
 use Rattle.jr_base.specs.declared.text.Text.{Text}
-use Rattle.jr_rows.specs.declared.label.Role.{Role}
-use Rattle.jr_rows.specs.declared.label.Role.TheVariants as role
-use Rattle.jr_rows.specs.Rows.{Rows, name, role_at}
+use Rattle.jr_tree.specs.declared.label.Role.{Role}
+use Rattle.jr_tree.specs.declared.label.Role.TheVariants as role
+use Rattle.jr_tree.specs.Rows.{Rows, name, role_at}
 use Rattle.jr_defs.specs.declared.referent.Space.{Space}
 use Rattle.jr_defs.specs.Referents.{Table}
 use Rattle.jr_defs.specs.Declarations.{Declares, IsType, IsInterface, IsObject}

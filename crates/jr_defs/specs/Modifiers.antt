@@ -1,11 +1,11 @@
 -- The modifiers of declarations, with those that an interface gives its members (JLS 6.6, 8.1.1, 8.3.1, 8.4.3, 8.5.2, 9.3, 9.4, 9.5).
 use Rattle.std.specs.Prelude.{◌≡◌, ◌⊎◌, ℕ, Bool, IsTrue, []}
-use Rattle.jr_rows.specs.declared.label.Label.{Label}
-use Rattle.jr_rows.specs.declared.label.Label.TheVariants as is
-use Rattle.jr_rows.specs.declared.label.Modifiers.{Modifiers}
-use Rattle.jr_rows.specs.declared.label.Role.TheVariants as role
-use Rattle.jr_rows.specs.Decls.{modifiers_of}
-use Rattle.jr_rows.specs.Rows.{Rows, label, parent, role_at}
+use Rattle.jr_tree.specs.declared.label.Label.{Label}
+use Rattle.jr_tree.specs.declared.label.Label.TheVariants as is
+use Rattle.jr_tree.specs.declared.label.Modifiers.{Modifiers}
+use Rattle.jr_tree.specs.declared.label.Role.TheVariants as role
+use Rattle.jr_tree.specs.Decls.{modifiers_of}
+use Rattle.jr_tree.specs.Rows.{Rows, label, parent, role_at}
 use Rattle.jr_defs.specs.Declarations.{IsType, IsClass, IsInterface}
 use Rattle.jr_defs.specs.Enclosing.{DeclaredIn, ConstructorOf}
 

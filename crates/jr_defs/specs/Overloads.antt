@@ -1,6 +1,6 @@
 -- Which method or constructor a call chooses (JLS 15.12.2, 8.4.8.4, 8.4.5).
 use Rattle.std.specs.Prelude.{◌≡◌, ◌⊎◌, ℕ, ◌+◌, ◌<◌, List, [], ◌∷◌, Option, None}
-use Rattle.jr_rows.specs.Rows.{Rows, parent, end}
+use Rattle.jr_tree.specs.Rows.{Rows, parent, end}
 use Rattle.jr_defs.specs.declared.referent.RowType.{RowType}
 use Rattle.jr_defs.specs.Referents.{Table}
 use Rattle.jr_defs.specs.Modifiers.{IsAbstract}

@@ -1,7 +1,7 @@
 -- Overriding, and the method that a call finds in a class (JLS 8.4.8.1, 15.12.4.4).
 use Rattle.std.specs.Prelude.{◌≡◌, ◌⊎◌, ℕ, ◌≤◌}
-use Rattle.jr_rows.specs.declared.label.Role.TheVariants as role
-use Rattle.jr_rows.specs.Rows.{Rows, role_at}
+use Rattle.jr_tree.specs.declared.label.Role.TheVariants as role
+use Rattle.jr_tree.specs.Rows.{Rows, role_at}
 use Rattle.jr_defs.specs.Referents.{Table}
 use Rattle.jr_defs.specs.Declarations.{IsType, IsClass, IsInterface, IsObject}
 use Rattle.jr_defs.specs.Enclosing.{DeclaredIn}

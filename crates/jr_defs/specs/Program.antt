@@ -12,7 +12,7 @@ use Rattle.jr_tree.specs.Mirror.Decls as d
 use Rattle.jr_tree.specs.Tokens.{tokens_of}
 use Rattle.jr_tree.specs.Shape.{IsShaped}
 use Rattle.jr_tree.specs.Depth.{depth}
-use Rattle.jr_rows.specs.Rows.{Rows, program_rows}
+use Rattle.jr_tree.specs.Rows.{Rows, program_rows}
 use Rattle.jr_defs.specs.declared.program.UnitAt.{UnitAt}
 use Rattle.jr_defs.specs.declared.program.Program.{Program}
 use Rattle.jr_defs.specs.Prelude.{lang_text, io_text}

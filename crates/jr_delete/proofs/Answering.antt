@@ -1,10 +1,10 @@
 -- Rows that are written, and what comes of a declaration.
 use Rattle.std.proofs.Common.{◌≡◌, refl, sym, ◌∙◌, ap, subst, ⊎_elim, arith, ℕ, ◌+◌, ◌^◌, ◌<◌, ◌≤◌, List, length, Option, Some, None, Result, Ok, Err, Bool, true, false, cond, nat_eq, nat_lt, Decides, add-one}
 use Rattle.std.proofs.lemmas.Bool.{cases_lt}
-use Rattle.jr_rows.specs.declared.label.Role.{Role}
-use Rattle.jr_rows.specs.declared.label.Role.TheVariants as role
-use Rattle.jr_rows.specs.Labels.{role_of}
-use Rattle.jr_rows.specs.Rows.{Rows, end, role_at}
+use Rattle.jr_tree.specs.declared.label.Role.{Role}
+use Rattle.jr_tree.specs.declared.label.Role.TheVariants as role
+use Rattle.jr_tree.specs.Labels.{role_of}
+use Rattle.jr_tree.specs.Rows.{Rows, end, role_at}
 use Rattle.jr_marks.proofs.Firsts.{label_past}
 use Rattle.std.proofs.lemmas.Option.{none-some, same_Some}
 use Rattle.std.specs.Prelude.{IfOk, IfErr}

@@ -2,9 +2,9 @@
 use Rattle.std.specs.Prelude.{◌≡◌, ℕ, zero, suc, ◌+◌, Bool, true, false, not, ◌&&◌, if◌then◌else◌, List, length, Option, Some, None, Result, Ok, Err, nat_eq, nat_le, nat_lt}
 use Rattle.std.specs.List.{find}
 use Rattle.jr_base.specs.declared.token.Span.{Span}
-use Rattle.jr_rows.specs.declared.label.Role.{Role}
-use Rattle.jr_rows.specs.declared.label.Role.TheVariants as role
-use Rattle.jr_rows.specs.Rows.{Rows, parent, end, role_at}
+use Rattle.jr_tree.specs.declared.label.Role.{Role}
+use Rattle.jr_tree.specs.declared.label.Role.TheVariants as role
+use Rattle.jr_tree.specs.Rows.{Rows, parent, end, role_at}
 use Rattle.jr_plain.specs.Same.{same_role}
 use Rattle.jr_plain.specs.Search.{first_below, last_below}
 use Rattle.jr_marks.specs.declared.marks.Marks.{Marks}

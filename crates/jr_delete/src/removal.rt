@@ -7,8 +7,8 @@ use jr_base::Span;
 use jr_change::RowRange;
 use jr_marks::Marks;
 use jr_places::{end_at, parent_at, role_at};
-use jr_rows::{Role, Row};
 use jr_text::{extent, own_span, tokens_span};
+use jr_tree::{Role, Row};
 
 /// What is removed: rows, and the bytes of their unit.
 #[derive(Clone, Copy)]

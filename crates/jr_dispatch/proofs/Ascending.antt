@@ -1,12 +1,12 @@
 -- A call finds a method on the way up from a class, a turn at a time (JLS 15.12.4.4).
 use Rattle.std.proofs.Common.{◌≡◌, sym, subst, arith, ℕ, zero, suc, ◌-◌, List, length, Option, Some, None}
-use Rattle.jr_rows.specs.Rows.{Rows}
+use Rattle.jr_tree.specs.Rows.{Rows}
 use Rattle.jr_defs.specs.Referents.{Table}
 use Rattle.jr_defs.specs.Supertypes.{Superclass}
 use Rattle.jr_defs.specs.Overriding.{FoundFrom}
 use Rattle.jr_plain.specs.Search.{Finds}
 use Rattle.jr_plain.specs.Headed.{IsHeaded}
-use Rattle.jr_tables.specs.declared.chains.Entry.{Entry}
+use Rattle.jr_places.specs.declared.chains.Entry.{Entry}
 use Rattle.jr_supers.specs.Direct.{HasSupers}
 use Rattle.jr_supers.specs.Order.{IsOrderOf}
 use Rattle.jr_dispatch.specs.Dispatching.{IsFirstServing, EndsIn}

@@ -2,7 +2,7 @@
 use Rattle.std.proofs.Common.{◌≡◌, ◌⊎◌, sym, ◌∙◌, subst, inl, inr, ⊎_elim, arith, ℕ, zero, suc, ◌+◌, ◌≤◌, Bool, true, false, ◌||◌, List, [], ◌∷◌, length, Option, Some, None, Decides}
 use Rattle.std.proofs.lemmas.Bool.{false≢true, or_cases, or_left, or_right}
 use Rattle.std.proofs.lemmas.Option.{none-some}
-use Rattle.jr_rows.specs.Rows.{Rows}
+use Rattle.jr_tree.specs.Rows.{Rows}
 use Rattle.jr_defs.specs.Referents.{Table}
 use Rattle.jr_defs.specs.Declarations.{IsType}
 use Rattle.jr_defs.specs.Supertypes.{SuperAt, Super, Superclass}
@@ -15,7 +15,7 @@ use Rattle.jr_plain.proofs.Tests.{decide, either}
 use Rattle.jr_plain.proofs.Declared.{type_tells, class_tells}
 use Rattle.jr_plain.proofs.Modified.{private_tells, static_tells}
 use Rattle.jr_plain.proofs.Supertyped.{superclass_source}
-use Rattle.jr_tables.specs.declared.chains.Entry.{Entry}
+use Rattle.jr_places.specs.declared.chains.Entry.{Entry}
 use Rattle.jr_supers.specs.Direct.{HasSupers}
 use Rattle.jr_supers.specs.Order.{IsSuperIn, AreBehind, IsOrderOf}
 use Rattle.jr_dispatch.specs.Dispatching.{IsFirstServing, EndsIn, IsFoundAs}

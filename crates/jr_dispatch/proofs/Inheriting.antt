@@ -3,9 +3,9 @@ use Rattle.std.proofs.Common.{◌≡◌, ◌⊎◌, refl, sym, ◌∙◌, ap, su
 use Rattle.std.proofs.lemmas.Bool.{false≢true}
 use Rattle.std.proofs.lemmas.Bool.Decides.{Decides-eqb}
 use Rattle.std.proofs.lemmas.Option.{none-some, same_Some}
-use Rattle.jr_rows.specs.declared.label.Role.{Role}
-use Rattle.jr_rows.specs.declared.label.Role.TheVariants as role
-use Rattle.jr_rows.specs.Rows.{Rows, role_at}
+use Rattle.jr_tree.specs.declared.label.Role.{Role}
+use Rattle.jr_tree.specs.declared.label.Role.TheVariants as role
+use Rattle.jr_tree.specs.Rows.{Rows, role_at}
 use Rattle.jr_defs.specs.Referents.{Table}
 use Rattle.jr_defs.specs.Declarations.{IsType, IsInterface, IsObject}
 use Rattle.jr_defs.specs.Enclosing.{DeclaredIn}
@@ -24,12 +24,12 @@ use Rattle.jr_plain.specs.Enclosing.{declaring_type}
 use Rattle.jr_plain.proofs.Enclosed.{declared_in_tells, declaring_finds}
 use Rattle.jr_plain.proofs.Membership.{passes_tells, can_inherit_tells}
 use Rattle.jr_plain.proofs.Typed.{signature_tells}
-use Rattle.jr_tables.specs.declared.stamps.Stamps.{Stamps}
-use Rattle.jr_tables.specs.Stamps.{is_stamped, IsStamping, IsEmptied, AddsStamp}
+use Rattle.jr_places.specs.declared.stamps.Stamps.{Stamps}
+use Rattle.jr_places.specs.Stamps.{is_stamped, IsStamping, IsEmptied, AddsStamp}
 use Rattle.jr_supers.specs.Direct.{HasSupers}
 use Rattle.jr_supers.specs.Order.{IsSuperIn, AreBehind, IsOrderOf}
-use Rattle.jr_tables.specs.declared.chains.Entry.{Entry}
-use Rattle.jr_tables.specs.Chains.{rows_under}
+use Rattle.jr_places.specs.declared.chains.Entry.{Entry}
+use Rattle.jr_places.specs.Chains.{rows_under}
 use Rattle.jr_members.specs.Held.{Holds}
 use Rattle.jr_members.specs.Keys.{falling, is_declared_like}
 use Rattle.jr_members.proofs.Declaring.{falling_lists}

@@ -4,8 +4,8 @@ use Rattle.std.proofs.lemmas.Bool.{false≢true, or_left, or_right, or_cases}
 use Rattle.std.proofs.lemmas.Bool.Decides.{Decides-eqb}
 use Rattle.std.proofs.lemmas.List.Sorted.{list_any-IsPermutation}
 use Rattle.std.proofs.lemmas.Option.{none-some, same_Some}
-use Rattle.jr_rows.specs.declared.label.Role.TheVariants as role
-use Rattle.jr_rows.specs.Rows.{Rows, label, role_at}
+use Rattle.jr_tree.specs.declared.label.Role.TheVariants as role
+use Rattle.jr_tree.specs.Rows.{Rows, label, role_at}
 use Rattle.jr_defs.specs.Referents.{Table}
 use Rattle.jr_defs.specs.Declarations.{IsType}
 use Rattle.jr_defs.specs.Enclosing.{DeclaredIn}
@@ -21,7 +21,7 @@ use Rattle.jr_plain.proofs.Enclosed.{declaring_finds}
 use Rattle.jr_plain.proofs.OfTypes.{interface_type}
 use Rattle.jr_plain.proofs.Supertyped.{super_source}
 use Rattle.jr_plain.proofs.Typed.{signature_tells}
-use Rattle.jr_tables.specs.declared.chains.Entry.{Entry}
+use Rattle.jr_places.specs.declared.chains.Entry.{Entry}
 use Rattle.jr_places.specs.Names.{name_row}
 use Rattle.jr_places.proofs.Packing.{name_tells}
 use Rattle.jr_supers.specs.Supers.{ListsOnce, SortsOnce}

@@ -1,8 +1,8 @@
 -- Methods of one signature in types above.
 use Rattle.std.proofs.Common.{◌≡◌, sym, ◌∙◌, ap, ap₂, ℕ, Bool, true, false, not, ◌&&◌, ◌||◌, Option}
 use Rattle.std.specs.Option.{option_map_or}
-use Rattle.jr_rows.specs.declared.label.Role.TheVariants as role
-use Rattle.jr_rows.specs.Rows.{Rows, role_at}
+use Rattle.jr_tree.specs.declared.label.Role.TheVariants as role
+use Rattle.jr_tree.specs.Rows.{Rows, role_at}
 use Rattle.jr_defs.specs.Referents.{Table}
 use Rattle.jr_plain.specs.Same.{same_role}
 use Rattle.jr_plain.specs.Modifiers.{is_public, is_private, is_static, is_in_interface}

@@ -2,8 +2,8 @@
 use Rattle.std.proofs.Common.{◌≡◌, ◌⊎◌, refl, sym, ◌∙◌, ap, ap₂, subst, inl, ⊎_elim, ℕ, Bool, true, false, ◌&&◌, ◌||◌, Decides}
 use Rattle.std.proofs.lemmas.Bool.{false≢true}
 use Rattle.std.proofs.lemmas.Option.{same_Some}
-use Rattle.jr_rows.specs.Rows.{Rows}
-use Rattle.jr_rows.specs.Tree.{IsTree}
+use Rattle.jr_tree.specs.Rows.{Rows}
+use Rattle.jr_tree.specs.Tree.{IsTree}
 use Rattle.jr_defs.specs.Referents.{Table}
 use Rattle.jr_defs.specs.Modifiers.{InInterface, IsPublic, IsProtected}
 use Rattle.jr_defs.specs.Packages.{SamePackage}

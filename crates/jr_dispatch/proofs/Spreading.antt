@@ -7,9 +7,9 @@ use Rattle.std.proofs.lemmas.Option.{none-some, slice_get_past}
 use Rattle.jr_plain.specs.Search.{has, Lists}
 use Rattle.jr_plain.proofs.Tests.{like}
 use Rattle.jr_plain.proofs.Searches.{among_append}
-use Rattle.jr_tables.specs.declared.chains.Entry.{Entry}
-use Rattle.jr_tables.specs.declared.stamps.Stamps.{Stamps}
-use Rattle.jr_tables.specs.Stamps.{is_now, is_stamped, IsStamping, IsEmptied, AddsStamp}
+use Rattle.jr_places.specs.declared.chains.Entry.{Entry}
+use Rattle.jr_places.specs.declared.stamps.Stamps.{Stamps}
+use Rattle.jr_places.specs.Stamps.{is_now, is_stamped, IsStamping, IsEmptied, AddsStamp}
 use Rattle.jr_dispatch.specs.Families.{LeadsTo, linked_at, IsLinkIn, with_if, unmet, turns_left, LinksAreBelow, PutsOne, IsPutting, IsSpreading}
 use Rattle.jr_dispatch.proofs.Leading.{head_in, in_cons}
 

@@ -1,8 +1,8 @@
 -- What a class has as a member, and what a call finds there, a step at a time (JLS 8.4.8, 15.12.4.4).
 use Rattle.std.specs.Prelude.{◌≡◌, ◌⊎◌, ℕ, zero, suc, ◌<◌, Bool, true, false, List, [], ◌∷◌, ◌++◌, map, length, Option, Some, None}
 use Rattle.std.specs.List.Sorted.{IsStrictlyIncreasing}
-use Rattle.jr_rows.specs.declared.label.Role.TheVariants as role
-use Rattle.jr_rows.specs.Rows.{Rows, role_at}
+use Rattle.jr_tree.specs.declared.label.Role.TheVariants as role
+use Rattle.jr_tree.specs.Rows.{Rows, role_at}
 use Rattle.jr_defs.specs.Referents.{Table}
 use Rattle.jr_defs.specs.Declarations.{IsClass, IsInterface}
 use Rattle.jr_defs.specs.Enclosing.{DeclaredIn}
@@ -11,8 +11,8 @@ use Rattle.jr_defs.specs.Supertypes.{Super, Superclass, Above}
 use Rattle.jr_defs.specs.Members.{Passes, SameMethods}
 use Rattle.jr_defs.specs.Overriding.{Has, ServesNot, ServesFirst, Dispatches}
 use Rattle.jr_plain.specs.Search.{has}
-use Rattle.jr_tables.specs.declared.stamps.Stamps.{Stamps}
-use Rattle.jr_tables.specs.Stamps.{is_stamped, IsStamping}
+use Rattle.jr_places.specs.declared.stamps.Stamps.{Stamps}
+use Rattle.jr_places.specs.Stamps.{is_stamped, IsStamping}
 use Rattle.jr_members.specs.declared.declared.MemberKind.TheVariants as kind
 use Rattle.jr_members.specs.Held.{Holds}
 use Rattle.jr_members.specs.Keys.{falling, is_declared_by}

@@ -1,6 +1,6 @@
 -- Families of methods, which a rename takes along together (JLS 8.4.8.1).
 use Rattle.std.specs.Prelude.{◌≡◌, ◌⊎◌, ℕ, zero, suc, ◌+◌, ◌<◌, ◌≤◌, Bool, true, if◌then◌else◌, List, [], ◌∷◌, ◌++◌, length}
-use Rattle.jr_rows.specs.Rows.{Rows}
+use Rattle.jr_tree.specs.Rows.{Rows}
 use Rattle.jr_defs.specs.Referents.{Table}
 use Rattle.jr_defs.specs.Members.{MemberOf, SameMethods}
 use Rattle.jr_defs.specs.Overriding.{Overrides}
@@ -8,10 +8,10 @@ use Rattle.jr_defs.specs.Enclosing.{DeclaredIn}
 use Rattle.jr_defs.specs.Supertypes.{AtOrAbove}
 use Rattle.jr_plain.specs.Search.{has}
 use Rattle.jr_plain.specs.Types.{is_same_signature}
-use Rattle.jr_tables.specs.declared.chains.Entry.{Entry}
-use Rattle.jr_tables.specs.declared.stamps.Stamps.{Stamps}
-use Rattle.jr_tables.specs.Chains.{rows_under}
-use Rattle.jr_tables.specs.Stamps.{is_stamped, IsStamping}
+use Rattle.jr_places.specs.declared.chains.Entry.{Entry}
+use Rattle.jr_places.specs.declared.stamps.Stamps.{Stamps}
+use Rattle.jr_places.specs.Chains.{rows_under}
+use Rattle.jr_places.specs.Stamps.{is_stamped, IsStamping}
 use Rattle.jr_supers.specs.Supers.{ListsOnce}
 use Rattle.jr_members.specs.Keys.{falling, is_declared_like}
 

@@ -1,7 +1,7 @@
 -- What the tables of calls are to have, for rows of shaped units with the prelude, under tables whose supertypes have no cycle.
 use Rattle.std.specs.Prelude.{ℕ}
-use Rattle.jr_rows.specs.Rows.{Rows}
-use Rattle.jr_rows.specs.Local.{IsLocal}
+use Rattle.jr_tree.specs.Rows.{Rows}
+use Rattle.jr_tree.specs.Local.{IsLocal}
 use Rattle.jr_defs.specs.Referents.{Table}
 use Rattle.jr_defs.specs.Declarations.{IsInterface, IsObject}
 use Rattle.jr_places.specs.Places.{ArePlaces}

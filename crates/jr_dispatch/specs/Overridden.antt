@@ -1,7 +1,7 @@
 -- Which methods one may override, but for where they stand, and which it overrides with others between (JLS 8.4.8.1).
 use Rattle.std.specs.Prelude.{◌≡◌, ◌⊎◌, ℕ, zero, suc, Bool, false, not, ◌&&◌, ◌||◌, List, [], ◌∷◌, ◌++◌, filter, length, nat_eq}
 use Rattle.std.specs.Option.{option_map_or}
-use Rattle.jr_rows.specs.Rows.{Rows}
+use Rattle.jr_tree.specs.Rows.{Rows}
 use Rattle.jr_defs.specs.Referents.{Table}
 use Rattle.jr_defs.specs.Modifiers.{IsPublic, IsProtected}
 use Rattle.jr_defs.specs.Packages.{SamePackage}

@@ -1,6 +1,6 @@
 // The tables that calls of methods read.
 ghost use Rattle.std.specs.Prelude.{◌≡◌, IfOk};
-ghost use Rattle.jr_rows.specs.Local.{IsLocal};
+ghost use Rattle.jr_tree.specs.Local.{IsLocal};
 ghost use Rattle.jr_defs.specs.Referents.{Table, entries};
 ghost use Rattle.jr_places.specs.Packages.{PackagesAreNamed};
 ghost use Rattle.jr_places.specs.Places.{ArePlaces};

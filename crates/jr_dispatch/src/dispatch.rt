@@ -1,8 +1,8 @@
 // Overriding, and the method that a call finds (JLS 8.4.8.1, 15.12.4.4).
 ghost use Rattle.std.specs.Prelude.{◌≡◌, ◌++◌, if◌then◌else◌, ℕ, [], ◌∷◌, suc, None, Some, false, length, slice_get, Decides, IfOk, OnOk};
 ghost use Rattle.std.specs.List.{flat_map};
-ghost use Rattle.jr_rows.specs.declared.label.Role.TheVariants as role;
-ghost use Rattle.jr_rows.specs.Rows.{role_at};
+ghost use Rattle.jr_tree.specs.declared.label.Role.TheVariants as role;
+ghost use Rattle.jr_tree.specs.Rows.{role_at};
 ghost use Rattle.jr_defs.specs.Referents.{Table};
 ghost use Rattle.jr_defs.specs.Declarations.{IsClass};
 ghost use Rattle.jr_defs.specs.Enclosing.{DeclaredIn};
@@ -12,7 +12,7 @@ ghost use Rattle.jr_plain.specs.Search.{Reaches};
 ghost use Rattle.jr_plain.specs.Overriding as plain;
 ghost use Rattle.jr_supers.specs.Signatures.{AreSignatures};
 ghost use Rattle.jr_supers.specs.Supers.{AreSupersOf, ListsOnce, SortsOnce, once, is_last as is_last_of};
-ghost use Rattle.jr_tables.specs.Stamps.{IsStamping};
+ghost use Rattle.jr_places.specs.Stamps.{IsStamping};
 ghost use Rattle.jr_members.specs.Held.{ObjectIsBare};
 ghost use Rattle.jr_dispatch.specs.Methods.{AreMethods, IsWholeWorld};
 ghost use Rattle.jr_dispatch.specs.Overridden as tell;
@@ -23,10 +23,9 @@ use jr_members::{
     Callables, Declared, MemberKind, World, declaring_type, is_in_interface, is_method, is_private,
     is_protected, is_public, is_static, passes,
 };
-use jr_places::{is_class, is_interface};
-use jr_rows::Row;
+use jr_places::{Stamps, is_class, is_interface};
 use jr_supers::{Supers, Tabled};
-use jr_tables::Stamps;
+use jr_tree::Row;
 use std::alloc::Global;
 
 /// A class, a method that it has, and the method that a call of it finds there.

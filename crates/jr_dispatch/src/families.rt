@@ -1,13 +1,13 @@
 // Families of methods, which a rename takes along together (JLS 8.4.8.1).
 ghost use Rattle.std.specs.Prelude.{◌≡◌, ◌++◌, ℕ, [], filter, IfOk, OnOk};
 ghost use Rattle.std.specs.List.{flat_map};
-ghost use Rattle.jr_rows.specs.declared.label.Role.TheVariants as role;
-ghost use Rattle.jr_rows.specs.Rows as all_rows;
-ghost use Rattle.jr_rows.specs.Rows.{Rows};
+ghost use Rattle.jr_tree.specs.declared.label.Role.TheVariants as role;
+ghost use Rattle.jr_tree.specs.Rows as all_rows;
+ghost use Rattle.jr_tree.specs.Rows.{Rows};
 ghost use Rattle.jr_defs.specs.Referents.{Table};
 ghost use Rattle.jr_defs.specs.Enclosing.{DeclaredIn};
 ghost use Rattle.jr_plain.specs.Search.{Lists};
-ghost use Rattle.jr_tables.specs.Stamps.{IsStamping};
+ghost use Rattle.jr_places.specs.Stamps.{IsStamping};
 ghost use Rattle.jr_supers.specs.Signatures.{AreSignatures};
 ghost use Rattle.jr_dispatch.specs.Dispatching.{AreMethodRows};
 ghost use Rattle.jr_dispatch.specs.Families as tell;
@@ -16,8 +16,8 @@ ghost use Rattle.jr_dispatch.specs.Methods.{AreMethods, IsWholeWorld};
 use crate::dispatch::{Methods, item_at, sorted_once};
 use jr_base::OutOfMemory;
 use jr_members::{MemberKind, World, declaring_type};
+use jr_places::{Chains, Entry, Stamps};
 use jr_supers::Signatures;
-use jr_tables::{Chains, Entry, Stamps};
 use std::alloc::Global;
 
 // One link between two methods, both ways.

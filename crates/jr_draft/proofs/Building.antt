@@ -4,7 +4,7 @@ use Rattle.std.proofs.lemmas.Bool.{false≢true, cases_lt}
 use Rattle.std.proofs.lemmas.Bool.Decides.{Decides-ltb}
 use Rattle.jr_plain.proofs.Enclosed.{most}
 use Rattle.jr_text.specs.Spans.{part, unit_bytes, tokens_span}
-use Rattle.jr_rows.specs.Rows.{Rows, label, name}
+use Rattle.jr_tree.specs.Rows.{Rows, label, name}
 use Rattle.jr_plain.specs.Search.{gathered}
 use Rattle.jr_marks.specs.declared.marks.Marks.{Marks}
 use Rattle.jr_marks.proofs.Firsts.{label_past}

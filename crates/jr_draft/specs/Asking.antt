@@ -1,8 +1,8 @@
 -- The declaration for which a request asks (JLS 6.1).
 use Rattle.std.specs.Prelude.{ℕ, Bool, false, ◌&&◌, if◌then◌else◌, List, length, Option, Some, None, Result, Ok, Err, bytes_eq, nat_le, nat_lt, slice_get, slice_index_or}
-use Rattle.jr_rows.specs.declared.label.Role.{Role}
-use Rattle.jr_rows.specs.declared.label.Role.TheVariants as role
-use Rattle.jr_rows.specs.Rows.{Rows, role_at}
+use Rattle.jr_tree.specs.declared.label.Role.{Role}
+use Rattle.jr_tree.specs.declared.label.Role.TheVariants as role
+use Rattle.jr_tree.specs.Rows.{Rows, role_at}
 use Rattle.jr_plain.specs.Search.{first_below}
 use Rattle.jr_plain.specs.Enclosing.{constructed_class}
 use Rattle.jr_defs.specs.declared.program.UnitAt.{UnitAt}

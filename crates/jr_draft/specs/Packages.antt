@@ -2,9 +2,9 @@
 use Rattle.std.specs.Prelude.{ℕ, zero, suc, ◌+◌, ◌-◌, Bool, true, false, not, ◌&&◌, if◌then◌else◌, List, [], ◌∷◌, ◌++◌, All, map, codes, Option, Some, None, unwrap_or, eqb, nat_eq, nat_le}
 use Rattle.std.specs.List.{slice_split}
 use Rattle.jr_base.specs.Identifiers.{IsIdentifier}
-use Rattle.jr_rows.specs.declared.label.Label.{Label}
-use Rattle.jr_rows.specs.declared.label.Label.TheVariants as is
-use Rattle.jr_rows.specs.Rows.{Rows, label, name, parent, end}
+use Rattle.jr_tree.specs.declared.label.Label.{Label}
+use Rattle.jr_tree.specs.declared.label.Label.TheVariants as is
+use Rattle.jr_tree.specs.Rows.{Rows, label, name, parent, end}
 use Rattle.jr_plain.specs.Search.{first_below}
 use Rattle.jr_draft.specs.declared.packages.Head.{Head}
 use Rattle.jr_draft.specs.Drafting.{Drafted, plus, copied, glued}

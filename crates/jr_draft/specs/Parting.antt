@@ -1,7 +1,7 @@
 -- Types that leave their unit for one of their own.
 use Rattle.std.specs.Prelude.{ℕ, Bool, ◌&&◌, if◌then◌else◌, List, [], ◌∷◌, ◌++◌, length, Option, None, nat_eq, nat_le}
 use Rattle.jr_base.specs.declared.token.Span.{Span}
-use Rattle.jr_rows.specs.Rows.{Rows, label, name, end}
+use Rattle.jr_tree.specs.Rows.{Rows, label, name, end}
 use Rattle.jr_plain.specs.Search.{gathered}
 use Rattle.jr_marks.specs.declared.marks.Marks.{Marks}
 use Rattle.jr_marks.specs.Places.{unit_of}

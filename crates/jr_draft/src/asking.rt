@@ -8,7 +8,7 @@ use jr_defs::Referent;
 use jr_marks::Marks;
 use jr_members::constructed_class;
 use jr_places::role_at;
-use jr_rows::{Role, Row};
+use jr_tree::{Role, Row};
 
 /// How many units the prelude has. They come first.
 pub const PRELUDE: u32 = 2;

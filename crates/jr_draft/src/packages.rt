@@ -1,11 +1,11 @@
 // Packages of units, and their names as bytes.
 ghost use Rattle.std.specs.Prelude.{◌≡◌, ◌↔◌, ◌<◌, ◌+◌, ◌^◌, ◌++◌, codes, map, IsTrue, IfOk, IfSome, OnOk, length};
-ghost use Rattle.jr_rows.specs.Rows.{label};
+ghost use Rattle.jr_tree.specs.Rows.{label};
 ghost use Rattle.jr_draft.specs.Packages as packages;
 
 use jr_base::{OutOfMemory, Path, is_identifier};
 use jr_places::{end_at, name_at, parent_at};
-use jr_rows::{Label, Row};
+use jr_tree::{Label, Row};
 use std::alloc::Global;
 
 /// What stands in a unit before its types, by rows.

@@ -1,7 +1,7 @@
 -- What is told of tables that are built, and under which a program is well founded.
 use Rattle.std.proofs.Common.{◌≡◌, sym, subst, ℕ, List, Result, Ok, Err, IfOk}
-use Rattle.jr_rows.specs.Rows.{Rows}
-use Rattle.jr_rows.specs.Local.{IsLocal}
+use Rattle.jr_tree.specs.Rows.{Rows}
+use Rattle.jr_tree.specs.Local.{IsLocal}
 use Rattle.jr_defs.specs.Referents.{Table}
 use Rattle.jr_places.specs.Packages.{PackagesAreNamed}
 use Rattle.jr_places.specs.Places.{ArePlaces}

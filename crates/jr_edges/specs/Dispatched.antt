@@ -1,6 +1,6 @@
 -- Which calls find in the changed program the copy of what they found (JLS 15.12.4.4).
 use Rattle.std.specs.Prelude.{◌≡◌, ℕ, ◌<◌, Bool, false, List, [], ◌∷◌, Option, Some, None, nat_eq}
-use Rattle.jr_rows.specs.Rows.{Rows}
+use Rattle.jr_tree.specs.Rows.{Rows}
 use Rattle.jr_defs.specs.Referents.{Table}
 use Rattle.jr_defs.specs.Overriding.{Dispatches}
 use Rattle.jr_dispatch.specs.declared.dispatch.Found as code

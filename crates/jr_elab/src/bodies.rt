@@ -7,7 +7,7 @@ use jr_core::{Body, Code};
 use jr_defs::{Element, RowType};
 use jr_expressions::this_of;
 use jr_members::{is_static, written_at};
-use jr_rows::Label;
+use jr_tree::Label;
 use jr_ty::Const;
 use jr_types::plain_type;
 

@@ -6,7 +6,7 @@ use jr_core::Class;
 use jr_dispatch::Methods;
 use jr_members::{declaring_type, is_inner};
 use jr_places::{is_interface, is_type};
-use jr_rows::Label;
+use jr_tree::Label;
 
 // The direct superinterfaces, in their order.
 fn faces(source: &Source, at: u32) -> Result<Items<TypeId>, OutOfMemory> {

@@ -3,7 +3,7 @@
 use jr_base::{Boxed, Items, OutOfMemory};
 use jr_codes::{Parts, Source};
 use jr_core::Code;
-use jr_rows::Label;
+use jr_tree::Label;
 
 /// `do body while (cond);`
 pub fn do_while(source: &Source, codes: &mut Parts<Code>, at: u32) -> Result<(), OutOfMemory> {

@@ -7,7 +7,7 @@ use jr_codes::{Parts, Source};
 use jr_core::{Catch, Code, Group, SwitchLabel};
 use jr_defs::RowType;
 use jr_expressions::{add_constant, add_expression};
-use jr_rows::Label;
+use jr_tree::Label;
 use std::alloc::Global;
 
 /// The parts of a body that is being made.

@@ -14,7 +14,7 @@ use Rattle.jr_front.proofs.Reading.{read_shaped}
 use Rattle.jr_front.specs.declared.workspace.Workspace.{Workspace}
 use Rattle.jr_engine.specs.Planning.{IsAccepted, PlannedAs}
 use Rattle.jr_engine.specs.Steps.{Opened, IsOpened, IsRead, IsHeld, IsAskedOf, IsRequested, LeftBy, IsStep, stays, leaves, AreSteps, none, more, IsFollowed, opened, opened_by, rows_in, table_in}
-use Rattle.jr_rows.specs.Rows.{Rows}
+use Rattle.jr_tree.specs.Rows.{Rows}
 use Rattle.jr_defs.specs.Referents.{entries}
 use Rattle.jr_defs.specs.declared.referent.Referent.{Referent}
 use Rattle.jr_index.specs.NodeRows.{unit_rows}

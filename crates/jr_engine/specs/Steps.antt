@@ -5,7 +5,7 @@ use Rattle.std.specs.List.{AllByRecursion}
 use Rattle.jr_base.specs.Files.{FileMap}
 use Rattle.jr_base.specs.Paths.{is_java}
 use Rattle.jr_base.specs.declared.request.Request.{Request}
-use Rattle.jr_rows.specs.Rows.{Rows}
+use Rattle.jr_tree.specs.Rows.{Rows}
 use Rattle.jr_defs.specs.Program.{rows_of}
 use Rattle.jr_defs.specs.Referents.{Table, entries}
 use Rattle.jr_defs.specs.declared.program.Program.{Program}

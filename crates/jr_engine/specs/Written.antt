@@ -1,7 +1,7 @@
 -- A changed program under its locks with its spellings, as the code holds it.
 use Rattle.std.specs.Prelude.{◌≡◌, length}
 use Rattle.jr_front.specs.declared.workspace.Workspace.{Workspace}
-use Rattle.jr_rows.specs.Rows.{Rows}
+use Rattle.jr_tree.specs.Rows.{Rows}
 use Rattle.jr_defs.specs.Referents.{Table, entries}
 use Rattle.jr_runs.specs.Respelled.{IsRespelled}
 use Rattle.jr_locks.specs.Changed.{IsChanged, origins_by, copies_by}

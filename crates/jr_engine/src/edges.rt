@@ -19,8 +19,8 @@ use jr_flow::has_too_many_points;
 use jr_front::Workspace;
 use jr_kept::{LostEdge, lost_flow};
 use jr_places::Places;
-use jr_rows::Row;
 use jr_supers::Tabled;
+use jr_tree::Row;
 use std::alloc::Global;
 
 // The answer where an edge is lost.

@@ -3,7 +3,7 @@
 ghost use Rattle.std.specs.Prelude.{◌≡◌, map, Ok, IfOk};
 ghost use Rattle.std.specs.List.{AllByRecursion};
 ghost use Rattle.jr_tree.specs.Shape.{IsShaped};
-ghost use Rattle.jr_rows.specs.Rows.{program_rows};
+ghost use Rattle.jr_tree.specs.Rows.{program_rows};
 ghost use Rattle.jr_headed.specs.Founded.{IsProgram};
 ghost use Rattle.jr_engine.specs.Written.{IsLockedBy, rows_of};
 
@@ -21,8 +21,8 @@ use jr_locks::locks;
 use jr_lookup::Scopes;
 use jr_places::Places;
 use jr_read::read_units;
-use jr_rows::Row;
 use jr_spell::{SpellFault, spell};
+use jr_tree::Row;
 use std::alloc::Global;
 
 /// A changed program before its names are spelled anew: it is bound by its locks.

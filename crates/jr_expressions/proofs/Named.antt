@@ -4,7 +4,7 @@ use Rattle.std.proofs.lemmas.Bool.Decides.{Decides-eqb, Decides-ltb}
 use Rattle.std.specs.Prelude.{option_map}
 use Rattle.jr_core.specs.declared.code.Code.{Code}
 use Rattle.jr_core.specs.declared.code.Code.TheVariants as c
-use Rattle.jr_rows.specs.Rows.{end}
+use Rattle.jr_tree.specs.Rows.{end}
 use Rattle.jr_plain.specs.Types.{named_type}
 use Rattle.jr_constants.specs.declared.value.Value.{Value}
 use Rattle.jr_constants.specs.Values.{value_in_if}

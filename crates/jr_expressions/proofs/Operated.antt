@@ -8,7 +8,7 @@ use Rattle.jr_core.specs.declared.operators.BinaryOp.{BinaryOp}
 use Rattle.jr_core.specs.declared.operators.UnaryOp.{UnaryOp}
 use Rattle.jr_core.specs.declared.operators.StepOp.{StepOp}
 use Rattle.jr_defs.specs.declared.referent.RowType.{RowType}
-use Rattle.jr_rows.specs.Rows.{end}
+use Rattle.jr_tree.specs.Rows.{end}
 use Rattle.jr_plain.specs.Conversions.{of_two}
 use Rattle.jr_plain.specs.Supertypes.{is_reference_type}
 use Rattle.jr_plain.specs.Types.{type_at}

@@ -6,7 +6,7 @@ use Rattle.std.proofs.lemmas.Option.{none-some}
 use Rattle.std.specs.Prelude.{option_map, slice_get}
 use Rattle.jr_core.specs.declared.code.Code.{Code}
 use Rattle.jr_defs.specs.declared.referent.RowType.{RowType}
-use Rattle.jr_rows.specs.Rows.{end}
+use Rattle.jr_tree.specs.Rows.{end}
 use Rattle.jr_codes.specs.declared.source.Source.{Source}
 use Rattle.jr_codes.specs.Facts.{Facts}
 use Rattle.jr_codes.specs.Making.{Below, code_if, MayBe, BeginsFrom, Parted, Stands}

@@ -3,10 +3,10 @@ use Rattle.std.specs.Prelude.{◌≡◌, ℕ, ◌+◌, Bool, false, if◌then◌
 use Rattle.jr_core.specs.declared.bodies.Body.{Body}
 use Rattle.jr_core.specs.declared.code.Code.{Code}
 use Rattle.jr_core.specs.declared.code.Code.TheVariants as c
-use Rattle.jr_rows.specs.declared.label.Label.TheVariants as is
-use Rattle.jr_rows.specs.declared.label.Modifiers.{Modifiers}
-use Rattle.jr_rows.specs.declared.label.Role.TheVariants as role
-use Rattle.jr_rows.specs.Rows.{label, end, role_at}
+use Rattle.jr_tree.specs.declared.label.Label.TheVariants as is
+use Rattle.jr_tree.specs.declared.label.Modifiers.{Modifiers}
+use Rattle.jr_tree.specs.declared.label.Role.TheVariants as role
+use Rattle.jr_tree.specs.Rows.{label, end, role_at}
 use Rattle.jr_defs.specs.declared.referent.Element.TheVariants as element
 use Rattle.jr_defs.specs.declared.referent.RowType.{RowType}
 use Rattle.jr_defs.specs.Modifiers.{written}

@@ -4,7 +4,7 @@ use Rattle.jr_core.specs.declared.code.Catch.{Catch}
 use Rattle.jr_core.specs.declared.code.Group.{Group}
 use Rattle.jr_core.specs.declared.code.SwitchLabel.{SwitchLabel}
 use Rattle.jr_defs.specs.declared.referent.RowType.{RowType}
-use Rattle.jr_rows.specs.Rows.{end}
+use Rattle.jr_tree.specs.Rows.{end}
 use Rattle.jr_codes.specs.declared.source.Source.{Source}
 use Rattle.jr_codes.specs.Facts.{Facts}
 use Rattle.jr_codes.specs.Making.{Below, AreBefore}

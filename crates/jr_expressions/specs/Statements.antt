@@ -8,9 +8,9 @@ use Rattle.jr_core.specs.declared.code.Catch.{Catch, roll-Catch}
 use Rattle.jr_core.specs.declared.code.Group.{Group, roll-Group}
 use Rattle.jr_core.specs.declared.code.SwitchLabel.{SwitchLabel}
 use Rattle.jr_core.specs.declared.code.SwitchLabel.TheVariants as l
-use Rattle.jr_rows.specs.declared.label.Label.{Label}
-use Rattle.jr_rows.specs.declared.label.Label.TheVariants as is
-use Rattle.jr_rows.specs.Rows.{label, end}
+use Rattle.jr_tree.specs.declared.label.Label.{Label}
+use Rattle.jr_tree.specs.declared.label.Label.TheVariants as is
+use Rattle.jr_tree.specs.Rows.{label, end}
 use Rattle.jr_defs.specs.declared.referent.Element.{Element}
 use Rattle.jr_defs.specs.declared.referent.Element.TheVariants as element
 use Rattle.jr_defs.specs.declared.referent.RowType.{RowType}

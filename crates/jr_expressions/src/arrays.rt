@@ -1,6 +1,6 @@
 // Arrays and initializers (JLS 10.6, 15.10, 15.13).
 ghost use Rattle.std.specs.Prelude.{◌≡◌, IfOk, OnOk, Some, nat_eq};
-ghost use Rattle.jr_rows.specs.Rows as all_rows;
+ghost use Rattle.jr_tree.specs.Rows as all_rows;
 ghost use Rattle.jr_supers.specs.Tabled.{IsSized};
 ghost use Rattle.jr_codes.specs.Making.{code, code_if, of_one};
 ghost use Rattle.jr_codes.specs.Waiting.{waiting};
@@ -14,7 +14,7 @@ use jr_base::{Items, OutOfMemory};
 use jr_codes::{Parts, Source, add_item, type_of};
 use jr_core::Code;
 use jr_defs::RowType;
-use jr_rows::{Label, Row};
+use jr_tree::{Label, Row};
 
 /// `array[at]`
 pub fn index(source: &Source, codes: &mut Parts<Code>, at: u32) -> Result<(), OutOfMemory>

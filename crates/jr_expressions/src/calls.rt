@@ -3,7 +3,7 @@ ghost use Rattle.std.specs.Prelude.{◌≡◌, true, false, [], IfOk, OnOk, Some
 ghost use Rattle.jr_core.specs.declared.code.Code.TheVariants as c;
 ghost use Rattle.jr_codes.specs.Making.{code, of_none};
 ghost use Rattle.jr_codes.specs.Waiting.{waiting};
-ghost use Rattle.jr_rows.specs.declared.label.ReceiverKind.TheVariants as on;
+ghost use Rattle.jr_tree.specs.declared.label.ReceiverKind.TheVariants as on;
 ghost use Rattle.jr_defs.specs.declared.referent.Referent.TheVariants as r;
 ghost use Rattle.jr_expressions.specs.Names as names;
 ghost use Rattle.jr_expressions.specs.Calls as made;
@@ -19,9 +19,8 @@ use jr_core::Code;
 use jr_defs::{Referent, RowType};
 use jr_members::{constructed_class, is_inner, is_static};
 use jr_places::role_at;
-use jr_rows::ReceiverKind;
 use jr_supers::is_callable;
-use jr_tree::ThisOrSuper;
+use jr_tree::{ReceiverKind, ThisOrSuper};
 
 fn counted(count: usize) -> Result<u32, OutOfMemory>
     ensures { IfOk result (λ number. number ≡ count) }

@@ -18,7 +18,7 @@ use jr_base::OutOfMemory;
 use jr_codes::{Parts, Source};
 use jr_constants::Value;
 use jr_core::Code;
-use jr_rows::Label;
+use jr_tree::Label;
 
 // A constant expression that stands in no other one.
 fn whole_constant(

@@ -1,7 +1,7 @@
 // Names, fields and `this` (JLS 6.5.6, 10.7, 15.8.3, 15.8.4, 15.11).
 ghost use Rattle.std.specs.Prelude.{◌≡◌, ◌<◌, ◌^◌, ◌∷◌, Some, None, IfOk, OnOk, length as length_of, if◌then◌else◌};
 ghost use Rattle.jr_core.specs.declared.code.Code.TheVariants as c;
-ghost use Rattle.jr_rows.specs.Rows as all_rows;
+ghost use Rattle.jr_tree.specs.Rows as all_rows;
 ghost use Rattle.jr_supers.specs.Tabled as tell;
 ghost use Rattle.jr_codes.specs.Facts.{has_child};
 ghost use Rattle.jr_codes.specs.Making.{code, unknown, of_none, of_one};
@@ -19,7 +19,7 @@ use jr_core::Code;
 use jr_defs::Referent;
 use jr_members::is_static;
 use jr_places::role_at;
-use jr_rows::Role;
+use jr_tree::Role;
 
 /// The instance of a class.
 pub fn this_of(source: &Source, class: u32) -> Result<Boxed<Code>, OutOfMemory>

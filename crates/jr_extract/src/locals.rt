@@ -6,8 +6,8 @@ use jr_change::ChangeFault;
 use jr_defs::RowType;
 use jr_flow::{FlowFault, Graph, PointKind, reaching};
 use jr_places::role_at;
-use jr_rows::Role;
 use jr_supers::Tabled;
+use jr_tree::Role;
 use jr_view::View;
 use std::alloc::Global;
 

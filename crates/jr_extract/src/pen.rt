@@ -8,7 +8,7 @@ use jr_defs::{Element, RowType};
 use jr_draft::Draft;
 use jr_marks::Marks;
 use jr_places::name_at;
-use jr_rows::Row;
+use jr_tree::Row;
 use jr_weave::word_of;
 use std::alloc::Global;
 

@@ -6,7 +6,7 @@ use jr_draft::unit_row;
 use jr_lookup::is_block;
 use jr_marks::Marks;
 use jr_places::{end_at, parent_at, role_at};
-use jr_rows::{Label, Role, Row};
+use jr_tree::{Label, Role, Row};
 
 /// Consecutive statements of one block.
 #[derive(Clone, Copy)]

@@ -2,7 +2,7 @@
 
 use jr_base::OutOfMemory;
 use jr_places::end_at;
-use jr_rows::{Label, Row};
+use jr_tree::{Label, Row};
 use std::alloc::Global;
 
 // The row declares what has code, and it is written there.

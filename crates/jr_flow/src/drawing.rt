@@ -4,7 +4,7 @@ use crate::point::{FlowFault, Graph, Step};
 use crate::states::{States, states_of};
 use crate::writing::code_of;
 use jr_base::OutOfMemory;
-use jr_tables::Stamps;
+use jr_places::Stamps;
 use jr_view::View;
 use std::alloc::Global;
 

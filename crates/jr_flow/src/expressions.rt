@@ -7,7 +7,7 @@ use crate::meaning::{
 use crate::work::Work;
 use jr_base::{OutOfMemory, Symbol};
 use jr_places::end_at;
-use jr_rows::{Label, Row};
+use jr_tree::{Label, Row};
 use jr_view::View;
 
 /// Plans all that stands right below a row, in turn.

@@ -3,8 +3,8 @@
 use crate::code::COMPLETED;
 use crate::work::Work;
 use jr_places::parent_at;
-use jr_rows::{Label, Row};
 use jr_supers::Tabled;
+use jr_tree::{Label, Row};
 
 fn is_loop(rows: &[Row], at: u32) -> bool {
     match rows.get(at as usize) {

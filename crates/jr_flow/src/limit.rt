@@ -6,7 +6,7 @@ use crate::states::states_of;
 use crate::writing::code_of;
 use jr_base::{Limits, OutOfMemory};
 use jr_places::end_at;
-use jr_rows::{Label, Row};
+use jr_tree::{Label, Row};
 use jr_view::View;
 use std::alloc::Global;
 

@@ -3,8 +3,8 @@
 use jr_base::Symbol;
 use jr_defs::{Referent, RowType};
 use jr_places::{end_at, parent_at, role_at};
-use jr_rows::{Label, Role, Row};
 use jr_supers::is_reference;
+use jr_tree::{Label, Role, Row};
 use jr_types::is_string_type;
 use jr_view::View;
 

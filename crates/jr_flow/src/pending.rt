@@ -2,7 +2,7 @@
 
 use crate::code::COMPLETED;
 use jr_base::OutOfMemory;
-use jr_tables::Numbering;
+use jr_places::Numbering;
 use std::alloc::Global;
 
 // A list of completions: where control goes to behind the innermost block, and the list round it.

@@ -7,7 +7,7 @@ use crate::tries::plan_try;
 use crate::work::{Targets, Work};
 use jr_base::OutOfMemory;
 use jr_places::{end_at, parent_at, role_at};
-use jr_rows::{Label, Role, Row};
+use jr_tree::{Label, Role, Row};
 use jr_view::View;
 
 // Plans the parameters below a row, or all else.

@@ -4,7 +4,7 @@ use crate::code::{Act, Barrier, Code, Scope};
 use crate::work::Work;
 use jr_base::OutOfMemory;
 use jr_places::end_at;
-use jr_rows::{Label, Row};
+use jr_tree::{Label, Row};
 
 // What a `try` is made of.
 #[derive(Clone, Copy)]

@@ -3,7 +3,7 @@
 use crate::links::Links;
 use crate::point::{Graph, PointKind};
 use jr_base::OutOfMemory;
-use jr_tables::Stamps;
+use jr_places::Stamps;
 use std::alloc::Global;
 use std::collections::HashMap;
 

@@ -3,11 +3,10 @@
 use crate::classes::{Roots, has_above};
 use crate::thrown::caught_class;
 use jr_base::OutOfMemory;
-use jr_places::parent_at;
-use jr_rows::{Label, Row};
+use jr_places::{Chains, Entry, parent_at};
 use jr_rule::{Fault, Rule};
 use jr_supers::{Supers, Tabled};
-use jr_tables::{Chains, Entry};
+use jr_tree::{Label, Row};
 use std::alloc::Global;
 
 /// The row is a catch.

@@ -1,9 +1,8 @@
 // Checked classes (JLS 11.2).
 
-use jr_places::{is_type, name_at, parent_at};
-use jr_rows::Row;
+use jr_places::{Chains, is_type, name_at, parent_at};
 use jr_supers::Supers;
-use jr_tables::Chains;
+use jr_tree::Row;
 
 /// The classes of java.lang by which others are checked.
 #[derive(Clone, Copy)]

@@ -5,7 +5,7 @@ use jr_base::OutOfMemory;
 use jr_constants::{Constants, Value};
 use jr_places::parent_at;
 use jr_reach::{Fact, no_fact};
-use jr_rows::{Label, Row};
+use jr_tree::{Label, Row};
 use jr_view::View;
 use std::alloc::Global;
 

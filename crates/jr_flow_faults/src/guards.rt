@@ -3,7 +3,7 @@
 use jr_base::OutOfMemory;
 use jr_places::parent_at;
 use jr_reach::{Entry, Fact, completes_at};
-use jr_rows::{Label, Row};
+use jr_tree::{Label, Row};
 use std::alloc::Global;
 
 /// What a row is to what is thrown inside it.

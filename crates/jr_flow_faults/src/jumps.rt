@@ -3,8 +3,8 @@
 use jr_base::OutOfMemory;
 use jr_places::parent_at;
 use jr_reach::Exit;
-use jr_rows::{Label, Row};
 use jr_supers::Tabled;
+use jr_tree::{Label, Row};
 use std::alloc::Global;
 
 // The innermost loop round a row, and the innermost loop or switch.

@@ -5,8 +5,8 @@ use jr_base::OutOfMemory;
 use jr_defs::{Element, RowType};
 use jr_members::is_static;
 use jr_places::{end_at, parent_at};
-use jr_rows::{Label, NamePlace, Row};
 use jr_supers::{Supers, Tabled};
+use jr_tree::{Label, NamePlace, Row};
 use std::alloc::Global;
 
 // The class that a type is.

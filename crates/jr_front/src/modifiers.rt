@@ -3,8 +3,8 @@ use jr_base::{Keyword, Kind, OutOfMemory, Token};
 use jr_marks::Marks;
 use jr_members::{is_in_interface, written_at};
 use jr_places::{end_at, is_interface, is_top_level, parent_at, role_at};
-use jr_rows::{Modifiers, Role, Row};
 use jr_rule::{Fault, Rule};
+use jr_tree::{Modifiers, Role, Row};
 
 // The number of modifiers in a row of tokens, up to the first that is none.
 fn count_written(tokens: &[Token], first: usize) -> usize {

@@ -3,7 +3,7 @@ use jr_base::Place;
 use jr_defs::Referent;
 use jr_marks::Marks;
 use jr_places::{is_object, parent_at, sought_at};
-use jr_rows::{Label, Row, Sought};
+use jr_tree::{Label, Row, Sought};
 
 // The implicit call of the constructor of Object, which refers to nothing (JLS 8.8.7).
 fn is_call_over_object(rows: &[Row], at: u32) -> bool {

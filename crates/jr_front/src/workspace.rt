@@ -9,8 +9,8 @@ use jr_lookup::{Scopes, Sight};
 use jr_marks::Marks;
 use jr_members::World;
 use jr_places::Places;
-use jr_rows::Row;
 use jr_supers::Tabled;
+use jr_tree::Row;
 use jr_types::find_string;
 use jr_view::View;
 

@@ -1,9 +1,9 @@
 -- The tests of rows and tables tell whether these are well founded, and what follows then.
 use Rattle.std.proofs.Common.{◌≡◌, ◌∙◌, subst, sym, ℕ, Bool, true, false, Decides, Result, Ok, Err, IfOk}
 use Rattle.std.proofs.lemmas.Bool.{false≢true}
-use Rattle.jr_rows.specs.Rows.{Rows}
-use Rattle.jr_rows.specs.Local.{IsLocal}
-use Rattle.jr_rows.proofs.Locals.{each_program_is_local}
+use Rattle.jr_tree.specs.Rows.{Rows}
+use Rattle.jr_tree.specs.Local.{IsLocal}
+use Rattle.jr_tree.proofs.Locals.{each_program_is_local}
 use Rattle.jr_defs.specs.Referents.{Table}
 use Rattle.jr_defs.specs.Declarations.{IsObject, IsInterface}
 use Rattle.jr_defs.specs.Supertypes.{Above}

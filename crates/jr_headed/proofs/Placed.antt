@@ -2,7 +2,7 @@
 use Rattle.std.proofs.Common.{◌≡◌, refl, sym, ◌∙◌, ap, ap₂, subst, ⊎_elim, arith, ℕ, zero, suc, ◌<◌, Bool, true, false, not, ◌&&◌, ◌||◌, List, [], ◌∷◌, length, nat_eq, Decides}
 use Rattle.std.proofs.lemmas.Bool.{false≢true, or_left, or_right, or_cases}
 use Rattle.std.proofs.lemmas.Bool.Decides.{Decides-eqb, Decides-at}
-use Rattle.jr_rows.specs.Rows.{Rows}
+use Rattle.jr_tree.specs.Rows.{Rows}
 use Rattle.jr_defs.specs.Declarations.{IsType, IsInterface, IsObject}
 use Rattle.jr_plain.specs.Search.{has, all_below}
 use Rattle.jr_plain.specs.Declarations.{is_type}
@@ -10,9 +10,9 @@ use Rattle.jr_plain.proofs.Bounds.{type_below}
 use Rattle.jr_plain.proofs.Declared.{type_tells, object_tells, interface_tells}
 use Rattle.jr_plain.proofs.Searches.{all}
 use Rattle.jr_plain.proofs.Tests.{itself, both, implies, opposite, like}
-use Rattle.jr_tables.specs.declared.chains.Entry.{Entry}
-use Rattle.jr_tables.specs.declared.stamps.Stamps.{Stamps}
-use Rattle.jr_tables.specs.Stamps.{is_stamped, IsStamping, IsEmptied, AddsStamp}
+use Rattle.jr_places.specs.declared.chains.Entry.{Entry}
+use Rattle.jr_places.specs.declared.stamps.Stamps.{Stamps}
+use Rattle.jr_places.specs.Stamps.{is_stamped, IsStamping, IsEmptied, AddsStamp}
 use Rattle.jr_supers.specs.Direct.{supers_in}
 use Rattle.jr_supers.specs.Order.{IsSuperIn, AreBehind}
 use Rattle.jr_headed.specs.Cycles.{IsOrdered, is_passed, are_passed, is_top, is_behind, are_behind, Passes, IsPassing}

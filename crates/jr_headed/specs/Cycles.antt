@@ -1,12 +1,12 @@
 -- An order of types, each behind its supertypes, as a test.
 use Rattle.std.specs.Prelude.{◌≡◌, ℕ, Bool, true, not, ◌&&◌, ◌||◌, List, [], ◌∷◌, length, nat_eq}
-use Rattle.jr_rows.specs.Rows.{Rows}
+use Rattle.jr_tree.specs.Rows.{Rows}
 use Rattle.jr_defs.specs.Declarations.{IsInterface, IsObject}
 use Rattle.jr_plain.specs.Search.{has}
 use Rattle.jr_plain.specs.Declarations.{is_type, is_interface, is_object}
-use Rattle.jr_tables.specs.declared.chains.Entry.{Entry}
-use Rattle.jr_tables.specs.declared.stamps.Stamps.{Stamps}
-use Rattle.jr_tables.specs.Stamps.{is_stamped, IsStamping}
+use Rattle.jr_places.specs.declared.chains.Entry.{Entry}
+use Rattle.jr_places.specs.declared.stamps.Stamps.{Stamps}
+use Rattle.jr_places.specs.Stamps.{is_stamped, IsStamping}
 use Rattle.jr_supers.specs.Direct.{supers_in}
 use Rattle.jr_supers.specs.Order.{IsSuperIn, IsOrderOf}
 

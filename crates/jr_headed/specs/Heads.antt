@@ -3,7 +3,7 @@ use Rattle.std.specs.Prelude.{ℕ, ◌<◌, ◌^◌, Bool, true, false, not, ◌
 use Rattle.std.specs.List.{AllByRecursion}
 use Rattle.jr_tree.specs.declared.tree.Unit as declared_unit
 use Rattle.jr_tree.specs.Shape.{IsShaped}
-use Rattle.jr_rows.specs.Rows.{Rows, label, parent, program_rows}
+use Rattle.jr_tree.specs.Rows.{Rows, label, parent, program_rows}
 use Rattle.jr_plain.specs.Headed.{IsHeaded}
 use Rattle.jr_plain.specs.Declarations.{is_object}
 use Rattle.jr_supers.specs.declared.supers.HeaderPlace.{HeaderPlace}

@@ -2,17 +2,16 @@
 ghost use Rattle.std.specs.Prelude.{◌≡◌, [], true, length, IfOk, Decides};
 ghost use Rattle.jr_plain.specs.Search.{all_below};
 ghost use Rattle.jr_defs.specs.Referents.{Table};
-ghost use Rattle.jr_tables.specs.Stamps.{is_stamped, IsEmptied};
+ghost use Rattle.jr_places.specs.Stamps.{is_stamped, IsEmptied};
 ghost use Rattle.jr_supers.specs.Direct.{HasSupers};
 ghost use Rattle.jr_supers.specs.Supers.{IsWellHeaded, HasNoCycle, AreSupersOf};
 ghost use Rattle.jr_members.specs.Held.{ObjectIsBare};
 ghost use Rattle.jr_headed.specs.Cycles as tell;
 
 use jr_base::OutOfMemory;
-use jr_places::{is_interface, is_object, is_type};
-use jr_rows::Row;
+use jr_places::{Chains, Stamps, is_interface, is_object, is_type};
 use jr_supers::Supers;
-use jr_tables::{Chains, Stamps};
+use jr_tree::Row;
 use std::alloc::Global;
 
 // Those of a list that are types were passed.

@@ -8,8 +8,8 @@ ghost use Rattle.jr_headed.specs.Founded as tell;
 use crate::cycles::has_no_cycle;
 use crate::heads::{are_packages_named, is_sized, is_well_headed};
 use jr_base::OutOfMemory;
-use jr_rows::Row;
 use jr_supers::{Supers, Tabled};
+use jr_tree::Row;
 use std::alloc::Global;
 
 // What rows alone tell.

@@ -3,7 +3,7 @@ ghost use Rattle.std.specs.Prelude.{◌≡◌, ◌<◌, ◌^◌, List, true, len
 ghost use Rattle.std.specs.List.{AllByRecursion};
 ghost use Rattle.jr_tree.specs.declared.tree.Unit as declared_unit;
 ghost use Rattle.jr_tree.specs.Shape.{IsShaped};
-ghost use Rattle.jr_rows.specs.Rows.{label, program_rows};
+ghost use Rattle.jr_tree.specs.Rows.{label, program_rows};
 ghost use Rattle.jr_plain.specs.Search.{all_below};
 ghost use Rattle.jr_places.specs.Packages.{is_package, PackagesAreNamed};
 ghost use Rattle.jr_supers.specs.Supers.{IsWellHeaded};
@@ -12,8 +12,8 @@ ghost use Rattle.jr_members.specs.Held.{ObjectIsBare};
 ghost use Rattle.jr_headed.specs.Heads as tell;
 
 use jr_places::{is_object, parent_at};
-use jr_rows::{Label, Row};
 use jr_supers::{find_object, header_place};
+use jr_tree::{Label, Row};
 
 // The row is no name in the header of Object.
 fn is_bare_at(rows: &[Row], at: u32) -> bool

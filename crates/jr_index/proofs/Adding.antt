@@ -2,7 +2,7 @@
 use Rattle.std.proofs.Common.{◌≡◌, ℕ, suc, ◌+◌, ◌<◌, List, [], ◌∷◌, ◌++◌, length, get_or, drop, refl, sym, ap, ◌∙◌, subst, arith}
 use Rattle.std.proofs.Math.Seq.{drop-cons}
 use Rattle.jr_base.specs.declared.text.Text.{Text}
-use Rattle.jr_rows.specs.declared.label.Label.{Label}
+use Rattle.jr_tree.specs.declared.label.Label.{Label}
 use Rattle.jr_index.specs.Events.{Open, Close, Events}
 use Rattle.jr_index.specs.Building.{built}
 use Rattle.jr_index.specs.Writing.{Written, Leads}

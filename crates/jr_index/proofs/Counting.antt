@@ -4,9 +4,9 @@ use Rattle.std.specs.Prelude.{slice_index_or, []}
 use Rattle.jr_base.specs.declared.text.Text.{Text}
 use Rattle.jr_tree.specs.declared.tree.Expr as declared_expr
 use Rattle.jr_tree.specs.Mirror.Exprs.{plain_exprs}
-use Rattle.jr_rows.specs.Exprs.{count}
-use Rattle.jr_rows.specs.declared.label.NameKind.{NameKind}
-use Rattle.jr_rows.specs.declared.label.NamePlace.{NamePlace}
+use Rattle.jr_tree.specs.Exprs.{count}
+use Rattle.jr_tree.specs.declared.label.NameKind.{NameKind}
+use Rattle.jr_tree.specs.declared.label.NamePlace.{NamePlace}
 use Rattle.jr_index.specs.Events.{Open, Close, opens, closes, name_label}
 
 -- the identifier before the last one that is open

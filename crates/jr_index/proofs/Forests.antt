@@ -3,12 +3,12 @@ use Rattle.std.proofs.Common.{◌≡◌, ℕ, suc, ◌+◌, [], ◌∷◌, ◌++
 use Rattle.std.specs.Prelude.{set}
 use Rattle.std.proofs.Math.Seq.{set-append_seam, get_or-append_seam}
 use Rattle.jr_base.specs.declared.text.Text.{Text}
-use Rattle.jr_rows.specs.declared.label.Label.{Label}
-use Rattle.jr_rows.specs.declared.label.Label.TheVariants as is
-use Rattle.jr_rows.specs.declared.row.Row.{Row}
-use Rattle.jr_rows.specs.Forest.{Forest, none, more, size}
-use Rattle.jr_rows.specs.Rows.{Rows, rows_from, row}
-use Rattle.jr_rows.proofs.Trees.{length_rows}
+use Rattle.jr_tree.specs.declared.label.Label.{Label}
+use Rattle.jr_tree.specs.declared.label.Label.TheVariants as is
+use Rattle.jr_tree.specs.declared.row.Row.{Row}
+use Rattle.jr_tree.specs.Forest.{Forest, none, more, size}
+use Rattle.jr_tree.specs.Rows.{Rows, rows_from, row}
+use Rattle.jr_tree.proofs.Trees.{length_rows}
 use Rattle.jr_index.specs.Events.{Open, Close, Events}
 use Rattle.jr_index.specs.Building.{State, opened, closed, built}
 

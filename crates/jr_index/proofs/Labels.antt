@@ -18,22 +18,22 @@ use Rattle.jr_tree.specs.declared.tree.Unit as declared_unit
 use Rattle.jr_tree.specs.Mirror.Exprs as x
 use Rattle.jr_tree.specs.Mirror.Stmts as s
 use Rattle.jr_tree.specs.Mirror.Decls as d
-use Rattle.jr_rows.specs.declared.label.Label.{Label}
-use Rattle.jr_rows.specs.declared.label.Label.TheVariants as is
-use Rattle.jr_rows.specs.declared.label.NameKind.{NameKind}
-use Rattle.jr_rows.specs.declared.label.NameKind.TheVariants as kind
-use Rattle.jr_rows.specs.declared.label.NamePlace.{NamePlace}
-use Rattle.jr_rows.specs.declared.label.NamePlace.TheVariants as place
-use Rattle.jr_rows.specs.declared.label.ReceiverKind.TheVariants as on
-use Rattle.jr_rows.specs.declared.label.ImportKind.TheVariants as importing
-use Rattle.jr_rows.specs.Forest as f
-use Rattle.jr_rows.specs.Forest.{Forest, none, more}
-use Rattle.jr_rows.specs.Exprs as l
-use Rattle.jr_rows.specs.Stmts as ls
-use Rattle.jr_rows.specs.Decls as ld
+use Rattle.jr_tree.specs.declared.label.Label.{Label}
+use Rattle.jr_tree.specs.declared.label.Label.TheVariants as is
+use Rattle.jr_tree.specs.declared.label.NameKind.{NameKind}
+use Rattle.jr_tree.specs.declared.label.NameKind.TheVariants as kind
+use Rattle.jr_tree.specs.declared.label.NamePlace.{NamePlace}
+use Rattle.jr_tree.specs.declared.label.NamePlace.TheVariants as place
+use Rattle.jr_tree.specs.declared.label.ReceiverKind.TheVariants as on
+use Rattle.jr_tree.specs.declared.label.ImportKind.TheVariants as importing
+use Rattle.jr_tree.specs.Forest as f
+use Rattle.jr_tree.specs.Forest.{Forest, none, more}
+use Rattle.jr_tree.specs.Exprs as l
+use Rattle.jr_tree.specs.Stmts as ls
+use Rattle.jr_tree.specs.Decls as ld
 use Rattle.jr_index.specs.Events as e
 use Rattle.jr_index.specs.Events.{Open, Close, Events, named, opens, closes, name_label}
-use Rattle.jr_rows.specs.Rows.{program_rows}
+use Rattle.jr_tree.specs.Rows.{program_rows}
 use Rattle.jr_index.specs.Building.{State, built, start}
 use Rattle.jr_index.proofs.Forests.{events_of, built_forest}
 

@@ -1,11 +1,11 @@
 -- The node of a row's declaration or occurrence has the number that the definitions give it.
 use Rattle.std.proofs.Common.{◌≡◌, ℕ, ◌+◌, ◌<◌, refl, ◌∙◌, ap, arith}
-use Rattle.jr_rows.specs.declared.label.Label.{Label}
-use Rattle.jr_rows.specs.declared.label.Label.TheVariants as is
-use Rattle.jr_rows.specs.declared.label.NamePlace.{NamePlace}
-use Rattle.jr_rows.specs.declared.label.NamePlace.TheVariants as place
-use Rattle.jr_rows.specs.Labels.{nodes_of, name_nodes}
-use Rattle.jr_rows.specs.Rows.{Rows, label, nodes_before}
+use Rattle.jr_tree.specs.declared.label.Label.{Label}
+use Rattle.jr_tree.specs.declared.label.Label.TheVariants as is
+use Rattle.jr_tree.specs.declared.label.NamePlace.{NamePlace}
+use Rattle.jr_tree.specs.declared.label.NamePlace.TheVariants as place
+use Rattle.jr_tree.specs.Labels.{nodes_of, name_nodes}
+use Rattle.jr_tree.specs.Rows.{Rows, label, nodes_before}
 use Rattle.jr_defs.specs.Numbers.{offset, name_offset, numbered_at, nodes_to, nodes_to_by}
 use Rattle.jr_index.specs.NodeRows.{NodesAreNumbered}
 

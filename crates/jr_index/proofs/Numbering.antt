@@ -3,11 +3,11 @@ use Rattle.std.proofs.Common.{◌≡◌, ℕ, zero, suc, ◌+◌, ◌<◌, ◌�
 use Rattle.std.proofs.Math.ListN.{get_or, get_or-append}
 use Rattle.std.proofs.Math.Seq.{get_or-append_seam}
 use Rattle.std.proofs.lemmas.List.{get_or_past}
-use Rattle.jr_rows.specs.declared.label.Label.{Label}
-use Rattle.jr_rows.specs.declared.label.Label.TheVariants as is
-use Rattle.jr_rows.specs.Rows.{Rows, label, parent, nodes_before}
-use Rattle.jr_rows.specs.Below.{Under}
-use Rattle.jr_rows.specs.Local.{IsLocal}
+use Rattle.jr_tree.specs.declared.label.Label.{Label}
+use Rattle.jr_tree.specs.declared.label.Label.TheVariants as is
+use Rattle.jr_tree.specs.Rows.{Rows, label, parent, nodes_before}
+use Rattle.jr_tree.specs.Below.{Under}
+use Rattle.jr_tree.specs.Local.{IsLocal}
 use Rattle.jr_defs.specs.Numbers.{units_before, one_if_unit}
 use Rattle.jr_defs.specs.Packages.{InUnit}
 use Rattle.jr_index.specs.NodeRows.{counts, unit_rows, if_unit}

@@ -2,9 +2,9 @@
 use Rattle.std.proofs.Common.{◌≡◌, ℕ, suc, ◌+◌, ◌-◌, ◌<◌, ◌≤◌, List, length, refl, sym, ◌∙◌, ap, subst, arith}
 use Rattle.std.proofs.Math.ListN.{get_or}
 use Rattle.jr_base.specs.declared.ids.NodeAt.{NodeAt}
-use Rattle.jr_rows.specs.declared.label.Label.TheVariants as is
-use Rattle.jr_rows.specs.Labels.{nodes_of}
-use Rattle.jr_rows.specs.Rows.{Rows, label, end, nodes_before}
+use Rattle.jr_tree.specs.declared.label.Label.TheVariants as is
+use Rattle.jr_tree.specs.Labels.{nodes_of}
+use Rattle.jr_tree.specs.Rows.{Rows, label, end, nodes_before}
 use Rattle.jr_defs.specs.Numbers.{units_before}
 use Rattle.jr_index.specs.NodeRows.{IsNodeOf, IsNowhere, IsIndex}
 use Rattle.jr_index.proofs.Numbering.{nodes_rise, length_counts, counts_at, length_units, IsUnitRow, unit_at, unit_found, unit_there}

@@ -1,8 +1,8 @@
 -- Rows from a list of labels that open and close.
 use Rattle.std.specs.Prelude.{ℕ, [], ◌∷◌, ◌++◌, length, set}
 use Rattle.jr_base.specs.declared.text.Text.{Text}
-use Rattle.jr_rows.specs.declared.label.Label.{Label}
-use Rattle.jr_rows.specs.Rows.{Rows, row, parent}
+use Rattle.jr_tree.specs.declared.label.Label.{Label}
+use Rattle.jr_tree.specs.Rows.{Rows, row, parent}
 use Rattle.jr_index.specs.Events.{Event, Open, Close, Events}
 
 -- the rows so far, the innermost one that is open, and the one that opened or closed last

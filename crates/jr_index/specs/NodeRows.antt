@@ -1,13 +1,13 @@
 -- The nodes of trees that rows stand for, the node right above another, and the tables that find them.
 use Rattle.std.specs.Prelude.{◌≡◌, ℕ, zero, suc, ◌+◌, ◌<◌, ◌^◌, Bool, List, [], ◌∷◌, ◌++◌, length, nat_eq, if◌then◌else◌}
 use Rattle.jr_base.specs.declared.ids.NodeAt.{NodeAt}
-use Rattle.jr_rows.specs.declared.label.Label.{Label}
-use Rattle.jr_rows.specs.declared.label.Label.TheVariants as is
-use Rattle.jr_rows.specs.declared.label.ReceiverKind.{ReceiverKind}
-use Rattle.jr_rows.specs.declared.label.ReceiverKind.TheVariants as on
-use Rattle.jr_rows.specs.Labels.{nodes_of}
-use Rattle.jr_rows.specs.Rows.{Rows, label, parent, nodes_before}
-use Rattle.jr_rows.specs.Local.{IsLocal}
+use Rattle.jr_tree.specs.declared.label.Label.{Label}
+use Rattle.jr_tree.specs.declared.label.Label.TheVariants as is
+use Rattle.jr_tree.specs.declared.label.ReceiverKind.{ReceiverKind}
+use Rattle.jr_tree.specs.declared.label.ReceiverKind.TheVariants as on
+use Rattle.jr_tree.specs.Labels.{nodes_of}
+use Rattle.jr_tree.specs.Rows.{Rows, label, parent, nodes_before}
+use Rattle.jr_tree.specs.Local.{IsLocal}
 use Rattle.jr_defs.specs.Packages.{InUnit}
 use Rattle.jr_defs.specs.Numbers.{units_before, offset, IsNodeAt}
 

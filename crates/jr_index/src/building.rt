@@ -4,7 +4,7 @@ ghost use Rattle.jr_index.specs.Building as spec;
 ghost use Rattle.jr_index.specs.Views.{state};
 
 use jr_base::{OutOfMemory, Text};
-use jr_rows::{Label, Row};
+use jr_tree::{Label, Row};
 use std::alloc::Global;
 
 /// The rows so far, the innermost one that is open, and the one that opened or closed last.

@@ -6,10 +6,10 @@ ghost use Rattle.jr_tree.specs.Mirror.Decls as m;
 ghost use Rattle.jr_tree.specs.Mirror.Stmts as s;
 ghost use Rattle.jr_index.specs.Events as e;
 ghost use Rattle.jr_index.specs.Writing.{Adds};
-ghost use Rattle.jr_rows.specs.Decls as d;
-ghost use Rattle.jr_rows.specs.Stmts as l;
-ghost use Rattle.jr_rows.specs.declared.label.NameKind.TheVariants as kind;
-ghost use Rattle.jr_rows.specs.declared.label.NamePlace.TheVariants as place;
+ghost use Rattle.jr_tree.specs.Decls as d;
+ghost use Rattle.jr_tree.specs.Stmts as l;
+ghost use Rattle.jr_tree.specs.declared.label.NameKind.TheVariants as kind;
+ghost use Rattle.jr_tree.specs.declared.label.NamePlace.TheVariants as place;
 
 use crate::expr::add_any_init;
 use crate::stmt::add_block;
@@ -18,8 +18,9 @@ use crate::words::{
     modifiers_of,
 };
 use crate::writer::RowWriter;
-use jr_rows::{Label, NameKind, NamePlace};
-use jr_tree::{Block, Declarator, Member, Modifier, Name, Stmt, TypeDecl, Unit};
+use jr_tree::{
+    Block, Declarator, Label, Member, Modifier, Name, NameKind, NamePlace, Stmt, TypeDecl, Unit,
+};
 
 fn add_field(out: &mut RowWriter, mods: &[Modifier], field: &Declarator)
     ensures { Adds out.old out.new (e.field_events mods.now (s.plain_declarator field.now)) }

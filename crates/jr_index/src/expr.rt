@@ -4,14 +4,15 @@ ghost use Rattle.std.specs.Option.{option_map};
 ghost use Rattle.jr_tree.specs.Mirror.Exprs as m;
 ghost use Rattle.jr_index.specs.Events as e;
 ghost use Rattle.jr_index.specs.Writing.{Adds, Keeps};
-ghost use Rattle.jr_rows.specs.Exprs as l;
-ghost use Rattle.jr_rows.specs.declared.label.Label.TheVariants as is;
+ghost use Rattle.jr_tree.specs.Exprs as l;
+ghost use Rattle.jr_tree.specs.declared.label.Label.TheVariants as is;
 
 use crate::words::{add_base, add_name, add_type, add_type_name, primitive_of};
 use crate::writer::RowWriter;
 use jr_base::Kind;
-use jr_rows::{Label, NameKind, NamePlace, ReceiverKind};
-use jr_tree::{Base, Expr, Init, InitList, Name, Receiver};
+use jr_tree::{
+    Base, Expr, Init, InitList, Label, Name, NameKind, NamePlace, Receiver, ReceiverKind,
+};
 
 #[cycle(add_expr)]
 pub fn add_expr(out: &mut RowWriter, expr: &Expr)

@@ -2,16 +2,16 @@
 ghost use Rattle.std.specs.Prelude.{◌≡◌, ◌⊎◌, ◌+◌, ◌<◌, ◌≤◌, ◌^◌, IfOk, MatchOption, length, map, slice_index};
 ghost use Rattle.std.specs.List.{AllByRecursion};
 ghost use Rattle.jr_tree.specs.Shape.{IsShaped};
-ghost use Rattle.jr_rows.specs.Labels.{nodes_of};
-ghost use Rattle.jr_rows.specs.Rows.{row, end, label, program_rows};
-ghost use Rattle.jr_rows.specs.Tree.{IsTree};
+ghost use Rattle.jr_tree.specs.Labels.{nodes_of};
+ghost use Rattle.jr_tree.specs.Rows.{row, end, label, program_rows};
+ghost use Rattle.jr_tree.specs.Tree.{IsTree};
 ghost use Rattle.jr_index.specs.NodeRows.{IsIndex, IsNodeOf, IsNowhere, IsNearest, IsParentNode, over_nth, counts, unit_rows};
 
 use crate::mark::Mark;
 use crate::marked_rows_of;
 use jr_base::{NodeAt, NodeId, OutOfMemory};
 use jr_defs::Program;
-use jr_rows::{Label, NamePlace, ReceiverKind, Row};
+use jr_tree::{Label, NamePlace, ReceiverKind, Row};
 use std::alloc::Global;
 use std::marker::Model;
 
@@ -28,7 +28,7 @@ pub struct Index {
 }
 
 impl Model for Index {
-    ghost use Rattle.jr_rows.specs.Rows.{Rows};
+    ghost use Rattle.jr_tree.specs.Rows.{Rows};
     ghost use Rattle.jr_index.specs.NodeRows.{IsIndex};
 
     ghost Value = { Rows };

@@ -2,7 +2,7 @@
 #![tactic(auto)]
 
 ghost use Rattle.std.specs.Prelude.{◌≡◌, IfOk, map};
-ghost use Rattle.jr_rows.specs.Rows.{program_rows};
+ghost use Rattle.jr_tree.specs.Rows.{program_rows};
 ghost use Rattle.jr_index.specs.Events as e;
 ghost use Rattle.jr_index.specs.Writing.{Adds};
 
@@ -22,7 +22,7 @@ use crate::writer::RowWriter;
 pub use index::{Index, NodeOfRow};
 use jr_base::OutOfMemory;
 use jr_defs::{Program, UnitAt};
-use jr_rows::{Label, Row};
+use jr_tree::{Label, Row};
 pub use law::nodes_are_numbered;
 pub use mark::{Mark, NO_TOKEN};
 use std::alloc::Global;

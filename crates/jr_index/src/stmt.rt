@@ -4,14 +4,13 @@ ghost use Rattle.std.specs.Option.{option_map};
 ghost use Rattle.jr_tree.specs.Mirror.Stmts as m;
 ghost use Rattle.jr_index.specs.Events as e;
 ghost use Rattle.jr_index.specs.Writing.{Adds};
-ghost use Rattle.jr_rows.specs.Stmts as l;
+ghost use Rattle.jr_tree.specs.Stmts as l;
 
 use crate::expr::{add_any_expr, add_any_init, add_args, add_expr, add_exprs};
 use crate::words::{add_param, add_type};
 use crate::writer::RowWriter;
 use jr_base::{Boxed, Text};
-use jr_rows::Label;
-use jr_tree::{Block, Catch, Declarator, ForInit, Group, Stmt, SwitchLabel};
+use jr_tree::{Block, Catch, Declarator, ForInit, Group, Label, Stmt, SwitchLabel};
 
 fn add_local(out: &mut RowWriter, is_final: bool, local: &Declarator)
     ensures { Adds out.old out.new (e.local_events is_final (m.plain_declarator local.now)) }

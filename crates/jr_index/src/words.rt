@@ -2,13 +2,15 @@
 ghost use Rattle.std.specs.Prelude.{◌≡◌, ◌<◌, length};
 ghost use Rattle.jr_index.specs.Events as e;
 ghost use Rattle.jr_index.specs.Writing.{Adds};
-ghost use Rattle.jr_rows.specs.Exprs as l;
-ghost use Rattle.jr_rows.specs.Decls as d;
+ghost use Rattle.jr_tree.specs.Exprs as l;
+ghost use Rattle.jr_tree.specs.Decls as d;
 
 use crate::writer::RowWriter;
 use jr_base::Text;
-use jr_rows::{ImportKind, Label, Modifiers, NameKind, NamePlace};
-use jr_tree::{Base, Import, Modifier, Name, PackageDecl, Param, Primitive, ResultType, TypeUse};
+use jr_tree::{
+    Base, Import, ImportKind, Label, Modifier, Modifiers, Name, NameKind, NamePlace, PackageDecl,
+    Param, Primitive, ResultType, TypeUse,
+};
 
 fn left_kind(meant: NameKind) -> NameKind
     ensures { result ≡ l.left_kind meant }

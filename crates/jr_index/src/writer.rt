@@ -8,7 +8,7 @@ ghost use Rattle.jr_index.specs.Writing.{Adds, Keeps};
 use crate::building::Building;
 use crate::mark::{Mark, NO_TOKEN};
 use jr_base::{OutOfMemory, Text};
-use jr_rows::{Label, Row};
+use jr_tree::{Label, Row};
 use std::alloc::Global;
 
 /// What is written so far. Once memory has failed it is worth nothing, and `finish` says so.

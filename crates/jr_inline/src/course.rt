@@ -7,7 +7,7 @@ use jr_base::OutOfMemory;
 use jr_change::Project;
 use jr_draft::Draft;
 use jr_places::{end_at, parent_at};
-use jr_rows::{Label, ReceiverKind, Row};
+use jr_tree::{Label, ReceiverKind, Row};
 
 /// What becomes of a row.
 #[derive(Clone, Copy, PartialEq, Eq)]

@@ -1,8 +1,8 @@
 // The local that is inlined.
 
 use jr_places::{end_at, parent_at, role_at};
-use jr_rows::{Label, Role, Row};
 use jr_supers::Tabled;
+use jr_tree::{Label, Role, Row};
 
 /// A local with an expression as initializer, by rows (JLS 14.4).
 #[derive(Clone, Copy)]

@@ -5,8 +5,8 @@ use jr_base::Span;
 use jr_change::RowRange;
 use jr_marks::Marks;
 use jr_places::{end_at, parent_at, role_at};
-use jr_rows::{Label, Role, Row};
 use jr_text::{own_span, tokens_span};
+use jr_tree::{Label, Role, Row};
 
 /// What of a declaration goes: the declarator, or all where it has no other.
 #[derive(Clone, Copy)]

@@ -9,7 +9,7 @@ use crate::lists::Lists;
 use jr_base::OutOfMemory;
 use jr_flow::PointKind;
 use jr_locks::row_for;
-use jr_tables::Stamps;
+use jr_places::Stamps;
 use std::alloc::Global;
 
 /// The definitions that reach each use before and after the change.

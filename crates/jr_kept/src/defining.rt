@@ -1,7 +1,7 @@
 // The row of the assignment that a definition is.
 
 use jr_places::parent_at;
-use jr_rows::{Label, Row};
+use jr_tree::{Label, Row};
 
 /// How a row stands below another.
 #[derive(Clone, Copy)]

@@ -7,8 +7,8 @@ use crate::spreading::{spread, ways_back, ways_of};
 use jr_base::OutOfMemory;
 use jr_change::RowRange;
 use jr_flow::{Graph, Point, PointKind};
-use jr_rows::Row;
-use jr_tables::Stamps;
+use jr_places::Stamps;
+use jr_tree::Row;
 use std::alloc::Global;
 
 /// A local with an initializer that is assigned nowhere else, in the graph of its body.

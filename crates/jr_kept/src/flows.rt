@@ -5,7 +5,7 @@ use jr_base::OutOfMemory;
 use jr_change::RowRange;
 use jr_flow::{Graph, bodies};
 use jr_places::end_at;
-use jr_rows::{Label, Row};
+use jr_tree::{Label, Row};
 use std::alloc::Global;
 
 /// The flow of a body before and after the change.

@@ -7,7 +7,7 @@ use jr_base::OutOfMemory;
 use jr_change::RowRange;
 use jr_flow::{Graph, reaching};
 use jr_locks::row_for;
-use jr_tables::Stamps;
+use jr_places::Stamps;
 use std::alloc::Global;
 
 fn row_of(graph: &Graph, point: u32) -> Option<u32> {

@@ -6,7 +6,7 @@ use jr_change::{NO_ROW, RowRange};
 use jr_flow::PointKind;
 use jr_locks::row_for;
 use jr_places::{end_at, parent_at};
-use jr_rows::{Label, Row};
+use jr_tree::{Label, Row};
 use std::alloc::Global;
 
 /// The use from which each definition is handed on, by rows of the changed program.

@@ -4,7 +4,7 @@ use jr_base::OutOfMemory;
 use jr_flow::{Graph, Point, PointKind};
 use jr_locks::row_for;
 use jr_places::{end_at, parent_at};
-use jr_rows::{Label, NamePlace, Row};
+use jr_tree::{Label, NamePlace, Row};
 use std::alloc::Global;
 
 /// The name of what is no node, or of one that is passed over.

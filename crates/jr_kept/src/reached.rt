@@ -4,7 +4,7 @@ use crate::spreading::{spread, ways_of};
 use jr_base::OutOfMemory;
 use jr_change::NO_ROW;
 use jr_flow::{Graph, Point, Step};
-use jr_tables::Stamps;
+use jr_places::Stamps;
 use std::alloc::Global;
 
 /// How many points each graph has, whether control reaches them or not: its entry, which is the first, and its exits.

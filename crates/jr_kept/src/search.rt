@@ -5,9 +5,8 @@ use crate::names::NO_NAME;
 use crate::spreading::ways_of;
 use jr_base::OutOfMemory;
 use jr_flow::{Graph, Point};
-use jr_places::end_at;
-use jr_rows::Row;
-use jr_tables::Stamps;
+use jr_places::{Stamps, end_at};
+use jr_tree::Row;
 use std::alloc::Global;
 
 /// The points of a graph with the names of nodes.

@@ -3,7 +3,7 @@
 use crate::lists::Lists;
 use jr_base::OutOfMemory;
 use jr_flow::Graph;
-use jr_tables::Stamps;
+use jr_places::Stamps;
 use std::alloc::Global;
 
 /// The points to which steps lead from each point.

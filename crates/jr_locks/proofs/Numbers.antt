@@ -6,8 +6,8 @@ use Rattle.std.proofs.lemmas.Bool.Decides.{Decides-eqb}
 use Rattle.std.proofs.lemmas.List.{length-replicate, length-set, get_or-replicate, get_or-set_same, get_or-set_other, get_or_default, drop_more, drop_all}
 use Rattle.std.proofs.lemmas.Option.{slice_get_past, slice_get-get_or}
 use Rattle.jr_base.specs.declared.text.Text.{Text}
-use Rattle.jr_rows.specs.declared.row.Row.{Row}
-use Rattle.jr_rows.specs.Rows.{Rows, row}
+use Rattle.jr_tree.specs.declared.row.Row.{Row}
+use Rattle.jr_tree.specs.Rows.{Rows, row}
 use Rattle.jr_change.specs.declared.change.Naming.{Naming}
 use Rattle.jr_locks.specs.Origins.{no_row, origin_of}
 use Rattle.jr_locks.specs.Copying.{has_row, name_by, turned_at, IsCopy, AllCopies, name_or, name_at, name_of, name_in, with_number, AreNumbered, AreNumberedTo}

@@ -1,7 +1,7 @@
 -- How the rows of a changed program stand to those of the old one.
 use Rattle.std.specs.Prelude.{◌≡◌, ℕ, ◌+◌, Bool, List, [], ◌∷◌, length, map, if◌then◌else◌, nat_eq}
 use Rattle.std.specs.List.{range_with_len}
-use Rattle.jr_rows.specs.Rows.{Rows}
+use Rattle.jr_tree.specs.Rows.{Rows}
 use Rattle.jr_defs.specs.Referents.{Table}
 use Rattle.jr_change.specs.declared.change.Change.{Change}
 use Rattle.jr_locks.specs.Origins.{no_row, origins, turned}

@@ -1,8 +1,8 @@
 -- What a copy of an old row is.
 use Rattle.std.specs.Prelude.{◌≡◌, ◌≢◌, ℕ, ◌<◌, Bool, false, ◌||◌, List, [], ◌∷◌, length, Option, Some, None, if◌then◌else◌, nat_eq, slice_get, slice_index_or, slice_set, drop}
 use Rattle.jr_base.specs.declared.text.Text.{Text}
-use Rattle.jr_rows.specs.declared.row.Row.{Row}
-use Rattle.jr_rows.specs.Rows.{Rows, row, label, name}
+use Rattle.jr_tree.specs.declared.row.Row.{Row}
+use Rattle.jr_tree.specs.Rows.{Rows, row, label, name}
 use Rattle.jr_change.specs.declared.change.Naming.{Naming}
 use Rattle.jr_locks.specs.Origins.{no_row, origin_of}
 

@@ -7,8 +7,8 @@ ghost use Rattle.jr_locks.specs.Copying as spec;
 use crate::moving::origin_at;
 use jr_base::OutOfMemory;
 use jr_change::{NO_ROW, Naming};
-use jr_rows::{Label, Row};
 use jr_runs::same_label;
+use jr_tree::{Label, Row};
 use std::alloc::Global;
 
 /// The old rows, the identifiers that some get, and which of them each gets.

@@ -11,7 +11,7 @@ use crate::origins::origins_of;
 use jr_base::OutOfMemory;
 use jr_change::{Change, Locks};
 use jr_defs::Referent;
-use jr_rows::Row;
+use jr_tree::Row;
 use std::alloc::Global;
 
 // The locks by the origins of rows.

@@ -5,10 +5,10 @@ use Rattle.std.proofs.lemmas.Bool.{false≢true, false_from_ne_true, cases_eq, c
 use Rattle.std.proofs.lemmas.Bool.Decides.{Decides-ltb}
 use Rattle.std.proofs.lemmas.List.{get_or_past}
 use Rattle.std.proofs.lemmas.Option.{none-some, same_Some}
-use Rattle.jr_rows.specs.declared.label.Role.{Role}
-use Rattle.jr_rows.specs.declared.label.Role.TheVariants as role
-use Rattle.jr_rows.specs.Rows.{Rows, label, parent, end, role_at}
-use Rattle.jr_rows.specs.Tree.{IsTree}
+use Rattle.jr_tree.specs.declared.label.Role.{Role}
+use Rattle.jr_tree.specs.declared.label.Role.TheVariants as role
+use Rattle.jr_tree.specs.Rows.{Rows, label, parent, end, role_at}
+use Rattle.jr_tree.specs.Tree.{IsTree}
 use Rattle.jr_defs.specs.Enclosing.{BodyOf, InBody, Innermost, DeclaredIn, holder}
 use Rattle.jr_defs.specs.Modifiers.{IsInner}
 use Rattle.jr_defs.specs.Instances.{is_static_code, InStaticContext, HasInstance}
@@ -23,8 +23,8 @@ use Rattle.jr_plain.proofs.Bounds.{body_below, parent_past}
 use Rattle.jr_plain.proofs.Enclosed.{most, body_tells, innermost_finds, declaring_finds}
 use Rattle.jr_plain.proofs.Modified.{inner_tells}
 use Rattle.jr_plain.proofs.Instanced.{static_context_tells, instance_tells}
-use Rattle.jr_tables.specs.Tabulated.{tabulated}
-use Rattle.jr_tables.proofs.Tables.{length-tabulated, tabulated_at}
+use Rattle.jr_places.specs.Tabulated.{tabulated}
+use Rattle.jr_places.proofs.Tables.{length-tabulated, tabulated_at}
 use Rattle.jr_places.specs.declared.places.Places.{Places}
 use Rattle.jr_places.proofs.Rounding.{one_found, all_innermost}
 use Rattle.jr_members.specs.Sources.{ArePlaced}

@@ -3,3 +3,4 @@ pub mod Scoping
 pub mod Outward
 pub mod Instancing
 pub mod Leveling
+pub mod Within

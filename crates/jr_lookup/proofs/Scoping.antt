@@ -3,18 +3,18 @@ use Rattle.std.proofs.Common.{◌≡◌, refl, sym, ◌∙◌, ap, ap₂, subst,
 use Rattle.std.proofs.lemmas.Bool.{and_from, cases_eq}
 use Rattle.std.proofs.lemmas.Bool.Decides.{Decides-eqb}
 use Rattle.std.proofs.lemmas.Option.{none-some, same_Some}
-use Rattle.jr_rows.specs.declared.label.Label.TheVariants as is
-use Rattle.jr_rows.specs.declared.label.ImportKind.TheVariants as importing
-use Rattle.jr_rows.specs.declared.label.Role.TheVariants as role
-use Rattle.jr_rows.specs.Rows.{Rows, label, parent, role_at}
-use Rattle.jr_rows.specs.Local.{IsLocal, StartsAt, HasTypeName}
-use Rattle.jr_rows.specs.Below.{IsTypeName}
+use Rattle.jr_tree.specs.declared.label.Label.TheVariants as is
+use Rattle.jr_tree.specs.declared.label.ImportKind.TheVariants as importing
+use Rattle.jr_tree.specs.declared.label.Role.TheVariants as role
+use Rattle.jr_tree.specs.Rows.{Rows, label, parent, role_at}
+use Rattle.jr_tree.specs.Local.{IsLocal, StartsAt, HasTypeName}
+use Rattle.jr_tree.specs.Below.{IsTypeName}
 use Rattle.jr_plain.specs.Same.{same_role}
 use Rattle.jr_plain.specs.Search.{last_below}
 use Rattle.jr_plain.specs.Imports.{is_import_label, is_import_of}
 use Rattle.jr_plain.proofs.Bounds.{bounded}
 use Rattle.jr_plain.proofs.Imported.{import_of_tells}
-use Rattle.jr_tables.specs.declared.chains.Entry.{Entry}
+use Rattle.jr_places.specs.declared.chains.Entry.{Entry}
 use Rattle.jr_places.specs.declared.places.Places.{Places}
 use Rattle.jr_places.specs.Above.{block_of}
 use Rattle.jr_places.specs.Names.{name_row}

@@ -1,6 +1,6 @@
 -- The member that holds a place, and the ways out of classes that have an instance there (JLS 8.1.3).
 use Rattle.std.specs.Prelude.{◌≡◌, ℕ, Bool, ◌+◌, ◌<◌, ◌≤◌, Option, Some, None, if◌then◌else◌}
-use Rattle.jr_rows.specs.Rows.{Rows, parent, end}
+use Rattle.jr_tree.specs.Rows.{Rows, parent, end}
 use Rattle.jr_defs.specs.Enclosing.{BodyOf, DeclaredIn, Innermost}
 use Rattle.jr_defs.specs.Modifiers.{IsInner}
 use Rattle.jr_defs.specs.Instances.{HasInstance}

@@ -2,3 +2,4 @@ pub mod Scopes
 pub mod Outward
 pub mod Instances
 pub mod Levels
+pub mod Within

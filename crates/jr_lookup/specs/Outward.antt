@@ -1,7 +1,7 @@
 -- The types round a place, from the innermost outwards (JLS 6.3, 8.1.3, 15.12.1).
 use Rattle.std.specs.Prelude.{◌≡◌, ℕ, ◌+◌, ◌<◌, ◌≤◌, Option, Some, nat_eq, bytes_eq}
 use Rattle.jr_base.specs.declared.text.Text.{Text}
-use Rattle.jr_rows.specs.Rows.{Rows, name}
+use Rattle.jr_tree.specs.Rows.{Rows, name}
 use Rattle.jr_defs.specs.Enclosing.{InBody}
 use Rattle.jr_places.specs.Names.{name_row}
 

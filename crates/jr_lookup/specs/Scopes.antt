@@ -1,12 +1,12 @@
 -- What is in scope by rows alone, as tables under keys, in which each row stands once (JLS 6.3, 7.5, 7.6, 8.4.1, 14.4.2).
 use Rattle.std.specs.Prelude.{◌≡◌, ℕ, ◌+◌, Bool, ◌&&◌, List, [], ◌∷◌, length, Option, Some, None, option_map, nat_eq, nat_lt, if◌then◌else◌}
-use Rattle.jr_rows.specs.declared.label.ImportKind.TheVariants as importing
-use Rattle.jr_rows.specs.declared.label.Role.TheVariants as role
-use Rattle.jr_rows.specs.Rows.{Rows, label, parent, role_at}
+use Rattle.jr_tree.specs.declared.label.ImportKind.TheVariants as importing
+use Rattle.jr_tree.specs.declared.label.Role.TheVariants as role
+use Rattle.jr_tree.specs.Rows.{Rows, label, parent, role_at}
 use Rattle.jr_plain.specs.Same.{same_role}
 use Rattle.jr_plain.specs.Enclosing.{is_top_level}
 use Rattle.jr_plain.specs.Imports.{is_import_label, is_import_of}
-use Rattle.jr_tables.specs.declared.chains.Entry.{Entry}
+use Rattle.jr_places.specs.declared.chains.Entry.{Entry}
 use Rattle.jr_places.specs.Above.{block_of}
 use Rattle.jr_places.specs.Names.{name_row}
 use Rattle.jr_members.specs.Keys.{entry_for, entries_of}

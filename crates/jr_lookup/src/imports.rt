@@ -2,10 +2,9 @@
 
 use crate::scopes::import_kind;
 use jr_base::OutOfMemory;
-use jr_places::parent_at;
-use jr_rows::ImportKind;
+use jr_places::{Chains, Entry, parent_at};
 use jr_supers::Tabled;
-use jr_tables::{Chains, Entry};
+use jr_tree::ImportKind;
 use std::alloc::Global;
 
 /// The types that single-type imports bring, under their units and the names of the types. One of a type that its own unit declares is ignored.

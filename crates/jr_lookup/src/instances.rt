@@ -1,7 +1,7 @@
 // Static contexts, and the classes that have an instance at a place (JLS 8.1.3, 8.3.2, 8.4.3.2, 8.8.7.1, 15.8.3, 15.8.4).
 ghost use Rattle.std.specs.Prelude.{◌≡◌, ◌||◌};
-ghost use Rattle.jr_rows.specs.Rows.{label};
-ghost use Rattle.jr_rows.specs.Tree.{IsTree};
+ghost use Rattle.jr_tree.specs.Rows.{label};
+ghost use Rattle.jr_tree.specs.Tree.{IsTree};
 ghost use Rattle.jr_defs.specs.Enclosing.{InBody};
 ghost use Rattle.jr_defs.specs.Instances as context;
 ghost use Rattle.jr_plain.specs.Search.{Finds};
@@ -12,7 +12,7 @@ ghost use Rattle.jr_lookup.specs.Instances as tell;
 
 use jr_members::{declaring_type, is_inner, written_at};
 use jr_places::{Places, is_body_of, is_interface, parent_at};
-use jr_rows::{Label, Row};
+use jr_tree::{Label, Row};
 
 // The code of a member is static: of a static method or initializer, or in the initializer of a static field.
 fn is_static_code(rows: &[Row], at: u32) -> bool

@@ -6,11 +6,10 @@ use crate::qualified::{Left, Receiver};
 use crate::simple::Sight;
 use jr_base::OutOfMemory;
 use jr_defs::{Referent, RowType};
+use jr_lookup::{choose, choose_imported};
 use jr_members::{MemberKind, is_inner};
-use jr_overload::{choose, choose_imported};
 use jr_places::{end_at, is_body_of, parent_at, sought_at};
-use jr_rows::{Label, ReceiverKind, Sought};
-use jr_tree::ThisOrSuper;
+use jr_tree::{Label, ReceiverKind, Sought, ThisOrSuper};
 use std::alloc::Global;
 
 // What a table has for a row.

@@ -8,8 +8,8 @@ use jr_base::OutOfMemory;
 use jr_defs::{Element, Referent, RowType};
 use jr_members::MemberKind;
 use jr_places::name_at;
-use jr_rows::NameKind;
 use jr_supers::class_type;
+use jr_tree::NameKind;
 use std::alloc::Global;
 
 /// What stands before a dot.

@@ -1,7 +1,7 @@
 // What is in scope by rows alone (JLS 6.3, 7.5, 7.6, 8.4.1, 14.4.2).
 ghost use Rattle.std.specs.Prelude.{◌≡◌, ◌++◌, ◌+◌, ◌^◌, ◌<◌, [], length, option_map, IfOk, OnOk};
-ghost use Rattle.jr_rows.specs.Rows.{Rows, label};
-ghost use Rattle.jr_rows.specs.declared.label.ImportKind.TheVariants as importing;
+ghost use Rattle.jr_tree.specs.Rows.{Rows, label};
+ghost use Rattle.jr_tree.specs.declared.label.ImportKind.TheVariants as importing;
 ghost use Rattle.jr_plain.specs.Imports.{is_import_label, is_import_of};
 ghost use Rattle.jr_plain.specs.Scope as plain;
 ghost use Rattle.jr_plain.specs.Search.{last_below};
@@ -11,9 +11,8 @@ ghost use Rattle.jr_members.specs.Sources.{ArePlaced};
 ghost use Rattle.jr_lookup.specs.Scopes as tell;
 
 use jr_base::OutOfMemory;
-use jr_places::{Places, end_at, is_top_level, parent_at, role_at};
-use jr_rows::{ImportKind, Label, Role, Row};
-use jr_tables::{Chains, Entry};
+use jr_places::{Chains, Entry, Places, end_at, is_top_level, parent_at, role_at};
+use jr_tree::{ImportKind, Label, Role, Row};
 use std::alloc::Global;
 
 /// Where locals, parameters, top-level types and imports are in scope, by the numbers of names.

@@ -1,8 +1,8 @@
 // Names without a dot (JLS 6.3, 6.3.1, 6.5.2, 15.12.1).
 ghost use Rattle.std.specs.Prelude.{◌≡◌, IfOk, Decides};
 ghost use Rattle.jr_base.specs.declared.text.Text.{Text};
-ghost use Rattle.jr_rows.specs.declared.label.Role.TheVariants as role;
-ghost use Rattle.jr_rows.specs.Rows as program;
+ghost use Rattle.jr_tree.specs.declared.label.Role.TheVariants as role;
+ghost use Rattle.jr_tree.specs.Rows as program;
 ghost use Rattle.jr_defs.specs.Lookup.{MethodLevel};
 ghost use Rattle.jr_defs.specs.Referents.{Table};
 ghost use Rattle.jr_plain.specs.Same as same;
@@ -18,7 +18,7 @@ use jr_base::OutOfMemory;
 use jr_defs::Referent;
 use jr_members::{MemberKind, World, is_private, is_public, is_static};
 use jr_places::{parent_at, role_at};
-use jr_rows::{NameKind, Role, Row};
+use jr_tree::{NameKind, Role, Row};
 use std::alloc::Global;
 
 /// Rows under a table, with all that lookup reads.

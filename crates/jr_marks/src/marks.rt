@@ -1,14 +1,14 @@
 // Places of rows, and rows at places.
 ghost use Rattle.std.specs.Prelude.{◌≡◌, slice_get};
-ghost use Rattle.jr_rows.specs.Rows.{label};
+ghost use Rattle.jr_tree.specs.Rows.{label};
 ghost use Rattle.jr_marks.specs.Places as places;
 
 use crate::searching::{count_up_to, identifier_at};
 use jr_base::{CuId, Place, Token};
 use jr_defs::{Program, UnitAt};
 use jr_index::{Index, Mark, NO_TOKEN};
-use jr_rows::{Label, Role, Row};
 use jr_rule::{Fault, PlaceKind};
+use jr_tree::{Label, Role, Row};
 
 /// How many units the prelude has. They come first.
 const PRELUDE: u32 = 2;

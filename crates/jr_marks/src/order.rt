@@ -1,11 +1,11 @@
 // The order of occurrences.
 ghost use Rattle.std.specs.Prelude.{◌≡◌, ◌++◌, ◌<◌, ◌^◌, IfOk, OnOk, length};
-ghost use Rattle.jr_rows.specs.Rows.{label};
+ghost use Rattle.jr_tree.specs.Rows.{label};
 ghost use Rattle.jr_plain.specs.Enclosing as enclosing;
 ghost use Rattle.jr_marks.specs.Order as order;
 
 use jr_base::OutOfMemory;
-use jr_rows::{Label, NamePlace, Row, Sought};
+use jr_tree::{Label, NamePlace, Row, Sought};
 use std::alloc::Global;
 
 /// The rows that are occurrences, in their order by nodes and parts: the identifiers of a name from its first one on, and the call of `super()` in a

@@ -1,7 +1,7 @@
 // Bodies of methods, names of constructors, and what classes and interfaces may not declare (JLS 8.1.1.1, 8.4.3.1, 8.4.7, 8.8, 9.1.4, 9.3.1).
 ghost use Rattle.std.specs.Prelude.{◌≡◌, ◌+◌, ◌<◌, ◌^◌};
-ghost use Rattle.jr_rows.specs.declared.label.Role.TheVariants as role;
-ghost use Rattle.jr_rows.specs.Rows as rows;
+ghost use Rattle.jr_tree.specs.declared.label.Role.TheVariants as role;
+ghost use Rattle.jr_tree.specs.Rows as rows;
 ghost use Rattle.jr_plain.specs.Same as same;
 ghost use Rattle.jr_defs.specs.MemberRules as defined;
 ghost use Rattle.jr_member_rules.specs.Bodies as plain;
@@ -9,7 +9,7 @@ ghost use Rattle.jr_member_rules.specs.Bodies as plain;
 use crate::together::is_method;
 use jr_members::{constructed_class, declaring_type, is_abstract, is_in_interface, written_at};
 use jr_places::{is_body_of, is_class, is_interface, name_at, parent_at, role_at};
-use jr_rows::{Label, Role, Row};
+use jr_tree::{Label, Role, Row};
 
 // The method is native.
 fn is_native(all: &[Row], at: u32) -> bool

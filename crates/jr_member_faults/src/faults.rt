@@ -11,9 +11,9 @@ use crate::twice::{Declared, is_inside_its_name};
 use jr_base::OutOfMemory;
 use jr_members::World;
 use jr_places::role_at;
-use jr_rows::{Label, Role, Row};
 use jr_rule::{Fault, Rule};
 use jr_supers::header_place;
+use jr_tree::{Label, Role, Row};
 use jr_view::View;
 use std::alloc::Global;
 

@@ -2,9 +2,8 @@
 
 use jr_base::OutOfMemory;
 use jr_members::{is_final, is_inner};
-use jr_places::{is_class, is_interface, parent_at};
+use jr_places::{Chains, Entry, is_class, is_interface, parent_at};
 use jr_supers::{HeaderPlace, Tabled, header_place};
-use jr_tables::{Chains, Entry};
 use std::alloc::Global;
 
 /// The superinterfaces that headers name in the rows so far, under the type and the superinterface.

@@ -6,10 +6,9 @@ use crate::together::is_method;
 use jr_base::OutOfMemory;
 use jr_dispatch::Methods;
 use jr_members::{MemberKind, World, declaring_type, is_abstract};
-use jr_places::{is_class, is_interface};
-use jr_rows::Row;
+use jr_places::{Chains, Entry, Stamps, is_class, is_interface};
 use jr_supers::entry_before;
-use jr_tables::{Chains, Entry, Stamps};
+use jr_tree::Row;
 use std::alloc::Global;
 
 /// What types inherit, the types that were looked at so far standing above the others.

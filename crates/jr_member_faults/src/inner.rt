@@ -1,12 +1,12 @@
 // Static members and initializers of inner classes (JLS 8.1.3).
 ghost use Rattle.std.specs.Prelude.{◌≡◌};
-ghost use Rattle.jr_rows.specs.Rows as rows;
+ghost use Rattle.jr_tree.specs.Rows as rows;
 ghost use Rattle.jr_member_rules.specs.Inner as plain;
 
 use crate::bodies::body_type;
 use jr_constants::Constants;
 use jr_members::{declaring_type, is_inner, is_static};
-use jr_rows::{Label, Row};
+use jr_tree::{Label, Row};
 
 // A static member of an inner class that is no constant variable.
 fn is_static_in_inner(rows: &[Row], constants: &Constants, at: u32) -> bool {

@@ -6,8 +6,8 @@ use crate::together::{is_method, is_result_fit};
 use jr_base::OutOfMemory;
 use jr_dispatch::Methods;
 use jr_members::{World, can_inherit, declaring_type, is_static, written_at};
+use jr_places::{Chains, Entry};
 use jr_supers::entry_before;
-use jr_tables::{Chains, Entry};
 use std::alloc::Global;
 
 /// Where the methods stand that others may override or hide.

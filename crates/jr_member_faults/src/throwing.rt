@@ -2,10 +2,9 @@
 
 use jr_base::OutOfMemory;
 use jr_members::World;
-use jr_places::{is_type, name_at, parent_at, role_at};
-use jr_rows::{Label, NamePlace, Role, Row};
+use jr_places::{Chains, Entry, is_type, name_at, parent_at, role_at};
 use jr_supers::entry_before;
-use jr_tables::{Chains, Entry};
+use jr_tree::{Label, NamePlace, Role, Row};
 use std::alloc::Global;
 
 /// The classes that methods declare as thrown.

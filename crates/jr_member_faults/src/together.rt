@@ -4,8 +4,8 @@ ghost use Rattle.jr_plain.specs.Overriding as plain;
 
 use jr_members::World;
 use jr_places::role_at;
-use jr_rows::{Role, Row};
 use jr_supers::is_reference;
+use jr_tree::{Role, Row};
 
 /// The row is a method.
 pub fn is_method(all: &[Row], at: u32) -> bool

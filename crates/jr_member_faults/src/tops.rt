@@ -1,10 +1,9 @@
 // Types that units declare outside any other: two of one name in a package, or one that a subpackage is named as (JLS 7.1, 7.6).
 
 use jr_base::OutOfMemory;
-use jr_places::{Places, end_at, is_top_level, is_unit, parent_at};
-use jr_rows::{Label, Row};
+use jr_places::{Chains, Entry, Numbering, Places, end_at, is_top_level, is_unit, parent_at};
 use jr_rule::{Fault, Rule};
-use jr_tables::{Chains, Entry, Numbering};
+use jr_tree::{Label, Row};
 use std::alloc::Global;
 
 /// The packages of units, by the numbers of their identifiers from the first on.

@@ -2,10 +2,9 @@
 
 use jr_base::OutOfMemory;
 use jr_members::{World, constructed_class, declaring_type};
-use jr_places::{Places, is_type, role_at};
-use jr_rows::{Role, Row};
+use jr_places::{Chains, Entry, Numbering, Places, is_type, role_at};
 use jr_supers::with_type;
-use jr_tables::{Chains, Entry, Numbering};
+use jr_tree::{Role, Row};
 use std::alloc::Global;
 
 /// What bodies declare in the rows so far.

@@ -13,10 +13,10 @@ use Rattle.jr_tree.specs.declared.tree.Import.{Import}
 use Rattle.jr_tree.specs.Mirror.Exprs as x
 use Rattle.jr_tree.specs.Mirror.Stmts as s
 use Rattle.jr_tree.specs.Mirror.Decls as d
-use Rattle.jr_rows.specs.declared.label.Label.TheVariants as is
-use Rattle.jr_rows.specs.Forest.{Forest, none, node}
-use Rattle.jr_rows.specs.Decls.{unit_labels}
-use Rattle.jr_rows.specs.Rows.{Rows, rows_from, label, name as name_at}
+use Rattle.jr_tree.specs.declared.label.Label.TheVariants as is
+use Rattle.jr_tree.specs.Forest.{Forest, none, node}
+use Rattle.jr_tree.specs.Decls.{unit_labels}
+use Rattle.jr_tree.specs.Rows.{Rows, rows_from, label, name as name_at}
 use Rattle.jr_defs.specs.declared.referent.Referent.{Referent}
 use Rattle.jr_defs.specs.declared.referent.Referent.TheVariants.{Unbound, Declared}
 use Rattle.jr_defs.specs.Referents.{Table}

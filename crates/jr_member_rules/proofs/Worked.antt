@@ -9,7 +9,7 @@ use Rattle.jr_tree.specs.Mirror.Exprs as x
 use Rattle.jr_tree.specs.Mirror.Stmts as s
 use Rattle.jr_tree.specs.Mirror.Decls as d
 use Rattle.jr_base.specs.declared.text.Text.{Text}
-use Rattle.jr_rows.specs.Rows.{Rows}
+use Rattle.jr_tree.specs.Rows.{Rows}
 use Rattle.jr_member_rules.specs.Computed.{keeps_members}
 use Rattle.jr_member_rules.proofs.Trees.{name, int, empty, method, throwing, field, with_method, program, units, unit_in, table, broken}
 

@@ -1,10 +1,10 @@
 -- Rule 20, computed: bodies of methods, names of constructors, and what classes and interfaces may not declare (JLS 8.1.1.1, 8.4.3.1, 8.4.7, 8.8, 9.1.4, 9.3.1).
 use Rattle.std.specs.Prelude.{ℕ, ◌+◌, Bool, true, false, not, ◌&&◌, ◌||◌, if◌then◌else◌, Option, Some, None, nat_eq, bytes_eq}
 use Rattle.std.specs.Option.{option_map_or}
-use Rattle.jr_rows.specs.declared.label.Label.{Label}
-use Rattle.jr_rows.specs.declared.label.Label.TheVariants as is
-use Rattle.jr_rows.specs.declared.label.Role.TheVariants as role
-use Rattle.jr_rows.specs.Rows.{Rows, label, name, parent, role_at}
+use Rattle.jr_tree.specs.declared.label.Label.{Label}
+use Rattle.jr_tree.specs.declared.label.Label.TheVariants as is
+use Rattle.jr_tree.specs.declared.label.Role.TheVariants as role
+use Rattle.jr_tree.specs.Rows.{Rows, label, name, parent, role_at}
 use Rattle.jr_defs.specs.Modifiers.{written}
 use Rattle.jr_defs.specs.MemberRules.{has_body}
 use Rattle.jr_plain.specs.Same.{same_role}

@@ -1,7 +1,7 @@
 -- The rules on members, computed (JLS 8.1.1.1, 8.1.3, 8.4, 8.8, 9.3, 9.4).
 use Rattle.std.specs.Prelude.{ℕ, Bool, true, not, ◌||◌, if◌then◌else◌, List, [], ◌∷◌, ◌++◌, length}
 use Rattle.std.specs.List.{list_any}
-use Rattle.jr_rows.specs.Rows.{Rows}
+use Rattle.jr_tree.specs.Rows.{Rows}
 use Rattle.jr_defs.specs.Referents.{Table}
 use Rattle.jr_plain.specs.Search.{all_below, has}
 use Rattle.jr_plain.specs.Conversions.{Constants}

@@ -1,9 +1,9 @@
 -- Rule 21, computed: static members and initializers of inner classes (JLS 8.1.3).
 use Rattle.std.specs.Prelude.{ℕ, Bool, false, not, ◌&&◌, ◌||◌, is_some}
 use Rattle.std.specs.Option.{option_map_or}
-use Rattle.jr_rows.specs.declared.label.Label.{Label}
-use Rattle.jr_rows.specs.declared.label.Label.TheVariants as is
-use Rattle.jr_rows.specs.Rows.{Rows, label}
+use Rattle.jr_tree.specs.declared.label.Label.{Label}
+use Rattle.jr_tree.specs.declared.label.Label.TheVariants as is
+use Rattle.jr_tree.specs.Rows.{Rows, label}
 use Rattle.jr_defs.specs.Referents.{Table}
 use Rattle.jr_plain.specs.Enclosing.{declaring_type}
 use Rattle.jr_plain.specs.Modifiers.{is_static, is_inner}

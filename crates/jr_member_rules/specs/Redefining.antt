@@ -2,7 +2,7 @@
 use Rattle.std.specs.Prelude.{ℕ, Bool, false, not, ◌&&◌, ◌||◌, List, length, nat_eq, nat_lt}
 use Rattle.std.specs.List.{list_any}
 use Rattle.std.specs.Option.{option_map_or}
-use Rattle.jr_rows.specs.Rows.{Rows, label}
+use Rattle.jr_tree.specs.Rows.{Rows, label}
 use Rattle.jr_defs.specs.Referents.{Table}
 use Rattle.jr_defs.specs.Modifiers.{written}
 use Rattle.jr_plain.specs.Search.{all_such, among}

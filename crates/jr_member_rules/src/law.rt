@@ -1,7 +1,7 @@
 // Each plain function tells where its rule is broken.
 ghost use Rattle.std.specs.Prelude.{ℕ, ◌<◌, length, Decides};
-ghost use Rattle.jr_rows.specs.Rows.{Rows};
-ghost use Rattle.jr_rows.specs.Tree.{IsTree};
+ghost use Rattle.jr_tree.specs.Rows.{Rows};
+ghost use Rattle.jr_tree.specs.Tree.{IsTree};
 ghost use Rattle.jr_defs.specs.Referents.{Table};
 ghost use Rattle.jr_defs.specs.MemberRules.{Hides, RedefinesMethod, IsOpenTo, Throws, IsChecked, Allows, Implemented, InheritsBoth, BreaksMembers};
 ghost use Rattle.jr_plain.specs.Headed.{IsHeaded};

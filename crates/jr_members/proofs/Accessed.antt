@@ -1,8 +1,8 @@
 -- Access by labels.
 use Rattle.std.proofs.Common.{◌≡◌, refl, ℕ, cond}
-use Rattle.jr_rows.specs.declared.label.Label.{Label}
-use Rattle.jr_rows.specs.declared.label.Label.TheVariants as is
-use Rattle.jr_rows.specs.Rows.{Rows, label, parent}
+use Rattle.jr_tree.specs.declared.label.Label.{Label}
+use Rattle.jr_tree.specs.declared.label.Label.TheVariants as is
+use Rattle.jr_tree.specs.Rows.{Rows, label, parent}
 use Rattle.jr_defs.specs.Modifiers.{written, access_of}
 use Rattle.jr_plain.specs.Modifiers.{is_default_constructor}
 

@@ -2,8 +2,8 @@
 use Rattle.std.proofs.Common.{◌≡◌, ◌⊎◌, refl, sym, ◌∙◌, ap, subst, inl, inr, ⊎_elim, arith, ℕ, ◌<◌, Bool, true, false, List, [], ◌∷◌, ◌++◌, filter, flat_map, length, Option, Some, None, nat_eq, Decides}
 use Rattle.std.proofs.lemmas.Bool.{false≢true}
 use Rattle.std.proofs.lemmas.Bool.Decides.{Decides-eqb}
-use Rattle.jr_rows.specs.Rows.{Rows, role_at}
-use Rattle.jr_rows.specs.Tree.{IsTree}
+use Rattle.jr_tree.specs.Rows.{Rows, role_at}
+use Rattle.jr_tree.specs.Tree.{IsTree}
 use Rattle.jr_defs.specs.Referents.{Table}
 use Rattle.jr_defs.specs.Enclosing.{DeclaredIn}
 use Rattle.jr_defs.specs.Supertypes.{Super, AtOrAbove}
@@ -13,9 +13,9 @@ use Rattle.jr_plain.proofs.Tests.{like}
 use Rattle.jr_plain.proofs.Searches.{among_filter, among_append}
 use Rattle.jr_plain.proofs.Listed.{flat_has}
 use Rattle.jr_plain.proofs.Bounds.{member_below}
-use Rattle.jr_tables.specs.declared.chains.Entry.{Entry}
-use Rattle.jr_tables.specs.declared.stamps.Stamps.{Stamps}
-use Rattle.jr_tables.specs.Stamps.{IsStamping}
+use Rattle.jr_places.specs.declared.chains.Entry.{Entry}
+use Rattle.jr_places.specs.declared.stamps.Stamps.{Stamps}
+use Rattle.jr_places.specs.Stamps.{IsStamping}
 use Rattle.jr_places.specs.declared.places.Places.{Places}
 use Rattle.jr_places.specs.Names.{name_row}
 use Rattle.jr_places.proofs.Packing.{name_tells}

@@ -3,8 +3,8 @@ use Rattle.std.proofs.Common.{◌≡◌, ◌⊎◌, refl, sym, ◌∙◌, ap, su
 use Rattle.std.proofs.lemmas.Bool.{false≢true, or_left, or_right, or_cases, and_from, and_parts}
 use Rattle.std.proofs.lemmas.Option.{none-some, same_Some}
 use Rattle.jr_base.specs.declared.text.Text.{Text}
-use Rattle.jr_rows.specs.Rows.{Rows, name, role_at}
-use Rattle.jr_rows.specs.Local.{IsLocal}
+use Rattle.jr_tree.specs.Rows.{Rows, name, role_at}
+use Rattle.jr_tree.specs.Local.{IsLocal}
 use Rattle.jr_defs.specs.Referents.{Table}
 use Rattle.jr_defs.specs.Enclosing.{DeclaredIn}
 use Rattle.jr_defs.specs.Supertypes.{Super}
@@ -19,7 +19,7 @@ use Rattle.jr_plain.proofs.Declared.{interface_tells}
 use Rattle.jr_plain.proofs.Modified.{in_interface_tells, public_tells, protected_tells, private_tells}
 use Rattle.jr_plain.proofs.Packaged.{same_package_tells}
 use Rattle.jr_plain.proofs.OneUnit.{one_unit}
-use Rattle.jr_tables.specs.declared.chains.Entry.{Entry}
+use Rattle.jr_places.specs.declared.chains.Entry.{Entry}
 use Rattle.jr_places.specs.Names.{name_row}
 use Rattle.jr_supers.specs.Above.{Tables, link_at, depth_of, up_at, OnChain, AreAbove}
 use Rattle.jr_supers.proofs.Chained.{rises, chain_then, chain_one_up}

@@ -3,9 +3,9 @@ use Rattle.std.proofs.Common.{◌≡◌, refl, sym, ◌∙◌, ap, ap₂, subst,
 use Rattle.std.proofs.lemmas.Bool.{false≢true, or_left, or_right, or_cases, cases_eq, and_parts}
 use Rattle.std.proofs.lemmas.Bool.Decides.{Decides-eqb}
 use Rattle.std.proofs.lemmas.Option.{none-some, same_Some}
-use Rattle.jr_rows.specs.declared.label.Role.{Role}
-use Rattle.jr_rows.specs.declared.label.Role.TheVariants as role
-use Rattle.jr_rows.specs.Rows.{Rows, role_at}
+use Rattle.jr_tree.specs.declared.label.Role.{Role}
+use Rattle.jr_tree.specs.declared.label.Role.TheVariants as role
+use Rattle.jr_tree.specs.Rows.{Rows, role_at}
 use Rattle.jr_defs.specs.Referents.{Table}
 use Rattle.jr_defs.specs.Enclosing.{DeclaredIn, ConstructorOf}
 use Rattle.jr_plain.specs.Search.{has, any_below, Lists, Finds}
@@ -16,7 +16,7 @@ use Rattle.jr_plain.proofs.Tests.{itself, both, like}
 use Rattle.jr_plain.proofs.Same.{role_tells}
 use Rattle.jr_plain.proofs.Bounds.{member_below}
 use Rattle.jr_plain.proofs.Enclosed.{declared_in_tells, declaring_finds, constructor_tells, constructed_finds}
-use Rattle.jr_tables.specs.declared.chains.Entry.{Entry}
+use Rattle.jr_places.specs.declared.chains.Entry.{Entry}
 use Rattle.jr_places.specs.Names.{name_row}
 use Rattle.jr_supers.specs.declared.signatures.Signatures.{Signatures}
 use Rattle.jr_supers.specs.Above.{is_some_item}

@@ -6,8 +6,8 @@ use Rattle.std.proofs.lemmas.Bool.Decides.{Decides-eqb}
 use Rattle.jr_plain.specs.Search.{has, Lists}
 use Rattle.jr_plain.proofs.Tests.{like}
 use Rattle.jr_plain.proofs.Searches.{among_filter, among_append}
-use Rattle.jr_tables.specs.declared.stamps.Stamps.{Stamps}
-use Rattle.jr_tables.specs.Stamps.{is_stamped, IsStamping, IsEmptied, AddsStamp}
+use Rattle.jr_places.specs.declared.stamps.Stamps.{Stamps}
+use Rattle.jr_places.specs.Stamps.{is_stamped, IsStamping, IsEmptied, AddsStamp}
 use Rattle.jr_supers.proofs.Subtyped.{one_test}
 use Rattle.jr_members.specs.Each.{StandOnce, ListsEach, if_such, with_new, with_each, AreBelow, IsStampedAs, IsPushedAs, IsPushingEach}
 

@@ -1,6 +1,6 @@
 -- What a type declares or inherits is its membership, but for what interfaces have of Object.
 use Rattle.std.proofs.Common.{◌≡◌, ◌⊎◌, refl, sym, ◌∙◌, ap, subst, inl, inr, ⊎_elim, ℕ}
-use Rattle.jr_rows.specs.Rows.{Rows, label, name, role_at}
+use Rattle.jr_tree.specs.Rows.{Rows, label, name, role_at}
 use Rattle.jr_defs.specs.Referents.{Table}
 use Rattle.jr_defs.specs.Declarations.{IsType, IsInterface, IsObject}
 use Rattle.jr_defs.specs.Enclosing.{DeclaredIn}

@@ -4,19 +4,19 @@ use Rattle.std.specs.Prelude.{slice_index_or}
 use Rattle.std.proofs.lemmas.Bool.{false≢true, cases_eq, cases_lt, cases_order}
 use Rattle.std.proofs.lemmas.List.{get_or_past}
 use Rattle.std.proofs.lemmas.Option.{none-some, same_Some}
-use Rattle.jr_rows.specs.declared.label.Label.{Label}
-use Rattle.jr_rows.specs.declared.label.Label.TheVariants as is
-use Rattle.jr_rows.specs.declared.label.Role.TheVariants as role
-use Rattle.jr_rows.specs.Labels.{role_of}
-use Rattle.jr_rows.specs.Rows.{Rows, label, parent, end}
-use Rattle.jr_rows.specs.Tree.{IsTree}
+use Rattle.jr_tree.specs.declared.label.Label.{Label}
+use Rattle.jr_tree.specs.declared.label.Label.TheVariants as is
+use Rattle.jr_tree.specs.declared.label.Role.TheVariants as role
+use Rattle.jr_tree.specs.Labels.{role_of}
+use Rattle.jr_tree.specs.Rows.{Rows, label, parent, end}
+use Rattle.jr_tree.specs.Tree.{IsTree}
 use Rattle.jr_defs.specs.Enclosing.{InBody, Innermost}
 use Rattle.jr_plain.specs.Search.{Finds, last_below}
 use Rattle.jr_plain.specs.Enclosing.{is_in_body, innermost}
 use Rattle.jr_plain.proofs.Bounds.{body_below}
 use Rattle.jr_plain.proofs.Enclosed.{in_body_tells, in_body_below, innermost_finds}
-use Rattle.jr_tables.specs.Tabulated.{tabulated}
-use Rattle.jr_tables.proofs.Tables.{length-tabulated, tabulated_at}
+use Rattle.jr_places.specs.Tabulated.{tabulated}
+use Rattle.jr_places.proofs.Tables.{length-tabulated, tabulated_at}
 use Rattle.jr_places.specs.Rounds.{arounds}
 use Rattle.jr_places.proofs.Rounding.{all_innermost}
 

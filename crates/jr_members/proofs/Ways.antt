@@ -2,7 +2,7 @@
 use Rattle.std.proofs.Common.{◌≡◌, refl, sym, ◌∙◌, ap, subst, arith, ℕ, suc, ◌+◌, ◌≤◌, true, false, ◌&&◌, List, [], length, Option, Some, None, is_some, nat_eq, Decides}
 use Rattle.std.proofs.lemmas.Bool.{false≢true, and_from}
 use Rattle.std.proofs.lemmas.Bool.Decides.{Decides-eqb}
-use Rattle.jr_rows.specs.Rows.{Rows, name, role_at}
+use Rattle.jr_tree.specs.Rows.{Rows, name, role_at}
 use Rattle.jr_defs.specs.Referents.{Table}
 use Rattle.jr_plain.specs.Search.{has, any_below, Lists}
 use Rattle.jr_plain.specs.Enclosing.{declaring_type}
@@ -11,8 +11,8 @@ use Rattle.jr_plain.proofs.Searches.{any}
 use Rattle.jr_plain.proofs.Same.{role_tells}
 use Rattle.jr_plain.proofs.Bounds.{member_below}
 use Rattle.jr_plain.proofs.Enclosed.{declaring_finds}
-use Rattle.jr_tables.specs.declared.chains.Entry.{Entry}
-use Rattle.jr_tables.specs.Chains.{last_under}
+use Rattle.jr_places.specs.declared.chains.Entry.{Entry}
+use Rattle.jr_places.specs.Chains.{last_under}
 use Rattle.jr_places.specs.declared.places.Places.{Places}
 use Rattle.jr_places.specs.Names.{name_row}
 use Rattle.jr_places.proofs.Packing.{name_tells}

@@ -2,7 +2,7 @@
 -- (JLS 8.2, 8.4.8).
 use Rattle.std.specs.Prelude.{◌≡◌, ◌⊎◌, ℕ, Bool, true, false, not, ◌&&◌, List, [], ◌∷◌, length, Option, Some, None, nat_eq}
 use Rattle.std.specs.List.{list_any}
-use Rattle.jr_rows.specs.Rows.{Rows, role_at}
+use Rattle.jr_tree.specs.Rows.{Rows, role_at}
 use Rattle.jr_defs.specs.Referents.{Table}
 use Rattle.jr_defs.specs.Declarations.{IsType}
 use Rattle.jr_defs.specs.Enclosing.{DeclaredIn}
@@ -10,9 +10,9 @@ use Rattle.jr_defs.specs.Supertypes.{Super, AtOrAbove}
 use Rattle.jr_plain.specs.Search.{has, Lists}
 use Rattle.jr_plain.specs.Members.{can_inherit, passes}
 use Rattle.jr_plain.specs.Types.{is_same_signature}
-use Rattle.jr_tables.specs.declared.chains.Entry.{Entry}
-use Rattle.jr_tables.specs.declared.stamps.Stamps.{Stamps}
-use Rattle.jr_tables.specs.Stamps.{IsStamping}
+use Rattle.jr_places.specs.declared.chains.Entry.{Entry}
+use Rattle.jr_places.specs.declared.stamps.Stamps.{Stamps}
+use Rattle.jr_places.specs.Stamps.{IsStamping}
 use Rattle.jr_places.specs.Names.{name_row}
 use Rattle.jr_supers.specs.declared.above.Link.{Link}
 use Rattle.jr_supers.specs.declared.subtypes.Supers.{Supers}

@@ -1,12 +1,12 @@
 -- Tables of rows under keys, in which each row stands once, and what types declare (JLS 8.2, 8.4, 8.8).
 use Rattle.std.specs.Prelude.{◌≡◌, ℕ, zero, suc, Bool, false, ◌&&◌, List, [], ◌∷◌, ◌++◌, length, Option, Some, None, is_some, option_map, nat_eq, slice_index_or, if◌then◌else◌}
-use Rattle.jr_rows.specs.declared.label.Role.TheVariants as role
-use Rattle.jr_rows.specs.Rows.{Rows, role_at}
+use Rattle.jr_tree.specs.declared.label.Role.TheVariants as role
+use Rattle.jr_tree.specs.Rows.{Rows, role_at}
 use Rattle.jr_defs.specs.Referents.{Table}
 use Rattle.jr_plain.specs.Same.{same_role}
 use Rattle.jr_plain.specs.Enclosing.{is_declared_in, declaring_type, is_constructor_of, constructed_class}
 use Rattle.jr_plain.specs.Types.{is_same_signature}
-use Rattle.jr_tables.specs.declared.chains.Entry.{Entry}
+use Rattle.jr_places.specs.declared.chains.Entry.{Entry}
 use Rattle.jr_places.specs.Names.{name_row}
 use Rattle.jr_supers.specs.declared.signatures.Signatures.{Signatures}
 use Rattle.jr_supers.specs.Signatures.{number_of}

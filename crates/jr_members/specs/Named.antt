@@ -1,6 +1,6 @@
 -- What tables of members by kind and name are to have, and ways up to types that have lists.
 use Rattle.std.specs.Prelude.{◌≡◌, ◌⊎◌, ℕ, suc, ◌+◌, ◌≤◌, ◌<◌, Bool, true, false, not, ◌&&◌, ◌||◌, List, [], ◌∷◌, map, length, Option, Some, None, is_some}
-use Rattle.jr_rows.specs.Rows.{Rows}
+use Rattle.jr_tree.specs.Rows.{Rows}
 use Rattle.jr_defs.specs.Referents.{Table}
 use Rattle.jr_defs.specs.Enclosing.{DeclaredIn}
 use Rattle.jr_defs.specs.Members.{CanInherit, Passes}
@@ -10,8 +10,8 @@ use Rattle.jr_plain.specs.Search.{has, Lists}
 use Rattle.jr_plain.specs.Declarations.{is_interface}
 use Rattle.jr_plain.specs.Modifiers.{is_public, is_protected, is_private, is_in_interface}
 use Rattle.jr_plain.specs.Packages.{is_same_package}
-use Rattle.jr_tables.specs.declared.chains.Entry.{Entry}
-use Rattle.jr_tables.specs.Chains.{last_under, rows_under}
+use Rattle.jr_places.specs.declared.chains.Entry.{Entry}
+use Rattle.jr_places.specs.Chains.{last_under, rows_under}
 use Rattle.jr_supers.specs.declared.above.Link.{Link}
 use Rattle.jr_supers.specs.Above.{link_at, depth_of, up_at, OnChain}
 use Rattle.jr_members.specs.declared.declared.MemberKind.{MemberKind}

@@ -1,10 +1,10 @@
 -- Rows whose places, supertypes and signatures are right under a table, and what is right of the lists of members (JLS 8.2).
 use Rattle.std.specs.Prelude.{◌≡◌, ℕ, true, List, Option, ⊤}
-use Rattle.jr_rows.specs.Rows.{Rows, role_at}
-use Rattle.jr_rows.specs.Local.{IsLocal}
+use Rattle.jr_tree.specs.Rows.{Rows, role_at}
+use Rattle.jr_tree.specs.Local.{IsLocal}
 use Rattle.jr_defs.specs.Referents.{Table}
 use Rattle.jr_plain.specs.Search.{has}
-use Rattle.jr_tables.specs.declared.chains.Entry.{Entry}
+use Rattle.jr_places.specs.declared.chains.Entry.{Entry}
 use Rattle.jr_places.specs.declared.places.Places.{Places}
 use Rattle.jr_places.specs.Places.{ArePlaces}
 use Rattle.jr_places.specs.Packages.{PackagesAreNamed}

@@ -1,6 +1,6 @@
 -- What tables of members are to have, and what an interface has of Object (JLS 9.2).
 use Rattle.std.specs.Prelude.{◌≡◌, ◌⊎◌, ℕ, Bool, true, false, List}
-use Rattle.jr_rows.specs.Rows.{Rows}
+use Rattle.jr_tree.specs.Rows.{Rows}
 use Rattle.jr_defs.specs.Referents.{Table}
 use Rattle.jr_defs.specs.Declarations.{IsInterface}
 use Rattle.jr_defs.specs.Enclosing.{DeclaredIn}

@@ -1,7 +1,7 @@
 // Access (JLS 6.6, 6.6.1, 6.6.2).
 ghost use Rattle.std.specs.Prelude.{◌≡◌, ◌&&◌, ◌||◌, Decides};
-ghost use Rattle.jr_rows.specs.Rows as rows;
-ghost use Rattle.jr_rows.specs.declared.label.Role.TheVariants as role;
+ghost use Rattle.jr_tree.specs.Rows as rows;
+ghost use Rattle.jr_tree.specs.declared.label.Role.TheVariants as role;
 ghost use Rattle.jr_defs.specs.Referents.{Table};
 ghost use Rattle.jr_plain.specs.Access as access;
 ghost use Rattle.jr_plain.specs.Modifiers as modifiers;
@@ -14,8 +14,7 @@ use crate::members::World;
 use crate::modifiers::{declaring_type, is_private, is_protected, is_public, needs_no_object};
 use jr_defs::{Element, RowType};
 use jr_places::{role_at, sought_at};
-use jr_rows::{Role, Row, Sought};
-use jr_tree::ThisOrSuper;
+use jr_tree::{Role, Row, Sought, ThisOrSuper};
 
 // Locals, parameters and labels have no access.
 fn is_local_role(given: Role) -> bool

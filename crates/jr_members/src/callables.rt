@@ -1,7 +1,7 @@
 // Methods by the types that declare them and their signatures, and constructors by their classes (JLS 8.4.2, 8.8).
 ghost use Rattle.std.specs.Prelude.{◌≡◌, ◌++◌, ◌<◌, [], true, length, IfOk, OnOk};
-ghost use Rattle.jr_rows.specs.Rows as all_rows;
-ghost use Rattle.jr_rows.specs.Rows.{Rows};
+ghost use Rattle.jr_tree.specs.Rows as all_rows;
+ghost use Rattle.jr_tree.specs.Rows.{Rows};
 ghost use Rattle.jr_defs.specs.Referents.{Table, entries};
 ghost use Rattle.jr_plain.specs.Enclosing.{is_constructor_of};
 ghost use Rattle.jr_places.specs.Places.{ArePlaces};
@@ -12,10 +12,9 @@ ghost use Rattle.jr_members.specs.Keys as tell;
 use crate::declared::{add_entry, entry_under};
 use crate::modifiers::{constructed_class, declaring_type};
 use jr_base::OutOfMemory;
-use jr_places::role_at;
-use jr_rows::{Role, Row};
+use jr_places::{Chains, Entry, role_at};
 use jr_supers::{Signatures, Tabled};
-use jr_tables::{Chains, Entry};
+use jr_tree::{Role, Row};
 use std::alloc::Global;
 
 /// Methods and constructors.

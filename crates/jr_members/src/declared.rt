@@ -1,7 +1,7 @@
 // The members of one kind that the bodies of types declare, by type and name (JLS 8.2).
 ghost use Rattle.std.specs.Prelude.{◌≡◌, ◌++◌, ◌+◌, ◌<◌, [], length, flat_map, option_map, IfOk, OnOk};
-ghost use Rattle.jr_rows.specs.Rows as all_rows;
-ghost use Rattle.jr_rows.specs.Rows.{Rows};
+ghost use Rattle.jr_tree.specs.Rows as all_rows;
+ghost use Rattle.jr_tree.specs.Rows.{Rows};
 ghost use Rattle.jr_plain.specs.Search.{any_below};
 ghost use Rattle.jr_places.specs.Names.{name_row};
 ghost use Rattle.jr_places.specs.Places.{ArePlaces};
@@ -10,10 +10,9 @@ ghost use Rattle.jr_members.specs.declared.declared.MemberKind.{MemberKind as Ki
 
 use crate::modifiers::declaring_type;
 use jr_base::OutOfMemory;
-use jr_places::role_at;
-use jr_rows::{Role, Row};
+use jr_places::{Chains, Entry, role_at};
 use jr_supers::Tabled;
-use jr_tables::{Chains, Entry};
+use jr_tree::{Role, Row};
 use std::alloc::Global;
 
 /// Fields, member types and methods, which have names apart from each other.

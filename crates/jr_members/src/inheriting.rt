@@ -1,8 +1,8 @@
 // What a type inherits of a name from one supertype (JLS 8.3, 8.4.8, 8.5).
 ghost use Rattle.std.specs.Prelude.{◌≡◌, ◌&&◌, filter, IfOk};
 ghost use Rattle.std.specs.List.{list_any};
-ghost use Rattle.jr_rows.specs.declared.label.Role.TheVariants as role;
-ghost use Rattle.jr_rows.specs.Rows.{Rows, role_at};
+ghost use Rattle.jr_tree.specs.declared.label.Role.TheVariants as role;
+ghost use Rattle.jr_tree.specs.Rows.{Rows, role_at};
 ghost use Rattle.jr_defs.specs.Referents.{Table};
 ghost use Rattle.jr_plain.specs.Types as types;
 ghost use Rattle.jr_supers.specs.Signatures.{AreSignatures};

@@ -1,6 +1,6 @@
 // What members are, by what types declare and inherit.
 ghost use Rattle.std.specs.Prelude.{◌⊎◌, ℕ};
-ghost use Rattle.jr_rows.specs.Rows.{Rows};
+ghost use Rattle.jr_tree.specs.Rows.{Rows};
 ghost use Rattle.jr_defs.specs.Referents.{Table};
 ghost use Rattle.jr_defs.specs.Declarations.{IsInterface, IsObject};
 ghost use Rattle.jr_defs.specs.Members.{MemberOf};

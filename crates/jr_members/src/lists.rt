@@ -4,7 +4,7 @@ ghost use Rattle.jr_plain.specs.Search as search;
 ghost use Rattle.jr_members.specs.Each as tell;
 
 use jr_base::OutOfMemory;
-use jr_tables::Stamps;
+use jr_places::Stamps;
 
 /// The number is an item.
 pub fn has(all: &[u32], at: u32) -> bool

@@ -1,8 +1,8 @@
 // The members of the types of a program (JLS 8.2, 9.2).
 ghost use Rattle.std.specs.Prelude.{◌≡◌, ◌&&◌, if◌then◌else◌, not, true, [], length, Some, Decides, IfOk, OnOk};
-ghost use Rattle.jr_rows.specs.declared.label.Role.TheVariants as role;
-ghost use Rattle.jr_rows.specs.Rows as all_rows;
-ghost use Rattle.jr_rows.specs.Rows.{Rows};
+ghost use Rattle.jr_tree.specs.declared.label.Role.TheVariants as role;
+ghost use Rattle.jr_tree.specs.Rows as all_rows;
+ghost use Rattle.jr_tree.specs.Rows.{Rows};
 ghost use Rattle.jr_defs.specs.Referents.{Table, entries};
 ghost use Rattle.jr_defs.specs.Declarations.{IsInterface};
 ghost use Rattle.jr_defs.specs.Enclosing.{DeclaredIn};
@@ -30,10 +30,9 @@ use crate::lists::{has, push_if};
 use crate::modifiers::{declaring_type, is_public, is_static};
 use crate::named::{Named, Sources};
 use jr_base::OutOfMemory;
-use jr_places::{is_interface, role_at};
-use jr_rows::{Role, Row};
+use jr_places::{Stamps, is_interface, role_at};
 use jr_supers::{Signatures, Supers, Tabled};
-use jr_tables::Stamps;
+use jr_tree::{Role, Row};
 use std::alloc::Global;
 
 /// Members of the three kinds.

@@ -1,7 +1,7 @@
 // The modifiers of declarations, with those that an interface gives its members (JLS 6.6, 8.1.1, 8.3.1, 8.4.3, 8.5.2, 9.3, 9.4, 9.5).
 ghost use Rattle.std.specs.Prelude.{◌≡◌};
-ghost use Rattle.jr_rows.specs.Rows as rows;
-ghost use Rattle.jr_rows.specs.declared.label.Role.TheVariants as role;
+ghost use Rattle.jr_tree.specs.Rows as rows;
+ghost use Rattle.jr_tree.specs.declared.label.Role.TheVariants as role;
 ghost use Rattle.jr_defs.specs.Enclosing as enclosed;
 ghost use Rattle.jr_defs.specs.Modifiers as modified;
 ghost use Rattle.jr_plain.specs.Access as access;
@@ -11,7 +11,7 @@ ghost use Rattle.jr_plain.specs.Members as members;
 ghost use Rattle.jr_plain.specs.Same as same;
 
 use jr_places::{is_body_of, is_class, is_interface, is_type, parent_at, role_at};
-use jr_rows::{Label, Modifiers, Role, Row};
+use jr_tree::{Label, Modifiers, Role, Row};
 
 const UNMODIFIED: Modifiers = Modifiers {
     is_public: false,

@@ -1,12 +1,12 @@
 // The members of one kind by their names, declared and inherited (JLS 8.2, 8.3, 8.4.8, 8.5).
 ghost use Rattle.std.specs.Prelude.{◌≡◌, ◌++◌, ◌∷◌, [], ℕ, List, length, filter, Decides, IfOk, OnOk};
-ghost use Rattle.jr_rows.specs.Rows.{Rows};
+ghost use Rattle.jr_tree.specs.Rows.{Rows};
 ghost use Rattle.jr_defs.specs.Referents.{Table};
 ghost use Rattle.jr_defs.specs.Members.{CanInherit};
 ghost use Rattle.jr_plain.specs.Members as members;
 ghost use Rattle.jr_plain.specs.Search.{any_below, Lists};
 ghost use Rattle.jr_places.specs.Places.{ArePlaces};
-ghost use Rattle.jr_tables.specs.Stamps.{IsStamping};
+ghost use Rattle.jr_places.specs.Stamps.{IsStamping};
 ghost use Rattle.jr_members.specs.Each as each;
 ghost use Rattle.jr_members.specs.Gathered as gather;
 ghost use Rattle.jr_members.specs.Held.{IsHeldAs};
@@ -21,10 +21,9 @@ use crate::lists::{push_each, push_if};
 use crate::modifiers::{is_in_interface, is_private, is_protected, is_public};
 use crate::wanted::naming_types;
 use jr_base::OutOfMemory;
-use jr_places::is_interface;
-use jr_rows::Row;
+use jr_places::{Chains, Entry, Stamps, is_interface};
 use jr_supers::{Signatures, Supers, Tabled};
-use jr_tables::{Chains, Entry, Stamps};
+use jr_tree::Row;
 use std::alloc::Global;
 
 /// The members of one kind. A type has a list for each name that it declares, or that comes to it from several supertypes; for all other names

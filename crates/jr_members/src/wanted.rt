@@ -7,8 +7,8 @@ ghost use Rattle.jr_members.specs.Gathered as gather;
 ghost use Rattle.jr_members.specs.Sources.{links_of};
 
 use jr_base::OutOfMemory;
-use jr_rows::Row;
 use jr_supers::Supers;
+use jr_tree::Row;
 use std::alloc::Global;
 
 fn is_the(linked: Option<u32>, at: u32) -> bool

@@ -1,13 +1,13 @@
 // What is not accessible (JLS 6.6).
 ghost use Rattle.std.specs.Prelude.{◌≡◌};
-ghost use Rattle.jr_rows.specs.Rows as rows;
+ghost use Rattle.jr_tree.specs.Rows as rows;
 ghost use Rattle.jr_plain.specs.Declarations as declared;
 ghost use Rattle.jr_name_rules.specs.AccessTests as plain;
 
 use jr_defs::{Element, RowType};
 use jr_places::{is_object, parent_at, sought_at};
-use jr_rows::{Label, Row, Sought};
 use jr_supers::class_type;
+use jr_tree::{Label, Row, Sought};
 use jr_view::View;
 
 // What is sought behind a dot.

@@ -2,7 +2,7 @@
 
 use jr_members::declaring_type;
 use jr_places::{Places, end_at, is_top_level};
-use jr_rows::{Label, Row};
+use jr_tree::{Label, Row};
 
 // Where the name ends whose last identifier is the row.
 fn name_end(rows: &[Row], at: u32) -> u32 {

@@ -6,7 +6,7 @@ use jr_base::OutOfMemory;
 use jr_lookup::import_kind;
 use jr_members::{MemberKind, World, is_private, is_public, is_static};
 use jr_places::{is_top_level, parent_at};
-use jr_rows::ImportKind;
+use jr_tree::ImportKind;
 use std::alloc::Global;
 
 /// What the imports of all units bring by name.

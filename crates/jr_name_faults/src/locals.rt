@@ -1,16 +1,15 @@
 // Locals and parameters in the scope of one of their name, and labels in a statement with one of theirs (JLS 8.4.1, 14.4.2, 14.7, 14.20).
 ghost use Rattle.std.specs.Prelude.{◌≡◌};
-ghost use Rattle.jr_rows.specs.declared.label.Role.TheVariants as role;
-ghost use Rattle.jr_rows.specs.Rows as rows;
+ghost use Rattle.jr_tree.specs.declared.label.Role.TheVariants as role;
+ghost use Rattle.jr_tree.specs.Rows as rows;
 ghost use Rattle.jr_plain.specs.Same as same;
 ghost use Rattle.jr_name_rules.specs.DeclarationTests as plain;
 
 use crate::ends::Ends;
 use jr_base::OutOfMemory;
 use jr_lookup::is_block;
-use jr_places::{Places, end_at, parent_at, role_at};
-use jr_rows::{Label, Role, Row};
-use jr_tables::{Chains, Entry};
+use jr_places::{Chains, Entry, Places, end_at, parent_at, role_at};
+use jr_tree::{Label, Role, Row};
 use std::alloc::Global;
 
 /// The scopes of locals, parameters and labels that were opened by the rows so far.

@@ -1,8 +1,8 @@
 // Different rows under one key.
 
 use jr_base::OutOfMemory;
+use jr_places::{Chains, Entry};
 use jr_supers::entry_before;
-use jr_tables::{Chains, Entry};
 use std::alloc::Global;
 
 /// Rows under keys of two numbers, of which those that follow each other under one key are different.

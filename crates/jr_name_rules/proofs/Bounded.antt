@@ -1,15 +1,15 @@
 -- A row at which a rule is broken is a row of the program.
 use Rattle.std.proofs.Common.{◌≡◌, refl, ap, subst, ⊎_elim, arith, ℕ, ◌+◌, ◌<◌, length}
 use Rattle.std.proofs.lemmas.Bool.{cases_eq}
-use Rattle.jr_rows.specs.declared.label.Label.TheVariants as is
-use Rattle.jr_rows.specs.declared.label.ImportKind.{ImportKind}
-use Rattle.jr_rows.specs.declared.label.ImportKind.TheVariants as importing
-use Rattle.jr_rows.specs.declared.label.Role.TheVariants as role
-use Rattle.jr_rows.specs.declared.label.Sought.TheVariants as sought
-use Rattle.jr_rows.specs.Labels.{role_of, sought_by}
-use Rattle.jr_rows.specs.Rows.{Rows, label}
-use Rattle.jr_rows.specs.Below.{IsTypeName}
-use Rattle.jr_rows.specs.Local.{IsLocal, StartsAt}
+use Rattle.jr_tree.specs.declared.label.Label.TheVariants as is
+use Rattle.jr_tree.specs.declared.label.ImportKind.{ImportKind}
+use Rattle.jr_tree.specs.declared.label.ImportKind.TheVariants as importing
+use Rattle.jr_tree.specs.declared.label.Role.TheVariants as role
+use Rattle.jr_tree.specs.declared.label.Sought.TheVariants as sought
+use Rattle.jr_tree.specs.Labels.{role_of, sought_by}
+use Rattle.jr_tree.specs.Rows.{Rows, label}
+use Rattle.jr_tree.specs.Below.{IsTypeName}
+use Rattle.jr_tree.specs.Local.{IsLocal, StartsAt}
 use Rattle.jr_defs.specs.Referents.{Table}
 use Rattle.jr_defs.specs.Formed.{IsFormed}
 use Rattle.jr_defs.specs.Rules.{Breaks}

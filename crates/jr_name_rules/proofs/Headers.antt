@@ -1,7 +1,7 @@
 -- The tests of what headers name tell what they are to tell.
 use Rattle.std.proofs.Common.{◌≡◌, ◌⊎◌, ℕ, ◌<◌, ◌||◌, length, Option, nat_eq, Decides}
 use Rattle.std.proofs.lemmas.Bool.Decides.{Decides-ltb, Decides-eqb}
-use Rattle.jr_rows.specs.Rows.{Rows, parent}
+use Rattle.jr_tree.specs.Rows.{Rows, parent}
 use Rattle.jr_defs.specs.declared.referent.Referent.TheVariants.{Declared}
 use Rattle.jr_defs.specs.Referents.{Table}
 use Rattle.jr_defs.specs.Declarations.{IsClass, IsInterface}

@@ -6,7 +6,7 @@ use Rattle.jr_tree.specs.declared.tree.Import.TheVariants as import
 use Rattle.jr_tree.specs.Mirror.Exprs as x
 use Rattle.jr_tree.specs.Mirror.Stmts as s
 use Rattle.jr_tree.specs.Mirror.Decls as d
-use Rattle.jr_rows.specs.Rows.{Rows, name}
+use Rattle.jr_tree.specs.Rows.{Rows, name}
 use Rattle.jr_defs.specs.declared.referent.Referent.TheVariants.{Declared, Package}
 use Rattle.jr_defs.specs.Referents.{Table}
 use Rattle.jr_name_rules.proofs.Trees.{named, int, of_class, parameter, block, local, field, members, program, table_of, broken}

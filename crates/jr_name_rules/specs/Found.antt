@@ -1,7 +1,7 @@
 -- What rows refer to, tests on what is found, and names that are the same.
 use Rattle.std.specs.Prelude.{ℕ, zero, suc, ◌+◌, Bool, false, Option, Some, None, bytes_eq}
 use Rattle.std.specs.Option.{option_map_or}
-use Rattle.jr_rows.specs.Rows.{Rows, name}
+use Rattle.jr_tree.specs.Rows.{Rows, name}
 use Rattle.jr_defs.specs.declared.referent.Referent.{Referent}
 use Rattle.jr_defs.specs.declared.referent.Referent.TheVariants.{Declared}
 use Rattle.jr_defs.specs.Referents.{Table}

@@ -1,6 +1,6 @@
 -- Rule 13, computed: what headers name as supertypes (JLS 8.1.4, 8.1.5, 9.1.3).
 use Rattle.std.specs.Prelude.{ℕ, Bool, ◌&&◌, ◌||◌, length, nat_eq, nat_lt}
-use Rattle.jr_rows.specs.Rows.{Rows, parent}
+use Rattle.jr_tree.specs.Rows.{Rows, parent}
 use Rattle.jr_defs.specs.Referents.{Table}
 use Rattle.jr_plain.specs.Search.{any_below}
 use Rattle.jr_plain.specs.Declarations.{is_class, is_interface}

@@ -3,7 +3,7 @@ use Rattle.std.proofs.Common.{◌≡◌, refl, sym, ◌∙◌, subst, ℕ, List,
 use Rattle.std.proofs.lemmas.Bool.{false≢true}
 use Rattle.std.specs.Prelude.{IfOk, IfErr}
 use Rattle.jr_base.specs.Identifiers.{IsIdentifier}
-use Rattle.jr_rows.specs.Rows.{name}
+use Rattle.jr_tree.specs.Rows.{name}
 use Rattle.jr_marks.specs.declared.marks.Marks.{Marks}
 use Rattle.jr_marks.specs.Places.{IsOrdered, unit_of}
 use Rattle.jr_change.specs.declared.change.Change.{Change}

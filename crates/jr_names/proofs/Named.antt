@@ -4,7 +4,7 @@ use Rattle.std.specs.Prelude.{if◌then◌else◌, slice_index_or}
 use Rattle.std.proofs.lemmas.List.{drop_more, drop_all}
 use Rattle.std.proofs.lemmas.List.Elements.{All-nil, All-push, All-append}
 use Rattle.jr_marks.specs.declared.marks.Marks.{Marks}
-use Rattle.jr_rows.specs.Rows.{Rows}
+use Rattle.jr_tree.specs.Rows.{Rows}
 use Rattle.jr_plain.specs.Search.{all_such}
 use Rattle.jr_edits.specs.Place.{EditList}
 use Rattle.jr_draft.specs.Asking.{is_in_prelude}

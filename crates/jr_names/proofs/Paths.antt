@@ -3,7 +3,7 @@ use Rattle.std.proofs.Common.{◌≡◌, ◌≢◌, sym, ◌∙◌, ap, subst, �
 use Rattle.std.specs.Prelude.{codes, IfOk, IfSome, IsNone, MatchOption}
 use Rattle.std.proofs.lemmas.Bool.{false≢true, true≢false}
 use Rattle.std.proofs.lemmas.List.{append_cancel_right}
-use Rattle.jr_rows.specs.Rows.{name}
+use Rattle.jr_tree.specs.Rows.{name}
 use Rattle.jr_plain.specs.Enclosing.{is_top_level}
 use Rattle.jr_marks.specs.declared.marks.Marks.{Marks}
 use Rattle.jr_marks.specs.Places.{unit_of}

@@ -1,8 +1,8 @@
 -- What is renamed together with a declaration.
 use Rattle.std.proofs.Common.{◌≡◌, sym, subst, ℕ, List, [], ◌∷◌, Result, Ok, Err}
 use Rattle.std.specs.Prelude.{IfOk}
-use Rattle.jr_rows.specs.declared.label.Role.TheVariants as role
-use Rattle.jr_rows.specs.Rows.{role_at}
+use Rattle.jr_tree.specs.declared.label.Role.TheVariants as role
+use Rattle.jr_tree.specs.Rows.{role_at}
 use Rattle.jr_defs.specs.Referents.{Table}
 use Rattle.jr_dispatch.specs.Families as families
 use Rattle.jr_dispatch.specs.Methods.{IsWholeWorld}

@@ -2,12 +2,12 @@
 use Rattle.std.specs.Prelude.{◌≡◌, ◌⊎◌, ℕ, Bool, true, false, ◌&&◌, ◌||◌, if◌then◌else◌, List, [], ◌∷◌, ◌++◌, All, length, Option, Some, None, Result, Ok, Err, codes, bytes_eq, nat_eq, nat_le, nat_lt}
 use Rattle.std.specs.List.Sorted.{IsPermutation, IsNonDecreasing}
 use Rattle.jr_base.specs.Identifiers.{IsIdentifier}
-use Rattle.jr_rows.specs.declared.label.Label.{Label}
-use Rattle.jr_rows.specs.declared.label.Label.TheVariants as is
-use Rattle.jr_rows.specs.declared.label.ImportKind.{ImportKind}
-use Rattle.jr_rows.specs.declared.label.ImportKind.TheVariants as import
-use Rattle.jr_rows.specs.declared.label.Role.TheVariants as role
-use Rattle.jr_rows.specs.Rows.{Rows, label, name, end, role_at}
+use Rattle.jr_tree.specs.declared.label.Label.{Label}
+use Rattle.jr_tree.specs.declared.label.Label.TheVariants as is
+use Rattle.jr_tree.specs.declared.label.ImportKind.{ImportKind}
+use Rattle.jr_tree.specs.declared.label.ImportKind.TheVariants as import
+use Rattle.jr_tree.specs.declared.label.Role.TheVariants as role
+use Rattle.jr_tree.specs.Rows.{Rows, label, name, end, role_at}
 use Rattle.jr_defs.specs.Referents.{Table}
 use Rattle.jr_plain.specs.Enclosing.{is_constructor_of, is_top_level}
 use Rattle.jr_plain.specs.Search.{all_such}

@@ -1,7 +1,7 @@
 // The declarations that a rename takes along.
 ghost use Rattle.std.specs.Prelude.{◌≡◌, ◌++◌, ◌∷◌, [], IfOk, OnOk};
-ghost use Rattle.jr_rows.specs.Rows as all_rows;
-ghost use Rattle.jr_rows.specs.declared.label.Role.TheVariants as role;
+ghost use Rattle.jr_tree.specs.Rows as all_rows;
+ghost use Rattle.jr_tree.specs.declared.label.Role.TheVariants as role;
 ghost use Rattle.jr_plain.specs.Enclosing as enclosing;
 ghost use Rattle.jr_plain.specs.Same.{same_role};
 ghost use Rattle.jr_marks.specs.Places.{IsOrdered};
@@ -14,7 +14,7 @@ use jr_dispatch::family;
 use jr_draft::is_in_prelude;
 use jr_marks::Marks;
 use jr_places::{is_body_of, parent_at, role_at};
-use jr_rows::{Label, Role, Row};
+use jr_tree::{Label, Role, Row};
 use std::alloc::Global;
 
 fn alone(alloc: Global, row: u32) -> Result<Vec<u32>, OutOfMemory>

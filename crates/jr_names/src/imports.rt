@@ -1,12 +1,12 @@
 // Static imports of what is renamed (JLS 7.5.3).
 ghost use Rattle.std.specs.Prelude.{◌≡◌, OnOk};
-ghost use Rattle.jr_rows.specs.Rows.{label};
+ghost use Rattle.jr_tree.specs.Rows.{label};
 ghost use Rattle.jr_names.specs.Renaming as spec;
 
 use jr_base::OutOfMemory;
 use jr_members::{MemberKind, World, has, is_private, is_public, is_static};
 use jr_places::{name_at, parent_at};
-use jr_rows::{ImportKind, Label, Row};
+use jr_tree::{ImportKind, Label, Row};
 use std::alloc::Global;
 
 fn is_static_kind(kind: ImportKind) -> bool

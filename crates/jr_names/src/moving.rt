@@ -8,8 +8,8 @@ use jr_draft::{
 };
 use jr_marks::Marks;
 use jr_places::{end_at, is_top_level, name_at, parent_at};
-use jr_rows::Row;
 use jr_text::{extent, part, tokens_span, unit_bytes};
+use jr_tree::Row;
 use std::alloc::Global;
 
 /// What moves the top-level type at an offset to a package.

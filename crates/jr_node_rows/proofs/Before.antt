@@ -1,11 +1,11 @@
 -- How many nodes stand before a row, by the labels of the forest before it.
 use Rattle.std.proofs.Common.{◌≡◌, ℕ, suc, ◌+◌, [], ◌∷◌, ◌++◌, length, refl, ap, subst, arith, append_assoc, length-append}
 use Rattle.std.proofs.Math.Seq.{get_or-append_seam}
-use Rattle.jr_rows.specs.declared.row.Row.{Row}
-use Rattle.jr_rows.specs.declared.label.Label.TheVariants as is
-use Rattle.jr_rows.specs.Labels.{nodes_of}
-use Rattle.jr_rows.specs.Forest.{Forest, none, more, size}
-use Rattle.jr_rows.specs.Rows.{Rows, rows_from, nodes_before}
+use Rattle.jr_tree.specs.declared.row.Row.{Row}
+use Rattle.jr_tree.specs.declared.label.Label.TheVariants as is
+use Rattle.jr_tree.specs.Labels.{nodes_of}
+use Rattle.jr_tree.specs.Forest.{Forest, none, more, size}
+use Rattle.jr_tree.specs.Rows.{Rows, rows_from, nodes_before}
 use Rattle.jr_node_rows.specs.Weight.{weight}
 
 -- the nodes that these rows stand for

@@ -15,15 +15,15 @@ use Rattle.jr_tree.specs.Shape.{IsName, IsShapedDeclarator, IsShapedInit, IsShap
 use Rattle.jr_tree.specs.Nodes as n
 use Rattle.jr_tree.specs.Mirror.Stmts as s
 use Rattle.jr_tree.specs.Mirror.Decls as d
-use Rattle.jr_rows.specs.declared.label.Label.{Label}
-use Rattle.jr_rows.specs.declared.label.NameKind.TheVariants as kind
-use Rattle.jr_rows.specs.declared.label.NamePlace.{NamePlace}
-use Rattle.jr_rows.specs.declared.label.NamePlace.TheVariants as place
-use Rattle.jr_rows.specs.Labels.{name_nodes, nodes_of}
-use Rattle.jr_rows.specs.Forest.{Forest, none, more, if_some, each}
-use Rattle.jr_rows.specs.Exprs.{name_labels, type_name, init_labels}
-use Rattle.jr_rows.specs.Stmts.{param_labels, block_labels, calls_first}
-use Rattle.jr_rows.specs.Decls.{field_labels, result_labels, implicit_call, default_constructor, has_constructor, member_labels, members_labels, decl_labels, package_labels, import_labels, unit_labels, program_labels}
+use Rattle.jr_tree.specs.declared.label.Label.{Label}
+use Rattle.jr_tree.specs.declared.label.NameKind.TheVariants as kind
+use Rattle.jr_tree.specs.declared.label.NamePlace.{NamePlace}
+use Rattle.jr_tree.specs.declared.label.NamePlace.TheVariants as place
+use Rattle.jr_tree.specs.Labels.{name_nodes, nodes_of}
+use Rattle.jr_tree.specs.Forest.{Forest, none, more, if_some, each}
+use Rattle.jr_tree.specs.Exprs.{name_labels, type_name, init_labels}
+use Rattle.jr_tree.specs.Stmts.{param_labels, block_labels, calls_first}
+use Rattle.jr_tree.specs.Decls.{field_labels, result_labels, implicit_call, default_constructor, has_constructor, member_labels, members_labels, decl_labels, package_labels, import_labels, unit_labels, program_labels}
 use Rattle.jr_node_rows.proofs.Counting.{Counts, nothing, join, row, row_none, row_two, of_some, of_each, name_counts}
 use Rattle.jr_node_rows.proofs.CountedExprs.{type_name_counts, type_counts, init_counts}
 use Rattle.jr_node_rows.proofs.CountedStmts.{param_counts, variables_count, block_counts, constructor_body_counts}

@@ -8,10 +8,10 @@ use Rattle.jr_tree.specs.declared.tree.TypeUse.{TypeUse}
 use Rattle.jr_tree.specs.Shape.{IsName, IsBase, IsTypeUse, IsShapedExpr, AreShapedExprs, IsShapedList, IsShapedInit, AreShapedInits}
 use Rattle.jr_tree.specs.Nodes as n
 use Rattle.jr_tree.specs.Mirror.Exprs as x
-use Rattle.jr_rows.specs.declared.label.NameKind.TheVariants as kind
-use Rattle.jr_rows.specs.declared.label.NamePlace.TheVariants as place
-use Rattle.jr_rows.specs.Forest.{Forest, none}
-use Rattle.jr_rows.specs.Exprs.{type_name, base_labels, type_labels, expr_labels, exprs_labels, list_labels, init_labels, inits_labels}
+use Rattle.jr_tree.specs.declared.label.NameKind.TheVariants as kind
+use Rattle.jr_tree.specs.declared.label.NamePlace.TheVariants as place
+use Rattle.jr_tree.specs.Forest.{Forest, none}
+use Rattle.jr_tree.specs.Exprs.{type_name, base_labels, type_labels, expr_labels, exprs_labels, list_labels, init_labels, inits_labels}
 use Rattle.jr_node_rows.proofs.Counting.{Counts, nothing, join, row, row_two, name_counts}
 
 pub type_name_counts : (name : Name) (rest : Forest) → IsName name → Counts (type_name name rest) (n.name_nodes name) rest

@@ -7,9 +7,9 @@ use Rattle.jr_tree.specs.Shape.{IsWholeExpr, AreStatementExprs, IsShapedDeclarat
 use Rattle.jr_tree.specs.Nodes as n
 use Rattle.jr_tree.specs.Mirror.Exprs as x
 use Rattle.jr_tree.specs.Mirror.Stmts as s
-use Rattle.jr_rows.specs.Forest.{Forest, none, if_some, each}
-use Rattle.jr_rows.specs.Exprs.{type_labels, expr_labels, exprs_labels, init_labels}
-use Rattle.jr_rows.specs.Stmts.{param_labels, local_labels, for_labels, case_labels, stmt_labels, block_labels, stmts_labels, groups_labels, group_labels, catches_labels, catch_labels}
+use Rattle.jr_tree.specs.Forest.{Forest, none, if_some, each}
+use Rattle.jr_tree.specs.Exprs.{type_labels, expr_labels, exprs_labels, init_labels}
+use Rattle.jr_tree.specs.Stmts.{param_labels, local_labels, for_labels, case_labels, stmt_labels, block_labels, stmts_labels, groups_labels, group_labels, catches_labels, catch_labels}
 use Rattle.jr_node_rows.proofs.Counting.{Counts, nothing, join, row, row_none, of_some, of_each}
 use Rattle.jr_node_rows.proofs.CountedExprs.{type_counts, expr_counts, exprs_counts, init_counts}
 

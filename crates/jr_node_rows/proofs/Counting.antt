@@ -7,14 +7,14 @@ use Rattle.jr_base.specs.declared.text.Text.{Text}
 use Rattle.jr_tree.specs.declared.tree.Name.{Name}
 use Rattle.jr_tree.specs.Shape.{is_empty, IsName}
 use Rattle.jr_tree.specs.Nodes as n
-use Rattle.jr_rows.specs.declared.label.Label.{Label}
-use Rattle.jr_rows.specs.declared.label.Label.TheVariants as is
-use Rattle.jr_rows.specs.declared.label.NameKind.{NameKind}
-use Rattle.jr_rows.specs.declared.label.NamePlace.{NamePlace}
-use Rattle.jr_rows.specs.declared.label.NamePlace.TheVariants as place
-use Rattle.jr_rows.specs.Labels.{name_nodes, nodes_of}
-use Rattle.jr_rows.specs.Forest as f
-use Rattle.jr_rows.specs.Exprs.{left_kind, dotted, name_labels}
+use Rattle.jr_tree.specs.declared.label.Label.{Label}
+use Rattle.jr_tree.specs.declared.label.Label.TheVariants as is
+use Rattle.jr_tree.specs.declared.label.NameKind.{NameKind}
+use Rattle.jr_tree.specs.declared.label.NamePlace.{NamePlace}
+use Rattle.jr_tree.specs.declared.label.NamePlace.TheVariants as place
+use Rattle.jr_tree.specs.Labels.{name_nodes, nodes_of}
+use Rattle.jr_tree.specs.Forest as f
+use Rattle.jr_tree.specs.Exprs.{left_kind, dotted, name_labels}
 use Rattle.jr_node_rows.specs.Weight.{weight}
 
 -- what stands in the forest all before the rest counts these nodes

@@ -7,11 +7,11 @@ ghost use Rattle.jr_tree.specs.Mirror.Stmts as s;
 ghost use Rattle.jr_tree.specs.Mirror.Decls as d;
 ghost use Rattle.jr_tree.specs.Shape.{IsShapedExpr, IsShapedStmt, IsShapedBlock, IsShapedMember, IsShapedDecl, IsShapedUnit, IsShaped};
 ghost use Rattle.jr_tree.specs.Nodes.{nodes, each, expr_nodes, stmt_nodes, block_nodes, member_nodes, decl_nodes, unit_nodes};
-ghost use Rattle.jr_rows.specs.Forest.{Forest};
-ghost use Rattle.jr_rows.specs.Exprs.{expr_labels};
-ghost use Rattle.jr_rows.specs.Stmts.{stmt_labels, block_labels};
-ghost use Rattle.jr_rows.specs.Decls.{member_labels, decl_labels, unit_labels, program_labels};
-ghost use Rattle.jr_rows.specs.Rows.{Rows, rows_from, nodes_before};
+ghost use Rattle.jr_tree.specs.Forest.{Forest};
+ghost use Rattle.jr_tree.specs.Exprs.{expr_labels};
+ghost use Rattle.jr_tree.specs.Stmts.{stmt_labels, block_labels};
+ghost use Rattle.jr_tree.specs.Decls.{member_labels, decl_labels, unit_labels, program_labels};
+ghost use Rattle.jr_tree.specs.Rows.{Rows, rows_from, nodes_before};
 ghost use Rattle.jr_node_rows.specs.Weight.{weight};
 
 /// The labels of a shaped tree stand for as many nodes as the tree has, and those of a program for as many as the trees of its units have.

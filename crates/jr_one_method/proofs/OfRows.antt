@@ -7,15 +7,15 @@ use Rattle.std.proofs.lemmas.Bool.{cases_lt}
 use Rattle.std.proofs.lemmas.List.{get_or-append-add, get_or_default, get_or_past}
 use Rattle.jr_tree.specs.declared.tree.Unit as declared_unit
 use Rattle.jr_tree.specs.Shape.{IsShaped}
-use Rattle.jr_rows.specs.declared.label.Label.{Label}
-use Rattle.jr_rows.specs.declared.label.Label.TheVariants as is
-use Rattle.jr_rows.specs.declared.label.NamePlace.TheVariants as place
-use Rattle.jr_rows.specs.declared.row.Row.{Row}
-use Rattle.jr_rows.specs.Forest.{Forest, none, more, size}
-use Rattle.jr_rows.specs.Rows.{Rows, rows_from, row, label, parent, program_rows}
-use Rattle.jr_rows.specs.Below.{IsTypeLabel, Under, Fits}
-use Rattle.jr_rows.proofs.Trees.{at_index, nothing, past, length_rows, units_forest}
-use Rattle.jr_rows.proofs.FittingStmts.{units_fit}
+use Rattle.jr_tree.specs.declared.label.Label.{Label}
+use Rattle.jr_tree.specs.declared.label.Label.TheVariants as is
+use Rattle.jr_tree.specs.declared.label.NamePlace.TheVariants as place
+use Rattle.jr_tree.specs.declared.row.Row.{Row}
+use Rattle.jr_tree.specs.Forest.{Forest, none, more, size}
+use Rattle.jr_tree.specs.Rows.{Rows, rows_from, row, label, parent, program_rows}
+use Rattle.jr_tree.specs.Below.{IsTypeLabel, Under, Fits}
+use Rattle.jr_tree.proofs.Trees.{at_index, nothing, past, length_rows, units_forest}
+use Rattle.jr_tree.proofs.FittingStmts.{units_fit}
 use Rattle.jr_defs.specs.Supertypes.{IsSuperclassLabel}
 use Rattle.jr_one_method.specs.OneMethod.{TypesNameOneSuperclass}
 use Rattle.jr_one_method.proofs.Ordered.{NamesNone, NamesFirst, Ordered, units_ordered}

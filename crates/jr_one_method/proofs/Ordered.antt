@@ -9,17 +9,17 @@ use Rattle.jr_tree.specs.declared.tree.Import.TheVariants as import
 use Rattle.jr_tree.specs.declared.tree.Unit as declared_unit
 use Rattle.jr_tree.specs.Mirror.Decls as d
 use Rattle.jr_tree.specs.Shape.{IsShaped}
-use Rattle.jr_rows.specs.declared.label.Label.{Label}
-use Rattle.jr_rows.specs.declared.label.Label.TheVariants as is
-use Rattle.jr_rows.specs.declared.label.NameKind.{NameKind}
-use Rattle.jr_rows.specs.declared.label.NameKind.TheVariants as kind
-use Rattle.jr_rows.specs.declared.label.NamePlace.{NamePlace}
-use Rattle.jr_rows.specs.declared.label.NamePlace.TheVariants as place
-use Rattle.jr_rows.specs.Forest.{Forest, none, more, node, if_some, each}
-use Rattle.jr_rows.specs.Exprs.{left_kind, dotted, name_labels}
-use Rattle.jr_rows.specs.Decls.{has_constructor, default_constructor, member_labels, members_labels, decl_labels, package_labels, import_labels, unit_labels}
-use Rattle.jr_rows.specs.Below.{IsTypeLabel, Under, Fits}
-use Rattle.jr_rows.proofs.FittingStmts.{units_fit}
+use Rattle.jr_tree.specs.declared.label.Label.{Label}
+use Rattle.jr_tree.specs.declared.label.Label.TheVariants as is
+use Rattle.jr_tree.specs.declared.label.NameKind.{NameKind}
+use Rattle.jr_tree.specs.declared.label.NameKind.TheVariants as kind
+use Rattle.jr_tree.specs.declared.label.NamePlace.{NamePlace}
+use Rattle.jr_tree.specs.declared.label.NamePlace.TheVariants as place
+use Rattle.jr_tree.specs.Forest.{Forest, none, more, node, if_some, each}
+use Rattle.jr_tree.specs.Exprs.{left_kind, dotted, name_labels}
+use Rattle.jr_tree.specs.Decls.{has_constructor, default_constructor, member_labels, members_labels, decl_labels, package_labels, import_labels, unit_labels}
+use Rattle.jr_tree.specs.Below.{IsTypeLabel, Under, Fits}
+use Rattle.jr_tree.proofs.FittingStmts.{units_fit}
 use Rattle.jr_defs.specs.Supertypes.{IsSuperclassLabel}
 
 -- no root names a superclass

@@ -6,7 +6,7 @@
 
 mod outline;
 
-use jr_rows::Row;
+use jr_tree::Row;
 use outline::{Outline, outline_of};
 use std::alloc::Global;
 use std::io::Read;

@@ -3,7 +3,7 @@
 use jr_base::{OutOfMemory, Path};
 use jr_parse::ParseFault;
 use jr_read::{ReadFault, rows_of_source};
-use jr_rows::Row;
+use jr_tree::Row;
 use std::alloc::Global;
 
 /// What a source reads as.

@@ -8,7 +8,7 @@ use Rattle.jr_defs.specs.declared.referent.Referent.{Referent}
 use Rattle.jr_plain.specs.Search.{all_such, gathered}
 use Rattle.jr_marks.specs.declared.marks.Marks.{Marks}
 use Rattle.jr_change.specs.declared.change.Target.TheVariants as target
-use Rattle.jr_rows.specs.Rows.{Rows, end}
+use Rattle.jr_tree.specs.Rows.{Rows, end}
 use Rattle.jr_draft.specs.declared.packages.Head.{Head}
 use Rattle.jr_draft.specs.Drafting.{Drafted, copied, referred}
 use Rattle.jr_package.specs.Repackaging.{Merged, head_at, imports_in, is_of, joined, merged_below, merged_step, names_of, only_if, with_either, with_importing, with_imports, with_moved, with_one, with_qualifiers, with_stayed}

@@ -1,7 +1,7 @@
 -- What a request to take a member type out of its type comes to (JLS 8.1.1, 8.5, 9.5).
 use Rattle.std.specs.Prelude.{◌≡◌, ℕ, Bool, not, ◌&&◌, if◌then◌else◌, List, [], ◌++◌, Option, Some, None, Result, Ok, Err, codes, bytes_eq, is_some, nat_le, true}
 use Rattle.jr_base.specs.declared.token.Span.{Span}
-use Rattle.jr_rows.specs.Rows.{Rows, label}
+use Rattle.jr_tree.specs.Rows.{Rows, label}
 use Rattle.jr_defs.specs.Modifiers.{written}
 use Rattle.jr_plain.specs.Declarations.{is_type}
 use Rattle.jr_plain.specs.Enclosing.{declaring_type}

@@ -1,10 +1,10 @@
 -- What a request to give a package another name comes to (JLS 6.7, 7.4, 7.5.2).
 use Rattle.std.specs.Prelude.{◌≡◌, ℕ, zero, suc, ◌-◌, Bool, true, false, ◌&&◌, if◌then◌else◌, List, [], ◌∷◌, ◌++◌, length, map, Option, Some, None, Result, Ok, Err, bytes_eq, nat_le, nat_lt}
-use Rattle.jr_rows.specs.declared.label.ImportKind.{ImportKind}
-use Rattle.jr_rows.specs.declared.label.ImportKind.TheVariants as importing
-use Rattle.jr_rows.specs.declared.label.Label.{Label}
-use Rattle.jr_rows.specs.declared.label.Label.TheVariants as is
-use Rattle.jr_rows.specs.Rows.{Rows, label, end}
+use Rattle.jr_tree.specs.declared.label.ImportKind.{ImportKind}
+use Rattle.jr_tree.specs.declared.label.ImportKind.TheVariants as importing
+use Rattle.jr_tree.specs.declared.label.Label.{Label}
+use Rattle.jr_tree.specs.declared.label.Label.TheVariants as is
+use Rattle.jr_tree.specs.Rows.{Rows, label, end}
 use Rattle.jr_defs.specs.Referents.{entries}
 use Rattle.jr_defs.specs.declared.referent.Referent.{Referent}
 use Rattle.jr_defs.specs.declared.referent.Referent.TheVariants as referent

@@ -11,8 +11,8 @@ use jr_members::{
     declaring_type, is_in_interface, is_private, is_protected, is_static, written_at,
 };
 use jr_places::is_type;
-use jr_rows::Row;
 use jr_text::{extent, part, token_span, tokens_span, unit_bytes};
+use jr_tree::Row;
 use std::alloc::Global;
 
 /// What takes the member class or interface at an offset of a file out of its type, to a file of its own in the same package, or the first reason why

@@ -4,7 +4,7 @@ ghost use Rattle.jr_marks.specs.Places.{IsOrdered};
 ghost use Rattle.jr_edits.specs.Place.{pushed};
 ghost use Rattle.jr_text.specs.Spans.{tokens_span};
 ghost use Rattle.jr_draft.specs.Drafting.{copied, with_unit};
-ghost use Rattle.jr_rows.specs.Rows.{end};
+ghost use Rattle.jr_tree.specs.Rows.{end};
 ghost use Rattle.jr_package.specs.Repackaging as spec;
 
 use crate::units::{Package, head_at};

@@ -1,6 +1,6 @@
 // The units of a package, and the imports of it.
 ghost use Rattle.std.specs.Prelude.{◌≡◌, ◌<◌, ◌≤◌, ◌+◌, ◌^◌, ◌++◌, All, IfOk, IfSome, OnOk, length, map};
-ghost use Rattle.jr_rows.specs.Rows.{label};
+ghost use Rattle.jr_tree.specs.Rows.{label};
 ghost use Rattle.jr_defs.specs.Referents.{entries};
 ghost use Rattle.jr_marks.specs.Places.{IsOrdered};
 ghost use Rattle.jr_package.specs.Repackaging as spec;
@@ -9,7 +9,7 @@ use jr_base::OutOfMemory;
 use jr_defs::Referent;
 use jr_draft::{Head, PRELUDE, count_units, head_of, name_below, name_of_package, unit_row};
 use jr_marks::Marks;
-use jr_rows::{ImportKind, Label, Row};
+use jr_tree::{ImportKind, Label, Row};
 use std::alloc::Global;
 
 /// A package by its name, and a program with what its names refer to.

@@ -1,8 +1,8 @@
 -- The rows right below a row, one at a time.
 use Rattle.std.proofs.Common.{◌≡◌, refl, sym, ◌∙◌, ap, arith, ℕ, zero, suc, ◌<◌, Bool, true, false, cond, List, [], ◌∷◌, ◌++◌, Some, None, nat_eq, append_assoc, append-nil}
 use Rattle.std.proofs.lemmas.Option.{none-some, same_Some}
-use Rattle.jr_rows.specs.Rows.{Rows, parent, end}
-use Rattle.jr_rows.specs.Tree.{IsTree}
+use Rattle.jr_tree.specs.Rows.{Rows, parent, end}
+use Rattle.jr_tree.specs.Tree.{IsTree}
 use Rattle.jr_plain.specs.Enclosing.{children, children_from}
 use Rattle.jr_places.specs.Childs.{end_of_child, ChildrenTo}
 

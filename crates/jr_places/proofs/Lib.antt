@@ -5,3 +5,6 @@ pub mod Holding
 pub mod Uniting
 pub mod Packing
 pub mod Topping
+pub mod Tables
+pub mod Numbered
+pub mod Stamping

@@ -7,11 +7,11 @@ use Rattle.std.specs.Borrow.{Bor}
 use Rattle.std.specs.Option.{option_or}
 use Rattle.std.specs.HashMap.{HashMap, IsEmpty}
 use Rattle.std.specs.Map.{lookup}
-use Rattle.jr_rows.specs.Rows.{Rows, name}
+use Rattle.jr_tree.specs.Rows.{Rows, name}
 use Rattle.jr_plain.specs.Search.{first_below}
 use Rattle.std.proofs.lemmas.Option.{none-some}
-use Rattle.jr_tables.specs.Tabulated.{tabulated}
-use Rattle.jr_tables.proofs.Tables.{tabulated_at}
+use Rattle.jr_places.specs.Tabulated.{tabulated}
+use Rattle.jr_places.proofs.Tables.{tabulated_at}
 use Rattle.jr_places.specs.Names.{name_row, text_at, IsNamed, Numbers}
 
 pub named_start : {S : Type 0} (p : Rows) (numbers : HashMap (Bor (List ℕ)) ℕ S) (all : List ℕ) → IsEmpty numbers → all ≡ [] → IsNamed p 0 numbers all

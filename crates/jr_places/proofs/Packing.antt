@@ -10,11 +10,11 @@ use Rattle.std.proofs.lemmas.Option.{none-some}
 use Rattle.std.proofs.Math.Seq.{get_or-append_seam}
 use Rattle.std.proofs.Math.ListN.{get_or-append}
 use Rattle.jr_base.specs.declared.text.Text.{Text}
-use Rattle.jr_rows.specs.declared.label.Label.{Label}
-use Rattle.jr_rows.specs.declared.label.Label.TheVariants as is
-use Rattle.jr_rows.specs.Rows.{Rows, label, name, parent, end}
-use Rattle.jr_rows.specs.Tree.{IsTree}
-use Rattle.jr_rows.specs.Local.{IsLocal}
+use Rattle.jr_tree.specs.declared.label.Label.{Label}
+use Rattle.jr_tree.specs.declared.label.Label.TheVariants as is
+use Rattle.jr_tree.specs.Rows.{Rows, label, name, parent, end}
+use Rattle.jr_tree.specs.Tree.{IsTree}
+use Rattle.jr_tree.specs.Local.{IsLocal}
 use Rattle.jr_defs.specs.Packages.{identifiers, spelled, package_by, package_of, InUnit, InPackage, SamePackage}
 use Rattle.jr_plain.specs.Search.{first_below}
 use Rattle.jr_plain.specs.Enclosing.{is_unit}
@@ -25,10 +25,10 @@ use Rattle.jr_plain.proofs.Bounds.{unit_below}
 use Rattle.jr_plain.proofs.Enclosed.{unit_label_tells}
 use Rattle.jr_plain.proofs.OneUnit.{one_unit}
 use Rattle.jr_plain.proofs.Packaged.{same_package_tells}
-use Rattle.jr_tables.specs.declared.numbering.Numbering.{Numbering}
-use Rattle.jr_tables.specs.Numbers.{number_in, IsOneToOne, IsNumbering, Keeps, Adds, IsNumberOf}
-use Rattle.jr_tables.specs.Tabulated.{tabulated}
-use Rattle.jr_tables.proofs.Numbered.{number_kept, one_number, one_list}
+use Rattle.jr_places.specs.declared.numbering.Numbering.{Numbering}
+use Rattle.jr_places.specs.Numbers.{number_in, IsOneToOne, IsNumbering, Keeps, Adds, IsNumberOf}
+use Rattle.jr_places.specs.Tabulated.{tabulated}
+use Rattle.jr_places.proofs.Numbered.{number_kept, one_number, one_list}
 use Rattle.jr_places.proofs.Naming.{named_at}
 use Rattle.jr_places.specs.declared.units.Packages as code
 use Rattle.jr_places.specs.Names.{name_row}

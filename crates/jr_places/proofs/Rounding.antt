@@ -2,18 +2,18 @@
 use Rattle.std.proofs.Common.{◌≡◌, refl, sym, ◌∙◌, ap, ap₂, ◌∷◌, ◌++◌, add-one, subst, ⊎_elim, arith, ℕ, zero, suc, ◌+◌, ◌<◌, ◌≤◌, Bool, true, false, cond, List, [], length, get_or, Option, Some, None, Decides}
 use Rattle.std.proofs.lemmas.Bool.{false≢true, cases_eq}
 use Rattle.std.proofs.lemmas.Option.{none-some}
-use Rattle.jr_rows.specs.declared.label.Label.{Label}
-use Rattle.jr_rows.specs.declared.label.Label.TheVariants as is
-use Rattle.jr_rows.specs.Labels.{role_of}
-use Rattle.jr_rows.specs.declared.label.Role.TheVariants as role
-use Rattle.jr_rows.specs.Rows.{Rows, label, parent}
-use Rattle.jr_rows.specs.Tree.{IsTree}
+use Rattle.jr_tree.specs.declared.label.Label.{Label}
+use Rattle.jr_tree.specs.declared.label.Label.TheVariants as is
+use Rattle.jr_tree.specs.Labels.{role_of}
+use Rattle.jr_tree.specs.declared.label.Role.TheVariants as role
+use Rattle.jr_tree.specs.Rows.{Rows, label, parent}
+use Rattle.jr_tree.specs.Tree.{IsTree}
 use Rattle.jr_defs.specs.Enclosing.{BodyOf, InBody, Innermost}
 use Rattle.jr_plain.specs.Search.{Finds}
 use Rattle.jr_plain.specs.Enclosing as plain
 use Rattle.jr_plain.proofs.Enclosed.{body_tells, innermost_finds}
-use Rattle.jr_tables.specs.Tabulated.{tabulated}
-use Rattle.jr_tables.proofs.Tables.{tabulated_at}
+use Rattle.jr_places.specs.Tabulated.{tabulated}
+use Rattle.jr_places.proofs.Tables.{tabulated_at}
 use Rattle.jr_places.specs.Rounds.{around_by, arounds}
 
 -- two searches for one thing find the same

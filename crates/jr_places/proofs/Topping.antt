@@ -5,17 +5,17 @@ use Rattle.std.proofs.lemmas.Bool.{false≢true, cases_eq, cases_lt}
 use Rattle.std.proofs.lemmas.Bool.Decides.{Decides-eqb}
 use Rattle.std.proofs.lemmas.List.{get_or_past}
 use Rattle.std.proofs.lemmas.Option.{none-some}
-use Rattle.jr_rows.specs.Rows.{Rows, parent, end}
-use Rattle.jr_rows.specs.Tree.{IsTree}
-use Rattle.jr_rows.specs.Local.{IsLocal}
+use Rattle.jr_tree.specs.Rows.{Rows, parent, end}
+use Rattle.jr_tree.specs.Tree.{IsTree}
+use Rattle.jr_tree.specs.Local.{IsLocal}
 use Rattle.jr_defs.specs.Enclosing.{IsTopLevel, InTopLevel, SameTopLevel}
 use Rattle.jr_plain.specs.Search.{Finds}
 use Rattle.jr_plain.specs.Enclosing.{is_top_level, top_level_of, is_same_top_level}
 use Rattle.jr_plain.proofs.Bounds.{type_below}
 use Rattle.jr_plain.proofs.Enclosed.{top_level_tells, same_top_level_tells}
 use Rattle.jr_plain.proofs.OneUnit.{one_top_level, top_level_finds}
-use Rattle.jr_tables.specs.Tabulated.{tabulated}
-use Rattle.jr_tables.proofs.Tables.{length-tabulated, tabulated_at}
+use Rattle.jr_places.specs.Tabulated.{tabulated}
+use Rattle.jr_places.proofs.Tables.{length-tabulated, tabulated_at}
 use Rattle.jr_places.specs.Packages.{same_some}
 use Rattle.jr_places.specs.Units.{top_by, tops}
 use Rattle.jr_places.proofs.Rounding.{one_found}

@@ -5,3 +5,8 @@ pub mod Above
 pub mod Units
 pub mod Places
 pub mod Packages
+pub mod Tabulated
+pub mod Chains
+pub mod Texts
+pub mod Numbers
+pub mod Stamps

@@ -1,12 +1,12 @@
 -- The package of each row, by numbers of names (JLS 7.4).
 use Rattle.std.specs.Prelude.{◌≡◌, ℕ, zero, suc, ◌+◌, ◌-◌, ◌<◌, Bool, true, false, List, [], ◌∷◌, length, Option, Some, None, nat_eq, slice_index_or, if◌then◌else◌}
-use Rattle.jr_rows.specs.declared.label.Label.{Label}
-use Rattle.jr_rows.specs.declared.label.Label.TheVariants as is
-use Rattle.jr_rows.specs.Rows.{Rows, label, end}
-use Rattle.jr_rows.specs.Local.{IsLocal}
+use Rattle.jr_tree.specs.declared.label.Label.{Label}
+use Rattle.jr_tree.specs.declared.label.Label.TheVariants as is
+use Rattle.jr_tree.specs.Rows.{Rows, label, end}
+use Rattle.jr_tree.specs.Local.{IsLocal}
 use Rattle.jr_defs.specs.Packages.{InUnit}
-use Rattle.jr_tables.specs.declared.numbering.Numbering.{Numbering}
-use Rattle.jr_tables.specs.Numbers.{number_in, IsOneToOne, IsNumbering, Keeps, IsNumberOf}
+use Rattle.jr_places.specs.declared.numbering.Numbering.{Numbering}
+use Rattle.jr_places.specs.Numbers.{number_in, IsOneToOne, IsNumbering, Keeps, IsNumberOf}
 use Rattle.jr_places.specs.declared.units.Packages as code
 use Rattle.jr_places.specs.Names.{name_row}
 

@@ -1,8 +1,8 @@
 -- What the tables of places have, for each row of a program.
 use Rattle.std.specs.Prelude.{◌≡◌, length}
-use Rattle.jr_rows.specs.Rows.{Rows}
-use Rattle.jr_rows.specs.Local.{IsLocal}
-use Rattle.jr_tables.specs.Tabulated.{tabulated}
+use Rattle.jr_tree.specs.Rows.{Rows}
+use Rattle.jr_tree.specs.Local.{IsLocal}
+use Rattle.jr_places.specs.Tabulated.{tabulated}
 use Rattle.jr_places.specs.declared.places.Places as code
 use Rattle.jr_places.specs.Names.{name_row}
 use Rattle.jr_places.specs.Rounds.{arounds}

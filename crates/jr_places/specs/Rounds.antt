@@ -1,6 +1,6 @@
 -- The innermost type round a row, from that of the row over it.
 use Rattle.std.specs.Prelude.{ℕ, zero, suc, ◌∷◌, ◌++◌, [], if◌then◌else◌, List, Option, Some, None, slice_index_or}
-use Rattle.jr_rows.specs.Rows.{Rows, parent}
+use Rattle.jr_tree.specs.Rows.{Rows, parent}
 use Rattle.jr_plain.specs.Enclosing.{is_body_of}
 
 abbrev pub around_by : Rows → List (Option ℕ) → ℕ → Option ℕ

@@ -1,6 +1,6 @@
 -- The unit and the top-level type of a row, from those of the row over it.
 use Rattle.std.specs.Prelude.{ℕ, zero, suc, ◌∷◌, ◌++◌, [], if◌then◌else◌, List, Option, Some, None, slice_index_or}
-use Rattle.jr_rows.specs.Rows.{Rows, label, parent}
+use Rattle.jr_tree.specs.Rows.{Rows, label, parent}
 use Rattle.jr_plain.specs.Enclosing.{is_unit, is_top_level}
 
 abbrev pub unit_by : Rows → List (Option ℕ) → ℕ → Option ℕ

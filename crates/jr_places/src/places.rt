@@ -1,8 +1,8 @@
 // What is computed from rows alone.
 ghost use Rattle.std.specs.Prelude.{◌≡◌, ◌<◌, IfOk, length, None, slice_index_or};
-ghost use Rattle.jr_rows.specs.Local.{IsLocal};
-ghost use Rattle.jr_rows.specs.Rows.{Rows};
-ghost use Rattle.jr_rows.specs.Tree.{IsTree};
+ghost use Rattle.jr_tree.specs.Local.{IsLocal};
+ghost use Rattle.jr_tree.specs.Rows.{Rows};
+ghost use Rattle.jr_tree.specs.Tree.{IsTree};
 ghost use Rattle.jr_plain.specs.Enclosing.{is_same_top_level};
 ghost use Rattle.jr_plain.specs.Packages.{is_same_package};
 ghost use Rattle.jr_places.specs.Names.{name_row};
@@ -13,7 +13,7 @@ use crate::around::arounds_of;
 use crate::names::{name_in, names_of};
 use crate::units::{Packages, tops_of, units_of};
 use jr_base::OutOfMemory;
-use jr_rows::Row;
+use jr_tree::Row;
 use std::alloc::Global;
 
 /// Where the rows of a program stand, by tables with an item for each row.

@@ -1,10 +1,10 @@
 // What stands at a number; past the end there is nothing, below itself.
 ghost use Rattle.std.specs.Prelude.{◌≡◌, ◌+◌, ◌<◌, ◌^◌};
-ghost use Rattle.jr_rows.specs.Rows as rows;
+ghost use Rattle.jr_tree.specs.Rows as rows;
 ghost use Rattle.jr_plain.specs.Declarations as plain;
 ghost use Rattle.jr_plain.specs.Enclosing as enclosing;
 
-use jr_rows::{Label, Role, Row, Sought};
+use jr_tree::{Label, Role, Row, Sought};
 
 /// The identifier of a row.
 pub fn name_at(all: &[Row], at: u32) -> &[u8]

@@ -1,11 +1,11 @@
 // The unit, the top-level type and the package of each row.
 ghost use Rattle.std.specs.Prelude.{◌≡◌, ◌-◌, ◌^◌, ◌<◌, ◌≤◌, None, IfOk, length, slice_index_or};
-ghost use Rattle.jr_rows.specs.Rows.{Rows, label, end};
-ghost use Rattle.jr_rows.specs.Tree.{IsTree};
-ghost use Rattle.jr_rows.specs.Local.{IsLocal};
+ghost use Rattle.jr_tree.specs.Rows.{Rows, label, end};
+ghost use Rattle.jr_tree.specs.Tree.{IsTree};
+ghost use Rattle.jr_tree.specs.Local.{IsLocal};
 ghost use Rattle.jr_plain.specs.Packages.{is_same_package};
-ghost use Rattle.jr_tables.specs.Numbers.{IsNumbering};
-ghost use Rattle.jr_tables.specs.Tabulated.{tabulated};
+ghost use Rattle.jr_places.specs.Numbers.{IsNumbering};
+ghost use Rattle.jr_places.specs.Tabulated.{tabulated};
 ghost use Rattle.jr_places.specs.Names.{name_row};
 ghost use Rattle.jr_places.specs.Packages as tell;
 ghost use Rattle.jr_places.specs.Units.{unit_by, units, top_by, tops};
@@ -13,8 +13,8 @@ ghost use Rattle.jr_places.specs.Units.{unit_by, units, top_by, tops};
 use crate::names::name_in;
 use crate::reading::{end_at, is_top_level, is_unit, parent_at};
 use jr_base::OutOfMemory;
-use jr_rows::{Label, Row};
-use jr_tables::Numbering;
+use jr_places::Numbering;
+use jr_tree::{Label, Row};
 use std::alloc::Global;
 
 // The row itself where it is a unit, or what the row round it has.

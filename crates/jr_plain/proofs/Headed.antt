@@ -1,15 +1,15 @@
 -- Formed rows, and those that stand as their labels may, have headers below types.
 use Rattle.std.proofs.Common.{◌≡◌, refl, ◌∙◌, ap, subst, ⊎_elim, arith, ℕ, ◌<◌, Bool}
 use Rattle.std.proofs.lemmas.Bool.{cases_eq}
-use Rattle.jr_rows.specs.declared.label.Label.{Label}
-use Rattle.jr_rows.specs.declared.label.Label.TheVariants as is
-use Rattle.jr_rows.specs.declared.label.NameKind.{NameKind}
-use Rattle.jr_rows.specs.declared.label.NamePlace.TheVariants as place
-use Rattle.jr_rows.specs.declared.label.Role.TheVariants as role
-use Rattle.jr_rows.specs.Labels.{role_of}
-use Rattle.jr_rows.specs.Rows.{Rows, label, parent}
-use Rattle.jr_rows.specs.Below.{Under}
-use Rattle.jr_rows.specs.Local.{IsLocal}
+use Rattle.jr_tree.specs.declared.label.Label.{Label}
+use Rattle.jr_tree.specs.declared.label.Label.TheVariants as is
+use Rattle.jr_tree.specs.declared.label.NameKind.{NameKind}
+use Rattle.jr_tree.specs.declared.label.NamePlace.TheVariants as place
+use Rattle.jr_tree.specs.declared.label.Role.TheVariants as role
+use Rattle.jr_tree.specs.Labels.{role_of}
+use Rattle.jr_tree.specs.Rows.{Rows, label, parent}
+use Rattle.jr_tree.specs.Below.{Under}
+use Rattle.jr_tree.specs.Local.{IsLocal}
 use Rattle.jr_defs.specs.Declarations.{IsType}
 use Rattle.jr_defs.specs.Supertypes.{IsSuperclassLabel, IsSuperinterfaceLabel}
 use Rattle.jr_defs.specs.Headers.{NamesHeader}

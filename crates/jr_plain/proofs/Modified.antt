@@ -3,10 +3,10 @@ use Rattle.std.proofs.Common.{◌≡◌, ◌⊎◌, refl, sym, subst, inl, inr, 
 use Rattle.std.specs.Option.{option_map_or}
 use Rattle.std.proofs.lemmas.Bool.{false≢true}
 use Rattle.std.proofs.lemmas.Option.{none-some, same_Some}
-use Rattle.jr_rows.specs.declared.label.Label.{Label}
-use Rattle.jr_rows.specs.declared.label.Label.TheVariants as is
-use Rattle.jr_rows.specs.declared.label.Role.TheVariants as role
-use Rattle.jr_rows.specs.Rows.{Rows, label, role_at}
+use Rattle.jr_tree.specs.declared.label.Label.{Label}
+use Rattle.jr_tree.specs.declared.label.Label.TheVariants as is
+use Rattle.jr_tree.specs.declared.label.Role.TheVariants as role
+use Rattle.jr_tree.specs.Rows.{Rows, label, role_at}
 use Rattle.jr_defs.specs.Declarations.{IsType, IsInterface}
 use Rattle.jr_defs.specs.Enclosing.{DeclaredIn, ConstructorOf}
 use Rattle.jr_defs.specs.Modifiers.{written, access_of, final_variable, InInterface, IsDefaultInInterface, IsPublic, IsProtected, IsPrivate, IsStatic, IsFinal, IsAbstract, IsInner}

@@ -1,11 +1,11 @@
 -- Least sets of types.
 use Rattle.std.proofs.Common.{◌≡◌, refl, ℕ, Bool, true, List, length, nat_eq}
 use Rattle.std.proofs.lemmas.Bool.Decides.{Decides-eqb}
-use Rattle.jr_rows.specs.declared.label.Label.{Label}
-use Rattle.jr_rows.specs.declared.label.Label.TheVariants as is
-use Rattle.jr_rows.specs.declared.label.Role.TheVariants as role
-use Rattle.jr_rows.specs.Labels.{role_of}
-use Rattle.jr_rows.specs.Rows.{Rows}
+use Rattle.jr_tree.specs.declared.label.Label.{Label}
+use Rattle.jr_tree.specs.declared.label.Label.TheVariants as is
+use Rattle.jr_tree.specs.declared.label.Role.TheVariants as role
+use Rattle.jr_tree.specs.Labels.{role_of}
+use Rattle.jr_tree.specs.Rows.{Rows}
 use Rattle.jr_defs.specs.Declarations.{IsType, IsClassLabel, IsInterfaceLabel}
 use Rattle.jr_plain.specs.Search.{has, Lists, least}
 use Rattle.jr_plain.specs.Declarations.{is_type, types}

@@ -1,13 +1,13 @@
 -- In rows that stand as their labels may, a place stands in at most one unit, and in at most one top-level type.
 use Rattle.std.proofs.Common.{◌≡◌, refl, ◌∙◌, ap, subst, ⊎_elim, arith, ℕ, ◌<◌, length}
 use Rattle.std.proofs.lemmas.Bool.{cases_eq, cases_order}
-use Rattle.jr_rows.specs.declared.label.Label.{Label}
-use Rattle.jr_rows.specs.declared.label.Label.TheVariants as is
-use Rattle.jr_rows.specs.declared.label.Role.TheVariants as role
-use Rattle.jr_rows.specs.Labels.{role_of}
-use Rattle.jr_rows.specs.Rows.{Rows, label, parent, role_at}
-use Rattle.jr_rows.specs.Below.{Under}
-use Rattle.jr_rows.specs.Local.{IsLocal}
+use Rattle.jr_tree.specs.declared.label.Label.{Label}
+use Rattle.jr_tree.specs.declared.label.Label.TheVariants as is
+use Rattle.jr_tree.specs.declared.label.Role.TheVariants as role
+use Rattle.jr_tree.specs.Labels.{role_of}
+use Rattle.jr_tree.specs.Rows.{Rows, label, parent, role_at}
+use Rattle.jr_tree.specs.Below.{Under}
+use Rattle.jr_tree.specs.Local.{IsLocal}
 use Rattle.jr_defs.specs.Enclosing.{InTopLevel}
 use Rattle.jr_defs.specs.Packages.{InUnit}
 use Rattle.jr_plain.specs.Search.{Finds}

@@ -2,7 +2,7 @@
 use Rattle.std.proofs.Common.{◌≡◌, refl, sym, ◌∙◌, ℕ, ◌&&◌, List, length, Decides}
 use Rattle.std.proofs.lemmas.Bool.Decides.{Decides-ltb}
 use Rattle.jr_base.specs.declared.text.Text.{Text}
-use Rattle.jr_rows.specs.Rows.{Rows, label, end}
+use Rattle.jr_tree.specs.Rows.{Rows, label, end}
 use Rattle.jr_defs.specs.Packages.{package_of, InUnit, InPackage, SamePackage, TypeOfPackage}
 use Rattle.jr_plain.specs.Same.{same_path}
 use Rattle.jr_plain.specs.Packages as plain

@@ -15,10 +15,10 @@ use Rattle.jr_tree.specs.declared.tree.Name.{Name}
 use Rattle.jr_tree.specs.Mirror.Exprs as x
 use Rattle.jr_tree.specs.Mirror.Stmts as s
 use Rattle.jr_tree.specs.Mirror.Decls as d
-use Rattle.jr_rows.specs.declared.label.Label.TheVariants as is
-use Rattle.jr_rows.specs.Forest.{none, node}
-use Rattle.jr_rows.specs.Decls.{unit_labels}
-use Rattle.jr_rows.specs.Rows.{Rows, rows_from}
+use Rattle.jr_tree.specs.declared.label.Label.TheVariants as is
+use Rattle.jr_tree.specs.Forest.{none, node}
+use Rattle.jr_tree.specs.Decls.{unit_labels}
+use Rattle.jr_tree.specs.Rows.{Rows, rows_from}
 use Rattle.jr_defs.specs.declared.referent.Element.TheVariants as element
 use Rattle.jr_defs.specs.Referents.{Table}
 use Rattle.jr_defs.specs.Types.{plain, class_type}

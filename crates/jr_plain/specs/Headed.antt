@@ -1,7 +1,7 @@
 -- What rows have besides being those of a tree, so that supertypes and members are computed by types alone.
 use Rattle.std.specs.Prelude.{ℕ}
-use Rattle.jr_rows.specs.Rows.{Rows}
-use Rattle.jr_rows.specs.Tree.{IsTree}
+use Rattle.jr_tree.specs.Rows.{Rows}
+use Rattle.jr_tree.specs.Tree.{IsTree}
 use Rattle.jr_defs.specs.Declarations.{IsType}
 use Rattle.jr_defs.specs.Headers.{NamesHeader}
 

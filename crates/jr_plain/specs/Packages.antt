@@ -1,7 +1,7 @@
 -- Units, packages and the types that they declare, as tests (JLS 7.3, 7.4, 7.6).
 use Rattle.std.specs.Prelude.{ℕ, Bool, ◌&&◌, List, length, Option, nat_lt, nat_le}
 use Rattle.jr_base.specs.declared.text.Text.{Text}
-use Rattle.jr_rows.specs.Rows.{Rows, label, end}
+use Rattle.jr_tree.specs.Rows.{Rows, label, end}
 use Rattle.jr_defs.specs.Packages.{package_of}
 use Rattle.jr_plain.specs.Search.{any_below, first_below}
 use Rattle.jr_plain.specs.Same.{same_path}

@@ -1,10 +1,10 @@
 // Each plain function computes what its definition says.
 ghost use Rattle.std.specs.Prelude.{◌≡◌, ℕ, ◌<◌, ◌≤◌, Bool, true, List, length, Option, Decides};
 ghost use Rattle.jr_base.specs.declared.text.Text.{Text};
-ghost use Rattle.jr_rows.specs.Local.{IsLocal};
-ghost use Rattle.jr_rows.specs.declared.label.Sought.{Sought};
-ghost use Rattle.jr_rows.specs.Rows.{Rows};
-ghost use Rattle.jr_rows.specs.Tree.{IsTree};
+ghost use Rattle.jr_tree.specs.Local.{IsLocal};
+ghost use Rattle.jr_tree.specs.declared.label.Sought.{Sought};
+ghost use Rattle.jr_tree.specs.Rows.{Rows};
+ghost use Rattle.jr_tree.specs.Tree.{IsTree};
 ghost use Rattle.jr_defs.specs.declared.referent.Referent.{Referent};
 ghost use Rattle.jr_defs.specs.declared.referent.RowType.{RowType};
 ghost use Rattle.jr_defs.specs.declared.referent.Space.{Space};

@@ -8,12 +8,12 @@ use Rattle.jr_base.specs.declared.token.Token.{Token}
 use Rattle.jr_tree.specs.declared.tree.Unit as declared_unit
 use Rattle.jr_tree.specs.Mirror.Decls as d
 use Rattle.jr_tree.specs.Shape.{IsShaped}
-use Rattle.jr_rows.specs.declared.label.Label.TheVariants as is
-use Rattle.jr_rows.specs.declared.row.Row.{Row}
-use Rattle.jr_rows.specs.Forest.{Forest, none, size, node, if_some, each}
-use Rattle.jr_rows.specs.Decls.{package_labels, import_labels, decl_labels, unit_labels}
-use Rattle.jr_rows.specs.Rows.{Rows, row, rows_from, program_rows}
-use Rattle.jr_rows.proofs.Trees.{each_program_is_tree}
+use Rattle.jr_tree.specs.declared.label.Label.TheVariants as is
+use Rattle.jr_tree.specs.declared.row.Row.{Row}
+use Rattle.jr_tree.specs.Forest.{Forest, none, size, node, if_some, each}
+use Rattle.jr_tree.specs.Decls.{package_labels, import_labels, decl_labels, unit_labels}
+use Rattle.jr_tree.specs.Rows.{Rows, row, rows_from, program_rows}
+use Rattle.jr_tree.proofs.Trees.{each_program_is_tree}
 use Rattle.jr_defs.specs.declared.program.UnitAt.{UnitAt}
 use Rattle.jr_defs.specs.declared.program.Program.{Program}
 use Rattle.jr_defs.specs.Prelude.{lang_text}

@@ -8,8 +8,8 @@ use Rattle.jr_tree.specs.Depth.{unit_depth}
 use Rattle.jr_tree.specs.Shape.{IsShaped, IsShapedUnit}
 use Rattle.jr_tree.specs.Tokens.{tokens_of, unit_tokens}
 use Rattle.jr_tree.proofs.Same.Decls.{tree_unit, plain_tree_unit}
-use Rattle.jr_rows.specs.Rows.{program_rows}
-use Rattle.jr_rows.proofs.Locals.{each_program_is_local}
+use Rattle.jr_tree.specs.Rows.{program_rows}
+use Rattle.jr_tree.proofs.Locals.{each_program_is_local}
 use Rattle.jr_defs.specs.declared.program.UnitAt.{UnitAt}
 use Rattle.jr_defs.specs.Formed.{IsFormed}
 use Rattle.jr_defs.specs.Prelude.{lang_text, io_text}

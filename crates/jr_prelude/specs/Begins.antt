@@ -2,11 +2,11 @@
 use Rattle.std.specs.Prelude.{◌≡◌, ℕ, ◌<◌, List, [], ◌∷◌, length, Option, Some, None, codes, if◌then◌else◌}
 use Rattle.std.specs.Str.{bytes_eq}
 use Rattle.jr_base.specs.declared.text.Text.{Text}
-use Rattle.jr_rows.specs.declared.label.Label.TheVariants as is
-use Rattle.jr_rows.specs.Forest.{none, node}
-use Rattle.jr_rows.specs.Decls.{unit_labels}
-use Rattle.jr_rows.specs.Rows.{Rows, row, rows_from}
-use Rattle.jr_rows.specs.Tree.{IsTree}
+use Rattle.jr_tree.specs.declared.label.Label.TheVariants as is
+use Rattle.jr_tree.specs.Forest.{none, node}
+use Rattle.jr_tree.specs.Decls.{unit_labels}
+use Rattle.jr_tree.specs.Rows.{Rows, row, rows_from}
+use Rattle.jr_tree.specs.Tree.{IsTree}
 use Rattle.jr_defs.specs.Declarations.{IsPrelude, IsClass}
 use Rattle.jr_defs.specs.Modifiers.{IsPublic}
 use Rattle.jr_prelude.specs.Lang.{lang_unit}

@@ -9,7 +9,7 @@ use Rattle.jr_base.specs.declared.token.Token.{Token}
 use Rattle.jr_tree.specs.declared.tree.Unit as declared_unit
 use Rattle.jr_tree.specs.Mirror.Decls as d
 use Rattle.jr_tree.specs.Tokens.{unit_tokens}
-use Rattle.jr_rows.specs.Rows.{Rows}
+use Rattle.jr_tree.specs.Rows.{Rows}
 use Rattle.jr_defs.specs.declared.program.Program.{Program}
 use Rattle.jr_defs.specs.Binding.{IsBinding}
 use Rattle.jr_defs.specs.Declarations.{IsPrelude, IsObject, IsString}

@@ -6,8 +6,8 @@ use jr_change::{Change, ChangeFault, Project, Raised, RowRange};
 use jr_draft::{Draft, PRELUDE, asked, count_units, path_of, unit_row};
 use jr_marks::Marks;
 use jr_places::end_at;
-use jr_rows::Row;
 use jr_text::{extent, part, tokens_span, unit_bytes};
+use jr_tree::Row;
 use std::alloc::Global;
 
 /// What takes the method whose name, or a call of which, holds an offset to the superclass of its class. It is to be a method of a class whose superclass

@@ -4,9 +4,9 @@ use Rattle.std.proofs.lemmas.Bool.{cases_lt}
 use Rattle.std.proofs.lemmas.List.{length-append, get_or_past}
 use Rattle.std.proofs.Math.ListN.{get_or-append}
 use Rattle.std.proofs.Math.Seq.{get_or-append_seam}
-use Rattle.jr_rows.specs.declared.label.Label.{Label}
-use Rattle.jr_rows.specs.declared.label.Label.TheVariants as is
-use Rattle.jr_rows.specs.Rows.{Rows, label, parent, previous}
+use Rattle.jr_tree.specs.declared.label.Label.{Label}
+use Rattle.jr_tree.specs.declared.label.Label.TheVariants as is
+use Rattle.jr_tree.specs.Rows.{Rows, label, parent, previous}
 use Rattle.jr_reach.specs.Statements.{Facts, Entries, fact, for_condition, courses}
 use Rattle.jr_reach.specs.Reached.{Reached, is_switch_label, behind, is_no, reached_by, reached_at, AreReached, earlier, reaches, reached, ReadsEarlier, ReachedIsOne, EachIsReached}
 

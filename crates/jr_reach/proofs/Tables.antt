@@ -1,6 +1,6 @@
 -- One more row in a table.
 use Rattle.std.proofs.Common.{◌≡◌, sym, ◌∙◌, ap, ℕ, suc, ◌+◌, ◌-◌, Bool, true, List, [], ◌∷◌, ◌++◌, length, add-one, get_or}
-use Rattle.jr_rows.specs.Rows.{Rows}
+use Rattle.jr_tree.specs.Rows.{Rows}
 use Rattle.jr_reach.specs.declared.course.Entry.{Entry}
 use Rattle.jr_reach.specs.Statements.{Facts, Entries, entry_at, later, entries}
 use Rattle.jr_reach.specs.Reached.{reached_at, reaches}

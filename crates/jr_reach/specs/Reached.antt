@@ -1,8 +1,8 @@
 -- Which rows can be reached (JLS 14.21).
 use Rattle.std.specs.Prelude.{◌≡◌, ◌<◌, ◌≤◌, ℕ, zero, suc, ◌+◌, Bool, true, false, not, ◌&&◌, ◌||◌, if◌then◌else◌, List, [], ◌∷◌, ◌++◌, length, Option, Some, None, nat_eq, slice_index_or}
-use Rattle.jr_rows.specs.declared.label.Label.{Label}
-use Rattle.jr_rows.specs.declared.label.Label.TheVariants as is
-use Rattle.jr_rows.specs.Rows.{Rows, label, parent, previous}
+use Rattle.jr_tree.specs.declared.label.Label.{Label}
+use Rattle.jr_tree.specs.declared.label.Label.TheVariants as is
+use Rattle.jr_tree.specs.Rows.{Rows, label, parent, previous}
 use Rattle.jr_reach.specs.Statements.{Facts, Entries, fact, for_condition, courses}
 
 -- for each row whether it can be reached

@@ -1,8 +1,8 @@
 -- The course of each row, by its label and the courses of the rows behind it (JLS 14.21).
 use Rattle.std.specs.Prelude.{◌≡◌, ◌<◌, ◌≤◌, ℕ, zero, suc, ◌+◌, ◌-◌, Bool, true, false, ◌&&◌, if◌then◌else◌, List, [], ◌∷◌, ◌++◌, length, Option, Some, None, nat_lt, slice_index_or}
-use Rattle.jr_rows.specs.declared.label.Label.{Label}
-use Rattle.jr_rows.specs.declared.label.Label.TheVariants as is
-use Rattle.jr_rows.specs.Rows.{Rows, label, parent, end}
+use Rattle.jr_tree.specs.declared.label.Label.{Label}
+use Rattle.jr_tree.specs.declared.label.Label.TheVariants as is
+use Rattle.jr_tree.specs.Rows.{Rows, label, parent, end}
 use Rattle.jr_reach.specs.declared.fact.Fact.{Fact}
 use Rattle.jr_reach.specs.declared.course.Course.{Course}
 use Rattle.jr_reach.specs.declared.course.Entry.{Entry}

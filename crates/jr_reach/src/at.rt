@@ -1,6 +1,6 @@
 // The course of one row, by those of the rows behind it.
 ghost use Rattle.std.specs.Prelude.{◌≡◌, ◌<◌, ◌^◌, IfOk, Some, length};
-ghost use Rattle.jr_rows.specs.Rows.{label};
+ghost use Rattle.jr_tree.specs.Rows.{label};
 ghost use Rattle.jr_reach.specs.Courses.{looped, looped_once, switched, labeled};
 ghost use Rattle.jr_reach.specs.Statements.{nothing, later, if_course, tried, try_course, course_at, rest_by, entry_at};
 
@@ -11,7 +11,7 @@ use crate::fact::fact_of;
 use crate::parts::{below, catches, condition_of, end_of, is_followed, known};
 use crate::{Course, Entry, Exit, Fact};
 use jr_base::{Items, OutOfMemory};
-use jr_rows::{Label, Row};
+use jr_tree::{Label, Row};
 use std::alloc::Global;
 
 fn loop_course(

@@ -1,6 +1,6 @@
 // Where the rules on jumps, unreached statements and completing bodies are broken.
 ghost use Rattle.std.specs.Prelude.{◌≡◌, ◌++◌, ◌<◌, ◌^◌, OnOk, length};
-ghost use Rattle.jr_rows.specs.Rows.{label};
+ghost use Rattle.jr_tree.specs.Rows.{label};
 ghost use Rattle.jr_reach.specs.Statements.{later};
 ghost use Rattle.jr_reach.specs.Reached.{earlier};
 ghost use Rattle.jr_reach.specs.Faults.{is_lost, is_statement, is_unreached, completes_wrongly, fault_if, faults_at, faults_below};
@@ -11,8 +11,8 @@ use crate::reaching::was_reached;
 use crate::table::completes_at;
 use crate::{Entry, Fact};
 use jr_base::OutOfMemory;
-use jr_rows::{Label, Row};
 use jr_rule::{Fault, Rule};
+use jr_tree::{Label, Row};
 
 // A jump without target.
 fn is_jump_lost(label: &Label, facts: &[Fact], n: usize) -> bool

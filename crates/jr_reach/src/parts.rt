@@ -1,13 +1,13 @@
 // Parts of rows, and what is known of them.
 ghost use Rattle.std.specs.Prelude.{◌≡◌, ◌<◌, ◌≤◌, ◌+◌, ◌^◌, IfOk, length};
-ghost use Rattle.jr_rows.specs.Rows.{parent, end, label};
+ghost use Rattle.jr_tree.specs.Rows.{parent, end, label};
 ghost use Rattle.jr_reach.specs.Courses.{begun};
 ghost use Rattle.jr_reach.specs.Statements.{nothing, later, is_catch, has_next, kids, for_condition};
 
 use crate::course::{copied, start};
 use crate::{Course, Entry};
 use jr_base::OutOfMemory;
-use jr_rows::{Label, Row};
+use jr_tree::{Label, Row};
 use std::alloc::Global;
 
 // The number after what stands below a row; past the end, that of a row alone.

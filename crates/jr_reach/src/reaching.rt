@@ -1,6 +1,6 @@
 // Which rows can be reached.
 ghost use Rattle.std.specs.Prelude.{◌≡◌, ◌<◌, ◌^◌, IfOk, length};
-ghost use Rattle.jr_rows.specs.Rows.{label};
+ghost use Rattle.jr_tree.specs.Rows.{label};
 ghost use Rattle.jr_reach.specs.Statements.{later};
 ghost use Rattle.jr_reach.specs.Reached.{is_switch_label, behind, is_no, reached_at, earlier, reaches};
 
@@ -9,7 +9,7 @@ use crate::parts::{condition_of, parent_of};
 use crate::table::completes_at;
 use crate::{Entry, Fact};
 use jr_base::OutOfMemory;
-use jr_rows::{Label, Row};
+use jr_tree::{Label, Row};
 use std::alloc::Global;
 
 pub(crate) fn was_reached(before: &[bool], n: usize) -> bool

@@ -6,7 +6,7 @@ use crate::at::entry_of;
 use crate::parts::no_entry;
 use crate::{Entry, Fact};
 use jr_base::OutOfMemory;
-use jr_rows::Row;
+use jr_tree::Row;
 use std::alloc::Global;
 
 /// The courses of all rows, the last row first.

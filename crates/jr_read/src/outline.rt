@@ -5,7 +5,7 @@ use crate::program::read_unit;
 use jr_base::{CuId, Items, OutOfMemory, Path};
 use jr_defs::{Program, UnitAt};
 use jr_index::rows_of;
-use jr_rows::Row;
+use jr_tree::Row;
 use std::alloc::Global;
 
 // The rows of a program of one unit.

@@ -4,9 +4,8 @@ use crate::listed::subtypes;
 use jr_base::OutOfMemory;
 use jr_dispatch::Methods;
 use jr_members::{MemberKind, World, declaring_type, is_in_interface};
-use jr_places::{name_at, role_at};
-use jr_rows::Role;
-use jr_tables::Stamps;
+use jr_places::{Stamps, name_at, role_at};
+use jr_tree::Role;
 use std::alloc::Global;
 
 // A call of another method finds the method in one of these classes.

@@ -3,10 +3,9 @@
 use crate::called::{called_as, has_to_string};
 use jr_base::{OutOfMemory, Symbol};
 use jr_defs::RowType;
-use jr_places::end_at;
-use jr_rows::{Label, Row};
+use jr_places::{Stamps, end_at};
 use jr_supers::is_reference;
-use jr_tables::Stamps;
+use jr_tree::{Label, Row};
 use jr_types::is_string_type;
 use jr_view::View;
 use std::alloc::Global;

@@ -8,7 +8,7 @@ use jr_base::Text;
 use jr_change::{ChangeFault, Project, Reason};
 use jr_draft::named_at;
 use jr_places::{is_type, role_at};
-use jr_rows::Role;
+use jr_tree::Role;
 use std::alloc::Global;
 
 // The rows that a report on a declaration lists.

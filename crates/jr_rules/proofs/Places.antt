@@ -4,11 +4,11 @@ use Rattle.std.proofs.lemmas.Bool.{false≢true, cases_lt, cases_eq}
 use Rattle.std.proofs.lemmas.Bool.Decides.{Decides-eqb}
 use Rattle.std.proofs.lemmas.Option.{none-some, same_Some}
 use Rattle.jr_base.specs.declared.kind.Symbol.TheVariants as y
-use Rattle.jr_rows.specs.declared.label.Label.{Label}
-use Rattle.jr_rows.specs.declared.label.Label.TheVariants as is
-use Rattle.jr_rows.specs.declared.label.ReceiverKind.{ReceiverKind}
-use Rattle.jr_rows.specs.Labels.{role_of}
-use Rattle.jr_rows.specs.Rows.{Rows, label, parent, end}
+use Rattle.jr_tree.specs.declared.label.Label.{Label}
+use Rattle.jr_tree.specs.declared.label.Label.TheVariants as is
+use Rattle.jr_tree.specs.declared.label.ReceiverKind.{ReceiverKind}
+use Rattle.jr_tree.specs.Labels.{role_of}
+use Rattle.jr_tree.specs.Rows.{Rows, label, parent, end}
 use Rattle.jr_defs.specs.declared.referent.Element.{Element}
 use Rattle.jr_defs.specs.declared.referent.Element.TheVariants as element
 use Rattle.jr_defs.specs.declared.referent.RowType.{RowType}

@@ -2,12 +2,12 @@
 use Rattle.std.proofs.Common.{◌≡◌, ◌⊎◌, refl, sym, inl, inr, ⊎_elim, ℕ, ◌+◌, Bool, true, false, not, ◌&&◌, length, codes, Option, Decides}
 use Rattle.std.proofs.lemmas.Bool.{false≢true}
 use Rattle.std.proofs.lemmas.Bool.Decides.{Decides-eqb}
-use Rattle.jr_rows.specs.declared.label.Label.{Label}
-use Rattle.jr_rows.specs.declared.label.Label.TheVariants as is
-use Rattle.jr_rows.specs.declared.label.NamePlace.TheVariants as place
-use Rattle.jr_rows.specs.declared.label.Role.{Role}
-use Rattle.jr_rows.specs.declared.label.Role.TheVariants as role
-use Rattle.jr_rows.specs.Rows.{Rows, label, parent, end, role_at}
+use Rattle.jr_tree.specs.declared.label.Label.{Label}
+use Rattle.jr_tree.specs.declared.label.Label.TheVariants as is
+use Rattle.jr_tree.specs.declared.label.NamePlace.TheVariants as place
+use Rattle.jr_tree.specs.declared.label.Role.{Role}
+use Rattle.jr_tree.specs.declared.label.Role.TheVariants as role
+use Rattle.jr_tree.specs.Rows.{Rows, label, parent, end, role_at}
 use Rattle.jr_defs.specs.declared.referent.Element.TheVariants as element
 use Rattle.jr_defs.specs.declared.referent.RowType.{RowType}
 use Rattle.jr_defs.specs.declared.referent.Referent.TheVariants.{Declared}

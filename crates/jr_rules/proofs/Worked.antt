@@ -11,7 +11,7 @@ use Rattle.jr_tree.specs.declared.tree.ThisOrSuper.TheVariants as which
 use Rattle.jr_tree.specs.Mirror.Exprs as x
 use Rattle.jr_tree.specs.Mirror.Stmts as s
 use Rattle.jr_tree.specs.Mirror.Decls as d
-use Rattle.jr_rows.specs.Rows.{Rows}
+use Rattle.jr_tree.specs.Rows.{Rows}
 use Rattle.jr_defs.specs.declared.referent.Referent.TheVariants.{Declared}
 use Rattle.jr_defs.specs.Referents.{Table}
 use Rattle.jr_rules.proofs.Trees.{name, dotted, of_type, of_class, exprs, list_of, block, local, catching, group, groups, field, parameter, members, program, table_of, broken}

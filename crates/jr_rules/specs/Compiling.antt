@@ -1,7 +1,7 @@
 -- Compiling by the rules that are defined so far: those on names, members, types and static contexts.
 use Rattle.std.specs.Prelude.{◌⊎◌, ℕ}
 use Rattle.jr_base.specs.Files.{FileMap}
-use Rattle.jr_rows.specs.Rows.{Rows}
+use Rattle.jr_tree.specs.Rows.{Rows}
 use Rattle.jr_defs.specs.declared.program.Program.{Program}
 use Rattle.jr_defs.specs.Referents.{Table}
 use Rattle.jr_defs.specs.Compiling.{CompilesBy, BreaksAny}

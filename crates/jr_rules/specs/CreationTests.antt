@@ -1,11 +1,11 @@
 -- Rules 22 and 32, computed: constructors that call themselves round, and abstract classes and methods that are used (JLS 8.8.7, 15.9, 15.12.3).
 use Rattle.std.specs.Prelude.{ℕ, Bool, true, false, ◌&&◌, ◌||◌, length, nat_eq}
 use Rattle.jr_tree.specs.declared.tree.ThisOrSuper.TheVariants as which
-use Rattle.jr_rows.specs.declared.label.Label.{Label}
-use Rattle.jr_rows.specs.declared.label.Label.TheVariants as is
-use Rattle.jr_rows.specs.declared.label.ReceiverKind.TheVariants as on
-use Rattle.jr_rows.specs.declared.label.Role.TheVariants as role
-use Rattle.jr_rows.specs.Rows.{Rows, label, parent, role_at}
+use Rattle.jr_tree.specs.declared.label.Label.{Label}
+use Rattle.jr_tree.specs.declared.label.Label.TheVariants as is
+use Rattle.jr_tree.specs.declared.label.ReceiverKind.TheVariants as on
+use Rattle.jr_tree.specs.declared.label.Role.TheVariants as role
+use Rattle.jr_tree.specs.Rows.{Rows, label, parent, role_at}
 use Rattle.jr_defs.specs.Referents.{Table}
 use Rattle.jr_plain.specs.Search.{any_below, reaches}
 use Rattle.jr_plain.specs.Same.{same_role}

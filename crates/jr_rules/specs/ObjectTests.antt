@@ -1,13 +1,13 @@
 -- Rule 11, computed: an instance member, `this`, `super` or an inner class where there is no object (JLS 6.5.6, 8.8.7.1, 15.8.3, 15.8.4, 15.9.2, 15.11.2, 15.12.3).
 use Rattle.std.specs.Prelude.{ℕ, Bool, true, false, not, ◌&&◌, ◌||◌, if◌then◌else◌, Option, Some, None, is_some}
-use Rattle.jr_rows.specs.declared.label.Label.{Label}
-use Rattle.jr_rows.specs.declared.label.Label.TheVariants as is
-use Rattle.jr_rows.specs.declared.label.ReceiverKind.TheVariants as on
-use Rattle.jr_rows.specs.declared.label.Role.{Role}
-use Rattle.jr_rows.specs.declared.label.Role.TheVariants as role
-use Rattle.jr_rows.specs.declared.label.Sought.{Sought}
-use Rattle.jr_rows.specs.declared.label.Sought.TheVariants as sought
-use Rattle.jr_rows.specs.Rows.{Rows, label, role_at, sought_at}
+use Rattle.jr_tree.specs.declared.label.Label.{Label}
+use Rattle.jr_tree.specs.declared.label.Label.TheVariants as is
+use Rattle.jr_tree.specs.declared.label.ReceiverKind.TheVariants as on
+use Rattle.jr_tree.specs.declared.label.Role.{Role}
+use Rattle.jr_tree.specs.declared.label.Role.TheVariants as role
+use Rattle.jr_tree.specs.declared.label.Sought.{Sought}
+use Rattle.jr_tree.specs.declared.label.Sought.TheVariants as sought
+use Rattle.jr_tree.specs.Rows.{Rows, label, role_at, sought_at}
 use Rattle.jr_defs.specs.declared.referent.Referent.{Referent}
 use Rattle.jr_defs.specs.declared.referent.Referent.TheVariants.{Declared}
 use Rattle.jr_defs.specs.Referents.{Table}

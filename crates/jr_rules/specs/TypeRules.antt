@@ -1,6 +1,6 @@
 -- The rules of compiling on types and static contexts, by their numbers in docs/LANGUAGE.md.
 use Rattle.std.specs.Prelude.{ℕ}
-use Rattle.jr_rows.specs.Rows.{Rows}
+use Rattle.jr_tree.specs.Rows.{Rows}
 use Rattle.jr_defs.specs.Referents.{Table}
 use Rattle.jr_rules.specs.Objects.{LacksObject}
 use Rattle.jr_rules.specs.Initializing.{IsUsedTooEarly}

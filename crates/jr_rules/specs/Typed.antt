@@ -1,6 +1,6 @@
 -- Expressions with their types, as children of a row, and the member whose code a place is in (JLS 8.1.6, 15).
 use Rattle.std.specs.Prelude.{◌≡◌, ℕ, ◌+◌, ◌<◌, ◌≤◌}
-use Rattle.jr_rows.specs.Rows.{Rows, parent, end}
+use Rattle.jr_tree.specs.Rows.{Rows, parent, end}
 use Rattle.jr_defs.specs.declared.referent.Element.{Element}
 use Rattle.jr_defs.specs.declared.referent.RowType.{RowType}
 use Rattle.jr_defs.specs.Referents.{Table}

@@ -1,7 +1,7 @@
 -- Children with types, and what rows refer to, computed.
 use Rattle.std.specs.Prelude.{ℕ, Bool, false, if◌then◌else◌, Option, Some, None, nat_eq}
 use Rattle.std.specs.Option.{option_map_or}
-use Rattle.jr_rows.specs.Rows.{Rows, parent}
+use Rattle.jr_tree.specs.Rows.{Rows, parent}
 use Rattle.jr_defs.specs.declared.referent.RowType.{RowType}
 use Rattle.jr_defs.specs.declared.referent.Referent.{Referent}
 use Rattle.jr_defs.specs.declared.referent.Referent.TheVariants.{Declared}

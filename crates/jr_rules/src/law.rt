@@ -1,7 +1,7 @@
 // Each plain function tells where its rule is broken.
 ghost use Rattle.std.specs.Prelude.{◌≡◌, ℕ, ◌+◌, ◌≤◌, ◌<◌, length, Decides};
-ghost use Rattle.jr_rows.specs.Rows.{Rows, label, parent};
-ghost use Rattle.jr_rows.specs.declared.label.Label.TheVariants as is;
+ghost use Rattle.jr_tree.specs.Rows.{Rows, label, parent};
+ghost use Rattle.jr_tree.specs.declared.label.Label.TheVariants as is;
 ghost use Rattle.jr_defs.specs.declared.referent.Element.TheVariants as element;
 ghost use Rattle.jr_defs.specs.declared.referent.RowType.{RowType};
 ghost use Rattle.jr_defs.specs.Types.{plain, HasType};

@@ -3,7 +3,7 @@
 use jr_base::OutOfMemory;
 use jr_members::declaring_type;
 use jr_places::{Places, end_at, name_at};
-use jr_rows::{Label, Row};
+use jr_tree::{Label, Row};
 use std::alloc::Global;
 
 // The row of the last identifier of a unit's package, if it has one (JLS 7.4).

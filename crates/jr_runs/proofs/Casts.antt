@@ -1,7 +1,7 @@
 -- The casts of arguments, one at a time.
 use Rattle.std.proofs.Common.{◌≡◌, refl, sym, ◌∙◌, ap, ℕ, false, List, [], ◌∷◌, Option, Some, None}
 use Rattle.std.specs.Prelude.{is_none}
-use Rattle.jr_rows.specs.Rows.{Rows}
+use Rattle.jr_tree.specs.Rows.{Rows}
 use Rattle.jr_shapes.specs.declared.spelling.TypeName.{TypeName}
 use Rattle.jr_shapes.specs.Arguments.{argument_after}
 use Rattle.jr_runs.specs.declared.item.Front.{Front}

@@ -2,7 +2,7 @@
 use Rattle.std.proofs.Common.{◌≡◌, refl, sym, ◌∙◌, subst, Bool, true, false, ◌&&◌}
 use Rattle.std.proofs.lemmas.Bool.{false≢true}
 use mathlib.Core.Bool.{beq}
-use Rattle.jr_rows.specs.declared.label.Modifiers.{Modifiers}
+use Rattle.jr_tree.specs.declared.label.Modifiers.{Modifiers}
 
 make : Bool → Bool → Bool → Bool → Bool → Bool → Bool → Modifiers
 make a b c d e f g = record { is_public = a; is_protected = b; is_private = c; is_abstract = d; is_static = e; is_final = f; is_native = g }

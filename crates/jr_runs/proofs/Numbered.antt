@@ -1,8 +1,8 @@
 -- Labels that have nothing besides are told by their number; all others are in a group.
 use Rattle.std.proofs.Common.{◌≡◌, refl, sym, ◌∙◌, ap, ℕ, true, cond, eqb, ◌||◌, Option, Some, None, IfSome}
 use Rattle.std.proofs.lemmas.Option.{same_Some}
-use Rattle.jr_rows.specs.declared.label.Label.{Label}
-use Rattle.jr_rows.specs.declared.label.Label.TheVariants as is
+use Rattle.jr_tree.specs.declared.label.Label.{Label}
+use Rattle.jr_tree.specs.declared.label.Label.TheVariants as is
 use Rattle.jr_runs.specs.Labels.{number_of, is_type_like, is_member_like, is_variable_like, is_statement_like, is_operation_like, is_operand_like}
 
 -- the label of a number

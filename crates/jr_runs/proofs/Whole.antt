@@ -1,6 +1,6 @@
 -- What is found of marks and plans, put together.
 use Rattle.std.proofs.Common.{◌≡◌, sym, subst, List, length}
-use Rattle.jr_rows.specs.Rows.{Rows}
+use Rattle.jr_tree.specs.Rows.{Rows}
 use Rattle.jr_defs.specs.Referents.{Table}
 use Rattle.jr_shapes.specs.declared.spelling.Spelling.{Spelling}
 use Rattle.jr_runs.specs.Marks.{Marks, marks}

@@ -1,14 +1,14 @@
 -- The labels of rows that are spelled anew: names that become selections, and what stands before the dot of a call (JLS 6.5, 15.11, 15.12).
 use Rattle.std.specs.Prelude.{ℕ, zero, suc, ◌+◌, ◌-◌, Bool, true, false, not, ◌&&◌, if◌then◌else◌, List, [], ◌∷◌, ◌++◌, length, Option, Some, None, slice_get, slice_index_or, nat_eq, nat_lt}
-use Rattle.jr_rows.specs.declared.label.Label.{Label}
-use Rattle.jr_rows.specs.declared.label.Label.TheVariants as is
-use Rattle.jr_rows.specs.declared.label.NameKind.{NameKind}
-use Rattle.jr_rows.specs.declared.label.NameKind.TheVariants as kind
-use Rattle.jr_rows.specs.declared.label.NamePlace.{NamePlace}
-use Rattle.jr_rows.specs.declared.label.NamePlace.TheVariants as place
-use Rattle.jr_rows.specs.declared.label.ReceiverKind.{ReceiverKind}
-use Rattle.jr_rows.specs.declared.label.ReceiverKind.TheVariants as on
-use Rattle.jr_rows.specs.Rows.{Rows, label}
+use Rattle.jr_tree.specs.declared.label.Label.{Label}
+use Rattle.jr_tree.specs.declared.label.Label.TheVariants as is
+use Rattle.jr_tree.specs.declared.label.NameKind.{NameKind}
+use Rattle.jr_tree.specs.declared.label.NameKind.TheVariants as kind
+use Rattle.jr_tree.specs.declared.label.NamePlace.{NamePlace}
+use Rattle.jr_tree.specs.declared.label.NamePlace.TheVariants as place
+use Rattle.jr_tree.specs.declared.label.ReceiverKind.{ReceiverKind}
+use Rattle.jr_tree.specs.declared.label.ReceiverKind.TheVariants as on
+use Rattle.jr_tree.specs.Rows.{Rows, label}
 use Rattle.jr_shapes.specs.declared.spelling.Shape.{Shape}
 use Rattle.jr_shapes.specs.declared.spelling.Shape.TheVariants as shape
 use Rattle.jr_shapes.specs.declared.spelling.Spelling.{Spelling}

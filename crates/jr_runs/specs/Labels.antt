@@ -1,7 +1,7 @@
 -- Labels by groups, so that their equality is tested group by group.
 use Rattle.std.specs.Prelude.{ℕ, Bool, true, false, Option, Some, None}
-use Rattle.jr_rows.specs.declared.label.Label.{Label}
-use Rattle.jr_rows.specs.declared.label.Label.TheVariants as is
+use Rattle.jr_tree.specs.declared.label.Label.{Label}
+use Rattle.jr_tree.specs.declared.label.Label.TheVariants as is
 
 -- the number of a label that has nothing besides
 abbrev pub number_of_declaration : Label → Option ℕ

@@ -1,6 +1,6 @@
 -- What the spellings say of rows: which spelling each has, what is cast, and which are written with the row over them.
 use Rattle.std.specs.Prelude.{ℕ, ◌+◌, Bool, true, false, List, [], ◌∷◌, length, Option, Some, None, slice_set, slice_index_or, replicate, if◌then◌else◌, nat_lt}
-use Rattle.jr_rows.specs.Rows.{Rows}
+use Rattle.jr_tree.specs.Rows.{Rows}
 use Rattle.jr_defs.specs.Referents.{Table}
 use Rattle.jr_shapes.specs.declared.spelling.Shape.{Shape}
 use Rattle.jr_shapes.specs.declared.spelling.Shape.TheVariants as shape

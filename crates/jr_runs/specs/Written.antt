@@ -1,10 +1,10 @@
 -- The rows that are written for parts of a spelling, each from its number on (JLS 6.2, 15.8.3, 15.8.4, 15.16).
 use Rattle.std.specs.Prelude.{ℕ, ◌+◌, Bool, true, false, List, [], ◌∷◌, ◌++◌, length, Option, Some, None, slice_get, if◌then◌else◌}
 use Rattle.jr_tree.specs.declared.tree.Primitive.{Primitive}
-use Rattle.jr_rows.specs.declared.label.NameKind.{NameKind}
-use Rattle.jr_rows.specs.declared.label.NameKind.TheVariants as kind
-use Rattle.jr_rows.specs.declared.label.NamePlace.TheVariants as place
-use Rattle.jr_rows.specs.Rows.{Rows}
+use Rattle.jr_tree.specs.declared.label.NameKind.{NameKind}
+use Rattle.jr_tree.specs.declared.label.NameKind.TheVariants as kind
+use Rattle.jr_tree.specs.declared.label.NamePlace.TheVariants as place
+use Rattle.jr_tree.specs.Rows.{Rows}
 use Rattle.jr_defs.specs.declared.referent.Referent.{Referent}
 use Rattle.jr_defs.specs.declared.referent.Referent.TheVariants.{Unbound, Declared}
 use Rattle.jr_shapes.specs.Names.{is_atom}

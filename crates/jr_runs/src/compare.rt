@@ -9,8 +9,8 @@ use crate::plan::Plan;
 use crate::suiting::first_unsuited;
 use jr_base::OutOfMemory;
 use jr_defs::Referent;
-use jr_rows::Row;
 use jr_shapes::Spelling;
+use jr_tree::Row;
 use std::alloc::Global;
 
 // The old row for which the first row is written that is not the one that is to be written.

@@ -1,9 +1,9 @@
 // Whether a written row is the one that is to be written.
 ghost use Rattle.std.specs.Prelude.{◌≡◌, ◌↔◌, ◌<◌, IsTrue, length, slice_index_or};
-ghost use Rattle.jr_rows.specs.Rows as rows_of;
+ghost use Rattle.jr_tree.specs.Rows as rows_of;
 ghost use Rattle.jr_defs.specs.Referents.{entries};
 ghost use Rattle.jr_defs.specs.Correspondence.{moved, moved_level};
-ghost use Rattle.jr_rows.specs.declared.label.Label.TheVariants as is;
+ghost use Rattle.jr_tree.specs.declared.label.Label.TheVariants as is;
 ghost use Rattle.jr_runs.specs.Planned.{seen_plan};
 ghost use Rattle.jr_runs.specs.Respelled as spec;
 
@@ -12,8 +12,8 @@ use crate::labels::{is_call, is_name, is_this, is_type_use, same_label};
 use crate::plan::Plan;
 use jr_defs::Referent;
 use jr_places::{name_at, parent_at};
-use jr_rows::{Label, Row};
 use jr_shapes::{end_of, is_part};
+use jr_tree::{Label, Row};
 
 fn is_paren(label: &Label) -> bool
     ensures { IsTrue result ↔ (label.now ≡ is.Paren) }

@@ -1,9 +1,8 @@
 // The rows that are written.
 
 use jr_defs::Referent;
-use jr_rows::{NameKind, NamePlace, ReceiverKind};
 use jr_shapes::{Suffix, TypeName};
-use jr_tree::Primitive;
+use jr_tree::{NameKind, NamePlace, Primitive, ReceiverKind};
 
 /// What a written row refers to.
 #[derive(Clone, Copy)]

@@ -1,12 +1,13 @@
 // Equality of labels.
 ghost use Rattle.std.specs.Prelude.{◌≡◌, ◌↔◌, IsTrue, None};
-ghost use Rattle.jr_rows.specs.declared.label.Label.TheVariants as is;
+ghost use Rattle.jr_tree.specs.declared.label.Label.TheVariants as is;
 ghost use Rattle.jr_runs.specs.Labels as spec;
 
 use crate::kinds::same_kind;
 use jr_base::{Kind, Symbol};
-use jr_rows::{ImportKind, Label, Modifiers, NameKind, NamePlace, ReceiverKind};
-use jr_tree::{Primitive, ThisOrSuper};
+use jr_tree::{
+    ImportKind, Label, Modifiers, NameKind, NamePlace, Primitive, ReceiverKind, ThisOrSuper,
+};
 
 /// The number of a label of a declaration that has nothing besides.
 fn number_of_declaration(label: &Label) -> Option<u8>

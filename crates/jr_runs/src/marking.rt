@@ -6,8 +6,8 @@ ghost use Rattle.jr_runs.specs.Marks as spec;
 use crate::item::Front;
 use jr_base::OutOfMemory;
 use jr_defs::Referent;
-use jr_rows::Row;
 use jr_shapes::{Shape, Spelling, TypeName, argument_after, first_argument, parts_of, receiver_of};
+use jr_tree::Row;
 use std::alloc::Global;
 
 /// What spellings say of rows.

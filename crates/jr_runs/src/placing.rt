@@ -1,6 +1,6 @@
 // What is written before and behind a row.
 ghost use Rattle.std.specs.Prelude.{◌≡◌, ◌+◌, ◌++◌, ◌<◌, ◌^◌, IfOk, OnOk, Some, None, [], take, drop, length, slice_get};
-ghost use Rattle.jr_rows.specs.Rows.{label};
+ghost use Rattle.jr_tree.specs.Rows.{label};
 ghost use Rattle.jr_shapes.specs.declared.spelling.Shape.TheVariants as shape_is;
 ghost use Rattle.jr_runs.specs.declared.item.Front.TheVariants as front_is;
 ghost use Rattle.jr_runs.specs.Written.{enclosed_cast};
@@ -14,9 +14,8 @@ use crate::writing::{
 };
 use jr_base::OutOfMemory;
 use jr_defs::{Element, Referent};
-use jr_rows::{Label, Row};
 use jr_shapes::{Shape, Spelling, Suffix, TypeName, kept_rows, parts_of, suffix_rows};
-use jr_tree::Primitive;
+use jr_tree::{Label, Primitive, Row};
 use std::alloc::Global;
 
 fn primitive_of(element: Element) -> Option<Primitive>

@@ -13,8 +13,8 @@ use crate::shaping::{form_of, spelling_of};
 use crate::turning::turned;
 use jr_base::OutOfMemory;
 use jr_defs::Referent;
-use jr_rows::Row;
 use jr_shapes::{Spelling, named_by, referent_at};
+use jr_tree::Row;
 use std::alloc::Global;
 
 /// The rows that are written, with where they come from.

@@ -7,8 +7,8 @@ ghost use Rattle.jr_runs.specs.Marks.{seen};
 
 use crate::item::{Form, Front};
 use crate::marking::Marking;
-use jr_rows::{Label, NameKind, NamePlace, ReceiverKind, Row};
 use jr_shapes::{Shape, Spelling};
+use jr_tree::{Label, NameKind, NamePlace, ReceiverKind, Row};
 
 /// The spelling of a row, if it has one.
 pub fn spelling_of<'a>(marks: &Marking, spellings: &'a [Spelling], row: u32) -> Option<&'a Spelling>

@@ -1,6 +1,6 @@
 // Whether spellings suit their rows.
 ghost use Rattle.std.specs.Prelude.{◌≡◌, ◌+◌, ◌<◌, ◌^◌, IfOk, IsNone, length, nat_eq, nat_lt};
-ghost use Rattle.jr_rows.specs.Rows.{label};
+ghost use Rattle.jr_tree.specs.Rows.{label};
 ghost use Rattle.jr_defs.specs.declared.referent.Referent.TheVariants as referent;
 ghost use Rattle.jr_defs.specs.Referents.{entries};
 ghost use Rattle.jr_runs.specs.Marks.{seen};
@@ -11,11 +11,11 @@ ghost use Rattle.jr_runs.specs.Suits.{AllSuit};
 use crate::marking::Marking;
 use jr_base::OutOfMemory;
 use jr_defs::Referent;
-use jr_rows::{Label, ReceiverKind, Row};
 use jr_shapes::{
     Shape, Spelling, Suffix, TypeName, argument_after, first_argument, kept_rows, parts_of,
     receiver_of, referent_at, suffix_rows,
 };
+use jr_tree::{Label, ReceiverKind, Row};
 use std::alloc::Global;
 
 fn is_number(chosen: Option<usize>, number: usize) -> bool

@@ -6,8 +6,8 @@ ghost use Rattle.jr_runs.specs.Marks.{seen};
 use crate::marking::Marking;
 use crate::shaping::{shape_at, turns_label};
 use jr_base::OutOfMemory;
-use jr_rows::Row;
 use jr_shapes::Spelling;
+use jr_tree::Row;
 use std::alloc::Global;
 
 fn turns(rows: &[Row], spellings: &[Spelling], marks: &Marking, at: u32, next: bool) -> bool

@@ -5,9 +5,8 @@ ghost use Rattle.jr_runs.specs.Written as spec;
 use crate::item::{Form, Item, Meaning, Refers};
 use jr_base::OutOfMemory;
 use jr_defs::Referent;
-use jr_rows::{NameKind, NamePlace, Row};
 use jr_shapes::is_atom;
-use jr_tree::Primitive;
+use jr_tree::{NameKind, NamePlace, Primitive, Row};
 
 /// The number of a row so many behind one.
 pub fn ahead(at: usize, count: usize) -> Result<usize, OutOfMemory>

@@ -1,6 +1,6 @@
 -- The last identifiers of a type's name, one at a time.
 use Rattle.std.proofs.Common.{◌≡◌, refl, sym, ◌∙◌, ap, arith, ℕ, zero, suc, ◌+◌, ◌-◌, ◌<◌, ◌≤◌, List, [], ◌∷◌, ◌++◌, take, Option, Some, None, append_assoc, append-nil}
-use Rattle.jr_rows.specs.Rows.{Rows}
+use Rattle.jr_tree.specs.Rows.{Rows}
 use Rattle.jr_shapes.specs.Names.{around, package_names, suffix}
 
 -- these are the first ones, and so many follow from the type c on

@@ -1,9 +1,9 @@
 -- The arguments of a call or creation, by rows (JLS 15.12, 15.9, 8.8.7.1).
 use Rattle.std.specs.Prelude.{ℕ, ◌+◌, if◌then◌else◌, Option, Some, None, nat_lt}
-use Rattle.jr_rows.specs.declared.label.Label.{Label}
-use Rattle.jr_rows.specs.declared.label.Label.TheVariants as is
-use Rattle.jr_rows.specs.declared.label.ReceiverKind.{ReceiverKind}
-use Rattle.jr_rows.specs.Rows.{Rows, label}
+use Rattle.jr_tree.specs.declared.label.Label.{Label}
+use Rattle.jr_tree.specs.declared.label.Label.TheVariants as is
+use Rattle.jr_tree.specs.declared.label.ReceiverKind.{ReceiverKind}
+use Rattle.jr_tree.specs.Rows.{Rows, label}
 use Rattle.jr_shapes.specs.declared.parts.Before.{Before}
 use Rattle.jr_shapes.specs.declared.parts.Before.TheVariants.{Nothing}
 use Rattle.jr_shapes.specs.Parts.{end_of, before_call}

@@ -4,7 +4,7 @@ ghost use Rattle.jr_shapes.specs.Arguments as spec;
 
 use crate::parts::{Before, before_call};
 use crate::reading::end_of;
-use jr_rows::{Label, ReceiverKind, Row};
+use jr_tree::{Label, ReceiverKind, Row};
 
 fn argument_of_call(rows: &[Row], row: u32, receiver: ReceiverKind) -> u32
     requires { row + 1 < 2 ^ 32 }

@@ -10,7 +10,7 @@ use crate::spelling::Suffix;
 use jr_base::OutOfMemory;
 use jr_defs::Referent;
 use jr_places::parent_at;
-use jr_rows::{Label, Row};
+use jr_tree::{Label, Row};
 use std::alloc::Global;
 
 fn is_atom_label(label: &Label) -> bool

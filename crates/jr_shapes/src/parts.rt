@@ -6,7 +6,7 @@ ghost use Rattle.jr_shapes.specs.Parts as spec;
 use crate::reading::{end_of, is_part, referent_at};
 use jr_base::OutOfMemory;
 use jr_defs::Referent;
-use jr_rows::{Label, ReceiverKind, Row};
+use jr_tree::{Label, ReceiverKind, Row};
 use std::alloc::Global;
 
 /// What stands before the dot of a reference.

@@ -5,7 +5,7 @@ ghost use Rattle.jr_shapes.specs.Parts as spec;
 
 use jr_defs::Referent;
 use jr_places::is_type;
-use jr_rows::Row;
+use jr_tree::Row;
 
 /// Where what is below a row ends; the row itself where there is none.
 pub fn end_of(rows: &[Row], at: u32) -> u32

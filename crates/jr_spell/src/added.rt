@@ -7,8 +7,8 @@ use jr_base::OutOfMemory;
 use jr_change::{Suffix, TypeName};
 use jr_defs::{Element, Referent, RowType};
 use jr_members::declaring_type;
-use jr_rows::NameKind;
 use jr_supers::declaration;
+use jr_tree::NameKind;
 use std::alloc::Global;
 
 /// The name of a type, and what its identifiers refer to.

@@ -6,12 +6,10 @@ use crate::speller::Speller;
 use jr_base::OutOfMemory;
 use jr_change::TypeName;
 use jr_defs::{Referent, RowType};
-use jr_lookup::{Candidates, Receiver, instance_round};
-use jr_overload::choose;
+use jr_lookup::{Candidates, Receiver, choose, instance_round};
 use jr_places::{end_at, parent_at};
-use jr_rows::Sought;
 use jr_supers::class_type;
-use jr_tree::ThisOrSuper;
+use jr_tree::{Sought, ThisOrSuper};
 use std::alloc::Global;
 
 impl<'a> Speller<'a> {

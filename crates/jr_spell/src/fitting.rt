@@ -6,8 +6,8 @@ use jr_change::Shape;
 use jr_defs::{Referent, RowType};
 use jr_members::is_static;
 use jr_places::role_at;
-use jr_rows::Role;
 use jr_supers::declaration;
+use jr_tree::Role;
 
 /// How a spelling reaches what it finds.
 #[derive(Clone, Copy, Debug, PartialEq, Eq)]

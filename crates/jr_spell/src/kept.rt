@@ -8,7 +8,7 @@ use jr_base::OutOfMemory;
 use jr_change::Shape;
 use jr_defs::{Referent, RowType};
 use jr_places::is_type;
-use jr_rows::Sought;
+use jr_tree::Sought;
 use std::alloc::Global;
 
 /// The way of a name alone, or of `super` and a name.

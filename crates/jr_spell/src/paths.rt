@@ -2,9 +2,8 @@
 
 use jr_base::OutOfMemory;
 use jr_lookup::Left;
-use jr_places::{Places, end_at, parent_at};
-use jr_rows::{Label, Row};
-use jr_tables::Numbering;
+use jr_places::{Numbering, Places, end_at, parent_at};
+use jr_tree::{Label, Row};
 use std::alloc::Global;
 
 /// Rows that stand one below the other, from `first` to before `end`: the identifiers of a name from its last one back.

@@ -6,8 +6,8 @@ use jr_defs::Referent;
 use jr_lookup::import_kind;
 use jr_members::is_static;
 use jr_places::{end_at, is_type, parent_at, role_at, sought_at};
-use jr_rows::{Label, NameKind, NamePlace, Role, Row, Sought};
 use jr_supers::declaration;
+use jr_tree::{Label, NameKind, NamePlace, Role, Row, Sought};
 
 /// Which spellings a reference may have besides the one that keeps its shape.
 #[derive(Clone, Copy, Debug, PartialEq, Eq)]

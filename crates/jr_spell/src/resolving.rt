@@ -4,9 +4,8 @@ use crate::speller::Speller;
 use jr_base::OutOfMemory;
 use jr_defs::Referent;
 use jr_lookup::Left;
-use jr_places::is_type;
-use jr_rows::NameKind;
-use jr_tables::Numbering;
+use jr_places::{Numbering, is_type};
+use jr_tree::NameKind;
 use std::alloc::Global;
 
 /// What stands before an identifier.

@@ -10,8 +10,8 @@ use jr_change::{Shape, Suffix};
 use jr_defs::{Referent, RowType};
 use jr_lookup::{Left, has_instance, instance_round};
 use jr_members::declaring_type;
-use jr_rows::Sought;
 use jr_supers::class_type;
+use jr_tree::Sought;
 use std::alloc::Global;
 
 impl<'a> Speller<'a> {

@@ -6,8 +6,8 @@ use jr_defs::RowType;
 use jr_lookup::Sight;
 use jr_members::World;
 use jr_places::Places;
-use jr_rows::Row;
 use jr_supers::Tabled;
+use jr_tree::Row;
 use jr_view::View;
 
 /// The changed program under its locks, with what its references were.

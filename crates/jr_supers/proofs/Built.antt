@@ -4,14 +4,14 @@ use Rattle.std.proofs.lemmas.Bool.{false≢true, or_left, or_right, or_cases}
 use Rattle.std.proofs.lemmas.Bool.Decides.{Decides-eqb}
 use Rattle.std.proofs.lemmas.List.{length-set}
 use Rattle.std.proofs.lemmas.Option.{none-some}
-use Rattle.jr_rows.specs.Rows.{Rows}
+use Rattle.jr_tree.specs.Rows.{Rows}
 use Rattle.jr_defs.specs.Referents.{Table}
 use Rattle.jr_defs.specs.Declarations.{IsType}
 use Rattle.jr_defs.specs.Supertypes.{Super}
 use Rattle.jr_plain.specs.Search.{has, Reaches}
 use Rattle.jr_plain.specs.Headed.{IsHeaded}
 use Rattle.jr_plain.proofs.Bounds.{type_below}
-use Rattle.jr_tables.specs.declared.chains.Entry.{Entry}
+use Rattle.jr_places.specs.declared.chains.Entry.{Entry}
 use Rattle.jr_supers.specs.declared.above.Link.{Link}
 use Rattle.jr_supers.specs.Direct.{supers_in, HasSupers}
 use Rattle.jr_supers.specs.Order.{IsSuperIn, HasNoLoop, AreBehind, IsOrderOf}

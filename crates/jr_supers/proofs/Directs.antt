@@ -5,10 +5,10 @@ use Rattle.std.proofs.lemmas.Bool.Decides.{Decides-eqb}
 use Rattle.std.proofs.lemmas.Option.{none-some, same_Some}
 use Rattle.std.proofs.Math.Seq.{get_or-append_seam}
 use Rattle.std.proofs.Math.ListN.{get_or-append}
-use Rattle.jr_rows.specs.declared.label.Label.{Label}
-use Rattle.jr_rows.specs.declared.label.Label.TheVariants as is
-use Rattle.jr_rows.specs.declared.label.NamePlace.TheVariants as place
-use Rattle.jr_rows.specs.Rows.{Rows, label, parent}
+use Rattle.jr_tree.specs.declared.label.Label.{Label}
+use Rattle.jr_tree.specs.declared.label.Label.TheVariants as is
+use Rattle.jr_tree.specs.declared.label.NamePlace.TheVariants as place
+use Rattle.jr_tree.specs.Rows.{Rows, label, parent}
 use Rattle.jr_defs.specs.declared.referent.Referent.{Referent}
 use Rattle.jr_defs.specs.declared.referent.Referent.TheVariants.{Declared}
 use Rattle.jr_defs.specs.Referents.{Table}
@@ -23,8 +23,8 @@ use Rattle.jr_plain.proofs.Searches.{finds}
 use Rattle.jr_plain.proofs.Bounds.{class_below, type_below}
 use Rattle.jr_plain.proofs.Declared.{class_tells, object_tells}
 use Rattle.jr_plain.proofs.Supertyped.{names_superclass_tells, superclass_name_below, superinterface_name_below}
-use Rattle.jr_tables.specs.declared.chains.Entry.{Entry}
-use Rattle.jr_tables.specs.Chains.{entry_at, rows_under}
+use Rattle.jr_places.specs.declared.chains.Entry.{Entry}
+use Rattle.jr_places.specs.Chains.{entry_at, rows_under}
 use Rattle.jr_supers.specs.declared.supers.HeaderPlace.{HeaderPlace}
 use Rattle.jr_supers.specs.declared.supers.HeaderPlace.TheVariants as header
 use Rattle.jr_supers.specs.Direct.{header_place, names_first, has_implied, object_row, super_entry, implied_entry, declared_entry, named_entry, super_at, entry_list, super_entries, supers_in, FallsFrom, HasSupers, SuperclassesStandFirst}

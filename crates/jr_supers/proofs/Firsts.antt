@@ -2,11 +2,11 @@
 use Rattle.std.proofs.Common.{◌≡◌, sym, ◌∙◌, ap, ap₂, ⊎_elim, arith, ℕ, zero, suc, ◌+◌, ◌<◌, ◌≤◌, Bool, true, cond, add-one, List, ◌++◌, length, Option, Some, None}
 use Rattle.std.specs.Option.{option_or}
 use Rattle.std.proofs.lemmas.Bool.{cases_eq}
-use Rattle.jr_rows.specs.Rows.{Rows}
+use Rattle.jr_tree.specs.Rows.{Rows}
 use Rattle.jr_plain.specs.Search.{first_below}
 use Rattle.jr_plain.specs.Declarations.{is_object}
 use Rattle.jr_defs.specs.Referents.{Table}
-use Rattle.jr_tables.specs.declared.chains.Entry.{Entry}
+use Rattle.jr_places.specs.declared.chains.Entry.{Entry}
 use Rattle.jr_supers.specs.Direct.{object_row, super_at, entry_list, super_entries}
 
 stays : (test : ℕ → Bool) (n k x : ℕ) → n ≤ k → first_below n test ≡ Some x → first_below k test ≡ Some x

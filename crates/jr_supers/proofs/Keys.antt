@@ -6,8 +6,8 @@ use Rattle.std.proofs.lemmas.List.{length-map}
 use Rattle.std.proofs.Math.Seq.{get_or-append_seam}
 use Rattle.std.proofs.Math.ListN.{get_or-append}
 use Rattle.jr_plain.specs.Search.{has, last_below}
-use Rattle.jr_tables.specs.declared.chains.Entry.{Entry}
-use Rattle.jr_tables.specs.Chains.{entry_at, last_under, rows_under}
+use Rattle.jr_places.specs.declared.chains.Entry.{Entry}
+use Rattle.jr_places.specs.Chains.{entry_at, last_under, rows_under}
 use Rattle.jr_supers.specs.Pairs.{lowered, has_pair, uppers, with_pair, with_pairs}
 use Rattle.jr_supers.specs.Above.{is_some_item}
 

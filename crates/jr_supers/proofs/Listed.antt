@@ -5,7 +5,7 @@ use Rattle.std.proofs.lemmas.Bool.{false≢true, or_left, or_right, or_cases}
 use Rattle.std.proofs.lemmas.Bool.Decides.{Decides-eqb}
 use Rattle.std.proofs.lemmas.List.Folds.{list_any-append}
 use Rattle.std.proofs.lemmas.List.Sorted.{list_any-IsPermutation}
-use Rattle.jr_rows.specs.Rows.{Rows}
+use Rattle.jr_tree.specs.Rows.{Rows}
 use Rattle.jr_defs.specs.Referents.{Table}
 use Rattle.jr_defs.specs.Declarations.{IsObject}
 use Rattle.jr_defs.specs.Supertypes.{Above, AtOrAbove}

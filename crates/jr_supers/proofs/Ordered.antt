@@ -6,14 +6,14 @@ use Rattle.std.proofs.lemmas.List.{get_or-set_same, get_or-set_other, length-set
 use Rattle.std.proofs.lemmas.List.Folds.{list_any-append}
 use Rattle.std.proofs.lemmas.Option.{none-some}
 use Rattle.std.specs.Option.{MatchOption}
-use Rattle.jr_rows.specs.Rows.{Rows}
+use Rattle.jr_tree.specs.Rows.{Rows}
 use Rattle.jr_defs.specs.Declarations.{IsType}
 use Rattle.jr_plain.specs.Search.{has, Reaches, numbers}
 use Rattle.jr_plain.specs.Declarations.{is_type}
 use Rattle.jr_plain.proofs.Least.{below}
 use Rattle.jr_plain.proofs.Bounds.{type_below}
 use Rattle.jr_plain.proofs.Declared.{type_tells}
-use Rattle.jr_tables.specs.declared.chains.Entry.{Entry}
+use Rattle.jr_places.specs.declared.chains.Entry.{Entry}
 use Rattle.jr_supers.specs.declared.ordering.Open.{Open}
 use Rattle.jr_supers.specs.Direct.{supers_in}
 use Rattle.jr_supers.specs.Order.{IsSuperIn, HasNoLoop, AreBehind, IsOrderOf, is_met, enters, leaves_it, entering, enter, leave, step, turns_at, turns_below, turns_left, is_open, is_entered, IsPath, IsSearching, Search, searching}

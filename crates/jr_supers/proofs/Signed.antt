@@ -3,7 +3,7 @@ use Rattle.std.proofs.Common.{◌≡◌, refl, sym, ◌∙◌, ap, ap₂, subst,
 use Rattle.std.specs.Prelude.{bytes_eq, slice_index_or}
 use Rattle.std.proofs.lemmas.Bool.Decides.{Decides-eqb}
 use Rattle.std.proofs.lemmas.Slice.Eq.{bytes_eq-Decides}
-use Rattle.jr_rows.specs.Rows.{Rows, name, role_at}
+use Rattle.jr_tree.specs.Rows.{Rows, name, role_at}
 use Rattle.jr_defs.specs.declared.referent.Element.{Element}
 use Rattle.jr_defs.specs.declared.referent.Element.TheVariants as element
 use Rattle.jr_defs.specs.declared.referent.RowType.{RowType}
@@ -12,8 +12,8 @@ use Rattle.jr_plain.specs.Same.{same_types}
 use Rattle.jr_plain.specs.Types.{parameters, is_same_signature, are_same_types}
 use Rattle.jr_plain.proofs.Same.{types_tell}
 use Rattle.jr_plain.proofs.Tests.{both, like}
-use Rattle.jr_tables.specs.Numbers.{IsOneToOne, IsNumberOf}
-use Rattle.jr_tables.proofs.Numbered.{one_number, one_list}
+use Rattle.jr_places.specs.Numbers.{IsOneToOne, IsNumberOf}
+use Rattle.jr_places.proofs.Numbered.{one_number, one_list}
 use Rattle.jr_places.specs.Names.{name_row}
 use Rattle.jr_places.proofs.Packing.{name_tells}
 use Rattle.jr_supers.specs.declared.signatures.Signature.{Signature}

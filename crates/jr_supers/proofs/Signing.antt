@@ -4,17 +4,17 @@ use Rattle.std.proofs.Math.ListN.{get_or-append}
 use Rattle.std.proofs.Math.Seq.{get_or-append_seam}
 use Rattle.std.proofs.lemmas.Bool.{false≢true, cases_eq, cases_lt}
 use Rattle.std.proofs.lemmas.List.{drop-append-le, drop_at, take-append-le, take_all, length-drop, get_or_past}
-use Rattle.jr_rows.specs.declared.label.Role.TheVariants as role
-use Rattle.jr_rows.specs.Labels.{role_of}
-use Rattle.jr_rows.specs.Rows.{Rows, parent, end, role_at}
+use Rattle.jr_tree.specs.declared.label.Role.TheVariants as role
+use Rattle.jr_tree.specs.Labels.{role_of}
+use Rattle.jr_tree.specs.Rows.{Rows, parent, end, role_at}
 use Rattle.jr_defs.specs.declared.referent.RowType.{RowType}
 use Rattle.jr_defs.specs.Referents.{Table}
 use Rattle.jr_plain.specs.Same.{same_role}
 use Rattle.jr_plain.specs.Types.{before, type_of_declared, parameters, parameters_by, parameters_from}
 use Rattle.jr_plain.proofs.Bounds.{label_past, parent_past}
-use Rattle.jr_tables.specs.declared.numbering.Numbering.{Numbering}
-use Rattle.jr_tables.specs.Numbers.{number_in, IsNumbering, IsNumberOf, Adds}
-use Rattle.jr_tables.proofs.Numbered.{number_kept}
+use Rattle.jr_places.specs.declared.numbering.Numbering.{Numbering}
+use Rattle.jr_places.specs.Numbers.{number_in, IsNumbering, IsNumberOf, Adds}
+use Rattle.jr_places.proofs.Numbered.{number_kept}
 use Rattle.jr_places.specs.Names.{name_row}
 use Rattle.jr_supers.specs.declared.signatures.Signature.{Signature}
 use Rattle.jr_supers.specs.declared.signatures.Signatures as code

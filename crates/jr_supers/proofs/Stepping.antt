@@ -5,7 +5,7 @@ use Rattle.std.proofs.lemmas.Bool.Decides.{Decides-eqb}
 use Rattle.std.proofs.lemmas.List.{get_or-set_same, get_or-set_other}
 use Rattle.std.proofs.lemmas.List.Folds.{list_any-append}
 use Rattle.std.proofs.lemmas.Option.{none-some, same_Some}
-use Rattle.jr_rows.specs.Rows.{Rows}
+use Rattle.jr_tree.specs.Rows.{Rows}
 use Rattle.jr_defs.specs.Referents.{Table}
 use Rattle.jr_defs.specs.Declarations.{IsType, IsInterface, IsObject}
 use Rattle.jr_defs.specs.Supertypes.{Super, Above}
@@ -15,7 +15,7 @@ use Rattle.jr_plain.specs.Declarations.{is_object, is_interface}
 use Rattle.jr_plain.proofs.Tests.{itself, either, like}
 use Rattle.jr_plain.proofs.Searches.{flat_of, some_of}
 use Rattle.jr_plain.proofs.Declared.{object_tells, interface_tells}
-use Rattle.jr_tables.specs.declared.chains.Entry.{Entry}
+use Rattle.jr_places.specs.declared.chains.Entry.{Entry}
 use Rattle.jr_supers.specs.declared.above.Link.{Link}
 use Rattle.jr_supers.specs.Pairs.{has_pair, uppers, with_pairs}
 use Rattle.jr_supers.specs.Above.{Tables, link_at, up_of, up_at, branching_of, branching_from, at_or_above, is_some_item, far_jump, jump_by, jump_over, top_link, link_below, new_link, is_known, last_from, known_only, known_first, item_list, unknown_list, further_from, further, object_of, reach_object, with_new, IsKnown, OnChain, IsUnder, IsLinked, AreAbove, HasNoOtherObject}

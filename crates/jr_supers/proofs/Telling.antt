@@ -3,7 +3,7 @@ use Rattle.std.proofs.Common.{◌≡◌, ◌⊎◌, refl, sym, ◌∙◌, ap, su
 use Rattle.std.proofs.lemmas.Bool.{false≢true}
 use Rattle.std.proofs.lemmas.Bool.Decides.{Decides-eqb}
 use Rattle.std.proofs.lemmas.Option.{none-some}
-use Rattle.jr_rows.specs.Rows.{Rows}
+use Rattle.jr_tree.specs.Rows.{Rows}
 use Rattle.jr_defs.specs.Referents.{Table}
 use Rattle.jr_defs.specs.Declarations.{IsType, IsObject}
 use Rattle.jr_defs.specs.Supertypes.{Super, Above}
@@ -14,7 +14,7 @@ use Rattle.jr_plain.proofs.Searches.{flat_of}
 use Rattle.jr_plain.proofs.Declared.{object_tells}
 use Rattle.jr_plain.proofs.OfTypes.{interface_type}
 use Rattle.jr_plain.proofs.Supertyped.{super_source}
-use Rattle.jr_rows.specs.Rows.{label}
+use Rattle.jr_tree.specs.Rows.{label}
 use Rattle.jr_supers.specs.declared.above.Link.{Link}
 use Rattle.jr_supers.specs.Pairs.{has_pair, uppers}
 use Rattle.jr_supers.specs.Above.{Tables, link_at, up_of, up_at, chain, with_uppers, at_or_above, is_branched, is_above_by, is_above_in, is_some_item, IsKnown, OnChain, AreAbove, HasNoOtherObject}

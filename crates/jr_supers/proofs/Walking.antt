@@ -1,7 +1,7 @@
 -- Loops that go up by links.
 use Rattle.std.proofs.Common.{◌≡◌, sym, ◌∙◌, ap, ap₂, ℕ, zero, suc, Bool, true, false, ◌||◌, List, ◌++◌, append_assoc, append-nil, flat_map, Option, Some, None}
 use Rattle.std.specs.List.{list_any}
-use Rattle.jr_tables.specs.declared.chains.Entry.{Entry}
+use Rattle.jr_places.specs.declared.chains.Entry.{Entry}
 use Rattle.jr_supers.specs.declared.above.Link.{Link}
 use Rattle.jr_supers.specs.Pairs.{has_pair}
 use Rattle.jr_supers.specs.Above.{up_at, branching_above, walk, with_uppers, at_or_above, step_up, go_up, climb, at_depth, is_branched, ClimbsTo, BranchesTo, AddsTo}

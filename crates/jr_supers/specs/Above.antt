@@ -1,13 +1,13 @@
 -- What stands above types: by first supertypes, and by further ones (JLS 4.10.2).
 use Rattle.std.specs.Prelude.{◌≡◌, ◌⊎◌, ℕ, zero, suc, ◌-◌, Bool, true, false, ◌&&◌, ◌||◌, if◌then◌else◌, List, [], ◌∷◌, ◌++◌, flat_map, length, replicate, Option, Some, None, nat_eq, nat_lt, nat_le, slice_index_or, slice_set, Decides, unwrap_or}
 use Rattle.std.specs.List.{list_any}
-use Rattle.jr_rows.specs.Rows.{Rows}
+use Rattle.jr_tree.specs.Rows.{Rows}
 use Rattle.jr_defs.specs.Referents.{Table}
 use Rattle.jr_defs.specs.Declarations.{IsType, IsObject}
 use Rattle.jr_defs.specs.Supertypes.{Super, Above}
 use Rattle.jr_plain.specs.Search.{Reaches}
 use Rattle.jr_plain.specs.Declarations.{is_interface, is_object}
-use Rattle.jr_tables.specs.declared.chains.Entry.{Entry}
+use Rattle.jr_places.specs.declared.chains.Entry.{Entry}
 use Rattle.jr_supers.specs.declared.above.Link.{Link}
 use Rattle.jr_supers.specs.declared.above.Above as code
 use Rattle.jr_supers.specs.Pairs.{has_pair, uppers, with_pairs}

@@ -1,9 +1,9 @@
 -- The direct supertypes of types, as entries under their types (JLS 8.1.4, 8.1.5, 9.1.3).
 use Rattle.std.specs.Prelude.{◌≡◌, ℕ, zero, suc, ◌+◌, ◌<◌, Bool, not, ◌&&◌, ◌||◌, replicate, slice_set, if◌then◌else◌, List, [], ◌∷◌, ◌++◌, length, Option, Some, None, nat_eq}
-use Rattle.jr_rows.specs.declared.label.Label.{Label}
-use Rattle.jr_rows.specs.declared.label.Label.TheVariants as is
-use Rattle.jr_rows.specs.declared.label.NamePlace.TheVariants as place
-use Rattle.jr_rows.specs.Rows.{Rows, label, parent}
+use Rattle.jr_tree.specs.declared.label.Label.{Label}
+use Rattle.jr_tree.specs.declared.label.Label.TheVariants as is
+use Rattle.jr_tree.specs.declared.label.NamePlace.TheVariants as place
+use Rattle.jr_tree.specs.Rows.{Rows, label, parent}
 use Rattle.jr_defs.specs.declared.referent.Referent.{Referent}
 use Rattle.jr_defs.specs.declared.referent.Referent.TheVariants.{Declared}
 use Rattle.jr_defs.specs.Referents.{Table}
@@ -11,8 +11,8 @@ use Rattle.jr_defs.specs.Supertypes.{IsSuperclassLabel, SuperAt, Super}
 use Rattle.jr_plain.specs.Search.{first_below, Lists}
 use Rattle.jr_plain.specs.Declarations.{is_class, is_object}
 use Rattle.jr_plain.specs.Supertypes.{is_superclass_label}
-use Rattle.jr_tables.specs.declared.chains.Entry.{Entry}
-use Rattle.jr_tables.specs.Chains.{rows_under}
+use Rattle.jr_places.specs.declared.chains.Entry.{Entry}
+use Rattle.jr_places.specs.Chains.{rows_under}
 use Rattle.jr_supers.specs.declared.supers.HeaderPlace.{HeaderPlace}
 use Rattle.jr_supers.specs.declared.supers.HeaderPlace.TheVariants as header
 

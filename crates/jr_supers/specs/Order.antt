@@ -1,11 +1,11 @@
 -- An order of types in which supertypes come first.
 use Rattle.std.specs.Prelude.{◌≡◌, ◌⊎◌, ℕ, zero, suc, ◌+◌, ◌<◌, Bool, true, false, ◌&&◌, if◌then◌else◌, List, [], ◌∷◌, ◌++◌, length, nat_eq, slice_index_or, slice_set, ⊤}
 use Rattle.std.specs.List.{list_any}
-use Rattle.jr_rows.specs.Rows.{Rows}
+use Rattle.jr_tree.specs.Rows.{Rows}
 use Rattle.jr_defs.specs.Declarations.{IsType}
 use Rattle.jr_plain.specs.Search.{has, Reaches}
 use Rattle.jr_plain.specs.Declarations.{is_type}
-use Rattle.jr_tables.specs.declared.chains.Entry.{Entry}
+use Rattle.jr_places.specs.declared.chains.Entry.{Entry}
 use Rattle.jr_supers.specs.declared.ordering.Open.{Open}
 use Rattle.jr_supers.specs.Direct.{supers_in}
 

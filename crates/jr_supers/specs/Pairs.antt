@@ -1,7 +1,7 @@
 -- Pairs of a type and one above it, each once.
 use Rattle.std.specs.Prelude.{◌≡◌, ℕ, Bool, List, [], ◌∷◌, ◌++◌, map, length, is_some, if◌then◌else◌}
-use Rattle.jr_tables.specs.declared.chains.Entry.{Entry}
-use Rattle.jr_tables.specs.Chains.{last_under, rows_under}
+use Rattle.jr_places.specs.declared.chains.Entry.{Entry}
+use Rattle.jr_places.specs.Chains.{last_under, rows_under}
 
 -- a pair under the key of its lower type alone
 abbrev pub lowered : Entry → Entry

@@ -1,15 +1,15 @@
 -- The parameter types of methods and constructors, and numbers of their signatures (JLS 8.4.2).
 use Rattle.std.specs.Prelude.{◌≡◌, ℕ, ◌+◌, ◌≤◌, ◌<◌, Bool, true, false, List, [], ◌∷◌, ◌++◌, length, take, drop, Option, Some, None, option_map, slice_index_or, slice_get, if◌then◌else◌, nat_eq, nat_le}
-use Rattle.jr_rows.specs.declared.label.Role.TheVariants as role
-use Rattle.jr_rows.specs.Rows.{Rows, role_at}
+use Rattle.jr_tree.specs.declared.label.Role.TheVariants as role
+use Rattle.jr_tree.specs.Rows.{Rows, role_at}
 use Rattle.jr_defs.specs.declared.referent.Element.{Element}
 use Rattle.jr_defs.specs.declared.referent.Element.TheVariants as element
 use Rattle.jr_defs.specs.declared.referent.RowType.{RowType}
 use Rattle.jr_defs.specs.Referents.{Table}
 use Rattle.jr_plain.specs.Types.{before, type_of_declared, parameters, parameters_from}
 use Rattle.jr_plain.specs.Same.{same_role}
-use Rattle.jr_tables.specs.declared.numbering.Numbering.{Numbering}
-use Rattle.jr_tables.specs.Numbers.{number_in, IsOneToOne, IsNumbering, Keeps, IsNumberOf}
+use Rattle.jr_places.specs.declared.numbering.Numbering.{Numbering}
+use Rattle.jr_places.specs.Numbers.{number_in, IsOneToOne, IsNumbering, Keeps, IsNumberOf}
 use Rattle.jr_places.specs.Names.{name_row}
 use Rattle.jr_supers.specs.declared.signatures.Signature.{Signature}
 use Rattle.jr_supers.specs.declared.signatures.Signatures as code

@@ -10,7 +10,7 @@ use crate::pairs::Pairs;
 use crate::supers::{Direct, entry_before};
 use jr_base::OutOfMemory;
 use jr_places::{is_interface, is_object};
-use jr_rows::Row;
+use jr_tree::Row;
 use std::alloc::Global;
 
 /// Where a type stands among those above it by first supertypes.

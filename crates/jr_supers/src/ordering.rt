@@ -4,9 +4,8 @@ ghost use Rattle.jr_plain.specs.Search.{numbers};
 ghost use Rattle.jr_supers.specs.Order as tell;
 
 use jr_base::OutOfMemory;
-use jr_places::is_type;
-use jr_rows::Row;
-use jr_tables::Chains;
+use jr_places::{Chains, is_type};
+use jr_tree::Row;
 use std::alloc::Global;
 
 /// A type that is to be entered, or that is to be left, once its supertypes are in the order.

@@ -3,7 +3,7 @@ ghost use Rattle.std.specs.Prelude.{◌≡◌, [], IfOk};
 ghost use Rattle.jr_supers.specs.Pairs.{has_pair, uppers, with_pair, with_pairs};
 
 use jr_base::OutOfMemory;
-use jr_tables::{Chains, Entry};
+use jr_places::{Chains, Entry};
 use std::alloc::Global;
 use std::marker::Model;
 
@@ -17,7 +17,7 @@ pub struct Pairs {
 
 impl Model for Pairs {
     ghost use Rattle.std.specs.Prelude.{List};
-    ghost use Rattle.jr_tables.specs.declared.chains.Entry.{Entry};
+    ghost use Rattle.jr_places.specs.declared.chains.Entry.{Entry};
     ghost use Rattle.jr_supers.specs.Pairs.{IsPaired};
 
     ghost Value = { List Entry };

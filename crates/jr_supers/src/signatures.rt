@@ -1,13 +1,13 @@
 // The parameter types of methods and constructors, and the numbers of their signatures.
 ghost use Rattle.std.specs.Prelude.{◌≡◌, ◌<◌, ◌++◌, true, List, None, Option, length, nat_eq, option_map, slice_index_or, IfOk, OnOk};
-ghost use Rattle.jr_rows.specs.Rows as all_rows;
-ghost use Rattle.jr_rows.specs.Rows.{Rows};
-ghost use Rattle.jr_rows.specs.declared.label.Role.TheVariants as role;
+ghost use Rattle.jr_tree.specs.Rows as all_rows;
+ghost use Rattle.jr_tree.specs.Rows.{Rows};
+ghost use Rattle.jr_tree.specs.declared.label.Role.TheVariants as role;
 ghost use Rattle.jr_defs.specs.Referents.{Table, entries};
 ghost use Rattle.jr_defs.specs.declared.referent.RowType.{RowType as TypeOf};
 ghost use Rattle.jr_plain.specs.Same.{same_role};
 ghost use Rattle.jr_plain.specs.Types as plain;
-ghost use Rattle.jr_tables.specs.Numbers.{IsNumbering};
+ghost use Rattle.jr_places.specs.Numbers.{IsNumbering};
 ghost use Rattle.jr_places.specs.Places.{ArePlaces};
 ghost use Rattle.jr_supers.specs.Tabled.{IsSized, is_callable as is_callable_role};
 ghost use Rattle.jr_supers.specs.Signatures as tell;
@@ -15,9 +15,8 @@ ghost use Rattle.jr_supers.specs.Signatures as tell;
 use crate::tabled::{Tabled, is_callable};
 use jr_base::OutOfMemory;
 use jr_defs::{Element, RowType};
-use jr_places::{end_at, parent_at, role_at};
-use jr_rows::{Role, Row};
-use jr_tables::Numbering;
+use jr_places::{Numbering, end_at, parent_at, role_at};
+use jr_tree::{Role, Row};
 use std::alloc::Global;
 
 /// Where the parameters of a method stand in the list of all, and the number of its signature.

@@ -2,7 +2,7 @@
 ghost use Rattle.std.specs.Prelude.{◌≡◌, ◌++◌, suc, None, IfOk, OnOk, Decides};
 ghost use Rattle.jr_defs.specs.Referents.{Table, entries};
 ghost use Rattle.jr_defs.specs.Supertypes.{Above as AboveIn, AtOrAbove, Subtype, Superclass};
-ghost use Rattle.jr_rows.specs.Rows.{Rows};
+ghost use Rattle.jr_tree.specs.Rows.{Rows};
 ghost use Rattle.jr_plain.specs.Same as same;
 ghost use Rattle.jr_plain.specs.Search.{Finds};
 ghost use Rattle.jr_plain.specs.Supertypes as plain;
@@ -16,9 +16,8 @@ use crate::supers::Direct;
 use crate::tabled::Tabled;
 use jr_base::OutOfMemory;
 use jr_defs::{Element, RowType};
-use jr_places::is_object;
-use jr_rows::Row;
-use jr_tables::Chains;
+use jr_places::{Chains, is_object};
+use jr_tree::Row;
 use std::alloc::Global;
 
 /// The supertypes of each type of a program under a table, whose supertypes should have no cycle.

@@ -1,7 +1,7 @@
 // The direct supertypes of each type, and an order in which supertypes come first (JLS 8.1.4, 8.1.5, 9.1.3).
 
 ghost use Rattle.std.specs.Prelude.{◌≡◌, ◌+◌, ◌<◌, ◌^◌, ◌++◌, None, Some, IfOk, length, replicate, slice_index_or, slice_set};
-ghost use Rattle.jr_rows.specs.Rows.{label};
+ghost use Rattle.jr_tree.specs.Rows.{label};
 ghost use Rattle.jr_defs.specs.Referents.{entries};
 ghost use Rattle.jr_plain.specs.Supertypes.{is_superclass_label};
 ghost use Rattle.jr_supers.specs.Direct as direct;
@@ -9,9 +9,8 @@ ghost use Rattle.jr_supers.specs.Direct as direct;
 use crate::tabled::{Tabled, referent_in};
 use jr_base::OutOfMemory;
 use jr_defs::Referent;
-use jr_places::{end_at, is_class, is_object, is_type, parent_at};
-use jr_rows::{Label, NamePlace, Row};
-use jr_tables::{Chains, Entry};
+use jr_places::{Chains, Entry, end_at, is_class, is_object, is_type, parent_at};
+use jr_tree::{Label, NamePlace, Row};
 use std::alloc::Global;
 
 /// The place of a name in a header.

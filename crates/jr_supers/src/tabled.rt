@@ -1,7 +1,7 @@
 // Rows under a table.
 ghost use Rattle.std.specs.Prelude.{◌≡◌, ◌+◌, ◌<◌, ◌^◌, length, option_map};
-ghost use Rattle.jr_rows.specs.Rows.{label};
-ghost use Rattle.jr_rows.specs.declared.label.Label.TheVariants as is;
+ghost use Rattle.jr_tree.specs.Rows.{label};
+ghost use Rattle.jr_tree.specs.declared.label.Label.TheVariants as is;
 ghost use Rattle.jr_defs.specs.Referents.{entries};
 ghost use Rattle.jr_defs.specs.Types as types;
 ghost use Rattle.jr_defs.specs.declared.referent.Element.TheVariants as element;
@@ -10,8 +10,7 @@ ghost use Rattle.jr_supers.specs.Tabled as tell;
 
 use jr_defs::{Element, Referent, RowType};
 use jr_places::{Places, is_type, parent_at};
-use jr_rows::{Label, Role, Row};
-use jr_tree::Primitive;
+use jr_tree::{Label, Primitive, Role, Row};
 
 /// The rows of a program with their places, under a table of what occurrences refer to. A row past the end of the table is not bound.
 #[derive(Clone, Copy)]

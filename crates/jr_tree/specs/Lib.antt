@@ -6,3 +6,12 @@ pub mod Shape
 pub mod Depth
 pub mod Nodes
 pub mod Faithful
+pub mod Labels
+pub mod Forest
+pub mod Exprs
+pub mod Stmts
+pub mod Decls
+pub mod Rows
+pub mod Tree
+pub mod Below
+pub mod Local

@@ -8,8 +8,8 @@ use jr_constants::{Value, assigned_to};
 use jr_defs::{Element, RowType};
 use jr_members::{World, is_static};
 use jr_places::{Places, end_at, parent_at, role_at};
-use jr_rows::{Role, Row};
 use jr_supers::Tabled;
+use jr_tree::{Role, Row};
 use jr_types::{Operand, is_castable, is_integral, is_void, plain_of};
 use jr_view::View;
 

@@ -1,6 +1,6 @@
 // What kind of row stands at a number.
 ghost use Rattle.std.specs.Prelude.{◌≡◌};
-ghost use Rattle.jr_rows.specs.Rows as rows;
+ghost use Rattle.jr_tree.specs.Rows as rows;
 ghost use Rattle.jr_rules.specs.InitializingTests as initializing;
 ghost use Rattle.jr_rules.specs.ObjectTests as objects;
 ghost use Rattle.jr_rules.specs.CreationTests as creations;
@@ -12,8 +12,7 @@ ghost use Rattle.jr_plain.specs.Constants as constants;
 ghost use Rattle.jr_plain.specs.Typing as typing;
 
 use jr_base::Symbol;
-use jr_rows::{Label, NamePlace, ReceiverKind, Row};
-use jr_tree::ThisOrSuper;
+use jr_tree::{Label, NamePlace, ReceiverKind, Row, ThisOrSuper};
 
 // The sign `=`.
 fn is_assign(op: Symbol) -> bool

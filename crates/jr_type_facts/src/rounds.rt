@@ -3,8 +3,8 @@
 use crate::labels::is_this_call;
 use jr_base::OutOfMemory;
 use jr_places::{parent_at, role_at};
-use jr_rows::Role;
 use jr_supers::Tabled;
+use jr_tree::Role;
 use std::alloc::Global;
 
 // What a table has for a row.

@@ -7,7 +7,7 @@ use crate::rounds::rounds_of;
 use jr_base::OutOfMemory;
 use jr_defs::RowType;
 use jr_places::{is_body_of, is_type, name_at, parent_at};
-use jr_rows::{Label, Row};
+use jr_tree::{Label, Row};
 use jr_view::View;
 use std::alloc::Global;
 

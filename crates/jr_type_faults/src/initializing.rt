@@ -1,12 +1,12 @@
 // A field that an initializer reads too early (JLS 8.3.2.3).
 ghost use Rattle.std.specs.Prelude.{◌≡◌};
-ghost use Rattle.jr_rows.specs.Rows as rows;
+ghost use Rattle.jr_tree.specs.Rows as rows;
 ghost use Rattle.jr_rules.specs.InitializingTests as initializing;
 
 use jr_lookup::is_in_static_context;
 use jr_members::{declaring_type, is_static};
 use jr_places::{end_at, parent_at, role_at, sought_at};
-use jr_rows::{Role, Row, Sought};
+use jr_tree::{Role, Row, Sought};
 use jr_type_facts::{Facts, is_initializing, is_plain_assignment};
 
 // A name without a dot, or the first identifier of one with dots.

@@ -1,12 +1,12 @@
 // An instance member, `this`, `super` or an inner class where there is no object (JLS 6.5.6, 8.8.7.1, 15.8.3, 15.8.4, 15.9.2, 15.11.2, 15.12.3).
 ghost use Rattle.std.specs.Prelude.{◌≡◌};
-ghost use Rattle.jr_rows.specs.Rows as rows;
+ghost use Rattle.jr_tree.specs.Rows as rows;
 ghost use Rattle.jr_rules.specs.ObjectTests as objects;
 
 use jr_defs::Referent;
 use jr_lookup::has_instance;
 use jr_places::sought_at;
-use jr_rows::{Label, ReceiverKind, Row, Sought};
+use jr_tree::{Label, ReceiverKind, Row, Sought};
 use jr_type_facts::{Facts, is_instance_member, is_new};
 
 // The row stands behind a dot.

@@ -3,7 +3,7 @@
 use crate::statements::is_condition;
 use jr_defs::RowType;
 use jr_places::{end_at, parent_at};
-use jr_rows::Row;
+use jr_tree::Row;
 use jr_type_facts::{
     Facts, drops_values, is_call, is_for, is_index, is_int_like, is_list, is_new_array,
     is_plain_assignment, is_value,

@@ -2,8 +2,8 @@
 
 use jr_defs::RowType;
 use jr_places::{end_at, parent_at, role_at};
-use jr_rows::Row;
 use jr_supers::{class_type, is_callable};
+use jr_tree::Row;
 use jr_type_facts::{
     Facts, gives_nothing, gives_result, is_catch, is_initializer, is_other_name, is_return,
     is_throw, tests_first, tests_second,

@@ -1,6 +1,6 @@
 -- Casts between types by those of their items (JLS 5.5).
 use Rattle.std.specs.Prelude.{Bool, ◌-◌, ◌&&◌, ◌||◌, nat_eq}
-use Rattle.jr_rows.specs.Rows.{Rows}
+use Rattle.jr_tree.specs.Rows.{Rows}
 use Rattle.jr_defs.specs.declared.referent.Element.{Element}
 use Rattle.jr_defs.specs.declared.referent.RowType.{RowType}
 use Rattle.jr_defs.specs.Referents.{Table}

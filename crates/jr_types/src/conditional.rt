@@ -10,8 +10,8 @@ ghost use Rattle.jr_types.specs.Seen.{int_if, operands};
 
 use crate::conversions::{is_null, is_same_type, is_void, plain_if, plain_of, promote};
 use jr_defs::{Element, RowType};
-use jr_rows::Row;
 use jr_supers::{Supers, is_reference};
+use jr_tree::Row;
 
 /// The type of an operand of `?:`, with its value where it is a constant int.
 #[derive(Clone, Copy, Debug, PartialEq, Eq)]

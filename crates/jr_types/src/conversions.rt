@@ -11,8 +11,8 @@ ghost use Rattle.jr_types.specs.Casts as casts;
 use jr_defs::{Element, RowType};
 use jr_members::is_final;
 use jr_places::{is_class, is_interface};
-use jr_rows::Row;
 use jr_supers::{Supers, is_reference};
+use jr_tree::Row;
 
 /// boolean
 pub fn is_boolean(element: Element) -> bool

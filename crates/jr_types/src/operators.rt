@@ -18,8 +18,8 @@ use crate::conversions::{
 use jr_base::Symbol;
 use jr_defs::{Element, RowType};
 use jr_places::is_string;
-use jr_rows::Row;
 use jr_supers::Supers;
+use jr_tree::Row;
 
 /// Binary operators of one typing rule.
 #[derive(Clone, Copy, Debug, PartialEq, Eq)]

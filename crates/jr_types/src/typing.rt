@@ -11,9 +11,8 @@ use jr_defs::{Element, Referent, RowType};
 use jr_lookup::has_instance;
 use jr_members::World;
 use jr_places::{end_at, is_string, parent_at, role_at};
-use jr_rows::{Label, Role, Row};
 use jr_supers::{class_type, primitive_type};
-use jr_tree::Primitive;
+use jr_tree::{Label, Primitive, Role, Row};
 
 /// Rows under a table with their supertypes, the types of the rows behind the one that is typed, and the values of constant ints.
 #[derive(Clone, Copy)]

@@ -4,9 +4,9 @@ use jr_base::{OutOfMemory, Text};
 use jr_change::{Shape, Suffix, TypeName};
 use jr_defs::Element;
 use jr_places::name_at;
-use jr_rows::Row;
 use jr_shapes::{push_package, suffix_rows};
 use jr_supers::Tabled;
+use jr_tree::Row;
 use std::alloc::Global;
 
 /// Bytes that are written, of which there may be so many left.

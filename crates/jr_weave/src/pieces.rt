@@ -5,9 +5,9 @@ use jr_base::{OutOfMemory, Span};
 use jr_change::{Project, Shape, Spelling};
 use jr_marks::Marks;
 use jr_places::name_at;
-use jr_rows::{Label, Row};
 use jr_shapes::{argument_after, has_own_identifier, is_atom, named_by};
 use jr_supers::Tabled;
+use jr_tree::{Label, Row};
 use std::alloc::Global;
 
 /// What is written at a place.

@@ -4,11 +4,11 @@ use Rattle.std.specs.List.{list_all}
 use Rattle.std.proofs.lemmas.Bool.{cases_lt}
 use Rattle.std.proofs.lemmas.Bool.Decides.{Decides-eqb, Decides-ltb}
 use Rattle.jr_ty.specs.declared.constant.Const.{Const}
-use Rattle.jr_rows.specs.declared.label.Label.{Label}
-use Rattle.jr_rows.specs.declared.label.Label.TheVariants as is
-use Rattle.jr_rows.specs.Labels.{sought_by}
-use Rattle.jr_rows.specs.Rows.{Rows, label, name, parent, end, previous, sought_at}
-use Rattle.jr_rows.specs.Tree.{IsTree}
+use Rattle.jr_tree.specs.declared.label.Label.{Label}
+use Rattle.jr_tree.specs.declared.label.Label.TheVariants as is
+use Rattle.jr_tree.specs.Labels.{sought_by}
+use Rattle.jr_tree.specs.Rows.{Rows, label, name, parent, end, previous, sought_at}
+use Rattle.jr_tree.specs.Tree.{IsTree}
 use Rattle.jr_defs.specs.declared.referent.Referent.{Referent}
 use Rattle.jr_defs.specs.declared.referent.Referent.TheVariants.{Unbound, ArrayLength, Declared}
 use Rattle.jr_defs.specs.declared.referent.RowType.{RowType}

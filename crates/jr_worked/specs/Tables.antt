@@ -1,11 +1,11 @@
 -- The rows of worked programs, each with what its names are to refer to.
 use Rattle.std.specs.Prelude.{ℕ, List, [], ◌∷◌, cond, nat_eq}
 use Rattle.jr_base.specs.declared.text.Text.{Text}
-use Rattle.jr_rows.specs.declared.row.Row.{Row}
-use Rattle.jr_rows.specs.declared.label.Label.{Label}
-use Rattle.jr_rows.specs.declared.label.Modifiers.{Modifiers}
-use Rattle.jr_rows.specs.Decls.{modifiers_of}
-use Rattle.jr_rows.specs.Rows.{Rows}
+use Rattle.jr_tree.specs.declared.row.Row.{Row}
+use Rattle.jr_tree.specs.declared.label.Label.{Label}
+use Rattle.jr_tree.specs.declared.label.Modifiers.{Modifiers}
+use Rattle.jr_tree.specs.Decls.{modifiers_of}
+use Rattle.jr_tree.specs.Rows.{Rows}
 use Rattle.jr_defs.specs.declared.referent.Referent.{Referent}
 use Rattle.jr_defs.specs.declared.referent.Referent.TheVariants.{Unbound}
 use Rattle.jr_defs.specs.Referents.{Table}

@@ -1,7 +1,7 @@
 -- A worked program whose types are settled has its table for a binding.
 use Rattle.std.proofs.Common.{◌≡◌, ℕ, Bool, true, Some}
 use Rattle.std.specs.List.{list_all}
-use Rattle.jr_rows.specs.Rows.{Rows}
+use Rattle.jr_tree.specs.Rows.{Rows}
 use Rattle.jr_defs.specs.Referents.{Table}
 use Rattle.jr_defs.specs.Declarations.{IsType}
 use Rattle.jr_defs.specs.Headers.{IsSettled}

@@ -4,12 +4,12 @@ use Rattle.jr_tree.specs.Mirror.Decls.{plain_unit}
 use Rattle.jr_tree.specs.Mirror.Decls as d
 use Rattle.jr_tree.specs.Shape.{IsShaped, IsShapedUnit}
 use Rattle.jr_tree.proofs.Same.Decls.{tree_unit, plain_tree_unit}
-use Rattle.jr_rows.specs.declared.label.Label.TheVariants as is
-use Rattle.jr_rows.specs.Forest.{none, node}
-use Rattle.jr_rows.specs.Decls.{unit_labels}
-use Rattle.jr_rows.specs.Local.{IsLocal}
-use Rattle.jr_rows.specs.Rows.{Rows, rows_from, parent, program_rows}
-use Rattle.jr_rows.proofs.Locals.{each_program_is_local}
+use Rattle.jr_tree.specs.declared.label.Label.TheVariants as is
+use Rattle.jr_tree.specs.Forest.{none, node}
+use Rattle.jr_tree.specs.Decls.{unit_labels}
+use Rattle.jr_tree.specs.Local.{IsLocal}
+use Rattle.jr_tree.specs.Rows.{Rows, rows_from, parent, program_rows}
+use Rattle.jr_tree.proofs.Locals.{each_program_is_local}
 use Rattle.jr_defs.specs.Declarations.{IsObject}
 use Rattle.jr_defs.specs.Headers.{NamesHeader}
 use Rattle.jr_defs.specs.Laws.{HasBareObject}

@@ -1,5 +1,5 @@
-use Rattle.jr_rows.specs.Rows.{program_rows}
-use Rattle.jr_rows.proofs.Locals.{each_program_is_local}
+use Rattle.jr_tree.specs.Rows.{program_rows}
+use Rattle.jr_tree.proofs.Locals.{each_program_is_local}
 use Rattle.jr_defs.proofs.Forming.{formed}
 use Rattle.jr_defs.proofs.Settling.{one_binding}
 use Rattle.jr_defs.proofs.law.units_have_at_most_one_binding.Goals as goal

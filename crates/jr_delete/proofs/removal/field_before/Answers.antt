@@ -1,5 +1,5 @@
 use Rattle.std.proofs.Common.{◌∙◌, sym, ap}
-use Rattle.jr_rows.specs.Rows.{parent}
+use Rattle.jr_tree.specs.Rows.{parent}
 use Rattle.jr_delete.specs.Deleting.{is_field_of}
 use Rattle.jr_delete.proofs.Finding.{last_taken, last_kept}
 use Rattle.jr_delete.proofs.removal.field_before.Goals as goal

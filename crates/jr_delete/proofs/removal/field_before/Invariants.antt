@@ -1,5 +1,5 @@
 use Rattle.std.proofs.Common.{◌≡◌}
-use Rattle.jr_rows.specs.Rows.{parent}
+use Rattle.jr_tree.specs.Rows.{parent}
 use Rattle.jr_plain.specs.Search.{last_below}
 use Rattle.jr_delete.specs.Deleting.{is_field_of}
 use Rattle.jr_delete.proofs.removal.field_before.Given as goal

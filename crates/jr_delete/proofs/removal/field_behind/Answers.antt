@@ -1,6 +1,6 @@
 use Rattle.std.proofs.Common.{◌≡◌, ◌∙◌, sym, ap, arith, nat_lt, ◌&&◌}
 use Rattle.std.proofs.lemmas.Bool.Decides.{Decides-ltb}
-use Rattle.jr_rows.specs.Rows.{parent, end}
+use Rattle.jr_tree.specs.Rows.{parent, end}
 use Rattle.jr_delete.specs.Deleting.{is_field_of}
 use Rattle.jr_marks.proofs.Firsts.{first_none, first_some, above_passes}
 use Rattle.jr_marks.proofs.Cuts.{more_fails}

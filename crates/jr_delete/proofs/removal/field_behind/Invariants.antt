@@ -1,5 +1,5 @@
 use Rattle.std.proofs.Common.{◌≡◌, ℕ, ◌<◌, false, ◌&&◌, nat_lt}
-use Rattle.jr_rows.specs.Rows.{parent}
+use Rattle.jr_tree.specs.Rows.{parent}
 use Rattle.jr_delete.specs.Deleting.{is_field_of}
 use Rattle.jr_delete.proofs.removal.field_behind.Given as goal
 

@@ -1,6 +1,6 @@
 use Rattle.std.proofs.Common.{◌≡◌, ◌++◌, drop, filter}
-use Rattle.jr_rows.specs.declared.label.Role.TheVariants as role
-use Rattle.jr_rows.specs.Rows.{Rows, role_at}
+use Rattle.jr_tree.specs.declared.label.Role.TheVariants as role
+use Rattle.jr_tree.specs.Rows.{Rows, role_at}
 use Rattle.jr_defs.specs.Referents.{Table}
 use Rattle.jr_supers.specs.Signatures.{AreSignatures}
 use Rattle.jr_dispatch.specs.Dispatching.{AreMethodRows}

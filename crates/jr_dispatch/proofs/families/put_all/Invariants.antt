@@ -1,5 +1,5 @@
 use Rattle.std.proofs.Common.{ℕ, drop}
-use Rattle.jr_tables.specs.Stamps.{IsStamping}
+use Rattle.jr_places.specs.Stamps.{IsStamping}
 use Rattle.jr_dispatch.specs.Families.{IsPutting}
 use Rattle.jr_dispatch.proofs.families.put_all.Given as goal
 

@@ -1,5 +1,5 @@
 use Rattle.std.proofs.Common.{◌∙◌, ap, ◌-◌, ◌++◌}
-use Rattle.jr_rows.specs.Rows.{name}
+use Rattle.jr_tree.specs.Rows.{name}
 use Rattle.jr_draft.proofs.Building.{dotted_more}
 use Rattle.jr_draft.proofs.packages.add_dotted.Goals as goal
 

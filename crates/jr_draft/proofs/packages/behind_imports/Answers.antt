@@ -1,6 +1,6 @@
 use Rattle.std.proofs.Common.{◌≡◌, ◌∙◌, sym, ap, arith, nat_le, ◌&&◌}
 use Rattle.std.specs.Prelude.{unwrap_or}
-use Rattle.jr_rows.specs.Rows.{end}
+use Rattle.jr_tree.specs.Rows.{end}
 use Rattle.jr_draft.specs.Packages.{is_no_import}
 use Rattle.jr_marks.proofs.Firsts.{first_none, first_some}
 use Rattle.jr_marks.proofs.Cuts.{from_passes, more_fails}

@@ -1,5 +1,5 @@
 use Rattle.std.proofs.Common.{length, drop}
-use Rattle.jr_tables.specs.Stamps.{IsEmptied}
+use Rattle.jr_places.specs.Stamps.{IsEmptied}
 use Rattle.jr_headed.specs.Cycles.{IsPassing}
 use Rattle.jr_headed.proofs.cycles.are_behind.Given as goal
 

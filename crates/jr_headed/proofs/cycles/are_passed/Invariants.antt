@@ -1,5 +1,5 @@
 use Rattle.std.proofs.Common.{◌≡◌, ◌&&◌, drop}
-use Rattle.jr_tables.specs.Stamps.{is_stamped}
+use Rattle.jr_places.specs.Stamps.{is_stamped}
 use Rattle.jr_headed.specs.Cycles.{are_passed}
 use Rattle.jr_headed.proofs.cycles.are_passed.Given as goal
 

@@ -1,6 +1,6 @@
 use Rattle.std.proofs.Common.{◌≡◌}
 use Rattle.jr_plain.specs.Search.{all_below}
-use Rattle.jr_tables.specs.Stamps.{is_stamped}
+use Rattle.jr_places.specs.Stamps.{is_stamped}
 use Rattle.jr_headed.specs.Cycles.{is_passed}
 use Rattle.jr_headed.proofs.cycles.have_passed.Given as goal
 

@@ -1,6 +1,6 @@
 use Rattle.std.proofs.Common.{◌≡◌, ◌||◌, drop}
 use Rattle.jr_tree.specs.Mirror.Decls as d
-use Rattle.jr_rows.specs.Decls.{has_constructor}
+use Rattle.jr_tree.specs.Decls.{has_constructor}
 use Rattle.jr_index.proofs.decl.has_constructor.Given as goal
 
 abbrev pub invariant-loop-member : goal.invariant-loop-member

@@ -3,7 +3,7 @@ use Rattle.std.proofs.Common.{◌≡◌, ◌+◌, ◌-◌, ◌≤◌, sym, ◌�
 use Rattle.std.proofs.Math.Facts.{Fits-le}
 use Rattle.std.proofs.Math.ListN.{get_or}
 use Rattle.std.specs.Prelude.{nat_eq}
-use Rattle.jr_rows.specs.Rows.{label}
+use Rattle.jr_tree.specs.Rows.{label}
 use Rattle.jr_index.specs.NodeRows.{IsParentNode, over_nth}
 use Rattle.jr_index.proofs.Placing.{named, sized}
 use Rattle.jr_index.proofs.Above.{climbs, above}

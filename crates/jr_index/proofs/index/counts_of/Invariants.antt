@@ -1,5 +1,5 @@
 use Rattle.std.proofs.Common.{◌≡◌}
-use Rattle.jr_rows.specs.Rows.{nodes_before}
+use Rattle.jr_tree.specs.Rows.{nodes_before}
 use Rattle.jr_index.specs.NodeRows.{counts}
 use Rattle.jr_index.proofs.index.counts_of.Given as goal
 

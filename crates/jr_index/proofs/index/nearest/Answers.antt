@@ -1,7 +1,7 @@
 -- A row without nodes is not the unit's, so the row above it is still in the unit.
 use Rattle.std.proofs.Common.{◌≡◌, ◌<◌, ◌≤◌, sym, ◌∙◌, ap, subst, arith, ℕ}
-use Rattle.jr_rows.specs.Labels.{nodes_of}
-use Rattle.jr_rows.specs.Rows.{label, end}
+use Rattle.jr_tree.specs.Labels.{nodes_of}
+use Rattle.jr_tree.specs.Rows.{label, end}
 use Rattle.jr_index.specs.NodeRows.{IsNearest}
 use Rattle.jr_index.proofs.Above.{next_up}
 use Rattle.jr_index.proofs.index.nearest.Goals as goal

@@ -1,5 +1,5 @@
 use Rattle.std.proofs.Common.{ℕ, ◌≤◌, ◌<◌}
-use Rattle.jr_rows.specs.Rows.{end}
+use Rattle.jr_tree.specs.Rows.{end}
 use Rattle.jr_index.specs.NodeRows.{IsNearest}
 use Rattle.jr_index.proofs.index.nearest.Given as goal
 

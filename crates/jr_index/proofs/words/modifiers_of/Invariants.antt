@@ -1,5 +1,5 @@
 use Rattle.std.proofs.Common.{◌≡◌, ◌≤◌, length, drop}
-use Rattle.jr_rows.specs.Decls.{modifiers_of}
+use Rattle.jr_tree.specs.Decls.{modifiers_of}
 use Rattle.jr_index.proofs.words.modifiers_of.Given as goal
 
 abbrev pub invariant-loop-left : goal.invariant-loop-left

@@ -1,4 +1,4 @@
-use Rattle.jr_rows.specs.Tree.{IsTree}
+use Rattle.jr_tree.specs.Tree.{IsTree}
 use Rattle.jr_defs.specs.Enclosing.{InBody}
 use Rattle.jr_lookup.specs.Instances.{IsUp}
 use Rattle.jr_lookup.proofs.instances.member_round.Given as goal

@@ -1,6 +1,6 @@
 use Rattle.std.proofs.Common.{◌≡◌, ◌∙◌, sym, arith, nat_lt, ◌&&◌}
 use Rattle.std.proofs.lemmas.Bool.Decides.{Decides-ltb}
-use Rattle.jr_rows.specs.Rows.{label}
+use Rattle.jr_tree.specs.Rows.{label}
 use Rattle.jr_plain.specs.Enclosing.{is_body}
 use Rattle.jr_marks.proofs.Firsts.{first_none, first_some, above_passes}
 use Rattle.jr_marks.proofs.order.first_body.Goals as goal

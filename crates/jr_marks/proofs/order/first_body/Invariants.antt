@@ -1,5 +1,5 @@
 use Rattle.std.proofs.Common.{◌≡◌, ℕ, ◌<◌, false, ◌&&◌, nat_lt}
-use Rattle.jr_rows.specs.Rows.{label}
+use Rattle.jr_tree.specs.Rows.{label}
 use Rattle.jr_plain.specs.Enclosing.{is_body}
 use Rattle.jr_marks.proofs.order.first_body.Given as goal
 

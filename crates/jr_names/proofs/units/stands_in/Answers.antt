@@ -1,5 +1,5 @@
 use Rattle.std.proofs.Common.{◌∙◌, ap, arith, ◌&&◌, nat_le, nat_lt, ◌≡◌, ◌<◌, ◌+◌, ◌^◌}
-use Rattle.jr_rows.specs.Rows.{end}
+use Rattle.jr_tree.specs.Rows.{end}
 use Rattle.jr_names.proofs.units.stands_in.Goals as goal
 
 pub returns : goal.returns

@@ -1,4 +1,4 @@
-use Rattle.jr_rows.specs.Rows.{program_rows}
+use Rattle.jr_tree.specs.Rows.{program_rows}
 use Rattle.jr_defs.proofs.OneMethod.{one_method}
 use Rattle.jr_one_method.proofs.OfRows.{one_superclass}
 use Rattle.jr_one_method.proofs.law.calls_find_one_method.Goals as goal

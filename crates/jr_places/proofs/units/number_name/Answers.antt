@@ -1,5 +1,5 @@
 use Rattle.std.proofs.Common.{◌≡◌, ◌-◌, arith, refl}
-use Rattle.jr_rows.specs.Rows.{end}
+use Rattle.jr_tree.specs.Rows.{end}
 use Rattle.jr_places.proofs.Packing.{numbered_start, numbered_next, numbered_end}
 use Rattle.jr_places.proofs.units.number_name.Goals as goal
 

@@ -1,7 +1,7 @@
 use Rattle.std.proofs.Common.{◌≡◌, ◌<◌, ◌≤◌, ◌-◌, ◌^◌, length}
-use Rattle.jr_rows.specs.Rows.{end}
-use Rattle.jr_tables.specs.Numbers.{IsNumbering}
-use Rattle.jr_tables.specs.Tabulated.{tabulated}
+use Rattle.jr_tree.specs.Rows.{end}
+use Rattle.jr_places.specs.Numbers.{IsNumbering}
+use Rattle.jr_places.specs.Tabulated.{tabulated}
 use Rattle.jr_places.specs.Names.{name_row}
 use Rattle.jr_places.specs.Packages.{names_to, Numbered}
 use Rattle.jr_places.proofs.units.number_name.Given as goal

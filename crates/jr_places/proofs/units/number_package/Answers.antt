@@ -1,5 +1,5 @@
 use Rattle.std.proofs.Common.{◌≡◌, ◌+◌, ◌<◌, ◌≤◌, sym, ◌∙◌, refl, arith, subst, length, IfOk}
-use Rattle.jr_rows.specs.Rows.{end}
+use Rattle.jr_tree.specs.Rows.{end}
 use Rattle.jr_places.specs.Packages.{Numbered}
 use Rattle.jr_places.proofs.Packing.{package_label, numbered_none, path_named}
 use Rattle.jr_places.proofs.units.number_package.Goals as goal

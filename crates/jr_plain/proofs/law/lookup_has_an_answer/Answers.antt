@@ -1,4 +1,4 @@
-use Rattle.jr_rows.specs.Rows.{name, sought_at}
+use Rattle.jr_tree.specs.Rows.{name, sought_at}
 use Rattle.jr_defs.specs.Laws.{Picked}
 use Rattle.jr_plain.specs.Typing.{expression_types}
 use Rattle.jr_plain.specs.Constants.{constants}

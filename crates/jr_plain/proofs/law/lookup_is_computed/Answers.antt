@@ -1,4 +1,4 @@
-use Rattle.jr_rows.specs.Rows.{name, sought_at}
+use Rattle.jr_tree.specs.Rows.{name, sought_at}
 use Rattle.jr_defs.specs.Laws.{Picked}
 use Rattle.jr_plain.proofs.LookedUp.{candidates_tell, look_for_is, look_for_finds}
 use Rattle.jr_plain.proofs.law.lookup_is_computed.Goals as goal

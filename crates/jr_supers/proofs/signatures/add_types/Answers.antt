@@ -1,6 +1,6 @@
 use Rattle.std.proofs.Common.{◌≡◌, sym, ◌∙◌, ◌<◌, true, false, nat_eq, arith, length}
 use Rattle.std.proofs.lemmas.Bool.Decides.{Decides-eqb}
-use Rattle.jr_rows.specs.Rows.{parent}
+use Rattle.jr_tree.specs.Rows.{parent}
 use Rattle.jr_defs.specs.Referents.{entries}
 use Rattle.jr_supers.proofs.Signing.{first_child_at, all_found, next_child, lost_child, last_child, child_inside}
 use Rattle.jr_supers.proofs.signatures.add_types.Goals as goal

@@ -1,6 +1,6 @@
 use Rattle.std.proofs.Common.{◌≡◌, sym, ◌∙◌, ap, Some, true}
 use Rattle.std.specs.Prelude.{option_map}
-use Rattle.jr_rows.specs.Rows.{role_at}
+use Rattle.jr_tree.specs.Rows.{role_at}
 use Rattle.jr_supers.specs.Tabled.{is_callable}
 use Rattle.jr_supers.proofs.Signing.{adds_none, adds_one}
 use Rattle.jr_supers.proofs.signatures.signature_of.Goals as goal

@@ -1,5 +1,5 @@
 use Rattle.std.proofs.Common.{drop}
-use Rattle.jr_tables.specs.Numbers.{IsNumbering}
+use Rattle.jr_places.specs.Numbers.{IsNumbering}
 use Rattle.jr_supers.specs.Signatures.{ContinuesTo}
 use Rattle.jr_supers.proofs.signatures.with_types.Given as goal
 

@@ -1,6 +1,6 @@
 use Rattle.std.proofs.Common.{ℕ, drop}
 use Rattle.jr_defs.specs.Referents.{Table}
-use Rattle.jr_tables.specs.Stamps.{IsStamping}
+use Rattle.jr_places.specs.Stamps.{IsStamping}
 use Rattle.jr_dispatch.specs.Methods.{AreMethods}
 use Rattle.jr_dispatch.specs.Dispatching.{IsMarking}
 use Rattle.jr_dispatch.proofs.dispatch.Methods.mark_supers.Given as goal

@@ -1,8 +1,8 @@
 -- The rows of shaped units stand as they may, and the tables are counted from those rows.
 use Rattle.std.proofs.Common.{◌≡◌, length, map, sym, subst, rules}
-use Rattle.jr_rows.specs.Rows.{Rows, program_rows}
-use Rattle.jr_rows.specs.Local.{IsLocal}
-use Rattle.jr_rows.proofs.Locals.{each_program_is_local}
+use Rattle.jr_tree.specs.Rows.{Rows, program_rows}
+use Rattle.jr_tree.specs.Local.{IsLocal}
+use Rattle.jr_tree.proofs.Locals.{each_program_is_local}
 use Rattle.jr_index.specs.NodeRows.{counts, unit_rows}
 use Rattle.jr_index.proofs.index.Index.build.Goals as goal
 

@@ -1,5 +1,5 @@
 use Rattle.std.proofs.Common.{length, ap, ◌∙◌}
-use Rattle.jr_rows.specs.Rows.{Rows}
+use Rattle.jr_tree.specs.Rows.{Rows}
 use Rattle.jr_index.specs.NodeRows.{unit_rows}
 use Rattle.jr_index.proofs.index.Index.units.Goals as goal
 

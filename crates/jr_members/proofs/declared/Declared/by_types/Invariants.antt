@@ -1,5 +1,5 @@
 use Rattle.std.proofs.Common.{◌≡◌, ◌++◌, drop, length, flat_map}
-use Rattle.jr_rows.specs.Rows.{Rows}
+use Rattle.jr_tree.specs.Rows.{Rows}
 use Rattle.jr_members.specs.declared.declared.MemberKind.{MemberKind}
 use Rattle.jr_members.specs.Keys.{AreDeclared, falling, is_declared_by}
 use Rattle.jr_members.proofs.declared.Declared.by_types.Given as goal

@@ -1,6 +1,6 @@
 use Rattle.std.proofs.Common.{◌≡◌, ℕ, true, drop}
-use Rattle.jr_rows.specs.declared.label.Role.TheVariants as role
-use Rattle.jr_rows.specs.Rows.{role_at}
+use Rattle.jr_tree.specs.declared.label.Role.TheVariants as role
+use Rattle.jr_tree.specs.Rows.{role_at}
 use Rattle.jr_defs.specs.Referents.{Table}
 use Rattle.jr_plain.specs.Search.{has}
 use Rattle.jr_members.specs.Worlds.{IsWorld, IsReplacedBy}

@@ -1,7 +1,7 @@
 use Rattle.std.proofs.Common.{◌≡◌, sym, ◌∙◌, ap, subst, length, []}
 use Rattle.jr_defs.specs.Referents.{Table}
 use Rattle.jr_plain.specs.Search.{Lists}
-use Rattle.jr_tables.specs.Stamps.{IsStamping}
+use Rattle.jr_places.specs.Stamps.{IsStamping}
 use Rattle.jr_supers.specs.Direct.{supers_in}
 use Rattle.jr_members.specs.declared.declared.MemberKind.{MemberKind}
 use Rattle.jr_members.specs.Held.{IsDeclaredAs}

@@ -1,6 +1,6 @@
 use Rattle.std.proofs.Common.{◌≡◌, length}
-use Rattle.jr_rows.specs.Local.{IsLocal}
-use Rattle.jr_tables.specs.Tabulated.{tabulated}
+use Rattle.jr_tree.specs.Local.{IsLocal}
+use Rattle.jr_places.specs.Tabulated.{tabulated}
 use Rattle.jr_places.specs.Names.{name_row}
 use Rattle.jr_places.specs.Packages.{PackagesAreNamed, ArePackagesTo}
 use Rattle.jr_places.proofs.units.Packages.of.Given as goal

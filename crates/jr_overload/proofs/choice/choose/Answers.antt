@@ -1,5 +1,0 @@
-use Rattle.jr_overload.proofs.Within.{further}
-use Rattle.jr_overload.proofs.choice.choose.Goals as goal
-
-pub returns : goal.returns
-returns c = further _ _ _ c.in_ok-all.ensures (further _ _ _ (rw c.deref.ensures.value at c.in_ok-specific.ensures) c.in_ok-left.ensures)

@@ -1,4 +1,0 @@
-pub mod Trees
-pub mod Fitting
-pub mod FittingStmts
-pub mod Locals
