@@ -10,10 +10,10 @@ ghost use Rattle.jr_places.specs.Names.{name_row};
 ghost use Rattle.jr_places.specs.Packages as tell;
 ghost use Rattle.jr_places.specs.Units.{unit_by, units, top_by, tops};
 
+use crate::Numbering;
 use crate::names::name_in;
 use crate::reading::{end_at, is_top_level, is_unit, parent_at};
 use jr_base::OutOfMemory;
-use jr_places::Numbering;
 use jr_tree::{Label, Row};
 use std::alloc::Global;
 

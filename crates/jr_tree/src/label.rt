@@ -2,8 +2,8 @@
 ghost use Rattle.std.specs.Prelude.{◌≡◌};
 ghost use Rattle.jr_tree.specs.Labels.{role_of, sought_by, name_sought, call_sought};
 
+use crate::{Primitive, ThisOrSuper};
 use jr_base::{Kind, Symbol};
-use jr_tree::{Primitive, ThisOrSuper};
 
 /// The modifiers that are written at a declaration (JLS 8.1.1, 8.3.1, 8.4.3, 8.8.3). What an interface's member has besides is not among them.
 #[derive(Clone, Copy, Debug, PartialEq, Eq)]
