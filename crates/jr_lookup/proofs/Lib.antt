@@ -4,3 +4,7 @@ pub mod Outward
 pub mod Instancing
 pub mod Leveling
 pub mod Within
+pub mod Fitting
+pub mod Specific
+pub mod Ordering
+pub mod Choosing

@@ -3,3 +3,4 @@ pub mod Outward
 pub mod Instances
 pub mod Levels
 pub mod Within
+pub mod Choices
