@@ -3,6 +3,9 @@ pub mod Scoping
 pub mod Outward
 pub mod Instancing
 pub mod Leveling
+pub mod Labeling
+pub mod Nesting
+pub mod Shadowing
 pub mod Within
 pub mod Fitting
 pub mod Specific
