@@ -30,6 +30,7 @@ fn type_by(
     typing.type_of(at)
 }
 
+// Sets one entry.
 fn put(types: &mut [Option<RowType>], at: u32, ty: Option<RowType>)
     requires { at < length types.old }
     ensures { types.new ≡ slice_set types.old at ty }
@@ -52,7 +53,7 @@ fn set_type(
     put(types, at, ty);
 }
 
-/// Sets the types of all rows, from the last one back, where there is a place for each.
+/// Sets the types of all rows, from the last one back, where there is a place for each (JLS 15).
 pub fn set_types(
     world: World,
     ints: &[Option<i32>],
