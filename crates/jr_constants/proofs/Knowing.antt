@@ -1,28 +1,24 @@
 -- What a row has by tables that are right is right too.
-use Rattle.std.proofs.Common.{◌≡◌, refl, sym, ◌∙◌, ap, ap₂, subst, inl, inr, ⊎_elim, arith, ℕ, zero, suc, ◌+◌, ◌≤◌, ◌<◌, Bool, true, false, cond, List, [], ◌∷◌, ◌++◌, length, Option, Some, None, ◌⊎◌, slice_get, nat_eq, Decides}
-use Rattle.std.specs.Prelude.{slice_index_or, slice_set, option_map, option_and_then, replicate}
+use Rattle.std.proofs.Common.{◌≡◌, refl, sym, ◌∙◌, ap, ap₂, subst, inl, inr, ⊎_elim, arith, ℕ, zero, suc, ◌+◌, ◌<◌, Bool, true, false, cond, List, [], ◌∷◌, ◌++◌, length, Option, Some, None, ◌⊎◌, slice_get, nat_eq, Decides}
+use Rattle.std.specs.Prelude.{slice_set, option_and_then, replicate}
 use Rattle.std.proofs.lemmas.Bool.{false≢true}
 use Rattle.std.proofs.lemmas.Bool.Decides.{Decides-eqb}
 use Rattle.std.proofs.lemmas.Option.{none-some, same_Some}
-use Rattle.jr_base.specs.declared.kind.Symbol.{Symbol}
 use Rattle.jr_ty.specs.declared.constant.Const.{Const}
 use Rattle.jr_ty.specs.declared.constant.Const.TheVariants as c
-use Rattle.jr_tree.specs.declared.row.Row.{Row}
 use Rattle.jr_tree.specs.declared.label.Label.{Label}
 use Rattle.jr_tree.specs.declared.label.Label.TheVariants as is
 use Rattle.jr_tree.specs.Rows.{Rows, row, label, parent, end}
-use Rattle.jr_defs.specs.declared.referent.RowType.{RowType}
 use Rattle.jr_defs.specs.declared.referent.Referent.{Referent}
 use Rattle.jr_defs.specs.declared.referent.Referent.TheVariants.{Declared}
 use Rattle.jr_defs.specs.Referents.{Table}
 use Rattle.jr_defs.specs.Laws.{Picked}
 use Rattle.jr_defs.specs.Operators.{cast_to, assigned_to, unary_value, binary_value, chosen}
-use Rattle.jr_defs.specs.Constants.{literal_value, Converts, ConstantOf, ConstantVariable}
+use Rattle.jr_defs.specs.Constants.{Converts, ConstantOf, ConstantVariable}
 use Rattle.jr_plain.specs.Search.{Finds}
 use Rattle.jr_plain.specs.Types.{type_at, type_of_declared}
 use Rattle.jr_plain.specs.Conversions.{Constants, of_two}
 use Rattle.jr_plain.specs.Constants as plain
-use Rattle.jr_plain.proofs.Bounds.{row_past, parent_past}
 use Rattle.jr_plain.proofs.Tests.{both}
 use Rattle.jr_plain.proofs.Declared.{variable_tells}
 use Rattle.jr_plain.proofs.Modified.{final_tells}
@@ -34,7 +30,7 @@ use Rattle.jr_constants.specs.declared.value.Value.{Value}
 use Rattle.jr_constants.specs.declared.value.Value.TheVariants as v
 use Rattle.jr_constants.specs.Values.{seen_if, value_in, value_in_if, text_at}
 use Rattle.jr_constants.proofs.Told.{assigned_tells}
-use Rattle.jr_constants.specs.Tables.{item, values_in, after, part, part_if, second, third, cast_type, valued_by, IsIn, IsInIf, AreIn, IsGrown, Tells, AreKnown, IsInitializer}
+use Rattle.jr_constants.specs.Tables.{item, values_in, part, valued_by, IsIn, IsInIf, AreIn, IsGrown, Tells, AreKnown, IsInitializer}
 
 itself_finds : {A : Type 0} (found : Option A) → Finds found (λ x. found ≡ Some x)
 itself_finds found x = (λ e. e, λ e. e)

@@ -1,13 +1,12 @@
 // The value of one row, from those of its parts and of variables (JLS 15.28).
 
-ghost use Rattle.std.specs.Prelude.{◌≡◌, ◌+◌, ◌<◌, ◌^◌, if◌then◌else◌, List, ℕ, Some, None, length, option_map, option_and_then, slice_get, nat_eq, true, false, IfOk, OnOk};
-ghost use Rattle.jr_tree.specs.Rows.{label, parent};
+ghost use Rattle.std.specs.Prelude.{◌≡◌, ◌+◌, ◌<◌, ◌^◌, if◌then◌else◌, List, ℕ, Some, None, length, option_and_then, true, false, IfOk, OnOk};
+ghost use Rattle.jr_tree.specs.Rows.{label};
 ghost use Rattle.jr_defs.specs.Operators as defined;
 ghost use Rattle.jr_defs.specs.Constants.{literal_value};
 ghost use Rattle.jr_defs.specs.Referents.{entries};
 ghost use Rattle.jr_plain.specs.Constants as plain;
 ghost use Rattle.jr_plain.specs.Conversions.{of_two};
-ghost use Rattle.jr_plain.specs.Types.{type_at};
 ghost use Rattle.jr_supers.specs.Tabled.{declared};
 ghost use Rattle.jr_constants.specs.Values.{seen, seen_if, value_in, value_in_if};
 ghost use Rattle.jr_constants.specs.Values as told;
