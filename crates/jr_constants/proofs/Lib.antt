@@ -4,3 +4,4 @@ pub mod Growing
 pub mod Told
 pub mod Parts
 pub mod Knowing
+pub mod Forming

@@ -92,7 +92,9 @@ fn initializer(rows: &[Row], at: u32) -> Option<u32>
 }
 
 /// A reference that may be constant by its form: a simple name, or `TypeName.Identifier` (JLS 15.28).
-pub fn has_constant_form(under: Tabled, at: u32) -> bool {
+pub fn has_constant_form(under: Tabled, at: u32) -> bool
+    ensures { length under.entry.rows.now < 2 ^ 32 → result ≡ plain.has_constant_form under.entry.rows.now (entries under.entry.table.now) at }
+{
     match sought_at(under.rows, at) {
         Sought::Simple {
             kind: NameKind::Variable,
@@ -365,7 +367,9 @@ impl Constants {
 }
 
 /// The references that may be constant by their form.
-pub fn constant_forms(alloc: Global, under: Tabled) -> Result<Vec<bool>, OutOfMemory> {
+pub fn constant_forms(alloc: Global, under: Tabled) -> Result<Vec<bool>, OutOfMemory>
+    ensures { length under.entry.rows.now < 2 ^ 32 → IfOk result (λ all. (n : ℕ) → tell.picks all.items n ≡ plain.has_constant_form under.entry.rows.now (entries under.entry.table.now) n) }
+{
     let Ok(count) = u32::try_from(under.rows.len()) else {
         return Err(OutOfMemory);
     };
