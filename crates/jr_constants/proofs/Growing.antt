@@ -1,5 +1,5 @@
 -- Texts that are added to others.
-use Rattle.std.proofs.Common.{◌≡◌, refl, ◌∙◌, ap, arith, ℕ, ◌+◌, ◌<◌, List, [], ◌∷◌, ◌++◌, length, length-append}
+use Rattle.std.proofs.Common.{◌≡◌, refl, ◌∙◌, ap, arith, ℕ, ◌<◌, List, [], ◌∷◌, ◌++◌, length, length-append}
 use Rattle.jr_constants.specs.Tables.{IsGrown}
 
 append_none : (texts : List (List ℕ)) → texts ≡ texts ++ []

@@ -8,7 +8,7 @@ use Rattle.jr_ty.specs.declared.constant.Const.{Const}
 use Rattle.jr_ty.specs.declared.constant.Const.TheVariants as c
 use Rattle.jr_tree.specs.declared.label.Label.{Label}
 use Rattle.jr_tree.specs.declared.label.Label.TheVariants as is
-use Rattle.jr_tree.specs.Rows.{Rows, row, label, parent, end}
+use Rattle.jr_tree.specs.Rows.{Rows, label, parent, end}
 use Rattle.jr_defs.specs.declared.referent.Referent.{Referent}
 use Rattle.jr_defs.specs.declared.referent.Referent.TheVariants.{Declared}
 use Rattle.jr_defs.specs.Referents.{Table}
@@ -30,7 +30,7 @@ use Rattle.jr_constants.specs.declared.value.Value.{Value}
 use Rattle.jr_constants.specs.declared.value.Value.TheVariants as v
 use Rattle.jr_constants.specs.Values.{seen_if, value_in, value_in_if, text_at}
 use Rattle.jr_constants.proofs.Told.{assigned_tells}
-use Rattle.jr_constants.specs.Tables.{item, values_in, part, valued_by, IsIn, IsInIf, AreIn, IsGrown, Tells, AreKnown, IsInitializer}
+use Rattle.jr_constants.specs.Tables.{item, values_in, valued_by, IsIn, IsInIf, AreIn, IsGrown, Tells, AreKnown, IsInitializer}
 
 itself_finds : {A : Type 0} (found : Option A) → Finds found (λ x. found ≡ Some x)
 itself_finds found x = (λ e. e, λ e. e)
