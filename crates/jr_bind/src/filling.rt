@@ -1,5 +1,10 @@
 // Rows that are looked up under a table that grows, with the types of those behind them.
 
+ghost use Rattle.std.specs.Prelude.{◌≡◌, length};
+ghost use Rattle.jr_defs.specs.Referents.{entries};
+ghost use Rattle.jr_plain.specs.Conversions as values;
+ghost use Rattle.jr_types.specs.Typed.{CanType, AreTypes};
+
 use crate::boxes::constants_of;
 use crate::headers::Setting;
 use crate::stages::Stage;
@@ -10,7 +15,7 @@ use jr_lookup::{Imports, Sight};
 use jr_members::{Members, World};
 use jr_supers::{Supers, Tabled};
 use jr_tree::Row;
-use jr_types::{Typing, find_string};
+use jr_types::{Typing, find_string, set_types};
 use std::alloc::Global;
 
 /// What rows refer to and the types of expressions, as far as they are known.
@@ -173,13 +178,22 @@ impl Filling {
     }
 
     /// The types of all expressions under the table.
-    pub fn find_types(&mut self, known: Known) -> Result<(), OutOfMemory> {
-        let Ok(count) = u32::try_from(known.setting.rows.len()) else {
+    pub fn find_types(&mut self, known: Known) -> Result<(), OutOfMemory>
+        ensures { (constant : values.Constants) → CanType constant known.entry.setting.rows.now (entries self.old.table.items) known.entry.setting.places.now known.entry.supers.now self.old.ints.items self.old.string → length self.old.types.items ≡ length known.entry.setting.rows.now → AreTypes known.entry.setting.rows.now (entries self.old.table.items) constant self.new.types.items }
+    {
+        if u32::try_from(known.setting.rows.len()).is_err() {
             return Err(OutOfMemory);
-        };
-        for at in (0..count).rev() {
-            self.set_type(known, at);
         }
+        let world = World {
+            under: Tabled {
+                rows: known.setting.rows,
+                places: known.setting.places,
+                table: &self.table,
+            },
+            supers: known.supers,
+            members: known.members,
+        };
+        set_types(world, &self.ints, self.string, &mut self.types);
         Ok(())
     }
 }
