@@ -1,0 +1,4 @@
+pub mod Opening
+pub mod Scoped
+pub mod Told
+pub mod Reaching
