@@ -21,12 +21,15 @@ import subprocess
 import sys
 import tempfile
 
+sys.path.insert(0, os.path.dirname(os.path.realpath(__file__)))
+import schedule
+
 TOP = os.path.realpath(os.path.join(os.path.dirname(os.path.realpath(__file__)), '..'))
 STORED = os.path.join(TOP, 'docs', 'costs.tsv')
 PAGE = os.path.join(TOP, 'docs', 'COSTS.md')
 PROGRAM = 'refactor'
-# How busy a gate keeps the processors: (number of them, share of the time).
-BUSY = ((4, 0.85), (2, 0.95))
+# The numbers of processors for which a whole gate is told.
+PROCESSORS = (4, 2)
 # How many processors the build of the program keeps busy, which proves one crate after the other.
 BUILDING = 2
 
@@ -237,12 +240,14 @@ def sums_of(rows, crates):
     }
 
 
-def gate_lines(stored, whole):
-    for number, share in BUSY:
+def gate_lines(stored, rows, crates):
+    seconds = {it['name']: {'check': it['check'] or 0, 'tests': it['tests'] or 0, 'edits': edits_cost(it['check'] or 0, it['edits'])} for it in rows}
+    for number in PROCESSORS:
         if number in stored['gates']:
             yield f'- A whole gate from nothing took {stored["gates"][number]:g} minutes on {number} processors, measured.'
         else:
-            yield f'- A whole gate from nothing takes some {minutes(whole / number / share)} minutes on {number} processors: an estimate from the sums, with the processors busy for {share:.0%} of the time.'
+            took = max(schedule.ends(crates, seconds, number).values())
+            yield f'- A whole gate from nothing takes some {minutes(took)} minutes on {number} processors: its schedule played through over these figures, with the sums of libraries on a quiet machine (`tools/schedule.py`).'
 
 
 def build_line(stored, whole):
@@ -260,7 +265,7 @@ def page_of(stored, crates):
     yield f'Machine: {stored["machine"] or "not measured yet"}. `rt version`: {stored["rt"] or "not measured yet"}.'
     yield ''
     yield f'- Checks take {minutes(sums["check"])} processor minutes, tests {minutes(sums["tests"])}, and must-fail edits some {minutes(sums["edits"])}. The whole is {minutes(whole)}.'
-    yield from gate_lines(stored, whole)
+    yield from gate_lines(stored, rows, crates)
     yield build_line(stored, sums['build'])
     if any(it['is_rough'] and it['check'] is not None for it in rows):
         yield '- A figure with ~ was not measured by the script: it was read off an earlier gate, beside other work.'

@@ -4,3 +4,4 @@ pub mod Waiting
 pub mod Conversions
 pub mod Symbols
 pub mod Reads
+pub mod Numbered

@@ -1,8 +1,10 @@
 // The nodes by which declarations are known.
-ghost use Rattle.std.specs.Prelude.{◌≡◌};
+ghost use Rattle.std.specs.Prelude.{◌≡◌, IfOk, length};
 ghost use Rattle.jr_tree.specs.Rows as rows_of;
 ghost use Rattle.jr_plain.specs.Modifiers as modifiers;
+ghost use Rattle.jr_tree.specs.Labels.{nodes_of};
 ghost use Rattle.jr_codes.specs.Reads.{node_at, decl_at};
+ghost use Rattle.jr_codes.specs.Numbered as numbered;
 
 use jr_base::{CuId, DeclId, NodeAt, NodeId, OutOfMemory};
 use jr_places::{parent_at, role_at};
@@ -16,7 +18,9 @@ pub struct Ids {
 }
 
 /// How many nodes of its tree a row stands for.
-fn node_count(label: &Label) -> u32 {
+fn node_count(label: &Label) -> u32
+    ensures { result ≡ nodes_of label.now }
+{
     match label {
         Label::Program => 0,
         Label::Name { place, .. } => match place {
@@ -43,11 +47,59 @@ fn node_count(label: &Label) -> u32 {
 }
 
 /// Which of its nodes declares what the row declares: the type itself, not the member that holds it.
-fn declaring_node(label: &Label) -> u32 {
+fn declaring_node(label: &Label) -> u32
+    ensures { result ≡ numbered.declaring label.now }
+{
     match label {
         Label::Class { is_member, .. } => *is_member as u32,
         Label::Interface { is_member, .. } => *is_member as u32,
         _ => 0,
+    }
+}
+
+/// What was counted before a row.
+#[derive(Clone, Copy)]
+struct Count {
+    /// The unit that was begun last.
+    unit: u32,
+    /// How many units were begun.
+    units: u32,
+    /// How many nodes of the unit stand before.
+    node: u32,
+}
+
+/// At a row, which may be a unit.
+fn entered(label: &Label, count: Count) -> Count
+    ensures { result ≡ numbered.entered label.now count }
+{
+    match label {
+        Label::Unit => Count {
+            unit: count.units,
+            units: count.units.saturating_add(1),
+            node: 0,
+        },
+        _ => count,
+    }
+}
+
+/// The node of a declaration at the row.
+fn declared(label: &Label, count: Count) -> NodeAt
+    ensures { result ≡ numbered.node_of label.now count }
+{
+    NodeAt {
+        cu: CuId(count.unit),
+        node: NodeId(count.node.saturating_add(declaring_node(label))),
+    }
+}
+
+/// Behind the nodes of the row itself.
+fn passed(label: &Label, count: Count) -> Count
+    ensures { result ≡ numbered.passed label.now count }
+{
+    Count {
+        unit: count.unit,
+        units: count.units,
+        node: count.node.saturating_add(node_count(label)),
     }
 }
 
@@ -63,25 +115,30 @@ fn is_default_constructor(rows: &[Row], at: u32) -> bool
     }
 }
 
+/// The nodes of the rows, which are counted from the first one on.
+fn nodes_of_rows(alloc: Global, rows: &[Row]) -> Result<Vec<NodeAt>, OutOfMemory>
+    ensures { IfOk result (λ nodes. nodes.items ≡ numbered.counted_nodes rows.now (length rows.now)) }
+{
+    let mut nodes = Vec::new(alloc);
+    let mut count = Count {
+        unit: 0,
+        units: 0,
+        node: 0,
+    };
+    for row in rows {
+        count = entered(&row.label, count);
+        nodes.push(declared(&row.label, count))?;
+        count = passed(&row.label, count);
+    }
+    Ok(nodes)
+}
+
 impl Ids {
     /// The nodes of the rows.
-    pub fn of(alloc: Global, rows: &[Row]) -> Result<Ids, OutOfMemory> {
-        let mut nodes = Vec::new(alloc);
-        let mut unit: u32 = 0;
-        let mut units: u32 = 0;
-        let mut node: u32 = 0;
-        for row in rows {
-            if let Label::Unit = row.label {
-                unit = units;
-                units = units.saturating_add(1);
-                node = 0;
-            }
-            nodes.push(NodeAt {
-                cu: CuId(unit),
-                node: NodeId(node.saturating_add(declaring_node(&row.label))),
-            })?;
-            node = node.saturating_add(node_count(&row.label));
-        }
+    pub fn of(alloc: Global, rows: &[Row]) -> Result<Ids, OutOfMemory>
+        ensures { IfOk result (λ ids. numbered.NumbersDeclarations rows.now ids.nodes.items) }
+    {
+        let nodes = nodes_of_rows(alloc, rows)?;
         Ok(Ids { nodes })
     }
 

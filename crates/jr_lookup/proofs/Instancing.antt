@@ -115,7 +115,7 @@ module _ (p : Rows) (tree : IsTree p) where
 -- ---- static contexts
 
 -- two tests of one thing are equal
-same_tests : (a b : Bool) (P : Type 0) → Decides a P → Decides b P → a ≡ b
+pub same_tests : (a b : Bool) (P : Type 0) → Decides a P → Decides b P → a ≡ b
 same_tests true b P f g = sym (g.1 (f.0 refl))
 same_tests false b P f g = sym (false_from_ne_true b (λ e. false≢true (f.1 (g.0 e))))
 

@@ -41,7 +41,7 @@ has_items p t kind x c (d ∷ more) false h e = (λ f. record { some = d; is = (
 -- ---- no member has the name
 
 module _ (p : Rows) (t : Table) where
-  declared_somewhere : (c d : ℕ) → MemberOf p t c d → (e : ℕ) × DeclaredIn p e d
+  pub declared_somewhere : (c d : ℕ) → MemberOf p t c d → (e : ℕ) × DeclaredIn p e d
   declared_somewhere c d (MemberOf.declared h) = (c, h)
   declared_somewhere c d (MemberOf.inherited {s = s} above h passes can left) = declared_somewhere s d h
   declared_somewhere c d (MemberOf.of_object interface method left) = (method.of_type, method.declared)

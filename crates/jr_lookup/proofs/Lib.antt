@@ -3,4 +3,11 @@ pub mod Scoping
 pub mod Outward
 pub mod Instancing
 pub mod Leveling
+pub mod Labeling
+pub mod Nesting
+pub mod Shadowing
 pub mod Within
+pub mod Fitting
+pub mod Specific
+pub mod Ordering
+pub mod Choosing

@@ -16,7 +16,7 @@ use Rattle.jr_plain.proofs.Enclosed.{in_body_tells, innermost_finds}
 use Rattle.jr_lookup.specs.Outward.{IsInnermostSuch, IsWalking}
 
 -- a number that passes is at most the last one
-last_least : (test : ℕ → Bool) (n k : ℕ) → k < n → test k ≡ true → (h : ℕ) × (last_below n test ≡ Some h) × (k ≤ h)
+pub last_least : (test : ℕ → Bool) (n k : ℕ) → k < n → test k ≡ true → (h : ℕ) × (last_below n test ≡ Some h) × (k ≤ h)
 last_least test zero k lt h = absurd (omega arith)
 last_least test (suc n) k lt h = by (test n) refl (λ less. last_least test n k less h)
   where

@@ -1,13 +1,19 @@
 // What is in scope by rows alone (JLS 6.3, 7.5, 7.6, 8.4.1, 14.4.2).
-ghost use Rattle.std.specs.Prelude.{◌≡◌, ◌++◌, ◌+◌, ◌^◌, ◌<◌, [], length, option_map, IfOk, OnOk};
+ghost use Rattle.std.specs.Prelude.{◌≡◌, ◌++◌, ◌∷◌, ◌+◌, ◌^◌, ◌<◌, [], length, option_map, IfOk, OnOk};
+ghost use Rattle.jr_base.specs.declared.text.Text.{Text};
+ghost use Rattle.jr_tree.specs.Local.{IsLocal};
 ghost use Rattle.jr_tree.specs.Rows.{Rows, label};
 ghost use Rattle.jr_tree.specs.declared.label.ImportKind.TheVariants as importing;
+ghost use Rattle.jr_defs.specs.Referents.{Table};
 ghost use Rattle.jr_plain.specs.Imports.{is_import_label, is_import_of};
 ghost use Rattle.jr_plain.specs.Scope as plain;
 ghost use Rattle.jr_plain.specs.Search.{last_below};
 ghost use Rattle.jr_places.specs.Above as above;
+ghost use Rattle.jr_members.specs.Each.{ListsEach};
 ghost use Rattle.jr_members.specs.Keys.{entry_for, entry_list, falling};
 ghost use Rattle.jr_members.specs.Sources.{ArePlaced};
+ghost use Rattle.jr_lookup.specs.Locals as nesting;
+ghost use Rattle.jr_lookup.specs.Outward.{IsNumberOf};
 ghost use Rattle.jr_lookup.specs.Scopes as tell;
 
 use jr_base::OutOfMemory;
@@ -312,6 +318,81 @@ impl Scopes {
         self.parameters.rows(alloc, over, name)
     }
 
+    // The parameters of the name beside a block.
+    fn parameters_beside(
+        &self,
+        alloc: Global,
+        rows: &[Row],
+        over: u32,
+        name: u32,
+    ) -> Result<Vec<u32>, OutOfMemory>
+        ensures { tell.AreScopes rows.now self.now → IfOk result (λ found. found.items ≡ nesting.parameters_beside rows.now name over) }
+    {
+        if is_block(rows, over) {
+            let beside = parent_at(rows, over);
+            self.parameters(alloc, beside, name)
+        } else {
+            Ok(Vec::new(alloc))
+        }
+    }
+
+    // The last local of the name before the place whose block ends with the row, or the parameters beside that.
+    fn locals_in(
+        &self,
+        alloc: Global,
+        rows: &[Row],
+        over: u32,
+        place: u32,
+        name: u32,
+    ) -> Result<Vec<u32>, OutOfMemory>
+        ensures { tell.AreScopes rows.now self.now → IfOk result (λ found. found.items ≡ nesting.locals_in rows.now name place over) }
+    {
+        let last = self.local(alloc, over, name, place)?;
+        match last {
+            Some(local) => only(alloc, local),
+            None => self.parameters_beside(alloc, rows, over, name),
+        }
+    }
+
+    // What the innermost of the rows that hold the place has that has any such.
+    fn first_locals(
+        &self,
+        alloc: Global,
+        rows: &[Row],
+        place: u32,
+        name: u32,
+    ) -> Result<Vec<u32>, OutOfMemory>
+        ensures { tell.AreScopes rows.now self.now → IfOk result (λ found. found.items ≡ nesting.locals_at rows.now name place) }
+    {
+        let mut over = place;
+        for _turn in 0..place {
+            let found = self.locals_in(alloc, rows, over, place, name)?;
+            if !found.is_empty() {
+                return Ok(found);
+            }
+            if over == 0 {
+                return Ok(found);
+            }
+            over = parent_at(rows, over);
+        }
+        let last = self.locals_in(alloc, rows, over, place, name)?;
+        Ok(last)
+    }
+
+    /// The local, or the parameters, of the name that are in scope at the place and that none declared further in shadows (JLS 6.3.1, 8.4.1).
+    pub fn locals(
+        &self,
+        alloc: Global,
+        rows: &[Row],
+        place: u32,
+        name: u32,
+    ) -> Result<Vec<u32>, OutOfMemory>
+        ensures visible { (t : Table) (x : Text) → IsLocal rows.now → nesting.AreLocalsPlaced rows.now → tell.AreScopes rows.now self.now → place < length rows.now → IsNumberOf rows.now name x → IfOk result (λ found. ListsEach found.items (nesting.IsVisibleLocal rows.now t x place)) }
+        ensures plain { tell.AreScopes rows.now self.now → IfOk result (λ found. found.items ≡ nesting.locals_at rows.now name place) }
+    {
+        self.first_locals(alloc, rows, place, name)
+    }
+
     /// The top-level types of the name in a package, given by its number.
     pub fn types_of_package(
         &self,
@@ -352,6 +433,15 @@ impl Scopes {
     {
         self.on_demand.rows(alloc, unit, 0)
     }
+}
+
+// The row alone.
+fn only(alloc: Global, row: u32) -> Result<Vec<u32>, OutOfMemory>
+    ensures { IfOk result (λ all. all.items ≡ row ∷ []) }
+{
+    let mut all = Vec::new(alloc);
+    all.push(row)?;
+    Ok(all)
 }
 
 // The first of some rows that stands before the place.

@@ -1,5 +1,5 @@
 // Names without a dot (JLS 6.3, 6.3.1, 6.5.2, 15.12.1).
-ghost use Rattle.std.specs.Prelude.{◌≡◌, IfOk, Decides};
+ghost use Rattle.std.specs.Prelude.{◌≡◌, ◌++◌, ◌<◌, None, IfOk, OnOk, Decides, filter, length};
 ghost use Rattle.jr_base.specs.declared.text.Text.{Text};
 ghost use Rattle.jr_tree.specs.declared.label.Role.TheVariants as role;
 ghost use Rattle.jr_tree.specs.Rows as program;
@@ -7,17 +7,24 @@ ghost use Rattle.jr_defs.specs.Lookup.{MethodLevel};
 ghost use Rattle.jr_defs.specs.Referents.{Table};
 ghost use Rattle.jr_plain.specs.Same as same;
 ghost use Rattle.jr_plain.specs.Search.{Finds};
+ghost use Rattle.jr_places.specs.Places.{ArePlaces};
+ghost use Rattle.jr_members.specs.Each.{ListsEach, if_such};
 ghost use Rattle.jr_members.specs.Worlds.{IsWorld};
+ghost use Rattle.jr_lookup.specs.Labels as labeled;
 ghost use Rattle.jr_lookup.specs.Levels as tell;
+ghost use Rattle.jr_lookup.specs.Locals.{AreLocalsPlaced, IsVisibleLocal};
 ghost use Rattle.jr_lookup.specs.Outward.{IsInnermostSuch, IsNumberOf};
+ghost use Rattle.jr_lookup.specs.Scopes.{AreScopes};
+ghost use Rattle.jr_lookup.specs.Variables.{AreFieldsAt, AreVariablesWithin};
 
 use crate::candidates::Candidates;
 use crate::imports::Imports;
-use crate::scopes::{Scopes, is_block};
+use crate::scopes::Scopes;
 use jr_base::OutOfMemory;
 use jr_defs::Referent;
 use jr_members::{MemberKind, World, is_private, is_public, is_static};
-use jr_places::{parent_at, role_at};
+use jr_places::{holders_of, role_at};
+use jr_supers::Tabled;
 use jr_tree::{NameKind, Role, Row};
 use std::alloc::Global;
 
@@ -49,33 +56,59 @@ fn is_label(rows: &[Row], at: u32) -> bool
     }
 }
 
+// The row is a labeled statement of the name.
+fn is_label_named(under: Tabled, name: u32, at: u32) -> bool
+    ensures { ArePlaces under.entry.rows.now under.entry.places.now → result ≡ labeled.is_label_named under.entry.rows.now name at }
+{
+    let number = under.places.name(at);
+    is_label(under.rows, at) && number == name
+}
+
+// Such a one, other than the place.
+fn is_label_over(under: Tabled, place: u32, name: u32, at: u32) -> bool
+    ensures { ArePlaces under.entry.rows.now under.entry.places.now → result ≡ labeled.is_label_over under.entry.rows.now place name at }
+{
+    at != place && is_label_named(under, name, at)
+}
+
+fn push_if(all: &mut Vec<u32>, is_such: bool, at: u32) -> Result<(), OutOfMemory>
+    ensures { OnOk result (all.new.items ≡ all.old.items ++ if_such is_such at) }
+{
+    if is_such {
+        all.push(at)?;
+    }
+    Ok(())
+}
+
+// Of some rows the labeled statements of the name, but the place itself.
+fn labels_among(
+    alloc: Global,
+    under: Tabled,
+    over: &[u32],
+    place: u32,
+    name: u32,
+) -> Result<Vec<u32>, OutOfMemory>
+    ensures { ArePlaces under.entry.rows.now under.entry.places.now → IfOk result (λ found. found.items ≡ filter (labeled.is_label_over under.entry.rows.now place name) over.now) }
+{
+    let mut found = Vec::new(alloc);
+    for at in over {
+        let is_such = is_label_over(under, place, name, *at);
+        push_if(&mut found, is_such, *at)?;
+    }
+    Ok(found)
+}
+
 impl<'a> Sight<'a> {
     fn rows(&self) -> &'a [Row] {
         self.world.under.rows
     }
 
-    // The locals and parameters of the name that are in scope furthest in. What is declared further in has a larger number.
-    fn locals(&self, alloc: Global, place: u32, name: u32) -> Result<Vec<u32>, OutOfMemory> {
-        let mut over = place;
-        for _turn in 0..=place {
-            if let Some(local) = self.scopes.local(alloc, over, name, place)? {
-                let mut found = Vec::new(alloc);
-                found.push(local)?;
-                return Ok(found);
-            }
-            if is_block(self.rows(), over) {
-                let beside = parent_at(self.rows(), over);
-                let found = self.scopes.parameters(alloc, beside, name)?;
-                if !found.is_empty() {
-                    return Ok(found);
-                }
-            }
-            if over == 0 {
-                break;
-            }
-            over = parent_at(self.rows(), over);
-        }
-        Ok(Vec::new(alloc))
+    // The locals and parameters of the name that are in scope furthest in.
+    fn locals(&self, alloc: Global, place: u32, name: u32) -> Result<Vec<u32>, OutOfMemory>
+        ensures { (t : Table) (x : Text) → IsWorld t self.now.world → AreScopes self.now.world.under.rows.now self.now.scopes.now → AreLocalsPlaced self.now.world.under.rows.now → place < length self.now.world.under.rows.now → IsNumberOf self.now.world.under.rows.now name x → IfOk result (λ found. ListsEach found.items (IsVisibleLocal self.now.world.under.rows.now t x place)) }
+    {
+        self.scopes
+            .locals(alloc, self.world.under.rows, place, name)
     }
 
     // The type has a member of the kind and name.
@@ -205,13 +238,22 @@ impl<'a> Sight<'a> {
         Ok(all)
     }
 
+    // The fields of the name that are in scope furthest in.
+    fn fields(&self, alloc: Global, place: u32, name: u32) -> Result<Candidates, OutOfMemory>
+        ensures { (t : Table) → IsWorld t self.now.world → IfOk result (λ found. AreFieldsAt self.now.world.under.rows.now t place name found.rows.items found.level) }
+    {
+        let members = self.members_around(alloc, MemberKind::Field, place, name)?;
+        if !members.rows.is_empty() {
+            return Ok(members);
+        }
+        let rows = self.imported(alloc, MemberKind::Field, place, name)?;
+        Ok(Candidates { rows, level: None })
+    }
+
     /// The variables of the name that are visible at the place.
-    pub fn variables(
-        &self,
-        alloc: Global,
-        place: u32,
-        name: u32,
-    ) -> Result<Candidates, OutOfMemory> {
+    pub fn variables(&self, alloc: Global, place: u32, name: u32) -> Result<Candidates, OutOfMemory>
+        ensures { (t : Table) (x : Text) → IsWorld t self.now.world → AreScopes self.now.world.under.rows.now self.now.scopes.now → AreLocalsPlaced self.now.world.under.rows.now → place < length self.now.world.under.rows.now → IsNumberOf self.now.world.under.rows.now name x → IfOk result (λ found. AreVariablesWithin self.now.world.under.rows.now t x place found.rows.items found.level) }
+    {
         let locals = self.locals(alloc, place, name)?;
         if !locals.is_empty() {
             return Ok(Candidates {
@@ -219,14 +261,7 @@ impl<'a> Sight<'a> {
                 level: None,
             });
         }
-        let members = self.members_around(alloc, MemberKind::Field, place, name)?;
-        if !members.rows.is_empty() {
-            return Ok(members);
-        }
-        Ok(Candidates {
-            rows: self.imported(alloc, MemberKind::Field, place, name)?,
-            level: None,
-        })
+        self.fields(alloc, place, name)
     }
 
     // Adds those of some types that a unit may import.
@@ -354,22 +389,13 @@ impl<'a> Sight<'a> {
     }
 
     /// The labels of the name that are in scope at the place; labels do not shadow one another (JLS 14.7).
-    pub fn labels(&self, alloc: Global, place: u32, name: u32) -> Result<Candidates, OutOfMemory> {
-        let mut found = Candidates::none(alloc);
-        let mut over = place;
-        for _turn in 0..=place {
-            if over != place
-                && is_label(self.rows(), over)
-                && self.world.under.places.name(over) == name
-            {
-                found.rows.push(over)?;
-            }
-            if over == 0 {
-                break;
-            }
-            over = parent_at(self.rows(), over);
-        }
-        Ok(found)
+    pub fn labels(&self, alloc: Global, place: u32, name: u32) -> Result<Candidates, OutOfMemory>
+        ensures rows { (t : Table) (x : Text) → IsWorld t self.now.world → place < length self.now.world.under.rows.now → IsNumberOf self.now.world.under.rows.now name x → IfOk result (λ found. labeled.AreLabelsAt self.now.world.under.rows.now t x place found.rows.items) }
+        ensures level { IfOk result (λ found. found.level ≡ None) }
+    {
+        let over = holders_of(alloc, self.world.under.rows, place)?;
+        let rows = labels_among(alloc, self.world.under, &over, place, name)?;
+        Ok(Candidates { rows, level: None })
     }
 
     // A name that may be a variable or a type is a variable if one is in scope (JLS 6.5.2).

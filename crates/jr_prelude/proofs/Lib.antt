@@ -5,5 +5,7 @@ pub mod TextTokens
 pub mod PreludeTokens
 pub mod PreludeShaped
 pub mod Begun
+pub mod OneNumber
+pub mod MachineNumbers
 pub mod Programs
 pub mod Readings

@@ -16,11 +16,14 @@ use Rattle.jr_tree.specs.Rows.{Rows, row, rows_from, program_rows}
 use Rattle.jr_tree.proofs.Trees.{each_program_is_tree}
 use Rattle.jr_defs.specs.declared.program.UnitAt.{UnitAt}
 use Rattle.jr_defs.specs.declared.program.Program.{Program}
-use Rattle.jr_defs.specs.Prelude.{lang_text}
+use Rattle.jr_defs.specs.Prelude.{lang_text, io_text}
 use Rattle.jr_defs.specs.Program.{ReadsAs, IsUnitOf, AreUnitsOf, none as no_units, more as more_units, ProgramOf, rows_of}
+use Rattle.jr_prelude.specs.Io.{io_unit}
 use Rattle.jr_prelude.specs.Lang.{lang_unit}
 use Rattle.jr_prelude.specs.Begins.{lang_rows, BeginsWithLang}
 use Rattle.jr_prelude.specs.Laws.{Reads, IsReadable}
+use Rattle.jr_prelude.specs.Numbers.{HasMachineNumbers}
+use Rattle.jr_prelude.proofs.MachineNumbers.{with_prelude}
 
 -- ---- the rows of the first unit are those of that unit alone
 
@@ -67,6 +70,18 @@ record FirstUnit (path bytes : List ℕ) (units : List UnitAt) : Type 0 where
 first_of : {path bytes : List ℕ} {found : List (List ℕ × List ℕ)} {units : List UnitAt} → AreUnitsOf ((path, bytes) ∷ found) units → FirstUnit path bytes units
 first_of (more_units {u = u} {units = units} h all) = record { unit = u; others = units; are = refl; is = h }
 
+record FirstUnits (path bytes next_path next_bytes : List ℕ) (units : List UnitAt) : Type 0 where
+  pub unit : UnitAt
+  pub next : UnitAt
+  pub others : List UnitAt
+  pub are : units ≡ unit ∷ (next ∷ others)
+  pub is : IsUnitOf path bytes unit
+  pub next_is : IsUnitOf next_path next_bytes next
+
+first_two : {path bytes next_path next_bytes : List ℕ} {found : List (List ℕ × List ℕ)} {units : List UnitAt}
+    → AreUnitsOf ((path, bytes) ∷ ((next_path, next_bytes) ∷ found)) units → FirstUnits path bytes next_path next_bytes units
+first_two (more_units {u = u} h (more_units {u = v} {units = units} k all)) = record { unit = u; next = v; others = units; are = refl; is = h; next_is = k }
+
 pub all_shaped : {found : List (List ℕ × List ℕ)} {units : List UnitAt} → AreUnitsOf found units → AllByRecursion IsShaped (map (λ u. u.unit) units)
 all_shaped no_units = tt
 all_shaped (more_units h all) = (h.reads.shaped, all_shaped all)
@@ -76,6 +91,14 @@ program_begins reads found program h =
     let first = first_of h in
     subst (λ units. BeginsWithLang (program_rows (map (λ (u : UnitAt). u.unit) units))) (sym first.are)
     (begins_with first.unit.unit (map (λ (u : UnitAt). u.unit) first.others) (reads.one first.unit.tokens first.unit.unit first.is.reads))
+
+pub program_has_numbers : Reads lang_text lang_unit → Reads io_text io_unit → (found : FileMap) (program : Program) → ProgramOf found program
+    → HasMachineNumbers (rows_of program)
+program_has_numbers lang io found program h =
+    let first = first_two h in
+    subst (λ units. HasMachineNumbers (program_rows (map (λ (u : UnitAt). u.unit) units))) (sym first.are)
+    (with_prelude first.unit.unit first.next.unit (map (λ (u : UnitAt). u.unit) first.others)
+    (lang.one first.unit.tokens first.unit.unit first.is.reads) (io.one first.next.tokens first.next.unit first.next_is.reads))
 
 -- ---- which program files are
 

@@ -21,10 +21,11 @@ use Rattle.jr_prelude.specs.Begins.{BeginsWithLang}
 use Rattle.jr_prelude.specs.Io.{io_unit}
 use Rattle.jr_prelude.specs.Lang.{lang_unit}
 use Rattle.jr_prelude.specs.Laws.{Reads, FilesAreProgram, FilesAreOneProgram, OfFiles}
+use Rattle.jr_prelude.specs.Numbers.{HasMachineNumbers}
 use Rattle.jr_prelude.proofs.Begun.{object_bare}
 use Rattle.jr_prelude.proofs.PreludeShaped.{lang_shaped, lang_shallow, io_shaped, io_shallow}
 use Rattle.jr_prelude.proofs.PreludeTokens.{lang_has, io_has}
-use Rattle.jr_prelude.proofs.Programs.{program_begins, all_shaped, units_of, same_units}
+use Rattle.jr_prelude.proofs.Programs.{program_begins, program_has_numbers, all_shaped, units_of, same_units}
 use Rattle.jr_prelude.proofs.TextTokens.{HasTokens, only_tokens}
 
 -- a tree as a unit of the program, and the text that is laid out as its tokens
@@ -67,6 +68,9 @@ io_reads = record {
 
 pub programs_begin : OfFiles BeginsWithLang
 programs_begin = program_begins lang_reads
+
+pub programs_have_numbers : OfFiles HasMachineNumbers
+programs_have_numbers = program_has_numbers lang_reads io_reads
 
 pub programs_formed : OfFiles IsFormed
 programs_formed found program h =

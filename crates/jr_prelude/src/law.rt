@@ -5,6 +5,7 @@ ghost use Rattle.jr_defs.specs.Prelude.{lang_text, io_text};
 ghost use Rattle.jr_prelude.specs.Begins.{BeginsWithLang, HasLangTypes};
 ghost use Rattle.jr_prelude.specs.Io.{io_unit};
 ghost use Rattle.jr_prelude.specs.Lang.{lang_unit};
+ghost use Rattle.jr_prelude.specs.Numbers.{HasMachineNumbers, ListsAllOwn};
 ghost use Rattle.jr_prelude.specs.Laws.{Reads, FilesAreProgram, FilesAreOneProgram, OfFiles, NamesTypesOnce, HasOneObject, HasOneString, HasOneBinding};
 
 /// The texts of the prelude read as their trees, and as no other units (JLS 7.3).
@@ -42,4 +43,11 @@ pub fn programs_of_files_are_formed()
 /// Each program of files has at most one binding.
 pub fn one_binding_of_files()
     ensures { OfFiles HasOneBinding }
+{}
+
+/// What the reference machine knows by number is listed with what it is, a class or a method of the prelude, and in each program of files
+/// there is one declaration that is so, and it alone has that number (JLS 4.3.2, 4.3.3, 8.4.1, 11.1.1).
+pub fn machine_numbers_are_of_the_prelude()
+    ensures listed { ListsAllOwn }
+    ensures each { OfFiles HasMachineNumbers }
 {}

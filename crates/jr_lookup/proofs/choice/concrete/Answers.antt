@@ -1,9 +1,25 @@
-use Rattle.jr_lookup.proofs.Within.{one_more}
-use Rattle.jr_lookup.proofs.choice.concrete.Goals.{then-not-is_abstract+in_ok-push, else-not-is_abstract}
+use Rattle.std.proofs.Common.{sym, subst, ap, arith, ◌++◌, filter, not}
+use Rattle.std.proofs.lemmas.List.{drop_more, drop_all}
+use Rattle.jr_plain.specs.Modifiers.{is_abstract}
+use Rattle.jr_members.proofs.Each.{filter_next, filter_end}
+use Rattle.jr_lookup.specs.Within.{IsWithin}
+use Rattle.jr_lookup.proofs.Within.{nothing, one_if}
 use Rattle.jr_lookup.proofs.choice.concrete.Goals as goal
 
+pub loop-method-init : goal.loop-method-init
+loop-method-init c = let p = c.args.world.under.rows.now in (
+  subst (λ xs. IsWithin c.args.methods.now xs) (sym c.new-all.ensures.items) (nothing c.args.methods.now),
+  ap (λ xs. xs ++ filter (λ m. not (is_abstract p m)) c.args.methods.now) c.new-all.ensures.items,
+)
+
 pub loop-method-preserved : goal.loop-method-preserved
-loop-method-preserved c = elim c.if-not-is_abstract.branch [
-  | then-not-is_abstract+in_ok-push w ↦ rw (w.all-is, w.in_ok-push.ensures.items) (one_more _ _ _ _ c.loop-method.invariant c.loop-method-test.true)
-  | else-not-is_abstract w ↦ rw w.all-is c.loop-method.invariant
-]
+loop-method-preserved c = let p = c.args.world.under.rows.now in let all = c.args.methods.now in let i = c.loop-method.method-index in (
+  subst (λ xs. IsWithin all xs) (sym c.in_ok-push_if.ensures) (one_if all c.loop-method.all.items i 0 _ (omega arith) c.loop-method.invariant.0),
+  filter_next (λ m. not (is_abstract p m)) all _ _ _ c.loop-method.all.items _ _ (drop_more all i 0 (omega arith)) (ap not c.is_abstract-is_such.ensures) c.in_ok-push_if.ensures c.loop-method.invariant.1,
+)
+
+pub returns : goal.returns
+returns c = let p = c.args.world.under.rows.now in let all = c.args.methods.now in record {
+  within = c.loop-method.invariant.0;
+  plain = filter_end (λ m. not (is_abstract p m)) all _ c.loop-method.all.items (drop_all c.loop-method.method-index all (omega arith)) c.loop-method.invariant.1;
+}

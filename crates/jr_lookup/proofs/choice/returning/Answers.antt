@@ -1,9 +1,26 @@
-use Rattle.jr_lookup.proofs.Within.{one_more}
-use Rattle.jr_lookup.proofs.choice.returning.Goals.{then-returns_least+in_ok-push, else-returns_least}
+use Rattle.std.proofs.Common.{sym, subst, ap, arith, ◌++◌, filter}
+use Rattle.std.specs.List.{list_all}
+use Rattle.std.proofs.lemmas.List.{drop_more, drop_all}
+use Rattle.jr_plain.specs.Overloads.{is_result_fit}
+use Rattle.jr_members.proofs.Each.{item_in, filter_next, filter_end}
+use Rattle.jr_lookup.specs.Within.{IsWithin}
+use Rattle.jr_lookup.proofs.Within.{nothing, one_if}
 use Rattle.jr_lookup.proofs.choice.returning.Goals as goal
 
+pub loop-method-init : goal.loop-method-init
+loop-method-init c = (
+  subst (λ xs. IsWithin c.args.methods.now xs) (sym c.new-all.ensures.items) (nothing c.args.methods.now),
+  λ t h r. let p = c.args.world.under.rows.now in ap (λ xs. xs ++ filter (λ m. list_all (λ k. is_result_fit p t m k) c.args.methods.now) c.args.methods.now) c.new-all.ensures.items,
+)
+
 pub loop-method-preserved : goal.loop-method-preserved
-loop-method-preserved c = elim c.if-returns_least.branch [
-  | then-returns_least+in_ok-push w ↦ rw (w.all-is, w.in_ok-push.ensures.items) (one_more _ _ _ _ c.loop-method.invariant c.loop-method-test.true)
-  | else-returns_least w ↦ rw w.all-is c.loop-method.invariant
-]
+loop-method-preserved c = let p = c.args.world.under.rows.now in let all = c.args.methods.now in let i = c.loop-method.method-index in (
+  subst (λ xs. IsWithin all xs) (sym c.in_ok-push_if.ensures) (one_if all c.loop-method.all.items i 0 _ (omega arith) c.loop-method.invariant.0),
+  λ t h r. filter_next (λ m. list_all (λ k. is_result_fit p t m k) c.args.methods.now) all _ _ _ c.loop-method.all.items _ _ (drop_more all i 0 (omega arith)) (c.returns_least-is_such.ensures t h r (h.callable _ (item_in all i 0 (omega arith)))) c.in_ok-push_if.ensures (c.loop-method.invariant.1 t h r),
+)
+
+pub returns : goal.returns
+returns c = let p = c.args.world.under.rows.now in let all = c.args.methods.now in record {
+  within = c.loop-method.invariant.0;
+  plain = λ t h r. filter_end (λ m. list_all (λ k. is_result_fit p t m k) c.args.methods.now) all _ c.loop-method.all.items (drop_all c.loop-method.method-index all (omega arith)) (c.loop-method.invariant.1 t h r);
+}

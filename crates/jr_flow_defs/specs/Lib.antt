@@ -1,0 +1,11 @@
+pub mod Meaning
+pub mod Acts
+pub mod States
+pub mod Paths
+pub mod Edges
+pub mod Graphs
+pub mod Kept
+pub mod Computed
+pub mod Worked
+pub mod WorkedChanges
+pub mod Copied

@@ -1,5 +1,0 @@
-use Rattle.jr_lookup.specs.Within.{IsWithin}
-use Rattle.jr_lookup.proofs.choice.most_specific.Given as goal
-
-abbrev pub invariant-loop-method : goal.invariant-loop-method
-invariant-loop-method l = IsWithin l.methods l.all.items

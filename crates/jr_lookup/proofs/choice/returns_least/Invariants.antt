@@ -1,0 +1,12 @@
+use Rattle.std.proofs.Common.{◌≡◌, true, drop}
+use Rattle.std.specs.List.{list_all}
+use Rattle.jr_tree.specs.Rows.{role_at}
+use Rattle.jr_defs.specs.Referents.{Table}
+use Rattle.jr_plain.specs.Overloads.{is_result_fit}
+use Rattle.jr_supers.specs.Tabled.{is_callable}
+use Rattle.jr_lookup.specs.Choices.{AreCandidates, AreResults}
+use Rattle.jr_lookup.proofs.choice.returns_least.Given as goal
+
+abbrev pub invariant-loop-other : goal.invariant-loop-other
+invariant-loop-other l = (t : Table) → AreCandidates t l.world l.methods → AreResults t l.world → is_callable (role_at l.world.under.rows.now l.method) ≡ true
+    → list_all (is_result_fit l.world.under.rows.now t l.method) (drop l.other-index l.methods) ≡ list_all (is_result_fit l.world.under.rows.now t l.method) l.methods
