@@ -49,10 +49,10 @@ name_below p n lt = by (first_below n (λ k. bytes_eq (name p n) (name p k))) re
     by None e = lt
     by (Some k) e = let first = (finds_first (λ k. bytes_eq (name p n) (name p k)) (λ k. name p n ≡ name p k) (λ k. bytes_eq-Decides (name p n) (name p k)) n k).0 e in let less = first.0 in omega arith
 
-names_same : (p : Rows) (d n : ℕ) → name_row p d ≡ name_row p n → name p d ≡ name p n
+pub names_same : (p : Rows) (d n : ℕ) → name_row p d ≡ name_row p n → name p d ≡ name p n
 names_same p d n e = (name_tells p d n).0 ((Decides-eqb (name_row p d) (name_row p n)).1 e)
 
-rows_same : (p : Rows) (d n : ℕ) → name p d ≡ name p n → name_row p d ≡ name_row p n
+pub rows_same : (p : Rows) (d n : ℕ) → name p d ≡ name p n → name_row p d ≡ name_row p n
 rows_same p d n e = (Decides-eqb (name_row p d) (name_row p n)).0 ((name_tells p d n).1 e)
 
 -- ---- one declaration more

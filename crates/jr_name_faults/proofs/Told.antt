@@ -1,5 +1,5 @@
 -- The rows of faults that are added, rule by rule.
-use Rattle.std.proofs.Common.{◌≡◌, refl, sym, ◌∙◌, ap, ap₂, subst, add-one, ℕ, zero, suc, ◌+◌, Bool, true, false, cond, ◌||◌, List, [], ◌∷◌, ◌++◌, append_assoc, append-nil, length, nat_eq}
+use Rattle.std.proofs.Common.{◌≡◌, refl, sym, ◌∙◌, ap, ap₂, subst, arith, add-one, ℕ, zero, suc, ◌+◌, ◌-◌, Bool, true, false, cond, ◌||◌, List, [], ◌∷◌, ◌++◌, append_assoc, append-nil, length, nat_eq}
 use Rattle.std.proofs.lemmas.Bool.{or_parts}
 use Rattle.std.proofs.lemmas.Bool.Decides.{Decides-eqb}
 use Rattle.jr_tree.specs.Rows.{Rows}
@@ -19,8 +19,10 @@ use Rattle.jr_name_rules.specs.HeaderTests.{has_wrong_supertype}
 use Rattle.jr_name_rules.specs.Computed.{rule_if, broken_at}
 use Rattle.jr_view.specs.declared.View.{View}
 use Rattle.jr_name_faults.specs.declared.locals.Locals as code
+use Rattle.jr_name_faults.specs.declared.imports.Imports.{Imports}
+use Rattle.jr_name_faults.specs.Imports.{AreImportsTo}
 use Rattle.jr_name_faults.specs.Locals.{IsBefore}
-use Rattle.jr_name_faults.specs.Faults.{is_broken, AreExactFaults, fault_if, row_if, AreOfImports, AreOf}
+use Rattle.jr_name_faults.specs.Faults.{is_broken, AreExactFaults, fault_if, row_if, is_of_imports, AreOfImports, AreOf}
 use Rattle.jr_name_faults.specs.Views.{rows_in, table_in, types_in, IsSeenView}
 
 -- ---- lists of faults
@@ -77,17 +79,20 @@ only_added only b n is = record { others = λ r apart. other_added r only b n ap
 
 -- ---- the rules on imports
 
-pub clash_added : {old new : List Fault} (b : Bool) (n : ℕ) → new ≡ old ++ fault_if b n rule.ImportNames → AreOfImports old new
-clash_added b n is = record { others = λ r apart. other_added r rule.ImportNames b n (or_parts _ _ apart).0 is }
+pub imports_then : {old mid new : List Fault} → AreOf rule.ImportNames old mid → AreOf rule.ImportedTypes mid new → AreOfImports old new
+imports_then h k = record { others = λ r apart. none_then r (h.others r (or_parts _ _ apart).0) (k.others r (or_parts _ _ (or_parts _ _ apart).1).0) }
 
-pub canonical_added : {old new : List Fault} (b : Bool) (n : ℕ) → new ≡ old ++ fault_if b n rule.ImportedTypes → AreOfImports old new
-canonical_added b n is = record { others = λ r apart. other_added r rule.ImportedTypes b n (or_parts _ _ (or_parts _ _ apart).1).0 is }
+-- behind an import that is the row before
+pub next_names : {old mid new : List Fault} (test : ℕ → Bool) (n import : ℕ) → import + 1 ≡ n → mid ≡ old ++ fault_if (test import) n rule.ImportNames → AreOf rule.ImportedTypes mid new
+    → AreFaultsOf rule.ImportNames (row_if (is_next test n) n) old new
+next_names {old} {mid} {new} test n import next is others = subst (λ b. AreFaultsOf rule.ImportNames (row_if b n) old new) (sym same)
+    (then_none {mid = mid} rule.ImportNames (own_added rule.ImportNames (test import) n is) (others.others rule.ImportNames refl))
+  where
+    same : is_next test n ≡ test import
+    same = ap (is_next test) (sym next ∙ add-one import)
 
-pub static_added : {old new : List Fault} (b : Bool) (n : ℕ) → new ≡ old ++ fault_if b n rule.StaticImports → AreOfImports old new
-static_added b n is = record { others = λ r apart. other_added r rule.StaticImports b n (or_parts _ _ (or_parts _ _ apart).1).1 is }
-
-pub imports_then : {old mid new : List Fault} → AreOfImports old mid → AreOfImports mid new → AreOfImports old new
-imports_then h k = record { others = λ r apart. none_then r (h.others r apart) (k.others r apart) }
+pub first_names : (test : ℕ → Bool) (n : ℕ) (old : List Fault) → n ≡ 0 → AreFaultsOf rule.ImportNames (row_if (is_next test n) n) old old
+first_names test n old none = subst (λ m. AreFaultsOf rule.ImportNames (row_if (is_next test m) m) old old) (sym none) (none_added rule.ImportNames old)
 
 pub imports_none : (old : List Fault) → AreOfImports old old
 imports_none old = record { others = λ r apart. none_added r old }
@@ -114,6 +119,21 @@ faults_more {view} {n} {old} {now} {new} h before names labels access = record {
   local_names = row_more n rule.LocalNames (is_second_local (rows_in view)) h.local_names names;
   labels = row_more n rule.Labels (is_second_label (rows_in view)) h.labels labels;
   access = λ seen. row_more n rule.Access (is_not_accessible (rows_in view) (table_in view) (types_in view)) (h.access seen) (access seen);
+}
+
+-- the same of names of imports
+pub record AreImportFaultsTo (view : View) (n : ℕ) (old now : List Fault) (imports : Imports) : Type 0 where
+  pub passed : AreImportsTo (rows_in view) (table_in view) (length (rows_in view)) (n - 1) imports
+  pub import_names : AreFaultsOf rule.ImportNames (all_such n (is_next (has_import_clash (rows_in view) (table_in view)))) old now
+
+pub imports_start : (view : View) (old : List Fault) (imports : Imports) → AreImportsTo (rows_in view) (table_in view) (length (rows_in view)) 0 imports → AreImportFaultsTo view 0 old old imports
+imports_start view old imports h = record { passed = h; import_names = none_added rule.ImportNames old }
+
+pub imports_more : {view : View} {n : ℕ} {old now new : List Fault} {was imports : Imports} → AreImportFaultsTo view n old now was → AreImportsTo (rows_in view) (table_in view) (length (rows_in view)) n imports
+    → AreFaultsOf rule.ImportNames (row_if (is_next (has_import_clash (rows_in view) (table_in view)) n) n) now new → AreImportFaultsTo view (n + 1) old new imports
+imports_more {view} {n} {old} {now} {new} {was} {imports} h passed names = record {
+  passed = subst (λ m. AreImportsTo (rows_in view) (table_in view) (length (rows_in view)) m imports) (omega arith) passed;
+  import_names = row_more n rule.ImportNames (is_next (has_import_clash (rows_in view) (table_in view))) h.import_names names;
 }
 
 -- ---- the rules in the list of the definition
@@ -172,6 +192,9 @@ module _ (a b c d e f g h i j k : Bool) where
   seventh : has l2 7 ≡ f
   seventh = past a 2 7 l3 refl ∙ past b 3 7 l4 refl ∙ past c 4 7 l5 refl ∙ past d 5 7 l6 refl ∙ past e 6 7 l7 refl ∙ met f 7 7 l8 refl (past g 8 7 l9 refl ∙ past h 9 7 l10 refl ∙ past i 10 7 l13 refl ∙ past j 13 7 l47 refl ∙ last k 47 7 refl)
 
+  eighth : has l2 8 ≡ g
+  eighth = past a 2 8 l3 refl ∙ past b 3 8 l4 refl ∙ past c 4 8 l5 refl ∙ past d 5 8 l6 refl ∙ past e 6 8 l7 refl ∙ past f 7 8 l8 refl ∙ met g 8 8 l9 refl (past h 9 8 l10 refl ∙ past i 10 8 l13 refl ∙ past j 13 8 l47 refl ∙ last k 47 8 refl)
+
   tenth : has l2 10 ≡ i
   tenth = past a 2 10 l3 refl ∙ past b 3 10 l4 refl ∙ past c 4 10 l5 refl ∙ past d 5 10 l6 refl ∙ past e 6 10 l7 refl ∙ past f 7 10 l8 refl ∙ past g 8 10 l9 refl ∙ past h 9 10 l10 refl ∙ met i 10 10 l13 refl (past j 13 10 l47 refl ∙ last k 47 10 refl)
 
@@ -182,6 +205,9 @@ module _ (p : Rows) (t : Table) (types : Types) (n : ℕ) where
   pub labels_at : has (broken_at p t types n) 7 ≡ is_second_label p n
   labels_at = seventh (has_type_clash p n) (is_second_field p n) (is_second_method p t n) (is_second_constructor p t n) (is_second_local p n) (is_second_label p n) (is_next (has_import_clash p t) n) (is_next (is_import_not_canonical p t) n) (is_not_accessible p t types n) (has_wrong_supertype p t n) (has_static_import_fault p t n)
 
+  pub import_names_at : has (broken_at p t types n) 8 ≡ is_next (has_import_clash p t) n
+  import_names_at = eighth (has_type_clash p n) (is_second_field p n) (is_second_method p t n) (is_second_constructor p t n) (is_second_local p n) (is_second_label p n) (is_next (has_import_clash p t) n) (is_next (is_import_not_canonical p t) n) (is_not_accessible p t types n) (has_wrong_supertype p t n) (has_static_import_fault p t n)
+
   pub access_at : has (broken_at p t types n) 10 ≡ is_not_accessible p t types n
   access_at = tenth (has_type_clash p n) (is_second_field p n) (is_second_method p t n) (is_second_constructor p t n) (is_second_local p n) (is_second_label p n) (is_next (has_import_clash p t) n) (is_next (is_import_not_canonical p t) n) (is_not_accessible p t types n) (has_wrong_supertype p t n) (has_static_import_fault p t n)
 
@@ -189,15 +215,21 @@ such_same : (f g : ℕ → Bool) (n : ℕ) → ((k : ℕ) → f k ≡ g k) → a
 such_same f g zero same = refl
 such_same f g (suc n) same = ap₂ (λ xs b. xs ++ cond b (n ∷ []) []) (such_same f g n same) (same n)
 
-module _ {view : View} {n : ℕ} {old now : List Fault} {locals : code.Locals} (whole : n ≡ length (rows_in view)) (h : AreFaultsTo view n old now locals) where
-  told : (r : Rule) (test : ℕ → Bool) → ((k : ℕ) → is_broken view r k ≡ test k) → AreFaultsOf r (all_such n test) old now → AreExactFaults view r old now
-  told r test same k = subst (λ l. AreFaultsOf r l old now) (ap (λ m. all_such m test) whole ∙ sym (such_same (is_broken view r) test (length (rows_in view)) same)) k
+told : (view : View) (n : ℕ) (old now : List Fault) → n ≡ length (rows_in view) → (r : Rule) (test : ℕ → Bool) → ((k : ℕ) → is_broken view r k ≡ test k) → AreFaultsOf r (all_such n test) old now → AreExactFaults view r old now
+told view n old now whole r test same k =
+    subst (λ l. AreFaultsOf r l old now) (ap (λ m. all_such m test) whole ∙ sym (such_same (is_broken view r) test (length (rows_in view)) same)) k
 
-  pub told_names : AreExactFaults view rule.LocalNames old now
-  told_names = told rule.LocalNames (is_second_local (rows_in view)) (local_names_at (rows_in view) (table_in view) (types_in view)) h.local_names
+pub told_names : {view : View} {n : ℕ} {old now : List Fault} {locals : code.Locals} → n ≡ length (rows_in view) → AreFaultsTo view n old now locals → AreExactFaults view rule.LocalNames old now
+told_names {view} {n} {old} {now} whole h =
+    told view n old now whole rule.LocalNames (is_second_local (rows_in view)) (local_names_at (rows_in view) (table_in view) (types_in view)) h.local_names
 
-  pub told_labels : AreExactFaults view rule.Labels old now
-  told_labels = told rule.Labels (is_second_label (rows_in view)) (labels_at (rows_in view) (table_in view) (types_in view)) h.labels
+pub told_labels : {view : View} {n : ℕ} {old now : List Fault} {locals : code.Locals} → n ≡ length (rows_in view) → AreFaultsTo view n old now locals → AreExactFaults view rule.Labels old now
+told_labels {view} {n} {old} {now} whole h = told view n old now whole rule.Labels (is_second_label (rows_in view)) (labels_at (rows_in view) (table_in view) (types_in view)) h.labels
 
-  pub told_access : IsSeenView view → AreExactFaults view rule.Access old now
-  told_access seen = told rule.Access (is_not_accessible (rows_in view) (table_in view) (types_in view)) (access_at (rows_in view) (table_in view) (types_in view)) (h.access seen)
+pub told_access : {view : View} {n : ℕ} {old now : List Fault} {locals : code.Locals} → n ≡ length (rows_in view) → AreFaultsTo view n old now locals → IsSeenView view → AreExactFaults view rule.Access old now
+told_access {view} {n} {old} {now} whole h seen = told view n old now whole rule.Access (is_not_accessible (rows_in view) (table_in view) (types_in view))
+    (access_at (rows_in view) (table_in view) (types_in view)) (h.access seen)
+
+pub told_imports : {view : View} {n : ℕ} {old now : List Fault} {imports : Imports} → n ≡ length (rows_in view) → AreImportFaultsTo view n old now imports → AreExactFaults view rule.ImportNames old now
+told_imports {view} {n} {old} {now} whole h = told view n old now whole rule.ImportNames (is_next (has_import_clash (rows_in view) (table_in view)))
+    (import_names_at (rows_in view) (table_in view) (types_in view)) h.import_names

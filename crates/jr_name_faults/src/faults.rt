@@ -1,11 +1,15 @@
 // The rules on names that are broken at the rows of a program.
-ghost use Rattle.std.specs.Prelude.{◌≡◌, ◌++◌, ◌+◌, ◌<◌, IfOk, OnOk, length};
+ghost use Rattle.std.specs.Prelude.{◌≡◌, ◌++◌, ◌+◌, ◌-◌, ◌<◌, IfOk, OnOk, length};
 ghost use Rattle.jr_tree.specs.Rows.{Rows};
+ghost use Rattle.jr_defs.specs.Referents.{Table};
 ghost use Rattle.jr_name_rules.specs.AccessTests as access;
 ghost use Rattle.jr_name_rules.specs.DeclarationTests as plain;
+ghost use Rattle.jr_name_rules.specs.Found.{is_next};
+ghost use Rattle.jr_name_rules.specs.ImportTests.{has_import_clash};
 ghost use Rattle.jr_rule.specs.declared.Rule.TheVariants as rules;
 ghost use Rattle.jr_rule.specs.Faults.{AreFaultsOf};
 ghost use Rattle.jr_name_faults.specs.Faults as tell;
+ghost use Rattle.jr_name_faults.specs.Imports.{AreImportsTo};
 ghost use Rattle.jr_name_faults.specs.Locals.{IsBefore, IsEntered};
 ghost use Rattle.jr_name_faults.specs.Views as views;
 
@@ -70,7 +74,8 @@ fn clash_fault(
     at: u32,
     out: &mut Vec<Fault>,
 ) -> Result<(), OutOfMemory>
-    ensures { OnOk result (tell.AreOfImports out.old.items out.new.items) }
+    ensures found { (p : Rows) (t : Table) → import + 1 < length p → AreImportsTo p t (length p) import imports.now → OnOk result (out.new.items ≡ out.old.items ++ tell.fault_if (has_import_clash p t import) at rules.ImportNames) }
+    ensures others { OnOk result (tell.AreOf rules.ImportNames out.old.items out.new.items) }
 {
     let is_broken = imports.has_import_clash(import);
     rule_if(out, is_broken, at, Rule::ImportNames)?;
@@ -84,7 +89,7 @@ fn canonical_fault(
     at: u32,
     out: &mut Vec<Fault>,
 ) -> Result<(), OutOfMemory>
-    ensures { OnOk result (tell.AreOfImports out.old.items out.new.items) }
+    ensures { OnOk result (tell.AreOf rules.ImportedTypes out.old.items out.new.items) }
 {
     let is_broken = imports.is_import_not_canonical(import);
     rule_if(out, is_broken, at, Rule::ImportedTypes)?;
@@ -98,7 +103,9 @@ fn import_faults(
     at: u32,
     out: &mut Vec<Fault>,
 ) -> Result<(), OutOfMemory>
-    ensures { OnOk result (tell.AreOfImports out.old.items out.new.items) }
+    ensures open { (p : Rows) (t : Table) → at < length p → AreImportsTo p t (length p) (at - 1) imports.old → OnOk result (AreImportsTo p t (length p) at imports.new) }
+    ensures found { (p : Rows) (t : Table) → at < length p → AreImportsTo p t (length p) (at - 1) imports.old → OnOk result (AreFaultsOf rules.ImportNames (tell.row_if (is_next (has_import_clash p t) at) at) out.old.items out.new.items) }
+    ensures others { OnOk result (tell.AreOfImports out.old.items out.new.items) }
 {
     let Some(import) = at.checked_sub(1) else {
         return Ok(());
@@ -116,7 +123,7 @@ fn static_fault(
     at: u32,
     out: &mut Vec<Fault>,
 ) -> Result<(), OutOfMemory>
-    ensures { OnOk result (tell.AreOfImports out.old.items out.new.items) }
+    ensures { OnOk result (tell.AreOf rules.StaticImports out.old.items out.new.items) }
 {
     let is_broken = imports.has_static_import_fault(alloc, at)?;
     rule_if(out, is_broken, at, Rule::StaticImports)?;
@@ -146,6 +153,8 @@ fn row_faults(
     ensures local_names { (p : Rows) → at < length p → IsBefore p at locals.old → OnOk result (AreFaultsOf rules.LocalNames (tell.row_if (plain.is_second_local p at) at) out.old.items out.new.items) }
     ensures labels { (p : Rows) → at < length p → IsBefore p at locals.old → OnOk result (AreFaultsOf rules.Labels (tell.row_if (plain.is_second_label p at) at) out.old.items out.new.items) }
     ensures access { (p : Rows) → at < length p → IsBefore p at locals.old → views.IsSeenView view.now → OnOk result (AreFaultsOf rules.Access (tell.row_if (access.is_not_accessible (views.rows_in view.now) (views.table_in view.now) (views.types_in view.now) at) at) out.old.items out.new.items) }
+    ensures passed { (p : Rows) (t : Table) → at < length p → AreImportsTo p t (length p) (at - 1) imports.old → OnOk result (AreImportsTo p t (length p) at imports.new) }
+    ensures import_names { (p : Rows) (t : Table) → at < length p → IsBefore p at locals.old → AreImportsTo p t (length p) (at - 1) imports.old → OnOk result (AreFaultsOf rules.ImportNames (tell.row_if (is_next (has_import_clash p t) at) at) out.old.items out.new.items) }
 {
     local_faults(alloc, locals, at, out)?;
     import_faults(alloc, imports, at, out)?;
@@ -155,11 +164,12 @@ fn row_faults(
 }
 
 /// Adds the rules on names that are broken, as their rows rise: locals, labels, imports and access.
-/// Of locals, labels and access these are the rows at which the definition breaks the rule, where the tables are right.
+/// Of locals, labels, names of imports and access these are the rows at which the definition breaks the rule, where the tables are right.
 pub fn name_faults(alloc: Global, view: &View, out: &mut Vec<Fault>) -> Result<(), OutOfMemory>
     ensures local_names { views.IsPlacedView view.now → OnOk result (tell.AreExactFaults view.now rules.LocalNames out.old.items out.new.items) }
     ensures labels { views.IsPlacedView view.now → OnOk result (tell.AreExactFaults view.now rules.Labels out.old.items out.new.items) }
     ensures access { views.IsSeenView view.now → OnOk result (tell.AreExactFaults view.now rules.Access out.old.items out.new.items) }
+    ensures import_names { views.IsPlacedView view.now → OnOk result (tell.AreExactFaults view.now rules.ImportNames out.old.items out.new.items) }
 {
     let world = &view.sight.world;
     let mut locals = Locals::new(alloc, world.under.rows, world.under.places)?;
@@ -190,6 +200,7 @@ fn put_faults(
     ensures local_names { IsBefore (views.rows_in view.now) 0 locals.old → OnOk result (tell.AreExactFaults view.now rules.LocalNames out.old.items out.new.items) }
     ensures labels { IsBefore (views.rows_in view.now) 0 locals.old → OnOk result (tell.AreExactFaults view.now rules.Labels out.old.items out.new.items) }
     ensures access { IsBefore (views.rows_in view.now) 0 locals.old → views.IsSeenView view.now → OnOk result (tell.AreExactFaults view.now rules.Access out.old.items out.new.items) }
+    ensures import_names { IsBefore (views.rows_in view.now) 0 locals.old → AreImportsTo (views.rows_in view.now) (views.table_in view.now) (length (views.rows_in view.now)) 0 imports.old → OnOk result (tell.AreExactFaults view.now rules.ImportNames out.old.items out.new.items) }
 {
     let count = row_count(view.sight.world.under.rows)?;
     for at in 0..count {
