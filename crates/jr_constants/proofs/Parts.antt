@@ -1,16 +1,16 @@
 -- What a row has by tables is what the plain function of the row gives.
 use Rattle.std.proofs.Common.{◌≡◌, refl, sym, ◌∙◌, ap, ap₂, arith, ℕ, zero, suc, ◌+◌, ◌≤◌, ◌<◌, Bool, true, false, cond, List, [], ◌∷◌, length, Option, Some, None, slice_get, nat_eq, subst}
-use Rattle.std.specs.Prelude.{slice_index_or, option_map, option_and_then}
+use Rattle.std.specs.Prelude.{Result, Ok, Err, IfOk, slice_index_or, option_map, option_and_then}
 use Rattle.std.proofs.lemmas.Bool.Decides.{Decides-eqb}
 use Rattle.std.proofs.lemmas.Option.{none-some, same_Some}
 use Rattle.jr_base.specs.declared.kind.Symbol.{Symbol}
 use Rattle.jr_ty.specs.declared.constant.Const.{Const}
 use Rattle.jr_tree.specs.declared.row.Row.{Row}
 use Rattle.jr_tree.specs.declared.label.Label.TheVariants as is
-use Rattle.jr_tree.specs.Rows.{Rows, parent, end}
+use Rattle.jr_tree.specs.Rows.{Rows, label, parent, end}
 use Rattle.jr_defs.specs.declared.referent.RowType.{RowType}
 use Rattle.jr_defs.specs.Referents.{Table}
-use Rattle.jr_defs.specs.Operators.{cast_to, unary_value}
+use Rattle.jr_defs.specs.Operators.{cast_to, unary_value, binary_value}
 use Rattle.jr_plain.specs.Types.{type_at}
 use Rattle.jr_plain.specs.Conversions.{Constants, of_two}
 use Rattle.jr_plain.specs.Constants as plain
@@ -121,3 +121,16 @@ module _ (texts : List (List ℕ)) (p : Rows) (t : Table) (k : ℕ → Bool) (va
 
   pub unary_inside : (op : Symbol) → seen_if found ≡ option_and_then (unary_value op) (seen_if (part p all n (n + 1))) → AreIn texts all → IsInIf texts found
   unary_inside op h are = (unary_tells op texts (part p all n (n + 1)) found h).1 (part_inside texts p all n (n + 1) are)
+
+binary_row : (texts : List (List ℕ)) (p : Rows) (t : Table) (k : ℕ → Bool) (variables : Constants) (all : List (Option Value)) (n : ℕ) (op : Symbol) (found : Option Const) → n < length p
+    → found ≡ of_two (binary_value op) (value_in_if texts (part p all n (n + 1))) (value_in_if texts (second p all n)) → found ≡ valued_by p t k variables (values_in texts all) n (is.Binary op)
+binary_row texts p t k variables all n op found lt h = h ∙ ap₂ (of_two (binary_value op)) (part_tells texts p all n (n + 1)) (second_tells texts p all n lt)
+
+module _ (texts new : List (List ℕ)) (p : Rows) (t : Table) (k : ℕ → Bool) (variables : Constants) (all : List (Option Value)) (n : ℕ) (op : Symbol) (one : Row) where
+  pub binary_at : {E : Type 0} (most : ℕ) (found : Result (Option Value) E) → n < length p → ((d : Row) → one ≡ slice_index_or p n d) → one.label ≡ is.Binary op → length p < most
+      → (n + 1 < most → IfOk found (λ value. value_in_if new value ≡ of_two (binary_value op) (value_in_if texts (part p all n (n + 1))) (value_in_if texts (second p all n))))
+      → IfOk found (λ value. value_in_if new value ≡ valued_by p t k variables (values_in texts all) n (label p n))
+  binary_at most (Ok value) lt at called few h =
+      let same : label p n ≡ is.Binary op = ap (λ r. r.label) (sym (at _)) ∙ called in
+      subst (λ l. value_in_if new value ≡ valued_by p t k variables (values_in texts all) n l) (sym same) (binary_row texts p t k variables all n op (value_in_if new value) lt (h (omega arith)))
+  binary_at most (Err e) lt at called few h = tt

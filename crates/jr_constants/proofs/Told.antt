@@ -2,7 +2,7 @@
 use Rattle.std.proofs.Common.{◌≡◌, refl, sym, ◌∙◌, ap, ap₂, subst, inl, inr, ℕ, zero, suc, Bool, true, false, cond, List, [], ◌∷◌, Option, Some, None, ◌⊎◌, slice_get}
 use Rattle.std.proofs.lemmas.Bool.{false≢true}
 use Rattle.std.proofs.lemmas.Option.{none-some}
-use Rattle.std.specs.Prelude.{ℤ, ◌||◌, option_and_then, ⊤}
+use Rattle.std.specs.Prelude.{ℤ, ◌||◌, option_and_then}
 use Rattle.std.specs.Int.{Width, w32, w64}
 use Rattle.jr_base.specs.declared.kind.Symbol.{Symbol}
 use Rattle.jr_base.specs.declared.kind.Symbol.TheVariants as y

@@ -6,7 +6,9 @@ use Rattle.jr_tree.specs.declared.label.Label.TheVariants as is
 use Rattle.jr_tree.specs.Rows.{Rows, parent}
 use Rattle.jr_defs.specs.declared.referent.RowType.{RowType}
 use Rattle.jr_defs.specs.Referents.{Table}
-use Rattle.jr_plain.specs.Constants.{constant_by}
+use Rattle.jr_defs.specs.Constants.{ConstantOf, ConstantVariable}
+use Rattle.jr_defs.specs.Laws.{Picked}
+use Rattle.jr_plain.specs.Constants.{constant_by, is_initialized}
 use Rattle.jr_plain.specs.Conversions.{Constants}
 use Rattle.jr_plain.specs.Types.{type_at}
 use Rattle.jr_supers.specs.Tabled.{declared, first_child}
@@ -87,3 +89,17 @@ AreIn texts all = (n : ℕ) → IsInIf texts (item all n)
 -- texts were added
 abbrev pub IsGrown : List (List ℕ) → List (List ℕ) → Type 0
 IsGrown before after = (more : List (List ℕ)) × (after ≡ before ++ more)
+
+-- each value that a table has is the one of its row, by the definition
+abbrev pub Tells : List (List ℕ) → List (Option Value) → (ℕ → Const → Type 0) → Type 0
+Tells texts all R = (n : ℕ) (value : Value) → item all n ≡ Some value → IsIn texts value × R n (value_in texts value)
+
+-- the values of expressions and of variables are those of the definition, where the references of k are read as constants
+pub record AreKnown (p : Rows) (t : Table) (k : ℕ → Bool) (texts : List (List ℕ)) (variables values : List (Option Value)) : Type 0 where
+  pub of_rows : Tells texts values (ConstantOf p t (Picked k))
+  pub of_variables : Tells texts variables (ConstantVariable p t (Picked k))
+
+-- the row of the initializer of a final variable
+pub record IsInitializer (p : Rows) (d n : ℕ) : Type 0 where
+  pub initialized : is_initialized p d ≡ true
+  pub row : n ≡ d + 2

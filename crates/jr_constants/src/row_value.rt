@@ -1,13 +1,17 @@
 // The value of one row, from those of its parts and of variables (JLS 15.28).
 
-ghost use Rattle.std.specs.Prelude.{◌≡◌, ◌+◌, ◌<◌, ◌^◌, if◌then◌else◌, List, ℕ, Some, None, length, option_and_then, true};
+ghost use Rattle.std.specs.Prelude.{◌≡◌, ◌+◌, ◌<◌, ◌^◌, if◌then◌else◌, List, ℕ, Some, None, length, option_and_then, true, false, IfOk, OnOk};
+ghost use Rattle.jr_tree.specs.Rows.{label};
 ghost use Rattle.jr_defs.specs.Operators as defined;
+ghost use Rattle.jr_defs.specs.Constants.{literal_value};
 ghost use Rattle.jr_defs.specs.Referents.{entries};
 ghost use Rattle.jr_plain.specs.Constants as plain;
 ghost use Rattle.jr_plain.specs.Conversions.{of_two};
 ghost use Rattle.jr_supers.specs.Tabled.{declared};
-ghost use Rattle.jr_constants.specs.Values.{seen, seen_if, value_in_if};
+ghost use Rattle.jr_constants.specs.Values.{seen, seen_if, value_in, value_in_if};
 ghost use Rattle.jr_constants.specs.Values as told;
+ghost use Rattle.jr_base.specs.declared.kind.Kind.TheVariants as token;
+ghost use Rattle.jr_ty.specs.declared.constant.Const.TheVariants as c;
 ghost use Rattle.jr_constants.specs.Tables as tell;
 
 use crate::operators::{bool_value, number_value, unary_value};
@@ -97,7 +101,10 @@ fn third(rows: &[Row], values: &[Option<Value>], at: u32) -> Option<Value>
 }
 
 // The value of a word.
-fn word_value(word: Keyword) -> Option<Value> {
+fn word_value(word: Keyword) -> Option<Value>
+    ensures exact { (texts : List (List ℕ)) → value_in_if texts result ≡ literal_value (token.Word word) }
+    ensures inside { (texts : List (List ℕ)) → tell.IsInIf texts result }
+{
     match word {
         Keyword::True => Some(Value::Bool(true)),
         Keyword::False => Some(Value::Bool(false)),
@@ -106,14 +113,24 @@ fn word_value(word: Keyword) -> Option<Value> {
 }
 
 // One more string.
-fn string(alloc: Global, units: &Units, texts: &mut Texts) -> Result<Value, OutOfMemory> {
+#[tactic(auto, using(crate::proofs::Adding::new_text, crate::proofs::Growing::added_in))]
+fn string(alloc: Global, units: &Units, texts: &mut Texts) -> Result<Value, OutOfMemory>
+    ensures exact { IfOk result (λ value. value_in texts.new value ≡ c.Str units.now) }
+    ensures grown { OnOk result (tell.IsGrown texts.old texts.new) }
+    ensures inside { IfOk result (λ value. tell.IsIn texts.new value) }
+{
     let copy = units.copy(alloc)?;
     let number = texts.add(copy)?;
     Ok(Value::Str(number))
 }
 
 // The value of a literal; null has none (JLS 15.8.1).
-fn literal(alloc: Global, kind: &Kind, texts: &mut Texts) -> Result<Option<Value>, OutOfMemory> {
+#[tactic(auto, using(crate::proofs::Growing::same_grown))]
+fn literal(alloc: Global, kind: &Kind, texts: &mut Texts) -> Result<Option<Value>, OutOfMemory>
+    ensures exact { IfOk result (λ value. value_in_if texts.new value ≡ literal_value kind.now) }
+    ensures grown { OnOk result (tell.IsGrown texts.old texts.new) }
+    ensures inside { IfOk result (λ value. tell.IsInIf texts.new value) }
+{
     match kind {
         Kind::Int(number) => Ok(Some(Value::Int(*number))),
         Kind::IntMin => Ok(Some(Value::Int(i32::MIN))),
@@ -252,8 +269,17 @@ fn is_text(value: Value) -> bool
     }
 }
 
+// One of the two is a string.
+fn has_text(left: Value, right: Value) -> bool
+    ensures { result ≡ told.has_text left right }
+{
+    is_text(left) || is_text(right)
+}
+
 // An operator on two constants that are no strings.
-fn plain_value(op: Symbol, left: Value, right: Value) -> Option<Value> {
+fn plain_value(op: Symbol, left: Value, right: Value) -> Option<Value>
+    ensures { told.has_text left right ≡ false → seen_if result ≡ defined.binary_value op (seen left) (seen right) }
+{
     match left {
         Value::Bool(first) => match right {
             Value::Bool(second) => bool_value(op, first, second),
@@ -264,20 +290,26 @@ fn plain_value(op: Symbol, left: Value, right: Value) -> Option<Value> {
 }
 
 // An operator on two constants.
+#[tactic(auto, using(crate::proofs::Growing::same_grown))]
 fn operated(
     alloc: Global,
     op: Symbol,
     left: Value,
     right: Value,
     texts: &mut Texts,
-) -> Result<Option<Value>, OutOfMemory> {
-    if is_text(left) || is_text(right) {
+) -> Result<Option<Value>, OutOfMemory>
+    ensures exact { IfOk result (λ value. value_in_if texts.new value ≡ defined.binary_value op (value_in texts.old left) (value_in texts.old right)) }
+    ensures grown { OnOk result (tell.IsGrown texts.old texts.new) }
+    ensures inside { IfOk result (λ value. tell.IsInIf texts.new value) }
+{
+    if has_text(left, right) {
         texts.value(alloc, op, left, right)
     } else {
         Ok(plain_value(op, left, right))
     }
 }
 
+#[tactic(auto, using(crate::proofs::Growing::same_grown))]
 fn binary(
     alloc: Global,
     rows: &[Row],
@@ -285,7 +317,11 @@ fn binary(
     at: u32,
     op: Symbol,
     texts: &mut Texts,
-) -> Result<Option<Value>, OutOfMemory> {
+) -> Result<Option<Value>, OutOfMemory>
+    ensures exact { at + 1 < 2 ^ 32 → IfOk result (λ value. value_in_if texts.new value ≡ of_two (defined.binary_value op) (value_in_if texts.old (tell.part rows.now values.now at (at + 1))) (value_in_if texts.old (tell.second rows.now values.now at))) }
+    ensures grown { OnOk result (tell.IsGrown texts.old texts.new) }
+    ensures inside { IfOk result (λ value. tell.IsInIf texts.new value) }
+{
     match first(rows, values, at) {
         Some(left) => match second(rows, values, at) {
             Some(right) => operated(alloc, op, left, right, texts),
@@ -320,6 +356,7 @@ fn plain_row(
 }
 
 /// The value of an expression, where those of its parts and of variables are known.
+#[tactic(auto, using(crate::proofs::Growing::same_grown))]
 pub fn value_of(
     alloc: Global,
     under: Tabled,
@@ -328,7 +365,11 @@ pub fn value_of(
     values: &[Option<Value>],
     texts: &mut Texts,
     at: u32,
-) -> Result<Option<Value>, OutOfMemory> {
+) -> Result<Option<Value>, OutOfMemory>
+    ensures exact { length under.entry.rows.now < 2 ^ 32 → IfOk result (λ value. value_in_if texts.new value ≡ tell.valued_by under.entry.rows.now (entries under.entry.table.now) (tell.picks constant.now) (tell.values_in texts.old variables.now) (tell.values_in texts.old values.now) at (label under.entry.rows.now at)) }
+    ensures grown { OnOk result (tell.IsGrown texts.old texts.new) }
+    ensures inside { length under.entry.rows.now < 2 ^ 32 → tell.AreIn texts.old variables.now → tell.AreIn texts.old values.now → IfOk result (λ value. tell.IsInIf texts.new value) }
+{
     match under.rows.get(at as usize) {
         Some(row) => match &row.label {
             Label::Literal { kind } => literal(alloc, kind, texts),

@@ -4,6 +4,7 @@ ghost use Rattle.std.specs.Fmt.{signed_decimal};
 ghost use Rattle.jr_ty.specs.declared.constant.Const.TheVariants as c;
 ghost use Rattle.jr_defs.specs.Operators as defined;
 ghost use Rattle.jr_constants.specs.Values.{value_in, value_in_if, text_at, equal_texts, compared, has_text, texts_value};
+ghost use Rattle.jr_constants.specs.Tables.{IsGrown, IsInIf};
 
 use crate::value::Value;
 use jr_base::{OutOfMemory, Symbol, Units};
@@ -131,14 +132,16 @@ impl Texts {
     }
 
     // Two constants as a new text, the one behind the other.
-    #[tactic(auto, using(crate::proofs::Adding::new_text))]
+    #[tactic(auto, using(crate::proofs::Adding::new_text, crate::proofs::Growing::added_in))]
     fn joined(
         &mut self,
         alloc: Global,
         left: Value,
         right: Value,
     ) -> Result<Option<Value>, OutOfMemory>
-        ensures { IfOk result (λ value. value_in_if self.new value ≡ Some (c.Str (defined.text_of (value_in self.old left) ++ defined.text_of (value_in self.old right)))) }
+        ensures exact { IfOk result (λ value. value_in_if self.new value ≡ Some (c.Str (defined.text_of (value_in self.old left) ++ defined.text_of (value_in self.old right)))) }
+        ensures grown { OnOk result (IsGrown self.old self.new) }
+        ensures inside { IfOk result (λ value. IsInIf self.new value) }
     {
         let units = self.text_of_both(alloc, left, right)?;
         let number = self.add(units)?;
@@ -169,6 +172,7 @@ impl Texts {
     }
 
     // An operator that is read as one on texts.
+    #[tactic(auto, using(crate::proofs::Growing::same_grown))]
     fn operated(
         &mut self,
         alloc: Global,
@@ -176,7 +180,9 @@ impl Texts {
         left: Value,
         right: Value,
     ) -> Result<Option<Value>, OutOfMemory>
-        ensures { IfOk result (λ value. value_in_if self.new value ≡ texts_value op (value_in self.old left) (value_in self.old right)) }
+        ensures exact { IfOk result (λ value. value_in_if self.new value ≡ texts_value op (value_in self.old left) (value_in self.old right)) }
+        ensures grown { OnOk result (IsGrown self.old self.new) }
+        ensures inside { IfOk result (λ value. IsInIf self.new value) }
     {
         match op {
             Symbol::Plus => self.joined(alloc, left, right),
@@ -194,7 +200,9 @@ impl Texts {
         left: Value,
         right: Value,
     ) -> Result<Option<Value>, OutOfMemory>
-        ensures { IfOk result (λ value. has_text left right ≡ true → value_in_if self.new value ≡ defined.binary_value op (value_in self.old left) (value_in self.old right)) }
+        ensures exact { IfOk result (λ value. has_text left right ≡ true → value_in_if self.new value ≡ defined.binary_value op (value_in self.old left) (value_in self.old right)) }
+        ensures grown { OnOk result (IsGrown self.old self.new) }
+        ensures inside { IfOk result (λ value. IsInIf self.new value) }
     {
         let value = self.operated(alloc, op, left, right)?;
         Ok(value)

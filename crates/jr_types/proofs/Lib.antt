@@ -1,1 +1,5 @@
 pub mod Casting
+pub mod Strings
+pub mod Operands
+pub mod Values
+pub mod Passing
