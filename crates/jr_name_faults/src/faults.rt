@@ -1,18 +1,52 @@
 // The rules on names that are broken at the rows of a program.
+ghost use Rattle.std.specs.Prelude.{◌≡◌, ◌++◌, ◌+◌, ◌-◌, ◌<◌, IfOk, OnOk, length};
+ghost use Rattle.jr_tree.specs.Rows.{Rows};
+ghost use Rattle.jr_defs.specs.Referents.{Table};
+ghost use Rattle.jr_name_rules.specs.AccessTests as access;
+ghost use Rattle.jr_name_rules.specs.DeclarationTests as plain;
+ghost use Rattle.jr_name_rules.specs.Found.{is_next};
+ghost use Rattle.jr_name_rules.specs.ImportTests.{has_import_clash};
+ghost use Rattle.jr_rule.specs.declared.Rule.TheVariants as rules;
+ghost use Rattle.jr_rule.specs.Faults.{AreFaultsOf};
+ghost use Rattle.jr_name_faults.specs.Faults as tell;
+ghost use Rattle.jr_name_faults.specs.Imports.{AreImportsTo};
+ghost use Rattle.jr_name_faults.specs.Locals.{IsBefore, IsEntered};
+ghost use Rattle.jr_name_faults.specs.Views as views;
 
 use crate::access::is_not_accessible;
 use crate::imports::Imports;
 use crate::locals::Locals;
 use jr_base::OutOfMemory;
 use jr_rule::{Fault, Rule};
+use jr_tree::Row;
 use jr_view::View;
 use std::alloc::Global;
 
 // The rule, where it is broken.
-fn rule_if(out: &mut Vec<Fault>, is_broken: bool, row: u32, rule: Rule) -> Result<(), OutOfMemory> {
+fn rule_if(out: &mut Vec<Fault>, is_broken: bool, row: u32, rule: Rule) -> Result<(), OutOfMemory>
+    ensures { OnOk result (out.new.items ≡ out.old.items ++ tell.fault_if is_broken row rule) }
+{
     if is_broken {
         out.push(Fault { row, rule })?;
     }
+    Ok(())
+}
+
+// The rule on names of locals, where it is broken at a row.
+fn name_fault(locals: &Locals, at: u32, out: &mut Vec<Fault>) -> Result<(), OutOfMemory>
+    ensures { (p : Rows) → at < length p → IsEntered p at locals.now → OnOk result (out.new.items ≡ out.old.items ++ tell.fault_if (plain.is_second_local p at) at rules.LocalNames) }
+{
+    let is_broken = locals.is_second_local(at);
+    rule_if(out, is_broken, at, Rule::LocalNames)?;
+    Ok(())
+}
+
+// The rule on labels, where it is broken at a row.
+fn label_fault(locals: &Locals, at: u32, out: &mut Vec<Fault>) -> Result<(), OutOfMemory>
+    ensures { (p : Rows) → at < length p → IsEntered p at locals.now → OnOk result (out.new.items ≡ out.old.items ++ tell.fault_if (plain.is_second_label p at) at rules.Labels) }
+{
+    let is_broken = locals.is_second_label(at);
+    rule_if(out, is_broken, at, Rule::Labels)?;
     Ok(())
 }
 
@@ -22,11 +56,44 @@ fn local_faults(
     locals: &mut Locals,
     at: u32,
     out: &mut Vec<Fault>,
-) -> Result<(), OutOfMemory> {
+) -> Result<(), OutOfMemory>
+    ensures open { (p : Rows) → at < length p → IsBefore p at locals.old → OnOk result (IsBefore p (at + 1) locals.new) }
+    ensures found { (p : Rows) → at < length p → IsBefore p at locals.old → OnOk result (out.new.items ≡ out.old.items ++ (tell.fault_if (plain.is_second_local p at) at rules.LocalNames ++ tell.fault_if (plain.is_second_label p at) at rules.Labels)) }
+{
     locals.enter(alloc, at)?;
-    rule_if(out, locals.is_second_local(at), at, Rule::LocalNames)?;
-    rule_if(out, locals.is_second_label(at), at, Rule::Labels)?;
-    locals.declare(alloc, at)
+    name_fault(locals, at, out)?;
+    label_fault(locals, at, out)?;
+    locals.declare(alloc, at)?;
+    Ok(())
+}
+
+// The rule on names of imports, where it is broken behind the import.
+fn clash_fault(
+    imports: &Imports,
+    import: u32,
+    at: u32,
+    out: &mut Vec<Fault>,
+) -> Result<(), OutOfMemory>
+    ensures found { (p : Rows) (t : Table) → import + 1 < length p → AreImportsTo p t (length p) import imports.now → OnOk result (out.new.items ≡ out.old.items ++ tell.fault_if (has_import_clash p t import) at rules.ImportNames) }
+    ensures others { OnOk result (tell.AreOf rules.ImportNames out.old.items out.new.items) }
+{
+    let is_broken = imports.has_import_clash(import);
+    rule_if(out, is_broken, at, Rule::ImportNames)?;
+    Ok(())
+}
+
+// The rule on imported types, where it is broken behind the import.
+fn canonical_fault(
+    imports: &Imports,
+    import: u32,
+    at: u32,
+    out: &mut Vec<Fault>,
+) -> Result<(), OutOfMemory>
+    ensures { OnOk result (tell.AreOf rules.ImportedTypes out.old.items out.new.items) }
+{
+    let is_broken = imports.is_import_not_canonical(import);
+    rule_if(out, is_broken, at, Rule::ImportedTypes)?;
+    Ok(())
 }
 
 // The rules on imports that are broken at a row: what an import names stands behind it.
@@ -35,17 +102,41 @@ fn import_faults(
     imports: &mut Imports,
     at: u32,
     out: &mut Vec<Fault>,
-) -> Result<(), OutOfMemory> {
-    if let Some(import) = at.checked_sub(1) {
-        rule_if(out, imports.has_import_clash(import), at, Rule::ImportNames)?;
-        rule_if(
-            out,
-            imports.is_import_not_canonical(import),
-            at,
-            Rule::ImportedTypes,
-        )?;
-        imports.pass(alloc, import)?;
-    }
+) -> Result<(), OutOfMemory>
+    ensures open { (p : Rows) (t : Table) → at < length p → AreImportsTo p t (length p) (at - 1) imports.old → OnOk result (AreImportsTo p t (length p) at imports.new) }
+    ensures found { (p : Rows) (t : Table) → at < length p → AreImportsTo p t (length p) (at - 1) imports.old → OnOk result (AreFaultsOf rules.ImportNames (tell.row_if (is_next (has_import_clash p t) at) at) out.old.items out.new.items) }
+    ensures others { OnOk result (tell.AreOfImports out.old.items out.new.items) }
+{
+    let Some(import) = at.checked_sub(1) else {
+        return Ok(());
+    };
+    clash_fault(imports, import, at, out)?;
+    canonical_fault(imports, import, at, out)?;
+    imports.pass(alloc, import)?;
+    Ok(())
+}
+
+// The rule on single static imports, where it is broken at a row.
+fn static_fault(
+    alloc: Global,
+    imports: &Imports,
+    at: u32,
+    out: &mut Vec<Fault>,
+) -> Result<(), OutOfMemory>
+    ensures { OnOk result (tell.AreOf rules.StaticImports out.old.items out.new.items) }
+{
+    let is_broken = imports.has_static_import_fault(alloc, at)?;
+    rule_if(out, is_broken, at, Rule::StaticImports)?;
+    Ok(())
+}
+
+// The rule on access, where it is broken at a row.
+fn access_fault(view: &View, at: u32, out: &mut Vec<Fault>) -> Result<(), OutOfMemory>
+    ensures found { views.IsSeenView view.now → OnOk result (out.new.items ≡ out.old.items ++ tell.fault_if (access.is_not_accessible (views.rows_in view.now) (views.table_in view.now) (views.types_in view.now) at) at rules.Access) }
+    ensures others { OnOk result (tell.AreOf rules.Access out.old.items out.new.items) }
+{
+    let is_broken = is_not_accessible(view, at);
+    rule_if(out, is_broken, at, Rule::Access)?;
     Ok(())
 }
 
@@ -57,35 +148,61 @@ fn row_faults(
     imports: &mut Imports,
     at: u32,
     out: &mut Vec<Fault>,
-) -> Result<(), OutOfMemory> {
+) -> Result<(), OutOfMemory>
+    ensures open { (p : Rows) → at < length p → IsBefore p at locals.old → OnOk result (IsBefore p (at + 1) locals.new) }
+    ensures local_names { (p : Rows) → at < length p → IsBefore p at locals.old → OnOk result (AreFaultsOf rules.LocalNames (tell.row_if (plain.is_second_local p at) at) out.old.items out.new.items) }
+    ensures labels { (p : Rows) → at < length p → IsBefore p at locals.old → OnOk result (AreFaultsOf rules.Labels (tell.row_if (plain.is_second_label p at) at) out.old.items out.new.items) }
+    ensures access { (p : Rows) → at < length p → IsBefore p at locals.old → views.IsSeenView view.now → OnOk result (AreFaultsOf rules.Access (tell.row_if (access.is_not_accessible (views.rows_in view.now) (views.table_in view.now) (views.types_in view.now) at) at) out.old.items out.new.items) }
+    ensures passed { (p : Rows) (t : Table) → at < length p → AreImportsTo p t (length p) (at - 1) imports.old → OnOk result (AreImportsTo p t (length p) at imports.new) }
+    ensures import_names { (p : Rows) (t : Table) → at < length p → IsBefore p at locals.old → AreImportsTo p t (length p) (at - 1) imports.old → OnOk result (AreFaultsOf rules.ImportNames (tell.row_if (is_next (has_import_clash p t) at) at) out.old.items out.new.items) }
+{
     local_faults(alloc, locals, at, out)?;
     import_faults(alloc, imports, at, out)?;
-    rule_if(out, is_not_accessible(view, at), at, Rule::Access)?;
-    let is_static_fault = imports.has_static_import_fault(alloc, at)?;
-    rule_if(out, is_static_fault, at, Rule::StaticImports)
+    access_fault(view, at, out)?;
+    static_fault(alloc, imports, at, out)?;
+    Ok(())
 }
 
 /// Adds the rules on names that are broken, as their rows rise: locals, labels, imports and access.
-pub fn name_faults(alloc: Global, view: &View, out: &mut Vec<Fault>) -> Result<(), OutOfMemory> {
+/// Of locals, labels, names of imports and access these are the rows at which the definition breaks the rule, where the tables are right.
+pub fn name_faults(alloc: Global, view: &View, out: &mut Vec<Fault>) -> Result<(), OutOfMemory>
+    ensures local_names { views.IsPlacedView view.now → OnOk result (tell.AreExactFaults view.now rules.LocalNames out.old.items out.new.items) }
+    ensures labels { views.IsPlacedView view.now → OnOk result (tell.AreExactFaults view.now rules.Labels out.old.items out.new.items) }
+    ensures access { views.IsSeenView view.now → OnOk result (tell.AreExactFaults view.now rules.Access out.old.items out.new.items) }
+    ensures import_names { views.IsPlacedView view.now → OnOk result (tell.AreExactFaults view.now rules.ImportNames out.old.items out.new.items) }
+{
     let world = &view.sight.world;
     let mut locals = Locals::new(alloc, world.under.rows, world.under.places)?;
     let mut imports = Imports::new(alloc, world);
-    put_faults(alloc, view, &mut locals, &mut imports, out)
+    locals.add_parameters(alloc)?;
+    imports.add_rows(alloc)?;
+    put_faults(alloc, view, &mut locals, &mut imports, out)?;
+    Ok(())
 }
 
-// The same, where no row was looked at.
+fn row_count(rows: &[Row]) -> Result<u32, OutOfMemory>
+    ensures { IfOk result (λ count. count ≡ length rows.now) }
+{
+    let Ok(count) = u32::try_from(rows.len()) else {
+        return Err(OutOfMemory);
+    };
+    Ok(count)
+}
+
+// The same, where all parameters and imports are known, and no row was looked at.
 fn put_faults(
     alloc: Global,
     view: &View,
     locals: &mut Locals,
     imports: &mut Imports,
     out: &mut Vec<Fault>,
-) -> Result<(), OutOfMemory> {
-    locals.add_parameters(alloc)?;
-    imports.add_rows(alloc)?;
-    let Ok(count) = u32::try_from(view.sight.world.under.rows.len()) else {
-        return Err(OutOfMemory);
-    };
+) -> Result<(), OutOfMemory>
+    ensures local_names { IsBefore (views.rows_in view.now) 0 locals.old → OnOk result (tell.AreExactFaults view.now rules.LocalNames out.old.items out.new.items) }
+    ensures labels { IsBefore (views.rows_in view.now) 0 locals.old → OnOk result (tell.AreExactFaults view.now rules.Labels out.old.items out.new.items) }
+    ensures access { IsBefore (views.rows_in view.now) 0 locals.old → views.IsSeenView view.now → OnOk result (tell.AreExactFaults view.now rules.Access out.old.items out.new.items) }
+    ensures import_names { IsBefore (views.rows_in view.now) 0 locals.old → AreImportsTo (views.rows_in view.now) (views.table_in view.now) (length (views.rows_in view.now)) 0 imports.old → OnOk result (tell.AreExactFaults view.now rules.ImportNames out.old.items out.new.items) }
+{
+    let count = row_count(view.sight.world.under.rows)?;
     for at in 0..count {
         row_faults(alloc, view, locals, imports, at, out)?;
     }

@@ -1,12 +1,20 @@
 // Imports that clash, that name no canonical name, or that bring nothing (JLS 7.5.1, 7.5.3).
+ghost use Rattle.std.specs.Prelude.{◌≡◌, ◌+◌, ◌<◌, ◌^◌, OnOk, length};
+ghost use Rattle.jr_tree.specs.declared.label.ImportKind.TheVariants as importing;
+ghost use Rattle.jr_tree.specs.Rows.{Rows, label};
+ghost use Rattle.jr_defs.specs.Referents.{Table};
+ghost use Rattle.jr_plain.specs.Imports.{is_import_label};
+ghost use Rattle.jr_name_rules.specs.Found as found;
+ghost use Rattle.jr_name_rules.specs.ImportTests as plain;
+ghost use Rattle.jr_name_faults.specs.Imports as tell;
 
 use crate::canonical::is_canonical_name;
 use crate::twins::Twins;
 use jr_base::OutOfMemory;
 use jr_lookup::import_kind;
 use jr_members::{MemberKind, World, is_private, is_public, is_static};
-use jr_places::{is_top_level, parent_at};
-use jr_tree::ImportKind;
+use jr_places::{Places, is_top_level, parent_at};
+use jr_tree::{ImportKind, Label, Row};
 use std::alloc::Global;
 
 /// What the imports of all units bring by name.
@@ -23,9 +31,45 @@ pub struct Imports<'a> {
     importers: Twins,
 }
 
+fn is_single(all: &[Row], at: u32) -> bool
+    ensures { result ≡ is_import_label importing.Single (label all.now at) }
+{
+    match all.get(at as usize) {
+        Some(row) => match row.label {
+            Label::Import {
+                kind: ImportKind::Single,
+            } => true,
+            _ => false,
+        },
+        None => false,
+    }
+}
+
+// Adds the types that an import brings, and the import to those that bring them.
+fn add_brought(
+    alloc: Global,
+    types: &mut Twins,
+    importers: &mut Twins,
+    places: &Places,
+    unit: u32,
+    import: u32,
+    classes: &[u32],
+) -> Result<(), OutOfMemory> {
+    for class in classes {
+        if !importers.has_any(unit, *class) {
+            let name = places.name(*class);
+            types.add(alloc, unit, name, *class)?;
+        }
+        importers.add(alloc, unit, *class, import)?;
+    }
+    Ok(())
+}
+
 impl<'a> Imports<'a> {
     /// No imports.
-    pub fn new(alloc: Global, world: &'a World<'a>) -> Imports<'a> {
+    pub fn new(alloc: Global, world: &'a World<'a>) -> Imports<'a>
+        ensures { tell.IsPlacedWorld world.now → tell.AreImportsTo (tell.rows_of world.now) (tell.table_of world.now) 0 0 result }
+    {
         Imports {
             world,
             tops: Twins::new(alloc),
@@ -36,7 +80,9 @@ impl<'a> Imports<'a> {
     }
 
     /// Adds what the imports bring, and what units declare.
-    pub fn add_rows(&mut self, alloc: Global) -> Result<(), OutOfMemory> {
+    pub fn add_rows(&mut self, alloc: Global) -> Result<(), OutOfMemory>
+        ensures { (p : Rows) (t : Table) → tell.AreImportsTo p t 0 0 self.old → OnOk result (tell.AreImportsTo p t (length p) 0 self.new) }
+    {
         let world = self.world;
         let Ok(count) = u32::try_from(world.under.rows.len()) else {
             return Err(OutOfMemory);
@@ -49,34 +95,48 @@ impl<'a> Imports<'a> {
     }
 
     // One more row, if it is a type that a unit declares.
-    fn add_top(&mut self, alloc: Global, at: u32) -> Result<(), OutOfMemory> {
+    fn add_top(&mut self, alloc: Global, at: u32) -> Result<(), OutOfMemory>
+        ensures { (p : Rows) (t : Table) → at < length p → tell.AreImportsTo p t at 0 self.old → OnOk result (tell.AreImportsTo p t (at + 1) 0 self.new) }
+    {
         let world = self.world;
         let rows = world.under.rows;
         if !is_top_level(rows, at) {
             return Ok(());
         }
         let name = world.under.places.name(at);
-        self.tops.add(alloc, parent_at(rows, at), name, at)
+        let unit = parent_at(rows, at);
+        self.tops.add(alloc, unit, name, at)?;
+        Ok(())
     }
 
     // One more row, if it is an import.
-    fn add_import(&mut self, alloc: Global, at: u32) -> Result<(), OutOfMemory> {
+    fn add_import(&mut self, alloc: Global, at: u32) -> Result<(), OutOfMemory>
+        ensures { (p : Rows) (t : Table) → tell.AreImportsTo p t (at + 1) 0 self.old → OnOk result (tell.AreImportsTo p t (at + 1) 0 self.new) }
+    {
         let world = self.world;
         let unit = parent_at(world.under.rows, at);
-        for class in &self.brought_types(alloc, at)? {
-            if !self.importers.has_any(unit, *class) {
-                let name = world.under.places.name(*class);
-                self.types.add(alloc, unit, name, *class)?;
-            }
-            self.importers.add(alloc, unit, *class, at)?;
-        }
+        let brought = self.brought_types(alloc, at)?;
+        add_brought(
+            alloc,
+            &mut self.types,
+            &mut self.importers,
+            world.under.places,
+            unit,
+            at,
+            &brought,
+        )?;
         Ok(())
     }
 
     // The type that an import names.
-    fn imported_type(&self, at: u32) -> Option<u32> {
+    fn imported_type(&self, at: u32) -> Option<u32>
+        ensures { at + 1 < 2 ^ 32 → result ≡ found.imported_type (tell.rows_of self.now.world.now) (tell.table_of self.now.world.now) at }
+    {
         let world = self.world;
-        world.under.referred_type(at.checked_add(1)?)
+        match at.checked_add(1) {
+            Some(next) => world.under.referred_type(next),
+            None => None,
+        }
     }
 
     // What a unit may import without naming it alone: what is public, or not private and of its own package.
@@ -122,38 +182,56 @@ impl<'a> Imports<'a> {
     }
 
     // The type that an import of a single type names.
-    fn single_type(&self, at: u32) -> Option<u32> {
+    fn single_type(&self, at: u32) -> Option<u32>
+        ensures { at + 1 < 2 ^ 32 → result ≡ tell.single_type (tell.rows_of self.now.world.now) (tell.table_of self.now.world.now) at }
+    {
         let world = self.world;
-        match import_kind(world.under.rows, at) {
-            Some(ImportKind::Single) => self.imported_type(at),
-            _ => None,
+        if is_single(world.under.rows, at) {
+            self.imported_type(at)
+        } else {
+            None
         }
     }
 
-    /// An import before this one names another type of the same name, or the unit declares one.
-    pub fn has_import_clash(&self, at: u32) -> bool {
+    // An import before this one names another type of the name, or the unit declares one.
+    fn has_other(&self, unit: u32, name: u32, class: u32) -> bool
+        ensures { result ≡ tell.has_other_type self.now unit name class }
+    {
+        self.singles.has_other(unit, name, class) || self.tops.has_other(unit, name, class)
+    }
+
+    // The same of an import, by the type that it names.
+    fn has_clash(&self, at: u32, class: u32) -> bool
+        ensures { (p : Rows) (t : Table) → class < length p → tell.AreImportsTo p t (length p) at self.now → result ≡ tell.has_clash p self.now at class }
+    {
         let world = self.world;
+        let unit = parent_at(world.under.rows, at);
+        let name = world.under.places.name(class);
+        self.has_other(unit, name, class)
+    }
+
+    /// An import before this one names another type of the same name, or the unit declares one.
+    pub fn has_import_clash(&self, at: u32) -> bool
+        ensures { (p : Rows) (t : Table) → at + 1 < length p → tell.AreImportsTo p t (length p) at self.now → result ≡ plain.has_import_clash p t at }
+    {
         match self.single_type(at) {
-            Some(class) => {
-                let unit = parent_at(world.under.rows, at);
-                let name = world.under.places.name(class);
-                self.singles.has_other(unit, name, class) || self.tops.has_other(unit, name, class)
-            }
+            Some(class) => self.has_clash(at, class),
             None => false,
         }
     }
 
     /// Adds an import to those so far.
-    pub fn pass(&mut self, alloc: Global, at: u32) -> Result<(), OutOfMemory> {
+    pub fn pass(&mut self, alloc: Global, at: u32) -> Result<(), OutOfMemory>
+        ensures { (p : Rows) (t : Table) → at + 1 < length p → tell.AreImportsTo p t (length p) at self.old → OnOk result (tell.AreImportsTo p t (length p) (at + 1) self.new) }
+    {
+        let Some(class) = self.single_type(at) else {
+            return Ok(());
+        };
         let world = self.world;
-        match self.single_type(at) {
-            Some(class) => {
-                let unit = parent_at(world.under.rows, at);
-                let name = world.under.places.name(class);
-                self.singles.add(alloc, unit, name, class)
-            }
-            None => Ok(()),
-        }
+        let unit = parent_at(world.under.rows, at);
+        let name = world.under.places.name(class);
+        self.singles.add(alloc, unit, name, class)?;
+        Ok(())
     }
 
     /// An import names a type by a name that is not canonical.

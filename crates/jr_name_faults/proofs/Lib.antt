@@ -1,0 +1,6 @@
+pub mod Opening
+pub mod Scoped
+pub mod Twinned
+pub mod Importing
+pub mod Told
+pub mod Reaching

@@ -1,0 +1,6 @@
+use Rattle.jr_rule.specs.declared.Rule.TheVariants as rule
+use Rattle.jr_name_faults.proofs.Told.{only_added}
+use Rattle.jr_name_faults.proofs.faults.canonical_fault.Goals as goal
+
+pub returns : goal.returns
+returns c = only_added rule.ImportedTypes _ c.args.at c.in_ok-rule_if.ensures

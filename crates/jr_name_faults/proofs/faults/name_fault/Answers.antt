@@ -1,0 +1,7 @@
+use Rattle.std.proofs.Common.{◌∙◌, ap, ◌++◌}
+use Rattle.jr_rule.specs.declared.Rule.TheVariants as rule
+use Rattle.jr_name_faults.specs.Faults.{fault_if}
+use Rattle.jr_name_faults.proofs.faults.name_fault.Goals as goal
+
+pub returns : goal.returns
+returns c = λ p lt h. c.in_ok-rule_if.ensures ∙ ap (λ b. c.args.out.now.items ++ fault_if b c.args.at rule.LocalNames) (c.is_second_local-is_broken.ensures p lt h)

@@ -1,0 +1,14 @@
+use Rattle.jr_name_faults.proofs.faults.name_faults.Goals as goal
+
+pub returns-clause-local_names : goal.returns-clause-local_names
+returns-clause-local_names c = λ right. c.in_ok-put_faults.ensures.local_names (c.in_ok-add_parameters.ensures _ (c.in_ok-locals.ensures right.placed right.few))
+
+pub returns-clause-labels : goal.returns-clause-labels
+returns-clause-labels c = λ right. c.in_ok-put_faults.ensures.labels (c.in_ok-add_parameters.ensures _ (c.in_ok-locals.ensures right.placed right.few))
+
+pub returns-clause-access : goal.returns-clause-access
+returns-clause-access c = λ right. c.in_ok-put_faults.ensures.access (c.in_ok-add_parameters.ensures _ (c.in_ok-locals.ensures right.seen.placed right.few)) right
+
+pub returns-clause-import_names : goal.returns-clause-import_names
+returns-clause-import_names c = λ right. c.in_ok-put_faults.ensures.import_names (c.in_ok-add_parameters.ensures _ (c.in_ok-locals.ensures right.placed right.few))
+    (c.in_ok-add_rows.ensures _ _ (c.new-imports.ensures (record { few = right.few; places_are = right.placed.are })))

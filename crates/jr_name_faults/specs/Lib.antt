@@ -1,0 +1,6 @@
+pub mod Ends
+pub mod Locals
+pub mod Twins
+pub mod Imports
+pub mod Views
+pub mod Faults
