@@ -1,6 +1,6 @@
 // Bodies of methods, constructors, initializers and fields (JLS 8.3 to 8.8).
 
-use crate::statements::{Making, make};
+use crate::statements::{Making, make_below};
 use jr_base::{Boxed, DeclId, Items, OutOfMemory};
 use jr_codes::{Parts, Source, add, constant_of, type_of};
 use jr_core::{Body, Code};
@@ -10,14 +10,6 @@ use jr_members::{is_static, written_at};
 use jr_tree::Label;
 use jr_ty::Const;
 use jr_types::plain_type;
-
-// Makes what stands below a row, from the last row back.
-fn make_below(source: &Source, making: &mut Making, at: u32) -> Result<(), OutOfMemory> {
-    for row in (source.first(at)..source.end(at)).rev() {
-        make(source, making, row)?;
-    }
-    Ok(())
-}
 
 // The parameters of a method or constructor.
 fn parameters(source: &Source, at: u32) -> Result<Items<DeclId>, OutOfMemory> {

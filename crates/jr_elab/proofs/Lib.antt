@@ -1,0 +1,6 @@
+pub mod Stated
+pub mod Chosen
+pub mod Looped
+pub mod Stacking
+pub mod Made
+pub mod Bodied
