@@ -3,9 +3,9 @@ use Rattle.std.proofs.Common.{◌≡◌, sym, subst, ℕ, ◌+◌, ◌-◌, ◌<
 use Rattle.jr_defs.specs.declared.referent.RowType.{RowType}
 use Rattle.jr_tree.specs.Rows.{label, end}
 use Rattle.jr_codes.specs.declared.source.Source.{Source}
-use Rattle.jr_codes.specs.Reads.{rows_of, facts, IsReadAt}
+use Rattle.jr_codes.specs.Reads.{rows_of, facts}
 use Rattle.jr_expressions.specs.Stacks.{Stacks, stacks_of, Makes, WaitsFrom}
-use Rattle.jr_expressions.proofs.Joined.{AreNested, row_waits, none_waits}
+use Rattle.jr_expressions.proofs.Joined.{row_waits, none_waits}
 use Rattle.jr_expressions.proofs.Operated.{one_counted}
 use Rattle.jr_elab.specs.Stacked.{AreRead, EndsInside}
 

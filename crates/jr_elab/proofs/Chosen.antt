@@ -1,6 +1,6 @@
 -- `if` and `return`, from what their functions call.
-use Rattle.std.proofs.Common.{◌≡◌, refl, sym, ◌∙◌, ap, subst, ℕ, suc, ◌+◌, ◌<◌, ◌≤◌, ◌^◌, Bool, true, false, cond, List, [], ◌∷◌, ◌++◌, Option, Some, None, nat_eq, nat_lt, length, arith}
-use Rattle.std.proofs.lemmas.Bool.{false≢true, true≢false}
+use Rattle.std.proofs.Common.{◌≡◌, refl, sym, ◌∙◌, ap, subst, ℕ, ◌+◌, ◌<◌, ◌≤◌, ◌^◌, Bool, true, false, cond, [], ◌∷◌, Option, Some, None, nat_eq, nat_lt, length, arith}
+use Rattle.std.proofs.lemmas.Bool.{false≢true}
 use Rattle.std.proofs.lemmas.Bool.Decides.{Decides-eqb, Decides-ltb}
 use Rattle.std.proofs.lemmas.List.{get_or_past}
 use Rattle.std.proofs.lemmas.Option.{none-some}
@@ -12,12 +12,12 @@ use Rattle.jr_tree.specs.declared.label.Label.TheVariants as is
 use Rattle.jr_tree.specs.Rows.{Rows, end}
 use Rattle.jr_codes.specs.declared.source.Source.{Source}
 use Rattle.jr_codes.specs.Facts.{Facts, has_child}
-use Rattle.jr_codes.specs.Making.{Below, Made, code, unknown, code_if, of_none, of_one, BeginsFrom, Parted, Stands}
+use Rattle.jr_codes.specs.Making.{Below, code, unknown, code_if, of_none, BeginsFrom, Parted, Stands}
 use Rattle.jr_codes.specs.Waiting.{is_top, TakesIf}
 use Rattle.jr_codes.specs.Conversions.{converted, Converts}
 use Rattle.jr_codes.specs.Reads.{rows_of, facts, child_of, IsReadAt, Becomes}
 use Rattle.jr_expressions.specs.Statements.{choice_made, returned, return_made}
-use Rattle.jr_expressions.proofs.Standing.{found, first_or, others, none_becomes, one_becomes, along}
+use Rattle.jr_expressions.proofs.Standing.{found, first_or, others, none_becomes, one_becomes}
 use Rattle.jr_expressions.proofs.Operated.{one_counted, two_counted}
 
 -- ---- the row behind the second child

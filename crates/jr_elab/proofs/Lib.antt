@@ -4,3 +4,4 @@ pub mod Looped
 pub mod Stacking
 pub mod Made
 pub mod Bodied
+pub mod Callable

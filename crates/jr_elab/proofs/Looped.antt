@@ -1,15 +1,15 @@
 -- `for`, from what its functions call (JLS 14.14.1).
-use Rattle.std.proofs.Common.{◌≡◌, refl, sym, ◌∙◌, ap, subst, ℕ, zero, suc, ◌+◌, ◌-◌, ◌<◌, ◌≤◌, ◌^◌, Bool, true, false, cond, List, [], ◌∷◌, ◌++◌, append-nil, append_assoc, map, Option, Some, None, nat_eq, nat_lt, arith}
-use Rattle.std.proofs.lemmas.Bool.{false≢true, true≢false}
+use Rattle.std.proofs.Common.{◌≡◌, refl, sym, ◌∙◌, ap, subst, ℕ, suc, ◌+◌, ◌-◌, ◌<◌, ◌≤◌, ◌^◌, Bool, true, false, cond, List, [], ◌∷◌, ◌++◌, append-nil, append_assoc, map, Option, Some, None, nat_eq, nat_lt, arith}
+use Rattle.std.proofs.lemmas.Bool.{false≢true}
 use Rattle.std.proofs.lemmas.Bool.Decides.{Decides-eqb, Decides-ltb}
 use Rattle.jr_core.specs.declared.code.Code.{Code}
 use Rattle.jr_core.specs.declared.code.Code.TheVariants as c
 use Rattle.jr_tree.specs.Rows.{label, end}
 use Rattle.jr_codes.specs.declared.source.Source.{Source}
 use Rattle.jr_codes.specs.Facts.{Facts}
-use Rattle.jr_codes.specs.Making.{Below, Made, code, unknown, AreBefore, Parted, Stands}
-use Rattle.jr_codes.specs.Waiting.{front, behind, top_before, StandsBefore, TakesFront}
-use Rattle.jr_codes.specs.Reads.{rows_of, facts, IsReadAt, Becomes}
+use Rattle.jr_codes.specs.Making.{Below, code, unknown, AreBefore, Parted, Stands}
+use Rattle.jr_codes.specs.Waiting.{front, behind, StandsBefore, TakesFront}
+use Rattle.jr_codes.specs.Reads.{rows_of, facts, Becomes}
 use Rattle.jr_codes.proofs.Fronts.{front_none, behind_none}
 use Rattle.jr_expressions.specs.Statements.{is_list_of_expressions, row_behind, last_from, header_made, behind_header, body_made, updates_made, condition_made, for_made}
 use Rattle.jr_expressions.proofs.Standing.{first_or, others}

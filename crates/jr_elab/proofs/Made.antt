@@ -1,5 +1,5 @@
 -- What comes of a row by its label, and the step of one row.
-use Rattle.std.proofs.Common.{◌≡◌, refl, sym, ◌∙◌, ap, subst, ℕ, ◌+◌, ◌<◌, ◌≤◌, Bool, true, false, cond, List, [], ◌∷◌, ◌++◌, length, Option, Some, None, arith}
+use Rattle.std.proofs.Common.{◌≡◌, refl, sym, ◌∙◌, ap, subst, ℕ, ◌+◌, ◌<◌, ◌≤◌, Bool, true, cond, ◌∷◌, ◌++◌, length, Option, Some, None, arith}
 use Rattle.jr_ty.specs.declared.constant.Const.{Const}
 use Rattle.jr_defs.specs.declared.referent.RowType.{RowType}
 use Rattle.jr_tree.specs.declared.label.Label.{Label}
@@ -8,7 +8,7 @@ use Rattle.jr_tree.specs.Rows.{Rows, label, end}
 use Rattle.jr_codes.specs.declared.source.Source.{Source}
 use Rattle.jr_codes.specs.Facts.{Facts}
 use Rattle.jr_codes.specs.Making.{Below, Made, code, nothing, unknown, Stands}
-use Rattle.jr_codes.specs.Reads.{rows_of, facts, IsReadAt, Becomes}
+use Rattle.jr_codes.specs.Reads.{rows_of, facts, Becomes}
 use Rattle.jr_expressions.specs.Expressions.{expression_made, constant_made}
 use Rattle.jr_expressions.specs.Stacks.{Stacks, stacks_of, ComesTo, Makes}
 use Rattle.jr_expressions.specs.Statements.{code_part, Parts, Comes, comes_of, as_code, as_case, as_group, as_catch, codes, is_code, all_are, alone, plain_made, statement_made, made_by}

@@ -1,6 +1,6 @@
 -- `switch` and `try`, whose parts are of several kinds (JLS 14.11, 14.20), and what a row does.
-use Rattle.std.proofs.Common.{◌≡◌, refl, sym, ◌∙◌, ap, subst, ℕ, ◌+◌, ◌<◌, ◌≤◌, ◌^◌, ℤ, Bool, true, false, cond, ◌&&◌, List, [], ◌∷◌, ◌++◌, map, length, Option, Some, None, nat_lt, arith}
-use Rattle.std.proofs.lemmas.Bool.{false≢true, true≢false}
+use Rattle.std.proofs.Common.{◌≡◌, refl, sym, ◌∙◌, ap, subst, ℕ, ◌+◌, ◌<◌, ◌≤◌, ◌^◌, ℤ, Bool, true, false, cond, ◌&&◌, List, [], ◌∷◌, ◌++◌, map, Option, Some, None, nat_lt, arith}
+use Rattle.std.proofs.lemmas.Bool.{false≢true}
 use Rattle.std.proofs.lemmas.Bool.Decides.{Decides-ltb}
 use Rattle.std.specs.Prelude.{option_map}
 use Rattle.jr_base.specs.declared.ids.DeclId.{DeclId}
@@ -18,13 +18,13 @@ use Rattle.jr_defs.specs.declared.referent.RowType.{RowType}
 use Rattle.jr_defs.specs.Operators.{as_int}
 use Rattle.jr_codes.specs.declared.source.Source.{Source}
 use Rattle.jr_codes.specs.Facts.{Facts}
-use Rattle.jr_codes.specs.Making.{Below, Made, code, nothing, unknown, AreBefore, BeginsFrom, Parted, Stands}
+use Rattle.jr_codes.specs.Making.{Below, AreBefore, BeginsFrom, Parted}
 use Rattle.jr_codes.specs.Waiting.{front, behind, top_before, TakesFront}
-use Rattle.jr_codes.specs.Reads.{rows_of, facts, IsReadAt, Becomes}
+use Rattle.jr_codes.specs.Reads.{rows_of, facts, IsReadAt}
 use Rattle.jr_codes.proofs.Fronts.{front_none, behind_none}
 use Rattle.jr_expressions.specs.Expressions.{codes_of}
-use Rattle.jr_expressions.specs.Stacks.{Stacks, stacks_of, IsParted, ComesTo}
-use Rattle.jr_expressions.specs.Statements.{Part, code_part, case_part, group_part, catch_part, Parts, Comes, part, through, strange, comes_of, as_code, as_case, as_group, as_catch, those, codes, items, is_code, is_group, is_in_group, is_in_try, all_are, alone, case_by, case_made, default_made, switch_made, group_made, catch_by, catch_made, try_by, try_made}
+use Rattle.jr_expressions.specs.Stacks.{Stacks, stacks_of, ComesTo}
+use Rattle.jr_expressions.specs.Statements.{Part, code_part, case_part, group_part, catch_part, Parts, Comes, part, strange, as_code, as_case, as_group, as_catch, those, codes, items, is_code, is_group, is_in_group, is_in_try, all_are, alone, case_by, case_made, default_made, switch_made, group_made, catch_by, catch_made, try_by, try_made}
 use Rattle.jr_expressions.proofs.Joined.{those_joined, those_parted, stacks_are}
 use Rattle.jr_expressions.proofs.Standing.{first_or, others}
 use Rattle.jr_expressions.proofs.Operated.{one_counted, two_counted}
@@ -159,7 +159,7 @@ behind_all e (p ∷ ps) h = ap (λ b. cond b (behind e ps) (p ∷ ps)) ((Decides
 itself : (e : ℕ) → e ≤ e
 itself e = omega arith
 
-taken_inside : {T : Type 0} {e : ℕ} {old new parts rest : List (ℕ × T)} {all : List T} → Parted e old parts rest → TakesFront e old new all → all ≡ map (λ p. p.1) parts
+pub taken_inside : {T : Type 0} {e : ℕ} {old new parts rest : List (ℕ × T)} {all : List T} → Parted e old parts rest → TakesFront e old new all → all ≡ map (λ p. p.1) parts
 taken_inside {T} {e} {old} {new} {parts} {rest} {all} h takes =
     takes.taken ∙ ap (front e) h.is ∙ front_within e e parts rest (itself e) h.after ∙ front_all e parts h.inside
 

@@ -1,5 +1,5 @@
 -- What a row does to the parts that wait, of which there are four kinds, and what the functions of single statements take of them (JLS 14).
-use Rattle.std.specs.Prelude.{◌≡◌, ℕ, ◌+◌, ◌<◌, ◌≤◌, Bool, true, false, List, [], ◌∷◌, ◌++◌, map, length, Option, Some, None, option_map}
+use Rattle.std.specs.Prelude.{◌≡◌, ℕ, ◌+◌, ◌<◌, ◌≤◌, Bool, true, false, List, [], ◌∷◌, ◌++◌, map, length, Option, Some, None, option_map, if◌then◌else◌}
 use Rattle.jr_base.specs.declared.ids.DeclId.{DeclId}
 use Rattle.jr_ty.specs.declared.constant.Const.{Const}
 use Rattle.jr_core.specs.declared.code.Catch.{Catch}
@@ -10,11 +10,13 @@ use Rattle.jr_core.specs.declared.code.SwitchLabel.{SwitchLabel}
 use Rattle.jr_core.specs.declared.code.SwitchLabel.TheVariants as l
 use Rattle.jr_tree.specs.declared.label.Label.{Label}
 use Rattle.jr_tree.specs.declared.label.Label.TheVariants as is
-use Rattle.jr_tree.specs.Rows.{Rows, label, end}
+use Rattle.jr_tree.specs.declared.label.Role.TheVariants as role
+use Rattle.jr_tree.specs.Rows.{Rows, label, end, role_at}
 use Rattle.jr_defs.specs.declared.referent.Element.{Element}
 use Rattle.jr_defs.specs.declared.referent.Element.TheVariants as element
 use Rattle.jr_defs.specs.declared.referent.RowType.{RowType}
 use Rattle.jr_defs.specs.Operators.{as_int}
+use Rattle.jr_plain.specs.Same.{same_role}
 use Rattle.jr_codes.specs.declared.source.Source.{Source}
 use Rattle.jr_codes.specs.Facts.{Facts}
 use Rattle.jr_codes.specs.Making.{Below}
@@ -100,3 +102,7 @@ TakesLast true end old new (Some all) = TakesFront end old new all
 TakesLast true end old new None = ⊥
 TakesLast false end old new (Some all) = ⊥
 TakesLast false end old new None = new ≡ old
+
+-- the parameter, where the row is one
+abbrev pub parameter_if : Facts → ℕ → List DeclId
+parameter_if f k = if same_role (role_at f.rows k) role.Parameter then f.decl k ∷ [] else []
