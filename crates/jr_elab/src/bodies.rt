@@ -1,36 +1,63 @@
 // Bodies of methods, constructors, initializers and fields (JLS 8.3 to 8.8).
+ghost use Rattle.std.specs.Prelude.{◌≡◌, ℕ, ◌+◌, ◌<◌, [], ◌++◌, map, length, Some, IfOk, OnOk};
+ghost use Rattle.jr_tree.specs.declared.label.Role.TheVariants as role;
+ghost use Rattle.jr_tree.specs.Rows as rows;
+ghost use Rattle.jr_defs.specs.Types.{plain};
+ghost use Rattle.jr_defs.specs.declared.referent.Element.TheVariants as element;
+ghost use Rattle.jr_defs.specs.declared.referent.RowType.{RowType};
+ghost use Rattle.jr_plain.specs.Modifiers as modifiers;
+ghost use Rattle.jr_plain.specs.Same.{same_role};
+ghost use Rattle.jr_plain.specs.Types.{type_of_declared};
+ghost use Rattle.jr_codes.specs.Reads.{rows_of, table_of, facts, IsReadAt};
+ghost use Rattle.jr_elab.specs.Stacked.{AreRead, parameter_if, stacks_in};
+ghost use Rattle.jr_expressions.specs.Bodies.{IsCallable, parameters_of};
+ghost use Rattle.jr_expressions.specs.Stacks.{stacks_of};
+ghost use Rattle.jr_expressions.specs.Statements as made;
 
-use crate::statements::{Making, make};
+use crate::statements::{Making, make_below};
 use jr_base::{Boxed, DeclId, Items, OutOfMemory};
 use jr_codes::{Parts, Source, add, constant_of, type_of};
 use jr_core::{Body, Code};
 use jr_defs::{Element, RowType};
 use jr_expressions::this_of;
 use jr_members::{is_static, written_at};
-use jr_tree::Label;
+use jr_places::role_at;
+use jr_tree::{Label, Role};
 use jr_ty::Const;
 use jr_types::plain_type;
 
-// Makes what stands below a row, from the last row back.
-fn make_below(source: &Source, making: &mut Making, at: u32) -> Result<(), OutOfMemory> {
-    for row in (source.first(at)..source.end(at)).rev() {
-        make(source, making, row)?;
+// The row is a parameter.
+fn is_parameter(source: &Source, row: u32) -> bool
+    ensures { result ≡ same_role (rows.role_at (rows_of source.now) row) role.Parameter }
+{
+    match role_at(source.rows(), row) {
+        Role::Parameter => true,
+        _ => false,
     }
-    Ok(())
+}
+
+// Adds a row to a list, if it is a parameter.
+fn add_parameter(source: &Source, all: &mut Items<DeclId>, row: u32) -> Result<(), OutOfMemory>
+    ensures { OnOk result (all.new ≡ all.old ++ parameter_if (facts source.now) row) }
+{
+    if is_parameter(source, row) {
+        add(all, Ok(source.decl(row)))
+    } else {
+        Ok(())
+    }
 }
 
 // The parameters of a method or constructor.
-fn parameters(source: &Source, at: u32) -> Result<Items<DeclId>, OutOfMemory> {
+fn parameters(source: &Source, at: u32) -> Result<Items<DeclId>, OutOfMemory>
+    ensures { IfOk result (λ all. IsReadAt source.now at → all ≡ map (facts source.now).decl (parameters_of (facts source.now) at)) }
+{
     let mut all = Items::new(source.alloc);
-    let end = source.end(at);
     let mut child = source.first(at);
-    for _turn in source.first(at)..end {
-        if child >= end {
-            break;
+    for _turn in 0..source.rows().len() {
+        if source.parent(child) != at {
+            return Ok(all);
         }
-        if let Some(Label::Parameter { .. }) = source.label(child) {
-            all.push(source.decl(child))?;
-        }
+        add_parameter(source, &mut all, child)?;
         child = source.end(child);
     }
     Ok(all)
@@ -78,15 +105,27 @@ fn field_constant(source: &Source, at: u32) -> Result<Option<Const>, OutOfMemory
     }
 }
 
-fn declared_type(source: &Source, at: u32) -> Result<RowType, OutOfMemory> {
+fn declared_type(source: &Source, at: u32) -> Result<RowType, OutOfMemory>
+    ensures { IfOk result (λ ty. (n : ℕ) → IsReadAt source.now n → type_of_declared (rows_of source.now) (table_of source.now) at ≡ Some ty) }
+{
     match source.under().type_of_declared(at) {
         Some(ty) => Ok(ty),
         None => Err(OutOfMemory),
     }
 }
 
+// The class whose body it is.
+fn class_round(source: &Source, at: u32) -> Result<u32, OutOfMemory>
+    ensures { IfOk result (λ class. (facts source.now).around at ≡ Some class) }
+{
+    match source.around(at) {
+        Some(class) => Ok(class),
+        None => Err(OutOfMemory),
+    }
+}
+
 fn field(source: &Source, making: &mut Making, at: u32) -> Result<Body, OutOfMemory> {
-    let class = source.class_round(at)?;
+    let class = class_round(source, at)?;
     let is_static = is_static(source.rows(), at);
     make_below(source, making, at)?;
     let code = field_code(source, &mut making.codes, at, class, is_static)?;
@@ -112,18 +151,23 @@ fn callable(
     at: u32,
     is_static: bool,
     result_type: RowType,
-) -> Result<Body, OutOfMemory> {
-    let class = source.class_round(at)?;
+) -> Result<Body, OutOfMemory>
+    ensures { IfOk result (λ body. AreRead source.now → at < length (rows_of source.now) → stacks_in making.old ≡ stacks_of [] → (below : made.Parts) → made.PartsAt (facts source.now) (Some result_type) (at + 1) (rows.end (rows_of source.now) at) below → IsCallable (facts source.now) at is_static result_type body) }
+{
+    let class = class_round(source, at)?;
     making.result_type = Some(result_type);
     make_below(source, making, at)?;
     let code = making.codes.before(source.alloc, source.end(at))?;
     let params = parameters(source, at)?;
     let ty = type_of(source, result_type)?;
+    let decl = source.decl(at);
+    let class = source.type_id(class);
+    let written = written_at(source.rows(), at);
     Ok(Body {
-        decl: source.decl(at),
-        class: source.type_id(class),
+        decl,
+        class,
         is_static,
-        is_native: written_at(source.rows(), at).is_native,
+        is_native: written.is_native,
         ty,
         constant: None,
         params,
@@ -131,7 +175,9 @@ fn callable(
     })
 }
 
-fn method(source: &Source, making: &mut Making, at: u32) -> Result<Body, OutOfMemory> {
+fn method(source: &Source, making: &mut Making, at: u32) -> Result<Body, OutOfMemory>
+    ensures { IfOk result (λ body. (a : RowType) → type_of_declared (rows_of source.now) (table_of source.now) at ≡ Some a → AreRead source.now → at < length (rows_of source.now) → stacks_in making.old ≡ stacks_of [] → (below : made.Parts) → made.PartsAt (facts source.now) (Some a) (at + 1) (rows.end (rows_of source.now) at) below → IsCallable (facts source.now) at (modifiers.is_static (rows_of source.now) at) a body) }
+{
     let result_type = declared_type(source, at)?;
     let is_static = is_static(source.rows(), at);
     callable(source, making, at, is_static, result_type)
@@ -143,7 +189,9 @@ fn creating(
     making: &mut Making,
     at: u32,
     is_static: bool,
-) -> Result<Body, OutOfMemory> {
+) -> Result<Body, OutOfMemory>
+    ensures { IfOk result (λ body. AreRead source.now → at < length (rows_of source.now) → stacks_in making.old ≡ stacks_of [] → (below : made.Parts) → made.PartsAt (facts source.now) (Some (plain element.Void)) (at + 1) (rows.end (rows_of source.now) at) below → IsCallable (facts source.now) at is_static (plain element.Void) body) }
+{
     callable(source, making, at, is_static, plain_type(Element::Void))
 }
 

@@ -7,6 +7,7 @@ mod classes;
 mod jumps;
 mod loops;
 mod program;
+mod reads;
 mod statements;
 
 pub use program::elaborate;

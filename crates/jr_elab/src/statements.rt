@@ -1,7 +1,18 @@
 // Statements by what their rows are (JLS 14).
+ghost use Rattle.std.specs.Prelude.{◌≡◌, ◌+◌, ◌<◌, [], length, OnOk};
+ghost use Rattle.jr_core.specs.declared.code.Code.TheVariants as c;
+ghost use Rattle.jr_tree.specs.Rows as rows;
+ghost use Rattle.jr_codes.specs.Making.{code, of_none, of_one};
+ghost use Rattle.jr_codes.specs.Reads.{rows_of, facts, Becomes};
+ghost use Rattle.jr_codes.specs.Waiting.{waiting};
+ghost use Rattle.jr_expressions.specs.Expressions.{codes_of};
+ghost use Rattle.jr_elab.specs.Stacked.{AreRead, Does, EndsInside, stacks_in};
+ghost use Rattle.jr_expressions.specs.Stacks.{Makes, WaitsFrom, stacks_of};
+ghost use Rattle.jr_expressions.specs.Statements as made;
 
 use crate::jumps::{catch, group, jump, returned, switch, switch_case, switch_default, try_catch};
 use crate::loops::{do_while, for_loop, while_loop};
+use crate::reads::{end_of, label_of, row_before};
 use jr_base::OutOfMemory;
 use jr_codes::{Parts, Source};
 use jr_core::{Catch, Code, Group, SwitchLabel};
@@ -23,53 +34,83 @@ pub struct Making {
 
 impl Making {
     /// No parts.
-    pub fn new(alloc: Global) -> Making {
+    pub fn new(alloc: Global) -> Making
+        ensures { stacks_in result ≡ stacks_of [] }
+    {
+        let codes = Parts::new(alloc);
+        let labels = Parts::new(alloc);
+        let groups = Parts::new(alloc);
+        let catches = Parts::new(alloc);
+        let result_type = None;
         Making {
-            codes: Parts::new(alloc),
-            labels: Parts::new(alloc),
-            groups: Parts::new(alloc),
-            catches: Parts::new(alloc),
-            result_type: None,
+            codes,
+            labels,
+            groups,
+            catches,
+            result_type,
         }
     }
 }
 
 /// `{ .. }` as a statement
-fn nest(source: &Source, codes: &mut Parts<Code>, at: u32) -> Result<(), OutOfMemory> {
+fn nest(source: &Source, codes: &mut Parts<Code>, at: u32) -> Result<(), OutOfMemory>
+    ensures { OnOk result (Becomes source.now at (λ parts. code (c.Nest (codes_of parts))) (waiting codes.old) (waiting codes.new)) }
+{
     let stmts = codes.before(source.alloc, source.end(at))?;
     codes.push(at, Code::Nest { stmts })
 }
 
 /// One declared local variable
-fn local(source: &Source, codes: &mut Parts<Code>, at: u32) -> Result<(), OutOfMemory> {
+fn local(source: &Source, codes: &mut Parts<Code>, at: u32) -> Result<(), OutOfMemory>
+    ensures { OnOk result (Becomes source.now at (λ parts. made.local_made (facts source.now) at parts) (waiting codes.old) (waiting codes.new)) }
+{
     let init = codes.boxed_if(source.alloc, source.child(at))?;
     let local = source.decl(at);
     codes.push(at, Code::Local { local, init })
 }
 
 /// `if (cond) yes else no`
-fn choice(source: &Source, codes: &mut Parts<Code>, at: u32) -> Result<(), OutOfMemory> {
+fn choice(source: &Source, codes: &mut Parts<Code>, at: u32) -> Result<(), OutOfMemory>
+    ensures { OnOk result (Becomes source.now at (λ parts. made.choice_made (facts source.now) at parts) (waiting codes.old) (waiting codes.new)) }
+{
+    let second = source.second(at);
+    let third = source.end(second);
+    let end = end_of(source, at);
     let cond = codes.boxed(source.alloc, source.first(at))?;
-    let yes = codes.boxed(source.alloc, source.second(at))?;
-    let no = codes.boxed_if(source.alloc, source.third_child(at))?;
+    let yes = codes.boxed(source.alloc, second)?;
+    let no = codes.boxed_if(source.alloc, row_before(third, end))?;
     codes.push(at, Code::If { cond, yes, no })
 }
 
+/// `;`
+fn skip(source: &Source, codes: &mut Parts<Code>, at: u32) -> Result<(), OutOfMemory>
+    ensures { OnOk result (Becomes source.now at (λ parts. of_none parts (code c.Skip)) (waiting codes.old) (waiting codes.new)) }
+{
+    let _ = source;
+    codes.push(at, Code::Skip)
+}
+
 /// An expression as a statement
-fn eval(source: &Source, codes: &mut Parts<Code>, at: u32) -> Result<(), OutOfMemory> {
+fn eval(source: &Source, codes: &mut Parts<Code>, at: u32) -> Result<(), OutOfMemory>
+    ensures { OnOk result (Becomes source.now at (λ parts. of_one parts (λ m a. code (c.Eval a))) (waiting codes.old) (waiting codes.new)) }
+{
     let value = codes.boxed(source.alloc, source.first(at))?;
     codes.push(at, Code::Eval { value })
 }
 
 /// `label: body`
-fn labeled(source: &Source, codes: &mut Parts<Code>, at: u32) -> Result<(), OutOfMemory> {
+fn labeled(source: &Source, codes: &mut Parts<Code>, at: u32) -> Result<(), OutOfMemory>
+    ensures { OnOk result (Becomes source.now at (λ parts. of_one parts (λ m a. code (c.Labeled ((facts source.now).decl at) a))) (waiting codes.old) (waiting codes.new)) }
+{
     let body = codes.boxed(source.alloc, source.first(at))?;
     let label = source.decl(at);
     codes.push(at, Code::Labeled { label, body })
 }
 
 /// `throw value;`
-fn thrown(source: &Source, codes: &mut Parts<Code>, at: u32) -> Result<(), OutOfMemory> {
+fn thrown(source: &Source, codes: &mut Parts<Code>, at: u32) -> Result<(), OutOfMemory>
+    ensures { OnOk result (Becomes source.now at (λ parts. of_one parts (λ m a. code (c.Throw a))) (waiting codes.old) (waiting codes.new)) }
+{
     let value = codes.boxed(source.alloc, source.first(at))?;
     codes.push(at, Code::Throw { value })
 }
@@ -80,11 +121,13 @@ fn plain_statement(
     codes: &mut Parts<Code>,
     at: u32,
     label: &Label,
-) -> Result<(), OutOfMemory> {
+) -> Result<(), OutOfMemory>
+    ensures { OnOk result (Becomes source.now at (λ parts. made.plain_made label.now (facts source.now) at parts) (waiting codes.old) (waiting codes.new)) }
+{
     match label {
         Label::Nest => nest(source, codes, at),
         Label::Local { .. } => local(source, codes, at),
-        Label::Skip => codes.push(at, Code::Skip),
+        Label::Skip => skip(source, codes, at),
         Label::If => choice(source, codes, at),
         Label::Eval => eval(source, codes, at),
         Label::Labeled => labeled(source, codes, at),
@@ -101,22 +144,63 @@ fn plain_statement(
     }
 }
 
-/// Makes what the row is, where the parts below it are made.
-pub fn make(source: &Source, making: &mut Making, at: u32) -> Result<(), OutOfMemory> {
-    if let Some(value) = source.value(at) {
-        return add_constant(source, &mut making.codes, at, value);
-    }
-    let Some(label) = source.label(at) else {
-        return Ok(());
-    };
+// Makes what a row is that is no constant expression.
+fn make_labeled(
+    source: &Source,
+    making: &mut Making,
+    at: u32,
+    label: &Label,
+) -> Result<(), OutOfMemory>
+    ensures made { OnOk result (EndsInside label.now (rows_of source.now) at → Does source.now at (λ parts. made.statement_made label.now (facts source.now) making.old.result_type at parts) (stacks_in making.old) (stacks_in making.new)) }
+    ensures same { OnOk result (making.new.result_type ≡ making.old.result_type) }
+{
     match label {
         Label::Return => returned(source, &mut making.codes, at, making.result_type),
         Label::Case => switch_case(source, &mut making.codes, &mut making.labels, at),
         Label::Default => switch_default(&mut making.labels, at),
-        Label::Group => group(source, making, at),
+        Label::Group => group(
+            source,
+            &mut making.codes,
+            &mut making.labels,
+            &mut making.groups,
+            at,
+        ),
         Label::Switch => switch(source, &mut making.codes, &mut making.groups, at),
         Label::Catch => catch(source, &mut making.codes, &mut making.catches, at),
-        Label::Try { has_finally } => try_catch(source, making, at, *has_finally),
+        Label::Try { has_finally } => try_catch(
+            source,
+            &mut making.codes,
+            &mut making.catches,
+            at,
+            *has_finally,
+        ),
         _ => plain_statement(source, &mut making.codes, at, label),
     }
+}
+
+// Makes what the row is, where the parts below it are made.
+fn make(source: &Source, making: &mut Making, at: u32) -> Result<(), OutOfMemory>
+    ensures made { OnOk result (EndsInside (rows.label (rows_of source.now) at) (rows_of source.now) at → Makes source.now making.old.result_type at (stacks_in making.old) (stacks_in making.new)) }
+    ensures same { OnOk result (making.new.result_type ≡ making.old.result_type) }
+{
+    match source.value(at) {
+        Some(value) => add_constant(source, &mut making.codes, at, value),
+        None => match label_of(source, at) {
+            Some(label) => make_labeled(source, making, at, label),
+            None => Ok(()),
+        },
+    }
+}
+
+/// Makes what stands below a row, from the last row back.
+pub fn make_below(source: &Source, making: &mut Making, at: u32) -> Result<(), OutOfMemory>
+    ensures made { OnOk result (AreRead source.now → at < length (rows_of source.now) → stacks_in making.old ≡ stacks_of [] → WaitsFrom (facts source.now) making.old.result_type (at + 1) (rows.end (rows_of source.now) at) (stacks_in making.new)) }
+    ensures same { OnOk result (making.new.result_type ≡ making.old.result_type) }
+{
+    let first = source.first(at);
+    let end = source.end(at);
+    for row in (first..end).rev() {
+        make(source, making, row)?;
+    }
+    Ok(())
 }
