@@ -1,6 +1,7 @@
 -- Edges that a change keeps: those of a body and of what it has become, with nodes named by what they are copies of.
 use Rattle.std.specs.Prelude.{◌≡◌, ℕ, zero, suc, ◌<◌, Bool, true, false, if◌then◌else◌, List, [], ◌∷◌, filter, Option, Some, None, option_and_then, nat_eq, slice_get}
 use Rattle.std.specs.Option.{option_eq}
+use Rattle.std.specs.List.{Contains}
 use Rattle.jr_tree.specs.declared.label.Label.{Label}
 use Rattle.jr_tree.specs.declared.label.Label.TheVariants as is
 use Rattle.jr_tree.specs.declared.label.NamePlace.TheVariants as place
@@ -10,7 +11,7 @@ use Rattle.jr_flow_defs.specs.declared.point.PointKind.TheVariants as kind
 use Rattle.jr_flow_defs.specs.Meaning.{Meaning}
 use Rattle.jr_flow_defs.specs.Acts.{children, is_parameter}
 use Rattle.jr_flow_defs.specs.States.{Moment, before, completed, State, Hop, at, is_throw, hops}
-use Rattle.jr_flow_defs.specs.Paths.{Flow, IsReached, Path}
+use Rattle.jr_flow_defs.specs.Paths.{Flow, IsReached, Path, Steps}
 use Rattle.jr_flow_defs.specs.Edges.{point, point_by, body_flow, FlowNode, Naming, ControlEdge, Defines, DefUse}
 
 -- the old row of which each new row is a copy
@@ -127,10 +128,22 @@ pub record IsChangedBetween {A : Type 0} (f : Flow A) (d local : ℕ) : Type 0 w
   pub before : Path f (Defines f d) from between
   pub after : Path f (Defines f d) between to
 
--- what keeps the local d from being replaced by its initializer
+-- in the initializer of the local d stands an event that may throw
+pub record HasEventIn {A : Type 0} (p : Rows) (f : Flow A) (d : ℕ) : Type 0 where
+  pub at : A
+  pub next : A
+  pub row : ℕ
+  pub reached : IsReached f at
+  pub stands : f.point at ≡ point row kind.Node
+  pub throws : Contains (f.hops at) (record { to = next; is_throw = true })
+  pub inside : (d < row) × (row < end p d)
+
+-- what keeps the local d from being replaced by its initializer: a definition in it, or one between, of a local that it uses, or of any where it may
+-- throw, since a catch may use that (JLS 11.3)
 pub data IsDisturbed {A : Type 0} (p : Rows) (f : Flow A) (d : ℕ) : Type 0 where
   inside : {local : ℕ} → IsDefinedIn p f d local → IsDisturbed p f d
   between : {local : ℕ} → IsUsedIn p f d local → IsChangedBetween f d local → IsDisturbed p f d
+  throwing : {local : ℕ} → HasEventIn p f d → IsChangedBetween f d local → IsDisturbed p f d
 
 -- the local d of a body is replaced by its initializer, and its statement may be dropped
 pub record KeepsInlined (p q : Rows) (m w : Meaning) (old new d : ℕ) (dropped : Option ℕ) (origin : Origin) : Type 0 where
@@ -220,7 +233,36 @@ pub data IsHanding {B : Type 0} (q : Rows) (g : Flow B) (call method : ℕ) : �
   parameter : (i k : ℕ) {d : ℕ} → slice_get (parameters q method) i ≡ Some d → slice_get (children q call) i ≡ Some k → IsHanding q g call method d
   assigned : {d : ℕ} → IsAssigned q g call d → IsHanding q g call method d
 
+-- a value that the copy `inner` of a local gets in the method, other than as a parameter, reaches an exit of the method, and from there a path leads to a
+-- use of the copy `outer`, which does not have that value
+pub record IsLost (q : Rows) (w : Meaning) (g : Flow Within) (call method : ℕ) (origin : Origin) : Type 0 where
+  pub inner : ℕ
+  pub outer : ℕ
+  pub old : ℕ
+  pub copies : (origin inner ≡ Some old) × (origin outer ≡ Some old)
+  pub apart : inner ≡ outer → ⊥
+  pub from : State
+  pub caller : State
+  pub row : ℕ
+  pub reached : IsReached g (inside from caller)
+  pub defines : g.point (inside from caller) ≡ point row (kind.Definition inner)
+  pub own : IsHanding q g call method row → ⊥
+  pub last : State
+  pub ends : is_exit last.moment method last.row ≡ true
+  pub before : Path (body_flow q w method) (Defines (body_flow q w method) inner) from last
+  pub to : Within
+  pub use_row : ℕ
+  pub uses : g.point to ≡ point use_row (kind.Use outer)
+  pub after : Path g (Defines g outer) (inside last caller) to
+
+-- the row n completes the old body at once, wherever control comes to it: nothing is pending, and no other point comes before the exit (JLS 14.17, 14.20.2)
+abbrev pub LeavesAtOnce : Rows → Meaning → ℕ → ℕ → Type 0
+LeavesAtOnce p m old n = (a : State) → IsReached (body_flow p m old) a → (body_flow p m old).point a ≡ point n kind.Node
+    → (a.pending ≡ []) × ((b : State) (is_throw : Bool) → Steps (body_flow p m old) a b is_throw → (body_flow p m old).point b ≡ point old kind.Exit)
+
 -- statements of a body are replaced by the call of a new method that has them
 pub record KeepsExtracted (p q : Rows) (m w : Meaning) (old new call method : ℕ) (origin : Origin) : Type 0 where
   pub control : KeepsControl p q (body_flow p m old) (joined_flow q w new call method) old new None origin
   pub definitions : KeepsDefinitions (body_flow p m old) (joined_flow q w new call method) (IsHanding q (joined_flow q w new call method) call method) (Hands q (joined_flow q w new call method) call method origin) origin
+  pub unlost : IsLost q w (joined_flow q w new call method) call method origin → ⊥
+  pub returns : (n k : ℕ) → label p n ≡ is.Return → origin k ≡ Some n → method < k → k < end q method → LeavesAtOnce p m old n

@@ -51,15 +51,42 @@ impl<'a> Declared<'a> {
         local.saturating_sub(graph.body)
     }
 
-    // The locals that are used in the initializer.
-    fn used(&self, alloc: Global, count: usize) -> Result<Stamps, OutOfMemory> {
+    // An event in the initializer may throw.
+    fn may_throw(&self) -> bool {
+        let graph = self.graph;
+        for step in &graph.steps {
+            if let Some(point) = graph.points.get(step.from as usize) {
+                if step.is_throw && self.is_in_initializer(point.row) {
+                    return true;
+                }
+            }
+        }
+        false
+    }
+
+    // The local of the point is to keep its value: it is used in the initializer, or the initializer may throw to a catch that uses it.
+    fn held(&self, point: Point, may_throw: bool) -> Option<u32> {
+        match point.kind {
+            PointKind::Use { local } => {
+                if self.is_in_initializer(point.row) {
+                    Some(local)
+                } else {
+                    None
+                }
+            }
+            PointKind::Definition { local } => { if may_throw { Some(local) } else { None } }
+            _ => None,
+        }
+    }
+
+    // The locals that are to keep their values up to the uses.
+    fn all_held(&self, alloc: Global, count: usize) -> Result<Stamps, OutOfMemory> {
         let mut all = Stamps::new(alloc, count)?;
+        let may_throw = self.may_throw();
         let graph = self.graph;
         for point in &graph.points {
-            if let PointKind::Use { local } = point.kind {
-                if self.is_in_initializer(point.row) {
-                    let _ = all.add(self.place(local));
-                }
+            if let Some(local) = self.held(*point, may_throw) {
+                let _ = all.add(self.place(local));
             }
         }
         Ok(all)
@@ -106,20 +133,20 @@ impl<'a> Declared<'a> {
         spread(alloc, &back, &uses, barred, graph.points.len())
     }
 
-    // The point is a definition in the initializer, or one between of a local that is used there.
-    fn disturbs(&self, number: u32, point: Point, used: &Stamps, between: &Between) -> bool {
+    // The point is a definition in the initializer, or one between of a local that is held.
+    fn disturbs(&self, number: u32, point: Point, held: &Stamps, between: &Between) -> bool {
         let PointKind::Definition { local } = point.kind else {
             return false;
         };
         if self.is_in_initializer(point.row) {
             return true;
         }
-        used.has(self.place(local)) && between.behind.has(number) && between.before.has(number)
+        held.has(self.place(local)) && between.behind.has(number) && between.before.has(number)
     }
 }
 
 /// Puts an edge from each definition to itself that stands in the initializer of the local, or that gives a local which is used there another value on a
-/// way from its definition to one of its uses.
+/// way from its definition to one of its uses; where the initializer may throw, also one that gives any other local a value there (JLS 11.3).
 pub(crate) fn put_disturbing(
     alloc: Global,
     rows: &[Row],
@@ -132,11 +159,11 @@ pub(crate) fn put_disturbing(
         local,
         range: rows_of(rows, local),
     };
-    let used = declared.used(alloc, rows.len())?;
+    let held = declared.all_held(alloc, rows.len())?;
     let between = declared.between(alloc)?;
     let mut number = 0u32;
     for point in &graph.points {
-        if declared.disturbs(number, *point, &used, &between) {
+        if declared.disturbs(number, *point, &held, &between) {
             let row = defining_row(rows, point.row);
             lost.put_new(Edge {
                 first: row,

@@ -1,6 +1,7 @@
 // What a change loses.
 
 use crate::arriving::put_lost_definitions;
+use crate::carried::put_lost_values;
 use crate::control::lost_control;
 use crate::dropped::put_disturbing;
 use crate::edges::{Edge, Firsts};
@@ -8,6 +9,7 @@ use crate::flows::{Flows, body_round, rows_of};
 use crate::handing::Handing;
 use crate::joined::joined;
 use crate::names::Names;
+use crate::returning::put_held_returns;
 use jr_base::{OutOfMemory, Place};
 use jr_change::{Change, Course, Locks, NO_ROW, Project, RowRange};
 use jr_flow::{FlowFault, Graph, graph};
@@ -132,10 +134,12 @@ fn lost_in_extracted(
     call: u32,
     method: u32,
 ) -> Result<LostFlow, FlowFault> {
-    let control = lost_control(alloc, flows)?;
+    let mut control = lost_control(alloc, flows)?;
+    put_held_returns(alloc, flows, method, &mut control)?;
     let mut lost = Firsts::none();
     let handing = Handing::of(alloc, flows, call, method)?;
     put_lost_definitions(alloc, flows, &handing, &mut lost)?;
+    put_lost_values(alloc, flows, &handing, method, &mut lost)?;
     Ok(LostFlow {
         control: first_of(old, control),
         def_use: first_of(old, lost),
@@ -200,8 +204,9 @@ fn lost_by_extracting(
 /// before names are spelled. Nodes are named by what they are copies of, and what is added is passed over.
 ///
 /// A change that leaves each body as it is, or takes whole ones away, loses none. Where a local is replaced by its initializer, each event stands once, and
-/// no local that is used in the initializer gets another value before a use of the replaced one. Where statements go into a method of their own, the points
-/// of the method stand in place of its call.
+/// no local that is used in the initializer gets another value before a use of the replaced one, nor does any other where the initializer may throw. Where
+/// statements go into a method of their own, the points of the method stand in place of its call, each `return` among them completes the body at once, and no
+/// value of a local is used outside the method that is not handed back.
 pub fn lost_flow(
     alloc: Global,
     old: &Project,

@@ -2,6 +2,7 @@
 #![tactic(auto)]
 
 mod arriving;
+mod carried;
 mod control;
 mod copies;
 mod defining;
@@ -15,6 +16,7 @@ mod kept;
 mod lists;
 mod names;
 mod reached;
+mod returning;
 mod search;
 mod spreading;
 

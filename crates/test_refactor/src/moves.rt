@@ -27,6 +27,40 @@ fn a_local_is_inlined(rt: HostRuntime) -> Result<(), Fail> {
     Ok(())
 }
 
+const CARRIED: &str =
+    "class A { static boolean c() { return true; } static void p(int a) { } static void f() { int a = 0; while (c()) { do { p(a); a = 5; } while (c()); } } }";
+
+const THROWN_PAST: &str =
+    "class A { static void h() { } static void p(int a) { } static void f() { int a = 0; try { h(); a = 1; h(); h(); } catch (RuntimeException e) { p(a); } } }";
+
+const RETURN_IN_TRY: &str =
+    "class A { static void h() { } static void f(boolean c) { try { if (c) return; h(); } finally { h(); } h(); } }";
+
+#[test]
+fn statements_whose_values_or_returns_are_lost_are_not_extracted(
+    rt: HostRuntime,
+) -> Result<(), Fail> {
+    let alloc = rt.alloc();
+    let round = "lost edge: def-use A.java:125 A.java:125\n";
+    assert!(rt; leaves_it(alloc, CARRIED, ". extract A.java 114 146 m", 5, round)?);
+    let thrown = "lost edge: def-use A.java:95 A.java:145\n";
+    assert!(rt; leaves_it(alloc, THROWN_PAST, ". extract A.java 95 106 m", 5, thrown)?);
+    let held = "lost edge: control A.java:70 A.java:70\n";
+    assert!(rt; leaves_it(alloc, RETURN_IN_TRY, ". extract A.java 63 82 m", 5, held)?);
+    Ok(())
+}
+
+const THROWN_FROM: &str =
+    "class A { static void h() { } static int g() { return 0; } static void p(int a, int b) { } static void f() { int x = 0; try { h(); int t = g(); p(x = 5, t); } catch (RuntimeException e) { p(x, 0); } } }";
+
+#[test]
+fn what_may_throw_is_not_inlined_past_a_definition(rt: HostRuntime) -> Result<(), Fail> {
+    let alloc = rt.alloc();
+    let edge = "lost edge: def-use A.java:146 A.java:146\n";
+    assert!(rt; leaves_it(alloc, THROWN_FROM, ". inline A.java 135", 5, edge)?);
+    Ok(())
+}
+
 #[test]
 fn a_method_is_pulled_up(rt: HostRuntime) -> Result<(), Fail> {
     let alloc = rt.alloc();
