@@ -100,8 +100,7 @@ impl<'a> Sight<'a> {
         receiver: Option<RowType>,
         name: u32,
         arguments: &[RowType],
-    ) -> Result<Vec<u32>, OutOfMemory>
-    {
+    ) -> Result<Vec<u32>, OutOfMemory> {
         let methods = self.world.named(alloc, MemberKind::Method, over, name)?;
         choose(
             alloc, self.world, over, place, receiver, arguments, &methods,
@@ -115,8 +114,7 @@ impl<'a> Sight<'a> {
         place: u32,
         name: u32,
         arguments: &[RowType],
-    ) -> Result<Vec<u32>, OutOfMemory>
-    {
+    ) -> Result<Vec<u32>, OutOfMemory> {
         let methods = self.imported(alloc, MemberKind::Method, place, name)?;
         choose_imported(alloc, self.world, place, arguments, &methods)
     }
@@ -128,8 +126,7 @@ impl<'a> Sight<'a> {
         class: u32,
         place: u32,
         arguments: &[RowType],
-    ) -> Result<Vec<u32>, OutOfMemory>
-    {
+    ) -> Result<Vec<u32>, OutOfMemory> {
         let constructors = self.world.members.constructors(alloc, class)?;
         choose(
             alloc,
@@ -149,8 +146,7 @@ impl<'a> Sight<'a> {
         place: u32,
         name: u32,
         arguments: &[RowType],
-    ) -> Result<Referent, OutOfMemory>
-    {
+    ) -> Result<Referent, OutOfMemory> {
         let level = self.method_level(alloc, place, name)?;
         match level {
             Some(over) => {
@@ -172,8 +168,7 @@ impl<'a> Sight<'a> {
         receiver: Receiver,
         name: u32,
         arguments: &[RowType],
-    ) -> Result<Referent, OutOfMemory>
-    {
+    ) -> Result<Referent, OutOfMemory> {
         let rows = self.chosen(alloc, receiver.class, place, receiver.ty, name, arguments)?;
         Ok(Candidates { rows, level: None }.answer(Referent::Unbound))
     }
@@ -184,8 +179,7 @@ impl<'a> Sight<'a> {
         alloc: Global,
         place: u32,
         class: u32,
-    ) -> Result<Option<u32>, OutOfMemory>
-    {
+    ) -> Result<Option<u32>, OutOfMemory> {
         let mut around = self.world.under.places.around(place);
         for _turn in 0..place {
             match around {
@@ -211,8 +205,7 @@ impl<'a> Sight<'a> {
         class: u32,
         level: Option<u32>,
         arguments: &[RowType],
-    ) -> Result<Referent, OutOfMemory>
-    {
+    ) -> Result<Referent, OutOfMemory> {
         let rows = self.constructed(alloc, class, place, arguments)?;
         Ok(Candidates { rows, level }.answer(Referent::Unbound))
     }
@@ -224,8 +217,7 @@ impl<'a> Sight<'a> {
         place: u32,
         class: u32,
         arguments: &[RowType],
-    ) -> Result<Referent, OutOfMemory>
-    {
+    ) -> Result<Referent, OutOfMemory> {
         if !is_inner(self.world.under.rows, class) {
             return self.created(alloc, place, class, None, arguments);
         }
@@ -237,8 +229,7 @@ impl<'a> Sight<'a> {
     }
 
     // The class whose constructor this(..) or super(..) calls.
-    fn called_class(&self, place: u32, which: ThisOrSuper) -> Option<u32>
-    {
+    fn called_class(&self, place: u32, which: ThisOrSuper) -> Option<u32> {
         match self.world.under.places.around(place) {
             Some(around) => self.class_by(around, which),
             None => None,
@@ -246,8 +237,7 @@ impl<'a> Sight<'a> {
     }
 
     // The class, or its superclass.
-    fn class_by(&self, class: u32, which: ThisOrSuper) -> Option<u32>
-    {
+    fn class_by(&self, class: u32, which: ThisOrSuper) -> Option<u32> {
         match which {
             ThisOrSuper::This => Some(class),
             ThisOrSuper::Super => self.world.supers.superclass(class),
@@ -261,8 +251,7 @@ impl<'a> Sight<'a> {
         place: u32,
         which: ThisOrSuper,
         arguments: &[RowType],
-    ) -> Result<Referent, OutOfMemory>
-    {
+    ) -> Result<Referent, OutOfMemory> {
         match self.called_class(place, which) {
             Some(class) => {
                 let rows = self.constructed(alloc, class, place, arguments)?;
@@ -376,8 +365,7 @@ impl<'a> Sight<'a> {
         place: u32,
         name: u32,
         sought: Sought,
-    ) -> Result<Referent, OutOfMemory>
-    {
+    ) -> Result<Referent, OutOfMemory> {
         match sought {
             Sought::Nothing => Ok(Referent::Unbound),
             Sought::Simple { kind } => self.simple(alloc, place, kind, name),
