@@ -2,7 +2,7 @@
 
   lines.py --bin REFACTOR --classes DIR [--texts FILE]
 
-DIR is as for change.py. A line that begins with `~ ` is one on which they differ: what the profile leaves out (docs/LANGUAGE.md), or a choice (docs/DECISIONS.md).
+DIR is as for change.py. A line that begins with `~ ` is one on which they differ: what the profile leaves out, or what JLS 3 has otherwise (docs/LANGUAGE.md).
 Differences that are not marked are shown, and marks that are out of date; the exit status is 1 where there is one.
 """
 import argparse

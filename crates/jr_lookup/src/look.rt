@@ -1,5 +1,15 @@
 // What an occurrence refers to (JLS 6.5, 8.8.7.1, 14.15, 15.9, 15.11, 15.12).
 
+ghost use Rattle.std.specs.Prelude.{◌<◌, length, None, IfOk};
+ghost use Rattle.jr_base.specs.declared.text.Text.{Text};
+ghost use Rattle.jr_defs.specs.declared.referent.Referent.TheVariants as referring;
+ghost use Rattle.jr_defs.specs.Lookup.{SuperOf};
+ghost use Rattle.jr_defs.specs.Referents.{Table};
+ghost use Rattle.jr_plain.specs.Search.{Finds};
+ghost use Rattle.jr_members.specs.Worlds.{IsWorld};
+ghost use Rattle.jr_lookup.specs.Answers as answers;
+ghost use Rattle.jr_lookup.specs.Outward.{IsNumberOf};
+
 use crate::candidates::Candidates;
 use crate::instances::instance_round;
 use crate::qualified::{Left, Receiver};
@@ -81,6 +91,54 @@ impl<'a> Sight<'a> {
         Ok(Some(all))
     }
 
+    // The methods of the name that a call chooses among those of a type (JLS 15.12.2).
+    fn chosen(
+        &self,
+        alloc: Global,
+        over: u32,
+        place: u32,
+        receiver: Option<RowType>,
+        name: u32,
+        arguments: &[RowType],
+    ) -> Result<Vec<u32>, OutOfMemory> {
+        let methods = self.world.named(alloc, MemberKind::Method, over, name)?;
+        choose(
+            alloc, self.world, over, place, receiver, arguments, &methods,
+        )
+    }
+
+    // The methods of the name that a call chooses among those that static imports bring (JLS 15.12.3).
+    fn chosen_imported(
+        &self,
+        alloc: Global,
+        place: u32,
+        name: u32,
+        arguments: &[RowType],
+    ) -> Result<Vec<u32>, OutOfMemory> {
+        let methods = self.imported(alloc, MemberKind::Method, place, name)?;
+        choose_imported(alloc, self.world, place, arguments, &methods)
+    }
+
+    // The constructors that a call chooses among those of a class (JLS 15.9.3).
+    fn constructed(
+        &self,
+        alloc: Global,
+        class: u32,
+        place: u32,
+        arguments: &[RowType],
+    ) -> Result<Vec<u32>, OutOfMemory> {
+        let constructors = self.world.members.constructors(alloc, class)?;
+        choose(
+            alloc,
+            self.world,
+            class,
+            place,
+            None,
+            arguments,
+            &constructors,
+        )
+    }
+
     /// What a method without a receiver refers to: one of the innermost type that has one of the name, else an imported one.
     pub fn method(
         &self,
@@ -90,17 +148,16 @@ impl<'a> Sight<'a> {
         arguments: &[RowType],
     ) -> Result<Referent, OutOfMemory> {
         let level = self.method_level(alloc, place, name)?;
-        let rows = match level {
+        match level {
             Some(over) => {
-                let methods = self.world.named(alloc, MemberKind::Method, over, name)?;
-                choose(alloc, self.world, over, place, None, arguments, &methods)?
+                let rows = self.chosen(alloc, over, place, None, name, arguments)?;
+                Ok(Candidates { rows, level }.answer(Referent::Unbound))
             }
             None => {
-                let methods = self.imported(alloc, MemberKind::Method, place, name)?;
-                choose_imported(alloc, self.world, place, arguments, &methods)?
+                let rows = self.chosen_imported(alloc, place, name, arguments)?;
+                Ok(Candidates { rows, level }.answer(Referent::Unbound))
             }
-        };
-        Ok(Candidates { rows, level }.answer(Referent::Unbound))
+        }
     }
 
     /// What a method of a receiver refers to.
@@ -112,18 +169,7 @@ impl<'a> Sight<'a> {
         name: u32,
         arguments: &[RowType],
     ) -> Result<Referent, OutOfMemory> {
-        let methods = self
-            .world
-            .named(alloc, MemberKind::Method, receiver.class, name)?;
-        let rows = choose(
-            alloc,
-            self.world,
-            receiver.class,
-            place,
-            receiver.ty,
-            arguments,
-            &methods,
-        )?;
+        let rows = self.chosen(alloc, receiver.class, place, receiver.ty, name, arguments)?;
         Ok(Candidates { rows, level: None }.answer(Referent::Unbound))
     }
 
@@ -135,16 +181,33 @@ impl<'a> Sight<'a> {
         class: u32,
     ) -> Result<Option<u32>, OutOfMemory> {
         let mut around = self.world.under.places.around(place);
-        for _turn in 0..=place {
-            let Some(over) = around else {
-                return Ok(None);
-            };
-            if self.world.is_member(alloc, over, class)? {
-                return Ok(Some(over));
+        for _turn in 0..place {
+            match around {
+                Some(over) => {
+                    let is_such = self.world.is_member(alloc, over, class)?;
+                    if is_such {
+                        return Ok(Some(over));
+                    }
+                    let next = self.world.under.places.around(over);
+                    around = next;
+                }
+                None => return Ok(None),
             }
-            around = self.world.under.places.around(over);
         }
         Ok(None)
+    }
+
+    // What a creation refers to, where its constructors are found through a level.
+    fn created(
+        &self,
+        alloc: Global,
+        place: u32,
+        class: u32,
+        level: Option<u32>,
+        arguments: &[RowType],
+    ) -> Result<Referent, OutOfMemory> {
+        let rows = self.constructed(alloc, class, place, arguments)?;
+        Ok(Candidates { rows, level }.answer(Referent::Unbound))
     }
 
     /// What a creation of an object of a class refers to: one of its constructors (JLS 15.9.3).
@@ -155,32 +218,29 @@ impl<'a> Sight<'a> {
         class: u32,
         arguments: &[RowType],
     ) -> Result<Referent, OutOfMemory> {
-        let mut level = None;
-        if is_inner(self.world.under.rows, class) {
-            level = self.enclosing_new(alloc, place, class)?;
-            if level.is_none() {
-                return Ok(Referent::Unbound);
-            }
+        if !is_inner(self.world.under.rows, class) {
+            return self.created(alloc, place, class, None, arguments);
         }
-        let constructors = self.world.members.constructors(alloc, class)?;
-        let rows = choose(
-            alloc,
-            self.world,
-            class,
-            place,
-            None,
-            arguments,
-            &constructors,
-        )?;
-        Ok(Candidates { rows, level }.answer(Referent::Unbound))
+        let level = self.enclosing_new(alloc, place, class)?;
+        match level {
+            Some(_) => self.created(alloc, place, class, level, arguments),
+            None => Ok(Referent::Unbound),
+        }
     }
 
     // The class whose constructor this(..) or super(..) calls.
     fn called_class(&self, place: u32, which: ThisOrSuper) -> Option<u32> {
-        let around = self.world.under.places.around(place)?;
+        match self.world.under.places.around(place) {
+            Some(around) => self.class_by(around, which),
+            None => None,
+        }
+    }
+
+    // The class, or its superclass.
+    fn class_by(&self, class: u32, which: ThisOrSuper) -> Option<u32> {
         match which {
-            ThisOrSuper::This => Some(around),
-            ThisOrSuper::Super => self.world.supers.superclass(around),
+            ThisOrSuper::This => Some(class),
+            ThisOrSuper::Super => self.world.supers.superclass(class),
         }
     }
 
@@ -192,31 +252,30 @@ impl<'a> Sight<'a> {
         which: ThisOrSuper,
         arguments: &[RowType],
     ) -> Result<Referent, OutOfMemory> {
-        let Some(class) = self.called_class(place, which) else {
-            return Ok(Referent::Unbound);
-        };
-        let constructors = self.world.members.constructors(alloc, class)?;
-        let rows = choose(
-            alloc,
-            self.world,
-            class,
-            place,
-            None,
-            arguments,
-            &constructors,
-        )?;
-        Ok(Candidates { rows, level: None }.answer(Referent::Unbound))
+        match self.called_class(place, which) {
+            Some(class) => {
+                let rows = self.constructed(alloc, class, place, arguments)?;
+                Ok(Candidates { rows, level: None }.answer(Referent::Unbound))
+            }
+            None => Ok(Referent::Unbound),
+        }
     }
 
     // The superclass of the innermost class, where that has an instance at the place (JLS 15.11.2).
-    fn super_before(&self, place: u32) -> Option<u32> {
+    fn super_before(&self, place: u32) -> Option<u32>
+        ensures { (t : Table) → IsWorld t self.now.world → Finds result (λ s. SuperOf self.now.world.under.rows.now t place s) }
+    {
         let under = self.world.under;
-        let around = instance_round(under.rows, under.places, place)?;
-        self.world.supers.superclass(around)
+        match instance_round(under.rows, under.places, place) {
+            Some(around) => self.world.supers.superclass(around),
+            None => None,
+        }
     }
 
     // What a field of the superclass refers to.
-    fn super_field(&self, alloc: Global, place: u32, name: u32) -> Result<Referent, OutOfMemory> {
+    fn super_field(&self, alloc: Global, place: u32, name: u32) -> Result<Referent, OutOfMemory>
+        ensures { (t : Table) (x : Text) → IsWorld t self.now.world → IsNumberOf self.now.world.under.rows.now name x → IfOk result (λ a. answers.IsAnswerOr (λ d l. answers.IsSuperField self.now.world.under.rows.now t x place d l) referring.Unbound a) }
+    {
         match self.super_before(place) {
             Some(over) => {
                 let rows = self.world.named(alloc, MemberKind::Field, over, name)?;
@@ -273,8 +332,18 @@ impl<'a> Sight<'a> {
         }
     }
 
+    // The label to which a jump refers; labels do not shadow one another (JLS 14.15).
+    fn label(&self, alloc: Global, place: u32, name: u32) -> Result<Referent, OutOfMemory>
+        ensures { (t : Table) (x : Text) → IsWorld t self.now.world → place < length self.now.world.under.rows.now → IsNumberOf self.now.world.under.rows.now name x → IfOk result (λ a. answers.IsAnswerOr (λ d l. answers.IsLabelAt self.now.world.under.rows.now t x place d l) referring.Unbound a) }
+    {
+        let found = self.labels(alloc, place, name)?;
+        Ok(found.answer(Referent::Unbound))
+    }
+
     // The class of a constructor, to which its name refers.
-    fn own_class(&self, place: u32) -> Referent {
+    fn own_class(&self, place: u32) -> Referent
+        ensures { answers.IsAnswerOr (λ c l. answers.IsOwnClass self.now.world.under.rows.now place c l) referring.Unbound result }
+    {
         let rows = self.world.under.rows;
         let body = parent_at(rows, place);
         let class = parent_at(rows, body);
@@ -306,10 +375,7 @@ impl<'a> Sight<'a> {
             Sought::FieldOf => self.field(alloc, self.left_of(types, place), name),
             Sought::SuperField => self.super_field(alloc, place, name),
             Sought::OwnClass => Ok(self.own_class(place)),
-            Sought::Label => {
-                let found = self.labels(alloc, place, name)?;
-                Ok(found.answer(Referent::Unbound))
-            }
+            Sought::Label => self.label(alloc, place, name),
             _ => self.call(alloc, types, place, name, sought),
         }
     }
