@@ -17,8 +17,8 @@ use Rattle.jr_tree.proofs.Trees.{at_index, nothing, past, length_rows, each_prog
 use Rattle.jr_tree.proofs.Locals.{HasRows}
 use Rattle.jr_places.specs.Above.{block_by}
 use Rattle.jr_lookup.specs.Locals.{DeclaresLocals, HasLocals, HasParameters, AreLocalsPlaced}
-use Rattle.jr_local_rows.specs.Placed.{EachProgramPlacesLocals}
-use Rattle.jr_local_rows.proofs.Standing.{IsSwitch, Asks, NoParameter, Behind, ParametersFirst, Starts, Placed}
+use Rattle.jr_local_rows.specs.Placed.{EachProgramPlacesLocals, EachTryHasABlock}
+use Rattle.jr_local_rows.proofs.Standing.{IsSwitch, Asks, NoParameter, Behind, ParametersFirst, IsTry, Starts, Placed}
 use Rattle.jr_local_rows.proofs.StandingDecls.{units_placed}
 
 -- ---- labels
@@ -80,6 +80,11 @@ own_first _ kids q h = absurd q
 kids_first : (l : Label) (kids : Forest) → Starts l kids → Placed l kids → ParametersFirst kids
 kids_first l kids s h = elim (has_or_not l) [ inl q ↦ own_first l kids q s | inr no' ↦ none_first kids (no_parameters l kids no' h) ]
 
+try_starts : (l : Label) (kids : Forest) → IsTry l → Starts l kids → 0 < size kids
+try_starts (is.Try has_finally) none q h = absurd h
+try_starts (is.Try has_finally) (more a x ks rest) q h = omega arith
+try_starts _ kids q h = absurd q
+
 -- ---- the rows of a forest
 
 -- from the number on the rows are these
@@ -132,6 +137,17 @@ module _ (p : Rows) (tree : IsTree p) where
     | inr k ↦ elim k [
       | inl k ↦ stands_right kids at (at + 1) l w.0 w.3 h.2 n k.0 k.1
       | inr k ↦ stands_right rest over (at + 1 + size kids) lo e w.4 h.3 n k (omega arith)
+    ]
+  ]
+
+  -- below each `try` something stands
+  tries_start : (f : Forest) (over at : ℕ) (lo : Label) → HasRows p over at f → Placed lo f → (n : ℕ) → at ≤ n → n < at + size f → IsTry (label p n) → n + 1 < end p n
+  tries_start none over at lo w h n ge lt q = absurd (omega arith)
+  tries_start (more l x kids rest) over at lo w h n ge lt q = elim (which n at (at + 1 + size kids) ge) [
+    | inl e ↦ (let first = try_starts l kids (subst IsTry (ap (label p) e ∙ w.0) q) h.1 in let stop : end p n ≡ at + 1 + size kids = ap (end p) e ∙ w.2 in omega arith)
+    | inr k ↦ elim k [
+      | inl k ↦ tries_start kids at (at + 1) l w.3 h.2 n k.0 k.1 q
+      | inr k ↦ tries_start rest over (at + 1 + size kids) lo w.4 h.3 n k (omega arith) q
     ]
   ]
 
@@ -248,6 +264,15 @@ module _ (units : List declared_unit.Unit) (shaped : AllByRecursion IsShaped uni
       order : (d b : ℕ) → (d < b) ⊎ (d ≡ b) ⊎ (b < d)
       order d b = grind arith
 
+  pub try_has_block : (n : ℕ) → IsTry (label p n) → n + 1 < end p n
+  try_has_block n q = elim (where_is n (length p)) [
+    | inl e ↦ absurd (subst IsTry (ap (label p) e ∙ rows.0) q)
+    | inr k ↦ elim k [
+      | inl k ↦ (let s = long in let z = k.1 in tries_start p tree all 0 1 is.Program rows.3 placed n k.0 (omega arith) q)
+      | inr le ↦ absurd (subst IsTry (past_end n le) q)
+    ]
+  ]
+
   pub locals_placed : AreLocalsPlaced p
   locals_placed = record {
     declared = declared;
@@ -258,3 +283,6 @@ module _ (units : List declared_unit.Unit) (shaped : AllByRecursion IsShaped uni
 
 pub each_program_places_locals : EachProgramPlacesLocals
 each_program_places_locals units shaped = locals_placed units shaped
+
+pub each_try_has_a_block : EachTryHasABlock
+each_try_has_a_block units shaped n has_finally here = try_has_block units shaped n (subst IsTry (sym here) tt)

@@ -1,4 +1,4 @@
--- In trees of labels: what declarations of locals and parameters stand below, and that parameters stand before a block.
+-- In trees of labels: what declarations of locals and parameters stand below, that parameters stand before a block, and that something stands below a `try`.
 use Rattle.std.proofs.Common.{◌≡◌, List, [], ◌∷◌}
 use Rattle.std.specs.Prelude.{Bool, true, false, Option, Some, None, IfSome}
 use Rattle.std.specs.List.{AllByRecursion}
@@ -51,10 +51,19 @@ abbrev pub ParametersFirst : Forest → Type 0
 ParametersFirst none = Unit {0}
 ParametersFirst (more l x kids rest) = Behind l rest × ParametersFirst rest
 
+abbrev pub IsTry : Label → Type 0
+IsTry (is.Try has_finally) = Unit {0}
+IsTry _ = ⊥
+
+abbrev pub HasFirst : Forest → Type 0
+HasFirst none = ⊥
+HasFirst (more l x kids rest) = Unit {0}
+
 abbrev pub Starts : Label → Forest → Type 0
 Starts (is.Method modifiers is_void has_body) kids = ParametersFirst kids
 Starts (is.Constructor modifiers) kids = ParametersFirst kids
 Starts is.Catch kids = ParametersFirst kids
+Starts (is.Try has_finally) kids = HasFirst kids
 Starts _ kids = Unit {0}
 
 -- each label of the forest, whose roots stand below the label over, stands and starts so

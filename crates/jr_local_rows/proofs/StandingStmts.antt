@@ -10,7 +10,7 @@ use Rattle.jr_tree.specs.Forest.{Forest, none, if_some, each}
 use Rattle.jr_tree.specs.Exprs.{expr_labels, exprs_labels, init_labels}
 use Rattle.jr_tree.specs.Stmts.{param_labels, local_labels, for_labels, case_labels, stmt_labels, block_labels, stmts_labels, groups_labels, group_labels, catches_labels, catch_labels}
 use Rattle.jr_lookup.specs.Locals.{DeclaresLocals, HasParameters}
-use Rattle.jr_local_rows.proofs.Standing.{HasStatements, IsFor, IsSwitch, ParametersFirst, Placed, any_placed, all_placed}
+use Rattle.jr_local_rows.proofs.Standing.{HasStatements, IsFor, IsSwitch, HasFirst, ParametersFirst, Placed, any_placed, all_placed}
 use Rattle.jr_local_rows.proofs.StandingExprs.{type_placed, expr_placed, exprs_placed, init_placed}
 
 -- ---- parts of statements
@@ -49,6 +49,9 @@ no_local _ over e = tt
 pub block_first : (b : s.Block) → ParametersFirst (block_labels b none)
 block_first (s.BlockOf all) = (tt, tt)
 
+block_stands : (b : s.Block) (rest : Forest) → HasFirst (block_labels b rest)
+block_stands (s.BlockOf all) rest = tt
+
 mutual
   pub stmt_placed : (a : s.Stmt) (over : Label) (rest : Forest) → MayHold a over → IsShapedStmt a → Placed over rest → Placed over (stmt_labels a rest)
   stmt_placed (s.Nest b) over rest o h r = (tt, tt, block_placed b is.Nest none h tt, r)
@@ -82,10 +85,10 @@ mutual
   stmt_placed (s.Return value) over rest o h r = (tt, tt, any_placed expr_labels is.Return (λ e rest r. expr_placed e is.Return rest r) value none tt, r)
   stmt_placed (s.Throw value) over rest o h r = (tt, tt, expr_placed value is.Throw none tt, r)
   stmt_placed (s.Try body cs s.no_block) over rest o h r =
-      (tt, tt, block_placed body (is.Try false) (catches_labels cs none) h.0 (catches_placed cs (is.Try false) none h.1 tt), r)
+      (tt, block_stands body (catches_labels cs none), block_placed body (is.Try false) (catches_labels cs none) h.0 (catches_placed cs (is.Try false) none h.1 tt), r)
   stmt_placed (s.Try body cs (s.a_block last)) over rest o h r = (
     tt,
-    tt,
+    block_stands body (catches_labels cs (block_labels last none)),
     block_placed body (is.Try true) (catches_labels cs (block_labels last none)) h.0
         (catches_placed cs (is.Try true) (block_labels last none) h.1 (block_placed last (is.Try true) none h.2 tt)),
     r,

@@ -3,4 +3,4 @@
 
 mod law;
 
-pub use law::locals_stand_where_they_may;
+pub use law::{locals_stand_where_they_may, tries_have_blocks};
