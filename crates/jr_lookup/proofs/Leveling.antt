@@ -69,7 +69,7 @@ method_is _ h = absurd h
 
 module _ (p : Rows) (t : Table) (n : ℕ) (x : Text) (number : IsNumberOf p n x) where
   -- a member method of the number is one of the name
-  as_named : (c d : ℕ) → IsMemberAs p t kind.Method c n d → MemberNamed p t space.Method x c d
+  pub as_named : (c d : ℕ) → IsMemberAs p t kind.Method c n d → MemberNamed p t space.Method x c d
   as_named c d h = record {
     member = h.member;
     declares = record {
@@ -78,7 +78,7 @@ module _ (p : Rows) (t : Table) (n : ℕ) (x : Text) (number : IsNumberOf p n x)
     };
   }
 
-  named_as : (c d : ℕ) → MemberNamed p t space.Method x c d → IsMemberAs p t kind.Method c n d
+  pub named_as : (c d : ℕ) → MemberNamed p t space.Method x c d → IsMemberAs p t kind.Method c n d
   named_as c d h = record {
     of = record {
       role_is = method_is (role_at p d) h.declares.of_kind;

@@ -11,3 +11,10 @@ pub mod Fitting
 pub mod Specific
 pub mod Ordering
 pub mod Choosing
+pub mod Importing
+pub mod Sighting
+pub mod Demanding
+pub mod Visibility
+pub mod Referring
+pub mod Calling
+pub mod Looking

@@ -1,5 +1,5 @@
 -- What is in scope by rows alone, under keys.
-use Rattle.std.proofs.Common.{◌≡◌, refl, sym, ◌∙◌, ap, ap₂, subst, ⊎_elim, arith, ℕ, zero, suc, ◌+◌, ◌<◌, Bool, true, false, cond, ◌&&◌, List, [], ◌∷◌, ◌++◌, append-nil, length, Option, Some, None, nat_eq, nat_lt}
+use Rattle.std.proofs.Common.{◌≡◌, refl, sym, ◌∙◌, ap, ap₂, subst, ⊎_elim, arith, ℕ, zero, suc, ◌+◌, ◌<◌, Bool, true, false, cond, ◌&&◌, List, [], ◌∷◌, ◌++◌, append-nil, length, Option, Some, None, option_map, nat_eq, nat_lt}
 use Rattle.std.proofs.lemmas.Bool.{and_from, cases_eq}
 use Rattle.std.proofs.lemmas.Bool.Decides.{Decides-eqb}
 use Rattle.std.proofs.lemmas.Option.{none-some, same_Some}
@@ -10,6 +10,7 @@ use Rattle.jr_tree.specs.Rows.{Rows, label, parent, role_at}
 use Rattle.jr_tree.specs.Local.{IsLocal, StartsAt, HasTypeName}
 use Rattle.jr_tree.specs.Below.{IsTypeName}
 use Rattle.jr_plain.specs.Same.{same_role}
+use Rattle.jr_plain.specs.Enclosing.{is_top_level}
 use Rattle.jr_plain.specs.Search.{last_below}
 use Rattle.jr_plain.specs.Imports.{is_import_label, is_import_of}
 use Rattle.jr_plain.proofs.Bounds.{bounded}
@@ -18,13 +19,15 @@ use Rattle.jr_places.specs.declared.chains.Entry.{Entry}
 use Rattle.jr_places.specs.declared.places.Places.{Places}
 use Rattle.jr_places.specs.Above.{block_of}
 use Rattle.jr_places.specs.Names.{name_row}
+use Rattle.jr_places.specs.Packages.{same_some}
+use Rattle.jr_places.specs.Places.{package_number}
 use Rattle.jr_members.specs.Keys.{falling, entry_for, entry_list, entries_of}
 use Rattle.jr_members.specs.Named.{under}
 use Rattle.jr_members.specs.Sources.{ArePlaced}
 use Rattle.jr_members.proofs.Keyed.{is_key, under_pushed}
 use Rattle.jr_members.proofs.Declaring.{falling_same, entries_more}
 use Rattle.jr_lookup.specs.declared.scopes.Scopes as code
-use Rattle.jr_lookup.specs.Scopes.{entry_if, local_entry, parameter_entry, single_entry, static_entry, demand_entry, AreScopesTo, AreScopes, is_local_of, is_local_before, is_parameter_of, is_single_of, is_static_of, first_before}
+use Rattle.jr_lookup.specs.Scopes.{entry_if, local_entry, parameter_entry, single_entry, static_entry, demand_entry, top_entry, AreScopesTo, AreScopes, AreTopsTo, AreTops, is_top_of, is_local_of, is_local_before, is_parameter_of, is_single_of, is_static_of, first_before}
 
 -- ---- tables of rows
 
@@ -87,6 +90,20 @@ scopes_more {p} {places} {n} {l} {q} {s} {b} {d} old mid new x y placed lt h nam
   demanded = entries_more (demand_entry p) n old.on_demand new.on_demand d h.demanded is_d (nd ∙ ap (λ all. all ++ entry_list d) md);
 }
 
+-- ---- top-level types
+
+pub tops_start : (p : Rows) (places : Places) (scopes : code.Scopes) → scopes.tops ≡ [] → AreTopsTo p places 0 scopes
+tops_start p places scopes none = record { are = none }
+
+pub tops_end : (p : Rows) (places : Places) (n : ℕ) (scopes : code.Scopes) → n ≡ length p → AreTopsTo p places n scopes → AreTops p places scopes
+tops_end p places n scopes e h = subst (λ n. AreTopsTo p places n scopes) e h
+
+pub tops_more : (p : Rows) (places : Places) (n : ℕ) (old mid new : code.Scopes) (e : Option Entry) (number : Option ℕ) (x : ℕ) → AreTopsTo p places n old → x ≡ name_row p n → number ≡ package_number places n
+    → e ≡ top_entry p number x n → mid.tops ≡ old.tops ++ entry_list e → new.tops ≡ mid.tops → AreTopsTo p places (n + 1) new
+tops_more p places n old mid new e number x h named numbered is first second = record {
+  are = entries_more (λ d. top_entry p (package_number places d) (name_row p d) d) n old.tops new.tops e h.are (is ∙ ap₂ (λ o x. top_entry p o x n) numbered named) (second ∙ first);
+}
+
 -- ---- what is under a key
 
 keyed_if : (b : Bool) (c x d a y : ℕ) → is_keyed (entry_if b c x d) a y ≡ (b && (nat_eq c a && nat_eq x y))
@@ -142,3 +159,20 @@ module _ (p : Rows) (scopes : code.Scopes) (is : AreScopes p scopes) where
   -- the last local under the key, before the place
   pub last_local : (block x o : ℕ) → first_before o (under scopes.locals block x) ≡ last_below (length p) (is_local_before p block x o)
   last_local block x o = ap (first_before o) (locals_fall block x) ∙ first_falls o (is_local_of p block x) (length p)
+
+-- ---- top-level types under a key
+
+top_keyed : (b : Bool) (number : Option ℕ) (x d a y : ℕ) → is_keyed (cond b (option_map (λ n. entry_for n x d) number) None) a y ≡ (b && (same_some number (Some a) && nat_eq x y))
+top_keyed false number x d a y = refl
+top_keyed true None x d a y = refl
+top_keyed true (Some n) x d a y = refl
+
+top_row : (b : Bool) (number : Option ℕ) (x d : ℕ) (e : Entry) → cond b (option_map (λ n. entry_for n x d) number) None ≡ Some e → e.row ≡ d
+top_row false number x d e same = absurd (none-some e same)
+top_row true None x d e same = absurd (none-some e same)
+top_row true (Some n) x d e same = ap (λ e. e.row) (sym (same_Some (entry_for n x d) e same))
+
+pub tops_fall : (p : Rows) (places : Places) (scopes : code.Scopes) → AreTops p places scopes → (number x : ℕ) → under scopes.tops number x ≡ falling (length p) (is_top_of p places number x)
+tops_fall p places scopes h number x = ap (λ l. under l number x) h.are
+    ∙ falling_entries _ (λ k e same. top_row (is_top_level p k) (package_number places k) (name_row p k) k e same) number x (length p)
+    ∙ falling_same _ _ (length p) (λ d. top_keyed (is_top_level p d) (package_number places d) (name_row p d) d number x)

@@ -1,7 +1,8 @@
 -- Which variables are visible at a place as far in as a row: locals and parameters, or the fields of the innermost type round it that has any.
-use Rattle.std.proofs.Common.{◌≡◌, ◌⊎◌, refl, sym, ◌∙◌, ap, subst, inl, inr, ⊎_elim, arith, ℕ, ◌+◌, ◌<◌, ◌≤◌, Bool, true, ◌&&◌, List, [], ◌∷◌, length, Option, Some, None, nat_eq, Decides}
+use Rattle.std.proofs.Common.{◌≡◌, ◌⊎◌, refl, sym, ◌∙◌, ap, subst, inl, inr, ⊎_elim, arith, ℕ, ◌+◌, ◌<◌, ◌≤◌, Bool, true, ◌&&◌, List, [], ◌∷◌, length, Option, Some, None, Result, Ok, Err, IfOk, nat_eq, Decides}
 use Rattle.std.proofs.lemmas.Bool.{false≢true, cases_eq}
 use Rattle.std.proofs.lemmas.Bool.Decides.{Decides-eqb}
+use Rattle.std.proofs.lemmas.Option.{none-some}
 use Rattle.jr_base.specs.declared.text.Text.{Text}
 use Rattle.jr_tree.specs.declared.label.Role.{Role}
 use Rattle.jr_tree.specs.declared.label.Role.TheVariants as role
@@ -14,10 +15,10 @@ use Rattle.jr_defs.specs.Declarations as def
 use Rattle.jr_defs.specs.Enclosing.{IsMemberRole, InBody}
 use Rattle.jr_defs.specs.Members.{MemberOf}
 use Rattle.jr_defs.specs.Imports.{OnDemandOf}
-use Rattle.jr_defs.specs.Scope.{Depth, within, rank, IsNoFurther, HasScope, InScope, InOneList, Visible}
+use Rattle.jr_defs.specs.Scope.{Depth, within, imported, rank, IsNoFurther, HasScope, InScope, InOneList, Visible}
 use Rattle.jr_defs.specs.Lookup.{level_of, VisibleThrough}
 use Rattle.jr_plain.specs.Headed.{IsHeaded}
-use Rattle.jr_plain.specs.Search.{has, any_below}
+use Rattle.jr_plain.specs.Search.{has, any_below, last_below, Lists}
 use Rattle.jr_plain.specs.Same.{same_role}
 use Rattle.jr_plain.specs.Enclosing.{is_in_body}
 use Rattle.jr_plain.specs.Members.{is_member as is_member_of}
@@ -35,10 +36,17 @@ use Rattle.jr_members.proofs.Each.{front_has}
 use Rattle.jr_lookup.specs.Levels.{HasMemberAs, AreMembersAround}
 use Rattle.jr_lookup.specs.Outward.{IsInnermostSuch, IsNumberOf}
 use Rattle.jr_lookup.specs.Locals.{IsVisibleLocal, AreLocalsPlaced, IsOwn}
-use Rattle.jr_lookup.specs.Variables.{AreVisibleThrough, AreVariablesWithin, AreFieldsAt}
+use Rattle.jr_lookup.specs.Variables.{AreVisibleThrough, AreVariablesWithin, AreFieldsAt, AreStaticFar}
+use Rattle.jr_lookup.specs.Sights.{IsStaticAt}
+use Rattle.jr_lookup.specs.Types.{AreVisibleAt}
 use Rattle.jr_lookup.proofs.Leveling.{declared_somewhere}
 use Rattle.jr_lookup.proofs.Nesting.{owned, type_out, no_further, no_label, no_type, named, numbered, none_own}
 use Rattle.jr_lookup.proofs.Outward.{last_least}
+
+-- two clauses of one call
+pub ok_both : {X E : Type 0} (r : Result X E) (P Q R : X → Type 0) → ((x : X) → P x → Q x → R x) → IfOk r P → IfOk r Q → IfOk r R
+ok_both (Ok x) P Q R f a b = f x a b
+ok_both (Err e) P Q R f a b = tt
 
 field_of : (r : Role) → def.IsOf space.Variable r → IsMemberRole r → r ≡ role.Field
 field_of role.Field h k = refl
@@ -77,17 +85,29 @@ module _ (p : Rows) (rows : IsLocal p) (placed : AreLocalsPlaced p) (t : Table) 
   not_demanded u e (OnDemandOf.of_type i m h type) out = out type
   not_demanded u e (OnDemandOf.lang k) out = out k.top.type
 
+  abbrev StaticAt : ℕ → Depth → Type 0
+  StaticAt e r = (r ≡ imported) × IsStaticAt p t kind.Field o n e
+
   -- how a variable is in scope
+  how_far : (e : ℕ) (r : Depth) → HasScope p t o e r → def.Declares p space.Variable x e → (OwnAt e r ⊎ MemberAt e r) ⊎ StaticAt e r
+  how_far e r (HasScope.local h) declares = inl (inl (refl, ap (λ k. level_of k (within e)) h.local))
+  how_far e r (HasScope.parameter h) declares = inl (inl (refl, ap (λ k. level_of k (within e)) h.parameter))
+  how_far e r (HasScope.labeled h) declares = absurd (no_label p rows placed t x n o lt number e declares h.labeled)
+  how_far e r (HasScope.member {c = c} i m) declares = inl (inr (c, refl, field_at c e m declares, i, m))
+  how_far e r (HasScope.of_same_unit h) declares = absurd (no_type p rows placed t x n o lt number e declares h.top.type)
+  how_far e r (HasScope.of_same_package h) declares = absurd (no_type p rows placed t x n o lt number e declares h.top.type)
+  how_far e r (HasScope.single h) declares = absurd (no_type p rows placed t x n o lt number e declares h.brings.names.type)
+  how_far e r (HasScope.static h) declares = inr (
+    refl,
+    record {
+      imported = h;
+      of = record { role_is = field_at h.brings.imports.of_type e h.brings.imports.member declares; named = numbered p rows placed t x n o lt number e declares.named };
+    },
+  )
+  how_far e r (HasScope.demanded h) declares = absurd (not_demanded h.unit e h.brings.brings (no_type p rows placed t x n o lt number e declares))
+
   how : (e : ℕ) (r : Depth) → HasScope p t o e r → def.Declares p space.Variable x e → (OwnAt e r ⊎ MemberAt e r) ⊎ FarAt e r
-  how e r (HasScope.local h) declares = inl (inl (refl, ap (λ k. level_of k (within e)) h.local))
-  how e r (HasScope.parameter h) declares = inl (inl (refl, ap (λ k. level_of k (within e)) h.parameter))
-  how e r (HasScope.labeled h) declares = absurd (no_label p rows placed t x n o lt number e declares h.labeled)
-  how e r (HasScope.member {c = c} i m) declares = inl (inr (c, refl, field_at c e m declares, i, m))
-  how e r (HasScope.of_same_unit h) declares = absurd (no_type p rows placed t x n o lt number e declares h.top.type)
-  how e r (HasScope.of_same_package h) declares = absurd (no_type p rows placed t x n o lt number e declares h.top.type)
-  how e r (HasScope.single h) declares = absurd (no_type p rows placed t x n o lt number e declares h.brings.names.type)
-  how e r (HasScope.static h) declares = inr (omega arith, field_at h.brings.imports.of_type e h.brings.imports.member declares)
-  how e r (HasScope.demanded h) declares = absurd (not_demanded h.unit e h.brings.brings (no_type p rows placed t x n o lt number e declares))
+  how e r scope declares = ⊎_elim (λ a. inl a) (λ f. let same = ap rank f.0 in inr (omega arith, f.1.of.role_is)) (how_far e r scope declares)
 
   -- the types round the place are further out than its locals
   type_before : (c y : ℕ) → InBody p c o → InScope p t space.Variable x o y (within y) → c < y
@@ -205,6 +225,67 @@ module _ (p : Rows) (rows : IsLocal p) (placed : AreLocalsPlaced p) (t : Table) 
         by empty d s h (inl (inr m)) = fields.none empty m.0 m.3 (record { some = d; is = is_member m.0 d m.4 h.declares })
         by empty d s h (inr f) = let few = f.0 in omega arith
 
+  no_items : (xs : List ℕ) → length xs ≡ 0 → (d : ℕ) → has xs d ≡ true → ⊥
+  no_items [] e d h = false≢true h
+  no_items (y ∷ ys) e d h = omega arith
+
+  -- ---- all variables
+
+  all_through : (found : List ℕ) (level : Option ℕ) → AreVisibleThrough p t x o found level → (length found ≡ 0 → ⊥) → AreVisibleAt p t space.Variable x o found level
+  all_through found level are more = record { sound = λ d h. are.sound d level h refl; whole = are.whole; none = λ empty. absurd (more empty) }
+
+  pub all_local : (found : List ℕ) (level : Option ℕ) → ListsEach found (IsVisibleLocal p t x o) → (length found ≡ 0 → ⊥) → level ≡ None → AreVisibleAt p t space.Variable x o found level
+  all_local [] level each more none = absurd (more refl)
+  all_local (y ∷ ys) level each more none = all_through (y ∷ ys) level (are_locals (y ∷ ys) level y each ((each.lists y).0 (front_has y ys)) none) more
+
+  module _ (none : (e : ℕ) → IsVisibleLocal p t x o e → ⊥) where
+    not_own : (e : ℕ) (r : Depth) → OwnAt e r → InScope p t space.Variable x o e r → ⊥
+    not_own e r own s = none_own p rows placed t x n o lt number none e (subst (λ r. InScope p t space.Variable x o e r) own.0 s)
+
+    as_field : (d : ℕ) → role_at p d ≡ role.Field → name_row p d ≡ n → def.Declares p space.Variable x d
+    as_field d field e = record { of_kind = subst (def.IsOf space.Variable) (sym field) tt; named = named p rows placed t x n o lt number d e }
+
+    seen_field : (c : ℕ) → IsInnermostSuch p (HasMemberAs p t kind.Field n) o c → (d : ℕ) → IsMemberAs p t kind.Field c n d → Visible p t space.Variable x o d (within c)
+    seen_field c such d m = record {
+      in_scope = record { scope = HasScope.member such.round m.member; declares = as_field d m.of.role_is m.of.named };
+      innermost = λ e q s. inl (by e q (how e q s.scope s.declares) s);
+    }
+      where
+        by : (e : ℕ) (q : Depth) → (OwnAt e q ⊎ MemberAt e q) ⊎ FarAt e q → InScope p t space.Variable x o e q → IsNoFurther q (within c)
+        by e q (inl (inl own)) s = absurd (not_own e q own s)
+        by e q (inl (inr k)) s = let le = such.innermost k.0 k.3 (record { some = e; is = is_member none k.0 e k.4 s.declares }) in let same = ap rank k.1 in IsNoFurther.by_rank (omega arith)
+        by e q (inr f) s = let le = f.0 in IsNoFurther.by_rank (omega arith)
+
+    fields_seen : (c : ℕ) → IsInnermostSuch p (HasMemberAs p t kind.Field n) o c → (found : List ℕ) (level : Option ℕ) → AreFieldsAt p t o n found level → AreVisibleAt p t space.Variable x o found level
+    fields_seen c such found level fields = let are = (variables_around none found level fields).are such.such.some c (seen_field c such such.such.some such.such.is) in
+        all_through found level are (λ empty. no_items found empty such.such.some (((fields.are c such).0.lists such.such.some).1 such.such.is))
+
+    module _ (out : (c : ℕ) → InBody p c o → HasMemberAs p t kind.Field n c → ⊥) where
+      far_only : (e : ℕ) (r : Depth) → InScope p t space.Variable x o e r → StaticAt e r
+      far_only e r s = by (how_far e r s.scope s.declares)
+        where
+          by : (OwnAt e r ⊎ MemberAt e r) ⊎ StaticAt e r → StaticAt e r
+          by (inl (inl own)) = absurd (not_own e r own s)
+          by (inl (inr k)) = absurd (out k.0 k.3 (record { some = e; is = is_member none k.0 e k.4 s.declares }))
+          by (inr f) = f
+
+      no_level : (d : ℕ) (r : Depth) → role_at p d ≡ role.Field → r ≡ imported → level_of (role_at p d) r ≡ None
+      no_level d r field e = ap (λ k. level_of k r) field ∙ ap (λ r. level_of role.Field r) e
+
+      statics_seen : (found : List ℕ) (level : Option ℕ) → Lists found (IsStaticAt p t kind.Field o n) → level ≡ None → AreVisibleAt p t space.Variable x o found level
+      statics_seen found level lists is = record {
+        sound = λ d h. let s = (lists d).0 h in record {
+          depth = imported;
+          visible = record {
+            in_scope = record { scope = HasScope.static s.imported; declares = as_field d s.of.role_is s.of.named };
+            innermost = λ e q k. inl (IsNoFurther.by_rank (let same = ap rank (far_only e q k).0 in omega arith));
+          };
+          through = no_level d imported s.of.role_is refl ∙ sym is;
+        };
+        whole = λ d l v. let s = far_only d v.depth v.visible.in_scope in ((lists d).1 s.1, sym v.through ∙ no_level d v.depth s.1.of.role_is s.0 ∙ sym is);
+        none = λ empty d r s. no_items found empty d ((lists d).1 (far_only d r s).1);
+      }
+
   no_local : (locals : List ℕ) → ListsEach locals (IsVisibleLocal p t x o) → length locals ≡ 0 → (e : ℕ) → IsVisibleLocal p t x o e → ⊥
   no_local [] each empty e local = false≢true ((each.lists e).1 local)
   no_local (y ∷ ys) each empty e local = omega arith
@@ -252,3 +333,20 @@ module _ (p : Rows) (t : Table) (headed : IsHeaded p) (o n : ℕ) where
     where
       not_here : (c : ℕ) → IsInnermostSuch p (HasMemberAs p t kind.Field n) o c → ⊥
       not_here c i = none_has found empty i.such.some (((members.some c i).0.lists i.such.some).1 i.such.is)
+
+  some_or_none : ((h : ℕ) × IsInnermostSuch p (HasMemberAs p t kind.Field n) o h) ⊎ ((c : ℕ) → InBody p c o → HasMemberAs p t kind.Field n c → ⊥)
+  some_or_none = by (last_below (length p) has_field) refl
+    where
+      by : (f : Option ℕ) → last_below (length p) has_field ≡ f → ((h : ℕ) × IsInnermostSuch p (HasMemberAs p t kind.Field n) o h) ⊎ ((c : ℕ) → InBody p c o → HasMemberAs p t kind.Field n c → ⊥)
+      by (Some h) e = let last = (finds_last has_field (λ e. InBody p e o × HasMemberAs p t kind.Field n e) has_field_tells (length p) h).0 e in
+          inl (h, record { round = last.1.0; such = last.1.1; innermost = λ e j k. last.2 e (type_below p e j.of_type.type) (j, k) })
+      by None e = inr (λ c i m. let f = last_least has_field (length p) c (type_below p c i.of_type.type) ((has_field_tells c).1 (i, m)) in none-some f.0 (sym e ∙ f.1))
+
+  pub far_none : (found : List ℕ) (level : Option ℕ) → AreMembersAround p t kind.Field o n found level → (length found ≡ 0 → ⊥) → AreStaticFar p t o n found level
+  far_none found level members more = record { are = λ out. absurd (more (ap length (members.none (λ c i. out c i.round i.such)).0)) }
+
+  pub variables_all : (rows : IsLocal p) (placed : AreLocalsPlaced p) (x : Text) (lt : o < length p) (number : IsNumberOf p n x) (locals found : List ℕ) (level : Option ℕ) → ListsEach locals (IsVisibleLocal p t x o) → length locals ≡ 0
+      → AreFieldsAt p t o n found level → AreStaticFar p t o n found level → AreVisibleAt p t space.Variable x o found level
+  variables_all rows placed x lt number locals found level each empty fields far =
+      let none = no_local p rows placed t x n o lt number locals each empty in
+      ⊎_elim (λ s. fields_seen p rows placed t x n o lt number none s.0 s.1 found level fields) (λ out. let are = far.are out in statics_seen p rows placed t x n o lt number none out found level are.0 are.1) some_or_none

@@ -7,3 +7,9 @@ pub mod Locals
 pub mod Variables
 pub mod Within
 pub mod Choices
+pub mod Imports
+pub mod Sights
+pub mod Types
+pub mod Answers
+pub mod Behind
+pub mod Calls

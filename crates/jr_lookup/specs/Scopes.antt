@@ -7,8 +7,11 @@ use Rattle.jr_plain.specs.Same.{same_role}
 use Rattle.jr_plain.specs.Enclosing.{is_top_level}
 use Rattle.jr_plain.specs.Imports.{is_import_label, is_import_of}
 use Rattle.jr_places.specs.declared.chains.Entry.{Entry}
+use Rattle.jr_places.specs.declared.places.Places.{Places}
 use Rattle.jr_places.specs.Above.{block_of}
 use Rattle.jr_places.specs.Names.{name_row}
+use Rattle.jr_places.specs.Packages.{same_some}
+use Rattle.jr_places.specs.Places.{package_number}
 use Rattle.jr_members.specs.Keys.{entry_for, entries_of}
 use Rattle.jr_lookup.specs.declared.scopes.Scopes as code
 
@@ -53,6 +56,13 @@ pub record AreScopesTo (p : Rows) (n : ℕ) (scopes : code.Scopes) : Type 0 wher
 abbrev pub AreScopes : Rows → code.Scopes → Type 0
 AreScopes p scopes = AreScopesTo p (length p) scopes
 
+-- the top-level types of the first n rows, under the numbers of their packages (JLS 7.4, 7.6)
+pub record AreTopsTo (p : Rows) (places : Places) (n : ℕ) (scopes : code.Scopes) : Type 0 where
+  pub are : scopes.tops ≡ entries_of (λ d. top_entry p (package_number places d) (name_row p d) d) n
+
+abbrev pub AreTops : Rows → Places → code.Scopes → Type 0
+AreTops p places scopes = AreTopsTo p places (length p) scopes
+
 -- ---- what is asked of them
 
 -- a local of the name, whose block ends with the row
@@ -74,6 +84,10 @@ is_single_of p u x i = is_import_of p u importing.Single i && nat_eq (name_row p
 -- an import in the unit, of static members with the name
 abbrev pub is_static_of : Rows → ℕ → ℕ → ℕ → Bool
 is_static_of p u x i = is_import_of p u importing.StaticSingle i && nat_eq (name_row p i) x
+
+-- a top-level type of the name, in the package with the number
+abbrev pub is_top_of : Rows → Places → ℕ → ℕ → ℕ → Bool
+is_top_of p places number x d = is_top_level p d && (same_some (package_number places d) (Some number) && nat_eq (name_row p d) x)
 
 -- the first of some rows that stands before the place
 abbrev pub first_before : ℕ → List ℕ → Option ℕ

@@ -1,5 +1,26 @@
 // What an occurrence refers to (JLS 6.5, 8.8.7.1, 14.15, 15.9, 15.11, 15.12).
 
+ghost use Rattle.std.specs.Prelude.{◌≡◌, ◌<◌, ◌+◌, length, None, IfOk, option_map};
+ghost use Rattle.jr_base.specs.declared.text.Text.{Text};
+ghost use Rattle.jr_tree.specs.declared.label.Sought.TheVariants as seeking;
+ghost use Rattle.jr_tree.specs.Rows as program;
+ghost use Rattle.jr_defs.specs.declared.referent.Referent.TheVariants as referring;
+ghost use Rattle.jr_defs.specs.declared.referent.Space.TheVariants as space;
+ghost use Rattle.jr_defs.specs.Constants.{HasConstantForm};
+ghost use Rattle.jr_defs.specs.Enclosing.{ConstructorOf};
+ghost use Rattle.jr_defs.specs.Lookup.{Arguments, CalledClass, ImportedMethod, Look, MethodCandidate, SuperOf};
+ghost use Rattle.jr_defs.specs.Lookup.{Receiver as ReceiverOf};
+ghost use Rattle.jr_defs.specs.Members.{MemberNamed, MemberOf};
+ghost use Rattle.jr_defs.specs.Overloads.{Choice, ImportedChoice};
+ghost use Rattle.jr_defs.specs.Referents.{Table, entries};
+ghost use Rattle.jr_plain.specs.Search.{Finds, Lists};
+ghost use Rattle.jr_members.specs.Worlds.{IsWorld};
+ghost use Rattle.jr_lookup.specs.Answers as answers;
+ghost use Rattle.jr_lookup.specs.Behind.{CanLook};
+ghost use Rattle.jr_lookup.specs.Calls as calls;
+ghost use Rattle.jr_lookup.specs.Outward.{IsInnermostSuch, IsNumberOf};
+ghost use Rattle.jr_lookup.specs.Sights.{IsSight};
+
 use crate::candidates::Candidates;
 use crate::instances::instance_round;
 use crate::qualified::{Left, Receiver};
@@ -9,7 +30,7 @@ use jr_base::OutOfMemory;
 use jr_defs::{Referent, RowType};
 use jr_members::{MemberKind, is_inner};
 use jr_places::{end_at, is_body_of, parent_at, sought_at};
-use jr_tree::{Label, ReceiverKind, Sought, ThisOrSuper};
+use jr_tree::{Label, NameKind, ReceiverKind, Sought, ThisOrSuper};
 use std::alloc::Global;
 
 // What a table has for a row.
@@ -64,7 +85,9 @@ impl<'a> Sight<'a> {
         alloc: Global,
         types: &[Option<RowType>],
         place: u32,
-    ) -> Result<Option<Vec<RowType>>, OutOfMemory> {
+    ) -> Result<Option<Vec<RowType>>, OutOfMemory>
+        ensures { (t : Table) → CanLook t self.now types.now place → IfOk result (λ found. Finds (option_map (λ all. all.items) found) (λ all. Arguments self.now.world.under.rows.now t (HasConstantForm self.now.world.under.rows.now t) place all)) }
+    {
         let rows = self.world.under.rows;
         let mut all = Vec::new(alloc);
         let mut child = self.first_argument(place);
@@ -81,6 +104,60 @@ impl<'a> Sight<'a> {
         Ok(Some(all))
     }
 
+    // The methods of the name that a call chooses among those of a type (JLS 15.12.2).
+    fn chosen(
+        &self,
+        alloc: Global,
+        over: u32,
+        place: u32,
+        receiver: Option<RowType>,
+        name: u32,
+        arguments: &[RowType],
+    ) -> Result<Vec<u32>, OutOfMemory>
+        ensures { (t : Table) (x : Text) → IsWorld t self.now.world → answers.CanChoose t self.now.world → IsNumberOf self.now.world.under.rows.now name x → IfOk result (λ rows. Lists rows.items (Choice self.now.world.under.rows.now t over place receiver arguments.now (MemberNamed self.now.world.under.rows.now t space.Method x over))) }
+    {
+        let methods = self.world.named(alloc, MemberKind::Method, over, name)?;
+        choose(
+            alloc, self.world, over, place, receiver, arguments, &methods,
+        )
+    }
+
+    // The methods of the name that a call chooses among those that static imports bring (JLS 15.12.3).
+    fn chosen_imported(
+        &self,
+        alloc: Global,
+        place: u32,
+        name: u32,
+        arguments: &[RowType],
+    ) -> Result<Vec<u32>, OutOfMemory>
+        ensures { (t : Table) (x : Text) → IsSight t self.now → answers.CanChoose t self.now.world → IsNumberOf self.now.world.under.rows.now name x → IfOk result (λ rows. Lists rows.items (ImportedChoice self.now.world.under.rows.now t place arguments.now (ImportedMethod self.now.world.under.rows.now t x place))) }
+    {
+        let methods = self.imported(alloc, MemberKind::Method, place, name)?;
+        choose_imported(alloc, self.world, place, arguments, &methods)
+    }
+
+    // The constructors that a call chooses among those of a class (JLS 15.9.3).
+    fn constructed(
+        &self,
+        alloc: Global,
+        class: u32,
+        place: u32,
+        arguments: &[RowType],
+    ) -> Result<Vec<u32>, OutOfMemory>
+        ensures { (t : Table) → IsWorld t self.now.world → answers.CanChoose t self.now.world → IfOk result (λ rows. Lists rows.items (Choice self.now.world.under.rows.now t class place None arguments.now (ConstructorOf self.now.world.under.rows.now class))) }
+    {
+        let constructors = self.world.members.constructors(alloc, class)?;
+        choose(
+            alloc,
+            self.world,
+            class,
+            place,
+            None,
+            arguments,
+            &constructors,
+        )
+    }
+
     /// What a method without a receiver refers to: one of the innermost type that has one of the name, else an imported one.
     pub fn method(
         &self,
@@ -88,19 +165,20 @@ impl<'a> Sight<'a> {
         place: u32,
         name: u32,
         arguments: &[RowType],
-    ) -> Result<Referent, OutOfMemory> {
+    ) -> Result<Referent, OutOfMemory>
+        ensures { (t : Table) (x : Text) → IsSight t self.now → answers.CanChoose t self.now.world → IsNumberOf self.now.world.under.rows.now name x → IfOk result (λ a. answers.IsAnswerOr (λ d l. MethodCandidate self.now.world.under.rows.now t x place arguments.now d l) referring.Unbound a) }
+    {
         let level = self.method_level(alloc, place, name)?;
-        let rows = match level {
+        match level {
             Some(over) => {
-                let methods = self.world.named(alloc, MemberKind::Method, over, name)?;
-                choose(alloc, self.world, over, place, None, arguments, &methods)?
+                let rows = self.chosen(alloc, over, place, None, name, arguments)?;
+                Ok(Candidates { rows, level }.answer(Referent::Unbound))
             }
             None => {
-                let methods = self.imported(alloc, MemberKind::Method, place, name)?;
-                choose_imported(alloc, self.world, place, arguments, &methods)?
+                let rows = self.chosen_imported(alloc, place, name, arguments)?;
+                Ok(Candidates { rows, level }.answer(Referent::Unbound))
             }
-        };
-        Ok(Candidates { rows, level }.answer(Referent::Unbound))
+        }
     }
 
     /// What a method of a receiver refers to.
@@ -111,19 +189,10 @@ impl<'a> Sight<'a> {
         receiver: Receiver,
         name: u32,
         arguments: &[RowType],
-    ) -> Result<Referent, OutOfMemory> {
-        let methods = self
-            .world
-            .named(alloc, MemberKind::Method, receiver.class, name)?;
-        let rows = choose(
-            alloc,
-            self.world,
-            receiver.class,
-            place,
-            receiver.ty,
-            arguments,
-            &methods,
-        )?;
+    ) -> Result<Referent, OutOfMemory>
+        ensures { (t : Table) (x : Text) → IsWorld t self.now.world → answers.CanChoose t self.now.world → IsNumberOf self.now.world.under.rows.now name x → IfOk result (λ a. answers.IsAnswerOr (answers.IsFree (Choice self.now.world.under.rows.now t receiver.class place receiver.ty arguments.now (MemberNamed self.now.world.under.rows.now t space.Method x receiver.class))) referring.Unbound a) }
+    {
+        let rows = self.chosen(alloc, receiver.class, place, receiver.ty, name, arguments)?;
         Ok(Candidates { rows, level: None }.answer(Referent::Unbound))
     }
 
@@ -133,18 +202,39 @@ impl<'a> Sight<'a> {
         alloc: Global,
         place: u32,
         class: u32,
-    ) -> Result<Option<u32>, OutOfMemory> {
+    ) -> Result<Option<u32>, OutOfMemory>
+        ensures { (t : Table) → IsWorld t self.now.world → IfOk result (λ found. Finds found (IsInnermostSuch self.now.world.under.rows.now (λ e. MemberOf self.now.world.under.rows.now t e class) place)) }
+    {
         let mut around = self.world.under.places.around(place);
-        for _turn in 0..=place {
-            let Some(over) = around else {
-                return Ok(None);
-            };
-            if self.world.is_member(alloc, over, class)? {
-                return Ok(Some(over));
+        for _turn in 0..place {
+            match around {
+                Some(over) => {
+                    let is_such = self.world.is_member(alloc, over, class)?;
+                    if is_such {
+                        return Ok(Some(over));
+                    }
+                    let next = self.world.under.places.around(over);
+                    around = next;
+                }
+                None => return Ok(None),
             }
-            around = self.world.under.places.around(over);
         }
         Ok(None)
+    }
+
+    // What a creation refers to, where its constructors are found through a level.
+    fn created(
+        &self,
+        alloc: Global,
+        place: u32,
+        class: u32,
+        level: Option<u32>,
+        arguments: &[RowType],
+    ) -> Result<Referent, OutOfMemory>
+        ensures { (t : Table) → IsWorld t self.now.world → answers.CanChoose t self.now.world → IfOk result (λ a. answers.IsAnswerOr (answers.IsThrough (Choice self.now.world.under.rows.now t class place None arguments.now (ConstructorOf self.now.world.under.rows.now class)) level) referring.Unbound a) }
+    {
+        let rows = self.constructed(alloc, class, place, arguments)?;
+        Ok(Candidates { rows, level }.answer(Referent::Unbound))
     }
 
     /// What a creation of an object of a class refers to: one of its constructors (JLS 15.9.3).
@@ -154,33 +244,36 @@ impl<'a> Sight<'a> {
         place: u32,
         class: u32,
         arguments: &[RowType],
-    ) -> Result<Referent, OutOfMemory> {
-        let mut level = None;
-        if is_inner(self.world.under.rows, class) {
-            level = self.enclosing_new(alloc, place, class)?;
-            if level.is_none() {
-                return Ok(Referent::Unbound);
-            }
+    ) -> Result<Referent, OutOfMemory>
+        ensures { (t : Table) → IsWorld t self.now.world → answers.CanChoose t self.now.world → IfOk result (λ a. answers.IsAnswerOr (λ d l. answers.IsCreated self.now.world.under.rows.now t place class arguments.now d l) referring.Unbound a) }
+    {
+        if !is_inner(self.world.under.rows, class) {
+            return self.created(alloc, place, class, None, arguments);
         }
-        let constructors = self.world.members.constructors(alloc, class)?;
-        let rows = choose(
-            alloc,
-            self.world,
-            class,
-            place,
-            None,
-            arguments,
-            &constructors,
-        )?;
-        Ok(Candidates { rows, level }.answer(Referent::Unbound))
+        let level = self.enclosing_new(alloc, place, class)?;
+        match level {
+            Some(_) => self.created(alloc, place, class, level, arguments),
+            None => Ok(Referent::Unbound),
+        }
     }
 
     // The class whose constructor this(..) or super(..) calls.
-    fn called_class(&self, place: u32, which: ThisOrSuper) -> Option<u32> {
-        let around = self.world.under.places.around(place)?;
+    fn called_class(&self, place: u32, which: ThisOrSuper) -> Option<u32>
+        ensures { (t : Table) → IsWorld t self.now.world → Finds result (λ c. CalledClass self.now.world.under.rows.now t place which c) }
+    {
+        match self.world.under.places.around(place) {
+            Some(around) => self.class_by(around, which),
+            None => None,
+        }
+    }
+
+    // The class, or its superclass.
+    fn class_by(&self, class: u32, which: ThisOrSuper) -> Option<u32>
+        ensures { (t : Table) → IsWorld t self.now.world → Finds result (answers.IsClassBy self.now.world.under.rows.now t class which) }
+    {
         match which {
-            ThisOrSuper::This => Some(around),
-            ThisOrSuper::Super => self.world.supers.superclass(around),
+            ThisOrSuper::This => Some(class),
+            ThisOrSuper::Super => self.world.supers.superclass(class),
         }
     }
 
@@ -191,37 +284,123 @@ impl<'a> Sight<'a> {
         place: u32,
         which: ThisOrSuper,
         arguments: &[RowType],
-    ) -> Result<Referent, OutOfMemory> {
-        let Some(class) = self.called_class(place, which) else {
-            return Ok(Referent::Unbound);
-        };
-        let constructors = self.world.members.constructors(alloc, class)?;
-        let rows = choose(
-            alloc,
-            self.world,
-            class,
-            place,
-            None,
-            arguments,
-            &constructors,
-        )?;
-        Ok(Candidates { rows, level: None }.answer(Referent::Unbound))
+    ) -> Result<Referent, OutOfMemory>
+        ensures { (t : Table) → IsWorld t self.now.world → answers.CanChoose t self.now.world → IfOk result (λ a. answers.IsAnswerOr (λ d l. answers.IsCalled self.now.world.under.rows.now t place which arguments.now d l) referring.Unbound a) }
+    {
+        match self.called_class(place, which) {
+            Some(class) => {
+                let rows = self.constructed(alloc, class, place, arguments)?;
+                Ok(Candidates { rows, level: None }.answer(Referent::Unbound))
+            }
+            None => Ok(Referent::Unbound),
+        }
     }
 
     // The superclass of the innermost class, where that has an instance at the place (JLS 15.11.2).
-    fn super_before(&self, place: u32) -> Option<u32> {
+    fn super_before(&self, place: u32) -> Option<u32>
+        ensures { (t : Table) → IsWorld t self.now.world → Finds result (λ s. SuperOf self.now.world.under.rows.now t place s) }
+    {
         let under = self.world.under;
-        let around = instance_round(under.rows, under.places, place)?;
-        self.world.supers.superclass(around)
+        match instance_round(under.rows, under.places, place) {
+            Some(around) => self.world.supers.superclass(around),
+            None => None,
+        }
     }
 
     // What a field of the superclass refers to.
-    fn super_field(&self, alloc: Global, place: u32, name: u32) -> Result<Referent, OutOfMemory> {
+    fn super_field(&self, alloc: Global, place: u32, name: u32) -> Result<Referent, OutOfMemory>
+        ensures { (t : Table) (x : Text) → IsWorld t self.now.world → IsNumberOf self.now.world.under.rows.now name x → IfOk result (λ a. answers.IsAnswerOr (λ d l. answers.IsSuperField self.now.world.under.rows.now t x place d l) referring.Unbound a) }
+    {
         match self.super_before(place) {
             Some(over) => {
                 let rows = self.world.named(alloc, MemberKind::Field, over, name)?;
                 Ok(Candidates { rows, level: None }.answer(Referent::Unbound))
             }
+            None => Ok(Referent::Unbound),
+        }
+    }
+
+    // The receiver before the dot of a place.
+    fn receiver_at(&self, types: &[Option<RowType>], place: u32) -> Option<Receiver>
+        ensures { (t : Table) → CanLook t self.now types.now place → Finds result (λ r. ReceiverOf self.now.world.under.rows.now t (HasConstantForm self.now.world.under.rows.now t) place r.class r.ty) }
+    {
+        self.receiver(self.left_of(types, place))
+    }
+
+    // What a name behind a dot refers to.
+    fn qualified_at(
+        &self,
+        alloc: Global,
+        types: &[Option<RowType>],
+        place: u32,
+        kind: NameKind,
+        name: u32,
+    ) -> Result<Referent, OutOfMemory>
+        ensures { (t : Table) (x : Text) → CanLook t self.now types.now place → IsNumberOf self.now.world.under.rows.now name x → program.name self.now.world.under.rows.now name ≡ x → IfOk result (λ a. calls.LookedFor self.now.world.under.rows.now t place x (seeking.Qualified kind) a) }
+    {
+        self.qualified(alloc, self.left_of(types, place), kind, name)
+    }
+
+    // What the field of an expression refers to.
+    fn field_at(
+        &self,
+        alloc: Global,
+        types: &[Option<RowType>],
+        place: u32,
+        name: u32,
+    ) -> Result<Referent, OutOfMemory>
+        ensures { (t : Table) (x : Text) → CanLook t self.now types.now place → IsNumberOf self.now.world.under.rows.now name x → program.name self.now.world.under.rows.now name ≡ x → IfOk result (λ a. calls.LookedFor self.now.world.under.rows.now t place x seeking.FieldOf a) }
+    {
+        self.field(alloc, self.left_of(types, place), name)
+    }
+
+    // What a method behind a dot refers to.
+    fn method_at(
+        &self,
+        alloc: Global,
+        types: &[Option<RowType>],
+        place: u32,
+        name: u32,
+        arguments: &[RowType],
+    ) -> Result<Referent, OutOfMemory>
+        ensures { (t : Table) (x : Text) → CanLook t self.now types.now place → IsNumberOf self.now.world.under.rows.now name x → calls.AreArguments self.now.world.under.rows.now t place arguments.now → IfOk result (λ a. calls.LookedFor self.now.world.under.rows.now t place x seeking.MethodOf a) }
+    {
+        match self.receiver_at(types, place) {
+            Some(receiver) => self.method_of(alloc, place, receiver, name, arguments),
+            None => Ok(Referent::Unbound),
+        }
+    }
+
+    // What a method of the superclass refers to.
+    fn super_method(
+        &self,
+        alloc: Global,
+        place: u32,
+        name: u32,
+        arguments: &[RowType],
+    ) -> Result<Referent, OutOfMemory>
+        ensures { (t : Table) (x : Text) → IsWorld t self.now.world → answers.CanChoose t self.now.world → IsNumberOf self.now.world.under.rows.now name x → calls.AreArguments self.now.world.under.rows.now t place arguments.now → IfOk result (λ a. calls.LookedFor self.now.world.under.rows.now t place x seeking.SuperMethod a) }
+    {
+        match self.super_before(place) {
+            Some(class) => {
+                let receiver = Receiver { class, ty: None };
+                self.method_of(alloc, place, receiver, name, arguments)
+            }
+            None => Ok(Referent::Unbound),
+        }
+    }
+
+    // What a creation of an object of the class that it names refers to.
+    fn named_creation(
+        &self,
+        alloc: Global,
+        place: u32,
+        arguments: &[RowType],
+    ) -> Result<Referent, OutOfMemory>
+        ensures { (t : Table) (x : Text) → IsSight t self.now → answers.CanChoose t self.now.world → entries self.now.world.under.table.now (place + 1) ≡ t (place + 1) → calls.AreArguments self.now.world.under.rows.now t place arguments.now → IfOk result (λ a. calls.LookedFor self.now.world.under.rows.now t place x seeking.Creation a) }
+    {
+        match self.world.under.named_type(place) {
+            Some(class) => self.creation(alloc, place, class, arguments),
             None => Ok(Referent::Unbound),
         }
     }
@@ -235,24 +414,14 @@ impl<'a> Sight<'a> {
         name: u32,
         sought: Sought,
         arguments: &[RowType],
-    ) -> Result<Referent, OutOfMemory> {
+    ) -> Result<Referent, OutOfMemory>
+        ensures { (t : Table) (x : Text) → CanLook t self.now types.now place → IsNumberOf self.now.world.under.rows.now name x → calls.AreArguments self.now.world.under.rows.now t place arguments.now → calls.IsCall sought → IfOk result (λ a. calls.LookedFor self.now.world.under.rows.now t place x sought a) }
+    {
         match sought {
             Sought::Method => self.method(alloc, place, name, arguments),
-            Sought::MethodOf => match self.receiver(self.left_of(types, place)) {
-                Some(receiver) => self.method_of(alloc, place, receiver, name, arguments),
-                None => Ok(Referent::Unbound),
-            },
-            Sought::SuperMethod => match self.super_before(place) {
-                Some(class) => {
-                    let receiver = Receiver { class, ty: None };
-                    self.method_of(alloc, place, receiver, name, arguments)
-                }
-                None => Ok(Referent::Unbound),
-            },
-            Sought::Creation => match self.world.under.named_type(place) {
-                Some(class) => self.creation(alloc, place, class, arguments),
-                None => Ok(Referent::Unbound),
-            },
+            Sought::MethodOf => self.method_at(alloc, types, place, name, arguments),
+            Sought::SuperMethod => self.super_method(alloc, place, name, arguments),
+            Sought::Creation => self.named_creation(alloc, place, arguments),
             Sought::ConstructorCall { which } => self.constructor(alloc, place, which, arguments),
             _ => Ok(Referent::Unbound),
         }
@@ -266,15 +435,27 @@ impl<'a> Sight<'a> {
         place: u32,
         name: u32,
         sought: Sought,
-    ) -> Result<Referent, OutOfMemory> {
+    ) -> Result<Referent, OutOfMemory>
+        ensures { (t : Table) (x : Text) → CanLook t self.now types.now place → IsNumberOf self.now.world.under.rows.now name x → calls.IsCall sought → IfOk result (λ a. calls.LookedFor self.now.world.under.rows.now t place x sought a) }
+    {
         match self.arguments(alloc, types, place)? {
             Some(arguments) => self.called(alloc, types, place, name, sought, &arguments),
             None => Ok(Referent::Unbound),
         }
     }
 
+    // The label to which a jump refers; labels do not shadow one another (JLS 14.15).
+    fn label(&self, alloc: Global, place: u32, name: u32) -> Result<Referent, OutOfMemory>
+        ensures { (t : Table) (x : Text) → IsWorld t self.now.world → place < length self.now.world.under.rows.now → IsNumberOf self.now.world.under.rows.now name x → IfOk result (λ a. answers.IsAnswerOr (λ d l. answers.IsLabelAt self.now.world.under.rows.now t x place d l) referring.Unbound a) }
+    {
+        let found = self.labels(alloc, place, name)?;
+        Ok(found.answer(Referent::Unbound))
+    }
+
     // The class of a constructor, to which its name refers.
-    fn own_class(&self, place: u32) -> Referent {
+    fn own_class(&self, place: u32) -> Referent
+        ensures { answers.IsAnswerOr (λ c l. answers.IsOwnClass self.now.world.under.rows.now place c l) referring.Unbound result }
+    {
         let rows = self.world.under.rows;
         let body = parent_at(rows, place);
         let class = parent_at(rows, body);
@@ -296,20 +477,17 @@ impl<'a> Sight<'a> {
         place: u32,
         name: u32,
         sought: Sought,
-    ) -> Result<Referent, OutOfMemory> {
+    ) -> Result<Referent, OutOfMemory>
+        ensures { (t : Table) (x : Text) → CanLook t self.now types.now place → IsNumberOf self.now.world.under.rows.now name x → program.name self.now.world.under.rows.now name ≡ x → IfOk result (λ a. calls.LookedFor self.now.world.under.rows.now t place x sought a) }
+    {
         match sought {
             Sought::Nothing => Ok(Referent::Unbound),
             Sought::Simple { kind } => self.simple(alloc, place, kind, name),
-            Sought::Qualified { kind } => {
-                self.qualified(alloc, self.left_of(types, place), kind, name)
-            }
-            Sought::FieldOf => self.field(alloc, self.left_of(types, place), name),
+            Sought::Qualified { kind } => self.qualified_at(alloc, types, place, kind, name),
+            Sought::FieldOf => self.field_at(alloc, types, place, name),
             Sought::SuperField => self.super_field(alloc, place, name),
             Sought::OwnClass => Ok(self.own_class(place)),
-            Sought::Label => {
-                let found = self.labels(alloc, place, name)?;
-                Ok(found.answer(Referent::Unbound))
-            }
+            Sought::Label => self.label(alloc, place, name),
             _ => self.call(alloc, types, place, name, sought),
         }
     }
@@ -320,14 +498,12 @@ impl<'a> Sight<'a> {
         alloc: Global,
         types: &[Option<RowType>],
         place: u32,
-    ) -> Result<Referent, OutOfMemory> {
+    ) -> Result<Referent, OutOfMemory>
+        ensures { (t : Table) → CanLook t self.now types.now place → IfOk result (λ a. Look self.now.world.under.rows.now t (HasConstantForm self.now.world.under.rows.now t) place a) }
+    {
         let under = self.world.under;
-        self.look_for(
-            alloc,
-            types,
-            place,
-            under.places.name(place),
-            sought_at(under.rows, place),
-        )
+        let name = under.places.name(place);
+        let sought = sought_at(under.rows, place);
+        self.look_for(alloc, types, place, name, sought)
     }
 }

@@ -9,6 +9,7 @@ ghost use Rattle.jr_plain.specs.Imports.{is_import_label, is_import_of};
 ghost use Rattle.jr_plain.specs.Scope as plain;
 ghost use Rattle.jr_plain.specs.Search.{last_below};
 ghost use Rattle.jr_places.specs.Above as above;
+ghost use Rattle.jr_places.specs.declared.places.Places as placing;
 ghost use Rattle.jr_members.specs.Each.{ListsEach};
 ghost use Rattle.jr_members.specs.Keys.{entry_for, entry_list, falling};
 ghost use Rattle.jr_members.specs.Sources.{ArePlaced};
@@ -63,7 +64,8 @@ pub fn import_kind(rows: &[Row], at: u32) -> Option<ImportKind> {
     }
 }
 
-fn is_single(rows: &[Row], at: u32) -> bool
+/// The row is a single-type import.
+pub fn is_single(rows: &[Row], at: u32) -> bool
     ensures { result ≡ is_import_label importing.Single (label rows.now at) }
 {
     match rows.get(at as usize) {
@@ -183,7 +185,8 @@ fn demand_entry(rows: &[Row], at: u32) -> Option<Entry>
     entry_if(is_on_demand(rows, at), parent_at(rows, at), 0, at)
 }
 
-fn add_entry(alloc: Global, all: &mut Chains, entry: Option<Entry>) -> Result<(), OutOfMemory>
+/// Puts an entry at the end, if there is one.
+pub fn add_entry(alloc: Global, all: &mut Chains, entry: Option<Entry>) -> Result<(), OutOfMemory>
     ensures { OnOk result (all.new ≡ all.old ++ entry_list entry) }
 {
     match entry {
@@ -241,7 +244,8 @@ impl Scopes {
         places: &Places,
         at: u32,
     ) -> Result<(), OutOfMemory>
-        ensures { ArePlaced rows.now places.now → length rows.now < 2 ^ 32 → at < length rows.now → tell.AreScopesTo rows.now at self.old → OnOk result (tell.AreScopesTo rows.now (at + 1) self.new) }
+        ensures scopes { ArePlaced rows.now places.now → length rows.now < 2 ^ 32 → at < length rows.now → tell.AreScopesTo rows.now at self.old → OnOk result (tell.AreScopesTo rows.now (at + 1) self.new) }
+        ensures tops { ArePlaced rows.now places.now → at < length rows.now → tell.AreTopsTo rows.now places.now at self.old → OnOk result (tell.AreTopsTo rows.now places.now (at + 1) self.new) }
     {
         let name = places.name(at);
         let local = local_entry(rows, name, at);
@@ -258,7 +262,8 @@ impl Scopes {
 
     // Adds what is in scope by the rows.
     fn add_rows(&mut self, alloc: Global, rows: &[Row], places: &Places) -> Result<(), OutOfMemory>
-        ensures { ArePlaced rows.now places.now → tell.AreScopesTo rows.now 0 self.old → OnOk result (tell.AreScopes rows.now self.new) }
+        ensures scopes { ArePlaced rows.now places.now → tell.AreScopesTo rows.now 0 self.old → OnOk result (tell.AreScopes rows.now self.new) }
+        ensures tops { ArePlaced rows.now places.now → tell.AreTopsTo rows.now places.now 0 self.old → OnOk result (tell.AreTops rows.now places.now self.new) }
     {
         let Ok(count) = u32::try_from(rows.len()) else {
             return Err(OutOfMemory);
@@ -290,7 +295,8 @@ impl Scopes {
 
     /// What is in scope by the rows.
     pub fn of(alloc: Global, rows: &[Row], places: &Places) -> Result<Scopes, OutOfMemory>
-        ensures { ArePlaced rows.now places.now → IfOk result (λ scopes. tell.AreScopes rows.now scopes) }
+        ensures scopes { ArePlaced rows.now places.now → IfOk result (λ scopes. tell.AreScopes rows.now scopes) }
+        ensures tops { ArePlaced rows.now places.now → IfOk result (λ scopes. tell.AreTops rows.now places.now scopes) }
     {
         let mut scopes = Scopes::new(alloc);
         scopes.add_rows(alloc, rows, places)?;
@@ -393,14 +399,16 @@ impl Scopes {
         self.first_locals(alloc, rows, place, name)
     }
 
-    /// The top-level types of the name in a package, given by its number.
+    /// The top-level types of the name in a package, given by its number, from the last back.
     pub fn types_of_package(
         &self,
         alloc: Global,
-        package: u32,
+        number: u32,
         name: u32,
-    ) -> Result<Vec<u32>, OutOfMemory> {
-        self.tops.rows(alloc, package, name)
+    ) -> Result<Vec<u32>, OutOfMemory>
+        ensures { (p : Rows) (places : placing.Places) → tell.AreTops p places self.now → IfOk result (λ rows. rows.items ≡ falling (length p) (tell.is_top_of p places number name)) }
+    {
+        self.tops.rows(alloc, number, name)
     }
 
     /// The single-type imports in a unit whose names end with this identifier, from the last back.

@@ -1,21 +1,34 @@
 // Names without a dot (JLS 6.3, 6.3.1, 6.5.2, 15.12.1).
-ghost use Rattle.std.specs.Prelude.{◌≡◌, ◌++◌, ◌<◌, None, IfOk, OnOk, Decides, filter, length};
+ghost use Rattle.std.specs.Prelude.{◌≡◌, ◌++◌, ◌<◌, ◌&&◌, ◌||◌, not, nat_eq, None, IfOk, OnOk, Decides, filter, length};
 ghost use Rattle.jr_base.specs.declared.text.Text.{Text};
+ghost use Rattle.jr_tree.specs.declared.label.NameKind.TheVariants as names;
 ghost use Rattle.jr_tree.specs.declared.label.Role.TheVariants as role;
 ghost use Rattle.jr_tree.specs.Rows as program;
-ghost use Rattle.jr_defs.specs.Lookup.{MethodLevel};
-ghost use Rattle.jr_defs.specs.Referents.{Table};
+ghost use Rattle.jr_defs.specs.declared.referent.Space.TheVariants as space;
+ghost use Rattle.jr_defs.specs.Imports.{ImportsHold};
+ghost use Rattle.jr_defs.specs.Lookup.{MethodLevel, SimpleCandidate};
+ghost use Rattle.jr_defs.specs.Packages.{spelled};
+ghost use Rattle.jr_defs.specs.Referents.{Table, entries};
+ghost use Rattle.jr_plain.specs.Imports as imported;
+ghost use Rattle.jr_plain.specs.Modifiers as modified;
 ghost use Rattle.jr_plain.specs.Same as same;
-ghost use Rattle.jr_plain.specs.Search.{Finds};
+ghost use Rattle.jr_plain.specs.Search.{Finds, Lists};
+ghost use Rattle.jr_places.specs.Packages as packed;
 ghost use Rattle.jr_places.specs.Places.{ArePlaces};
+ghost use Rattle.jr_members.specs.declared.declared.MemberKind.TheVariants as kinds;
 ghost use Rattle.jr_members.specs.Each.{ListsEach, if_such};
+ghost use Rattle.jr_members.specs.Keys.{falling};
+ghost use Rattle.jr_members.specs.Sources.{ArePlaced};
 ghost use Rattle.jr_members.specs.Worlds.{IsWorld};
+ghost use Rattle.jr_lookup.specs.Answers as answers;
 ghost use Rattle.jr_lookup.specs.Labels as labeled;
 ghost use Rattle.jr_lookup.specs.Levels as tell;
 ghost use Rattle.jr_lookup.specs.Locals.{AreLocalsPlaced, IsVisibleLocal};
 ghost use Rattle.jr_lookup.specs.Outward.{IsInnermostSuch, IsNumberOf};
-ghost use Rattle.jr_lookup.specs.Scopes.{AreScopes};
-ghost use Rattle.jr_lookup.specs.Variables.{AreFieldsAt, AreVariablesWithin};
+ghost use Rattle.jr_lookup.specs.Scopes.{AreScopes, is_top_of};
+ghost use Rattle.jr_lookup.specs.Sights as sights;
+ghost use Rattle.jr_lookup.specs.Types.{AreTypesByName, AreVisibleAt};
+ghost use Rattle.jr_lookup.specs.Variables.{AreFieldsAt, AreStaticFar, AreVariablesWithin};
 
 use crate::candidates::Candidates;
 use crate::imports::Imports;
@@ -23,7 +36,7 @@ use crate::scopes::Scopes;
 use jr_base::OutOfMemory;
 use jr_defs::Referent;
 use jr_members::{MemberKind, World, is_private, is_public, is_static};
-use jr_places::{holders_of, role_at};
+use jr_places::{Places, holders_of, role_at};
 use jr_supers::Tabled;
 use jr_tree::{NameKind, Role, Row};
 use std::alloc::Global;
@@ -98,11 +111,78 @@ fn labels_among(
     Ok(found)
 }
 
-impl<'a> Sight<'a> {
-    fn rows(&self) -> &'a [Row] {
-        self.world.under.rows
-    }
+// What is not private, and is public or of the package.
+fn is_open(rows: &[Row], is_one_package: bool, at: u32) -> bool
+    ensures { result ≡ (not (modified.is_private rows.now at) && (modified.is_public rows.now at || is_one_package)) }
+{
+    !is_private(rows, at) && (is_public(rows, at) || is_one_package)
+}
 
+// The row is static, and so it is told of it.
+fn is_static_and(rows: &[Row], is_such: bool, at: u32) -> bool
+    ensures { result ≡ (modified.is_static rows.now at && is_such) }
+{
+    is_static(rows, at) && is_such
+}
+
+// Puts some rows behind a list.
+fn add_all(all: &mut Vec<u32>, more: &[u32]) -> Result<(), OutOfMemory>
+    ensures { OnOk result (all.new.items ≡ all.old.items ++ more.now) }
+{
+    for at in more {
+        all.push(*at)?;
+    }
+    Ok(())
+}
+
+// Both are there, and are one.
+fn are_one(one: Option<u32>, other: Option<u32>) -> bool
+    ensures { result ≡ packed.same_some one other }
+{
+    match one {
+        Some(first) => match other {
+            Some(second) => first == second,
+            None => false,
+        },
+        None => false,
+    }
+}
+
+// The first is not told, or the second is.
+fn not_or(one: bool, other: bool) -> bool
+    ensures { result ≡ (not one || other) }
+{
+    !one || other
+}
+
+// Where it is told that imports bring a type of the name, the row is of the unit of the place.
+fn is_kept_beside(places: &Places, place: u32, has_imported: bool, at: u32) -> bool
+    ensures { (p : program.Rows) → ArePlaced p places.now → result ≡ sights.is_kept_beside p place has_imported at }
+{
+    let one = places.unit(at);
+    let other = places.unit(place);
+    not_or(has_imported, are_one(one, other))
+}
+
+// Of some types of the package those that stay beside what imports bring.
+fn kept_beside(
+    alloc: Global,
+    places: &Places,
+    place: u32,
+    has_imported: bool,
+    types: &[u32],
+) -> Result<Vec<u32>, OutOfMemory>
+    ensures { (p : program.Rows) → ArePlaced p places.now → IfOk result (λ found. found.items ≡ filter (sights.is_kept_beside p place has_imported) types.now) }
+{
+    let mut found = Vec::new(alloc);
+    for at in types {
+        let is_such = is_kept_beside(places, place, has_imported, *at);
+        push_if(&mut found, is_such, *at)?;
+    }
+    Ok(found)
+}
+
+impl<'a> Sight<'a> {
     // The locals and parameters of the name that are in scope furthest in.
     fn locals(&self, alloc: Global, place: u32, name: u32) -> Result<Vec<u32>, OutOfMemory>
         ensures { (t : Table) (x : Text) → IsWorld t self.now.world → AreScopes self.now.world.under.rows.now self.now.scopes.now → AreLocalsPlaced self.now.world.under.rows.now → place < length self.now.world.under.rows.now → IsNumberOf self.now.world.under.rows.now name x → IfOk result (λ found. ListsEach found.items (IsVisibleLocal self.now.world.under.rows.now t x place)) }
@@ -189,15 +269,57 @@ impl<'a> Sight<'a> {
     }
 
     /// The unit whose imports hold at the place: in its types, and not in the imports themselves (JLS 6.3).
-    pub fn importing_unit(&self, place: u32) -> Option<u32> {
-        let top = self.world.under.places.top(place)?;
-        self.world.under.places.unit(top)
+    pub fn importing_unit(&self, place: u32) -> Option<u32>
+        ensures { ArePlaced self.now.world.under.rows.now self.now.world.under.places.now → Finds result (λ u. ImportsHold self.now.world.under.rows.now u place) }
+    {
+        let places = self.world.under.places;
+        match places.top(place) {
+            Some(top) => places.unit(top),
+            None => None,
+        }
     }
 
     // What a unit may import without naming it alone: what is public, or not private and of its own package (JLS 7.5.2, 7.5.3).
-    fn can_import(&self, unit: u32, at: u32) -> bool {
-        !is_private(self.rows(), at)
-            && (is_public(self.rows(), at) || self.world.under.places.is_one_package(unit, at))
+    fn can_import(&self, unit: u32, at: u32) -> bool
+        ensures { ArePlaced self.now.world.under.rows.now self.now.world.under.places.now → result ≡ imported.can_import self.now.world.under.rows.now unit at }
+    {
+        let is_one_package = self.world.under.places.is_one_package(unit, at);
+        is_open(self.world.under.rows, is_one_package, at)
+    }
+
+    // A static member that the unit may import.
+    fn can_import_static(&self, unit: u32, at: u32) -> bool
+        ensures { ArePlaced self.now.world.under.rows.now self.now.world.under.places.now → result ≡ sights.is_static_importable self.now.world.under.rows.now unit at }
+    {
+        let is_such = self.can_import(unit, at);
+        is_static_and(self.world.under.rows, is_such, at)
+    }
+
+    // Adds those of some members that are static and that the unit may import.
+    fn add_static(&self, all: &mut Vec<u32>, unit: u32, members: &[u32]) -> Result<(), OutOfMemory>
+        ensures { ArePlaced self.now.world.under.rows.now self.now.world.under.places.now → OnOk result (all.new.items ≡ all.old.items ++ filter (sights.is_static_importable self.now.world.under.rows.now unit) members.now) }
+    {
+        for at in members {
+            let is_such = self.can_import_static(unit, *at);
+            push_if(all, is_such, *at)?;
+        }
+        Ok(())
+    }
+
+    // Adds the static members of the name that a type has.
+    fn add_static_of(
+        &self,
+        alloc: Global,
+        all: &mut Vec<u32>,
+        kind: MemberKind,
+        unit: u32,
+        over: u32,
+        name: u32,
+    ) -> Result<(), OutOfMemory>
+        ensures { (t : Table) → IsWorld t self.now.world → OnOk result (sights.AddsSuch (sights.IsReached self.now.world.under.rows.now t kind unit name over) all.old.items all.new.items) }
+    {
+        let members = self.world.named(alloc, kind, over, name)?;
+        self.add_static(all, unit, &members)
     }
 
     // Adds the static members of the name that one static import brings.
@@ -209,16 +331,45 @@ impl<'a> Sight<'a> {
         unit: u32,
         import: u32,
         name: u32,
-    ) -> Result<(), OutOfMemory> {
-        let Some(over) = self.world.under.named_type(import) else {
-            return Ok(());
-        };
-        for at in &self.world.named(alloc, kind, over, name)? {
-            if is_static(self.rows(), *at) && self.can_import(unit, *at) {
-                all.push(*at)?;
-            }
+    ) -> Result<(), OutOfMemory>
+        ensures { (t : Table) → sights.IsSight t self.now → sights.IsImport self.now.world.under.rows.now import → OnOk result (sights.AddsSuch (sights.IsNamedBy self.now.world.under.rows.now t kind unit name import) all.old.items all.new.items) }
+    {
+        match self.world.under.named_type(import) {
+            Some(over) => self.add_static_of(alloc, all, kind, unit, over, name),
+            None => Ok(()),
         }
-        Ok(())
+    }
+
+    // The static members of the name that some static imports bring.
+    fn imported_each(
+        &self,
+        alloc: Global,
+        kind: MemberKind,
+        unit: u32,
+        imports: &[u32],
+        name: u32,
+    ) -> Result<Vec<u32>, OutOfMemory>
+        ensures { (t : Table) → sights.IsSight t self.now → sights.AreImportRows self.now.world.under.rows.now imports.now → IfOk result (λ found. Lists found.items (sights.IsBroughtBy (sights.IsNamedBy self.now.world.under.rows.now t kind unit name) imports.now)) }
+    {
+        let mut all = Vec::new(alloc);
+        for import in imports {
+            self.add_imported(alloc, &mut all, kind, unit, *import, name)?;
+        }
+        Ok(all)
+    }
+
+    // The static members of the name that single static imports bring to a unit.
+    fn imported_to(
+        &self,
+        alloc: Global,
+        kind: MemberKind,
+        unit: u32,
+        name: u32,
+    ) -> Result<Vec<u32>, OutOfMemory>
+        ensures { (t : Table) → sights.IsSight t self.now → IfOk result (λ found. Lists found.items (sights.IsStaticOf self.now.world.under.rows.now t kind unit name)) }
+    {
+        let imports = self.scopes.static_imports(alloc, unit, name)?;
+        self.imported_each(alloc, kind, unit, &imports, name)
     }
 
     /// The static members of the name that single static imports bring to a place (JLS 7.5.3).
@@ -228,19 +379,19 @@ impl<'a> Sight<'a> {
         kind: MemberKind,
         place: u32,
         name: u32,
-    ) -> Result<Vec<u32>, OutOfMemory> {
-        let mut all = Vec::new(alloc);
-        if let Some(unit) = self.importing_unit(place) {
-            for import in &self.scopes.static_imports(alloc, unit, name)? {
-                self.add_imported(alloc, &mut all, kind, unit, *import, name)?;
-            }
+    ) -> Result<Vec<u32>, OutOfMemory>
+        ensures { (t : Table) → sights.IsSight t self.now → IfOk result (λ found. Lists found.items (sights.IsStaticAt self.now.world.under.rows.now t kind place name)) }
+    {
+        match self.importing_unit(place) {
+            Some(unit) => self.imported_to(alloc, kind, unit, name),
+            None => Ok(Vec::new(alloc)),
         }
-        Ok(all)
     }
 
     // The fields of the name that are in scope furthest in.
     fn fields(&self, alloc: Global, place: u32, name: u32) -> Result<Candidates, OutOfMemory>
-        ensures { (t : Table) → IsWorld t self.now.world → IfOk result (λ found. AreFieldsAt self.now.world.under.rows.now t place name found.rows.items found.level) }
+        ensures far { (t : Table) → sights.IsSight t self.now → IfOk result (λ found. AreStaticFar self.now.world.under.rows.now t place name found.rows.items found.level) }
+        ensures around { (t : Table) → IsWorld t self.now.world → IfOk result (λ found. AreFieldsAt self.now.world.under.rows.now t place name found.rows.items found.level) }
     {
         let members = self.members_around(alloc, MemberKind::Field, place, name)?;
         if !members.rows.is_empty() {
@@ -252,7 +403,8 @@ impl<'a> Sight<'a> {
 
     /// The variables of the name that are visible at the place.
     pub fn variables(&self, alloc: Global, place: u32, name: u32) -> Result<Candidates, OutOfMemory>
-        ensures { (t : Table) (x : Text) → IsWorld t self.now.world → AreScopes self.now.world.under.rows.now self.now.scopes.now → AreLocalsPlaced self.now.world.under.rows.now → place < length self.now.world.under.rows.now → IsNumberOf self.now.world.under.rows.now name x → IfOk result (λ found. AreVariablesWithin self.now.world.under.rows.now t x place found.rows.items found.level) }
+        ensures visible { (t : Table) (x : Text) → sights.IsSight t self.now → AreLocalsPlaced self.now.world.under.rows.now → place < length self.now.world.under.rows.now → IsNumberOf self.now.world.under.rows.now name x → IfOk result (λ found. AreVisibleAt self.now.world.under.rows.now t space.Variable x place found.rows.items found.level) }
+        ensures within { (t : Table) (x : Text) → IsWorld t self.now.world → AreScopes self.now.world.under.rows.now self.now.scopes.now → AreLocalsPlaced self.now.world.under.rows.now → place < length self.now.world.under.rows.now → IsNumberOf self.now.world.under.rows.now name x → IfOk result (λ found. AreVariablesWithin self.now.world.under.rows.now t x place found.rows.items found.level) }
     {
         let locals = self.locals(alloc, place, name)?;
         if !locals.is_empty() {
@@ -270,79 +422,191 @@ impl<'a> Sight<'a> {
         all: &mut Vec<u32>,
         unit: u32,
         types: &[u32],
-    ) -> Result<(), OutOfMemory> {
+    ) -> Result<(), OutOfMemory>
+        ensures { ArePlaced self.now.world.under.rows.now self.now.world.under.places.now → OnOk result (all.new.items ≡ all.old.items ++ filter (imported.can_import self.now.world.under.rows.now unit) types.now) }
+    {
         for at in types {
-            if self.can_import(unit, *at) {
-                all.push(*at)?;
-            }
+            let is_such = self.can_import(unit, *at);
+            push_if(all, is_such, *at)?;
         }
         Ok(())
     }
 
-    // The types of the name that a package, or a type by its members, has for an import on demand.
-    fn demanded(&self, alloc: Global, import: u32, name: u32) -> Result<Vec<u32>, OutOfMemory> {
+    // The top-level types of the name in the package that the name at a row spells.
+    fn types_of_path(&self, alloc: Global, target: u32, name: u32) -> Result<Vec<u32>, OutOfMemory>
+        ensures { (t : Table) → sights.IsSight t self.now → target < length self.now.world.under.rows.now → IfOk result (λ found. Lists found.items (sights.IsTopNamed self.now.world.under.rows.now (spelled self.now.world.under.rows.now target) name)) }
+    {
         let under = self.world.under;
-        let Some(target) = under.first_child(import) else {
-            return Ok(Vec::new(alloc));
-        };
-        match under.referent(target) {
-            Referent::Package => match under.places.spelled(under.rows, target) {
-                Some(package) => self.scopes.types_of_package(alloc, package, name),
-                None => Ok(Vec::new(alloc)),
-            },
-            _ => match under.referred_type(target) {
-                Some(over) => self.world.named(alloc, MemberKind::Type, over, name),
-                None => Ok(Vec::new(alloc)),
-            },
+        match under.places.spelled(under.rows, target) {
+            Some(number) => self.scopes.types_of_package(alloc, number, name),
+            None => Ok(Vec::new(alloc)),
         }
     }
 
-    // The types of the name that imports on demand bring, those of java.lang among them.
-    fn on_demand(&self, alloc: Global, unit: u32, name: u32) -> Result<Vec<u32>, OutOfMemory> {
-        let mut all = Vec::new(alloc);
-        for import in &self.scopes.imports_on_demand(alloc, unit)? {
-            let types = self.demanded(alloc, *import, name)?;
-            self.add_importable(&mut all, unit, &types)?;
+    // The member types of the name, of the type to which the name at a row refers.
+    fn types_of_type(&self, alloc: Global, target: u32, name: u32) -> Result<Vec<u32>, OutOfMemory>
+        ensures { (t : Table) → IsWorld t self.now.world → IfOk result (λ found. Lists found.items (sights.IsMemberNamed self.now.world.under.rows.now t (entries self.now.world.under.table.now target) name)) }
+    {
+        match self.world.under.referred_type(target) {
+            Some(over) => self.world.named(alloc, MemberKind::Type, over, name),
+            None => Ok(Vec::new(alloc)),
         }
-        if let Some(package) = self.world.under.places.package(1) {
-            let types = self.scopes.types_of_package(alloc, package, name)?;
-            self.add_importable(&mut all, unit, &types)?;
+    }
+
+    // The types of the name that the package has, or the type, to which the name at a row refers.
+    fn types_in(&self, alloc: Global, target: u32, name: u32) -> Result<Vec<u32>, OutOfMemory>
+        ensures { (t : Table) → sights.IsSight t self.now → target < length self.now.world.under.rows.now → IfOk result (λ found. Lists found.items (sights.IsTypeIn self.now.world.under.rows.now t (entries self.now.world.under.table.now target) target name)) }
+    {
+        match self.world.under.referent(target) {
+            Referent::Package => self.types_of_path(alloc, target, name),
+            _ => self.types_of_type(alloc, target, name),
+        }
+    }
+
+    // The types of the name that an import on demand has.
+    fn demanded(&self, alloc: Global, import: u32, name: u32) -> Result<Vec<u32>, OutOfMemory>
+        ensures { (t : Table) → sights.IsSight t self.now → sights.IsImport self.now.world.under.rows.now import → IfOk result (λ found. Lists found.items (sights.IsDemandedAs self.now.world.under.rows.now t name import)) }
+    {
+        match self.world.under.first_child(import) {
+            Some(target) => self.types_in(alloc, target, name),
+            None => Ok(Vec::new(alloc)),
+        }
+    }
+
+    // Adds the types of the name that an import on demand has, and that the unit may import.
+    fn add_demanded(
+        &self,
+        alloc: Global,
+        all: &mut Vec<u32>,
+        unit: u32,
+        import: u32,
+        name: u32,
+    ) -> Result<(), OutOfMemory>
+        ensures { (t : Table) → sights.IsSight t self.now → sights.IsImport self.now.world.under.rows.now import → OnOk result (sights.AddsSuch (sights.IsDemanded self.now.world.under.rows.now t unit name import) all.old.items all.new.items) }
+    {
+        let types = self.demanded(alloc, import, name)?;
+        self.add_importable(all, unit, &types)
+    }
+
+    // The types of the name that some imports on demand bring.
+    fn demanded_each(
+        &self,
+        alloc: Global,
+        unit: u32,
+        imports: &[u32],
+        name: u32,
+    ) -> Result<Vec<u32>, OutOfMemory>
+        ensures { (t : Table) → sights.IsSight t self.now → sights.AreImportRows self.now.world.under.rows.now imports.now → IfOk result (λ found. Lists found.items (sights.IsBroughtBy (sights.IsDemanded self.now.world.under.rows.now t unit name) imports.now)) }
+    {
+        let mut all = Vec::new(alloc);
+        for import in imports {
+            self.add_demanded(alloc, &mut all, unit, *import, name)?;
         }
         Ok(all)
     }
 
-    // The top-level types of the name in the package of the place: those of its own unit, and where the imports leave them those of others.
+    // Adds those of some types of a package that a unit may import.
+    fn add_of_package(
+        &self,
+        alloc: Global,
+        all: &mut Vec<u32>,
+        unit: u32,
+        number: u32,
+        name: u32,
+    ) -> Result<(), OutOfMemory>
+        ensures { (t : Table) → sights.IsSight t self.now → OnOk result (all.new.items ≡ all.old.items ++ filter (imported.can_import self.now.world.under.rows.now unit) (falling (length self.now.world.under.rows.now) (is_top_of self.now.world.under.rows.now self.now.world.under.places.now number name))) }
+    {
+        let types = self.scopes.types_of_package(alloc, number, name)?;
+        self.add_importable(all, unit, &types)
+    }
+
+    // Adds the types of the name in java.lang, the package of row 1, that the unit may import.
+    fn add_lang(
+        &self,
+        alloc: Global,
+        all: &mut Vec<u32>,
+        unit: u32,
+        name: u32,
+    ) -> Result<(), OutOfMemory>
+        ensures { (t : Table) → sights.IsSight t self.now → OnOk result (sights.AddsSuch (sights.IsLang self.now.world.under.rows.now unit name) all.old.items all.new.items) }
+    {
+        match self.world.under.places.package(1) {
+            Some(number) => self.add_of_package(alloc, all, unit, number, name),
+            None => Ok(()),
+        }
+    }
+
+    // The types of the name that imports on demand bring, those of java.lang among them.
+    fn on_demand(&self, alloc: Global, unit: u32, name: u32) -> Result<Vec<u32>, OutOfMemory>
+        ensures { (t : Table) → sights.IsSight t self.now → IfOk result (λ found. Lists found.items (sights.IsOnDemand self.now.world.under.rows.now t unit name)) }
+    {
+        let imports = self.scopes.imports_on_demand(alloc, unit)?;
+        let mut all = self.demanded_each(alloc, unit, &imports, name)?;
+        self.add_lang(alloc, &mut all, unit, name)?;
+        Ok(all)
+    }
+
+    // The types of the name in the package of the place, or of its unit alone where imports bring one too (JLS 6.4.1, 7.5.1).
     fn of_package(
         &self,
         alloc: Global,
         place: u32,
         name: u32,
         has_imported: bool,
-    ) -> Result<Vec<u32>, OutOfMemory> {
-        let mut all = Vec::new(alloc);
+    ) -> Result<Vec<u32>, OutOfMemory>
+        ensures { (t : Table) → sights.IsSight t self.now → IfOk result (λ found. Lists found.items (sights.IsKeptBeside self.now.world.under.rows.now place name has_imported)) }
+    {
         let places = self.world.under.places;
-        let Some(package) = places.package(place) else {
-            return Ok(all);
-        };
-        for at in &self.scopes.types_of_package(alloc, package, name)? {
-            if !has_imported || places.unit(*at) == places.unit(place) {
-                all.push(*at)?;
+        match places.package(place) {
+            Some(number) => {
+                let types = self.scopes.types_of_package(alloc, number, name)?;
+                kept_beside(alloc, places, place, has_imported, &types)
             }
+            None => Ok(Vec::new(alloc)),
         }
-        Ok(all)
+    }
+
+    // Adds the types of the name that single-type imports bring to a place.
+    fn add_singles(
+        &self,
+        alloc: Global,
+        all: &mut Vec<u32>,
+        place: u32,
+        name: u32,
+    ) -> Result<(), OutOfMemory>
+        ensures { (t : Table) → sights.IsSight t self.now → OnOk result (sights.AddsSuch (sights.IsSingleAt self.now.world.under.rows.now t place name) all.old.items all.new.items) }
+    {
+        match self.importing_unit(place) {
+            Some(unit) => {
+                let types = self.imports.single(alloc, unit, name)?;
+                add_all(all, &types)
+            }
+            None => Ok(()),
+        }
+    }
+
+    // Adds the types of the name in the package of the place, or of its unit alone where there are others.
+    fn add_beside(
+        &self,
+        alloc: Global,
+        all: &mut Vec<u32>,
+        place: u32,
+        name: u32,
+    ) -> Result<(), OutOfMemory>
+        ensures { (t : Table) → sights.IsSight t self.now → OnOk result (sights.AddsSuch (sights.IsKeptBeside self.now.world.under.rows.now place name (not (nat_eq (length all.old.items) 0))) all.old.items all.new.items) }
+    {
+        let has_imported = !all.is_empty();
+        let types = self.of_package(alloc, place, name, has_imported)?;
+        add_all(all, &types)
     }
 
     // The types of the name that no type round the place has, by imports of one name and by packages.
-    fn types_outside(&self, alloc: Global, place: u32, name: u32) -> Result<Vec<u32>, OutOfMemory> {
+    fn types_outside(&self, alloc: Global, place: u32, name: u32) -> Result<Vec<u32>, OutOfMemory>
+        ensures { (t : Table) → sights.IsSight t self.now → IfOk result (λ found. Lists found.items (sights.IsOutside self.now.world.under.rows.now t place name)) }
+    {
         let mut all = self.imported(alloc, MemberKind::Type, place, name)?;
-        if let Some(unit) = self.importing_unit(place) {
-            for at in &self.imports.single(alloc, unit, name)? {
-                all.push(*at)?;
-            }
-        }
-        for at in &self.of_package(alloc, place, name, !all.is_empty())? {
-            all.push(*at)?;
-        }
+        self.add_singles(alloc, &mut all, place, name)?;
+        self.add_beside(alloc, &mut all, place, name)?;
         Ok(all)
     }
 
@@ -352,7 +616,9 @@ impl<'a> Sight<'a> {
         alloc: Global,
         place: u32,
         name: u32,
-    ) -> Result<Candidates, OutOfMemory> {
+    ) -> Result<Candidates, OutOfMemory>
+        ensures { (t : Table) → IsWorld t self.now.world → IfOk result (λ found. tell.AreMembersAround self.now.world.under.rows.now t kinds.Type place name found.rows.items found.level) }
+    {
         self.members_around(alloc, MemberKind::Type, place, name)
     }
 
@@ -362,28 +628,30 @@ impl<'a> Sight<'a> {
         alloc: Global,
         place: u32,
         name: u32,
-    ) -> Result<Candidates, OutOfMemory> {
+    ) -> Result<Candidates, OutOfMemory>
+        ensures { (t : Table) (x : Text) → sights.IsSight t self.now → IsNumberOf self.now.world.under.rows.now name x → IfOk result (λ found. AreTypesByName self.now.world.under.rows.now t x place found.rows.items found.level) }
+    {
         let members = self.types_around(alloc, place, name)?;
         if !members.rows.is_empty() {
             return Ok(members);
         }
-        Ok(Candidates {
-            rows: self.types_outside(alloc, place, name)?,
-            level: None,
-        })
+        let rows = self.types_outside(alloc, place, name)?;
+        Ok(Candidates { rows, level: None })
     }
 
     /// The types of the name that are visible at the place.
-    pub fn types(&self, alloc: Global, place: u32, name: u32) -> Result<Candidates, OutOfMemory> {
+    pub fn types(&self, alloc: Global, place: u32, name: u32) -> Result<Candidates, OutOfMemory>
+        ensures { (t : Table) (x : Text) → sights.IsSight t self.now → IsNumberOf self.now.world.under.rows.now name x → IfOk result (λ found. AreVisibleAt self.now.world.under.rows.now t space.Type x place found.rows.items found.level) }
+    {
         let found = self.types_by_name(alloc, place, name)?;
         if !found.rows.is_empty() {
             return Ok(found);
         }
         match self.importing_unit(place) {
-            Some(unit) => Ok(Candidates {
-                rows: self.on_demand(alloc, unit, name)?,
-                level: None,
-            }),
+            Some(unit) => {
+                let rows = self.on_demand(alloc, unit, name)?;
+                Ok(Candidates { rows, level: None })
+            }
             None => Ok(found),
         }
     }
@@ -404,7 +672,9 @@ impl<'a> Sight<'a> {
         alloc: Global,
         place: u32,
         name: u32,
-    ) -> Result<Candidates, OutOfMemory> {
+    ) -> Result<Candidates, OutOfMemory>
+        ensures { (t : Table) (x : Text) → sights.IsSight t self.now → AreLocalsPlaced self.now.world.under.rows.now → place < length self.now.world.under.rows.now → IsNumberOf self.now.world.under.rows.now name x → IfOk result (λ found. answers.AreAllThrough (λ d l. SimpleCandidate self.now.world.under.rows.now t x place names.Ambiguous d l) found.rows.items found.level) }
+    {
         let variables = self.variables(alloc, place, name)?;
         if !variables.rows.is_empty() {
             return Ok(variables);
@@ -419,7 +689,9 @@ impl<'a> Sight<'a> {
         place: u32,
         kind: NameKind,
         name: u32,
-    ) -> Result<Referent, OutOfMemory> {
+    ) -> Result<Referent, OutOfMemory>
+        ensures { (t : Table) (x : Text) → sights.IsSight t self.now → AreLocalsPlaced self.now.world.under.rows.now → place < length self.now.world.under.rows.now → IsNumberOf self.now.world.under.rows.now name x → IfOk result (λ a. answers.IsAnswerOr (λ d l. SimpleCandidate self.now.world.under.rows.now t x place kind d l) (answers.simple_otherwise kind) a) }
+    {
         match kind {
             NameKind::Variable => {
                 let found = self.variables(alloc, place, name)?;

@@ -5,6 +5,7 @@ pub mod Holding
 pub mod Uniting
 pub mod Packing
 pub mod Topping
+pub mod Inside
 pub mod Tables
 pub mod Numbered
 pub mod Stamping

@@ -6,7 +6,7 @@ use Rattle.std.proofs.lemmas.Bool.{false≢true, cases_eq, cases_lt, cases_Bool}
 use Rattle.std.proofs.lemmas.Bool.Decides.{Decides-eqb}
 use Rattle.std.proofs.lemmas.Slice.Eq.{bytes_eq-Decides}
 use Rattle.std.proofs.lemmas.List.{get_or_past}
-use Rattle.std.proofs.lemmas.Option.{none-some}
+use Rattle.std.proofs.lemmas.Option.{none-some, same_Some}
 use Rattle.std.proofs.Math.Seq.{get_or-append_seam}
 use Rattle.std.proofs.Math.ListN.{get_or-append}
 use Rattle.jr_base.specs.declared.text.Text.{Text}
@@ -16,7 +16,7 @@ use Rattle.jr_tree.specs.Rows.{Rows, label, name, parent, end}
 use Rattle.jr_tree.specs.Tree.{IsTree}
 use Rattle.jr_tree.specs.Local.{IsLocal}
 use Rattle.jr_defs.specs.Packages.{identifiers, spelled, package_by, package_of, InUnit, InPackage, SamePackage}
-use Rattle.jr_plain.specs.Search.{first_below}
+use Rattle.jr_plain.specs.Search.{first_below, Finds}
 use Rattle.jr_plain.specs.Enclosing.{is_unit}
 use Rattle.jr_plain.specs.Packages.{is_same_package}
 use Rattle.jr_plain.proofs.Tests.{like}
@@ -32,7 +32,7 @@ use Rattle.jr_places.proofs.Numbered.{number_kept, one_number, one_list}
 use Rattle.jr_places.proofs.Naming.{named_at}
 use Rattle.jr_places.specs.declared.units.Packages as code
 use Rattle.jr_places.specs.Names.{name_row}
-use Rattle.jr_places.specs.Packages.{PackagesAreNamed, is_package, names_to, path_of, Numbered, IsPackageOf, ArePackagesTo, PackageAt, ArePackages, same_some}
+use Rattle.jr_places.specs.Packages.{PackagesAreNamed, is_package, names_to, path_of, Numbered, IsPackageOf, ArePackagesTo, PackageAt, ArePackages, IsSpelled, same_some}
 
 -- ---- names
 
@@ -145,6 +145,78 @@ module _ (p : Rows) where
 
     package_path : package_of p u ≡ package_of p v → path_of p u ≡ path_of p v
     package_path e = texts_to_paths (is_package (label p (u + 1))) (is_package (label p (v + 1))) (sym (package_texts u) ∙ e ∙ package_texts v)
+
+  -- ---- names of packages
+
+  module _ (tree : IsTree p) (u n : ℕ) where
+    name_texts : (b : Bool) → cond b (names_to p (u + 2) (end p (u + 2) - (u + 2))) [] ≡ names_to p n (end p n - n) → cond b (texts_to (u + 2) (end p (u + 2) - (u + 2))) [] ≡ texts_to n (end p n - n)
+    name_texts true e = texts_same (u + 2) n (end p (u + 2) - (u + 2)) (end p n - n) e
+    name_texts false e = absurd (some_names tree n (sym e))
+
+    text_names : (b : Bool) → cond b (texts_to (u + 2) (end p (u + 2) - (u + 2))) [] ≡ texts_to n (end p n - n) → cond b (names_to p (u + 2) (end p (u + 2) - (u + 2))) [] ≡ names_to p n (end p n - n)
+    text_names true e = names_same (u + 2) n (end p (u + 2) - (u + 2)) (end p n - n) e
+    text_names false e = absurd (some_texts tree n (sym e))
+
+    path_spelled : path_of p u ≡ names_to p n (end p n - n) → package_of p u ≡ spelled p n
+    path_spelled e = package_texts tree u n u ∙ name_texts (is_package (label p (u + 1))) e ∙ sym (spelled_is tree n)
+
+    spelled_path : package_of p u ≡ spelled p n → path_of p u ≡ names_to p n (end p n - n)
+    spelled_path e = text_names (is_package (label p (u + 1))) (sym (package_texts tree u n u) ∙ e ∙ spelled_is tree n)
+
+  module _ (numbers : ℕ → ℕ → Option ℕ) (n : ℕ) where
+    -- the number of a name gives one of each part that it begins with
+    last_step : (k number : ℕ) (xs : List ℕ) → xs ≡ names_to p n (suc k) → IsNumberOf numbers number xs → (m : ℕ) × IsNumberOf numbers m (names_to p n k) × (numbers m (name_row p (n + k)) ≡ Some number)
+    last_step k _ _ e IsNumberOf.empty = let size = ap length e in absurd (omega arith)
+    last_step k number _ e (IsNumberOf.more {list = list} {item = item} {before = before} h is) =
+        (list, subst (λ xs. IsNumberOf numbers list xs) (ap rest_of e) h, subst (λ x. numbers list x ≡ Some number) (ap first_of e) is)
+
+    front_step : (k j number : ℕ) → j < k → IsNumberOf numbers number (names_to p n k) → (m : ℕ) × (next : ℕ) × IsNumberOf numbers m (names_to p n j) × (numbers m (name_row p (n + j)) ≡ Some next)
+    front_step zero j number lt h = absurd (omega arith)
+    front_step (suc k) j number lt h = let l = last_step k number (names_to p n (suc k)) refl h in
+        ⊎_elim (λ same. subst (λ j. (m : ℕ) × (next : ℕ) × IsNumberOf numbers m (names_to p n j) × (numbers m (name_row p (n + j)) ≡ Some next)) (sym same) (l.0, number, l.1, l.2))
+        (λ apart. front_step k j l.0 (omega arith) l.1) (cases_eq j k)
+
+    pub spelled_start : (k number : ℕ) → k ≡ 0 → number ≡ 0 → IsNumberOf numbers number (names_to p n k)
+    spelled_start k number none same = subst (λ x. IsNumberOf numbers x (names_to p n k)) (sym same) (subst (λ k. IsNumberOf numbers 0 (names_to p n k)) (sym none) IsNumberOf.empty)
+
+    pub spelled_more : (names : List ℕ) (place item number next : ℕ) → names ≡ tabulated (name_row p) (length p) → n ≤ place → place < length p → IsNumberOf numbers number (names_to p n (place - n))
+        → item ≡ slice_index_or names place place → numbers number item ≡ Some next → IsNumberOf numbers next (names_to p n (place + 1 - n))
+    spelled_more names place item number next all le lt h item_is found = let same : n + (place - n) ≡ place = omega arith in let more : suc (place - n) ≡ place + 1 - n = omega arith in
+        subst (λ k. IsNumberOf numbers next (names_to p n k)) more (subst (λ x. IsNumberOf numbers next (x ∷ names_to p n (place - n))) (item_is ∙ named_at p names place all lt ∙ ap (name_row p) (sym same)) (IsNumberOf.more h found))
+
+    -- a part that has no number
+    pub spelled_none : (names : List ℕ) (place item number k : ℕ) → names ≡ tabulated (name_row p) (length p) → n ≤ place → place < length p → place - n < k → IsNumberOf numbers number (names_to p n (place - n))
+        → item ≡ slice_index_or names place place → numbers number item ≡ None → Finds None (λ m. IsNumberOf numbers m (names_to p n k))
+    spelled_none names place item number k all le lt less h item_is none m = (
+      λ e. absurd (none-some m e),
+      λ is. let f = front_step k (place - n) m less is in let same : n + (place - n) ≡ place = omega arith in
+          absurd (none-some f.1 (sym none ∙ ap₂ numbers (one_number numbers number f.0 (names_to p n (place - n)) h f.2) (item_is ∙ named_at p names place all lt ∙ ap (name_row p) (sym same)) ∙ f.3)),
+    )
+
+    pub spelled_end : (k j number : ℕ) → k ≡ j → IsNumberOf numbers number (names_to p n k) → Finds (Some number) (λ m. IsNumberOf numbers m (names_to p n j))
+    spelled_end k j number same h m = let here = subst (λ k. IsNumberOf numbers number (names_to p n k)) same h in
+        (λ e. subst (λ x. IsNumberOf numbers x (names_to p n j)) (same_Some number m e) here, λ is. ap Some (one_number numbers number m (names_to p n j) here is))
+
+  -- a row stands in the package that a name spells
+  pub in_spelled : IsLocal p → (packages : code.Packages) → ArePackages p packages → (n o : ℕ) (found : Option ℕ) → Finds found (IsSpelled p packages n)
+      → Decides (same_some found (slice_index_or packages.of_rows.items o None)) (InPackage p (spelled p n) o)
+  in_spelled local packages h n o found f = by found (slice_index_or packages.of_rows.items o None) f (h.each o)
+    where
+      by : (a b : Option ℕ) → Finds a (IsSpelled p packages n) → IsPackageOf p (number_in packages.paths) o b → Decides (same_some a b) (InPackage p (spelled p n) o)
+      by None None f k = (λ e. absurd (false≢true e), λ s. absurd (k s.unit s.holds))
+      by (Some a) None f k = (λ e. absurd (false≢true e), λ s. absurd (k s.unit s.holds))
+      by None (Some b) f k = (
+        λ e. absurd (false≢true e),
+        λ s. let one = one_unit p local o k.0 s.unit k.1 s.holds in
+            absurd (none-some b ((f b).1 (subst (λ xs. IsNumberOf (number_in packages.paths) b xs) (spelled_path local.tree k.0 n (ap (package_of p) one ∙ s.has_path)) k.2))),
+      )
+      by (Some a) (Some b) f k = (
+        λ e. let same = (Decides-eqb a b).0 e in
+            let paths = one_list (number_in packages.paths) h.counted.one b (path_of p k.0) (names_to p n (end p n - n)) k.2 ((f b).0 (ap Some same)) in
+            record { unit = k.0; holds = k.1; has_path = path_spelled local.tree k.0 n paths },
+        λ s. let one = one_unit p local o k.0 s.unit k.1 s.holds in
+            (Decides-eqb a b).1 (same_Some a b ((f b).1 (subst (λ xs. IsNumberOf (number_in packages.paths) b xs) (spelled_path local.tree k.0 n (ap (package_of p) one ∙ s.has_path)) k.2))),
+      )
 
   -- ---- two rows
 

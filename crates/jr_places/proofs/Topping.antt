@@ -61,7 +61,7 @@ module _ (p : Rows) (tree : IsTree p) (local : IsLocal p) where
   top_step : (n : ℕ) → n < length p → top_by p (tabulated (top_level_of p) n) n ≡ top_level_of p n
   top_step n lt = stepped n lt (is_top_level p n) (top_level_tells p n)
 
-  all_tops : (n : ℕ) → n ≤ length p → tops p n ≡ tabulated (top_level_of p) n
+  pub all_tops : (n : ℕ) → n ≤ length p → tops p n ≡ tabulated (top_level_of p) n
   all_tops zero le = refl
   all_tops (suc n) le = ap₂ (λ xs x. xs ++ x ∷ []) (all_tops n (omega arith)) (ap (λ xs. top_by p xs n) (all_tops n (omega arith)) ∙ top_step n (omega arith))
 
@@ -69,7 +69,8 @@ module _ (p : Rows) (tree : IsTree p) (local : IsLocal p) where
   unfolding In
   past_none n le k = (λ e. absurd (none-some k e), λ h. let low = type_below p k h.top.type in let high = tree.last k low in let before = h.before in absurd (omega arith))
 
-  top_at : (n : ℕ) → slice_index_or (tops p (length p)) n None ≡ top_level_of p n
+  -- the top-level type that the table has
+  pub top_at : (n : ℕ) → slice_index_or (tops p (length p)) n None ≡ top_level_of p n
   top_at n = ap (λ xs. slice_index_or xs n None) (all_tops (length p) (omega arith)) ∙ ⊎_elim (λ lt. tabulated_at (top_level_of p) None (length p) n lt)
       (λ le. get_or_past (tabulated (top_level_of p) (length p)) n None (let s = length-tabulated (top_level_of p) (length p) in omega arith) ∙ one_found (In n) None (top_level_of p n) (past_none n le) (finds_top n)) (cases_lt n (length p))
 

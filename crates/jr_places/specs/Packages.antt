@@ -53,6 +53,10 @@ pub record ArePackages (p : Rows) (packages : code.Packages) : Type 0 where
   pub counted : IsNumbering packages.paths
   pub each : (o : ℕ) → IsPackageOf p (number_in packages.paths) o (slice_index_or packages.of_rows.items o None)
 
+-- the number of the package whose name is spelled at the row n, if one that begins so has units
+abbrev pub IsSpelled : Rows → code.Packages → ℕ → ℕ → Type 0
+IsSpelled p packages n number = IsNumberOf (number_in packages.paths) number (names_to p n (end p n - n))
+
 abbrev pub same_some : Option ℕ → Option ℕ → Bool
 same_some (Some a) (Some b) = nat_eq a b
 same_some _ _ = false

@@ -1,13 +1,14 @@
 // What is computed from rows alone.
-ghost use Rattle.std.specs.Prelude.{◌≡◌, ◌<◌, IfOk, length, None, slice_index_or};
+ghost use Rattle.std.specs.Prelude.{◌≡◌, ◌<◌, ◌^◌, IfOk, length, None, slice_index_or};
 ghost use Rattle.jr_tree.specs.Local.{IsLocal};
 ghost use Rattle.jr_tree.specs.Rows.{Rows};
 ghost use Rattle.jr_tree.specs.Tree.{IsTree};
-ghost use Rattle.jr_plain.specs.Enclosing.{is_same_top_level};
-ghost use Rattle.jr_plain.specs.Packages.{is_same_package};
+ghost use Rattle.jr_plain.specs.Enclosing.{is_same_top_level, top_level_of};
+ghost use Rattle.jr_plain.specs.Packages.{is_same_package, unit_of};
+ghost use Rattle.jr_plain.specs.Search.{Finds};
 ghost use Rattle.jr_places.specs.Names.{name_row};
-ghost use Rattle.jr_places.specs.Packages.{PackagesAreNamed, same_some};
-ghost use Rattle.jr_places.specs.Places.{ArePlaces};
+ghost use Rattle.jr_places.specs.Packages.{IsSpelled, PackagesAreNamed, same_some};
+ghost use Rattle.jr_places.specs.Places.{ArePlaces, package_number};
 
 use crate::around::arounds_of;
 use crate::names::{name_in, names_of};
@@ -50,11 +51,12 @@ fn are_one(one: Option<u32>, other: Option<u32>) -> bool
 }
 
 impl Places {
-    /// The tables of the rows.
+    /// The tables of the rows, which are fewer than can be numbered.
     pub fn of(alloc: Global, rows: &[Row]) -> Result<Places, OutOfMemory>
-        ensures { IfOk result (λ places. ArePlaces rows.now places) }
+        ensures tables { IfOk result (λ places. ArePlaces rows.now places) }
+        ensures few { IfOk result (λ places. length rows.now + 3 < 2 ^ 32) }
     {
-        if rows.len() >= u32::MAX as usize {
+        if rows.len() >= u32::MAX as usize - 2 {
             return Err(OutOfMemory);
         }
         let names = names_of(alloc, rows)?;
@@ -86,19 +88,25 @@ impl Places {
     }
 
     /// The unit of the row.
-    pub fn unit(&self, at: u32) -> Option<u32> {
+    pub fn unit(&self, at: u32) -> Option<u32>
+        ensures table { result ≡ slice_index_or self.now.units.items at None }
+        ensures holds { (p : Rows) → ArePlaces p self.now → IsLocal p → result ≡ unit_of p at }
+    {
         item(&self.units, at)
     }
 
     /// The top-level type that holds the row.
     pub fn top(&self, at: u32) -> Option<u32>
-        ensures { result ≡ slice_index_or self.now.tops.items at None }
+        ensures table { result ≡ slice_index_or self.now.tops.items at None }
+        ensures holds { (p : Rows) → ArePlaces p self.now → IsLocal p → result ≡ top_level_of p at }
     {
         item(&self.tops, at)
     }
 
     /// The number of the package of the row.
-    pub fn package(&self, at: u32) -> Option<u32> {
+    pub fn package(&self, at: u32) -> Option<u32>
+        ensures { result ≡ package_number self.now at }
+    {
         self.packages.of_row(at)
     }
 
@@ -110,7 +118,9 @@ impl Places {
     }
 
     /// The number of the package that a name spells, by the row of its last identifier, if it has units.
-    pub fn spelled(&self, rows: &[Row], at: u32) -> Option<u32> {
+    pub fn spelled(&self, rows: &[Row], at: u32) -> Option<u32>
+        ensures { ArePlaces rows.now self.now → IsLocal rows.now → PackagesAreNamed rows.now → length rows.now < 2 ^ 32 → at < length rows.now → Finds result (IsSpelled rows.now self.now.packages at) }
+    {
         self.packages.spelled(rows, &self.names, at)
     }
 

@@ -4,6 +4,7 @@ ghost use Rattle.jr_tree.specs.Rows.{Rows, label, end};
 ghost use Rattle.jr_tree.specs.Tree.{IsTree};
 ghost use Rattle.jr_tree.specs.Local.{IsLocal};
 ghost use Rattle.jr_plain.specs.Packages.{is_same_package};
+ghost use Rattle.jr_plain.specs.Search.{Finds};
 ghost use Rattle.jr_places.specs.Numbers.{IsNumbering};
 ghost use Rattle.jr_places.specs.Tabulated.{tabulated};
 ghost use Rattle.jr_places.specs.Names.{name_row};
@@ -178,7 +179,9 @@ impl Packages {
     }
 
     /// The number of the package that a name spells, by the row of its last identifier, if it has units.
-    pub fn spelled(&self, rows: &[Row], names: &[u32], at: u32) -> Option<u32> {
+    pub fn spelled(&self, rows: &[Row], names: &[u32], at: u32) -> Option<u32>
+        ensures { names.now ≡ tabulated (name_row rows.now) (length rows.now) → length rows.now < 2 ^ 32 → IsTree rows.now → at < length rows.now → Finds result (tell.IsSpelled rows.now self.now at) }
+    {
         let mut number = Numbering::EMPTY;
         for place in at..end_at(rows, at) {
             match self.paths.find(number, name_in(names, place)) {

@@ -1,8 +1,8 @@
 use Rattle.std.proofs.Common.{◌∙◌}
 use Rattle.jr_places.proofs.places.Places.of.Goals as goal
 
-pub returns : goal.returns
-returns c = record {
+pub returns-clause-tables : goal.returns-clause-tables
+returns-clause-tables c = record {
   names = c.in_ok-names.ensures;
   arounds_are = c.in_ok-arounds.ensures.by_parents;
   units_are = c.in_ok-units.ensures;

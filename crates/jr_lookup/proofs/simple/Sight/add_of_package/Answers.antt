@@ -1,0 +1,8 @@
+use Rattle.std.proofs.Common.{◌∙◌, ap, ◌++◌, filter}
+use Rattle.std.proofs.lemmas.Result.{on_ok_weaker}
+use Rattle.jr_plain.specs.Imports.{can_import}
+use Rattle.jr_lookup.proofs.simple.Sight.add_of_package.Goals as goal
+
+pub returns : goal.returns
+returns c = λ t sight. let p = c.args.self.now.world.under.rows.now in on_ok_weaker c.add_importable.result
+    (λ is. is ∙ ap (λ xs. c.args.all.now.items ++ filter (can_import p c.args.unit) xs) (c.deref.ensures.value ∙ c.in_ok-types.ensures p c.args.self.now.world.under.places.now sight.tops)) (c.add_importable.ensures sight.world.seen.placed)

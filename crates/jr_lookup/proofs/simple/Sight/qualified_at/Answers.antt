@@ -1,0 +1,4 @@
+use Rattle.jr_lookup.proofs.simple.Sight.qualified_at.Goals as goal
+
+pub returns : goal.returns
+returns c = ?

@@ -1,0 +1,102 @@
+-- What stands before a dot, and what is to be known at a place where something is looked up (JLS 6.5, 15.11, 15.12).
+use Rattle.std.specs.Prelude.{◌≡◌, ℕ, ◌+◌, ◌<◌, Bool, ◌&&◌, if◌then◌else◌, List, length, codes, Option, Some, None, option_map, nat_lt, bytes_eq, slice_index_or}
+use Rattle.jr_base.specs.declared.text.Text.{Text}
+use Rattle.jr_tree.specs.declared.label.Label.{Label}
+use Rattle.jr_tree.specs.declared.label.Label.TheVariants as is
+use Rattle.jr_tree.specs.declared.label.NameKind.{NameKind}
+use Rattle.jr_tree.specs.declared.label.NameKind.TheVariants as names
+use Rattle.jr_tree.specs.Rows.{Rows, label, parent}
+use Rattle.jr_defs.specs.declared.referent.Element.{Element}
+use Rattle.jr_defs.specs.declared.referent.Element.TheVariants as element
+use Rattle.jr_defs.specs.declared.referent.RowType.{RowType}
+use Rattle.jr_defs.specs.declared.referent.Referent.{Referent}
+use Rattle.jr_defs.specs.declared.referent.Referent.TheVariants.{Unbound, ArrayLength, Package, Declared}
+use Rattle.jr_defs.specs.Referents.{Table, entries}
+use Rattle.jr_defs.specs.Declarations.{IsType}
+use Rattle.jr_defs.specs.Types.{class_type}
+use Rattle.jr_defs.specs.Constants.{HasConstantForm}
+use Rattle.jr_defs.specs.Typing.{TypeOf}
+use Rattle.jr_plain.specs.Search.{Finds}
+use Rattle.jr_plain.specs.Lookup.{may_be_package}
+use Rattle.jr_plain.specs.Types.{referred_type}
+use Rattle.jr_places.specs.declared.places.Places.{Places}
+use Rattle.jr_places.specs.Packages.{IsSpelled}
+use Rattle.jr_lookup.specs.declared.qualified.Left.{Left}
+use Rattle.jr_lookup.specs.declared.qualified.Left.TheVariants as left
+use Rattle.jr_lookup.specs.declared.qualified.Receiver.{Receiver}
+use Rattle.jr_lookup.specs.declared.simple.Sight.{Sight}
+use Rattle.jr_lookup.specs.Answers.{CanChoose}
+use Rattle.jr_lookup.specs.Locals.{AreLocalsPlaced}
+use Rattle.jr_lookup.specs.Sights.{IsSight}
+
+-- ---- what stands before a dot
+
+-- a name, or a constructor, whose name is that of its class
+abbrev pub IsTypeLabel : Label → Type 0
+IsTypeLabel (is.Name kind place is_qualified) = Unit {0}
+IsTypeLabel (is.Constructor modifiers) = Unit {0}
+IsTypeLabel _ = ⊥
+
+-- names alone refer to packages, and names and constructors alone to types
+pub record RefersByNames (p : Rows) (t : Table) : Type 0 where
+  pub type : (n d : ℕ) (level : Option ℕ) → t n ≡ Declared d level → IsType p d → IsTypeLabel (label p n)
+  pub package : (n : ℕ) → t n ≡ Package → IsTypeLabel (label p n)
+
+-- what the row n is before a dot: a package, by the number of its name if one that begins so has units, a type, or an expression of a type
+pub data IsLeftAt (p : Rows) (t : Table) (K : ℕ → Type 0) (places : Places) (n : ℕ) : Left → Type 0 where
+  package : {number : Option ℕ} → t n ≡ Package → Finds number (IsSpelled p places.packages n) → ((a : RowType) → TypeOf p t K n a → ⊥) → IsLeftAt p t K places n (left.Package number)
+  of_type : {c : ℕ} → referred_type p (t n) ≡ Some c → ((a : RowType) → TypeOf p t K n a → ⊥) → IsLeftAt p t K places n (left.OfType c)
+  value : {a : RowType} → (t n ≡ Package → ⊥) → referred_type p (t n) ≡ None → Finds (Some a) (λ b. TypeOf p t K n b) → IsLeftAt p t K places n (left.Value a)
+  nothing : (t n ≡ Package → ⊥) → referred_type p (t n) ≡ None → ((a : RowType) → TypeOf p t K n a → ⊥) → IsLeftAt p t K places n left.Nothing
+
+-- what stands before the dot of the row o, in its first child
+pub data IsLeftOf (p : Rows) (t : Table) (K : ℕ → Type 0) (places : Places) (o : ℕ) : Left → Type 0 where
+  child : {l : Left} → parent p (o + 1) ≡ o → IsLeftAt p t K places (o + 1) l → IsLeftOf p t K places o l
+  none : (parent p (o + 1) ≡ o → ⊥) → IsLeftOf p t K places o left.Nothing
+
+abbrev pub receiver_with : Option RowType → ℕ → Receiver
+receiver_with a c = record { class = c; ty = a }
+
+-- an expression of the class
+abbrev pub object_receiver : ℕ → Receiver
+object_receiver c = receiver_with (Some (class_type c)) c
+
+abbrev pub class_in : Element → Option ℕ
+class_in (element.Class c) = Some c
+class_in _ = None
+
+-- the class whose members an expression of the type has; an array has those of Object (JLS 10.7)
+abbrev pub receiver_by : Option ℕ → RowType → Option Receiver
+receiver_by object a = if nat_lt 0 a.dims then option_map object_receiver object else option_map (receiver_with (Some a)) (class_in a.element)
+
+abbrev pub receiver_of : Option ℕ → Left → Option Receiver
+receiver_of object (left.OfType c) = Some (receiver_with None c)
+receiver_of object (left.Value a) = receiver_by object a
+receiver_of object _ = None
+
+-- the length of an array, by this name (JLS 10.7)
+abbrev pub length_by : RowType → Text → Referent
+length_by a x = if nat_lt 0 a.dims && bytes_eq x (codes "length") then ArrayLength else Unbound
+
+abbrev pub length_of : Left → Text → Referent
+length_of (left.Value a) x = length_by a x
+length_of _ x = Unbound
+
+-- what a name behind a dot is where no declaration is found
+abbrev pub otherwise_by : Left → NameKind → Text → Referent
+otherwise_by (left.Package number) k x = if may_be_package k then Package else Unbound
+otherwise_by l names.Variable x = length_of l x
+otherwise_by l names.Ambiguous x = length_of l x
+otherwise_by l _ x = Unbound
+
+-- ---- places
+
+-- what lookup reads at a place and behind it is as the table says, and the types of what stands behind it are known
+pub record CanLook (t : Table) (sight : Sight) (types : List (Option RowType)) (place : ℕ) : Type 0 where
+  pub sight_is : IsSight t sight
+  pub placed : AreLocalsPlaced sight.world.under.rows.now
+  pub can : CanChoose t sight.world
+  pub refers : RefersByNames sight.world.under.rows.now t
+  pub inside : place < length sight.world.under.rows.now
+  pub seen : (n : ℕ) → place < n → entries sight.world.under.table.now n ≡ t n
+  pub typed : (n : ℕ) → place < n → Finds (slice_index_or types n None) (λ a. TypeOf sight.world.under.rows.now t (HasConstantForm sight.world.under.rows.now t) n a)
