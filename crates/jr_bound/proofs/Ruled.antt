@@ -25,8 +25,7 @@ use Rattle.jr_plain.proofs.Declared.{occurrence_tells}
 use Rattle.jr_plain.proofs.Typables.{typable_from_lookup, acyclic_from_settled}
 use Rattle.jr_headers.proofs.Headed.{both_then}
 use Rattle.jr_headers.proofs.HeaderRows.{headed}
-use Rattle.jr_defs.proofs.HeadersAgree.{type_role}
-use Rattle.jr_binding.proofs.Saying.{type_target}
+use Rattle.jr_defs.proofs.HeadersAgree.{type_role, look_declares}
 use Rattle.jr_prelude.specs.Begins.{BeginsWithLang}
 use Rattle.jr_rules.specs.Compiling.{BreaksAll}
 use Rattle.jr_all_rules.proofs.Together.{keeps_all_tells}
@@ -40,7 +39,7 @@ binding_typable p formed begins t w =
     typable_from_lookup p t (HasConstantForm p t) (headed p formed) prelude.one_string (acyclic_from_settled p t formed types prelude.one_object w.settled) w.bound
   where
     types : (c n s : ℕ) (level : Option ℕ) → NamesHeader p c n → t n ≡ Declared s level → IsType p s
-    types c n s level h e = type_role p (name p n) s (type_target p t (HasConstantForm p t) n s (t n) level (formed.header_name c n h) e (w.bound n))
+    types c n s level h e = type_role p (name p n) s (look_declares p t (HasConstantForm p t) n s level (t n) (formed.header_name c n h) (w.bound n) e)
 
 module _ (p : Rows) (t : Table) where
   one_thing_tells : (o : ℕ) → Decides (is_one_thing (t o)) ((t o ≡ Unbound → ⊥) × (t o ≡ Ambiguous → ⊥))

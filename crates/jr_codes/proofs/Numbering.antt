@@ -16,21 +16,10 @@ use Rattle.jr_tree.specs.Rows.{Rows, label, parent, role_at, nodes_before}
 use Rattle.jr_defs.specs.Numbers.{units_before, one_if_unit, offset, numbered_at, nodes_to_by, declaration_part, IsDeclaration}
 use Rattle.jr_defs.specs.Numbers as numbers
 use Rattle.jr_defs.specs.Packages.{InUnit}
+use Rattle.jr_defs.proofs.Units.{up_to, nodes_rise, unit_there, none_inside}
 use Rattle.jr_codes.specs.declared.ids.Count.{Count}
 use Rattle.jr_codes.specs.Reads.{node_at, decl_by, decl_at}
 use Rattle.jr_codes.specs.Numbered.{declaring, bounded, entered, node_of, passed, count_to, counted_nodes, NumbersDeclarations}
-
--- ---- counts rise
-
-up_to : (m n : ℕ) → m ≤ suc n → (m ≤ n) ⊎ (m ≡ suc n)
-up_to m n h = elim (cases_lt n m) [ inl l ↦ inr (omega arith) | inr g ↦ inl g ]
-
-nodes_rise : (p : Rows) (m n : ℕ) → m ≤ n → nodes_before p m ≤ nodes_before p n
-nodes_rise p m zero h = let e : 0 ≡ m = omega arith in subst (λ k. nodes_before p k ≤ 0) e (omega arith)
-nodes_rise p m (suc n) h = elim (up_to m n h) [
-  | inl l ↦ (let z = nodes_rise p m n l in omega arith)
-  | inr e ↦ subst (λ k. nodes_before p m ≤ nodes_before p k) e (omega arith)
-]
 
 unit_has_node : (l : Label) → one_if_unit l ≤ nodes_of l
 unit_has_node is.Unit = omega arith
@@ -39,21 +28,6 @@ unit_has_node _ = omega arith
 fewer_units : (p : Rows) (n : ℕ) → units_before p n ≤ nodes_before p n
 fewer_units p zero = omega arith
 fewer_units p (suc n) = let z = fewer_units p n in let w = unit_has_node (label p n) in omega arith
-
--- ---- a unit is in no other
-
-over_unit : (over : Label) → Under over is.Unit → over ≡ is.Program
-over_unit is.Program u = refl
-over_unit (is.Name k a b) u = absurd u
-over_unit (is.Import f) u = absurd u
-over_unit is.Package u = absurd u
-over_unit _ u = absurd u
-
-over_program : (over : Label) → Under over is.Program → ⊥
-over_program (is.Name k a b) u = u
-over_program (is.Import f) u = u
-over_program is.Package u = u
-over_program _ u = u
 
 -- ---- one row
 
@@ -148,32 +122,6 @@ module _ (p : Rows) (few : nodes_before p (length p) < 2 ^ 32) where
         let counts = units_are n (omega arith) in
         subst (λ u. Inside u (suc n)) (sym e) (record { unit = first.0 ∙ counts; node = (let a = first.1 in let b = first.2 in omega arith) }))
   ]
-
-module _ (p : Rows) (local : IsLocal p) where
-  unit_there : (u : ℕ) → label p u ≡ is.Unit → u < length p
-  unit_there u e = elim (cases_lt u (length p)) [
-    | inl l ↦ l
-    | inr g ↦ (let z = ap (λ r. r.label) (get_or_past p u (record { label = is.Skip; name = []; parent = u; end = u + 1; previous = u }) g) in
-        let clash : is.Skip ≡ is.Unit = sym z ∙ e in cc)
-  ]
-
-  root : (n : ℕ) → n < length p → label p n ≡ is.Program → n ≡ 0
-  root zero lt e = refl
-  root (suc n) lt e = absurd (over_program (label p (parent p (suc n))) (subst (Under (label p (parent p (suc n)))) e (local.under (suc n) (omega arith) lt)))
-
-  not_root : (u : ℕ) → label p u ≡ is.Unit → 0 < u
-  not_root zero e = let program = local.program in let clash : is.Program ≡ is.Unit = sym program ∙ e in cc
-  not_root (suc u) e = omega arith
-
-  unit_parent : (u : ℕ) → label p u ≡ is.Unit → parent p u ≡ 0
-  unit_parent u e =
-      let lt = unit_there u e in let more = not_root u e in let up = local.tree.up u lt more in
-      root (parent p u) (omega arith) (over_unit (label p (parent p u)) (subst (Under (label p (parent p u))) e (local.under u more lt)))
-
-  none_inside : (u o : ℕ) → InUnit p u o → (v : ℕ) → u < v → v < o → label p v ≡ is.Unit → ⊥
-  none_inside u o h v lt before unit =
-      let last = h.before in
-      let le = local.tree.inner u v lt (omega arith) in let up = unit_parent v unit in let more = not_root u h.unit in omega arith
 
 same_number : (number : DeclId) (at : NodeAt) → at.cu.0 ≡ number.at.cu.0 → at.node.0 ≡ number.at.node.0 → number.part ≡ 0 → record { at = at; part = 0 } ≡ number
 same_number number at cu node part =

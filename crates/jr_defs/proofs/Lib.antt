@@ -11,6 +11,8 @@ pub mod Itself
 pub mod TypesAgree
 pub mod TypingSame
 pub mod OneBinding
+pub mod Scoping
+pub mod Units
 pub mod HeadersAgree
 pub mod Settling
 pub mod Worked

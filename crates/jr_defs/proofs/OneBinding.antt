@@ -109,7 +109,7 @@ module _ (p : Rows) (t u : Table) (K L : ℕ → Type 0) (formed : IsFormed p) (
   }
 
 -- the type of a name reads the table there alone
-name_typing : (p : Rows) (t u : Table) (K L : ℕ → Type 0) (formed : IsFormed p) (types : SameTypes p t u) (n : ℕ) (a : RowType) → IsNameLabel (label p n) → t n ≡ u n
+pub name_typing : (p : Rows) (t u : Table) (K L : ℕ → Type 0) (formed : IsFormed p) (types : SameTypes p t u) (n : ℕ) (a : RowType) → IsNameLabel (label p n) → t n ≡ u n
     → TypeOf p t K n a → TypeOf p u L n a
 name_typing p t u K L formed types n a k e (TypeOf.literal w x) = absurd (subst IsNameLabel w k)
 name_typing p t u K L formed types n a k e (TypeOf.variable {d = d} w v x) = TypeOf.variable (sym e ∙ w) v (has_type_same p t u formed types d a x)

@@ -1,5 +1,6 @@
 -- The law of one binding: two bindings agree on headers, and so they are one.
 use Rattle.std.proofs.Common.{◌≡◌, ◌⊎◌, ℕ, suc, zero, ◌+◌, ◌<◌, ◌≤◌, refl, sym, ◌∙◌, ap, subst, inl, inr, arith, [], length}
+use Rattle.std.proofs.lemmas.Bool.{cases_lt}
 use Rattle.std.proofs.lemmas.List.{get_or_past}
 use Rattle.std.specs.Prelude.{Option, Some, None}
 use Rattle.jr_tree.specs.declared.label.Label.TheVariants as is
@@ -8,6 +9,7 @@ use Rattle.jr_tree.specs.declared.label.NameKind.{NameKind}
 use Rattle.jr_tree.specs.declared.label.NameKind.TheVariants as kind
 use Rattle.jr_tree.specs.declared.label.Sought.{Sought}
 use Rattle.jr_tree.specs.declared.label.Sought.TheVariants as sought
+use Rattle.jr_tree.specs.Tree.{IsTree}
 use Rattle.jr_tree.specs.Rows.{Rows, label, name, parent, end, sought_at}
 use Rattle.jr_defs.specs.declared.referent.Referent.TheVariants.{Declared}
 use Rattle.jr_defs.specs.Referents.{Table}
@@ -26,28 +28,28 @@ use Rattle.jr_defs.proofs.TypesAgree.{bound_same, no_imports}
 use Rattle.jr_defs.proofs.OneBinding.{all_agree}
 use Rattle.jr_defs.proofs.HeadersAgree.{Agreed, agreed, agreed_names, carries_there, carries_back, ImportSame, type_role, target_declares, first_agrees}
 
-module _ (p : Rows) (t u : Table) (formed : IsFormed p) (a : IsBound p t) (b : IsBound p u) where
-  -- what stands right below an identifier of a name is one
-  next_identifier : (n m : ℕ) → IsIdentifierOf p n m → parent p (m + 1) ≡ m → IsIdentifierOf p n (m + 1)
-  next_identifier n m h e = record { from = let z = h.from in omega arith; before = inside (side (m + 1)) }
+module _ (p : Rows) (tree : IsTree p) where
+  -- a row that is the first child of another stands inside all that holds the other
+  pub first_inside : (n m : ℕ) → n ≤ m → m < end p n → parent p (m + 1) ≡ m → m + 1 < end p n
+  first_inside n m le lt e = elim (cases_lt (m + 1) (length p)) [
+    | inl l ↦ (let z = tree.held (m + 1) l (omega arith) in let w = subst (λ k. m + 1 < end p k) e z in let y = ends n m le lt in omega arith)
+    | inr g ↦ (let z = ap (λ r. r.parent) (get_or_past p (m + 1) (record { label = is.Skip; name = []; parent = m + 1; end = m + 1 + 1; previous = m + 1 }) g) in
+        let y : m + 1 ≡ m = sym z ∙ e in absurd (omega arith))
+  ]
     where
-      side : (k : ℕ) → (k < length p) ⊎ (length p ≤ k)
-      side k = grind arith
+      apart_or : (n m : ℕ) → n ≤ m → (n ≡ m) ⊎ (n < m)
+      apart_or n m le = grind arith
 
       ends : (n m : ℕ) → n ≤ m → m < end p n → end p m ≤ end p n
-      ends n m le lt = elim (apart_or n m le) [ inl e ↦ subst (λ k. end p m ≤ end p k) (sym e) (small (end p m)) | inr l ↦ formed.tree.apart n m l lt ]
-        where
-          apart_or : (n m : ℕ) → n ≤ m → (n ≡ m) ⊎ (n < m)
-          apart_or n m le = grind arith
+      ends n m le lt = elim (apart_or n m le) [
+        | inl e ↦ (let z = ap (end p) e in omega arith)
+        | inr l ↦ tree.apart n m l lt
+      ]
 
-          small : (k : ℕ) → k ≤ k
-          small k = omega arith
+  pub next_identifier : (n m : ℕ) → IsIdentifierOf p n m → parent p (m + 1) ≡ m → IsIdentifierOf p n (m + 1)
+  next_identifier n m h e = record { from = let z = h.from in omega arith; before = first_inside n m h.from h.before e }
 
-      inside : (m + 1 < length p) ⊎ (length p ≤ m + 1) → m + 1 < end p n
-      inside (inl l) = let z = formed.tree.held (m + 1) l (omega arith) in let y = ends n m h.from h.before in let w = subst (λ k. m + 1 < end p k) e z in omega arith
-      inside (inr g) = let z = ap (λ r. r.parent) (get_or_past p (m + 1) (record { label = is.Skip; name = []; parent = m + 1; end = m + 1 + 1; previous = m + 1 }) g) in
-          let y : m + 1 ≡ m = sym z ∙ e in absurd (omega arith)
-
+module _ (p : Rows) (t u : Table) (formed : IsFormed p) (a : IsBound p t) (b : IsBound p u) where
   -- the identifiers of a name, from the last row back
   module _ (n : ℕ) (seeks : SeeksType (sought_at p n)) (around : (m e : ℕ) → IsIdentifierOf p n m → InBody p e m → Agreed p t u e)
       (met : (m s : ℕ) (l : Option ℕ) → IsIdentifierOf p n m → t m ≡ Declared s l → IsType p s → Agreed p t u s)
@@ -56,15 +58,15 @@ module _ (p : Rows) (t u : Table) (formed : IsFormed p) (a : IsBound p t) (b : I
     identifier_agrees m (sought.Simple k) i e h first = simple m k i e h
     identifier_agrees m (sought.Qualified k) i e h first = bound_same p t u (Agreed p t u) m (a m) (b m)
         (type_search_in p t u (HasConstantForm p t) (HasConstantForm p u) (Agreed p t u) m (subst SeeksType (sym e) h) (carries_there p t u) (λ c w. around m c i w)
-        (λ sc. absurd (subst IsScoped e sc)) first (λ c w. met (m + 1) c w.level (next_identifier n m i w.first) w.refers w.type))
+        (λ sc. absurd (subst IsScoped e sc)) first (λ c w. met (m + 1) c w.level (next_identifier p formed.tree n m i w.first) w.refers w.type))
         (type_search_in p u t (HasConstantForm p u) (HasConstantForm p t) (Agreed p t u) m (subst SeeksType (sym e) h) (carries_back p t u) (λ c w. around m c i w)
-        (λ sc. absurd (subst IsScoped e sc)) (λ e. sym (first e)) (λ c w. met (m + 1) c w.level (next_identifier n m i w.first) (first w.first ∙ w.refers) w.type))
+        (λ sc. absurd (subst IsScoped e sc)) (λ e. sym (first e)) (λ c w. met (m + 1) c w.level (next_identifier p formed.tree n m i w.first) (first w.first ∙ w.refers) w.type))
     identifier_agrees m _ i e h first = absurd h
 
     identifiers_from : (j o : ℕ) → end p n ≤ o + j → (m : ℕ) → o ≤ m → IsIdentifierOf p n m → t m ≡ u m
     identifiers_from zero o le m after i = let z = i.before in absurd (omega arith)
     identifiers_from (suc j) o le m after i = identifier_agrees m (sought_at p m) i refl (formed.identifier n m seeks i)
-        (λ e. identifiers_from j (o + 1) (omega arith) (m + 1) (omega arith) (next_identifier n m i e))
+        (λ e. identifiers_from j (o + 1) (omega arith) (m + 1) (omega arith) (next_identifier p formed.tree n m i e))
 
     pub identifiers_agree : (m : ℕ) → IsIdentifierOf p n m → t m ≡ u m
     identifiers_agree m i = identifiers_from (end p n) 0 (omega arith) m (omega arith) i

@@ -61,7 +61,7 @@ return_sum = s.BlockOf (s.more_stmts (s.Return (Some (x.Binary (x.NameExpr x_nam
 abbrev class_b : d.TypeDecl
 class_b = d.Class [] (codes "B") (Some (record { parts = codes "A" ∷ [] })) [] (d.more_members (d.Method [] (outcome.Of int_type) (codes "h") [] [] (Some return_sum)) d.no_members)
 
-abbrev class_a : d.TypeDecl
+abbrev pub class_a : d.TypeDecl
 class_a = d.Class [] (codes "A") None [] (d.more_members (d.Field [] int_type (s.DeclaratorOf (codes "x") 0 None ∷ []))
     (d.more_members (d.Method [] (outcome.Of int_type) (codes "f") (param_y ∷ []) [] (Some return_x)) (d.more_members (d.Nested class_b) d.no_members)))
 

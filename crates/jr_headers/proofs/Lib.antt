@@ -2,7 +2,6 @@ pub mod Headed
 pub mod Settled
 pub mod Graphs
 pub mod Cyclic
-pub mod Scopes
 pub mod Names
 pub mod OneHeader
 pub mod Pairs

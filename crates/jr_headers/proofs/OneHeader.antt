@@ -19,9 +19,10 @@ use Rattle.jr_defs.specs.Binding.{IsOfHeader}
 use Rattle.jr_defs.specs.Formed.{SeeksType, IsFormed}
 use Rattle.jr_defs.specs.Correspondence.{IsScoped}
 use Rattle.jr_defs.proofs.Itself.{SameFirst}
-use Rattle.jr_defs.proofs.HeadersAgree.{Agreed, ImportSame}
-use Rattle.jr_headers.proofs.Scopes.{EndsSo, bounded_there, looked_there, looked_back, first_same}
-use Rattle.jr_headers.proofs.Names.{name_same, itself_identifier, inner_names_none, import_names_none, import_seeks, next_identifier, each_identifier, import_identifier_same}
+use Rattle.jr_defs.proofs.Scoping.{EndsSo, bounded_there, looked_there, looked_back, first_same}
+use Rattle.jr_defs.proofs.Settling.{next_identifier}
+use Rattle.jr_defs.proofs.HeadersAgree.{Agreed, ImportSame, agreed_around}
+use Rattle.jr_headers.proofs.Names.{name_same, itself_identifier, inner_names_none, import_names_none, import_seeks, each_identifier, import_identifier_same}
 
 -- x has what lookup gives at the header of c under y, and the two differ at names in headers alone
 pub record LookedHere (p : Rows) (c : ℕ) (x y : Table) : Type 0 where
@@ -70,7 +71,7 @@ module _ (p : Rows) (formed : IsFormed p) where
                   (a.looked k (IsOfHeader.import h f w j)) (b.looked k (IsOfHeader.import h f z j))
                 where
                   next : parent p (k + 1) ≡ k → IsIdentifierOf p (i + 1) (k + 1)
-                  next e = next_identifier p formed (i + 1) k j e
+                  next e = next_identifier p formed.tree (i + 1) k j e
 
                   seeks_here : SeeksType (sought_at p (i + 1))
                   seeks_here = import_seeks p formed i w.form w.import.import
@@ -97,23 +98,23 @@ module _ (p : Rows) (formed : IsFormed p) where
             form = w.form;
             import = w.import;
             may = w.may;
-            unshadowed = bounded_there p y v m (named_kept x y a.others a.named) (named_kept u v b.others b.named) (λ e q. around m e inside q) (rank (depth_of w.form)) (omega arith) w.unshadowed;
+            unshadowed = bounded_there p y v m (ImportSame p y v) (agreed_around p y v m (λ e q. around m e inside q)) (named_kept x y a.others a.named) (named_kept u v b.others b.named) (rank (depth_of w.form)) (omega arith) w.unshadowed;
           }
 
           named : (i : ℕ) (w : IsLookedForIn p y m i) → rank (depth_of w.form) ≡ 2 → ImportSame p y v i
           named i w e = import_same i w (high_there i w e)
 
           pub goes_there : (i : ℕ) → IsLookedForIn p y m i → IsLookedForIn p v m i
-          goes_there i w = looked_there p y v m (named_kept x y a.others a.named) (named_kept u v b.others b.named) (λ e q. around m e inside q) named i w
+          goes_there i w = looked_there p y v m (ImportSame p y v) (agreed_around p y v m (λ e q. around m e inside q)) (named_kept x y a.others a.named) (named_kept u v b.others b.named) named i w
 
           pub comes_back : (i : ℕ) → IsLookedForIn p v m i → IsLookedForIn p y m i
-          comes_back i w = looked_back p y v m (named_kept x y a.others a.named) (named_kept u v b.others b.named) (λ e q. around m e inside q) named i w
+          comes_back i w = looked_back p y v m (ImportSame p y v) (agreed_around p y v m (λ e q. around m e inside q)) (named_kept x y a.others a.named) (named_kept u v b.others b.named) named i w
 
           looked_same : (i : ℕ) → IsLookedForIn p y m i → ImportSame p y v i
           looked_same i w = import_same i w (goes_there i w)
 
           first_agrees : x m ≡ u m
-          first_agrees = first_same p y v m (named_kept x y a.others a.named) (named_kept u v b.others b.named) (λ e q. around m e inside q) (λ i w e. looked_same i w) looked_same
+          first_agrees = first_same p y v m (ImportSame p y v) (agreed_around p y v m (λ e q. around m e inside q)) (named_kept x y a.others a.named) (named_kept u v b.others b.named) (λ i w e. looked_same i w) looked_same
               (HasConstantForm p y) (HasConstantForm p v) f.kind f.simple (subst SeeksType f.simple (formed.identifier n m seeks inside)) (x m) (u m)
               (a.looked m (IsOfHeader.own h inside)) (b.looked m (IsOfHeader.own h inside))
 
@@ -123,7 +124,7 @@ module _ (p : Rows) (formed : IsFormed p) where
           here = formed.identifier n m seeks i
 
           next : parent p (m + 1) ≡ m → IsIdentifierOf p n (m + 1)
-          next e = next_identifier p formed n m i e
+          next e = next_identifier p formed.tree n m i e
 
           behind : n < m + 1
           behind = let z = i.from in omega arith

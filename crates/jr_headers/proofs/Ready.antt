@@ -15,7 +15,7 @@ use Rattle.jr_defs.proofs.HeadersAgree.{Agreed}
 use Rattle.jr_headers.specs.Rounds.{look_type, name_or_same}
 use Rattle.jr_headers.specs.Growing.{Stage}
 use Rattle.jr_headers.specs.Settling.{part_of, whole_of, IsReadyFor, TellsHeader}
-use Rattle.jr_headers.proofs.Scopes.{EndsSo}
+use Rattle.jr_defs.proofs.Scoping.{EndsSo}
 use Rattle.jr_headers.proofs.Names.{import_names_none, inner_names_none, import_seeks}
 use Rattle.jr_headers.proofs.Rounding.{header_look, import_look}
 use Rattle.jr_headers.proofs.Pairs.{one_header}

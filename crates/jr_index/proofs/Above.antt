@@ -15,7 +15,7 @@ use Rattle.jr_tree.specs.Tree.{IsTree}
 use Rattle.jr_defs.specs.Numbers.{units_before}
 use Rattle.jr_defs.specs.Packages.{InUnit}
 use Rattle.jr_index.specs.NodeRows.{IsNodeOf, IsNearest, IsParentNode, IsIndex, over_nth, receiver_over}
-use Rattle.jr_index.proofs.Numbering.{nodes_rise, unit_there}
+use Rattle.jr_defs.proofs.Units.{nodes_rise, unit_there}
 use Rattle.jr_index.proofs.Placing.{next_count, named, node_count}
 
 -- ---- labels stand for two nodes at most, and the one above others is one of them

@@ -7,7 +7,8 @@ use Rattle.jr_tree.specs.Labels.{nodes_of}
 use Rattle.jr_tree.specs.Rows.{Rows, label, end, nodes_before}
 use Rattle.jr_defs.specs.Numbers.{units_before}
 use Rattle.jr_index.specs.NodeRows.{IsNodeOf, IsNowhere, IsIndex}
-use Rattle.jr_index.proofs.Numbering.{nodes_rise, length_counts, counts_at, length_units, IsUnitRow, unit_at, unit_found, unit_there}
+use Rattle.jr_defs.proofs.Units.{nodes_rise, unit_there}
+use Rattle.jr_index.proofs.Numbering.{length_counts, counts_at, length_units, IsUnitRow, unit_at, unit_found}
 
 pub next_count : (p : Rows) (n : ℕ) → nodes_before p (n + 1) ≡ nodes_before p n + nodes_of (label p n)
 next_count p n = let e : suc n ≡ n + 1 = omega arith in subst (λ k. nodes_before p k ≡ nodes_before p n + nodes_of (label p n)) e refl

@@ -28,7 +28,7 @@ use Rattle.jr_plain.proofs.Enclosed.{declaring_finds}
 use Rattle.jr_plain.proofs.Modified.{found_tells, some_tells, static_tells, final_tells, inner_tells}
 use Rattle.jr_plain.proofs.Typed.{has_type_finds}
 use Rattle.jr_plain.proofs.Finding.{like_finds, guard_finds, two_finds}
-use Rattle.jr_plain.proofs.Valued.{convert_finds, constants_find, constant_form_tells}
+use Rattle.jr_plain.proofs.Valued.{convert_finds, form_constants_find}
 use Rattle.jr_member_rules.specs.Bodies.{body_type}
 use Rattle.jr_member_rules.specs.Inner as plain
 use Rattle.jr_member_rules.specs.Computed.{values}
@@ -36,26 +36,8 @@ use Rattle.jr_member_rules.proofs.Bodied.{body_type_finds}
 
 -- ---- constants
 
--- what is constant stays so where more references are read as constants
-module _ (p : Rows) (t : Table) (K L : ℕ → Type 0) (go : (n : ℕ) → K n → L n) where
-  mutual
-    constant_wider : (n : ℕ) (v : Const) → ConstantOf p t K n v → ConstantOf p t L n v
-    constant_wider n v (ConstantOf.literal e k) = ConstantOf.literal e k
-    constant_wider n v (ConstantOf.reference {d = d} k e w) = ConstantOf.reference (go n k) e (variable_wider d v w)
-    constant_wider n v (ConstantOf.paren e i w) = ConstantOf.paren e i (constant_wider (n + 1) v w)
-    constant_wider n w (ConstantOf.cast {v = v} e b i j k c) = ConstantOf.cast e b i j (constant_wider (end p (n + 1)) v k) c
-    constant_wider n w (ConstantOf.unary {v = v} e i k c) = ConstantOf.unary e i (constant_wider (n + 1) v k) c
-    constant_wider n w (ConstantOf.binary {u = a} {v = v} e i j k l c) = ConstantOf.binary e i (constant_wider (n + 1) a j) k (constant_wider (end p (n + 1)) v l) c
-    constant_wider n w (ConstantOf.conditional {u = a} {v = v} e i j k l m o c) =
-        ConstantOf.conditional e i (constant_wider (n + 1) _ j) k (constant_wider (end p (n + 1)) a l) m (constant_wider (end p (end p (n + 1))) v o) c
-
-    variable_wider : (d : ℕ) (v : Const) → ConstantVariable p t K d v → ConstantVariable p t L d v
-    variable_wider d w (ConstantVariable.variable {v = v} x f h i j k l c) = ConstantVariable.variable x f h i j k (constant_wider (d + 2) v l) c
-
 pub values_find : (p : Rows) (t : Table) → IsTypable p t → (n : ℕ) → Finds (values p t n) (λ v. Constant p t n v)
-values_find p t typable n = like_finds (values p t n) (constants_find p t (has_constant_form p t) typable n)
-    (λ v h. constant_wider p t (Picked (has_constant_form p t)) (HasConstantForm p t) (λ m k. (constant_form_tells p t m).0 k) n v h)
-    (λ v h. constant_wider p t (HasConstantForm p t) (Picked (has_constant_form p t)) (λ m k. (constant_form_tells p t m).1 k) n v h)
+values_find p t typable n = form_constants_find p t typable n
 
 value_label_tells : (l : Label) → Decides (is_value l) (l ≡ is.Value)
 value_label_tells is.Value = (λ h. refl, λ e. refl)

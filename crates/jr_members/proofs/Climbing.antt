@@ -18,7 +18,7 @@ use Rattle.jr_plain.proofs.Tests.{itself, both, either, opposite, implies, like}
 use Rattle.jr_plain.proofs.Declared.{interface_tells}
 use Rattle.jr_plain.proofs.Modified.{in_interface_tells, public_tells, protected_tells, private_tells}
 use Rattle.jr_plain.proofs.Packaged.{same_package_tells}
-use Rattle.jr_plain.proofs.OneUnit.{one_unit}
+use Rattle.jr_defs.proofs.Units.{one_unit}
 use Rattle.jr_places.specs.declared.chains.Entry.{Entry}
 use Rattle.jr_places.specs.Names.{name_row}
 use Rattle.jr_supers.specs.Above.{Tables, link_at, depth_of, up_at, OnChain, AreAbove}

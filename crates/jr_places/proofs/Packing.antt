@@ -23,7 +23,7 @@ use Rattle.jr_plain.proofs.Tests.{like}
 use Rattle.jr_plain.proofs.Searches.{finds_first}
 use Rattle.jr_plain.proofs.Bounds.{unit_below}
 use Rattle.jr_plain.proofs.Enclosed.{unit_label_tells}
-use Rattle.jr_plain.proofs.OneUnit.{one_unit}
+use Rattle.jr_defs.proofs.Units.{one_unit}
 use Rattle.jr_plain.proofs.Packaged.{same_package_tells}
 use Rattle.jr_places.specs.declared.numbering.Numbering.{Numbering}
 use Rattle.jr_places.specs.Numbers.{number_in, IsOneToOne, IsNumbering, Keeps, Adds, IsNumberOf}

@@ -127,6 +127,12 @@ module _ (p : Rows) (t : Table) where
       acyclic = acyclic;
     }
 
+pub variable_label : (p : Rows) (t : Table) (K : ℕ → Type 0) (o d : ℕ) (a : Referent) (l : Option ℕ) → Look p t K o a → a ≡ Declared d l → IsVariable p d → IsVariableLabel (label p o)
+variable_label p t K o d a l h e v = seeks_label (label p o) (declared_seeks p t K h e v)
+
+pub length_label : (p : Rows) (t : Table) (K : ℕ → Type 0) (o : ℕ) (a : Referent) → Look p t K o a → a ≡ ArrayLength → IsVariableLabel (label p o)
+length_label p t K o a h e = seeks_label (label p o) (length_seeks p t K h e)
+
 -- ---- where headers are settled no two types are above each other
 
 module _ (p : Rows) (t : Table) where

@@ -36,7 +36,7 @@ use Rattle.jr_plain.proofs.Modified.{some_tells, final_tells}
 use Rattle.jr_plain.proofs.Typed.{named_finds, type_finds, has_type_finds}
 use Rattle.jr_plain.proofs.Least.{passing, passing_most, less, below}
 use Rattle.jr_plain.proofs.Converted.{then_yes}
-use Rattle.jr_plain.proofs.Finding.{some_finds, none_finds, guard_finds, then_finds, two_finds}
+use Rattle.jr_plain.proofs.Finding.{like_finds, some_finds, none_finds, guard_finds, then_finds, two_finds}
 
 itself_finds : {A : Type 0} (found : Option A) → Finds found (λ x. found ≡ Some x)
 itself_finds found x = (λ e. e, λ e. e)
@@ -407,3 +407,25 @@ form_into {p} {t} (HasConstantForm.of_type {n = n} {b = b} at h) = ap (has_form 
 
 pub constant_form_tells : (p : Rows) (t : Table) (n : ℕ) → Decides (has_constant_form p t n) (HasConstantForm p t n)
 constant_form_tells p t n = (form_out p t n (sought_at p n) refl, form_into)
+
+-- where more references are read as constants, all that was constant is so
+module _ (p : Rows) (t : Table) (K L : ℕ → Type 0) (more : (n : ℕ) → K n → L n) where
+  mutual
+    pub constant_more : (n : ℕ) (v : Const) → ConstantOf p t K n v → ConstantOf p t L n v
+    constant_more n v (ConstantOf.literal e k) = ConstantOf.literal e k
+    constant_more n v (ConstantOf.reference {d = d} k e w) = ConstantOf.reference (more n k) e (variable_more d v w)
+    constant_more n v (ConstantOf.paren e i w) = ConstantOf.paren e i (constant_more (n + 1) v w)
+    constant_more n w (ConstantOf.cast {v = v} e b i j k c) = ConstantOf.cast e b i j (constant_more (end p (n + 1)) v k) c
+    constant_more n w (ConstantOf.unary {v = v} e i k c) = ConstantOf.unary e i (constant_more (n + 1) v k) c
+    constant_more n w (ConstantOf.binary {u = a} {v = v} e i j k l c) = ConstantOf.binary e i (constant_more (n + 1) a j) k (constant_more (end p (n + 1)) v l) c
+    constant_more n w (ConstantOf.conditional {u = a} {v = v} e i j k l m o c) =
+        ConstantOf.conditional e i (constant_more (n + 1) _ j) k (constant_more (end p (n + 1)) a l) m (constant_more (end p (end p (n + 1))) v o) c
+
+    pub variable_more : (d : ℕ) (v : Const) → ConstantVariable p t K d v → ConstantVariable p t L d v
+    variable_more d w (ConstantVariable.variable {v = v} x f h i j k l c) = ConstantVariable.variable x f h i j k (constant_more (d + 2) v l) c
+
+module _ (p : Rows) (t : Table) (typable : IsTypable p t) where
+  pub form_constants_find : (n : ℕ) → Finds (constants p t (has_constant_form p t) n) (λ v. ConstantOf p t (HasConstantForm p t) n v)
+  form_constants_find n = like_finds (constants p t (has_constant_form p t) n) (constants_find p t (has_constant_form p t) typable n)
+      (λ v h. constant_more p t (Picked (has_constant_form p t)) (HasConstantForm p t) (λ m k. (constant_form_tells p t m).0 k) n v h)
+      (λ v h. constant_more p t (HasConstantForm p t) (Picked (has_constant_form p t)) (λ m k. (constant_form_tells p t m).1 k) n v h)

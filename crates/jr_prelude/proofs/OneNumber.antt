@@ -8,25 +8,9 @@ use Rattle.jr_tree.specs.declared.label.Role.TheVariants as role
 use Rattle.jr_tree.specs.Labels.{role_of, nodes_of}
 use Rattle.jr_tree.specs.Rows.{Rows, label, role_at, nodes_before}
 use Rattle.jr_defs.specs.Numbers.{units_before, one_if_unit, offset, numbered_at, nodes_to, nodes_to_by, declaration_part, IsDeclaration}
+use Rattle.jr_defs.proofs.Units.{nodes_rise, units_rise}
 
 -- ---- no two declarations have one number
-
-up_to : (m n : ℕ) → m ≤ suc n → (m ≤ n) ⊎ (m ≡ suc n)
-up_to m n h = elim (cases_lt n m) [ inl l ↦ inr (omega arith) | inr g ↦ inl g ]
-
-nodes_rise : (p : Rows) (m n : ℕ) → m ≤ n → nodes_before p m ≤ nodes_before p n
-nodes_rise p m zero h = let e : 0 ≡ m = omega arith in subst (λ k. nodes_before p k ≤ 0) e (omega arith)
-nodes_rise p m (suc n) h = elim (up_to m n h) [
-  | inl l ↦ (let z = nodes_rise p m n l in omega arith)
-  | inr e ↦ subst (λ k. nodes_before p m ≤ nodes_before p k) e (omega arith)
-]
-
-units_rise : (p : Rows) (m n : ℕ) → m ≤ n → units_before p m ≤ units_before p n
-units_rise p m zero h = let e : 0 ≡ m = omega arith in subst (λ k. units_before p k ≤ 0) e (omega arith)
-units_rise p m (suc n) h = elim (up_to m n h) [
-  | inl l ↦ (let z = units_rise p m n l in omega arith)
-  | inr e ↦ subst (λ k. units_before p m ≤ units_before p k) e (omega arith)
-]
 
 -- the node of a declaration is one of those that its row stands for
 counted : (l : Label) → (role_of l ≡ role.Nothing → ⊥) → declaration_part l ≡ 0 → offset l < nodes_of l

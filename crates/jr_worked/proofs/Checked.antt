@@ -38,7 +38,7 @@ use Rattle.jr_plain.proofs.Enclosed.{most}
 use Rattle.jr_plain.proofs.Declared.{type_tells, string_tells, variable_tells}
 use Rattle.jr_plain.proofs.OfTypes.{types_list, interface_type}
 use Rattle.jr_plain.proofs.Supertyped.{names_superclass_tells, names_superinterface_tells, superclass_name_below, superinterface_name_below, above_tells, super_source}
-use Rattle.jr_plain.proofs.Valued.{constants_find, constant_form_tells}
+use Rattle.jr_plain.proofs.Valued.{form_constants_find}
 use Rattle.jr_plain.proofs.Expressions.{expression_finds}
 use Rattle.jr_plain.proofs.LookedUp.{look_for_is}
 use Rattle.jr_worked.specs.Tables.{Worked, told, table_of, IsLookedUp}
@@ -246,23 +246,6 @@ typable_from p targets passes = record {
     length_of : (n : ℕ) → told targets n ≡ ArrayLength → IsVariableLabel (label p n)
     length_of n e = of_length n (told targets n) (entry n) e
 
--- ---- constants, where two arguments pick the same references
-
-module _ (p : Rows) (t : Table) (K L : ℕ → Type 0) (wider : (n : ℕ) → K n → L n) where
-  mutual
-    constant_wider : (n : ℕ) (v : Const) → ConstantOf p t K n v → ConstantOf p t L n v
-    constant_wider n v (ConstantOf.literal e k) = ConstantOf.literal e k
-    constant_wider n v (ConstantOf.reference {d = d} k e w) = ConstantOf.reference (wider n k) e (variable_wider d v w)
-    constant_wider n v (ConstantOf.paren e i w) = ConstantOf.paren e i (constant_wider (n + 1) v w)
-    constant_wider n w (ConstantOf.cast {v = v} e b i j k c) = ConstantOf.cast e b i j (constant_wider (end p (n + 1)) v k) c
-    constant_wider n w (ConstantOf.unary {v = v} e i k c) = ConstantOf.unary e i (constant_wider (n + 1) v k) c
-    constant_wider n w (ConstantOf.binary {u = a} {v = v} e i j k l c) = ConstantOf.binary e i (constant_wider (n + 1) a j) k (constant_wider (end p (n + 1)) v l) c
-    constant_wider n w (ConstantOf.conditional {u = a} {v = v} e i j k l m o c) =
-        ConstantOf.conditional e i (constant_wider (n + 1) _ j) k (constant_wider (end p (n + 1)) a l) m (constant_wider (end p (end p (n + 1))) v o) c
-
-    variable_wider : (d : ℕ) (w : Const) → ConstantVariable p t K d w → ConstantVariable p t L d w
-    variable_wider d w (ConstantVariable.variable {v = v} a f h i l j k c) = ConstantVariable.variable a f h i l j (constant_wider (d + 2) v k) c
-
 -- ---- what the plain functions give
 
 abbrev pub values : Rows → Table → Constants
@@ -286,10 +269,7 @@ typable_of w passes = typable_from w.rows w.targets ((right_tells w).0 passes).0
 
 module _ (p : Rows) (t : Table) (typable : IsTypable p t) where
   values_find : (n : ℕ) → Finds (values p t n) (λ v. Constant p t n v)
-  values_find n v = (
-    λ e. constant_wider p t (Picked (has_constant_form p t)) (HasConstantForm p t) (λ m. (constant_form_tells p t m).0) n v ((constants_find p t (has_constant_form p t) typable n v).0 e),
-    λ h. (constants_find p t (has_constant_form p t) typable n v).1 (constant_wider p t (HasConstantForm p t) (Picked (has_constant_form p t)) (λ m. (constant_form_tells p t m).1) n v h),
-  )
+  values_find = form_constants_find p t typable
 
   types_find : (n : ℕ) → Finds (types_of p t n) (λ a. TypeOf p t (HasConstantForm p t) n a)
   types_find = expression_finds p t typable (HasConstantForm p t) (values p t) values_find
