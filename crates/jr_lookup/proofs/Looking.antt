@@ -30,6 +30,7 @@ use Rattle.jr_places.proofs.Packing.{name_tells}
 use Rattle.jr_lookup.specs.declared.qualified.Receiver.{Receiver}
 use Rattle.jr_lookup.specs.Answers.{simple_otherwise, IsOwnClass, IsLabelAt, IsSuperField, IsFree, IsCreated, IsCalled}
 use Rattle.jr_lookup.specs.Outward.{IsNumberOf}
+use Rattle.jr_lookup.specs.Behind.{receiver_with}
 use Rattle.jr_lookup.specs.Calls.{IsCall}
 use Rattle.jr_lookup.proofs.Calling.{answer_same}
 
@@ -136,6 +137,13 @@ module _ (p : Rows) (t : Table) (K : ℕ → Type 0) (o : ℕ) (x : Text) where
   arguments_of sought.SuperMethod call d _ (Candidate.super_method {all = all} s a h) = (all, a)
   arguments_of sought.Creation call d l (Candidate.creation {all = all} n l a h) = (all, a)
   arguments_of (sought.ConstructorCall w) call d _ (Candidate.constructor {all = all} k a h) = (all, a)
+  arguments_of (sought.Simple k) call d l h = absurd call
+  arguments_of (sought.Qualified k) call d l h = absurd call
+  arguments_of sought.FieldOf call d l h = absurd call
+  arguments_of sought.SuperField call d l h = absurd call
+  arguments_of sought.OwnClass call d l h = absurd call
+  arguments_of sought.Label call d l h = absurd call
+  arguments_of sought.Nothing call d l h = absurd call
 
   pub untyped_looked : (s : Sought) → IsCall s → (found : Option (List RowType)) → Finds found (λ all. Arguments p t K o all) → found ≡ None → LookFor p t K o x s Unbound
   untyped_looked s call found f none = no_call s call (λ d l h. let k = arguments_of s call d l h in none-some k.0 (sym none ∙ (f k.0).1 k.1))
@@ -161,7 +169,7 @@ module _ (p : Rows) (t : Table) (K : ℕ → Type 0) (o : ℕ) (x : Text) where
     module _ (found : Option Receiver) (g : Finds found (λ r. ReceiverOf p t K o r.class r.ty)) where
       method_of_into : (r : Receiver) → found ≡ Some r → (d : ℕ) (l : Option ℕ) → Candidate p t K o x sought.MethodOf d l → IsFree (ChosenOf r) d l
       method_of_into r is d _ (Candidate.method_of {c = c} {receiver = ty} {all = more} b a h) = record {
-        is = subst (λ r. ChosenOf r d) (same_Some (record { class = c; ty = ty }) r (sym ((g (record { class = c; ty = ty })).1 b) ∙ is))
+        is = subst (λ r. ChosenOf r d) (same_Some (receiver_with ty c) r (sym ((g (receiver_with ty c)).1 b) ∙ is))
             (subst (λ all. Choice p t c o ty all (MemberNamed p t space.Method x c) d) (same_all more a) h);
         free = refl;
       }
@@ -170,7 +178,7 @@ module _ (p : Rows) (t : Table) (K : ℕ → Type 0) (o : ℕ) (x : Text) where
       method_of_looked r is = answer_as (IsFree (ChosenOf r)) sought.MethodOf Unbound (λ d l h. free sought.MethodOf d l h.free (Candidate.method_of ((g r).0 is) here h.is)) (method_of_into r is) (call_other sought.MethodOf tt)
 
       no_receiver : found ≡ None → (d : ℕ) (l : Option ℕ) → Candidate p t K o x sought.MethodOf d l → ⊥
-      no_receiver none d _ (Candidate.method_of {c = c} {receiver = ty} b a h) = none-some (record { class = c; ty = ty }) (sym none ∙ (g (record { class = c; ty = ty })).1 b)
+      no_receiver none d _ (Candidate.method_of {c = c} {receiver = ty} b a h) = none-some (receiver_with ty c) (sym none ∙ (g (receiver_with ty c)).1 b)
 
       pub method_of_none : found ≡ None → LookFor p t K o x sought.MethodOf Unbound
       method_of_none none = no_call sought.MethodOf tt (no_receiver none)
@@ -240,3 +248,10 @@ is_no_call sought.MethodOf h a b c d e = b refl
 is_no_call sought.SuperMethod h a b c d e = c refl
 is_no_call sought.Creation h a b c d e = d refl
 is_no_call (sought.ConstructorCall w) h a b c d e = e w refl
+is_no_call (sought.Simple k) h a b c d e = absurd h
+is_no_call (sought.Qualified k) h a b c d e = absurd h
+is_no_call sought.FieldOf h a b c d e = absurd h
+is_no_call sought.SuperField h a b c d e = absurd h
+is_no_call sought.OwnClass h a b c d e = absurd h
+is_no_call sought.Label h a b c d e = absurd h
+is_no_call sought.Nothing h a b c d e = absurd h
