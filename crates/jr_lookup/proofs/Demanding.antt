@@ -23,7 +23,8 @@ use Rattle.jr_plain.proofs.Searches.{among_filter}
 use Rattle.jr_plain.proofs.Bounds.{type_below}
 use Rattle.jr_plain.proofs.Enclosed.{top_level_tells}
 use Rattle.jr_plain.proofs.Imported.{import_of_tells, import_below, can_import_tells}
-use Rattle.jr_plain.proofs.OneUnit.{one_unit, unit_finds}
+use Rattle.jr_defs.proofs.Units.{one_unit}
+use Rattle.jr_plain.proofs.OneUnit.{unit_finds}
 use Rattle.jr_plain.proofs.Packaged.{same_package_tells}
 use Rattle.jr_places.specs.declared.places.Places.{Places}
 use Rattle.jr_places.specs.Names.{name_row}

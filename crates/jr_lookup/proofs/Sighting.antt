@@ -23,7 +23,8 @@ use Rattle.jr_plain.proofs.Searches.{among_filter, among_append}
 use Rattle.jr_plain.proofs.Bounds.{bounded, type_below}
 use Rattle.jr_plain.proofs.Modified.{static_tells}
 use Rattle.jr_plain.proofs.Imported.{import_of_tells, import_below, can_import_tells}
-use Rattle.jr_plain.proofs.OneUnit.{one_unit, unit_finds, top_level_finds}
+use Rattle.jr_defs.proofs.Units.{one_unit}
+use Rattle.jr_plain.proofs.OneUnit.{unit_finds, top_level_finds}
 use Rattle.jr_places.specs.Names.{name_row}
 use Rattle.jr_places.proofs.Packing.{name_tells}
 use Rattle.jr_members.specs.declared.declared.MemberKind.{MemberKind}

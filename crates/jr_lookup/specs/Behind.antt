@@ -1,8 +1,9 @@
 -- What stands before a dot, and what is to be known at a place where something is looked up (JLS 6.5, 15.11, 15.12).
-use Rattle.std.specs.Prelude.{◌≡◌, ℕ, ◌+◌, ◌<◌, Bool, ◌&&◌, if◌then◌else◌, List, length, codes, Option, Some, None, option_map, nat_lt, bytes_eq, slice_index_or}
+use Rattle.std.specs.Prelude.{◌≡◌, ℕ, ◌+◌, ◌<◌, ◌^◌, ◌-◌, ◌≤◌, Bool, true, false, ◌&&◌, ◌++◌, if◌then◌else◌, List, length, codes, Option, Some, None, option_map, nat_lt, bytes_eq, slice_index_or}
 use Rattle.jr_base.specs.declared.text.Text.{Text}
 use Rattle.jr_tree.specs.declared.label.Label.{Label}
 use Rattle.jr_tree.specs.declared.label.Label.TheVariants as is
+use Rattle.jr_tree.specs.declared.label.ReceiverKind.TheVariants as on
 use Rattle.jr_tree.specs.declared.label.NameKind.{NameKind}
 use Rattle.jr_tree.specs.declared.label.NameKind.TheVariants as names
 use Rattle.jr_tree.specs.Rows.{Rows, label, parent}
@@ -18,6 +19,7 @@ use Rattle.jr_defs.specs.Constants.{HasConstantForm}
 use Rattle.jr_defs.specs.Typing.{TypeOf}
 use Rattle.jr_plain.specs.Search.{Finds}
 use Rattle.jr_plain.specs.Lookup.{may_be_package}
+use Rattle.jr_plain.specs.Overloads.{Types, argument_types}
 use Rattle.jr_plain.specs.Types.{referred_type}
 use Rattle.jr_places.specs.declared.places.Places.{Places}
 use Rattle.jr_places.specs.Packages.{IsSpelled}
@@ -28,6 +30,10 @@ use Rattle.jr_lookup.specs.declared.simple.Sight.{Sight}
 use Rattle.jr_lookup.specs.Answers.{CanChoose}
 use Rattle.jr_lookup.specs.Locals.{AreLocalsPlaced}
 use Rattle.jr_lookup.specs.Sights.{IsSight}
+
+-- the type that a list has for a row
+abbrev pub type_in : List (Option RowType) → ℕ → Option RowType
+type_in types n = slice_index_or types n None
 
 -- ---- what stands before a dot
 
@@ -48,6 +54,11 @@ pub data IsLeftAt (p : Rows) (t : Table) (K : ℕ → Type 0) (places : Places) 
   of_type : {c : ℕ} → referred_type p (t n) ≡ Some c → ((a : RowType) → TypeOf p t K n a → ⊥) → IsLeftAt p t K places n (left.OfType c)
   value : {a : RowType} → (t n ≡ Package → ⊥) → referred_type p (t n) ≡ None → Finds (Some a) (λ b. TypeOf p t K n b) → IsLeftAt p t K places n (left.Value a)
   nothing : (t n ≡ Package → ⊥) → referred_type p (t n) ≡ None → ((a : RowType) → TypeOf p t K n a → ⊥) → IsLeftAt p t K places n left.Nothing
+
+-- an expression of a type that is known, or nothing
+abbrev pub left_by : Option RowType → Left
+left_by (Some a) = left.Value a
+left_by None = left.Nothing
 
 -- what stands before the dot of the row o, in its first child
 pub data IsLeftOf (p : Rows) (t : Table) (K : ℕ → Type 0) (places : Places) (o : ℕ) : Left → Type 0 where
@@ -82,12 +93,30 @@ abbrev pub length_of : Left → Text → Referent
 length_of (left.Value a) x = length_by a x
 length_of _ x = Unbound
 
+abbrev pub length_or_unbound : Left → NameKind → Text → Referent
+length_or_unbound l names.Variable x = length_of l x
+length_or_unbound l names.Ambiguous x = length_of l x
+length_or_unbound l _ x = Unbound
+
 -- what a name behind a dot is where no declaration is found
 abbrev pub otherwise_by : Left → NameKind → Text → Referent
 otherwise_by (left.Package number) k x = if may_be_package k then Package else Unbound
-otherwise_by l names.Variable x = length_of l x
-otherwise_by l names.Ambiguous x = length_of l x
-otherwise_by l _ x = Unbound
+otherwise_by l k x = length_or_unbound l k x
+
+-- ---- arguments
+
+-- the arguments of a call begin behind its first child
+abbrev pub begins_behind : Label → Bool
+begins_behind (is.Call on.Expression) = true
+begins_behind (is.Call on.Name) = true
+begins_behind is.New = true
+begins_behind _ = false
+
+-- the types so far, and that of what follows from the child on, are those from the first argument on
+pub record IsArguing (p : Rows) (type_of : Types) (o first turn child : ℕ) (all : List RowType) : Type 0 where
+  pub behind : o < child
+  pub far : turn ≤ child
+  pub rest : option_map (λ more. all ++ more) (argument_types p type_of o (length p - turn) child) ≡ argument_types p type_of o (length p) first
 
 -- ---- places
 
@@ -97,6 +126,7 @@ pub record CanLook (t : Table) (sight : Sight) (types : List (Option RowType)) (
   pub placed : AreLocalsPlaced sight.world.under.rows.now
   pub can : CanChoose t sight.world
   pub refers : RefersByNames sight.world.under.rows.now t
+  pub few : length sight.world.under.rows.now + 3 < 2 ^ 32
   pub inside : place < length sight.world.under.rows.now
   pub seen : (n : ℕ) → place < n → entries sight.world.under.table.now n ≡ t n
-  pub typed : (n : ℕ) → place < n → Finds (slice_index_or types n None) (λ a. TypeOf sight.world.under.rows.now t (HasConstantForm sight.world.under.rows.now t) n a)
+  pub typed : (n : ℕ) → place < n → Finds (type_in types n) (λ a. TypeOf sight.world.under.rows.now t (HasConstantForm sight.world.under.rows.now t) n a)

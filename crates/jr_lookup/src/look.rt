@@ -1,22 +1,24 @@
 // What an occurrence refers to (JLS 6.5, 8.8.7.1, 14.15, 15.9, 15.11, 15.12).
 
-ghost use Rattle.std.specs.Prelude.{◌≡◌, ◌<◌, ◌+◌, length, None, IfOk, option_map};
+ghost use Rattle.std.specs.Prelude.{◌≡◌, ◌+◌, ◌<◌, ◌^◌, length, None, IfOk, nat_eq, option_map};
 ghost use Rattle.jr_base.specs.declared.text.Text.{Text};
 ghost use Rattle.jr_tree.specs.declared.label.Sought.TheVariants as seeking;
 ghost use Rattle.jr_tree.specs.Rows as program;
+ghost use Rattle.jr_tree.specs.Tree.{IsTree};
+ghost use Rattle.jr_defs.specs.Constants.{HasConstantForm};
 ghost use Rattle.jr_defs.specs.declared.referent.Referent.TheVariants as referring;
 ghost use Rattle.jr_defs.specs.declared.referent.Space.TheVariants as space;
-ghost use Rattle.jr_defs.specs.Constants.{HasConstantForm};
 ghost use Rattle.jr_defs.specs.Enclosing.{ConstructorOf};
-ghost use Rattle.jr_defs.specs.Lookup.{Arguments, CalledClass, ImportedMethod, Look, MethodCandidate, SuperOf};
+ghost use Rattle.jr_defs.specs.Lookup.{Arguments, arguments_by, CalledClass, ImportedMethod, Look, MethodCandidate, SuperOf};
 ghost use Rattle.jr_defs.specs.Lookup.{Receiver as ReceiverOf};
 ghost use Rattle.jr_defs.specs.Members.{MemberNamed, MemberOf};
 ghost use Rattle.jr_defs.specs.Overloads.{Choice, ImportedChoice};
 ghost use Rattle.jr_defs.specs.Referents.{Table, entries};
+ghost use Rattle.jr_plain.specs.Overloads.{argument_types};
 ghost use Rattle.jr_plain.specs.Search.{Finds, Lists};
 ghost use Rattle.jr_members.specs.Worlds.{IsWorld};
 ghost use Rattle.jr_lookup.specs.Answers as answers;
-ghost use Rattle.jr_lookup.specs.Behind.{CanLook};
+ghost use Rattle.jr_lookup.specs.Behind as behind;
 ghost use Rattle.jr_lookup.specs.Calls as calls;
 ghost use Rattle.jr_lookup.specs.Outward.{IsInnermostSuch, IsNumberOf};
 ghost use Rattle.jr_lookup.specs.Sights.{IsSight};
@@ -30,52 +32,121 @@ use jr_base::OutOfMemory;
 use jr_defs::{Referent, RowType};
 use jr_members::{MemberKind, is_inner};
 use jr_places::{end_at, is_body_of, parent_at, sought_at};
-use jr_tree::{Label, NameKind, ReceiverKind, Sought, ThisOrSuper};
+use jr_tree::{Label, NameKind, ReceiverKind, Row, Sought, ThisOrSuper};
 use std::alloc::Global;
 
 // What a table has for a row.
-fn type_at(types: &[Option<RowType>], at: u32) -> Option<RowType> {
+fn type_at(types: &[Option<RowType>], at: u32) -> Option<RowType>
+    ensures { result ≡ behind.type_in types.now at }
+{
     match types.get(at as usize) {
         Some(ty) => *ty,
         None => None,
     }
 }
 
+// An expression of a type that is known, or nothing.
+fn left_by(ty: Option<RowType>) -> Left
+    ensures { result ≡ behind.left_by ty }
+{
+    match ty {
+        Some(found) => Left::Value(found),
+        None => Left::Nothing,
+    }
+}
+
+// The arguments of a call begin behind its first child, which is the receiver or the class that a creation names.
+fn begins_behind(rows: &[Row], at: u32) -> bool
+    ensures { result ≡ behind.begins_behind (program.label rows.now at) }
+{
+    match rows.get(at as usize) {
+        Some(row) => match row.label {
+            Label::Call {
+                receiver: ReceiverKind::Expression,
+            } => true,
+            Label::Call {
+                receiver: ReceiverKind::Name,
+            } => true,
+            Label::New => true,
+            _ => false,
+        },
+        None => false,
+    }
+}
+
+// The first row where an argument of a call may stand.
+fn first_argument(rows: &[Row], place: u32) -> u32
+    ensures { place + 2 < 2 ^ 32 → result ≡ arguments_by (program.label rows.now place) rows.now place }
+{
+    let next = place.saturating_add(1);
+    if begins_behind(rows, place) {
+        end_at(rows, next)
+    } else {
+        next
+    }
+}
+
+// The row stands right below the other.
+fn is_inside(rows: &[Row], over: u32, at: u32) -> bool
+    ensures { result ≡ nat_eq (program.parent rows.now at) over }
+{
+    parent_at(rows, at) == over
+}
+
+// The types of the arguments of a call from a row on, if all are known.
+fn arguments_from(
+    alloc: Global,
+    rows: &[Row],
+    types: &[Option<RowType>],
+    place: u32,
+    first: u32,
+) -> Result<Option<Vec<RowType>>, OutOfMemory>
+    ensures { length rows.now + 3 < 2 ^ 32 → IsTree rows.now → place < first → IfOk result (λ found. option_map (λ all. all.items) found ≡ argument_types rows.now (behind.type_in types.now) place (length rows.now) first) }
+{
+    let mut all = Vec::new(alloc);
+    let mut child = first;
+    for _turn in 0..rows.len() {
+        if !is_inside(rows, place, child) {
+            return Ok(Some(all));
+        }
+        match type_at(types, child) {
+            Some(ty) => all.push(ty)?,
+            None => return Ok(None),
+        }
+        child = end_at(rows, child);
+    }
+    Ok(Some(all))
+}
+
 impl<'a> Sight<'a> {
     /// What stands before the dot of a row, in its first child.
-    pub fn left_of(&self, types: &[Option<RowType>], place: u32) -> Left {
-        let under = self.world.under;
-        let Some(child) = under.first_child(place) else {
-            return Left::Nothing;
-        };
-        if let Referent::Package = under.referent(child) {
-            return Left::Package(under.places.spelled(under.rows, child));
-        }
-        match under.referred_type(child) {
-            Some(over) => Left::OfType(over),
-            None => match type_at(types, child) {
-                Some(ty) => Left::Value(ty),
-                None => Left::Nothing,
-            },
+    pub fn left_of(&self, types: &[Option<RowType>], place: u32) -> Left
+        ensures { (t : Table) → behind.CanLook t self.now types.now place → behind.IsLeftOf self.now.world.under.rows.now t (HasConstantForm self.now.world.under.rows.now t) self.now.world.under.places.now place result }
+    {
+        match self.world.under.first_child(place) {
+            Some(child) => self.left_at(types, child),
+            None => Left::Nothing,
         }
     }
 
-    // The first row where an argument of a call may stand: behind the receiver, or the class that a creation names.
-    fn first_argument(&self, place: u32) -> u32 {
-        let rows = self.world.under.rows;
-        let next = place.saturating_add(1);
-        match rows.get(place as usize) {
-            Some(row) => match row.label {
-                Label::Call {
-                    receiver: ReceiverKind::Expression,
-                } => end_at(rows, next),
-                Label::Call {
-                    receiver: ReceiverKind::Name,
-                } => end_at(rows, next),
-                Label::New => end_at(rows, next),
-                _ => next,
-            },
-            None => next,
+    // What a row is before a dot.
+    fn left_at(&self, types: &[Option<RowType>], at: u32) -> Left
+        ensures { (t : Table) (o : ℕ) → behind.CanLook t self.now types.now o → o < at → at < length self.now.world.under.rows.now → behind.IsLeftAt self.now.world.under.rows.now t (HasConstantForm self.now.world.under.rows.now t) self.now.world.under.places.now at result }
+    {
+        let under = self.world.under;
+        match under.referent(at) {
+            Referent::Package => Left::Package(under.places.spelled(under.rows, at)),
+            _ => self.type_or_value(types, at),
+        }
+    }
+
+    // What a row that refers to no package is before a dot.
+    fn type_or_value(&self, types: &[Option<RowType>], at: u32) -> Left
+        ensures { (t : Table) (o : ℕ) → behind.CanLook t self.now types.now o → o < at → (entries self.now.world.under.table.now at ≡ referring.Package → ⊥) → behind.IsLeftAt self.now.world.under.rows.now t (HasConstantForm self.now.world.under.rows.now t) self.now.world.under.places.now at result }
+    {
+        match self.world.under.referred_type(at) {
+            Some(over) => Left::OfType(over),
+            None => left_by(type_at(types, at)),
         }
     }
 
@@ -86,22 +157,11 @@ impl<'a> Sight<'a> {
         types: &[Option<RowType>],
         place: u32,
     ) -> Result<Option<Vec<RowType>>, OutOfMemory>
-        ensures { (t : Table) → CanLook t self.now types.now place → IfOk result (λ found. Finds (option_map (λ all. all.items) found) (λ all. Arguments self.now.world.under.rows.now t (HasConstantForm self.now.world.under.rows.now t) place all)) }
+        ensures { (t : Table) → behind.CanLook t self.now types.now place → IfOk result (λ found. Finds (option_map (λ all. all.items) found) (λ all. Arguments self.now.world.under.rows.now t (HasConstantForm self.now.world.under.rows.now t) place all)) }
     {
         let rows = self.world.under.rows;
-        let mut all = Vec::new(alloc);
-        let mut child = self.first_argument(place);
-        for _turn in 0..rows.len() {
-            if parent_at(rows, child) != place || child <= place {
-                return Ok(Some(all));
-            }
-            match type_at(types, child) {
-                Some(ty) => all.push(ty)?,
-                None => return Ok(None),
-            }
-            child = end_at(rows, child);
-        }
-        Ok(Some(all))
+        let first = first_argument(rows, place);
+        arguments_from(alloc, rows, types, place, first)
     }
 
     // The methods of the name that a call chooses among those of a type (JLS 15.12.2).
@@ -322,7 +382,7 @@ impl<'a> Sight<'a> {
 
     // The receiver before the dot of a place.
     fn receiver_at(&self, types: &[Option<RowType>], place: u32) -> Option<Receiver>
-        ensures { (t : Table) → CanLook t self.now types.now place → Finds result (λ r. ReceiverOf self.now.world.under.rows.now t (HasConstantForm self.now.world.under.rows.now t) place r.class r.ty) }
+        ensures { (t : Table) → behind.CanLook t self.now types.now place → Finds result (λ r. ReceiverOf self.now.world.under.rows.now t (HasConstantForm self.now.world.under.rows.now t) place r.class r.ty) }
     {
         self.receiver(self.left_of(types, place))
     }
@@ -336,7 +396,7 @@ impl<'a> Sight<'a> {
         kind: NameKind,
         name: u32,
     ) -> Result<Referent, OutOfMemory>
-        ensures { (t : Table) (x : Text) → CanLook t self.now types.now place → IsNumberOf self.now.world.under.rows.now name x → program.name self.now.world.under.rows.now name ≡ x → IfOk result (λ a. calls.LookedFor self.now.world.under.rows.now t place x (seeking.Qualified kind) a) }
+        ensures { (t : Table) (x : Text) → behind.CanLook t self.now types.now place → IsNumberOf self.now.world.under.rows.now name x → program.name self.now.world.under.rows.now name ≡ x → IfOk result (λ a. calls.LookedFor self.now.world.under.rows.now t place x (seeking.Qualified kind) a) }
     {
         self.qualified(alloc, self.left_of(types, place), kind, name)
     }
@@ -349,7 +409,7 @@ impl<'a> Sight<'a> {
         place: u32,
         name: u32,
     ) -> Result<Referent, OutOfMemory>
-        ensures { (t : Table) (x : Text) → CanLook t self.now types.now place → IsNumberOf self.now.world.under.rows.now name x → program.name self.now.world.under.rows.now name ≡ x → IfOk result (λ a. calls.LookedFor self.now.world.under.rows.now t place x seeking.FieldOf a) }
+        ensures { (t : Table) (x : Text) → behind.CanLook t self.now types.now place → IsNumberOf self.now.world.under.rows.now name x → program.name self.now.world.under.rows.now name ≡ x → IfOk result (λ a. calls.LookedFor self.now.world.under.rows.now t place x seeking.FieldOf a) }
     {
         self.field(alloc, self.left_of(types, place), name)
     }
@@ -363,7 +423,7 @@ impl<'a> Sight<'a> {
         name: u32,
         arguments: &[RowType],
     ) -> Result<Referent, OutOfMemory>
-        ensures { (t : Table) (x : Text) → CanLook t self.now types.now place → IsNumberOf self.now.world.under.rows.now name x → calls.AreArguments self.now.world.under.rows.now t place arguments.now → IfOk result (λ a. calls.LookedFor self.now.world.under.rows.now t place x seeking.MethodOf a) }
+        ensures { (t : Table) (x : Text) → behind.CanLook t self.now types.now place → IsNumberOf self.now.world.under.rows.now name x → calls.AreArguments self.now.world.under.rows.now t place arguments.now → IfOk result (λ a. calls.LookedFor self.now.world.under.rows.now t place x seeking.MethodOf a) }
     {
         match self.receiver_at(types, place) {
             Some(receiver) => self.method_of(alloc, place, receiver, name, arguments),
@@ -415,7 +475,7 @@ impl<'a> Sight<'a> {
         sought: Sought,
         arguments: &[RowType],
     ) -> Result<Referent, OutOfMemory>
-        ensures { (t : Table) (x : Text) → CanLook t self.now types.now place → IsNumberOf self.now.world.under.rows.now name x → calls.AreArguments self.now.world.under.rows.now t place arguments.now → calls.IsCall sought → IfOk result (λ a. calls.LookedFor self.now.world.under.rows.now t place x sought a) }
+        ensures { (t : Table) (x : Text) → behind.CanLook t self.now types.now place → IsNumberOf self.now.world.under.rows.now name x → calls.AreArguments self.now.world.under.rows.now t place arguments.now → calls.IsCall sought → IfOk result (λ a. calls.LookedFor self.now.world.under.rows.now t place x sought a) }
     {
         match sought {
             Sought::Method => self.method(alloc, place, name, arguments),
@@ -436,7 +496,7 @@ impl<'a> Sight<'a> {
         name: u32,
         sought: Sought,
     ) -> Result<Referent, OutOfMemory>
-        ensures { (t : Table) (x : Text) → CanLook t self.now types.now place → IsNumberOf self.now.world.under.rows.now name x → calls.IsCall sought → IfOk result (λ a. calls.LookedFor self.now.world.under.rows.now t place x sought a) }
+        ensures { (t : Table) (x : Text) → behind.CanLook t self.now types.now place → IsNumberOf self.now.world.under.rows.now name x → calls.IsCall sought → IfOk result (λ a. calls.LookedFor self.now.world.under.rows.now t place x sought a) }
     {
         match self.arguments(alloc, types, place)? {
             Some(arguments) => self.called(alloc, types, place, name, sought, &arguments),
@@ -478,7 +538,7 @@ impl<'a> Sight<'a> {
         name: u32,
         sought: Sought,
     ) -> Result<Referent, OutOfMemory>
-        ensures { (t : Table) (x : Text) → CanLook t self.now types.now place → IsNumberOf self.now.world.under.rows.now name x → program.name self.now.world.under.rows.now name ≡ x → IfOk result (λ a. calls.LookedFor self.now.world.under.rows.now t place x sought a) }
+        ensures { (t : Table) (x : Text) → behind.CanLook t self.now types.now place → IsNumberOf self.now.world.under.rows.now name x → program.name self.now.world.under.rows.now name ≡ x → IfOk result (λ a. calls.LookedFor self.now.world.under.rows.now t place x sought a) }
     {
         match sought {
             Sought::Nothing => Ok(Referent::Unbound),
@@ -499,7 +559,7 @@ impl<'a> Sight<'a> {
         types: &[Option<RowType>],
         place: u32,
     ) -> Result<Referent, OutOfMemory>
-        ensures { (t : Table) → CanLook t self.now types.now place → IfOk result (λ a. Look self.now.world.under.rows.now t (HasConstantForm self.now.world.under.rows.now t) place a) }
+        ensures { (t : Table) → behind.CanLook t self.now types.now place → IfOk result (λ a. Look self.now.world.under.rows.now t (HasConstantForm self.now.world.under.rows.now t) place a) }
     {
         let under = self.world.under;
         let name = under.places.name(place);

@@ -6,6 +6,6 @@ use Rattle.jr_lookup.proofs.Looking.{number_of, named_first}
 use Rattle.jr_lookup.proofs.simple.Sight.look.Goals as goal
 
 pub returns : goal.returns
-returns c = λ t k. let p = c.args.self.now.world.under.rows.now in let is = c.name.ensures p k.sight_is.world.seen.placed.are k.inside in
-    subst (λ s. IfOk c.look_for.result (λ a. LookedFor p t c.args.place (name p c.args.place) s a)) c.sought_at.ensures
+returns c = λ t k. let p = c.args.self.now.world.under.rows.now in let is = c.name-name.ensures p k.sight_is.world.seen.placed.are k.inside in
+    subst (λ s. IfOk c.look_for.result (λ a. LookedFor p t c.args.place (name p c.args.place) s a)) c.sought_at-sought.ensures
     (c.look_for.ensures t (name p c.args.place) k (subst (λ n. IsNumberOf p n (name p c.args.place)) (sym is) (number_of p c.args.place)) (ap (name p) is ∙ named_first p c.args.place))
