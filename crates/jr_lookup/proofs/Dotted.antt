@@ -1,43 +1,32 @@
 -- What stands before a dot, and what a name behind it refers to.
-use Rattle.std.proofs.Common.{◌≡◌, ◌⊎◌, refl, sym, ◌∙◌, ap, ap₂, subst, inl, inr, ⊎_elim, arith, ℕ, zero, suc, ◌+◌, ◌<◌, ◌≤◌, Bool, true, false, cond, List, [], ◌∷◌, length, codes, Option, Some, None, nat_eq, nat_lt, Decides}
+use Rattle.std.proofs.Common.{◌≡◌, ◌⊎◌, refl, sym, ◌∙◌, ap, ap₂, subst, ⊎_elim, arith, ℕ, zero, suc, ◌+◌, ◌<◌, Bool, true, false, cond, List, [], length, Option, Some, None, nat_eq, nat_lt, Decides}
 use Rattle.std.specs.Prelude.{bytes_eq, option_map}
 use Rattle.std.proofs.lemmas.Bool.{false≢true, cases_lt}
 use Rattle.std.proofs.lemmas.Bool.Decides.{Decides-eqb, Decides-ltb}
 use Rattle.std.proofs.lemmas.Option.{none-some, same_Some}
 use Rattle.std.proofs.lemmas.Slice.Eq.{bytes_eq-Decides}
 use Rattle.jr_base.specs.declared.text.Text.{Text}
-use Rattle.jr_tree.specs.declared.label.Label.{Label}
-use Rattle.jr_tree.specs.declared.label.NameKind.{NameKind}
-use Rattle.jr_tree.specs.declared.label.NameKind.TheVariants as names
 use Rattle.jr_tree.specs.declared.label.Role.{Role}
 use Rattle.jr_tree.specs.declared.label.Role.TheVariants as role
-use Rattle.jr_tree.specs.declared.label.Sought.{Sought}
-use Rattle.jr_tree.specs.declared.label.Sought.TheVariants as sought
 use Rattle.jr_tree.specs.Rows.{Rows, label, name, parent, role_at}
 use Rattle.jr_defs.specs.declared.referent.Element.{Element}
 use Rattle.jr_defs.specs.declared.referent.Element.TheVariants as element
 use Rattle.jr_defs.specs.declared.referent.RowType.{RowType}
 use Rattle.jr_defs.specs.declared.referent.Referent.{Referent}
-use Rattle.jr_defs.specs.declared.referent.Referent.TheVariants.{Unbound, ArrayLength, Package, Declared}
+use Rattle.jr_defs.specs.declared.referent.Referent.TheVariants.{ArrayLength, Package, Declared}
 use Rattle.jr_defs.specs.declared.referent.Space.TheVariants as space
-use Rattle.jr_defs.specs.Referents.{Table, IsAnswer}
+use Rattle.jr_defs.specs.Referents.{Table}
 use Rattle.jr_defs.specs.Declarations as def
 use Rattle.jr_defs.specs.Declarations.{IsType, IsVariable, IsObject}
 use Rattle.jr_defs.specs.Packages.{TypeOfPackage, spelled}
 use Rattle.jr_defs.specs.Types.{array, class_type, NamesType}
 use Rattle.jr_defs.specs.Members.{MemberOf, MemberNamed}
 use Rattle.jr_defs.specs.Typing.{TypeOf}
-use Rattle.jr_defs.specs.Lookup as look
-use Rattle.jr_plain.specs.Search.{has, Finds, Lists}
-use Rattle.jr_plain.specs.Lists.{at_level}
-use Rattle.jr_plain.specs.Lookup.{may_be_package}
-use Rattle.jr_plain.specs.Referents.{answer_of}
+use Rattle.jr_defs.specs.Lookup.{Receiver as Meant, MemberBefore, TypeBefore}
+use Rattle.jr_plain.specs.Search.{Finds, Lists}
 use Rattle.jr_plain.specs.Types.{referred_type}
 use Rattle.jr_plain.specs.Declarations.{is_object}
-use Rattle.jr_plain.proofs.Tests.{itself, like}
 use Rattle.jr_plain.proofs.Searches.{finds}
-use Rattle.jr_plain.proofs.Listed.{at_level_has}
-use Rattle.jr_plain.proofs.Answered.{answer_is}
 use Rattle.jr_plain.proofs.Bounds.{type_below, parent_past}
 use Rattle.jr_plain.proofs.Declared.{object_tells}
 use Rattle.jr_places.specs.declared.places.Places.{Places}
@@ -54,8 +43,7 @@ use Rattle.jr_lookup.specs.declared.qualified.Left.TheVariants as left
 use Rattle.jr_lookup.specs.declared.qualified.Receiver.{Receiver}
 use Rattle.jr_lookup.specs.Outward.{IsNumberOf}
 use Rattle.jr_lookup.specs.Sights.{IsTopNamed}
-use Rattle.jr_lookup.specs.Answers.{AreAllThrough}
-use Rattle.jr_lookup.specs.Behind.{IsTypeLabel, RefersByNames, IsLeftAt, left_by, IsLeftOf, receiver_with, object_receiver, class_in, receiver_by, receiver_of, length_by, length_of}
+use Rattle.jr_lookup.specs.Behind.{IsTypeLabel, RefersByNames, IsLeftAt, left_by, value_of, IsLeftOf, HasValue, receiver_with, object_receiver, class_in, receiver_of}
 use Rattle.jr_lookup.proofs.Importing.{referred_finds}
 use Rattle.jr_lookup.proofs.Sighting.{lists_by, lists_none}
 use Rattle.jr_lookup.proofs.Referring.{as_named, named_as}
@@ -110,34 +98,53 @@ module _ (p : Rows) (t : Table) (K : ℕ → Type 0) where
 
   -- ---- the row before a dot
 
-  module _ (refers : RefersByNames p t) (places : Places) (n : ℕ) (seen : Referent) (sees : seen ≡ t n) where
-    pub left_package : (number : Option ℕ) → seen ≡ Package → Finds number (IsSpelled p places.packages n) → IsLeftAt p t K places n (left.Package number)
-    left_package number e f = IsLeftAt.package (sym sees ∙ e) f (package_no_expression refers n (sym sees ∙ e))
+  none_typed : (n : ℕ) → ((a : RowType) → TypeOf p t K n a → ⊥) → Finds None (λ a. TypeOf p t K n a)
+  none_typed n out a = (λ e. absurd (none-some a e), λ h. absurd (out a h))
 
-    pub left_type : (c : ℕ) (found : Option ℕ) → found ≡ referred_type p seen → found ≡ Some c → IsLeftAt p t K places n (left.OfType c)
-    left_type c found f e = let is : referred_type p (t n) ≡ Some c = ap (referred_type p) (sym sees) ∙ sym f ∙ e in IsLeftAt.of_type is (type_no_expression refers n c is)
+  pub value_left : (n : ℕ) (type : Option RowType) → Finds type (λ a. TypeOf p t K n a) → Finds (value_of (left_by type)) (λ a. TypeOf p t K n a)
+  value_left n (Some a) f = f
+  value_left n None f = f
 
-    pub left_rest : (found : Option ℕ) (type : Option RowType) → (seen ≡ Package → ⊥) → found ≡ referred_type p seen → found ≡ None → Finds type (λ b. TypeOf p t K n b) → IsLeftAt p t K places n (left_by type)
-    left_rest found (Some a) out f e typed = IsLeftAt.value (λ k. out (sees ∙ k)) (ap (referred_type p) (sym sees) ∙ sym f ∙ e) typed
-    left_rest found None out f e typed = IsLeftAt.nothing (λ k. out (sees ∙ k)) (ap (referred_type p) (sym sees) ∙ sym f ∙ e) (λ a h. none-some a ((typed a).1 h))
+  module _ (refers : RefersByNames p t) (n : ℕ) (seen : Referent) (sees : seen ≡ t n) where
+    pub no_value_of_package : (number : Option ℕ) → seen ≡ Package → Finds (value_of (left.Package number)) (λ a. TypeOf p t K n a)
+    no_value_of_package number e = none_typed n (package_no_expression refers n (sym sees ∙ e))
+
+    pub no_value_of_type : (c : ℕ) (found : Option ℕ) → found ≡ referred_type p seen → found ≡ Some c → Finds (value_of (left.OfType c)) (λ a. TypeOf p t K n a)
+    no_value_of_type c found f e = none_typed n (type_no_expression refers n c (ap (referred_type p) (sym sees) ∙ sym f ∙ e))
+
+module _ (p : Rows) (t : Table) where
+  module _ (places : Places) (n : ℕ) (seen : Referent) (sees : seen ≡ t n) where
+    pub left_package : (number : Option ℕ) → seen ≡ Package → Finds number (IsSpelled p places.packages n) → IsLeftAt p t places n (left.Package number)
+    left_package number e f = IsLeftAt.package (sym sees ∙ e) f
+
+    pub left_type : (c : ℕ) (found : Option ℕ) → found ≡ referred_type p seen → found ≡ Some c → IsLeftAt p t places n (left.OfType c)
+    left_type c found f e = IsLeftAt.of_type (ap (referred_type p) (sym sees) ∙ sym f ∙ e)
+
+    pub left_rest : (found : Option ℕ) (type : Option RowType) → (seen ≡ Package → ⊥) → found ≡ referred_type p seen → found ≡ None → IsLeftAt p t places n (left_by type)
+    left_rest found (Some a) out f e = IsLeftAt.value (λ k. out (sees ∙ k)) (ap (referred_type p) (sym sees) ∙ sym f ∙ e)
+    left_rest found None out f e = IsLeftAt.nothing (λ k. out (sees ∙ k)) (ap (referred_type p) (sym sees) ∙ sym f ∙ e)
+
+  pub child_inside : (o : ℕ) (found : Option ℕ) (n : ℕ) → found ≡ first_child p o → found ≡ Some n → (n ≡ o + 1) × (parent p (o + 1) ≡ o)
+  child_inside o found n f e = by (nat_eq (parent p (o + 1)) o) (Decides-eqb (parent p (o + 1)) o) (sym f ∙ e)
+    where
+      by : (b : Bool) → Decides b (parent p (o + 1) ≡ o) → cond b (Some (o + 1)) None ≡ Some n → (n ≡ o + 1) × (parent p (o + 1) ≡ o)
+      by true d e = (sym (same_Some (o + 1) n e), d.0 refl)
+      by false d e = absurd (none-some n e)
+
+  pub child_below : (o : ℕ) → parent p (o + 1) ≡ o → o + 1 < length p
+  child_below o up = ⊎_elim (λ lt. lt) (λ le. let past = parent_past p (o + 1) le in absurd (omega (arith, past, up))) (cases_lt (o + 1) (length p))
+
+  pub not_inside : (o : ℕ) (found : Option ℕ) → found ≡ first_child p o → found ≡ None → parent p (o + 1) ≡ o → ⊥
+  not_inside o found f e up = none-some (o + 1) (sym e ∙ f ∙ ap (λ b. cond b (Some (o + 1)) None) ((Decides-eqb (parent p (o + 1)) o).1 up))
 
   module _ (places : Places) (o : ℕ) where
-    pub child_inside : (found : Option ℕ) (n : ℕ) → found ≡ first_child p o → found ≡ Some n → (n ≡ o + 1) × (parent p (o + 1) ≡ o)
-    child_inside found n f e = by (nat_eq (parent p (o + 1)) o) (Decides-eqb (parent p (o + 1)) o) (sym f ∙ e)
-      where
-        by : (b : Bool) → Decides b (parent p (o + 1) ≡ o) → cond b (Some (o + 1)) None ≡ Some n → (n ≡ o + 1) × (parent p (o + 1) ≡ o)
-        by true d e = (sym (same_Some (o + 1) n e), d.0 refl)
-        by false d e = absurd (none-some n e)
+    pub left_child : (found : Option ℕ) (n : ℕ) (l : Left) → found ≡ first_child p o → found ≡ Some n → IsLeftAt p t places n l → IsLeftOf p t places o l
+    left_child found n l f e h = let i = child_inside o found n f e in IsLeftOf.child i.1 (subst (λ n. IsLeftAt p t places n l) i.0 h)
 
-    pub child_below : parent p (o + 1) ≡ o → o + 1 < length p
-    child_below up = ⊎_elim (λ lt. lt) (λ le. let past = parent_past p (o + 1) le in absurd (omega arith)) (cases_lt (o + 1) (length p))
+    pub left_none : (found : Option ℕ) → found ≡ first_child p o → found ≡ None → IsLeftOf p t places o left.Nothing
+    left_none found f e = IsLeftOf.none (not_inside o found f e)
 
-    pub left_child : (found : Option ℕ) (n : ℕ) (l : Left) → found ≡ first_child p o → found ≡ Some n → IsLeftAt p t K places n l → IsLeftOf p t K places o l
-    left_child found n l f e h = let i = child_inside found n f e in IsLeftOf.child i.1 (subst (λ n. IsLeftAt p t K places n l) i.0 h)
-
-    pub left_none : (found : Option ℕ) → found ≡ first_child p o → found ≡ None → IsLeftOf p t K places o left.Nothing
-    left_none found f e = IsLeftOf.none (λ up. none-some (o + 1) (sym e ∙ f ∙ ap (λ b. cond b (Some (o + 1)) None) ((Decides-eqb (parent p (o + 1)) o).1 up)))
-
+  module _ (o : ℕ) where
     -- what they exclude
     names_type : (c : ℕ) → NamesType p t o c → (parent p (o + 1) ≡ o) × (referred_type p (t (o + 1)) ≡ Some c)
     names_type c h = (h.first, (referred_finds p (t (o + 1)) c).1 (h.level, h.refers, h.type))
@@ -148,38 +155,40 @@ module _ (p : Rows) (t : Table) (K : ℕ → Type 0) where
     package_names_no_type : t (o + 1) ≡ Package → (c : ℕ) → NamesType p t o c → ⊥
     package_names_no_type e c h = package_no_row (t (o + 1)) c h.level e h.refers
 
-    -- ---- the class whose members are meant
+-- ---- the class whose members are meant
 
+module _ (p : Rows) (t : Table) (K : ℕ → Type 0) (o : ℕ) where
+  module _ (places : Places) where
     objects : HasNoOtherObject p → Finds (object_row p) (IsObject p)
     objects one = finds (is_object p) (IsObject p) (object_tells p) (length p) (λ k h. type_below p k h.type) one
 
     abbrev Before : Receiver → Type 0
-    Before r = look.Receiver p t K o r.class r.ty
+    Before r = Meant p t K o r.class r.ty
 
     same_receiver : {a b : Option RowType} {c d : ℕ} → c ≡ d → a ≡ b → Some (receiver_with a c) ≡ Some (receiver_with b d)
     same_receiver {a} {b} {c} {d} e f = ap₂ (λ c a. Some (receiver_with a c)) e f
 
-    first_of : {c : ℕ} {a : Option RowType} → look.Receiver p t K o c a → parent p (o + 1) ≡ o
-    first_of (look.Receiver.object up h) = up
-    first_of (look.Receiver.array_object up h k) = up
-    first_of (look.Receiver.type h) = h.first
+    first_of : {c : ℕ} {a : Option RowType} → Meant p t K o c a → parent p (o + 1) ≡ o
+    first_of (Meant.object up h) = up
+    first_of (Meant.array_object up h k) = up
+    first_of (Meant.type h) = h.first
 
-    nothing_meant : ((a : RowType) → TypeOf p t K (o + 1) a → ⊥) → ((c : ℕ) → NamesType p t o c → ⊥) → {c : ℕ} {a : Option RowType} → look.Receiver p t K o c a → ⊥
-    nothing_meant no_value no_name (look.Receiver.object {c = c} up h) = no_value (class_type c) h
-    nothing_meant no_value no_name (look.Receiver.array_object {dims = dims} {e = e} up h k) = no_value (array e (suc dims)) h
-    nothing_meant no_value no_name (look.Receiver.type {c = c} h) = no_name c h
+    nothing_meant : ((a : RowType) → TypeOf p t K (o + 1) a → ⊥) → ((c : ℕ) → NamesType p t o c → ⊥) → {c : ℕ} {a : Option RowType} → Meant p t K o c a → ⊥
+    nothing_meant no_value no_name (Meant.object {c = c} up h) = no_value (class_type c) h
+    nothing_meant no_value no_name (Meant.array_object {dims = dims} {e = e} up h k) = no_value (array e (suc dims)) h
+    nothing_meant no_value no_name (Meant.type {c = c} h) = no_name c h
 
     none_meant : ((r : Receiver) → Before r → ⊥) → Finds None Before
     none_meant out r = (λ e. absurd (none-some r e), λ h. absurd (out r h))
 
     -- the name of a type
     type_meant : (d : ℕ) → parent p (o + 1) ≡ o → referred_type p (t (o + 1)) ≡ Some d → ((a : RowType) → TypeOf p t K (o + 1) a → ⊥) → Finds (Some (receiver_with None d)) Before
-    type_meant d up e no_value r = (λ same. subst Before (same_Some (receiver_with None d) r same) (look.Receiver.type (type_named d up e)), by)
+    type_meant d up e no_value r = (λ same. subst Before (same_Some (receiver_with None d) r same) (Meant.type (type_named p t o d up e)), by)
       where
-        by : {c : ℕ} {a : Option RowType} → look.Receiver p t K o c a → Some (receiver_with None d) ≡ Some (receiver_with a c)
-        by (look.Receiver.object {c = c} up h) = absurd (no_value (class_type c) h)
-        by (look.Receiver.array_object {dims = dims} {e = e} up h k) = absurd (no_value (array e (suc dims)) h)
-        by (look.Receiver.type {c = c} h) = same_receiver (same_Some d c (sym e ∙ (names_type c h).1)) refl
+        by : {c : ℕ} {a : Option RowType} → Meant p t K o c a → Some (receiver_with None d) ≡ Some (receiver_with a c)
+        by (Meant.object {c = c} up h) = absurd (no_value (class_type c) h)
+        by (Meant.array_object {dims = dims} {e = e} up h k) = absurd (no_value (array e (suc dims)) h)
+        by (Meant.type {c = c} h) = same_receiver (same_Some d c (sym e ∙ (names_type p t o c h).1)) refl
 
     class_is : (e : Element) (c : ℕ) → class_in e ≡ Some c → e ≡ element.Class c
     class_is (element.Class d) c h = ap (λ c. element.Class c) (same_Some d c h)
@@ -196,92 +205,95 @@ module _ (p : Rows) (t : Table) (K : ℕ → Type 0) where
           is_class : a ≡ class_type d
           is_class = ap₂ array (class_is a.element d e) plain
 
-          here : look.Receiver p t K o d (Some a)
-          here = subst (λ b. look.Receiver p t K o d (Some b)) (sym is_class) (look.Receiver.object up (subst (λ b. TypeOf p t K (o + 1) b) is_class ((typed a).0 refl)))
+          here : Meant p t K o d (Some a)
+          here = subst (λ b. Meant p t K o d (Some b)) (sym is_class) (Meant.object up (subst (λ b. TypeOf p t K (o + 1) b) is_class ((typed a).0 refl)))
 
-          by : {c : ℕ} {b : Option RowType} → look.Receiver p t K o c b → Some (receiver_with (Some a) d) ≡ Some (receiver_with b c)
-          by (look.Receiver.object {c = c} up h) = let same = is_typed (class_type c) h in same_receiver (same_Some d c (sym e ∙ ap (λ a. class_in a.element) same)) (ap Some same)
-          by (look.Receiver.array_object {dims = dims} {e = e} up h k) = let same = ap (λ b. b.dims) (is_typed (array e (suc dims)) h) in absurd (omega (arith, plain, same))
-          by (look.Receiver.type {c = c} h) = absurd (no_name c h)
+          by : {c : ℕ} {b : Option RowType} → Meant p t K o c b → Some (receiver_with (Some a) d) ≡ Some (receiver_with b c)
+          by (Meant.object {c = c} up h) = let same = is_typed (class_type c) h in same_receiver (same_Some d c (sym e ∙ ap (λ a. class_in a.element) same)) (ap Some same)
+          by (Meant.array_object {dims = dims} {e = e} up h k) = let same = ap (λ b. b.dims) (is_typed (array e (suc dims)) h) in absurd (omega (arith, plain, same))
+          by (Meant.type {c = c} h) = absurd (no_name c h)
       class_meant plain None e = none_meant (λ r. by)
         where
-          by : {c : ℕ} {b : Option RowType} → look.Receiver p t K o c b → ⊥
-          by (look.Receiver.object {c = c} up h) = none-some c (sym e ∙ ap (λ a. class_in a.element) (is_typed (class_type c) h))
-          by (look.Receiver.array_object {dims = dims} {e = e} up h k) = let same = ap (λ b. b.dims) (is_typed (array e (suc dims)) h) in omega (arith, plain, same)
-          by (look.Receiver.type {c = c} h) = no_name c h
+          by : {c : ℕ} {b : Option RowType} → Meant p t K o c b → ⊥
+          by (Meant.object {c = c} up h) = none-some c (sym e ∙ ap (λ a. class_in a.element) (is_typed (class_type c) h))
+          by (Meant.array_object {dims = dims} {e = e} up h k) = let same = ap (λ b. b.dims) (is_typed (array e (suc dims)) h) in omega (arith, plain, same)
+          by (Meant.type {c = c} h) = no_name c h
 
       array_meant : 0 < a.dims → (object : Option ℕ) → Finds object (IsObject p) → Finds (option_map object_receiver object) Before
       array_meant deep (Some d) f r = (λ same. subst Before (same_Some (object_receiver d) r same) (here a.dims refl), by)
         where
-          here : (dims : ℕ) → a.dims ≡ dims → look.Receiver p t K o d (Some (class_type d))
+          here : (dims : ℕ) → a.dims ≡ dims → Meant p t K o d (Some (class_type d))
           here zero e = absurd (omega (arith, e, deep))
-          here (suc k) e = look.Receiver.array_object up (subst (λ n. TypeOf p t K (o + 1) (array a.element n)) e ((typed a).0 refl)) ((f d).0 refl)
+          here (suc k) e = Meant.array_object up (subst (λ n. TypeOf p t K (o + 1) (array a.element n)) e ((typed a).0 refl)) ((f d).0 refl)
 
-          by : {c : ℕ} {b : Option RowType} → look.Receiver p t K o c b → Some (object_receiver d) ≡ Some (receiver_with b c)
-          by (look.Receiver.object {c = c} up h) = let same = ap (λ b. b.dims) (is_typed (class_type c) h) in absurd (omega (arith, deep, same))
-          by (look.Receiver.array_object {c = c} up h k) = ap (λ c. Some (object_receiver c)) (same_Some d c ((f c).1 k))
-          by (look.Receiver.type {c = c} h) = absurd (no_name c h)
+          by : {c : ℕ} {b : Option RowType} → Meant p t K o c b → Some (object_receiver d) ≡ Some (receiver_with b c)
+          by (Meant.object {c = c} up h) = let same = ap (λ b. b.dims) (is_typed (class_type c) h) in absurd (omega (arith, deep, same))
+          by (Meant.array_object {c = c} up h k) = ap (λ c. Some (object_receiver c)) (same_Some d c ((f c).1 k))
+          by (Meant.type {c = c} h) = absurd (no_name c h)
       array_meant deep None f = none_meant (λ r. by)
         where
-          by : {c : ℕ} {b : Option RowType} → look.Receiver p t K o c b → ⊥
-          by (look.Receiver.object {c = c} up h) = let same = ap (λ b. b.dims) (is_typed (class_type c) h) in omega (arith, deep, same)
-          by (look.Receiver.array_object {c = c} up h k) = none-some c ((f c).1 k)
-          by (look.Receiver.type {c = c} h) = no_name c h
+          by : {c : ℕ} {b : Option RowType} → Meant p t K o c b → ⊥
+          by (Meant.object {c = c} up h) = let same = ap (λ b. b.dims) (is_typed (class_type c) h) in omega (arith, deep, same)
+          by (Meant.array_object {c = c} up h k) = none-some c ((f c).1 k)
+          by (Meant.type {c = c} h) = no_name c h
 
       value_meant : (object : Option ℕ) → Finds object (IsObject p) → (b : Bool) → Decides b (0 < a.dims) → Finds (cond b (option_map object_receiver object) (option_map (receiver_with (Some a)) (class_in a.element))) Before
       value_meant object f true d = array_meant (d.0 refl) object f
       value_meant object f false d = class_meant (⊎_elim (λ lt. absurd (false≢true (d.1 lt))) (λ le. omega arith) (cases_lt 0 a.dims)) (class_in a.element) refl
 
-    pub receiver_finds : {l : Left} → IsLeftOf p t K places o l → (object : Option ℕ) → Finds object (IsObject p) → Finds (receiver_of object l) Before
-    receiver_finds (IsLeftOf.none apart) object f = none_meant (λ r h. apart (first_of h))
-    receiver_finds (IsLeftOf.child up (IsLeftAt.package e g no_value)) object f = none_meant (λ r h. nothing_meant no_value (package_names_no_type e) h)
-    receiver_finds (IsLeftOf.child up (IsLeftAt.of_type {c = c} e no_value)) object f = type_meant c up e no_value
-    receiver_finds (IsLeftOf.child up (IsLeftAt.value {a = a} out e typed)) object f = value_meant up (λ c h. none-some c (sym e ∙ (names_type c h).1)) a typed object f (nat_lt 0 a.dims) (Decides-ltb 0 a.dims)
-    receiver_finds (IsLeftOf.child up (IsLeftAt.nothing out e no_value)) object f = none_meant (λ r h. nothing_meant no_value (λ c k. none-some c (sym e ∙ (names_type c k).1)) h)
+    untyped : {l : Left} → HasValue p t K o l → parent p (o + 1) ≡ o → value_of l ≡ None → (a : RowType) → TypeOf p t K (o + 1) a → ⊥
+    untyped v up e a h = none-some a (sym e ∙ (v.typed up a).1 h)
 
-    pub receiver_found : {l : Left} → IsLeftOf p t K places o l → HasNoOtherObject p → (object : Option ℕ) → object ≡ object_row p → Finds (receiver_of object l) Before
-    receiver_found h one object is = receiver_finds h object (subst (λ object. Finds object (IsObject p)) (sym is) (objects one))
+    pub receiver_finds : {l : Left} → IsLeftOf p t places o l → HasValue p t K o l → (object : Option ℕ) → Finds object (IsObject p) → Finds (receiver_of object l) Before
+    receiver_finds (IsLeftOf.none apart) v object f = none_meant (λ r h. apart (first_of h))
+    receiver_finds (IsLeftOf.child up (IsLeftAt.package e g)) v object f = none_meant (λ r h. nothing_meant (untyped v up refl) (package_names_no_type p t o e) h)
+    receiver_finds (IsLeftOf.child up (IsLeftAt.of_type {c = c} e)) v object f = type_meant c up e (untyped v up refl)
+    receiver_finds (IsLeftOf.child up (IsLeftAt.value {a = a} out e)) v object f = value_meant up (λ c h. none-some c (sym e ∙ (names_type p t o c h).1)) a (v.typed up) object f (nat_lt 0 a.dims) (Decides-ltb 0 a.dims)
+    receiver_finds (IsLeftOf.child up (IsLeftAt.nothing out e)) v object f = none_meant (λ r h. nothing_meant (untyped v up refl) (λ c k. none-some c (sym e ∙ (names_type p t o c k).1)) h)
+
+    pub receiver_found : {l : Left} → IsLeftOf p t places o l → HasValue p t K o l → HasNoOtherObject p → (object : Option ℕ) → object ≡ object_row p → Finds (receiver_of object l) Before
+    receiver_found h v one object is = receiver_finds h v object (subst (λ object. Finds object (IsObject p)) (sym is) (objects one))
 
     -- ---- what is known where it is a type or a package
 
-    pub type_before : {l : Left} → IsLeftOf p t K places o l → (c : ℕ) → l ≡ left.OfType c → (parent p (o + 1) ≡ o) × (referred_type p (t (o + 1)) ≡ Some c)
+    class_of_left : (c d : ℕ) → left.OfType c ≡ left.OfType d → c ≡ d
+    class_of_left c d e = cc
+
+    number_of_left : (m n : Option ℕ) → left.Package m ≡ left.Package n → m ≡ n
+    number_of_left m n e = cc
+
+    pub type_before : {l : Left} → IsLeftOf p t places o l → (c : ℕ) → l ≡ left.OfType c → (parent p (o + 1) ≡ o) × (referred_type p (t (o + 1)) ≡ Some c)
     type_before (IsLeftOf.none apart) c same = absurd (cc)
-    type_before (IsLeftOf.child up (IsLeftAt.package e f no_value)) c same = absurd (cc)
-    type_before (IsLeftOf.child up (IsLeftAt.of_type {c = d} e no_value)) c same = (up, e ∙ ap Some (class_of_left d c same))
-      where
-        class_of_left : (c d : ℕ) → left.OfType c ≡ left.OfType d → c ≡ d
-        class_of_left c d e = cc
-    type_before (IsLeftOf.child up (IsLeftAt.value out e typed)) c same = absurd (cc)
-    type_before (IsLeftOf.child up (IsLeftAt.nothing out e no_value)) c same = absurd (cc)
+    type_before (IsLeftOf.child up (IsLeftAt.package e f)) c same = absurd (cc)
+    type_before (IsLeftOf.child up (IsLeftAt.of_type {c = d} e)) c same = (up, e ∙ ap Some (class_of_left d c same))
+    type_before (IsLeftOf.child up (IsLeftAt.value out e)) c same = absurd (cc)
+    type_before (IsLeftOf.child up (IsLeftAt.nothing out e)) c same = absurd (cc)
 
-    pub package_before : {l : Left} → IsLeftOf p t K places o l → (number : Option ℕ) → l ≡ left.Package number → (parent p (o + 1) ≡ o) × (t (o + 1) ≡ Package) × Finds number (IsSpelled p places.packages (o + 1))
+    pub package_before : {l : Left} → IsLeftOf p t places o l → (number : Option ℕ) → l ≡ left.Package number → (parent p (o + 1) ≡ o) × (t (o + 1) ≡ Package) × Finds number (IsSpelled p places.packages (o + 1))
     package_before (IsLeftOf.none apart) number same = absurd (cc)
-    package_before (IsLeftOf.child up (IsLeftAt.package {number = other} e f no_value)) number same = (up, e, subst (λ n. Finds n (IsSpelled p places.packages (o + 1))) (number_of_left other number same) f)
-      where
-        number_of_left : (m n : Option ℕ) → left.Package m ≡ left.Package n → m ≡ n
-        number_of_left m n e = cc
-    package_before (IsLeftOf.child up (IsLeftAt.of_type e no_value)) number same = absurd (cc)
-    package_before (IsLeftOf.child up (IsLeftAt.value out e typed)) number same = absurd (cc)
-    package_before (IsLeftOf.child up (IsLeftAt.nothing out e no_value)) number same = absurd (cc)
+    package_before (IsLeftOf.child up (IsLeftAt.package {number = other} e f)) number same = (up, e, subst (λ n. Finds n (IsSpelled p places.packages (o + 1))) (number_of_left other number same) f)
+    package_before (IsLeftOf.child up (IsLeftAt.of_type e)) number same = absurd (cc)
+    package_before (IsLeftOf.child up (IsLeftAt.value out e)) number same = absurd (cc)
+    package_before (IsLeftOf.child up (IsLeftAt.nothing out e)) number same = absurd (cc)
 
-    pub neither_before : {l : Left} → IsLeftOf p t K places o l → ((c : ℕ) → l ≡ left.OfType c → ⊥) → ((number : Option ℕ) → l ≡ left.Package number → ⊥)
+    pub neither_before : {l : Left} → IsLeftOf p t places o l → ((c : ℕ) → l ≡ left.OfType c → ⊥) → ((number : Option ℕ) → l ≡ left.Package number → ⊥)
         → ((parent p (o + 1) ≡ o) → t (o + 1) ≡ Package → ⊥) × ((c : ℕ) → NamesType p t o c → ⊥)
     neither_before (IsLeftOf.none apart) no_type no_package = (λ up e. apart up, λ c h. apart h.first)
-    neither_before (IsLeftOf.child up (IsLeftAt.package {number = number} e f no_value)) no_type no_package = absurd (no_package number refl)
-    neither_before (IsLeftOf.child up (IsLeftAt.of_type {c = c} e no_value)) no_type no_package = absurd (no_type c refl)
-    neither_before (IsLeftOf.child up (IsLeftAt.value out e typed)) no_type no_package = (λ up e. out e, λ c h. none-some c (sym e ∙ (names_type c h).1))
-    neither_before (IsLeftOf.child up (IsLeftAt.nothing out e no_value)) no_type no_package = (λ up e. out e, λ c h. none-some c (sym e ∙ (names_type c h).1))
+    neither_before (IsLeftOf.child up (IsLeftAt.package {number = number} e f)) no_type no_package = absurd (no_package number refl)
+    neither_before (IsLeftOf.child up (IsLeftAt.of_type {c = c} e)) no_type no_package = absurd (no_type c refl)
+    neither_before (IsLeftOf.child up (IsLeftAt.value out e)) no_type no_package = (λ up e. out e, λ c h. none-some c (sym e ∙ (names_type p t o c h).1))
+    neither_before (IsLeftOf.child up (IsLeftAt.nothing out e)) no_type no_package = (λ up e. out e, λ c h. none-some c (sym e ∙ (names_type p t o c h).1))
 
     -- ---- fields
 
     module _ (x : Text) (n : ℕ) (number : IsNumberOf p n x) where
-      pub fields_some : (r : Receiver) (found : Option Receiver) → Finds found Before → found ≡ Some r → (all : List ℕ) → ListsEach all (IsMemberAs p t kind.Field r.class n) → Lists all (λ d. look.MemberBefore p t K space.Variable x o d)
+      pub fields_some : (r : Receiver) (found : Option Receiver) → Finds found Before → found ≡ Some r → (all : List ℕ) → ListsEach all (IsMemberAs p t kind.Field r.class n) → Lists all (λ d. MemberBefore p t K space.Variable x o d)
       fields_some r found f e all each = lists_by all all refl each.lists
           (λ d m. record { class = r.class; receiver = r.ty; before = (f r).0 e; member = as_named p t x o n number r.class d m })
           (λ d m. let same = same_Some (receiver_with m.receiver m.class) r (sym ((f (receiver_with m.receiver m.class)).1 m.before) ∙ e) in
               named_as p t x o n number r.class d (subst (λ r. MemberNamed p t space.Variable x r.class d) same m.member))
 
-      pub fields_none : (found : Option Receiver) → Finds found Before → found ≡ None → (all : List ℕ) → all ≡ [] → Lists all (λ d. look.MemberBefore p t K space.Variable x o d)
+      pub fields_none : (found : Option Receiver) → Finds found Before → found ≡ None → (all : List ℕ) → all ≡ [] → Lists all (λ d. MemberBefore p t K space.Variable x o d)
       fields_none found f e all is = lists_none all is (λ d m. none-some (receiver_with m.receiver m.class) (sym e ∙ (f (receiver_with m.receiver m.class)).1 m.before))
 
       -- ---- types
@@ -299,32 +311,32 @@ module _ (p : Rows) (t : Table) (K : ℕ → Type 0) where
       type_role role.Type h = refl
       type_role _ h = absurd h
 
-      top_type : (d : ℕ) → t (o + 1) ≡ Package → parent p (o + 1) ≡ o → IsTopNamed p (spelled p (o + 1)) n d → look.TypeBefore p t x o d
-      top_type d e up h = look.TypeBefore.top (record { first = up; refers = e; spells = refl }) h.of (declares d h.of.top.type (named d h.named))
+      top_type : (d : ℕ) → t (o + 1) ≡ Package → parent p (o + 1) ≡ o → IsTopNamed p (spelled p (o + 1)) n d → TypeBefore p t x o d
+      top_type d e up h = TypeBefore.top (record { first = up; refers = e; spells = refl }) h.of (declares d h.of.top.type (named d h.named))
 
-      type_top : {d : ℕ} → t (o + 1) ≡ Package → look.TypeBefore p t x o d → IsTopNamed p (spelled p (o + 1)) n d
-      type_top e (look.TypeBefore.member {c = c} h m) = absurd (package_names_no_type e c h)
-      type_top {d = d} e (look.TypeBefore.top h k m) = record { of = subst (λ path. TypeOfPackage p path d) (sym h.spells) k; named = numbered d m.named }
+      type_top : {d : ℕ} → t (o + 1) ≡ Package → TypeBefore p t x o d → IsTopNamed p (spelled p (o + 1)) n d
+      type_top e (TypeBefore.member {c = c} h m) = absurd (package_names_no_type p t o e c h)
+      type_top {d = d} e (TypeBefore.top h k m) = record { of = subst (λ path. TypeOfPackage p path d) (sym h.spells) k; named = numbered d m.named }
 
       -- of the package before the dot
-      pub types_top : (all : List ℕ) → t (o + 1) ≡ Package → parent p (o + 1) ≡ o → Lists all (IsTopNamed p (spelled p (o + 1)) n) → Lists all (λ d. look.TypeBefore p t x o d)
+      pub types_top : (all : List ℕ) → t (o + 1) ≡ Package → parent p (o + 1) ≡ o → Lists all (IsTopNamed p (spelled p (o + 1)) n) → Lists all (λ d. TypeBefore p t x o d)
       types_top all e up h = lists_by all all refl h (λ d k. top_type d e up k) (λ d k. type_top e k)
 
       -- of the type before it
-      pub types_member : (c : ℕ) (all : List ℕ) → parent p (o + 1) ≡ o → referred_type p (t (o + 1)) ≡ Some c → ListsEach all (IsMemberAs p t kind.Type c n) → Lists all (λ d. look.TypeBefore p t x o d)
+      pub types_member : (c : ℕ) (all : List ℕ) → parent p (o + 1) ≡ o → referred_type p (t (o + 1)) ≡ Some c → ListsEach all (IsMemberAs p t kind.Type c n) → Lists all (λ d. TypeBefore p t x o d)
       types_member c all up e each = lists_by all all refl each.lists
-          (λ d m. look.TypeBefore.member (type_named c up e) (record { member = m.member; declares = declares d m.of.role_is (named d m.of.named) })) (λ d k. by k)
+          (λ d m. TypeBefore.member (type_named p t o c up e) (record { member = m.member; declares = declares d m.of.role_is (named d m.of.named) })) (λ d k. by k)
         where
-          by : {d : ℕ} → look.TypeBefore p t x o d → IsMemberAs p t kind.Type c n d
-          by {d = d} (look.TypeBefore.member {c = g} h m) = let same = same_Some g c (sym (names_type g h).1 ∙ e) in record {
+          by : {d : ℕ} → TypeBefore p t x o d → IsMemberAs p t kind.Type c n d
+          by {d = d} (TypeBefore.member {c = g} h m) = let same = same_Some g c (sym (names_type p t o g h).1 ∙ e) in record {
             of = record { role_is = type_role (role_at p d) m.declares.of_kind; named = numbered d m.declares.named };
             member = subst (λ c. MemberOf p t c d) same m.member;
           }
-          by (look.TypeBefore.top h k m) = absurd (package_no_row (t (o + 1)) c (type_named c up e).level h.refers (type_named c up e).refers)
+          by (TypeBefore.top h k m) = absurd (package_no_row (t (o + 1)) c (type_named p t o c up e).level h.refers (type_named p t o c up e).refers)
 
-      pub types_none : ((parent p (o + 1) ≡ o) → t (o + 1) ≡ Package → ⊥) → ((c : ℕ) → NamesType p t o c → ⊥) → (all : List ℕ) → all ≡ [] → Lists all (λ d. look.TypeBefore p t x o d)
+      pub types_none : ((parent p (o + 1) ≡ o) → t (o + 1) ≡ Package → ⊥) → ((c : ℕ) → NamesType p t o c → ⊥) → (all : List ℕ) → all ≡ [] → Lists all (λ d. TypeBefore p t x o d)
       types_none no_package no_name all is = lists_none all is (λ d k. by k)
         where
-          by : {d : ℕ} → look.TypeBefore p t x o d → ⊥
-          by (look.TypeBefore.member {c = c} h m) = no_name c h
-          by (look.TypeBefore.top h k m) = no_package h.first h.refers
+          by : {d : ℕ} → TypeBefore p t x o d → ⊥
+          by (TypeBefore.member {c = c} h m) = no_name c h
+          by (TypeBefore.top h k m) = no_package h.first h.refers

@@ -1,5 +1,5 @@
 -- The answer at a place, by what is sought there.
-use Rattle.std.proofs.Common.{◌≡◌, refl, sym, ◌∙◌, ap, subst, ℕ, ◌+◌, cond, List, Option, Some, None, unwrap_or, nat_eq, bytes_eq}
+use Rattle.std.proofs.Common.{◌≡◌, refl, sym, ◌∙◌, ap, subst, arith, ℕ, ◌+◌, cond, List, Option, Some, None, unwrap_or, nat_eq, bytes_eq}
 use Rattle.std.proofs.lemmas.Bool.Decides.{same_from_decides}
 use Rattle.std.proofs.lemmas.Option.{none-some, same_Some}
 use Rattle.std.proofs.lemmas.Slice.Eq.{bytes_eq-Decides}
@@ -28,10 +28,11 @@ use Rattle.jr_plain.proofs.Typed.{named_finds}
 use Rattle.jr_places.specs.Names.{name_row}
 use Rattle.jr_places.proofs.Packing.{name_tells}
 use Rattle.jr_lookup.specs.declared.qualified.Receiver.{Receiver}
+use Rattle.jr_lookup.specs.declared.simple.Sight.{Sight}
 use Rattle.jr_lookup.specs.Answers.{simple_otherwise, IsOwnClass, IsLabelAt, IsSuperField, IsFree, IsCreated, IsCalled}
 use Rattle.jr_lookup.specs.Outward.{IsNumberOf}
-use Rattle.jr_lookup.specs.Behind.{receiver_with}
-use Rattle.jr_lookup.specs.Calls.{IsCall}
+use Rattle.jr_lookup.specs.Behind.{receiver_with, CanLook}
+use Rattle.jr_lookup.specs.Calls.{IsCall, CanSee, NeedsTypes}
 use Rattle.jr_lookup.proofs.Calling.{answer_same}
 
 -- ---- the name of a row, and what the row right behind a place refers to
@@ -255,3 +256,21 @@ is_no_call sought.SuperField h a b c d e = absurd h
 is_no_call sought.OwnClass h a b c d e = absurd h
 is_no_call sought.Label h a b c d e = absurd h
 is_no_call sought.Nothing h a b c d e = absurd h
+
+pub call_needs : (s : Sought) → IsCall s → NeedsTypes s
+call_needs sought.Method h = tt
+call_needs sought.MethodOf h = tt
+call_needs sought.SuperMethod h = tt
+call_needs sought.Creation h = tt
+call_needs (sought.ConstructorCall w) h = tt
+call_needs (sought.Simple k) h = absurd h
+call_needs (sought.Qualified k) h = absurd h
+call_needs sought.FieldOf h = absurd h
+call_needs sought.SuperField h = absurd h
+call_needs sought.OwnClass h = absurd h
+call_needs sought.Label h = absurd h
+call_needs sought.Nothing h = absurd h
+
+-- where the types of all that stands behind a place are known, all else is
+pub can_see : (t : Table) (sight : Sight) (types : List (Option RowType)) (place : ℕ) → CanLook t sight types place → CanSee t sight place
+can_see t sight types place k = record { sight_is = k.sight_is; placed = k.placed; inside = k.inside; same = k.seen (place + 1) (omega arith) }

@@ -1,9 +1,9 @@
 -- The answer of a name or field behind a dot.
-use Rattle.std.proofs.Common.{◌≡◌, ◌⊎◌, refl, sym, ◌∙◌, ap, subst, ⊎_elim, arith, ℕ, zero, suc, ◌+◌, ◌<◌, Bool, true, false, cond, List, [], ◌∷◌, length, codes, Option, Some, None, nat_lt, Decides}
+use Rattle.std.proofs.Common.{◌≡◌, refl, sym, ◌∙◌, ap, subst, arith, ℕ, zero, suc, ◌+◌, ◌<◌, Bool, true, false, cond, List, [], ◌∷◌, length, codes, Option, Some, None, nat_lt, Decides}
 use Rattle.std.specs.Prelude.{◌&&◌, bytes_eq}
 use Rattle.std.proofs.lemmas.Bool.{false≢true}
 use Rattle.std.proofs.lemmas.Bool.Decides.{Decides-ltb}
-use Rattle.std.proofs.lemmas.Option.{none-some}
+use Rattle.std.proofs.lemmas.Option.{none-some, same_Some}
 use Rattle.std.proofs.lemmas.Slice.Eq.{bytes_eq-Decides}
 use Rattle.jr_base.specs.declared.text.Text.{Text}
 use Rattle.jr_tree.specs.declared.label.NameKind.{NameKind}
@@ -18,7 +18,7 @@ use Rattle.jr_defs.specs.declared.referent.Space.TheVariants as space
 use Rattle.jr_defs.specs.Referents.{Table, IsAnswer}
 use Rattle.jr_defs.specs.Types.{array}
 use Rattle.jr_defs.specs.Typing.{TypeOf}
-use Rattle.jr_defs.specs.Lookup.{MemberBefore, TypeBefore, QualifiedCandidate, Candidate, ArrayBefore, MayBePackage, MayBeLength, IsPackageName, IsLength, Otherwise}
+use Rattle.jr_defs.specs.Lookup.{MemberBefore, TypeBefore, QualifiedCandidate, Candidate, ArrayBefore, MayBePackage, MayBeLength, IsPackageName, Otherwise}
 use Rattle.jr_plain.specs.Search.{has, Lists, Finds}
 use Rattle.jr_plain.specs.Lists.{at_level}
 use Rattle.jr_plain.specs.Lookup.{may_be_package}
@@ -29,9 +29,8 @@ use Rattle.jr_plain.proofs.Answered.{answer_is}
 use Rattle.jr_places.specs.declared.places.Places.{Places}
 use Rattle.jr_members.proofs.Each.{front_has}
 use Rattle.jr_lookup.specs.declared.qualified.Left.{Left}
-use Rattle.jr_lookup.specs.declared.qualified.Left.TheVariants as left
 use Rattle.jr_lookup.specs.Answers.{AreAllThrough}
-use Rattle.jr_lookup.specs.Behind.{IsLeftAt, IsLeftOf, length_by, length_of, otherwise_by}
+use Rattle.jr_lookup.specs.Behind.{IsLeftAt, IsLeftOf, value_of, HasValue, NeedsValue, length_of, length_or_unbound, otherwise_by}
 use Rattle.jr_lookup.proofs.Sighting.{lists_by, lists_none}
 use Rattle.jr_lookup.proofs.Dotted.{package_no_type}
 
@@ -131,21 +130,21 @@ module _ (p : Rows) (t : Table) (K : ℕ → Type 0) (x : Text) (o : ℕ) where
         by zero e = let more = (d.0 refl).0 in absurd (omega (arith, e, more))
         by (suc k) e = record { first = up; held = a.element; dims = k; type = subst (λ n. TypeOf p t K (o + 1) (array a.element n)) e ((typed a).0 refl) }
     length_else s may no_package up a typed false d = Otherwise.unbound no_package
-        (λ h. let same = ap (λ b. b.dims) (same_type a (array h.array.held (suc h.array.dims)) ((typed (array h.array.held (suc h.array.dims))).1 h.array.type)) in false≢true (d.1 (omega (arith, same), h.named)))
-      where
-        same_type : (a b : RowType) → Some a ≡ Some b → a ≡ b
-        same_type a b e = cc
+        (λ h. let same = ap (λ b. b.dims) (same_Some a (array h.array.held (suc h.array.dims)) ((typed (array h.array.held (suc h.array.dims))).1 h.array.type)) in false≢true (d.1 (omega (arith, same), h.named)))
 
-    pub length_holds : (s : Sought) → MayBeLength s → (IsPackageName p t o s → ⊥) → {l : Left} → IsLeftOf p t K places o l → Else s (length_of l x)
-    length_holds s may no_package (IsLeftOf.none apart) = unbound_else s no_package (λ m h. apart h.first)
-    length_holds s may no_package (IsLeftOf.child up (IsLeftAt.package e f no_value)) = unbound_else s no_package (λ m h. no_value (array h.held (suc h.dims)) h.type)
-    length_holds s may no_package (IsLeftOf.child up (IsLeftAt.of_type e no_value)) = unbound_else s no_package (λ m h. no_value (array h.held (suc h.dims)) h.type)
-    length_holds s may no_package (IsLeftOf.child up (IsLeftAt.value {a = a} out e typed)) = length_else s may no_package up a typed (nat_lt 0 a.dims && bytes_eq x (codes "length"))
+    no_array : {l : Left} → HasValue p t K o l → value_of l ≡ None → ArrayBefore p t K o → ⊥
+    no_array v e h = none-some (array h.held (suc h.dims)) (sym e ∙ (v.typed h.first (array h.held (suc h.dims))).1 h.type)
+
+    pub length_holds : (s : Sought) → MayBeLength s → (IsPackageName p t o s → ⊥) → {l : Left} → IsLeftOf p t places o l → HasValue p t K o l → Else s (length_of l x)
+    length_holds s may no_package (IsLeftOf.none apart) v = unbound_else s no_package (λ m h. apart h.first)
+    length_holds s may no_package (IsLeftOf.child up (IsLeftAt.package e f)) v = unbound_else s no_package (λ m. no_array v refl)
+    length_holds s may no_package (IsLeftOf.child up (IsLeftAt.of_type e)) v = unbound_else s no_package (λ m. no_array v refl)
+    length_holds s may no_package (IsLeftOf.child up (IsLeftAt.value {a = a} out e)) v = length_else s may no_package up a (v.typed up) (nat_lt 0 a.dims && bytes_eq x (codes "length"))
         (both (Decides-ltb 0 a.dims) (bytes_eq-Decides x (codes "length")))
-    length_holds s may no_package (IsLeftOf.child up (IsLeftAt.nothing out e no_value)) = unbound_else s no_package (λ m h. no_value (array h.held (suc h.dims)) h.type)
+    length_holds s may no_package (IsLeftOf.child up (IsLeftAt.nothing out e)) v = unbound_else s no_package (λ m. no_array v refl)
 
-    pub field_else : {l : Left} → IsLeftOf p t K places o l → Else sought.FieldOf (length_of l x)
-    field_else h = length_holds sought.FieldOf tt (λ k. elim k [ ]) h
+    pub field_else : {l : Left} → IsLeftOf p t places o l → HasValue p t K o l → Else sought.FieldOf (length_of l x)
+    field_else h v = length_holds sought.FieldOf tt (λ k. elim k [ ]) h v
 
     package_of : {k : NameKind} → IsPackageName p t o (sought.Qualified k) → MayBePackage k × (parent p (o + 1) ≡ o) × (t (o + 1) ≡ Package)
     package_of (IsPackageName.qualified m h) = (m, h.first, h.refers)
@@ -157,33 +156,29 @@ module _ (p : Rows) (t : Table) (K : ℕ → Type 0) (x : Text) (o : ℕ) where
     may_tells names.Type = (λ h. absurd (false≢true h), λ h. absurd h)
     may_tells names.Package = (λ h. absurd (false≢true h), λ h. absurd h)
 
+    needs : (k : NameKind) → MayBeLength (sought.Qualified k) → NeedsValue k
+    needs names.Variable m = tt
+    needs names.Ambiguous m = tt
+    needs names.Type m = absurd m
+    needs names.PackageOrType m = absurd m
+    needs names.Package m = absurd m
+
     -- a package before the dot
-    package_else : (k : NameKind) → parent p (o + 1) ≡ o → t (o + 1) ≡ Package → ((a : RowType) → TypeOf p t K (o + 1) a → ⊥) → (b : Bool) → Decides b (MayBePackage k) → Else (sought.Qualified k) (cond b Package Unbound)
+    package_else : (k : NameKind) → parent p (o + 1) ≡ o → t (o + 1) ≡ Package → (MayBeLength (sought.Qualified k) → ArrayBefore p t K o → ⊥) → (b : Bool) → Decides b (MayBePackage k) → Else (sought.Qualified k) (cond b Package Unbound)
     package_else k up e no_value true d = Otherwise.package_name (IsPackageName.qualified (d.0 refl) (record { first = up; refers = e; spells = refl }))
-    package_else k up e no_value false d = unbound_else (sought.Qualified k) (λ h. false≢true (d.1 (package_of h).0)) (λ m h. no_value (array h.held (suc h.dims)) h.type)
+    package_else k up e no_value false d = unbound_else (sought.Qualified k) (λ h. false≢true (d.1 (package_of h).0)) no_value
 
     -- none before it
-    other_else : (k : NameKind) → (parent p (o + 1) ≡ o → t (o + 1) ≡ Package → ⊥) → {l : Left} → IsLeftOf p t K places o l → ((number : Option ℕ) → l ≡ left.Package number → ⊥) → Else (sought.Qualified k) (otherwise_by l k x)
-    other_else k no_package {l = left.Package number} h out = absurd (out number refl)
-    other_else names.Variable no_package {l = left.OfType c} h out = length_holds (sought.Qualified names.Variable) tt (λ k. let i = package_of k in no_package i.1 i.2) h
-    other_else names.Ambiguous no_package {l = left.OfType c} h out = length_holds (sought.Qualified names.Ambiguous) tt (λ k. let i = package_of k in no_package i.1 i.2) h
-    other_else names.Type no_package {l = left.OfType c} h out = unbound_else (sought.Qualified names.Type) (λ k. let i = package_of k in no_package i.1 i.2) (λ m k. m)
-    other_else names.PackageOrType no_package {l = left.OfType c} h out = unbound_else (sought.Qualified names.PackageOrType) (λ k. let i = package_of k in no_package i.1 i.2) (λ m k. m)
-    other_else names.Package no_package {l = left.OfType c} h out = unbound_else (sought.Qualified names.Package) (λ k. let i = package_of k in no_package i.1 i.2) (λ m k. m)
-    other_else names.Variable no_package {l = left.Value a} h out = length_holds (sought.Qualified names.Variable) tt (λ k. let i = package_of k in no_package i.1 i.2) h
-    other_else names.Ambiguous no_package {l = left.Value a} h out = length_holds (sought.Qualified names.Ambiguous) tt (λ k. let i = package_of k in no_package i.1 i.2) h
-    other_else names.Type no_package {l = left.Value a} h out = unbound_else (sought.Qualified names.Type) (λ k. let i = package_of k in no_package i.1 i.2) (λ m k. m)
-    other_else names.PackageOrType no_package {l = left.Value a} h out = unbound_else (sought.Qualified names.PackageOrType) (λ k. let i = package_of k in no_package i.1 i.2) (λ m k. m)
-    other_else names.Package no_package {l = left.Value a} h out = unbound_else (sought.Qualified names.Package) (λ k. let i = package_of k in no_package i.1 i.2) (λ m k. m)
-    other_else names.Variable no_package {l = left.Nothing} h out = length_holds (sought.Qualified names.Variable) tt (λ k. let i = package_of k in no_package i.1 i.2) h
-    other_else names.Ambiguous no_package {l = left.Nothing} h out = length_holds (sought.Qualified names.Ambiguous) tt (λ k. let i = package_of k in no_package i.1 i.2) h
-    other_else names.Type no_package {l = left.Nothing} h out = unbound_else (sought.Qualified names.Type) (λ k. let i = package_of k in no_package i.1 i.2) (λ m k. m)
-    other_else names.PackageOrType no_package {l = left.Nothing} h out = unbound_else (sought.Qualified names.PackageOrType) (λ k. let i = package_of k in no_package i.1 i.2) (λ m k. m)
-    other_else names.Package no_package {l = left.Nothing} h out = unbound_else (sought.Qualified names.Package) (λ k. let i = package_of k in no_package i.1 i.2) (λ m k. m)
+    rest_else : (k : NameKind) → (parent p (o + 1) ≡ o → t (o + 1) ≡ Package → ⊥) → {l : Left} → IsLeftOf p t places o l → (NeedsValue k → HasValue p t K o l) → Else (sought.Qualified k) (length_or_unbound l k x)
+    rest_else names.Variable no_package h v = length_holds (sought.Qualified names.Variable) tt (λ k. let i = package_of k in no_package i.1 i.2) h (v tt)
+    rest_else names.Ambiguous no_package h v = length_holds (sought.Qualified names.Ambiguous) tt (λ k. let i = package_of k in no_package i.1 i.2) h (v tt)
+    rest_else names.Type no_package h v = unbound_else (sought.Qualified names.Type) (λ k. let i = package_of k in no_package i.1 i.2) (λ m k. m)
+    rest_else names.PackageOrType no_package h v = unbound_else (sought.Qualified names.PackageOrType) (λ k. let i = package_of k in no_package i.1 i.2) (λ m k. m)
+    rest_else names.Package no_package h v = unbound_else (sought.Qualified names.Package) (λ k. let i = package_of k in no_package i.1 i.2) (λ m k. m)
 
-    pub behind_else : (k : NameKind) → {l : Left} → IsLeftOf p t K places o l → Else (sought.Qualified k) (otherwise_by l k x)
-    behind_else k (IsLeftOf.none apart) = other_else k (λ up e. apart up) (IsLeftOf.none apart) (λ n e. cc)
-    behind_else k (IsLeftOf.child up (IsLeftAt.package e f no_value)) = package_else k up e no_value (may_be_package k) (may_tells k)
-    behind_else k (IsLeftOf.child up (IsLeftAt.of_type e no_value)) = other_else k (λ u r. package_no_type p t o r e) (IsLeftOf.child up (IsLeftAt.of_type e no_value)) (λ n e. cc)
-    behind_else k (IsLeftOf.child up (IsLeftAt.value out e typed)) = other_else k (λ u r. out r) (IsLeftOf.child up (IsLeftAt.value out e typed)) (λ n e. cc)
-    behind_else k (IsLeftOf.child up (IsLeftAt.nothing out e no_value)) = other_else k (λ u r. out r) (IsLeftOf.child up (IsLeftAt.nothing out e no_value)) (λ n e. cc)
+    pub behind_else : (k : NameKind) → {l : Left} → IsLeftOf p t places o l → (NeedsValue k → HasValue p t K o l) → Else (sought.Qualified k) (otherwise_by l k x)
+    behind_else k (IsLeftOf.none apart) v = rest_else k (λ up e. apart up) (IsLeftOf.none apart) v
+    behind_else k (IsLeftOf.child up (IsLeftAt.package e f)) v = package_else k up e (λ m. no_array (v (needs k m)) refl) (may_be_package k) (may_tells k)
+    behind_else k (IsLeftOf.child up (IsLeftAt.of_type e)) v = rest_else k (λ u r. package_no_type p t o r e) (IsLeftOf.child up (IsLeftAt.of_type e)) v
+    behind_else k (IsLeftOf.child up (IsLeftAt.value out e)) v = rest_else k (λ u r. out r) (IsLeftOf.child up (IsLeftAt.value out e)) v
+    behind_else k (IsLeftOf.child up (IsLeftAt.nothing out e)) v = rest_else k (λ u r. out r) (IsLeftOf.child up (IsLeftAt.nothing out e)) v

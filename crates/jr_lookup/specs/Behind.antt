@@ -1,5 +1,5 @@
 -- What stands before a dot, and what is to be known at a place where something is looked up (JLS 6.5, 15.11, 15.12).
-use Rattle.std.specs.Prelude.{◌≡◌, ℕ, ◌+◌, ◌<◌, ◌^◌, ◌-◌, ◌≤◌, Bool, true, false, ◌&&◌, ◌++◌, if◌then◌else◌, List, length, codes, Option, Some, None, option_map, nat_lt, bytes_eq, slice_index_or}
+use Rattle.std.specs.Prelude.{◌≡◌, if◌then◌else◌, ℕ, ◌+◌, ◌<◌, ◌^◌, ◌-◌, ◌≤◌, Bool, true, false, ◌&&◌, ◌++◌, List, length, codes, Option, Some, None, option_map, nat_lt, bytes_eq, slice_index_or}
 use Rattle.jr_base.specs.declared.text.Text.{Text}
 use Rattle.jr_tree.specs.declared.label.Label.{Label}
 use Rattle.jr_tree.specs.declared.label.Label.TheVariants as is
@@ -48,22 +48,36 @@ pub record RefersByNames (p : Rows) (t : Table) : Type 0 where
   pub type : (n d : ℕ) (level : Option ℕ) → t n ≡ Declared d level → IsType p d → IsTypeLabel (label p n)
   pub package : (n : ℕ) → t n ≡ Package → IsTypeLabel (label p n)
 
--- what the row n is before a dot: a package, by the number of its name if one that begins so has units, a type, or an expression of a type
-pub data IsLeftAt (p : Rows) (t : Table) (K : ℕ → Type 0) (places : Places) (n : ℕ) : Left → Type 0 where
-  package : {number : Option ℕ} → t n ≡ Package → Finds number (IsSpelled p places.packages n) → ((a : RowType) → TypeOf p t K n a → ⊥) → IsLeftAt p t K places n (left.Package number)
-  of_type : {c : ℕ} → referred_type p (t n) ≡ Some c → ((a : RowType) → TypeOf p t K n a → ⊥) → IsLeftAt p t K places n (left.OfType c)
-  value : {a : RowType} → (t n ≡ Package → ⊥) → referred_type p (t n) ≡ None → Finds (Some a) (λ b. TypeOf p t K n b) → IsLeftAt p t K places n (left.Value a)
-  nothing : (t n ≡ Package → ⊥) → referred_type p (t n) ≡ None → ((a : RowType) → TypeOf p t K n a → ⊥) → IsLeftAt p t K places n left.Nothing
+-- what the row n is before a dot: a package, by the number of its name if one that begins so has units, a type, or neither
+pub data IsLeftAt (p : Rows) (t : Table) (places : Places) (n : ℕ) : Left → Type 0 where
+  package : {number : Option ℕ} → t n ≡ Package → Finds number (IsSpelled p places.packages n) → IsLeftAt p t places n (left.Package number)
+  of_type : {c : ℕ} → referred_type p (t n) ≡ Some c → IsLeftAt p t places n (left.OfType c)
+  value : {a : RowType} → (t n ≡ Package → ⊥) → referred_type p (t n) ≡ None → IsLeftAt p t places n (left.Value a)
+  nothing : (t n ≡ Package → ⊥) → referred_type p (t n) ≡ None → IsLeftAt p t places n left.Nothing
 
 -- an expression of a type that is known, or nothing
 abbrev pub left_by : Option RowType → Left
 left_by (Some a) = left.Value a
 left_by None = left.Nothing
 
+abbrev pub value_of : Left → Option RowType
+value_of (left.Value a) = Some a
+value_of _ = None
+
 -- what stands before the dot of the row o, in its first child
-pub data IsLeftOf (p : Rows) (t : Table) (K : ℕ → Type 0) (places : Places) (o : ℕ) : Left → Type 0 where
-  child : {l : Left} → parent p (o + 1) ≡ o → IsLeftAt p t K places (o + 1) l → IsLeftOf p t K places o l
-  none : (parent p (o + 1) ≡ o → ⊥) → IsLeftOf p t K places o left.Nothing
+pub data IsLeftOf (p : Rows) (t : Table) (places : Places) (o : ℕ) : Left → Type 0 where
+  child : {l : Left} → parent p (o + 1) ≡ o → IsLeftAt p t places (o + 1) l → IsLeftOf p t places o l
+  none : (parent p (o + 1) ≡ o → ⊥) → IsLeftOf p t places o left.Nothing
+
+-- it is an expression of this type, or none
+pub record HasValue (p : Rows) (t : Table) (K : ℕ → Type 0) (o : ℕ) (l : Left) : Type 0 where
+  pub typed : parent p (o + 1) ≡ o → Finds (value_of l) (λ a. TypeOf p t K (o + 1) a)
+
+-- a name behind a dot of which an expression may be the left part
+abbrev pub NeedsValue : NameKind → Type 0
+NeedsValue names.Variable = Unit {0}
+NeedsValue names.Ambiguous = Unit {0}
+NeedsValue _ = ⊥
 
 abbrev pub receiver_with : Option RowType → ℕ → Receiver
 receiver_with a c = record { class = c; ty = a }

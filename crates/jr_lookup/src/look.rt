@@ -14,6 +14,7 @@ ghost use Rattle.jr_defs.specs.Lookup.{Receiver as ReceiverOf};
 ghost use Rattle.jr_defs.specs.Members.{MemberNamed, MemberOf};
 ghost use Rattle.jr_defs.specs.Overloads.{Choice, ImportedChoice};
 ghost use Rattle.jr_defs.specs.Referents.{Table, entries};
+ghost use Rattle.jr_defs.specs.Typing.{TypeOf};
 ghost use Rattle.jr_plain.specs.Overloads.{argument_types};
 ghost use Rattle.jr_plain.specs.Search.{Finds, Lists};
 ghost use Rattle.jr_members.specs.Worlds.{IsWorld};
@@ -121,7 +122,8 @@ fn arguments_from(
 impl<'a> Sight<'a> {
     /// What stands before the dot of a row, in its first child.
     pub fn left_of(&self, types: &[Option<RowType>], place: u32) -> Left
-        ensures { (t : Table) → behind.CanLook t self.now types.now place → behind.IsLeftOf self.now.world.under.rows.now t (HasConstantForm self.now.world.under.rows.now t) self.now.world.under.places.now place result }
+        ensures before { (t : Table) → IsSight t self.now → entries self.now.world.under.table.now (place + 1) ≡ t (place + 1) → behind.IsLeftOf self.now.world.under.rows.now t self.now.world.under.places.now place result }
+        ensures value { (t : Table) → behind.CanLook t self.now types.now place → behind.HasValue self.now.world.under.rows.now t (HasConstantForm self.now.world.under.rows.now t) place result }
     {
         match self.world.under.first_child(place) {
             Some(child) => self.left_at(types, child),
@@ -131,7 +133,8 @@ impl<'a> Sight<'a> {
 
     // What a row is before a dot.
     fn left_at(&self, types: &[Option<RowType>], at: u32) -> Left
-        ensures { (t : Table) (o : ℕ) → behind.CanLook t self.now types.now o → o < at → at < length self.now.world.under.rows.now → behind.IsLeftAt self.now.world.under.rows.now t (HasConstantForm self.now.world.under.rows.now t) self.now.world.under.places.now at result }
+        ensures before { (t : Table) → IsSight t self.now → entries self.now.world.under.table.now at ≡ t at → at < length self.now.world.under.rows.now → behind.IsLeftAt self.now.world.under.rows.now t self.now.world.under.places.now at result }
+        ensures value { (t : Table) (o : ℕ) → behind.CanLook t self.now types.now o → o < at → Finds (behind.value_of result) (λ a. TypeOf self.now.world.under.rows.now t (HasConstantForm self.now.world.under.rows.now t) at a) }
     {
         let under = self.world.under;
         match under.referent(at) {
@@ -142,7 +145,8 @@ impl<'a> Sight<'a> {
 
     // What a row that refers to no package is before a dot.
     fn type_or_value(&self, types: &[Option<RowType>], at: u32) -> Left
-        ensures { (t : Table) (o : ℕ) → behind.CanLook t self.now types.now o → o < at → (entries self.now.world.under.table.now at ≡ referring.Package → ⊥) → behind.IsLeftAt self.now.world.under.rows.now t (HasConstantForm self.now.world.under.rows.now t) self.now.world.under.places.now at result }
+        ensures before { (t : Table) → entries self.now.world.under.table.now at ≡ t at → (entries self.now.world.under.table.now at ≡ referring.Package → ⊥) → behind.IsLeftAt self.now.world.under.rows.now t self.now.world.under.places.now at result }
+        ensures value { (t : Table) (o : ℕ) → behind.CanLook t self.now types.now o → o < at → Finds (behind.value_of result) (λ a. TypeOf self.now.world.under.rows.now t (HasConstantForm self.now.world.under.rows.now t) at a) }
     {
         match self.world.under.referred_type(at) {
             Some(over) => Left::OfType(over),
@@ -396,7 +400,7 @@ impl<'a> Sight<'a> {
         kind: NameKind,
         name: u32,
     ) -> Result<Referent, OutOfMemory>
-        ensures { (t : Table) (x : Text) → behind.CanLook t self.now types.now place → IsNumberOf self.now.world.under.rows.now name x → program.name self.now.world.under.rows.now name ≡ x → IfOk result (λ a. calls.LookedFor self.now.world.under.rows.now t place x (seeking.Qualified kind) a) }
+        ensures { (t : Table) (x : Text) → calls.CanSee t self.now place → (behind.NeedsValue kind → behind.CanLook t self.now types.now place) → IsNumberOf self.now.world.under.rows.now name x → program.name self.now.world.under.rows.now name ≡ x → IfOk result (λ a. calls.LookedFor self.now.world.under.rows.now t place x (seeking.Qualified kind) a) }
     {
         self.qualified(alloc, self.left_of(types, place), kind, name)
     }
@@ -538,7 +542,7 @@ impl<'a> Sight<'a> {
         name: u32,
         sought: Sought,
     ) -> Result<Referent, OutOfMemory>
-        ensures { (t : Table) (x : Text) → behind.CanLook t self.now types.now place → IsNumberOf self.now.world.under.rows.now name x → program.name self.now.world.under.rows.now name ≡ x → IfOk result (λ a. calls.LookedFor self.now.world.under.rows.now t place x sought a) }
+        ensures { (t : Table) (x : Text) → calls.CanSee t self.now place → (calls.NeedsTypes sought → behind.CanLook t self.now types.now place) → IsNumberOf self.now.world.under.rows.now name x → program.name self.now.world.under.rows.now name ≡ x → IfOk result (λ a. calls.LookedFor self.now.world.under.rows.now t place x sought a) }
     {
         match sought {
             Sought::Nothing => Ok(Referent::Unbound),
@@ -559,7 +563,7 @@ impl<'a> Sight<'a> {
         types: &[Option<RowType>],
         place: u32,
     ) -> Result<Referent, OutOfMemory>
-        ensures { (t : Table) → behind.CanLook t self.now types.now place → IfOk result (λ a. Look self.now.world.under.rows.now t (HasConstantForm self.now.world.under.rows.now t) place a) }
+        ensures { (t : Table) → calls.CanSee t self.now place → (calls.NeedsTypes (program.sought_at self.now.world.under.rows.now place) → behind.CanLook t self.now types.now place) → IfOk result (λ a. Look self.now.world.under.rows.now t (HasConstantForm self.now.world.under.rows.now t) place a) }
     {
         let under = self.world.under;
         let name = under.places.name(place);

@@ -170,14 +170,14 @@ fn may_be_package(kind: NameKind) -> bool
 impl<'a> Sight<'a> {
     /// The class whose members are meant behind the dot; an array has those of Object (JLS 10.7).
     pub fn receiver(&self, left: Left) -> Option<Receiver>
-        ensures { (t : Table) (o : ℕ) → IsWorld t self.now.world → behind.IsLeftOf self.now.world.under.rows.now t (HasConstantForm self.now.world.under.rows.now t) self.now.world.under.places.now o left → Finds result (λ r. tell.Receiver self.now.world.under.rows.now t (HasConstantForm self.now.world.under.rows.now t) o r.class r.ty) }
+        ensures { (t : Table) (o : ℕ) → IsWorld t self.now.world → behind.IsLeftOf self.now.world.under.rows.now t self.now.world.under.places.now o left → behind.HasValue self.now.world.under.rows.now t (HasConstantForm self.now.world.under.rows.now t) o left → Finds result (λ r. tell.Receiver self.now.world.under.rows.now t (HasConstantForm self.now.world.under.rows.now t) o r.class r.ty) }
     {
         receiver_of(self.world.supers.object(), left)
     }
 
     // The fields of the name behind the dot.
     fn fields_of(&self, alloc: Global, left: Left, name: u32) -> Result<Vec<u32>, OutOfMemory>
-        ensures { (t : Table) (x : Text) (o : ℕ) → IsWorld t self.now.world → behind.IsLeftOf self.now.world.under.rows.now t (HasConstantForm self.now.world.under.rows.now t) self.now.world.under.places.now o left → IsNumberOf self.now.world.under.rows.now name x → IfOk result (λ found. Lists found.items (λ d. tell.MemberBefore self.now.world.under.rows.now t (HasConstantForm self.now.world.under.rows.now t) space.Variable x o d)) }
+        ensures { (t : Table) (x : Text) (o : ℕ) → IsWorld t self.now.world → behind.IsLeftOf self.now.world.under.rows.now t self.now.world.under.places.now o left → behind.HasValue self.now.world.under.rows.now t (HasConstantForm self.now.world.under.rows.now t) o left → IsNumberOf self.now.world.under.rows.now name x → IfOk result (λ found. Lists found.items (λ d. tell.MemberBefore self.now.world.under.rows.now t (HasConstantForm self.now.world.under.rows.now t) space.Variable x o d)) }
     {
         match self.receiver(left) {
             Some(receiver) => {
@@ -205,7 +205,7 @@ impl<'a> Sight<'a> {
 
     // The member types, or the types of a package, of the name behind the dot.
     fn types_of(&self, alloc: Global, left: Left, name: u32) -> Result<Vec<u32>, OutOfMemory>
-        ensures { (t : Table) (x : Text) (o : ℕ) → IsSight t self.now → behind.IsLeftOf self.now.world.under.rows.now t (HasConstantForm self.now.world.under.rows.now t) self.now.world.under.places.now o left → IsNumberOf self.now.world.under.rows.now name x → IfOk result (λ found. Lists found.items (λ d. tell.TypeBefore self.now.world.under.rows.now t x o d)) }
+        ensures { (t : Table) (x : Text) (o : ℕ) → IsSight t self.now → behind.IsLeftOf self.now.world.under.rows.now t self.now.world.under.places.now o left → IsNumberOf self.now.world.under.rows.now name x → IfOk result (λ found. Lists found.items (λ d. tell.TypeBefore self.now.world.under.rows.now t x o d)) }
     {
         match left {
             Left::OfType(over) => self.world.named(alloc, MemberKind::Type, over, name),
@@ -221,7 +221,7 @@ impl<'a> Sight<'a> {
         left: Left,
         name: u32,
     ) -> Result<Vec<u32>, OutOfMemory>
-        ensures { (t : Table) (x : Text) (o : ℕ) → IsSight t self.now → behind.IsLeftOf self.now.world.under.rows.now t (HasConstantForm self.now.world.under.rows.now t) self.now.world.under.places.now o left → IsNumberOf self.now.world.under.rows.now name x → IfOk result (λ found. Lists found.items (λ d. tell.QualifiedCandidate self.now.world.under.rows.now t (HasConstantForm self.now.world.under.rows.now t) x o names.Ambiguous d)) }
+        ensures { (t : Table) (x : Text) (o : ℕ) → IsSight t self.now → behind.IsLeftOf self.now.world.under.rows.now t self.now.world.under.places.now o left → behind.HasValue self.now.world.under.rows.now t (HasConstantForm self.now.world.under.rows.now t) o left → IsNumberOf self.now.world.under.rows.now name x → IfOk result (λ found. Lists found.items (λ d. tell.QualifiedCandidate self.now.world.under.rows.now t (HasConstantForm self.now.world.under.rows.now t) x o names.Ambiguous d)) }
     {
         let fields = self.fields_of(alloc, left, name)?;
         if !fields.is_empty() {
@@ -238,7 +238,7 @@ impl<'a> Sight<'a> {
         kind: NameKind,
         name: u32,
     ) -> Result<Vec<u32>, OutOfMemory>
-        ensures { (t : Table) (x : Text) (o : ℕ) → IsSight t self.now → behind.IsLeftOf self.now.world.under.rows.now t (HasConstantForm self.now.world.under.rows.now t) self.now.world.under.places.now o left → IsNumberOf self.now.world.under.rows.now name x → IfOk result (λ found. Lists found.items (λ d. tell.QualifiedCandidate self.now.world.under.rows.now t (HasConstantForm self.now.world.under.rows.now t) x o kind d)) }
+        ensures { (t : Table) (x : Text) (o : ℕ) → IsSight t self.now → behind.IsLeftOf self.now.world.under.rows.now t self.now.world.under.places.now o left → (behind.NeedsValue kind → behind.HasValue self.now.world.under.rows.now t (HasConstantForm self.now.world.under.rows.now t) o left) → IsNumberOf self.now.world.under.rows.now name x → IfOk result (λ found. Lists found.items (λ d. tell.QualifiedCandidate self.now.world.under.rows.now t (HasConstantForm self.now.world.under.rows.now t) x o kind d)) }
     {
         match kind {
             NameKind::Variable => self.fields_of(alloc, left, name),
@@ -257,7 +257,7 @@ impl<'a> Sight<'a> {
         kind: NameKind,
         name: u32,
     ) -> Result<Referent, OutOfMemory>
-        ensures { (t : Table) (x : Text) (o : ℕ) → IsSight t self.now → behind.IsLeftOf self.now.world.under.rows.now t (HasConstantForm self.now.world.under.rows.now t) self.now.world.under.places.now o left → IsNumberOf self.now.world.under.rows.now name x → program.name self.now.world.under.rows.now name ≡ x → IfOk result (λ a. tell.LookFor self.now.world.under.rows.now t (HasConstantForm self.now.world.under.rows.now t) o x (sought.Qualified kind) a) }
+        ensures { (t : Table) (x : Text) (o : ℕ) → IsSight t self.now → behind.IsLeftOf self.now.world.under.rows.now t self.now.world.under.places.now o left → (behind.NeedsValue kind → behind.HasValue self.now.world.under.rows.now t (HasConstantForm self.now.world.under.rows.now t) o left) → IsNumberOf self.now.world.under.rows.now name x → program.name self.now.world.under.rows.now name ≡ x → IfOk result (λ a. tell.LookFor self.now.world.under.rows.now t (HasConstantForm self.now.world.under.rows.now t) o x (sought.Qualified kind) a) }
     {
         let rows = self.found_behind(alloc, left, kind, name)?;
         let found = Candidates { rows, level: None };
@@ -266,7 +266,7 @@ impl<'a> Sight<'a> {
 
     /// What the field of an expression refers to (JLS 15.11.1).
     pub fn field(&self, alloc: Global, left: Left, name: u32) -> Result<Referent, OutOfMemory>
-        ensures { (t : Table) (x : Text) (o : ℕ) → IsWorld t self.now.world → behind.IsLeftOf self.now.world.under.rows.now t (HasConstantForm self.now.world.under.rows.now t) self.now.world.under.places.now o left → IsNumberOf self.now.world.under.rows.now name x → program.name self.now.world.under.rows.now name ≡ x → IfOk result (λ a. tell.LookFor self.now.world.under.rows.now t (HasConstantForm self.now.world.under.rows.now t) o x sought.FieldOf a) }
+        ensures { (t : Table) (x : Text) (o : ℕ) → IsWorld t self.now.world → behind.IsLeftOf self.now.world.under.rows.now t self.now.world.under.places.now o left → behind.HasValue self.now.world.under.rows.now t (HasConstantForm self.now.world.under.rows.now t) o left → IsNumberOf self.now.world.under.rows.now name x → program.name self.now.world.under.rows.now name ≡ x → IfOk result (λ a. tell.LookFor self.now.world.under.rows.now t (HasConstantForm self.now.world.under.rows.now t) o x sought.FieldOf a) }
     {
         let rows = self.fields_of(alloc, left, name)?;
         let found = Candidates { rows, level: None };
