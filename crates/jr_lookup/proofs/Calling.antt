@@ -83,16 +83,16 @@ module _ (p : Rows) (t : Table) (headed : IsHeaded p) where
 -- ---- methods without a receiver
 
 module _ (p : Rows) (t : Table) (x : Text) (o : ℕ) (arguments : List RowType) (level : Option ℕ) (f : Finds level (λ c. MethodLevel p t x o c)) where
-  pub method_some : (c : ℕ) → level ≡ Some c → (found : List ℕ) → Lists found (Choice p t c o None arguments (MemberNamed p t space.Method x c)) → AreAllThrough (λ d l. MethodCandidate p t x o arguments d l) found level
+  pub method_some : (c : ℕ) → level ≡ Some c → (found : List ℕ) → Lists found (Choice p t c o None arguments (MemberNamed p t space.Method x c)) → AreAllThrough (λ d l. MethodCandidate p t x o arguments d l) found (Some c)
   method_some c e found lists = record {
-    sound = λ d h. subst (λ l. MethodCandidate p t x o arguments d l) (sym e) (MethodCandidate.member ((f c).0 e) ((lists d).0 h));
+    sound = λ d h. MethodCandidate.member ((f c).0 e) ((lists d).0 h);
     whole = λ d l k. by k;
   }
     where
-      by : {d : ℕ} {l : Option ℕ} → MethodCandidate p t x o arguments d l → (has found d ≡ true) × (l ≡ level)
-      by (MethodCandidate.member {c = g} {d = d} at chosen) = let same = same_Some g c (sym ((f g).1 at) ∙ e) in
-          ((lists d).1 (subst (λ c. Choice p t c o None arguments (MemberNamed p t space.Method x c) d) same chosen), ap Some same ∙ sym e)
-      by (MethodCandidate.imported none chosen) = absurd (none c ((f c).0 e))
+      by : {d : ℕ} {l : Option ℕ} → MethodCandidate p t x o arguments d l → (has found d ≡ true) × (l ≡ Some c)
+      by (MethodCandidate.member {c = g} {d = d} at one) = let same = same_Some g c (sym ((f g).1 at) ∙ e) in
+          ((lists d).1 (subst (λ c. Choice p t c o None arguments (MemberNamed p t space.Method x c) d) same one), ap Some same)
+      by (MethodCandidate.imported none one) = absurd (none c ((f c).0 e))
 
   pub method_none : level ≡ None → (found : List ℕ) → Lists found (ImportedChoice p t o arguments (ImportedMethod p t x o)) → AreAllThrough (λ d l. MethodCandidate p t x o arguments d l) found level
   method_none e found lists = record {
@@ -101,8 +101,8 @@ module _ (p : Rows) (t : Table) (x : Text) (o : ℕ) (arguments : List RowType) 
   }
     where
       by : {d : ℕ} {l : Option ℕ} → MethodCandidate p t x o arguments d l → (has found d ≡ true) × (l ≡ level)
-      by (MethodCandidate.member {c = g} at chosen) = absurd (none-some g (sym e ∙ (f g).1 at))
-      by (MethodCandidate.imported {d = d} none chosen) = ((lists d).1 chosen, sym e)
+      by (MethodCandidate.member {c = g} at one) = absurd (none-some g (sym e ∙ (f g).1 at))
+      by (MethodCandidate.imported {d = d} none one) = ((lists d).1 one, sym e)
 
 pub all_free : (P : ℕ → Type 0) (found : List ℕ) (level : Option ℕ) → Lists found P → level ≡ None → AreAllThrough (IsFree P) found level
 all_free P found level lists is = record { sound = λ d h. record { is = (lists d).0 h; free = is }; whole = λ d l k. ((lists d).1 k.is, k.free ∙ sym is) }

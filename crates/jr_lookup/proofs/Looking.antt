@@ -136,7 +136,7 @@ module _ (p : Rows) (t : Table) (K : ℕ → Type 0) (o : ℕ) (x : Text) where
   arguments_of sought.Method call d l (Candidate.method {all = all} a h) = (all, a)
   arguments_of sought.MethodOf call d _ (Candidate.method_of {all = all} r a h) = (all, a)
   arguments_of sought.SuperMethod call d _ (Candidate.super_method {all = all} s a h) = (all, a)
-  arguments_of sought.Creation call d l (Candidate.creation {all = all} n l a h) = (all, a)
+  arguments_of sought.Creation call d l (Candidate.creation {all = all} n v a h) = (all, a)
   arguments_of (sought.ConstructorCall w) call d _ (Candidate.constructor {all = all} k a h) = (all, a)
   arguments_of (sought.Simple k) call d l h = absurd call
   arguments_of (sought.Qualified k) call d l h = absurd call
