@@ -1,5 +1,5 @@
 // What is computed from rows alone.
-ghost use Rattle.std.specs.Prelude.{◌≡◌, ◌<◌, ◌^◌, IfOk, length, None, slice_index_or};
+ghost use Rattle.std.specs.Prelude.{◌≡◌, ◌<◌, ◌+◌, ◌^◌, IfOk, length, None, slice_index_or};
 ghost use Rattle.jr_tree.specs.Local.{IsLocal};
 ghost use Rattle.jr_tree.specs.Rows.{Rows};
 ghost use Rattle.jr_tree.specs.Tree.{IsTree};
