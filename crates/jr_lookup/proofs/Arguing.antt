@@ -1,7 +1,7 @@
 -- The types of the arguments of a call, where those of the rows behind it are known.
-use Rattle.std.proofs.Common.{◌≡◌, refl, sym, ◌∙◌, ap, ap₂, subst, arith, ℕ, zero, suc, ◌+◌, ◌-◌, ◌<◌, ◌≤◌, Bool, true, false, cond, List, [], ◌∷◌, ◌++◌, append_assoc, append-nil, length, Option, Some, None, nat_eq, Decides}
+use Rattle.std.proofs.Common.{◌≡◌, refl, sym, ◌∙◌, ap, ap₂, subst, ⊎_elim, arith, ℕ, zero, suc, ◌+◌, ◌-◌, ◌<◌, ◌≤◌, Bool, true, false, cond, List, [], ◌∷◌, ◌++◌, append_assoc, append-nil, length, Option, Some, None, nat_eq, Decides}
 use Rattle.std.specs.Prelude.{option_map}
-use Rattle.std.proofs.lemmas.Bool.{false≢true}
+use Rattle.std.proofs.lemmas.Bool.{false≢true, cases_lt}
 use Rattle.std.proofs.lemmas.Bool.Decides.{Decides-eqb}
 use Rattle.std.proofs.lemmas.Option.{none-some, same_Some}
 use Rattle.jr_tree.specs.declared.label.Label.{Label}
@@ -78,6 +78,10 @@ module _ (p : Rows) (type_of : Types) (o first : ℕ) where
     where
       rounds : length p - turn ≡ suc (length p - (turn + 1))
       rounds = omega arith
+
+  pub argue_below : (turn child : ℕ) (all : List RowType) (is : Bool) → IsArguing p type_of o first turn child all → is ≡ nat_eq (parent p child) o → is ≡ true → child < length p
+  argue_below turn child all is h f e = let low = h.behind in let up = (Decides-eqb (parent p child) o).0 (sym f ∙ e) in
+      ⊎_elim (λ lt. lt) (λ le. let past = parent_past p child le in absurd (omega (arith, past, low, up))) (cases_lt child (length p))
 
   stopped : (rounds k : ℕ) → nat_eq (parent p k) o ≡ false → argument_types p type_of o rounds k ≡ Some []
   stopped zero k e = ap (λ b. cond b (before (type_of k) None) (Some [])) e

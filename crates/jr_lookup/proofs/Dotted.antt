@@ -90,7 +90,7 @@ module _ (p : Rows) (t : Table) (K : ℕ → Type 0) where
 
   module _ (refers : RefersByNames p t) (n : ℕ) where
     package_no_expression : t n ≡ Package → (a : RowType) → TypeOf p t K n a → ⊥
-    package_no_expression e a h = no_expression h (refers.package n e) (λ d level f v. package_no_row (t n) d level e f) (package_no_length (t n) e)
+    package_no_expression e a h = no_expression h (refers.packages n e) (λ d level f v. package_no_row (t n) d level e f) (package_no_length (t n) e)
 
     type_no_expression : (c : ℕ) → referred_type p (t n) ≡ Some c → (a : RowType) → TypeOf p t K n a → ⊥
     type_no_expression c e a h = let f = (referred_finds p (t n) c).0 e in no_expression h (refers.type n c f.0 f.1 f.2)
@@ -115,7 +115,7 @@ module _ (p : Rows) (t : Table) (K : ℕ → Type 0) where
 module _ (p : Rows) (t : Table) where
   module _ (places : Places) (n : ℕ) (seen : Referent) (sees : seen ≡ t n) where
     pub left_package : (number : Option ℕ) → seen ≡ Package → Finds number (IsSpelled p places.packages n) → IsLeftAt p t places n (left.Package number)
-    left_package number e f = IsLeftAt.package (sym sees ∙ e) f
+    left_package number e f = IsLeftAt.of_package (sym sees ∙ e) f
 
     pub left_type : (c : ℕ) (found : Option ℕ) → found ≡ referred_type p seen → found ≡ Some c → IsLeftAt p t places n (left.OfType c)
     left_type c found f e = IsLeftAt.of_type (ap (referred_type p) (sym sees) ∙ sym f ∙ e)
@@ -212,7 +212,7 @@ module _ (p : Rows) (t : Table) (K : ℕ → Type 0) (o : ℕ) where
           by (Meant.object {c = c} up h) = let same = is_typed (class_type c) h in same_receiver (same_Some d c (sym e ∙ ap (λ a. class_in a.element) same)) (ap Some same)
           by (Meant.array_object {dims = dims} {e = e} up h k) = let same = ap (λ b. b.dims) (is_typed (array e (suc dims)) h) in absurd (omega (arith, plain, same))
           by (Meant.type {c = c} h) = absurd (no_name c h)
-      class_meant plain None e = none_meant (λ r. by)
+      class_meant plain None e r = none_meant (λ r. by) r
         where
           by : {c : ℕ} {b : Option RowType} → Meant p t K o c b → ⊥
           by (Meant.object {c = c} up h) = none-some c (sym e ∙ ap (λ a. class_in a.element) (is_typed (class_type c) h))
@@ -230,7 +230,7 @@ module _ (p : Rows) (t : Table) (K : ℕ → Type 0) (o : ℕ) where
           by (Meant.object {c = c} up h) = let same = ap (λ b. b.dims) (is_typed (class_type c) h) in absurd (omega (arith, deep, same))
           by (Meant.array_object {c = c} up h k) = ap (λ c. Some (object_receiver c)) (same_Some d c ((f c).1 k))
           by (Meant.type {c = c} h) = absurd (no_name c h)
-      array_meant deep None f = none_meant (λ r. by)
+      array_meant deep None f r = none_meant (λ r. by) r
         where
           by : {c : ℕ} {b : Option RowType} → Meant p t K o c b → ⊥
           by (Meant.object {c = c} up h) = let same = ap (λ b. b.dims) (is_typed (class_type c) h) in omega (arith, deep, same)
@@ -246,7 +246,7 @@ module _ (p : Rows) (t : Table) (K : ℕ → Type 0) (o : ℕ) where
 
     pub receiver_finds : {l : Left} → IsLeftOf p t places o l → HasValue p t K o l → (object : Option ℕ) → Finds object (IsObject p) → Finds (receiver_of object l) Before
     receiver_finds (IsLeftOf.none apart) v object f = none_meant (λ r h. apart (first_of h))
-    receiver_finds (IsLeftOf.child up (IsLeftAt.package e g)) v object f = none_meant (λ r h. nothing_meant (untyped v up refl) (package_names_no_type p t o e) h)
+    receiver_finds (IsLeftOf.child up (IsLeftAt.of_package e g)) v object f = none_meant (λ r h. nothing_meant (untyped v up refl) (package_names_no_type p t o e) h)
     receiver_finds (IsLeftOf.child up (IsLeftAt.of_type {c = c} e)) v object f = type_meant c up e (untyped v up refl)
     receiver_finds (IsLeftOf.child up (IsLeftAt.value {a = a} out e)) v object f = value_meant up (λ c h. none-some c (sym e ∙ (names_type p t o c h).1)) a (v.typed up) object f (nat_lt 0 a.dims) (Decides-ltb 0 a.dims)
     receiver_finds (IsLeftOf.child up (IsLeftAt.nothing out e)) v object f = none_meant (λ r h. nothing_meant (untyped v up refl) (λ c k. none-some c (sym e ∙ (names_type p t o c k).1)) h)
@@ -264,14 +264,14 @@ module _ (p : Rows) (t : Table) (K : ℕ → Type 0) (o : ℕ) where
 
     pub type_before : {l : Left} → IsLeftOf p t places o l → (c : ℕ) → l ≡ left.OfType c → (parent p (o + 1) ≡ o) × (referred_type p (t (o + 1)) ≡ Some c)
     type_before (IsLeftOf.none apart) c same = absurd (cc)
-    type_before (IsLeftOf.child up (IsLeftAt.package e f)) c same = absurd (cc)
+    type_before (IsLeftOf.child up (IsLeftAt.of_package e f)) c same = absurd (cc)
     type_before (IsLeftOf.child up (IsLeftAt.of_type {c = d} e)) c same = (up, e ∙ ap Some (class_of_left d c same))
     type_before (IsLeftOf.child up (IsLeftAt.value out e)) c same = absurd (cc)
     type_before (IsLeftOf.child up (IsLeftAt.nothing out e)) c same = absurd (cc)
 
     pub package_before : {l : Left} → IsLeftOf p t places o l → (number : Option ℕ) → l ≡ left.Package number → (parent p (o + 1) ≡ o) × (t (o + 1) ≡ Package) × Finds number (IsSpelled p places.packages (o + 1))
     package_before (IsLeftOf.none apart) number same = absurd (cc)
-    package_before (IsLeftOf.child up (IsLeftAt.package {number = other} e f)) number same = (up, e, subst (λ n. Finds n (IsSpelled p places.packages (o + 1))) (number_of_left other number same) f)
+    package_before (IsLeftOf.child up (IsLeftAt.of_package {number = other} e f)) number same = (up, e, subst (λ n. Finds n (IsSpelled p places.packages (o + 1))) (number_of_left other number same) f)
     package_before (IsLeftOf.child up (IsLeftAt.of_type e)) number same = absurd (cc)
     package_before (IsLeftOf.child up (IsLeftAt.value out e)) number same = absurd (cc)
     package_before (IsLeftOf.child up (IsLeftAt.nothing out e)) number same = absurd (cc)
@@ -279,7 +279,7 @@ module _ (p : Rows) (t : Table) (K : ℕ → Type 0) (o : ℕ) where
     pub neither_before : {l : Left} → IsLeftOf p t places o l → ((c : ℕ) → l ≡ left.OfType c → ⊥) → ((number : Option ℕ) → l ≡ left.Package number → ⊥)
         → ((parent p (o + 1) ≡ o) → t (o + 1) ≡ Package → ⊥) × ((c : ℕ) → NamesType p t o c → ⊥)
     neither_before (IsLeftOf.none apart) no_type no_package = (λ up e. apart up, λ c h. apart h.first)
-    neither_before (IsLeftOf.child up (IsLeftAt.package {number = number} e f)) no_type no_package = absurd (no_package number refl)
+    neither_before (IsLeftOf.child up (IsLeftAt.of_package {number = number} e f)) no_type no_package = absurd (no_package number refl)
     neither_before (IsLeftOf.child up (IsLeftAt.of_type {c = c} e)) no_type no_package = absurd (no_type c refl)
     neither_before (IsLeftOf.child up (IsLeftAt.value out e)) no_type no_package = (λ up e. out e, λ c h. none-some c (sym e ∙ (names_type p t o c h).1))
     neither_before (IsLeftOf.child up (IsLeftAt.nothing out e)) no_type no_package = (λ up e. out e, λ c h. none-some c (sym e ∙ (names_type p t o c h).1))

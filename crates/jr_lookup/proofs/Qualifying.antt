@@ -137,7 +137,7 @@ module _ (p : Rows) (t : Table) (K : ℕ → Type 0) (x : Text) (o : ℕ) where
 
     pub length_holds : (s : Sought) → MayBeLength s → (IsPackageName p t o s → ⊥) → {l : Left} → IsLeftOf p t places o l → HasValue p t K o l → Else s (length_of l x)
     length_holds s may no_package (IsLeftOf.none apart) v = unbound_else s no_package (λ m h. apart h.first)
-    length_holds s may no_package (IsLeftOf.child up (IsLeftAt.package e f)) v = unbound_else s no_package (λ m. no_array v refl)
+    length_holds s may no_package (IsLeftOf.child up (IsLeftAt.of_package e f)) v = unbound_else s no_package (λ m. no_array v refl)
     length_holds s may no_package (IsLeftOf.child up (IsLeftAt.of_type e)) v = unbound_else s no_package (λ m. no_array v refl)
     length_holds s may no_package (IsLeftOf.child up (IsLeftAt.value {a = a} out e)) v = length_else s may no_package up a (v.typed up) (nat_lt 0 a.dims && bytes_eq x (codes "length"))
         (both (Decides-ltb 0 a.dims) (bytes_eq-Decides x (codes "length")))
@@ -178,7 +178,7 @@ module _ (p : Rows) (t : Table) (K : ℕ → Type 0) (x : Text) (o : ℕ) where
 
     pub behind_else : (k : NameKind) → {l : Left} → IsLeftOf p t places o l → (NeedsValue k → HasValue p t K o l) → Else (sought.Qualified k) (otherwise_by l k x)
     behind_else k (IsLeftOf.none apart) v = rest_else k (λ up e. apart up) (IsLeftOf.none apart) v
-    behind_else k (IsLeftOf.child up (IsLeftAt.package e f)) v = package_else k up e (λ m. no_array (v (needs k m)) refl) (may_be_package k) (may_tells k)
+    behind_else k (IsLeftOf.child up (IsLeftAt.of_package e f)) v = package_else k up e (λ m. no_array (v (needs k m)) refl) (may_be_package k) (may_tells k)
     behind_else k (IsLeftOf.child up (IsLeftAt.of_type e)) v = rest_else k (λ u r. package_no_type p t o r e) (IsLeftOf.child up (IsLeftAt.of_type e)) v
     behind_else k (IsLeftOf.child up (IsLeftAt.value out e)) v = rest_else k (λ u r. out r) (IsLeftOf.child up (IsLeftAt.value out e)) v
     behind_else k (IsLeftOf.child up (IsLeftAt.nothing out e)) v = rest_else k (λ u r. out r) (IsLeftOf.child up (IsLeftAt.nothing out e)) v

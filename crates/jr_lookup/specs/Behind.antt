@@ -46,11 +46,11 @@ IsTypeLabel _ = ⊥
 -- names alone refer to packages, and names and constructors alone to types
 pub record RefersByNames (p : Rows) (t : Table) : Type 0 where
   pub type : (n d : ℕ) (level : Option ℕ) → t n ≡ Declared d level → IsType p d → IsTypeLabel (label p n)
-  pub package : (n : ℕ) → t n ≡ Package → IsTypeLabel (label p n)
+  pub packages : (n : ℕ) → t n ≡ Package → IsTypeLabel (label p n)
 
 -- what the row n is before a dot: a package, by the number of its name if one that begins so has units, a type, or neither
 pub data IsLeftAt (p : Rows) (t : Table) (places : Places) (n : ℕ) : Left → Type 0 where
-  package : {number : Option ℕ} → t n ≡ Package → Finds number (IsSpelled p places.packages n) → IsLeftAt p t places n (left.Package number)
+  of_package : {number : Option ℕ} → t n ≡ Package → Finds number (IsSpelled p places.packages n) → IsLeftAt p t places n (left.Package number)
   of_type : {c : ℕ} → referred_type p (t n) ≡ Some c → IsLeftAt p t places n (left.OfType c)
   value : {a : RowType} → (t n ≡ Package → ⊥) → referred_type p (t n) ≡ None → IsLeftAt p t places n (left.Value a)
   nothing : (t n ≡ Package → ⊥) → referred_type p (t n) ≡ None → IsLeftAt p t places n left.Nothing

@@ -1,6 +1,6 @@
 // What an occurrence refers to (JLS 6.5, 8.8.7.1, 14.15, 15.9, 15.11, 15.12).
 
-ghost use Rattle.std.specs.Prelude.{◌≡◌, ◌+◌, ◌<◌, ◌^◌, length, None, IfOk, nat_eq, option_map};
+ghost use Rattle.std.specs.Prelude.{◌≡◌, ℕ, ◌+◌, ◌<◌, ◌^◌, length, None, IfOk, nat_eq, option_map};
 ghost use Rattle.jr_base.specs.declared.text.Text.{Text};
 ghost use Rattle.jr_tree.specs.declared.label.Sought.TheVariants as seeking;
 ghost use Rattle.jr_tree.specs.Rows as program;

@@ -1,5 +1,5 @@
 // Names behind a dot (JLS 6.5, 15.11).
-ghost use Rattle.std.specs.Prelude.{◌≡◌, IfOk, Some, None, bytes_eq, if◌then◌else◌, option_map};
+ghost use Rattle.std.specs.Prelude.{◌≡◌, ℕ, IfOk, Some, None, bytes_eq, if◌then◌else◌, option_map};
 ghost use Rattle.jr_base.specs.declared.text.Text.{Text};
 ghost use Rattle.jr_tree.specs.declared.label.NameKind.TheVariants as names;
 ghost use Rattle.jr_tree.specs.declared.label.Sought.TheVariants as sought;
