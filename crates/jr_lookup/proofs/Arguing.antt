@@ -71,8 +71,8 @@ module _ (p : Rows) (type_of : Types) (o first : ℕ) where
     far = omega (arith, n, nested, far);
     rest = ap₂ (λ xs c. with_front xs (argument_types p type_of o (length p - (turn + 1)) c)) m n ∙ one_more all a (argument_types p type_of o (length p - (turn + 1)) (end p child))
         ∙ sym (ap (λ r. with_front all (argument_types p type_of o r child)) rounds
-            ∙ ap (λ b. with_front all (cond b (before (type_of child) (argument_types p type_of o (length p - (turn + 1)) (end p child))) (Some []))) (sym f ∙ e)
-            ∙ ap (λ t. with_front all (before t (argument_types p type_of o (length p - (turn + 1)) (end p child)))) (sym g ∙ k))
+        ∙ ap (λ b. with_front all (cond b (before (type_of child) (argument_types p type_of o (length p - (turn + 1)) (end p child))) (Some []))) (sym f ∙ e)
+        ∙ ap (λ t. with_front all (before t (argument_types p type_of o (length p - (turn + 1)) (end p child)))) (sym g ∙ k))
         ∙ h.rest;
   }
     where

@@ -291,7 +291,7 @@ module _ (p : Rows) (t : Table) (K : ℕ → Type 0) (o : ℕ) where
       fields_some r found f e all each = lists_by all all refl each.lists
           (λ d m. record { class = r.class; receiver = r.ty; before = (f r).0 e; member = as_named p t x o n number r.class d m })
           (λ d m. let same = same_Some (receiver_with m.receiver m.class) r (sym ((f (receiver_with m.receiver m.class)).1 m.before) ∙ e) in
-              named_as p t x o n number r.class d (subst (λ r. MemberNamed p t space.Variable x r.class d) same m.member))
+          named_as p t x o n number r.class d (subst (λ r. MemberNamed p t space.Variable x r.class d) same m.member))
 
       pub fields_none : (found : Option Receiver) → Finds found Before → found ≡ None → (all : List ℕ) → all ≡ [] → Lists all (λ d. MemberBefore p t K space.Variable x o d)
       fields_none found f e all is = lists_none all is (λ d m. none-some (receiver_with m.receiver m.class) (sym e ∙ (f (receiver_with m.receiver m.class)).1 m.before))

@@ -8,7 +8,7 @@ use Rattle.jr_lookup.proofs.Dotted.{left_type, left_rest, value_left, no_value_o
 use Rattle.jr_lookup.proofs.simple.Sight.type_or_value.Goals as goal
 
 pub returns-in-Some-clause-before : goal.returns-in-Some-clause-before
-returns-in-Some-clause-before c = λ t same out. let p = c.args.self.now.world.under.rows.now in let places = c.args.self.now.world.under.places.now in 
+returns-in-Some-clause-before c = λ t same out. let p = c.args.self.now.world.under.rows.now in let places = c.args.self.now.world.under.places.now in
     left_type p t places c.args.at (entries c.args.self.now.world.under.table.now c.args.at) same c.in-Some.over c.referred_type.result c.referred_type.ensures c.in-Some.is
 
 pub returns-in-Some-clause-value : goal.returns-in-Some-clause-value
@@ -16,7 +16,7 @@ returns-in-Some-clause-value c = λ t o can lt. let p = c.args.self.now.world.un
     no_value_of_type p t (HasConstantForm p t) can.refers c.args.at (entries c.args.self.now.world.under.table.now c.args.at) (can.seen c.args.at lt) c.in-Some.over c.referred_type.result c.referred_type.ensures c.in-Some.is
 
 pub returns-in-None-clause-before : goal.returns-in-None-clause-before
-returns-in-None-clause-before c = λ t same out. let p = c.args.self.now.world.under.rows.now in let places = c.args.self.now.world.under.places.now in 
+returns-in-None-clause-before c = λ t same out. let p = c.args.self.now.world.under.rows.now in let places = c.args.self.now.world.under.places.now in
     subst (λ l. IsLeftAt p t places c.args.at l) (sym c.left_by.ensures)
     (left_rest p t places c.args.at (entries c.args.self.now.world.under.table.now c.args.at) same c.referred_type.result c.type_at.result out c.referred_type.ensures c.in-None.is)
 
