@@ -16,3 +16,8 @@ pub mod Sighting
 pub mod Demanding
 pub mod Visibility
 pub mod Referring
+pub mod Calling
+pub mod Arguing
+pub mod Dotted
+pub mod Qualifying
+pub mod Looking

@@ -1,5 +1,5 @@
 -- The answer of candidates that are all found.
-use Rattle.std.proofs.Common.{◌≡◌, refl, sym, ◌∙◌, ap, subst, arith, ℕ, Bool, true, false, cond, List, [], ◌∷◌, length, Option, Some, None, Result, Ok, Err, IfOk}
+use Rattle.std.proofs.Common.{◌≡◌, refl, sym, ◌∙◌, ap, subst, arith, ℕ, Bool, true, false, List, [], ◌∷◌, length, Option, Some, None}
 use Rattle.std.proofs.lemmas.Bool.{false≢true}
 use Rattle.std.proofs.lemmas.Bool.Decides.{Decides-eqb}
 use Rattle.std.proofs.lemmas.Slice.Eq.{bytes_eq-Decides}
@@ -9,8 +9,6 @@ use Rattle.jr_tree.specs.declared.label.NameKind.{NameKind}
 use Rattle.jr_tree.specs.declared.label.NameKind.TheVariants as names
 use Rattle.jr_tree.specs.declared.label.Role.{Role}
 use Rattle.jr_tree.specs.declared.label.Role.TheVariants as role
-use Rattle.jr_tree.specs.declared.label.Sought.{Sought}
-use Rattle.jr_tree.specs.declared.label.Sought.TheVariants as sought
 use Rattle.jr_tree.specs.Rows.{Rows, name, parent, role_at}
 use Rattle.jr_defs.specs.declared.referent.Space.TheVariants as space
 use Rattle.jr_defs.specs.declared.referent.Referent.{Referent}
@@ -40,7 +38,7 @@ use Rattle.jr_lookup.specs.Instances.{IsInstanceRound}
 use Rattle.jr_lookup.specs.Outward.{IsNumberOf}
 use Rattle.jr_lookup.specs.Labels.{AreLabelsAt}
 use Rattle.jr_lookup.specs.Types.{AreVisibleAt}
-use Rattle.jr_lookup.specs.Answers.{AreAllThrough, simple_otherwise, IsOwnClass, IsLabelAt, IsSuperField, IsLookedUp}
+use Rattle.jr_lookup.specs.Answers.{AreAllThrough, simple_otherwise, IsOwnClass, IsLabelAt, IsSuperField}
 use Rattle.jr_lookup.proofs.Leveling.{declared_somewhere}
 
 pub answer_all : (C : ℕ → Option ℕ → Type 0) (found : List ℕ) (level : Option ℕ) (otherwise a : Referent) → AreAllThrough C found level → a ≡ answer_of (at_level level found) otherwise → IsAnswer C (λ b. b ≡ otherwise) a
@@ -129,13 +127,13 @@ module _ (p : Rows) (t : Table) (x : Text) (o : ℕ) where
 
   module _ (n : ℕ) (number : IsNumberOf p n x) where
     -- fields of the number are those of the name
-    as_named : (c d : ℕ) → IsMemberAs p t kind.Field c n d → MemberNamed p t space.Variable x c d
+    pub as_named : (c d : ℕ) → IsMemberAs p t kind.Field c n d → MemberNamed p t space.Variable x c d
     as_named c d m = record {
       member = m.member;
       declares = record { of_kind = subst (def.IsOf space.Variable) (sym m.of.role_is) tt; named = (bytes_eq-Decides (name p d) x).0 (sym (number d) ∙ (Decides-eqb (name_row p d) n).1 m.of.named) };
     }
 
-    named_as : (c d : ℕ) → MemberNamed p t space.Variable x c d → IsMemberAs p t kind.Field c n d
+    pub named_as : (c d : ℕ) → MemberNamed p t space.Variable x c d → IsMemberAs p t kind.Field c n d
     named_as c d m = let k = declared_somewhere p t c d m.member in record {
       of = record { role_is = field_of (role_at p d) m.declares.of_kind k.1.member; named = (Decides-eqb (name_row p d) n).0 (number d ∙ (bytes_eq-Decides (name p d) x).1 m.declares.named) };
       member = m.member;
@@ -164,30 +162,8 @@ pub own_class_none : (p : Rows) (o body c : ℕ) (b : Bool) → body ≡ parent 
 own_class_none p o body c b inside over is not_is = answer_none (λ c l. IsOwnClass p o c l) Unbound Unbound (λ d l k. false≢true (sym not_is ∙ is ∙ (body_tells p c body).1
     (subst (λ b. BodyOf p c b) (sym inside) (subst (λ c. BodyOf p c (parent p o)) (sym k.body.inside ∙ ap (parent p) (sym inside) ∙ sym over) k.body)))) refl
 
--- ---- by the kind of a name, and by what is sought
-
-pub ok_any : {X E : Type 0} (r : Result X E) (P : X → Type 0) → ((x : X) → P x) → IfOk r P
-ok_any (Ok x) P f = f x
-ok_any (Err e) P f = tt
+-- ---- by the kind of a name
 
 pub simple_by : (p : Rows) (t : Table) (x : Text) (o : ℕ) (k j : NameKind) (a : Referent) → j ≡ k → IsAnswer (λ d l. SimpleCandidate p t x o k d l) (λ b. b ≡ simple_otherwise k) a
     → IsAnswer (λ d l. SimpleCandidate p t x o j d l) (λ b. b ≡ simple_otherwise j) a
 simple_by p t x o k j a e h = subst (λ k. IsAnswer (λ d l. SimpleCandidate p t x o k d l) (λ b. b ≡ simple_otherwise k) a) (sym e) h
-
-pub looked_by : (p : Rows) (t : Table) (x : Text) (o : ℕ) (s r : Sought) (a : Referent) → r ≡ s → IsLookedUp p t o x s a → IsLookedUp p t o x r a
-looked_by p t x o s r a e h = subst (λ s. IsLookedUp p t o x s a) (sym e) h
-
-pub others : (p : Rows) (t : Table) (x : Text) (o : ℕ) (s : Sought) (a : Referent) → ((k : NameKind) → s ≡ sought.Simple k → ⊥) → (s ≡ sought.SuperField → ⊥) → (s ≡ sought.OwnClass → ⊥) → (s ≡ sought.Label → ⊥) → (s ≡ sought.Nothing → ⊥)
-    → IsLookedUp p t o x s a
-others p t x o (sought.Simple k) a u v w y z = absurd (u k refl)
-others p t x o sought.SuperField a u v w y z = absurd (v refl)
-others p t x o sought.OwnClass a u v w y z = absurd (w refl)
-others p t x o sought.Label a u v w y z = absurd (y refl)
-others p t x o sought.Nothing a u v w y z = absurd (z refl)
-others p t x o (sought.Qualified k) a u v w y z = tt
-others p t x o sought.FieldOf a u v w y z = tt
-others p t x o sought.Method a u v w y z = tt
-others p t x o sought.MethodOf a u v w y z = tt
-others p t x o sought.SuperMethod a u v w y z = tt
-others p t x o sought.Creation a u v w y z = tt
-others p t x o (sought.ConstructorCall which) a u v w y z = tt

@@ -4,8 +4,6 @@ use Rattle.jr_base.specs.declared.text.Text.{Text}
 use Rattle.jr_tree.specs.declared.tree.ThisOrSuper.{ThisOrSuper}
 use Rattle.jr_tree.specs.declared.tree.ThisOrSuper.TheVariants as which
 use Rattle.jr_tree.specs.declared.label.NameKind.{NameKind}
-use Rattle.jr_tree.specs.declared.label.Sought.{Sought}
-use Rattle.jr_tree.specs.declared.label.Sought.TheVariants as sought
 use Rattle.jr_tree.specs.Rows.{Rows, parent}
 use Rattle.jr_defs.specs.declared.referent.Space.TheVariants as space
 use Rattle.jr_defs.specs.declared.referent.RowType.{RowType}
@@ -16,7 +14,7 @@ use Rattle.jr_defs.specs.Enclosing.{BodyOf, ConstructorOf}
 use Rattle.jr_defs.specs.Supertypes.{Superclass}
 use Rattle.jr_defs.specs.Members.{MemberNamed}
 use Rattle.jr_defs.specs.Scope.{Depth, InScope}
-use Rattle.jr_defs.specs.Lookup.{SimpleCandidate, SuperOf, NewLevel, CalledClass}
+use Rattle.jr_defs.specs.Lookup.{SuperOf, NewLevel, CalledClass}
 use Rattle.jr_defs.specs.Overloads.{Choice}
 use Rattle.jr_plain.specs.Search.{has}
 use Rattle.jr_plain.specs.Lookup.{may_be_package}
@@ -53,15 +51,6 @@ pub record IsSuperField (p : Rows) (t : Table) (x : Text) (o d : ℕ) (level : O
   pub super_of : SuperOf p t o class
   pub member : MemberNamed p t space.Variable x class d
   pub free : level ≡ None
-
--- the answer where so is sought; nothing is said of names behind a dot and of calls
-abbrev pub IsLookedUp : Rows → Table → ℕ → Text → Sought → Referent → Type 0
-IsLookedUp p t o x (sought.Simple k) a = IsAnswerOr (λ d l. SimpleCandidate p t x o k d l) (simple_otherwise k) a
-IsLookedUp p t o x sought.SuperField a = IsAnswerOr (λ d l. IsSuperField p t x o d l) Unbound a
-IsLookedUp p t o x sought.OwnClass a = IsAnswerOr (λ c l. IsOwnClass p o c l) Unbound a
-IsLookedUp p t o x sought.Label a = IsAnswerOr (λ d l. IsLabelAt p t x o d l) Unbound a
-IsLookedUp p t o x sought.Nothing a = a ≡ Unbound
-IsLookedUp p t o x _ a = Unit {0}
 
 -- ---- calls, where the types of the arguments are known (JLS 15.9.3, 15.12)
 

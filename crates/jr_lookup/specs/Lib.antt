@@ -11,3 +11,5 @@ pub mod Imports
 pub mod Sights
 pub mod Types
 pub mod Answers
+pub mod Behind
+pub mod Calls
