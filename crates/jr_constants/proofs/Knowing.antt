@@ -2,6 +2,7 @@
 use Rattle.std.proofs.Common.{◌≡◌, refl, sym, ◌∙◌, ap, ap₂, subst, inl, inr, ⊎_elim, arith, ℕ, zero, suc, ◌+◌, ◌<◌, Bool, true, false, cond, List, [], ◌∷◌, ◌++◌, length, Option, Some, None, ◌⊎◌, slice_get, nat_eq, Decides}
 use Rattle.std.specs.Prelude.{slice_set, option_and_then, replicate}
 use Rattle.std.proofs.lemmas.Bool.{false≢true}
+use Rattle.std.proofs.lemmas.List.{length-set, length-replicate}
 use Rattle.std.proofs.lemmas.Bool.Decides.{Decides-eqb}
 use Rattle.std.proofs.lemmas.Option.{none-some, same_Some}
 use Rattle.jr_ty.specs.declared.constant.Const.{Const}
@@ -12,6 +13,8 @@ use Rattle.jr_tree.specs.Rows.{Rows, label, parent, end}
 use Rattle.jr_defs.specs.declared.referent.Referent.{Referent}
 use Rattle.jr_defs.specs.declared.referent.Referent.TheVariants.{Declared}
 use Rattle.jr_defs.specs.Referents.{Table}
+use Rattle.jr_defs.specs.Declarations.{IsVariable}
+use Rattle.jr_defs.specs.Modifiers.{IsFinal}
 use Rattle.jr_defs.specs.Laws.{Picked}
 use Rattle.jr_defs.specs.Operators.{cast_to, assigned_to, unary_value, binary_value, chosen}
 use Rattle.jr_defs.specs.Constants.{Converts, ConstantOf, ConstantVariable}
@@ -32,12 +35,19 @@ use Rattle.jr_constants.specs.Values.{seen_if, value_in, value_in_if, text_at}
 use Rattle.jr_constants.proofs.Told.{assigned_tells}
 use Rattle.jr_constants.specs.Tables.{item, values_in, valued_by, IsIn, IsInIf, AreIn, IsGrown, Tells, AreKnown, IsInitializer}
 
-itself_finds : {A : Type 0} (found : Option A) → Finds found (λ x. found ≡ Some x)
+pub itself_finds : {A : Type 0} (found : Option A) → Finds found (λ x. found ≡ Some x)
 itself_finds found x = (λ e. e, λ e. e)
 
-value_label_tells : (l : Label) → Decides (plain.is_value l) (l ≡ is.Value)
+pub value_label_tells : (l : Label) → Decides (plain.is_value l) (l ≡ is.Value)
 value_label_tells is.Value = (λ h. refl, λ e. refl)
 value_label_tells _ = (λ h. absurd (false≢true h), λ e. absurd (cc))
+
+-- a final variable with an initializer
+abbrev pub Initialized : Rows → ℕ → Type 0
+Initialized p d = (((IsVariable p d × IsFinal p d) × (parent p (d + 1) ≡ d)) × (label p (d + 1) ≡ is.Value)) × (parent p (d + 2) ≡ d + 1)
+
+pub initialized_tells : (p : Rows) (d : ℕ) → Decides (plain.is_initialized p d) (Initialized p d)
+initialized_tells p d = both (both (both (both (variable_tells p d) (final_tells p d)) (Decides-eqb (parent p (d + 1)) d)) (value_label_tells (label p (d + 1)))) (Decides-eqb (parent p (d + 2)) (d + 1))
 
 pub initializer_is : (p : Rows) (d n : ℕ) → plain.is_initialized p d ≡ true → n ≡ d + 2 → IsInitializer p d n
 initializer_is p d n h e = record { initialized = h; row = e }
@@ -112,7 +122,7 @@ longer [] more m lt = absurd (omega arith)
 longer (x ∷ xs) more zero lt = omega arith
 longer (x ∷ xs) more (suc m) lt = let le = longer xs more m (omega arith) in omega arith
 
-in_more : (texts more : List (List ℕ)) (value : Value) → IsIn texts value → IsIn (texts ++ more) value × (value_in texts value ≡ value_in (texts ++ more) value)
+pub in_more : (texts more : List (List ℕ)) (value : Value) → IsIn texts value → IsIn (texts ++ more) value × (value_in texts value ≡ value_in (texts ++ more) value)
 in_more texts more (v.Str m) lt = (longer texts more m lt, ap (λ o. c.Str (text_at o)) (sym (get_more texts more m lt)))
 in_more texts more (v.Bool x) u = (tt, refl)
 in_more texts more (v.Byte x) u = (tt, refl)
@@ -143,14 +153,14 @@ module _ (R : ℕ → Const → Type 0) where
       → Tells texts (slice_set all n x) R
   tells_set texts all n x h one m value e = ⊎_elim (λ q. h m value (sym q ∙ e)) (λ q. let g = one value (sym q.1 ∙ e) in (g.0, subst (λ i. R i (value_in texts value)) (sym q.0) g.1)) (set_item all n m x)
 
-  are_in : (texts : List (List ℕ)) (all : List (Option Value)) → Tells texts all R → AreIn texts all
+  pub are_in : (texts : List (List ℕ)) (all : List (Option Value)) → Tells texts all R → AreIn texts all
   are_in texts all h n = by (item all n) refl
     where
       by : (o : Option Value) → item all n ≡ o → IsInIf texts o
       by None e = tt
       by (Some value) e = (h n value e).0
 
-  value_out : (texts : List (List ℕ)) (all : List (Option Value)) → Tells texts all R → (n : ℕ) (w : Const) → values_in texts all n ≡ Some w → R n w
+  pub value_out : (texts : List (List ℕ)) (all : List (Option Value)) → Tells texts all R → (n : ℕ) (w : Const) → values_in texts all n ≡ Some w → R n w
   value_out texts all h n w = by (item all n) refl
     where
       by : (o : Option Value) → item all n ≡ o → value_in_if texts o ≡ Some w → R n w
@@ -167,10 +177,11 @@ module _ (p : Rows) (t : Table) (k : ℕ → Bool) where
   abbrev OfVariables : ℕ → Const → Type 0
   OfVariables d w = ConstantVariable p t (Picked k) d w
 
-  pub none_known : (texts : List (List ℕ)) (count : ℕ) (variables values : List (Option Value)) → variables ≡ replicate count None → values ≡ replicate count None → AreKnown p t k texts variables values
-  none_known texts count variables values e f = record {
-    of_rows = subst (λ all. Tells texts all OfRows) (sym f) (none_tell OfRows texts count);
-    of_variables = subst (λ all. Tells texts all OfVariables) (sym e) (none_tell OfVariables texts count);
+  pub none_known : (texts : List (List ℕ)) (variables values : List (Option Value)) → variables ≡ replicate (length p) None → values ≡ replicate (length p) None → AreKnown p t k texts variables values
+  none_known texts variables values e f = record {
+    of_rows = subst (λ all. Tells texts all OfRows) (sym f) (none_tell OfRows texts (length p));
+    of_variables = subst (λ all. Tells texts all OfVariables) (sym e) (none_tell OfVariables texts (length p));
+    size = ap length f ∙ length-replicate (length p) None;
   }
 
   module _ (variables values : List (Option Value)) where
@@ -182,6 +193,7 @@ module _ (p : Rows) (t : Table) (k : ℕ → Bool) where
     set_row old new n value next known grown e inside set = record {
       of_rows = subst (λ all. Tells new all OfRows) (sym set) (tells_set OfRows new values n value (tells_more OfRows old new values grown known.of_rows) one);
       of_variables = tells_more OfVariables old new variables grown known.of_variables;
+      size = ap length set ∙ length-set values n value ∙ known.size;
     }
       where
         one : (x : Value) → value ≡ Some x → IsIn new x × OfRows n (value_in new x)
@@ -197,11 +209,12 @@ module _ (p : Rows) (t : Table) (k : ℕ → Bool) where
     set_variable texts d value next known start e inside set = record {
       of_rows = known.of_rows;
       of_variables = subst (λ all. Tells texts all OfVariables) (sym set) (tells_set OfVariables texts variables d value known.of_variables one);
+      size = known.size;
     }
       where
         one : (x : Value) → value ≡ Some x → IsIn texts x × OfVariables d (value_in texts x)
         one x f =
-            let g = (both (both (both (both (variable_tells p d) (final_tells p d)) (Decides-eqb (parent p (d + 1)) d)) (value_label_tells (label p (d + 1)))) (Decides-eqb (parent p (d + 2)) (d + 1))).0 start in
+            let g = (initialized_tells p d).0 start in
             let q = (two_finds (λ a v w. Converts p assigned_to v w a) (plain.converted_as p assigned_to) (λ a v. convert_finds p assigned_to (λ s units. refl) a v)
             (type_of_declared p t d) (values_in texts values (d + 2)) (has_type_finds p t d) (itself_finds (values_in texts values (d + 2))) (value_in texts x)).0 (sym e ∙ ap (value_in_if texts) f) in (
               subst (IsInIf texts) f (inside (are_in OfRows texts values known.of_rows (d + 2))),

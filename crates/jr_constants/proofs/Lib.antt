@@ -5,3 +5,5 @@ pub mod Told
 pub mod Parts
 pub mod Knowing
 pub mod Forming
+pub mod Staying
+pub mod Completing

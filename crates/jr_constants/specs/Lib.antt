@@ -1,3 +1,4 @@
 pub mod Values
 pub mod Tables
 pub mod Known
+pub mod Resting

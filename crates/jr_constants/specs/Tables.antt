@@ -94,10 +94,11 @@ IsGrown before after = (more : List (List ℕ)) × (after ≡ before ++ more)
 abbrev pub Tells : List (List ℕ) → List (Option Value) → (ℕ → Const → Type 0) → Type 0
 Tells texts all R = (n : ℕ) (value : Value) → item all n ≡ Some value → IsIn texts value × R n (value_in texts value)
 
--- the values of expressions and of variables are those of the definition, where the references of k are read as constants
+-- the values of expressions, one place for each row, and of variables are those of the definition, where the references of k are read as constants
 pub record AreKnown (p : Rows) (t : Table) (k : ℕ → Bool) (texts : List (List ℕ)) (variables values : List (Option Value)) : Type 0 where
   pub of_rows : Tells texts values (ConstantOf p t (Picked k))
   pub of_variables : Tells texts variables (ConstantVariable p t (Picked k))
+  pub size : length values ≡ length p
 
 -- the row of the initializer of a final variable
 pub record IsInitializer (p : Rows) (d n : ℕ) : Type 0 where

@@ -1,17 +1,22 @@
 // Constant variables and constant expressions (JLS 4.12.4, 15.28).
 
-ghost use Rattle.std.specs.Prelude.{◌≡◌, ◌+◌, ◌<◌, ◌^◌, if◌then◌else◌, Some, None, ℕ, Bool, length, replicate, slice_get, slice_set, slice_index_or, IfSome, IfOk, OnOk};
+ghost use Rattle.std.specs.Prelude.{◌≡◌, ◌+◌, ◌<◌, ◌^◌, if◌then◌else◌, true, false, Some, None, ℕ, Bool, length, replicate, slice_get, slice_set, slice_index_or, IfSome, IfOk, OnOk};
 ghost use Rattle.jr_tree.specs.Rows.{label};
+ghost use Rattle.jr_tree.specs.Tree.{IsTree};
+ghost use Rattle.jr_ty.specs.declared.constant.Const.{Const};
+ghost use Rattle.jr_defs.specs.Constants.{Constant};
 ghost use Rattle.jr_defs.specs.Operators as defined;
 ghost use Rattle.jr_defs.specs.Referents.{Table, entries};
 ghost use Rattle.jr_plain.specs.Declarations as declared;
 ghost use Rattle.jr_plain.specs.Constants as plain;
 ghost use Rattle.jr_plain.specs.Conversions.{of_two};
 ghost use Rattle.jr_plain.specs.Types.{type_of_declared};
+ghost use Rattle.jr_plain.specs.Typing.{IsTypable};
 ghost use Rattle.jr_supers.specs.Tabled.{IsSized};
 ghost use Rattle.jr_constants.specs.Values.{seen_if, text_at};
 ghost use Rattle.jr_constants.specs.Tables as tell;
 ghost use Rattle.jr_constants.specs.Known.{IsKnown};
+ghost use Rattle.jr_constants.specs.Resting as resting;
 
 use crate::row_value::{assigned, item, value_of};
 use crate::texts::Texts;
@@ -226,7 +231,8 @@ impl Constants {
         constant: &[bool],
         at: u32,
     ) -> Result<(), OutOfMemory>
-        ensures { IsSized under.entry.rows.now → IsKnown under.entry constant.now self.old → OnOk result (IsKnown under.entry constant.now self.new) }
+        ensures known { IsSized under.entry.rows.now → IsKnown under.entry constant.now self.old → OnOk result (IsKnown under.entry constant.now self.new) }
+        ensures row { length under.entry.rows.now < 2 ^ 32 → OnOk result (resting.SetsRow under.entry.rows.now (entries under.entry.table.now) (tell.picks constant.now) at self.old self.new) }
     {
         let value = value_of(
             alloc,
@@ -257,6 +263,14 @@ impl Constants {
         Ok(())
     }
 
+    // The value of a variable, by that of its initializer.
+    fn find(&mut self, under: Tabled, at: u32, expression: u32)
+        ensures { (k : ℕ → Bool) → IsSized under.entry.rows.now → tell.IsInitializer under.entry.rows.now at expression → tell.AreKnown under.entry.rows.now (entries under.entry.table.now) k self.old.texts self.old.variables.items self.old.values.items → tell.AreKnown under.entry.rows.now (entries under.entry.table.now) k self.new.texts self.new.variables.items self.new.values.items }
+    {
+        let found = variable_value(under, &self.values, at, expression);
+        set_value(&mut self.variables, at, found);
+    }
+
     // The value of a variable, where those of the variables that it reads are known.
     fn finish(
         &mut self,
@@ -269,8 +283,7 @@ impl Constants {
         ensures { IsSized under.entry.rows.now → tell.IsInitializer under.entry.rows.now at expression → IsKnown under.entry constant.now self.old → OnOk result (IsKnown under.entry constant.now self.new) }
     {
         self.set_all(alloc, under, constant, expression)?;
-        let found = variable_value(under, &self.values, at, expression);
-        set_value(&mut self.variables, at, found);
+        self.find(under, at, expression);
         Ok(())
     }
 
@@ -307,7 +320,7 @@ impl Constants {
     }
 
     // The value of a variable, and of those that it reads. Each variable is begun once, and each row of an initializer opens at most one,
-    // so in a tree of rows the turns suffice. In rows that are no tree they may run out, and what is still open then has no value.
+    // so where no initializer stands in another the turns suffice. Else they may run out, and what is still open then is found later.
     fn settle(
         &mut self,
         alloc: Global,
@@ -350,18 +363,119 @@ impl Constants {
         Ok(())
     }
 
-    /// The values of constant variables and expressions, where the references that are picked are read as constants.
+    // The values of all rows, from the last one back, where those of variables are known.
+    fn set_rows(
+        &mut self,
+        alloc: Global,
+        under: Tabled,
+        constant: &[bool],
+        count: u32,
+    ) -> Result<(), OutOfMemory>
+        ensures known { IsSized under.entry.rows.now → IsKnown under.entry constant.now self.old → OnOk result (IsKnown under.entry constant.now self.new) }
+        ensures stable { IsSized under.entry.rows.now → IsTree under.entry.rows.now → count ≡ length under.entry.rows.now → IsKnown under.entry constant.now self.old → OnOk result (resting.IsStable under.entry.rows.now (entries under.entry.table.now) (tell.picks constant.now) self.new) }
+    {
+        for at in (0..count).rev() {
+            self.set(alloc, under, constant, at)?;
+        }
+        Ok(())
+    }
+
+    // A variable has no value, and its initializer has one that makes it one.
+    fn lacks(&self, under: Tabled, at: u32, expression: u32) -> bool
+        ensures { IsSized under.entry.rows.now → tell.IsInitializer under.entry.rows.now at expression → result ≡ false → resting.IsRestingAt under.entry.rows.now (entries under.entry.table.now) self.now at }
+    {
+        if self.variable(at).is_some() {
+            return false;
+        }
+        variable_value(under, &self.values, at, expression).is_some()
+    }
+
+    // So it is with the row, if it is a variable with an initializer.
+    fn lacks_at(&self, under: Tabled, at: u32) -> bool
+        ensures { IsSized under.entry.rows.now → result ≡ false → resting.IsRestingAt under.entry.rows.now (entries under.entry.table.now) self.now at }
+    {
+        match initializer(under.rows, at) {
+            Some(expression) => self.lacks(under, at, expression),
+            None => false,
+        }
+    }
+
+    // So it is with no variable.
+    fn is_at_rest(&self, under: Tabled, count: u32) -> bool
+        ensures { IsSized under.entry.rows.now → count ≡ length under.entry.rows.now → result ≡ true → resting.IsResting under.entry.rows.now (entries under.entry.table.now) self.now }
+    {
+        for at in 0..count {
+            if self.lacks_at(under, at) {
+                return false;
+            }
+        }
+        true
+    }
+
+    // The value of a variable by its initializer, where it has one.
+    fn find_at(&mut self, under: Tabled, at: u32)
+        ensures { (k : ℕ → Bool) → IsSized under.entry.rows.now → tell.AreKnown under.entry.rows.now (entries under.entry.table.now) k self.old.texts self.old.variables.items self.old.values.items → tell.AreKnown under.entry.rows.now (entries under.entry.table.now) k self.new.texts self.new.variables.items self.new.values.items }
+    {
+        match initializer(under.rows, at) {
+            Some(expression) => self.find(under, at, expression),
+            None => {}
+        }
+    }
+
+    // The same, where it lacks it.
+    fn find_lacking(&mut self, under: Tabled, at: u32)
+        ensures { (k : ℕ → Bool) → IsSized under.entry.rows.now → tell.AreKnown under.entry.rows.now (entries under.entry.table.now) k self.old.texts self.old.variables.items self.old.values.items → tell.AreKnown under.entry.rows.now (entries under.entry.table.now) k self.new.texts self.new.variables.items self.new.values.items }
+    {
+        if !self.lacks_at(under, at) {
+            return;
+        }
+        self.find_at(under, at);
+    }
+
+    // The values of variables that lack them.
+    fn find_all(&mut self, under: Tabled, count: u32)
+        ensures { (k : ℕ → Bool) → IsSized under.entry.rows.now → tell.AreKnown under.entry.rows.now (entries under.entry.table.now) k self.old.texts self.old.variables.items self.old.values.items → tell.AreKnown under.entry.rows.now (entries under.entry.table.now) k self.new.texts self.new.variables.items self.new.values.items }
+    {
+        for at in 0..count {
+            self.find_lacking(under, at);
+        }
+    }
+
+    // The values of all rows, and of variables that have one by them, until none does. Each round finds one, so there are few enough.
+    fn come_to_rest(
+        &mut self,
+        alloc: Global,
+        under: Tabled,
+        constant: &[bool],
+        count: u32,
+    ) -> Result<(), OutOfMemory>
+        ensures known { IsSized under.entry.rows.now → IsKnown under.entry constant.now self.old → OnOk result (IsKnown under.entry constant.now self.new) }
+        ensures whole { IsSized under.entry.rows.now → IsTree under.entry.rows.now → count ≡ length under.entry.rows.now → IsKnown under.entry constant.now self.old → OnOk result (resting.IsAtRest under.entry.rows.now (entries under.entry.table.now) (tell.picks constant.now) self.new) }
+    {
+        for _round in 0..under.rows.len().saturating_add(1) {
+            self.set_rows(alloc, under, constant, count)?;
+            if self.is_at_rest(under, count) {
+                return Ok(());
+            }
+            self.find_all(under, count);
+        }
+        Err(OutOfMemory)
+    }
+
+    /// The values of constant variables and expressions, where the references that are picked are read as constants. Under a table in which
+    /// expressions have one type they are all that there are.
     pub fn of(alloc: Global, under: Tabled, constant: &[bool]) -> Result<Constants, OutOfMemory>
-        ensures { IsSized under.entry.rows.now → IfOk result (λ found. IsKnown under.entry constant.now found) }
+        ensures known { IsSized under.entry.rows.now → IfOk result (λ found. IsKnown under.entry constant.now found) }
+        ensures whole { IsSized under.entry.rows.now → IsTree under.entry.rows.now → IfOk result (λ found. resting.IsAtRest under.entry.rows.now (entries under.entry.table.now) (tell.picks constant.now) found) }
+        ensures sound { IsSized under.entry.rows.now → ((n : ℕ) → tell.picks constant.now n ≡ plain.has_constant_form under.entry.rows.now (entries under.entry.table.now) n) → IfOk result (λ found. (n : ℕ) (v : Const) → tell.values_in found.texts found.values.items n ≡ Some v → Constant under.entry.rows.now (entries under.entry.table.now) n v) }
+        ensures all { IsSized under.entry.rows.now → IsTree under.entry.rows.now → IsTypable under.entry.rows.now (entries under.entry.table.now) → IfOk result (λ found. (n : ℕ) → tell.values_in found.texts found.values.items n ≡ plain.constants under.entry.rows.now (entries under.entry.table.now) (tell.picks constant.now) n) }
     {
         let Ok(count) = u32::try_from(under.rows.len()) else {
             return Err(OutOfMemory);
         };
         let mut constants = Constants::new(alloc, under.rows)?;
         constants.settle_all(alloc, under, constant, count)?;
-        for at in (0..count).rev() {
-            constants.set(alloc, under, constant, at)?;
-        }
+        constants.come_to_rest(alloc, under, constant, count)?;
         Ok(constants)
     }
 }

@@ -7,15 +7,19 @@ ghost use Rattle.jr_constants.specs.Values.{value_in, value_in_if, text_at, equa
 ghost use Rattle.jr_constants.specs.Tables.{IsGrown, IsInIf};
 
 use crate::value::Value;
-use jr_base::{OutOfMemory, Symbol, Units};
+use jr_base::{Limits, OutOfMemory, Symbol, Units};
 use std::alloc::Global;
 use std::marker::Model;
 
-/// Constant strings, by their numbers.
+/// Constant strings, by their numbers. All together they have a bounded number of units, since a short program can make texts of any length (`s = t + t`).
 #[derive(Drop)]
 pub struct Texts {
     all: Vec<Units>,
+    room: usize,
 }
+
+// The units that constant strings may have together: as many as files may have bytes.
+const MOST_UNITS: usize = Limits::TOTAL as usize;
 
 impl Model for Texts {
     ghost use Rattle.std.specs.Prelude.{List, ℕ};
@@ -80,6 +84,7 @@ impl Texts {
     {
         Texts {
             all: Vec::new(alloc),
+            room: MOST_UNITS,
         }
     }
 
@@ -101,7 +106,11 @@ impl Texts {
         let Ok(number) = u32::try_from(self.all.len()) else {
             return Err(OutOfMemory);
         };
+        let Some(room) = self.room.checked_sub(units.units().len()) else {
+            return Err(OutOfMemory);
+        };
         self.all.push(units)?;
+        self.room = room;
         Ok(number)
     }
 
@@ -121,10 +130,21 @@ impl Texts {
         }
     }
 
+    // How many units a constant has, if it is a string.
+    fn length(&self, value: Value) -> usize {
+        match value {
+            Value::Str(text) => self.units(text).len(),
+            _ => 0,
+        }
+    }
+
     // Two constants as text, the one behind the other.
     fn text_of_both(&self, alloc: Global, left: Value, right: Value) -> Result<Units, OutOfMemory>
         ensures { IfOk result (λ units. units ≡ defined.text_of (value_in self.now left) ++ defined.text_of (value_in self.now right)) }
     {
+        if self.room < self.length(left).saturating_add(self.length(right)) {
+            return Err(OutOfMemory);
+        }
         let mut out = Vec::new(alloc);
         self.add_value(alloc, &mut out, left)?;
         self.add_value(alloc, &mut out, right)?;

@@ -1,6 +1,5 @@
-use Rattle.std.proofs.Common.{length}
 use Rattle.jr_constants.proofs.Knowing.{none_known}
 use Rattle.jr_constants.proofs.constants.Constants.new.Goals as goal
 
 pub returns : goal.returns
-returns c = λ t k. none_known c.args.rows.now t k _ (length c.args.rows.now) _ _ c.in_ok-variables.ensures c.in_ok-values.ensures
+returns c = λ t k. none_known c.args.rows.now t k _ _ _ c.in_ok-variables.ensures c.in_ok-values.ensures
