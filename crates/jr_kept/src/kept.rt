@@ -10,8 +10,9 @@ use crate::handing::Handing;
 use crate::joined::joined;
 use crate::names::Names;
 use crate::returning::put_held_returns;
+use crate::starting::lost_initialization;
 use jr_base::{OutOfMemory, Place};
-use jr_change::{Change, Course, Locks, NO_ROW, Project, RowRange};
+use jr_change::{Change, Course, Locks, NO_ROW, Project, Raised, RowRange};
 use jr_flow::{FlowFault, Graph, graph};
 use jr_locks::row_for;
 use std::alloc::Global;
@@ -55,6 +56,24 @@ fn nothing() -> LostFlow {
     LostFlow {
         control: None,
         def_use: None,
+    }
+}
+
+// What is lost where a method goes to the superclass of its class, if one does.
+fn lost_by_raising(
+    alloc: Global,
+    old: &Project,
+    raised: Option<Raised>,
+) -> Result<LostFlow, FlowFault> {
+    let Some(raised) = raised else {
+        return Ok(nothing());
+    };
+    match lost_initialization(alloc, old, raised)? {
+        Some(edge) => Ok(LostFlow {
+            control: Some(placed(old, edge, true)),
+            def_use: None,
+        }),
+        None => Ok(nothing()),
     }
 }
 
@@ -203,7 +222,8 @@ fn lost_by_extracting(
 /// The first edge of control and the first edge from a definition to a use that the change loses, where `locked` is the changed program under its locks,
 /// before names are spelled. Nodes are named by what they are copies of, and what is added is passed over.
 ///
-/// A change that leaves each body as it is, or takes whole ones away, loses none. Where a local is replaced by its initializer, each event stands once, and
+/// A change that leaves each body as it is, or takes whole ones away, loses none, but for a static method that goes to the superclass of its class, where a
+/// call of it that may begin the initialization of that class begins it no more. Where a local is replaced by its initializer, each event stands once, and
 /// no local that is used in the initializer gets another value before a use of the replaced one, nor does any other where the initializer may throw. Where
 /// statements go into a method of their own, the points of the method stand in place of its call, each `return` among them completes the body at once, and no
 /// value of a local is used outside the method that is not handed back.
@@ -215,7 +235,7 @@ pub fn lost_flow(
     change: &Change,
 ) -> Result<LostFlow, FlowFault> {
     match change.course {
-        Course::Same => Ok(nothing()),
+        Course::Same => lost_by_raising(alloc, old, change.raised),
         Course::Removed(_) => Ok(nothing()),
         Course::Inlined { local, statement } => {
             lost_by_inlining(alloc, old, locked, locks, local, statement)

@@ -19,5 +19,6 @@ mod reached;
 mod returning;
 mod search;
 mod spreading;
+mod starting;
 
 pub use kept::{LostEdge, LostFlow, lost_flow};

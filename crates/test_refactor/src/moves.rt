@@ -71,6 +71,16 @@ fn a_method_is_pulled_up(rt: HostRuntime) -> Result<(), Fail> {
 }
 
 #[test]
+fn a_call_that_begins_an_initialization_keeps_its_class(rt: HostRuntime) -> Result<(), Fail> {
+    let alloc = rt.alloc();
+    let old =
+        "class A { } class B extends A { static void h() { } static { h(); } static int w() { return 5; } } class C { int k = B.w(); }";
+    let edge = "lost edge: control A.java:61 A.java:117\n";
+    assert!(rt; leaves_it(alloc, old, ". pullup A.java 79", 5, edge)?);
+    Ok(())
+}
+
+#[test]
 fn what_nothing_uses_is_deleted(rt: HostRuntime) -> Result<(), Fail> {
     let alloc = rt.alloc();
     let old = "class A { int f; int g() { return 1; } }";
