@@ -1,5 +1,6 @@
 -- The tests of headers and sizes tell what they are to tell.
 use Rattle.std.proofs.Common.{◌≡◌, ◌⊎◌, refl, sym, ◌∙◌, ap, ap₂, subst, inl, inr, ⊎_elim, arith, ℕ, ◌<◌, ◌≤◌, ◌^◌, Bool, true, false, not, ◌||◌, List, length, Option, Some, None, Decides}
+use Rattle.std.specs.Prelude.{nat_lt}
 use Rattle.std.specs.List.{AllByRecursion}
 use Rattle.std.proofs.lemmas.Bool.{false≢true}
 use Rattle.std.proofs.lemmas.Bool.Decides.{Decides-eqb, Decides-ltb, Decides-at}
@@ -23,10 +24,21 @@ use Rattle.jr_plain.proofs.Tests.{itself, always, both, either, opposite, like}
 use Rattle.jr_supers.specs.Above.{HasNoOtherObject}
 use Rattle.jr_supers.specs.Direct.{header_place, object_row, SuperclassesStandFirst}
 use Rattle.jr_supers.specs.Supers.{IsWellHeaded}
-use Rattle.jr_supers.specs.Tabled.{dims_of, IsSized}
+use Rattle.jr_supers.specs.Tabled.{dims_of, dims_made, IsSized}
 use Rattle.jr_members.specs.Held.{ObjectIsBare}
-use Rattle.jr_headed.specs.Heads.{HasBareObject, is_bare_by, is_bare_at, is_that, is_only, is_well_at, is_shallow_at}
+use Rattle.jr_headed.specs.Heads.{HasBareObject, is_bare_by, is_bare_at, is_that, is_only, is_well_at, is_shallow_at, is_counted_at, is_sized_at}
 use Rattle.jr_headed.proofs.Programs.{headed_programs}
+
+-- a sum that fits, and one that does not
+pub few_made : (n : ℕ) → n < 2 ^ 64 → true ≡ nat_lt n (2 ^ 64)
+few_made n lt = sym ((Decides-ltb n (2 ^ 64)).1 lt)
+
+pub many_made : (n : ℕ) → 2 ^ 64 ≤ n → false ≡ nat_lt n (2 ^ 64)
+many_made n le = by (nat_lt n (2 ^ 64)) (Decides-ltb n (2 ^ 64)).0
+  where
+    by : (b : Bool) → (b ≡ true → n < 2 ^ 64) → false ≡ b
+    by false f = refl
+    by true f = absurd (let lt = f refl in omega arith)
 
 abbrev IsHeaderLabel : Label → Type 0
 IsHeaderLabel l = IsSuperclassLabel l ⊎ IsSuperinterfaceLabel l
@@ -83,15 +95,22 @@ module _ (p : Rows) where
   past_shallow : (n : ℕ) → length p ≤ n → dims_of (label p n) < 2 ^ 63
   past_shallow n le = let e = ap dims_of (label_past p n le) in omega arith
 
-  sizes_tell : length p < 2 ^ 32 → Decides (all_below (length p) (is_shallow_at p)) (IsSized p)
-  sizes_tell few = like (every (length p) (is_shallow_at p) shallow_tells past_shallow) (λ h. record { few = few; shallow = h }) (λ h. h.shallow)
+  counted_tells : (n : ℕ) → Decides (is_counted_at p n) (dims_made (label p n) < 2 ^ 64)
+  counted_tells n = Decides-ltb (dims_made (label p n)) (2 ^ 64)
+
+  past_counted : (n : ℕ) → length p ≤ n → dims_made (label p n) < 2 ^ 64
+  past_counted n le = let e = ap dims_made (label_past p n le) in omega arith
+
+  sizes_tell : length p < 2 ^ 32 → Decides (all_below (length p) (is_sized_at p)) (IsSized p)
+  sizes_tell few = like (every (length p) (is_sized_at p) (λ n. both (shallow_tells n) (counted_tells n)) (λ n le. (past_shallow n le, past_counted n le)))
+      (λ h. record { few = few; shallow = λ n. (h n).0; counted = λ n. (h n).1 }) (λ h n. (h.shallow n, h.counted n))
 
 -- with as many rows as are counted
 pub heads_told : (p : Rows) (object : Option ℕ) (end : ℕ) (is : Bool) → end ≡ length p → length p < 2 ^ 32 → object ≡ object_row p → is ≡ all_below end (is_well_at p object) → Decides is (HasBareObject p)
 heads_told p object end is all_rows few found told = Decides-at _ _ (told ∙ ap₂ (λ n o. all_below n (is_well_at p o)) all_rows found) (heads_tell p few)
 
-pub sizes_told : (p : Rows) (end : ℕ) (is : Bool) → end ≡ length p → length p < 2 ^ 32 → is ≡ all_below end (is_shallow_at p) → Decides is (IsSized p)
-sizes_told p end is all_rows few told = Decides-at _ _ (told ∙ ap (λ n. all_below n (is_shallow_at p)) all_rows) (sizes_tell p few)
+pub sizes_told : (p : Rows) (end : ℕ) (is : Bool) → end ≡ length p → length p < 2 ^ 32 → is ≡ all_below end (is_sized_at p) → Decides is (IsSized p)
+sizes_told p end is all_rows few told = Decides-at _ _ (told ∙ ap (λ n. all_below n (is_sized_at p)) all_rows) (sizes_tell p few)
 
 pub well_headed : (p : Rows) (units : List declared_unit.Unit) → AllByRecursion IsShaped units → p ≡ program_rows units → HasBareObject p → IsWellHeaded p × ObjectIsBare p
 well_headed p units shaped is h = let P = headed_programs units shaped in

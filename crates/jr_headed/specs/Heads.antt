@@ -9,7 +9,7 @@ use Rattle.jr_plain.specs.Declarations.{is_object}
 use Rattle.jr_supers.specs.declared.supers.HeaderPlace.{HeaderPlace}
 use Rattle.jr_supers.specs.Above.{HasNoOtherObject}
 use Rattle.jr_supers.specs.Direct.{header_place, SuperclassesStandFirst}
-use Rattle.jr_supers.specs.Tabled.{dims_of}
+use Rattle.jr_supers.specs.Tabled.{dims_of, dims_made}
 use Rattle.jr_members.specs.Held.{ObjectIsBare}
 
 -- the law: the names in headers stand below types, and that of a superclass first
@@ -42,3 +42,9 @@ is_well_at p object n = is_bare_at p n && is_only p object n
 
 abbrev pub is_shallow_at : Rows → ℕ → Bool
 is_shallow_at p n = nat_lt (dims_of (label p n)) (2 ^ 63)
+
+abbrev pub is_counted_at : Rows → ℕ → Bool
+is_counted_at p n = nat_lt (dims_made (label p n)) (2 ^ 64)
+
+abbrev pub is_sized_at : Rows → ℕ → Bool
+is_sized_at p n = is_shallow_at p n && is_counted_at p n

@@ -1,5 +1,5 @@
 // Whether there is one Object that names nothing in its header, and whether rows and brackets can be counted.
-ghost use Rattle.std.specs.Prelude.{◌≡◌, ◌<◌, ◌^◌, List, true, length, Decides};
+ghost use Rattle.std.specs.Prelude.{◌≡◌, ◌+◌, ◌<◌, ◌^◌, List, true, length, nat_lt, Decides};
 ghost use Rattle.std.specs.List.{AllByRecursion};
 ghost use Rattle.jr_tree.specs.declared.tree.Unit as declared_unit;
 ghost use Rattle.jr_tree.specs.Shape.{IsShaped};
@@ -73,18 +73,42 @@ fn dims_at(rows: &[Row], at: u32) -> usize
     }
 }
 
-// They are few at the rows before the end.
+// The dimensions with a length and those without one are fewer than 2^64.
+#[tactic(auto, using(crate::proofs::Headed::few_made, crate::proofs::Headed::many_made))]
+fn are_few(lengths: usize, more: usize) -> bool
+    ensures { result ≡ nat_lt (lengths + more) (2 ^ 64) }
+{
+    match lengths.checked_add(more) {
+        Some(_) => true,
+        None => false,
+    }
+}
+
+// So it is with those of an array that the row creates.
+fn is_counted_at(rows: &[Row], at: u32) -> bool
+    ensures { result ≡ tell.is_counted_at rows.now at }
+{
+    match rows.get(at as usize) {
+        Some(row) => match row.label {
+            Label::NewArray { lengths, more, .. } => are_few(lengths, more),
+            _ => true,
+        },
+        None => true,
+    }
+}
+
+// Brackets and dimensions are few at the rows before the end.
 fn are_shallow(rows: &[Row], end: u32) -> bool
-    ensures { result ≡ all_below end (tell.is_shallow_at rows.now) }
+    ensures { result ≡ all_below end (tell.is_sized_at rows.now) }
 {
     let mut are = true;
     for at in 0..end {
-        are = are && dims_at(rows, at) < 1 << 63;
+        are = are && dims_at(rows, at) < 1 << 63 && is_counted_at(rows, at);
     }
     are
 }
 
-/// Rows and brackets are few enough to be counted: less than 2^32 rows, and less than 2^63 brackets at each.
+/// Rows and brackets are few enough to be counted: less than 2^32 rows, at each less than 2^63 brackets, and less than 2^64 dimensions of an array that is created.
 pub fn is_sized(rows: &[Row]) -> bool
     ensures { Decides result (IsSized rows.now) }
 {

@@ -25,10 +25,16 @@ dims_of (is.Local is_final dims) = dims
 dims_of (is.Parameter is_final dims) = dims
 dims_of _ = 0
 
+-- the dimensions of an array that a row creates
+abbrev pub dims_made : Label → ℕ
+dims_made (is.NewArray primitive lengths extra) = lengths + extra
+dims_made _ = 0
+
 -- rows and brackets are few enough to be counted
 pub record IsSized (p : Rows) : Type 0 where
   pub few : length p < 2 ^ 32
   pub shallow : (n : ℕ) → dims_of (label p n) < 2 ^ 63
+  pub counted : (n : ℕ) → dims_made (label p n) < 2 ^ 64
 
 abbrev pub is_callable : Role → Bool
 is_callable role.Method = true

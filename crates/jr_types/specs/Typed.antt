@@ -1,5 +1,5 @@
 -- What stands behind a typing in code: its types and values by rows, and when its tables are right (JLS 15).
-use Rattle.std.specs.Prelude.{◌≡◌, ℕ, ◌+◌, ◌<◌, ◌≤◌, ◌^◌, ℤ, List, length, Option, Some, None, option_map, option_and_then, slice_get, slice_index_or}
+use Rattle.std.specs.Prelude.{◌≡◌, ℕ, ◌+◌, ◌≤◌, ℤ, List, length, Option, Some, None, option_map, option_and_then, slice_get, slice_index_or}
 use Rattle.jr_ty.specs.declared.constant.Const.{Const}
 use Rattle.jr_ty.specs.declared.constant.Const.TheVariants as c
 use Rattle.jr_tree.specs.declared.tree.Primitive.{Primitive}
@@ -35,11 +35,6 @@ int_of _ = None
 abbrev pub string_row : Rows → Option ℕ
 string_row p = first_below (length p) (λ n. is_string p n)
 
--- the dimensions of an array that a row creates
-abbrev pub dims_made : Label → ℕ
-dims_made (is.NewArray primitive lengths extra) = lengths + extra
-dims_made _ = 0
-
 -- ---- what a typing has
 
 abbrev pub rows_in : World → Rows
@@ -63,7 +58,6 @@ types_of typing = types_in typing.types.now
 -- the tables are those of the rows under the table, and the ints are the values of the constants
 pub record CanType (constant : Constants) (p : Rows) (t : Table) (places : Places) (supers : Supers) (ints : List (Option ℤ)) (string : Option ℕ) : Type 0 where
   pub sized : IsSized p
-  pub counted : (n : ℕ) → dims_made (label p n) < 2 ^ 64
   pub seen : AreSeen p t places supers
   pub string_is : string ≡ string_row p
   pub ints_are : (k : ℕ) → slice_index_or ints k None ≡ int_of (constant k)

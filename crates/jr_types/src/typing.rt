@@ -17,7 +17,7 @@ ghost use Rattle.jr_plain.specs.Types as written;
 ghost use Rattle.jr_plain.specs.Typing as plain;
 ghost use Rattle.jr_members.specs.Sources.{ArePlaced};
 ghost use Rattle.jr_supers.specs.Supers.{AreSupersOf};
-ghost use Rattle.jr_supers.specs.Tabled.{IsSized};
+ghost use Rattle.jr_supers.specs.Tabled.{IsSized, dims_made};
 ghost use Rattle.jr_types.specs.Typed as tell;
 ghost use Rattle.jr_types.specs.Typed.{IsTyping};
 
@@ -546,7 +546,7 @@ impl<'a> Typing<'a> {
 
     // The type of an expression by its label.
     fn typed_by(self, at: u32, label: &Label) -> Option<RowType>
-        ensures { (constant : Constants) → IsTyping constant self.entry → tell.dims_made label.now < 2 ^ 64 → result ≡ plain.typed_by (tell.rows_of self.entry) (tell.table_of self.entry) constant (tell.types_of self.entry) at label.now }
+        ensures { (constant : Constants) → IsTyping constant self.entry → dims_made label.now < 2 ^ 64 → result ≡ plain.typed_by (tell.rows_of self.entry) (tell.table_of self.entry) constant (tell.types_of self.entry) at label.now }
     {
         match label {
             Label::Literal { kind } => literal_type(kind, self.string),

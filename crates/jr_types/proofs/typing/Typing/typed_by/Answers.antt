@@ -1,6 +1,7 @@
 use Rattle.std.proofs.Common.{◌∙◌, sym, ap, subst, ◌<◌, ◌^◌}
 use Rattle.jr_plain.specs.Typing as plain
-use Rattle.jr_types.specs.Typed.{rows_of, table_of, types_of, dims_made}
+use Rattle.jr_supers.specs.Tabled.{dims_made}
+use Rattle.jr_types.specs.Typed.{rows_of, table_of, types_of}
 use Rattle.jr_types.proofs.Operands.{cast_is, created_is, other_typed}
 use Rattle.jr_types.proofs.typing.Typing.typed_by.Goals as goal
 
