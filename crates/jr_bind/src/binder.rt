@@ -1,6 +1,11 @@
 // The binding of a program.
+ghost use Rattle.std.specs.Prelude.{IfOk, OnOk};
+ghost use Rattle.jr_bind.specs.Late.{AreLate};
+ghost use Rattle.jr_bind.specs.Filled.{IsReady, KeepsRest};
+ghost use Rattle.jr_bind.specs.Naming.{FillsNames};
+ghost use Rattle.jr_bind.specs.Exact as exact;
 
-use crate::boxes::{boxed, imports_none, imports_of, members_of};
+use crate::boxes::{boxed, imports_none, imports_of, members_of, supers_of};
 use crate::filling::{Filling, Known};
 use crate::headers::{Setting, Settled, settle};
 use crate::stages::{Stage, stages_of};
@@ -38,7 +43,9 @@ fn fill_imports(
     known: Known,
     stages: &[Stage],
     filling: &mut Filling,
-) -> Result<Box<Imports>, OutOfMemory> {
+) -> Result<Box<Imports>, OutOfMemory>
+    ensures { OnOk result (KeepsRest filling.old filling.new) }
+{
     filling.fill(alloc, known, stages, Stage::Import)?;
     imports_of(alloc, filling.under(known))
 }
@@ -51,7 +58,9 @@ fn fill_types<'a>(
     supers: &'a Supers,
     members: &'a Members,
     filling: &mut Filling,
-) -> Result<Box<Imports>, OutOfMemory> {
+) -> Result<Box<Imports>, OutOfMemory>
+    ensures { OnOk result (KeepsRest filling.old filling.new) }
+{
     let none = imports_none(alloc)?;
     let known = Known {
         setting,
@@ -76,7 +85,9 @@ fn fill_names(
     known: Known,
     stages: &[Stage],
     filling: &mut Filling,
-) -> Result<Box<Constants>, OutOfMemory> {
+) -> Result<Box<Constants>, OutOfMemory>
+    ensures { exact.IsProgramIn known.entry.setting.rows.now known.entry.setting.places.now → AreLate known.entry.setting.rows.now stages.now → IsReady known.entry.setting.rows.now filling.old → IfOk result (λ found. FillsNames known.entry.setting.rows.now known.entry.setting.places.now known.entry.supers.now filling.old filling.new found.value) }
+{
     filling.fill_typed(alloc, known, stages, Stage::Name)?;
     let constants = filling.find_constants(alloc, known)?;
     filling.fill_typed(alloc, known, stages, Stage::Other)?;
@@ -88,16 +99,18 @@ fn bind_names(
     alloc: Global,
     setting: Setting,
     stages: &[Stage],
-    supers: Box<Supers>,
     imports: Box<Imports>,
     filling: Filling,
-) -> Result<Bound, OutOfMemory> {
+) -> Result<Bound, OutOfMemory>
+    ensures { AreLate setting.entry.rows.now stages.now → IsReady setting.entry.rows.now filling → IfOk result (λ bound. exact.IsExact setting.entry.rows.now setting.entry.places.now bound) }
+{
     let mut filling = filling;
     let under = Tabled {
         rows: setting.rows,
         places: setting.places,
         table: &filling.table,
     };
+    let supers = supers_of(alloc, under)?;
     let members = members_of(alloc, under, &supers)?;
     let known = Known {
         setting,
@@ -123,7 +136,9 @@ fn bind_rest(
     setting: Setting,
     stages: &[Stage],
     settled: Settled,
-) -> Result<Bound, OutOfMemory> {
+) -> Result<Bound, OutOfMemory>
+    ensures { AreLate setting.entry.rows.now stages.now → IfOk result (λ bound. exact.IsExact setting.entry.rows.now setting.entry.places.now bound) }
+{
     let Settled {
         table,
         supers,
@@ -133,7 +148,21 @@ fn bind_rest(
     let mut filling = Filling::new(alloc, setting.rows, table)?;
     let imports = fill_types(alloc, setting, stages, &supers, &members, &mut filling)?;
     drop(members);
-    bind_names(alloc, setting, stages, supers, imports, filling)
+    drop(supers);
+    bind_names(alloc, setting, stages, imports, filling)
+}
+
+// The binding where all headers are settled.
+fn bind_all(
+    alloc: Global,
+    setting: Setting,
+    stages: &[Stage],
+    settled: Settled,
+) -> Result<Binding, OutOfMemory>
+    ensures { AreLate setting.entry.rows.now stages.now → IfOk result (λ binding. exact.IsExactBinding setting.entry.rows.now setting.entry.places.now binding) }
+{
+    let bound = boxed(alloc, bind_rest(alloc, setting, stages, settled))?;
+    Ok(Binding::Bound(bound))
 }
 
 /// What the occurrences of a program refer to: headers first, then imports, types, other names and calls.
@@ -142,7 +171,9 @@ pub fn bind(
     rows: &[Row],
     places: &Places,
     scopes: &Scopes,
-) -> Result<Binding, OutOfMemory> {
+) -> Result<Binding, OutOfMemory>
+    ensures { IfOk result (λ binding. exact.IsExactBinding rows.now places.now binding) }
+{
     let setting = Setting {
         rows,
         places,
@@ -150,11 +181,8 @@ pub fn bind(
     };
     let stages = stages_of(alloc, rows)?;
     let mut settled = Settled::new(alloc, setting)?;
-    match settle(alloc, setting, &mut settled)? {
-        Some(first) => Ok(Binding::Cycle(first)),
-        None => {
-            let bound = boxed(alloc, bind_rest(alloc, setting, &stages, settled))?;
-            Ok(Binding::Bound(bound))
-        }
+    if let Some(first) = settle(alloc, setting, &mut settled)? {
+        return Ok(Binding::Cycle(first));
     }
+    bind_all(alloc, setting, &stages, settled)
 }

@@ -1,0 +1,5 @@
+pub mod Carrying
+pub mod Keeping
+pub mod Constant
+pub mod Whole
+pub mod Lateness

@@ -1,0 +1,7 @@
+use Rattle.jr_bind.proofs.Whole.{bound_read}
+use Rattle.jr_bind.proofs.binder.bind_names.Goals as goal
+
+pub returns : goal.returns
+returns c = λ late ready. bound_read c.args.setting.rows.now c.args.setting.places.now c.in_ok-supers.supers.value c.in_ok-members.members.value c.args.filling c.fill_names.new.filling c.in_ok-constants.constants.value
+    c.deref.result.now c.deref-2.result.now c.deref-3.result.now c.deref.ensures.value c.deref-2.ensures c.deref-3.ensures c.in_ok-supers.ensures c.in_ok-members.ensures
+    (λ program. c.in_ok-constants.ensures program late ready)

@@ -1,0 +1,4 @@
+pub mod Late
+pub mod Filled
+pub mod Exact
+pub mod Naming
