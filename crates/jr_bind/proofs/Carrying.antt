@@ -13,13 +13,14 @@ use Rattle.jr_plain.specs.Search.{Reaches}
 use Rattle.jr_with.specs.Same.{SameNames, SameFirstNames, SameTypeNames}
 use Rattle.jr_with.proofs.Typed.{written_first}
 use Rattle.jr_with.proofs.Worlds.{parameters_same}
+use Rattle.jr_places.specs.declared.chains.Entry.{Entry}
 use Rattle.jr_places.specs.declared.places.Places.{Places}
 use Rattle.jr_supers.specs.declared.above.Link.{Link}
 use Rattle.jr_supers.specs.declared.signatures.Signature.{Signature}
 use Rattle.jr_supers.specs.declared.signatures.Signatures.{Signatures}
 use Rattle.jr_supers.specs.declared.subtypes.Supers.{Supers}
 use Rattle.jr_supers.specs.Above.{Tables, IsLinked, AreAllAbove}
-use Rattle.jr_supers.specs.Direct.{FallsFrom}
+use Rattle.jr_supers.specs.Direct.{HasSupers, FallsFrom}
 use Rattle.jr_supers.specs.Signatures.{IsSignatureOf, AreSignatures}
 use Rattle.jr_supers.specs.Supers.{HasNoCycle, AreSupersOf}
 use Rattle.jr_members.specs.declared.declared.MemberKind.{MemberKind}
@@ -97,6 +98,12 @@ module _ (p : Rows) (formed : IsFormed p) (t u : Table) (types : SameTypes p t u
   falls_over c n [] h = λ m s lt at. h m s lt (super_at_over p formed u t back c m s at)
   falls_over c n (s ∷ more) h = (h.0, h.1, super_at_over p formed t u types c h.0 s h.2, λ k r lt below at. h.3 k r lt below (super_at_over p formed u t back c k r at), falls_over c h.0 more h.4)
 
+  pub direct_over : (supers : List Entry) → HasSupers p t supers → HasSupers p u supers
+  direct_over supers h = record {
+    each = λ c s. (λ e. super_over p formed t u types c s ((h.each c s).0 e), λ k. (h.each c s).1 (super_over p formed u t back c s k));
+    falls = λ c. falls_over c _ _ (h.falls c);
+  }
+
   linked_over : (tables : Tables) (c : ℕ) (l : Link) → IsLinked p t tables c l → IsLinked p u tables c l
   linked_over tables c l h = record {
     first = λ x e. (super_over p formed t u types c x (h.first x e).0, (h.first x e).1);
@@ -121,10 +128,7 @@ module _ (p : Rows) (formed : IsFormed p) (t u : Table) (types : SameTypes p t u
   supers_over : (supers : Supers) → AreSupersOf p t supers → AreSupersOf p u supers
   supers_over supers h = record {
     well = h.well;
-    direct = record {
-      each = λ c s. (λ e. super_over p formed t u types c s ((h.direct.each c s).0 e), λ k. (h.direct.each c s).1 (super_over p formed u t back c s k));
-      falls = λ c. falls_over c _ _ (h.direct.falls c);
-    };
+    direct = direct_over supers.direct.supers h.direct;
     object = h.object;
     superclasses = λ c s. (λ e. superclass_over p formed t u types c s ((h.superclasses c s).0 e), λ k. (h.superclasses c s).1 (superclass_over p formed u t back c s k));
     order = h.order;

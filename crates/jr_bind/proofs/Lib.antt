@@ -3,3 +3,4 @@ pub mod Keeping
 pub mod Constant
 pub mod Whole
 pub mod Lateness
+pub mod Confirmed

@@ -15,6 +15,7 @@ use Rattle.jr_defs.proofs.TypesAgree.{SameTypes}
 use Rattle.jr_plain.specs.Conversions.{Constants}
 use Rattle.jr_places.specs.declared.places.Places.{Places}
 use Rattle.jr_supers.specs.declared.subtypes.Supers.{Supers}
+use Rattle.jr_supers.specs.Direct.{HasSupers}
 use Rattle.jr_supers.specs.Supers.{IsWellHeaded, HasNoCycle, AreSupersOf}
 use Rattle.jr_supers.specs.Tabled.{IsSized}
 use Rattle.jr_members.specs.declared.members.Members.{Members}
@@ -30,7 +31,7 @@ use Rattle.jr_bind.specs.Late.{AreLate, is_name}
 use Rattle.jr_bind.specs.Filled.{table_of, int_at, IsReady, FillsRows, SeeksNoType}
 use Rattle.jr_bind.specs.Exact.{IsProgramIn, AreFormed, AreUnder}
 use Rattle.jr_bind.specs.Naming.{FillsNames}
-use Rattle.jr_bind.proofs.Carrying.{seen_over, members_over, acyclic_back}
+use Rattle.jr_bind.proofs.Carrying.{direct_over, seen_over, members_over, acyclic_back}
 use Rattle.jr_bind.proofs.Keeping.{seeks_not, agree}
 use Rattle.jr_bind.proofs.Constant.{constants_under, constants_over, ints_known}
 
@@ -116,6 +117,15 @@ bound_read p places supers members first last found read these those e f g super
     (subst (λ s. IsSized p → AreSeen p (table_of first) places s → AreMembersOf p (table_of first) s members) f
     (subst (λ all. IsSized p → AreSeen p (entries all) places these → AreMembersOf p (entries all) these members) e members_are))
     (λ program. subst (λ s. FillsNames p places s first last found) g (names program))
+
+-- the direct supertypes, whatever is on a cycle
+pub direct_read : (p : Rows) (places : Places) (supers these : Supers) (first last : filling.Filling) (found : code.Constants) (read : List Referent) → read ≡ first.table.items
+    → (IsWellHeaded p → HasSupers p (entries read) supers.direct.supers) → (IsProgramIn p places → FillsNames p places these first last found)
+    → IsProgramIn p places → HasSupers p (table_of last) supers.direct.supers
+direct_read p places supers these first last found read e supers_are names program =
+    let same : SameTypes p (table_of first) (table_of last) = record { at = (names program).same.at } in
+    direct_over p (program_formed p places program) (table_of first) (table_of last) same supers.direct.supers
+    (subst (λ all. HasSupers p (entries all) supers.direct.supers) e (supers_are program.well))
 
 -- all under one table
 pub under_exact : (p : Rows) (t : Table) (places : Places) (supers : Supers) (members : Members) (found : code.Constants) (types : List (Option RowType)) (ints : List (Option ℤ)) (string : Option ℕ)

@@ -2,3 +2,4 @@ pub mod Late
 pub mod Filled
 pub mod Exact
 pub mod Naming
+pub mod Confirmed

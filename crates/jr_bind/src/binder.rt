@@ -1,19 +1,21 @@
 // The binding of a program.
-ghost use Rattle.std.specs.Prelude.{IfOk, OnOk};
+ghost use Rattle.std.specs.Prelude.{◌≡◌, true, IfOk, OnOk};
 ghost use Rattle.jr_bind.specs.Late.{AreLate};
 ghost use Rattle.jr_bind.specs.Filled.{IsReady, KeepsRest};
 ghost use Rattle.jr_bind.specs.Naming.{FillsNames};
 ghost use Rattle.jr_bind.specs.Exact as exact;
+ghost use Rattle.jr_bind.specs.Confirmed as confirmed;
 
 use crate::boxes::{boxed, imports_none, imports_of, members_of, supers_of};
+use crate::confirming::is_binding;
 use crate::filling::{Filling, Known};
 use crate::headers::{Setting, Settled, settle};
 use crate::stages::{Stage, stages_of};
 use jr_base::OutOfMemory;
 use jr_constants::Constants;
 use jr_defs::{Referent, RowType};
-use jr_lookup::{Imports, Scopes};
-use jr_members::Members;
+use jr_lookup::{Imports, Scopes, Sight};
+use jr_members::{Members, World};
 use jr_places::Places;
 use jr_supers::{Supers, Tabled};
 use jr_tree::Row;
@@ -102,7 +104,7 @@ fn bind_names(
     imports: Box<Imports>,
     filling: Filling,
 ) -> Result<Bound, OutOfMemory>
-    ensures { AreLate setting.entry.rows.now stages.now → IsReady setting.entry.rows.now filling → IfOk result (λ bound. exact.IsExact setting.entry.rows.now setting.entry.places.now bound) }
+    ensures { AreLate setting.entry.rows.now stages.now → IsReady setting.entry.rows.now filling → IfOk result (λ bound. confirmed.AreTablesOf setting.entry.rows.now setting.entry.places.now bound) }
 {
     let mut filling = filling;
     let under = Tabled {
@@ -120,6 +122,12 @@ fn bind_names(
     };
     let constants = fill_names(alloc, known, stages, &mut filling)?;
     let Filling { table, types, .. } = filling;
+    let under = Tabled {
+        rows: setting.rows,
+        places: setting.places,
+        table: &table,
+    };
+    let imports = imports_of(alloc, under)?;
     Ok(Bound {
         table,
         types,
@@ -137,7 +145,7 @@ fn bind_rest(
     stages: &[Stage],
     settled: Settled,
 ) -> Result<Bound, OutOfMemory>
-    ensures { AreLate setting.entry.rows.now stages.now → IfOk result (λ bound. exact.IsExact setting.entry.rows.now setting.entry.places.now bound) }
+    ensures { AreLate setting.entry.rows.now stages.now → IfOk result (λ bound. confirmed.AreTablesOf setting.entry.rows.now setting.entry.places.now bound) }
 {
     let Settled {
         table,
@@ -152,27 +160,54 @@ fn bind_rest(
     bind_names(alloc, setting, stages, imports, filling)
 }
 
-// The binding where all headers are settled.
+// The table of the program is its binding.
+fn is_binding_of(alloc: Global, setting: Setting, bound: &Bound) -> Result<bool, OutOfMemory>
+    ensures { confirmed.AreTablesOf setting.entry.rows.now setting.entry.places.now bound.now → confirmed.IsProgramOf setting.entry.rows.now setting.entry.places.now setting.entry.scopes.now → IfOk result (λ is. is ≡ true → confirmed.IsBindingOf setting.entry.rows.now setting.entry.places.now bound.now) }
+{
+    let under = Tabled {
+        rows: setting.rows,
+        places: setting.places,
+        table: &bound.table,
+    };
+    let world = World {
+        under,
+        supers: &bound.supers,
+        members: &bound.members,
+    };
+    let sight = Sight {
+        world,
+        scopes: setting.scopes,
+        imports: &bound.imports,
+    };
+    is_binding(alloc, sight, &bound.types)
+}
+
+// The binding where all headers are settled. What lookup does not confirm is no binding, and is answered by want of memory.
 fn bind_all(
     alloc: Global,
     setting: Setting,
     stages: &[Stage],
     settled: Settled,
-) -> Result<Binding, OutOfMemory>
-    ensures { AreLate setting.entry.rows.now stages.now → IfOk result (λ binding. exact.IsExactBinding setting.entry.rows.now setting.entry.places.now binding) }
+) -> Result<Bound, OutOfMemory>
+    ensures { AreLate setting.entry.rows.now stages.now → confirmed.IsProgramOf setting.entry.rows.now setting.entry.places.now setting.entry.scopes.now → IfOk result (λ bound. confirmed.IsBindingOf setting.entry.rows.now setting.entry.places.now bound) }
 {
-    let bound = boxed(alloc, bind_rest(alloc, setting, stages, settled))?;
-    Ok(Binding::Bound(bound))
+    let bound = bind_rest(alloc, setting, stages, settled)?;
+    if is_binding_of(alloc, setting, &bound)? {
+        Ok(bound)
+    } else {
+        Err(OutOfMemory)
+    }
 }
 
-/// What the occurrences of a program refer to: headers first, then imports, types, other names and calls.
+/// What the occurrences of a program refer to: headers first, then imports, types, other names and calls. Of the rows of a program the table is a binding: each
+/// row refers to what lookup gives there under the table itself, no type is above itself, and the other tables are those under the binding.
 pub fn bind(
     alloc: Global,
     rows: &[Row],
     places: &Places,
     scopes: &Scopes,
 ) -> Result<Binding, OutOfMemory>
-    ensures { IfOk result (λ binding. exact.IsExactBinding rows.now places.now binding) }
+    ensures { confirmed.IsProgramOf rows.now places.now scopes.now → IfOk result (λ binding. confirmed.IsFoundBinding rows.now places.now binding) }
 {
     let setting = Setting {
         rows,
@@ -184,5 +219,6 @@ pub fn bind(
     if let Some(first) = settle(alloc, setting, &mut settled)? {
         return Ok(Binding::Cycle(first));
     }
-    bind_all(alloc, setting, &stages, settled)
+    let bound = boxed(alloc, bind_all(alloc, setting, &stages, settled))?;
+    Ok(Binding::Bound(bound))
 }

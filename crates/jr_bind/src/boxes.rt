@@ -2,10 +2,12 @@
 ghost use Rattle.std.specs.Prelude.{◌≡◌, Ok, IfOk};
 ghost use Rattle.jr_tree.specs.Tree.{IsTree};
 ghost use Rattle.jr_defs.specs.Referents.{entries};
+ghost use Rattle.jr_supers.specs.Direct.{HasSupers};
 ghost use Rattle.jr_supers.specs.Supers.{IsWellHeaded, HasNoCycle, AreSupersOf};
 ghost use Rattle.jr_supers.specs.Tabled.{IsSized};
-ghost use Rattle.jr_members.specs.Sources.{AreSeen};
+ghost use Rattle.jr_members.specs.Sources.{ArePlaced, AreSeen};
 ghost use Rattle.jr_members.specs.Worlds.{AreMembersOf};
+ghost use Rattle.jr_lookup.specs.Imports.{AreImports};
 ghost use Rattle.jr_constants.specs.Tables.{picks};
 ghost use Rattle.jr_constants.specs.Resting.{IsAtRest};
 
@@ -32,7 +34,8 @@ pub fn put<T: Drop>(place: &mut Box<T>, made: Result<T, OutOfMemory>) -> Result<
 
 /// The supertypes under a table.
 pub fn supers_of(alloc: Global, under: Tabled) -> Result<Box<Supers>, OutOfMemory>
-    ensures { IsWellHeaded under.entry.rows.now → HasNoCycle under.entry.rows.now (entries under.entry.table.now) → IfOk result (λ supers. AreSupersOf under.entry.rows.now (entries under.entry.table.now) supers.value) }
+    ensures direct { IsWellHeaded under.entry.rows.now → IfOk result (λ supers. HasSupers under.entry.rows.now (entries under.entry.table.now) supers.value.direct.supers) }
+    ensures all { IsWellHeaded under.entry.rows.now → HasNoCycle under.entry.rows.now (entries under.entry.table.now) → IfOk result (λ supers. AreSupersOf under.entry.rows.now (entries under.entry.table.now) supers.value) }
 {
     boxed(alloc, Supers::of(alloc, under))
 }
@@ -59,7 +62,9 @@ pub fn members_of_types(alloc: Global, under: Tabled) -> Result<Box<Members>, Ou
 }
 
 /// What imports bring under a table.
-pub fn imports_of(alloc: Global, under: Tabled) -> Result<Box<Imports>, OutOfMemory> {
+pub fn imports_of(alloc: Global, under: Tabled) -> Result<Box<Imports>, OutOfMemory>
+    ensures { ArePlaced under.entry.rows.now under.entry.places.now → IfOk result (λ imports. AreImports under.entry.rows.now (entries under.entry.table.now) imports.value) }
+{
     boxed(alloc, Imports::of(alloc, under))
 }
 
