@@ -3,6 +3,7 @@
 
 mod binder;
 mod boxes;
+mod confirming;
 mod cycles;
 mod filling;
 mod headers;

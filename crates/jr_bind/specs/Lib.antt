@@ -1,0 +1,5 @@
+pub mod Late
+pub mod Filled
+pub mod Exact
+pub mod Naming
+pub mod Confirmed
