@@ -7,6 +7,7 @@ mod cycles;
 mod filling;
 mod headers;
 mod rebinding;
+mod rounds;
 mod stages;
 
 pub use binder::{Binding, Bound, bind};
