@@ -4,3 +4,5 @@ pub mod Constant
 pub mod Whole
 pub mod Lateness
 pub mod Confirmed
+pub mod Reached
+pub mod LeftOut

@@ -3,3 +3,4 @@ pub mod Filled
 pub mod Exact
 pub mod Naming
 pub mod Confirmed
+pub mod Rounds

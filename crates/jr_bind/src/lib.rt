@@ -8,6 +8,7 @@ mod cycles;
 mod filling;
 mod headers;
 mod rebinding;
+mod rounds;
 mod stages;
 
 pub use binder::{Binding, Bound, bind};
