@@ -48,6 +48,7 @@ use Rattle.jr_constants.specs.Resting.{values_of}
 use Rattle.jr_lookup.specs.Behind.{IsTypeLabel, RefersByNames, type_in}
 use Rattle.jr_bind.specs.declared.binder.Bound.{Bound}
 use Rattle.jr_bind.specs.Confirmed.{rows_of, table_of, is_type_label, is_variable_label, may_refer_to, may_refer, may_refer_at, IsBoundAt, CanLookTo, CanConfirm, IsProgramOf, IsBindingUnder, AreTables, AreTablesOf, IsBindingOf}
+use Rattle.jr_bind.specs.Ranked.{AllSettled}
 use Rattle.jr_bind.specs.Exact.{IsProgramIn, AreUnder}
 
 -- ---- labels
@@ -198,8 +199,8 @@ module _ (sight : Sight) (found : code.Constants) (types : List (Option RowType)
       types_are = under.types_are;
     }
 
-    pub binding_under : IsBound rows (table_of sight) → IsBindingUnder rows (table_of sight) sight.world.under.places.now sight.world.supers.now sight.world.members.now found types
-    binding_under bound = record { well = well; acyclic = acyclic; is_bound = bound; under = under }
+    pub binding_under : IsBound rows (table_of sight) → AllSettled rows (table_of sight) → IsBindingUnder rows (table_of sight) sight.world.under.places.now sight.world.supers.now sight.world.members.now found types
+    binding_under bound settled = record { well = well; acyclic = acyclic; is_binding = record { settled = settled; bound = bound }; under = under }
 
 -- those of a bound program, as they are read
 module _ (p : Rows) (places : Places) (bound : Bound) (table : List Referent) (supers : Supers) (members : Members) (imports : Imports) (types : List (Option RowType))

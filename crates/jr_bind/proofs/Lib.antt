@@ -6,3 +6,4 @@ pub mod Lateness
 pub mod Confirmed
 pub mod Reached
 pub mod LeftOut
+pub mod Ranked

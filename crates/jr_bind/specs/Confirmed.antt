@@ -9,7 +9,7 @@ use Rattle.jr_defs.specs.declared.referent.RowType.{RowType}
 use Rattle.jr_defs.specs.Referents.{Table, entries}
 use Rattle.jr_defs.specs.Constants.{HasConstantForm}
 use Rattle.jr_defs.specs.Declarations.{IsString}
-use Rattle.jr_defs.specs.Binding.{IsBound}
+use Rattle.jr_defs.specs.Binding.{IsBinding}
 use Rattle.jr_defs.specs.Imports.{java_lang}
 use Rattle.jr_defs.specs.Lookup.{Look}
 use Rattle.jr_defs.specs.Packages.{InPackage}
@@ -108,11 +108,11 @@ pub record IsProgramOf (p : Rows) (places : Places) (scopes : Scopes) : Type 0 w
   pub lang : InPackage p java_lang 1
   pub one_string : (s d : ℕ) → IsString p s → IsString p d → s ≡ d
 
--- the rows can be counted, no type is above itself, each row refers to what lookup gives there, and the tables are those under the binding
+-- the rows can be counted, no type is above itself, the table is a binding, and the other tables are those under it
 pub record IsBindingUnder (p : Rows) (t : Table) (places : Places) (supers : Supers) (members : Members) (found : code.Constants) (types : List (Option RowType)) : Type 0 where
   pub well : AreWell p
   pub acyclic : HasNoCycle p t
-  pub is_bound : IsBound p t
+  pub is_binding : IsBinding p t
   pub under : AreUnder p t places supers members found types
 
 -- what tables under a table of names give where no type is above itself, and whatever is on a cycle

@@ -4,3 +4,4 @@ pub mod Exact
 pub mod Naming
 pub mod Confirmed
 pub mod Rounds
+pub mod Ranked

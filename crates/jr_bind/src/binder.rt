@@ -161,7 +161,12 @@ fn bind_rest(
 }
 
 // The table of the program is its binding.
-fn is_binding_of(alloc: Global, setting: Setting, bound: &Bound) -> Result<bool, OutOfMemory>
+fn is_binding_of(
+    alloc: Global,
+    setting: Setting,
+    bound: &Bound,
+    ranks: &[u32],
+) -> Result<bool, OutOfMemory>
     ensures { confirmed.AreTablesOf setting.entry.rows.now setting.entry.places.now bound.now → confirmed.IsProgramOf setting.entry.rows.now setting.entry.places.now setting.entry.scopes.now → IfOk result (λ is. is ≡ true → confirmed.IsBindingOf setting.entry.rows.now setting.entry.places.now bound.now) }
 {
     let under = Tabled {
@@ -179,7 +184,7 @@ fn is_binding_of(alloc: Global, setting: Setting, bound: &Bound) -> Result<bool,
         scopes: setting.scopes,
         imports: &bound.imports,
     };
-    is_binding(alloc, sight, &bound.types)
+    is_binding(alloc, sight, &bound.types, ranks)
 }
 
 // The binding where all headers are settled. What lookup does not confirm is no binding, and is answered by want of memory.
@@ -191,16 +196,17 @@ fn bind_all(
 ) -> Result<Bound, OutOfMemory>
     ensures { AreLate setting.entry.rows.now stages.now → confirmed.IsProgramOf setting.entry.rows.now setting.entry.places.now setting.entry.scopes.now → IfOk result (λ bound. confirmed.IsBindingOf setting.entry.rows.now setting.entry.places.now bound) }
 {
+    let ranks = settled.ranks.to_vec(alloc)?;
     let bound = bind_rest(alloc, setting, stages, settled)?;
-    if is_binding_of(alloc, setting, &bound)? {
+    if is_binding_of(alloc, setting, &bound, &ranks)? {
         Ok(bound)
     } else {
         Err(OutOfMemory)
     }
 }
 
-/// What the occurrences of a program refer to: headers first, then imports, types, other names and calls. Of the rows of a program the table is a binding: each
-/// row refers to what lookup gives there under the table itself, no type is above itself, and the other tables are those under the binding.
+/// What the occurrences of a program refer to: headers first, then imports, types, other names and calls. Of the rows of a program the table is a binding (`IsBinding`):
+/// each row refers to what lookup gives there under the table itself, and all types are settled; and the other tables are those under it.
 pub fn bind(
     alloc: Global,
     rows: &[Row],

@@ -9,6 +9,7 @@ ghost use Rattle.jr_lookup.specs.Behind.{CanLook};
 ghost use Rattle.jr_constants.specs.declared.constants.Constants as code;
 ghost use Rattle.jr_bind.specs.Confirmed as tell;
 
+use crate::ranking::are_settled;
 use jr_base::OutOfMemory;
 use jr_defs::{Referent, RowType};
 use jr_headed::{are_well, has_no_cycle};
@@ -152,12 +153,13 @@ fn is_confirmed(alloc: Global, sight: Sight, types: &[Option<RowType>]) -> Resul
     are_bound(alloc, sight, types, end)
 }
 
-/// Whether the table is a binding: the rows can be counted, no type is above itself, and each row refers to what lookup gives there under the table
-/// itself, with these types of expressions.
+/// Whether the table is a binding: the rows can be counted, no type is above itself, each row refers to what lookup gives there under the table itself, with these
+/// types of expressions, and all types are settled, which the ranks witness.
 pub fn is_binding(
     alloc: Global,
     sight: Sight,
     types: &[Option<RowType>],
+    ranks: &[u32],
 ) -> Result<bool, OutOfMemory>
     ensures { (found : code.Constants) → tell.IsProgramOf (tell.rows_of sight.entry) sight.entry.world.under.places.now sight.entry.scopes.now → tell.AreTables (tell.rows_of sight.entry) (tell.table_of sight.entry) sight.entry.world.under.places.now sight.entry.world.supers.now sight.entry.world.members.now sight.entry.imports.now found types.now → IfOk result (λ is. is ≡ true → tell.IsBindingUnder (tell.rows_of sight.entry) (tell.table_of sight.entry) sight.entry.world.under.places.now sight.entry.world.supers.now sight.entry.world.members.now found types.now) }
 {
@@ -168,5 +170,8 @@ pub fn is_binding(
     if !has_no_cycle(alloc, rows, sight.world.supers)? {
         return Ok(false);
     }
-    is_confirmed(alloc, sight, types)
+    if !is_confirmed(alloc, sight, types)? {
+        return Ok(false);
+    }
+    are_settled(alloc, sight, ranks)
 }

@@ -37,6 +37,9 @@ pub struct Settled {
     pub members: Box<Members>,
     imports: Box<Imports>,
     passed: Box<Passed>,
+    /// How many types were settled when this one was, and it; 0 for those that are not.
+    pub ranks: Vec<u32>,
+    count: u32,
 }
 
 /// What stands in the way of a type: nothing, or a type that has to be settled first.
@@ -144,6 +147,8 @@ impl Settled {
             members,
             imports,
             passed,
+            ranks: vec![in alloc; 0u32; setting.rows.len()]?,
+            count: 0,
         })
     }
 
@@ -548,9 +553,13 @@ impl Settled {
         Ok(Attempt::Done)
     }
 
-    // One type more is settled.
+    // One type more is settled, which ranks above those before.
     fn add_settled(&mut self, alloc: Global, setting: Setting, at: u32) -> Result<(), OutOfMemory> {
         let _ = self.passed.types.add(at);
+        self.count = self.count.saturating_add(1);
+        if let Some(rank) = self.ranks.get_mut(at as usize) {
+            *rank = self.count;
+        }
         self.add_type(alloc, setting, at)
     }
 

@@ -7,6 +7,7 @@ mod confirming;
 mod cycles;
 mod filling;
 mod headers;
+mod ranking;
 mod rebinding;
 mod rounds;
 mod stages;
