@@ -3,7 +3,8 @@
 
     costs.py --measure CRATE..    measures these crates, or all with the word `all`, and stores the seconds in docs/costs.tsv
     costs.py --gate N MINUTES     stores the wall minutes that a whole `rt ci --anew` took on N processors
-    costs.py --build N MINUTES    stores the wall minutes that the first build of the program took on N processors
+    costs.py --build N MINUTES    stores the wall minutes that a build of the program with its proofs took on N processors
+    costs.py --compile MINUTES    stores the processor minutes that the first build of the program took, which compiles the sources as they are
     costs.py --write              writes the tables of docs/COSTS.md from what is stored
 
 A measurement is one check from nothing at one job, in processor seconds, and where the crate has tests one of them likewise.
@@ -72,7 +73,7 @@ def edits_of(crate, folder):
 
 
 def load():
-    stored = {'machine': '', 'rt': '', 'gates': {}, 'builds': {}, 'crates': {}}
+    stored = {'machine': '', 'rt': '', 'gates': {}, 'builds': {}, 'compile': None, 'crates': {}}
     if not os.path.exists(STORED):
         return stored
     with open(STORED, encoding='utf-8') as file:
@@ -84,6 +85,8 @@ def load():
                 stored['gates'][int(words[1])] = float(words[2])
             elif words[0] == 'build':
                 stored['builds'][int(words[1])] = float(words[2])
+            elif words[0] == 'compile':
+                stored['compile'] = float(words[1])
             elif words[0] == 'crate':
                 check, tests = (float(it) if it else None for it in words[2:4])
                 stored['crates'][words[1]] = check, tests, words[4]
@@ -98,6 +101,8 @@ def store(stored):
             file.write(f'gate\t{number}\t{minutes:g}\n')
         for number, minutes in sorted(stored['builds'].items()):
             file.write(f'build\t{number}\t{minutes:g}\n')
+        if stored['compile']:
+            file.write(f'compile\t{stored["compile"]:g}\n')
         for name, (check, tests, how) in stored['crates'].items():
             seconds = ['' if it is None else f'{it:.1f}' for it in (check, tests)]
             file.write('\t'.join(['crate', name, *seconds, how]) + '\n')
@@ -230,7 +235,7 @@ def rows_of(crates, stored):
 
 
 def sums_of(rows, crates):
-    """The seconds of a whole gate by parts, and those of the first build of the program."""
+    """The seconds of a whole gate by parts, and those of a build of the program with its proofs."""
     needed = below(crates, PROGRAM)
     return {
         'check': sum(it['check'] or 0 for it in rows),
@@ -252,9 +257,13 @@ def gate_lines(stored, rows, crates):
 
 def build_line(stored, whole):
     if not stored['builds']:
-        return f'- The first build of the program takes some {minutes(whole)} processor minutes, {minutes(whole / BUILDING)} minutes where two or more are free.'
+        return f'- A program that is proved first takes some {minutes(whole)} processor minutes, {minutes(whole / BUILDING)} minutes where two or more are free.'
     took = ' and '.join(f'{it:g} minutes on {number} processors' for number, it in sorted(stored['builds'].items(), reverse=True))
-    return f'- The first build of the program takes {minutes(whole)} processor minutes, and took {took}.'
+    return f'- A program that is proved first takes {minutes(whole)} processor minutes, and took {took}.'
+
+
+def compile_line(stored):
+    return f'- The first build of the program takes {stored["compile"]:g} processor minutes: it is compiled, and not proved.'
 
 
 def page_of(stored, crates):
@@ -266,6 +275,8 @@ def page_of(stored, crates):
     yield ''
     yield f'- Checks take {minutes(sums["check"])} processor minutes, tests {minutes(sums["tests"])}, and must-fail edits some {minutes(sums["edits"])}. The whole is {minutes(whole)}.'
     yield from gate_lines(stored, rows, crates)
+    if stored['compile']:
+        yield compile_line(stored)
     yield build_line(stored, sums['build'])
     if any(it['is_rough'] and it['check'] is not None for it in rows):
         yield '- A figure with ~ was not measured by the script: it was read off an earlier gate, beside other work.'
@@ -303,16 +314,21 @@ def main():
     parser.add_argument('--loads', action='store_true')
     parser.add_argument('--gate', nargs=2, type=float, metavar=('N', 'MINUTES'))
     parser.add_argument('--build', nargs=2, type=float, metavar=('N', 'MINUTES'))
+    parser.add_argument('--compile', type=float, metavar='MINUTES')
     parser.add_argument('--write', action='store_true')
     given = parser.parse_args()
-    if not (given.measure or given.gate or given.build or given.write):
-        parser.error('give --measure, --gate, --build or --write')
+    if not (given.measure or given.gate or given.build or given.compile or given.write):
+        parser.error('give --measure, --gate, --build, --compile or --write')
     failed = measure(given.measure, given.loads) if given.measure else []
     for key, fact in (('gates', given.gate), ('builds', given.build)):
         if fact:
             stored = load()
             stored[key][int(fact[0])] = fact[1]
             store(stored)
+    if given.compile:
+        stored = load()
+        stored['compile'] = given.compile
+        store(stored)
     if given.write:
         write()
     if failed:

@@ -39,6 +39,8 @@ echo 'rt: chose --jobs 1 for refactor'
 . "$STUB/builds"
 END
   chmod 755 "$room/bin/rt"
+  printf '%s\n' '#!/usr/bin/env bash' 'echo "unproved: reading"' '. "$STUB/compiles"' >"$room/bin/python3"
+  chmod 755 "$room/bin/python3"
   put_program
 }
 
@@ -318,29 +320,43 @@ interrupt() {
   same "$what: the program" 'ended' "$(kill -0 "$(cat "$STUB/pid")" 2>/dev/null || echo ended)"
 }
 
+# What a build says of its time, by docs/COSTS.md.
+told_cost() { sed -n "s/^- \\($1 takes .*\\)\$/ \\1 (docs\\/COSTS.md)/p" "$top/docs/COSTS.md"; }
+
 try_builds() {
   export PATH=$room/bin:$PATH
   stub 0 'done, files changed: 0\n'
   rm -rf "$repo/crates/refactor/out"
   # shellcheck disable=SC2016
-  echo 'mkdir -p out; cp "$STUB/../program" out/refactor' >"$STUB/builds"
+  echo 'cp "$STUB/../program" "$3"' >"$STUB/compiles"
   call "$folder" undo
   same 'a first build: status' 0 "$status"
   same 'a first build: standard output' 'done, files changed: 0' "$(cat "$room/out")"
-  has 'a first build' "$room/err" "$(sed -n 's/^- \(The first build of the program takes .*\)$/each crate is proved and then compiled. \1 (docs\/COSTS.md)/p' "$top/docs/COSTS.md")"
+  has 'a first build' "$room/err" "with the checks of a run in place of the proofs that \`--prove\` or \`rt ci\` makes.$(told_cost 'The first build of the program')"
   has 'a first build' "$room/err" 'minutes'
   call "$folder" undo
   wanted 'the call after it' 0 'done, files changed: 0\n' ''
   echo '// more' >>"$repo/crates/refactor/src/main.rt"
   call "$folder" undo
   has 'a changed crate' "$room/err" 'a crate that the program stands on has changed'
+  # shellcheck disable=SC2016
+  echo 'mkdir -p out; cp "$STUB/../program" out/refactor' >"$STUB/builds"
+  call --prove
+  same 'a proof: status' 0 "$status"
+  has 'a proof' "$room/err" "each crate is proved and then compiled.$(told_cost 'A program that is proved first')"
+  has 'a proof' "$room/err" 'proved, and built from the sources as they are'
+  echo 'exit 1' >"$STUB/compiles"
+  call "$folder" undo
+  wanted 'a call of the proved program' 0 'done, files changed: 0\n' ''
+  call --prove
+  same 'a proof that stands: standard error' 'refactor: proved, and built from the sources as they are' "$(cat "$room/err")"
   rm -rf "$repo/crates/refactor/out"
-  echo 'echo no; exit 1' >"$STUB/builds"
+  echo 'echo no; exit 1' >"$STUB/compiles"
   call --dry-run "$folder" undo
   same 'a build that fails: status' 70 "$status"
   rm -f "$TMPDIR"/*
   # shellcheck disable=SC2016
-  echo 'echo $$ >"$STUB/pid"; exec sleep 60' >"$STUB/builds"
+  echo 'echo $$ >"$STUB/pid"; exec sleep 60' >"$STUB/compiles"
   rm -f "$STUB/pid"
   set -m
   "$repo/refactor" "$folder" undo >"$room/out" 2>"$room/err" &

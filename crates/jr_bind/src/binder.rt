@@ -1,14 +1,21 @@
 // The binding of a program.
+ghost use Rattle.std.specs.Prelude.{◌≡◌, true, IfOk, OnOk};
+ghost use Rattle.jr_bind.specs.Late.{AreLate};
+ghost use Rattle.jr_bind.specs.Filled.{IsReady, KeepsRest};
+ghost use Rattle.jr_bind.specs.Naming.{FillsNames};
+ghost use Rattle.jr_bind.specs.Exact as exact;
+ghost use Rattle.jr_bind.specs.Confirmed as confirmed;
 
-use crate::boxes::{boxed, imports_none, imports_of, members_of};
+use crate::boxes::{boxed, imports_none, imports_of, members_of, supers_of};
+use crate::confirming::is_binding;
 use crate::filling::{Filling, Known};
 use crate::headers::{Setting, Settled, settle};
 use crate::stages::{Stage, stages_of};
 use jr_base::OutOfMemory;
 use jr_constants::Constants;
 use jr_defs::{Referent, RowType};
-use jr_lookup::{Imports, Scopes};
-use jr_members::Members;
+use jr_lookup::{Imports, Scopes, Sight};
+use jr_members::{Members, World};
 use jr_places::Places;
 use jr_supers::{Supers, Tabled};
 use jr_tree::Row;
@@ -38,7 +45,9 @@ fn fill_imports(
     known: Known,
     stages: &[Stage],
     filling: &mut Filling,
-) -> Result<Box<Imports>, OutOfMemory> {
+) -> Result<Box<Imports>, OutOfMemory>
+    ensures { OnOk result (KeepsRest filling.old filling.new) }
+{
     filling.fill(alloc, known, stages, Stage::Import)?;
     imports_of(alloc, filling.under(known))
 }
@@ -51,7 +60,9 @@ fn fill_types<'a>(
     supers: &'a Supers,
     members: &'a Members,
     filling: &mut Filling,
-) -> Result<Box<Imports>, OutOfMemory> {
+) -> Result<Box<Imports>, OutOfMemory>
+    ensures { OnOk result (KeepsRest filling.old filling.new) }
+{
     let none = imports_none(alloc)?;
     let known = Known {
         setting,
@@ -76,7 +87,9 @@ fn fill_names(
     known: Known,
     stages: &[Stage],
     filling: &mut Filling,
-) -> Result<Box<Constants>, OutOfMemory> {
+) -> Result<Box<Constants>, OutOfMemory>
+    ensures { exact.IsProgramIn known.entry.setting.rows.now known.entry.setting.places.now → AreLate known.entry.setting.rows.now stages.now → IsReady known.entry.setting.rows.now filling.old → IfOk result (λ found. FillsNames known.entry.setting.rows.now known.entry.setting.places.now known.entry.supers.now filling.old filling.new found.value) }
+{
     filling.fill_typed(alloc, known, stages, Stage::Name)?;
     let constants = filling.find_constants(alloc, known)?;
     filling.fill_typed(alloc, known, stages, Stage::Other)?;
@@ -88,16 +101,18 @@ fn bind_names(
     alloc: Global,
     setting: Setting,
     stages: &[Stage],
-    supers: Box<Supers>,
     imports: Box<Imports>,
     filling: Filling,
-) -> Result<Bound, OutOfMemory> {
+) -> Result<Bound, OutOfMemory>
+    ensures { AreLate setting.entry.rows.now stages.now → IsReady setting.entry.rows.now filling → IfOk result (λ bound. confirmed.AreTablesOf setting.entry.rows.now setting.entry.places.now bound) }
+{
     let mut filling = filling;
     let under = Tabled {
         rows: setting.rows,
         places: setting.places,
         table: &filling.table,
     };
+    let supers = supers_of(alloc, under)?;
     let members = members_of(alloc, under, &supers)?;
     let known = Known {
         setting,
@@ -107,6 +122,12 @@ fn bind_names(
     };
     let constants = fill_names(alloc, known, stages, &mut filling)?;
     let Filling { table, types, .. } = filling;
+    let under = Tabled {
+        rows: setting.rows,
+        places: setting.places,
+        table: &table,
+    };
+    let imports = imports_of(alloc, under)?;
     Ok(Bound {
         table,
         types,
@@ -123,7 +144,9 @@ fn bind_rest(
     setting: Setting,
     stages: &[Stage],
     settled: Settled,
-) -> Result<Bound, OutOfMemory> {
+) -> Result<Bound, OutOfMemory>
+    ensures { AreLate setting.entry.rows.now stages.now → IfOk result (λ bound. confirmed.AreTablesOf setting.entry.rows.now setting.entry.places.now bound) }
+{
     let Settled {
         table,
         supers,
@@ -133,16 +156,59 @@ fn bind_rest(
     let mut filling = Filling::new(alloc, setting.rows, table)?;
     let imports = fill_types(alloc, setting, stages, &supers, &members, &mut filling)?;
     drop(members);
-    bind_names(alloc, setting, stages, supers, imports, filling)
+    drop(supers);
+    bind_names(alloc, setting, stages, imports, filling)
 }
 
-/// What the occurrences of a program refer to: headers first, then imports, types, other names and calls.
+// The table of the program is its binding.
+fn is_binding_of(alloc: Global, setting: Setting, bound: &Bound) -> Result<bool, OutOfMemory>
+    ensures { confirmed.AreTablesOf setting.entry.rows.now setting.entry.places.now bound.now → confirmed.IsProgramOf setting.entry.rows.now setting.entry.places.now setting.entry.scopes.now → IfOk result (λ is. is ≡ true → confirmed.IsBindingOf setting.entry.rows.now setting.entry.places.now bound.now) }
+{
+    let under = Tabled {
+        rows: setting.rows,
+        places: setting.places,
+        table: &bound.table,
+    };
+    let world = World {
+        under,
+        supers: &bound.supers,
+        members: &bound.members,
+    };
+    let sight = Sight {
+        world,
+        scopes: setting.scopes,
+        imports: &bound.imports,
+    };
+    is_binding(alloc, sight, &bound.types)
+}
+
+// The binding where all headers are settled. What lookup does not confirm is no binding, and is answered by want of memory.
+fn bind_all(
+    alloc: Global,
+    setting: Setting,
+    stages: &[Stage],
+    settled: Settled,
+) -> Result<Bound, OutOfMemory>
+    ensures { AreLate setting.entry.rows.now stages.now → confirmed.IsProgramOf setting.entry.rows.now setting.entry.places.now setting.entry.scopes.now → IfOk result (λ bound. confirmed.IsBindingOf setting.entry.rows.now setting.entry.places.now bound) }
+{
+    let bound = bind_rest(alloc, setting, stages, settled)?;
+    if is_binding_of(alloc, setting, &bound)? {
+        Ok(bound)
+    } else {
+        Err(OutOfMemory)
+    }
+}
+
+/// What the occurrences of a program refer to: headers first, then imports, types, other names and calls. Of the rows of a program the table is a binding: each
+/// row refers to what lookup gives there under the table itself, no type is above itself, and the other tables are those under the binding.
 pub fn bind(
     alloc: Global,
     rows: &[Row],
     places: &Places,
     scopes: &Scopes,
-) -> Result<Binding, OutOfMemory> {
+) -> Result<Binding, OutOfMemory>
+    ensures { confirmed.IsProgramOf rows.now places.now scopes.now → IfOk result (λ binding. confirmed.IsFoundBinding rows.now places.now binding) }
+{
     let setting = Setting {
         rows,
         places,
@@ -150,11 +216,9 @@ pub fn bind(
     };
     let stages = stages_of(alloc, rows)?;
     let mut settled = Settled::new(alloc, setting)?;
-    match settle(alloc, setting, &mut settled)? {
-        Some(first) => Ok(Binding::Cycle(first)),
-        None => {
-            let bound = boxed(alloc, bind_rest(alloc, setting, &stages, settled))?;
-            Ok(Binding::Bound(bound))
-        }
+    if let Some(first) = settle(alloc, setting, &mut settled)? {
+        return Ok(Binding::Cycle(first));
     }
+    let bound = boxed(alloc, bind_all(alloc, setting, &stages, settled))?;
+    Ok(Binding::Bound(bound))
 }

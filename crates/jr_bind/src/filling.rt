@@ -1,9 +1,17 @@
 // Rows that are looked up under a table that grows, with the types of those behind them.
 
-ghost use Rattle.std.specs.Prelude.{◌≡◌, length};
-ghost use Rattle.jr_defs.specs.Referents.{entries};
+ghost use Rattle.std.specs.Prelude.{◌≡◌, ◌<◌, ◌^◌, ℕ, length, None, Some, Decides, IfOk, OnOk, replicate, slice_get, slice_set, slice_index_or};
+ghost use Rattle.jr_tree.specs.Rows.{label};
+ghost use Rattle.jr_tree.specs.Tree.{IsTree};
+ghost use Rattle.jr_defs.specs.Formed.{IsFormed};
+ghost use Rattle.jr_defs.specs.Referents.{Table, entries};
 ghost use Rattle.jr_plain.specs.Conversions as values;
-ghost use Rattle.jr_types.specs.Typed.{CanType, AreTypes};
+ghost use Rattle.jr_plain.specs.Typing as plain;
+ghost use Rattle.jr_supers.specs.Tabled.{IsSized};
+ghost use Rattle.jr_types.specs.Typed.{CanType, AreTypes, types_in};
+ghost use Rattle.jr_bind.specs.Filled as filled;
+ghost use Rattle.jr_bind.specs.Filled.{IsReady, KeepsRest, FillsRow, FillsRows};
+ghost use Rattle.jr_bind.specs.Exact as exact;
 
 use crate::boxes::constants_of;
 use crate::headers::Setting;
@@ -37,23 +45,104 @@ pub struct Known<'a> {
 }
 
 // The number of a row that has the value of an int.
-fn int_of(constants: &Constants, at: usize) -> Option<i32> {
-    let Ok(row) = u32::try_from(at) else {
-        return None;
-    };
-    match constants.value(row) {
+fn int_of(constants: &Constants, at: u32) -> Option<i32>
+    ensures { result ≡ filled.int_at constants.now at }
+{
+    match constants.value(at) {
         Some(Value::Int(number)) => Some(number),
         _ => None,
     }
 }
 
+// Puts one int in its place.
+fn put_int(ints: &mut [Option<i32>], at: u32, int: Option<i32>)
+    requires { at < length ints.old }
+    ensures { ints.new ≡ slice_set ints.old at int }
+{
+    ints[at as usize] = int;
+}
+
+// The constant ints, of which the types of conditional expressions are made.
+fn set_ints(ints: &mut [Option<i32>], constants: &Constants)
+    ensures size { length ints.new ≡ length ints.old }
+    ensures each { length ints.old < 2 ^ 32 → length ints.old ≡ length constants.now.values.items → (k : ℕ) → slice_index_or ints.new k None ≡ filled.int_at constants.now k }
+{
+    let Ok(count) = u32::try_from(ints.len()) else {
+        return;
+    };
+    for at in 0..count {
+        put_int(ints, at, int_of(constants, at));
+    }
+}
+
+// Puts what a row refers to in its place, if there is one.
+fn put_referent(table: &mut Vec<Referent>, at: u32, referent: Referent)
+    ensures { table.new.items ≡ slice_set table.old.items at referent }
+{
+    if (at as usize) < table.len() {
+        table[at as usize] = referent;
+    }
+}
+
+// Puts the type of a row in its place, if there is one.
+fn put_type(types: &mut Vec<Option<RowType>>, at: u32, ty: Option<RowType>)
+    ensures { types.new.items ≡ slice_set types.old.items at ty }
+{
+    if (at as usize) < types.len() {
+        types[at as usize] = ty;
+    }
+}
+
+fn is_same(one: Stage, other: Stage) -> bool
+    ensures { Decides result (one ≡ other) }
+{
+    one == other
+}
+
+// The row is of the stage.
+fn is_of(stages: &[Stage], stage: Stage, at: u32) -> bool
+    ensures { Decides result (slice_get stages.now at ≡ Some stage) }
+{
+    match stages.get(at as usize) {
+        Some(found) => is_same(*found, stage),
+        None => false,
+    }
+}
+
+// The values of constants under a table, with the references that have the form of one.
+fn constants_by_form(alloc: Global, under: Tabled) -> Result<Box<Constants>, OutOfMemory>
+    ensures { IsSized under.entry.rows.now → IsTree under.entry.rows.now → IfOk result (λ found. exact.AreFormed under.entry.rows.now (entries under.entry.table.now) found.value) }
+{
+    let forms = constant_forms(alloc, under)?;
+    constants_of(alloc, under, &forms)
+}
+
+// No types yet.
+fn no_types(alloc: Global, rows: &[Row]) -> Result<Vec<Option<RowType>>, OutOfMemory>
+    ensures { IfOk result (λ all. all.items ≡ replicate (length rows.now) None) }
+{
+    Ok(vec![in alloc; None; rows.len()]?)
+}
+
+// No ints yet.
+fn no_ints(alloc: Global, rows: &[Row]) -> Result<Vec<Option<i32>>, OutOfMemory>
+    ensures { IfOk result (λ all. all.items ≡ replicate (length rows.now) None) }
+{
+    Ok(vec![in alloc; None; rows.len()]?)
+}
+
 impl Filling {
     /// The table as it is given, and no types yet.
-    pub fn new(alloc: Global, rows: &[Row], table: Vec<Referent>) -> Result<Filling, OutOfMemory> {
+    pub fn new(alloc: Global, rows: &[Row], table: Vec<Referent>) -> Result<Filling, OutOfMemory>
+        ensures ready { IfOk result (λ filling. IsReady rows.now filling) }
+        ensures same { IfOk result (λ filling. filling.table ≡ table) }
+    {
+        let types = no_types(alloc, rows)?;
+        let ints = no_ints(alloc, rows)?;
         Ok(Filling {
             table,
-            types: vec![in alloc; None; rows.len()]?,
-            ints: vec![in alloc; None; rows.len()]?,
+            types,
+            ints,
             string: find_string(rows),
         })
     }
@@ -85,33 +174,36 @@ impl Filling {
         sight.look(alloc, &self.types, at)
     }
 
-    fn set(&mut self, at: u32, referent: Referent) {
-        if let Some(place) = self.table.get_mut(at as usize) {
-            *place = referent;
-        }
-    }
-
     // The type of a row, where those of its parts are known.
-    fn set_type(&mut self, known: Known, at: u32) {
+    fn type_of(&self, known: Known, at: u32) -> Option<RowType>
+        ensures { (constant : values.Constants) → CanType constant known.entry.setting.rows.now (filled.table_of self.now) known.entry.setting.places.now known.entry.supers.now self.now.ints.items self.now.string → result ≡ plain.typed_by known.entry.setting.rows.now (filled.table_of self.now) constant (types_in self.now.types.items) at (label known.entry.setting.rows.now at) }
+    {
+        let world = World {
+            under: Tabled {
+                rows: known.setting.rows,
+                places: known.setting.places,
+                table: &self.table,
+            },
+            supers: known.supers,
+            members: known.members,
+        };
         let typing = Typing {
-            world: self.world(known),
+            world,
             types: &self.types,
             ints: &self.ints,
             string: self.string,
         };
-        let ty = typing.type_of(at);
-        if let Some(place) = self.types.get_mut(at as usize) {
-            *place = ty;
-        }
+        typing.type_of(at)
     }
 
-    // The constant ints, of which the types of conditional expressions are made.
-    fn set_ints(&mut self, constants: &Constants) {
-        for at in 0..self.ints.len() {
-            if let Some(place) = self.ints.get_mut(at) {
-                *place = int_of(constants, at);
-            }
-        }
+    // Sets the type of a row, where those of its parts are known.
+    fn set_type(&mut self, known: Known, at: u32)
+        ensures typed { (constant : values.Constants) → CanType constant known.entry.setting.rows.now (filled.table_of self.old) known.entry.setting.places.now known.entry.supers.now self.old.ints.items self.old.string → self.new.types.items ≡ slice_set self.old.types.items at (plain.typed_by known.entry.setting.rows.now (filled.table_of self.old) constant (types_in self.old.types.items) at (label known.entry.setting.rows.now at)) }
+        ensures rest { KeepsRest self.old self.new }
+        ensures table { self.new.table ≡ self.old.table }
+    {
+        let ty = self.type_of(known, at);
+        put_type(&mut self.types, at, ty);
     }
 
     /// The values of constants under the table, whose ints the types of expressions read from here on.
@@ -119,10 +211,21 @@ impl Filling {
         &mut self,
         alloc: Global,
         known: Known,
-    ) -> Result<Box<Constants>, OutOfMemory> {
-        let forms = constant_forms(alloc, self.under(known))?;
-        let constants = constants_of(alloc, self.under(known), &forms)?;
-        self.set_ints(&constants);
+    ) -> Result<Box<Constants>, OutOfMemory>
+        ensures table { self.new.table ≡ self.old.table }
+        ensures types { self.new.types ≡ self.old.types }
+        ensures string { self.new.string ≡ self.old.string }
+        ensures size { length self.new.ints.items ≡ length self.old.ints.items }
+        ensures found { IsSized known.entry.setting.rows.now → IsTree known.entry.setting.rows.now → IfOk result (λ found. exact.AreFormed known.entry.setting.rows.now (filled.table_of self.old) found.value) }
+        ensures ints { IsSized known.entry.setting.rows.now → IsTree known.entry.setting.rows.now → length self.old.ints.items ≡ length known.entry.setting.rows.now → IfOk result (λ found. (k : ℕ) → slice_index_or self.new.ints.items k None ≡ filled.int_at found.value k) }
+    {
+        let under = Tabled {
+            rows: known.setting.rows,
+            places: known.setting.places,
+            table: &self.table,
+        };
+        let constants = constants_by_form(alloc, under)?;
+        set_ints(&mut self.ints, &constants);
         Ok(constants)
     }
 
@@ -134,11 +237,14 @@ impl Filling {
         stages: &[Stage],
         stage: Stage,
         at: u32,
-    ) -> Result<(), OutOfMemory> {
-        if stages.get(at as usize) == Some(&stage) {
-            let found = self.look(alloc, known, at)?;
-            self.set(at, found);
+    ) -> Result<(), OutOfMemory>
+        ensures { OnOk result (FillsRow stages.now stage at self.old self.new) }
+    {
+        if !is_of(stages, stage, at) {
+            return Ok(());
         }
+        let found = self.look(alloc, known, at)?;
+        put_referent(&mut self.table, at, found);
         Ok(())
     }
 
@@ -149,7 +255,9 @@ impl Filling {
         known: Known,
         stages: &[Stage],
         stage: Stage,
-    ) -> Result<(), OutOfMemory> {
+    ) -> Result<(), OutOfMemory>
+        ensures { OnOk result (FillsRows stages.now stage self.old self.new) }
+    {
         let Ok(count) = u32::try_from(stages.len()) else {
             return Err(OutOfMemory);
         };
@@ -166,7 +274,10 @@ impl Filling {
         known: Known,
         stages: &[Stage],
         stage: Stage,
-    ) -> Result<(), OutOfMemory> {
+    ) -> Result<(), OutOfMemory>
+        ensures rows { OnOk result (FillsRows stages.now stage self.old self.new) }
+        ensures types { (constant : values.Constants) → IsFormed known.entry.setting.rows.now → filled.SeeksNoType known.entry.setting.rows.now stages.now stage → length stages.now ≡ length known.entry.setting.rows.now → CanType constant known.entry.setting.rows.now (filled.table_of self.old) known.entry.setting.places.now known.entry.supers.now self.old.ints.items self.old.string → length self.old.types.items ≡ length known.entry.setting.rows.now → OnOk result (AreTypes known.entry.setting.rows.now (filled.table_of self.new) constant self.new.types.items) }
+    {
         let Ok(count) = u32::try_from(stages.len()) else {
             return Err(OutOfMemory);
         };
@@ -179,7 +290,11 @@ impl Filling {
 
     /// The types of all expressions under the table.
     pub fn find_types(&mut self, known: Known) -> Result<(), OutOfMemory>
-        ensures { (constant : values.Constants) → CanType constant known.entry.setting.rows.now (entries self.old.table.items) known.entry.setting.places.now known.entry.supers.now self.old.ints.items self.old.string → length self.old.types.items ≡ length known.entry.setting.rows.now → AreTypes known.entry.setting.rows.now (entries self.old.table.items) constant self.new.types.items }
+        ensures table { self.new.table ≡ self.old.table }
+        ensures ints { self.new.ints ≡ self.old.ints }
+        ensures string { self.new.string ≡ self.old.string }
+        ensures size { length self.new.types.items ≡ length self.old.types.items }
+        ensures types { (constant : values.Constants) → CanType constant known.entry.setting.rows.now (entries self.old.table.items) known.entry.setting.places.now known.entry.supers.now self.old.ints.items self.old.string → length self.old.types.items ≡ length known.entry.setting.rows.now → AreTypes known.entry.setting.rows.now (entries self.old.table.items) constant self.new.types.items }
     {
         if u32::try_from(known.setting.rows.len()).is_err() {
             return Err(OutOfMemory);

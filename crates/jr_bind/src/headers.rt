@@ -4,7 +4,7 @@ use crate::boxes::{boxed, imports_none, members_of_types, put, supers_none};
 use crate::cycles::first_on_cycle;
 use jr_base::OutOfMemory;
 use jr_defs::Referent;
-use jr_lookup::{Candidates, Imports, Left, Scopes, Sight};
+use jr_lookup::{Candidates, Imports, Scopes, Sight, import_kind};
 use jr_members::{Members, World, declaring_type};
 use jr_places::{Places, Stamps, end_at, is_type, parent_at};
 use jr_supers::{Supers, Tabled, find_object, header_place};
@@ -54,6 +54,8 @@ struct Trial {
     name: u32,
     /// The row behind those of its identifiers that are not looked up yet.
     end: u32,
+    /// It was tried before, and waited for a type.
+    has_waited: bool,
 }
 
 impl Trial {
@@ -63,6 +65,7 @@ impl Trial {
             at,
             name,
             end: end_at(rows, name),
+            has_waited: false,
         }
     }
 
@@ -289,6 +292,38 @@ impl Settled {
         None
     }
 
+    // Looks up an identifier of a name in a header.
+    fn look_identifier(
+        &mut self,
+        alloc: Global,
+        setting: Setting,
+        at: u32,
+    ) -> Result<(), OutOfMemory> {
+        match jr_places::sought_at(setting.rows, at) {
+            Sought::Simple { kind } => self.look_simple(alloc, setting, at, kind),
+            Sought::Qualified { kind } => self.look_qualified(alloc, setting, at, kind),
+            _ => Ok(()),
+        }
+    }
+
+    // Looks up the identifiers of a name in a header, from the first on.
+    fn look_name(&mut self, alloc: Global, setting: Setting, name: u32) -> Result<(), OutOfMemory> {
+        for at in (name..end_at(setting.rows, name)).rev() {
+            self.look_identifier(alloc, setting, at)?;
+        }
+        Ok(())
+    }
+
+    // The first type that is not settled of those that these imports name.
+    fn first_of_imports(&self, setting: Setting, imports: &[u32]) -> Option<u32> {
+        for import in imports {
+            if let Some(over) = self.first_unsettled(setting, import.saturating_add(1)) {
+                return Some(over);
+            }
+        }
+        None
+    }
+
     // The first type that a name in a header meets and that is not settled: of the imports where its first identifier is looked for, and then of
     // its own identifiers.
     fn met_by(
@@ -298,18 +333,11 @@ impl Settled {
         name: u32,
     ) -> Result<Option<u32>, OutOfMemory> {
         let first = end_at(setting.rows, name).saturating_sub(1);
-        for import in &self.looked_for_in(alloc, setting, first)? {
-            let _ = self.try_import(alloc, setting, *import)?;
-            if let Some(over) = self.first_unsettled(setting, import.saturating_add(1)) {
-                return Ok(Some(over));
-            }
+        let imports = self.looked_for_in(alloc, setting, first)?;
+        if let Some(over) = self.first_of_imports(setting, &imports) {
+            return Ok(Some(over));
         }
-        let mut trial = Trial {
-            at: name,
-            name,
-            end: end_at(setting.rows, name),
-        };
-        let _ = self.try_name(alloc, setting, &mut trial)?;
+        self.look_name(alloc, setting, name)?;
         Ok(self.first_unsettled(setting, name))
     }
 
@@ -484,7 +512,8 @@ impl Settled {
         setting: Setting,
         trial: &mut Trial,
     ) -> Result<Attempt, OutOfMemory> {
-        for at in (trial.name..trial.end).rev() {
+        let end = trial.end.min(end_at(setting.rows, trial.name));
+        for at in (trial.name..end).rev() {
             let attempt = self.try_identifier(alloc, setting, at)?;
             if attempt != Attempt::Done {
                 trial.end = at.saturating_add(1);
@@ -522,6 +551,11 @@ impl Settled {
     // One type more is settled.
     fn add_settled(&mut self, alloc: Global, setting: Setting, at: u32) -> Result<(), OutOfMemory> {
         let _ = self.passed.types.add(at);
+        self.add_type(alloc, setting, at)
+    }
+
+    // Adds the supertypes and the member types of one type more.
+    fn add_type(&mut self, alloc: Global, setting: Setting, at: u32) -> Result<(), OutOfMemory> {
         let supers = std::mem::replace(&mut *self.supers, Supers::nothing(alloc));
         let more = supers.with_type(alloc, self.under(setting), at);
         put(&mut self.supers, more)?;
@@ -532,6 +566,99 @@ impl Settled {
         };
         self.members
             .add_types_of(alloc, under, &self.supers, &mut self.passed.met, at)
+    }
+
+    // Looks up the header of a type from its first name on, and settles the type if all that it meets is settled.
+    fn try_type(
+        &mut self,
+        alloc: Global,
+        setting: Setting,
+        trial: &mut Trial,
+    ) -> Result<Attempt, OutOfMemory> {
+        *trial = Trial::new(setting.rows, trial.at);
+        let attempt = self.try_header(alloc, setting, trial)?;
+        if attempt == Attempt::Done {
+            self.add_settled(alloc, setting, trial.at)?;
+        }
+        Ok(attempt)
+    }
+
+    // Goes on with a type that has waited. Where it waits for nothing more it is looked up once again from its first name on, with all that is settled now.
+    fn try_again(
+        &mut self,
+        alloc: Global,
+        setting: Setting,
+        trial: &mut Trial,
+    ) -> Result<Attempt, OutOfMemory> {
+        let attempt = self.try_header(alloc, setting, trial)?;
+        if attempt != Attempt::Done {
+            return Ok(attempt);
+        }
+        self.try_type(alloc, setting, trial)
+    }
+
+    // The names in the header of a type refer to nothing.
+    fn clear_header(&mut self, setting: Setting, at: u32) {
+        let mut child = at.saturating_add(1);
+        for _turn in 0..setting.rows.len() {
+            if !is_in_header(setting.rows, at, child) {
+                return;
+            }
+            self.set(child, Referent::Unbound);
+            child = end_at(setting.rows, child);
+        }
+    }
+
+    // The identifiers of an import are looked up, whether the types before their dots are settled or not.
+    fn look_at_import(
+        &mut self,
+        alloc: Global,
+        setting: Setting,
+        import: u32,
+    ) -> Result<(), OutOfMemory> {
+        let first = import.saturating_add(1);
+        for at in (first..end_at(setting.rows, first)).rev() {
+            self.look_in_import(alloc, setting, at)?;
+        }
+        let under = Tabled {
+            rows: setting.rows,
+            places: setting.places,
+            table: &self.table,
+        };
+        self.imports.add_import(alloc, under, import)
+    }
+
+    // The types that are not settled, without what their headers name.
+    fn add_open_types(&mut self, alloc: Global, setting: Setting) -> Result<(), OutOfMemory> {
+        let Ok(count) = u32::try_from(setting.rows.len()) else {
+            return Err(OutOfMemory);
+        };
+        for at in 0..count {
+            if is_type(setting.rows, at) && !self.has(at) {
+                self.clear_header(setting, at);
+                self.add_type(alloc, setting, at)?;
+            }
+        }
+        Ok(())
+    }
+
+    // The imports that are not passed.
+    fn look_at_imports(&mut self, alloc: Global, setting: Setting) -> Result<(), OutOfMemory> {
+        let Ok(count) = u32::try_from(setting.rows.len()) else {
+            return Err(OutOfMemory);
+        };
+        for at in 0..count {
+            if import_kind(setting.rows, at).is_some() && self.passed.imports.add(at) {
+                self.look_at_import(alloc, setting, at)?;
+            }
+        }
+        Ok(())
+    }
+
+    /// Once all types are settled that can be, lookup is to see the others too, by what they declare; their headers name nothing.
+    pub fn complete(&mut self, alloc: Global, setting: Setting) -> Result<(), OutOfMemory> {
+        self.add_open_types(alloc, setting)?;
+        self.look_at_imports(alloc, setting)
     }
 }
 
@@ -557,7 +684,10 @@ impl Waiting {
         if self.begun.has(over) || !is_type(rows, over) {
             return Ok(());
         }
-        self.open.push(trial)?;
+        self.open.push(Trial {
+            has_waited: true,
+            ..trial
+        })?;
         self.begin(rows, over)
     }
 }
@@ -570,9 +700,17 @@ fn step(
     waiting: &mut Waiting,
     trial: Trial,
 ) -> Result<(), OutOfMemory> {
+    if settled.has(trial.at) || !is_type(setting.rows, trial.at) {
+        return Ok(());
+    }
     let mut trial = trial;
-    match settled.try_header(alloc, setting, &mut trial)? {
-        Attempt::Done => settled.add_settled(alloc, setting, trial.at),
+    let attempt = if trial.has_waited {
+        settled.try_again(alloc, setting, &mut trial)?
+    } else {
+        settled.try_type(alloc, setting, &mut trial)?
+    };
+    match attempt {
+        Attempt::Done => Ok(()),
         Attempt::Waits(over) => waiting.wait(setting.rows, trial, over),
     }
 }
@@ -603,14 +741,68 @@ fn settle_all(
     waiting: &mut Waiting,
 ) -> Result<(), OutOfMemory> {
     if let Some(object) = find_object(setting.rows) {
-        settle_from(alloc, setting, settled, waiting, object)?;
+        let _ = waiting.begun.add(object);
+        settled.add_settled(alloc, setting, object)?;
     }
+    settle_types(alloc, setting, settled, waiting)
+}
+
+// Settles all types that can be, behind Object.
+fn settle_types(
+    alloc: Global,
+    setting: Setting,
+    settled: &mut Settled,
+    waiting: &mut Waiting,
+) -> Result<(), OutOfMemory> {
     let Ok(count) = u32::try_from(setting.rows.len()) else {
         return Err(OutOfMemory);
     };
     for at in 0..count {
         if is_type(setting.rows, at) {
             settle_from(alloc, setting, settled, waiting, at)?;
+        }
+    }
+    Ok(())
+}
+
+// Tries a type that is not settled. If it is now, so it is told.
+fn settle_once(
+    alloc: Global,
+    setting: Setting,
+    settled: &mut Settled,
+    at: u32,
+) -> Result<bool, OutOfMemory> {
+    if !is_type(setting.rows, at) || settled.has(at) {
+        return Ok(false);
+    }
+    let mut trial = Trial::new(setting.rows, at);
+    let attempt = settled.try_type(alloc, setting, &mut trial)?;
+    Ok(attempt == Attempt::Done)
+}
+
+// Tries each type that is not settled against those that are. One was settled, if so it is told.
+fn settle_again(
+    alloc: Global,
+    setting: Setting,
+    settled: &mut Settled,
+) -> Result<bool, OutOfMemory> {
+    let Ok(count) = u32::try_from(setting.rows.len()) else {
+        return Err(OutOfMemory);
+    };
+    let mut is_changed = false;
+    for at in 0..count {
+        let is_settled = settle_once(alloc, setting, settled, at)?;
+        is_changed = is_changed || is_settled;
+    }
+    Ok(is_changed)
+}
+
+// Tries them again and again, until none is settled: so that what waits cannot be settled needs no argument.
+fn settle_rest(alloc: Global, setting: Setting, settled: &mut Settled) -> Result<(), OutOfMemory> {
+    for _turn in 0..setting.rows.len() {
+        let is_changed = settle_again(alloc, setting, settled)?;
+        if !is_changed {
+            return Ok(());
         }
     }
     Ok(())
@@ -633,5 +825,6 @@ pub fn settle(
     let mut waiting = waiting_none(alloc, setting)?;
     settle_all(alloc, setting, settled, &mut waiting)?;
     drop(waiting);
+    settle_rest(alloc, setting, settled)?;
     first_on_cycle(alloc, setting, settled)
 }

@@ -3,10 +3,12 @@
 
 mod binder;
 mod boxes;
+mod confirming;
 mod cycles;
 mod filling;
 mod headers;
 mod rebinding;
+mod rounds;
 mod stages;
 
 pub use binder::{Binding, Bound, bind};

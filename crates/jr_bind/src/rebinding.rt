@@ -1,4 +1,10 @@
 // Lookup under a table of locks.
+ghost use Rattle.std.specs.Prelude.{◌≡◌, IfOk, IfSome};
+ghost use Rattle.jr_defs.specs.Referents.{entries};
+ghost use Rattle.jr_supers.specs.Supers.{IsWellHeaded, HasNoCycle, AreSupersOf};
+ghost use Rattle.jr_bind.specs.Filled as filled;
+ghost use Rattle.jr_bind.specs.Filled.{IsReady};
+ghost use Rattle.jr_bind.specs.Exact as exact;
 
 use crate::binder::Bound;
 use crate::boxes::{imports_of, members_of, supers_of};
@@ -154,7 +160,10 @@ fn made_by(
     setting: Setting,
     supers: &Supers,
     filling: &mut Filling,
-) -> Result<Made, OutOfMemory> {
+) -> Result<Made, OutOfMemory>
+    ensures table { filling.new.table ≡ filling.old.table }
+    ensures exact { IsReady setting.entry.rows.now filling.old → (HasNoCycle setting.entry.rows.now (filled.table_of filling.old) → IsWellHeaded setting.entry.rows.now → AreSupersOf setting.entry.rows.now (filled.table_of filling.old) supers.now) → IfOk result (λ made. exact.IsProgramIn setting.entry.rows.now setting.entry.places.now → HasNoCycle setting.entry.rows.now (filled.table_of filling.old) → exact.AreUnder setting.entry.rows.now (filled.table_of filling.old) setting.entry.places.now supers.now made.members.value made.constants.value filling.new.types.items) }
+{
     let under = Tabled {
         rows: setting.rows,
         places: setting.places,
@@ -183,7 +192,10 @@ fn bind_locked(
     setting: Setting,
     supers: Box<Supers>,
     locks: Vec<Referent>,
-) -> Result<Bound, OutOfMemory> {
+) -> Result<Bound, OutOfMemory>
+    ensures table { IfOk result (λ bound. bound.table ≡ locks) }
+    ensures exact { (HasNoCycle setting.entry.rows.now (entries locks.items) → IsWellHeaded setting.entry.rows.now → AreSupersOf setting.entry.rows.now (entries locks.items) supers.value) → IfOk result (λ bound. exact.IsExact setting.entry.rows.now setting.entry.places.now bound) }
+{
     let mut filling = Filling::new(alloc, setting.rows, locks)?;
     let made = made_by(alloc, setting, &supers, &mut filling)?;
     let Filling { table, types, .. } = filling;
@@ -205,7 +217,10 @@ pub fn bind_under(
     places: &Places,
     scopes: &Scopes,
     locks: Vec<Referent>,
-) -> Result<Option<Bound>, OutOfMemory> {
+) -> Result<Option<Bound>, OutOfMemory>
+    ensures table { IfOk result (λ bound. IfSome bound (λ all. all.table ≡ locks)) }
+    ensures exact { IfOk result (λ bound. IfSome bound (λ all. exact.IsExact rows.now places.now all)) }
+{
     let under = Tabled {
         rows,
         places,

@@ -1,4 +1,7 @@
 // In which stage each row is bound.
+ghost use Rattle.std.specs.Prelude.{◌≡◌, IfOk};
+ghost use Rattle.jr_tree.specs.Rows.{label};
+ghost use Rattle.jr_bind.specs.Late as late;
 
 use jr_base::OutOfMemory;
 use jr_lookup::import_kind;
@@ -42,7 +45,9 @@ fn is_qualifier(rows: &[Row], at: u32) -> bool {
     }
 }
 
-fn is_name(rows: &[Row], at: u32) -> bool {
+fn is_name(rows: &[Row], at: u32) -> bool
+    ensures { result ≡ late.is_name (label rows.now at) }
+{
     match rows.get(at as usize) {
         Some(row) => match row.label {
             Label::Name { .. } => true,
@@ -53,7 +58,9 @@ fn is_name(rows: &[Row], at: u32) -> bool {
 }
 
 // The kind stands for a type, or for a qualifier of one.
-fn is_type_kind(kind: NameKind) -> bool {
+fn is_type_kind(kind: NameKind) -> bool
+    ensures { result ≡ late.is_type_kind kind }
+{
     match kind {
         NameKind::Type => true,
         NameKind::PackageOrType => true,
@@ -61,7 +68,9 @@ fn is_type_kind(kind: NameKind) -> bool {
     }
 }
 
-fn seeks_type(sought: Sought) -> bool {
+fn seeks_type(sought: Sought) -> bool
+    ensures { result ≡ late.seeks_type sought }
+{
     match sought {
         Sought::Simple { kind } => is_type_kind(kind),
         Sought::Qualified { kind } => is_type_kind(kind),
@@ -82,7 +91,9 @@ fn around_of(rows: &[Row], known: &[Around], at: u32) -> Around {
     }
 }
 
-fn stage_of(rows: &[Row], around: Around, at: u32) -> Stage {
+fn stage_of(rows: &[Row], around: Around, at: u32) -> Stage
+    ensures { late.IsLateAt rows.now at result }
+{
     let sought = sought_at(rows, at);
     if sought == Sought::Nothing {
         return Stage::Nothing;
@@ -91,21 +102,21 @@ fn stage_of(rows: &[Row], around: Around, at: u32) -> Stage {
         return Stage::Header;
     }
     if seeks_type(sought) {
-        return if around.is_in_import {
-            Stage::Import
-        } else {
-            Stage::Type
-        };
+        if around.is_in_import {
+            return Stage::Import;
+        }
+        return Stage::Type;
     }
     if is_name(rows, at) {
-        Stage::Name
-    } else {
-        Stage::Other
+        return Stage::Name;
     }
+    Stage::Other
 }
 
 /// The stage of each row.
-pub fn stages_of(alloc: Global, rows: &[Row]) -> Result<Vec<Stage>, OutOfMemory> {
+pub fn stages_of(alloc: Global, rows: &[Row]) -> Result<Vec<Stage>, OutOfMemory>
+    ensures { IfOk result (λ stages. late.AreLate rows.now stages.items) }
+{
     let Ok(count) = u32::try_from(rows.len()) else {
         return Err(OutOfMemory);
     };

@@ -5,3 +5,11 @@ pub mod Stacking
 pub mod Made
 pub mod Bodied
 pub mod Callable
+pub mod Children
+pub mod Classed
+pub mod Each
+pub mod Gathered
+pub mod Readable
+pub mod OneCode
+pub mod OneCore
+pub mod Parted

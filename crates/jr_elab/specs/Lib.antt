@@ -1,1 +1,3 @@
 pub mod Stacked
+pub mod Cores
+pub mod Laws

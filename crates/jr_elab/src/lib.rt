@@ -5,9 +5,11 @@
 mod bodies;
 mod classes;
 mod jumps;
+mod law;
 mod loops;
 mod program;
 mod reads;
 mod statements;
 
+pub use law::{a_program_has_one_core, rows_are_read, rows_have_parts};
 pub use program::elaborate;

@@ -33,15 +33,15 @@ pub struct Making {
 }
 
 impl Making {
-    /// No parts.
-    pub fn new(alloc: Global) -> Making
-        ensures { stacks_in result ≡ stacks_of [] }
+    /// No parts of a body whose result has this type.
+    pub fn new(alloc: Global, result_type: Option<RowType>) -> Making
+        ensures empty { stacks_in result ≡ stacks_of [] }
+        ensures typed { result.result_type ≡ result_type }
     {
         let codes = Parts::new(alloc);
         let labels = Parts::new(alloc);
         let groups = Parts::new(alloc);
         let catches = Parts::new(alloc);
-        let result_type = None;
         Making {
             codes,
             labels,

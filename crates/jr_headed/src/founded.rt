@@ -12,8 +12,8 @@ use jr_supers::{Supers, Tabled};
 use jr_tree::Row;
 use std::alloc::Global;
 
-// What rows alone tell.
-fn are_well(rows: &[Row]) -> bool
+/// One bare Object, rows and brackets that can be counted, and packages with names: what rows alone tell.
+pub fn are_well(rows: &[Row]) -> bool
     ensures { Decides result (tell.AreWell rows.now) }
 {
     is_well_headed(rows) && is_sized(rows) && are_packages_named(rows)

@@ -7,6 +7,6 @@ mod heads;
 mod law;
 
 pub use cycles::has_no_cycle;
-pub use founded::is_well_founded;
+pub use founded::{are_well, is_well_founded};
 pub use heads::{are_packages_named, is_sized, is_well_headed};
 pub use law::programs_are_headed;

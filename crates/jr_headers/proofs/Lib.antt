@@ -19,5 +19,7 @@ pub mod Told
 pub mod Worked
 pub mod Shadowing
 pub mod Settling
+pub mod AtHeader
 pub mod Ready
 pub mod Passes
+pub mod Confirmed

@@ -1,6 +1,7 @@
 use Rattle.std.proofs.lemmas.Result.{IfOk-weaker}
+use Rattle.jr_codes.specs.Reads.{facts}
 use Rattle.jr_elab.proofs.Callable.{method_is}
 use Rattle.jr_elab.proofs.bodies.method.Goals as goal
 
 pub returns : goal.returns
-returns c = IfOk-weaker c.callable.result _ _ (λ body is a has all inside none below parts. method_is c.args.source.now c.args.at _ a _ _ body (c.in_ok-result_type.ensures _ (all.read _ inside)) has (rw c.rows.ensures at c.is_static-is_static.ensures) (is all inside none) below parts) c.callable.ensures
+returns c = IfOk-weaker c.callable.result _ _ (λ body makes reads inside. method_is (facts c.args.source.now) c.args.at _ _ body (c.in_ok-result_type.ensures _ (reads.read _ inside)) c.is_static_at-is_static.ensures (makes reads inside)) c.callable.ensures

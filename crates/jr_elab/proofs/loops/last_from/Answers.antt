@@ -1,6 +1,6 @@
-use Rattle.std.proofs.Common.{◌+◌, ◌^◌}
+use Rattle.std.proofs.Common.{◌^◌}
 use Rattle.jr_codes.specs.Reads.{facts}
-use Rattle.jr_elab.proofs.Looped.{last_none, last_more, last_found, last_end}
+use Rattle.jr_elab.proofs.Looped.{last_more, last_found, last_end}
 use Rattle.jr_elab.proofs.loops.last_from.Goals as goal
 
 pub loop-turn-preserved : goal.loop-turn-preserved

@@ -1,0 +1,5 @@
+use Rattle.jr_bind.proofs.Keeping.{in_box}
+use Rattle.jr_bind.proofs.boxes.imports_of.Goals as goal
+
+pub returns : goal.returns
+returns c = λ placed. in_box _ _ (λ all. all.value) _ c.boxed.ensures (c.of.ensures placed)

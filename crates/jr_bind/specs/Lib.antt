@@ -1,0 +1,6 @@
+pub mod Late
+pub mod Filled
+pub mod Exact
+pub mod Naming
+pub mod Confirmed
+pub mod Rounds

@@ -1,0 +1,15 @@
+use Rattle.std.proofs.Common.{ap, arith, ◌++◌, flat_map}
+use Rattle.std.proofs.lemmas.List.{drop_more, drop_all}
+use Rattle.jr_codes.specs.Reads.{facts}
+use Rattle.jr_elab.specs.Cores.{members_in}
+use Rattle.jr_elab.proofs.Each.{flat_more, flat_end}
+use Rattle.jr_elab.proofs.classes.members_among.Goals as goal
+
+pub loop-row-init : goal.loop-row-init
+loop-row-init c = ap (λ xs. xs ++ flat_map (members_in (facts c.args.source.now) c.args.at) c.args.rows.now) c.new-all.ensures
+
+pub loop-row-preserved : goal.loop-row-preserved
+loop-row-preserved c = flat_more (members_in (facts c.args.source.now) c.args.at) _ _ _ _ _ _ (drop_more c.args.rows.now c.loop-row.row-index _ (omega arith)) c.in_ok-add_members_in.ensures c.loop-row.invariant
+
+pub returns : goal.returns
+returns c = flat_end (members_in (facts c.args.source.now) c.args.at) _ _ _ (drop_all c.loop-row.row-index c.args.rows.now (omega arith)) c.loop-row.invariant
