@@ -3,6 +3,7 @@ use Rattle.std.proofs.Common.{◌≡◌, inl, inr, ℕ, ◌<◌, true, List, len
 use Rattle.std.specs.Prelude.{slice_index_or}
 use Rattle.std.specs.List.{list_all}
 use Rattle.jr_base.specs.Reading.{Lex}
+use Rattle.jr_escapes.specs.Escapes.{HasNoBadEscape}
 use Rattle.jr_base.specs.declared.kind.Kind.{Kind}
 use Rattle.jr_base.specs.declared.token.Token.{Token}
 use Rattle.jr_thin.specs.Scopes.{IsTarget, IsBinding, KeepsRule}
@@ -73,6 +74,7 @@ module _ (bytes : List ℕ) (tokens : List Token) (sites : List Site) (targets :
         tokens = tokens;
         tree = c;
         reads = read.reads;
+        plain = read.plain;
         rules = record {
           targets = targets;
           binding = subst (λ (l : List Site). IsBinding l targets) read.same read.binding;
@@ -102,7 +104,7 @@ module _ (bytes : List ℕ) (tokens : List Token) (sites : List Site) (targets :
     kept_apart = subst AreApart (sym (signatures_are p.tree written_so)) p.rules.overloads
 
 pub unread : (bytes : List ℕ) → IsUnread bytes → IsMethodProgram bytes → ⊥
-unread bytes none p = none p.tokens p.tree p.rules.targets p.reads p.rules.binding p.rules.once
+unread bytes none p = none p.tokens p.tree p.rules.targets p.reads p.plain p.rules.binding p.rules.once
 
 -- ---- a class of fields
 
@@ -112,8 +114,8 @@ none_some x e = cc
 same_some : {A : Type 0} (x y : A) → Some x ≡ Some y → x ≡ y
 same_some x y e = cc
 
-pub no_tokens : (bytes : List ℕ) → ((tokens : List Token) → Lex bytes tokens → ⊥) → IsFieldProgram bytes → ⊥
-no_tokens bytes none p = none p.tokens p.lex
+pub no_tokens : (bytes : List ℕ) → ((tokens : List Token) → Lex bytes tokens → HasNoBadEscape bytes tokens → ⊥) → IsFieldProgram bytes → ⊥
+no_tokens bytes none p = none p.tokens p.lex p.plain
 
 module _ (bytes : List ℕ) (tokens : List Token) (are : AreTokens bytes tokens) where
   fields_so : (p : IsFieldProgram bytes) → fields_in (kinds_of tokens) ≡ Some (map field_member p.tree.fields)
@@ -126,7 +128,7 @@ module _ (bytes : List ℕ) (tokens : List Token) (are : AreTokens bytes tokens)
     pub fields_program : AreApart (signatures fields) → IsFieldProgram bytes
     fields_program apart =
         let c = read_fields (kinds_of tokens) fields (sym read) in
-        record { tokens = tokens; tree = c.0; lex = are.0; written = c.1; distinct = subst AreApart (ap signatures c.2 ∙ field_signatures c.0.fields) apart }
+        record { tokens = tokens; tree = c.0; lex = are.0; plain = are.2; written = c.1; distinct = subst AreApart (ap signatures c.2 ∙ field_signatures c.0.fields) apart }
 
     pub fields_apart : IsFieldProgram bytes → AreApart (signatures fields)
     fields_apart p = subst AreApart (sym (ap signatures (same_some fields _ (read ∙ fields_so p)) ∙ field_signatures p.tree.fields)) p.distinct

@@ -14,7 +14,7 @@ use jr_rule::Rule;
 pub enum FrontFault {
     /// Of these sizes the first that passes its limit: files, path, file, total, and, where all files have tokens, tokens.
     TooLarge(Size),
-    /// The bytes of the unit are no tokens (JLS 3).
+    /// The bytes of the unit are no tokens (JLS 3), or have an escape in a comment that may change what is a comment (JLS 3.3).
     Lex { cu: CuId, fault: LexFault },
     /// The tokens of the unit are no unit (JLS 7.3). The fault counts tokens, and the place is an offset.
     Parse { fault: ParseFault, place: Place },

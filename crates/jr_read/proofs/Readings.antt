@@ -9,14 +9,13 @@ use Rattle.jr_defs.specs.Program.{IsUnitOf, AreUnitsOf, none as no_units, more a
 use Rattle.jr_defs.specs.Program.{prelude_files}
 use Rattle.jr_defs.specs.Prelude.{lang_text, io_text}
 use Rattle.jr_defs.specs.declared.program.UnitAt.{UnitAt}
-use Rattle.jr_lex.specs.Faults as lexing
 use Rattle.std.specs.Prelude.{codes}
 use Rattle.std.specs.FinMap as files
 use Rattle.jr_base.specs.Files.{FileMap}
 use Rattle.jr_defs.specs.declared.program.Program.{Program}
 use Rattle.jr_base.specs.declared.ids.CuId.{CuId}
 use Rattle.jr_base.specs.declared.token.Token.{Token}
-use Rattle.jr_read.specs.Reading.{IsLexed, AreLexed, none, more, AreLexedUpTo, IsUnlexed, IsLexing, AreUnits, IsTreeOf, AreTrees, no_trees, more_trees, IsUnparsed, IsParsing, offset_of, ParsesAs, unit_files, ReadsAs, no_tokens, tokens as many_tokens, no_unit, program as one_program, memory}
+use Rattle.jr_read.specs.Reading.{IsLexed, AreLexed, none, more, AreLexedUpTo, IsFaultOf, IsUnlexed, IsLexing, AreUnits, IsTreeOf, AreTrees, no_trees, more_trees, IsUnparsed, IsParsing, offset_of, ParsesAs, unit_files, ReadsAs, no_tokens, tokens as many_tokens, no_unit, program as one_program, memory}
 use Rattle.jr_read.specs.declared.fault.ReadFault.{ReadFault}
 use Rattle.jr_read.specs.declared.fault.ReadFault.TheVariants as fault
 use Rattle.jr_read.specs.Sizes.{first_too_large}
@@ -172,7 +171,7 @@ module _ (rest : List (List ℕ × List ℕ)) where
     number = ap (λ (c : CuId). c.0) unlexed.0 ∙ first;
     lexed = [];
     before = none;
-    fault = subst (λ (t : List ℕ). lexing.IsFirstFault t why) is unlexed.1;
+    fault = subst (λ (t : List ℕ). IsFaultOf t why) is unlexed.1;
   }
   lang_stops text is cu first fault.OutOfMemory unlexed = tt
   lang_stops text is cu first other unlexed = absurd unlexed
@@ -187,7 +186,7 @@ module _ (rest : List (List ℕ × List ℕ)) where
     number = ap (λ (c : CuId). c.0) unlexed.0 ∙ second;
     lexed = lang ∷ [];
     before = more (subst (λ (t : List ℕ). IsLexed (codes "prelude/0") t lang) lang_is lexed) none;
-    fault = subst (λ (t : List ℕ). lexing.IsFirstFault t why) is unlexed.1;
+    fault = subst (λ (t : List ℕ). IsFaultOf t why) is unlexed.1;
   }
   io_stops lang before_text text lang_is lexed is cu second fault.OutOfMemory unlexed = tt
   io_stops lang before_text text lang_is lexed is cu second other unlexed = absurd unlexed

@@ -1,5 +1,5 @@
 -- What files read as, or the first reason why they are no program (JLS 3, 7.3).
-use Rattle.std.specs.Prelude.{◌≡◌, ℕ, zero, suc, ◌-◌, nat_lt, Bool, true, false, ◌||◌, List, [], ◌∷◌, ◌++◌, drop, length, map, Result, Ok, Err, None, Some, ⊤}
+use Rattle.std.specs.Prelude.{◌≡◌, ◌⊎◌, ℕ, zero, suc, ◌-◌, nat_lt, Bool, true, false, ◌||◌, List, [], ◌∷◌, ◌++◌, drop, length, map, Result, Ok, Err, None, Some, ⊤}
 use Rattle.std.specs.FinMap as files
 use Rattle.jr_base.specs.Files.{FileMap}
 use Rattle.jr_base.specs.Reading.{Lex}
@@ -8,8 +8,10 @@ use Rattle.jr_base.specs.declared.limits.TheConstants.Limits as limits
 use Rattle.jr_base.specs.declared.ids.CuId.{CuId}
 use Rattle.jr_base.specs.declared.kind.Kind.{Kind}
 use Rattle.jr_base.specs.declared.token.Token.{Token}
+use Rattle.jr_escapes.specs.Escapes.{HasNoBadEscape, IsFirstBadEscape}
 use Rattle.jr_lex.specs.Faults as lexing
 use Rattle.jr_lex.specs.declared.fault.LexFault.{LexFault}
+use Rattle.jr_lex.specs.declared.fault.LexFault.TheVariants.{BadEscape}
 use Rattle.jr_parse.specs.Answers.{IsReading, Answers}
 use Rattle.jr_parse.specs.declared.fault.ParseFault.{ParseFault}
 use Rattle.jr_parse.specs.declared.fault.ParseFault.TheVariants as parsing
@@ -26,11 +28,12 @@ use Rattle.jr_read.specs.declared.lexed.Lexed.{Lexed}
 abbrev pub unit_files : FileMap → List (List ℕ × List ℕ)
 unit_files found = prelude_files ++ files.entries found
 
--- the file with its tokens
+-- the file with its tokens, and no bad escape in its comments (JLS 3.3)
 pub record IsLexed (path bytes : List ℕ) (lexed : Lexed) : Type 0 where
   pub at : lexed.path ≡ path
   pub holds : lexed.bytes ≡ bytes
   pub reads : Lex bytes lexed.tokens
+  pub plain : HasNoBadEscape bytes lexed.tokens
 
 -- each file with its tokens, in their order
 pub data AreLexed : List (List ℕ × List ℕ) → List Lexed → Type 0 where
@@ -38,13 +41,25 @@ pub data AreLexed : List (List ℕ × List ℕ) → List Lexed → Type 0 where
   more : {path bytes : List ℕ} {one : Lexed} {found : List (List ℕ × List ℕ)} {all : List Lexed} → IsLexed path bytes one → AreLexed found all
       → AreLexed ((path, bytes) ∷ found) (one ∷ all)
 
--- why the bytes of the unit of this number are no tokens
+-- the bytes have tokens, and the fault is the first bad escape in their comments (JLS 3.3)
+pub record HasEscape (bytes : List ℕ) (why : LexFault) : Type 0 where
+  pub tokens : List Token
+  pub reads : Lex bytes tokens
+  pub place : ℕ
+  pub first : IsFirstBadEscape bytes tokens place
+  pub tells : why ≡ BadEscape place
+
+-- why bytes are no tokens, or else their first bad escape
+abbrev pub IsFaultOf : List ℕ → LexFault → Type 0
+IsFaultOf bytes why = lexing.IsFirstFault bytes why ⊎ HasEscape bytes why
+
+-- why the bytes of the unit of this number are no tokens, or what escape they have
 abbrev pub IsUnlexed : List ℕ → CuId → ReadFault → Type 0
-IsUnlexed bytes cu (fault.Lex n why) = (n ≡ cu) × lexing.IsFirstFault bytes why
+IsUnlexed bytes cu (fault.Lex n why) = (n ≡ cu) × IsFaultOf bytes why
 IsUnlexed bytes cu fault.OutOfMemory = Unit {0}
 IsUnlexed bytes cu other = ⊥
 
--- the unit of the number n is the first whose bytes are no tokens
+-- the unit of the number n is the first whose bytes are no tokens, or have a bad escape
 pub record IsFirstUnlexed (found : List (List ℕ × List ℕ)) (n : ℕ) (why : LexFault) : Type 0 where
   pub front : List (List ℕ × List ℕ)
   pub file : List ℕ × List ℕ
@@ -53,9 +68,9 @@ pub record IsFirstUnlexed (found : List (List ℕ × List ℕ)) (n : ℕ) (why :
   pub number : n ≡ length front
   pub lexed : List Lexed
   pub before : AreLexed front lexed
-  pub fault : lexing.IsFirstFault file.1 why
+  pub fault : IsFaultOf file.1 why
 
--- the first unit whose bytes are no tokens
+-- the first unit whose bytes are no tokens, or have a bad escape
 abbrev pub IsLexing : List (List ℕ × List ℕ) → ReadFault → Type 0
 IsLexing found (fault.Lex cu why) = IsFirstUnlexed found cu.0 why
 IsLexing found fault.OutOfMemory = Unit {0}

@@ -9,7 +9,7 @@ use std::alloc::{AllocError, AllocFailed};
 pub enum ReadFault {
     /// Of these sizes the first that passes its limit: files, path, file, total, and, where all files have tokens, tokens.
     TooLarge(Size),
-    /// The first unit whose bytes are no tokens (JLS 3), and its fault.
+    /// The first unit whose bytes are no tokens (JLS 3), or have an escape in a comment that may change what is a comment (JLS 3.3), and its fault.
     Lex {
         cu: CuId,
         fault: LexFault,

@@ -5,6 +5,7 @@ ghost use Rattle.jr_read.specs.Reading as reading;
 
 use crate::fault::ReadFault;
 use jr_base::{CuId, Items, Path, Text, Token};
+use jr_escapes::first_bad_escape;
 use jr_lex::{LexFault, lex};
 use std::alloc::Global;
 
@@ -29,7 +30,7 @@ pub fn offset_of(tokens: &[Token], bytes: &[u8], number: u32) -> Option<u32>
     }
 }
 
-/// The file with its tokens. A text of 4 GiB is answered for want of memory.
+/// The file with its tokens. An escape in its comments that may change what is a comment is a bad one (JLS 3.3). A text of 4 GiB is answered for want of memory.
 pub fn lex_file(alloc: Global, path: Path, bytes: &[u8], cu: CuId) -> Result<Lexed, ReadFault>
     ensures ok { IfOk result (IsLexed path bytes.now) }
     ensures err { IfErr result (IsUnlexed bytes.now cu) }
@@ -42,6 +43,12 @@ pub fn lex_file(alloc: Global, path: Path, bytes: &[u8], cu: CuId) -> Result<Lex
         Err(LexFault::OutOfMemory) => return Err(ReadFault::OutOfMemory),
         Err(fault) => return Err(ReadFault::Lex { cu, fault }),
     };
+    if let Some(at) = first_bad_escape(bytes, &tokens) {
+        return Err(ReadFault::Lex {
+            cu,
+            fault: LexFault::BadEscape(at),
+        });
+    }
     let bytes = Text::of(alloc, bytes)?;
     Ok(Lexed {
         path,

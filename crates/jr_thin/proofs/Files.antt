@@ -4,6 +4,7 @@ use Rattle.std.specs.Prelude.{option_map}
 use Rattle.std.proofs.lemmas.Option.{option_and_then_some}
 use Rattle.jr_base.specs.declared.kind.Kind.{Kind}
 use Rattle.jr_base.specs.declared.token.Token.{Token}
+use Rattle.jr_escapes.specs.Escapes.{HasNoBadEscape}
 use Rattle.jr_thin.specs.declared.sites.Site.{Site}
 use Rattle.jr_thin.specs.declared.reading.Phase.{Phase}
 use Rattle.jr_thin.specs.declared.reading.Phase.TheVariants.{Start}
@@ -41,22 +42,22 @@ pub length_kinds : (tokens : List Token) → length (kinds_of tokens) ≡ length
 length_kinds [] = refl
 length_kinds (t ∷ ts) = ap suc (length_kinds ts)
 
-pub no_tokens : (bytes : List ℕ) → ((tokens : List Token) → Rattle.jr_base.specs.Reading.Lex bytes tokens → ⊥) → IsUnread bytes
-no_tokens bytes none tokens tree targets reads binding rule = none tokens reads.lex
+pub no_tokens : (bytes : List ℕ) → ((tokens : List Token) → Rattle.jr_base.specs.Reading.Lex bytes tokens → HasNoBadEscape bytes tokens → ⊥) → IsUnread bytes
+no_tokens bytes none tokens tree targets reads no_escape binding rule = none tokens reads.lex no_escape
 
 pub no_sites : (bytes : List ℕ) (tokens : List Token) → AreTokens bytes tokens → None ≡ sites_in (kinds_of tokens) → IsUnread bytes
-no_sites bytes tokens are none others tree targets reads binding rule =
+no_sites bytes tokens are none others tree targets reads no_escape binding rule =
     none_some (sites_of tree) (none ∙ read_of_class (kinds_of tokens) tree (ap kinds_of (are.1 others reads.lex) ∙ reads.written))
 
 pub no_targets : (bytes : List ℕ) (tokens : List Token) (sites : List Site) → AreTokens bytes tokens → Some sites ≡ sites_in (kinds_of tokens) → IsUnbound sites → IsUnread bytes
-no_targets bytes tokens sites are read unbound others tree targets reads binding rule =
+no_targets bytes tokens sites are read unbound others tree targets reads no_escape binding rule =
     let same : sites_of tree ≡ sites = same_some (sites_of tree) sites (sym (read_of_class (kinds_of tokens) tree (ap kinds_of (are.1 others reads.lex) ∙ reads.written)) ∙ sym read) in
     unbound targets (subst (λ l. IsBinding l targets) same binding) (subst KeepsRule same rule)
 
 pub is_read : (bytes : List ℕ) (tokens : List Token) (sites : List Site) (targets : List (Option ℕ)) → AreTokens bytes tokens → Some sites ≡ sites_in (kinds_of tokens) → IsBinding sites targets → KeepsRule sites → IsRead bytes tokens sites targets
 is_read bytes tokens sites targets are read binding rule =
     let c = read_as_class (kinds_of tokens) sites (sym read) in
-    record { tree = c.0; reads = record { lex = are.0; written = c.1 }; same = c.2; only = λ others tree reads. (are.1 others reads.lex, same_some sites (sites_of tree) (read ∙ read_of_class (kinds_of tokens) tree (ap kinds_of (are.1 others reads.lex) ∙ reads.written))); size = length_from Start 0 0 (kinds_of tokens) sites (sym read) ∙ length_kinds tokens; binding = binding; rule = rule }
+    record { tree = c.0; reads = record { lex = are.0; written = c.1 }; plain = are.2; same = c.2; only = λ others tree reads. (are.1 others reads.lex, same_some sites (sites_of tree) (read ∙ read_of_class (kinds_of tokens) tree (ap kinds_of (are.1 others reads.lex) ∙ reads.written))); size = length_from Start 0 0 (kinds_of tokens) sites (sym read) ∙ length_kinds tokens; binding = binding; rule = rule }
 
 pub past_sites : (sites : List Site) (i : ℕ) → length sites ≤ i → site_at sites i ≡ plain
 past_sites sites i order = Rattle.std.proofs.lemmas.List.get_or_past sites i plain order

@@ -30,7 +30,7 @@ pub no_identifier : (bytes : List ℕ) (at : ℕ) (name : List ℕ) → (IsIdent
 no_identifier bytes at name none s = none s.identifier
 
 pub not_read : (bytes : List ℕ) (at : ℕ) (name : List ℕ) → IsUnread bytes → Serves bytes at name → ⊥
-not_read bytes at name unread s = unread s.tokens s.tree s.targets s.reads s.binding s.rule
+not_read bytes at name unread s = unread s.tokens s.tree s.targets s.reads s.plain s.binding s.rule
 
 pub not_named : (bytes : List ℕ) (at : ℕ) (name : List ℕ) (tokens : List Token) (sites : List Site) (targets : List (Option ℕ)) → IsRead bytes tokens sites targets → ((i : ℕ) → Covers tokens sites at i → ⊥) → Serves bytes at name → ⊥
 not_named bytes at name tokens sites targets read none s =
@@ -65,6 +65,7 @@ module _ (bytes : List ℕ) (at : ℕ) (name : List ℕ) (tokens : List Token) (
         tokens = tokens;
         tree = served.read.tree;
         reads = served.read.reads;
+        plain = served.read.plain;
         targets = targets;
         binding = subst (λ l. IsBinding l targets) served.read.same served.read.binding;
         rule = subst KeepsRule served.read.same served.read.rule;

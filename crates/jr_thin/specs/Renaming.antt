@@ -4,6 +4,7 @@ use Rattle.jr_base.specs.Identifiers.{IsIdentifier}
 use Rattle.jr_base.specs.declared.ids.OccId.{OccId}
 use Rattle.jr_base.specs.declared.ids.DeclId.{DeclId}
 use Rattle.jr_base.specs.declared.token.Token.{Token}
+use Rattle.jr_escapes.specs.Escapes.{HasNoBadEscape}
 use Rattle.jr_thin.specs.declared.answers.Renaming.{Renaming}
 use Rattle.jr_thin.specs.declared.answers.Renaming.TheVariants.{NotServed, NoSpelling, BrokenRule, Renamed}
 use Rattle.jr_thin.specs.Trees.{ThinClass, ReadsThin}
@@ -12,12 +13,13 @@ use Rattle.jr_thin.specs.Scopes.{IsBinding, IsTarget, KeepsRule, Redeclares}
 use Rattle.jr_base.specs.Respelled.{respelled}
 use Rattle.jr_thin.specs.Text.{Covers, span_at, choices}
 
--- The rename of the name at an offset is served: the file is a class all of whose names bind and which keeps the rule,
+-- The rename of the name at an offset is served: the file is a class without a bad escape in its comments (JLS 3.3) all of whose names bind and which keeps the rule,
 -- the offset lies in the name of a local or parameter, and the new name is an identifier.
 pub record Serves (old : List ℕ) (at : ℕ) (name : List ℕ) : Type 0 where
   pub tokens : List Token
   pub tree : ThinClass
   pub reads : ReadsThin old tokens tree
+  pub plain : HasNoBadEscape old tokens
   pub targets : List (Option ℕ)
   pub binding : IsBinding (sites_of tree) targets
   pub rule : KeepsRule (sites_of tree)

@@ -4,6 +4,7 @@ use Rattle.jr_base.specs.Identifiers.{IsIdentifier}
 use Rattle.jr_base.specs.declared.token.Token.{Token}
 use Rattle.jr_thin.specs.declared.sites.Site.{Site}
 use Rattle.jr_base.specs.Reading.{Lex}
+use Rattle.jr_escapes.specs.Escapes.{HasNoBadEscape}
 use Rattle.jr_thin.specs.declared.answers.Renaming.{Renaming}
 use Rattle.jr_thin.specs.declared.answers.Renaming.TheVariants.{NoSpelling, BrokenRule}
 use Rattle.jr_thin.specs.Clashes.{IsLostUse, IsFirstLostUse}
@@ -13,10 +14,11 @@ use Rattle.jr_thin.specs.Sites.{site_at, sites_of}
 use Rattle.jr_thin.specs.Scopes.{IsBinding, KeepsRule}
 use Rattle.jr_thin.specs.Text.{Covers, span_at}
 
--- the file is a class, with what each token is and refers to, and keeps the rule
+-- the file is a class without a bad escape in its comments, with what each token is and refers to, and keeps the rule
 pub record IsRead (bytes : List ℕ) (tokens : List Token) (sites : List Site) (targets : List (Option ℕ)) : Type 0 where
   pub tree : ThinClass
   pub reads : ReadsThin bytes tokens tree
+  pub plain : HasNoBadEscape bytes tokens
   pub same : sites ≡ sites_of tree
   pub size : length sites ≡ length tokens
   pub only : (others : List Token) (tree : ThinClass) → ReadsThin bytes others tree → (tokens ≡ others) × (sites ≡ sites_of tree)
@@ -25,7 +27,7 @@ pub record IsRead (bytes : List ℕ) (tokens : List Token) (sites : List Site) (
 
 -- the file is no such class
 abbrev pub IsUnread : List ℕ → Type 0
-IsUnread bytes = (tokens : List Token) (tree : ThinClass) (targets : List (Option ℕ)) → ReadsThin bytes tokens tree → IsBinding (sites_of tree) targets → KeepsRule (sites_of tree) → ⊥
+IsUnread bytes = (tokens : List Token) (tree : ThinClass) (targets : List (Option ℕ)) → ReadsThin bytes tokens tree → HasNoBadEscape bytes tokens → IsBinding (sites_of tree) targets → KeepsRule (sites_of tree) → ⊥
 
 -- the rename of the declaration at the offset is served
 pub record IsServed (bytes : List ℕ) (at : ℕ) (name : List ℕ) (tokens : List Token) (sites : List Site) (targets : List (Option ℕ)) (declaration : ℕ) : Type 0 where
@@ -35,9 +37,9 @@ pub record IsServed (bytes : List ℕ) (at : ℕ) (name : List ℕ) (tokens : Li
   pub declared : slice_index_or targets asked None ≡ Some declaration
   pub identifier : IsIdentifier name
 
--- the tokens of a text, which has no others
+-- the tokens of a text, which has no others, and no bad escape between them
 abbrev pub AreTokens : List ℕ → List Token → Type 0
-AreTokens bytes tokens = Lex bytes tokens × ((others : List Token) → Lex bytes others → tokens ≡ others)
+AreTokens bytes tokens = Lex bytes tokens × ((others : List Token) → Lex bytes others → tokens ≡ others) × HasNoBadEscape bytes tokens
 
 -- the tokens stand one after another, from a place up to another
 abbrev pub SpansRise : ℕ → ℕ → List Token → Type 0

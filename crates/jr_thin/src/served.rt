@@ -2,12 +2,14 @@
 ghost use Rattle.std.specs.Prelude.{◌<◌, ◌^◌, List, IfOk, MatchOption, length};
 ghost use Rattle.jr_base.specs.Reading.{Lex};
 ghost use Rattle.jr_base.specs.declared.token.Token.{Token};
+ghost use Rattle.jr_escapes.specs.Escapes.{HasNoBadEscape};
 ghost use Rattle.jr_thin.specs.Served.{AreTokens, IsRead, IsUnread};
 
 use crate::binding::targets;
 use crate::reading::sites_in;
 use crate::sites::Site;
 use jr_base::{OutOfMemory, Token};
+use jr_escapes::first_bad_escape;
 use jr_lex::{LexFault, lex};
 use std::alloc::Global;
 
@@ -19,14 +21,19 @@ pub struct Class {
     pub targets: Vec<Option<usize>>,
 }
 
-/// The tokens of a text, where it has some (JLS 3.2).
+/// The tokens of a text, where it has some and no bad escape in its comments (JLS 3.2, 3.3).
 pub fn tokens_of(alloc: Global, bytes: &[u8]) -> Result<Option<Vec<Token>>, OutOfMemory>
     requires { length bytes.now < 2 ^ 32 }
-    ensures { IfOk result (λ found. MatchOption found ((tokens : List Token) → Lex bytes.now tokens → ⊥)
+    ensures { IfOk result (λ found. MatchOption found ((tokens : List Token) → Lex bytes.now tokens → HasNoBadEscape bytes.now tokens → ⊥)
         (λ tokens. AreTokens bytes.now tokens.items)) }
 {
     match lex(alloc, bytes) {
-        Ok(tokens) => Ok(Some(tokens)),
+        Ok(tokens) => {
+            if first_bad_escape(bytes, &tokens).is_some() {
+                return Ok(None);
+            }
+            Ok(Some(tokens))
+        }
         Err(LexFault::OutOfMemory) => Err(OutOfMemory),
         Err(_) => Ok(None),
     }
