@@ -1,5 +1,5 @@
 -- What elaboration is, on the definitions alone: one code for a row, one core for a program, and where rows have parts and are read (JLS 8, 14, 15).
-use Rattle.std.specs.Prelude.{◌≡◌, ℕ, ◌+◌, ◌<◌, Bool, true, length, Option}
+use Rattle.std.specs.Prelude.{◌≡◌, ℕ, ◌+◌, ◌<◌, ◌^◌, Bool, true, length, Option}
 use Rattle.jr_core.specs.declared.bodies.Core.{Core}
 use Rattle.jr_core.specs.declared.code.Code.{Code}
 use Rattle.jr_tree.specs.declared.label.Label.TheVariants as is
@@ -7,12 +7,13 @@ use Rattle.jr_tree.specs.Rows.{Rows, label, end}
 use Rattle.jr_tree.specs.Tree.{IsTree}
 use Rattle.jr_defs.specs.declared.referent.RowType.{RowType}
 use Rattle.jr_defs.specs.Overriding.{HasOneSuperclass}
+use Rattle.jr_supers.specs.Tabled.{IsSized}
+use Rattle.jr_dispatch.specs.Methods.{IsWholeWorld}
 use Rattle.jr_codes.specs.declared.source.Source.{Source}
 use Rattle.jr_codes.specs.Facts.{Facts}
-use Rattle.jr_codes.specs.Reads.{rows_of, IsReadAt}
+use Rattle.jr_codes.specs.Reads.{rows_of, table_of}
 use Rattle.jr_expressions.specs.Statements.{Parts, PartsAt, CoreAt, made_at, strange}
-use Rattle.jr_elab.specs.Cores.{HaveParts, IsCoreOf, declares_body, outcome_by}
-use Rattle.jr_elab.specs.Stacked.{AreRead}
+use Rattle.jr_elab.specs.Cores.{HaveParts, IsCoreOf, IsReadWhole, declares_body, outcome_by}
 
 abbrev pub RowsHaveOneCode : Type 0
 RowsHaveOneCode = (f : Facts) (outcome : Option RowType) (n : ℕ) (x y : Code) → CoreAt f outcome n x → CoreAt f outcome n y → x ≡ y
@@ -33,5 +34,6 @@ RowsHaveParts = (f : Facts) → IsTree f.rows → NoneIsStrange f → HaveParts 
 abbrev pub TriesHaveBlocks : Rows → Type 0
 TriesHaveBlocks p = (n : ℕ) (has_finally : Bool) → label p n ≡ is.Try has_finally → n + 1 < end p n
 
-abbrev pub RowsAreRead : Type 0
-RowsAreRead = (s : Source) → IsTree (rows_of s) → TriesHaveBlocks (rows_of s) → ((n : ℕ) → n < length (rows_of s) → IsReadAt s n) → AreRead s
+-- what the tables of a program are to be, to be read whole
+abbrev pub WholeWorldsAreRead : Type 0
+WholeWorldsAreRead = (s : Source) → IsWholeWorld (table_of s) s.view.now.sight.world → IsSized (rows_of s) → length (rows_of s) + 3 < 2 ^ 32 → TriesHaveBlocks (rows_of s) → IsReadWhole s

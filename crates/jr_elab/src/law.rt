@@ -1,5 +1,5 @@
 // What elaboration is, on the definitions alone.
-ghost use Rattle.jr_elab.specs.Laws.{ProgramsHaveOneCore, RowsAreRead, RowsHaveOneCode, RowsHaveParts};
+ghost use Rattle.jr_elab.specs.Laws.{ProgramsHaveOneCore, RowsHaveOneCode, RowsHaveParts, WholeWorldsAreRead};
 
 /// A row comes to one code, and a program has one core, where types name one superclass at most and there is one Object.
 pub fn a_program_has_one_core()
@@ -12,7 +12,7 @@ pub fn rows_have_parts()
     ensures { RowsHaveParts }
 {}
 
-/// The rows of a tree in which each `try` has its block are read as bodies want them.
-pub fn rows_are_read()
-    ensures { RowsAreRead }
+/// The tables of a program are read whole, where the world is that of the program under its table, the rows can be counted, and each `try` has its block.
+pub fn whole_worlds_are_read()
+    ensures { WholeWorldsAreRead }
 {}

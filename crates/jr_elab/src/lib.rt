@@ -11,5 +11,5 @@ mod program;
 mod reads;
 mod statements;
 
-pub use law::{a_program_has_one_core, rows_are_read, rows_have_parts};
+pub use law::{a_program_has_one_core, rows_have_parts, whole_worlds_are_read};
 pub use program::elaborate;
