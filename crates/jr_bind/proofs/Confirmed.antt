@@ -184,8 +184,8 @@ module _ (sight : Sight) (found : code.Constants) (types : List (Option RowType)
       sight_is = record {
         few = well.sized.few;
         world = record { seen = under.seen; members_are = under.members_are; class = under.class };
-        scopes = of.scopes_are;
-        tops = of.tops_are;
+        scopes = of.scopes_are inside_program.placed;
+        tops = of.tops_are inside_program.placed;
         imports = tables.imports_are inside_program.placed;
         seen = record { same = λ i is. refl };
         lang = of.lang;

@@ -103,8 +103,8 @@ pub record CanConfirm (constant : Constants) (sight : Sight) (types : List (Opti
 pub record IsProgramOf (p : Rows) (places : Places) (scopes : Scopes) : Type 0 where
   pub program : IsProgram p
   pub places_are : ArePlaces p places
-  pub scopes_are : AreScopes p scopes
-  pub tops_are : AreTops p places scopes
+  pub scopes_are : ArePlaced p places → AreScopes p scopes
+  pub tops_are : ArePlaced p places → AreTops p places scopes
   pub lang : InPackage p java_lang 1
   pub one_string : (s d : ℕ) → IsString p s → IsString p d → s ≡ d
 
