@@ -1,0 +1,5 @@
+mod Valued
+mod Headed
+mod Doubled
+mod Passed
+mod Told
