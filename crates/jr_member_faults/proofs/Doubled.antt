@@ -1,5 +1,5 @@
 -- What bodies declare in the rows before a row, and the rules on what is declared twice.
-use Rattle.std.proofs.Common.{◌≡◌, refl, sym, ◌∙◌, ap, ap₂, subst, arith, ℕ, ◌+◌, ◌<◌, Bool, true, false, cond, ◌&&◌, List, [], ◌∷◌, ◌++◌, append-nil, length, Option, Some, None, nat_eq, nat_lt, Decides}
+use Rattle.std.proofs.Common.{◌≡◌, refl, sym, ◌∙◌, ap, subst, arith, ℕ, ◌+◌, ◌<◌, Bool, true, false, cond, ◌&&◌, List, [], ◌++◌, append-nil, length, Option, Some, None, Decides}
 use Rattle.std.proofs.lemmas.Bool.{false≢true}
 use Rattle.std.proofs.lemmas.Bool.Decides.{Decides-eqb, Decides-ltb}
 use Rattle.std.proofs.lemmas.Option.{none-some, same_Some}
@@ -12,7 +12,6 @@ use Rattle.jr_defs.specs.Enclosing.{DeclaredIn}
 use Rattle.jr_plain.specs.Search.{any_below}
 use Rattle.jr_plain.specs.Same.{same_role}
 use Rattle.jr_plain.specs.Enclosing.{declaring_type, is_declared_in}
-use Rattle.jr_plain.specs.Overriding.{is_method}
 use Rattle.jr_plain.specs.Types.{is_same_signature}
 use Rattle.jr_plain.proofs.Tests.{both, like}
 use Rattle.jr_plain.proofs.Searches.{any}
@@ -32,9 +31,8 @@ use Rattle.jr_members.specs.Keys.{entry_for, entry_list, entries_of, entry_of, s
 use Rattle.jr_members.proofs.Declaring.{entries_more}
 use Rattle.jr_lookup.proofs.Scoping.{is_keyed, HasRows}
 use Rattle.jr_name_rules.specs.Found.{is_same_name}
-use Rattle.jr_name_rules.specs.DeclarationTests.{is_before_in_body, is_second, is_second_field, is_second_method}
+use Rattle.jr_name_rules.specs.DeclarationTests.{is_before_in_body, is_second_field, is_second_method}
 use Rattle.jr_member_faults.specs.declared.twice.Declared as code
-use Rattle.jr_member_faults.specs.Headers.{is_listed}
 use Rattle.jr_member_faults.specs.Twice.{member_number, member_entry, entry_as, entries_for, has_entry, with_entry, AreDeclaredTo}
 use Rattle.jr_member_faults.specs.Views.{rows_of, table_of, IsNamedWorld, IsSignedWorld}
 use Rattle.jr_member_faults.proofs.Headed.{listed_before}

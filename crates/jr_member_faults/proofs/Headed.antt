@@ -1,6 +1,6 @@
 -- What headers name in the rows before a row, and the rule on it.
-use Rattle.std.proofs.Common.{◌≡◌, ◌⊎◌, refl, sym, ◌∙◌, ap, ap₂, subst, inl, inr, ⊎_elim, arith, ℕ, ◌+◌, ◌<◌, Bool, true, false, cond, ◌&&◌, ◌||◌, List, length, Option, Some, None, is_some, nat_eq, nat_lt, Decides}
-use Rattle.std.proofs.lemmas.Bool.{false≢true, and_parts}
+use Rattle.std.proofs.Common.{◌≡◌, refl, sym, ◌∙◌, ap, ap₂, subst, arith, ℕ, ◌<◌, Bool, true, false, ◌&&◌, ◌||◌, List, length, Option, Some, None, nat_eq, nat_lt, Decides}
+use Rattle.std.proofs.lemmas.Bool.{false≢true}
 use Rattle.std.proofs.lemmas.Bool.Decides.{Decides-eqb, Decides-ltb}
 use Rattle.std.proofs.lemmas.Option.{none-some, same_Some}
 use Rattle.jr_tree.specs.declared.label.Label.{Label}
@@ -14,23 +14,21 @@ use Rattle.jr_plain.specs.Search.{any_below}
 use Rattle.jr_plain.specs.Declarations.{is_class, is_interface}
 use Rattle.jr_plain.specs.Modifiers.{is_final, is_inner}
 use Rattle.jr_plain.specs.Supertypes.{is_superclass_label, is_superinterface_label, names_superclass, names_superinterface}
-use Rattle.jr_plain.proofs.Tests.{both, like, never, itself}
+use Rattle.jr_plain.proofs.Tests.{both, like}
 use Rattle.jr_plain.proofs.Searches.{any}
 use Rattle.jr_places.specs.declared.chains.Entry.{Entry}
-use Rattle.jr_places.specs.Chains.{last_under}
 use Rattle.jr_supers.specs.declared.supers.HeaderPlace.{HeaderPlace}
 use Rattle.jr_supers.specs.declared.supers.HeaderPlace.TheVariants as header
 use Rattle.jr_supers.specs.Above.{is_some_item}
 use Rattle.jr_supers.specs.Direct.{header_place}
 use Rattle.jr_supers.specs.Tabled.{declared}
 use Rattle.jr_supers.proofs.Subtyped.{one_test}
-use Rattle.jr_members.specs.Keys.{falling, entry_for, entry_list, entries_of}
-use Rattle.jr_members.specs.Named.{under}
+use Rattle.jr_members.specs.Keys.{entry_for, entries_of}
 use Rattle.jr_members.proofs.Keyed.{rows_last}
-use Rattle.jr_members.proofs.Declaring.{falling_same, some_named}
+use Rattle.jr_members.proofs.Declaring.{some_named}
 use Rattle.jr_lookup.proofs.Scoping.{is_keyed, HasRows, falling_entries}
 use Rattle.jr_name_rules.specs.Found.{declared_row, found, both_found}
-use Rattle.jr_name_rules.specs.HeaderTests.{is_wrong_superclass, is_wrong_superinterface, is_second_superinterface, has_wrong_supertype}
+use Rattle.jr_name_rules.specs.HeaderTests.{has_wrong_supertype}
 use Rattle.jr_member_faults.specs.Headers.{entry_by, superinterface_entry, AreHeadersTo, is_listed, is_wrong}
 
 -- ---- tables of rows

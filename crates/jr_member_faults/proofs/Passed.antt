@@ -1,5 +1,5 @@
 -- Rows at which no rule on members is broken: they declare no member, type or constructor, are no initializer, and stand in no header.
-use Rattle.std.proofs.Common.{◌≡◌, refl, sym, ◌∙◌, ap, ap₂, subst, add-one, ℕ, suc, ◌+◌, ◌<◌, Bool, true, false, cond, not, ◌&&◌, ◌||◌, List, [], ◌++◌, append-nil, length, Option, Some, None, is_some, nat_eq}
+use Rattle.std.proofs.Common.{◌≡◌, refl, sym, ◌∙◌, ap, ap₂, add-one, ℕ, ◌+◌, ◌<◌, Bool, false, cond, not, ◌&&◌, ◌||◌, List, ◌++◌, append-nil, length, Option, Some, None, is_some, nat_eq}
 use Rattle.std.specs.Prelude.{bytes_eq}
 use Rattle.std.specs.Option.{option_map_or}
 use Rattle.std.proofs.lemmas.Bool.{false≢true, or_parts}
@@ -20,10 +20,8 @@ use Rattle.jr_plain.specs.Types.{is_same_signature}
 use Rattle.jr_plain.specs.Declarations.{is_class, is_interface}
 use Rattle.jr_plain.specs.Enclosing.{is_member_role, is_body_of, declaring_type, constructed_class}
 use Rattle.jr_plain.specs.Modifiers.{is_abstract, is_static, is_inner, is_in_interface}
-use Rattle.jr_plain.specs.Supertypes.{is_superclass_label, is_superinterface_label}
 use Rattle.jr_places.specs.declared.chains.Entry.{Entry}
 use Rattle.jr_supers.specs.declared.supers.HeaderPlace.{HeaderPlace}
-use Rattle.jr_supers.specs.declared.supers.HeaderPlace.TheVariants as header
 use Rattle.jr_supers.specs.declared.signatures.Signatures.{Signatures}
 use Rattle.jr_supers.specs.Direct.{header_place}
 use Rattle.jr_supers.specs.Tabled.{declared}
@@ -33,7 +31,7 @@ use Rattle.jr_name_rules.specs.Found.{is_same_name}
 use Rattle.jr_name_rules.specs.DeclarationTests.{is_before_in_body, is_second_field, is_second_method}
 use Rattle.jr_name_rules.specs.HeaderTests.{has_wrong_supertype}
 use Rattle.jr_member_rules.specs.Bodies.{is_native, has_wrong_body, is_constructor_label, is_named_otherwise, is_abstract_in_class, is_constructor_in_interface, is_initializer, is_initializer_in_interface, is_not_initialized, body_type, stands_wrong}
-use Rattle.jr_member_rules.specs.Inner.{is_static_in_inner, is_static_initializer, is_initializer_in_inner, is_static_there}
+use Rattle.jr_member_rules.specs.Inner.{is_static_initializer, is_static_there}
 use Rattle.jr_member_faults.specs.declared.twice.Declared as code
 use Rattle.jr_member_faults.specs.Faults.{declares, is_of_members}
 use Rattle.jr_member_faults.specs.Headers.{entry_by, superinterface_entry, AreHeadersTo, is_wrong}

@@ -1,5 +1,5 @@
 -- The faults that the rules on members find, and the rows at which the definitions break them.
-use Rattle.std.specs.Prelude.{◌≡◌, ℕ, Bool, true, false, ◌&&◌, ◌||◌, List, length, is_some}
+use Rattle.std.specs.Prelude.{ℕ, Bool, true, false, ◌&&◌, ◌||◌, List, length, is_some}
 use Rattle.jr_tree.specs.declared.label.Role.{Role}
 use Rattle.jr_tree.specs.declared.label.Role.TheVariants as role
 use Rattle.jr_tree.specs.Rows.{Rows, label, role_at}

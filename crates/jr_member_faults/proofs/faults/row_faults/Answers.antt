@@ -1,4 +1,4 @@
-use Rattle.std.proofs.Common.{arith, ◌+◌}
+use Rattle.std.proofs.Common.{arith}
 use Rattle.jr_member_faults.proofs.Told.{row_told}
 use Rattle.jr_member_faults.proofs.faults.row_faults.Goals as goal
 

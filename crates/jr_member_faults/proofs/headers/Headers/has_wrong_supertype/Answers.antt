@@ -1,4 +1,4 @@
-use Rattle.std.proofs.Common.{◌≡◌, ◌∙◌, ap, ap₂}
+use Rattle.std.proofs.Common.{◌∙◌, ap₂}
 use Rattle.jr_defs.specs.Referents.{entries}
 use Rattle.jr_member_faults.specs.Headers.{is_wrong}
 use Rattle.jr_member_faults.proofs.Headed.{wrong_told}

@@ -1,4 +1,4 @@
-use Rattle.std.proofs.Common.{◌≡◌, ◌∙◌, ap, ap₂}
+use Rattle.std.proofs.Common.{◌∙◌, ap₂}
 use Rattle.jr_defs.specs.Referents.{entries}
 use Rattle.jr_members.proofs.Declaring.{entries_more}
 use Rattle.jr_member_faults.specs.Headers.{superinterface_entry, entry_by}
