@@ -1,4 +1,5 @@
 mod Valued
+mod Values
 mod Headed
 mod Doubled
 mod Passed
