@@ -1,8 +1,8 @@
 // The graph of a body: its points, and the steps that pass over no other state that is a point.
 
+use crate::code::code_of;
 use crate::point::{FlowFault, Graph, Step};
 use crate::states::{States, states_of};
-use crate::writing::code_of;
 use jr_base::OutOfMemory;
 use jr_places::Stamps;
 use jr_view::View;
@@ -192,6 +192,6 @@ fn drawn(alloc: Global, states: &States, body: u32) -> Result<Graph, OutOfMemory
 /// The graph of the body that is declared at a row. There is none where it has more than 65,536 points: its entry, its exits as far as they are reached, and all others.
 pub fn graph(alloc: Global, view: &View, body: u32) -> Result<Graph, FlowFault> {
     let code = code_of(alloc, view, body)?;
-    let states = states_of(alloc, &code, body)?;
+    let states = states_of(alloc, &code, view.sight.world.under.rows, body)?;
     Ok(drawn(alloc, &states, body)?)
 }

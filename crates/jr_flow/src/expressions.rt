@@ -1,210 +1,293 @@
 // What expressions do, in the order of evaluation (JLS 15.7).
+ghost use Rattle.std.specs.Prelude.{◌≡◌, ℕ, ◌+◌, ◌<◌, ◌^◌, ◌∷◌, ◌++◌, [], false, map, OnOk, Option};
+ghost use Rattle.jr_tree.specs.declared.label.Label.TheVariants as is;
+ghost use Rattle.jr_tree.specs.declared.tree.Primitive.{Primitive};
+ghost use Rattle.jr_tree.specs.Rows.{end};
+ghost use Rattle.jr_flow_defs.specs.Meaning.{Meaning};
+ghost use Rattle.jr_flow_defs.specs.Acts as defs;
+ghost use Rattle.jr_flow.specs.Seen.{act_seen, seen, stored, is_statement};
+ghost use Rattle.jr_flow.specs.Views.{rows_in, IsViewOf};
 
-use crate::code::{Act, Code};
-use crate::meaning::{
-    is_assigned_plainly, local_at, makes, narrows, operand, reads_field, shows_left,
-};
-use crate::work::Work;
+use crate::acts::{Act, Acts};
+use crate::meaning::{is_only_written, local_at, makes, narrows, operand, reads_field, shows_left};
 use jr_base::{OutOfMemory, Symbol};
 use jr_places::end_at;
 use jr_tree::{Label, Row};
 use jr_view::View;
 
-/// Plans all that stands right below a row, in turn.
-pub(crate) fn plan_parts(rows: &[Row], work: &mut Work, at: u32) -> Result<(), OutOfMemory> {
-    let end = end_at(rows, at);
-    let mut part = at.saturating_add(1);
-    for _turn in 0..rows.len() {
-        if part >= end {
+/// Writes the rows from one on that stand before another, each behind the one before, so many at most.
+pub(crate) fn write_siblings(
+    rows: &[Row],
+    acts: &mut Acts,
+    from: u32,
+    stop: u32,
+    room: u32,
+) -> Result<(), OutOfMemory>
+    ensures { OnOk result (seen acts.new ≡ seen acts.old ++ map defs.part (defs.siblings rows.now room from stop)) }
+{
+    let mut part = from;
+    for _turn in 0..room {
+        if part >= stop {
             return Ok(());
         }
-        work.row(part)?;
+        acts.push(Act::Part { row: part })?;
         part = end_at(rows, part);
     }
     Ok(())
 }
 
-/// Plans all that stands right below a row, and then an act.
-pub(crate) fn plan_behind(
+/// Writes all that stands right below a row, in turn.
+pub(crate) fn write_parts(rows: &[Row], acts: &mut Acts, at: u32) -> Result<(), OutOfMemory>
+    ensures { at + 1 < 2 ^ 32 → OnOk result (seen acts.new ≡ seen acts.old ++ defs.parts rows.now at) }
+{
+    let end = end_at(rows, at);
+    write_siblings(
+        rows,
+        acts,
+        at.saturating_add(1),
+        end,
+        end.saturating_sub(at),
+    )
+}
+
+/// Writes all that stands right below a row, and then an act.
+pub(crate) fn write_behind(
     rows: &[Row],
-    work: &mut Work,
+    acts: &mut Acts,
     at: u32,
     act: Act,
-) -> Result<(), OutOfMemory> {
-    plan_parts(rows, work, at)?;
-    work.act(at, act)
+) -> Result<(), OutOfMemory>
+    ensures { at + 1 < 2 ^ 32 → OnOk result (seen acts.new ≡ seen acts.old ++ defs.parts rows.now at ++ act_seen act ∷ []) }
+{
+    write_parts(rows, acts, at)?;
+    acts.push(act)
 }
 
-/// Plans a part that is done or passed over, as a test says.
-pub(crate) fn plan_guarded(
-    code: &mut Code,
-    work: &mut Work,
-    at: u32,
+fn write_event_if(acts: &mut Acts, is_event: bool, at: u32) -> Result<(), OutOfMemory>
+    ensures { OnOk result (seen acts.new ≡ seen acts.old ++ defs.event_if is_event at) }
+{
+    if is_event {
+        acts.push(Act::Event { row: at })?;
+    }
+    Ok(())
+}
+
+/// Writes a part that is done or passed over, as a test says.
+pub(crate) fn write_guarded(acts: &mut Acts, test: u32, part: u32) -> Result<(), OutOfMemory>
+    ensures { OnOk result (seen acts.new ≡ seen acts.old ++ defs.guarded test part) }
+{
+    acts.push(Act::Part { row: test })?;
+    acts.push(Act::Quit)?;
+    acts.push(Act::Part { row: part })
+}
+
+/// Writes two parts of which one is done, as a test says.
+pub(crate) fn write_two_ways(
+    acts: &mut Acts,
     test: u32,
-    part: u32,
-) -> Result<(), OutOfMemory> {
-    let behind = code.new_goal(work.scope)?;
-    work.row(test)?;
-    work.act(at, Act::Branch { goal: behind })?;
-    work.row(part)?;
-    work.place(behind)
+    yes: u32,
+    no: u32,
+) -> Result<(), OutOfMemory>
+    ensures { OnOk result (seen acts.new ≡ seen acts.old ++ defs.two_ways test yes no) }
+{
+    acts.push(Act::Part { row: test })?;
+    acts.push(Act::Fork { to: 4 })?;
+    acts.push(Act::Part { row: yes })?;
+    acts.push(Act::Go { to: 5 })?;
+    acts.push(Act::Part { row: no })
 }
 
-/// Plans two parts of which one is done, as a test says.
-pub(crate) fn plan_two_ways(
-    rows: &[Row],
-    code: &mut Code,
-    work: &mut Work,
+// The use of a local, or else the reading of a field.
+fn write_fetched(
+    view: &View,
+    acts: &mut Acts,
     at: u32,
-) -> Result<(), OutOfMemory> {
-    let test = at.saturating_add(1);
-    let yes = end_at(rows, test);
-    let other = code.new_goal(work.scope)?;
-    let behind = code.new_goal(work.scope)?;
-    work.row(test)?;
-    work.act(at, Act::Branch { goal: other })?;
-    work.row(yes)?;
-    work.act(at, Act::Go { goal: behind })?;
-    work.place(other)?;
-    work.row(end_at(rows, yes))?;
-    work.place(behind)
+    local: Option<u32>,
+) -> Result<(), OutOfMemory>
+    ensures { (m : Meaning) → IsViewOf view.now m → OnOk result (seen acts.new ≡ seen acts.old ++ defs.fetched (rows_in view.now) m at local) }
+{
+    match local {
+        Some(local) => acts.push(Act::Use { row: at, local }),
+        None => write_event_if(acts, reads_field(view, at), at),
+    }
 }
 
 // A name or a selection: what is before it, and then the use of a local or the reading of a field.
-fn plan_name(view: &View, work: &mut Work, at: u32) -> Result<(), OutOfMemory> {
+fn write_name(view: &View, acts: &mut Acts, at: u32) -> Result<(), OutOfMemory>
+    ensures { at + 1 < 2 ^ 32 → (m : Meaning) → IsViewOf view.now m → OnOk result (seen acts.new ≡ seen acts.old ++ defs.name_acts (rows_in view.now) m at) }
+{
     let rows = view.sight.world.under.rows;
-    plan_parts(rows, work, at)?;
-    if is_assigned_plainly(rows, at) {
+    write_parts(rows, acts, at)?;
+    if is_only_written(rows, at) {
         return Ok(());
     }
-    if let Some(local) = local_at(view, at) {
-        return work.act(at, Act::Use { local });
-    }
-    if reads_field(view, at) {
-        return work.act(at, Act::Event);
-    }
-    Ok(())
+    write_fetched(view, acts, at, local_at(view, at))
 }
 
 // An element of an array. As the left side of a plain assignment it is not read.
-fn plan_index(rows: &[Row], work: &mut Work, at: u32) -> Result<(), OutOfMemory> {
-    plan_parts(rows, work, at)?;
-    if is_assigned_plainly(rows, at) {
+fn write_index(rows: &[Row], acts: &mut Acts, at: u32) -> Result<(), OutOfMemory>
+    ensures { at + 1 < 2 ^ 32 → OnOk result (seen acts.new ≡ seen acts.old ++ defs.index_acts rows.now at) }
+{
+    write_parts(rows, acts, at)?;
+    if is_only_written(rows, at) {
         return Ok(());
     }
-    work.act(at, Act::Event)
+    acts.push(Act::Event { row: at })
 }
 
-// The definition of the operand, or the writing of a field or an element.
-fn plan_write(view: &View, work: &mut Work, at: u32, defining: u32) -> Result<(), OutOfMemory> {
-    match local_at(view, operand(view.sight.world.under.rows, at)) {
-        Some(local) => work.act(defining, Act::Definition { local }),
-        None => work.act(at, Act::Event),
-    }
-}
-
-fn plan_assignment(view: &View, work: &mut Work, at: u32, op: Symbol) -> Result<(), OutOfMemory> {
-    let rows = view.sight.world.under.rows;
-    plan_parts(rows, work, at)?;
-    if makes(view, at, op) {
-        work.act(at, Act::Event)?;
-    }
-    plan_write(view, work, at, operand(rows, at))
-}
-
-fn plan_binary(
-    view: &View,
-    code: &mut Code,
-    work: &mut Work,
+// A local gets its value at a row, or else a field or an element is written.
+fn write_written(
+    acts: &mut Acts,
     at: u32,
-    op: Symbol,
-) -> Result<(), OutOfMemory> {
+    defining: u32,
+    local: Option<u32>,
+) -> Result<(), OutOfMemory>
+    ensures { OnOk result (seen acts.new ≡ seen acts.old ++ defs.written at defining local) }
+{
+    match local {
+        Some(local) => acts.push(Act::Define {
+            row: defining,
+            local,
+        }),
+        None => acts.push(Act::Event { row: at }),
+    }
+}
+
+fn write_assignment(view: &View, acts: &mut Acts, at: u32, op: Symbol) -> Result<(), OutOfMemory>
+    ensures { at + 1 < 2 ^ 32 → (m : Meaning) → IsViewOf view.now m → OnOk result (seen acts.new ≡ seen acts.old ++ defs.assignment_acts (rows_in view.now) m at op) }
+{
+    let rows = view.sight.world.under.rows;
+    write_parts(rows, acts, at)?;
+    write_event_if(acts, makes(view, at, op), at)?;
+    let place = operand(rows, at);
+    write_written(acts, at, place, local_at(view, place))
+}
+
+fn write_step(view: &View, acts: &mut Acts, at: u32) -> Result<(), OutOfMemory>
+    ensures { at + 1 < 2 ^ 32 → (m : Meaning) → IsViewOf view.now m → OnOk result (seen acts.new ≡ seen acts.old ++ defs.step_acts (rows_in view.now) m at) }
+{
+    let rows = view.sight.world.under.rows;
+    write_parts(rows, acts, at)?;
+    write_written(acts, at, at, local_at(view, operand(rows, at)))
+}
+
+fn write_binary(view: &View, acts: &mut Acts, at: u32, op: Symbol) -> Result<(), OutOfMemory>
+    ensures { at + 2 < 2 ^ 32 → (m : Meaning) → IsViewOf view.now m → OnOk result (seen acts.new ≡ seen acts.old ++ defs.binary_acts (rows_in view.now) m at op) }
+{
     let left = at.saturating_add(1);
     let right = end_at(view.sight.world.under.rows, left);
-    if op == Symbol::AndAnd || op == Symbol::OrOr {
-        return plan_guarded(code, work, at, left, right);
+    match op {
+        Symbol::AndAnd => write_guarded(acts, left, right),
+        Symbol::OrOr => write_guarded(acts, left, right),
+        _ => {
+            acts.push(Act::Part { row: left })?;
+            write_event_if(acts, shows_left(view, at, op), at)?;
+            acts.push(Act::Part { row: right })?;
+            write_event_if(acts, makes(view, at, op), at)
+        }
     }
-    work.row(left)?;
-    if shows_left(view, at, op) {
-        work.act(at, Act::Event)?;
-    }
-    work.row(right)?;
-    if makes(view, at, op) {
-        work.act(at, Act::Event)?;
-    }
-    Ok(())
 }
 
-fn plan_cast(view: &View, work: &mut Work, at: u32) -> Result<(), OutOfMemory> {
-    plan_parts(view.sight.world.under.rows, work, at)?;
-    if narrows(view, at) {
-        return work.act(at, Act::Event);
-    }
-    Ok(())
+fn write_cast(view: &View, acts: &mut Acts, at: u32) -> Result<(), OutOfMemory>
+    ensures { at + 2 < 2 ^ 32 → (m : Meaning) → IsViewOf view.now m
+        → OnOk result (seen acts.new ≡ seen acts.old ++ defs.acts_by is.Cast (rows_in view.now) m at) }
+{
+    write_parts(view.sight.world.under.rows, acts, at)?;
+    write_event_if(acts, narrows(view, at), at)
 }
 
-// An initializer of an array makes the array, and then each item is stored in it (JLS 10.6).
-fn plan_list(rows: &[Row], work: &mut Work, at: u32) -> Result<(), OutOfMemory> {
-    work.act(at, Act::Event)?;
-    let end = end_at(rows, at);
-    let mut item = at.saturating_add(1);
-    for _turn in 0..rows.len() {
-        if item >= end {
+// The items of an array, each evaluated and stored.
+fn write_items(
+    rows: &[Row],
+    acts: &mut Acts,
+    from: u32,
+    stop: u32,
+    room: u32,
+) -> Result<(), OutOfMemory>
+    ensures { OnOk result (seen acts.new ≡ seen acts.old ++ stored (defs.siblings rows.now room from stop)) }
+{
+    let mut item = from;
+    for _turn in 0..room {
+        if item >= stop {
             return Ok(());
         }
-        work.row(item)?;
-        work.act(item, Act::Event)?;
+        acts.push(Act::Part { row: item })?;
+        acts.push(Act::Event { row: item })?;
         item = end_at(rows, item);
     }
     Ok(())
 }
 
+/// Writes a test and two parts of which one is done.
+pub(crate) fn write_conditional(rows: &[Row], acts: &mut Acts, at: u32) -> Result<(), OutOfMemory>
+    ensures { at + 2 < 2 ^ 32 → end rows.now (at + 1) + 1 < 2 ^ 32 → OnOk result (seen acts.new ≡ seen acts.old ++ defs.two_ways (defs.first rows.now at) (defs.second rows.now at) (defs.third rows.now at)) }
+{
+    let test = at.saturating_add(1);
+    let yes = end_at(rows, test);
+    write_two_ways(acts, test, yes, end_at(rows, yes))
+}
+
+// An initializer of an array makes the array, and then each item is stored in it (JLS 10.6).
+fn write_list(rows: &[Row], acts: &mut Acts, at: u32) -> Result<(), OutOfMemory>
+    ensures { at + 1 < 2 ^ 32 → OnOk result (seen acts.new ≡ seen acts.old ++ defs.list_acts rows.now at) }
+{
+    acts.push(Act::Event { row: at })?;
+    let end = end_at(rows, at);
+    write_items(
+        rows,
+        acts,
+        at.saturating_add(1),
+        end,
+        end.saturating_sub(at),
+    )
+}
+
 // The array is made by its initializer where it has one (JLS 15.10.1).
-fn plan_new_array(
+fn write_new_array(
     rows: &[Row],
-    work: &mut Work,
+    acts: &mut Acts,
     at: u32,
     lengths: usize,
-) -> Result<(), OutOfMemory> {
+) -> Result<(), OutOfMemory>
+    ensures { at + 1 < 2 ^ 32 → (m : Meaning) (primitive : Option Primitive) (more : ℕ) → OnOk result (seen acts.new ≡ seen acts.old ++ defs.acts_by (is.NewArray primitive lengths more) rows.now m at) }
+{
     if lengths == 0 {
-        return plan_parts(rows, work, at);
+        return write_parts(rows, acts, at);
     }
-    plan_behind(rows, work, at, Act::Event)
+    write_behind(rows, acts, at, Act::Event { row: at })
 }
 
-/// Plans what an expression does.
-pub(crate) fn plan_expression(
+/// Writes what an expression does.
+pub(crate) fn write_expression(
     view: &View,
-    code: &mut Code,
-    work: &mut Work,
+    acts: &mut Acts,
     at: u32,
     label: &Label,
-) -> Result<(), OutOfMemory> {
+) -> Result<(), OutOfMemory>
+    ensures { at + 2 < 2 ^ 32 → end (rows_in view.now) (at + 1) + 1 < 2 ^ 32 → (m : Meaning) → IsViewOf view.now m → is_statement label.now ≡ false
+        → OnOk result (seen acts.new ≡ seen acts.old ++ defs.acts_by label.now (rows_in view.now) m at) }
+{
     let rows = view.sight.world.under.rows;
+    let event = Act::Event { row: at };
     match label {
-        Label::Name { .. } => plan_name(view, work, at),
-        Label::Select => plan_name(view, work, at),
-        Label::SuperSelect => plan_name(view, work, at),
-        Label::Index => plan_index(rows, work, at),
-        Label::Assign { op } => plan_assignment(view, work, at, *op),
-        Label::PreStep { .. } => plan_step(view, work, at),
-        Label::PostStep { .. } => plan_step(view, work, at),
-        Label::Conditional => plan_two_ways(rows, code, work, at),
-        Label::Binary { op } => plan_binary(view, code, work, at, *op),
-        Label::Unary { op: Symbol::Not } => plan_behind(rows, work, at, Act::Node),
-        Label::Cast => plan_cast(view, work, at),
-        Label::Call { .. } => plan_behind(rows, work, at, Act::Event),
-        Label::New => plan_behind(rows, work, at, Act::Event),
-        Label::NewArray { lengths, .. } => plan_new_array(rows, work, at, *lengths),
-        Label::List => plan_list(rows, work, at),
-        Label::ConstructorCall { .. } => plan_behind(rows, work, at, Act::Event),
-        Label::ImplicitCall => work.act(at, Act::Event),
+        Label::Name { .. } => write_name(view, acts, at),
+        Label::Select => write_name(view, acts, at),
+        Label::SuperSelect => write_name(view, acts, at),
+        Label::Index => write_index(rows, acts, at),
+        Label::Assign { op } => write_assignment(view, acts, at, *op),
+        Label::PreStep { .. } => write_step(view, acts, at),
+        Label::PostStep { .. } => write_step(view, acts, at),
+        Label::Conditional => write_conditional(rows, acts, at),
+        Label::Binary { op } => write_binary(view, acts, at, *op),
+        Label::Unary { op: Symbol::Not } => write_behind(rows, acts, at, Act::Node { row: at }),
+        Label::Cast => write_cast(view, acts, at),
+        Label::Call { .. } => write_behind(rows, acts, at, event),
+        Label::New => write_behind(rows, acts, at, event),
+        Label::NewArray { lengths, .. } => write_new_array(rows, acts, at, *lengths),
+        Label::List => write_list(rows, acts, at),
+        Label::ConstructorCall { .. } => write_behind(rows, acts, at, event),
+        Label::ImplicitCall => acts.push(event),
         Label::TypeUse { .. } => Ok(()),
-        _ => plan_parts(rows, work, at),
+        _ => write_parts(rows, acts, at),
     }
-}
-
-fn plan_step(view: &View, work: &mut Work, at: u32) -> Result<(), OutOfMemory> {
-    plan_parts(view.sight.world.under.rows, work, at)?;
-    plan_write(view, work, at, at)
 }

@@ -1,6 +1,7 @@
 //! The flow of control through bodies: points, the steps between them, and the definitions that reach uses (JLS 11.3, 14, 15.7, 15.25, 15.26).
 #![tactic(auto)]
 
+mod acts;
 mod code;
 mod declared;
 mod drawing;
@@ -14,10 +15,7 @@ mod pending;
 mod point;
 mod statements;
 mod states;
-mod tries;
 mod webs;
-mod work;
-mod writing;
 
 pub use declared::bodies;
 pub use drawing::graph;

@@ -1,9 +1,9 @@
 // Bodies with too many points.
 
+use crate::code::code_of;
 use crate::declared::bodies;
 use crate::point::FlowFault;
 use crate::states::states_of;
-use crate::writing::code_of;
 use jr_base::{Limits, OutOfMemory};
 use jr_places::end_at;
 use jr_tree::{Label, Row};
@@ -39,7 +39,7 @@ fn is_small(rows: &[Row], body: u32) -> bool {
 // Finds the points of a body.
 fn count_points(alloc: Global, view: &View, body: u32) -> Result<(), FlowFault> {
     let code = code_of(alloc, view, body)?;
-    let _states = states_of(alloc, &code, body)?;
+    let _states = states_of(alloc, &code, view.sight.world.under.rows, body)?;
     Ok(())
 }
 

@@ -1,44 +1,39 @@
 // What declarations and statements do, one part after the other (JLS 8, 14).
+ghost use Rattle.std.specs.Prelude.{◌≡◌, ℕ, Bool, ◌+◌, ◌<◌, ◌^◌, ◌∷◌, ◌++◌, [], false, map, OnOk};
+ghost use Rattle.std.specs.List.{list_any};
+ghost use Rattle.jr_tree.specs.declared.label.Label.TheVariants as is;
+ghost use Rattle.jr_tree.specs.Rows.{Rows, label, end};
+ghost use Rattle.jr_flow_defs.specs.Meaning.{Meaning};
+ghost use Rattle.jr_flow_defs.specs.Acts as defs;
+ghost use Rattle.jr_flow.specs.Seen.{act_seen, completion_seen, seen, such, part_if, only, is_direct};
+ghost use Rattle.jr_flow.specs.Views.{rows_in, IsViewOf};
 
-use crate::code::{Act, COMPLETED, Code, THROWN};
-use crate::expressions::{plan_behind, plan_expression, plan_guarded, plan_parts, plan_two_ways};
-use crate::jumps::{goal_of_break, goal_of_continue};
-use crate::tries::plan_try;
-use crate::work::{Targets, Work};
+use crate::acts::{Act, Acts, Completion};
+use crate::expressions::{
+    write_behind, write_conditional, write_expression, write_guarded, write_parts, write_siblings,
+};
+use crate::jumps::{breaks, continues};
 use jr_base::OutOfMemory;
-use jr_places::{end_at, parent_at, role_at};
-use jr_tree::{Label, Role, Row};
+use jr_places::{end_at, parent_at};
+use jr_tree::{Label, Row};
 use jr_view::View;
 
-// Plans the parameters below a row, or all else.
-fn plan_some_parts(
-    rows: &[Row],
-    work: &mut Work,
-    at: u32,
-    are_parameters: bool,
-) -> Result<(), OutOfMemory> {
-    let end = end_at(rows, at);
-    let mut part = at.saturating_add(1);
-    for _turn in 0..rows.len() {
-        if part >= end {
-            return Ok(());
-        }
-        if (role_at(rows, part) == Role::Parameter) == are_parameters {
-            work.row(part)?;
-        }
-        part = end_at(rows, part);
+fn is_parameter(rows: &[Row], at: u32) -> bool
+    ensures { result ≡ defs.is_parameter (label rows.now at) }
+{
+    match rows.get(at as usize) {
+        Some(row) => match row.label {
+            Label::Parameter { .. } => true,
+            _ => false,
+        },
+        None => false,
     }
-    Ok(())
 }
 
-// Parameters have their values before anything else happens.
-fn plan_callable(rows: &[Row], work: &mut Work, at: u32) -> Result<(), OutOfMemory> {
-    plan_some_parts(rows, work, at, true)?;
-    plan_some_parts(rows, work, at, false)
-}
-
-fn is_caught(rows: &[Row], at: u32) -> bool {
-    match rows.get(parent_at(rows, at) as usize) {
+pub(crate) fn is_catch(rows: &[Row], at: u32) -> bool
+    ensures { result ≡ defs.is_catch (label rows.now at) }
+{
+    match rows.get(at as usize) {
         Some(row) => match row.label {
             Label::Catch => true,
             _ => false,
@@ -47,284 +42,354 @@ fn is_caught(rows: &[Row], at: u32) -> bool {
     }
 }
 
-// A parameter is a definition. That of a catch is a node before.
-fn plan_parameter(rows: &[Row], work: &mut Work, at: u32) -> Result<(), OutOfMemory> {
-    if is_caught(rows, at) {
-        work.act(at, Act::Node)?;
+fn is_default(rows: &[Row], at: u32) -> bool
+    ensures { result ≡ defs.is_default (label rows.now at) }
+{
+    match rows.get(at as usize) {
+        Some(row) => match row.label {
+            Label::Default => true,
+            _ => false,
+        },
+        None => false,
     }
-    work.act(at, Act::Definition { local: at })
 }
 
-fn plan_local(rows: &[Row], work: &mut Work, at: u32) -> Result<(), OutOfMemory> {
-    if at.saturating_add(1) < end_at(rows, at) {
-        return plan_behind(rows, work, at, Act::Definition { local: at });
+// The row is a parameter, or is none.
+fn is_such(rows: &[Row], at: u32, are_parameters: bool) -> bool
+    ensures { result ≡ such rows.now are_parameters at }
+{
+    if are_parameters {
+        is_parameter(rows, at)
+    } else {
+        !is_parameter(rows, at)
+    }
+}
+
+fn write_if_such(acts: &mut Acts, at: u32, is_such: bool) -> Result<(), OutOfMemory>
+    ensures { OnOk result (seen acts.new ≡ seen acts.old ++ part_if is_such at) }
+{
+    if is_such {
+        acts.push(Act::Part { row: at })?;
     }
     Ok(())
 }
 
-fn plan_if(rows: &[Row], code: &mut Code, work: &mut Work, at: u32) -> Result<(), OutOfMemory> {
+// Writes the parameters among siblings, or all others.
+fn write_only(
+    rows: &[Row],
+    acts: &mut Acts,
+    from: u32,
+    stop: u32,
+    room: u32,
+    are_parameters: bool,
+) -> Result<(), OutOfMemory>
+    ensures { OnOk result (seen acts.new ≡ seen acts.old ++ map defs.part (only rows.now are_parameters (defs.siblings rows.now room from stop))) }
+{
+    let mut part = from;
+    for _turn in 0..room {
+        if part >= stop {
+            return Ok(());
+        }
+        write_if_such(acts, part, is_such(rows, part, are_parameters))?;
+        part = end_at(rows, part);
+    }
+    Ok(())
+}
+
+// Writes the parameters right below a row, or all else there.
+fn write_only_parts(
+    rows: &[Row],
+    acts: &mut Acts,
+    at: u32,
+    are_parameters: bool,
+) -> Result<(), OutOfMemory>
+    ensures { at + 1 < 2 ^ 32 → OnOk result (seen acts.new ≡ seen acts.old ++ map defs.part (only rows.now are_parameters (defs.children rows.now at))) }
+{
+    let end = end_at(rows, at);
+    write_only(
+        rows,
+        acts,
+        at.saturating_add(1),
+        end,
+        end.saturating_sub(at),
+        are_parameters,
+    )
+}
+
+// Parameters have their values before anything else happens.
+fn write_callable(rows: &[Row], acts: &mut Acts, at: u32) -> Result<(), OutOfMemory>
+    ensures { at + 1 < 2 ^ 32 → OnOk result (seen acts.new ≡ seen acts.old ++ defs.callable_acts rows.now at) }
+{
+    write_only_parts(rows, acts, at, true)?;
+    write_only_parts(rows, acts, at, false)
+}
+
+// A parameter is a definition. That of a catch is a node before.
+fn write_parameter(rows: &[Row], acts: &mut Acts, at: u32) -> Result<(), OutOfMemory>
+    ensures { OnOk result (seen acts.new ≡ seen acts.old ++ defs.parameter_acts rows.now at) }
+{
+    if is_catch(rows, parent_at(rows, at)) {
+        acts.push(Act::Node { row: at })?;
+    }
+    acts.push(Act::Define { row: at, local: at })
+}
+
+fn write_local(rows: &[Row], acts: &mut Acts, at: u32) -> Result<(), OutOfMemory>
+    ensures { at + 1 < 2 ^ 32 → OnOk result (seen acts.new ≡ seen acts.old ++ defs.local_acts rows.now at) }
+{
+    if at.saturating_add(1) < end_at(rows, at) {
+        return write_behind(rows, acts, at, Act::Define { row: at, local: at });
+    }
+    Ok(())
+}
+
+fn write_if(rows: &[Row], acts: &mut Acts, at: u32) -> Result<(), OutOfMemory>
+    ensures { at + 2 < 2 ^ 32 → end rows.now (at + 1) + 1 < 2 ^ 32 → OnOk result (seen acts.new ≡ seen acts.old ++ defs.if_acts rows.now at) }
+{
     let test = at.saturating_add(1);
     let yes = end_at(rows, test);
     if end_at(rows, yes) < end_at(rows, at) {
-        return plan_two_ways(rows, code, work, at);
+        return write_conditional(rows, acts, at);
     }
-    plan_guarded(code, work, at, test, yes)
+    write_guarded(acts, test, yes)
 }
 
-// Makes the goals behind a loop and of its next turn.
-fn loop_goals(code: &mut Code, work: &mut Work, at: u32) -> Result<(u32, u32), OutOfMemory> {
-    let behind = code.new_goal(work.scope)?;
-    let again = code.new_goal(work.scope)?;
-    work.set_targets(
-        at,
-        Targets {
-            behind: Some(behind),
-            again: Some(again),
-        },
-    );
-    Ok((behind, again))
-}
-
-// Makes the goal behind a statement that is no loop.
-fn goal_behind(code: &mut Code, work: &mut Work, at: u32) -> Result<u32, OutOfMemory> {
-    let behind = code.new_goal(work.scope)?;
-    work.set_targets(
-        at,
-        Targets {
-            behind: Some(behind),
-            again: None,
-        },
-    );
-    Ok(behind)
-}
-
-fn plan_while(rows: &[Row], code: &mut Code, work: &mut Work, at: u32) -> Result<(), OutOfMemory> {
-    let (behind, again) = loop_goals(code, work, at)?;
+fn write_while(rows: &[Row], acts: &mut Acts, at: u32) -> Result<(), OutOfMemory>
+    ensures { at + 2 < 2 ^ 32 → (m : Meaning) → OnOk result (seen acts.new ≡ seen acts.old ++ defs.acts_by is.While rows.now m at) }
+{
     let test = at.saturating_add(1);
-    work.place(again)?;
-    work.row(test)?;
-    work.act(at, Act::Branch { goal: behind })?;
-    work.row(end_at(rows, test))?;
-    work.act(at, Act::Go { goal: again })?;
-    work.place(behind)
+    write_guarded(acts, test, end_at(rows, test))?;
+    acts.push(Act::Go { to: 0 })
 }
 
-fn plan_do(rows: &[Row], code: &mut Code, work: &mut Work, at: u32) -> Result<(), OutOfMemory> {
-    let (behind, again) = loop_goals(code, work, at)?;
-    let start = code.new_goal(work.scope)?;
+fn write_do(rows: &[Row], acts: &mut Acts, at: u32) -> Result<(), OutOfMemory>
+    ensures { at + 2 < 2 ^ 32 → (m : Meaning) → OnOk result (seen acts.new ≡ seen acts.old ++ defs.acts_by is.Do rows.now m at) }
+{
     let body = at.saturating_add(1);
-    work.place(start)?;
-    work.row(body)?;
-    work.place(again)?;
-    work.row(end_at(rows, body))?;
-    work.act(at, Act::Branch { goal: start })?;
-    work.place(behind)
+    acts.push(Act::Part { row: body })?;
+    acts.push(Act::Part {
+        row: end_at(rows, body),
+    })?;
+    acts.push(Act::Fork { to: 0 })
 }
 
-// The last part of a row.
-fn last_part(rows: &[Row], at: u32) -> u32 {
-    let end = end_at(rows, at);
-    let mut part = at.saturating_add(1);
-    for _turn in 0..rows.len() {
-        let next = end_at(rows, part);
-        if next >= end {
-            return part;
+// The last of siblings, or else the row.
+fn last_sibling(rows: &[Row], at: u32, from: u32, stop: u32, room: u32) -> u32
+    ensures { result ≡ defs.last_or at (defs.siblings rows.now room from stop) }
+{
+    let mut last = at;
+    let mut part = from;
+    for _turn in 0..room {
+        if part >= stop {
+            return last;
         }
-        part = next;
+        last = part;
+        part = end_at(rows, part);
     }
-    part
+    last
 }
 
-// The body of a `for`, and then the parts of its header from the row up to the body.
-fn plan_turn(
-    rows: &[Row],
-    work: &mut Work,
-    at: u32,
-    again: u32,
-    updates: u32,
-) -> Result<(), OutOfMemory> {
-    let body = last_part(rows, at);
-    work.row(body)?;
-    work.place(again)?;
-    let mut update = updates;
-    for _turn in 0..rows.len() {
-        if update >= body {
-            return Ok(());
-        }
-        work.row(update)?;
-        update = end_at(rows, update);
+/// The last row right below a row, or else the row itself.
+pub(crate) fn last_part(rows: &[Row], at: u32) -> u32
+    ensures { at + 1 < 2 ^ 32 → result ≡ defs.last rows.now at }
+{
+    let end = end_at(rows, at);
+    last_sibling(rows, at, at.saturating_add(1), end, end.saturating_sub(at))
+}
+
+// The first part of a `for`, if it has one.
+fn write_first(acts: &mut Acts, at: u32, has_first: bool) -> Result<(), OutOfMemory>
+    ensures { at + 1 < 2 ^ 32 → (p : Rows) → OnOk result (seen acts.new ≡ seen acts.old ++ defs.for_first p at has_first) }
+{
+    if has_first {
+        acts.push(Act::Part {
+            row: at.saturating_add(1),
+        })?;
     }
     Ok(())
 }
 
-fn plan_for(
-    rows: &[Row],
-    code: &mut Code,
-    work: &mut Work,
-    at: u32,
-    (has_first, has_condition): (bool, bool),
-) -> Result<(), OutOfMemory> {
-    let (behind, again) = loop_goals(code, work, at)?;
-    let start = code.new_goal(work.scope)?;
-    let mut part = at.saturating_add(1);
-    if has_first {
-        work.row(part)?;
-        part = end_at(rows, part);
-    }
-    work.place(start)?;
+// The condition of a `for`, if it has one, which is left where it does not hold.
+fn write_test(acts: &mut Acts, condition: u32, has_condition: bool) -> Result<(), OutOfMemory>
+    ensures { OnOk result (seen acts.new ≡ seen acts.old ++ defs.for_test condition has_condition) }
+{
     if has_condition {
-        work.row(part)?;
-        work.act(at, Act::Branch { goal: behind })?;
-        part = end_at(rows, part);
+        acts.push(Act::Part { row: condition })?;
+        acts.push(Act::Quit)?;
     }
-    plan_turn(rows, work, at, again, part)?;
-    work.act(at, Act::Go { goal: start })?;
-    work.place(behind)
+    Ok(())
 }
 
-// The group of a switch has a label `default`.
-fn is_default_group(rows: &[Row], at: u32) -> bool {
-    let end = end_at(rows, at);
-    let mut part = at.saturating_add(1);
-    for _turn in 0..rows.len() {
-        if part >= end {
+// The row behind the first part of a `for`.
+fn for_condition(rows: &[Row], at: u32, has_first: bool) -> u32
+    ensures { at + 2 < 2 ^ 32 → result ≡ defs.for_condition rows.now at has_first }
+{
+    let first = at.saturating_add(1);
+    if has_first {
+        end_at(rows, first)
+    } else {
+        first
+    }
+}
+
+// The row behind the condition of a `for`.
+fn for_updates(rows: &[Row], condition: u32, has_condition: bool) -> u32
+    ensures { condition + 1 < 2 ^ 32 → result ≡ defs.for_updates rows.now condition has_condition }
+{
+    if has_condition {
+        end_at(rows, condition)
+    } else {
+        condition
+    }
+}
+
+// The act at which a turn of a `for` begins.
+fn for_start(has_first: bool) -> u32
+    ensures { result ≡ defs.for_start has_first }
+{
+    if has_first { 1 } else { 0 }
+}
+
+// The first part, and then in turns the condition, the body and the updates.
+fn write_for(
+    rows: &[Row],
+    acts: &mut Acts,
+    at: u32,
+    has_first: bool,
+    has_condition: bool,
+) -> Result<(), OutOfMemory>
+    ensures { at + 2 < 2 ^ 32 → end rows.now (at + 1) + 1 < 2 ^ 32 → OnOk result (seen acts.new ≡ seen acts.old ++ defs.for_acts rows.now at has_first has_condition) }
+{
+    let condition = for_condition(rows, at, has_first);
+    let updates = for_updates(rows, condition, has_condition);
+    let body = last_part(rows, at);
+    write_first(acts, at, has_first)?;
+    write_test(acts, condition, has_condition)?;
+    acts.push(Act::Part { row: body })?;
+    let room = end_at(rows, at).saturating_sub(at);
+    write_siblings(rows, acts, updates, body, room)?;
+    acts.push(Act::Go {
+        to: for_start(has_first),
+    })
+}
+
+// One of the siblings is a label `default`.
+fn has_default(rows: &[Row], from: u32, stop: u32, room: u32) -> bool
+    ensures { result ≡ list_any (λ k. defs.is_default (label rows.now k)) (defs.siblings rows.now room from stop) }
+{
+    let mut part = from;
+    for _turn in 0..room {
+        if part >= stop {
             return false;
         }
-        match rows.get(part as usize) {
-            Some(row) => match row.label {
-                Label::Default => return true,
-                Label::Case => {}
-                _ => return false,
-            },
-            None => return false,
+        if is_default(rows, part) {
+            return true;
         }
         part = end_at(rows, part);
     }
     false
 }
 
-// Makes a goal for each group, and says whether one is a default.
-fn add_groups(rows: &[Row], code: &mut Code, work: &Work, at: u32) -> Result<bool, OutOfMemory> {
+// The group of a switch has a label `default`.
+fn is_default_group(rows: &[Row], at: u32) -> bool
+    ensures { at + 1 < 2 ^ 32 → result ≡ defs.is_default_group rows.now at }
+{
     let end = end_at(rows, at);
-    let mut group = end_at(rows, at.saturating_add(1));
-    let mut has_default = false;
-    for _turn in 0..rows.len() {
-        if group >= end {
-            return Ok(has_default);
+    has_default(rows, at.saturating_add(1), end, end.saturating_sub(at))
+}
+
+// One of the groups has a label `default`.
+fn has_default_group(rows: &[Row], from: u32, stop: u32, room: u32) -> bool
+    ensures { result ≡ list_any (defs.is_default_group rows.now) (defs.siblings rows.now room from stop) }
+{
+    let mut group = from;
+    for _turn in 0..room {
+        if group >= stop {
+            return false;
         }
-        let goal = code.new_goal(work.scope)?;
-        code.add_choice(goal)?;
-        has_default = has_default || is_default_group(rows, group);
+        if is_default_group(rows, group) {
+            return true;
+        }
         group = end_at(rows, group);
     }
-    Ok(has_default)
+    false
 }
 
-// The groups one after the other, each at its goal.
-fn plan_groups(
-    rows: &[Row],
-    code: &Code,
-    work: &mut Work,
-    at: u32,
-    first: u32,
-) -> Result<(), OutOfMemory> {
+fn write_switch(rows: &[Row], acts: &mut Acts, at: u32) -> Result<(), OutOfMemory>
+    ensures { at + 2 < 2 ^ 32 → OnOk result (seen acts.new ≡ seen acts.old ++ defs.switch_acts rows.now at) }
+{
+    let value = at.saturating_add(1);
+    let groups = end_at(rows, value);
     let end = end_at(rows, at);
-    let mut group = end_at(rows, at.saturating_add(1));
-    for nth in 0..u32::MAX {
-        if group >= end {
-            return Ok(());
-        }
-        if let Some(goal) = code.choice(first.saturating_add(nth)) {
-            work.place(goal)?;
-        }
-        work.row(group)?;
-        group = end_at(rows, group);
-    }
-    Ok(())
+    let room = end.saturating_sub(at);
+    acts.push(Act::Part { row: value })?;
+    acts.push(Act::Choose {
+        has_default: has_default_group(rows, groups, end, room),
+    })?;
+    write_siblings(rows, acts, groups, end, room)
 }
 
-fn plan_switch(rows: &[Row], code: &mut Code, work: &mut Work, at: u32) -> Result<(), OutOfMemory> {
-    let behind = goal_behind(code, work, at)?;
-    let first = code.count_choices()?;
-    if !add_groups(rows, code, work, at)? {
-        code.add_choice(behind)?;
-    }
-    let count = code.count_choices()?.saturating_sub(first);
-    work.row(at.saturating_add(1))?;
-    work.act(at, Act::Choice { first, count })?;
-    plan_groups(rows, code, work, at, first)?;
-    work.place(behind)
-}
-
-fn plan_labeled(
+fn write_jump(
     rows: &[Row],
-    code: &mut Code,
-    work: &mut Work,
+    acts: &mut Acts,
     at: u32,
-) -> Result<(), OutOfMemory> {
-    let behind = goal_behind(code, work, at)?;
-    plan_parts(rows, work, at)?;
-    work.place(behind)
+    completion: Completion,
+) -> Result<(), OutOfMemory>
+    ensures { at + 1 < 2 ^ 32 → OnOk result (seen acts.new ≡ seen acts.old ++ defs.parts rows.now at ++ defs.jump (completion_seen completion) ∷ []) }
+{
+    write_behind(rows, acts, at, Act::Jump { completion })
 }
 
-fn plan_jump(view: &View, work: &mut Work, at: u32, label: &Label) -> Result<(), OutOfMemory> {
-    let under = view.sight.world.under;
-    let goal = match label {
-        Label::Break { has_label } => goal_of_break(under, work, at, *has_label),
-        Label::Continue { has_label } => goal_of_continue(under, work, at, *has_label),
-        Label::Throw => THROWN,
-        _ => COMPLETED,
-    };
-    plan_behind(under.rows, work, at, Act::Jump { goal })
-}
-
-// Plans what a statement does, or else an expression.
-fn plan_statement(
-    view: &View,
-    code: &mut Code,
-    work: &mut Work,
-    at: u32,
-    label: &Label,
-) -> Result<(), OutOfMemory> {
+// Writes what a loop does, a branch or a jump, or else an expression.
+fn write_branch(view: &View, acts: &mut Acts, at: u32, label: &Label) -> Result<(), OutOfMemory>
+    ensures { at + 2 < 2 ^ 32 → end (rows_in view.now) (at + 1) + 1 < 2 ^ 32 → (m : Meaning) → IsViewOf view.now m → is_direct label.now ≡ false
+        → OnOk result (seen acts.new ≡ seen acts.old ++ defs.acts_by label.now (rows_in view.now) m at) }
+{
     let rows = view.sight.world.under.rows;
     match label {
-        Label::Method { .. } => plan_callable(rows, work, at),
-        Label::Constructor { .. } => plan_callable(rows, work, at),
-        Label::Field { .. } => plan_behind(rows, work, at, Act::Event),
-        Label::Parameter { .. } => plan_parameter(rows, work, at),
-        Label::Skip => work.act(at, Act::Node),
-        Label::Eval => plan_behind(rows, work, at, Act::Node),
-        Label::Locals => plan_behind(rows, work, at, Act::Node),
-        Label::Local { .. } => plan_local(rows, work, at),
-        Label::If => plan_if(rows, code, work, at),
-        Label::While => plan_while(rows, code, work, at),
-        Label::Do => plan_do(rows, code, work, at),
+        Label::If => write_if(rows, acts, at),
+        Label::While => write_while(rows, acts, at),
+        Label::Do => write_do(rows, acts, at),
         Label::For {
             has_first,
             has_condition,
-        } => plan_for(rows, code, work, at, (*has_first, *has_condition)),
-        Label::Switch => plan_switch(rows, code, work, at),
-        Label::Case => Ok(()),
-        Label::Labeled => plan_labeled(rows, code, work, at),
-        Label::Break { .. } => plan_jump(view, work, at, label),
-        Label::Continue { .. } => plan_jump(view, work, at, label),
-        Label::Return => plan_jump(view, work, at, label),
-        Label::Throw => plan_jump(view, work, at, label),
-        Label::Try { has_finally } => plan_try(rows, code, work, at, *has_finally),
-        _ => plan_expression(view, code, work, at, label),
+        } => write_for(rows, acts, at, *has_first, *has_condition),
+        Label::Switch => write_switch(rows, acts, at),
+        Label::Break { has_label } => write_jump(rows, acts, at, breaks(view, at, *has_label)),
+        Label::Continue { has_label } => {
+            write_jump(rows, acts, at, continues(view, at, *has_label))
+        }
+        Label::Return => write_jump(rows, acts, at, Completion::Return),
+        Label::Throw => write_jump(rows, acts, at, Completion::Throw),
+        _ => write_expression(view, acts, at, label),
     }
 }
 
-/// Plans all that a row does.
-pub(crate) fn plan_row(
+/// Writes all that a row does, by its label.
+pub(crate) fn write_row(
     view: &View,
-    code: &mut Code,
-    work: &mut Work,
+    acts: &mut Acts,
     at: u32,
-) -> Result<(), OutOfMemory> {
+    label: &Label,
+) -> Result<(), OutOfMemory>
+    ensures { at + 2 < 2 ^ 32 → end (rows_in view.now) (at + 1) + 1 < 2 ^ 32 → (m : Meaning) → IsViewOf view.now m
+        → OnOk result (seen acts.new ≡ seen acts.old ++ defs.acts_by label.now (rows_in view.now) m at) }
+{
     let rows = view.sight.world.under.rows;
-    match rows.get(at as usize) {
-        Some(row) => plan_statement(view, code, work, at, &row.label),
-        None => Ok(()),
+    let node = Act::Node { row: at };
+    match label {
+        Label::Method { .. } => write_callable(rows, acts, at),
+        Label::Constructor { .. } => write_callable(rows, acts, at),
+        Label::Field { .. } => write_behind(rows, acts, at, Act::Event { row: at }),
+        Label::Parameter { .. } => write_parameter(rows, acts, at),
+        Label::Local { .. } => write_local(rows, acts, at),
+        Label::Skip => acts.push(node),
+        Label::Eval => write_behind(rows, acts, at, node),
+        Label::Locals => write_behind(rows, acts, at, node),
+        Label::Case => Ok(()),
+        Label::Try { .. } => acts.push(Act::Part {
+            row: at.saturating_add(1),
+        }),
+        _ => write_branch(view, acts, at, label),
     }
 }

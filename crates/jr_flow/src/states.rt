@@ -1,10 +1,13 @@
 // The states that a body comes to from its entry.
+ghost use Rattle.std.specs.Prelude.{◌≡◌};
+ghost use Rattle.jr_flow.specs.Keys.{state_key};
 
-use crate::code::{Code, ENTRY};
-use crate::leaving::{Place, Way, ways_of};
-use crate::pending::Pending;
+use crate::code::Code;
+use crate::leaving::{State, Way, before, moment_key, point_at, ways_of};
+use crate::pending::{NOTHING, Pending};
 use crate::point::{FlowFault, Point, PointKind};
-use jr_base::{Limits, OutOfMemory};
+use jr_base::Limits;
+use jr_tree::Row;
 use std::alloc::Global;
 use std::collections::HashMap;
 
@@ -17,10 +20,10 @@ pub(crate) const LEFT: u32 = 1;
 /// The number of the exit that is reached by a throw.
 pub(crate) const LOST: u32 = 2;
 
-/// A place to which control comes, and the number of its point, if it is one.
+/// A state to which control comes, and the number of its point, if it is one.
 #[derive(Clone, Copy)]
-pub(crate) struct State {
-    place: Place,
+pub(crate) struct Reached {
+    state: State,
     pub(crate) point: Option<u32>,
 }
 
@@ -34,9 +37,9 @@ pub(crate) struct Hop {
 /// The states of a body, each once, and the ways between them.
 #[derive(Drop)]
 pub(crate) struct States {
-    numbers: HashMap<(u32, u32), u32>,
+    numbers: HashMap<((u32, u32), (u32, u32)), u32>,
     pending: Pending,
-    states: Vec<State>,
+    states: Vec<Reached>,
     /// For each state the number of its first hop.
     firsts: Vec<u32>,
     hops: Vec<Hop>,
@@ -44,6 +47,12 @@ pub(crate) struct States {
     /// How many points were found.
     count: u32,
     ways: Vec<Way>,
+}
+
+fn key_of(state: State) -> ((u32, u32), (u32, u32))
+    ensures { result ≡ state_key state }
+{
+    (moment_key(state.moment), (state.row, state.list))
 }
 
 impl States {
@@ -80,34 +89,34 @@ impl States {
         }
     }
 
-    // The point of an instruction, which is a new one.
-    fn point_at(&mut self, code: &Code, at: u32) -> Result<Option<u32>, FlowFault> {
-        match code.point(at) {
+    // The number of the point of a state that is new.
+    fn number_point_at(&mut self, code: &Code, state: State) -> Result<Option<u32>, FlowFault> {
+        match point_at(code, state) {
             Some(point) => Ok(Some(self.number_point(point)?)),
             None => Ok(None),
         }
     }
 
     // The number of a state, which may be new.
-    fn number(&mut self, code: &Code, place: Place) -> Result<u32, FlowFault> {
-        let key = (place.at, place.list);
+    fn number(&mut self, code: &Code, state: State) -> Result<u32, FlowFault> {
+        let key = key_of(state);
         if let Some(known) = self.numbers.get(&key).copied() {
             return Ok(known);
         }
         let Ok(number) = u32::try_from(self.states.len()) else {
             return Err(FlowFault::OutOfMemory);
         };
-        let point = self.point_at(code, place.at)?;
+        let point = self.number_point_at(code, state)?;
         self.numbers.insert(key, number)?;
-        self.states.push(State { place, point })?;
+        self.states.push(Reached { state, point })?;
         Ok(number)
     }
 
     // Notes where control goes to from a state.
-    fn turn(&mut self, code: &Code, state: State) -> Result<(), FlowFault> {
+    fn turn(&mut self, code: &Code, rows: &[Row], state: State) -> Result<(), FlowFault> {
         self.begin_hops()?;
         self.ways.clear();
-        ways_of(code, &mut self.pending, state.place, &mut self.ways)?;
+        ways_of(code, rows, &mut self.pending, state, &mut self.ways)?;
         for nth in 0..self.ways.len() {
             if let Some(way) = self.ways.get(nth).copied() {
                 let to = self.number(code, way.to)?;
@@ -134,24 +143,23 @@ impl States {
         for kind in [PointKind::Entry, PointKind::Exit, PointKind::Thrown] {
             self.points.push(Point { row, kind })?;
         }
-        let list = self.pending.begin()?;
-        self.number(code, Place { at: ENTRY, list })?;
+        self.number(code, before(row, 0, NOTHING))?;
         Ok(())
     }
 
     // Finds the states and the ways between them.
-    fn explore(&mut self, code: &Code) -> Result<(), FlowFault> {
+    fn explore(&mut self, code: &Code, rows: &[Row]) -> Result<(), FlowFault> {
         for number in 0..u32::MAX {
-            let Some(state) = self.state(number) else {
+            let Some(reached) = self.state(number) else {
                 return self.begin_hops();
             };
-            self.turn(code, state)?;
+            self.turn(code, rows, reached.state)?;
         }
         Err(FlowFault::OutOfMemory)
     }
 
     /// The state of this number.
-    pub(crate) fn state(&self, number: u32) -> Option<State> {
+    pub(crate) fn state(&self, number: u32) -> Option<Reached> {
         self.states.get(number as usize).copied()
     }
 
@@ -175,13 +183,23 @@ impl States {
 }
 
 /// The states that a body comes to, and the ways between them.
-pub(crate) fn states_of(alloc: Global, code: &Code, body: u32) -> Result<Box<States>, FlowFault> {
+pub(crate) fn states_of(
+    alloc: Global,
+    code: &Code,
+    rows: &[Row],
+    body: u32,
+) -> Result<Box<States>, FlowFault> {
     let mut states = Box::new(alloc, States::new(alloc))?;
-    explore_body(code, &mut *states, body)?;
+    explore_body(code, rows, &mut *states, body)?;
     Ok(states)
 }
 
-fn explore_body(code: &Code, states: &mut States, body: u32) -> Result<(), FlowFault> {
+fn explore_body(
+    code: &Code,
+    rows: &[Row],
+    states: &mut States,
+    body: u32,
+) -> Result<(), FlowFault> {
     states.begin(code, body)?;
-    states.explore(code)
+    states.explore(code, rows)
 }

@@ -1,0 +1,15 @@
+pub mod Counting
+pub mod Written
+pub mod Siblings
+pub mod Around
+pub mod Unwrapping
+pub mod Exploring
+pub mod Ways
+pub mod Pairing
+pub mod Pended
+pub mod Keyed
+pub mod Gets
+pub mod Coding
+pub mod Labels
+pub mod Departing
+pub mod Shortening

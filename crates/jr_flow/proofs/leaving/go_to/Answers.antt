@@ -1,0 +1,8 @@
+use Rattle.std.proofs.Common.{◌∙◌, ap, ◌++◌, ◌∷◌, []}
+use Rattle.std.proofs.lemmas.Result.{on_ok_weaker}
+use Rattle.jr_flow_defs.specs.States.{plainly}
+use Rattle.jr_flow.specs.Places.{ways_seen}
+use Rattle.jr_flow.proofs.leaving.go_to.Goals as goal
+
+pub returns : goal.returns
+returns c = λ lists. on_ok_weaker c.go.result (λ ways. ways ∙ ap (λ a. ways_seen lists c.args.out.now.items ++ plainly a ∷ []) (c.before-2.ensures lists)) (c.go.ensures lists)

@@ -1,0 +1,9 @@
+pub mod Views
+pub mod Seen
+pub mod Explored
+pub mod Places
+pub mod Bodies
+pub mod Reached
+pub mod Coded
+pub mod Keys
+pub mod Pended
