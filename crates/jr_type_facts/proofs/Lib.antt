@@ -1,0 +1,5 @@
+pub mod Parts
+pub mod Tabling
+pub mod Membership
+pub mod Calling
+pub mod Initials
