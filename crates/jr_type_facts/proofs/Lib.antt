@@ -3,3 +3,4 @@ pub mod Tabling
 pub mod Membership
 pub mod Calling
 pub mod Initials
+pub mod Meeting

@@ -54,7 +54,7 @@ same_text element.Null a b = refl
 same_text element.Void a b = refl
 same_text (element.Class s) a b = refl
 
-seen_told : (e : Element) (texts : List (List ℕ)) (value : Value) → assigned_to e (seen value) ≡ assigned_to e (value_in texts value)
+pub seen_told : (e : Element) (texts : List (List ℕ)) (value : Value) → assigned_to e (seen value) ≡ assigned_to e (value_in texts value)
 seen_told e texts (v.Bool b) = refl
 seen_told e texts (v.Byte z) = refl
 seen_told e texts (v.Short z) = refl

@@ -6,7 +6,8 @@ ghost use Rattle.jr_plain.specs.Declarations.{is_prelude};
 ghost use Rattle.jr_plain.specs.Typing as typing;
 ghost use Rattle.jr_supers.specs.Tabled.{IsSized};
 ghost use Rattle.jr_rules.specs.PlaceTests as places;
-ghost use Rattle.jr_type_facts.specs.Views.{rows_in, table_in, types_in, IsSeenView};
+ghost use Rattle.jr_type_facts.specs.Views.{rows_in, table_in, types_in, constants_in, IsSeenView};
+ghost use Rattle.jr_type_facts.specs.Cases.{AreRepeated};
 ghost use Rattle.jr_type_facts.specs.Tables as tell;
 
 use crate::facts::{is_variable, type_of};
@@ -204,7 +205,8 @@ fn find_throwable(rows: &[Row], count: u32) -> Option<u32>
 impl Tables {
     /// The tables of a bound program.
     pub fn of(alloc: Global, view: View) -> Result<Tables, OutOfMemory>
-        ensures { IsSeenView view.entry → IfOk result (λ tables. tell.AreTables (rows_in view.entry) (table_in view.entry) (types_in view.entry) tables) }
+        ensures right { IsSeenView view.entry → IfOk result (λ tables. tell.AreTables (rows_in view.entry) (table_in view.entry) (types_in view.entry) tables) }
+        ensures repeated { IsSeenView view.entry → IfOk result (λ tables. AreRepeated (rows_in view.entry) (constants_in view.entry) (types_in view.entry) tables.repeated.items) }
     {
         let rows = view.sight.world.under.rows;
         let Ok(count) = u32::try_from(rows.len()) else {
@@ -258,7 +260,9 @@ impl Tables {
     }
 
     /// The row is a label of a switch that has the same one before it.
-    pub fn is_repeated(&self, at: u32) -> bool {
+    pub fn is_repeated(&self, at: u32) -> bool
+        ensures { result ≡ tell.is_marked self.now.repeated.items at }
+    {
         is_marked(&self.repeated, at)
     }
 }

@@ -108,6 +108,7 @@ rows_once view n rule.Assignable exact = append-nil _
 rows_once view n rule.Variable exact = append-nil _
 rows_once view n rule.Cast exact = append-nil _
 rows_once view n rule.Condition exact = append-nil _
+rows_once view n rule.Switch exact = append-nil _
 rows_once view n rule.VoidValue exact = append-nil _
 rows_once view n rule.Return exact = append-nil _
 rows_once view n rule.Abstract exact = append-nil _
@@ -201,6 +202,9 @@ module _ (p : Rows) (t : Table) (constant : Constants) (types : Types) (n : ℕ)
 
   pub condition_at : has (broken_at p t constant types n) 28 ≡ condition_is_not_boolean p types n
   condition_at = at_rule 28 ∙ or_false _
+
+  pub switch_at : has (broken_at p t constant types n) 29 ≡ switch_does_not_fit p t constant types n
+  switch_at = at_rule 29 ∙ or_false _
 
   pub void_at : has (broken_at p t constant types n) 30 ≡ void_is_used p types n
   void_at = at_rule 30 ∙ or_false _

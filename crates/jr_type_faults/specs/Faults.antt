@@ -12,6 +12,7 @@ use Rattle.jr_name_faults.specs.Faults.{row_if}
 use Rattle.jr_type_facts.specs.declared.facts.Facts.{Facts}
 use Rattle.jr_type_facts.specs.Views.{rows_in, table_in, types_in, constants_in, IsSeenView}
 use Rattle.jr_type_facts.specs.Tables.{AreRightFacts, HasNoOtherThrowable}
+use Rattle.jr_type_faults.specs.Parts.{AreRepeatedIn}
 
 -- the definition breaks the rule at the row
 abbrev pub is_broken : View → Rule → ℕ → Bool
@@ -44,7 +45,7 @@ type_rules = contexts ++ (values ++ uses)
 -- those whose faults are those of the definition
 abbrev pub exact_rules : List Rule
 exact_rules = rule.StaticContext ∷ rule.ForwardReference ∷ rule.Throwable ∷ rule.Operands ∷ rule.Assignable ∷ rule.Variable ∷ rule.Cast ∷ rule.Condition
-    ∷ rule.VoidValue ∷ rule.Return ∷ rule.Abstract ∷ rule.Index ∷ rule.Branches ∷ []
+    ∷ rule.Switch ∷ rule.VoidValue ∷ rule.Return ∷ rule.Abstract ∷ rule.Index ∷ rule.Branches ∷ []
 
 abbrev pub is_exact : Rule → Bool
 is_exact one = is_among exact_rules one
@@ -65,6 +66,7 @@ pub record IsRightView (view : View) : Type 0 where
 -- the same, with right tables
 pub record CanTell (facts : Facts) : Type 0 where
   pub right : AreRightFacts facts
+  pub repeated : AreRepeatedIn facts
   pub throwable : HasNoOtherThrowable (rows_in facts.view)
 
 -- ---- at one row

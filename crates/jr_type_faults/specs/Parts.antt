@@ -24,6 +24,7 @@ use Rattle.jr_rules.specs.Statements.{switch_of}
 use Rattle.jr_rules.specs.StatementTests as statements
 use Rattle.jr_rules.specs.TypedTests.{type_below, is_int_like, declared_row, found, both_found}
 use Rattle.jr_type_facts.specs.declared.facts.Facts.{Facts}
+use Rattle.jr_type_facts.specs.Cases.{is_met, AreRepeated}
 use Rattle.jr_type_facts.specs.Facts.{rows_of, table_of, types_of, constants_of}
 
 -- ---- values and types
@@ -231,3 +232,10 @@ label_is_wrong facts n = label_is_not_constant facts n || label_is_not_assignabl
 
 abbrev pub label_does_not_fit : Facts → ℕ → Bool
 label_does_not_fit facts n = statements.is_case (label (rows_of facts) n) && label_is_wrong facts n
+
+-- the labels that are repeated are those of the definition
+abbrev pub AreRepeatedIn : Facts → Type 0
+AreRepeatedIn facts = AreRepeated (rows_of facts) (constants_of facts) (types_of facts) facts.tables.now.repeated.items
+
+abbrev pub label_is_refused : Facts → ℕ → Bool
+label_is_refused facts n = label_does_not_fit facts n || is_met (rows_of facts) (constants_of facts) (types_of facts) n

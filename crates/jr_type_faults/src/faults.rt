@@ -1,5 +1,5 @@
 // The faults of all rows.
-ghost use Rattle.std.specs.Prelude.{◌≡◌, ◌++◌, IfOk, OnOk, length};
+ghost use Rattle.std.specs.Prelude.{◌≡◌, ◌++◌, ◌+◌, ◌<◌, ◌^◌, IfOk, OnOk, length};
 ghost use Rattle.jr_name_faults.specs.Faults.{fault_if};
 ghost use Rattle.jr_type_faults.specs.Faults as tell;
 
@@ -71,7 +71,7 @@ fn push_values(facts: &Facts, at: u32, out: &mut Vec<Fault>) -> Result<(), OutOf
 
 // Switches, void calls, returns, what is abstract, arrays and branches.
 fn push_uses(facts: &Facts, at: u32, out: &mut Vec<Fault>) -> Result<(), OutOfMemory>
-    ensures exact { tell.CanTell facts.now → OnOk result (tell.AddsRules facts.now.view tell.uses at out.old.items out.new.items) }
+    ensures exact { tell.CanTell facts.now → at + 1 < 2 ^ 32 → OnOk result (tell.AddsRules facts.now.view tell.uses at out.old.items out.new.items) }
     ensures only { OnOk result (tell.AreOnlyOf tell.uses out.old.items out.new.items) }
 {
     push_if(switch_does_not_fit(facts, at), at, Rule::Switch, out)?;
@@ -85,7 +85,7 @@ fn push_uses(facts: &Facts, at: u32, out: &mut Vec<Fault>) -> Result<(), OutOfMe
 
 // The faults at a row.
 fn push_row(facts: &Facts, at: u32, out: &mut Vec<Fault>) -> Result<(), OutOfMemory>
-    ensures exact { tell.CanTell facts.now → OnOk result (tell.AddsRow facts.now.view at out.old.items out.new.items) }
+    ensures exact { tell.CanTell facts.now → at + 1 < 2 ^ 32 → OnOk result (tell.AddsRow facts.now.view at out.old.items out.new.items) }
     ensures only { OnOk result (tell.AreOnlyOf tell.type_rules out.old.items out.new.items) }
 {
     push_contexts(facts, at, out)?;
@@ -116,7 +116,7 @@ fn push_rows(facts: &Facts, out: &mut Vec<Fault>) -> Result<(), OutOfMemory>
 }
 
 /// Where the rules on types and expressions in code are broken: by rising rows, and at each row by rising numbers of rules.
-/// But for constructors that call themselves round and for switches these are the rows at which the definition breaks the rule, where the tables of the view are right.
+/// But for constructors that call themselves round these are the rows at which the definition breaks the rule, where the tables of the view are right.
 pub fn type_faults(alloc: Global, view: View, out: &mut Vec<Fault>) -> Result<(), OutOfMemory>
     ensures exact { tell.IsRightView view.entry → OnOk result (tell.AreExactTypeFaults view.entry out.old.items out.new.items) }
     ensures only { OnOk result (tell.AreOnlyOf tell.type_rules out.old.items out.new.items) }

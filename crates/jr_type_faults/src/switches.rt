@@ -1,7 +1,10 @@
 // Switches and their labels (JLS 14.11).
 ghost use Rattle.std.specs.Prelude.{◌≡◌, ◌+◌, ◌<◌, ◌^◌};
+ghost use Rattle.jr_rules.specs.StatementTests as statements;
 ghost use Rattle.jr_type_facts.specs.Facts as tell;
+ghost use Rattle.jr_type_facts.specs.Cases.{is_met};
 ghost use Rattle.jr_type_faults.specs.Parts as parts;
+ghost use Rattle.jr_type_faults.specs.Parts.{AreRepeatedIn};
 
 use crate::values::first_does_not_fit;
 use jr_type_facts::{Facts, is_case, is_int_like, is_switch, switch_of};
@@ -53,7 +56,23 @@ fn label_does_not_fit(facts: &Facts, at: u32) -> bool
     is_case(facts.rows(), at) && label_is_wrong(facts, at)
 }
 
+// The same label stands before this one in its switch.
+fn is_repeated(facts: &Facts, at: u32) -> bool
+    ensures { AreRepeatedIn facts.now → result ≡ is_met (tell.rows_of facts.now) (tell.constants_of facts.now) (tell.types_of facts.now) at }
+{
+    facts.tables.is_repeated(at)
+}
+
+// A label that is not constant, not assignable or repeated.
+fn label_is_refused(facts: &Facts, at: u32) -> bool
+    ensures { tell.AreSeenFacts facts.now → at + 1 < 2 ^ 32 → AreRepeatedIn facts.now → result ≡ parts.label_is_refused facts.now at }
+{
+    label_does_not_fit(facts, at) || is_repeated(facts, at)
+}
+
 /// A switch on another type than char, byte, short and int; a label that is not constant, not assignable or repeated; a second default.
-pub fn switch_does_not_fit(facts: &Facts, at: u32) -> bool {
-    type_is_not_switched(facts, at) || label_does_not_fit(facts, at) || facts.tables.is_repeated(at)
+pub fn switch_does_not_fit(facts: &Facts, at: u32) -> bool
+    ensures { tell.AreSeenFacts facts.now → at + 1 < 2 ^ 32 → AreRepeatedIn facts.now → result ≡ statements.switch_does_not_fit (tell.rows_of facts.now) (tell.table_of facts.now) (tell.constants_of facts.now) (tell.types_of facts.now) at }
+{
+    type_is_not_switched(facts, at) || label_is_refused(facts, at)
 }
