@@ -1,4 +1,7 @@
 // The faults of all rows.
+ghost use Rattle.std.specs.Prelude.{◌≡◌, ◌++◌, ◌+◌, ◌<◌, ◌^◌, IfOk, OnOk, length};
+ghost use Rattle.jr_name_faults.specs.Faults.{fault_if};
+ghost use Rattle.jr_type_faults.specs.Faults as tell;
 
 use crate::creations::abstract_is_used;
 use crate::initializing::is_used_too_early;
@@ -11,12 +14,15 @@ use crate::statements::{condition_is_not_boolean, is_not_throwable, return_does_
 use crate::switches::switch_does_not_fit;
 use jr_base::OutOfMemory;
 use jr_rule::{Fault, Rule};
+use jr_tree::Row;
 use jr_type_facts::{Facts, Tables};
 use jr_view::View;
 use std::alloc::Global;
 
 // One fault more, if the rule is broken.
-fn push_if(is_broken: bool, row: u32, rule: Rule, out: &mut Vec<Fault>) -> Result<(), OutOfMemory> {
+fn push_if(is_broken: bool, row: u32, rule: Rule, out: &mut Vec<Fault>) -> Result<(), OutOfMemory>
+    ensures { OnOk result (out.new.items ≡ out.old.items ++ fault_if is_broken row rule) }
+{
     if is_broken {
         out.push(Fault { row, rule })?;
     }
@@ -24,7 +30,10 @@ fn push_if(is_broken: bool, row: u32, rule: Rule, out: &mut Vec<Fault>) -> Resul
 }
 
 // Objects, initializers, constructors and what is thrown.
-fn push_contexts(facts: &Facts, at: u32, out: &mut Vec<Fault>) -> Result<(), OutOfMemory> {
+fn push_contexts(facts: &Facts, at: u32, out: &mut Vec<Fault>) -> Result<(), OutOfMemory>
+    ensures exact { tell.CanTell facts.now → OnOk result (tell.AddsRules facts.now.view tell.contexts at out.old.items out.new.items) }
+    ensures only { OnOk result (tell.AreOnlyOf tell.contexts out.old.items out.new.items) }
+{
     push_if(lacks_object(facts, at), at, Rule::StaticContext, out)?;
     push_if(
         is_used_too_early(facts, at),
@@ -38,11 +47,15 @@ fn push_contexts(facts: &Facts, at: u32, out: &mut Vec<Fault>) -> Result<(), Out
         Rule::ConstructorCycle,
         out,
     )?;
-    push_if(is_not_throwable(facts, at), at, Rule::Throwable, out)
+    push_if(is_not_throwable(facts, at), at, Rule::Throwable, out)?;
+    Ok(())
 }
 
 // Operands, values, variables, casts and conditions.
-fn push_values(facts: &Facts, at: u32, out: &mut Vec<Fault>) -> Result<(), OutOfMemory> {
+fn push_values(facts: &Facts, at: u32, out: &mut Vec<Fault>) -> Result<(), OutOfMemory>
+    ensures exact { tell.CanTell facts.now → OnOk result (tell.AddsRules facts.now.view tell.values at out.old.items out.new.items) }
+    ensures only { OnOk result (tell.AreOnlyOf tell.values out.old.items out.new.items) }
+{
     push_if(operands_do_not_fit(facts, at), at, Rule::Operands, out)?;
     push_if(value_does_not_fit(facts, at), at, Rule::Assignable, out)?;
     push_if(is_no_variable(facts, at), at, Rule::Variable, out)?;
@@ -52,33 +65,67 @@ fn push_values(facts: &Facts, at: u32, out: &mut Vec<Fault>) -> Result<(), OutOf
         at,
         Rule::Condition,
         out,
-    )
+    )?;
+    Ok(())
 }
 
 // Switches, void calls, returns, what is abstract, arrays and branches.
-fn push_uses(facts: &Facts, at: u32, out: &mut Vec<Fault>) -> Result<(), OutOfMemory> {
+fn push_uses(facts: &Facts, at: u32, out: &mut Vec<Fault>) -> Result<(), OutOfMemory>
+    ensures exact { tell.CanTell facts.now → at + 1 < 2 ^ 32 → OnOk result (tell.AddsRules facts.now.view tell.uses at out.old.items out.new.items) }
+    ensures only { OnOk result (tell.AreOnlyOf tell.uses out.old.items out.new.items) }
+{
     push_if(switch_does_not_fit(facts, at), at, Rule::Switch, out)?;
     push_if(void_is_used(facts, at), at, Rule::VoidValue, out)?;
     push_if(return_does_not_fit(facts, at), at, Rule::Return, out)?;
     push_if(abstract_is_used(facts, at), at, Rule::Abstract, out)?;
     push_if(array_does_not_fit(facts, at), at, Rule::Index, out)?;
-    push_if(branches_are_unrelated(facts, at), at, Rule::Branches, out)
+    push_if(branches_are_unrelated(facts, at), at, Rule::Branches, out)?;
+    Ok(())
+}
+
+// The faults at a row.
+fn push_row(facts: &Facts, at: u32, out: &mut Vec<Fault>) -> Result<(), OutOfMemory>
+    ensures exact { tell.CanTell facts.now → at + 1 < 2 ^ 32 → OnOk result (tell.AddsRow facts.now.view at out.old.items out.new.items) }
+    ensures only { OnOk result (tell.AreOnlyOf tell.type_rules out.old.items out.new.items) }
+{
+    push_contexts(facts, at, out)?;
+    push_values(facts, at, out)?;
+    push_uses(facts, at, out)?;
+    Ok(())
+}
+
+fn row_count(rows: &[Row]) -> Result<u32, OutOfMemory>
+    ensures { IfOk result (λ count. count ≡ length rows.now) }
+{
+    let Ok(count) = u32::try_from(rows.len()) else {
+        return Err(OutOfMemory);
+    };
+    Ok(count)
+}
+
+// The faults at all rows.
+fn push_rows(facts: &Facts, out: &mut Vec<Fault>) -> Result<(), OutOfMemory>
+    ensures exact { tell.CanTell facts.now → OnOk result (tell.AreExactTypeFaults facts.now.view out.old.items out.new.items) }
+    ensures only { OnOk result (tell.AreOnlyOf tell.type_rules out.old.items out.new.items) }
+{
+    let count = row_count(facts.view.sight.world.under.rows)?;
+    for at in 0..count {
+        push_row(facts, at, out)?;
+    }
+    Ok(())
 }
 
 /// Where the rules on types and expressions in code are broken: by rising rows, and at each row by rising numbers of rules.
-pub fn type_faults(alloc: Global, view: View, out: &mut Vec<Fault>) -> Result<(), OutOfMemory> {
+/// But for constructors that call themselves round these are the rows at which the definition breaks the rule, where the tables of the view are right.
+pub fn type_faults(alloc: Global, view: View, out: &mut Vec<Fault>) -> Result<(), OutOfMemory>
+    ensures exact { tell.IsRightView view.entry → OnOk result (tell.AreExactTypeFaults view.entry out.old.items out.new.items) }
+    ensures only { OnOk result (tell.AreOnlyOf tell.type_rules out.old.items out.new.items) }
+{
     let tables = Tables::of(alloc, view)?;
     let facts = Facts {
         view,
         tables: &tables,
     };
-    let Ok(count) = u32::try_from(facts.rows().len()) else {
-        return Err(OutOfMemory);
-    };
-    for at in 0..count {
-        push_contexts(&facts, at, out)?;
-        push_values(&facts, at, out)?;
-        push_uses(&facts, at, out)?;
-    }
+    push_rows(&facts, out)?;
     Ok(())
 }

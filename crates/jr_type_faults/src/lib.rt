@@ -7,7 +7,9 @@ mod initializing;
 mod objects;
 mod operands;
 mod places;
+mod rows;
 mod statements;
 mod switches;
+mod values;
 
 pub use faults::type_faults;

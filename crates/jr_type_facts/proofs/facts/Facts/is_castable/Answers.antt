@@ -1,0 +1,5 @@
+use Rattle.jr_type_facts.specs.Facts.{table_of}
+use Rattle.jr_type_facts.proofs.facts.Facts.is_castable.Goals as goal
+
+pub returns : goal.returns
+returns c = λ right. c.is_castable.ensures (table_of c.args.self.now) right.seen.above

@@ -1,0 +1,6 @@
+use Rattle.std.proofs.Common.{◌≡◌}
+use Rattle.jr_type_facts.specs.Tables.{grown, call_by}
+use Rattle.jr_type_facts.proofs.tables.calls_of.Given as goal
+
+abbrev pub invariant-loop-at : goal.invariant-loop-at
+invariant-loop-at l = l.all.items ≡ grown (call_by l.rows) l.at

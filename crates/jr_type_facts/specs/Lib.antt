@@ -1,0 +1,4 @@
+pub mod Views
+pub mod Facts
+pub mod Tables
+pub mod Cases
