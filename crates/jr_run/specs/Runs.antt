@@ -7,6 +7,7 @@ use Rattle.jr_core.specs.Mirror.{plain_core}
 use Rattle.jr_codes.specs.declared.source.Source.{Source}
 use Rattle.jr_codes.specs.Numbered.{NumbersDeclarations}
 use Rattle.jr_codes.specs.Reads.{facts, rows_of}
+use Rattle.jr_elab.specs.Cores.{HaveParts, IsCoreOf, IsReadWhole}
 use Rattle.jr_machine_defs.specs.declared.state.Ran.{Ran}
 use Rattle.jr_machine_defs.specs.Steps.{IsRun}
 use Rattle.jr_marks.specs.Places.{IsOrdered}
@@ -24,12 +25,13 @@ pub record IsTextOfCore (s : Source) (core : m.Core) (start n : ℕ) (text : Tex
   pub runs : IsRun core ((facts s).decl start) n ran
   pub reports : IsPlacedSource s → text ≡ report_text (rows_of s) (facts s).decl ran
 
--- so it is of some core, where each declaration of the program is known by its own number
+-- so it is of the core of the program, in which each declaration is known by its own number; a source that is read whole has places
 pub record IsTextFrom (view : View) (start n : ℕ) (text : Text) : Type 0 where
   pub source : Source
   pub of_view : source.view.now ≡ view
   pub numbered : NumbersDeclarations (rows_of source) source.ids.now.nodes.items
   pub core : Core
+  pub is_core : IsReadWhole source → HaveParts (facts source) → IsCoreOf (facts source) core
   pub runs : IsTextOfCore source (plain_core core) start n text
 
 -- where what lookup reads of the program is right, this is the start of a run of the class that is named, or why there is none

@@ -11,5 +11,5 @@ mod start;
 mod text;
 
 pub use fault::RunFault;
-pub use law::canonical_names_are_told;
+pub use law::{canonical_names_are_told, whole_sources_are_read};
 pub use run::run_text;

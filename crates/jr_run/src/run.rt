@@ -2,6 +2,8 @@
 ghost use Rattle.std.specs.Prelude.{Ok, IfOk};
 ghost use Rattle.jr_base.specs.declared.text.Text as texts;
 ghost use Rattle.jr_core.specs.Mirror.{plain_core};
+ghost use Rattle.jr_codes.specs.Reads.{facts};
+ghost use Rattle.jr_elab.specs.Cores.{HaveParts, IsCoreOf, IsReadWhole};
 ghost use Rattle.jr_run.specs.Runs.{IsRunText, IsStartRead, IsTextFrom, IsTextOfCore};
 
 use crate::fault::RunFault;
@@ -17,7 +19,9 @@ use jr_view::View;
 use std::alloc::Global;
 
 // The core of a program.
-fn core_of(source: &Source) -> Result<Core, OutOfMemory> {
+fn core_of(source: &Source) -> Result<Core, OutOfMemory>
+    ensures { IfOk result (λ core. IsReadWhole source.now → HaveParts (facts source.now) → IsCoreOf (facts source.now) core) }
+{
     elaborate(source.alloc, source.view, source.ids)
 }
 
