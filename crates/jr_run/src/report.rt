@@ -1,155 +1,168 @@
-// The text of a run.
+// The report of a run.
+ghost use Rattle.std.specs.Prelude.{◌≡◌, ◌+◌, ◌∷◌, ◌++◌, ◌^◌, ◌<◌, [], length, IfOk, OnOk};
+ghost use Rattle.jr_tree.specs.declared.label.Role.TheVariants as role;
+ghost use Rattle.jr_tree.specs.Rows as tree;
+ghost use Rattle.jr_plain.specs.Same.{same_role};
+ghost use Rattle.jr_codes.specs.Reads.{facts, rows_of};
+ghost use Rattle.jr_run.specs.Names as names;
+ghost use Rattle.jr_run.specs.Reports.{IsPlacedSource, end_text, member_name, member_text, report_text, type_text};
+ghost use Rattle.jr_run.specs.Reports as tell;
 
-use crate::names::canonical_name;
+use crate::names::add_canonical_name;
+use crate::rows::row_count;
+use crate::text::printed_lines;
 use jr_base::{DeclId, OutOfMemory, Text};
-use jr_codes::Ids;
+use jr_codes::Source;
 use jr_machine_defs::{Ran, RunEnd};
+use jr_machine_ops::same_decl;
 use jr_members::declaring_type;
-use jr_places::name_at;
-use jr_view::View;
-use std::alloc::Global;
+use jr_places::{name_at, role_at};
+use jr_tree::{Role, Row};
 
-/// A program with the names of its declarations, for texts about its runs.
-#[derive(Clone, Copy)]
-pub struct Naming<'a> {
-    pub alloc: Global,
-    pub view: &'a View<'a>,
-    pub ids: &'a Ids,
+fn is_nothing(rows: &[Row], at: u32) -> bool
+    ensures { result ≡ same_role (tree.role_at rows.now at) role.Nothing }
+{
+    match role_at(rows, at) {
+        Role::Nothing => true,
+        _ => false,
+    }
 }
 
-fn is_high(unit: u16) -> bool {
-    unit >= 0xD800 && unit < 0xDC00
+// The row declares something, by which a core knows it.
+fn is_known_by(source: &Source, decl: DeclId, at: u32) -> bool
+    ensures { result ≡ tell.is_known_by (rows_of source.now) (facts source.now).decl decl at }
+{
+    !is_nothing(source.rows(), at) && same_decl(source.decl(at), decl)
 }
 
-fn is_low(unit: u16) -> bool {
-    unit >= 0xDC00 && unit < 0xE000
+// The row of a declaration.
+fn row_of(source: &Source, decl: DeclId) -> Option<u32>
+    ensures { length (rows_of source.now) + 3 < 2 ^ 32 → result ≡ tell.row_of (rows_of source.now) (facts source.now).decl decl }
+{
+    let count = row_count(source.rows());
+    for at in 0..count {
+        if is_known_by(source, decl, at) {
+            return Some(at);
+        }
+    }
+    None
 }
 
-// The code point of a surrogate pair (JLS 3.1).
-fn pair(high: u16, low: u16) -> u32 {
-    (u32::from(high) % 1024)
-        .saturating_mul(1024)
-        .saturating_add(u32::from(low) % 1024)
-        .saturating_add(0x10000)
+// Adds the canonical name of the type at a row.
+fn add_name(source: &Source, text: &mut Vec<u8>, row: u32) -> Result<(), OutOfMemory>
+    ensures { IsPlacedSource source.now → OnOk result (text.new.items ≡ text.old.items ++ names.canonical_name (rows_of source.now) row) }
+{
+    let under = source.under();
+    add_canonical_name(source.alloc, under.rows, under.places, row, text)
 }
 
-// Adds a code point; half of a pair, which is none, becomes the replacement character.
-fn add_point(printed: &mut String, point: u32) -> Result<(), OutOfMemory> {
-    printed.push(char::from_u32(point).unwrap_or('\u{FFFD}'))?;
+// Adds the canonical name of a type.
+fn add_type(source: &Source, text: &mut Vec<u8>, class: DeclId) -> Result<(), OutOfMemory>
+    ensures { IsPlacedSource source.now → OnOk result (text.new.items ≡ text.old.items ++ type_text (rows_of source.now) (facts source.now).decl class) }
+{
+    match row_of(source, class) {
+        Some(row) => add_name(source, text, row),
+        None => Ok(()),
+    }
+}
+
+// Adds the canonical name of the type that declares the member at a row.
+fn add_declaring(source: &Source, text: &mut Vec<u8>, row: u32) -> Result<(), OutOfMemory>
+    ensures { IsPlacedSource source.now → OnOk result (text.new.items ≡ text.old.items ++ tell.declaring_name (rows_of source.now) row) }
+{
+    match declaring_type(source.rows(), row) {
+        Some(class) => add_name(source, text, class),
+        None => Ok(()),
+    }
+}
+
+// Adds a dot and the name at a row.
+fn add_behind_dot(rows: &[Row], text: &mut Vec<u8>, row: u32) -> Result<(), OutOfMemory>
+    ensures { OnOk result (text.new.items ≡ text.old.items ++ 46 ∷ tree.name rows.now row) }
+{
+    text.push(b'.')?;
+    text.extend_from_slice(name_at(rows, row))?;
     Ok(())
 }
 
-// Adds a unit behind one that may begin a pair, and gives the unit if it may begin one itself.
-fn add_unit(
-    printed: &mut String,
-    high: Option<u16>,
-    unit: u16,
-) -> Result<Option<u16>, OutOfMemory> {
-    if let Some(first) = high {
-        if is_low(unit) {
-            add_point(printed, pair(first, unit))?;
-            return Ok(None);
-        }
-        add_point(printed, u32::from(first))?;
-    }
-    if is_high(unit) {
-        return Ok(Some(unit));
-    }
-    add_point(printed, u32::from(unit))?;
-    Ok(None)
+// Adds the member at a row, behind the type that declares it.
+fn add_member_name(source: &Source, text: &mut Vec<u8>, row: u32) -> Result<(), OutOfMemory>
+    ensures { IsPlacedSource source.now → OnOk result (text.new.items ≡ text.old.items ++ member_name (rows_of source.now) row) }
+{
+    add_declaring(source, text, row)?;
+    add_behind_dot(source.rows(), text, row)
 }
 
-// 16-bit units as a text.
-fn text_of(alloc: Global, units: &[u16]) -> Result<String, OutOfMemory> {
-    let mut printed = String::new(alloc);
-    let mut high = None;
-    for unit in units {
-        high = add_unit(&mut printed, high, *unit)?;
-    }
-    if let Some(first) = high {
-        add_point(&mut printed, u32::from(first))?;
-    }
-    Ok(printed)
-}
-
-// Adds what was printed, with LF at its end.
-fn add_printed(alloc: Global, text: &mut Vec<u8>, units: &[u16]) -> Result<(), OutOfMemory> {
-    let printed = text_of(alloc, units)?;
-    text.extend_from_slice(printed.as_str().as_bytes())?;
-    match text.last().copied() {
-        None | Some(b'\n') => Ok(()),
-        Some(_) => {
-            text.push(b'\n')?;
-            Ok(())
-        }
+// Adds a member, behind the type that declares it.
+fn add_member(source: &Source, text: &mut Vec<u8>, member: DeclId) -> Result<(), OutOfMemory>
+    ensures { IsPlacedSource source.now → OnOk result (text.new.items ≡ text.old.items ++ member_text (rows_of source.now) (facts source.now).decl member) }
+{
+    match row_of(source, member) {
+        Some(row) => add_member_name(source, text, row),
+        None => Ok(()),
     }
 }
 
-fn add_word(text: &mut Vec<u8>, word: &str) -> Result<(), OutOfMemory> {
+fn add_word(text: &mut Vec<u8>, word: &str) -> Result<(), OutOfMemory>
+    ensures { OnOk result (text.new.items ≡ text.old.items ++ word.now) }
+{
     text.extend_from_slice(word.as_bytes())?;
     Ok(())
 }
 
-impl<'a> Naming<'a> {
-    // Adds the canonical name of a type.
-    fn add_type(&self, text: &mut Vec<u8>, row: u32) -> Result<(), OutOfMemory> {
-        let view = self.view;
-        let under = &view.sight.world.under;
-        let name = canonical_name(self.alloc, under.rows, under.places, row)?;
-        text.extend_from_slice(&name)?;
-        Ok(())
-    }
+// Adds a word, and the canonical name of a type behind it.
+fn add_word_and_type(
+    source: &Source,
+    text: &mut Vec<u8>,
+    word: &str,
+    class: DeclId,
+) -> Result<(), OutOfMemory>
+    ensures { IsPlacedSource source.now → OnOk result (text.new.items ≡ text.old.items ++ (word.now ++ type_text (rows_of source.now) (facts source.now).decl class)) }
+{
+    add_word(text, word)?;
+    add_type(source, text, class)
+}
 
-    // Adds the canonical name of a class.
-    fn add_class(&self, text: &mut Vec<u8>, class: DeclId) -> Result<(), OutOfMemory> {
-        let view = self.view;
-        match self.ids.find(view.sight.world.under.rows, class) {
-            Some(row) => self.add_type(text, row),
-            None => Ok(()),
-        }
-    }
+// Adds a word, and a member behind it.
+fn add_word_and_member(
+    source: &Source,
+    text: &mut Vec<u8>,
+    word: &str,
+    member: DeclId,
+) -> Result<(), OutOfMemory>
+    ensures { IsPlacedSource source.now → OnOk result (text.new.items ≡ text.old.items ++ (word.now ++ member_text (rows_of source.now) (facts source.now).decl member)) }
+{
+    add_word(text, word)?;
+    add_member(source, text, member)
+}
 
-    // Adds a method behind the canonical name of its class.
-    fn add_method(&self, text: &mut Vec<u8>, method: DeclId) -> Result<(), OutOfMemory> {
-        let view = self.view;
-        let rows = view.sight.world.under.rows;
-        let Some(row) = self.ids.find(rows, method) else {
-            return Ok(());
-        };
-        if let Some(class) = declaring_type(rows, row) {
-            self.add_type(text, class)?;
-        }
-        text.push(b'.')?;
-        text.extend_from_slice(name_at(rows, row))?;
-        Ok(())
+// Adds how a run ended.
+fn add_end(source: &Source, text: &mut Vec<u8>, end: RunEnd) -> Result<(), OutOfMemory>
+    ensures { IsPlacedSource source.now → OnOk result (text.new.items ≡ text.old.items ++ end_text (rows_of source.now) (facts source.now).decl end) }
+{
+    match end {
+        RunEnd::Running => add_word(text, "-- running"),
+        RunEnd::Ended => add_word(text, "-- ended"),
+        RunEnd::Uncaught(class) => add_word_and_type(source, text, "-- uncaught ", class.0),
+        RunEnd::InitFailed(class) => add_word_and_type(source, text, "-- init failed ", class.0),
+        RunEnd::Native(method) => add_word_and_member(source, text, "-- native ", method),
     }
+}
 
-    // Adds how a run ended.
-    fn add_end(&self, text: &mut Vec<u8>, end: RunEnd) -> Result<(), OutOfMemory> {
-        match end {
-            RunEnd::Running => add_word(text, "-- running"),
-            RunEnd::Ended => add_word(text, "-- ended"),
-            RunEnd::Uncaught(class) => {
-                add_word(text, "-- uncaught ")?;
-                self.add_class(text, class.0)
-            }
-            RunEnd::InitFailed(class) => {
-                add_word(text, "-- init failed ")?;
-                self.add_class(text, class.0)
-            }
-            RunEnd::Native(method) => {
-                add_word(text, "-- native ")?;
-                self.add_method(text, method)
-            }
-        }
-    }
+// Adds how a run ended, and LF.
+fn add_last_line(source: &Source, text: &mut Vec<u8>, end: RunEnd) -> Result<(), OutOfMemory>
+    ensures { IsPlacedSource source.now → OnOk result (text.new.items ≡ text.old.items ++ (end_text (rows_of source.now) (facts source.now).decl end ++ 10 ∷ [])) }
+{
+    add_end(source, text, end)?;
+    text.push(b'\n')?;
+    Ok(())
+}
 
-    /// What a run printed, and how it ended.
-    pub fn report(&self, ran: &Ran) -> Result<Text, OutOfMemory> {
-        let mut text = Vec::new(self.alloc);
-        add_printed(self.alloc, &mut text, ran.printed.units())?;
-        self.add_end(&mut text, ran.end)?;
-        text.push(b'\n')?;
-        Ok(Text::new(text))
-    }
+/// What a run printed, and in a line of its own how it ended.
+pub fn report(source: &Source, ran: &Ran) -> Result<Text, OutOfMemory>
+    ensures { IfOk result (λ text. IsPlacedSource source.now → text ≡ report_text (rows_of source.now) (facts source.now).decl ran.now) }
+{
+    let mut text = printed_lines(source.alloc, ran.printed.units())?;
+    add_last_line(source, &mut text, ran.end)?;
+    Ok(Text::new(text))
 }

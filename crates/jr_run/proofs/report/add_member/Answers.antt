@@ -1,0 +1,12 @@
+use Rattle.std.proofs.Common.{◌∙◌, ap, sym, ◌++◌}
+use Rattle.std.proofs.lemmas.Result.{on_ok_weaker}
+use Rattle.jr_codes.specs.Reads.{rows_of}
+use Rattle.jr_run.specs.Reports.{member_name}
+use Rattle.jr_run.proofs.Reported.{added_none, text_there}
+use Rattle.jr_run.proofs.report.add_member.Goals as goal
+
+pub returns-in-Some : goal.returns-in-Some
+returns-in-Some c = λ source. on_ok_weaker c.add_member_name.result (λ h. h ∙ ap (λ xs. c.args.text.now.items ++ xs) (text_there (member_name (rows_of c.args.source.now)) _ _ (sym (c.row_of.ensures source.few) ∙ c.in-Some.is))) (c.add_member_name.ensures source)
+
+pub returns-in-None : goal.returns-in-None
+returns-in-None c = λ source. added_none _ (member_name (rows_of c.args.source.now)) _ (sym (c.row_of.ensures source.few) ∙ c.in-None.is)
