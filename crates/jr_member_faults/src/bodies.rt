@@ -87,7 +87,8 @@ fn is_constructor_in_interface(all: &[Row], at: u32) -> bool
     }
 }
 
-fn is_initializer(all: &[Row], at: u32) -> bool
+/// An initializer of a class or interface.
+pub fn is_initializer(all: &[Row], at: u32) -> bool
     ensures { result ≡ plain.is_initializer (rows.label all.now at) }
 {
     match all.get(at as usize) {

@@ -1,7 +1,24 @@
 // The rules on members that are broken at the rows of a program.
+ghost use Rattle.std.specs.Prelude.{◌≡◌, ◌+◌, ◌<◌, ◌^◌, IfOk, OnOk, false, length};
+ghost use Rattle.jr_tree.specs.declared.label.Role.TheVariants as roles;
+ghost use Rattle.jr_tree.specs.Rows as rows;
+ghost use Rattle.jr_defs.specs.Referents.{entries};
+ghost use Rattle.jr_plain.specs.Declarations.{is_type};
+ghost use Rattle.jr_rule.specs.Faults.{AreFaultsOf};
+ghost use Rattle.jr_rule.specs.declared.Rule.TheVariants as rules;
+ghost use Rattle.jr_name_rules.specs.DeclarationTests as declaring;
+ghost use Rattle.jr_name_rules.specs.HeaderTests as heading;
+ghost use Rattle.jr_member_rules.specs.Bodies as bodies;
+ghost use Rattle.jr_member_rules.specs.Computed.{values};
+ghost use Rattle.jr_member_rules.specs.Inner as inner;
+ghost use Rattle.jr_faults.specs.Added.{row_if, is_rule, AreOnly};
+ghost use Rattle.jr_member_faults.specs.Faults as tell;
+ghost use Rattle.jr_member_faults.specs.Headers.{AreHeadersTo};
+ghost use Rattle.jr_member_faults.specs.Twice.{AreDeclaredTo};
+ghost use Rattle.jr_member_faults.specs.Views as views;
 
 use crate::beside::Left;
-use crate::bodies::stands_wrong;
+use crate::bodies::{is_initializer, stands_wrong};
 use crate::headers::Headers;
 use crate::inheriting::Inheriting;
 use crate::inner::is_static_there;
@@ -9,30 +26,50 @@ use crate::redefining::{Redefining, Uppers};
 use crate::throwing::Thrown;
 use crate::twice::{Declared, is_inside_its_name};
 use jr_base::OutOfMemory;
+use jr_faults::rule_if;
 use jr_members::World;
 use jr_places::role_at;
 use jr_rule::{Fault, Rule};
-use jr_supers::header_place;
-use jr_tree::{Label, Role, Row};
+use jr_supers::{Tabled, header_place};
+use jr_tree::{Role, Row};
 use jr_view::View;
 use std::alloc::Global;
 
-// The rule, where it is broken.
-fn rule_if(out: &mut Vec<Fault>, is_broken: bool, row: u32, rule: Rule) -> Result<(), OutOfMemory> {
-    if is_broken {
-        out.push(Fault { row, rule })?;
-    }
-    Ok(())
-}
-
 // The rule that a body declares a second one of the role breaks.
-fn second_rule(role: Role) -> Rule {
+fn second_rule(role: Role) -> Rule
+    ensures { result ≡ tell.second_rule role }
+{
     match role {
         Role::Field => Rule::FieldNames,
         Role::Method => Rule::MethodSignatures,
         Role::Constructor => Rule::ConstructorSignatures,
         _ => Rule::TypeNames,
     }
+}
+
+// A second one of a name or signature, or a type in one of its name.
+fn is_clash(world: &World, is_second: bool, at: u32) -> bool
+    ensures { is_type (views.rows_of world.now) at ≡ false → result ≡ is_second }
+{
+    is_second || is_inside_its_name(world.under.rows, world.under.places, at)
+}
+
+// The rule on what is declared twice that is broken at a row, which declares this.
+fn second_fault(
+    world: &World,
+    role: Role,
+    is_second: bool,
+    at: u32,
+    out: &mut Vec<Fault>,
+) -> Result<(), OutOfMemory>
+    ensures fields { role ≡ rows.role_at (views.rows_of world.now) at → OnOk result (AreFaultsOf rules.FieldNames (row_if (tell.is_second_as roles.Field role is_second) at) out.old.items out.new.items) }
+    ensures methods { role ≡ rows.role_at (views.rows_of world.now) at → OnOk result (AreFaultsOf rules.MethodSignatures (row_if (tell.is_second_as roles.Method role is_second) at) out.old.items out.new.items) }
+    ensures others { OnOk result (AreOnly tell.is_of_declared out.old.items out.new.items) }
+{
+    let is_broken = is_clash(world, is_second, at);
+    let rule = second_rule(role);
+    rule_if(out, is_broken, at, rule)?;
+    Ok(())
 }
 
 // The rules on what is declared twice that are broken at a row.
@@ -42,19 +79,18 @@ fn declared_faults(
     declared: &mut Declared,
     at: u32,
     out: &mut Vec<Fault>,
-) -> Result<(), OutOfMemory> {
+) -> Result<(), OutOfMemory>
+    ensures open { at < length (views.rows_of world.now) → AreDeclaredTo world.now at declared.old → OnOk result (AreDeclaredTo world.now (at + 1) declared.new) }
+    ensures fields { at < length (views.rows_of world.now) → AreDeclaredTo world.now at declared.old → views.IsNamedWorld world.now → OnOk result (AreFaultsOf rules.FieldNames (row_if (declaring.is_second_field (views.rows_of world.now) at) at) out.old.items out.new.items) }
+    ensures methods { at < length (views.rows_of world.now) → AreDeclaredTo world.now at declared.old → views.IsNamedWorld world.now → views.IsSignedWorld world.now → OnOk result (AreFaultsOf rules.MethodSignatures (row_if (declaring.is_second_method (views.rows_of world.now) (views.table_of world.now) at) at) out.old.items out.new.items) }
+    ensures others { OnOk result (AreOnly tell.is_of_declared out.old.items out.new.items) }
+{
     let role = role_at(world.under.rows, at);
-    let key = declared.key(world, at)?;
-    let is_second = match key {
-        Some(key) => declared.has(role, key),
-        None => false,
-    };
-    let is_inside = is_inside_its_name(world.under.rows, world.under.places, at);
-    rule_if(out, is_second || is_inside, at, second_rule(role))?;
-    match key {
-        Some(key) => declared.add(alloc, role, key, at),
-        None => Ok(()),
-    }
+    let entry = declared.entry(world, at)?;
+    let is_second = declared.has(role, entry);
+    second_fault(world, role, is_second, at, out)?;
+    declared.add(alloc, role, entry)?;
+    Ok(())
 }
 
 // What the rules on redefined and inherited methods read.
@@ -75,11 +111,14 @@ impl<'a> Methods<'a> {
     }
 
     // The rules on methods beside and above others that are broken at a row.
-    fn faults(&mut self, alloc: Global, at: u32, out: &mut Vec<Fault>) -> Result<(), OutOfMemory> {
+    fn faults(&mut self, alloc: Global, at: u32, out: &mut Vec<Fault>) -> Result<(), OutOfMemory>
+        ensures { OnOk result (AreOnly tell.is_of_methods out.old.items out.new.items) }
+    {
         let left = self.left_at(at);
         let redefining = self.redefining;
         let over = self.uppers.redefined(alloc, redefining.world, at)?;
-        method_faults(&redefining, left, at, &over, out)
+        method_faults(&redefining, left, at, &over, out)?;
+        Ok(())
     }
 }
 
@@ -90,7 +129,9 @@ fn method_faults(
     at: u32,
     over: &[u32],
     out: &mut Vec<Fault>,
-) -> Result<(), OutOfMemory> {
+) -> Result<(), OutOfMemory>
+    ensures { OnOk result (AreOnly tell.is_of_methods out.old.items out.new.items) }
+{
     let results = redefining.has_other_result(at, over) || left.results;
     let access = redefining.is_narrowed(at, over) || left.access;
     let statics = redefining.is_mixed(at, over) || left.statics;
@@ -100,7 +141,8 @@ fn method_faults(
     rule_if(out, access, at, Rule::NarrowedAccess)?;
     rule_if(out, statics, at, Rule::StaticOverride)?;
     rule_if(out, redefining.is_over_final(over), at, Rule::FinalOverride)?;
-    rule_if(out, throws, at, Rule::OverrideThrows)
+    rule_if(out, throws, at, Rule::OverrideThrows)?;
+    Ok(())
 }
 
 // What the types break by what they inherit, by their rows.
@@ -121,22 +163,59 @@ fn put_lefts(
     inheriting.put_lefts(alloc, world.supers.order(), lefts)
 }
 
-// A row at which a rule on members may be broken: a type, member, constructor or initializer, or a name in a header.
-fn is_of_members(rows: &[Row], at: u32) -> bool {
-    match rows.get(at as usize) {
-        Some(row) => match row.label {
-            Label::Initializer { .. } => true,
-            Label::Name { .. } => header_place(rows, at).is_some(),
-            _ => match row.label.role() {
-                Role::Type => true,
-                Role::Field => true,
-                Role::Method => true,
-                Role::Constructor => true,
-                _ => false,
-            },
-        },
-        None => false,
+// A type, field, method or constructor.
+fn declares(role: Role) -> bool
+    ensures { result ≡ tell.declares role }
+{
+    match role {
+        Role::Type => true,
+        Role::Field => true,
+        Role::Method => true,
+        Role::Constructor => true,
+        _ => false,
     }
+}
+
+// A row at which a rule on members may be broken: a type, member, constructor or initializer, or a name in a header.
+fn is_of_members(all: &[Row], at: u32) -> bool
+    ensures { result ≡ tell.is_of_members all.now at }
+{
+    declares(role_at(all, at)) || (is_initializer(all, at) || header_place(all, at).is_some())
+}
+
+// The rule on what headers name, where it is broken at a row.
+fn supertype_fault(
+    under: &Tabled,
+    headers: &Headers,
+    at: u32,
+    out: &mut Vec<Fault>,
+) -> Result<(), OutOfMemory>
+    ensures found { at < length under.now.rows.now → AreHeadersTo under.now.rows.now (entries under.now.table.now) at headers.now.superinterfaces → OnOk result (AreFaultsOf rules.Supertypes (row_if (heading.has_wrong_supertype under.now.rows.now (entries under.now.table.now) at) at) out.old.items out.new.items) }
+    ensures others { OnOk result (AreOnly (is_rule rules.Supertypes) out.old.items out.new.items) }
+{
+    let is_broken = headers.has_wrong_supertype(under, at);
+    rule_if(out, is_broken, at, Rule::Supertypes)?;
+    Ok(())
+}
+
+// The rule on bodies, where it is broken at a row.
+fn body_fault(all: &[Row], at: u32, out: &mut Vec<Fault>) -> Result<(), OutOfMemory>
+    ensures found { at + 1 < 2 ^ 32 → OnOk result (AreFaultsOf rules.Bodies (row_if (bodies.stands_wrong all.now at) at) out.old.items out.new.items) }
+    ensures others { OnOk result (AreOnly (is_rule rules.Bodies) out.old.items out.new.items) }
+{
+    let is_broken = stands_wrong(all, at);
+    rule_if(out, is_broken, at, Rule::Bodies)?;
+    Ok(())
+}
+
+// The rule on static members of inner classes, where it is broken at a row.
+fn static_fault(view: &View, at: u32, out: &mut Vec<Fault>) -> Result<(), OutOfMemory>
+    ensures found { views.IsValuedView view.now → OnOk result (AreFaultsOf rules.InnerStatics (row_if (inner.is_static_there (views.rows_in view.now) (views.table_in view.now) (values (views.rows_in view.now) (views.table_in view.now)) at) at) out.old.items out.new.items) }
+    ensures others { OnOk result (AreOnly (is_rule rules.InnerStatics) out.old.items out.new.items) }
+{
+    let is_broken = is_static_there(view.sight.world.under.rows, view.constants, at);
+    rule_if(out, is_broken, at, Rule::InnerStatics)?;
+    Ok(())
 }
 
 // The rules on members that are broken at a row.
@@ -148,17 +227,50 @@ fn row_faults(
     headers: &mut Headers,
     at: u32,
     out: &mut Vec<Fault>,
-) -> Result<(), OutOfMemory> {
+) -> Result<(), OutOfMemory>
+    ensures declared { at < length (views.rows_in view.now) → AreDeclaredTo view.now.sight.world at declared.old → OnOk result (AreDeclaredTo view.now.sight.world (at + 1) declared.new) }
+    ensures headers { AreHeadersTo (views.rows_in view.now) (views.table_in view.now) at headers.old.superinterfaces → OnOk result (AreHeadersTo (views.rows_in view.now) (views.table_in view.now) (at + 1) headers.new.superinterfaces) }
+    ensures found { at < length (views.rows_in view.now) → length (views.rows_in view.now) < 2 ^ 32 → AreDeclaredTo view.now.sight.world at declared.old → AreHeadersTo (views.rows_in view.now) (views.table_in view.now) at headers.old.superinterfaces → OnOk result (tell.AreMemberFaultsOn view.now (λ test. row_if (test at) at) out.old.items out.new.items) }
+{
     let world = &view.sight.world;
-    let rows = world.under.rows;
     declared_faults(alloc, world, declared, at, out)?;
-    let is_wrong = headers.has_wrong_supertype(&world.under, at);
-    rule_if(out, is_wrong, at, Rule::Supertypes)?;
+    supertype_fault(&world.under, headers, at, out)?;
     headers.pass(alloc, &world.under, at)?;
     methods.faults(alloc, at, out)?;
-    rule_if(out, stands_wrong(rows, at), at, Rule::Bodies)?;
-    let is_static = is_static_there(rows, view.constants, at);
-    rule_if(out, is_static, at, Rule::InnerStatics)
+    body_fault(world.under.rows, at, out)?;
+    static_fault(view, at, out)?;
+    Ok(())
+}
+
+// The same, of any row.
+fn any_row_faults(
+    alloc: Global,
+    view: &View,
+    methods: &mut Methods,
+    declared: &mut Declared,
+    headers: &mut Headers,
+    at: u32,
+    out: &mut Vec<Fault>,
+) -> Result<(), OutOfMemory>
+    ensures declared { at < length (views.rows_in view.now) → AreDeclaredTo view.now.sight.world at declared.old → OnOk result (AreDeclaredTo view.now.sight.world (at + 1) declared.new) }
+    ensures headers { AreHeadersTo (views.rows_in view.now) (views.table_in view.now) at headers.old.superinterfaces → OnOk result (AreHeadersTo (views.rows_in view.now) (views.table_in view.now) (at + 1) headers.new.superinterfaces) }
+    ensures found { at < length (views.rows_in view.now) → length (views.rows_in view.now) < 2 ^ 32 → AreDeclaredTo view.now.sight.world at declared.old → AreHeadersTo (views.rows_in view.now) (views.table_in view.now) at headers.old.superinterfaces → OnOk result (tell.AreMemberFaultsOn view.now (λ test. row_if (test at) at) out.old.items out.new.items) }
+{
+    if !is_of_members(view.sight.world.under.rows, at) {
+        return Ok(());
+    }
+    row_faults(alloc, view, methods, declared, headers, at, out)?;
+    Ok(())
+}
+
+fn row_count(all: &[Row]) -> Result<u32, OutOfMemory>
+    ensures counted { IfOk result (λ count. count ≡ length all.now) }
+    ensures few { OnOk result (length all.now < 2 ^ 32) }
+{
+    let Ok(count) = u32::try_from(all.len()) else {
+        return Err(OutOfMemory);
+    };
+    Ok(count)
 }
 
 // The rules that are broken at all rows, where those on what types inherit are known.
@@ -167,13 +279,16 @@ fn all_faults(
     view: &View,
     methods: &mut Methods,
     out: &mut Vec<Fault>,
-) -> Result<(), OutOfMemory> {
+) -> Result<(), OutOfMemory>
+    ensures { OnOk result (tell.AreMemberFaults view.now out.old.items out.new.items) }
+{
     let mut declared = Declared::new(alloc);
     let mut headers = Headers::new(alloc);
-    put_faults(alloc, view, methods, &mut declared, &mut headers, out)
+    put_faults(alloc, view, methods, &mut declared, &mut headers, out)?;
+    Ok(())
 }
 
-// The same, with what bodies declare and what headers name.
+// The same, with what bodies declare and what headers name, before any row was looked at.
 fn put_faults(
     alloc: Global,
     view: &View,
@@ -181,23 +296,24 @@ fn put_faults(
     declared: &mut Declared,
     headers: &mut Headers,
     out: &mut Vec<Fault>,
-) -> Result<(), OutOfMemory> {
-    let rows = view.sight.world.under.rows;
-    let Ok(count) = u32::try_from(rows.len()) else {
-        return Err(OutOfMemory);
-    };
+) -> Result<(), OutOfMemory>
+    ensures { AreDeclaredTo view.now.sight.world 0 declared.old → AreHeadersTo (views.rows_in view.now) (views.table_in view.now) 0 headers.old.superinterfaces → OnOk result (tell.AreMemberFaults view.now out.old.items out.new.items) }
+{
+    let count = row_count(view.sight.world.under.rows)?;
     for at in 0..count {
-        if is_of_members(rows, at) {
-            row_faults(alloc, view, methods, declared, headers, at, out)?;
-        }
+        any_row_faults(alloc, view, methods, declared, headers, at, out)?;
     }
     Ok(())
 }
 
 /// Adds the rules on members that are broken, as their rows rise: what bodies declare, supertypes, overriding, what types inherit, and bodies.
-pub fn member_faults(alloc: Global, view: &View, out: &mut Vec<Fault>) -> Result<(), OutOfMemory> {
+/// Of fields and methods that are declared twice, supertypes, bodies, and static members of inner classes these are the rows at which the definitions break the rule, where the tables are right.
+pub fn member_faults(alloc: Global, view: &View, out: &mut Vec<Fault>) -> Result<(), OutOfMemory>
+    ensures { OnOk result (tell.AreMemberFaults view.now out.old.items out.new.items) }
+{
     let thrown = Thrown::of(alloc, view.sight.world.under.rows)?;
-    faults_with(alloc, view, &thrown, out)
+    faults_with(alloc, view, &thrown, out)?;
+    Ok(())
 }
 
 // The same, where it is known what methods declare as thrown.
@@ -206,7 +322,9 @@ fn faults_with(
     view: &View,
     thrown: &Thrown,
     out: &mut Vec<Fault>,
-) -> Result<(), OutOfMemory> {
+) -> Result<(), OutOfMemory>
+    ensures { OnOk result (tell.AreMemberFaults view.now out.old.items out.new.items) }
+{
     let world = &view.sight.world;
     let lefts = lefts_of(alloc, world, thrown)?;
     let uppers = Uppers::new(alloc, world)?;
@@ -218,5 +336,6 @@ fn faults_with(
         uppers,
         lefts,
     };
-    all_faults(alloc, view, &mut methods, out)
+    all_faults(alloc, view, &mut methods, out)?;
+    Ok(())
 }

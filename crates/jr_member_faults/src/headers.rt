@@ -1,9 +1,15 @@
 // What headers name as supertypes (JLS 8.1.4, 8.1.5, 9.1.3).
+ghost use Rattle.std.specs.Prelude.{◌≡◌, ◌++◌, ◌+◌, ◌<◌, [], OnOk, length};
+ghost use Rattle.jr_defs.specs.Referents.{entries};
+ghost use Rattle.jr_members.specs.Keys.{entry_list};
+ghost use Rattle.jr_name_rules.specs.HeaderTests as plain;
+ghost use Rattle.jr_member_faults.specs.Headers as tell;
 
 use jr_base::OutOfMemory;
 use jr_members::{is_final, is_inner};
 use jr_places::{Chains, Entry, is_class, is_interface, parent_at};
 use jr_supers::{HeaderPlace, Tabled, header_place};
+use jr_tree::Row;
 use std::alloc::Global;
 
 /// The superinterfaces that headers name in the rows so far, under the type and the superinterface.
@@ -12,21 +18,55 @@ pub struct Headers {
     superinterfaces: Chains,
 }
 
+// What a row adds that stands there in a header and names the type.
+fn superinterface_entry(
+    rows: &[Row],
+    at: u32,
+    place: Option<HeaderPlace>,
+    over: Option<u32>,
+) -> Option<Entry>
+    ensures { result ≡ tell.entry_by rows.now at place over }
+{
+    match place {
+        Some(HeaderPlace::Superinterface) => match over {
+            Some(second) => Some(Entry {
+                first: parent_at(rows, at),
+                second,
+                row: at,
+            }),
+            None => None,
+        },
+        _ => None,
+    }
+}
+
+fn add_entry(alloc: Global, all: &mut Chains, entry: Option<Entry>) -> Result<(), OutOfMemory>
+    ensures { OnOk result (all.new ≡ all.old ++ entry_list entry) }
+{
+    match entry {
+        Some(entry) => all.add(alloc, entry),
+        None => Ok(()),
+    }
+}
+
 impl Headers {
     /// None.
-    pub fn new(alloc: Global) -> Headers {
+    pub fn new(alloc: Global) -> Headers
+        ensures { result.superinterfaces ≡ [] }
+    {
         Headers {
             superinterfaces: Chains::new(alloc),
         }
     }
 
-    /// A superclass is final, an interface or an inner class, or a superinterface is a class or named before.
-    pub fn has_wrong_supertype(&self, under: &Tabled, at: u32) -> bool {
-        let rows = under.rows;
-        let Some(over) = under.declared(at) else {
+    // The type may not be the supertype that the row names in a header.
+    fn is_wrong(&self, rows: &[Row], at: u32, place: Option<HeaderPlace>, over: Option<u32>) -> bool
+        ensures { result ≡ tell.is_wrong rows.now self.now.superinterfaces at place over }
+    {
+        let Some(over) = over else {
             return false;
         };
-        match header_place(rows, at) {
+        match place {
             Some(HeaderPlace::Superclass) => {
                 is_final(rows, over) || (is_interface(rows, over) || is_inner(rows, over))
             }
@@ -41,21 +81,23 @@ impl Headers {
         }
     }
 
+    /// A superclass is final, an interface or an inner class, or a superinterface is a class or named before.
+    pub fn has_wrong_supertype(&self, under: &Tabled, at: u32) -> bool
+        ensures { at < length under.now.rows.now → tell.AreHeadersTo under.now.rows.now (entries under.now.table.now) at self.now.superinterfaces → result ≡ plain.has_wrong_supertype under.now.rows.now (entries under.now.table.now) at }
+    {
+        let place = header_place(under.rows, at);
+        let over = under.declared(at);
+        self.is_wrong(under.rows, at, place, over)
+    }
+
     /// Adds the row to those so far, if it is a superinterface.
-    pub fn pass(&mut self, alloc: Global, under: &Tabled, at: u32) -> Result<(), OutOfMemory> {
-        match header_place(under.rows, at) {
-            Some(HeaderPlace::Superinterface) => match under.declared(at) {
-                Some(second) => self.superinterfaces.add(
-                    alloc,
-                    Entry {
-                        first: parent_at(under.rows, at),
-                        second,
-                        row: at,
-                    },
-                ),
-                None => Ok(()),
-            },
-            _ => Ok(()),
-        }
+    pub fn pass(&mut self, alloc: Global, under: &Tabled, at: u32) -> Result<(), OutOfMemory>
+        ensures { tell.AreHeadersTo under.now.rows.now (entries under.now.table.now) at self.old.superinterfaces → OnOk result (tell.AreHeadersTo under.now.rows.now (entries under.now.table.now) (at + 1) self.new.superinterfaces) }
+    {
+        let place = header_place(under.rows, at);
+        let over = under.declared(at);
+        let entry = superinterface_entry(under.rows, at, place, over);
+        add_entry(alloc, &mut self.superinterfaces, entry)?;
+        Ok(())
     }
 }

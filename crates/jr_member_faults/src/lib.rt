@@ -8,6 +8,7 @@ mod faults;
 mod headers;
 mod inheriting;
 mod inner;
+mod law;
 mod redefining;
 mod throwing;
 mod together;
@@ -15,4 +16,5 @@ mod tops;
 mod twice;
 
 pub use faults::member_faults;
+pub use law::variables_are_valued;
 pub use tops::top_type_faults;

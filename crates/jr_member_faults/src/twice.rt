@@ -1,5 +1,15 @@
 // Members and constructors that a body declares twice, and types in a type of their name (JLS 8.1, 8.3, 8.4.2, 8.5, 8.8.2).
+ghost use Rattle.std.specs.Prelude.{◌≡◌, ◌<◌, OnOk, IfOk, Some, false, length, []};
+ghost use Rattle.jr_tree.specs.declared.label.Role.TheVariants as roles;
+ghost use Rattle.jr_tree.specs.Rows.{role_at as role_of_row};
+ghost use Rattle.jr_plain.specs.Declarations as declared_as;
+ghost use Rattle.jr_plain.specs.Same.{same_role};
+ghost use Rattle.jr_members.specs.Keys.{entry_of};
+ghost use Rattle.jr_member_faults.specs.Headers as keyed;
+ghost use Rattle.jr_member_faults.specs.Twice as tell;
+ghost use Rattle.jr_member_faults.specs.Views as views;
 
+use crate::together::is_method;
 use jr_base::OutOfMemory;
 use jr_members::{World, constructed_class, declaring_type};
 use jr_places::{Chains, Entry, Numbering, Places, is_type, role_at};
@@ -40,16 +50,61 @@ fn number_parameters(
     Ok(Some(number))
 }
 
-/// Under which key a member or constructor is declared.
-#[derive(Clone, Copy, Debug, PartialEq, Eq)]
-pub struct Key {
-    over: u32,
-    number: u32,
+// The row under a key, where both parts of it are known.
+fn entry_under(first: Option<u32>, second: Option<u32>, row: u32) -> Option<Entry>
+    ensures { result ≡ entry_of row first second }
+{
+    match first {
+        Some(first) => match second {
+            Some(second) => Some(Entry { first, second, row }),
+            None => None,
+        },
+        None => None,
+    }
+}
+
+fn is_constructor(all: &[Row], at: u32) -> bool
+    ensures { result ≡ same_role (role_of_row all.now at) roles.Constructor }
+{
+    match role_at(all, at) {
+        Role::Constructor => true,
+        _ => false,
+    }
+}
+
+// A method goes by the number of its signature, all else by its name.
+fn member_number(world: &World, at: u32) -> Option<u32>
+    ensures { views.IsNamedWorld world.now → at < length (views.rows_of world.now) → result ≡ tell.member_number (views.rows_of world.now) world.now.members.now.callables.signatures at }
+{
+    if is_method(world.under.rows, at) {
+        world.members.signatures().number(at)
+    } else {
+        Some(world.under.places.name(at))
+    }
+}
+
+// A member under the type that declares it.
+fn member_entry(world: &World, at: u32) -> Option<Entry>
+    ensures { views.IsNamedWorld world.now → at < length (views.rows_of world.now) → result ≡ tell.member_entry (views.rows_of world.now) world.now.members.now.callables.signatures at }
+{
+    let first = declaring_type(world.under.rows, at);
+    let second = member_number(world, at);
+    entry_under(first, second, at)
+}
+
+// Something stands under the key.
+fn is_listed(all: &Chains, entry: Entry) -> bool
+    ensures { result ≡ keyed.is_listed all.now entry.first entry.second }
+{
+    all.last(entry.first, entry.second).is_some()
 }
 
 impl Declared {
     /// Nothing.
-    pub fn new(alloc: Global) -> Declared {
+    pub fn new(alloc: Global) -> Declared
+        ensures fields { result.fields ≡ [] }
+        ensures methods { result.methods ≡ [] }
+    {
         Declared {
             types: Chains::new(alloc),
             fields: Chains::new(alloc),
@@ -59,55 +114,59 @@ impl Declared {
         }
     }
 
-    /// The key of what a row declares, if it is a member or constructor.
-    pub fn key(&mut self, world: &World, at: u32) -> Result<Option<Key>, OutOfMemory> {
-        let rows = world.under.rows;
-        match role_at(rows, at) {
-            Role::Constructor => {
-                let Some(over) = constructed_class(rows, at) else {
-                    return Ok(None);
-                };
-                match number_parameters(&mut self.lists, world, at)? {
-                    Some(number) => Ok(Some(Key { over, number })),
-                    None => Ok(None),
-                }
-            }
-            _ => Ok(member_key(world, at)),
+    // A constructor under its class and the number of its parameter types.
+    fn constructor_entry(&mut self, world: &World, at: u32) -> Result<Option<Entry>, OutOfMemory>
+        ensures fields { OnOk result (self.new.fields ≡ self.old.fields) }
+        ensures methods { OnOk result (self.new.methods ≡ self.old.methods) }
+    {
+        let Some(over) = constructed_class(world.under.rows, at) else {
+            return Ok(None);
+        };
+        let number = number_parameters(&mut self.lists, world, at)?;
+        Ok(entry_under(Some(over), number, at))
+    }
+
+    /// What a row adds, if it declares a member or constructor.
+    pub fn entry(&mut self, world: &World, at: u32) -> Result<Option<Entry>, OutOfMemory>
+        ensures found { views.IsNamedWorld world.now → at < length (views.rows_of world.now) → same_role (role_of_row (views.rows_of world.now) at) roles.Constructor ≡ false → IfOk result (λ entry. entry ≡ tell.member_entry (views.rows_of world.now) world.now.members.now.callables.signatures at) }
+        ensures fields { OnOk result (self.new.fields ≡ self.old.fields) }
+        ensures methods { OnOk result (self.new.methods ≡ self.old.methods) }
+    {
+        if is_constructor(world.under.rows, at) {
+            self.constructor_entry(world, at)
+        } else {
+            Ok(member_entry(world, at))
         }
     }
 
-    // What is declared so far of the role.
-    fn of(&self, role: Role) -> Option<&Chains> {
+    // Something of the role stands under the key.
+    fn has_key(&self, role: Role, entry: Entry) -> bool
+        ensures { result ≡ keyed.is_listed (tell.entries_for self.now role) entry.first entry.second }
+    {
         match role {
-            Role::Type => Some(&self.types),
-            Role::Field => Some(&self.fields),
-            Role::Method => Some(&self.methods),
-            Role::Constructor => Some(&self.constructors),
-            _ => None,
+            Role::Type => is_listed(&self.types, entry),
+            Role::Field => is_listed(&self.fields, entry),
+            Role::Method => is_listed(&self.methods, entry),
+            Role::Constructor => is_listed(&self.constructors, entry),
+            _ => false,
         }
     }
 
-    /// Something of the role stands under the key.
-    pub fn has(&self, role: Role, key: Key) -> bool {
-        match self.of(role) {
-            Some(chains) => chains.last(key.over, key.number).is_some(),
+    /// Something of the role is declared so far with the key of the entry.
+    pub fn has(&self, role: Role, entry: Option<Entry>) -> bool
+        ensures { result ≡ tell.has_entry (tell.entries_for self.now role) entry }
+    {
+        match entry {
+            Some(entry) => self.has_key(role, entry),
             None => false,
         }
     }
 
-    /// One more row under its key.
-    pub fn add(
-        &mut self,
-        alloc: Global,
-        role: Role,
-        key: Key,
-        row: u32,
-    ) -> Result<(), OutOfMemory> {
-        let entry = Entry {
-            first: key.over,
-            second: key.number,
-            row,
-        };
+    // One more row, of a role.
+    fn add_row(&mut self, alloc: Global, role: Role, entry: Entry) -> Result<(), OutOfMemory>
+        ensures fields { OnOk result (self.new.fields ≡ tell.with_entry (same_role role roles.Field) self.old.fields (Some entry)) }
+        ensures methods { OnOk result (self.new.methods ≡ tell.with_entry (same_role role roles.Method) self.old.methods (Some entry)) }
+    {
         match role {
             Role::Type => self.types.add(alloc, entry),
             Role::Field => self.fields.add(alloc, entry),
@@ -116,24 +175,26 @@ impl Declared {
             _ => Ok(()),
         }
     }
-}
 
-// The key of a member: a method goes by its signature, all else by its name.
-fn member_key(world: &World, at: u32) -> Option<Key> {
-    let over = declaring_type(world.under.rows, at)?;
-    let number = match role_at(world.under.rows, at) {
-        Role::Method => world.members.signatures().number(at)?,
-        _ => world.under.places.name(at),
-    };
-    Some(Key { over, number })
-}
-
-/// The type stands in one of its own name.
-pub fn is_inside_its_name(rows: &[Row], places: &Places, at: u32) -> bool {
-    if !is_type(rows, at) {
-        return false;
+    /// One more row, of a role, if it has an entry.
+    pub fn add(
+        &mut self,
+        alloc: Global,
+        role: Role,
+        entry: Option<Entry>,
+    ) -> Result<(), OutOfMemory>
+        ensures fields { OnOk result (self.new.fields ≡ tell.with_entry (same_role role roles.Field) self.old.fields entry) }
+        ensures methods { OnOk result (self.new.methods ≡ tell.with_entry (same_role role roles.Method) self.old.methods entry) }
+    {
+        match entry {
+            Some(entry) => self.add_row(alloc, role, entry),
+            None => Ok(()),
+        }
     }
-    let name = places.name(at);
+}
+
+// A type round the row has the name.
+fn is_inside_name(rows: &[Row], places: &Places, at: u32, name: u32) -> bool {
     let mut around = declaring_type(rows, at);
     for _turn in 0..=at {
         let Some(over) = around else {
@@ -145,4 +206,11 @@ pub fn is_inside_its_name(rows: &[Row], places: &Places, at: u32) -> bool {
         around = declaring_type(rows, over);
     }
     false
+}
+
+/// The type stands in one of its own name.
+pub fn is_inside_its_name(rows: &[Row], places: &Places, at: u32) -> bool
+    ensures { declared_as.is_type rows.now at ≡ false → result ≡ false }
+{
+    is_type(rows, at) && is_inside_name(rows, places, at, places.name(at))
 }

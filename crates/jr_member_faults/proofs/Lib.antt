@@ -1,0 +1,6 @@
+mod Valued
+mod Values
+mod Headed
+mod Doubled
+mod Passed
+mod Told

@@ -1,0 +1,298 @@
+-- The faults of the rules on members, row by row, and the rules in the lists of the definitions.
+use Rattle.std.proofs.Common.{◌≡◌, refl, sym, ◌∙◌, ap, subst, ℕ, ◌+◌, ◌<◌, Bool, true, false, cond, ◌||◌, List, [], ◌∷◌, ◌++◌, length, nat_eq}
+use Rattle.std.proofs.lemmas.Bool.{or_parts}
+use Rattle.jr_tree.specs.declared.label.Role.{Role}
+use Rattle.jr_tree.specs.declared.label.Role.TheVariants as role
+use Rattle.jr_tree.specs.Rows.{Rows, role_at}
+use Rattle.jr_defs.specs.Referents.{Table}
+use Rattle.jr_plain.specs.Search.{has, all_such}
+use Rattle.jr_plain.specs.Same.{same_role}
+use Rattle.jr_plain.specs.Declarations.{is_type}
+use Rattle.jr_plain.specs.Overriding.{overriding}
+use Rattle.jr_rule.specs.declared.Fault.{Fault}
+use Rattle.jr_rule.specs.declared.Rule.{Rule}
+use Rattle.jr_rule.specs.declared.Rule.TheVariants as rule
+use Rattle.jr_rule.specs.Faults.{AreFaultsOf}
+use Rattle.jr_name_rules.specs.AccessTests.{is_not_accessible}
+use Rattle.jr_name_rules.specs.Found.{is_next}
+use Rattle.jr_name_rules.specs.DeclarationTests.{has_type_clash, is_second_field, is_second_method, is_second_constructor, is_second_local, is_second_label}
+use Rattle.jr_name_rules.specs.ImportTests.{has_import_clash, is_import_not_canonical, has_static_import_fault}
+use Rattle.jr_name_rules.specs.HeaderTests.{has_wrong_supertype}
+use Rattle.jr_name_rules.specs.Computed.{types, breaks}
+use Rattle.jr_member_rules.specs.Bodies.{stands_wrong}
+use Rattle.jr_member_rules.specs.Inner.{is_static_there}
+use Rattle.jr_member_rules.specs.Redefining.{is_over_final}
+use Rattle.jr_member_rules.specs.Computed.{values, leaves_methods, results_do_not_fit, access_is_narrowed, methods_are_mixed, more_is_thrown, breaks_members}
+use Rattle.jr_faults.specs.Added.{row_if, is_rule, AreOnly}
+use Rattle.jr_faults.proofs.Told.{none_added, none_then, then_none, only_then, row_more, rows_told}
+use Rattle.jr_view.specs.declared.View.{View}
+use Rattle.jr_member_faults.specs.declared.twice.Declared as declaring
+use Rattle.jr_member_faults.specs.declared.headers.Headers as heading
+use Rattle.jr_member_faults.specs.Views.{rows_in, table_in, IsNamedWorld, IsSignedWorld, IsValuedView}
+use Rattle.jr_member_faults.specs.Faults.{is_of_members, second_rule, is_second_as, is_of_declared, is_of_methods, AreMemberFaultsOn, AreMemberFaults}
+use Rattle.jr_member_faults.specs.Headers.{AreHeadersTo}
+use Rattle.jr_member_faults.specs.Twice.{AreDeclaredTo}
+use Rattle.jr_member_faults.proofs.Passed.{bodies_none, statics_none, fields_none, methods_none, supertypes_none}
+
+-- ---- what is declared twice
+
+apart_each : (one : Rule) → is_of_declared one ≡ false → (is_rule rule.FieldNames one ≡ false) × (is_rule rule.MethodSignatures one ≡ false) × (is_rule rule.ConstructorSignatures one ≡ false) × (is_rule rule.TypeNames one ≡ false)
+apart_each one e =
+    let fields = or_parts (is_rule rule.FieldNames one) (is_rule rule.MethodSignatures one || (is_rule rule.ConstructorSignatures one || is_rule rule.TypeNames one)) e in
+    let methods = or_parts (is_rule rule.MethodSignatures one) (is_rule rule.ConstructorSignatures one || is_rule rule.TypeNames one) fields.1 in
+    let rest = or_parts (is_rule rule.ConstructorSignatures one) (is_rule rule.TypeNames one) methods.1 in (fields.0, methods.0, rest.0, rest.1)
+
+apart_by : (given : Role) (one : Rule) → is_of_declared one ≡ false → is_rule (second_rule given) one ≡ false
+apart_by role.Field one e = (apart_each one e).0
+apart_by role.Method one e = (apart_each one e).1
+apart_by role.Constructor one e = (apart_each one e).2
+apart_by role.Nothing one e = (apart_each one e).3
+apart_by role.Type one e = (apart_each one e).3
+apart_by role.Parameter one e = (apart_each one e).3
+apart_by role.Local one e = (apart_each one e).3
+apart_by role.Label one e = (apart_each one e).3
+
+-- the rule of the role is one of those on what is declared twice
+pub declared_only : (given : Role) (r : Rule) (old new : List Fault) → r ≡ second_rule given → AreOnly (is_rule r) old new → AreOnly is_of_declared old new
+declared_only given r old new is h = record { others = λ one apart. h.others one (subst (λ r. is_rule r one ≡ false) (sym is) (apart_by given one apart)) }
+
+module _ (p : Rows) (n : ℕ) (second broken : Bool) (clash : is_type p n ≡ false → broken ≡ second) (old new : List Fault) where
+  -- a field or a method is no type
+  own : (kind : Role) (r : Rule) → kind ≡ role_at p n → same_role kind role.Type ≡ false → AreFaultsOf r (row_if broken n) old new → AreFaultsOf r (row_if second n) old new
+  own kind r is apart h = subst (λ b. AreFaultsOf r (row_if b n) old new) (clash (ap (λ k. same_role k role.Type) (sym is) ∙ apart)) h
+
+  field_by : (given : Role) → given ≡ role_at p n → AreFaultsOf (second_rule given) (row_if broken n) old new → AreOnly (is_rule (second_rule given)) old new → AreFaultsOf rule.FieldNames (row_if (is_second_as role.Field given second) n) old new
+  field_by role.Field is h k = own role.Field rule.FieldNames is refl h
+  field_by role.Method is h k = k.others rule.FieldNames refl
+  field_by role.Constructor is h k = k.others rule.FieldNames refl
+  field_by role.Nothing is h k = k.others rule.FieldNames refl
+  field_by role.Type is h k = k.others rule.FieldNames refl
+  field_by role.Parameter is h k = k.others rule.FieldNames refl
+  field_by role.Local is h k = k.others rule.FieldNames refl
+  field_by role.Label is h k = k.others rule.FieldNames refl
+
+  method_by : (given : Role) → given ≡ role_at p n → AreFaultsOf (second_rule given) (row_if broken n) old new → AreOnly (is_rule (second_rule given)) old new → AreFaultsOf rule.MethodSignatures (row_if (is_second_as role.Method given second) n) old new
+  method_by role.Method is h k = own role.Method rule.MethodSignatures is refl h
+  method_by role.Field is h k = k.others rule.MethodSignatures refl
+  method_by role.Constructor is h k = k.others rule.MethodSignatures refl
+  method_by role.Nothing is h k = k.others rule.MethodSignatures refl
+  method_by role.Type is h k = k.others rule.MethodSignatures refl
+  method_by role.Parameter is h k = k.others rule.MethodSignatures refl
+  method_by role.Local is h k = k.others rule.MethodSignatures refl
+  method_by role.Label is h k = k.others rule.MethodSignatures refl
+
+  pub second_field : (given : Role) (r : Rule) → given ≡ role_at p n → r ≡ second_rule given → AreFaultsOf r (row_if broken n) old new → AreOnly (is_rule r) old new → AreFaultsOf rule.FieldNames (row_if (is_second_as role.Field given second) n) old new
+  second_field given r is of h k = field_by given is (subst (λ r. AreFaultsOf r (row_if broken n) old new) of h) (subst (λ r. AreOnly (is_rule r) old new) of k)
+
+  pub second_method : (given : Role) (r : Rule) → given ≡ role_at p n → r ≡ second_rule given → AreFaultsOf r (row_if broken n) old new → AreOnly (is_rule r) old new → AreFaultsOf rule.MethodSignatures (row_if (is_second_as role.Method given second) n) old new
+  second_method given r is of h k = method_by given is (subst (λ r. AreFaultsOf r (row_if broken n) old new) of h) (subst (λ r. AreOnly (is_rule r) old new) of k)
+
+-- a fault at a row, by a test that is told
+pub told_at : {old new : List Fault} {a b : Bool} (r : Rule) (n : ℕ) → a ≡ b → AreFaultsOf r (row_if a n) old new → AreFaultsOf r (row_if b n) old new
+told_at {old} {new} r n e h = subst (λ b. AreFaultsOf r (row_if b n) old new) e h
+
+-- ---- the rules on methods
+
+pub methods_only : {a b c d e f g : List Fault} → AreOnly (is_rule rule.AbstractMembers) a b → AreOnly (is_rule rule.Results) b c → AreOnly (is_rule rule.NarrowedAccess) c d → AreOnly (is_rule rule.StaticOverride) d e
+    → AreOnly (is_rule rule.FinalOverride) e f → AreOnly (is_rule rule.OverrideThrows) f g → AreOnly is_of_methods a g
+methods_only h i j k l m = only_then (only_then (only_then (only_then (only_then h i) j) k) l) m
+
+-- ---- one row
+
+module _ (view : View) where
+  pub record IsAdded (n : ℕ) (a b c d e f : List Fault) : Type 0 where
+    pub declared : AreOnly is_of_declared a b
+    pub heading : AreOnly (is_rule rule.Supertypes) b c
+    pub methods : AreOnly is_of_methods c d
+    pub body : AreOnly (is_rule rule.Bodies) d e
+    pub static : AreOnly (is_rule rule.InnerStatics) e f
+
+  pub row_told : {n : ℕ} {a b c d e f : List Fault} → IsAdded n a b c d e f
+      → AreFaultsOf rule.Bodies (row_if (stands_wrong (rows_in view) n) n) d e
+      → (IsValuedView view → AreFaultsOf rule.InnerStatics (row_if (is_static_there (rows_in view) (table_in view) (values (rows_in view) (table_in view)) n) n) e f)
+      → AreFaultsOf rule.Supertypes (row_if (has_wrong_supertype (rows_in view) (table_in view) n) n) b c
+      → (IsNamedWorld view.sight.world → AreFaultsOf rule.FieldNames (row_if (is_second_field (rows_in view) n) n) a b)
+      → (IsNamedWorld view.sight.world → IsSignedWorld view.sight.world → AreFaultsOf rule.MethodSignatures (row_if (is_second_method (rows_in view) (table_in view) n) n) a b)
+      → AreMemberFaultsOn view (λ test. row_if (test n) n) a f
+  row_told {n} {a} {b} {c} {d} {e} {f} h bodies statics supertypes fields methods = record {
+    bodies = none_then {mid = b} rule.Bodies (h.declared.others rule.Bodies refl) (none_then {mid = c} rule.Bodies (h.heading.others rule.Bodies refl) (none_then {mid = d} rule.Bodies (h.methods.others rule.Bodies refl) (then_none {mid = e} rule.Bodies bodies (h.static.others rule.Bodies refl))));
+    statics = λ valued. none_then {mid = b} rule.InnerStatics (h.declared.others rule.InnerStatics refl) (none_then {mid = c} rule.InnerStatics (h.heading.others rule.InnerStatics refl) (none_then {mid = d} rule.InnerStatics (h.methods.others rule.InnerStatics refl)
+        (none_then {mid = e} rule.InnerStatics (h.body.others rule.InnerStatics refl) (statics valued))));
+    supertypes = none_then {mid = b} rule.Supertypes (h.declared.others rule.Supertypes refl) (then_none {mid = e} rule.Supertypes (then_none {mid = d} rule.Supertypes (then_none {mid = c} rule.Supertypes supertypes (h.methods.others rule.Supertypes refl)) (h.body.others rule.Supertypes refl)) (h.static.others rule.Supertypes refl));
+    fields = λ named. then_none {mid = e} rule.FieldNames (then_none {mid = d} rule.FieldNames (then_none {mid = c} rule.FieldNames (then_none {mid = b} rule.FieldNames (fields named) (h.heading.others rule.FieldNames refl)) (h.methods.others rule.FieldNames refl)) (h.body.others rule.FieldNames refl)) (h.static.others rule.FieldNames refl);
+    methods = λ named signed. then_none {mid = e} rule.MethodSignatures (then_none {mid = d} rule.MethodSignatures (then_none {mid = c} rule.MethodSignatures (then_none {mid = b} rule.MethodSignatures (methods named signed) (h.heading.others rule.MethodSignatures refl)) (h.methods.others rule.MethodSignatures refl)) (h.body.others rule.MethodSignatures refl)) (h.static.others rule.MethodSignatures refl);
+  }
+
+  -- a row that is not looked at
+  pub row_passed : (n : ℕ) (old : List Fault) → n < length (rows_in view) → is_of_members (rows_in view) n ≡ false → AreMemberFaultsOn view (λ test. row_if (test n) n) old old
+  row_passed n old lt none = record {
+    bodies = told_at rule.Bodies n (sym (bodies_none (rows_in view) n none)) (none_added rule.Bodies old);
+    statics = λ valued. told_at rule.InnerStatics n (sym (statics_none (rows_in view) n none (table_in view) (values (rows_in view) (table_in view)))) (none_added rule.InnerStatics old);
+    supertypes = told_at rule.Supertypes n (sym (supertypes_none (rows_in view) n none (table_in view) lt)) (none_added rule.Supertypes old);
+    fields = λ named. told_at rule.FieldNames n (sym (fields_none (rows_in view) n none)) (none_added rule.FieldNames old);
+    methods = λ named signed. told_at rule.MethodSignatures n (sym (methods_none (rows_in view) n none (table_in view))) (none_added rule.MethodSignatures old);
+  }
+
+  -- ---- the rows so far
+
+  pub record AreFaultsTo (n : ℕ) (old now : List Fault) (declared : declaring.Declared) (headers : heading.Headers) : Type 0 where
+    pub declared_are : AreDeclaredTo view.sight.world n declared
+    pub headers_are : AreHeadersTo (rows_in view) (table_in view) n headers.superinterfaces
+    pub faults_are : AreMemberFaultsOn view (all_such n) old now
+
+  pub faults_start : (old : List Fault) (declared : declaring.Declared) (headers : heading.Headers) → AreDeclaredTo view.sight.world 0 declared → AreHeadersTo (rows_in view) (table_in view) 0 headers.superinterfaces → AreFaultsTo 0 old old declared headers
+  faults_start old declared headers d h = record {
+    declared_are = d;
+    headers_are = h;
+    faults_are = record {
+      bodies = none_added rule.Bodies old;
+      statics = λ valued. none_added rule.InnerStatics old;
+      supertypes = none_added rule.Supertypes old;
+      fields = λ named. none_added rule.FieldNames old;
+      methods = λ named signed. none_added rule.MethodSignatures old;
+    };
+  }
+
+  pub faults_more : {n : ℕ} {old now new : List Fault} {was declared : declaring.Declared} {before headers : heading.Headers} → AreFaultsTo n old now was before → AreDeclaredTo view.sight.world (n + 1) declared → AreHeadersTo (rows_in view) (table_in view) (n + 1) headers.superinterfaces
+      → AreMemberFaultsOn view (λ test. row_if (test n) n) now new → AreFaultsTo (n + 1) old new declared headers
+  faults_more {n} h d e k = record {
+    declared_are = d;
+    headers_are = e;
+    faults_are = record {
+      bodies = row_more n rule.Bodies (stands_wrong (rows_in view)) h.faults_are.bodies k.bodies;
+      statics = λ valued. row_more n rule.InnerStatics (is_static_there (rows_in view) (table_in view) (values (rows_in view) (table_in view))) (h.faults_are.statics valued) (k.statics valued);
+      supertypes = row_more n rule.Supertypes (has_wrong_supertype (rows_in view) (table_in view)) h.faults_are.supertypes k.supertypes;
+      fields = λ named. row_more n rule.FieldNames (is_second_field (rows_in view)) (h.faults_are.fields named) (k.fields named);
+      methods = λ named signed. row_more n rule.MethodSignatures (is_second_method (rows_in view) (table_in view)) (h.faults_are.methods named signed) (k.methods named signed);
+    };
+  }
+
+-- ---- the rules in the lists of the definitions
+
+abbrev listed : Bool → ℕ → List ℕ
+listed b k = cond b (k ∷ []) []
+
+-- a rule that is not the one
+past : (b : Bool) (k r : ℕ) (rest : List ℕ) → nat_eq k r ≡ false → has (listed b k ++ rest) r ≡ has rest r
+past true k r rest e = ap (λ c. c || has rest r) e
+past false k r rest e = refl
+
+-- the one
+met : (b : Bool) (k r : ℕ) (rest : List ℕ) → nat_eq k r ≡ true → has rest r ≡ false → has (listed b k ++ rest) r ≡ b
+met true k r rest e none = ap (λ c. c || has rest r) e
+met false k r rest e none = none
+
+last : (b : Bool) (k r : ℕ) → nat_eq k r ≡ false → has (listed b k) r ≡ false
+last true k r e = ap (λ c. c || false) e
+last false k r e = refl
+
+own_last : (b : Bool) (k r : ℕ) → nat_eq k r ≡ true → has (listed b k) r ≡ b
+own_last true k r e = ap (λ c. c || false) e
+own_last false k r e = refl
+
+module _ (a b c d e f g h : Bool) where
+  abbrev l20 : List ℕ
+  l20 = listed g 20 ++ listed h 21
+
+  abbrev l19 : List ℕ
+  l19 = listed f 19 ++ l20
+
+  abbrev l18 : List ℕ
+  l18 = listed e 18 ++ l19
+
+  abbrev l17 : List ℕ
+  l17 = listed d 17 ++ l18
+
+  abbrev l16 : List ℕ
+  l16 = listed c 16 ++ l17
+
+  abbrev l15 : List ℕ
+  l15 = listed b 15 ++ l16
+
+  abbrev l14 : List ℕ
+  l14 = listed a 14 ++ l15
+
+  to_bodies : (r : ℕ) → nat_eq 14 r ≡ false → nat_eq 15 r ≡ false → nat_eq 16 r ≡ false → nat_eq 17 r ≡ false → nat_eq 18 r ≡ false → nat_eq 19 r ≡ false → has l14 r ≡ has l20 r
+  to_bodies r i j k l m n = past a 14 r l15 i ∙ past b 15 r l16 j ∙ past c 16 r l17 k ∙ past d 17 r l18 l ∙ past e 18 r l19 m ∙ past f 19 r l20 n
+
+  twentieth : has l14 20 ≡ g
+  twentieth = to_bodies 20 refl refl refl refl refl refl ∙ met g 20 20 (listed h 21) refl (last h 21 20 refl)
+
+  twenty_first : has l14 21 ≡ h
+  twenty_first = to_bodies 21 refl refl refl refl refl refl ∙ past g 20 21 (listed h 21) refl ∙ own_last h 21 21 refl
+
+module _ (a b c d e f g h i j k : Bool) where
+  abbrev n13 : List ℕ
+  n13 = listed j 13 ++ listed k 47
+
+  abbrev n10 : List ℕ
+  n10 = listed i 10 ++ n13
+
+  abbrev n9 : List ℕ
+  n9 = listed h 9 ++ n10
+
+  abbrev n8 : List ℕ
+  n8 = listed g 8 ++ n9
+
+  abbrev n7 : List ℕ
+  n7 = listed f 7 ++ n8
+
+  abbrev n6 : List ℕ
+  n6 = listed e 6 ++ n7
+
+  abbrev n5 : List ℕ
+  n5 = listed d 5 ++ n6
+
+  abbrev n4 : List ℕ
+  n4 = listed c 4 ++ n5
+
+  abbrev n3 : List ℕ
+  n3 = listed b 3 ++ n4
+
+  abbrev n2 : List ℕ
+  n2 = listed a 2 ++ n3
+
+  from_locals : (r : ℕ) → nat_eq 6 r ≡ false → nat_eq 7 r ≡ false → nat_eq 8 r ≡ false → nat_eq 9 r ≡ false → nat_eq 10 r ≡ false → has n6 r ≡ has n13 r
+  from_locals r o p q s t = past e 6 r n7 o ∙ past f 7 r n8 p ∙ past g 8 r n9 q ∙ past h 9 r n10 s ∙ past i 10 r n13 t
+
+  no_header : (r : ℕ) → nat_eq 13 r ≡ false → nat_eq 47 r ≡ false → has n13 r ≡ false
+  no_header r o p = past j 13 r (listed k 47) o ∙ last k 47 r p
+
+  third : has n2 3 ≡ b
+  third = past a 2 3 n3 refl ∙ met b 3 3 n4 refl (past c 4 3 n5 refl ∙ past d 5 3 n6 refl ∙ from_locals 3 refl refl refl refl refl ∙ no_header 3 refl refl)
+
+  fourth : has n2 4 ≡ c
+  fourth = past a 2 4 n3 refl ∙ past b 3 4 n4 refl ∙ met c 4 4 n5 refl (past d 5 4 n6 refl ∙ from_locals 4 refl refl refl refl refl ∙ no_header 4 refl refl)
+
+  thirteenth : has n2 13 ≡ j
+  thirteenth = past a 2 13 n3 refl ∙ past b 3 13 n4 refl ∙ past c 4 13 n5 refl ∙ past d 5 13 n6 refl ∙ from_locals 13 refl refl refl refl refl ∙ met j 13 13 (listed k 47) refl (last k 47 13 refl)
+
+module _ (p : Rows) (t : Table) (n : ℕ) where
+  bodies_at : stands_wrong p n ≡ breaks_members p t 20 n
+  bodies_at = sym (twentieth (leaves_methods p t n) (results_do_not_fit p t (overriding p t) n) (access_is_narrowed p t (overriding p t) n) (methods_are_mixed p t (overriding p t) n) (is_over_final p t (overriding p t) n) (more_is_thrown p t (overriding p t) n) (stands_wrong p n) (is_static_there p t (values p t) n))
+
+  statics_at : is_static_there p t (values p t) n ≡ breaks_members p t 21 n
+  statics_at = sym (twenty_first (leaves_methods p t n) (results_do_not_fit p t (overriding p t) n) (access_is_narrowed p t (overriding p t) n) (methods_are_mixed p t (overriding p t) n) (is_over_final p t (overriding p t) n) (more_is_thrown p t (overriding p t) n) (stands_wrong p n) (is_static_there p t (values p t) n))
+
+  fields_at : is_second_field p n ≡ breaks p t 3 n
+  fields_at = sym (third (has_type_clash p n) (is_second_field p n) (is_second_method p t n) (is_second_constructor p t n) (is_second_local p n) (is_second_label p n) (is_next (has_import_clash p t) n) (is_next (is_import_not_canonical p t) n) (is_not_accessible p t (types p t) n) (has_wrong_supertype p t n) (has_static_import_fault p t n))
+
+  methods_at : is_second_method p t n ≡ breaks p t 4 n
+  methods_at = sym (fourth (has_type_clash p n) (is_second_field p n) (is_second_method p t n) (is_second_constructor p t n) (is_second_local p n) (is_second_label p n) (is_next (has_import_clash p t) n) (is_next (is_import_not_canonical p t) n) (is_not_accessible p t (types p t) n) (has_wrong_supertype p t n) (has_static_import_fault p t n))
+
+  supertypes_at : has_wrong_supertype p t n ≡ breaks p t 13 n
+  supertypes_at = sym (thirteenth (has_type_clash p n) (is_second_field p n) (is_second_method p t n) (is_second_constructor p t n) (is_second_local p n) (is_second_label p n) (is_next (has_import_clash p t) n) (is_next (is_import_not_canonical p t) n) (is_not_accessible p t (types p t) n) (has_wrong_supertype p t n) (has_static_import_fault p t n))
+
+-- ---- all rows
+
+pub all_told : {n : ℕ} {view : View} {old new : List Fault} {declared : declaring.Declared} {headers : heading.Headers} → n ≡ length (rows_in view) → AreFaultsTo view n old new declared headers → AreMemberFaults view old new
+all_told {n} {view} {old} {new} whole h = record {
+  bodies = told rule.Bodies (bodies_at (rows_in view) (table_in view)) h.faults_are.bodies;
+  statics = λ valued. told rule.InnerStatics (statics_at (rows_in view) (table_in view)) (h.faults_are.statics valued);
+  supertypes = told rule.Supertypes (supertypes_at (rows_in view) (table_in view)) h.faults_are.supertypes;
+  fields = λ named. told rule.FieldNames (fields_at (rows_in view) (table_in view)) (h.faults_are.fields named);
+  methods = λ named signed. told rule.MethodSignatures (methods_at (rows_in view) (table_in view)) (h.faults_are.methods named signed);
+}
+  where
+    told : {f g : ℕ → Bool} (r : Rule) → ((k : ℕ) → f k ≡ g k) → AreFaultsOf r (all_such n f) old new → AreFaultsOf r (all_such (length (rows_in view)) g) old new
+    told {f} {g} r same k = subst (λ m. AreFaultsOf r (all_such m g) old new) whole (rows_told f g n r same k)

@@ -1,0 +1,13 @@
+use Rattle.std.proofs.Common.{sym, ◌∙◌}
+use Rattle.jr_member_faults.proofs.Passed.{declared_past, headers_past}
+use Rattle.jr_member_faults.proofs.Told.{row_passed}
+use Rattle.jr_member_faults.proofs.faults.any_row_faults.Goals as goal
+
+pub returns-then-not-is_of_members-clause-declared : goal.returns-then-not-is_of_members-clause-declared
+returns-then-not-is_of_members-clause-declared c = λ lt h. declared_past c.args.view.now.sight.world c.args.at c.args.declared.now (sym c.is_of_members.ensures ∙ c.if-not-is_of_members.true) h
+
+pub returns-then-not-is_of_members-clause-headers : goal.returns-then-not-is_of_members-clause-headers
+returns-then-not-is_of_members-clause-headers c = λ h. headers_past _ c.args.at (sym c.is_of_members.ensures ∙ c.if-not-is_of_members.true) _ c.args.headers.now.superinterfaces h
+
+pub returns-then-not-is_of_members-clause-found : goal.returns-then-not-is_of_members-clause-found
+returns-then-not-is_of_members-clause-found c = λ lt few d h. row_passed c.args.view.now c.args.at c.args.out.now.items lt (sym c.is_of_members.ensures ∙ c.if-not-is_of_members.true)

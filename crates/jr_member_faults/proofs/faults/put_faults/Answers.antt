@@ -1,0 +1,13 @@
+use Rattle.std.proofs.Common.{◌≡◌, arith, length, ◌<◌}
+use Rattle.jr_member_faults.proofs.Told.{faults_start, faults_more, all_told}
+use Rattle.jr_member_faults.proofs.faults.put_faults.Goals as goal
+
+pub loop-at-init : goal.loop-at-init
+loop-at-init c = λ d h. faults_start c.args.view.now c.args.out.now.items _ _ d h
+
+pub loop-at-preserved : goal.loop-at-preserved
+loop-at-preserved c = λ d h. let lt : c.loop-at.at < length c.args.view.now.sight.world.under.rows.now = (let whole = c.in_ok-count.ensures.counted in omega arith) in let row = c.in_ok-any_row_faults.ensures in let inv = c.loop-at.invariant d h in
+    faults_more c.args.view.now inv (row.declared lt inv.declared_are) (row.headers inv.headers_are) (row.found lt c.in_ok-count.ensures.few inv.declared_are inv.headers_are)
+
+pub returns : goal.returns
+returns c = λ d h. let whole : c.loop-at.at ≡ length c.args.view.now.sight.world.under.rows.now = (let whole = c.in_ok-count.ensures.counted in omega arith) in all_told whole (c.loop-at.invariant d h)

@@ -1,0 +1,4 @@
+pub mod Views
+pub mod Headers
+pub mod Twice
+pub mod Faults
