@@ -6,6 +6,7 @@ use Rattle.jr_base.specs.Files.{FileMap}
 use Rattle.jr_base.specs.Paths.{is_java}
 use Rattle.jr_base.specs.declared.request.Request.{Request}
 use Rattle.jr_tree.specs.Rows.{Rows}
+use Rattle.jr_defs.specs.Binding.{IsBinding}
 use Rattle.jr_defs.specs.Program.{rows_of}
 use Rattle.jr_defs.specs.Referents.{Table, entries}
 use Rattle.jr_defs.specs.declared.program.Program.{Program}
@@ -20,24 +21,26 @@ use Rattle.jr_locks.specs.Changed.{IsChanged, origins_by, copies_by}
 use Rattle.jr_edges.specs.Dispatched.{KeepsDispatch}
 use Rattle.jr_runs.specs.Respelled.{IsRespelled}
 use Rattle.jr_read.specs.Reading.{ReadsAs}
+use Rattle.jr_front.specs.Bound.{rows_in, table_in}
 use Rattle.jr_front.specs.declared.workspace.Workspace.{Workspace}
 use Rattle.jr_engine.specs.declared.left.Left.{Left}
 
--- files, the rows of their program, and what the binder found that each row refers to
+-- files, the rows of their program, and what each row refers to
 pub record Opened : Type 0 where
   pub files : FileMap
   pub rows : Rows
   pub table : Table
 
--- the files, whose paths end in `.java`, are a program, and these are its rows
+-- the files, whose paths end in `.java`, are a program, these are its rows, and the table is their binding
 pub record IsOpened (o : Opened) : Type 0 where
   pub program : Program
   pub reads : ReadsAs o.files (Ok program)
   pub are : o.rows ≡ rows_of program
+  pub binding : IsBinding o.rows o.table
   pub java : AllByRecursion (λ path. IsTrue (is_java path)) (files.keys o.files)
 
--- The files left are a changed program that is written with some spellings: each of its rows stands there, and by the table that the binder gave for
--- the rows of the files left each reference refers to its lock.
+-- The files left are a changed program that is written with some spellings: each of its rows stands there, and by the binding of the rows of the files
+-- left each reference refers to its lock.
 pub record IsWritten (rows : Rows) (locks : Table) (left : Opened) : Type 0 where
   pub opened : IsOpened left
   pub spellings : List Spelling
@@ -78,22 +81,17 @@ pub data AreSteps : Opened → List Request → Opened → Type 0 where
 
 -- ---- what the code holds of it
 
-abbrev pub rows_in : Workspace → Rows
-rows_in w = w.index.value
-
-abbrev pub table_in : Workspace → Table
-table_in w = entries w.bound.value.table.items
-
 abbrev pub opened : FileMap → Workspace → Opened
 opened found w = record { files = found; rows = rows_in w; table = table_in w }
 
 abbrev pub opened_by : Left → Opened
 opened_by left = opened left.files left.program
 
--- the program is that of the files
+-- the program is that of the files, and its table their binding
 pub record IsRead (found : FileMap) (w : Workspace) : Type 0 where
   pub reads : ReadsAs found (Ok w.program)
   pub are : rows_in w ≡ rows_of w.program
+  pub binding : IsBinding (rows_in w) (table_in w)
 
 -- the program is that of the files, whose paths end in `.java`
 pub record IsHeld (left : Left) : Type 0 where

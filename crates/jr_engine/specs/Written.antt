@@ -1,12 +1,13 @@
 -- A changed program under its locks with its spellings, as the code holds it.
 use Rattle.std.specs.Prelude.{◌≡◌, length}
+use Rattle.jr_front.specs.Bound.{rows_in, table_in}
 use Rattle.jr_front.specs.declared.workspace.Workspace.{Workspace}
 use Rattle.jr_tree.specs.Rows.{Rows}
 use Rattle.jr_defs.specs.Referents.{Table, entries}
 use Rattle.jr_runs.specs.Respelled.{IsRespelled}
 use Rattle.jr_locks.specs.Changed.{IsChanged, origins_by, copies_by}
 use Rattle.jr_edges.specs.Dispatched.{KeepsDispatch}
-use Rattle.jr_engine.specs.Steps.{IsWritten, IsHeld, IsAskedOf, rows_in, table_in, opened_by}
+use Rattle.jr_engine.specs.Steps.{IsWritten, IsHeld, IsAskedOf, opened_by}
 use Rattle.jr_engine.specs.declared.asked.Asked.{Asked}
 use Rattle.jr_engine.specs.declared.left.Left.{Left}
 use Rattle.jr_engine.specs.declared.locked.Locked.{Locked}

@@ -3,7 +3,7 @@
 ghost use Rattle.std.specs.Prelude.{◌≡◌, length};
 ghost use Rattle.jr_index.specs.NodeRows.{unit_rows};
 ghost use Rattle.jr_draft.specs.Asking.{table_of};
-ghost use Rattle.jr_engine.specs.Steps.{rows_in};
+ghost use Rattle.jr_front.specs.Bound.{rows_in};
 
 use crate::fault::StepFault;
 use jr_base::{CuId, Place, Request, Text};

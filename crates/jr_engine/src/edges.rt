@@ -5,7 +5,7 @@ ghost use Rattle.jr_defs.specs.Referents.{entries};
 ghost use Rattle.jr_places.specs.Places.{ArePlaces};
 ghost use Rattle.jr_headed.specs.Founded.{IsProgram};
 ghost use Rattle.jr_edges.specs.Dispatched.{IsTold};
-ghost use Rattle.jr_engine.specs.Steps.{rows_in};
+ghost use Rattle.jr_front.specs.Bound.{rows_in};
 ghost use Rattle.jr_engine.specs.Written.{IsLockedBy, KeepsCallsIn, rows_of};
 
 use crate::asked::{Asked, project_of};

@@ -5,7 +5,8 @@ ghost use Rattle.jr_base.specs.Files.{FileMap};
 ghost use Rattle.jr_front.specs.Checking.{CheckedAs};
 ghost use Rattle.jr_headed.specs.Founded.{IsProgram};
 ghost use Rattle.jr_engine.specs.Planning.{RefusedAs};
-ghost use Rattle.jr_engine.specs.Steps.{LeftBy, IsFollowed, IsAskedOf, rows_in};
+ghost use Rattle.jr_front.specs.Bound.{rows_in};
+ghost use Rattle.jr_engine.specs.Steps.{LeftBy, IsFollowed, IsAskedOf};
 ghost use Rattle.jr_engine.specs.Written.{IsAskedFor};
 
 use crate::asked::{Asked, project_of};

@@ -3,7 +3,11 @@ use Rattle.std.proofs.Common.{◌≡◌, List, ℕ, map, Result, Ok, Err, IfOk, 
 use Rattle.std.specs.List.{AllByRecursion}
 use Rattle.jr_base.specs.Files.{FileMap}
 use Rattle.jr_tree.specs.Shape.{IsShaped}
-use Rattle.jr_defs.specs.Program.{AreUnitsOf, none, more}
+use Rattle.jr_defs.specs.Binding.{IsBinding}
+use Rattle.jr_defs.specs.Program.{AreUnitsOf, none, more, rows_of}
+use Rattle.jr_prelude.specs.Begins.{BeginsWithLang}
+use Rattle.jr_prelude.proofs.Readings.{programs_begin}
+use Rattle.jr_front.specs.Bound.{IsBoundIn, table_in}
 use Rattle.jr_defs.specs.declared.program.Program.{Program}
 use Rattle.jr_defs.specs.declared.program.UnitAt.{UnitAt}
 use Rattle.jr_read.specs.Reading.{ReadsAs, program as one_program}
@@ -19,9 +23,14 @@ pub read_shaped : (found : FileMap) (p : Program) → ReadsAs found (Ok p) → A
 read_shaped found p (one_program few are within units) = units_shaped units
 
 -- what is said of files, by what is said of their program
-pub opened : (found : FileMap) (p : Program) (result : Result Workspace FrontFault) → ReadsAs found (Ok p) → IfErr result IsOfPrograms → CheckedAs found (forgotten result)
-opened found p (Ok workspace) reads is = accepted reads
-opened found p (Err why) reads is = refused reads is
+pub opened : (found : FileMap) (p : Program) (result : Result Workspace FrontFault) → ReadsAs found (Ok p) → IfErr result IsOfPrograms → IfOk result (λ workspace. workspace.index.value ≡ rows_of p) → IfOk result IsBoundIn
+    → CheckedAs found (forgotten result)
+opened found p (Ok workspace) reads is same bound = accepted reads (subst (λ r. IsBinding r (table_in workspace)) same bound.binding.binding.is_binding)
+opened found p (Err why) reads is same bound = refused reads is
+
+-- its rows begin with those of java.lang
+pub read_begins : (found : FileMap) (p : Program) → ReadsAs found (Ok p) → BeginsWithLang (rows_of p)
+read_begins found p (one_program few are within units) = programs_begin found p units
 
 pub opened_program : (found : FileMap) (p : Program) (result : Result Workspace FrontFault) → ReadsAs found (Ok p) → IfOk result (λ workspace. workspace.program ≡ p)
     → IfOk result (λ workspace. ReadsAs found (Ok workspace.program))

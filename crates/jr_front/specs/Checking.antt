@@ -3,6 +3,9 @@ use Rattle.std.specs.Prelude.{Result, Ok, Err}
 use Rattle.jr_base.specs.Files.{FileMap}
 use Rattle.jr_base.specs.declared.token.Place.{Place}
 use Rattle.jr_defs.specs.declared.program.Program.{Program}
+use Rattle.jr_defs.specs.Binding.{IsBinding}
+use Rattle.jr_defs.specs.Program.{rows_of}
+use Rattle.jr_defs.specs.Referents.{Table}
 use Rattle.jr_read.specs.Reading.{ReadsAs}
 use Rattle.jr_read.specs.declared.fault.ReadFault.{ReadFault}
 use Rattle.jr_read.specs.declared.fault.ReadFault.TheVariants as unread
@@ -27,9 +30,9 @@ IsOfPrograms (fault.Broken rule place) = Unit {0}
 IsOfPrograms fault.OutOfMemory = Unit {0}
 IsOfPrograms other = ⊥
 
--- what is said of the files
+-- what is said of the files: those that are accepted are a program, whose rows have a binding
 pub data CheckedAs (found : FileMap) : Result (Unit {0}) FrontFault → Type 0 where
-  accepted : {program : Program} → ReadsAs found (Ok program) → CheckedAs found (Ok tt)
+  accepted : {program : Program} {table : Table} → ReadsAs found (Ok program) → IsBinding (rows_of program) table → CheckedAs found (Ok tt)
   refused : {program : Program} {why : FrontFault} → ReadsAs found (Ok program) → IsOfPrograms why → CheckedAs found (Err why)
   not_read : {why : ReadFault} → ReadsAs found (Err why) → CheckedAs found (Err (fault_of why))
 

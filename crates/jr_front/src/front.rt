@@ -4,6 +4,13 @@ ghost use Rattle.std.specs.List.{AllByRecursion};
 ghost use Rattle.jr_tree.specs.Shape.{IsShaped};
 ghost use Rattle.jr_defs.specs.Program.{rows_of};
 ghost use Rattle.jr_read.specs.Reading.{ReadsAs};
+ghost use Rattle.jr_places.specs.Places.{ArePlaces};
+ghost use Rattle.jr_members.specs.Sources.{ArePlaced};
+ghost use Rattle.jr_headed.specs.Founded.{IsProgram};
+ghost use Rattle.jr_lookup.specs.Scopes.{AreScopes, AreTops};
+ghost use Rattle.jr_bind.specs.Confirmed.{IsProgramOf, IsBindingOf};
+ghost use Rattle.jr_prelude.specs.Begins.{BeginsWithLang};
+ghost use Rattle.jr_front.specs.Bound.{IsBoundIn};
 ghost use Rattle.jr_front.specs.Checking.{CheckedAs, IsOfPrograms, forgotten};
 
 use crate::broken::first_broken;
@@ -25,6 +32,7 @@ use jr_name_faults::name_faults;
 use jr_places::Places;
 use jr_read::read;
 use jr_rule::Fault;
+use jr_tree::Row;
 use jr_type_faults::type_faults;
 use jr_view::View;
 use std::alloc::Global;
@@ -111,24 +119,35 @@ fn judge_paths(program: &Program) -> Result<(), FrontFault>
 }
 
 // The places of rows, where no top-level type has the name of another.
-fn places_of(alloc: Global, marks: &Marks) -> Result<Box<Places>, FrontFault>
-    ensures { IfErr result IsOfPrograms }
+fn places_of(alloc: Global, rows: &[Row], marks: &Marks) -> Result<Box<Places>, FrontFault>
+    ensures tables { IfOk result (λ places. ArePlaces rows.now places.value) }
+    ensures err { IfErr result IsOfPrograms }
 {
-    let places = boxed(alloc, Places::of(alloc, marks.rows))?;
+    let places = boxed(alloc, Places::of(alloc, rows))?;
     judge_names(alloc, marks, &places)?;
     Ok(places)
+}
+
+// What is in scope by the rows.
+fn scopes_of(alloc: Global, rows: &[Row], places: &Places) -> Result<Box<Scopes>, OutOfMemory>
+    ensures scopes { ArePlaced rows.now places.now → IfOk result (λ scopes. AreScopes rows.now scopes.value) }
+    ensures tops { ArePlaced rows.now places.now → IfOk result (λ scopes. AreTops rows.now places.now scopes.value) }
+{
+    boxed(alloc, Scopes::of(alloc, rows, places))
 }
 
 // The binding, where no type is its own supertype.
 fn bound_of(
     alloc: Global,
+    rows: &[Row],
     marks: &Marks,
     places: &Places,
     scopes: &Scopes,
 ) -> Result<Box<Bound>, FrontFault>
-    ensures { IfErr result IsOfPrograms }
+    ensures binding { IsProgramOf rows.now places.now scopes.now → IfOk result (λ bound. IsBindingOf rows.now places.now bound.value) }
+    ensures err { IfErr result IsOfPrograms }
 {
-    match bind(alloc, marks.rows, places, scopes)? {
+    match bind(alloc, rows, places, scopes)? {
         Binding::Bound(bound) => Ok(bound),
         Binding::Cycle(row) => Err(FrontFault::Cycle(marks.name_place(row))),
     }
@@ -142,11 +161,13 @@ fn bound_program(
 ) -> Result<Workspace, FrontFault>
     ensures same { IfOk result (λ workspace. workspace.program ≡ program) }
     ensures rows { IfOk result (λ workspace. workspace.index.value ≡ index.value) }
+    ensures bound { IsProgram index.value → BeginsWithLang index.value → IfOk result IsBoundIn }
     ensures err { IfErr result IsOfPrograms }
 {
-    let places = places_of(alloc, &Marks::of(&program, &index))?;
-    let scopes = boxed(alloc, Scopes::of(alloc, index.rows(), &places))?;
-    let bound = bound_of(alloc, &Marks::of(&program, &index), &places, &scopes)?;
+    let places = places_of(alloc, index.rows(), &Marks::of(&program, &index))?;
+    let scopes = scopes_of(alloc, index.rows(), &places)?;
+    let marks = Marks::of(&program, &index);
+    let bound = bound_of(alloc, index.rows(), &marks, &places, &scopes)?;
     Ok(Workspace {
         program,
         index,
@@ -161,6 +182,7 @@ pub fn open_program(alloc: Global, program: Program) -> Result<Workspace, FrontF
     requires { AllByRecursion IsShaped (map (λ u. u.unit) program.units) }
     ensures same { IfOk result (λ workspace. workspace.program ≡ program) }
     ensures rows { IfOk result (λ workspace. workspace.index.value ≡ rows_of program) }
+    ensures bound { BeginsWithLang (rows_of program) → IfOk result IsBoundIn }
     ensures err { IfErr result IsOfPrograms }
 {
     judge_paths(&program)?;
@@ -175,6 +197,7 @@ pub fn open_program(alloc: Global, program: Program) -> Result<Workspace, FrontF
 pub fn open_files(alloc: Global, files: &Files) -> Result<Workspace, FrontFault>
     ensures ok { IfOk result (λ workspace. ReadsAs files.now (Ok workspace.program)) }
     ensures rows { IfOk result (λ workspace. workspace.index.value ≡ rows_of workspace.program) }
+    ensures bound { IfOk result IsBoundIn }
     ensures checked { CheckedAs files.now (forgotten result) }
 {
     match read(alloc, files) {

@@ -50,4 +50,4 @@ small found none =
     record { count = ltb-false limits.FILES (length files) all.0; paths = short_paths files all.1; contents = few_bytes files limits.TOTAL all.2 }
 
 pub within : (found : FileMap) → CheckedAs found (Ok tt) → IsWithinLimits found
-within found (accepted (one_program few lexed count of)) = small found few
+within found (accepted (one_program few lexed count of) binding) = small found few

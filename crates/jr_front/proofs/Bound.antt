@@ -1,0 +1,62 @@
+-- The rows of a program that begins with java.lang are bound as lookup asks.
+use Rattle.std.proofs.Common.{◌≡◌, refl, sym, ◌∙◌, ap, ap₂, subst, arith, ℕ, ◌+◌, ◌-◌, ◌<◌, ◌∷◌, List, [], length, map, codes}
+use Rattle.std.specs.List.{AllByRecursion}
+use Rattle.std.proofs.lemmas.Bool.{ltb-true}
+use Rattle.jr_base.specs.Files.{FileMap}
+use Rattle.jr_base.specs.declared.text.Text.{Text}
+use Rattle.jr_tree.specs.declared.label.Label.TheVariants as is
+use Rattle.jr_tree.specs.declared.row.Row.{Row}
+use Rattle.jr_tree.specs.Shape.{IsShaped}
+use Rattle.jr_tree.specs.Rows.{Rows, label, name, end}
+use Rattle.jr_defs.specs.Declarations.{IsString}
+use Rattle.jr_defs.specs.Imports.{java_lang}
+use Rattle.jr_defs.specs.Packages.{InPackage, identifiers, package_by, package_of}
+use Rattle.jr_defs.specs.Program.{rows_of}
+use Rattle.jr_defs.specs.declared.program.Program.{Program}
+use Rattle.jr_places.specs.declared.places.Places.{Places}
+use Rattle.jr_places.specs.Places.{ArePlaces}
+use Rattle.jr_members.specs.Sources.{ArePlaced}
+use Rattle.jr_headed.specs.Founded.{IsProgram}
+use Rattle.jr_lookup.specs.declared.scopes.Scopes.{Scopes}
+use Rattle.jr_lookup.specs.Scopes.{AreScopes, AreTops}
+use Rattle.jr_prelude.specs.Begins.{lang_rows, BeginsWithLang}
+use Rattle.jr_prelude.proofs.Begun.{one_string}
+use Rattle.jr_bind.specs.Confirmed.{IsProgramOf}
+
+module _ (p : Rows) (begins : BeginsWithLang p) where
+  label_at : (n : ℕ) → 0 < n → n < length lang_rows → label p n ≡ label lang_rows n
+  label_at n some lt = ap (λ (r : Row). r.label) (begins.rows n some lt)
+
+  name_at : (n : ℕ) → 0 < n → n < length lang_rows → name p n ≡ name lang_rows n
+  name_at n some lt = ap (λ (r : Row). r.name) (begins.rows n some lt)
+
+  end_at : (n : ℕ) → 0 < n → n < length lang_rows → end p n ≡ end lang_rows n
+  end_at n some lt = ap (λ (r : Row). r.end) (begins.rows n some lt)
+
+  unit_label : label p 1 ≡ is.Unit
+  unit_label = label_at 1 (omega arith) (ltb-true 1 (length lang_rows) refl)
+
+  package_label : label p 2 ≡ is.Package
+  package_label = label_at 2 (omega arith) (ltb-true 2 (length lang_rows) refl)
+
+  last_name : name p 3 ≡ codes "lang"
+  last_name = name_at 3 (omega arith) (ltb-true 3 (length lang_rows) refl)
+
+  first_name : name p 4 ≡ codes "java"
+  first_name = name_at 4 (omega arith) (ltb-true 4 (length lang_rows) refl)
+
+  name_end : end p 3 ≡ 5
+  name_end = end_at 3 (omega arith) (ltb-true 3 (length lang_rows) refl)
+
+  path : package_of p 1 ≡ java_lang
+  path = ap (λ l. package_by l p 1) package_label ∙ ap (λ e. identifiers p 3 (e - 4)) name_end ∙ ap₂ (λ (a b : Text). a ∷ b ∷ []) first_name last_name
+
+  -- the first unit is one of java.lang
+  pub first_in_lang : InPackage p java_lang 1
+  first_in_lang = record { unit = 1; holds = record { unit = unit_label; from = omega arith; before = begins.tree.nested 1 }; has_path = path }
+
+  only_string : (s d : ℕ) → IsString p s → IsString p d → s ≡ d
+  only_string s d h k = let strings = one_string p begins in strings.3 s h ∙ sym (strings.3 d k)
+
+  pub program_of : (places : Places) (scopes : Scopes) → IsProgram p → ArePlaces p places → (ArePlaced p places → AreScopes p scopes) → (ArePlaced p places → AreTops p places scopes) → IsProgramOf p places scopes
+  program_of places scopes is are scopes_are tops_are = record { program = is; places_are = are; scopes_are = scopes_are; tops_are = tops_are; lang = first_in_lang; one_string = only_string }
