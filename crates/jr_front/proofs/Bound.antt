@@ -1,18 +1,13 @@
 -- The rows of a program that begins with java.lang are bound as lookup asks.
-use Rattle.std.proofs.Common.{◌≡◌, refl, sym, ◌∙◌, ap, ap₂, subst, arith, ℕ, ◌+◌, ◌-◌, ◌<◌, ◌∷◌, List, [], length, map, codes}
-use Rattle.std.specs.List.{AllByRecursion}
+use Rattle.std.proofs.Common.{◌≡◌, refl, sym, ◌∙◌, ap, ap₂, subst, arith, ℕ, ◌-◌, ◌<◌, ◌∷◌, [], length, codes}
 use Rattle.std.proofs.lemmas.Bool.{ltb-true}
-use Rattle.jr_base.specs.Files.{FileMap}
 use Rattle.jr_base.specs.declared.text.Text.{Text}
 use Rattle.jr_tree.specs.declared.label.Label.TheVariants as is
 use Rattle.jr_tree.specs.declared.row.Row.{Row}
-use Rattle.jr_tree.specs.Shape.{IsShaped}
 use Rattle.jr_tree.specs.Rows.{Rows, label, name, end}
 use Rattle.jr_defs.specs.Declarations.{IsString}
 use Rattle.jr_defs.specs.Imports.{java_lang}
 use Rattle.jr_defs.specs.Packages.{InPackage, identifiers, package_by, package_of}
-use Rattle.jr_defs.specs.Program.{rows_of}
-use Rattle.jr_defs.specs.declared.program.Program.{Program}
 use Rattle.jr_places.specs.declared.places.Places.{Places}
 use Rattle.jr_places.specs.Places.{ArePlaces}
 use Rattle.jr_members.specs.Sources.{ArePlaced}
@@ -21,7 +16,9 @@ use Rattle.jr_lookup.specs.declared.scopes.Scopes.{Scopes}
 use Rattle.jr_lookup.specs.Scopes.{AreScopes, AreTops}
 use Rattle.jr_prelude.specs.Begins.{lang_rows, BeginsWithLang}
 use Rattle.jr_prelude.proofs.Begun.{one_string}
-use Rattle.jr_bind.specs.Confirmed.{IsProgramOf}
+use Rattle.jr_bind.specs.Confirmed.{IsProgramOf, IsBindingOf}
+use Rattle.jr_front.specs.Bound.{rows_in, IsBoundIn}
+use Rattle.jr_front.specs.declared.workspace.Workspace.{Workspace}
 
 module _ (p : Rows) (begins : BeginsWithLang p) where
   label_at : (n : ℕ) → 0 < n → n < length lang_rows → label p n ≡ label lang_rows n
@@ -60,3 +57,22 @@ module _ (p : Rows) (begins : BeginsWithLang p) where
 
   pub program_of : (places : Places) (scopes : Scopes) → IsProgram p → ArePlaces p places → (ArePlaced p places → AreScopes p scopes) → (ArePlaced p places → AreTops p places scopes) → IsProgramOf p places scopes
   program_of places scopes is are scopes_are tops_are = record { program = is; places_are = are; scopes_are = scopes_are; tops_are = tops_are; lang = first_in_lang; one_string = only_string }
+
+-- what is made of the rows of a program, as they are read, is bound
+pub bound_in : (w : Workspace) (first second third : Rows) (these those : Places) (scopes : Scopes) → first ≡ rows_in w → second ≡ rows_in w → third ≡ rows_in w → these ≡ w.places.value → those ≡ w.places.value → scopes ≡ w.scopes.value
+    → ArePlaces first w.places.value → (ArePlaced second these → AreScopes second w.scopes.value) → (ArePlaced second these → AreTops second these w.scopes.value)
+    → (IsProgramOf third those scopes → IsBindingOf third those w.bound.value) → IsProgram (rows_in w) → BeginsWithLang (rows_in w) → IsBoundIn w
+bound_in w first second third these those scopes one two three here there names are scopes_are tops_are binding is begins = record { of = of; binding = bound of }
+  where
+    in_scope : ArePlaced (rows_in w) w.places.value → AreScopes (rows_in w) w.scopes.value
+    in_scope = subst (λ r. ArePlaced r w.places.value → AreScopes r w.scopes.value) two (subst (λ x. ArePlaced second x → AreScopes second w.scopes.value) here scopes_are)
+
+    on_top : ArePlaced (rows_in w) w.places.value → AreTops (rows_in w) w.places.value w.scopes.value
+    on_top = subst (λ r. ArePlaced r w.places.value → AreTops r w.places.value w.scopes.value) two (subst (λ x. ArePlaced second x → AreTops second x w.scopes.value) here tops_are)
+
+    of : IsProgramOf (rows_in w) w.places.value w.scopes.value
+    of = program_of (rows_in w) begins w.places.value w.scopes.value is (subst (λ r. ArePlaces r w.places.value) one are) in_scope on_top
+
+    bound : IsProgramOf (rows_in w) w.places.value w.scopes.value → IsBindingOf (rows_in w) w.places.value w.bound.value
+    bound = subst (λ r. IsProgramOf r w.places.value w.scopes.value → IsBindingOf r w.places.value w.bound.value) three
+        (subst (λ x. IsProgramOf third x w.scopes.value → IsBindingOf third x w.bound.value) there (subst (λ y. IsProgramOf third those y → IsBindingOf third those w.bound.value) names binding))

@@ -1,7 +1,6 @@
 -- What is said of files: that their program is found, or the first reason why there is none, or that it breaks a rule of the language.
 use Rattle.std.specs.Prelude.{Result, Ok, Err}
 use Rattle.jr_base.specs.Files.{FileMap}
-use Rattle.jr_base.specs.declared.token.Place.{Place}
 use Rattle.jr_defs.specs.declared.program.Program.{Program}
 use Rattle.jr_defs.specs.Binding.{IsBinding}
 use Rattle.jr_defs.specs.Program.{rows_of}
