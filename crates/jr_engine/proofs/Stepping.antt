@@ -13,6 +13,8 @@ use Rattle.jr_read.specs.Reading.{ReadsAs}
 use Rattle.jr_front.specs.Bound.{IsBoundIn, rows_in, table_in}
 use Rattle.jr_front.specs.Checking.{accepted}
 use Rattle.jr_front.proofs.Reading.{read_shaped}
+use Rattle.jr_front.proofs.Viewed.{whole_view}
+use Rattle.jr_front.specs.Viewed.{IsViewOf}
 use Rattle.jr_front.specs.declared.workspace.Workspace.{Workspace}
 use Rattle.jr_engine.specs.Planning.{IsAccepted, PlannedAs}
 use Rattle.jr_engine.specs.Steps.{Opened, IsOpened, IsRead, IsHeld, IsAskedOf, IsRequested, LeftBy, IsStep, stays, leaves, AreSteps, none, more, IsFollowed, opened, opened_by}
@@ -39,14 +41,14 @@ use Rattle.jr_engine.specs.declared.locked.Locked.{Locked}
 use Rattle.jr_engine.specs.declared.tried.Spelled.{Spelled}
 
 pub read_so : (files : FileMap) (w : Workspace) → ReadsAs files (Ok w.program) → rows_in w ≡ rows_of w.program → IsBoundIn w → IsRead files w
-read_so files w reads are bound = record { reads = reads; are = are; binding = bound.binding.binding.is_binding }
+read_so files w reads are bound = record { reads = reads; are = are; bound = bound }
 
 pub held_so : (left : Left) → IsRead left.files left.program → AllByRecursion (λ path. IsTrue (is_java path)) (files.keys left.files) → IsHeld left
 held_so left is java = record { read = is; java = java }
 
 -- files that are held are those of their program
 pub held_opened : (left : Left) → IsHeld left → IsOpened (opened_by left)
-held_opened left is = record { program = left.program.program; reads = is.read.reads; are = is.read.are; binding = is.read.binding; java = is.java }
+held_opened left is = record { program = left.program.program; reads = is.read.reads; are = is.read.are; binding = is.read.bound.binding.binding.is_binding; java = is.java }
 
 pub held_shaped : (left : Left) → IsHeld left → IsProgram (rows_in left.program)
 held_shaped left is = record { units = map (λ u. u.unit) left.program.program.units; shaped = read_shaped left.files left.program.program is.read.reads; rows_are = is.read.are }
@@ -60,14 +62,14 @@ written_so s left w same is spelled = (record { opened = held_opened left is; sp
 -- ---- the change of a request
 
 pub asked_so : (w : Workspace) (old : Project) (request : Request) (change : Change) → old.marks.units.now ≡ w.program.units → old.marks.rows.now ≡ rows_in w
-    → old.marks.starts.now ≡ unit_rows (rows_in w) (length (rows_in w)) → table_of old ≡ w.bound.value.table.items → IsOrdered old.marks → IsAskedBy old request (Ok change)
+    → old.marks.starts.now ≡ unit_rows (rows_in w) (length (rows_in w)) → table_of old ≡ w.bound.value.table.items → IsViewOf (rows_in w) w.places.value w.scopes.value w.bound.value old.view → IsOrdered old.marks → IsAskedBy old request (Ok change)
     → IsAskedOf w request change
-asked_so w old request change units rows starts table ordered asked = record { old = old; units = units; rows = rows; starts = starts; table = table; ordered = ordered; asked = asked }
+asked_so w old request change units rows starts table view ordered asked = record { old = old; units = units; rows = rows; starts = starts; table = table; view = view; ordered = ordered; asked = asked }
 
 requested : (found : FileMap) (w : Workspace) (request : Request) (change : Change) → IsRead found w → IsAskedOf w request change → IsRequested (opened found w) request change
 requested found w request change is a = record {
   old = a.old;
-  project = record { program = w.program; reads = is.reads; units = a.units; rows = a.rows; starts = a.starts; table = ap entries a.table; ordered = a.ordered };
+  project = record { program = w.program; reads = is.reads; units = a.units; rows = a.rows; starts = a.starts; table = ap entries a.table; ordered = a.ordered; whole = whole_view w a.old.view is.bound a.view; view_rows = a.view.rows_are ∙ sym a.rows };
   asked = a.asked;
 }
 

@@ -21,7 +21,9 @@ use Rattle.jr_locks.specs.Changed.{IsChanged, origins_by, copies_by}
 use Rattle.jr_edges.specs.Dispatched.{KeepsDispatch}
 use Rattle.jr_runs.specs.Respelled.{IsRespelled}
 use Rattle.jr_read.specs.Reading.{ReadsAs}
-use Rattle.jr_front.specs.Bound.{rows_in, table_in}
+use Rattle.jr_dispatch.specs.Methods.{IsWholeWorld}
+use Rattle.jr_front.specs.Bound.{rows_in, table_in, IsBoundIn}
+use Rattle.jr_front.specs.Viewed.{IsViewOf}
 use Rattle.jr_front.specs.declared.workspace.Workspace.{Workspace}
 use Rattle.jr_engine.specs.declared.left.Left.{Left}
 
@@ -46,7 +48,7 @@ pub record IsWritten (rows : Rows) (locks : Table) (left : Opened) : Type 0 wher
   pub spellings : List Spelling
   pub respelled : IsRespelled rows locks spellings left.rows left.table
 
--- the program of the files with its tables, as changes read it
+-- the program of the files with its tables, as changes read it: its supertypes and members are those under the binding
 pub record IsProjectOf (o : Opened) (old : Project) : Type 0 where
   pub program : Program
   pub reads : ReadsAs o.files (Ok program)
@@ -55,6 +57,8 @@ pub record IsProjectOf (o : Opened) (old : Project) : Type 0 where
   pub starts : old.marks.starts.now ≡ unit_rows o.rows (length o.rows)
   pub table : entries (table_of old) ≡ o.table
   pub ordered : IsOrdered old.marks
+  pub whole : IsWholeWorld (entries (table_of old)) old.view.sight.world
+  pub view_rows : old.view.sight.world.under.rows.now ≡ old.marks.rows.now
 
 -- the change is that for which the request asks
 pub record IsRequested (o : Opened) (request : Request) (change : Change) : Type 0 where
@@ -87,11 +91,11 @@ opened found w = record { files = found; rows = rows_in w; table = table_in w }
 abbrev pub opened_by : Left → Opened
 opened_by left = opened left.files left.program
 
--- the program is that of the files, and its table their binding
+-- the program is that of the files, and its table their binding, with the tables under it
 pub record IsRead (found : FileMap) (w : Workspace) : Type 0 where
   pub reads : ReadsAs found (Ok w.program)
   pub are : rows_in w ≡ rows_of w.program
-  pub binding : IsBinding (rows_in w) (table_in w)
+  pub bound : IsBoundIn w
 
 -- the program is that of the files, whose paths end in `.java`
 pub record IsHeld (left : Left) : Type 0 where
@@ -115,5 +119,6 @@ pub record IsAskedOf (w : Workspace) (request : Request) (change : Change) : Typ
   pub rows : old.marks.rows.now ≡ rows_in w
   pub starts : old.marks.starts.now ≡ unit_rows (rows_in w) (length (rows_in w))
   pub table : table_of old ≡ w.bound.value.table.items
+  pub view : IsViewOf (rows_in w) w.places.value w.scopes.value w.bound.value old.view
   pub ordered : IsOrdered old.marks
   pub asked : IsAskedBy old request (Ok change)

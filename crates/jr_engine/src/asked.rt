@@ -4,6 +4,7 @@ ghost use Rattle.std.specs.Prelude.{◌≡◌, length};
 ghost use Rattle.jr_index.specs.NodeRows.{unit_rows};
 ghost use Rattle.jr_draft.specs.Asking.{table_of};
 ghost use Rattle.jr_front.specs.Bound.{rows_in};
+ghost use Rattle.jr_front.specs.Viewed.{IsViewOf};
 
 use crate::fault::StepFault;
 use jr_base::{CuId, Place, Request, Text};
@@ -29,6 +30,7 @@ pub fn project_of(workspace: &Workspace) -> Project<'_>
     ensures rows { result.marks.rows.now ≡ rows_in workspace.now }
     ensures starts { result.marks.starts.now ≡ unit_rows (rows_in workspace.now) (length (rows_in workspace.now)) }
     ensures table { table_of result ≡ workspace.now.bound.value.table.items }
+    ensures view { IsViewOf (rows_in workspace.now) workspace.now.places.value workspace.now.scopes.value workspace.now.bound.value result.view }
 {
     Project {
         marks: workspace.marks(),

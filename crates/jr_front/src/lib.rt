@@ -4,6 +4,7 @@
 mod broken;
 mod fault;
 mod front;
+mod law;
 mod modifiers;
 mod placed;
 mod unbound;
@@ -11,4 +12,5 @@ mod workspace;
 
 pub use fault::FrontFault;
 pub use front::{check_files, open_files, open_program};
+pub use law::bound_views_are_right;
 pub use workspace::{Workspace, view_of};

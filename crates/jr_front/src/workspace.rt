@@ -1,6 +1,7 @@
 // A program that compiles, with its tables.
 ghost use Rattle.std.specs.Prelude.{◌≡◌, length};
 ghost use Rattle.jr_index.specs.NodeRows.{unit_rows};
+ghost use Rattle.jr_front.specs.Viewed.{IsViewOf};
 
 use jr_bind::Bound;
 use jr_defs::Program;
@@ -41,7 +42,8 @@ impl Workspace {
 
     /// The tables.
     pub fn view(&self) -> View<'_>
-        ensures { result.sight.world.under.table.now ≡ self.now.bound.value.table.items }
+        ensures table { result.sight.world.under.table.now ≡ self.now.bound.value.table.items }
+        ensures all { IsViewOf self.now.index.value self.now.places.value self.now.scopes.value self.now.bound.value result }
     {
         view_of(self.index.rows(), &self.places, &self.scopes, &self.bound)
     }
@@ -54,7 +56,8 @@ pub fn view_of<'a>(
     scopes: &'a Scopes,
     bound: &'a Bound,
 ) -> View<'a>
-    ensures { result.sight.world.under.table.now ≡ bound.now.table.items }
+    ensures table { result.sight.world.under.table.now ≡ bound.now.table.items }
+    ensures all { IsViewOf rows.now places.now scopes.now bound.now result }
 {
     let under = Tabled {
         rows,
