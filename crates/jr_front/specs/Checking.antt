@@ -2,12 +2,11 @@
 use Rattle.std.specs.Prelude.{Result, Ok, Err}
 use Rattle.jr_base.specs.Files.{FileMap}
 use Rattle.jr_defs.specs.declared.program.Program.{Program}
-use Rattle.jr_defs.specs.Binding.{IsBinding}
-use Rattle.jr_defs.specs.Program.{rows_of}
 use Rattle.jr_defs.specs.Referents.{Table}
 use Rattle.jr_read.specs.Reading.{ReadsAs}
 use Rattle.jr_read.specs.declared.fault.ReadFault.{ReadFault}
 use Rattle.jr_read.specs.declared.fault.ReadFault.TheVariants as unread
+use Rattle.jr_front.specs.Compiling.{CompilesExactly}
 use Rattle.jr_front.specs.declared.fault.FrontFault.{FrontFault}
 use Rattle.jr_front.specs.declared.fault.FrontFault.TheVariants as fault
 use Rattle.jr_front.specs.declared.workspace.Workspace.{Workspace}
@@ -29,9 +28,9 @@ IsOfPrograms (fault.Broken rule place) = Unit {0}
 IsOfPrograms fault.OutOfMemory = Unit {0}
 IsOfPrograms other = ⊥
 
--- what is said of the files: those that are accepted are a program, whose rows have a binding
+-- what is said of the files: those that are accepted are a program, which compiles by the rules that are tested exactly
 pub data CheckedAs (found : FileMap) : Result (Unit {0}) FrontFault → Type 0 where
-  accepted : {program : Program} {table : Table} → ReadsAs found (Ok program) → IsBinding (rows_of program) table → CheckedAs found (Ok tt)
+  accepted : {program : Program} {table : Table} → ReadsAs found (Ok program) → CompilesExactly found program table → CheckedAs found (Ok tt)
   refused : {program : Program} {why : FrontFault} → ReadsAs found (Ok program) → IsOfPrograms why → CheckedAs found (Err why)
   not_read : {why : ReadFault} → ReadsAs found (Err why) → CheckedAs found (Err (fault_of why))
 

@@ -1,3 +1,5 @@
 pub mod Bound
 pub mod Viewed
+pub mod Tested
+pub mod Compiling
 pub mod Checking

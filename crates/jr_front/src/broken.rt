@@ -1,4 +1,6 @@
 // The first rule that is broken.
+ghost use Rattle.std.specs.Prelude.{◌≡◌, None, []};
+
 use crate::unbound::is_before;
 use jr_base::Place;
 use jr_marks::Marks;
@@ -14,7 +16,9 @@ fn is_better(best: (Rule, Place), rule: Rule, place: Place) -> bool {
 }
 
 /// Of the rules that are broken, the first by place, and at one place the one with the least number.
-pub fn first_broken(faults: &[Fault], marks: &Marks) -> Option<(Rule, Place)> {
+pub fn first_broken(faults: &[Fault], marks: &Marks) -> Option<(Rule, Place)>
+    ensures none { result ≡ None → faults.now ≡ [] }
+{
     let mut first: Option<(Rule, Place)> = None;
     for fault in faults {
         let place = marks.fault_place(*fault);

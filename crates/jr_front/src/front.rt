@@ -1,5 +1,5 @@
 // Whether files compile, and their tables where they do.
-ghost use Rattle.std.specs.Prelude.{◌≡◌, IfErr, IfOk, Ok, map};
+ghost use Rattle.std.specs.Prelude.{◌≡◌, IfErr, IfOk, OnOk, Ok, [], map};
 ghost use Rattle.std.specs.List.{AllByRecursion};
 ghost use Rattle.jr_tree.specs.Shape.{IsShaped};
 ghost use Rattle.jr_defs.specs.Program.{rows_of};
@@ -10,8 +10,10 @@ ghost use Rattle.jr_headed.specs.Founded.{IsProgram};
 ghost use Rattle.jr_lookup.specs.Scopes.{AreScopes, AreTops};
 ghost use Rattle.jr_bind.specs.Confirmed.{IsProgramOf, IsBindingOf};
 ghost use Rattle.jr_prelude.specs.Begins.{BeginsWithLang};
-ghost use Rattle.jr_front.specs.Bound.{IsBoundIn};
+ghost use Rattle.jr_front.specs.Bound.{IsBoundIn, rows_in, table_in};
 ghost use Rattle.jr_front.specs.Checking.{CheckedAs, IsOfPrograms, forgotten};
+ghost use Rattle.jr_front.specs.Compiling.{KeepsExact, CompilesExactly};
+ghost use Rattle.jr_front.specs.Tested.{IsTestableView, HasNoNameFault, HasNoMemberFault, HasNoTypeFault, HasNoFault};
 
 use crate::broken::first_broken;
 use crate::fault::{FrontFault, unread};
@@ -55,15 +57,39 @@ fn index_of(alloc: Global, program: &Program) -> Result<Box<Index>, OutOfMemory>
     boxed(alloc, Index::build(alloc, program))
 }
 
-// The rules that the program breaks.
-fn faults_of(alloc: Global, marks: &Marks, view: &View) -> Result<Vec<Fault>, OutOfMemory> {
+// The rules on names that the program breaks.
+#[tactic(auto, using(crate::proofs::Faultless::no_names))]
+fn name_faults_of(alloc: Global, view: &View) -> Result<Vec<Fault>, OutOfMemory>
+    ensures { IsTestableView view.now → IfOk result (λ faults. faults.items ≡ [] → HasNoNameFault view.now) }
+{
+    let mut faults = Vec::new(alloc);
+    name_faults(alloc, view, &mut faults)?;
+    Ok(faults)
+}
+
+// The other rules that it breaks. Those on types come last, which add faults of their own rules alone.
+#[tactic(auto, using(crate::proofs::Faultless::no_members, crate::proofs::Faultless::no_types))]
+fn other_faults_of(alloc: Global, marks: &Marks, view: &View) -> Result<Vec<Fault>, OutOfMemory>
+    ensures members { IsTestableView view.now → IfOk result (λ faults. faults.items ≡ [] → HasNoMemberFault view.now) }
+    ensures types { IsTestableView view.now → IfOk result (λ faults. faults.items ≡ [] → HasNoTypeFault view.now) }
+{
     let mut faults = Vec::new(alloc);
     modifier_faults(marks, &mut faults)?;
-    member_faults(alloc, view, &mut faults)?;
-    name_faults(alloc, view, &mut faults)?;
-    type_faults(alloc, *view, &mut faults)?;
     flow_faults(alloc, view, &mut faults)?;
     assign_faults(alloc, view, &mut faults)?;
+    member_faults(alloc, view, &mut faults)?;
+    type_faults(alloc, *view, &mut faults)?;
+    Ok(faults)
+}
+
+// The rules that the program breaks.
+#[tactic(auto, using(crate::proofs::Faultless::no_faults))]
+fn faults_of(alloc: Global, marks: &Marks, view: &View) -> Result<Vec<Fault>, OutOfMemory>
+    ensures { IsTestableView view.now → IfOk result (λ faults. faults.items ≡ [] → HasNoFault view.now) }
+{
+    let mut faults = other_faults_of(alloc, marks, view)?;
+    let mut of_names = name_faults_of(alloc, view)?;
+    faults.append(&mut of_names)?;
     Ok(faults)
 }
 
@@ -91,7 +117,8 @@ fn judge_table(marks: &Marks, table: &[Referent]) -> Result<(), FrontFault>
 
 // That no rule is broken.
 fn judge_rules(alloc: Global, marks: &Marks, view: &View) -> Result<(), FrontFault>
-    ensures { IfErr result IsOfPrograms }
+    ensures kept { IsTestableView view.now → OnOk result (HasNoFault view.now) }
+    ensures err { IfErr result IsOfPrograms }
 {
     let faults = faults_of(alloc, marks, view)?;
     match first_broken(&faults, marks) {
@@ -102,7 +129,8 @@ fn judge_rules(alloc: Global, marks: &Marks, view: &View) -> Result<(), FrontFau
 
 // That the program with this binding compiles.
 fn judge(alloc: Global, marks: &Marks, view: &View) -> Result<(), FrontFault>
-    ensures { IfErr result IsOfPrograms }
+    ensures kept { IsTestableView view.now → OnOk result (HasNoFault view.now) }
+    ensures err { IfErr result IsOfPrograms }
 {
     judge_table(marks, view.sight.world.under.table)?;
     judge_rules(alloc, marks, view)
@@ -183,6 +211,7 @@ pub fn open_program(alloc: Global, program: Program) -> Result<Workspace, FrontF
     ensures same { IfOk result (λ workspace. workspace.program ≡ program) }
     ensures rows { IfOk result (λ workspace. workspace.index.value ≡ rows_of program) }
     ensures bound { BeginsWithLang (rows_of program) → IfOk result IsBoundIn }
+    ensures kept { BeginsWithLang (rows_of program) → IfOk result (λ workspace. KeepsExact (rows_in workspace) (table_in workspace)) }
     ensures err { IfErr result IsOfPrograms }
 {
     judge_paths(&program)?;
@@ -193,11 +222,12 @@ pub fn open_program(alloc: Global, program: Program) -> Result<Workspace, FrontF
 }
 
 /// The program of the files with its tables, where they compile, and else the first reason why they do not.
-#[tactic(auto, using(crate::proofs::Reading::read_shaped, crate::proofs::Reading::read_begins, crate::proofs::Reading::opened, crate::proofs::Reading::opened_program))]
+#[tactic(auto, using(crate::proofs::Reading::read_shaped, crate::proofs::Reading::read_begins, crate::proofs::Reading::opened, crate::proofs::Reading::opened_program, crate::proofs::Reading::compiled))]
 pub fn open_files(alloc: Global, files: &Files) -> Result<Workspace, FrontFault>
     ensures ok { IfOk result (λ workspace. ReadsAs files.now (Ok workspace.program)) }
     ensures rows { IfOk result (λ workspace. workspace.index.value ≡ rows_of workspace.program) }
     ensures bound { IfOk result IsBoundIn }
+    ensures compiles { IfOk result (λ workspace. CompilesExactly files.now workspace.program (table_in workspace)) }
     ensures checked { CheckedAs files.now (forgotten result) }
 {
     match read(alloc, files) {

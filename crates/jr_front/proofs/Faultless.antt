@@ -1,0 +1,55 @@
+-- Where no faults are found, no row breaks an exact rule.
+use Rattle.std.proofs.Common.{◌≡◌, refl, sym, ◌∙◌, ap, ℕ, List, [], ◌∷◌, ◌++◌}
+use Rattle.jr_rule.specs.declared.Fault.{Fault}
+use Rattle.jr_rule.specs.declared.Rule.{Rule}
+use Rattle.jr_rule.specs.declared.Rule.TheVariants as rule
+use Rattle.jr_rule.specs.Faults.{rows_of, AreFaultsOf}
+use Rattle.jr_view.specs.declared.View.{View}
+use Rattle.jr_name_faults.specs.Faults as of_names
+use Rattle.jr_name_faults.specs.Views as names
+use Rattle.jr_member_faults.specs.Faults.{AreMemberFaults}
+use Rattle.jr_type_faults.specs.Faults.{IsRightView, AreExactTypeFaults, AreOnlyOf, type_rules}
+use Rattle.jr_front.specs.Tested.{IsTestableView, HasNoNameFault, HasNoMemberFault, HasNoTypeFault, HasNoFault}
+
+-- of two lists that have nothing together each has nothing
+pub none_first : {A : Type 0} (xs ys : List A) → xs ++ ys ≡ [] → xs ≡ []
+none_first [] ys e = refl
+none_first (x ∷ xs) ys e = absurd (cc)
+
+pub none_second : {A : Type 0} (xs ys : List A) → xs ++ ys ≡ [] → ys ≡ []
+none_second [] ys e = e
+none_second (x ∷ xs) ys e = absurd (cc)
+
+-- where there are no faults of a rule, none were added, and there were none before
+none_added : {rows : List ℕ} {old new : List Fault} (one : Rule) → AreFaultsOf one rows old new → rows_of one new ≡ [] → rows ≡ []
+none_added {rows} {old} one h none = none_second (rows_of one old) rows (sym h.are ∙ none)
+
+none_before : {old new : List Fault} (one : Rule) → AreFaultsOf one [] old new → rows_of one new ≡ [] → rows_of one old ≡ []
+none_before {old} one h none = none_first (rows_of one old) [] (sym h.are ∙ none)
+
+pub no_names : {old new : List Fault} (view : View) → (names.IsPlacedView view → of_names.AreExactFaults view rule.LocalNames old new) → (names.IsPlacedView view → of_names.AreExactFaults view rule.Labels old new)
+    → (names.IsSeenView view → of_names.AreExactFaults view rule.Access old new) → (names.IsPlacedView view → of_names.AreExactFaults view rule.ImportNames old new) → IsTestableView view → new ≡ [] → HasNoNameFault view
+no_names view locals labels access imports testable none = record {
+  local_names = none_added rule.LocalNames (locals testable.placed) (ap (rows_of rule.LocalNames) none);
+  labels = none_added rule.Labels (labels testable.placed) (ap (rows_of rule.Labels) none);
+  import_names = none_added rule.ImportNames (imports testable.placed) (ap (rows_of rule.ImportNames) none);
+  access = none_added rule.Access (access testable.seen) (ap (rows_of rule.Access) none);
+}
+
+-- the rules on types add no faults of those on members
+pub no_members : {old mid new : List Fault} (view : View) → AreMemberFaults view old mid → AreOnlyOf type_rules mid new → IsTestableView view → new ≡ [] → HasNoMemberFault view
+no_members {new = new} view members only testable none = record {
+  bodies = none_added rule.Bodies members.bodies (none_before rule.Bodies (only.others rule.Bodies refl) (ap (rows_of rule.Bodies) none));
+  supertypes = none_added rule.Supertypes members.supertypes (none_before rule.Supertypes (only.others rule.Supertypes refl) (ap (rows_of rule.Supertypes) none));
+  fields = none_added rule.FieldNames (members.fields testable.named) (none_before rule.FieldNames (only.others rule.FieldNames refl) (ap (rows_of rule.FieldNames) none));
+  methods = none_added rule.MethodSignatures (members.methods testable.named testable.signed)
+      (none_before rule.MethodSignatures (only.others rule.MethodSignatures refl) (ap (rows_of rule.MethodSignatures) none));
+}
+
+pub no_types : {mid new : List Fault} (view : View) → (IsRightView view → AreExactTypeFaults view mid new) → IsTestableView view → new ≡ [] → HasNoTypeFault view
+no_types view exact testable none = let told = exact testable.right in record { each = λ one e. none_added one (told.each one e) (ap (rows_of one) none) }
+
+-- the faults of two lists
+pub no_faults : (view : View) (others these all : List Fault) → all ≡ others ++ these → (others ≡ [] → HasNoMemberFault view) → (others ≡ [] → HasNoTypeFault view) → (these ≡ [] → HasNoNameFault view) → all ≡ [] → HasNoFault view
+no_faults view others these all are members types names none = let both : others ++ these ≡ [] = sym are ∙ none in
+    record { names = names (none_second others these both); members = members (none_first others these both); types = types (none_first others these both) }

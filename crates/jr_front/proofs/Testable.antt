@@ -1,0 +1,96 @@
+-- The view of a bound program is one that the exact rules can be tested on, and where their tests pass at no row it keeps them.
+use Rattle.std.proofs.Common.{◌≡◌, refl, sym, ◌∙◌, ap, ap₂, subst, ℕ, ◌≤◌, List, Option, None, length, slice_index_or, codes}
+use Rattle.std.proofs.Math.Path.{fun_ext}
+use Rattle.jr_tree.specs.Local.{IsLocal}
+use Rattle.jr_tree.specs.Rows.{Rows}
+use Rattle.jr_defs.specs.declared.referent.Referent.{Referent}
+use Rattle.jr_defs.specs.declared.referent.Referent.TheVariants.{Unbound}
+use Rattle.jr_defs.specs.declared.referent.RowType.{RowType}
+use Rattle.jr_defs.specs.Constants.{HasConstantForm}
+use Rattle.jr_defs.specs.Referents.{Table, entries}
+use Rattle.jr_plain.specs.Conversions.{Constants}
+use Rattle.jr_plain.specs.Overloads.{Types}
+use Rattle.jr_plain.specs.Typing.{IsTypable, expression_types}
+use Rattle.jr_plain.proofs.Declared.{prelude_tells}
+use Rattle.jr_plain.proofs.Typables.{typable_from_lookup}
+use Rattle.jr_rules.specs.Computed.{values, types}
+use Rattle.jr_bound.proofs.Ruled.{bound_past}
+use Rattle.jr_dispatch.proofs.Having.{above_then}
+use Rattle.jr_constants.specs.Resting.{values_of}
+use Rattle.jr_bind.proofs.Confirmed.{program_in}
+use Rattle.jr_prelude.specs.Begins.{BeginsWithLang}
+use Rattle.jr_prelude.proofs.Begun.{once}
+use Rattle.jr_type_facts.specs.Tables.{HasNoOtherThrowable}
+use Rattle.jr_type_facts.specs.Views.{rows_in as rows_of, table_in as table_of, types_in, constants_in}
+use Rattle.jr_view.specs.declared.View.{View}
+use Rattle.jr_front.specs.Bound.{rows_in, table_in, IsBoundIn}
+use Rattle.jr_front.specs.Compiling.{BreaksExact, KeepsExact}
+use Rattle.jr_front.specs.Tested.{IsTestableView, HasNoFault}
+use Rattle.jr_front.specs.Viewed.{IsViewOf}
+use Rattle.jr_front.specs.declared.workspace.Workspace.{Workspace}
+use Rattle.jr_front.proofs.Kept.{none_broken}
+use Rattle.jr_front.proofs.Viewed.{seen_view, whole_view}
+
+-- ---- a bound program
+
+module _ (w : Workspace) (bound : IsBoundIn w) where
+  abbrev p : Rows
+  p = rows_in w
+
+  abbrev t : Table
+  t = table_in w
+
+  typable : IsTypable p t
+  typable = typable_from_lookup p t (HasConstantForm p t) bound.binding.binding.under.seen.above.well.headed bound.of.one_string
+      (λ d s up down. absurd (bound.binding.binding.acyclic d (above_then p t (program_in p w.places.value w.scopes.value bound.of bound.binding.binding.well).bare up down)))
+      bound.binding.binding.is_binding.bound
+
+  values_are : values_of w.bound.value.constants.value ≡ values p t
+  values_are = fun_ext (bound.binding.binding.under.constants_are.whole typable)
+
+  abbrev types_by : List (Option RowType) → Types
+  types_by all n = slice_index_or all n None
+
+  types_are : types_by w.bound.value.types.items ≡ types p t
+  types_are = fun_ext bound.binding.binding.under.types_are ∙ ap (λ (c : Constants). expression_types p t c) values_are
+
+  past : (o : ℕ) → length p ≤ o → t o ≡ Unbound
+  past = bound_past p t bound.binding.binding.is_binding
+
+-- ---- its view
+
+module _ (w : Workspace) (view : View) (bound : IsBoundIn w) (of : IsViewOf (rows_in w) w.places.value w.scopes.value w.bound.value view) where
+  -- what holds of the rows and the table holds of those of the view
+  seen_so : (P : Rows → Table → Type 0) → P (rows_in w) (table_in w) → P (rows_of view) (table_of view)
+  seen_so P h = subst (λ r. P r (table_of view)) (sym of.rows_are) (subst (λ (x : List Referent). P (rows_in w) (entries x)) (sym of.table_is) h)
+
+  told_so : (P : Rows → Table → Type 0) → P (rows_of view) (table_of view) → P (rows_in w) (table_in w)
+  told_so P h = subst (λ r. P r (table_in w)) of.rows_are (subst (λ (x : List Referent). P (rows_of view) (entries x)) of.table_is h)
+
+  view_values : constants_in view ≡ values (rows_of view) (table_of view)
+  view_values = ap values_of of.constants_are ∙ seen_so (λ r x. values_of w.bound.value.constants.value ≡ values r x) (values_are w bound)
+
+  view_types : types_in view ≡ types (rows_of view) (table_of view)
+  view_types = ap (types_by w bound) of.types_are ∙ seen_so (λ r x. types_by w bound w.bound.value.types.items ≡ types r x) (types_are w bound)
+
+  module _ (begins : BeginsWithLang (rows_in w)) where
+    one_throwable : HasNoOtherThrowable (rows_in w)
+    one_throwable c d h k = once (rows_in w) begins (codes "Throwable") c d ((prelude_tells (rows_in w) (codes "Throwable") c).0 h) ((prelude_tells (rows_in w) (codes "Throwable") d).0 k)
+
+    pub testable_view : IsTestableView view
+    testable_view =
+        let right = seen_view w view bound of in
+        record {
+          right = record { seen = right; throwable = subst (λ r. HasNoOtherThrowable r) (sym of.rows_are) one_throwable };
+          placed = record { few = right.sized.few; placed = right.seen.placed };
+          seen = record { few = right.sized.few; seen = right.seen };
+          named = right.seen.placed.are;
+          signed = (whole_view w view bound of).world_is.members_are.signatures_are;
+        }
+
+    pub kept_view : (IsTestableView view → HasNoFault view) → KeepsExact (rows_in w) (table_in w)
+    kept_view none = record {
+      binding = bound.binding.binding.is_binding;
+      kept = told_so (λ r x. (rule place : ℕ) → BreaksExact r x rule place → ⊥)
+          (none_broken view (seen_view w view bound of).seen.placed.local (seen_so IsTypable (typable w bound)) (seen_so (λ r x. (o : ℕ) → length r ≤ o → x o ≡ Unbound) (past w bound)) view_values view_types (none testable_view));
+    }

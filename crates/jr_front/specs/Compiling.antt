@@ -1,0 +1,29 @@
+-- The rules that are tested exactly, and files that compile by them.
+use Rattle.std.specs.Prelude.{◌≡◌, ℕ, true, List, [], ◌∷◌}
+use Rattle.jr_base.specs.Files.{FileMap}
+use Rattle.jr_tree.specs.Rows.{Rows}
+use Rattle.jr_defs.specs.declared.program.Program.{Program}
+use Rattle.jr_defs.specs.Binding.{IsBinding}
+use Rattle.jr_defs.specs.Program.{ProgramOf, rows_of}
+use Rattle.jr_defs.specs.Referents.{Table}
+use Rattle.jr_plain.specs.Search.{has}
+use Rattle.jr_rules.specs.Compiling.{BreaksAll}
+
+-- the numbers of the rules whose faults are those of the definition: on names, members and types
+abbrev pub exact_rules : List ℕ
+exact_rules = 3 ∷ 4 ∷ 6 ∷ 7 ∷ 8 ∷ 10 ∷ 11 ∷ 12 ∷ 13 ∷ 20 ∷ 23 ∷ 24 ∷ 25 ∷ 26 ∷ 27 ∷ 28 ∷ 29 ∷ 30 ∷ 31 ∷ 32 ∷ 33 ∷ 35 ∷ []
+
+-- one of these rules is broken at the row
+pub record BreaksExact (p : Rows) (t : Table) (rule place : ℕ) : Type 0 where
+  pub exact : has exact_rules rule ≡ true
+  pub breaks : BreaksAll p t rule place
+
+-- the table is the binding of the rows, and none of these rules is broken
+pub record KeepsExact (p : Rows) (t : Table) : Type 0 where
+  pub binding : IsBinding p t
+  pub kept : (rule place : ℕ) → BreaksExact p t rule place → ⊥
+
+-- the files read as the program, which has the binding and keeps these rules
+pub record CompilesExactly (found : FileMap) (program : Program) (t : Table) : Type 0 where
+  pub reads : ProgramOf found program
+  pub keeps : KeepsExact (rows_of program) t

@@ -1,0 +1,52 @@
+-- What the exact rules ask of a view, and that their tests pass at no row.
+use Rattle.std.specs.Prelude.{◌≡◌, ℕ, true, List, [], length}
+use Rattle.jr_plain.specs.Search.{all_such}
+use Rattle.jr_rule.specs.declared.Rule.{Rule}
+use Rattle.jr_rule.specs.declared.Rule.TheVariants as rule
+use Rattle.jr_rule.specs.Numbers.{number_of}
+use Rattle.jr_name_rules.specs.Computed.{breaks}
+use Rattle.jr_member_rules.specs.Computed.{breaks_members}
+use Rattle.jr_view.specs.declared.View.{View}
+use Rattle.jr_name_faults.specs.Faults as of_names
+use Rattle.jr_name_faults.specs.Views as names
+use Rattle.jr_member_faults.specs.Views.{rows_in, table_in, IsNamedWorld, IsSignedWorld}
+use Rattle.jr_type_faults.specs.Faults.{IsRightView, is_exact, broken_rows}
+
+-- the places, supertypes and signatures of the view are right
+pub record IsTestableView (view : View) : Type 0 where
+  pub right : IsRightView view
+  pub placed : names.IsPlacedView view
+  pub seen : names.IsSeenView view
+  pub named : IsNamedWorld view.sight.world
+  pub signed : IsSignedWorld view.sight.world
+
+-- the rows at which a rule on members is broken, and those of a rule on declarations and headers
+abbrev pub member_rows : View → Rule → List ℕ
+member_rows view one = all_such (length (rows_in view)) (breaks_members (rows_in view) (table_in view) (number_of one))
+
+abbrev pub declaration_rows : View → Rule → List ℕ
+declaration_rows view one = all_such (length (rows_in view)) (breaks (rows_in view) (table_in view) (number_of one))
+
+-- no row breaks an exact rule on names
+pub record HasNoNameFault (view : View) : Type 0 where
+  pub local_names : of_names.broken_rows view rule.LocalNames ≡ []
+  pub labels : of_names.broken_rows view rule.Labels ≡ []
+  pub import_names : of_names.broken_rows view rule.ImportNames ≡ []
+  pub access : of_names.broken_rows view rule.Access ≡ []
+
+-- on members
+pub record HasNoMemberFault (view : View) : Type 0 where
+  pub bodies : member_rows view rule.Bodies ≡ []
+  pub supertypes : declaration_rows view rule.Supertypes ≡ []
+  pub fields : declaration_rows view rule.FieldNames ≡ []
+  pub methods : declaration_rows view rule.MethodSignatures ≡ []
+
+-- on types
+pub record HasNoTypeFault (view : View) : Type 0 where
+  pub each : (one : Rule) → is_exact one ≡ true → broken_rows view one ≡ []
+
+-- no row breaks an exact rule
+pub record HasNoFault (view : View) : Type 0 where
+  pub names : HasNoNameFault view
+  pub members : HasNoMemberFault view
+  pub types : HasNoTypeFault view
