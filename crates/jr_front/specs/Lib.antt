@@ -1,3 +1,4 @@
 pub mod Bound
 pub mod Viewed
 pub mod Checking
+pub mod Placed
