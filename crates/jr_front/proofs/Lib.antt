@@ -4,3 +4,4 @@ pub mod Faultless
 pub mod Kept
 pub mod Testable
 pub mod Reading
+pub mod Placing

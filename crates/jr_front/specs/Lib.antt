@@ -3,3 +3,4 @@ pub mod Viewed
 pub mod Tested
 pub mod Compiling
 pub mod Checking
+pub mod Placed
