@@ -6,12 +6,12 @@ use Rattle.jr_base.specs.Files.{FileMap}
 use Rattle.jr_base.specs.Paths.{is_java}
 use Rattle.jr_base.specs.declared.request.Request.{Request}
 use Rattle.jr_tree.specs.Shape.{IsShaped}
-use Rattle.jr_defs.specs.Binding.{IsBinding}
 use Rattle.jr_defs.specs.Program.{rows_of}
 use Rattle.jr_defs.specs.declared.program.Program.{Program}
 use Rattle.jr_read.specs.Reading.{ReadsAs}
 use Rattle.jr_front.specs.Bound.{IsBoundIn, rows_in, table_in}
 use Rattle.jr_front.specs.Checking.{accepted}
+use Rattle.jr_front.specs.Compiling.{CompilesExactly}
 use Rattle.jr_front.proofs.Reading.{read_shaped}
 use Rattle.jr_front.proofs.Viewed.{whole_view}
 use Rattle.jr_front.specs.Viewed.{IsViewOf}
@@ -40,21 +40,21 @@ use Rattle.jr_engine.specs.declared.left.Left.{Left}
 use Rattle.jr_engine.specs.declared.locked.Locked.{Locked}
 use Rattle.jr_engine.specs.declared.tried.Spelled.{Spelled}
 
-pub read_so : (files : FileMap) (w : Workspace) → ReadsAs files (Ok w.program) → rows_in w ≡ rows_of w.program → IsBoundIn w → IsRead files w
-read_so files w reads are bound = record { reads = reads; are = are; bound = bound }
+pub read_so : (files : FileMap) (w : Workspace) → ReadsAs files (Ok w.program) → rows_in w ≡ rows_of w.program → IsBoundIn w → CompilesExactly files w.program (table_in w) → IsRead files w
+read_so files w reads are bound compiles = record { reads = reads; are = are; bound = bound; compiles = compiles }
 
 pub held_so : (left : Left) → IsRead left.files left.program → AllByRecursion (λ path. IsTrue (is_java path)) (files.keys left.files) → IsHeld left
 held_so left is java = record { read = is; java = java }
 
 -- files that are held are those of their program
 pub held_opened : (left : Left) → IsHeld left → IsOpened (opened_by left)
-held_opened left is = record { program = left.program.program; reads = is.read.reads; are = is.read.are; binding = is.read.bound.binding.binding.is_binding; java = is.java }
+held_opened left is = record { program = left.program.program; reads = is.read.reads; are = is.read.are; compiles = is.read.compiles; java = is.java }
 
 pub held_shaped : (left : Left) → IsHeld left → IsProgram (rows_in left.program)
 held_shaped left is = record { units = map (λ u. u.unit) left.program.program.units; shaped = read_shaped left.files left.program.program is.read.reads; rows_are = is.read.are }
 
 pub accepted_so : (o : Opened) → IsOpened o → IsAccepted o.files
-accepted_so o is = record { checked = accepted is.reads (subst (λ (r : Rows). IsBinding r o.table) is.are is.binding); java = is.java }
+accepted_so o is = record { checked = accepted is.reads is.compiles; java = is.java }
 
 pub written_so : (s : Spelled) (left : Left) (w : Workspace) → left.program ≡ w → IsHeld left → IsSpelledIn s w → IsLeftOf s.locked.now left
 written_so s left w same is spelled = (record { opened = held_opened left is; spellings = s.spellings.now; respelled = subst (λ (v : Workspace). IsSpelledIn s v) (sym same) spelled }, is)

@@ -1,9 +1,9 @@
 -- What was read is shaped.
-use Rattle.std.proofs.Common.{◌≡◌, List, ℕ, map, Result, Ok, Err, IfOk, IfErr, sym, subst}
+use Rattle.std.proofs.Common.{◌≡◌, List, ℕ, map, Result, Ok, Err, IfOk, IfErr, OnOk, sym, subst}
 use Rattle.std.specs.List.{AllByRecursion}
 use Rattle.jr_base.specs.Files.{FileMap}
 use Rattle.jr_tree.specs.Shape.{IsShaped}
-use Rattle.jr_defs.specs.Program.{AreUnitsOf, none, more, rows_of}
+use Rattle.jr_defs.specs.Program.{AreUnitsOf, IsWellPlaced, none, more, rows_of}
 use Rattle.jr_prelude.specs.Begins.{BeginsWithLang}
 use Rattle.jr_prelude.proofs.Readings.{programs_begin}
 use Rattle.jr_front.specs.Bound.{rows_in, table_in}
@@ -23,19 +23,19 @@ pub read_shaped : (found : FileMap) (p : Program) → ReadsAs found (Ok p) → A
 read_shaped found p (one_program few are within units) = units_shaped units
 
 -- files that are read and opened compile
-compiles_by : (found : FileMap) (p : Program) (w : Workspace) → ReadsAs found (Ok p) → w.index.value ≡ rows_of p → KeepsExact (rows_in w) (table_in w) → CompilesExactly found p (table_in w)
-compiles_by found p w (one_program few are within units) same kept = record { reads = units; keeps = subst (λ r. KeepsExact r (table_in w)) same kept }
+compiles_by : (found : FileMap) (p : Program) (w : Workspace) → ReadsAs found (Ok p) → IsWellPlaced p → w.index.value ≡ rows_of p → KeepsExact (rows_in w) (table_in w) → CompilesExactly found p (table_in w)
+compiles_by found p w (one_program few are within units) placed same kept = record { reads = units; placed = placed; keeps = subst (λ r. KeepsExact r (table_in w)) same kept }
 
 -- what is said of files, by what is said of their program
-pub opened : (found : FileMap) (p : Program) (result : Result Workspace FrontFault) → ReadsAs found (Ok p) → IfErr result IsOfPrograms → IfOk result (λ workspace. workspace.index.value ≡ rows_of p)
+pub opened : (found : FileMap) (p : Program) (result : Result Workspace FrontFault) → ReadsAs found (Ok p) → IfErr result IsOfPrograms → OnOk result (IsWellPlaced p) → IfOk result (λ workspace. workspace.index.value ≡ rows_of p)
     → IfOk result (λ workspace. KeepsExact (rows_in workspace) (table_in workspace)) → CheckedAs found (forgotten result)
-opened found p (Ok workspace) reads is same kept = accepted reads (compiles_by found p workspace reads same kept)
-opened found p (Err why) reads is same kept = refused reads is
+opened found p (Ok workspace) reads is placed same kept = accepted reads (compiles_by found p workspace reads placed same kept)
+opened found p (Err why) reads is placed same kept = refused reads is
 
-pub compiled : (found : FileMap) (p : Program) (result : Result Workspace FrontFault) → ReadsAs found (Ok p) → IfOk result (λ workspace. workspace.program ≡ p) → IfOk result (λ workspace. workspace.index.value ≡ rows_of p)
+pub compiled : (found : FileMap) (p : Program) (result : Result Workspace FrontFault) → ReadsAs found (Ok p) → IfOk result (λ workspace. workspace.program ≡ p) → OnOk result (IsWellPlaced p) → IfOk result (λ workspace. workspace.index.value ≡ rows_of p)
     → IfOk result (λ workspace. KeepsExact (rows_in workspace) (table_in workspace)) → IfOk result (λ workspace. CompilesExactly found workspace.program (table_in workspace))
-compiled found p (Ok workspace) reads program same kept = subst (λ (q : Program). CompilesExactly found q (table_in workspace)) (sym program) (compiles_by found p workspace reads same kept)
-compiled found p (Err why) reads program same kept = tt
+compiled found p (Ok workspace) reads program placed same kept = subst (λ (q : Program). CompilesExactly found q (table_in workspace)) (sym program) (compiles_by found p workspace reads placed same kept)
+compiled found p (Err why) reads program placed same kept = tt
 
 -- its rows begin with those of java.lang
 pub read_begins : (found : FileMap) (p : Program) → ReadsAs found (Ok p) → BeginsWithLang (rows_of p)

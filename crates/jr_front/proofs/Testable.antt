@@ -6,6 +6,7 @@ use Rattle.jr_tree.specs.Rows.{Rows}
 use Rattle.jr_defs.specs.declared.referent.Referent.{Referent}
 use Rattle.jr_defs.specs.declared.referent.Referent.TheVariants.{Unbound}
 use Rattle.jr_defs.specs.declared.referent.RowType.{RowType}
+use Rattle.jr_defs.specs.Compiling.{AllFound}
 use Rattle.jr_defs.specs.Constants.{HasConstantForm}
 use Rattle.jr_defs.specs.Referents.{Table, entries}
 use Rattle.jr_plain.specs.Conversions.{Constants}
@@ -88,9 +89,16 @@ module _ (w : Workspace) (view : View) (bound : IsBoundIn w) (of : IsViewOf (row
           signed = (whole_view w view bound of).world_is.members_are.signatures_are;
         }
 
-    pub kept_view : (IsTestableView view → HasNoFault view) → KeepsExact (rows_in w) (table_in w)
-    kept_view none = record {
+    pub kept_view : AllFound (rows_of view) (table_of view) → (IsTestableView view → HasNoFault view) → KeepsExact (rows_in w) (table_in w)
+    kept_view found none = record {
       binding = bound.binding.binding.is_binding;
+      found = told_so AllFound found;
       kept = told_so (λ r x. (rule place : ℕ) → BreaksExact r x rule place → ⊥)
           (none_broken view (seen_view w view bound of).seen.placed.local (seen_so IsTypable (typable w bound)) (seen_so (λ r x. (o : ℕ) → length r ≤ o → x o ≡ Unbound) (past w bound)) view_values view_types (none testable_view));
     }
+
+-- the same, as the rows and the places of the program are read
+pub kept_so : (w : Workspace) (view : View) (marked rows : Rows) → IsViewOf (rows_in w) w.places.value w.scopes.value w.bound.value view → marked ≡ rows_in w → AllFound marked (table_of view)
+    → (IsTestableView view → HasNoFault view) → rows_in w ≡ rows → (BeginsWithLang rows → IsBoundIn w) → BeginsWithLang rows → KeepsExact (rows_in w) (table_in w)
+kept_so w view marked rows of same found none are bound begins =
+    kept_view w view (bound begins) of (subst BeginsWithLang (sym are) begins) (subst (λ r. AllFound r (table_of view)) (same ∙ sym of.rows_are) found) none

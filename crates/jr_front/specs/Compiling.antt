@@ -3,8 +3,7 @@ use Rattle.std.specs.Prelude.{◌≡◌, ℕ, true, List, [], ◌∷◌}
 use Rattle.jr_base.specs.Files.{FileMap}
 use Rattle.jr_tree.specs.Rows.{Rows}
 use Rattle.jr_defs.specs.declared.program.Program.{Program}
-use Rattle.jr_defs.specs.Binding.{IsBinding}
-use Rattle.jr_defs.specs.Program.{ProgramOf, rows_of}
+use Rattle.jr_defs.specs.Compiling.{CompilesBy, KeepsRules}
 use Rattle.jr_defs.specs.Referents.{Table}
 use Rattle.jr_plain.specs.Search.{has}
 use Rattle.jr_rules.specs.Compiling.{BreaksAll}
@@ -18,12 +17,10 @@ pub record BreaksExact (p : Rows) (t : Table) (rule place : ℕ) : Type 0 where
   pub exact : has exact_rules rule ≡ true
   pub breaks : BreaksAll p t rule place
 
--- the table is the binding of the rows, and none of these rules is broken
-pub record KeepsExact (p : Rows) (t : Table) : Type 0 where
-  pub binding : IsBinding p t
-  pub kept : (rule place : ℕ) → BreaksExact p t rule place → ⊥
+-- the table is the binding of the rows, in which all is found, and none of these rules is broken
+abbrev pub KeepsExact : Rows → Table → Type 0
+KeepsExact p t = KeepsRules p t BreaksExact
 
--- the files read as the program, which has the binding and keeps these rules
-pub record CompilesExactly (found : FileMap) (program : Program) (t : Table) : Type 0 where
-  pub reads : ProgramOf found program
-  pub keeps : KeepsExact (rows_of program) t
+-- the files compile by these rules
+abbrev pub CompilesExactly : FileMap → Program → Table → Type 0
+CompilesExactly = CompilesBy BreaksExact

@@ -2,7 +2,9 @@
 ghost use Rattle.std.specs.Prelude.{◌≡◌, IfErr, IfOk, OnOk, Ok, [], map};
 ghost use Rattle.std.specs.List.{AllByRecursion};
 ghost use Rattle.jr_tree.specs.Shape.{IsShaped};
-ghost use Rattle.jr_defs.specs.Program.{rows_of};
+ghost use Rattle.jr_defs.specs.Compiling.{AllFound};
+ghost use Rattle.jr_defs.specs.Program.{IsWellPlaced, rows_of};
+ghost use Rattle.jr_defs.specs.Referents.{entries};
 ghost use Rattle.jr_read.specs.Reading.{ReadsAs};
 ghost use Rattle.jr_places.specs.Places.{ArePlaces};
 ghost use Rattle.jr_members.specs.Sources.{ArePlaced};
@@ -58,7 +60,6 @@ fn index_of(alloc: Global, program: &Program) -> Result<Box<Index>, OutOfMemory>
 }
 
 // The rules on names that the program breaks.
-#[tactic(auto, using(crate::proofs::Faultless::no_names))]
 fn name_faults_of(alloc: Global, view: &View) -> Result<Vec<Fault>, OutOfMemory>
     ensures { IsTestableView view.now → IfOk result (λ faults. faults.items ≡ [] → HasNoNameFault view.now) }
 {
@@ -68,7 +69,6 @@ fn name_faults_of(alloc: Global, view: &View) -> Result<Vec<Fault>, OutOfMemory>
 }
 
 // The other rules that it breaks. Those on types come last, which add faults of their own rules alone.
-#[tactic(auto, using(crate::proofs::Faultless::no_members, crate::proofs::Faultless::no_types))]
 fn other_faults_of(alloc: Global, marks: &Marks, view: &View) -> Result<Vec<Fault>, OutOfMemory>
     ensures members { IsTestableView view.now → IfOk result (λ faults. faults.items ≡ [] → HasNoMemberFault view.now) }
     ensures types { IsTestableView view.now → IfOk result (λ faults. faults.items ≡ [] → HasNoTypeFault view.now) }
@@ -107,7 +107,8 @@ fn judge_names(alloc: Global, marks: &Marks, places: &Places) -> Result<(), Fron
 
 // That all names have a declaration.
 fn judge_table(marks: &Marks, table: &[Referent]) -> Result<(), FrontFault>
-    ensures { IfErr result IsOfPrograms }
+    ensures found { OnOk result (AllFound marks.now.rows.now (entries table.now)) }
+    ensures err { IfErr result IsOfPrograms }
 {
     match first_unbound(marks, table) {
         Some(place) => Err(FrontFault::Unbound(place)),
@@ -129,6 +130,7 @@ fn judge_rules(alloc: Global, marks: &Marks, view: &View) -> Result<(), FrontFau
 
 // That the program with this binding compiles.
 fn judge(alloc: Global, marks: &Marks, view: &View) -> Result<(), FrontFault>
+    ensures found { OnOk result (AllFound marks.now.rows.now (entries view.now.sight.world.under.table.now)) }
     ensures kept { IsTestableView view.now → OnOk result (HasNoFault view.now) }
     ensures err { IfErr result IsOfPrograms }
 {
@@ -138,7 +140,8 @@ fn judge(alloc: Global, marks: &Marks, view: &View) -> Result<(), FrontFault>
 
 // That each unit stands at its place.
 fn judge_paths(program: &Program) -> Result<(), FrontFault>
-    ensures { IfErr result IsOfPrograms }
+    ensures placed { OnOk result (IsWellPlaced program.now) }
+    ensures err { IfErr result IsOfPrograms }
 {
     match first_misplaced(program) {
         Some(cu) => Err(FrontFault::PathMismatch(cu)),
@@ -205,18 +208,31 @@ fn bound_program(
     })
 }
 
+// The tables of a program of shaped units, which is not tested against the rules.
+fn tables_of(alloc: Global, program: Program) -> Result<Workspace, FrontFault>
+    requires { AllByRecursion IsShaped (map (λ u. u.unit) program.units) }
+    ensures same { IfOk result (λ workspace. workspace.program ≡ program) }
+    ensures rows { IfOk result (λ workspace. workspace.index.value ≡ rows_of program) }
+    ensures bound { BeginsWithLang (rows_of program) → IfOk result IsBoundIn }
+    ensures err { IfErr result IsOfPrograms }
+{
+    let index = index_of(alloc, &program)?;
+    bound_program(alloc, program, index)
+}
+
 /// The program with its tables, where it compiles, and else the first reason why it does not. Two of its units may have one path.
+#[tactic(auto, using(crate::proofs::Testable::kept_so))]
 pub fn open_program(alloc: Global, program: Program) -> Result<Workspace, FrontFault>
     requires { AllByRecursion IsShaped (map (λ u. u.unit) program.units) }
     ensures same { IfOk result (λ workspace. workspace.program ≡ program) }
     ensures rows { IfOk result (λ workspace. workspace.index.value ≡ rows_of program) }
     ensures bound { BeginsWithLang (rows_of program) → IfOk result IsBoundIn }
+    ensures placed { OnOk result (IsWellPlaced program) }
     ensures kept { BeginsWithLang (rows_of program) → IfOk result (λ workspace. KeepsExact (rows_in workspace) (table_in workspace)) }
     ensures err { IfErr result IsOfPrograms }
 {
     judge_paths(&program)?;
-    let index = index_of(alloc, &program)?;
-    let workspace = bound_program(alloc, program, index)?;
+    let workspace = tables_of(alloc, program)?;
     judge(alloc, &workspace.marks(), &workspace.view())?;
     Ok(workspace)
 }
