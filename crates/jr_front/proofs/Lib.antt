@@ -5,3 +5,5 @@ pub mod Kept
 pub mod Testable
 pub mod Reading
 pub mod Placing
+pub mod Losing
+pub mod Breaking

@@ -4,3 +4,5 @@ pub mod Tested
 pub mod Compiling
 pub mod Checking
 pub mod Placed
+pub mod Unbound
+pub mod Broken
