@@ -221,7 +221,6 @@ fn tables_of(alloc: Global, program: Program) -> Result<Workspace, FrontFault>
 }
 
 /// The program with its tables, where it compiles, and else the first reason why it does not. Two of its units may have one path.
-#[tactic(auto, using(crate::proofs::Testable::kept_so))]
 pub fn open_program(alloc: Global, program: Program) -> Result<Workspace, FrontFault>
     requires { AllByRecursion IsShaped (map (λ u. u.unit) program.units) }
     ensures same { IfOk result (λ workspace. workspace.program ≡ program) }
