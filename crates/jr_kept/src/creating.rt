@@ -5,7 +5,7 @@ use crate::flows::{is_within, rows_of};
 use crate::starting::{initialized_by, node_in, runs_before};
 use jr_change::{Project, RowRange};
 use jr_flow::{FlowFault, Graph, PointKind, bodies};
-use jr_members::declaring_type;
+use jr_members::constructed_class;
 use jr_places::{is_interface, parent_at};
 use jr_tree::{Label, Row};
 use std::alloc::Global;
@@ -34,7 +34,7 @@ fn created_at(old: &Project, at: u32) -> Option<u32> {
     let rows = old.marks.rows;
     match rows.get(at as usize) {
         Some(row) => match row.label {
-            Label::New => { declaring_type(rows, old.view.sight.world.under.declared(at)?) }
+            Label::New => { constructed_class(rows, old.view.sight.world.under.declared(at)?) }
             _ => None,
         },
         None => None,

@@ -69,7 +69,7 @@ fn what_acts_is_not_inlined_into_a_creation_that_begins_an_initialization(
     rt: HostRuntime,
 ) -> Result<(), Fail> {
     let alloc = rt.alloc();
-    let edge = "lost edge: control A.java:134 A.java:27\n";
+    let edge = "lost edge: control A.java:134 A.java:25\n";
     assert!(rt; leaves_it(alloc, BEFORE_CREATION, ". inline A.java 130", 5, edge)?);
     Ok(())
 }
