@@ -1,5 +1,5 @@
 -- Where no row breaks an exact rule by its test, none is broken.
-use Rattle.std.proofs.Common.{◌≡◌, ◌⊎◌, refl, sym, ◌∙◌, ap, subst, ⊎_elim, ℕ, ◌≤◌, ◌<◌, Bool, true, false, List, [], length}
+use Rattle.std.proofs.Common.{◌≡◌, ◌⊎◌, refl, sym, ◌∙◌, ap, subst, ⊎_elim, ℕ, ◌≤◌, ◌<◌, Bool, true, false, [], length}
 use Rattle.std.proofs.lemmas.Bool.{false≢true}
 use Rattle.jr_tree.specs.Local.{IsLocal}
 use Rattle.jr_tree.specs.Rows.{Rows}

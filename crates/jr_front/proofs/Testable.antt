@@ -1,7 +1,6 @@
 -- The view of a bound program is one that the exact rules can be tested on, and where their tests pass at no row it keeps them.
-use Rattle.std.proofs.Common.{◌≡◌, refl, sym, ◌∙◌, ap, ap₂, subst, ℕ, ◌≤◌, List, Option, None, length, slice_index_or, codes}
+use Rattle.std.proofs.Common.{◌≡◌, sym, ◌∙◌, ap, subst, ℕ, ◌≤◌, List, Option, None, length, slice_index_or, codes}
 use Rattle.std.proofs.Math.Path.{fun_ext}
-use Rattle.jr_tree.specs.Local.{IsLocal}
 use Rattle.jr_tree.specs.Rows.{Rows}
 use Rattle.jr_defs.specs.declared.referent.Referent.{Referent}
 use Rattle.jr_defs.specs.declared.referent.Referent.TheVariants.{Unbound}

@@ -1,15 +1,15 @@
 -- What the view of a bound program has.
-use Rattle.std.proofs.Common.{◌≡◌, sym, subst, ap, List}
+use Rattle.std.proofs.Common.{◌≡◌, sym, subst, List}
 use Rattle.jr_tree.specs.Rows.{Rows}
 use Rattle.jr_defs.specs.declared.referent.Referent.{Referent}
-use Rattle.jr_defs.specs.Referents.{Table, entries}
+use Rattle.jr_defs.specs.Referents.{entries}
 use Rattle.jr_places.specs.declared.places.Places.{Places}
 use Rattle.jr_supers.specs.declared.subtypes.Supers.{Supers}
 use Rattle.jr_supers.specs.Tabled.{IsSized}
 use Rattle.jr_members.specs.declared.members.Members.{Members}
 use Rattle.jr_members.specs.Held.{ObjectIsBare, ObjectIsNoInterface}
 use Rattle.jr_members.specs.Sources.{AreSeen}
-use Rattle.jr_members.specs.Worlds.{IsWorld, AreMembersOf}
+use Rattle.jr_members.specs.Worlds.{AreMembersOf}
 use Rattle.jr_bind.proofs.Confirmed.{program_in}
 use Rattle.jr_front.specs.Bound.{rows_in, table_in, IsBoundIn}
 use Rattle.jr_front.specs.Viewed.{IsViewOf}
