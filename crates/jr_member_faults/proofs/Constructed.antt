@@ -26,6 +26,7 @@ use Rattle.jr_places.specs.declared.numbering.Numbering.{Numbering}
 use Rattle.jr_places.specs.Numbers.{number_in, IsOneToOne, IsNumbering, Keeps, IsNumberOf}
 use Rattle.jr_places.proofs.Numbered.{number_kept, one_number, one_list}
 use Rattle.jr_supers.specs.Signatures.{kind_of, row_of, with_type, with_types, nth_of, Continues}
+use Rattle.jr_supers.specs.Tabled.{is_callable}
 use Rattle.jr_supers.proofs.Subtyped.{one_test}
 use Rattle.jr_members.specs.Keys.{entry_for, entry_list, entries_of, entry_of}
 use Rattle.jr_members.proofs.Declaring.{entries_more}
@@ -104,6 +105,9 @@ list_numbered (Some all) count number size c = record { is = (number, refl, c.is
 pub none_numbered : {old : Numbering} (o : Option (List RowType)) → None ≡ size_of o → IsNumbering old → NumbersList old old o None
 none_numbered None size counted = record { is = refl; kept = λ list item n e. e; counted = counted }
 none_numbered (Some all) size counted = absurd (none-some (length all) size)
+
+pub constructor_callable : (r : Role) → same_role r role.Constructor ≡ true → is_callable r ≡ true
+constructor_callable r e = ap is_callable ((role_tells r role.Constructor).0 e)
 
 -- ---- the table of constructors
 

@@ -25,13 +25,13 @@ module _ (p : Rows) (n : ℕ) where
   is_named_round (suc rounds) None = false
   is_named_round (suc rounds) (Some c) = has_name c || is_named_round rounds (declaring_type p c)
 
+  inside_by : (rounds : ℕ) → ((c : ℕ) → is_inside p (name p n) rounds c ≡ is_named_round rounds (declaring_type p c)) → (o : Option ℕ) → found o (λ c. has_name c || is_inside p (name p n) rounds c) ≡ is_named_round (suc rounds) o
+  inside_by rounds rest None = refl
+  inside_by rounds rest (Some c) = ap (λ b. has_name c || b) (rest c)
+
   inside_round : (rounds d : ℕ) → is_inside p (name p n) rounds d ≡ is_named_round rounds (declaring_type p d)
   inside_round zero d = refl
-  inside_round (suc rounds) d = by (declaring_type p d)
-    where
-      by : (o : Option ℕ) → found o (λ c. has_name c || is_inside p (name p n) rounds c) ≡ is_named_round (suc rounds) o
-      by None = refl
-      by (Some c) = ap (λ b. has_name c || b) (inside_round rounds c)
+  inside_round (suc rounds) d = inside_by rounds (inside_round rounds) (declaring_type p d)
 
   -- the search has come to this type, with room for so many
   pub record IsRoundAt (room : ℕ) (around : Option ℕ) : Type 0 where

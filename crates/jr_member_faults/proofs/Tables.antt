@@ -24,7 +24,7 @@ declared_start w declared types fields methods constructors lists = record {
 
 pub declared_more : (w : World) (n : ℕ) (old mid new : code.Declared) (r : Role) (entry : Option Entry) → n < length (rows_of w) → AreDeclaredTo w n old → r ≡ role_at (rows_of w) n
     → (IsNamedWorld w → n < length (rows_of w) → same_role (role_at (rows_of w) n) role.Constructor ≡ false → entry ≡ member_entry (rows_of w) w.members.now.callables.signatures n)
-    → (IsSignedWorld w → IsNumbering old.lists → same_role (role_at (rows_of w) n) role.Constructor ≡ true → NumbersConstructor (rows_of w) (table_of w) old.lists mid.lists n entry)
+    → (IsSignedWorld w → same_role (role_at (rows_of w) n) role.Constructor ≡ true → IsNumbering old.lists → NumbersConstructor (rows_of w) (table_of w) old.lists mid.lists n entry)
     → (same_role (role_at (rows_of w) n) role.Constructor ≡ false → mid.lists ≡ old.lists) → AreSameTables old mid → new.types ≡ with_entry (same_role r role.Type) mid.types entry → new.fields ≡ with_entry (same_role r role.Field) mid.fields entry
     → new.methods ≡ with_entry (same_role r role.Method) mid.methods entry → new.constructors ≡ with_entry (same_role r role.Constructor) mid.constructors entry → new.lists ≡ mid.lists → AreDeclaredTo w (n + 1) new
 declared_more w n old mid new r entry lt h is found numbered kept same types fields methods constructors lists = record {
@@ -35,6 +35,6 @@ declared_more w n old mid new r entry lt h is found numbered kept same types fie
   methods = λ named. entries_more (entry_as (rows_of w) role.Method w.members.now.callables.signatures) n old.methods new.methods _ (h.methods named) refl
       (methods ∙ ap (λ l. with_entry (same_role r role.Method) l entry) same.methods ∙ entry_told (rows_of w) w.members.now.callables.signatures role.Method r n entry old.methods is (λ apart. found named lt apart) refl);
   constructors = λ signed. let k = h.constructors signed in subst (λ l. AreConstructorsTo (rows_of w) (table_of w) (n + 1) l new.constructors) (sym lists)
-      (constructors_more (rows_of w) (table_of w) n old.lists old.constructors k mid.lists new.constructors r entry is (λ e. numbered signed k.counted e) kept
+      (constructors_more (rows_of w) (table_of w) n old.lists old.constructors k mid.lists new.constructors r entry is (λ e. numbered signed e k.counted) kept
       (constructors ∙ ap (λ l. with_entry (same_role r role.Constructor) l entry) same.constructors));
 }

@@ -1,5 +1,5 @@
 // The rules on members that are broken at the rows of a program.
-ghost use Rattle.std.specs.Prelude.{◌≡◌, ◌+◌, ◌<◌, ◌^◌, IfOk, OnOk, false, length};
+ghost use Rattle.std.specs.Prelude.{◌≡◌, ◌+◌, ◌<◌, ◌^◌, ◌||◌, IfOk, OnOk, false, length};
 ghost use Rattle.jr_tree.specs.declared.label.Role.TheVariants as roles;
 ghost use Rattle.jr_tree.specs.Rows as rows;
 ghost use Rattle.jr_defs.specs.Referents.{entries};

@@ -1,12 +1,14 @@
 // Members and constructors that a body declares twice, and types in a type of their name (JLS 8.1, 8.3, 8.4.2, 8.5, 8.8.2).
 ghost use Rattle.std.specs.Prelude.{◌≡◌, ◌<◌, OnOk, IfOk, Some, false, true, length, []};
 ghost use Rattle.jr_tree.specs.declared.label.Role.TheVariants as roles;
-ghost use Rattle.jr_tree.specs.Rows.{name, role_at as role_of_row};
+ghost use Rattle.jr_tree.specs.Rows.{Rows, name, role_at as role_of_row};
+ghost use Rattle.jr_defs.specs.Referents.{Table};
 ghost use Rattle.jr_plain.specs.Declarations as declared_as;
 ghost use Rattle.jr_plain.specs.Same.{same_role};
 ghost use Rattle.jr_plain.specs.Types.{parameters};
 ghost use Rattle.jr_places.specs.Numbers.{IsNumbering};
 ghost use Rattle.jr_places.specs.Places.{ArePlaces};
+ghost use Rattle.jr_supers.specs.Signatures.{AreSignatures};
 ghost use Rattle.jr_supers.specs.Tabled.{is_callable};
 ghost use Rattle.jr_members.specs.Keys.{entry_of};
 ghost use Rattle.jr_name_rules.specs.DeclarationTests as declaring;
@@ -18,7 +20,7 @@ use crate::together::is_method;
 use jr_base::OutOfMemory;
 use jr_members::{World, constructed_class, declaring_type};
 use jr_places::{Chains, Entry, Numbering, Places, is_type, role_at};
-use jr_supers::with_type;
+use jr_supers::{Signatures, with_type};
 use jr_tree::{Role, Row};
 use std::alloc::Global;
 
@@ -38,15 +40,15 @@ pub struct Declared {
 // The number of the parameter types of a constructor, of which there are so many.
 fn number_types(
     lists: &mut Numbering,
-    world: &World,
+    signatures: &Signatures,
     at: u32,
     count: u32,
 ) -> Result<Option<u32>, OutOfMemory>
-    ensures { views.IsSignedWorld world.now → is_callable (role_of_row (views.rows_of world.now) at) ≡ true → IsNumbering lists.old → Some count ≡ tell.size_of (parameters (views.rows_of world.now) (views.table_of world.now) at) → IfOk result (λ number. tell.NumbersList lists.old lists.new (parameters (views.rows_of world.now) (views.table_of world.now) at) number) }
+    ensures { (p : Rows) (t : Table) → AreSignatures p t signatures.now → is_callable (role_of_row p at) ≡ true → IsNumbering lists.old → Some count ≡ tell.size_of (parameters p t at) → IfOk result (λ number. tell.NumbersList lists.old lists.new (parameters p t at) number) }
 {
     let mut number = Numbering::EMPTY;
     for nth in 0..count {
-        let Some(ty) = world.members.signatures().parameter(at, nth) else {
+        let Some(ty) = signatures.parameter(at, nth) else {
             return Ok(None);
         };
         number = with_type(lists, number, ty)?;
@@ -57,15 +59,15 @@ fn number_types(
 // The number of the parameter types of a constructor, if all are found.
 fn number_parameters(
     lists: &mut Numbering,
-    world: &World,
+    signatures: &Signatures,
     at: u32,
 ) -> Result<Option<u32>, OutOfMemory>
-    ensures { views.IsSignedWorld world.now → is_callable (role_of_row (views.rows_of world.now) at) ≡ true → IsNumbering lists.old → IfOk result (λ number. tell.NumbersList lists.old lists.new (parameters (views.rows_of world.now) (views.table_of world.now) at) number) }
+    ensures { (p : Rows) (t : Table) → AreSignatures p t signatures.now → is_callable (role_of_row p at) ≡ true → IsNumbering lists.old → IfOk result (λ number. tell.NumbersList lists.old lists.new (parameters p t at) number) }
 {
-    let Some(count) = world.members.signatures().count(at) else {
+    let Some(count) = signatures.count(at) else {
         return Ok(None);
     };
-    let number = number_types(lists, world, at, count)?;
+    let number = number_types(lists, signatures, at, count)?;
     Ok(number)
 }
 
@@ -138,10 +140,10 @@ impl Declared {
 
     // A constructor under its class and the number of its parameter types.
     fn constructor_entry(&mut self, world: &World, at: u32) -> Result<Option<Entry>, OutOfMemory>
-        ensures numbered { views.IsSignedWorld world.now → is_callable (role_of_row (views.rows_of world.now) at) ≡ true → IsNumbering self.old.lists → IfOk result (λ entry. tell.NumbersConstructor (views.rows_of world.now) (views.table_of world.now) self.old.lists self.new.lists at entry) }
+        ensures numbered { views.IsSignedWorld world.now → same_role (role_of_row (views.rows_of world.now) at) roles.Constructor ≡ true → IsNumbering self.old.lists → IfOk result (λ entry. tell.NumbersConstructor (views.rows_of world.now) (views.table_of world.now) self.old.lists self.new.lists at entry) }
         ensures tables { OnOk result (tell.AreSameTables self.old self.new) }
     {
-        let number = number_parameters(&mut self.lists, world, at)?;
+        let number = number_parameters(&mut self.lists, world.members.signatures(), at)?;
         let class = constructed_class(world.under.rows, at);
         Ok(entry_under(class, number, at))
     }
@@ -149,7 +151,7 @@ impl Declared {
     /// What a row adds, if it declares a member or constructor.
     pub fn entry(&mut self, world: &World, at: u32) -> Result<Option<Entry>, OutOfMemory>
         ensures found { views.IsNamedWorld world.now → at < length (views.rows_of world.now) → same_role (role_of_row (views.rows_of world.now) at) roles.Constructor ≡ false → IfOk result (λ entry. entry ≡ tell.member_entry (views.rows_of world.now) world.now.members.now.callables.signatures at) }
-        ensures numbered { views.IsSignedWorld world.now → IsNumbering self.old.lists → same_role (role_of_row (views.rows_of world.now) at) roles.Constructor ≡ true → IfOk result (λ entry. tell.NumbersConstructor (views.rows_of world.now) (views.table_of world.now) self.old.lists self.new.lists at entry) }
+        ensures numbered { views.IsSignedWorld world.now → same_role (role_of_row (views.rows_of world.now) at) roles.Constructor ≡ true → IsNumbering self.old.lists → IfOk result (λ entry. tell.NumbersConstructor (views.rows_of world.now) (views.table_of world.now) self.old.lists self.new.lists at entry) }
         ensures kept { same_role (role_of_row (views.rows_of world.now) at) roles.Constructor ≡ false → OnOk result (self.new.lists ≡ self.old.lists) }
         ensures tables { OnOk result (tell.AreSameTables self.old self.new) }
     {
@@ -230,7 +232,9 @@ fn is_inside_name(rows: &[Row], places: &Places, at: u32) -> bool
         let Some(over) = around else {
             return false;
         };
-        if places.name(over) == name {
+        let other = places.name(over);
+        let is_found = other == name;
+        if is_found {
             return true;
         }
         around = declaring_type(rows, over);

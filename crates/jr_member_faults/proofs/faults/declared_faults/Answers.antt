@@ -27,7 +27,7 @@ returns-clause-methods c = λ lt h named signed. told_at rule.MethodSignatures c
 pub returns-clause-constructors : goal.returns-clause-constructors
 returns-clause-constructors c = λ lt h signed. let k = h.constructors signed in told_at rule.ConstructorSignatures c.args.at
     (constructor_told (rows_of c.args.world.now) (table_of c.args.world.now) c.args.at c.args.declared.now.lists c.args.declared.now.constructors k lt c.entry.new.self.lists c.entry.new.self c.role_at-role.result _ c.has-is_second.result c.role_at-role.ensures
-    c.in_ok-entry.ensures.tables.constructors (c.in_ok-entry.ensures.numbered signed k.counted) c.has-is_second.ensures)
+    c.in_ok-entry.ensures.tables.constructors (λ e. c.in_ok-entry.ensures.numbered signed e k.counted) c.has-is_second.ensures)
     (c.in_ok-second_fault.ensures.constructors c.role_at-role.ensures)
 
 pub returns-clause-types : goal.returns-clause-types
