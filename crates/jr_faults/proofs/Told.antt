@@ -73,3 +73,11 @@ such_same f g n same = by n
 -- tests that say the same
 pub rows_told : {old new : List Fault} (f g : ℕ → Bool) (n : ℕ) (r : Rule) → ((k : ℕ) → f k ≡ g k) → AreFaultsOf r (all_such n f) old new → AreFaultsOf r (all_such n g) old new
 rows_told {old} {new} f g n r same h = subst (λ l. AreFaultsOf r l old new) (such_same f g n same) h
+
+-- a test that says the same at the row
+pub told_at : {old new : List Fault} {a b : Bool} (r : Rule) (n : ℕ) → a ≡ b → AreFaultsOf r (row_if a n) old new → AreFaultsOf r (row_if b n) old new
+told_at {old} {new} r n e h = subst (λ c. AreFaultsOf r (row_if c n) old new) e h
+
+-- of the same rules twice
+pub only_more : {f : Rule → Bool} {old mid new : List Fault} → AreOnly f old mid → AreOnly f mid new → AreOnly f old new
+only_more h k = record { others = λ one apart. none_then one (h.others one apart) (k.others one apart) }

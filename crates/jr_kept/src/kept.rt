@@ -3,6 +3,7 @@
 use crate::arriving::put_lost_definitions;
 use crate::carried::put_lost_values;
 use crate::control::lost_control;
+use crate::creating::put_delayed;
 use crate::dropped::put_disturbing;
 use crate::edges::{Edge, Firsts};
 use crate::flows::{Flows, body_round, rows_of};
@@ -95,7 +96,8 @@ fn lost_in_inlined(
     flows: &Flows,
     local: u32,
 ) -> Result<LostFlow, FlowFault> {
-    let control = lost_control(alloc, flows)?;
+    let mut control = lost_control(alloc, flows)?;
+    put_delayed(alloc, old, flows.before, local, &mut control)?;
     let mut lost = Firsts::none();
     let handing = Handing::none(alloc);
     put_lost_definitions(alloc, flows, &handing, &mut lost)?;
@@ -224,9 +226,10 @@ fn lost_by_extracting(
 ///
 /// A change that leaves each body as it is, or takes whole ones away, loses none, but for a static method that goes to the superclass of its class, where a
 /// call of it that may begin the initialization of that class begins it no more. Where a local is replaced by its initializer, each event stands once, and
-/// no local that is used in the initializer gets another value before a use of the replaced one, nor does any other where the initializer may throw. Where
-/// statements go into a method of their own, the points of the method stand in place of its call, each `return` among them completes the body at once, and no
-/// value of a local is used outside the method that is not handed back.
+/// no local that is used in the initializer gets another value before a use of the replaced one, nor does any other where the initializer may throw, and no
+/// creation that has it among its arguments may begin the initialization of a class. Where statements go into a method of their own, the points of the
+/// method stand in place of its call, each `return` among them completes the body at once, and no value of a local is used outside the method that is not
+/// handed back.
 pub fn lost_flow(
     alloc: Global,
     old: &Project,

@@ -5,6 +5,7 @@ mod arriving;
 mod carried;
 mod control;
 mod copies;
+mod creating;
 mod defining;
 mod dropped;
 mod edges;

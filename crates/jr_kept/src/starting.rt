@@ -8,8 +8,8 @@ use jr_places::{parent_at, role_at};
 use jr_tree::{Label, Role, Row};
 use std::alloc::Global;
 
-// The class in whose initialization a body runs: that of a static initializer or a static field (JLS 8.3.2.1, 8.7).
-fn initialized_by(rows: &[Row], body: u32) -> Option<u32> {
+/// The class in whose initialization a body runs: that of a static initializer or a static field (JLS 8.3.2.1, 8.7).
+pub(crate) fn initialized_by(rows: &[Row], body: u32) -> Option<u32> {
     match rows.get(body as usize) {
         Some(row) => match row.label {
             Label::Initializer { is_static: true } => {
@@ -28,8 +28,8 @@ fn initialized_by(rows: &[Row], body: u32) -> Option<u32> {
     }
 }
 
-// A node of a body, if it has one but its own declaration.
-fn node_in(alloc: Global, old: &Project, body: u32) -> Result<Option<u32>, FlowFault> {
+/// A node of a body, if it has one but its own declaration.
+pub(crate) fn node_in(alloc: Global, old: &Project, body: u32) -> Result<Option<u32>, FlowFault> {
     let flow = graph(alloc, &old.view, body)?;
     for point in &flow.points {
         if matches!(point.kind, PointKind::Node) && point.row != body {
@@ -64,8 +64,8 @@ fn type_round(rows: &[Row], at: u32) -> Option<u32> {
     None
 }
 
-// The code at a row runs where the class may not be initialized: it is that of a type that is neither the class nor below it.
-fn runs_before(old: &Project, class: u32, at: u32) -> bool {
+/// The code at a row runs where the class may not be initialized: it is that of a type that is neither the class nor below it.
+pub(crate) fn runs_before(old: &Project, class: u32, at: u32) -> bool {
     let rows = old.marks.rows;
     match type_round(rows, at) {
         Some(over) => over != class && !old.view.sight.world.supers.is_above(rows, over, class),

@@ -1,29 +1,36 @@
 -- The types that imports of single types name, and those that units declare, one row at a time.
-use Rattle.std.proofs.Common.{◌≡◌, ◌⊎◌, refl, sym, ◌∙◌, ap, ap₂, subst, inl, inr, ⊎_elim, arith, add-one, ℕ, ◌+◌, ◌<◌, ◌^◌, Bool, true, false, cond, ◌&&◌, ◌||◌, List, [], length, Option, Some, None, nat_eq, Decides}
+use Rattle.std.proofs.Common.{◌≡◌, ◌⊎◌, refl, sym, ◌∙◌, ap, ap₂, subst, inl, inr, ⊎_elim, arith, add-one, ℕ, ◌+◌, ◌<◌, ◌^◌, Bool, true, false, not, cond, ◌&&◌, ◌||◌, List, [], length, Option, Some, None, nat_eq, Decides}
 use Rattle.std.proofs.lemmas.Bool.{false≢true, cases_eq, and_from, and_parts}
 use Rattle.std.proofs.lemmas.Bool.Decides.{Decides-eqb}
 use Rattle.std.proofs.lemmas.Option.{none-some, same_Some}
+use Rattle.jr_tree.specs.declared.label.Label.{Label}
+use Rattle.jr_tree.specs.declared.label.Label.TheVariants as is
+use Rattle.jr_tree.specs.declared.label.ImportKind.{ImportKind}
 use Rattle.jr_tree.specs.declared.label.ImportKind.TheVariants as importing
+use Rattle.jr_tree.specs.Below.{IsTypeName}
+use Rattle.jr_tree.specs.Local.{HasTypeName, StartsAt, IsLocal}
 use Rattle.jr_tree.specs.Rows.{Rows, label, name, parent}
 use Rattle.jr_defs.specs.Referents.{Table}
 use Rattle.jr_defs.specs.Imports.{ImportOf, ImportNames}
-use Rattle.jr_defs.specs.Rules.{DeclaresTop}
+use Rattle.jr_defs.specs.Declarations.{IsType}
+use Rattle.jr_defs.specs.Packages.{spelled}
+use Rattle.jr_defs.specs.Rules.{CanonicalName, DeclaresTop}
 use Rattle.jr_plain.specs.Search.{Lists}
 use Rattle.jr_plain.specs.Enclosing.{is_top_level}
 use Rattle.jr_plain.specs.Imports.{is_import_label, is_import_of}
-use Rattle.jr_plain.proofs.Tests.{either, like}
-use Rattle.jr_plain.proofs.Bounds.{type_below}
+use Rattle.jr_plain.proofs.Tests.{either, like, opposite}
+use Rattle.jr_plain.proofs.Bounds.{bounded, type_below}
 use Rattle.jr_plain.proofs.Enclosed.{top_level_tells}
 use Rattle.jr_plain.proofs.Imported.{import_of_tells}
 use Rattle.jr_places.specs.declared.chains.Entry.{Entry}
 use Rattle.jr_places.specs.Names.{name_row}
-use Rattle.jr_places.specs.Places.{ArePlaces}
 use Rattle.jr_supers.proofs.Subtyped.{one_test}
 use Rattle.jr_members.specs.Named.{under}
-use Rattle.jr_name_rules.specs.Found.{imported_type}
+use Rattle.jr_members.specs.Sources.{ArePlaced}
+use Rattle.jr_name_rules.specs.Found.{found, imported_type}
 use Rattle.jr_name_rules.specs.ImportTests as plain
 use Rattle.jr_name_rules.proofs.Found.{imported_finds}
-use Rattle.jr_name_rules.proofs.Imports.{ImportClash, import_clash_tells}
+use Rattle.jr_name_rules.proofs.Imports.{ImportClash, import_clash_tells, ImportNotCanonical, import_not_canonical_tells}
 use Rattle.jr_name_faults.specs.declared.imports.Imports as code
 use Rattle.jr_name_faults.specs.Twins.{has_other, with_twin, AreTwins}
 use Rattle.jr_name_faults.specs.Imports.{rows_of, table_of, IsPlacedWorld, single_type, IsTop, IsSingle, AreImportsTo, has_other_type, has_clash}
@@ -40,7 +47,7 @@ imports_start imports world tops singles = record {
   rows_are = refl;
   table_is = refl;
   few = world.few;
-  places_are = world.places_are;
+  placed = world.placed;
   tops_are = subst (λ l. AreTwins l (IsTop (rows_of imports.world.now) 0)) (sym tops) (no_twins (IsTop (rows_of imports.world.now) 0) (λ c x d h. let lt = h.before in absurd (omega arith)));
   singles_are = subst (λ l. AreTwins l (IsSingle (rows_of imports.world.now) (table_of imports.world.now) 0)) (sym singles)
       (no_twins (IsSingle (rows_of imports.world.now) (table_of imports.world.now) 0) (λ c x d h. let lt = h.before in absurd (omega arith)));
@@ -51,7 +58,7 @@ imports_same {p} {t} {k} {n} old new h world tops singles = record {
   rows_are = ap rows_of world ∙ h.rows_are;
   table_is = ap table_of world ∙ h.table_is;
   few = h.few;
-  places_are = subst (λ w. ArePlaces p w.under.places.now) (sym world) h.places_are;
+  placed = subst (λ w. ArePlaced p w.under.places.now) (sym world) h.placed;
   tops_are = subst (λ l. AreTwins l (IsTop p k)) (sym tops) h.tops_are;
   singles_are = subst (λ l. AreTwins l (IsSingle p t n)) (sym singles) h.singles_are;
 }
@@ -67,7 +74,7 @@ tops_none {p} {t} {k} imports h none = record {
   rows_are = h.rows_are;
   table_is = h.table_is;
   few = h.few;
-  places_are = h.places_are;
+  placed = h.placed;
   tops_are = twins_like h.tops_are (λ c x d i. top_later i)
       (λ c x d i. top_earlier i (λ same. false≢true (sym none ∙ ap (λ q. is_top_level q k) h.rows_are ∙ ap (is_top_level p) same ∙ i.top)));
   singles_are = h.singles_are;
@@ -79,7 +86,7 @@ tops_more {p} {t} {k} old new unit x h top inside named world singles tops = rec
   rows_are = ap rows_of world ∙ h.rows_are;
   table_is = ap table_of world ∙ h.table_is;
   few = h.few;
-  places_are = subst (λ w. ArePlaces p w.under.places.now) (sym world) h.places_are;
+  placed = subst (λ w. ArePlaced p w.under.places.now) (sym world) h.placed;
   tops_are = subst (λ l. AreTwins l (IsTop p (k + 1))) (sym tops) (twins_like (twins_more h.tops_are unit x k)
       (λ c y d. ⊎_elim (λ i. top_later i) (λ i. subst (λ d. IsTop p (k + 1) c y d) i.1.1
       (record { before = omega arith; top = ap (λ q. is_top_level q k) (sym h.rows_are) ∙ top; inside = ap (λ q. parent q k) (sym h.rows_are) ∙ sym inside ∙ i.0; named = sym named ∙ i.1.0 })))
@@ -119,7 +126,7 @@ singles_none {p} {t} {n} imports h none = record {
   rows_are = h.rows_are;
   table_is = h.table_is;
   few = h.few;
-  places_are = h.places_are;
+  placed = h.placed;
   tops_are = h.tops_are;
   singles_are = twins_like h.singles_are (λ c x d i. single_later i)
       (λ c x d i. single_earlier i (λ same. none-some d (none ∙ ap₂ (λ q s. single_type q s n) h.rows_are h.table_is ∙ sym (ap (single_type p t) same) ∙ names_single p t c i.import d i.is_import i.names)));
@@ -131,7 +138,7 @@ singles_more {p} {t} {n} old new unit x class h some inside named world tops sin
   rows_are = ap rows_of world ∙ h.rows_are;
   table_is = ap table_of world ∙ h.table_is;
   few = h.few;
-  places_are = subst (λ w. ArePlaces p w.under.places.now) (sym world) h.places_are;
+  placed = subst (λ w. ArePlaced p w.under.places.now) (sym world) h.placed;
   tops_are = subst (λ l. AreTwins l (IsTop p (length p))) (sym tops) h.tops_are;
   singles_are = subst (λ l. AreTwins l (IsSingle p t (n + 1))) (sym singles) (twins_like (twins_more h.singles_are unit x class) out into);
 }
@@ -234,3 +241,50 @@ module _ {p : Rows} {t : Table} {n : ℕ} (imports : code.Imports) (h : AreImpor
 
   pub class_below : (class : ℕ) → Some class ≡ single_type (rows_of imports.world.now) (table_of imports.world.now) n → class < length p
   class_below class some = single_below p t n class (ap₂ (λ q s. single_type q s n) (sym h.rows_are) (sym h.table_is) ∙ sym some)
+
+-- ---- names that are not canonical
+
+import_form : (l : Label) → plain.is_import l ≡ true → (form : ImportKind) × (l ≡ is.Import form)
+import_form (is.Import form) h = (form, refl)
+import_form _ h = absurd (false≢true h)
+
+-- behind an import stands its name
+name_behind : (p : Rows) → IsLocal p → (i : ℕ) → plain.is_import (label p i) ≡ true → IsTypeName (label p (i + 1))
+name_behind p local i import = starts.named
+  where
+    form : (f : ImportKind) × (label p i ≡ is.Import f)
+    form = import_form (label p i) import
+
+    not_first : i ≡ 0 → ⊥
+    not_first none = let at = ap (label p) none in let program = local.program in let e = form.1 in cc
+
+    starts : HasTypeName p i
+    starts = subst (StartsAt p i) form.1 (local.starts i (⊎_elim (λ none. absurd (not_first none)) (λ apart. omega arith) (cases_eq i 0)) (bounded (λ l. plain.is_import l ≡ true) (λ e. false≢true e) p i import))
+
+module _ {p : Rows} {t : Table} {n : ℕ} (imports : code.Imports) (h : AreImportsTo p t (length p) n imports) where
+  pub no_import : false ≡ plain.is_import (label (rows_of imports.world.now) n) → false ≡ plain.is_import_not_canonical p t n
+  no_import none = ap (λ b. b && found (imported_type p t n) (λ d. not (plain.is_canonical_name p d (spelled p (n + 1))))) (none ∙ ap (λ q. plain.is_import (label q n)) h.rows_are)
+
+  pub names_none : None ≡ imported_type (rows_of imports.world.now) (table_of imports.world.now) n → false ≡ plain.is_import_not_canonical p t n
+  names_none none = one_test false (plain.is_import_not_canonical p t n) (ImportNotCanonical p t n)
+      ((λ e. absurd (false≢true e)), (λ k. absurd (none-some k.1.0 (none ∙ ap₂ (λ q s. imported_type q s n) h.rows_are h.table_is ∙ (imported_finds p t n k.1.0).1 k.1.1))))
+      (import_not_canonical_tells p t h.placed.local.tree n)
+
+  module _ (class : ℕ) (is : Some class ≡ imported_type (rows_of imports.world.now) (table_of imports.world.now) n) where
+    named : ImportNames p t n class
+    named = (imported_finds p t n class).0 (sym (is ∙ ap₂ (λ q s. imported_type q s n) h.rows_are h.table_is))
+
+    pub class_type : IsType p class
+    class_type = named.type
+
+    pub import_name : true ≡ plain.is_import (label (rows_of imports.world.now) n) → IsTypeName (label p (n + 1))
+    import_name import = name_behind p h.placed.local n (sym (ap (λ q. plain.is_import (label q n)) h.rows_are) ∙ sym import)
+
+    pub names_some : (b : Bool) → true ≡ plain.is_import (label (rows_of imports.world.now) n) → Decides b (CanonicalName p class (spelled p (n + 1))) → not b ≡ plain.is_import_not_canonical p t n
+    names_some b import tells = one_test (not b) (plain.is_import_not_canonical p t n) (ImportNotCanonical p t n)
+        (like (opposite tells) (λ other. (import_form (label p n) (sym (ap (λ q. plain.is_import (label q n)) h.rows_are) ∙ sym import), (class, named, other)))
+        (λ k. subst (λ d. CanonicalName p d (spelled p (n + 1)) → ⊥) (one_class k.1.0 k.1.1) k.1.2))
+        (import_not_canonical_tells p t h.placed.local.tree n)
+      where
+        one_class : (d : ℕ) → ImportNames p t n d → d ≡ class
+        one_class d k = same_Some d class (sym ((imported_finds p t n d).1 k) ∙ (imported_finds p t n class).1 named)

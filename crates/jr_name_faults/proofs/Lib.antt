@@ -1,3 +1,4 @@
+pub mod Spelled
 pub mod Opening
 pub mod Scoped
 pub mod Twinned

@@ -1,7 +1,5 @@
--- The rows of faults that are added, rule by rule.
-use Rattle.std.proofs.Common.{◌≡◌, refl, sym, ◌∙◌, ap, ap₂, subst, arith, add-one, ℕ, zero, suc, ◌+◌, ◌-◌, Bool, true, false, cond, ◌||◌, List, [], ◌∷◌, ◌++◌, append_assoc, append-nil, length, nat_eq}
-use Rattle.std.proofs.lemmas.Bool.{or_parts}
-use Rattle.std.proofs.lemmas.Bool.Decides.{Decides-eqb}
+-- The faults of the rules on names that are added, row by row, and these rules in the list of the definition.
+use Rattle.std.proofs.Common.{◌≡◌, refl, sym, ◌∙◌, ap, subst, arith, add-one, ℕ, ◌+◌, ◌-◌, Bool, true, false, cond, ◌||◌, List, [], ◌∷◌, ◌++◌, append_assoc, append-nil, length, nat_eq}
 use Rattle.jr_tree.specs.Rows.{Rows}
 use Rattle.jr_defs.specs.Referents.{Table}
 use Rattle.jr_plain.specs.Search.{has, all_such}
@@ -11,6 +9,8 @@ use Rattle.jr_rule.specs.declared.Rule.{Rule}
 use Rattle.jr_rule.specs.declared.Rule.TheVariants as rule
 use Rattle.jr_rule.specs.Numbers.{number_of}
 use Rattle.jr_rule.specs.Faults.{is_of, rows_of, AreFaultsOf}
+use Rattle.jr_faults.specs.Added.{row_if}
+use Rattle.jr_faults.proofs.Told.{none_added, only_kept, only_more, row_more, rows_told}
 use Rattle.jr_name_rules.specs.AccessTests.{is_not_accessible}
 use Rattle.jr_name_rules.specs.Found.{is_next}
 use Rattle.jr_name_rules.specs.DeclarationTests.{has_type_clash, is_second_field, is_second_method, is_second_constructor, is_second_local, is_second_label}
@@ -22,80 +22,16 @@ use Rattle.jr_name_faults.specs.declared.locals.Locals as code
 use Rattle.jr_name_faults.specs.declared.imports.Imports.{Imports}
 use Rattle.jr_name_faults.specs.Imports.{AreImportsTo}
 use Rattle.jr_name_faults.specs.Locals.{IsBefore}
-use Rattle.jr_name_faults.specs.Faults.{is_broken, AreExactFaults, fault_if, row_if, is_of_imports, AreOfImports, AreOf}
+use Rattle.jr_name_faults.specs.Faults.{is_broken, is_of_names, AreOfNames, AreExactFaults, fault_if}
 use Rattle.jr_name_faults.specs.Views.{rows_in, table_in, types_in, IsSeenView}
 
--- ---- lists of faults
+-- ---- what an import names stands behind it
 
-rows_append : (r : Rule) (xs ys : List Fault) → rows_of r (xs ++ ys) ≡ rows_of r xs ++ rows_of r ys
-rows_append r [] ys = refl
-rows_append r (x ∷ xs) ys = by (is_of r x) (rows_append r xs ys)
-  where
-    by : {more : List ℕ} (b : Bool) → more ≡ rows_of r xs ++ rows_of r ys → cond b (x.row ∷ more) more ≡ cond b (x.row ∷ rows_of r xs) (rows_of r xs) ++ rows_of r ys
-    by true e = ap (λ l. x.row ∷ l) e
-    by false e = e
+pub next_names : {old new : List Fault} (r : Rule) (test : ℕ → Bool) (n import : ℕ) → import + 1 ≡ n → AreFaultsOf r (row_if (test import) n) old new → AreFaultsOf r (row_if (is_next test n) n) old new
+next_names {old} {new} r test n import next h = subst (λ b. AreFaultsOf r (row_if b n) old new) (sym (ap (is_next test) (sym next ∙ add-one import))) h
 
-own_rows : (r : Rule) (b : Bool) (n : ℕ) → rows_of r (fault_if b n r) ≡ row_if b n
-own_rows r false n = refl
-own_rows r true n = ap (λ b. cond b (n ∷ []) []) ((Decides-eqb (number_of r) (number_of r)).1 refl)
-
-other_rows : (r other : Rule) (b : Bool) (n : ℕ) → nat_eq (number_of other) (number_of r) ≡ false → rows_of r (fault_if b n other) ≡ []
-other_rows r other false n apart = refl
-other_rows r other true n apart = ap (λ b. cond b (n ∷ []) []) apart
-
-pub own_added : {old new : List Fault} (r : Rule) (b : Bool) (n : ℕ) → new ≡ old ++ fault_if b n r → AreFaultsOf r (row_if b n) old new
-own_added {old} r b n is = record { are = ap (rows_of r) is ∙ rows_append r old (fault_if b n r) ∙ ap (λ l. rows_of r old ++ l) (own_rows r b n) }
-
-pub other_added : {old new : List Fault} (r other : Rule) (b : Bool) (n : ℕ) → nat_eq (number_of other) (number_of r) ≡ false → new ≡ old ++ fault_if b n other → AreFaultsOf r [] old new
-other_added {old} r other b n apart is = record { are = ap (rows_of r) is ∙ rows_append r old (fault_if b n other) ∙ ap (λ l. rows_of r old ++ l) (other_rows r other b n apart) }
-
-pub added_then : {old mid new : List Fault} {xs ys : List ℕ} (r : Rule) → AreFaultsOf r xs old mid → AreFaultsOf r ys mid new → AreFaultsOf r (xs ++ ys) old new
-added_then {old} {mid} {new} {xs} {ys} r h k = record { are = k.are ∙ ap (λ l. l ++ ys) h.are ∙ append_assoc (rows_of r old) xs ys }
-
-pub none_then : {old mid new : List Fault} {ys : List ℕ} (r : Rule) → AreFaultsOf r [] old mid → AreFaultsOf r ys mid new → AreFaultsOf r ys old new
-none_then {ys = ys} r h k = added_then {xs = []} {ys = ys} r h k
-
-pub then_none : {old mid new : List Fault} {xs : List ℕ} (r : Rule) → AreFaultsOf r xs old mid → AreFaultsOf r [] mid new → AreFaultsOf r xs old new
-then_none {old} {mid} {new} {xs} r h k = subst (λ l. AreFaultsOf r l old new) (append-nil xs) (added_then {xs = xs} {ys = []} r h k)
-
-none_added : (r : Rule) (old : List Fault) → AreFaultsOf r [] old old
-none_added r old = record { are = sym (append-nil (rows_of r old)) }
-
--- both rules on locals and labels
-pub both_added : (old mid new : List Fault) (b c : Bool) (n : ℕ) (q r : Rule) → mid ≡ old ++ fault_if b n q → new ≡ mid ++ fault_if c n r → new ≡ old ++ (fault_if b n q ++ fault_if c n r)
-both_added old mid new b c n q r first second = second ∙ ap (λ l. l ++ fault_if c n r) first ∙ append_assoc old (fault_if b n q) (fault_if c n r)
-
-pub first_of : {old new : List Fault} (b c : Bool) (n : ℕ) (q r : Rule) → nat_eq (number_of r) (number_of q) ≡ false → new ≡ old ++ (fault_if b n q ++ fault_if c n r) → AreFaultsOf q (row_if b n) old new
-first_of {old} b c n q r apart is = then_none {mid = old ++ fault_if b n q} q (own_added q b n refl) (other_added q r c n apart (is ∙ sym (append_assoc old (fault_if b n q) (fault_if c n r))))
-
-pub second_of : {old new : List Fault} (b c : Bool) (n : ℕ) (q r : Rule) → nat_eq (number_of q) (number_of r) ≡ false → new ≡ old ++ (fault_if b n q ++ fault_if c n r) → AreFaultsOf r (row_if c n) old new
-second_of {old} b c n q r apart is = none_then {mid = old ++ fault_if b n q} r (other_added r q b n apart refl) (own_added r c n (is ∙ sym (append_assoc old (fault_if b n q) (fault_if c n r))))
-
-pub neither_of : {old new : List Fault} (b c : Bool) (n : ℕ) (q r s : Rule) → nat_eq (number_of q) (number_of s) ≡ false → nat_eq (number_of r) (number_of s) ≡ false → new ≡ old ++ (fault_if b n q ++ fault_if c n r) → AreFaultsOf s [] old new
-neither_of {old} b c n q r s one other is = none_then {mid = old ++ fault_if b n q} s (other_added s q b n one refl) (other_added s r c n other (is ∙ sym (append_assoc old (fault_if b n q) (fault_if c n r))))
-
-pub only_added : {old new : List Fault} (only : Rule) (b : Bool) (n : ℕ) → new ≡ old ++ fault_if b n only → AreOf only old new
-only_added only b n is = record { others = λ r apart. other_added r only b n apart is }
-
--- ---- the rules on imports
-
-pub imports_then : {old mid new : List Fault} → AreOf rule.ImportNames old mid → AreOf rule.ImportedTypes mid new → AreOfImports old new
-imports_then h k = record { others = λ r apart. none_then r (h.others r (or_parts _ _ apart).0) (k.others r (or_parts _ _ (or_parts _ _ apart).1).0) }
-
--- behind an import that is the row before
-pub next_names : {old mid new : List Fault} (test : ℕ → Bool) (n import : ℕ) → import + 1 ≡ n → mid ≡ old ++ fault_if (test import) n rule.ImportNames → AreOf rule.ImportedTypes mid new
-    → AreFaultsOf rule.ImportNames (row_if (is_next test n) n) old new
-next_names {old} {mid} {new} test n import next is others = subst (λ b. AreFaultsOf rule.ImportNames (row_if b n) old new) (sym same)
-    (then_none {mid = mid} rule.ImportNames (own_added rule.ImportNames (test import) n is) (others.others rule.ImportNames refl))
-  where
-    same : is_next test n ≡ test import
-    same = ap (is_next test) (sym next ∙ add-one import)
-
-pub first_names : (test : ℕ → Bool) (n : ℕ) (old : List Fault) → n ≡ 0 → AreFaultsOf rule.ImportNames (row_if (is_next test n) n) old old
-first_names test n old none = subst (λ m. AreFaultsOf rule.ImportNames (row_if (is_next test m) m) old old) (sym none) (none_added rule.ImportNames old)
-
-pub imports_none : (old : List Fault) → AreOfImports old old
-imports_none old = record { others = λ r apart. none_added r old }
+pub first_names : (r : Rule) (test : ℕ → Bool) (n : ℕ) (old : List Fault) → n ≡ 0 → AreFaultsOf r (row_if (is_next test n) n) old old
+first_names r test n old none = subst (λ m. AreFaultsOf r (row_if (is_next test m) m) old old) (sym none) (none_added r old)
 
 -- ---- the rows so far
 
@@ -103,38 +39,52 @@ pub record AreFaultsTo (view : View) (n : ℕ) (old now : List Fault) (locals : 
   pub before : IsBefore (rows_in view) n locals
   pub local_names : AreFaultsOf rule.LocalNames (all_such n (is_second_local (rows_in view))) old now
   pub labels : AreFaultsOf rule.Labels (all_such n (is_second_label (rows_in view))) old now
-  pub access : IsSeenView view → AreFaultsOf rule.Access (all_such n (is_not_accessible (rows_in view) (table_in view) (types_in view))) old now
 
 pub faults_start : (view : View) (old : List Fault) (locals : code.Locals) → IsBefore (rows_in view) 0 locals → AreFaultsTo view 0 old old locals
-faults_start view old locals h = record { before = h; local_names = none_added rule.LocalNames old; labels = none_added rule.Labels old; access = λ seen. none_added rule.Access old }
-
-row_more : {old now new : List Fault} (n : ℕ) (r : Rule) (test : ℕ → Bool) → AreFaultsOf r (all_such n test) old now → AreFaultsOf r (row_if (test n) n) now new → AreFaultsOf r (all_such (n + 1) test) old new
-row_more {old} {now} {new} n r test h k = subst (λ m. AreFaultsOf r (all_such m test) old new) (sym (add-one n)) (added_then r h k)
+faults_start view old locals h = record { before = h; local_names = none_added rule.LocalNames old; labels = none_added rule.Labels old }
 
 pub faults_more : {view : View} {n : ℕ} {old now new : List Fault} {was locals : code.Locals} → AreFaultsTo view n old now was → IsBefore (rows_in view) (n + 1) locals
-    → AreFaultsOf rule.LocalNames (row_if (is_second_local (rows_in view) n) n) now new → AreFaultsOf rule.Labels (row_if (is_second_label (rows_in view) n) n) now new
-    → (IsSeenView view → AreFaultsOf rule.Access (row_if (is_not_accessible (rows_in view) (table_in view) (types_in view) n) n) now new) → AreFaultsTo view (n + 1) old new locals
-faults_more {view} {n} {old} {now} {new} h before names labels access = record {
+    → AreFaultsOf rule.LocalNames (row_if (is_second_local (rows_in view) n) n) now new → AreFaultsOf rule.Labels (row_if (is_second_label (rows_in view) n) n) now new → AreFaultsTo view (n + 1) old new locals
+faults_more {view} {n} h before names labels = record {
   before = before;
   local_names = row_more n rule.LocalNames (is_second_local (rows_in view)) h.local_names names;
   labels = row_more n rule.Labels (is_second_label (rows_in view)) h.labels labels;
-  access = λ seen. row_more n rule.Access (is_not_accessible (rows_in view) (table_in view) (types_in view)) (h.access seen) (access seen);
 }
 
--- the same of names of imports
+-- the same of access
+pub record AreAccessFaultsTo (view : View) (n : ℕ) (old now : List Fault) : Type 0 where
+  pub access : AreFaultsOf rule.Access (all_such n (is_not_accessible (rows_in view) (table_in view) (types_in view))) old now
+
+pub access_start : (view : View) (old : List Fault) → AreAccessFaultsTo view 0 old old
+access_start view old = record { access = none_added rule.Access old }
+
+pub access_more : {view : View} {n : ℕ} {old now new : List Fault} → AreAccessFaultsTo view n old now → AreFaultsOf rule.Access (row_if (is_not_accessible (rows_in view) (table_in view) (types_in view) n) n) now new → AreAccessFaultsTo view (n + 1) old new
+access_more {view} {n} h access = record { access = row_more n rule.Access (is_not_accessible (rows_in view) (table_in view) (types_in view)) h.access access }
+
+-- the same of imports
 pub record AreImportFaultsTo (view : View) (n : ℕ) (old now : List Fault) (imports : Imports) : Type 0 where
   pub passed : AreImportsTo (rows_in view) (table_in view) (length (rows_in view)) (n - 1) imports
   pub import_names : AreFaultsOf rule.ImportNames (all_such n (is_next (has_import_clash (rows_in view) (table_in view)))) old now
+  pub imported_types : AreFaultsOf rule.ImportedTypes (all_such n (is_next (is_import_not_canonical (rows_in view) (table_in view)))) old now
 
 pub imports_start : (view : View) (old : List Fault) (imports : Imports) → AreImportsTo (rows_in view) (table_in view) (length (rows_in view)) 0 imports → AreImportFaultsTo view 0 old old imports
-imports_start view old imports h = record { passed = h; import_names = none_added rule.ImportNames old }
+imports_start view old imports h = record { passed = h; import_names = none_added rule.ImportNames old; imported_types = none_added rule.ImportedTypes old }
 
 pub imports_more : {view : View} {n : ℕ} {old now new : List Fault} {was imports : Imports} → AreImportFaultsTo view n old now was → AreImportsTo (rows_in view) (table_in view) (length (rows_in view)) n imports
-    → AreFaultsOf rule.ImportNames (row_if (is_next (has_import_clash (rows_in view) (table_in view)) n) n) now new → AreImportFaultsTo view (n + 1) old new imports
-imports_more {view} {n} {old} {now} {new} {was} {imports} h passed names = record {
+    → AreFaultsOf rule.ImportNames (row_if (is_next (has_import_clash (rows_in view) (table_in view)) n) n) now new
+    → AreFaultsOf rule.ImportedTypes (row_if (is_next (is_import_not_canonical (rows_in view) (table_in view)) n) n) now new → AreImportFaultsTo view (n + 1) old new imports
+imports_more {view} {n} {old} {now} {new} {was} {imports} h passed names types = record {
   passed = subst (λ m. AreImportsTo (rows_in view) (table_in view) (length (rows_in view)) m imports) (omega arith) passed;
   import_names = row_more n rule.ImportNames (is_next (has_import_clash (rows_in view) (table_in view))) h.import_names names;
+  imported_types = row_more n rule.ImportedTypes (is_next (is_import_not_canonical (rows_in view) (table_in view))) h.imported_types types;
 }
+
+-- those of other rules
+pub names_start : (old : List Fault) → AreOfNames old old
+names_start old = only_kept is_of_names old
+
+pub names_more : {old now new : List Fault} → AreOfNames old now → AreOfNames now new → AreOfNames old new
+names_more h k = only_more h k
 
 -- ---- the rules in the list of the definition
 
@@ -195,29 +145,30 @@ module _ (a b c d e f g h i j k : Bool) where
   eighth : has l2 8 ≡ g
   eighth = past a 2 8 l3 refl ∙ past b 3 8 l4 refl ∙ past c 4 8 l5 refl ∙ past d 5 8 l6 refl ∙ past e 6 8 l7 refl ∙ past f 7 8 l8 refl ∙ met g 8 8 l9 refl (past h 9 8 l10 refl ∙ past i 10 8 l13 refl ∙ past j 13 8 l47 refl ∙ last k 47 8 refl)
 
+  ninth : has l2 9 ≡ h
+  ninth = past a 2 9 l3 refl ∙ past b 3 9 l4 refl ∙ past c 4 9 l5 refl ∙ past d 5 9 l6 refl ∙ past e 6 9 l7 refl ∙ past f 7 9 l8 refl ∙ past g 8 9 l9 refl ∙ met h 9 9 l10 refl (past i 10 9 l13 refl ∙ past j 13 9 l47 refl ∙ last k 47 9 refl)
+
   tenth : has l2 10 ≡ i
   tenth = past a 2 10 l3 refl ∙ past b 3 10 l4 refl ∙ past c 4 10 l5 refl ∙ past d 5 10 l6 refl ∙ past e 6 10 l7 refl ∙ past f 7 10 l8 refl ∙ past g 8 10 l9 refl ∙ past h 9 10 l10 refl ∙ met i 10 10 l13 refl (past j 13 10 l47 refl ∙ last k 47 10 refl)
 
 module _ (p : Rows) (t : Table) (types : Types) (n : ℕ) where
-  pub local_names_at : has (broken_at p t types n) 6 ≡ is_second_local p n
+  local_names_at : has (broken_at p t types n) 6 ≡ is_second_local p n
   local_names_at = sixth (has_type_clash p n) (is_second_field p n) (is_second_method p t n) (is_second_constructor p t n) (is_second_local p n) (is_second_label p n) (is_next (has_import_clash p t) n) (is_next (is_import_not_canonical p t) n) (is_not_accessible p t types n) (has_wrong_supertype p t n) (has_static_import_fault p t n)
 
-  pub labels_at : has (broken_at p t types n) 7 ≡ is_second_label p n
+  labels_at : has (broken_at p t types n) 7 ≡ is_second_label p n
   labels_at = seventh (has_type_clash p n) (is_second_field p n) (is_second_method p t n) (is_second_constructor p t n) (is_second_local p n) (is_second_label p n) (is_next (has_import_clash p t) n) (is_next (is_import_not_canonical p t) n) (is_not_accessible p t types n) (has_wrong_supertype p t n) (has_static_import_fault p t n)
 
-  pub import_names_at : has (broken_at p t types n) 8 ≡ is_next (has_import_clash p t) n
+  import_names_at : has (broken_at p t types n) 8 ≡ is_next (has_import_clash p t) n
   import_names_at = eighth (has_type_clash p n) (is_second_field p n) (is_second_method p t n) (is_second_constructor p t n) (is_second_local p n) (is_second_label p n) (is_next (has_import_clash p t) n) (is_next (is_import_not_canonical p t) n) (is_not_accessible p t types n) (has_wrong_supertype p t n) (has_static_import_fault p t n)
 
-  pub access_at : has (broken_at p t types n) 10 ≡ is_not_accessible p t types n
+  imported_types_at : has (broken_at p t types n) 9 ≡ is_next (is_import_not_canonical p t) n
+  imported_types_at = ninth (has_type_clash p n) (is_second_field p n) (is_second_method p t n) (is_second_constructor p t n) (is_second_local p n) (is_second_label p n) (is_next (has_import_clash p t) n) (is_next (is_import_not_canonical p t) n) (is_not_accessible p t types n) (has_wrong_supertype p t n) (has_static_import_fault p t n)
+
+  access_at : has (broken_at p t types n) 10 ≡ is_not_accessible p t types n
   access_at = tenth (has_type_clash p n) (is_second_field p n) (is_second_method p t n) (is_second_constructor p t n) (is_second_local p n) (is_second_label p n) (is_next (has_import_clash p t) n) (is_next (is_import_not_canonical p t) n) (is_not_accessible p t types n) (has_wrong_supertype p t n) (has_static_import_fault p t n)
 
-such_same : (f g : ℕ → Bool) (n : ℕ) → ((k : ℕ) → f k ≡ g k) → all_such n f ≡ all_such n g
-such_same f g zero same = refl
-such_same f g (suc n) same = ap₂ (λ xs b. xs ++ cond b (n ∷ []) []) (such_same f g n same) (same n)
-
 told : (view : View) (n : ℕ) (old now : List Fault) → n ≡ length (rows_in view) → (r : Rule) (test : ℕ → Bool) → ((k : ℕ) → is_broken view r k ≡ test k) → AreFaultsOf r (all_such n test) old now → AreExactFaults view r old now
-told view n old now whole r test same k =
-    subst (λ l. AreFaultsOf r l old now) (ap (λ m. all_such m test) whole ∙ sym (such_same (is_broken view r) test (length (rows_in view)) same)) k
+told view n old now whole r test same k = subst (λ m. AreFaultsOf r (all_such m (is_broken view r)) old now) whole (rows_told test (is_broken view r) n r (λ m. sym (same m)) k)
 
 pub told_names : {view : View} {n : ℕ} {old now : List Fault} {locals : code.Locals} → n ≡ length (rows_in view) → AreFaultsTo view n old now locals → AreExactFaults view rule.LocalNames old now
 told_names {view} {n} {old} {now} whole h =
@@ -226,10 +177,37 @@ told_names {view} {n} {old} {now} whole h =
 pub told_labels : {view : View} {n : ℕ} {old now : List Fault} {locals : code.Locals} → n ≡ length (rows_in view) → AreFaultsTo view n old now locals → AreExactFaults view rule.Labels old now
 told_labels {view} {n} {old} {now} whole h = told view n old now whole rule.Labels (is_second_label (rows_in view)) (labels_at (rows_in view) (table_in view) (types_in view)) h.labels
 
-pub told_access : {view : View} {n : ℕ} {old now : List Fault} {locals : code.Locals} → n ≡ length (rows_in view) → AreFaultsTo view n old now locals → IsSeenView view → AreExactFaults view rule.Access old now
-told_access {view} {n} {old} {now} whole h seen = told view n old now whole rule.Access (is_not_accessible (rows_in view) (table_in view) (types_in view))
-    (access_at (rows_in view) (table_in view) (types_in view)) (h.access seen)
+pub told_access : {view : View} {n : ℕ} {old now : List Fault} → n ≡ length (rows_in view) → AreAccessFaultsTo view n old now → AreExactFaults view rule.Access old now
+told_access {view} {n} {old} {now} whole h = told view n old now whole rule.Access (is_not_accessible (rows_in view) (table_in view) (types_in view))
+    (access_at (rows_in view) (table_in view) (types_in view)) h.access
 
 pub told_imports : {view : View} {n : ℕ} {old now : List Fault} {imports : Imports} → n ≡ length (rows_in view) → AreImportFaultsTo view n old now imports → AreExactFaults view rule.ImportNames old now
 told_imports {view} {n} {old} {now} whole h = told view n old now whole rule.ImportNames (is_next (has_import_clash (rows_in view) (table_in view)))
     (import_names_at (rows_in view) (table_in view) (types_in view)) h.import_names
+
+pub told_types : {view : View} {n : ℕ} {old now : List Fault} {imports : Imports} → n ≡ length (rows_in view) → AreImportFaultsTo view n old now imports → AreExactFaults view rule.ImportedTypes old now
+told_types {view} {n} {old} {now} whole h = told view n old now whole rule.ImportedTypes (is_next (is_import_not_canonical (rows_in view) (table_in view)))
+    (imported_types_at (rows_in view) (table_in view) (types_in view)) h.imported_types
+
+-- ---- faults of rules on types
+
+rows_append : (r : Rule) (xs ys : List Fault) → rows_of r (xs ++ ys) ≡ rows_of r xs ++ rows_of r ys
+rows_append r [] ys = refl
+rows_append r (x ∷ xs) ys = by (is_of r x) (rows_append r xs ys)
+  where
+    by : {more : List ℕ} (b : Bool) → more ≡ rows_of r xs ++ rows_of r ys → cond b (x.row ∷ more) more ≡ cond b (x.row ∷ rows_of r xs) (rows_of r xs) ++ rows_of r ys
+    by true e = ap (λ l. x.row ∷ l) e
+    by false e = e
+
+other_rows : (r other : Rule) (b : Bool) (n : ℕ) → nat_eq (number_of other) (number_of r) ≡ false → rows_of r (fault_if b n other) ≡ []
+other_rows r other false n apart = refl
+other_rows r other true n apart = ap (λ b. cond b (n ∷ []) []) apart
+
+pub other_added : {old new : List Fault} (r other : Rule) (b : Bool) (n : ℕ) → nat_eq (number_of other) (number_of r) ≡ false → new ≡ old ++ fault_if b n other → AreFaultsOf r [] old new
+other_added {old} r other b n apart is = record { are = ap (rows_of r) is ∙ rows_append r old (fault_if b n other) ∙ ap (λ l. rows_of r old ++ l) (other_rows r other b n apart) }
+
+pub added_then : {old mid new : List Fault} {xs ys : List ℕ} (r : Rule) → AreFaultsOf r xs old mid → AreFaultsOf r ys mid new → AreFaultsOf r (xs ++ ys) old new
+added_then {old} {mid} {new} {xs} {ys} r h k = record { are = k.are ∙ ap (λ l. l ++ ys) h.are ∙ append_assoc (rows_of r old) xs ys }
+
+pub none_then : {old mid new : List Fault} {ys : List ℕ} (r : Rule) → AreFaultsOf r [] old mid → AreFaultsOf r ys mid new → AreFaultsOf r ys old new
+none_then {ys = ys} r h k = added_then {xs = []} {ys = ys} r h k

@@ -1,11 +1,12 @@
 -- The faults that the rules on names find, and the rows at which the definition breaks them.
-use Rattle.std.specs.Prelude.{◌≡◌, ℕ, Bool, false, ◌||◌, if◌then◌else◌, List, [], ◌∷◌, length, nat_eq}
+use Rattle.std.specs.Prelude.{ℕ, Bool, ◌||◌, if◌then◌else◌, List, [], ◌∷◌, length}
 use Rattle.jr_plain.specs.Search.{has, all_such}
 use Rattle.jr_rule.specs.declared.Fault.{Fault}
 use Rattle.jr_rule.specs.declared.Rule.{Rule}
 use Rattle.jr_rule.specs.declared.Rule.TheVariants as rule
 use Rattle.jr_rule.specs.Numbers.{number_of}
 use Rattle.jr_rule.specs.Faults.{AreFaultsOf}
+use Rattle.jr_faults.specs.Added.{is_rule, AreOnly}
 use Rattle.jr_name_rules.specs.Computed.{broken_at}
 use Rattle.jr_view.specs.declared.View.{View}
 use Rattle.jr_name_faults.specs.Views.{rows_in, table_in, types_in}
@@ -22,7 +23,23 @@ broken_rows view rule = all_such (length (rows_in view)) (is_broken view rule)
 abbrev pub AreExactFaults : View → Rule → List Fault → List Fault → Type 0
 AreExactFaults view rule old new = AreFaultsOf rule (broken_rows view rule) old new
 
--- ---- at one row
+-- ---- the rules on names
+
+abbrev pub is_of_locals : Rule → Bool
+is_of_locals one = is_rule rule.LocalNames one || is_rule rule.Labels one
+
+abbrev pub is_of_imports : Rule → Bool
+is_of_imports one = is_rule rule.ImportNames one || is_rule rule.ImportedTypes one
+
+-- the rules 6 to 10 and 47
+abbrev pub is_of_names : Rule → Bool
+is_of_names one = ((is_of_locals one || is_of_imports one) || is_rule rule.Access one) || is_rule rule.StaticImports one
+
+-- no faults were added but of these rules
+abbrev pub AreOfNames : List Fault → List Fault → Type 0
+AreOfNames old new = AreOnly is_of_names old new
+
+-- ---- of rules on types
 
 -- the fault, where the rule is broken
 abbrev pub fault_if : Bool → ℕ → Rule → List Fault
@@ -31,16 +48,3 @@ fault_if is_broken n rule = if is_broken then record { row = n; rule = rule } �
 -- the row, where the rule is broken
 abbrev pub row_if : Bool → ℕ → List ℕ
 row_if is_broken n = if is_broken then n ∷ [] else []
-
--- the rule is one of those on imports
-abbrev pub is_of_imports : Rule → Bool
-is_of_imports one =
-    nat_eq (number_of rule.ImportNames) (number_of one) || (nat_eq (number_of rule.ImportedTypes) (number_of one) || nat_eq (number_of rule.StaticImports) (number_of one))
-
--- but for those, no faults have been added
-pub record AreOfImports (old new : List Fault) : Type 0 where
-  pub others : (one : Rule) → is_of_imports one ≡ false → AreFaultsOf one [] old new
-
--- but for the one rule, none have been added
-pub record AreOf (only : Rule) (old new : List Fault) : Type 0 where
-  pub others : (one : Rule) → nat_eq (number_of only) (number_of one) ≡ false → AreFaultsOf one [] old new

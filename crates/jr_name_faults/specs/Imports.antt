@@ -6,7 +6,7 @@ use Rattle.jr_defs.specs.Referents.{Table, entries}
 use Rattle.jr_plain.specs.Enclosing.{is_top_level}
 use Rattle.jr_plain.specs.Imports.{is_import_label, is_import_of}
 use Rattle.jr_places.specs.Names.{name_row}
-use Rattle.jr_places.specs.Places.{ArePlaces}
+use Rattle.jr_members.specs.Sources.{ArePlaced}
 use Rattle.jr_members.specs.declared.members.World.{World}
 use Rattle.jr_members.specs.Named.{under}
 use Rattle.jr_name_rules.specs.Found.{imported_type}
@@ -22,7 +22,7 @@ table_of world = entries world.under.table.now
 -- few rows, with their places
 pub record IsPlacedWorld (world : World) : Type 0 where
   pub few : length (rows_of world) < 2 ^ 32
-  pub places_are : ArePlaces (rows_of world) world.under.places.now
+  pub placed : ArePlaced (rows_of world) world.under.places.now
 
 -- the type that a single-type import names
 abbrev pub single_type : Rows → Table → ℕ → Option ℕ
@@ -48,7 +48,7 @@ pub record AreImportsTo (p : Rows) (t : Table) (k n : ℕ) (imports : code.Impor
   pub rows_are : rows_of imports.world.now ≡ p
   pub table_is : table_of imports.world.now ≡ t
   pub few : length p < 2 ^ 32
-  pub places_are : ArePlaces p imports.world.now.under.places.now
+  pub placed : ArePlaced p imports.world.now.under.places.now
   pub tops_are : AreTwins imports.tops.rows (IsTop p k)
   pub singles_are : AreTwins imports.singles.rows (IsSingle p t n)
 

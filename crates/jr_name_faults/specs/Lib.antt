@@ -4,3 +4,4 @@ pub mod Twins
 pub mod Imports
 pub mod Views
 pub mod Faults
+pub mod Canonical

@@ -1,50 +1,53 @@
 // Canonical names of types (JLS 6.7).
+ghost use Rattle.std.specs.Prelude.{◌≡◌, ◌<◌, ◌≤◌, ◌^◌, length};
+ghost use Rattle.std.specs.Bool.{Decides};
+ghost use Rattle.jr_tree.specs.Below.{IsTypeName};
+ghost use Rattle.jr_tree.specs.Rows.{label};
+ghost use Rattle.jr_defs.specs.Declarations.{IsType};
+ghost use Rattle.jr_defs.specs.Packages.{InPackage, spelled};
+ghost use Rattle.jr_defs.specs.Rules.{CanonicalName};
+ghost use Rattle.jr_places.specs.Packages.{same_some};
+ghost use Rattle.jr_members.specs.Sources.{ArePlaced};
+ghost use Rattle.jr_name_faults.specs.Canonical.{IsTopOf};
 
 use jr_members::declaring_type;
 use jr_places::{Places, end_at, is_top_level};
-use jr_tree::{Label, Row};
+use jr_tree::Row;
 
-// Where the name ends whose last identifier is the row.
-fn name_end(rows: &[Row], at: u32) -> u32 {
-    let next = at.saturating_add(1);
-    let end = end_at(rows, at);
-    if end < next { next } else { end }
-}
-
-// The name of the package of a unit, by its last identifier; the unnamed package has none.
-fn package_name(rows: &[Row], unit: u32) -> Option<u32> {
-    let declared = unit.checked_add(1)?;
-    let row = rows.get(declared as usize)?;
-    match row.label {
-        Label::Package => declared.checked_add(1),
-        _ => None,
+fn is_one(one: Option<u32>, other: Option<u32>) -> bool
+    ensures { result ≡ same_some one other }
+{
+    match one {
+        Some(first) => match other {
+            Some(second) => first == second,
+            None => false,
+        },
+        None => false,
     }
 }
 
-// The identifiers from one row to an end are those of the name of the type's package.
-fn is_package_of(rows: &[Row], places: &Places, top: u32, from: u32, end: u32) -> bool {
-    let Some(unit) = places.unit(top) else {
-        return false;
-    };
-    let Some(package) = package_name(rows, unit) else {
-        return false;
-    };
-    let length = name_end(rows, package).saturating_sub(package);
-    if end.saturating_sub(from) != length {
+// The row stands in the package that a name spells, by the row of its last identifier.
+fn is_in_package(rows: &[Row], places: &Places, row: u32, name: u32) -> bool
+    ensures { ArePlaced rows.now places.now → length rows.now < 2 ^ 32 → name < length rows.now → Decides result (InPackage rows.now (spelled rows.now name) row) }
+{
+    is_one(places.spelled(rows, name), places.package(row))
+}
+
+// A type that its unit declares outside any other, of the package that a name spells from the row on, if it has not ended there.
+fn is_top_of(rows: &[Row], places: &Places, class: u32, from: u32, end: u32) -> bool
+    ensures { ArePlaced rows.now places.now → length rows.now < 2 ^ 32 → end ≤ length rows.now → Decides result (IsTopOf rows.now class from end) }
+{
+    if from >= end || !is_top_level(rows, class) {
         return false;
     }
-    for nth in 0..length {
-        let one = places.name(package.saturating_add(nth));
-        if places.name(from.saturating_add(nth)) != one {
-            return false;
-        }
-    }
-    true
+    is_in_package(rows, places, class, from)
 }
 
 /// The name whose last identifier is the row is the canonical name of the type: that of its package, or of the type that declares it, and its own.
-pub fn is_canonical_name(rows: &[Row], places: &Places, class: u32, at: u32) -> bool {
-    let end = name_end(rows, at);
+pub fn is_canonical_name(rows: &[Row], places: &Places, class: u32, at: u32) -> bool
+    ensures { ArePlaced rows.now places.now → length rows.now < 2 ^ 32 → IsType rows.now class → IsTypeName (label rows.now at) → Decides result (CanonicalName rows.now class (spelled rows.now at)) }
+{
+    let end = end_at(rows, at);
     let mut here = class;
     for place in at..end {
         if places.name(here) != places.name(place) {
@@ -52,10 +55,7 @@ pub fn is_canonical_name(rows: &[Row], places: &Places, class: u32, at: u32) -> 
         }
         match declaring_type(rows, here) {
             Some(over) => here = over,
-            None => {
-                let from = place.saturating_add(1);
-                return is_top_level(rows, here) && is_package_of(rows, places, here, from, end);
-            }
+            None => return is_top_of(rows, places, here, place.saturating_add(1), end),
         }
     }
     false

@@ -1,13 +1,14 @@
 // The rules on names that are broken at the rows of a program.
-ghost use Rattle.std.specs.Prelude.{◌≡◌, ◌++◌, ◌+◌, ◌-◌, ◌<◌, IfOk, OnOk, length};
+ghost use Rattle.std.specs.Prelude.{◌≡◌, ◌+◌, ◌-◌, ◌<◌, IfOk, OnOk, length};
 ghost use Rattle.jr_tree.specs.Rows.{Rows};
 ghost use Rattle.jr_defs.specs.Referents.{Table};
 ghost use Rattle.jr_name_rules.specs.AccessTests as access;
 ghost use Rattle.jr_name_rules.specs.DeclarationTests as plain;
 ghost use Rattle.jr_name_rules.specs.Found.{is_next};
-ghost use Rattle.jr_name_rules.specs.ImportTests.{has_import_clash};
+ghost use Rattle.jr_name_rules.specs.ImportTests.{has_import_clash, is_import_not_canonical};
 ghost use Rattle.jr_rule.specs.declared.Rule.TheVariants as rules;
 ghost use Rattle.jr_rule.specs.Faults.{AreFaultsOf};
+ghost use Rattle.jr_faults.specs.Added.{row_if, is_rule, AreOnly};
 ghost use Rattle.jr_name_faults.specs.Faults as tell;
 ghost use Rattle.jr_name_faults.specs.Imports.{AreImportsTo};
 ghost use Rattle.jr_name_faults.specs.Locals.{IsBefore, IsEntered};
@@ -17,24 +18,16 @@ use crate::access::is_not_accessible;
 use crate::imports::Imports;
 use crate::locals::Locals;
 use jr_base::OutOfMemory;
+use jr_faults::rule_if;
 use jr_rule::{Fault, Rule};
 use jr_tree::Row;
 use jr_view::View;
 use std::alloc::Global;
 
-// The rule, where it is broken.
-fn rule_if(out: &mut Vec<Fault>, is_broken: bool, row: u32, rule: Rule) -> Result<(), OutOfMemory>
-    ensures { OnOk result (out.new.items ≡ out.old.items ++ tell.fault_if is_broken row rule) }
-{
-    if is_broken {
-        out.push(Fault { row, rule })?;
-    }
-    Ok(())
-}
-
 // The rule on names of locals, where it is broken at a row.
 fn name_fault(locals: &Locals, at: u32, out: &mut Vec<Fault>) -> Result<(), OutOfMemory>
-    ensures { (p : Rows) → at < length p → IsEntered p at locals.now → OnOk result (out.new.items ≡ out.old.items ++ tell.fault_if (plain.is_second_local p at) at rules.LocalNames) }
+    ensures found { (p : Rows) → at < length p → IsEntered p at locals.now → OnOk result (AreFaultsOf rules.LocalNames (row_if (plain.is_second_local p at) at) out.old.items out.new.items) }
+    ensures others { OnOk result (AreOnly (is_rule rules.LocalNames) out.old.items out.new.items) }
 {
     let is_broken = locals.is_second_local(at);
     rule_if(out, is_broken, at, Rule::LocalNames)?;
@@ -43,7 +36,8 @@ fn name_fault(locals: &Locals, at: u32, out: &mut Vec<Fault>) -> Result<(), OutO
 
 // The rule on labels, where it is broken at a row.
 fn label_fault(locals: &Locals, at: u32, out: &mut Vec<Fault>) -> Result<(), OutOfMemory>
-    ensures { (p : Rows) → at < length p → IsEntered p at locals.now → OnOk result (out.new.items ≡ out.old.items ++ tell.fault_if (plain.is_second_label p at) at rules.Labels) }
+    ensures found { (p : Rows) → at < length p → IsEntered p at locals.now → OnOk result (AreFaultsOf rules.Labels (row_if (plain.is_second_label p at) at) out.old.items out.new.items) }
+    ensures others { OnOk result (AreOnly (is_rule rules.Labels) out.old.items out.new.items) }
 {
     let is_broken = locals.is_second_label(at);
     rule_if(out, is_broken, at, Rule::Labels)?;
@@ -58,7 +52,9 @@ fn local_faults(
     out: &mut Vec<Fault>,
 ) -> Result<(), OutOfMemory>
     ensures open { (p : Rows) → at < length p → IsBefore p at locals.old → OnOk result (IsBefore p (at + 1) locals.new) }
-    ensures found { (p : Rows) → at < length p → IsBefore p at locals.old → OnOk result (out.new.items ≡ out.old.items ++ (tell.fault_if (plain.is_second_local p at) at rules.LocalNames ++ tell.fault_if (plain.is_second_label p at) at rules.Labels)) }
+    ensures names { (p : Rows) → at < length p → IsBefore p at locals.old → OnOk result (AreFaultsOf rules.LocalNames (row_if (plain.is_second_local p at) at) out.old.items out.new.items) }
+    ensures labels { (p : Rows) → at < length p → IsBefore p at locals.old → OnOk result (AreFaultsOf rules.Labels (row_if (plain.is_second_label p at) at) out.old.items out.new.items) }
+    ensures others { OnOk result (AreOnly tell.is_of_locals out.old.items out.new.items) }
 {
     locals.enter(alloc, at)?;
     name_fault(locals, at, out)?;
@@ -74,8 +70,8 @@ fn clash_fault(
     at: u32,
     out: &mut Vec<Fault>,
 ) -> Result<(), OutOfMemory>
-    ensures found { (p : Rows) (t : Table) → import + 1 < length p → AreImportsTo p t (length p) import imports.now → OnOk result (out.new.items ≡ out.old.items ++ tell.fault_if (has_import_clash p t import) at rules.ImportNames) }
-    ensures others { OnOk result (tell.AreOf rules.ImportNames out.old.items out.new.items) }
+    ensures found { (p : Rows) (t : Table) → import + 1 < length p → AreImportsTo p t (length p) import imports.now → OnOk result (AreFaultsOf rules.ImportNames (row_if (has_import_clash p t import) at) out.old.items out.new.items) }
+    ensures others { OnOk result (AreOnly (is_rule rules.ImportNames) out.old.items out.new.items) }
 {
     let is_broken = imports.has_import_clash(import);
     rule_if(out, is_broken, at, Rule::ImportNames)?;
@@ -89,7 +85,8 @@ fn canonical_fault(
     at: u32,
     out: &mut Vec<Fault>,
 ) -> Result<(), OutOfMemory>
-    ensures { OnOk result (tell.AreOf rules.ImportedTypes out.old.items out.new.items) }
+    ensures found { (p : Rows) (t : Table) → import + 1 < length p → AreImportsTo p t (length p) import imports.now → OnOk result (AreFaultsOf rules.ImportedTypes (row_if (is_import_not_canonical p t import) at) out.old.items out.new.items) }
+    ensures others { OnOk result (AreOnly (is_rule rules.ImportedTypes) out.old.items out.new.items) }
 {
     let is_broken = imports.is_import_not_canonical(import);
     rule_if(out, is_broken, at, Rule::ImportedTypes)?;
@@ -104,8 +101,9 @@ fn import_faults(
     out: &mut Vec<Fault>,
 ) -> Result<(), OutOfMemory>
     ensures open { (p : Rows) (t : Table) → at < length p → AreImportsTo p t (length p) (at - 1) imports.old → OnOk result (AreImportsTo p t (length p) at imports.new) }
-    ensures found { (p : Rows) (t : Table) → at < length p → AreImportsTo p t (length p) (at - 1) imports.old → OnOk result (AreFaultsOf rules.ImportNames (tell.row_if (is_next (has_import_clash p t) at) at) out.old.items out.new.items) }
-    ensures others { OnOk result (tell.AreOfImports out.old.items out.new.items) }
+    ensures names { (p : Rows) (t : Table) → at < length p → AreImportsTo p t (length p) (at - 1) imports.old → OnOk result (AreFaultsOf rules.ImportNames (row_if (is_next (has_import_clash p t) at) at) out.old.items out.new.items) }
+    ensures types { (p : Rows) (t : Table) → at < length p → AreImportsTo p t (length p) (at - 1) imports.old → OnOk result (AreFaultsOf rules.ImportedTypes (row_if (is_next (is_import_not_canonical p t) at) at) out.old.items out.new.items) }
+    ensures others { OnOk result (AreOnly tell.is_of_imports out.old.items out.new.items) }
 {
     let Some(import) = at.checked_sub(1) else {
         return Ok(());
@@ -123,7 +121,7 @@ fn static_fault(
     at: u32,
     out: &mut Vec<Fault>,
 ) -> Result<(), OutOfMemory>
-    ensures { OnOk result (tell.AreOf rules.StaticImports out.old.items out.new.items) }
+    ensures { OnOk result (AreOnly (is_rule rules.StaticImports) out.old.items out.new.items) }
 {
     let is_broken = imports.has_static_import_fault(alloc, at)?;
     rule_if(out, is_broken, at, Rule::StaticImports)?;
@@ -132,8 +130,8 @@ fn static_fault(
 
 // The rule on access, where it is broken at a row.
 fn access_fault(view: &View, at: u32, out: &mut Vec<Fault>) -> Result<(), OutOfMemory>
-    ensures found { views.IsSeenView view.now → OnOk result (out.new.items ≡ out.old.items ++ tell.fault_if (access.is_not_accessible (views.rows_in view.now) (views.table_in view.now) (views.types_in view.now) at) at rules.Access) }
-    ensures others { OnOk result (tell.AreOf rules.Access out.old.items out.new.items) }
+    ensures found { views.IsSeenView view.now → OnOk result (AreFaultsOf rules.Access (row_if (access.is_not_accessible (views.rows_in view.now) (views.table_in view.now) (views.types_in view.now) at) at) out.old.items out.new.items) }
+    ensures others { OnOk result (AreOnly (is_rule rules.Access) out.old.items out.new.items) }
 {
     let is_broken = is_not_accessible(view, at);
     rule_if(out, is_broken, at, Rule::Access)?;
@@ -150,11 +148,13 @@ fn row_faults(
     out: &mut Vec<Fault>,
 ) -> Result<(), OutOfMemory>
     ensures open { (p : Rows) → at < length p → IsBefore p at locals.old → OnOk result (IsBefore p (at + 1) locals.new) }
-    ensures local_names { (p : Rows) → at < length p → IsBefore p at locals.old → OnOk result (AreFaultsOf rules.LocalNames (tell.row_if (plain.is_second_local p at) at) out.old.items out.new.items) }
-    ensures labels { (p : Rows) → at < length p → IsBefore p at locals.old → OnOk result (AreFaultsOf rules.Labels (tell.row_if (plain.is_second_label p at) at) out.old.items out.new.items) }
-    ensures access { (p : Rows) → at < length p → IsBefore p at locals.old → views.IsSeenView view.now → OnOk result (AreFaultsOf rules.Access (tell.row_if (access.is_not_accessible (views.rows_in view.now) (views.table_in view.now) (views.types_in view.now) at) at) out.old.items out.new.items) }
+    ensures local_names { (p : Rows) → at < length p → IsBefore p at locals.old → OnOk result (AreFaultsOf rules.LocalNames (row_if (plain.is_second_local p at) at) out.old.items out.new.items) }
+    ensures labels { (p : Rows) → at < length p → IsBefore p at locals.old → OnOk result (AreFaultsOf rules.Labels (row_if (plain.is_second_label p at) at) out.old.items out.new.items) }
+    ensures access { views.IsSeenView view.now → OnOk result (AreFaultsOf rules.Access (row_if (access.is_not_accessible (views.rows_in view.now) (views.table_in view.now) (views.types_in view.now) at) at) out.old.items out.new.items) }
     ensures passed { (p : Rows) (t : Table) → at < length p → AreImportsTo p t (length p) (at - 1) imports.old → OnOk result (AreImportsTo p t (length p) at imports.new) }
-    ensures import_names { (p : Rows) (t : Table) → at < length p → IsBefore p at locals.old → AreImportsTo p t (length p) (at - 1) imports.old → OnOk result (AreFaultsOf rules.ImportNames (tell.row_if (is_next (has_import_clash p t) at) at) out.old.items out.new.items) }
+    ensures import_names { (p : Rows) (t : Table) → at < length p → AreImportsTo p t (length p) (at - 1) imports.old → OnOk result (AreFaultsOf rules.ImportNames (row_if (is_next (has_import_clash p t) at) at) out.old.items out.new.items) }
+    ensures imported_types { (p : Rows) (t : Table) → at < length p → AreImportsTo p t (length p) (at - 1) imports.old → OnOk result (AreFaultsOf rules.ImportedTypes (row_if (is_next (is_import_not_canonical p t) at) at) out.old.items out.new.items) }
+    ensures others { OnOk result (tell.AreOfNames out.old.items out.new.items) }
 {
     local_faults(alloc, locals, at, out)?;
     import_faults(alloc, imports, at, out)?;
@@ -164,12 +164,14 @@ fn row_faults(
 }
 
 /// Adds the rules on names that are broken, as their rows rise: locals, labels, imports and access.
-/// Of locals, labels, names of imports and access these are the rows at which the definition breaks the rule, where the tables are right.
+/// Of locals, labels, names of imports, imported types and access these are the rows at which the definition breaks the rule, where the tables are right. Of no other rules are faults added.
 pub fn name_faults(alloc: Global, view: &View, out: &mut Vec<Fault>) -> Result<(), OutOfMemory>
     ensures local_names { views.IsPlacedView view.now → OnOk result (tell.AreExactFaults view.now rules.LocalNames out.old.items out.new.items) }
     ensures labels { views.IsPlacedView view.now → OnOk result (tell.AreExactFaults view.now rules.Labels out.old.items out.new.items) }
     ensures access { views.IsSeenView view.now → OnOk result (tell.AreExactFaults view.now rules.Access out.old.items out.new.items) }
     ensures import_names { views.IsPlacedView view.now → OnOk result (tell.AreExactFaults view.now rules.ImportNames out.old.items out.new.items) }
+    ensures imported_types { views.IsPlacedView view.now → OnOk result (tell.AreExactFaults view.now rules.ImportedTypes out.old.items out.new.items) }
+    ensures others { OnOk result (tell.AreOfNames out.old.items out.new.items) }
 {
     let world = &view.sight.world;
     let mut locals = Locals::new(alloc, world.under.rows, world.under.places)?;
@@ -199,8 +201,10 @@ fn put_faults(
 ) -> Result<(), OutOfMemory>
     ensures local_names { IsBefore (views.rows_in view.now) 0 locals.old → OnOk result (tell.AreExactFaults view.now rules.LocalNames out.old.items out.new.items) }
     ensures labels { IsBefore (views.rows_in view.now) 0 locals.old → OnOk result (tell.AreExactFaults view.now rules.Labels out.old.items out.new.items) }
-    ensures access { IsBefore (views.rows_in view.now) 0 locals.old → views.IsSeenView view.now → OnOk result (tell.AreExactFaults view.now rules.Access out.old.items out.new.items) }
-    ensures import_names { IsBefore (views.rows_in view.now) 0 locals.old → AreImportsTo (views.rows_in view.now) (views.table_in view.now) (length (views.rows_in view.now)) 0 imports.old → OnOk result (tell.AreExactFaults view.now rules.ImportNames out.old.items out.new.items) }
+    ensures access { views.IsSeenView view.now → OnOk result (tell.AreExactFaults view.now rules.Access out.old.items out.new.items) }
+    ensures import_names { AreImportsTo (views.rows_in view.now) (views.table_in view.now) (length (views.rows_in view.now)) 0 imports.old → OnOk result (tell.AreExactFaults view.now rules.ImportNames out.old.items out.new.items) }
+    ensures imported_types { AreImportsTo (views.rows_in view.now) (views.table_in view.now) (length (views.rows_in view.now)) 0 imports.old → OnOk result (tell.AreExactFaults view.now rules.ImportedTypes out.old.items out.new.items) }
+    ensures others { OnOk result (tell.AreOfNames out.old.items out.new.items) }
 {
     let count = row_count(view.sight.world.under.rows)?;
     for at in 0..count {

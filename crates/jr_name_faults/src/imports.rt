@@ -1,8 +1,13 @@
 // Imports that clash, that name no canonical name, or that bring nothing (JLS 7.5.1, 7.5.3).
-ghost use Rattle.std.specs.Prelude.{◌≡◌, ◌+◌, ◌<◌, ◌^◌, OnOk, length};
+ghost use Rattle.std.specs.Prelude.{◌≡◌, ◌+◌, ◌<◌, ◌^◌, ℕ, OnOk, length};
+ghost use Rattle.std.specs.Bool.{Decides};
 ghost use Rattle.jr_tree.specs.declared.label.ImportKind.TheVariants as importing;
+ghost use Rattle.jr_tree.specs.Below.{IsTypeName};
 ghost use Rattle.jr_tree.specs.Rows.{Rows, label};
+ghost use Rattle.jr_defs.specs.Declarations.{IsType};
+ghost use Rattle.jr_defs.specs.Packages.{spelled};
 ghost use Rattle.jr_defs.specs.Referents.{Table};
+ghost use Rattle.jr_defs.specs.Rules.{CanonicalName};
 ghost use Rattle.jr_plain.specs.Imports.{is_import_label};
 ghost use Rattle.jr_name_rules.specs.Found as found;
 ghost use Rattle.jr_name_rules.specs.ImportTests as plain;
@@ -29,6 +34,19 @@ pub struct Imports<'a> {
     types: Twins,
     /// The imports that bring them, under the unit and the type.
     importers: Twins,
+}
+
+// The row is an import.
+fn is_import(all: &[Row], at: u32) -> bool
+    ensures { result ≡ plain.is_import (label all.now at) }
+{
+    match all.get(at as usize) {
+        Some(row) => match row.label {
+            Label::Import { .. } => true,
+            _ => false,
+        },
+        None => false,
+    }
 }
 
 fn is_single(all: &[Row], at: u32) -> bool
@@ -235,18 +253,25 @@ impl<'a> Imports<'a> {
     }
 
     /// An import names a type by a name that is not canonical.
-    pub fn is_import_not_canonical(&self, at: u32) -> bool {
+    pub fn is_import_not_canonical(&self, at: u32) -> bool
+        ensures { (p : Rows) (t : Table) → at + 1 < length p → tell.AreImportsTo p t (length p) at self.now → result ≡ plain.is_import_not_canonical p t at }
+    {
         let world = self.world;
-        let under = &world.under;
-        if import_kind(under.rows, at).is_none() {
+        if !is_import(world.under.rows, at) {
             return false;
         }
         match self.imported_type(at) {
-            Some(class) => {
-                !is_canonical_name(under.rows, under.places, class, at.saturating_add(1))
-            }
+            Some(class) => !self.is_canonical(class, at.saturating_add(1)),
             None => false,
         }
+    }
+
+    // The name whose last identifier is the row is the canonical name of the type.
+    fn is_canonical(&self, class: u32, at: u32) -> bool
+        ensures { (p : Rows) (t : Table) (k n : ℕ) → tell.AreImportsTo p t k n self.now → IsType p class → IsTypeName (label p at) → Decides result (CanonicalName p class (spelled p at)) }
+    {
+        let world = self.world;
+        is_canonical_name(world.under.rows, world.under.places, class, at)
     }
 
     // A single static import brings a member of the kind.

@@ -61,6 +61,19 @@ fn what_may_throw_is_not_inlined_past_a_definition(rt: HostRuntime) -> Result<()
     Ok(())
 }
 
+const BEFORE_CREATION: &str =
+    "class X { static int n = A.log; X(int k) { } } class A { static int log; static int a() { log = 1; return 2; } static X m() { int t = a(); return new X(t); } }";
+
+#[test]
+fn what_acts_is_not_inlined_into_a_creation_that_begins_an_initialization(
+    rt: HostRuntime,
+) -> Result<(), Fail> {
+    let alloc = rt.alloc();
+    let edge = "lost edge: control A.java:134 A.java:25\n";
+    assert!(rt; leaves_it(alloc, BEFORE_CREATION, ". inline A.java 130", 5, edge)?);
+    Ok(())
+}
+
 #[test]
 fn a_method_is_pulled_up(rt: HostRuntime) -> Result<(), Fail> {
     let alloc = rt.alloc();

@@ -1,11 +1,6 @@
-use Rattle.std.proofs.Common.{◌∙◌, ap, ◌++◌}
 use Rattle.jr_rule.specs.declared.Rule.TheVariants as rule
-use Rattle.jr_name_faults.specs.Faults.{fault_if}
-use Rattle.jr_name_faults.proofs.Told.{only_added}
+use Rattle.jr_faults.proofs.Told.{told_at}
 use Rattle.jr_name_faults.proofs.faults.access_fault.Goals as goal
 
 pub returns-clause-found : goal.returns-clause-found
-returns-clause-found c = λ seen. c.in_ok-rule_if.ensures ∙ ap (λ b. c.args.out.now.items ++ fault_if b c.args.at rule.Access) (c.is_not_accessible-is_broken.ensures seen)
-
-pub returns-clause-others : goal.returns-clause-others
-returns-clause-others c = only_added rule.Access _ c.args.at c.in_ok-rule_if.ensures
+returns-clause-found c = λ seen. told_at rule.Access c.args.at (c.is_not_accessible-is_broken.ensures seen) c.in_ok-rule_if.ensures.found

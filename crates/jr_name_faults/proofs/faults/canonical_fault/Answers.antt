@@ -1,6 +1,6 @@
 use Rattle.jr_rule.specs.declared.Rule.TheVariants as rule
-use Rattle.jr_name_faults.proofs.Told.{only_added}
+use Rattle.jr_faults.proofs.Told.{told_at}
 use Rattle.jr_name_faults.proofs.faults.canonical_fault.Goals as goal
 
-pub returns : goal.returns
-returns c = only_added rule.ImportedTypes _ c.args.at c.in_ok-rule_if.ensures
+pub returns-clause-found : goal.returns-clause-found
+returns-clause-found c = λ p t lt h. told_at rule.ImportedTypes c.args.at (c.is_import_not_canonical-is_broken.ensures p t lt h) c.in_ok-rule_if.ensures.found

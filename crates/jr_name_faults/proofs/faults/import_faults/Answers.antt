@@ -1,25 +1,37 @@
-use Rattle.std.proofs.Common.{◌≡◌, subst, sym, arith, ◌+◌, ◌-◌, ◌<◌, length}
-use Rattle.jr_name_rules.specs.ImportTests.{has_import_clash}
+use Rattle.std.proofs.Common.{◌≡◌, refl, subst, arith, ◌+◌, ◌-◌, ◌<◌, length}
+use Rattle.jr_rule.specs.declared.Rule.TheVariants as rule
+use Rattle.jr_name_rules.specs.ImportTests.{has_import_clash, is_import_not_canonical}
+use Rattle.jr_faults.proofs.Told.{none_then, then_none, only_kept, only_then}
+use Rattle.jr_name_faults.specs.Faults.{is_of_imports}
 use Rattle.jr_name_faults.specs.Imports.{AreImportsTo}
-use Rattle.jr_name_faults.proofs.Told.{imports_none, imports_then, next_names, first_names}
+use Rattle.jr_name_faults.proofs.Told.{next_names, first_names}
 use Rattle.jr_name_faults.proofs.faults.import_faults.Goals as goal
 
 pub returns-in_default-clause-open : goal.returns-in_default-clause-open
 returns-in_default-clause-open c = λ p t lt h. subst (λ n. AreImportsTo p t (length p) n c.args.imports.now) (omega arith) h
 
-pub returns-in_default-clause-found : goal.returns-in_default-clause-found
-returns-in_default-clause-found c = λ p t lt h. first_names (has_import_clash p t) c.args.at c.args.out.now.items (omega arith)
+pub returns-in_default-clause-names : goal.returns-in_default-clause-names
+returns-in_default-clause-names c = λ p t lt h. first_names rule.ImportNames (has_import_clash p t) c.args.at c.args.out.now.items (omega arith)
+
+pub returns-in_default-clause-types : goal.returns-in_default-clause-types
+returns-in_default-clause-types c = λ p t lt h. first_names rule.ImportedTypes (is_import_not_canonical p t) c.args.at c.args.out.now.items (omega arith)
 
 pub returns-in_default-clause-others : goal.returns-in_default-clause-others
-returns-in_default-clause-others c = imports_none c.args.out.now.items
+returns-in_default-clause-others c = only_kept is_of_imports c.args.out.now.items
 
 pub returns-clause-open : goal.returns-clause-open
 returns-clause-open c = λ p t lt h. let next : c.in-Some.import + 1 ≡ c.args.at = omega arith in let is : c.args.at - 1 ≡ c.in-Some.import = omega arith in
     subst (λ n. AreImportsTo p t (length p) n c.pass.new.self) next (c.in_ok-pass.ensures p t (omega arith) (subst (λ n. AreImportsTo p t (length p) n c.args.imports.now) is h))
 
-pub returns-clause-found : goal.returns-clause-found
-returns-clause-found c = λ p t lt h. let next : c.in-Some.import + 1 ≡ c.args.at = omega arith in let is : c.args.at - 1 ≡ c.in-Some.import = omega arith in
-    next_names (has_import_clash p t) c.args.at c.in-Some.import next (c.in_ok-clash_fault.ensures.found p t (omega arith) (subst (λ n. AreImportsTo p t (length p) n c.args.imports.now) is h)) c.in_ok-canonical_fault.ensures
+pub returns-clause-names : goal.returns-clause-names
+returns-clause-names c = λ p t lt h. let next : c.in-Some.import + 1 ≡ c.args.at = omega arith in let is : c.args.at - 1 ≡ c.in-Some.import = omega arith in
+    next_names rule.ImportNames (has_import_clash p t) c.args.at c.in-Some.import next
+    (then_none rule.ImportNames (c.in_ok-clash_fault.ensures.found p t (omega arith) (subst (λ n. AreImportsTo p t (length p) n c.args.imports.now) is h)) (c.in_ok-canonical_fault.ensures.others.others rule.ImportNames refl))
+
+pub returns-clause-types : goal.returns-clause-types
+returns-clause-types c = λ p t lt h. let next : c.in-Some.import + 1 ≡ c.args.at = omega arith in let is : c.args.at - 1 ≡ c.in-Some.import = omega arith in
+    next_names rule.ImportedTypes (is_import_not_canonical p t) c.args.at c.in-Some.import next
+    (none_then rule.ImportedTypes (c.in_ok-clash_fault.ensures.others.others rule.ImportedTypes refl) (c.in_ok-canonical_fault.ensures.found p t (omega arith) (subst (λ n. AreImportsTo p t (length p) n c.args.imports.now) is h)))
 
 pub returns-clause-others : goal.returns-clause-others
-returns-clause-others c = imports_then c.in_ok-clash_fault.ensures.others c.in_ok-canonical_fault.ensures
+returns-clause-others c = only_then c.in_ok-clash_fault.ensures.others c.in_ok-canonical_fault.ensures.others

@@ -7,8 +7,10 @@ pub returns-clause-labels : goal.returns-clause-labels
 returns-clause-labels c = λ right. c.in_ok-put_faults.ensures.labels (c.in_ok-add_parameters.ensures _ (c.in_ok-locals.ensures right.placed right.few))
 
 pub returns-clause-access : goal.returns-clause-access
-returns-clause-access c = λ right. c.in_ok-put_faults.ensures.access (c.in_ok-add_parameters.ensures _ (c.in_ok-locals.ensures right.seen.placed right.few)) right
+returns-clause-access c = λ right. c.in_ok-put_faults.ensures.access right
 
 pub returns-clause-import_names : goal.returns-clause-import_names
-returns-clause-import_names c = λ right. c.in_ok-put_faults.ensures.import_names (c.in_ok-add_parameters.ensures _ (c.in_ok-locals.ensures right.placed right.few))
-    (c.in_ok-add_rows.ensures _ _ (c.new-imports.ensures (record { few = right.few; places_are = right.placed.are })))
+returns-clause-import_names c = λ right. c.in_ok-put_faults.ensures.import_names (c.in_ok-add_rows.ensures _ _ (c.new-imports.ensures (record { few = right.few; placed = right.placed })))
+
+pub returns-clause-imported_types : goal.returns-clause-imported_types
+returns-clause-imported_types c = λ right. c.in_ok-put_faults.ensures.imported_types (c.in_ok-add_rows.ensures _ _ (c.new-imports.ensures (record { few = right.few; placed = right.placed })))

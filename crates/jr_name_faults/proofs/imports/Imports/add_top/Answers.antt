@@ -7,4 +7,4 @@ returns-then-not-is_top_level c = λ p t lt h. tops_none c.args.self.now h (sym 
 
 pub returns : goal.returns
 returns c = λ p t lt h. tops_more c.args.self.now _ c.parent_at-unit.result c.name-name.result h (sym c.is_top_level.ensures ∙ c.if-not-is_top_level.false)
-    c.parent_at-unit.ensures (c.name-name.ensures p h.places_are lt) refl refl c.in_ok-add.ensures
+    c.parent_at-unit.ensures (c.name-name.ensures p h.placed.are lt) refl refl c.in_ok-add.ensures
