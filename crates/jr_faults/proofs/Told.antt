@@ -51,9 +51,6 @@ then_none {old} {mid} {new} {xs} r h k = subst (λ l. AreFaultsOf r l old new) (
 pub only_then : {f g : Rule → Bool} {old mid new : List Fault} → AreOnly f old mid → AreOnly g mid new → AreOnly (λ one. f one || g one) old new
 only_then {f} {g} h k = record { others = λ one apart. let parts = or_parts (f one) (g one) apart in none_then one (h.others one parts.0) (k.others one parts.1) }
 
-pub only_more : {f : Rule → Bool} {old now new : List Fault} → AreOnly f old now → AreOnly f now new → AreOnly f old new
-only_more h k = record { others = λ one apart. none_then one (h.others one apart) (k.others one apart) }
-
 -- ---- the rows so far
 
 pub row_more : {old now new : List Fault} (n : ℕ) (r : Rule) (test : ℕ → Bool) → AreFaultsOf r (all_such n test) old now → AreFaultsOf r (row_if (test n) n) now new → AreFaultsOf r (all_such (n + 1) test) old new

@@ -25,7 +25,7 @@ use Rattle.jr_member_rules.specs.Inner.{is_static_there}
 use Rattle.jr_member_rules.specs.Redefining.{is_over_final}
 use Rattle.jr_member_rules.specs.Computed.{values, leaves_methods, results_do_not_fit, access_is_narrowed, methods_are_mixed, more_is_thrown, breaks_members}
 use Rattle.jr_faults.specs.Added.{row_if, is_rule, AreOnly}
-use Rattle.jr_faults.proofs.Told.{none_added, none_then, then_none, only_then, row_more, rows_told}
+use Rattle.jr_faults.proofs.Told.{none_added, none_then, then_none, only_then, row_more, rows_told, told_at}
 use Rattle.jr_view.specs.declared.View.{View}
 use Rattle.jr_member_faults.specs.declared.twice.Declared as declaring
 use Rattle.jr_member_faults.specs.declared.headers.Headers as heading
@@ -120,10 +120,6 @@ module _ (p : Rows) (n : ℕ) (second broken : Bool) (clash : broken ≡ (second
   pub type_clash : (given : Role) (r : Rule) → r ≡ second_rule given → AreFaultsOf r (row_if broken n) old new → AreOnly (is_rule r) old new → AreFaultsOf rule.TypeNames (row_if (is_type_clash p n given second) n) old new
   type_clash given r of h k = clash_by given (subst (λ r. AreFaultsOf r (row_if broken n) old new) of h) (subst (λ r. AreOnly (is_rule r) old new) of k)
 
--- a fault at a row, by a test that is told
-pub told_at : {old new : List Fault} {a b : Bool} (r : Rule) (n : ℕ) → a ≡ b → AreFaultsOf r (row_if a n) old new → AreFaultsOf r (row_if b n) old new
-told_at {old} {new} r n e h = subst (λ b. AreFaultsOf r (row_if b n) old new) e h
-
 -- ---- the rules on methods
 
 pub methods_only : {a b c d e f g : List Fault} → AreOnly (is_rule rule.AbstractMembers) a b → AreOnly (is_rule rule.Results) b c → AreOnly (is_rule rule.NarrowedAccess) c d → AreOnly (is_rule rule.StaticOverride) d e
@@ -133,22 +129,22 @@ methods_only h i j k l m = only_then (only_then (only_then (only_then (only_then
 -- ---- one row
 
 module _ (view : View) where
-  pub record IsAdded (n : ℕ) (a b c d e f : List Fault) : Type 0 where
+  pub record IsAdded (a b c d e f : List Fault) : Type 0 where
     pub declared : AreOnly is_of_declared a b
     pub heading : AreOnly (is_rule rule.Supertypes) b c
     pub methods : AreOnly is_of_methods c d
     pub body : AreOnly (is_rule rule.Bodies) d e
     pub static : AreOnly (is_rule rule.InnerStatics) e f
 
-  pub row_only : {n : ℕ} {a b c d e f : List Fault} → IsAdded n a b c d e f → AreOnly is_on_members a f
+  pub row_only : {a b c d e f : List Fault} → IsAdded a b c d e f → AreOnly is_on_members a f
   row_only h = only_then (only_then (only_then (only_then h.declared h.heading) h.methods) h.body) h.static
 
   -- a rule on what is declared twice
-  declared_added : {n : ℕ} {a b c d e f : List Fault} {xs : List ℕ} → IsAdded n a b c d e f → (r : Rule) → is_rule rule.Supertypes r ≡ false → is_of_methods r ≡ false → is_rule rule.Bodies r ≡ false → is_rule rule.InnerStatics r ≡ false
+  declared_added : {a b c d e f : List Fault} {xs : List ℕ} → IsAdded a b c d e f → (r : Rule) → is_rule rule.Supertypes r ≡ false → is_of_methods r ≡ false → is_rule rule.Bodies r ≡ false → is_rule rule.InnerStatics r ≡ false
       → AreFaultsOf r xs a b → AreFaultsOf r xs a f
   declared_added {b = b} {c = c} {d = d} {e = e} h r i j k l at = then_none {mid = e} r (then_none {mid = d} r (then_none {mid = c} r (then_none {mid = b} r at (h.heading.others r i)) (h.methods.others r j)) (h.body.others r k)) (h.static.others r l)
 
-  pub row_told : {n : ℕ} {a b c d e f : List Fault} → IsAdded n a b c d e f
+  pub row_told : {n : ℕ} {a b c d e f : List Fault} → IsAdded a b c d e f
       → AreFaultsOf rule.Bodies (row_if (stands_wrong (rows_in view) n) n) d e
       → (IsValuedView view → AreFaultsOf rule.InnerStatics (row_if (is_static_there (rows_in view) (table_in view) (values (rows_in view) (table_in view)) n) n) e f)
       → AreFaultsOf rule.Supertypes (row_if (has_wrong_supertype (rows_in view) (table_in view) n) n) b c

@@ -1,10 +1,10 @@
 use Rattle.std.proofs.Common.{◌∙◌}
 use Rattle.jr_rule.specs.declared.Rule.TheVariants as rule
+use Rattle.jr_faults.proofs.Told.{told_at}
 use Rattle.jr_member_faults.specs.Views.{rows_of, table_of}
 use Rattle.jr_member_faults.proofs.Constructed.{constructor_told}
 use Rattle.jr_member_faults.proofs.Doubled.{field_told, method_told, type_told}
 use Rattle.jr_member_faults.proofs.Tables.{declared_more}
-use Rattle.jr_member_faults.proofs.Told.{told_at}
 use Rattle.jr_member_faults.proofs.faults.declared_faults.Goals as goal
 
 pub returns-clause-open : goal.returns-clause-open
