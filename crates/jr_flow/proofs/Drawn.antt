@@ -1,6 +1,7 @@
 -- The places that were found, with their points and the steps between them, are the graph.
-use Rattle.std.proofs.Common.{◌≡◌, ◌⊎◌, inl, inr, refl, sym, ◌∙◌, subst, ap, ap₂, arith, ℕ, zero, suc, ◌+◌, ◌-◌, ◌<◌, ◌≤◌, Bool, true, false, List, [], ◌∷◌, ◌++◌, length, length-append, length-map, map, ⊎_elim, Option, Some, None, option_map, option_and_then, unwrap_or, slice_get}
+use Rattle.std.proofs.Common.{◌≡◌, ◌⊎◌, inl, inr, refl, sym, ◌∙◌, subst, ap, ap₂, arith, ℕ, zero, suc, ◌+◌, ◌-◌, ◌<◌, ◌≤◌, Bool, true, false, List, [], ◌∷◌, ◌++◌, length, length-append, map, ⊎_elim, Option, Some, None, option_map, option_and_then, unwrap_or, slice_get}
 use Rattle.std.specs.List.{Contains}
+use Rattle.std.proofs.lemmas.List.{length-map}
 use Rattle.std.proofs.lemmas.Bool.{false≢true, cases_lt}
 use Rattle.std.proofs.lemmas.Option.{none-some, same_Some, slice_get_within, slice_get-map}
 use Rattle.jr_tree.specs.Rows.{Rows, end}
@@ -51,7 +52,7 @@ module _ (p : Rows) (m : Meaning) (body : ℕ) (states : States) (h : AreAllTurn
   abbrev places : List defs.State
   places = places_of states
 
-  abbrev g : Flow ℕ
+  abbrev pub g : Flow ℕ
   g = by_number f places (λ i. hops_at states i)
 
   group_at : (i : ℕ) → i < length (states_of states) → (group : List code_hop.Hop) × (slice_get h.groups i ≡ Some group)
@@ -135,7 +136,7 @@ module _ (p : Rows) (m : Meaning) (body : ℕ) (states : States) (h : AreAllTurn
       by (Some n) e = ap Some e
 
   placed_at : (i k : ℕ) → number_in states i ≡ Some k → (a : defs.State) × (x : Point) × (slice_get places i ≡ Some a) × (f.point a ≡ Some x)
-  placed_at i k e = let at_i = number_at i k e in let size = h.right.pointed.size in let l = length-map (point_of p m body) (states_of states) in let lt = slice_get_within (numbers_in states.numbering) i (Some k) at_i in
+  placed_at i k e = let at_i = number_at i k e in let size = h.right.pointed.size in let l = length-map (states_of states) (point_of p m body) in let lt = slice_get_within (numbers_in states.numbering) i (Some k) at_i in
       let s = got (states_of states) i (omega (arith, lt, size, l)) in
       let x = some (point_of p m body s.0) (h.right.pointed.matched i (point_of p m body s.0) (Some k) (found_is i s.0 s.1) at_i) in
       (state_seen (lists_of states.pending) s.0, x.0, place_is states i s.0 s.1, x.1)
@@ -175,7 +176,7 @@ module _ (p : Rows) (m : Meaning) (body : ℕ) (states : States) (h : AreAllTurn
           let hops = h.hops_are i one.0 group.0 one.1 group.1 in
           let into = hop_from places (f.hops (state_seen (lists_of states.pending) one.0)) (map hop_seen group.0) (record { to = r; is_throw = goes.is_throw }) hops (subst (λ hs. Contains hs (record { to = r; is_throw = goes.is_throw })) (read i group.0 group.1) goes.hop) in
           let place = into.to.place in
-          let less = slice_get_within places r into.hop.to place in let l = length-map (state_seen (lists_of states.pending)) (states_of states) in omega (arith, less, l)
+          let less = slice_get_within places r into.hop.to place in let l = length-map (states_of states) (state_seen (lists_of states.pending)) in omega (arith, less, l)
 
   -- ---- the graph
 
@@ -183,7 +184,7 @@ module _ (p : Rows) (m : Meaning) (body : ℕ) (states : States) (h : AreAllTurn
       → ((i k : ℕ) (t : Bool) → i < length (states_of states) → number_in states i ≡ Some k → (b n : ℕ) → Steps g i b t → number_in states b ≡ Some n → Contains steps (k, n, t)) → AreSteps g (number_in states) steps
   steps_drawn steps sound every = record {
     only = sound;
-    every = λ k n t s. let one = placed_at s.from k s.starts in let lt = slice_get_within places s.from one.0 one.2 in let l = length-map (state_seen (lists_of states.pending)) (states_of states) in
+    every = λ k n t s. let one = placed_at s.from k s.starts in let lt = slice_get_within places s.from one.0 one.2 in let l = length-map (states_of states) (state_seen (lists_of states.pending)) in
         every s.from k t (omega (arith, lt, l)) s.starts s.to n s.steps s.ends;
   }
 

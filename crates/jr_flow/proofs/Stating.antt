@@ -1,9 +1,9 @@
 -- Places that are found, and ways between them.
-use Rattle.std.proofs.Common.{◌≡◌, ◌⊎◌, inl, inr, ⊎_elim, refl, sym, ◌∙◌, ap, ap₂, subst, arith, ℕ, zero, suc, ◌+◌, ◌<◌, ◌≤◌, Bool, true, false, not, ◌&&◌, if◌then◌else◌, List, [], ◌∷◌, ◌++◌, length, length-append, length-map, map, take, append-nil, Option, Some, None, option_map, nat_eq, nat_lt, slice_get}
+use Rattle.std.proofs.Common.{◌≡◌, ◌⊎◌, inl, inr, ⊎_elim, refl, sym, ◌∙◌, ap, ap₂, subst, arith, ℕ, zero, suc, ◌+◌, ◌<◌, ◌≤◌, Bool, true, false, not, ◌&&◌, if◌then◌else◌, List, [], ◌∷◌, ◌++◌, length, length-append, map, take, append-nil, Option, Some, None, option_map, nat_eq, nat_lt, slice_get}
 use Rattle.std.specs.List.{Contains}
 use Rattle.std.proofs.lemmas.Bool.{false≢true, cases_lt, and_parts, lt-ltb, ltb-true}
 use Rattle.std.proofs.lemmas.Bool.Decides.{Decides-eqb}
-use Rattle.std.proofs.lemmas.List.{map-append, take_more, take_all}
+use Rattle.std.proofs.lemmas.List.{length-map, map-append, take_more, take_all}
 use Rattle.std.proofs.lemmas.List.Elements.{Contains-get_or}
 use Rattle.std.proofs.lemmas.Option.{none-some, same_Some, slice_get_within, slice_get-map, slice_get_past, get_or_from_slice_get}
 use Rattle.jr_tree.specs.Rows.{Rows, end}
@@ -116,11 +116,11 @@ seen_grown old new a h grows fits = ap (λ w. state_with w a) (ap (λ all. list_
 
 hops_kept : {A : Type 0} (places others : List A) (hs : List (Hop A)) (ks : List (Hop ℕ)) → ((i : ℕ) (a : A) → slice_get places i ≡ Some a → slice_get others i ≡ Some a) → AreHops places hs ks → AreHops others hs ks
 hops_kept places others hs ks kept AreHops.none = AreHops.none
-hops_kept places others hs ks kept (AreHops.more {h = h} {k = k} {hs = rest} {ks = numbers} is more) = AreHops.more (record { place = kept k.to h.to is.place; same = is.same }) (hops_kept places others rest numbers kept more)
+hops_kept places others hs ks kept (AreHops.more {h = h} {k = k} {hs = rest} {ks = numbers} is later) = AreHops.more (record { place = kept k.to h.to is.place; same = is.same }) (hops_kept places others rest numbers kept later)
 
 hops_pushed : {A : Type 0} (places : List A) (hs : List (Hop A)) (ks : List (Hop ℕ)) (h : Hop A) (k : Hop ℕ) → AreHops places hs ks → IsHopTo places h k → AreHops places (hs ++ h ∷ []) (ks ++ k ∷ [])
 hops_pushed places hs ks h k AreHops.none is = AreHops.more is AreHops.none
-hops_pushed places hs ks h k (AreHops.more {h = one} {k = number} {hs = rest} {ks = numbers} first more) is = AreHops.more first (hops_pushed places rest numbers h k more is)
+hops_pushed places hs ks h k (AreHops.more {h = one} {k = number} {hs = rest} {ks = numbers} first later) is = AreHops.more first (hops_pushed places rest numbers h k later is)
 
 -- the hops of places that were there stay where the places do
 module _ (p : Rows) (m : Meaning) (body : ℕ) (old new : States) (groups : List (List code_hop.Hop)) (few : length groups ≤ length (states_of old)) (states : KeepsStates old new) (places : KeepsPlaces old new) where
@@ -247,7 +247,7 @@ module _ (p : Rows) (m : Meaning) (body : ℕ) (old : States) (pending : Pending
           (take_all (length ways) (ways_seen (lists_of new.pending) ways) (map_short (lists_of new.pending)) ∙ ap (λ q. ways_seen (lists_of q) ways) noted.pending ∙ adds.ways ∙ ap (λ q. hops p m body (state_seen (lists_of q) from)) (sym noted.pending)) noted.last
         where
           map_short : (lists : List Waiting) → length (ways_seen lists ways) ≤ length ways
-          map_short lists = let l = length-map (way_seen lists) ways in omega (arith, l)
+          map_short lists = let l = length-map ways (way_seen lists) in omega (arith, l)
 
       all_hops : HaveHops p m body new (groups ++ noted.group ∷ [])
       all_hops i a group at_i in_groups = ⊎_elim

@@ -1,9 +1,9 @@
-use Rattle.std.proofs.Common.{[], sym, subst}
+use Rattle.std.proofs.Common.{[], sym, subst, length}
 use Rattle.std.proofs.lemmas.Result.{on_ok_weaker}
 use Rattle.jr_flow_defs.specs.States.{hops}
 use Rattle.jr_flow.specs.Pended.{lists_of, AddsWays}
 use Rattle.jr_flow.specs.Places.{state_seen}
-use Rattle.jr_flow.proofs.Stating.{mid, ways_reached, none_noted, all_noted}
+use Rattle.jr_flow.proofs.Stating.{ways_reached, none_noted, all_noted}
 use Rattle.jr_flow.proofs.states.States.turn.Goals as goal
 
 pub returns : goal.returns
