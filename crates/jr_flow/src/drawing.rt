@@ -399,7 +399,7 @@ fn steps_of(alloc: Global, states: &States) -> Result<Vec<Step>, OutOfMemory>
 
 // The graph of these places.
 fn drawn(alloc: Global, states: &States, body: u32) -> Result<Graph, OutOfMemory>
-    ensures { (p : Rows) (m : Meaning) → stated.AreAllTurned p m body states.now → IfOk result (IsGraphOf p m) }
+    ensures { (p : Rows) (m : Meaning) → stated.AreAllTurned p m body states.now → IfOk result (λ made. (made.body ≡ body) × IsGraphOf p m made) }
 {
     let steps = steps_of(alloc, states)?;
     let points = states.points().to_vec(alloc)?;
@@ -412,7 +412,7 @@ fn drawn(alloc: Global, states: &States, body: u32) -> Result<Graph, OutOfMemory
 
 /// The graph of the body that is declared at a row. There is none where it has more than 65,536 points: its entry, its exits as far as they are reached, and all others.
 pub fn graph(alloc: Global, view: &View, body: u32) -> Result<Graph, FlowFault>
-    ensures { (m : Meaning) → IsViewOf view.now m → IsTree (rows_in view.now) → body < length (rows_in view.now) → IfOk result (IsGraphOf (rows_in view.now) m) }
+    ensures { (m : Meaning) → IsViewOf view.now m → IsTree (rows_in view.now) → body < length (rows_in view.now) → IfOk result (λ made. (made.body ≡ body) × IsGraphOf (rows_in view.now) m made) }
 {
     let code = code_of(alloc, view, body)?;
     let states = states_of(alloc, &code, view.sight.world.under.rows)?;
