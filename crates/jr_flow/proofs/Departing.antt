@@ -202,6 +202,9 @@ other_row n body le e = ⊎_elim (λ lt. lt) (λ ge. let same : n ≡ body = ome
 pub row_near : (p : Rows) (m : Meaning) (code : Code) (n : ℕ) → IsCoded p m code → n < end p code.body → n + 1 < 2 ^ 32
 row_near p m code n h to = let le = h.tree.last code.body h.inside in let few = h.few in omega (arith, to, le, few)
 
+pub body_near : (p : Rows) (m : Meaning) (code : Code) → IsCoded p m code → code.body + 1 < 2 ^ 32
+body_near p m code h = let few = h.few in let inside = h.inside in omega (arith, few, inside)
+
 -- the places behind a part of the row over it, whose label was read
 pub over_label : (old new : Pending) (before behind : List Way) (p : Rows) (m : Meaning) (body n k : ℕ) (c : acts.Completion) (w : states.Pending) (l : Label) (row : ℕ) → row ≡ parent p k → l ≡ label p row
     → AddsWays old new before behind (ended body (left_by l p m row k c w)) → AddsWays old new before behind (ended body (left_by (label p (parent p k)) p m (parent p k) k c w))

@@ -29,10 +29,10 @@ record Into {A : Type 0} (places : List A) (ks : List (Hop ℕ)) (h : Hop A) : T
   among : Contains ks hop
   to : IsHopTo places h hop
 
-record From {A : Type 0} (places : List A) (hs : List (Hop A)) (k : Hop ℕ) : Type 0 where
-  hop : Hop A
-  among : Contains hs hop
-  to : IsHopTo places hop k
+pub record From {A : Type 0} (places : List A) (hs : List (Hop A)) (k : Hop ℕ) : Type 0 where
+  pub hop : Hop A
+  pub among : Contains hs hop
+  pub to : IsHopTo places hop k
 
 hop_into : {A : Type 0} (places : List A) (hs : List (Hop A)) (ks : List (Hop ℕ)) (h : Hop A) → AreHops places hs ks → Contains hs h → Into places ks h
 hop_into places hs ks h AreHops.none among = absurd (omega (arith, among.1))
@@ -41,7 +41,7 @@ hop_into places hs ks h (AreHops.more {h = one} {k = k} {hs = rest} {ks = number
     (λ later. let found = hop_into places rest numbers h others later in record { hop = found.hop; among = behind k numbers found.hop found.among; to = found.to })
     (out one rest h among)
 
-hop_from : {A : Type 0} (places : List A) (hs : List (Hop A)) (ks : List (Hop ℕ)) (k : Hop ℕ) → AreHops places hs ks → Contains ks k → From places hs k
+pub hop_from : {A : Type 0} (places : List A) (hs : List (Hop A)) (ks : List (Hop ℕ)) (k : Hop ℕ) → AreHops places hs ks → Contains ks k → From places hs k
 hop_from places hs ks k AreHops.none among = absurd (omega (arith, among.1))
 hop_from places hs ks k (AreHops.more {h = h} {k = one} {hs = rest} {ks = numbers} is others) among = ⊎_elim
     (λ e. record { hop = h; among = here h rest; to = subst (λ x. IsHopTo places h x) e is })

@@ -63,7 +63,7 @@ same_moment a b e = sym (moment_back a) ∙ ap moment_from e ∙ moment_back b
 abbrev waiting_of : Completion → ℕ → Waiting
 waiting_of c outer = record { completion = c; outer = outer }
 
-abbrev state_of : ℕ → Moment → ℕ → State
+abbrev pub state_of : ℕ → Moment → ℕ → State
 state_of row moment list = record { row = row; moment = moment; list = list }
 
 pub waiting_tells : (a b : Waiting) → Decides (same_waiting (waiting_key a) (waiting_key b)) (a ≡ b)

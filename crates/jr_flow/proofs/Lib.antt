@@ -13,3 +13,9 @@ pub mod Coding
 pub mod Labels
 pub mod Departing
 pub mod Shortening
+pub mod Locating
+pub mod Grouping
+pub mod Counted
+pub mod Stating
+pub mod Walking
+pub mod Drawn

@@ -7,3 +7,8 @@ pub mod Reached
 pub mod Coded
 pub mod Keys
 pub mod Pended
+pub mod Located
+pub mod Grouped
+pub mod Numbered
+pub mod Stated
+pub mod Walked

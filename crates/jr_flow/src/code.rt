@@ -212,7 +212,7 @@ impl Code {
     }
 
     fn fill(&mut self, view: &View) -> Result<(), OutOfMemory>
-        ensures { (m : Meaning) → IsViewOf view.now m → tell.HasParts (rows_in view.now) m → tell.IsBegun self.old.body self.old → self.old.body < length (rows_in view.now)
+        ensures { (m : Meaning) → IsViewOf view.now m → IsTree (rows_in view.now) → tell.IsBegun self.old.body self.old → self.old.body < length (rows_in view.now)
             → OnOk result (tell.IsCodeOf (rows_in view.now) m self.old.body self.new) }
     {
         let rows = view.sight.world.under.rows;
@@ -273,7 +273,9 @@ impl Code {
 }
 
 /// The acts of a body.
-pub(crate) fn code_of(alloc: Global, view: &View, body: u32) -> Result<Box<Code>, OutOfMemory> {
+pub(crate) fn code_of(alloc: Global, view: &View, body: u32) -> Result<Box<Code>, OutOfMemory>
+    ensures { (m : Meaning) → IsViewOf view.now m → IsTree (rows_in view.now) → body < length (rows_in view.now) → IfOk result (λ code. (code.value.body ≡ body) × tell.IsCoded (rows_in view.now) m code.value) }
+{
     let mut code = Box::new(alloc, Code::new(alloc, body))?;
     code.fill(view)?;
     Ok(code)

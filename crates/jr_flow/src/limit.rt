@@ -39,7 +39,7 @@ fn is_small(rows: &[Row], body: u32) -> bool {
 // Finds the points of a body.
 fn count_points(alloc: Global, view: &View, body: u32) -> Result<(), FlowFault> {
     let code = code_of(alloc, view, body)?;
-    let _states = states_of(alloc, &code, view.sight.world.under.rows, body)?;
+    let _states = states_of(alloc, &code, view.sight.world.under.rows)?;
     Ok(())
 }
 

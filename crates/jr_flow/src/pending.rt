@@ -1,5 +1,5 @@
 // The completions that wait for the ends of blocks of `finally` (JLS 14.20.2).
-ghost use Rattle.std.specs.Prelude.{◌≡◌, ◌≤◌, [], IfOk, length};
+ghost use Rattle.std.specs.Prelude.{◌≡◌, ◌≤◌, [], IfOk, length, nat_lt, not};
 ghost use Rattle.jr_flow.specs.Keys.{waiting_key};
 ghost use Rattle.jr_flow.specs.Places.{entry};
 ghost use Rattle.jr_flow.specs.Pended.{lists_of, number_in, IsPending, HasList};
@@ -67,6 +67,13 @@ impl Pending {
         };
         self.numbers.insert(key, number)?;
         Ok(number)
+    }
+
+    /// There is a list of this number.
+    pub(crate) fn has(&self, list: u32) -> bool
+        ensures { result ≡ not (nat_lt (length (lists_of self.now)) list) }
+    {
+        list as usize <= self.lists.len()
     }
 
     /// The innermost completion of a list, with the list round it.

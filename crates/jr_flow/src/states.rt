@@ -1,205 +1,240 @@
-// The states that a body comes to from its entry.
-ghost use Rattle.std.specs.Prelude.{◌≡◌};
-ghost use Rattle.jr_flow.specs.Keys.{state_key};
+// The places that control comes to in a body, from its entry on.
+ghost use Rattle.std.specs.Prelude.{◌≡◌, ◌+◌, ◌-◌, ◌<◌, ◌≤◌, ◌^◌, ◌∷◌, ◌++◌, [], ℕ, List, Option, Some, IfOk, OnOk, length, nat_lt, not, ◌&&◌, slice_get};
+ghost use Rattle.jr_tree.specs.Rows.{end};
+ghost use Rattle.jr_flow_defs.specs.Meaning.{Meaning};
+ghost use Rattle.jr_flow_defs.specs.Paths.{IsReached};
+ghost use Rattle.jr_flow_defs.specs.Edges.{body_flow};
+ghost use Rattle.jr_flow.specs.declared.hops.Hop as code_hop;
+ghost use Rattle.jr_flow.specs.declared.leaving.Way as code_way;
+ghost use Rattle.jr_flow.specs.declared.states.States as code_states;
+ghost use Rattle.jr_flow.specs.Coded.{IsCoded};
+ghost use Rattle.jr_flow.specs.Pended.{lists_of};
+ghost use Rattle.jr_flow.specs.Places.{state_seen};
+ghost use Rattle.jr_flow.specs.Grouped.{hops_in};
+ghost use Rattle.jr_flow.specs.Numbered.{points_in};
+ghost use Rattle.jr_flow.specs.Stated as tell;
+ghost use Rattle.jr_flow.specs.Walked as read;
 
 use crate::code::Code;
-use crate::leaving::{State, Way, before, moment_key, point_at, ways_of};
+use crate::hops::{Hop, Hops};
+use crate::leaving::{State, Way, before, point_at, ways_of};
+use crate::locations::Locations;
+use crate::numbering::Numbering;
 use crate::pending::{NOTHING, Pending};
-use crate::point::{FlowFault, Point, PointKind};
-use jr_base::Limits;
+use crate::point::{FlowFault, Point};
+use jr_base::OutOfMemory;
+use jr_places::end_at;
 use jr_tree::Row;
 use std::alloc::Global;
-use std::collections::HashMap;
 
-/// The number of a body's entry among its points.
-pub(crate) const ENTERED: u32 = 0;
-
-/// The number of the exit that is reached by completing.
-pub(crate) const LEFT: u32 = 1;
-
-/// The number of the exit that is reached by a throw.
-pub(crate) const LOST: u32 = 2;
-
-/// A state to which control comes, and the number of its point, if it is one.
-#[derive(Clone, Copy)]
-pub(crate) struct Reached {
-    state: State,
-    pub(crate) point: Option<u32>,
-}
-
-/// A way from one state to another, by its number.
-#[derive(Clone, Copy)]
-pub(crate) struct Hop {
-    pub(crate) to: u32,
-    pub(crate) is_throw: bool,
-}
-
-/// The states of a body, each once, and the ways between them.
+/// The places that control comes to in a body, each once, the points among them and the ways between them.
 #[derive(Drop)]
 pub(crate) struct States {
-    numbers: HashMap<((u32, u32), (u32, u32)), u32>,
     pending: Pending,
-    states: Vec<Reached>,
-    /// For each state the number of its first hop.
-    firsts: Vec<u32>,
-    hops: Vec<Hop>,
-    points: Vec<Point>,
-    /// How many points were found.
-    count: u32,
-    ways: Vec<Way>,
+    locations: Locations,
+    numbering: Numbering,
+    hops: Hops,
 }
 
-fn key_of(state: State) -> ((u32, u32), (u32, u32))
-    ensures { result ≡ state_key state }
+// The row stands in the body.
+fn is_inside(code: &Code, rows: &[Row], row: u32) -> bool
+    ensures { code.now.body + 1 < 2 ^ 32 → result ≡ (not (nat_lt row code.now.body) && nat_lt row (end rows.now code.now.body)) }
 {
-    (moment_key(state.moment), (state.row, state.list))
+    let body = code.body();
+    body <= row && row < end_at(rows, body)
+}
+
+fn way_at(ways: &[Way], nth: usize) -> Option<Way>
+    ensures { result ≡ slice_get ways.now nth }
+{
+    ways.get(nth).copied()
 }
 
 impl States {
-    fn new(alloc: Global) -> States {
-        States {
-            numbers: HashMap::new(alloc),
-            pending: Pending::new(alloc),
-            states: Vec::new(alloc),
-            firsts: Vec::new(alloc),
-            hops: Vec::new(alloc),
-            points: Vec::new(alloc),
-            count: 0,
-            ways: Vec::new(alloc),
-        }
+    // The place stands in the body, and its list is there.
+    fn is_right(&self, code: &Code, rows: &[Row], state: State) -> bool
+        ensures { code.now.body + 1 < 2 ^ 32 → result ≡ ((not (nat_lt state.row code.now.body) && nat_lt state.row (end rows.now code.now.body)) && not (nat_lt (length (lists_of self.now.pending)) state.list)) }
+    {
+        is_inside(code, rows, state.row) && self.pending.has(state.list)
     }
 
-    // The number of a point that is new.
-    fn number_point(&mut self, point: Point) -> Result<u32, FlowFault> {
-        self.count = self.count.saturating_add(1);
-        if self.count > Limits::FLOW {
-            return Err(FlowFault::TooManyPoints);
-        }
-        match point.kind {
-            PointKind::Entry => Ok(ENTERED),
-            PointKind::Exit => Ok(LEFT),
-            PointKind::Thrown => Ok(LOST),
-            _ => {
-                let Ok(number) = u32::try_from(self.points.len()) else {
-                    return Err(FlowFault::OutOfMemory);
-                };
-                self.points.push(point)?;
-                Ok(number)
-            }
-        }
-    }
-
-    // The number of the point of a state that is new.
-    fn number_point_at(&mut self, code: &Code, state: State) -> Result<Option<u32>, FlowFault> {
-        match point_at(code, state) {
-            Some(point) => Ok(Some(self.number_point(point)?)),
-            None => Ok(None),
-        }
-    }
-
-    // The number of a state, which may be new.
-    fn number(&mut self, code: &Code, state: State) -> Result<u32, FlowFault> {
-        let key = key_of(state);
-        if let Some(known) = self.numbers.get(&key).copied() {
+    // The number of a place, which may be new.
+    fn number(&mut self, code: &Code, rows: &[Row], state: State) -> Result<u32, FlowFault>
+        ensures { (m : Meaning) → IsCoded rows.now m code.now → tell.AreStates rows.now m code.now.body self.old → IsReached (body_flow rows.now m code.now.body) (state_seen (lists_of self.old.pending) state)
+            → IfOk result (λ n. tell.HasNumber rows.now m code.now.body self.old self.new state n) }
+    {
+        if let Some(known) = self.locations.find(state) {
             return Ok(known);
         }
-        let Ok(number) = u32::try_from(self.states.len()) else {
+        if !self.is_right(code, rows, state) {
             return Err(FlowFault::OutOfMemory);
-        };
-        let point = self.number_point_at(code, state)?;
-        self.numbers.insert(key, number)?;
-        self.states.push(Reached { state, point })?;
+        }
+        let number = self.locations.add(state)?;
+        self.numbering.add(point_at(code, state))?;
         Ok(number)
     }
 
-    // Notes where control goes to from a state.
-    fn turn(&mut self, code: &Code, rows: &[Row], state: State) -> Result<(), FlowFault> {
-        self.begin_hops()?;
-        self.ways.clear();
-        ways_of(code, rows, &mut self.pending, state, &mut self.ways)?;
-        for nth in 0..self.ways.len() {
-            if let Some(way) = self.ways.get(nth).copied() {
-                let to = self.number(code, way.to)?;
-                self.hops.push(Hop {
-                    to,
-                    is_throw: way.is_throw,
-                })?;
-            }
-        }
-        Ok(())
-    }
-
-    // The hops that follow are those of the next state.
-    fn begin_hops(&mut self) -> Result<(), FlowFault> {
-        let Ok(first) = u32::try_from(self.hops.len()) else {
+    // The entry is the first place.
+    fn enter(&mut self, code: &Code, rows: &[Row]) -> Result<(), FlowFault>
+        ensures { (m : Meaning) → IsCoded rows.now m code.now → tell.AreBegun code.now.body self.old → OnOk result (tell.IsExploring rows.now m code.now.body self.new 0) }
+    {
+        let number = self.number(code, rows, before(code.body(), 0, NOTHING))?;
+        if number != 0 {
             return Err(FlowFault::OutOfMemory);
-        };
-        self.firsts.push(first)?;
-        Ok(())
-    }
-
-    // The entry and the exits of a body.
-    fn begin(&mut self, code: &Code, row: u32) -> Result<(), FlowFault> {
-        for kind in [PointKind::Entry, PointKind::Exit, PointKind::Thrown] {
-            self.points.push(Point { row, kind })?;
         }
-        self.number(code, before(row, 0, NOTHING))?;
         Ok(())
     }
 
-    // Finds the states and the ways between them.
-    fn explore(&mut self, code: &Code, rows: &[Row]) -> Result<(), FlowFault> {
+    // Notes a way from the last place that has hops.
+    fn note(&mut self, code: &Code, rows: &[Row], way: Way) -> Result<(), FlowFault>
+        ensures { (m : Meaning) (before : code_states.States) (groups : List (List code_hop.Hop)) (ways : List code_way.Way) (k : ℕ) → IsCoded rows.now m code.now
+            → tell.AreNoted rows.now m code.now.body before self.old groups ways k → slice_get ways k ≡ Some way → IsReached (body_flow rows.now m code.now.body) (state_seen (lists_of before.pending) way.to)
+            → OnOk result (tell.AreNoted rows.now m code.now.body before self.new groups ways (k + 1)) }
+    {
+        let to = self.number(code, rows, way.to)?;
+        self.hops.push(Hop {
+            to,
+            is_throw: way.is_throw,
+        })?;
+        Ok(())
+    }
+
+    // Notes the way of a number.
+    fn note_at(
+        &mut self,
+        code: &Code,
+        rows: &[Row],
+        ways: &[Way],
+        nth: usize,
+    ) -> Result<(), FlowFault>
+        ensures { (m : Meaning) (before : code_states.States) (groups : List (List code_hop.Hop)) → IsCoded rows.now m code.now → nth < length ways.now
+            → tell.AreNoted rows.now m code.now.body before self.old groups ways.now nth → tell.AreWaysReached rows.now m code.now.body before.pending ways.now
+            → OnOk result (tell.AreNoted rows.now m code.now.body before self.new groups ways.now (nth + 1)) }
+    {
+        match way_at(ways, nth) {
+            Some(way) => self.note(code, rows, way),
+            None => Ok(()),
+        }
+    }
+
+    // Notes the ways from the last place that has hops.
+    fn note_all(&mut self, code: &Code, rows: &[Row], ways: &[Way]) -> Result<(), FlowFault>
+        ensures { (m : Meaning) (before : code_states.States) (groups : List (List code_hop.Hop)) → IsCoded rows.now m code.now
+            → tell.AreNoted rows.now m code.now.body before self.old groups ways.now 0 → tell.AreWaysReached rows.now m code.now.body before.pending ways.now
+            → OnOk result (tell.AreNoted rows.now m code.now.body before self.new groups ways.now (length ways.now)) }
+    {
+        for nth in 0..ways.len() {
+            self.note_at(code, rows, ways, nth)?;
+        }
+        Ok(())
+    }
+
+    // Finds where control goes to from the next place.
+    fn turn(
+        &mut self,
+        code: &Code,
+        rows: &[Row],
+        ways: &mut Vec<Way>,
+        state: State,
+    ) -> Result<(), FlowFault>
+        ensures { (m : Meaning) (groups : List (List code_hop.Hop)) → IsCoded rows.now m code.now → tell.AreTurned rows.now m code.now.body self.old groups → slice_get (tell.states_of self.old) (length groups) ≡ Some state
+            → OnOk result (tell.IsTurned rows.now m code.now.body self.old self.new groups) }
+    {
+        self.hops.begin()?;
+        ways.clear();
+        ways_of(code, rows, &mut self.pending, state, ways)?;
+        self.note_all(code, rows, &*ways)
+    }
+
+    // Finds all places and the ways between them.
+    fn explore(&mut self, code: &Code, rows: &[Row], ways: &mut Vec<Way>) -> Result<(), FlowFault>
+        ensures { (m : Meaning) → IsCoded rows.now m code.now → tell.IsExploring rows.now m code.now.body self.old 0 → OnOk result (tell.AreAllTurned rows.now m code.now.body self.new) }
+    {
         for number in 0..u32::MAX {
-            let Some(reached) = self.state(number) else {
-                return self.begin_hops();
+            let Some(state) = self.locations.get(number) else {
+                self.hops.begin()?;
+                return Ok(());
             };
-            self.turn(code, rows, reached.state)?;
+            self.turn(code, rows, ways, state)?;
         }
         Err(FlowFault::OutOfMemory)
     }
 
-    /// The state of this number.
-    pub(crate) fn state(&self, number: u32) -> Option<Reached> {
-        self.states.get(number as usize).copied()
+    /// The number of the point at a place, if one stands there.
+    pub(crate) fn point(&self, place: u32) -> Option<u32>
+        ensures { result ≡ read.number_in self.now place }
+    {
+        self.numbering.at(place)
     }
 
-    /// How many states there are.
-    pub(crate) fn count_states(&self) -> usize {
-        self.states.len()
+    /// How many places there are.
+    pub(crate) fn count(&self) -> usize
+        ensures { result ≡ length (tell.states_of self.now) }
+    {
+        self.locations.len()
     }
 
-    /// The number of the first hop of a state. Behind the last state there are no more.
-    pub(crate) fn first_hop(&self, number: u32) -> u32 {
-        self.firsts.get(number as usize).copied().unwrap_or(0)
+    /// The number of the first hop of a place. Behind the last place there are no more.
+    pub(crate) fn first_hop(&self, place: u32) -> u32
+        ensures { result ≡ read.first_at self.now place }
+    {
+        self.hops.first(place)
     }
 
-    pub(crate) fn hop(&self, number: u32) -> Option<Hop> {
-        self.hops.get(number as usize).copied()
+    /// How many hops there are from a place.
+    pub(crate) fn count_hops(&self, place: u32) -> u32
+        ensures { place + 1 < 2 ^ 32 → result ≡ read.first_at self.now (place + 1) - read.first_at self.now place }
+    {
+        let first = self.first_hop(place);
+        self.first_hop(place.saturating_add(1))
+            .saturating_sub(first)
     }
 
-    pub(crate) fn points(&self) -> &[Point] {
-        &self.points
+    pub(crate) fn hop(&self, number: u32) -> Option<Hop>
+        ensures { result ≡ slice_get (hops_in self.now.hops) number }
+    {
+        self.hops.get(number)
+    }
+
+    pub(crate) fn points(&self) -> &[Point]
+        ensures { result.now ≡ points_in self.now.numbering }
+    {
+        self.numbering.points()
     }
 }
 
-/// The states that a body comes to, and the ways between them.
-pub(crate) fn states_of(
-    alloc: Global,
-    code: &Code,
-    rows: &[Row],
-    body: u32,
-) -> Result<Box<States>, FlowFault> {
-    let mut states = Box::new(alloc, States::new(alloc))?;
-    explore_body(code, rows, &mut *states, body)?;
-    Ok(states)
+// No place yet.
+fn begun(alloc: Global, body: u32) -> Result<States, OutOfMemory>
+    ensures { IfOk result (λ states. tell.AreBegun body states) }
+{
+    let numbering = Numbering::begin(alloc, body)?;
+    Ok(States {
+        pending: Pending::new(alloc),
+        locations: Locations::new(alloc),
+        numbering,
+        hops: Hops::new(alloc),
+    })
 }
 
+// Finds all places of a body from its entry on.
 fn explore_body(
     code: &Code,
     rows: &[Row],
     states: &mut States,
-    body: u32,
-) -> Result<(), FlowFault> {
-    states.begin(code, body)?;
-    states.explore(code, rows)
+    ways: &mut Vec<Way>,
+) -> Result<(), FlowFault>
+    ensures { (m : Meaning) → IsCoded rows.now m code.now → tell.AreBegun code.now.body states.old → OnOk result (tell.AreAllTurned rows.now m code.now.body states.new) }
+{
+    states.enter(code, rows)?;
+    states.explore(code, rows, ways)
+}
+
+/// The places that control comes to in a body, and the ways between them.
+pub(crate) fn states_of(alloc: Global, code: &Code, rows: &[Row]) -> Result<Box<States>, FlowFault>
+    ensures { (m : Meaning) → IsCoded rows.now m code.now → IfOk result (λ states. tell.AreAllTurned rows.now m code.now.body states.value) }
+{
+    let mut states = Box::new(alloc, begun(alloc, code.body())?)?;
+    let mut ways = Vec::new(alloc);
+    explore_body(code, rows, &mut *states, &mut ways)?;
+    Ok(states)
 }

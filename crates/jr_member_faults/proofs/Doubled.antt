@@ -1,5 +1,5 @@
 -- What bodies declare in the rows before a row, and the rules on what is declared twice.
-use Rattle.std.proofs.Common.{◌≡◌, refl, sym, ◌∙◌, ap, subst, arith, ℕ, ◌+◌, ◌<◌, Bool, true, false, cond, ◌&&◌, List, [], ◌++◌, append-nil, length, Option, Some, None, Decides}
+use Rattle.std.proofs.Common.{◌≡◌, refl, sym, ◌∙◌, ap, ap₂, subst, arith, ℕ, ◌<◌, Bool, true, false, cond, ◌&&◌, ◌||◌, List, [], ◌++◌, append-nil, length, Option, Some, None, Decides}
 use Rattle.std.proofs.lemmas.Bool.{false≢true}
 use Rattle.std.proofs.lemmas.Bool.Decides.{Decides-eqb, Decides-ltb}
 use Rattle.std.proofs.lemmas.Option.{none-some, same_Some}
@@ -26,19 +26,17 @@ use Rattle.jr_supers.specs.Signatures.{same_numbers, AreSignatures}
 use Rattle.jr_supers.specs.Tabled.{is_callable}
 use Rattle.jr_supers.proofs.Signed.{same_signatures}
 use Rattle.jr_supers.proofs.Subtyped.{one_test}
-use Rattle.jr_members.specs.declared.members.World.{World}
 use Rattle.jr_members.specs.Keys.{entry_for, entry_list, entries_of, entry_of, signature_number}
-use Rattle.jr_members.proofs.Declaring.{entries_more}
 use Rattle.jr_lookup.proofs.Scoping.{is_keyed, HasRows}
 use Rattle.jr_name_rules.specs.Found.{is_same_name}
-use Rattle.jr_name_rules.specs.DeclarationTests.{is_before_in_body, is_second_field, is_second_method}
+use Rattle.jr_name_rules.specs.DeclarationTests.{is_before_in_body, is_second_field, is_second_method, is_inside, is_inside_its_name}
 use Rattle.jr_member_faults.specs.declared.twice.Declared as code
-use Rattle.jr_member_faults.specs.Twice.{member_number, member_entry, entry_as, entries_for, has_entry, with_entry, AreDeclaredTo}
-use Rattle.jr_member_faults.specs.Views.{rows_of, table_of, IsNamedWorld, IsSignedWorld}
+use Rattle.jr_member_faults.specs.Faults.{is_type_clash, has_member_type_clash}
+use Rattle.jr_member_faults.specs.Twice.{member_number, member_entry, entry_as, entries_for, has_entry, with_entry}
 use Rattle.jr_member_faults.proofs.Headed.{listed_before}
 
 -- where the second test is to be known only after the first
-both_then : {a b : Bool} {A B : Type 0} → Decides a A → (A → Decides b B) → Decides (a && b) (A × B)
+pub both_then : {a b : Bool} {A B : Type 0} → Decides a A → (A → Decides b B) → Decides (a && b) (A × B)
 both_then {a = true} p q = like (q (p.0 refl)) (λ h. (p.0 refl, h)) (λ h. h.1)
 both_then {a = false} p q = (λ h. absurd (false≢true h), λ h. p.1 h.0)
 
@@ -99,20 +97,20 @@ module _ (p : Rows) (s : Signatures) (kind : Role) where
     pub second_listed : has_entry (entries_of (entry_as p kind s) n) (member_entry p s n) ≡ any_below (length p) (λ d. is_before_in_body p kind d n && test d n)
     second_listed = one_test _ _ Twin (listed_tells (declaring_type p n) (member_number p s n) refl refl) rule_tells
 
--- ---- fields by their names
+-- ---- types and fields by their names
 
-module _ (p : Rows) (s : Signatures) where
-  field_number : (d : ℕ) → role_at p d ≡ role.Field → member_number p s d ≡ Some (name_row p d)
-  field_number d is = ap (λ r. cond (same_role r role.Method) (signature_number s d) (Some (name_row p d))) is
+module _ (p : Rows) (s : Signatures) (kind : Role) (named : same_role kind role.Method ≡ false) where
+  named_number : (d : ℕ) → role_at p d ≡ kind → member_number p s d ≡ Some (name_row p d)
+  named_number d is = ap (λ b. cond b (signature_number s d) (Some (name_row p d))) (ap (λ r. same_role r role.Method) is ∙ named)
 
-  fields_tell : (d n : ℕ) → role_at p d ≡ role.Field → role_at p n ≡ role.Field → Decides (is_same_name p d n) (AreOne p s role.Field d n)
-  fields_tell d n first second = like (bytes_eq-Decides (name p d) (name p n))
-      (λ e. (name_row p n, field_number d first ∙ ap Some ((Decides-eqb (name_row p d) (name_row p n)).0 ((name_tells p d n).1 e)), field_number n second))
-      (λ h. (name_tells p d n).0 ((Decides-eqb (name_row p d) (name_row p n)).1 (same_Some (name_row p d) h.0 (sym (field_number d first) ∙ h.1) ∙ sym (same_Some (name_row p n) h.0 (sym (field_number n second) ∙ h.2)))))
+  pub names_tell : (d n : ℕ) → role_at p d ≡ kind → role_at p n ≡ kind → Decides (is_same_name p d n) (AreOne p s kind d n)
+  names_tell d n first second = like (bytes_eq-Decides (name p d) (name p n))
+      (λ e. (name_row p n, named_number d first ∙ ap Some ((Decides-eqb (name_row p d) (name_row p n)).0 ((name_tells p d n).1 e)), named_number n second))
+      (λ h. (name_tells p d n).0 ((Decides-eqb (name_row p d) (name_row p n)).1 (same_Some (name_row p d) h.0 (sym (named_number d first) ∙ h.1) ∙ sym (same_Some (name_row p n) h.0 (sym (named_number n second) ∙ h.2)))))
 
 -- ---- methods by their signatures
 
-numbers_tell : (a b : Option ℕ) → Decides (same_numbers a b) ((x : ℕ) × (a ≡ Some x) × (b ≡ Some x))
+pub numbers_tell : (a b : Option ℕ) → Decides (same_numbers a b) ((x : ℕ) × (a ≡ Some x) × (b ≡ Some x))
 numbers_tell (Some a) (Some b) = like (Decides-eqb a b) (λ e. (b, ap Some e, refl)) (λ h. same_Some a h.0 h.1 ∙ sym (same_Some b h.0 h.2))
 numbers_tell (Some a) None = (λ h. absurd (false≢true h), λ h. absurd (none-some h.0 h.2))
 numbers_tell None b = (λ h. absurd (false≢true h), λ h. absurd (none-some h.0 h.1))
@@ -121,89 +119,70 @@ module _ (p : Rows) (t : Table) (s : Signatures) (signed : AreSignatures p t s) 
   method_number : (d : ℕ) → role_at p d ≡ role.Method → member_number p s d ≡ signature_number s d
   method_number d is = ap (λ r. cond (same_role r role.Method) (signature_number s d) (Some (name_row p d))) is
 
-  methods_tell : (d n : ℕ) → role_at p d ≡ role.Method → role_at p n ≡ role.Method → Decides (is_same_signature p t d n) (AreOne p s role.Method d n)
+  pub methods_tell : (d n : ℕ) → role_at p d ≡ role.Method → role_at p n ≡ role.Method → Decides (is_same_signature p t d n) (AreOne p s role.Method d n)
   methods_tell d n first second = subst (λ b. Decides b (AreOne p s role.Method d n)) (same_signatures p t s d n signed (ap is_callable first) (ap is_callable second))
       (like (numbers_tell (signature_number s d) (signature_number s n)) (λ h. (h.0, method_number d first ∙ h.1, method_number n second ∙ h.2)) (λ h. (h.0, sym (method_number d first) ∙ h.1, sym (method_number n second) ∙ h.2)))
 
 -- ---- the rules
 
-module _ (w : World) (n : ℕ) (lt : n < length (rows_of w)) (declared : code.Declared) (h : AreDeclaredTo w n declared) where
-  abbrev numbers : Signatures
-  numbers = w.members.now.callables.signatures
-
-  field_by : (r : Role) → role_at (rows_of w) n ≡ r → IsNamedWorld w → (same_role r role.Field && has_entry (entries_for declared r) (member_entry (rows_of w) numbers n)) ≡ (same_role r role.Field && any_below (length (rows_of w)) (λ d. is_before_in_body (rows_of w) role.Field d n && is_same_name (rows_of w) d n))
-  field_by role.Field is named = ap (λ l. has_entry l (member_entry (rows_of w) numbers n)) (h.fields named) ∙ second_listed (rows_of w) numbers role.Field (is_same_name (rows_of w)) (fields_tell (rows_of w) numbers) n lt is
-  field_by role.Nothing is named = refl
-  field_by role.Type is named = refl
-  field_by role.Method is named = refl
-  field_by role.Constructor is named = refl
-  field_by role.Parameter is named = refl
-  field_by role.Local is named = refl
-  field_by role.Label is named = refl
-
-  method_by : (r : Role) → role_at (rows_of w) n ≡ r → IsNamedWorld w → IsSignedWorld w
-      → (same_role r role.Method && has_entry (entries_for declared r) (member_entry (rows_of w) numbers n)) ≡ (same_role r role.Method && any_below (length (rows_of w)) (λ d. is_before_in_body (rows_of w) role.Method d n && is_same_signature (rows_of w) (table_of w) d n))
-  method_by role.Method is named signed = ap (λ l. has_entry l (member_entry (rows_of w) numbers n)) (h.methods named) ∙ second_listed (rows_of w) numbers role.Method (is_same_signature (rows_of w) (table_of w)) (methods_tell (rows_of w) (table_of w) numbers signed) n lt is
-  method_by role.Nothing is named signed = refl
-  method_by role.Type is named signed = refl
-  method_by role.Field is named signed = refl
-  method_by role.Constructor is named signed = refl
-  method_by role.Parameter is named signed = refl
-  method_by role.Local is named signed = refl
-  method_by role.Label is named signed = refl
-
 -- an entry that a constructor has does not matter
-entry_told : (p : Rows) (s : Signatures) (kind r : Role) (n : ℕ) (entry : Option Entry) (all : List Entry) → r ≡ role_at p n → (same_role (role_at p n) role.Constructor ≡ false → entry ≡ member_entry p s n) → (same_role kind role.Constructor ≡ false)
-    → with_entry (same_role r kind) all entry ≡ all ++ entry_list (entry_as p kind s n)
-entry_told p s kind r n entry all is found other = ap (λ r. with_entry (same_role r kind) all entry) is ∙ by (same_role (role_at p n) kind) (role_tells (role_at p n) kind)
-  where
-    put : (o : Option Entry) → with_entry true all o ≡ all ++ entry_list o
-    put None = sym (append-nil all)
-    put (Some e) = refl
+module _ (p : Rows) (s : Signatures) (kind : Role) (apart : same_role kind role.Constructor ≡ false) (test : ℕ → ℕ → Bool) (tells : (d n : ℕ) → role_at p d ≡ kind → role_at p n ≡ kind → Decides (test d n) (AreOne p s kind d n)) where
+  pub kind_told : (n : ℕ) → n < length p → (declared : code.Declared) (r : Role) (entry : Option Entry) (is_there : Bool) → r ≡ role_at p n → entries_for declared kind ≡ entries_of (entry_as p kind s) n
+      → (same_role (role_at p n) role.Constructor ≡ false → entry ≡ member_entry p s n) → is_there ≡ has_entry (entries_for declared r) entry
+      → (same_role r kind && is_there) ≡ (same_role (role_at p n) kind && any_below (length p) (λ d. is_before_in_body p kind d n && test d n))
+  kind_told n lt declared r entry is_there is all found there = ap₂ (λ q b. same_role q kind && b) is (there ∙ ap (λ q. has_entry (entries_for declared q) entry) is) ∙ by (same_role (role_at p n) kind) (role_tells (role_at p n) kind)
+    where
+      by : (b : Bool) → Decides b (role_at p n ≡ kind) → (b && has_entry (entries_for declared (role_at p n)) entry) ≡ (b && any_below (length p) (λ d. is_before_in_body p kind d n && test d n))
+      by false told = refl
+      by true told = let e = told.0 refl in ap (λ q. has_entry (entries_for declared q) entry) e ∙ ap₂ has_entry all (found (ap (λ q. same_role q role.Constructor) e ∙ apart)) ∙ second_listed p s kind test tells n lt e
 
-    left : (o : Option Entry) → with_entry false all o ≡ all ++ []
-    left None = sym (append-nil all)
-    left (Some e) = sym (append-nil all)
+pub field_told : (p : Rows) (s : Signatures) (n : ℕ) → n < length p → (declared : code.Declared) (r : Role) (entry : Option Entry) (is_there : Bool) → r ≡ role_at p n → declared.fields ≡ entries_of (entry_as p role.Field s) n
+    → (same_role (role_at p n) role.Constructor ≡ false → entry ≡ member_entry p s n) → is_there ≡ has_entry (entries_for declared r) entry → (same_role r role.Field && is_there) ≡ is_second_field p n
+field_told p s n lt declared r entry is_there is all found there = kind_told p s role.Field refl (is_same_name p) (names_tell p s role.Field refl) n lt declared r entry is_there is all found there
 
-    by : (b : Bool) → Decides b (role_at p n ≡ kind) → with_entry b all entry ≡ all ++ entry_list (cond b (member_entry p s n) None)
-    by true tells = put entry ∙ ap (λ o. all ++ entry_list o) (found (ap (λ r. same_role r role.Constructor) (tells.0 refl) ∙ other))
-    by false tells = left entry
+pub method_told : (p : Rows) (t : Table) (s : Signatures) → AreSignatures p t s → (n : ℕ) → n < length p → (declared : code.Declared) (r : Role) (entry : Option Entry) (is_there : Bool) → r ≡ role_at p n → declared.methods ≡ entries_of (entry_as p role.Method s) n
+    → (same_role (role_at p n) role.Constructor ≡ false → entry ≡ member_entry p s n) → is_there ≡ has_entry (entries_for declared r) entry → (same_role r role.Method && is_there) ≡ is_second_method p t n
+method_told p t s signed n lt declared r entry is_there is all found there = kind_told p s role.Method refl (is_same_signature p t) (methods_tell p t s signed) n lt declared r entry is_there is all found there
+
+-- what is no type stands in none of its own name
+no_inside : (p : Rows) (n : ℕ) (r : Role) → r ≡ role_at p n → same_role r role.Type ≡ false → is_inside_its_name p n ≡ false
+no_inside p n r is apart = ap (λ b. b && is_inside p (name p n) (length p) n) (ap (λ q. same_role q role.Type) (sym is) ∙ apart)
+
+-- no table is kept of the role
+none_there : (o : Option Entry) → has_entry [] o ≡ false
+none_there None = refl
+none_there (Some e) = refl
+
+clash_told : (p : Rows) (n : ℕ) (declared : code.Declared) (r : Role) (entry : Option Entry) (is_there : Bool) → r ≡ role_at p n → is_there ≡ has_entry (entries_for declared r) entry
+    → is_type_clash p n r is_there ≡ ((same_role r role.Type && is_there) || is_inside_its_name p n)
+clash_told p n declared role.Type entry is_there is there = refl
+clash_told p n declared role.Field entry is_there is there = sym (no_inside p n role.Field is refl)
+clash_told p n declared role.Method entry is_there is there = sym (no_inside p n role.Method is refl)
+clash_told p n declared role.Constructor entry is_there is there = sym (no_inside p n role.Constructor is refl)
+clash_told p n declared role.Nothing entry is_there is there = ap (λ b. b || is_inside_its_name p n) (there ∙ none_there entry)
+clash_told p n declared role.Parameter entry is_there is there = ap (λ b. b || is_inside_its_name p n) (there ∙ none_there entry)
+clash_told p n declared role.Local entry is_there is there = ap (λ b. b || is_inside_its_name p n) (there ∙ none_there entry)
+clash_told p n declared role.Label entry is_there is there = ap (λ b. b || is_inside_its_name p n) (there ∙ none_there entry)
+
+pub type_told : (p : Rows) (s : Signatures) (n : ℕ) → n < length p → (declared : code.Declared) (r : Role) (entry : Option Entry) (is_there : Bool) → r ≡ role_at p n → declared.types ≡ entries_of (entry_as p role.Type s) n
+    → (same_role (role_at p n) role.Constructor ≡ false → entry ≡ member_entry p s n) → is_there ≡ has_entry (entries_for declared r) entry → is_type_clash p n r is_there ≡ has_member_type_clash p n
+type_told p s n lt declared r entry is_there is all found there = clash_told p n declared r entry is_there is there
+    ∙ ap (λ b. b || is_inside_its_name p n) (kind_told p s role.Type refl (is_same_name p) (names_tell p s role.Type refl) n lt declared r entry is_there is all found there)
 
 -- ---- one row more
 
-pub declared_more : (w : World) (n : ℕ) (old mid new : code.Declared) (r : Role) (entry : Option Entry) → n < length (rows_of w) → AreDeclaredTo w n old → r ≡ role_at (rows_of w) n
-    → (IsNamedWorld w → n < length (rows_of w) → same_role (role_at (rows_of w) n) role.Constructor ≡ false → entry ≡ member_entry (rows_of w) w.members.now.callables.signatures n)
-    → mid.fields ≡ old.fields → mid.methods ≡ old.methods → new.fields ≡ with_entry (same_role r role.Field) mid.fields entry → new.methods ≡ with_entry (same_role r role.Method) mid.methods entry → AreDeclaredTo w (n + 1) new
-declared_more w n old mid new r entry lt h is found kept_fields kept_methods fields methods = record {
-  fields = λ named. entries_more (entry_as (rows_of w) role.Field w.members.now.callables.signatures) n old.fields new.fields _ (h.fields named) refl
-      (fields ∙ ap (λ l. with_entry (same_role r role.Field) l entry) kept_fields ∙ entry_told (rows_of w) w.members.now.callables.signatures role.Field r n entry old.fields is (λ apart. found named lt apart) refl);
-  methods = λ named. entries_more (entry_as (rows_of w) role.Method w.members.now.callables.signatures) n old.methods new.methods _ (h.methods named) refl
-      (methods ∙ ap (λ l. with_entry (same_role r role.Method) l entry) kept_methods ∙ entry_told (rows_of w) w.members.now.callables.signatures role.Method r n entry old.methods is (λ apart. found named lt apart) refl);
-}
+pub entry_put : (all : List Entry) (o : Option Entry) → with_entry true all o ≡ all ++ entry_list o
+entry_put all None = sym (append-nil all)
+entry_put all (Some e) = refl
 
-pub declared_start : (w : World) (declared : code.Declared) → declared.fields ≡ [] → declared.methods ≡ [] → AreDeclaredTo w 0 declared
-declared_start w declared fields methods = record { fields = λ named. fields; methods = λ named. methods }
+pub entry_left : (all : List Entry) (o : Option Entry) → with_entry false all o ≡ all
+entry_left all None = refl
+entry_left all (Some e) = refl
 
--- the tables before a row with what they are asked for
-pub declared_kept : (w : World) (n : ℕ) (old mid : code.Declared) → AreDeclaredTo w n old → mid.fields ≡ old.fields → mid.methods ≡ old.methods → AreDeclaredTo w n mid
-declared_kept w n old mid h fields methods = record { fields = λ named. fields ∙ h.fields named; methods = λ named. methods ∙ h.methods named }
-
-entry_same : (p : Rows) (s : Signatures) (kind r : Role) (n : ℕ) (all : Role → List Entry) (entry : Option Entry) → r ≡ role_at p n → (same_role (role_at p n) role.Constructor ≡ false → entry ≡ member_entry p s n) → same_role kind role.Constructor ≡ false
-    → (same_role r kind && has_entry (all r) entry) ≡ (same_role (role_at p n) kind && has_entry (all (role_at p n)) (member_entry p s n))
-entry_same p s kind r n all entry is found other = ap (λ r. same_role r kind && has_entry (all r) entry) is ∙ by (same_role (role_at p n) kind) (role_tells (role_at p n) kind)
+pub entry_told : (p : Rows) (s : Signatures) (kind r : Role) (n : ℕ) (entry : Option Entry) (all : List Entry) → r ≡ role_at p n → (same_role (role_at p n) role.Constructor ≡ false → entry ≡ member_entry p s n) → same_role kind role.Constructor ≡ false
+    → with_entry (same_role r kind) all entry ≡ all ++ entry_list (entry_as p kind s n)
+entry_told p s kind r n entry all is found other = ap (λ r. with_entry (same_role r kind) all entry) is ∙ by (same_role (role_at p n) kind) (role_tells (role_at p n) kind)
   where
-    by : (b : Bool) → Decides b (role_at p n ≡ kind) → (b && has_entry (all (role_at p n)) entry) ≡ (b && has_entry (all (role_at p n)) (member_entry p s n))
-    by true tells = ap (has_entry (all (role_at p n))) (found (ap (λ r. same_role r role.Constructor) (tells.0 refl) ∙ other))
-    by false tells = refl
-
-pub field_told : (w : World) (n : ℕ) (old mid : code.Declared) (r : Role) (entry : Option Entry) (is_there : Bool) → n < length (rows_of w) → AreDeclaredTo w n old → IsNamedWorld w → r ≡ role_at (rows_of w) n
-    → (IsNamedWorld w → n < length (rows_of w) → same_role (role_at (rows_of w) n) role.Constructor ≡ false → entry ≡ member_entry (rows_of w) w.members.now.callables.signatures n)
-    → mid.fields ≡ old.fields → mid.methods ≡ old.methods → is_there ≡ has_entry (entries_for mid r) entry → (same_role r role.Field && is_there) ≡ is_second_field (rows_of w) n
-field_told w n old mid r entry is_there lt h named is found fields methods there = ap (λ b. same_role r role.Field && b) there
-    ∙ entry_same (rows_of w) w.members.now.callables.signatures role.Field r n (entries_for mid) entry is (λ apart. found named lt apart) refl ∙ field_by w n lt mid (declared_kept w n old mid h fields methods) (role_at (rows_of w) n) refl named
-
-pub method_told : (w : World) (n : ℕ) (old mid : code.Declared) (r : Role) (entry : Option Entry) (is_there : Bool) → n < length (rows_of w) → AreDeclaredTo w n old → IsNamedWorld w → IsSignedWorld w → r ≡ role_at (rows_of w) n
-    → (IsNamedWorld w → n < length (rows_of w) → same_role (role_at (rows_of w) n) role.Constructor ≡ false → entry ≡ member_entry (rows_of w) w.members.now.callables.signatures n)
-    → mid.fields ≡ old.fields → mid.methods ≡ old.methods → is_there ≡ has_entry (entries_for mid r) entry → (same_role r role.Method && is_there) ≡ is_second_method (rows_of w) (table_of w) n
-method_told w n old mid r entry is_there lt h named signed is found fields methods there = ap (λ b. same_role r role.Method && b) there
-    ∙ entry_same (rows_of w) w.members.now.callables.signatures role.Method r n (entries_for mid) entry is (λ apart. found named lt apart) refl ∙ method_by w n lt mid (declared_kept w n old mid h fields methods) (role_at (rows_of w) n) refl named signed
+    by : (b : Bool) → Decides b (role_at p n ≡ kind) → with_entry b all entry ≡ all ++ entry_list (cond b (member_entry p s n) None)
+    by true tells = entry_put all entry ∙ ap (λ o. all ++ entry_list o) (found (ap (λ r. same_role r role.Constructor) (tells.0 refl) ∙ other))
+    by false tells = entry_left all entry ∙ sym (append-nil all)

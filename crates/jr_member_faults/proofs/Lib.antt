@@ -4,3 +4,6 @@ mod Headed
 mod Doubled
 mod Passed
 mod Told
+mod Constructed
+mod Inside
+mod Tables

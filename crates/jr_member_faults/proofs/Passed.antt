@@ -1,5 +1,5 @@
 -- Rows at which no rule on members is broken: they declare no member, type or constructor, are no initializer, and stand in no header.
-use Rattle.std.proofs.Common.{◌≡◌, refl, sym, ◌∙◌, ap, ap₂, add-one, ℕ, ◌+◌, ◌<◌, Bool, false, cond, not, ◌&&◌, ◌||◌, List, ◌++◌, append-nil, length, Option, Some, None, is_some, nat_eq}
+use Rattle.std.proofs.Common.{◌≡◌, refl, sym, ◌∙◌, ap, ap₂, add-one, ℕ, ◌+◌, ◌<◌, Bool, false, cond, not, ◌&&◌, ◌||◌, List, ◌++◌, append-nil, length, Option, Some, None, is_some, nat_eq, nat_lt}
 use Rattle.std.specs.Prelude.{bytes_eq}
 use Rattle.std.specs.Option.{option_map_or}
 use Rattle.std.proofs.lemmas.Bool.{false≢true, or_parts}
@@ -16,9 +16,9 @@ use Rattle.jr_plain.specs.Conversions.{Constants}
 use Rattle.jr_plain.specs.Constants.{variable_value}
 use Rattle.jr_plain.specs.Search.{any_below}
 use Rattle.jr_plain.specs.Same.{same_role}
-use Rattle.jr_plain.specs.Types.{is_same_signature}
+use Rattle.jr_plain.specs.Types.{parameters, are_same_types, is_same_signature}
 use Rattle.jr_plain.specs.Declarations.{is_class, is_interface}
-use Rattle.jr_plain.specs.Enclosing.{is_member_role, is_body_of, declaring_type, constructed_class}
+use Rattle.jr_plain.specs.Enclosing.{is_member_role, is_body_of, declaring_type, is_constructor_of, constructed_class}
 use Rattle.jr_plain.specs.Modifiers.{is_abstract, is_static, is_inner, is_in_interface}
 use Rattle.jr_places.specs.declared.chains.Entry.{Entry}
 use Rattle.jr_supers.specs.declared.supers.HeaderPlace.{HeaderPlace}
@@ -27,17 +27,18 @@ use Rattle.jr_supers.specs.Direct.{header_place}
 use Rattle.jr_supers.specs.Tabled.{declared}
 use Rattle.jr_members.specs.declared.members.World.{World}
 use Rattle.jr_members.specs.Keys.{entry_list, entries_of}
-use Rattle.jr_name_rules.specs.Found.{is_same_name}
-use Rattle.jr_name_rules.specs.DeclarationTests.{is_before_in_body, is_second_field, is_second_method}
+use Rattle.jr_name_rules.specs.Found.{found, is_same_name}
+use Rattle.jr_name_rules.specs.DeclarationTests.{is_before_in_body, is_second_field, is_second_method, is_second_constructor, is_inside}
 use Rattle.jr_name_rules.specs.HeaderTests.{has_wrong_supertype}
 use Rattle.jr_member_rules.specs.Bodies.{is_native, has_wrong_body, is_constructor_label, is_named_otherwise, is_abstract_in_class, is_constructor_in_interface, is_initializer, is_initializer_in_interface, is_not_initialized, body_type, stands_wrong}
 use Rattle.jr_member_rules.specs.Inner.{is_static_initializer, is_static_there}
 use Rattle.jr_member_faults.specs.declared.twice.Declared as code
-use Rattle.jr_member_faults.specs.Faults.{declares, is_of_members}
+use Rattle.jr_member_faults.specs.Faults.{declares, is_of_members, has_member_type_clash}
 use Rattle.jr_member_faults.specs.Headers.{entry_by, superinterface_entry, AreHeadersTo, is_wrong}
 use Rattle.jr_member_faults.specs.Twice.{member_entry, entry_as, AreDeclaredTo}
-use Rattle.jr_member_faults.specs.Views.{rows_of}
+use Rattle.jr_member_faults.specs.Views.{rows_of, table_of}
 use Rattle.jr_member_faults.proofs.Headed.{wrong_told}
+use Rattle.jr_member_faults.proofs.Constructed.{constructors_past}
 
 -- ---- what is not there
 
@@ -70,6 +71,16 @@ no_constructor role.Method e = refl
 no_constructor role.Parameter e = refl
 no_constructor role.Local e = refl
 no_constructor role.Label e = refl
+
+no_type : (r : Role) → declares r ≡ false → same_role r role.Type ≡ false
+no_type role.Type e = e
+no_type role.Nothing e = refl
+no_type role.Field e = refl
+no_type role.Method e = refl
+no_type role.Constructor e = refl
+no_type role.Parameter e = refl
+no_type role.Local e = refl
+no_type role.Label e = refl
 
 no_member : (r : Role) → declares r ≡ false → is_member_role r ≡ false
 no_member role.Nothing e = refl
@@ -153,6 +164,12 @@ module _ (p : Rows) (n : ℕ) (none : is_of_members p n ≡ false) where
   pub methods_none : (t : Table) → is_second_method p t n ≡ false
   methods_none t = ap (λ b. b && any_below (length p) (λ d. is_before_in_body p role.Method d n && is_same_signature p t d n)) method_none
 
+  pub constructors_none : (t : Table) → is_second_constructor p t n ≡ false
+  constructors_none t = ap (λ b. b && any_below (length p) (λ d. found (constructed_class p d) (λ c. is_constructor_of p c n) && nat_lt d n && are_same_types (parameters p t d) (parameters p t n))) (no_constructor (role_at p n) role_none)
+
+  pub types_none : has_member_type_clash p n ≡ false
+  types_none = ap (λ b. (b && any_below (length p) (λ d. is_before_in_body p role.Type d n && is_same_name p d n)) || (b && is_inside p (name p n) (length p) n)) (no_type (role_at p n) role_none)
+
   -- ---- headers
 
   pub supertypes_none : (t : Table) → n < length p → has_wrong_supertype p t n ≡ false
@@ -170,6 +187,8 @@ module _ (p : Rows) (n : ℕ) (none : is_of_members p n ≡ false) where
 
 pub declared_past : (w : World) (n : ℕ) (declared : code.Declared) → is_of_members (rows_of w) n ≡ false → AreDeclaredTo w n declared → AreDeclaredTo w (n + 1) declared
 declared_past w n declared none h = record {
+  types = λ named. entries_past (rows_of w) n none role.Type w.members.now.callables.signatures declared.types (no_type (role_at (rows_of w) n) (role_none (rows_of w) n none)) (h.types named);
   fields = λ named. entries_past (rows_of w) n none role.Field w.members.now.callables.signatures declared.fields (no_field (role_at (rows_of w) n) (role_none (rows_of w) n none)) (h.fields named);
   methods = λ named. entries_past (rows_of w) n none role.Method w.members.now.callables.signatures declared.methods (method_none (rows_of w) n none) (h.methods named);
+  constructors = λ signed. constructors_past (rows_of w) (table_of w) n declared.lists declared.constructors (h.constructors signed) (no_constructor (role_at (rows_of w) n) (role_none (rows_of w) n none));
 }

@@ -1,6 +1,6 @@
 -- The faults of the rules on members, row by row, and the rules in the lists of the definitions.
-use Rattle.std.proofs.Common.{◌≡◌, refl, sym, ◌∙◌, ap, subst, ℕ, ◌+◌, ◌<◌, Bool, true, false, cond, ◌||◌, List, [], ◌∷◌, ◌++◌, length, nat_eq}
-use Rattle.std.proofs.lemmas.Bool.{or_parts}
+use Rattle.std.proofs.Common.{◌≡◌, refl, sym, ◌∙◌, ap, subst, ℕ, ◌+◌, ◌<◌, Bool, true, false, cond, ◌&&◌, ◌||◌, List, [], ◌∷◌, ◌++◌, length, nat_eq}
+use Rattle.std.proofs.lemmas.Bool.{false≢true, or_parts}
 use Rattle.jr_tree.specs.declared.label.Role.{Role}
 use Rattle.jr_tree.specs.declared.label.Role.TheVariants as role
 use Rattle.jr_tree.specs.Rows.{Rows, role_at}
@@ -9,13 +9,14 @@ use Rattle.jr_plain.specs.Search.{has, all_such}
 use Rattle.jr_plain.specs.Same.{same_role}
 use Rattle.jr_plain.specs.Declarations.{is_type}
 use Rattle.jr_plain.specs.Overriding.{overriding}
+use Rattle.jr_plain.proofs.Same.{role_tells}
 use Rattle.jr_rule.specs.declared.Fault.{Fault}
 use Rattle.jr_rule.specs.declared.Rule.{Rule}
 use Rattle.jr_rule.specs.declared.Rule.TheVariants as rule
 use Rattle.jr_rule.specs.Faults.{AreFaultsOf}
 use Rattle.jr_name_rules.specs.AccessTests.{is_not_accessible}
 use Rattle.jr_name_rules.specs.Found.{is_next}
-use Rattle.jr_name_rules.specs.DeclarationTests.{has_type_clash, is_second_field, is_second_method, is_second_constructor, is_second_local, is_second_label}
+use Rattle.jr_name_rules.specs.DeclarationTests.{has_type_clash, is_second_field, is_second_method, is_second_constructor, is_second_local, is_second_label, is_inside_its_name}
 use Rattle.jr_name_rules.specs.ImportTests.{has_import_clash, is_import_not_canonical, has_static_import_fault}
 use Rattle.jr_name_rules.specs.HeaderTests.{has_wrong_supertype}
 use Rattle.jr_name_rules.specs.Computed.{types, breaks}
@@ -24,15 +25,15 @@ use Rattle.jr_member_rules.specs.Inner.{is_static_there}
 use Rattle.jr_member_rules.specs.Redefining.{is_over_final}
 use Rattle.jr_member_rules.specs.Computed.{values, leaves_methods, results_do_not_fit, access_is_narrowed, methods_are_mixed, more_is_thrown, breaks_members}
 use Rattle.jr_faults.specs.Added.{row_if, is_rule, AreOnly}
-use Rattle.jr_faults.proofs.Told.{none_added, none_then, then_none, only_then, row_more, rows_told}
+use Rattle.jr_faults.proofs.Told.{none_added, none_then, then_none, only_then, row_more, rows_told, told_at}
 use Rattle.jr_view.specs.declared.View.{View}
 use Rattle.jr_member_faults.specs.declared.twice.Declared as declaring
 use Rattle.jr_member_faults.specs.declared.headers.Headers as heading
 use Rattle.jr_member_faults.specs.Views.{rows_in, table_in, IsNamedWorld, IsSignedWorld, IsValuedView}
-use Rattle.jr_member_faults.specs.Faults.{is_of_members, second_rule, is_second_as, is_of_declared, is_of_methods, AreMemberFaultsOn, AreMemberFaults}
+use Rattle.jr_member_faults.specs.Faults.{is_of_members, second_rule, is_second_as, is_type_clash, has_member_type_clash, is_of_declared, is_of_methods, is_on_members, AreMemberFaultsOn, AreMemberFaults}
 use Rattle.jr_member_faults.specs.Headers.{AreHeadersTo}
 use Rattle.jr_member_faults.specs.Twice.{AreDeclaredTo}
-use Rattle.jr_member_faults.proofs.Passed.{bodies_none, statics_none, fields_none, methods_none, supertypes_none}
+use Rattle.jr_member_faults.proofs.Passed.{bodies_none, statics_none, fields_none, methods_none, constructors_none, types_none, supertypes_none}
 
 -- ---- what is declared twice
 
@@ -57,39 +58,67 @@ pub declared_only : (given : Role) (r : Rule) (old new : List Fault) → r ≡ s
 declared_only given r old new is h = record { others = λ one apart. h.others one (subst (λ r. is_rule r one ≡ false) (sym is) (apart_by given one apart)) }
 
 module _ (p : Rows) (n : ℕ) (second broken : Bool) (clash : is_type p n ≡ false → broken ≡ second) (old new : List Fault) where
-  -- a field or a method is no type
+  -- a row of the role is no type
   own : (kind : Role) (r : Rule) → kind ≡ role_at p n → same_role kind role.Type ≡ false → AreFaultsOf r (row_if broken n) old new → AreFaultsOf r (row_if second n) old new
   own kind r is apart h = subst (λ b. AreFaultsOf r (row_if b n) old new) (clash (ap (λ k. same_role k role.Type) (sym is) ∙ apart)) h
 
-  field_by : (given : Role) → given ≡ role_at p n → AreFaultsOf (second_rule given) (row_if broken n) old new → AreOnly (is_rule (second_rule given)) old new → AreFaultsOf rule.FieldNames (row_if (is_second_as role.Field given second) n) old new
-  field_by role.Field is h k = own role.Field rule.FieldNames is refl h
-  field_by role.Method is h k = k.others rule.FieldNames refl
-  field_by role.Constructor is h k = k.others rule.FieldNames refl
-  field_by role.Nothing is h k = k.others rule.FieldNames refl
-  field_by role.Type is h k = k.others rule.FieldNames refl
-  field_by role.Parameter is h k = k.others rule.FieldNames refl
-  field_by role.Local is h k = k.others rule.FieldNames refl
-  field_by role.Label is h k = k.others rule.FieldNames refl
+  -- the rule of a role that has one of its own
+  second_by : (kind : Role) → same_role kind role.Type ≡ false → ((given : Role) → same_role given kind ≡ false → is_rule (second_rule given) (second_rule kind) ≡ false)
+      → (given : Role) → given ≡ role_at p n → AreFaultsOf (second_rule given) (row_if broken n) old new → AreOnly (is_rule (second_rule given)) old new → AreFaultsOf (second_rule kind) (row_if (is_second_as kind given second) n) old new
+  second_by kind apart others given is h k = by (same_role given kind) refl
+    where
+      by : (b : Bool) → same_role given kind ≡ b → AreFaultsOf (second_rule kind) (row_if (b && second) n) old new
+      by true e = let same = (role_tells given kind).0 e in own kind (second_rule kind) (sym same ∙ is) apart (subst (λ q. AreFaultsOf (second_rule q) (row_if broken n) old new) same h)
+      by false e = k.others (second_rule kind) (others given e)
 
-  method_by : (given : Role) → given ≡ role_at p n → AreFaultsOf (second_rule given) (row_if broken n) old new → AreOnly (is_rule (second_rule given)) old new → AreFaultsOf rule.MethodSignatures (row_if (is_second_as role.Method given second) n) old new
-  method_by role.Method is h k = own role.Method rule.MethodSignatures is refl h
-  method_by role.Field is h k = k.others rule.MethodSignatures refl
-  method_by role.Constructor is h k = k.others rule.MethodSignatures refl
-  method_by role.Nothing is h k = k.others rule.MethodSignatures refl
-  method_by role.Type is h k = k.others rule.MethodSignatures refl
-  method_by role.Parameter is h k = k.others rule.MethodSignatures refl
-  method_by role.Local is h k = k.others rule.MethodSignatures refl
-  method_by role.Label is h k = k.others rule.MethodSignatures refl
+  pub second_told : (kind : Role) → same_role kind role.Type ≡ false → ((given : Role) → same_role given kind ≡ false → is_rule (second_rule given) (second_rule kind) ≡ false)
+      → (given : Role) (r : Rule) → given ≡ role_at p n → r ≡ second_rule given → AreFaultsOf r (row_if broken n) old new → AreOnly (is_rule r) old new → AreFaultsOf (second_rule kind) (row_if (is_second_as kind given second) n) old new
+  second_told kind apart others given r is of h k = second_by kind apart others given is (subst (λ r. AreFaultsOf r (row_if broken n) old new) of h) (subst (λ r. AreOnly (is_rule r) old new) of k)
 
-  pub second_field : (given : Role) (r : Rule) → given ≡ role_at p n → r ≡ second_rule given → AreFaultsOf r (row_if broken n) old new → AreOnly (is_rule r) old new → AreFaultsOf rule.FieldNames (row_if (is_second_as role.Field given second) n) old new
-  second_field given r is of h k = field_by given is (subst (λ r. AreFaultsOf r (row_if broken n) old new) of h) (subst (λ r. AreOnly (is_rule r) old new) of k)
+pub not_of_field : (given : Role) → same_role given role.Field ≡ false → is_rule (second_rule given) (second_rule role.Field) ≡ false
+not_of_field role.Field e = absurd (false≢true (sym e))
+not_of_field role.Method e = refl
+not_of_field role.Constructor e = refl
+not_of_field role.Nothing e = refl
+not_of_field role.Type e = refl
+not_of_field role.Parameter e = refl
+not_of_field role.Local e = refl
+not_of_field role.Label e = refl
 
-  pub second_method : (given : Role) (r : Rule) → given ≡ role_at p n → r ≡ second_rule given → AreFaultsOf r (row_if broken n) old new → AreOnly (is_rule r) old new → AreFaultsOf rule.MethodSignatures (row_if (is_second_as role.Method given second) n) old new
-  second_method given r is of h k = method_by given is (subst (λ r. AreFaultsOf r (row_if broken n) old new) of h) (subst (λ r. AreOnly (is_rule r) old new) of k)
+pub not_of_method : (given : Role) → same_role given role.Method ≡ false → is_rule (second_rule given) (second_rule role.Method) ≡ false
+not_of_method role.Method e = absurd (false≢true (sym e))
+not_of_method role.Field e = refl
+not_of_method role.Constructor e = refl
+not_of_method role.Nothing e = refl
+not_of_method role.Type e = refl
+not_of_method role.Parameter e = refl
+not_of_method role.Local e = refl
+not_of_method role.Label e = refl
 
--- a fault at a row, by a test that is told
-pub told_at : {old new : List Fault} {a b : Bool} (r : Rule) (n : ℕ) → a ≡ b → AreFaultsOf r (row_if a n) old new → AreFaultsOf r (row_if b n) old new
-told_at {old} {new} r n e h = subst (λ b. AreFaultsOf r (row_if b n) old new) e h
+pub not_of_constructor : (given : Role) → same_role given role.Constructor ≡ false → is_rule (second_rule given) (second_rule role.Constructor) ≡ false
+not_of_constructor role.Constructor e = absurd (false≢true (sym e))
+not_of_constructor role.Field e = refl
+not_of_constructor role.Method e = refl
+not_of_constructor role.Nothing e = refl
+not_of_constructor role.Type e = refl
+not_of_constructor role.Parameter e = refl
+not_of_constructor role.Local e = refl
+not_of_constructor role.Label e = refl
+
+-- the rule on names of types
+module _ (p : Rows) (n : ℕ) (second broken : Bool) (clash : broken ≡ (second || is_inside_its_name p n)) (old new : List Fault) where
+  clash_by : (given : Role) → AreFaultsOf (second_rule given) (row_if broken n) old new → AreOnly (is_rule (second_rule given)) old new → AreFaultsOf rule.TypeNames (row_if (is_type_clash p n given second) n) old new
+  clash_by role.Field h k = k.others rule.TypeNames refl
+  clash_by role.Method h k = k.others rule.TypeNames refl
+  clash_by role.Constructor h k = k.others rule.TypeNames refl
+  clash_by role.Type h k = subst (λ b. AreFaultsOf rule.TypeNames (row_if b n) old new) clash h
+  clash_by role.Nothing h k = subst (λ b. AreFaultsOf rule.TypeNames (row_if b n) old new) clash h
+  clash_by role.Parameter h k = subst (λ b. AreFaultsOf rule.TypeNames (row_if b n) old new) clash h
+  clash_by role.Local h k = subst (λ b. AreFaultsOf rule.TypeNames (row_if b n) old new) clash h
+  clash_by role.Label h k = subst (λ b. AreFaultsOf rule.TypeNames (row_if b n) old new) clash h
+
+  pub type_clash : (given : Role) (r : Rule) → r ≡ second_rule given → AreFaultsOf r (row_if broken n) old new → AreOnly (is_rule r) old new → AreFaultsOf rule.TypeNames (row_if (is_type_clash p n given second) n) old new
+  type_clash given r of h k = clash_by given (subst (λ r. AreFaultsOf r (row_if broken n) old new) of h) (subst (λ r. AreOnly (is_rule r) old new) of k)
 
 -- ---- the rules on methods
 
@@ -100,27 +129,39 @@ methods_only h i j k l m = only_then (only_then (only_then (only_then (only_then
 -- ---- one row
 
 module _ (view : View) where
-  pub record IsAdded (n : ℕ) (a b c d e f : List Fault) : Type 0 where
+  pub record IsAdded (a b c d e f : List Fault) : Type 0 where
     pub declared : AreOnly is_of_declared a b
     pub heading : AreOnly (is_rule rule.Supertypes) b c
     pub methods : AreOnly is_of_methods c d
     pub body : AreOnly (is_rule rule.Bodies) d e
     pub static : AreOnly (is_rule rule.InnerStatics) e f
 
-  pub row_told : {n : ℕ} {a b c d e f : List Fault} → IsAdded n a b c d e f
+  pub row_only : {a b c d e f : List Fault} → IsAdded a b c d e f → AreOnly is_on_members a f
+  row_only h = only_then (only_then (only_then (only_then h.declared h.heading) h.methods) h.body) h.static
+
+  -- a rule on what is declared twice
+  declared_added : {a b c d e f : List Fault} {xs : List ℕ} → IsAdded a b c d e f → (r : Rule) → is_rule rule.Supertypes r ≡ false → is_of_methods r ≡ false → is_rule rule.Bodies r ≡ false → is_rule rule.InnerStatics r ≡ false
+      → AreFaultsOf r xs a b → AreFaultsOf r xs a f
+  declared_added {b = b} {c = c} {d = d} {e = e} h r i j k l at = then_none {mid = e} r (then_none {mid = d} r (then_none {mid = c} r (then_none {mid = b} r at (h.heading.others r i)) (h.methods.others r j)) (h.body.others r k)) (h.static.others r l)
+
+  pub row_told : {n : ℕ} {a b c d e f : List Fault} → IsAdded a b c d e f
       → AreFaultsOf rule.Bodies (row_if (stands_wrong (rows_in view) n) n) d e
       → (IsValuedView view → AreFaultsOf rule.InnerStatics (row_if (is_static_there (rows_in view) (table_in view) (values (rows_in view) (table_in view)) n) n) e f)
       → AreFaultsOf rule.Supertypes (row_if (has_wrong_supertype (rows_in view) (table_in view) n) n) b c
       → (IsNamedWorld view.sight.world → AreFaultsOf rule.FieldNames (row_if (is_second_field (rows_in view) n) n) a b)
       → (IsNamedWorld view.sight.world → IsSignedWorld view.sight.world → AreFaultsOf rule.MethodSignatures (row_if (is_second_method (rows_in view) (table_in view) n) n) a b)
+      → (IsSignedWorld view.sight.world → AreFaultsOf rule.ConstructorSignatures (row_if (is_second_constructor (rows_in view) (table_in view) n) n) a b)
+      → (IsNamedWorld view.sight.world → AreFaultsOf rule.TypeNames (row_if (has_member_type_clash (rows_in view) n) n) a b)
       → AreMemberFaultsOn view (λ test. row_if (test n) n) a f
-  row_told {n} {a} {b} {c} {d} {e} {f} h bodies statics supertypes fields methods = record {
+  row_told {n} {a} {b} {c} {d} {e} {f} h bodies statics supertypes fields methods constructors types = record {
     bodies = none_then {mid = b} rule.Bodies (h.declared.others rule.Bodies refl) (none_then {mid = c} rule.Bodies (h.heading.others rule.Bodies refl) (none_then {mid = d} rule.Bodies (h.methods.others rule.Bodies refl) (then_none {mid = e} rule.Bodies bodies (h.static.others rule.Bodies refl))));
     statics = λ valued. none_then {mid = b} rule.InnerStatics (h.declared.others rule.InnerStatics refl) (none_then {mid = c} rule.InnerStatics (h.heading.others rule.InnerStatics refl) (none_then {mid = d} rule.InnerStatics (h.methods.others rule.InnerStatics refl)
         (none_then {mid = e} rule.InnerStatics (h.body.others rule.InnerStatics refl) (statics valued))));
     supertypes = none_then {mid = b} rule.Supertypes (h.declared.others rule.Supertypes refl) (then_none {mid = e} rule.Supertypes (then_none {mid = d} rule.Supertypes (then_none {mid = c} rule.Supertypes supertypes (h.methods.others rule.Supertypes refl)) (h.body.others rule.Supertypes refl)) (h.static.others rule.Supertypes refl));
-    fields = λ named. then_none {mid = e} rule.FieldNames (then_none {mid = d} rule.FieldNames (then_none {mid = c} rule.FieldNames (then_none {mid = b} rule.FieldNames (fields named) (h.heading.others rule.FieldNames refl)) (h.methods.others rule.FieldNames refl)) (h.body.others rule.FieldNames refl)) (h.static.others rule.FieldNames refl);
-    methods = λ named signed. then_none {mid = e} rule.MethodSignatures (then_none {mid = d} rule.MethodSignatures (then_none {mid = c} rule.MethodSignatures (then_none {mid = b} rule.MethodSignatures (methods named signed) (h.heading.others rule.MethodSignatures refl)) (h.methods.others rule.MethodSignatures refl)) (h.body.others rule.MethodSignatures refl)) (h.static.others rule.MethodSignatures refl);
+    fields = λ named. declared_added h rule.FieldNames refl refl refl refl (fields named);
+    methods = λ named signed. declared_added h rule.MethodSignatures refl refl refl refl (methods named signed);
+    constructors = λ signed. declared_added h rule.ConstructorSignatures refl refl refl refl (constructors signed);
+    types = λ named. declared_added h rule.TypeNames refl refl refl refl (types named);
   }
 
   -- a row that is not looked at
@@ -131,6 +172,8 @@ module _ (view : View) where
     supertypes = told_at rule.Supertypes n (sym (supertypes_none (rows_in view) n none (table_in view) lt)) (none_added rule.Supertypes old);
     fields = λ named. told_at rule.FieldNames n (sym (fields_none (rows_in view) n none)) (none_added rule.FieldNames old);
     methods = λ named signed. told_at rule.MethodSignatures n (sym (methods_none (rows_in view) n none (table_in view))) (none_added rule.MethodSignatures old);
+    constructors = λ signed. told_at rule.ConstructorSignatures n (sym (constructors_none (rows_in view) n none (table_in view))) (none_added rule.ConstructorSignatures old);
+    types = λ named. told_at rule.TypeNames n (sym (types_none (rows_in view) n none)) (none_added rule.TypeNames old);
   }
 
   -- ---- the rows so far
@@ -150,6 +193,8 @@ module _ (view : View) where
       supertypes = none_added rule.Supertypes old;
       fields = λ named. none_added rule.FieldNames old;
       methods = λ named signed. none_added rule.MethodSignatures old;
+      constructors = λ signed. none_added rule.ConstructorSignatures old;
+      types = λ named. none_added rule.TypeNames old;
     };
   }
 
@@ -164,6 +209,8 @@ module _ (view : View) where
       supertypes = row_more n rule.Supertypes (has_wrong_supertype (rows_in view) (table_in view)) h.faults_are.supertypes k.supertypes;
       fields = λ named. row_more n rule.FieldNames (is_second_field (rows_in view)) (h.faults_are.fields named) (k.fields named);
       methods = λ named signed. row_more n rule.MethodSignatures (is_second_method (rows_in view) (table_in view)) (h.faults_are.methods named signed) (k.methods named signed);
+      constructors = λ signed. row_more n rule.ConstructorSignatures (is_second_constructor (rows_in view) (table_in view)) (h.faults_are.constructors signed) (k.constructors signed);
+      types = λ named. row_more n rule.TypeNames (has_member_type_clash (rows_in view)) (h.faults_are.types named) (k.types named);
     };
   }
 
@@ -264,6 +311,9 @@ module _ (a b c d e f g h i j k : Bool) where
   fourth : has n2 4 ≡ c
   fourth = past a 2 4 n3 refl ∙ past b 3 4 n4 refl ∙ met c 4 4 n5 refl (past d 5 4 n6 refl ∙ from_locals 4 refl refl refl refl refl ∙ no_header 4 refl refl)
 
+  fifth : has n2 5 ≡ d
+  fifth = past a 2 5 n3 refl ∙ past b 3 5 n4 refl ∙ past c 4 5 n5 refl ∙ met d 5 5 n6 refl (from_locals 5 refl refl refl refl refl ∙ no_header 5 refl refl)
+
   thirteenth : has n2 13 ≡ j
   thirteenth = past a 2 13 n3 refl ∙ past b 3 13 n4 refl ∙ past c 4 13 n5 refl ∙ past d 5 13 n6 refl ∙ from_locals 13 refl refl refl refl refl ∙ met j 13 13 (listed k 47) refl (last k 47 13 refl)
 
@@ -280,6 +330,9 @@ module _ (p : Rows) (t : Table) (n : ℕ) where
   methods_at : is_second_method p t n ≡ breaks p t 4 n
   methods_at = sym (fourth (has_type_clash p n) (is_second_field p n) (is_second_method p t n) (is_second_constructor p t n) (is_second_local p n) (is_second_label p n) (is_next (has_import_clash p t) n) (is_next (is_import_not_canonical p t) n) (is_not_accessible p t (types p t) n) (has_wrong_supertype p t n) (has_static_import_fault p t n))
 
+  constructors_at : is_second_constructor p t n ≡ breaks p t 5 n
+  constructors_at = sym (fifth (has_type_clash p n) (is_second_field p n) (is_second_method p t n) (is_second_constructor p t n) (is_second_local p n) (is_second_label p n) (is_next (has_import_clash p t) n) (is_next (is_import_not_canonical p t) n) (is_not_accessible p t (types p t) n) (has_wrong_supertype p t n) (has_static_import_fault p t n))
+
   supertypes_at : has_wrong_supertype p t n ≡ breaks p t 13 n
   supertypes_at = sym (thirteenth (has_type_clash p n) (is_second_field p n) (is_second_method p t n) (is_second_constructor p t n) (is_second_local p n) (is_second_label p n) (is_next (has_import_clash p t) n) (is_next (is_import_not_canonical p t) n) (is_not_accessible p t (types p t) n) (has_wrong_supertype p t n) (has_static_import_fault p t n))
 
@@ -292,6 +345,8 @@ all_told {n} {view} {old} {new} whole h = record {
   supertypes = told rule.Supertypes (supertypes_at (rows_in view) (table_in view)) h.faults_are.supertypes;
   fields = λ named. told rule.FieldNames (fields_at (rows_in view) (table_in view)) (h.faults_are.fields named);
   methods = λ named signed. told rule.MethodSignatures (methods_at (rows_in view) (table_in view)) (h.faults_are.methods named signed);
+  constructors = λ signed. told rule.ConstructorSignatures (constructors_at (rows_in view) (table_in view)) (h.faults_are.constructors signed);
+  types = λ named. subst (λ m. AreFaultsOf rule.TypeNames (all_such m (has_member_type_clash (rows_in view))) old new) whole (h.faults_are.types named);
 }
   where
     told : {f g : ℕ → Bool} (r : Rule) → ((k : ℕ) → f k ≡ g k) → AreFaultsOf r (all_such n f) old new → AreFaultsOf r (all_such (length (rows_in view)) g) old new

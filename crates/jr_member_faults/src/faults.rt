@@ -1,5 +1,5 @@
 // The rules on members that are broken at the rows of a program.
-ghost use Rattle.std.specs.Prelude.{◌≡◌, ◌+◌, ◌<◌, ◌^◌, IfOk, OnOk, false, length};
+ghost use Rattle.std.specs.Prelude.{◌≡◌, ◌+◌, ◌<◌, ◌^◌, ◌||◌, IfOk, OnOk, false, length};
 ghost use Rattle.jr_tree.specs.declared.label.Role.TheVariants as roles;
 ghost use Rattle.jr_tree.specs.Rows as rows;
 ghost use Rattle.jr_defs.specs.Referents.{entries};
@@ -49,7 +49,8 @@ fn second_rule(role: Role) -> Rule
 
 // A second one of a name or signature, or a type in one of its name.
 fn is_clash(world: &World, is_second: bool, at: u32) -> bool
-    ensures { is_type (views.rows_of world.now) at ≡ false → result ≡ is_second }
+    ensures others { is_type (views.rows_of world.now) at ≡ false → result ≡ is_second }
+    ensures types { views.IsNamedWorld world.now → result ≡ (is_second || declaring.is_inside_its_name (views.rows_of world.now) at) }
 {
     is_second || is_inside_its_name(world.under.rows, world.under.places, at)
 }
@@ -64,6 +65,8 @@ fn second_fault(
 ) -> Result<(), OutOfMemory>
     ensures fields { role ≡ rows.role_at (views.rows_of world.now) at → OnOk result (AreFaultsOf rules.FieldNames (row_if (tell.is_second_as roles.Field role is_second) at) out.old.items out.new.items) }
     ensures methods { role ≡ rows.role_at (views.rows_of world.now) at → OnOk result (AreFaultsOf rules.MethodSignatures (row_if (tell.is_second_as roles.Method role is_second) at) out.old.items out.new.items) }
+    ensures constructors { role ≡ rows.role_at (views.rows_of world.now) at → OnOk result (AreFaultsOf rules.ConstructorSignatures (row_if (tell.is_second_as roles.Constructor role is_second) at) out.old.items out.new.items) }
+    ensures types { views.IsNamedWorld world.now → OnOk result (AreFaultsOf rules.TypeNames (row_if (tell.is_type_clash (views.rows_of world.now) at role is_second) at) out.old.items out.new.items) }
     ensures others { OnOk result (AreOnly tell.is_of_declared out.old.items out.new.items) }
 {
     let is_broken = is_clash(world, is_second, at);
@@ -83,6 +86,8 @@ fn declared_faults(
     ensures open { at < length (views.rows_of world.now) → AreDeclaredTo world.now at declared.old → OnOk result (AreDeclaredTo world.now (at + 1) declared.new) }
     ensures fields { at < length (views.rows_of world.now) → AreDeclaredTo world.now at declared.old → views.IsNamedWorld world.now → OnOk result (AreFaultsOf rules.FieldNames (row_if (declaring.is_second_field (views.rows_of world.now) at) at) out.old.items out.new.items) }
     ensures methods { at < length (views.rows_of world.now) → AreDeclaredTo world.now at declared.old → views.IsNamedWorld world.now → views.IsSignedWorld world.now → OnOk result (AreFaultsOf rules.MethodSignatures (row_if (declaring.is_second_method (views.rows_of world.now) (views.table_of world.now) at) at) out.old.items out.new.items) }
+    ensures constructors { at < length (views.rows_of world.now) → AreDeclaredTo world.now at declared.old → views.IsSignedWorld world.now → OnOk result (AreFaultsOf rules.ConstructorSignatures (row_if (declaring.is_second_constructor (views.rows_of world.now) (views.table_of world.now) at) at) out.old.items out.new.items) }
+    ensures types { at < length (views.rows_of world.now) → AreDeclaredTo world.now at declared.old → views.IsNamedWorld world.now → OnOk result (AreFaultsOf rules.TypeNames (row_if (tell.has_member_type_clash (views.rows_of world.now) at) at) out.old.items out.new.items) }
     ensures others { OnOk result (AreOnly tell.is_of_declared out.old.items out.new.items) }
 {
     let role = role_at(world.under.rows, at);
@@ -231,6 +236,7 @@ fn row_faults(
     ensures declared { at < length (views.rows_in view.now) → AreDeclaredTo view.now.sight.world at declared.old → OnOk result (AreDeclaredTo view.now.sight.world (at + 1) declared.new) }
     ensures headers { AreHeadersTo (views.rows_in view.now) (views.table_in view.now) at headers.old.superinterfaces → OnOk result (AreHeadersTo (views.rows_in view.now) (views.table_in view.now) (at + 1) headers.new.superinterfaces) }
     ensures found { at < length (views.rows_in view.now) → length (views.rows_in view.now) < 2 ^ 32 → AreDeclaredTo view.now.sight.world at declared.old → AreHeadersTo (views.rows_in view.now) (views.table_in view.now) at headers.old.superinterfaces → OnOk result (tell.AreMemberFaultsOn view.now (λ test. row_if (test at) at) out.old.items out.new.items) }
+    ensures only { OnOk result (AreOnly tell.is_on_members out.old.items out.new.items) }
 {
     let world = &view.sight.world;
     declared_faults(alloc, world, declared, at, out)?;
@@ -255,6 +261,7 @@ fn any_row_faults(
     ensures declared { at < length (views.rows_in view.now) → AreDeclaredTo view.now.sight.world at declared.old → OnOk result (AreDeclaredTo view.now.sight.world (at + 1) declared.new) }
     ensures headers { AreHeadersTo (views.rows_in view.now) (views.table_in view.now) at headers.old.superinterfaces → OnOk result (AreHeadersTo (views.rows_in view.now) (views.table_in view.now) (at + 1) headers.new.superinterfaces) }
     ensures found { at < length (views.rows_in view.now) → length (views.rows_in view.now) < 2 ^ 32 → AreDeclaredTo view.now.sight.world at declared.old → AreHeadersTo (views.rows_in view.now) (views.table_in view.now) at headers.old.superinterfaces → OnOk result (tell.AreMemberFaultsOn view.now (λ test. row_if (test at) at) out.old.items out.new.items) }
+    ensures only { OnOk result (AreOnly tell.is_on_members out.old.items out.new.items) }
 {
     if !is_of_members(view.sight.world.under.rows, at) {
         return Ok(());
@@ -280,7 +287,8 @@ fn all_faults(
     methods: &mut Methods,
     out: &mut Vec<Fault>,
 ) -> Result<(), OutOfMemory>
-    ensures { OnOk result (tell.AreMemberFaults view.now out.old.items out.new.items) }
+    ensures exact { OnOk result (tell.AreMemberFaults view.now out.old.items out.new.items) }
+    ensures only { OnOk result (AreOnly tell.is_on_members out.old.items out.new.items) }
 {
     let mut declared = Declared::new(alloc);
     let mut headers = Headers::new(alloc);
@@ -297,7 +305,8 @@ fn put_faults(
     headers: &mut Headers,
     out: &mut Vec<Fault>,
 ) -> Result<(), OutOfMemory>
-    ensures { AreDeclaredTo view.now.sight.world 0 declared.old → AreHeadersTo (views.rows_in view.now) (views.table_in view.now) 0 headers.old.superinterfaces → OnOk result (tell.AreMemberFaults view.now out.old.items out.new.items) }
+    ensures exact { AreDeclaredTo view.now.sight.world 0 declared.old → AreHeadersTo (views.rows_in view.now) (views.table_in view.now) 0 headers.old.superinterfaces → OnOk result (tell.AreMemberFaults view.now out.old.items out.new.items) }
+    ensures only { OnOk result (AreOnly tell.is_on_members out.old.items out.new.items) }
 {
     let count = row_count(view.sight.world.under.rows)?;
     for at in 0..count {
@@ -307,9 +316,10 @@ fn put_faults(
 }
 
 /// Adds the rules on members that are broken, as their rows rise: what bodies declare, supertypes, overriding, what types inherit, and bodies.
-/// Of fields and methods that are declared twice, supertypes, bodies, and static members of inner classes these are the rows at which the definitions break the rule, where the tables are right.
+/// Of what bodies declare twice, supertypes, bodies, and static members of inner classes these are the rows at which the definitions break the rule, where the tables are right. Of other rules than these and those on methods none is added.
 pub fn member_faults(alloc: Global, view: &View, out: &mut Vec<Fault>) -> Result<(), OutOfMemory>
-    ensures { OnOk result (tell.AreMemberFaults view.now out.old.items out.new.items) }
+    ensures exact { OnOk result (tell.AreMemberFaults view.now out.old.items out.new.items) }
+    ensures only { OnOk result (AreOnly tell.is_on_members out.old.items out.new.items) }
 {
     let thrown = Thrown::of(alloc, view.sight.world.under.rows)?;
     faults_with(alloc, view, &thrown, out)?;
@@ -323,7 +333,8 @@ fn faults_with(
     thrown: &Thrown,
     out: &mut Vec<Fault>,
 ) -> Result<(), OutOfMemory>
-    ensures { OnOk result (tell.AreMemberFaults view.now out.old.items out.new.items) }
+    ensures exact { OnOk result (tell.AreMemberFaults view.now out.old.items out.new.items) }
+    ensures only { OnOk result (AreOnly tell.is_on_members out.old.items out.new.items) }
 {
     let world = &view.sight.world;
     let lefts = lefts_of(alloc, world, thrown)?;

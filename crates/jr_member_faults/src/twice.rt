@@ -1,10 +1,17 @@
 // Members and constructors that a body declares twice, and types in a type of their name (JLS 8.1, 8.3, 8.4.2, 8.5, 8.8.2).
-ghost use Rattle.std.specs.Prelude.{◌≡◌, ◌<◌, OnOk, IfOk, Some, false, length, []};
+ghost use Rattle.std.specs.Prelude.{◌≡◌, ◌<◌, OnOk, IfOk, Some, false, true, length, []};
 ghost use Rattle.jr_tree.specs.declared.label.Role.TheVariants as roles;
-ghost use Rattle.jr_tree.specs.Rows.{role_at as role_of_row};
+ghost use Rattle.jr_tree.specs.Rows.{Rows, name, role_at as role_of_row};
+ghost use Rattle.jr_defs.specs.Referents.{Table};
 ghost use Rattle.jr_plain.specs.Declarations as declared_as;
 ghost use Rattle.jr_plain.specs.Same.{same_role};
+ghost use Rattle.jr_plain.specs.Types.{parameters};
+ghost use Rattle.jr_places.specs.Numbers.{IsNumbering};
+ghost use Rattle.jr_places.specs.Places.{ArePlaces};
+ghost use Rattle.jr_supers.specs.Signatures.{AreSignatures};
+ghost use Rattle.jr_supers.specs.Tabled.{is_callable};
 ghost use Rattle.jr_members.specs.Keys.{entry_of};
+ghost use Rattle.jr_name_rules.specs.DeclarationTests as declaring;
 ghost use Rattle.jr_member_faults.specs.Headers as keyed;
 ghost use Rattle.jr_member_faults.specs.Twice as tell;
 ghost use Rattle.jr_member_faults.specs.Views as views;
@@ -13,7 +20,7 @@ use crate::together::is_method;
 use jr_base::OutOfMemory;
 use jr_members::{World, constructed_class, declaring_type};
 use jr_places::{Chains, Entry, Numbering, Places, is_type, role_at};
-use jr_supers::with_type;
+use jr_supers::{Signatures, with_type};
 use jr_tree::{Role, Row};
 use std::alloc::Global;
 
@@ -30,24 +37,38 @@ pub struct Declared {
     lists: Numbering,
 }
 
+// The number of the parameter types of a constructor, of which there are so many.
+fn number_types(
+    lists: &mut Numbering,
+    signatures: &Signatures,
+    at: u32,
+    count: u32,
+) -> Result<Option<u32>, OutOfMemory>
+    ensures { (p : Rows) (t : Table) → AreSignatures p t signatures.now → is_callable (role_of_row p at) ≡ true → IsNumbering lists.old → Some count ≡ tell.size_of (parameters p t at) → IfOk result (λ number. tell.NumbersList lists.old lists.new (parameters p t at) number) }
+{
+    let mut number = Numbering::EMPTY;
+    for nth in 0..count {
+        let Some(ty) = signatures.parameter(at, nth) else {
+            return Ok(None);
+        };
+        number = with_type(lists, number, ty)?;
+    }
+    Ok(Some(number))
+}
+
 // The number of the parameter types of a constructor, if all are found.
 fn number_parameters(
     lists: &mut Numbering,
-    world: &World,
+    signatures: &Signatures,
     at: u32,
-) -> Result<Option<u32>, OutOfMemory> {
-    let signatures = world.members.signatures();
+) -> Result<Option<u32>, OutOfMemory>
+    ensures { (p : Rows) (t : Table) → AreSignatures p t signatures.now → is_callable (role_of_row p at) ≡ true → IsNumbering lists.old → IfOk result (λ number. tell.NumbersList lists.old lists.new (parameters p t at) number) }
+{
     let Some(count) = signatures.count(at) else {
         return Ok(None);
     };
-    let mut number = Numbering::EMPTY;
-    for nth in 0..count {
-        match signatures.parameter(at, nth) {
-            Some(ty) => number = with_type(lists, number, ty)?,
-            None => return Ok(None),
-        }
-    }
-    Ok(Some(number))
+    let number = number_types(lists, signatures, at, count)?;
+    Ok(number)
 }
 
 // The row under a key, where both parts of it are known.
@@ -102,8 +123,11 @@ fn is_listed(all: &Chains, entry: Entry) -> bool
 impl Declared {
     /// Nothing.
     pub fn new(alloc: Global) -> Declared
+        ensures types { result.types ≡ [] }
         ensures fields { result.fields ≡ [] }
         ensures methods { result.methods ≡ [] }
+        ensures constructors { result.constructors ≡ [] }
+        ensures lists { IsNumbering result.lists }
     {
         Declared {
             types: Chains::new(alloc),
@@ -116,21 +140,20 @@ impl Declared {
 
     // A constructor under its class and the number of its parameter types.
     fn constructor_entry(&mut self, world: &World, at: u32) -> Result<Option<Entry>, OutOfMemory>
-        ensures fields { OnOk result (self.new.fields ≡ self.old.fields) }
-        ensures methods { OnOk result (self.new.methods ≡ self.old.methods) }
+        ensures numbered { views.IsSignedWorld world.now → same_role (role_of_row (views.rows_of world.now) at) roles.Constructor ≡ true → IsNumbering self.old.lists → IfOk result (λ entry. tell.NumbersConstructor (views.rows_of world.now) (views.table_of world.now) self.old.lists self.new.lists at entry) }
+        ensures tables { OnOk result (tell.AreSameTables self.old self.new) }
     {
-        let Some(over) = constructed_class(world.under.rows, at) else {
-            return Ok(None);
-        };
-        let number = number_parameters(&mut self.lists, world, at)?;
-        Ok(entry_under(Some(over), number, at))
+        let number = number_parameters(&mut self.lists, world.members.signatures(), at)?;
+        let class = constructed_class(world.under.rows, at);
+        Ok(entry_under(class, number, at))
     }
 
     /// What a row adds, if it declares a member or constructor.
     pub fn entry(&mut self, world: &World, at: u32) -> Result<Option<Entry>, OutOfMemory>
         ensures found { views.IsNamedWorld world.now → at < length (views.rows_of world.now) → same_role (role_of_row (views.rows_of world.now) at) roles.Constructor ≡ false → IfOk result (λ entry. entry ≡ tell.member_entry (views.rows_of world.now) world.now.members.now.callables.signatures at) }
-        ensures fields { OnOk result (self.new.fields ≡ self.old.fields) }
-        ensures methods { OnOk result (self.new.methods ≡ self.old.methods) }
+        ensures numbered { views.IsSignedWorld world.now → same_role (role_of_row (views.rows_of world.now) at) roles.Constructor ≡ true → IsNumbering self.old.lists → IfOk result (λ entry. tell.NumbersConstructor (views.rows_of world.now) (views.table_of world.now) self.old.lists self.new.lists at entry) }
+        ensures kept { same_role (role_of_row (views.rows_of world.now) at) roles.Constructor ≡ false → OnOk result (self.new.lists ≡ self.old.lists) }
+        ensures tables { OnOk result (tell.AreSameTables self.old self.new) }
     {
         if is_constructor(world.under.rows, at) {
             self.constructor_entry(world, at)
@@ -164,8 +187,11 @@ impl Declared {
 
     // One more row, of a role.
     fn add_row(&mut self, alloc: Global, role: Role, entry: Entry) -> Result<(), OutOfMemory>
+        ensures types { OnOk result (self.new.types ≡ tell.with_entry (same_role role roles.Type) self.old.types (Some entry)) }
         ensures fields { OnOk result (self.new.fields ≡ tell.with_entry (same_role role roles.Field) self.old.fields (Some entry)) }
         ensures methods { OnOk result (self.new.methods ≡ tell.with_entry (same_role role roles.Method) self.old.methods (Some entry)) }
+        ensures constructors { OnOk result (self.new.constructors ≡ tell.with_entry (same_role role roles.Constructor) self.old.constructors (Some entry)) }
+        ensures lists { OnOk result (self.new.lists ≡ self.old.lists) }
     {
         match role {
             Role::Type => self.types.add(alloc, entry),
@@ -183,8 +209,11 @@ impl Declared {
         role: Role,
         entry: Option<Entry>,
     ) -> Result<(), OutOfMemory>
+        ensures types { OnOk result (self.new.types ≡ tell.with_entry (same_role role roles.Type) self.old.types entry) }
         ensures fields { OnOk result (self.new.fields ≡ tell.with_entry (same_role role roles.Field) self.old.fields entry) }
         ensures methods { OnOk result (self.new.methods ≡ tell.with_entry (same_role role roles.Method) self.old.methods entry) }
+        ensures constructors { OnOk result (self.new.constructors ≡ tell.with_entry (same_role role roles.Constructor) self.old.constructors entry) }
+        ensures lists { OnOk result (self.new.lists ≡ self.old.lists) }
     {
         match entry {
             Some(entry) => self.add_row(alloc, role, entry),
@@ -193,14 +222,19 @@ impl Declared {
     }
 }
 
-// A type round the row has the name.
-fn is_inside_name(rows: &[Row], places: &Places, at: u32, name: u32) -> bool {
+// A type round the row has its name.
+fn is_inside_name(rows: &[Row], places: &Places, at: u32) -> bool
+    ensures { ArePlaces rows.now places.now → at < length rows.now → result ≡ declaring.is_inside rows.now (name rows.now at) (length rows.now) at }
+{
+    let name = places.name(at);
     let mut around = declaring_type(rows, at);
-    for _turn in 0..=at {
+    for _turn in 0..rows.len() {
         let Some(over) = around else {
             return false;
         };
-        if places.name(over) == name {
+        let other = places.name(over);
+        let is_found = other == name;
+        if is_found {
             return true;
         }
         around = declaring_type(rows, over);
@@ -210,7 +244,11 @@ fn is_inside_name(rows: &[Row], places: &Places, at: u32, name: u32) -> bool {
 
 /// The type stands in one of its own name.
 pub fn is_inside_its_name(rows: &[Row], places: &Places, at: u32) -> bool
-    ensures { declared_as.is_type rows.now at ≡ false → result ≡ false }
+    ensures none { declared_as.is_type rows.now at ≡ false → result ≡ false }
+    ensures found { ArePlaces rows.now places.now → result ≡ declaring.is_inside_its_name rows.now at }
 {
-    is_type(rows, at) && is_inside_name(rows, places, at, places.name(at))
+    if !is_type(rows, at) {
+        return false;
+    }
+    is_inside_name(rows, places, at)
 }

@@ -1,4 +1,6 @@
 use Rattle.std.proofs.Common.{sym, ◌∙◌}
+use Rattle.jr_faults.proofs.Told.{only_kept}
+use Rattle.jr_member_faults.specs.Faults.{is_on_members}
 use Rattle.jr_member_faults.proofs.Passed.{declared_past, headers_past}
 use Rattle.jr_member_faults.proofs.Told.{row_passed}
 use Rattle.jr_member_faults.proofs.faults.any_row_faults.Goals as goal
@@ -11,3 +13,6 @@ returns-then-not-is_of_members-clause-headers c = λ h. headers_past _ c.args.at
 
 pub returns-then-not-is_of_members-clause-found : goal.returns-then-not-is_of_members-clause-found
 returns-then-not-is_of_members-clause-found c = λ lt few d h. row_passed c.args.view.now c.args.at c.args.out.now.items lt (sym c.is_of_members.ensures ∙ c.if-not-is_of_members.true)
+
+pub returns-then-not-is_of_members-clause-only : goal.returns-then-not-is_of_members-clause-only
+returns-then-not-is_of_members-clause-only c = only_kept is_on_members c.args.out.now.items

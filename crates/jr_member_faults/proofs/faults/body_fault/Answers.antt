@@ -1,5 +1,5 @@
 use Rattle.jr_rule.specs.declared.Rule.TheVariants as rule
-use Rattle.jr_member_faults.proofs.Told.{told_at}
+use Rattle.jr_faults.proofs.Told.{told_at}
 use Rattle.jr_member_faults.proofs.faults.body_fault.Goals as goal
 
 pub returns-clause-found : goal.returns-clause-found

@@ -1,5 +1,5 @@
 use Rattle.std.proofs.Common.{arith}
-use Rattle.jr_member_faults.proofs.Told.{row_told}
+use Rattle.jr_member_faults.proofs.Told.{row_told, row_only}
 use Rattle.jr_member_faults.proofs.faults.row_faults.Goals as goal
 
 pub returns-clause-declared : goal.returns-clause-declared
@@ -19,3 +19,14 @@ returns-clause-found c = λ lt few d h. row_told c.args.view.now
     })
     (c.in_ok-body_fault.ensures.found (omega arith)) (λ valued. c.in_ok-static_fault.ensures.found valued) (c.in_ok-supertype_fault.ensures.found lt h)
     (λ named. c.in_ok-declared_faults.ensures.fields lt d named) (λ named signed. c.in_ok-declared_faults.ensures.methods lt d named signed)
+    (λ signed. c.in_ok-declared_faults.ensures.constructors lt d signed) (λ named. c.in_ok-declared_faults.ensures.types lt d named)
+
+pub returns-clause-only : goal.returns-clause-only
+returns-clause-only c = row_only c.args.view.now
+    (record {
+      declared = c.in_ok-declared_faults.ensures.others;
+      heading = c.in_ok-supertype_fault.ensures.others;
+      methods = c.in_ok-faults.ensures;
+      body = c.in_ok-body_fault.ensures.others;
+      static = c.in_ok-static_fault.ensures.others;
+    })

@@ -1,7 +1,7 @@
 use Rattle.jr_rule.specs.declared.Rule.TheVariants as rule
 use Rattle.jr_member_rules.specs.Computed.{values}
+use Rattle.jr_faults.proofs.Told.{told_at}
 use Rattle.jr_member_faults.specs.Views.{rows_in, table_in}
-use Rattle.jr_member_faults.proofs.Told.{told_at}
 use Rattle.jr_member_faults.proofs.faults.static_fault.Goals as goal
 
 pub returns-clause-found : goal.returns-clause-found

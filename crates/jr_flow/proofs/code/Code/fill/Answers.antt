@@ -7,10 +7,9 @@ use Rattle.jr_flow.proofs.Coding.{code_is, all_told, parent_few, written_begun}
 use Rattle.jr_flow.proofs.code.Code.fill.Goals as goal
 
 pub returns : goal.returns
-returns c = λ m view parts begun lt.
+returns c = λ m view tree begun lt.
     let p = rows_in c.args.view.now in
     let body = c.args.self.now.body in
-    let tree = parts.tree in
     let le = tree.last body lt in
     let stop = c.end_at-end.ensures (omega (arith, lt, view.few)) in
     let count : c.end_at-end.result - body ≡ end p body - body = ap (λ e. e - body) stop in
