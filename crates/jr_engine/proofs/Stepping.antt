@@ -43,6 +43,10 @@ use Rattle.jr_engine.specs.declared.tried.Spelled.{Spelled}
 pub read_so : (files : FileMap) (w : Workspace) → ReadsAs files (Ok w.program) → rows_in w ≡ rows_of w.program → IsBoundIn w → CompilesExactly files w.program (table_in w) → IsRead files w
 read_so files w reads are bound compiles = record { reads = reads; are = are; bound = bound; compiles = compiles }
 
+-- so of equal files
+pub read_copy : (files copy : FileMap) (w : Workspace) → copy ≡ files → ReadsAs files (Ok w.program) → rows_in w ≡ rows_of w.program → IsBoundIn w → CompilesExactly files w.program (table_in w) → IsRead copy w
+read_copy files copy w same reads are bound compiles = subst (λ (f : FileMap). IsRead f w) (sym same) (read_so files w reads are bound compiles)
+
 pub held_so : (left : Left) → IsRead left.files left.program → AllByRecursion (λ path. IsTrue (is_java path)) (files.keys left.files) → IsHeld left
 held_so left is java = record { read = is; java = java }
 

@@ -24,7 +24,7 @@ fn copied(alloc: Global, files: &Files) -> Result<Files, Refused>
 }
 
 // The files found with their program. A front that accepts a path without `.java` is answered for want of memory.
-#[tactic(auto, using(crate::proofs::Stepping::read_so))]
+#[tactic(auto, using(crate::proofs::Stepping::read_so, crate::proofs::Stepping::read_copy))]
 fn opened(alloc: Global, files: &Files) -> Result<Left, Refused>
     ensures same { IfOk result (λ found. found.files ≡ files.now) }
     ensures held { IfOk result IsHeld }
