@@ -14,7 +14,7 @@ use jr_machine_defs::{CodeRef, RunEnd, State, Value, Work};
 use jr_machine_exits::{
     exit, leave, literal, push_finish, push_parts, push_target_parts, push_turn, read_old,
 };
-use jr_machine_ops::{Program, begin, first_use, push, value_of};
+use jr_machine_ops::{Program, begin, first_use, push, push_eval, value_of};
 use std::alloc::Global;
 
 /// Evaluates code: its value at once, or its parts.
@@ -32,6 +32,25 @@ fn evaluate<'a>(state: &mut State<'a>, code: &'a Code) -> Result<bool, OutOfMemo
         },
         code => {
             push_parts(&mut state.frame.work, code)?;
+            Ok(true)
+        }
+    }
+}
+
+/// Code is evaluated, or first the class that it creates is initialized.
+fn evaluate_first<'a>(
+    state: &mut State<'a>,
+    alloc: Global,
+    program: &Program<'a>,
+    code: &'a Code,
+) -> Result<bool, OutOfMemory>
+    ensures { IfOk result (λ went. Follows (acts program.now (w.Eval (plain_code code.entry.now)) state.old) went state.old state.new) }
+{
+    match first_use(state.begun.as_slice(), program.created_class(code)) {
+        None => evaluate(state, code),
+        Some(class) => {
+            push_eval(&mut state.frame.work, code)?;
+            begin(state, alloc, program, class)?;
             Ok(true)
         }
     }
@@ -138,7 +157,7 @@ fn act<'a>(
     ensures { IfOk result (λ went. Follows (acts program.now item.entry state.old) went state.old state.new) }
 {
     match item {
-        Work::Eval(code) => evaluate(state, code.get()),
+        Work::Eval(code) => evaluate_first(state, alloc, program, code.get()),
         Work::Finish(code) => finish_first(state, alloc, program, code.get()),
         Work::Target(target) => open_target(state, target.get()),
         Work::OldValue(target) => open_old_target(state, target.get()),

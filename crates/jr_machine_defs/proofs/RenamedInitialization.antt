@@ -15,7 +15,7 @@ use Rattle.jr_machine_defs.specs.declared.state.Purpose.TheVariants as purpose
 use Rattle.jr_machine_defs.specs.declared.state.State.{State}
 use Rattle.jr_machine_defs.specs.Classes.{class_in, body_in}
 use Rattle.jr_machine_defs.specs.Parts.{evals}
-use Rattle.jr_machine_defs.specs.Initialization.{same_bool, body_work, members_work, class_work, begin_work, parent_work, begins, static_class, read_class, class_of_body, target_class, assigned_class, used_class, first_use}
+use Rattle.jr_machine_defs.specs.Initialization.{same_bool, body_work, members_work, class_work, begin_work, parent_work, begins, static_class, read_class, class_of_body, target_class, assigned_class, created_class, used_class, first_use}
 use Rattle.jr_machine_defs.specs.Renamed.{IsRenaming, renamed_type, renamed_code, renamed_class, renamed_body, renamed_core, renamed_work, renamed_state}
 use Rattle.jr_machine_defs.proofs.RenamedValues.{image_on, cond_image}
 use Rattle.jr_machine_defs.proofs.RenamedParts.{work_joined, evals_renamed}
@@ -97,10 +97,13 @@ module _ (f : DeclId → DeclId) (p : IsRenaming f) where
   assigned_class_renamed core target None = target_class_renamed core target
   assigned_class_renamed core target (Some op) = refl
 
+  pub created_class_renamed : (core : Core) (code : Code) → created_class (renamed_core f core) (renamed_code f code) ≡ option_map (renamed_type f) (created_class core code)
+  created_class_renamed core (m.New outer ctor args) = ap class_of_body (body_in_renamed f p core ctor) ∙ class_of_body_renamed (body_in core ctor)
+  created_class_renamed core code = refl
+
   pub used_class_renamed : (core : Core) (code : Code) → used_class (renamed_core f core) (renamed_code f code) ≡ option_map (renamed_type f) (used_class core code)
   used_class_renamed core (m.FieldAt on field) = ap read_class (body_in_renamed f p core field) ∙ read_class_renamed (body_in core field)
   used_class_renamed core (m.Call receiver is_super method args) = static_class_in core method
-  used_class_renamed core (m.New outer ctor args) = ap class_of_body (body_in_renamed f p core ctor) ∙ class_of_body_renamed (body_in core ctor)
   used_class_renamed core (m.Assign target op value) = assigned_class_renamed core target op
   used_class_renamed core code = refl
 

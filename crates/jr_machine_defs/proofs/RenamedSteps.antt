@@ -20,7 +20,7 @@ use Rattle.jr_machine_defs.specs.declared.state.State.{State}
 use Rattle.jr_machine_defs.specs.Prelude.{object_class, string_class}
 use Rattle.jr_machine_defs.specs.Values.{value_of}
 use Rattle.jr_machine_defs.specs.Parts.{parts, target_parts, after_body}
-use Rattle.jr_machine_defs.specs.Initialization.{used_class, target_class, first_use}
+use Rattle.jr_machine_defs.specs.Initialization.{created_class, used_class, target_class, first_use}
 use Rattle.jr_machine_defs.specs.Finishing.{pushes_any}
 use Rattle.jr_machine_defs.specs.Steps.{evaluates, after_first_use, begins_any, finally_of, exits, acts, acts_any, is_running, next, step, start_call, start_of, after, steps_made, run_of, printed_of, IsRun}
 use Rattle.jr_machine_defs.specs.States.{Next, add_work, with_work}
@@ -29,7 +29,7 @@ use Rattle.jr_machine_defs.proofs.RenamedValues.{value_of_renamed}
 use Rattle.jr_machine_defs.proofs.RenamedParts.{work_joined, parts_renamed, target_parts_renamed, after_body_renamed}
 use Rattle.jr_machine_defs.proofs.RenamedStates.{Alike, goes, stops, along, if_alike, work_added}
 use Rattle.jr_machine_defs.proofs.RenamedClasses.{object_kept, string_kept}
-use Rattle.jr_machine_defs.proofs.RenamedInitialization.{begins_renamed, target_class_renamed, used_class_renamed, first_use_renamed}
+use Rattle.jr_machine_defs.proofs.RenamedInitialization.{begins_renamed, target_class_renamed, created_class_renamed, used_class_renamed, first_use_renamed}
 use Rattle.jr_machine_defs.proofs.RenamedFinishing.{pushes_any_alike, finally_work_renamed, finishes_alike}
 use Rattle.jr_machine_defs.proofs.RenamedPlaces.{read_old_alike}
 use Rattle.jr_machine_defs.proofs.RenamedExits.{unwinds_alike, leaves_alike, leaves_by_alike}
@@ -94,7 +94,8 @@ module _ (f : DeclId → DeclId) (p : IsRenaming f) where
       goes (work_added f (target_parts target ++ item ∷ []) s (work_joined f (target_parts target) (item ∷ []) (target_parts_renamed f target) refl))
 
   acts_alike : (core : Core) (item : Work) (s : State) → Alike f (acts (renamed_core f core) (renamed_work f item) (renamed_state f s)) (acts core item s)
-  acts_alike core (w.Eval code) s = evaluates_alike code s
+  acts_alike core (w.Eval code) s =
+      after_first_use_alike core (created_class core code) (w.Eval code) s (created_class_renamed f p core code) (evaluates_alike code s)
   acts_alike core (w.Finish code) s =
       after_first_use_alike core (used_class core code) (w.Finish code) s (used_class_renamed f p core code) (finishes_alike f p core code s)
   acts_alike core (w.Target target) s = target_alike target w.Nothing s

@@ -77,11 +77,15 @@ abbrev pub assigned_class : Core → Code → Option BinaryOp → Option TypeId
 assigned_class core target None = target_class core target
 assigned_class core target (Some op) = None
 
--- the class that the finishing item of this code initializes, if it has not begun: by a static call, an access to a static field, or a creation (JLS 12.4.1)
+-- the class that this code initializes before its parts, if it has not begun: that of a creation (JLS 12.4.1, 15.9.4)
+abbrev pub created_class : Core → Code → Option TypeId
+created_class core (m.New outer ctor args) = class_of_body (body_in core ctor)
+created_class core code = None
+
+-- the class that the finishing item of this code initializes, if it has not begun: by a static call, or an access to a static field (JLS 12.4.1)
 abbrev pub used_class : Core → Code → Option TypeId
 used_class core (m.FieldAt on field) = read_class (body_in core field)
 used_class core (m.Call receiver is_super method args) = static_class (body_in core method)
-used_class core (m.New outer ctor args) = class_of_body (body_in core ctor)
 used_class core (m.Assign target op value) = assigned_class core target op
 used_class core code = None
 

@@ -21,7 +21,7 @@ use Rattle.jr_machine_defs.specs.Values.{value_of}
 use Rattle.jr_machine_defs.specs.Classes.{body_in, is_among}
 use Rattle.jr_machine_defs.specs.Parts.{parts, target_parts, literal, after_body}
 use Rattle.jr_machine_defs.specs.Places.{read_old}
-use Rattle.jr_machine_defs.specs.Initialization.{begins, used_class, target_class, first_use}
+use Rattle.jr_machine_defs.specs.Initialization.{begins, created_class, used_class, target_class, first_use}
 use Rattle.jr_machine_defs.specs.Calls.{enters, runs_any}
 use Rattle.jr_machine_defs.specs.Finishing.{finishes, pushes_any, finally_work}
 use Rattle.jr_machine_defs.specs.Exits.{unwinds, leaves, leaves_by}
@@ -52,7 +52,7 @@ exits core leaving (item ∷ rest) s = unwinds core leaving item (with_work rest
 
 -- the top item, taken off, acts
 abbrev pub acts : Core → Work → State → Next
-acts core (w.Eval code) s = evaluates code s
+acts core (w.Eval code) s = after_first_use core (first_use s.begun (created_class core code)) (w.Eval code) s (evaluates code s)
 acts core (w.Finish code) s = after_first_use core (first_use s.begun (used_class core code)) (w.Finish code) s (finishes core code s)
 acts core (w.Target target) s = Some (add_work (target_parts target ++ w.Nothing ∷ []) s)
 acts core w.Nothing s = Some s

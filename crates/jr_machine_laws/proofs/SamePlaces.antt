@@ -18,7 +18,7 @@ use Rattle.jr_machine_defs.specs.declared.state.State.{State}
 use Rattle.jr_machine_defs.specs.declared.work.Work.{Work}
 use Rattle.jr_machine_defs.specs.Classes.{class_in, body_in, class_of_object}
 use Rattle.jr_machine_defs.specs.Places.{place_in, fits_item, fitting, place_of, item_place, placed, set_item, without_receiver, store_field, store, read_old_field, read_old}
-use Rattle.jr_machine_defs.specs.Initialization.{body_work, members_work, class_work, begin_work, parent_work, begins, static_class, read_class, class_of_body, target_class, assigned_class, used_class}
+use Rattle.jr_machine_defs.specs.Initialization.{body_work, members_work, class_work, begin_work, parent_work, begins, static_class, read_class, class_of_body, target_class, assigned_class, created_class, used_class}
 use Rattle.jr_machine_defs.specs.Calls.{enters, runs, runs_any, dispatches, calls_on, calls, constructs}
 use Rattle.jr_machine_defs.specs.States.{with_one, with_two, add_work}
 use Rattle.jr_machine_laws.specs.SameCore.{AlikeClasses, SameCore}
@@ -98,10 +98,13 @@ module _ (a b : Core) (same : SameCore a b) where
   assigned_class_same target None = target_class_same target
   assigned_class_same target (Some op) = refl
 
+  pub created_class_same : (code : Code) → created_class a code ≡ created_class b code
+  created_class_same (m.New outer ctor args) = ap class_of_body (same.bodies ctor)
+  created_class_same code = refl
+
   pub used_class_same : (code : Code) → used_class a code ≡ used_class b code
   used_class_same (m.FieldAt on field) = ap read_class (same.bodies field)
   used_class_same (m.Call receiver is_super method args) = ap static_class (same.bodies method)
-  used_class_same (m.New outer ctor args) = ap class_of_body (same.bodies ctor)
   used_class_same (m.Assign target op value) = assigned_class_same target op
   used_class_same code = refl
 

@@ -10,13 +10,13 @@ use Rattle.jr_machine_defs.specs.declared.work.Work.TheVariants as w
 use Rattle.jr_machine_defs.specs.declared.state.RunEnd.{RunEnd}
 use Rattle.jr_machine_defs.specs.declared.state.State.{State}
 use Rattle.jr_machine_defs.specs.declared.state.Ran.{Ran}
-use Rattle.jr_machine_defs.specs.Initialization.{used_class, target_class, first_use}
+use Rattle.jr_machine_defs.specs.Initialization.{created_class, used_class, target_class, first_use}
 use Rattle.jr_machine_defs.specs.Places.{read_old}
 use Rattle.jr_machine_defs.specs.Finishing.{finishes}
-use Rattle.jr_machine_defs.specs.Steps.{after_first_use, begins_any, exits, acts, acts_any, is_running, next, step, start_of, after, steps_made, printed_of, IsRunFrom}
+use Rattle.jr_machine_defs.specs.Steps.{evaluates, after_first_use, begins_any, exits, acts, acts_any, is_running, next, step, start_of, after, steps_made, printed_of, IsRunFrom}
 use Rattle.jr_machine_defs.specs.States.{Next, with_work, add_work}
 use Rattle.jr_machine_laws.specs.SameCore.{SameCore}
-use Rattle.jr_machine_laws.proofs.SamePlaces.{read_old_same, begins_same, target_class_same, used_class_same}
+use Rattle.jr_machine_laws.proofs.SamePlaces.{read_old_same, begins_same, target_class_same, created_class_same, used_class_same}
 use Rattle.jr_machine_laws.proofs.SameFinishing.{finishes_same, unwinds_same}
 
 abbrev end_in : State → RunEnd
@@ -39,6 +39,9 @@ module _ (a b : Core) (same : SameCore a b) where
   exits_same leaving (item ∷ rest) s = unwinds_same a b same leaving item (with_work rest s)
 
   acts_same : (item : Work) (s : State) → acts a item s ≡ acts b item s
+  acts_same (w.Eval code) s =
+      ap (λ any. after_first_use a (first_use s.begun any) (w.Eval code) s (evaluates code s)) (created_class_same a b same code)
+      ∙ first_use_of (first_use s.begun (created_class b code)) (w.Eval code) s refl
   acts_same (w.Finish code) s =
       ap (λ any. after_first_use a (first_use s.begun any) (w.Finish code) s (finishes a code s)) (used_class_same a b same code)
       ∙ first_use_of (first_use s.begun (used_class b code)) (w.Finish code) s (finishes_same a b same code s)

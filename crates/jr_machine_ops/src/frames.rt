@@ -2,7 +2,7 @@
 ghost use Rattle.std.specs.Prelude.{◌≡◌, ◌∷◌, ◌++◌, OnOk, IfOk};
 ghost use Rattle.std.specs.Option.{option_copied, option_map};
 ghost use Rattle.jr_core.specs.Mirror.{plain_body, plain_code};
-ghost use Rattle.jr_machine_defs.specs.Initialization.{body_work, members_work, class_work, begin_work, parent_work, begins, static_class, read_class, class_of_body, target_class, assigned_class, used_class, first_use};
+ghost use Rattle.jr_machine_defs.specs.Initialization.{body_work, members_work, class_work, begin_work, parent_work, begins, static_class, read_class, class_of_body, target_class, assigned_class, created_class, used_class, first_use};
 ghost use Rattle.jr_machine_defs.specs.Calls.{slots_of, enters};
 
 use crate::codes::push_codes;
@@ -235,6 +235,16 @@ impl<'a> Program<'a> {
         }
     }
 
+    /// The class that this code initializes before its parts, if it has not begun (JLS 12.4.1, 15.9.4).
+    pub fn created_class(&self, code: &Code) -> Option<TypeId>
+        ensures { result ≡ created_class self.now (plain_code code.now) }
+    {
+        match code {
+            Code::New { ctor, .. } => class_of_body(self.body(*ctor)),
+            _ => None,
+        }
+    }
+
     /// The class that the finishing item of this code initializes, if it has not begun (JLS 12.4.1).
     pub fn used_class(&self, code: &Code) -> Option<TypeId>
         ensures { result ≡ used_class self.now (plain_code code.now) }
@@ -242,7 +252,6 @@ impl<'a> Program<'a> {
         match code {
             Code::FieldAt { field, .. } => read_class(self.body(*field)),
             Code::Call { method, .. } => static_class(self.body(*method)),
-            Code::New { ctor, .. } => class_of_body(self.body(*ctor)),
             Code::Assign { target, op, .. } => self.assigned_class(target.get(), *op),
             _ => None,
         }
