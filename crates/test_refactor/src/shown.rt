@@ -7,6 +7,9 @@ const PRODUCT: &str =
 
 const ZERO: &str = "class A { public static void main(String[] s) { int z = 0; z = 1 / z; } }";
 
+const CREATION: &str =
+    "class X { static int n = A.log; static { System.out.println(1); } X(int k) { } } class A { static int log; static int a() { log = 3; System.out.println(2); return 2; } public static void main(String[] s) { new X(a()); System.out.println(X.n); } }";
+
 const USES: &str = "class A { int f; int g() { return f + f; } int h() { return g(); } }";
 
 const RUNS: [(&str, u8, &str); 3] = [
@@ -21,6 +24,14 @@ fn a_program_is_run(rt: HostRuntime) -> Result<(), Fail> {
     assert!(rt; all_leave_it(alloc, PRODUCT, &RUNS)?);
     let uncaught = "-- uncaught java.lang.ArithmeticException\n";
     assert!(rt; leaves_it(alloc, ZERO, ". run A 1000", 0, uncaught)?);
+    Ok(())
+}
+
+#[test]
+fn a_creation_initializes_its_class_before_its_arguments(rt: HostRuntime) -> Result<(), Fail> {
+    let alloc = rt.alloc();
+    let line = "1\n2\n0\n-- ended\n";
+    assert!(rt; leaves_it(alloc, CREATION, ". run A 1000", 0, line)?);
     Ok(())
 }
 
