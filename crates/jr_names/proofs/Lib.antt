@@ -3,3 +3,4 @@ pub mod Paths
 pub mod Together
 pub mod Answers
 pub mod Moved
+pub mod Imported
