@@ -29,7 +29,7 @@ module _ (old : Project) (found : Option ℕ) (to : List ℕ) where
   pub no_memory : IsAskedFor old found to (Err fault.OutOfMemory)
   no_memory = IsAskedFor.memory
 
-  pub together_so : (family : List ℕ) (answer : Result Change ChangeFault) → IsFamilyOf old found family → IsNamed old.marks found family to answer → IsAskedFor old found to answer
+  pub together_so : (family : List ℕ) (answer : Result Change ChangeFault) → IsFamilyOf old found family → IsNamed old found family to answer → IsAskedFor old found to answer
   together_so family answer is made = IsAskedFor.together is made
 
 module _ (m : Marks) (family to : List ℕ) where
@@ -45,27 +45,28 @@ module _ (m : Marks) (family to : List ℕ) where
   pub able_so : (d : ℕ) (b c : Bool) → b ≡ false → b ≡ reaches_prelude m family → c ≡ true → (IsTrue c ↔ IsIdentifier to) → IsRenamable m (Some d) family to (Ok d)
   able_so d b c is h holds tells = IsRenamable.able (sym h ∙ is) (tells.0 holds) refl
 
-  pub refused_with : (found : Option ℕ) (why : Reason) → IsRenamable m found family to (Err why) → IsNamed m found family to (Err (fault.Bad why))
+module _ (old : Project) (family to : List ℕ) where
+  pub refused_with : (found : Option ℕ) (why : Reason) → IsRenamable old.marks found family to (Err why) → IsNamed old found family to (Err (fault.Bad why))
   refused_with found why h = IsNamed.refused h
 
-  pub named_so : (found : Option ℕ) (d : ℕ) (answer : Result Change ChangeFault) → IsRenamable m found family to (Ok d) → IsNewlyNamed m d family to answer → IsNamed m found family to answer
+  pub named_so : (found : Option ℕ) (d : ℕ) (answer : Result Change ChangeFault) → IsRenamable old.marks found family to (Ok d) → IsNewlyNamed old d family to answer → IsNamed old found family to answer
   named_so found d answer can made = IsNamed.named can made
 
-  failed_so : (d : ℕ) (why : ChangeFault) → why ≡ fault.OutOfMemory → IsNewlyNamed m d family to (Err why)
-  failed_so d why failed = subst (λ why. IsNewlyNamed m d family to (Err why)) (sym failed) IsNewlyNamed.memory
+  failed_so : (d : ℕ) (why : ChangeFault) → why ≡ fault.OutOfMemory → IsNewlyNamed old d family to (Err why)
+  failed_so d why failed = subst (λ why. IsNewlyNamed old d family to (Err why)) (sym failed) IsNewlyNamed.memory
 
-  pub same_so : (d : ℕ) (answer : Result Change ChangeFault) → bytes_eq (name m.rows.now d) to ≡ true → IfOk answer (λ change. IsFinished (unchanged m) course.Same change)
-      → IfErr answer (λ why. why ≡ fault.OutOfMemory) → IsNewlyNamed m d family to answer
+  pub same_so : (d : ℕ) (answer : Result Change ChangeFault) → bytes_eq (name old.marks.rows.now d) to ≡ true → IfOk answer (λ change. IsFinished (unchanged old.marks) course.Same change)
+      → IfErr answer (λ why. why ≡ fault.OutOfMemory) → IsNewlyNamed old d family to answer
   same_so d (Ok change) same made failed = IsNewlyNamed.same same made
   same_so d (Err why) same made failed = failed_so d why failed
 
-  pub other_so : (d : ℕ) (answer : Result Change ChangeFault) → bytes_eq (name m.rows.now d) to ≡ false → IfOk answer (λ change. IsNewName m d family to change)
-      → IfErr answer (λ why. why ≡ fault.OutOfMemory) → IsNewlyNamed m d family to answer
+  pub other_so : (d : ℕ) (answer : Result Change ChangeFault) → bytes_eq (name old.marks.rows.now d) to ≡ false → IfOk answer (λ change. IsNewName old d family to change)
+      → IfErr answer (λ why. why ≡ fault.OutOfMemory) → IsNewlyNamed old d family to answer
   other_so d (Ok change) other made failed = IsNewlyNamed.other other made
   other_so d (Err why) other made failed = failed_so d why failed
 
-  pub new_name : (d : ℕ) (rows : List ℕ) (answer : Result Change ChangeFault) → IsNamedWith m.rows.now d family rows → IfOk answer (λ change. IsRenamed m d to rows change)
-      → IfOk answer (λ change. IsNewName m d family to change)
+  pub new_name : (d : ℕ) (rows : List ℕ) (answer : Result Change ChangeFault) → IsNamedWith old d family rows → IfOk answer (λ change. IsRenamed old.marks d to rows change)
+      → IfOk answer (λ change. IsNewName old d family to change)
   new_name d rows (Ok change) named made = record { rows = rows; named = named; renamed = made }
   new_name d rows (Err why) named made = tt
 

@@ -1,32 +1,14 @@
 -- Steps of loops over rows and units that get a name.
-use Rattle.std.proofs.Common.{◌≡◌, refl, sym, ◌∙◌, ap, arith, ℕ, suc, ◌+◌, ◌<◌, ◌≤◌, Bool, true, false, ◌||◌, List, [], ◌∷◌, ◌++◌, length, drop, append-nil, append_assoc}
+use Rattle.std.proofs.Common.{◌≡◌, refl, sym, ◌∙◌, ap, arith, ℕ, suc, ◌+◌, ◌<◌, ◌≤◌, Bool, true, false, ◌||◌, List, [], ◌∷◌, ◌++◌, length, drop, append_assoc}
 use Rattle.std.specs.Prelude.{if◌then◌else◌, slice_index_or}
 use Rattle.std.proofs.lemmas.List.{drop_more, drop_all}
-use Rattle.std.proofs.lemmas.List.Elements.{All-nil, All-push, All-append}
 use Rattle.jr_marks.specs.declared.marks.Marks.{Marks}
-use Rattle.jr_tree.specs.Rows.{Rows}
 use Rattle.jr_plain.specs.Search.{all_such}
 use Rattle.jr_edits.specs.Place.{EditList}
 use Rattle.jr_draft.specs.Asking.{is_in_prelude}
 use Rattle.jr_draft.specs.Drafting.{Drafted, begun}
 use Rattle.jr_draft.specs.Ordering.{order_with}
-use Rattle.jr_names.specs.Renaming.{AddsImports, is_import_of, reaches_prelude, has_some, stands_in, with_all, renamed}
-
--- ---- what is added
-
-module _ (p : Rows) (d : ℕ) where
-  pub adds_none : (all : List ℕ) → AddsImports p d all all
-  adds_none all = record { imports = []; are_imports = All-nil (λ i. is_import_of p d i ≡ true); added = sym (append-nil all) }
-
-  pub adds_one : (all next : List ℕ) (i : ℕ) (b : Bool) → b ≡ is_import_of p d i → b ≡ true → next ≡ all ++ i ∷ [] → AddsImports p d all next
-  adds_one all next i b is so made = record { imports = i ∷ []; are_imports = All-push (λ i. is_import_of p d i ≡ true) [] i (All-nil (λ i. is_import_of p d i ≡ true)) (sym is ∙ so); added = made }
-
-  pub adds_more : (old all next : List ℕ) → AddsImports p d old all → AddsImports p d all next → AddsImports p d old next
-  adds_more old all next h k = record {
-    imports = h.imports ++ k.imports;
-    are_imports = All-append (λ i. is_import_of p d i ≡ true) h.imports k.imports h.are_imports k.are_imports;
-    added = k.added ∙ ap (λ xs. xs ++ k.imports) h.added ∙ append_assoc old h.imports k.imports;
-  }
+use Rattle.jr_names.specs.Renaming.{reaches_prelude, has_some, stands_in, with_all, renamed}
 
 -- ---- what passes
 

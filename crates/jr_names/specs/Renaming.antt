@@ -1,11 +1,9 @@
 -- What a request to give a declaration another name comes to (JLS 6.1, 6.3, 7.5.3, 8.4.8, 8.8).
-use Rattle.std.specs.Prelude.{◌≡◌, ◌⊎◌, ℕ, Bool, true, false, ◌&&◌, ◌||◌, if◌then◌else◌, List, [], ◌∷◌, ◌++◌, All, length, Option, Some, None, Result, Ok, Err, codes, bytes_eq, nat_eq, nat_le, nat_lt}
+use Rattle.std.specs.Prelude.{◌≡◌, ◌⊎◌, ℕ, Bool, true, false, ◌&&◌, ◌||◌, if◌then◌else◌, List, [], ◌∷◌, ◌++◌, length, Option, Some, None, Result, Ok, Err, codes, bytes_eq, nat_eq, nat_le, nat_lt}
 use Rattle.std.specs.List.Sorted.{IsPermutation, IsNonDecreasing}
 use Rattle.jr_base.specs.Identifiers.{IsIdentifier}
 use Rattle.jr_tree.specs.declared.label.Label.{Label}
 use Rattle.jr_tree.specs.declared.label.Label.TheVariants as is
-use Rattle.jr_tree.specs.declared.label.ImportKind.{ImportKind}
-use Rattle.jr_tree.specs.declared.label.ImportKind.TheVariants as import
 use Rattle.jr_tree.specs.declared.label.Role.TheVariants as role
 use Rattle.jr_tree.specs.Rows.{Rows, label, name, end, role_at}
 use Rattle.jr_defs.specs.Referents.{Table}
@@ -13,6 +11,7 @@ use Rattle.jr_plain.specs.Enclosing.{is_constructor_of, is_top_level}
 use Rattle.jr_plain.specs.Search.{all_such}
 use Rattle.jr_dispatch.specs.Families as families
 use Rattle.jr_dispatch.specs.Methods.{IsWholeWorld}
+use Rattle.jr_members.specs.declared.members.World.{World}
 use Rattle.jr_marks.specs.declared.marks.Marks.{Marks}
 use Rattle.jr_marks.specs.Places.{unit_of}
 use Rattle.jr_edits.specs.Place.{EditList, pushed}
@@ -31,6 +30,7 @@ use Rattle.jr_change.specs.declared.reason.Reason.TheVariants as reason
 use Rattle.jr_draft.specs.Asking.{asked, is_in_prelude}
 use Rattle.jr_draft.specs.Drafting.{Drafted, IsFinished, begun, no_edits, path_of, rows_kept, unchanged, unit_row, with_naming, with_unit}
 use Rattle.jr_draft.specs.Ordering.{order_with}
+use Rattle.jr_names.specs.Importing.{AreImportsWith}
 
 -- ---- what gets the name
 
@@ -69,40 +69,18 @@ constructor_at p d k = if has_class_name p d k then k ∷ [] else []
 abbrev pub constructors_of : Rows → ℕ → List ℕ
 constructors_of p d = all_such (length p) (has_class_name p d)
 
-abbrev pub is_static_kind : ImportKind → Bool
-is_static_kind import.StaticSingle = true
-is_static_kind _ = false
-
-abbrev pub is_single_static : Label → Bool
-is_single_static (is.Import kind) = is_static_kind kind
-is_single_static _ = false
-
--- a static import of the name of a declaration
-abbrev pub is_import_of : Rows → ℕ → ℕ → Bool
-is_import_of p d i = is_single_static (label p i) && bytes_eq (name p i) (name p d)
-
--- static imports of the name of a declaration
-abbrev pub AreImportsOf : Rows → ℕ → List ℕ → Type 0
-AreImportsOf p d imports = All (λ i. is_import_of p d i ≡ true) imports
-
--- the rows that get the name of a declaration, as they rise: some static imports of its name, the constructors of a class and the family
-pub record IsNamedWith (p : Rows) (d : ℕ) (family rows : List ℕ) : Type 0 where
+-- the rows that get the name of a declaration, as they rise: the static imports that bring nothing but the family, the constructors of a class and the family
+pub record IsNamedWith (old : Project) (d : ℕ) (family rows : List ℕ) : Type 0 where
   pub imports : List ℕ
-  pub are_imports : AreImportsOf p d imports
-  pub moved : IsPermutation (imports ++ constructors_of p d ++ family) rows
+  pub are_imports : AreImportsWith old.view.sight.world old.marks.rows.now d family imports
+  pub moved : IsPermutation (imports ++ constructors_of old.marks.rows.now d ++ family) rows
   pub rising : IsNonDecreasing rows
 
--- behind what was there stand some static imports, the constructors and the family
-pub record AddsNamed (p : Rows) (d : ℕ) (family old new : List ℕ) : Type 0 where
+-- behind what was there stand those imports, the constructors and the family
+pub record AddsNamed (world : World) (p : Rows) (d : ℕ) (family old new : List ℕ) : Type 0 where
   pub imports : List ℕ
-  pub are_imports : AreImportsOf p d imports
+  pub are_imports : AreImportsWith world p d family imports
   pub added : new ≡ old ++ imports ++ constructors_of p d ++ family
-
--- some static imports stand behind what was there
-pub record AddsImports (p : Rows) (d : ℕ) (old new : List ℕ) : Type 0 where
-  pub imports : List ℕ
-  pub are_imports : AreImportsOf p d imports
-  pub added : new ≡ old ++ imports
 
 -- ---- paths
 
@@ -177,16 +155,16 @@ pub record IsRenamed (m : Marks) (d : ℕ) (to rows : List ℕ) (made : Change) 
   pub finished : IsFinished (with_naming (renamed m (unit_of m d) path to rows) naming) course.Same made
 
 -- the same, where these rows are those that get the name with the declaration
-pub record IsNewName (m : Marks) (d : ℕ) (family to : List ℕ) (made : Change) : Type 0 where
+pub record IsNewName (old : Project) (d : ℕ) (family to : List ℕ) (made : Change) : Type 0 where
   pub rows : List ℕ
-  pub named : IsNamedWith m.rows.now d family rows
-  pub renamed : IsRenamed m d to rows made
+  pub named : IsNamedWith old d family rows
+  pub renamed : IsRenamed old.marks d to rows made
 
 -- what comes of a declaration that can have the name: nothing is to be done, or the change; or want of memory
-pub data IsNewlyNamed (m : Marks) (d : ℕ) (family to : List ℕ) : Result Change ChangeFault → Type 0 where
-  same : {change : Change} → bytes_eq (name m.rows.now d) to ≡ true → IsFinished (unchanged m) course.Same change → IsNewlyNamed m d family to (Ok change)
-  other : {change : Change} → bytes_eq (name m.rows.now d) to ≡ false → IsNewName m d family to change → IsNewlyNamed m d family to (Ok change)
-  memory : IsNewlyNamed m d family to (Err fault.OutOfMemory)
+pub data IsNewlyNamed (old : Project) (d : ℕ) (family to : List ℕ) : Result Change ChangeFault → Type 0 where
+  same : {change : Change} → bytes_eq (name old.marks.rows.now d) to ≡ true → IsFinished (unchanged old.marks) course.Same change → IsNewlyNamed old d family to (Ok change)
+  other : {change : Change} → bytes_eq (name old.marks.rows.now d) to ≡ false → IsNewName old d family to change → IsNewlyNamed old d family to (Ok change)
+  memory : IsNewlyNamed old d family to (Err fault.OutOfMemory)
 
 -- the declaration, if it can have the name, or the first reason why it cannot
 pub data IsRenamable (m : Marks) (found : Option ℕ) (family to : List ℕ) : Result ℕ Reason → Type 0 where
@@ -196,13 +174,13 @@ pub data IsRenamable (m : Marks) (found : Option ℕ) (family to : List ℕ) : R
   able : {d : ℕ} → reaches_prelude m family ≡ false → IsIdentifier to → found ≡ Some d → IsRenamable m found family to (Ok d)
 
 -- what comes of the declaration that is asked for, with those that are renamed together with it
-pub data IsNamed (m : Marks) (found : Option ℕ) (family to : List ℕ) : Result Change ChangeFault → Type 0 where
-  refused : {why : Reason} → IsRenamable m found family to (Err why) → IsNamed m found family to (Err (fault.Bad why))
-  named : {d : ℕ} {answer : Result Change ChangeFault} → IsRenamable m found family to (Ok d) → IsNewlyNamed m d family to answer → IsNamed m found family to answer
+pub data IsNamed (old : Project) (found : Option ℕ) (family to : List ℕ) : Result Change ChangeFault → Type 0 where
+  refused : {why : Reason} → IsRenamable old.marks found family to (Err why) → IsNamed old found family to (Err (fault.Bad why))
+  named : {d : ℕ} {answer : Result Change ChangeFault} → IsRenamable old.marks found family to (Ok d) → IsNewlyNamed old d family to answer → IsNamed old found family to answer
 
 -- the same with its family; or want of memory
 pub data IsAskedFor (old : Project) (found : Option ℕ) (to : List ℕ) : Result Change ChangeFault → Type 0 where
-  together : {family : List ℕ} {answer : Result Change ChangeFault} → IsFamilyOf old found family → IsNamed old.marks found family to answer → IsAskedFor old found to answer
+  together : {family : List ℕ} {answer : Result Change ChangeFault} → IsFamilyOf old found family → IsNamed old found family to answer → IsAskedFor old found to answer
   memory : IsAskedFor old found to (Err fault.OutOfMemory)
 
 -- the answer: why there is no such declaration, or what comes of it

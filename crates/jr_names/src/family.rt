@@ -126,7 +126,7 @@ pub fn named_with(
     declared: u32,
     family: &[u32],
 ) -> Result<Vec<u32>, OutOfMemory>
-    ensures { IfOk result (λ rows. spec.IsNamedWith old.now.marks.rows.now declared family.now rows.items) }
+    ensures { IfOk result (λ rows. spec.IsNamedWith old.now declared family.now rows.items) }
 {
     let mut all = Vec::new(alloc);
     add_named(alloc, old, &mut all, declared, family)?;
@@ -142,7 +142,7 @@ fn add_named(
     declared: u32,
     family: &[u32],
 ) -> Result<(), OutOfMemory>
-    ensures { OnOk result (spec.AddsNamed old.now.marks.rows.now declared family.now all.old.items all.new.items) }
+    ensures { OnOk result (spec.AddsNamed old.now.view.sight.world old.now.marks.rows.now declared family.now all.old.items all.new.items) }
 {
     add_imports(
         alloc,

@@ -5,6 +5,7 @@ mod family;
 mod imports;
 mod moving;
 mod renaming;
+mod unit_move;
 mod units;
 
 pub use moving::move_type;

@@ -58,7 +58,7 @@ fn named(
     family: &[u32],
     name: &[u8],
 ) -> Result<Change, ChangeFault>
-    ensures { IsOrdered old.now.marks → spec.IsNamed old.now.marks declared family.now name.now result }
+    ensures { IsOrdered old.now.marks → spec.IsNamed old.now declared family.now name.now result }
 {
     match renamable(&old.marks, declared, family, name) {
         Ok(row) => newly_named(alloc, old, row, family, name),
@@ -97,7 +97,7 @@ fn newly_named(
     family: &[u32],
     name: &[u8],
 ) -> Result<Change, ChangeFault>
-    ensures { IsOrdered old.now.marks → spec.IsNewlyNamed old.now.marks declared family.now name.now result }
+    ensures { IsOrdered old.now.marks → spec.IsNewlyNamed old.now declared family.now name.now result }
 {
     if name_at(old.marks.rows, declared) == name {
         unchanged_all(alloc, &old.marks)
@@ -123,7 +123,7 @@ fn changed(
     family: &[u32],
     name: &[u8],
 ) -> Result<Change, ChangeFault>
-    ensures ok { IfOk result (λ change. IsOrdered old.now.marks → spec.IsNewName old.now.marks declared family.now name.now change) }
+    ensures ok { IfOk result (λ change. IsOrdered old.now.marks → spec.IsNewName old.now declared family.now name.now change) }
     ensures fault { IfErr result (λ fault. fault ≡ ChangeFault.OutOfMemory) }
 {
     let rows = named_with(alloc, old, declared, family)?;
