@@ -152,7 +152,7 @@ module _ (p : Rows) (places : Places) (scopes : Scopes) (of : IsProgramOf p plac
   local : IsLocal p
   local = subst IsLocal (sym of.program.rows_are) (each_program_is_local of.program.units of.program.shaped)
 
-  locals_placed : AreLocalsPlaced p
+  pub locals_placed : AreLocalsPlaced p
   locals_placed = subst AreLocalsPlaced (sym of.program.rows_are) (each_program_places_locals of.program.units of.program.shaped)
 
   pub program_in : IsProgramIn p places

@@ -7,3 +7,11 @@ pub mod Confirmed
 pub mod Reached
 pub mod LeftOut
 pub mod Ranked
+pub mod Scanning
+pub mod Opening
+pub mod Looking
+pub mod Importing
+pub mod Joined
+pub mod FirstOnCycle
+pub mod RowByRow
+pub mod Sighted

@@ -1,5 +1,5 @@
 -- When the table of a program is its binding: each row refers to what lookup gives there under the table itself (JLS 6.5).
-use Rattle.std.specs.Prelude.{◌≡◌, ℕ, ◌<◌, Bool, true, false, not, ◌&&◌, ◌||◌, List, Option, ⊤}
+use Rattle.std.specs.Prelude.{◌≡◌, ℕ, ◌<◌, Bool, true, false, not, ◌&&◌, ◌||◌, List, Option}
 use Rattle.jr_tree.specs.declared.label.Label.{Label}
 use Rattle.jr_tree.specs.declared.label.Label.TheVariants as is
 use Rattle.jr_tree.specs.Rows.{Rows, label}
@@ -9,7 +9,7 @@ use Rattle.jr_defs.specs.declared.referent.RowType.{RowType}
 use Rattle.jr_defs.specs.Referents.{Table, entries}
 use Rattle.jr_defs.specs.Constants.{HasConstantForm}
 use Rattle.jr_defs.specs.Declarations.{IsString}
-use Rattle.jr_defs.specs.Binding.{IsBinding}
+use Rattle.jr_defs.specs.Binding.{IsBinding, IsFirstOnCycle}
 use Rattle.jr_defs.specs.Imports.{java_lang}
 use Rattle.jr_defs.specs.Lookup.{Look}
 use Rattle.jr_defs.specs.Packages.{InPackage}
@@ -130,6 +130,7 @@ pub record IsBindingOf (p : Rows) (places : Places) (bound : Bound) : Type 0 whe
   pub binding : IsBindingUnder p (entries bound.table.items) places bound.supers.value bound.members.value bound.constants.value bound.types.items
   pub imports_are : AreImports p (entries bound.table.items) bound.imports.value
 
+-- the binding of the rows, or the first type on a cycle of headers
 abbrev pub IsFoundBinding : Rows → Places → Binding → Type 0
 IsFoundBinding p places (found.Bound bound) = IsBindingOf p places bound.value
-IsFoundBinding p places (found.Cycle first) = ⊤
+IsFoundBinding p places (found.Cycle first) = IsFirstOnCycle p first

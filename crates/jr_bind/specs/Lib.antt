@@ -5,3 +5,4 @@ pub mod Naming
 pub mod Confirmed
 pub mod Rounds
 pub mod Ranked
+pub mod Edges

@@ -1,5 +1,6 @@
 // The binding of a program.
 ghost use Rattle.std.specs.Prelude.{◌≡◌, true, IfOk, OnOk};
+ghost use Rattle.jr_defs.specs.Binding.{IsFirstOnCycle};
 ghost use Rattle.jr_bind.specs.Late.{AreLate};
 ghost use Rattle.jr_bind.specs.Filled.{IsReady, KeepsRest};
 ghost use Rattle.jr_bind.specs.Naming.{FillsNames};
@@ -8,6 +9,7 @@ ghost use Rattle.jr_bind.specs.Confirmed as confirmed;
 
 use crate::boxes::{boxed, imports_none, imports_of, members_of, supers_of};
 use crate::confirming::is_binding;
+use crate::cycles::first_on_cycle;
 use crate::filling::{Filling, Known};
 use crate::headers::{Setting, Settled, settle};
 use crate::stages::{Stage, stages_of};
@@ -205,8 +207,20 @@ fn bind_all(
     }
 }
 
+// The first type on a cycle of headers, where some type is not settled.
+fn cycle_of<'a>(
+    alloc: Global,
+    setting: Setting<'a>,
+    settled: &'a Settled,
+) -> Result<u32, OutOfMemory>
+    ensures { confirmed.IsProgramOf setting.entry.rows.now setting.entry.places.now setting.entry.scopes.now → IfOk result (λ first. IsFirstOnCycle setting.entry.rows.now first) }
+{
+    first_on_cycle(alloc, setting, &settled.table, &settled.ranks)
+}
+
 /// What the occurrences of a program refer to: headers first, then imports, types, other names and calls. Of the rows of a program the table is a binding (`IsBinding`):
-/// each row refers to what lookup gives there under the table itself, and all types are settled; and the other tables are those under it.
+/// each row refers to what lookup gives there under the table itself, and all types are settled; and the other tables are those under it. Where headers lead back to their own type
+/// (JLS 8.1.4, 9.1.3) the answer is the first type on such a cycle (`IsFirstOnCycle`), and there is no binding.
 pub fn bind(
     alloc: Global,
     rows: &[Row],
@@ -222,7 +236,9 @@ pub fn bind(
     };
     let stages = stages_of(alloc, rows)?;
     let mut settled = Settled::new(alloc, setting)?;
-    if let Some(first) = settle(alloc, setting, &mut settled)? {
+    let is_settled = settle(alloc, setting, &mut settled)?;
+    if !is_settled {
+        let first = cycle_of(alloc, setting, &settled)?;
         return Ok(Binding::Cycle(first));
     }
     let bound = boxed(alloc, bind_all(alloc, setting, &stages, settled))?;

@@ -103,7 +103,8 @@ fn may_all_refer(under: Tabled, end: u32) -> bool
     may
 }
 
-fn is_same(one: Referent, other: Referent) -> bool
+/// Both are one.
+pub fn is_same(one: Referent, other: Referent) -> bool
     ensures { Decides result (one ≡ other) }
 {
     one == other

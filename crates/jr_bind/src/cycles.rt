@@ -1,80 +1,99 @@
 // The first type on a cycle of headers (JLS 8.1.4, 9.1.3).
+ghost use Rattle.std.specs.Prelude.{◌≡◌, ◌+◌, ◌<◌, ◌^◌, true, length, IfOk};
+ghost use Rattle.jr_defs.specs.Binding.{IsFirstOnCycle};
+ghost use Rattle.jr_defs.specs.Referents.{entries};
+ghost use Rattle.jr_headed.specs.Founded.{AreWell};
+ghost use Rattle.jr_supers.specs.Supers.{IsWellHeaded, HasNoCycle, AreSupersOf};
+ghost use Rattle.jr_bind.specs.Confirmed as confirmed;
+ghost use Rattle.jr_bind.specs.Edges.{IsWhole};
 
-use crate::headers::{Setting, Settled};
+use crate::boxes::{imports_of, members_of, supers_of};
+use crate::edges::edges_of;
+use crate::headers::Setting;
+use crate::meeting::Ranked;
 use crate::rounds::first_on_round;
 use jr_base::OutOfMemory;
-use jr_places::{Chains, Entry, is_type};
+use jr_defs::Referent;
+use jr_headed::{are_well, has_no_cycle};
+use jr_lookup::{Scopes, Sight};
+use jr_members::World;
+use jr_supers::{Supers, Tabled};
+use jr_tree::Row;
 use std::alloc::Global;
 
-// The types for which a type waits, under that type.
-fn add_edges(
-    alloc: Global,
-    setting: Setting,
-    settled: &mut Settled,
-    edges: &mut Chains,
-    at: u32,
-) -> Result<(), OutOfMemory> {
-    for over in &settled.waits(alloc, setting, at)? {
-        edges.add(
-            alloc,
-            Entry {
-                first: at,
-                second: 0,
-                row: *over,
-            },
-        )?;
+// The first number on a round of edges between types that are not settled.
+fn first_under(alloc: Global, ranked: &Ranked) -> Result<u32, OutOfMemory>
+    ensures { IsWhole ranked.now.sight → IfOk result (λ first. IsFirstOnCycle ranked.now.sight.world.under.rows.now first) }
+{
+    let edges = edges_of(alloc, ranked)?;
+    let found = first_on_round(alloc, &edges, ranked.sight.world.under.rows.len())?;
+    match found {
+        Some(first) => Ok(first),
+        None => Err(OutOfMemory),
     }
-    Ok(())
 }
 
-// The types for which types wait that are not settled.
-fn add_all_edges(
-    alloc: Global,
-    setting: Setting,
-    settled: &mut Settled,
-    edges: &mut Chains,
-) -> Result<(), OutOfMemory> {
-    let Ok(count) = u32::try_from(setting.rows.len()) else {
-        return Err(OutOfMemory);
+// The rows can be counted.
+fn are_countable(rows: &[Row]) -> bool
+    ensures { result ≡ true → AreWell rows.now × (length rows.now + 3 < 2 ^ 32) }
+{
+    let Ok(end) = u32::try_from(rows.len()) else {
+        return false;
     };
-    for at in 0..count {
-        if is_type(setting.rows, at) && !settled.has(at) {
-            add_edges(alloc, setting, settled, edges, at)?;
-        }
+    if end > u32::MAX - 3 {
+        return false;
     }
-    Ok(())
+    are_well(rows)
 }
 
-// The types that are not settled, under those that wait for them.
-fn edges_of(alloc: Global, setting: Setting, settled: &mut Settled) -> Result<Chains, OutOfMemory> {
-    let mut edges = Chains::new(alloc);
-    add_all_edges(alloc, setting, settled, &mut edges)?;
-    Ok(edges)
-}
-
-// Some type is not settled.
-fn has_open(setting: Setting, settled: &Settled) -> Result<bool, OutOfMemory> {
-    let Ok(count) = u32::try_from(setting.rows.len()) else {
-        return Err(OutOfMemory);
-    };
-    for at in 0..count {
-        if is_type(setting.rows, at) && !settled.has(at) {
-            return Ok(true);
-        }
-    }
-    Ok(false)
-}
-
-/// The first type on a cycle of types that are not settled, if there are any.
-pub fn first_on_cycle(
+// The same, with the members and imports under the table.
+fn first_with<'a>(
     alloc: Global,
-    setting: Setting,
-    settled: &mut Settled,
-) -> Result<Option<u32>, OutOfMemory> {
-    if !has_open(setting, settled)? {
-        return Ok(None);
+    under: Tabled<'a>,
+    scopes: &'a Scopes,
+    supers: &'a Supers,
+    ranks: &'a [u32],
+) -> Result<u32, OutOfMemory>
+    ensures { confirmed.IsProgramOf under.entry.rows.now under.entry.places.now scopes.now → AreWell under.entry.rows.now → length under.entry.rows.now + 3 < 2 ^ 32 → HasNoCycle under.entry.rows.now (entries under.entry.table.now) → (IsWellHeaded under.entry.rows.now → AreSupersOf under.entry.rows.now (entries under.entry.table.now) supers.now) → IfOk result (λ first. IsFirstOnCycle under.entry.rows.now first) }
+{
+    let members = members_of(alloc, under, supers)?;
+    let imports = imports_of(alloc, under)?;
+    let world = World {
+        under,
+        supers,
+        members: &members,
+    };
+    let sight = Sight {
+        world,
+        scopes,
+        imports: &imports,
+    };
+    let ranked = Ranked { sight, ranks };
+    first_under(alloc, &ranked)
+}
+
+/// The first type on a cycle of headers (JLS 8.1.4, 9.1.3), by a table that has what lookup under it gives at headers with those of settled types alone, and by how many types were
+/// settled when each was. Where lookup does not confirm the table, and where there is no cycle, the answer is want of memory.
+pub fn first_on_cycle<'a>(
+    alloc: Global,
+    setting: Setting<'a>,
+    table: &'a [Referent],
+    ranks: &'a [u32],
+) -> Result<u32, OutOfMemory>
+    ensures { confirmed.IsProgramOf setting.entry.rows.now setting.entry.places.now setting.entry.scopes.now → IfOk result (λ first. IsFirstOnCycle setting.entry.rows.now first) }
+{
+    if !are_countable(setting.rows) {
+        return Err(OutOfMemory);
     }
-    settled.complete(alloc, setting)?;
-    let edges = edges_of(alloc, setting, settled)?;
-    first_on_round(alloc, &edges, setting.rows.len())
+    let under = Tabled {
+        rows: setting.rows,
+        places: setting.places,
+        table,
+    };
+    let supers = supers_of(alloc, under)?;
+    let is_acyclic = has_no_cycle(alloc, setting.rows, &supers)?;
+    if !is_acyclic {
+        return Err(OutOfMemory);
+    }
+    first_with(alloc, under, setting.scopes, &supers, ranks)
 }

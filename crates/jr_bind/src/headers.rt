@@ -1,7 +1,6 @@
 // What names in headers refer to, by settling one type at a time, and cycles of headers (JLS 8.1.4, 8.1.5, 9.1.3).
 
 use crate::boxes::{boxed, imports_none, members_of_types, put, supers_none};
-use crate::cycles::first_on_cycle;
 use jr_base::OutOfMemory;
 use jr_defs::Referent;
 use jr_lookup::{Candidates, Imports, Scopes, Sight, import_kind};
@@ -89,31 +88,6 @@ fn referent_of(found: &Candidates, kind: NameKind) -> Referent {
         NameKind::PackageOrType => Referent::Package,
         _ => Referent::Unbound,
     })
-}
-
-// Adds more rows.
-fn add_all(all: &mut Vec<u32>, more: &[u32]) -> Result<(), OutOfMemory> {
-    for row in more {
-        all.push(*row)?;
-    }
-    Ok(())
-}
-
-// The imports of a unit that may bring the name, as they rise: without those on demand where the name is found before them.
-fn imports_of(
-    alloc: Global,
-    setting: Setting,
-    unit: u32,
-    name: u32,
-    is_named: bool,
-) -> Result<Vec<u32>, OutOfMemory> {
-    let mut all = setting.scopes.single_imports(alloc, unit, name)?;
-    add_all(&mut all, &setting.scopes.static_imports(alloc, unit, name)?)?;
-    if !is_named {
-        add_all(&mut all, &setting.scopes.imports_on_demand(alloc, unit)?)?;
-    }
-    all.sort_unstable();
-    Ok(all)
 }
 
 // Nothing is looked up of this many rows.
@@ -270,33 +244,6 @@ impl Settled {
         Ok(!named.rows.is_empty())
     }
 
-    // The imports that one identifier is looked for in, as they rise.
-    fn looked_for_in(
-        &self,
-        alloc: Global,
-        setting: Setting,
-        at: u32,
-    ) -> Result<Vec<u32>, OutOfMemory> {
-        if self.is_hidden(alloc, setting, at)? {
-            return Ok(Vec::new(alloc));
-        }
-        let Some(unit) = self.sight(setting).importing_unit(at) else {
-            return Ok(Vec::new(alloc));
-        };
-        let is_named = self.is_named(alloc, setting, at)?;
-        imports_of(alloc, setting, unit, setting.places.name(at), is_named)
-    }
-
-    // The first type that is not settled of those that an import names, or a name in a header by its own identifiers.
-    fn first_unsettled(&self, setting: Setting, name: u32) -> Option<u32> {
-        for at in (name..end_at(setting.rows, name)).rev() {
-            if let Attempt::Waits(over) = self.waits_for(setting, at) {
-                return Some(over);
-            }
-        }
-        None
-    }
-
     // Looks up an identifier of a name in a header.
     fn look_identifier(
         &mut self,
@@ -311,70 +258,29 @@ impl Settled {
         }
     }
 
-    // Looks up the identifiers of a name in a header, from the first on.
-    fn look_name(&mut self, alloc: Global, setting: Setting, name: u32) -> Result<(), OutOfMemory> {
-        for at in (name..end_at(setting.rows, name)).rev() {
-            self.look_identifier(alloc, setting, at)?;
-        }
-        Ok(())
-    }
-
-    // The first type that is not settled of those that these imports name.
-    fn first_of_imports(&self, setting: Setting, imports: &[u32]) -> Option<u32> {
-        for import in imports {
-            if let Some(over) = self.first_unsettled(setting, import.saturating_add(1)) {
-                return Some(over);
-            }
-        }
-        None
-    }
-
-    // The first type that a name in a header meets and that is not settled: of the imports where its first identifier is looked for, and then of
-    // its own identifiers.
-    fn met_by(
-        &mut self,
-        alloc: Global,
-        setting: Setting,
-        name: u32,
-    ) -> Result<Option<u32>, OutOfMemory> {
-        let first = end_at(setting.rows, name).saturating_sub(1);
-        let imports = self.looked_for_in(alloc, setting, first)?;
-        if let Some(over) = self.first_of_imports(setting, &imports) {
-            return Ok(Some(over));
-        }
-        self.look_name(alloc, setting, name)?;
-        Ok(self.first_unsettled(setting, name))
-    }
-
-    /// The types that are not settled and that the header of such a type meets first: its enclosing type, or one for each name.
-    pub fn waits(
+    // Looks up the qualifiers of the names in a header, from the first on.
+    fn look_at_qualifiers(
         &mut self,
         alloc: Global,
         setting: Setting,
         at: u32,
-    ) -> Result<Vec<u32>, OutOfMemory> {
-        let mut all = Vec::new(alloc);
-        if let Some(over) = declaring_type(setting.rows, at) {
-            if !self.passed.types.has(over) {
-                all.push(over)?;
-                return Ok(all);
-            }
-        }
+    ) -> Result<(), OutOfMemory> {
         let mut child = at.saturating_add(1);
         for _turn in 0..setting.rows.len() {
             if !is_in_header(setting.rows, at, child) {
-                return Ok(all);
+                return Ok(());
             }
-            if let Some(over) = self.met_by(alloc, setting, child)? {
-                all.push(over)?;
+            let end = end_at(setting.rows, child);
+            for qualifier in (child.saturating_add(1)..end).rev() {
+                self.look_identifier(alloc, setting, qualifier)?;
             }
-            child = end_at(setting.rows, child);
+            child = end;
         }
-        Ok(all)
+        Ok(())
     }
 
-    /// The type is settled.
-    pub fn has(&self, at: u32) -> bool {
+    // The type is settled.
+    fn has(&self, at: u32) -> bool {
         self.passed.types.has(at)
     }
 
@@ -664,10 +570,37 @@ impl Settled {
         Ok(())
     }
 
-    /// Once all types are settled that can be, lookup is to see the others too, by what they declare; their headers name nothing.
-    pub fn complete(&mut self, alloc: Global, setting: Setting) -> Result<(), OutOfMemory> {
+    // The qualifiers in the headers of types that are not settled.
+    fn look_at_open_headers(&mut self, alloc: Global, setting: Setting) -> Result<(), OutOfMemory> {
+        let Ok(count) = u32::try_from(setting.rows.len()) else {
+            return Err(OutOfMemory);
+        };
+        for at in 0..count {
+            if is_type(setting.rows, at) && !self.has(at) {
+                self.look_at_qualifiers(alloc, setting, at)?;
+            }
+        }
+        Ok(())
+    }
+
+    // Once all types are settled that can be, lookup is to see the others too, by what they declare; their headers name nothing.
+    fn complete(&mut self, alloc: Global, setting: Setting) -> Result<(), OutOfMemory> {
         self.add_open_types(alloc, setting)?;
-        self.look_at_imports(alloc, setting)
+        self.look_at_imports(alloc, setting)?;
+        self.look_at_open_headers(alloc, setting)
+    }
+
+    // All types are settled.
+    fn has_all(&self, setting: Setting) -> bool {
+        let Ok(count) = u32::try_from(setting.rows.len()) else {
+            return false;
+        };
+        for at in 0..count {
+            if is_type(setting.rows, at) && !self.has(at) {
+                return false;
+            }
+        }
+        true
     }
 }
 
@@ -825,15 +758,16 @@ fn waiting_none(alloc: Global, setting: Setting) -> Result<Waiting, OutOfMemory>
     })
 }
 
-/// Settles all types that can be settled behind their enclosing type and all that their headers meet, and gives the first on a cycle, if one is.
-pub fn settle(
-    alloc: Global,
-    setting: Setting,
-    settled: &mut Settled,
-) -> Result<Option<u32>, OutOfMemory> {
+/// Settles all types that can be settled behind their enclosing type and all that their headers meet. Where some are not, the table has what lookup gives at headers with those
+/// of settled types alone.
+pub fn settle(alloc: Global, setting: Setting, settled: &mut Settled) -> Result<bool, OutOfMemory> {
     let mut waiting = waiting_none(alloc, setting)?;
     settle_all(alloc, setting, settled, &mut waiting)?;
     drop(waiting);
     settle_rest(alloc, setting, settled)?;
-    first_on_cycle(alloc, setting, settled)
+    if settled.has_all(setting) {
+        return Ok(true);
+    }
+    settled.complete(alloc, setting)?;
+    Ok(false)
 }

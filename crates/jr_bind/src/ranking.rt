@@ -16,7 +16,8 @@ use jr_supers::{Tabled, header_place};
 use jr_tree::Row;
 use std::alloc::Global;
 
-fn rank_of(ranks: &[u32], at: u32) -> u32
+/// The rank of a type, 0 where it has none.
+pub fn rank_of(ranks: &[u32], at: u32) -> u32
     ensures { result ≡ tell.rank_in ranks.now at }
 {
     match ranks.get(at as usize) {

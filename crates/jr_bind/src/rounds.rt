@@ -111,8 +111,8 @@ fn lower(counts: &mut Vec<usize>, at: u32) -> usize
     less
 }
 
-// The number from which the edge at a place leads.
-fn first_at(edges: &Chains, place: u32) -> u32
+/// The number from which the edge at a place leads.
+pub fn first_at(edges: &Chains, place: u32) -> u32
     ensures { result ≡ (entry_at edges.now place).first }
 {
     match edges.entry(place) {
