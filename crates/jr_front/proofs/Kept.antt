@@ -1,5 +1,5 @@
 -- Where no row breaks an exact rule by its test, none is broken.
-use Rattle.std.proofs.Common.{◌≡◌, ◌⊎◌, refl, sym, ◌∙◌, ap, subst, ⊎_elim, ℕ, ◌≤◌, ◌<◌, Bool, true, false, [], length}
+use Rattle.std.proofs.Common.{◌≡◌, ◌⊎◌, refl, sym, ◌∙◌, ap, subst, ⊎_elim, ℕ, ◌≤◌, ◌<◌, Bool, true, false, ◌||◌, [], length}
 use Rattle.std.proofs.lemmas.Bool.{false≢true, or_cases}
 use Rattle.jr_tree.specs.Local.{IsLocal}
 use Rattle.jr_tree.specs.Rows.{Rows}
@@ -49,11 +49,11 @@ module _ (view : View) (local : IsLocal (rows_in view)) (typable : IsTypable (ro
   declared_kept : (k : ℕ) → all_such (length p) (named.breaks p t k) ≡ [] → {n : ℕ} → Breaks p t k n → ⊥
   declared_kept k is {n} h = none_such (named.breaks p t k) (length p) n is (broken_in_local p t k n local h) ((breaks_tells p t k n typable).1 h)
 
-  -- types inside others and outside
-  types_kept : {n : ℕ} → Breaks p t 2 n → ⊥
-  types_kept {n} h = let lt = broken_in_local p t 2 n local h in
-      ⊎_elim (none_such (has_member_type_clash p) (length p) n none.members.types lt) (none_such (has_top_type_clash p) (length p) n tops lt)
-      (or_cases (has_member_type_clash p n) (has_top_type_clash p n) (sym (types_at p t n) ∙ (breaks_tells p t 2 n typable).1 h))
+  -- a rule that is broken in one of two ways
+  types_kept : (k : ℕ) → ((n : ℕ) → named.breaks p t k n ≡ (has_member_type_clash p n || has_top_type_clash p n)) → {n : ℕ} → Breaks p t k n → ⊥
+  types_kept k ways {n} h = let lt = broken_in_local p t k n local h in
+      ⊎_elim (λ inside. none_such (has_member_type_clash p) (length p) n none.members.types lt inside) (λ outside. none_such (has_top_type_clash p) (length p) n tops lt outside)
+      (or_cases (has_member_type_clash p n) (has_top_type_clash p n) (sym (ways n) ∙ (breaks_tells p t k n typable).1 h))
 
   named_kept : (one : Rule) → of_names.broken_rows view one ≡ [] → {n : ℕ} → Breaks p t (number_of one) n → ⊥
   named_kept one is {n} h = none_such (of_names.is_broken view one) (length p) n is (broken_in_local p t (number_of one) n local h)
@@ -68,10 +68,10 @@ module _ (view : View) (local : IsLocal (rows_in view)) (typable : IsTypable (ro
       (subst (λ (c : Constants). has (typed.broken_at p t c (typed.types p t) n) (number_of one) ≡ true) (sym values_are) ((breaks_types_tells p t typable (number_of one) n).1 h)))
 
   of_names_kept : {rule n : ℕ} → has exact_rules rule ≡ true → Breaks p t rule n → ⊥
-  of_names_kept e (Breaks.two_types h named) = types_kept (Breaks.two_types h named)
-  of_names_kept e (Breaks.two_top_types h k same named lt) = types_kept (Breaks.two_top_types h k same named lt)
-  of_names_kept e (Breaks.type_and_subpackage h k) = types_kept (Breaks.type_and_subpackage h k)
-  of_names_kept e (Breaks.type_in_its_name h k named) = types_kept (Breaks.type_in_its_name h k named)
+  of_names_kept e (Breaks.two_types h named) = types_kept 2 (types_at p t) (Breaks.two_types h named)
+  of_names_kept e (Breaks.two_top_types h k same named lt) = types_kept 2 (types_at p t) (Breaks.two_top_types h k same named lt)
+  of_names_kept e (Breaks.type_and_subpackage h k) = types_kept 2 (types_at p t) (Breaks.type_and_subpackage h k)
+  of_names_kept e (Breaks.type_in_its_name h k named) = types_kept 2 (types_at p t) (Breaks.type_in_its_name h k named)
   of_names_kept e (Breaks.two_fields h named) = declared_kept 3 none.members.fields (Breaks.two_fields h named)
   of_names_kept e (Breaks.two_methods h same) = declared_kept 4 none.members.methods (Breaks.two_methods h same)
   of_names_kept e (Breaks.two_constructors h k lt same) = declared_kept 5 none.members.constructors (Breaks.two_constructors h k lt same)
