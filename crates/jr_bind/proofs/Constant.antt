@@ -40,6 +40,7 @@ pub constants_under : (p : Rows) (t : Table) (found : code.Constants) → AreFor
 constants_under p t found h = record {
   sound = are_constants p t h.picked h.formed found h.at_rest.known;
   whole = λ typable n. values_whole p t h.picked typable found h.at_rest.known h.at_rest.stable h.at_rest.resting n ∙ ap (λ k. plain.constants p t k n) (fun_ext h.formed);
+  formed = h;
 }
 
 module _ (p : Rows) (formed : IsFormed p) (t u : Table) (types : SameTypes p t u) (names : (n : ℕ) → IsNameLabel (label p n) → t n ≡ u n) (found : code.Constants) (h : AreFormed p t found) where
@@ -109,6 +110,7 @@ module _ (p : Rows) (formed : IsFormed p) (t u : Table) (types : SameTypes p t u
   constants_over = record {
     sound = are_constants p u k (λ n. refl) found at_rest_over.known;
     whole = λ typable n. values_whole p u k typable found at_rest_over.known at_rest_over.stable at_rest_over.resting n;
+    formed = record { picked = k; formed = λ n. refl; at_rest = at_rest_over };
   }
 
 -- ---- ints

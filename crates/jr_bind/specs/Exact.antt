@@ -29,16 +29,17 @@ pub record IsProgramIn (p : Rows) (places : Places) : Type 0 where
   pub sized : IsSized p
   pub bare : ObjectIsBare p
 
--- the values are those of constants, and all of them where expressions have one type
-pub record AreConstants (p : Rows) (t : Table) (found : code.Constants) : Type 0 where
-  pub sound : (n : ℕ) (v : Const) → values_of found n ≡ Some v → Constant p t n v
-  pub whole : IsTypable p t → (n : ℕ) → values_of found n ≡ constants p t (has_constant_form p t) n
-
 -- the references that are read as constants are those of the form, and no value is missing
 pub record AreFormed (p : Rows) (t : Table) (found : code.Constants) : Type 0 where
   pub picked : ℕ → Bool
   pub formed : (n : ℕ) → picked n ≡ has_constant_form p t n
   pub at_rest : IsAtRest p t picked found
+
+-- the values are those of constants, and all of them where expressions have one type
+pub record AreConstants (p : Rows) (t : Table) (found : code.Constants) : Type 0 where
+  pub sound : (n : ℕ) (v : Const) → values_of found n ≡ Some v → Constant p t n v
+  pub whole : IsTypable p t → (n : ℕ) → values_of found n ≡ constants p t (has_constant_form p t) n
+  pub formed : AreFormed p t found
 
 -- the supertypes, members, constants and types of expressions under the table
 pub record AreUnder (p : Rows) (t : Table) (places : Places) (supers : Supers) (members : Members) (found : code.Constants) (types : List (Option RowType)) : Type 0 where

@@ -18,6 +18,7 @@ use Rattle.jr_prelude.specs.Begins.{lang_rows, BeginsWithLang}
 use Rattle.jr_prelude.proofs.Begun.{one_string}
 use Rattle.jr_bind.specs.Confirmed.{IsProgramOf, IsBindingOf}
 use Rattle.jr_front.specs.Bound.{rows_in, IsBoundIn}
+use Rattle.jr_front.specs.Tested.{HasNoTopFault, HasNoTopClash}
 use Rattle.jr_front.specs.declared.workspace.Workspace.{Workspace}
 
 module _ (p : Rows) (begins : BeginsWithLang p) where
@@ -76,3 +77,7 @@ bound_in w first second third these those scopes one two three here there names 
     bound : IsProgramOf (rows_in w) w.places.value w.scopes.value → IsBindingOf (rows_in w) w.places.value w.bound.value
     bound = subst (λ r. IsProgramOf r w.places.value w.scopes.value → IsBindingOf r w.places.value w.bound.value) three
         (subst (λ x. IsProgramOf third x w.scopes.value → IsBindingOf third x w.bound.value) there (subst (λ y. IsProgramOf third those y → IsBindingOf third those w.bound.value) names binding))
+
+-- no top-level type has the name of another, by the rows and the places as they are read
+pub placed_names : (w : Workspace) (first : Rows) (places : Places) → first ≡ rows_in w → places ≡ w.places.value → (ArePlaced first places → HasNoTopFault first) → HasNoTopClash w
+placed_names w first places one here none = subst (λ r. ArePlaced r w.places.value → HasNoTopFault r) one (subst (λ x. ArePlaced first x → HasNoTopFault first) here none)

@@ -1,5 +1,7 @@
 -- Where no faults are found, no row breaks an exact rule.
-use Rattle.std.proofs.Common.{◌≡◌, refl, sym, ◌∙◌, ap, ℕ, List, [], ◌∷◌, ◌++◌}
+use Rattle.std.proofs.Common.{◌≡◌, refl, sym, ◌∙◌, ap, ℕ, List, [], ◌∷◌, ◌++◌, length}
+use Rattle.jr_tree.specs.Rows.{Rows}
+use Rattle.jr_plain.specs.Search.{all_such}
 use Rattle.jr_rule.specs.declared.Fault.{Fault}
 use Rattle.jr_rule.specs.declared.Rule.{Rule}
 use Rattle.jr_rule.specs.declared.Rule.TheVariants as rule
@@ -8,8 +10,9 @@ use Rattle.jr_view.specs.declared.View.{View}
 use Rattle.jr_name_faults.specs.Faults as of_names
 use Rattle.jr_name_faults.specs.Views as names
 use Rattle.jr_member_faults.specs.Faults.{AreMemberFaults}
+use Rattle.jr_member_faults.specs.Tops.{has_top_type_clash}
 use Rattle.jr_type_faults.specs.Faults.{IsRightView, AreExactTypeFaults, AreOnlyOf, type_rules}
-use Rattle.jr_front.specs.Tested.{IsTestableView, HasNoNameFault, HasNoMemberFault, HasNoTypeFault, HasNoFault}
+use Rattle.jr_front.specs.Tested.{IsTestableView, HasNoNameFault, HasNoTopFault, HasNoMemberFault, HasNoTypeFault, HasNoFault}
 
 -- of two lists that have nothing together each has nothing
 pub none_first : {A : Type 0} (xs ys : List A) → xs ++ ys ≡ [] → xs ≡ []
@@ -28,11 +31,13 @@ none_before : {old new : List Fault} (one : Rule) → AreFaultsOf one [] old new
 none_before {old} one h none = none_first (rows_of one old) [] (sym h.are ∙ none)
 
 pub no_names : {old new : List Fault} (view : View) → (names.IsPlacedView view → of_names.AreExactFaults view rule.LocalNames old new) → (names.IsPlacedView view → of_names.AreExactFaults view rule.Labels old new)
-    → (names.IsSeenView view → of_names.AreExactFaults view rule.Access old new) → (names.IsPlacedView view → of_names.AreExactFaults view rule.ImportNames old new) → IsTestableView view → new ≡ [] → HasNoNameFault view
-no_names view locals labels access imports testable none = record {
+    → (names.IsSeenView view → of_names.AreExactFaults view rule.Access old new) → (names.IsPlacedView view → of_names.AreExactFaults view rule.ImportNames old new)
+    → (names.IsPlacedView view → of_names.AreExactFaults view rule.ImportedTypes old new) → IsTestableView view → new ≡ [] → HasNoNameFault view
+no_names view locals labels access imports types testable none = record {
   local_names = none_added rule.LocalNames (locals testable.placed) (ap (rows_of rule.LocalNames) none);
   labels = none_added rule.Labels (labels testable.placed) (ap (rows_of rule.Labels) none);
   import_names = none_added rule.ImportNames (imports testable.placed) (ap (rows_of rule.ImportNames) none);
+  imported_types = none_added rule.ImportedTypes (types testable.placed) (ap (rows_of rule.ImportedTypes) none);
   access = none_added rule.Access (access testable.seen) (ap (rows_of rule.Access) none);
 }
 
@@ -40,11 +45,19 @@ no_names view locals labels access imports testable none = record {
 pub no_members : {old mid new : List Fault} (view : View) → AreMemberFaults view old mid → AreOnlyOf type_rules mid new → IsTestableView view → new ≡ [] → HasNoMemberFault view
 no_members {new = new} view members only testable none = record {
   bodies = none_added rule.Bodies members.bodies (none_before rule.Bodies (only.others rule.Bodies refl) (ap (rows_of rule.Bodies) none));
+  statics = none_added rule.InnerStatics (members.statics testable.valued) (none_before rule.InnerStatics (only.others rule.InnerStatics refl) (ap (rows_of rule.InnerStatics) none));
   supertypes = none_added rule.Supertypes members.supertypes (none_before rule.Supertypes (only.others rule.Supertypes refl) (ap (rows_of rule.Supertypes) none));
   fields = none_added rule.FieldNames (members.fields testable.named) (none_before rule.FieldNames (only.others rule.FieldNames refl) (ap (rows_of rule.FieldNames) none));
   methods = none_added rule.MethodSignatures (members.methods testable.named testable.signed)
       (none_before rule.MethodSignatures (only.others rule.MethodSignatures refl) (ap (rows_of rule.MethodSignatures) none));
+  constructors = none_added rule.ConstructorSignatures (members.constructors testable.signed)
+      (none_before rule.ConstructorSignatures (only.others rule.ConstructorSignatures refl) (ap (rows_of rule.ConstructorSignatures) none));
+  types = none_added rule.TypeNames (members.types testable.named) (none_before rule.TypeNames (only.others rule.TypeNames refl) (ap (rows_of rule.TypeNames) none));
 }
+
+-- types outside any other
+pub no_tops : (p : Rows) (old new : List Fault) → AreFaultsOf rule.TypeNames (all_such (length p) (has_top_type_clash p)) old new → new ≡ [] → HasNoTopFault p
+no_tops p old new h none = none_added rule.TypeNames h (ap (rows_of rule.TypeNames) none)
 
 pub no_types : {mid new : List Fault} (view : View) → (IsRightView view → AreExactTypeFaults view mid new) → IsTestableView view → new ≡ [] → HasNoTypeFault view
 no_types view exact testable none = let told = exact testable.right in record { each = λ one e. none_added one (told.each one e) (ap (rows_of one) none) }

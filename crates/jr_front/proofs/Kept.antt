@@ -1,6 +1,6 @@
 -- Where no row breaks an exact rule by its test, none is broken.
-use Rattle.std.proofs.Common.{◌≡◌, ◌⊎◌, refl, sym, ◌∙◌, ap, subst, ⊎_elim, ℕ, ◌≤◌, ◌<◌, Bool, true, false, [], length}
-use Rattle.std.proofs.lemmas.Bool.{false≢true}
+use Rattle.std.proofs.Common.{◌≡◌, ◌⊎◌, refl, sym, ◌∙◌, ap, subst, ⊎_elim, ℕ, ◌≤◌, ◌<◌, Bool, true, false, ◌||◌, [], length}
+use Rattle.std.proofs.lemmas.Bool.{false≢true, or_cases}
 use Rattle.jr_tree.specs.Local.{IsLocal}
 use Rattle.jr_tree.specs.Rows.{Rows}
 use Rattle.jr_defs.specs.declared.referent.Referent.TheVariants.{Unbound}
@@ -26,17 +26,20 @@ use Rattle.jr_rules.proofs.AllRules.{breaks_types_tells}
 use Rattle.jr_rules.proofs.Bounded as of_types
 use Rattle.jr_view.specs.declared.View.{View}
 use Rattle.jr_name_faults.specs.Faults as of_names
+use Rattle.jr_member_faults.specs.Faults.{has_member_type_clash}
+use Rattle.jr_member_faults.specs.Tops.{has_top_type_clash}
+use Rattle.jr_member_faults.proofs.Told.{types_at}
 use Rattle.jr_type_facts.specs.Views.{rows_in, table_in, types_in, constants_in}
 use Rattle.jr_type_faults.specs.Faults.{is_exact, is_broken}
 use Rattle.jr_front.specs.Compiling.{exact_rules, BreaksExact}
-use Rattle.jr_front.specs.Tested.{HasNoFault}
+use Rattle.jr_front.specs.Tested.{HasNoTopFault, HasNoFault}
 
 -- a row that passes is listed
 none_such : (test : ℕ → Bool) (n k : ℕ) → all_such n test ≡ [] → k < n → test k ≡ true → ⊥
 none_such test n k none lt is = false≢true (ap (λ rows. has rows k) (sym none) ∙ (such test n k).1 (lt, is))
 
 module _ (view : View) (local : IsLocal (rows_in view)) (typable : IsTypable (rows_in view) (table_in view)) (past : (o : ℕ) → length (rows_in view) ≤ o → table_in view o ≡ Unbound)
-    (values_are : constants_in view ≡ typed.values (rows_in view) (table_in view)) (types_are : types_in view ≡ typed.types (rows_in view) (table_in view)) (none : HasNoFault view) where
+    (values_are : constants_in view ≡ typed.values (rows_in view) (table_in view)) (types_are : types_in view ≡ typed.types (rows_in view) (table_in view)) (tops : HasNoTopFault (rows_in view)) (none : HasNoFault view) where
   abbrev p : Rows
   p = rows_in view
 
@@ -45,6 +48,12 @@ module _ (view : View) (local : IsLocal (rows_in view)) (typable : IsTypable (ro
 
   declared_kept : (k : ℕ) → all_such (length p) (named.breaks p t k) ≡ [] → {n : ℕ} → Breaks p t k n → ⊥
   declared_kept k is {n} h = none_such (named.breaks p t k) (length p) n is (broken_in_local p t k n local h) ((breaks_tells p t k n typable).1 h)
+
+  -- a rule that is broken in one of two ways
+  types_kept : (k : ℕ) → ((n : ℕ) → named.breaks p t k n ≡ (has_member_type_clash p n || has_top_type_clash p n)) → {n : ℕ} → Breaks p t k n → ⊥
+  types_kept k ways {n} h = let lt = broken_in_local p t k n local h in
+      ⊎_elim (λ inside. none_such (has_member_type_clash p) (length p) n none.members.types lt inside) (λ outside. none_such (has_top_type_clash p) (length p) n tops lt outside)
+      (or_cases (has_member_type_clash p n) (has_top_type_clash p n) (sym (ways n) ∙ (breaks_tells p t k n typable).1 h))
 
   named_kept : (one : Rule) → of_names.broken_rows view one ≡ [] → {n : ℕ} → Breaks p t (number_of one) n → ⊥
   named_kept one is {n} h = none_such (of_names.is_broken view one) (length p) n is (broken_in_local p t (number_of one) n local h)
@@ -59,13 +68,13 @@ module _ (view : View) (local : IsLocal (rows_in view)) (typable : IsTypable (ro
       (subst (λ (c : Constants). has (typed.broken_at p t c (typed.types p t) n) (number_of one) ≡ true) (sym values_are) ((breaks_types_tells p t typable (number_of one) n).1 h)))
 
   of_names_kept : {rule n : ℕ} → has exact_rules rule ≡ true → Breaks p t rule n → ⊥
-  of_names_kept e (Breaks.two_types h named) = false≢true e
-  of_names_kept e (Breaks.two_top_types h k same named lt) = false≢true e
-  of_names_kept e (Breaks.type_and_subpackage h k) = false≢true e
-  of_names_kept e (Breaks.type_in_its_name h k named) = false≢true e
+  of_names_kept e (Breaks.two_types h named) = types_kept 2 (types_at p t) (Breaks.two_types h named)
+  of_names_kept e (Breaks.two_top_types h k same named lt) = types_kept 2 (types_at p t) (Breaks.two_top_types h k same named lt)
+  of_names_kept e (Breaks.type_and_subpackage h k) = types_kept 2 (types_at p t) (Breaks.type_and_subpackage h k)
+  of_names_kept e (Breaks.type_in_its_name h k named) = types_kept 2 (types_at p t) (Breaks.type_in_its_name h k named)
   of_names_kept e (Breaks.two_fields h named) = declared_kept 3 none.members.fields (Breaks.two_fields h named)
   of_names_kept e (Breaks.two_methods h same) = declared_kept 4 none.members.methods (Breaks.two_methods h same)
-  of_names_kept e (Breaks.two_constructors h k lt same) = false≢true e
+  of_names_kept e (Breaks.two_constructors h k lt same) = declared_kept 5 none.members.constructors (Breaks.two_constructors h k lt same)
   of_names_kept e (Breaks.local_in_local variable h r named) = named_kept rule.LocalNames none.names.local_names (Breaks.local_in_local variable h r named)
   of_names_kept e (Breaks.parameter_in_local h r named) = named_kept rule.LocalNames none.names.local_names (Breaks.parameter_in_local h r named)
   of_names_kept e (Breaks.in_parameter h r named) = named_kept rule.LocalNames none.names.local_names (Breaks.in_parameter h r named)
@@ -73,7 +82,7 @@ module _ (view : View) (local : IsLocal (rows_in view)) (typable : IsTypable (ro
   of_names_kept e (Breaks.label_in_label h r named) = named_kept rule.Labels none.names.labels (Breaks.label_in_label h r named)
   of_names_kept e (Breaks.two_imports h k lt named apart) = named_kept rule.ImportNames none.names.import_names (Breaks.two_imports h k lt named apart)
   of_names_kept e (Breaks.import_and_type h top named apart) = named_kept rule.ImportNames none.names.import_names (Breaks.import_and_type h top named apart)
-  of_names_kept e (Breaks.import_not_canonical h names other) = false≢true e
+  of_names_kept e (Breaks.import_not_canonical h names other) = named_kept rule.ImportedTypes none.names.imported_types (Breaks.import_not_canonical h names other)
   of_names_kept e (Breaks.not_accessible occurs is h hidden) = named_kept rule.Access none.names.access (Breaks.not_accessible occurs is h hidden)
   of_names_kept e (Breaks.of_hidden_type occurs h) = named_kept rule.Access none.names.access (Breaks.of_hidden_type occurs h)
   of_names_kept e (Breaks.final_superclass h is k) = declared_kept 13 none.members.supertypes (Breaks.final_superclass h is k)
@@ -106,8 +115,8 @@ module _ (view : View) (local : IsLocal (rows_in view)) (typable : IsTypable (ro
   of_members_kept e (BreaksMembers.constructor_in_interface h a) = member_kept 20 none.members.bodies (BreaksMembers.constructor_in_interface h a)
   of_members_kept e (BreaksMembers.initializer_in_interface h a is i) = member_kept 20 none.members.bodies (BreaksMembers.initializer_in_interface h a is i)
   of_members_kept e (BreaksMembers.field_not_initialized is h a) = member_kept 20 none.members.bodies (BreaksMembers.field_not_initialized is h a)
-  of_members_kept e (BreaksMembers.static_in_inner h i s a) = false≢true e
-  of_members_kept e (BreaksMembers.static_initializer_in_inner h i is l) = false≢true e
+  of_members_kept e (BreaksMembers.static_in_inner h i s a) = member_kept 21 none.members.statics (BreaksMembers.static_in_inner h i s a)
+  of_members_kept e (BreaksMembers.static_initializer_in_inner h i is l) = member_kept 21 none.members.statics (BreaksMembers.static_initializer_in_inner h i is l)
 
   of_types_kept : {rule n : ℕ} → has exact_rules rule ≡ true → BreaksTypes p t rule n → ⊥
   of_types_kept e (BreaksTypes.lacks_object h) = type_kept rule.StaticContext refl (BreaksTypes.lacks_object h)

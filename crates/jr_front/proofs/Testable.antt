@@ -8,6 +8,7 @@ use Rattle.jr_defs.specs.declared.referent.RowType.{RowType}
 use Rattle.jr_defs.specs.Compiling.{AllFound}
 use Rattle.jr_defs.specs.Constants.{HasConstantForm}
 use Rattle.jr_defs.specs.Referents.{Table, entries}
+use Rattle.jr_plain.specs.Constants.{variable_value}
 use Rattle.jr_plain.specs.Conversions.{Constants}
 use Rattle.jr_plain.specs.Overloads.{Types}
 use Rattle.jr_plain.specs.Typing.{IsTypable, expression_types}
@@ -16,16 +17,17 @@ use Rattle.jr_plain.proofs.Typables.{typable_from_lookup}
 use Rattle.jr_rules.specs.Computed.{values, types}
 use Rattle.jr_bound.proofs.Ruled.{bound_past}
 use Rattle.jr_dispatch.proofs.Having.{above_then}
-use Rattle.jr_constants.specs.Resting.{values_of}
+use Rattle.jr_constants.specs.Resting.{values_of, variables_of}
 use Rattle.jr_bind.proofs.Confirmed.{program_in}
 use Rattle.jr_prelude.specs.Begins.{BeginsWithLang}
 use Rattle.jr_prelude.proofs.Begun.{once}
+use Rattle.jr_member_faults.proofs.Values.{variables_same}
 use Rattle.jr_type_facts.specs.Tables.{HasNoOtherThrowable}
 use Rattle.jr_type_facts.specs.Views.{rows_in as rows_of, table_in as table_of, types_in, constants_in}
 use Rattle.jr_view.specs.declared.View.{View}
 use Rattle.jr_front.specs.Bound.{rows_in, table_in, IsBoundIn}
 use Rattle.jr_front.specs.Compiling.{BreaksExact, KeepsExact}
-use Rattle.jr_front.specs.Tested.{IsTestableView, HasNoFault}
+use Rattle.jr_front.specs.Tested.{IsTestableView, HasNoTopFault, HasNoTopClash, HasNoFault}
 use Rattle.jr_front.specs.Viewed.{IsViewOf}
 use Rattle.jr_front.specs.declared.workspace.Workspace.{Workspace}
 use Rattle.jr_front.proofs.Kept.{none_broken}
@@ -54,6 +56,9 @@ module _ (w : Workspace) (bound : IsBoundIn w) where
   types_are : types_by w.bound.value.types.items ≡ types p t
   types_are = fun_ext bound.binding.binding.under.types_are ∙ ap (λ (c : Constants). expression_types p t c) values_are
 
+  variables_are : (d : ℕ) → variables_of w.bound.value.constants.value d ≡ variable_value p t (values p t) d
+  variables_are d = let formed = bound.binding.binding.under.constants_are.formed in variables_same p t formed.picked formed.formed typable w.bound.value.constants.value formed.at_rest d
+
   past : (o : ℕ) → length p ≤ o → t o ≡ Unbound
   past = bound_past p t bound.binding.binding.is_binding
 
@@ -73,6 +78,9 @@ module _ (w : Workspace) (view : View) (bound : IsBoundIn w) (of : IsViewOf (row
   view_types : types_in view ≡ types (rows_of view) (table_of view)
   view_types = ap (types_by w bound) of.types_are ∙ seen_so (λ r x. types_by w bound w.bound.value.types.items ≡ types r x) (types_are w bound)
 
+  view_variables : (d : ℕ) → variables_of view.constants.now d ≡ variable_value (rows_of view) (table_of view) (values (rows_of view) (table_of view)) d
+  view_variables d = ap (λ found. variables_of found d) of.constants_are ∙ seen_so (λ r x. variables_of w.bound.value.constants.value d ≡ variable_value r x (values r x) d) (variables_are w bound d)
+
   module _ (begins : BeginsWithLang (rows_in w)) where
     one_throwable : HasNoOtherThrowable (rows_in w)
     one_throwable c d h k = once (rows_in w) begins (codes "Throwable") c d ((prelude_tells (rows_in w) (codes "Throwable") c).0 h) ((prelude_tells (rows_in w) (codes "Throwable") d).0 k)
@@ -86,18 +94,20 @@ module _ (w : Workspace) (view : View) (bound : IsBoundIn w) (of : IsViewOf (row
           seen = record { few = right.sized.few; seen = right.seen };
           named = right.seen.placed.are;
           signed = (whole_view w view bound of).world_is.members_are.signatures_are;
+          valued = view_variables;
         }
 
-    pub kept_view : AllFound (rows_of view) (table_of view) → (IsTestableView view → HasNoFault view) → KeepsExact (rows_in w) (table_in w)
-    kept_view found none = record {
+    pub kept_view : AllFound (rows_of view) (table_of view) → HasNoTopClash w → (IsTestableView view → HasNoFault view) → KeepsExact (rows_in w) (table_in w)
+    kept_view found tops none = record {
       binding = bound.binding.binding.is_binding;
       found = told_so AllFound found;
       kept = told_so (λ r x. (rule place : ℕ) → BreaksExact r x rule place → ⊥)
-          (none_broken view (seen_view w view bound of).seen.placed.local (seen_so IsTypable (typable w bound)) (seen_so (λ r x. (o : ℕ) → length r ≤ o → x o ≡ Unbound) (past w bound)) view_values view_types (none testable_view));
+          (none_broken view (seen_view w view bound of).seen.placed.local (seen_so IsTypable (typable w bound)) (seen_so (λ r x. (o : ℕ) → length r ≤ o → x o ≡ Unbound) (past w bound)) view_values view_types
+          (subst HasNoTopFault (sym of.rows_are) (tops bound.binding.binding.under.seen.placed)) (none testable_view));
     }
 
 -- the same, as the rows and the places of the program are read
 pub kept_so : (w : Workspace) (view : View) (marked rows : Rows) → IsViewOf (rows_in w) w.places.value w.scopes.value w.bound.value view → marked ≡ rows_in w → AllFound marked (table_of view)
-    → (IsTestableView view → HasNoFault view) → rows_in w ≡ rows → (BeginsWithLang rows → IsBoundIn w) → BeginsWithLang rows → KeepsExact (rows_in w) (table_in w)
-kept_so w view marked rows of same found none are bound begins =
-    kept_view w view (bound begins) of (subst BeginsWithLang (sym are) begins) (subst (λ r. AllFound r (table_of view)) (same ∙ sym of.rows_are) found) none
+    → HasNoTopClash w → (IsTestableView view → HasNoFault view) → rows_in w ≡ rows → (BeginsWithLang rows → IsBoundIn w) → BeginsWithLang rows → KeepsExact (rows_in w) (table_in w)
+kept_so w view marked rows of same found tops none are bound begins =
+    kept_view w view (bound begins) of (subst BeginsWithLang (sym are) begins) (subst (λ r. AllFound r (table_of view)) (same ∙ sym of.rows_are) found) tops none

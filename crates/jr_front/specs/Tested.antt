@@ -1,24 +1,31 @@
 -- What the exact rules ask of a view, and that their tests pass at no row.
 use Rattle.std.specs.Prelude.{◌≡◌, ℕ, true, List, [], length}
+use Rattle.jr_tree.specs.Rows.{Rows}
 use Rattle.jr_plain.specs.Search.{all_such}
 use Rattle.jr_rule.specs.declared.Rule.{Rule}
 use Rattle.jr_rule.specs.declared.Rule.TheVariants as rule
 use Rattle.jr_rule.specs.Numbers.{number_of}
 use Rattle.jr_name_rules.specs.Computed.{breaks}
 use Rattle.jr_member_rules.specs.Computed.{breaks_members}
+use Rattle.jr_members.specs.Sources.{ArePlaced}
 use Rattle.jr_view.specs.declared.View.{View}
 use Rattle.jr_name_faults.specs.Faults as of_names
 use Rattle.jr_name_faults.specs.Views as names
-use Rattle.jr_member_faults.specs.Views.{rows_in, table_in, IsNamedWorld, IsSignedWorld}
+use Rattle.jr_member_faults.specs.Faults.{has_member_type_clash}
+use Rattle.jr_member_faults.specs.Tops.{has_top_type_clash}
+use Rattle.jr_member_faults.specs.Views.{rows_in, table_in, IsNamedWorld, IsSignedWorld, IsValuedView}
 use Rattle.jr_type_faults.specs.Faults.{IsRightView, is_exact, broken_rows}
+use Rattle.jr_front.specs.Bound.{rows_in as program_rows}
+use Rattle.jr_front.specs.declared.workspace.Workspace.{Workspace}
 
--- the places, supertypes and signatures of the view are right
+-- the places, supertypes, signatures and values of variables of the view are right
 pub record IsTestableView (view : View) : Type 0 where
   pub right : IsRightView view
   pub placed : names.IsPlacedView view
   pub seen : names.IsSeenView view
   pub named : IsNamedWorld view.sight.world
   pub signed : IsSignedWorld view.sight.world
+  pub valued : IsValuedView view
 
 -- the rows at which a rule on members is broken, and those of a rule on declarations and headers
 abbrev pub member_rows : View → Rule → List ℕ
@@ -32,14 +39,26 @@ pub record HasNoNameFault (view : View) : Type 0 where
   pub local_names : of_names.broken_rows view rule.LocalNames ≡ []
   pub labels : of_names.broken_rows view rule.Labels ≡ []
   pub import_names : of_names.broken_rows view rule.ImportNames ≡ []
+  pub imported_types : of_names.broken_rows view rule.ImportedTypes ≡ []
   pub access : of_names.broken_rows view rule.Access ≡ []
+
+-- no type outside any other has the name of one before it in its package, or of a subpackage
+abbrev pub HasNoTopFault : Rows → Type 0
+HasNoTopFault p = all_such (length p) (has_top_type_clash p) ≡ []
+
+-- the same of a program whose rows have their places
+abbrev pub HasNoTopClash : Workspace → Type 0
+HasNoTopClash w = ArePlaced (program_rows w) w.places.value → HasNoTopFault (program_rows w)
 
 -- on members
 pub record HasNoMemberFault (view : View) : Type 0 where
   pub bodies : member_rows view rule.Bodies ≡ []
+  pub statics : member_rows view rule.InnerStatics ≡ []
   pub supertypes : declaration_rows view rule.Supertypes ≡ []
   pub fields : declaration_rows view rule.FieldNames ≡ []
   pub methods : declaration_rows view rule.MethodSignatures ≡ []
+  pub constructors : declaration_rows view rule.ConstructorSignatures ≡ []
+  pub types : all_such (length (rows_in view)) (has_member_type_clash (rows_in view)) ≡ []
 
 -- on types
 pub record HasNoTypeFault (view : View) : Type 0 where

@@ -15,7 +15,7 @@ ghost use Rattle.jr_prelude.specs.Begins.{BeginsWithLang};
 ghost use Rattle.jr_front.specs.Bound.{IsBoundIn, rows_in, table_in};
 ghost use Rattle.jr_front.specs.Checking.{CheckedAs, IsOfPrograms, forgotten};
 ghost use Rattle.jr_front.specs.Compiling.{KeepsExact, CompilesExactly};
-ghost use Rattle.jr_front.specs.Tested.{IsTestableView, HasNoNameFault, HasNoMemberFault, HasNoTypeFault, HasNoFault};
+ghost use Rattle.jr_front.specs.Tested.{IsTestableView, HasNoNameFault, HasNoTopFault, HasNoTopClash, HasNoMemberFault, HasNoTypeFault, HasNoFault};
 
 use crate::broken::first_broken;
 use crate::fault::{FrontFault, unread};
@@ -93,12 +93,26 @@ fn faults_of(alloc: Global, marks: &Marks, view: &View) -> Result<Vec<Fault>, Ou
     Ok(faults)
 }
 
-// That no two top-level types have one name, and none that of a package (JLS 7.1, 7.6).
-fn judge_names(alloc: Global, marks: &Marks, places: &Places) -> Result<(), FrontFault>
-    ensures { IfErr result IsOfPrograms }
+// The top-level types that have the name of another in their package, or of a subpackage.
+fn name_clashes(alloc: Global, rows: &[Row], places: &Places) -> Result<Vec<Fault>, OutOfMemory>
+    ensures { ArePlaced rows.now places.now → IfOk result (λ faults. faults.items ≡ [] → HasNoTopFault rows.now) }
 {
     let mut faults = Vec::new(alloc);
-    top_type_faults(alloc, marks.rows, places, &mut faults)?;
+    top_type_faults(alloc, rows, places, &mut faults)?;
+    Ok(faults)
+}
+
+// That no two top-level types have one name, and none that of a package (JLS 7.1, 7.6).
+fn judge_names(
+    alloc: Global,
+    rows: &[Row],
+    marks: &Marks,
+    places: &Places,
+) -> Result<(), FrontFault>
+    ensures names { ArePlaced rows.now places.now → OnOk result (HasNoTopFault rows.now) }
+    ensures err { IfErr result IsOfPrograms }
+{
+    let faults = name_clashes(alloc, rows, places)?;
     match first_broken(&faults, marks) {
         Some((_, place)) => Err(FrontFault::Duplicate(place)),
         None => Ok(()),
@@ -152,10 +166,11 @@ fn judge_paths(program: &Program) -> Result<(), FrontFault>
 // The places of rows, where no top-level type has the name of another.
 fn places_of(alloc: Global, rows: &[Row], marks: &Marks) -> Result<Box<Places>, FrontFault>
     ensures tables { IfOk result (λ places. ArePlaces rows.now places.value) }
+    ensures names { IfOk result (λ places. ArePlaced rows.now places.value → HasNoTopFault rows.now) }
     ensures err { IfErr result IsOfPrograms }
 {
     let places = boxed(alloc, Places::of(alloc, rows))?;
-    judge_names(alloc, marks, &places)?;
+    judge_names(alloc, rows, marks, &places)?;
     Ok(places)
 }
 
@@ -193,6 +208,7 @@ fn bound_program(
     ensures same { IfOk result (λ workspace. workspace.program ≡ program) }
     ensures rows { IfOk result (λ workspace. workspace.index.value ≡ index.value) }
     ensures bound { IsProgram index.value → BeginsWithLang index.value → IfOk result IsBoundIn }
+    ensures names { IfOk result HasNoTopClash }
     ensures err { IfErr result IsOfPrograms }
 {
     let places = places_of(alloc, index.rows(), &Marks::of(&program, &index))?;
@@ -214,6 +230,7 @@ fn tables_of(alloc: Global, program: Program) -> Result<Workspace, FrontFault>
     ensures same { IfOk result (λ workspace. workspace.program ≡ program) }
     ensures rows { IfOk result (λ workspace. workspace.index.value ≡ rows_of program) }
     ensures bound { BeginsWithLang (rows_of program) → IfOk result IsBoundIn }
+    ensures names { IfOk result HasNoTopClash }
     ensures err { IfErr result IsOfPrograms }
 {
     let index = index_of(alloc, &program)?;

@@ -1,9 +1,10 @@
 mod Valued
-mod Values
+pub mod Values
 mod Headed
 mod Doubled
 mod Passed
-mod Told
+pub mod Told
 mod Constructed
 mod Inside
 mod Tables
+mod Topped

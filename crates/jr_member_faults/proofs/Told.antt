@@ -16,7 +16,7 @@ use Rattle.jr_rule.specs.declared.Rule.TheVariants as rule
 use Rattle.jr_rule.specs.Faults.{AreFaultsOf}
 use Rattle.jr_name_rules.specs.AccessTests.{is_not_accessible}
 use Rattle.jr_name_rules.specs.Found.{is_next}
-use Rattle.jr_name_rules.specs.DeclarationTests.{has_type_clash, is_second_field, is_second_method, is_second_constructor, is_second_local, is_second_label, is_inside_its_name}
+use Rattle.jr_name_rules.specs.DeclarationTests.{has_type_clash, is_second_field, is_second_method, is_second_constructor, is_second_local, is_second_label, is_inside_its_name, is_second_type, is_second_top_type, is_named_as_package}
 use Rattle.jr_name_rules.specs.ImportTests.{has_import_clash, is_import_not_canonical, has_static_import_fault}
 use Rattle.jr_name_rules.specs.HeaderTests.{has_wrong_supertype}
 use Rattle.jr_name_rules.specs.Computed.{types, breaks}
@@ -32,6 +32,7 @@ use Rattle.jr_member_faults.specs.declared.headers.Headers as heading
 use Rattle.jr_member_faults.specs.Views.{rows_in, table_in, IsNamedWorld, IsSignedWorld, IsValuedView}
 use Rattle.jr_member_faults.specs.Faults.{is_of_members, second_rule, is_second_as, is_type_clash, has_member_type_clash, is_of_declared, is_of_methods, is_on_members, AreMemberFaultsOn, AreMemberFaults}
 use Rattle.jr_member_faults.specs.Headers.{AreHeadersTo}
+use Rattle.jr_member_faults.specs.Tops.{has_top_type_clash}
 use Rattle.jr_member_faults.specs.Twice.{AreDeclaredTo}
 use Rattle.jr_member_faults.proofs.Passed.{bodies_none, statics_none, fields_none, methods_none, constructors_none, types_none, supertypes_none}
 
@@ -305,6 +306,9 @@ module _ (a b c d e f g h i j k : Bool) where
   no_header : (r : ℕ) → nat_eq 13 r ≡ false → nat_eq 47 r ≡ false → has n13 r ≡ false
   no_header r o p = past j 13 r (listed k 47) o ∙ last k 47 r p
 
+  second : has n2 2 ≡ a
+  second = met a 2 2 n3 refl (past b 3 2 n4 refl ∙ past c 4 2 n5 refl ∙ past d 5 2 n6 refl ∙ from_locals 2 refl refl refl refl refl ∙ no_header 2 refl refl)
+
   third : has n2 3 ≡ b
   third = past a 2 3 n3 refl ∙ met b 3 3 n4 refl (past c 4 3 n5 refl ∙ past d 5 3 n6 refl ∙ from_locals 3 refl refl refl refl refl ∙ no_header 3 refl refl)
 
@@ -323,6 +327,25 @@ module _ (p : Rows) (t : Table) (n : ℕ) where
 
   statics_at : is_static_there p t (values p t) n ≡ breaks_members p t 21 n
   statics_at = sym (twenty_first (leaves_methods p t n) (results_do_not_fit p t (overriding p t) n) (access_is_narrowed p t (overriding p t) n) (methods_are_mixed p t (overriding p t) n) (is_over_final p t (overriding p t) n) (more_is_thrown p t (overriding p t) n) (stands_wrong p n) (is_static_there p t (values p t) n))
+
+  -- rule 2 inside types and outside any other
+  pub types_at : breaks p t 2 n ≡ (has_member_type_clash p n || has_top_type_clash p n)
+  types_at = second (has_type_clash p n) (is_second_field p n) (is_second_method p t n) (is_second_constructor p t n) (is_second_local p n) (is_second_label p n) (is_next (has_import_clash p t) n) (is_next (is_import_not_canonical p t) n) (is_not_accessible p t (types p t) n) (has_wrong_supertype p t n) (has_static_import_fault p t n)
+      ∙ both_ways (is_second_type p n) (is_second_top_type p n) (is_named_as_package p n) (is_inside_its_name p n)
+    where
+      both_ways : (a b c d : Bool) → (a || (b || (c || d))) ≡ ((a || d) || (b || c))
+      both_ways true b c d = refl
+      both_ways false b c true = by b c
+        where
+          by : (b c : Bool) → (b || (c || true)) ≡ true
+          by true c = refl
+          by false true = refl
+          by false false = refl
+      both_ways false b c false = ap (λ z. b || z) (by c)
+        where
+          by : (c : Bool) → (c || false) ≡ c
+          by true = refl
+          by false = refl
 
   fields_at : is_second_field p n ≡ breaks p t 3 n
   fields_at = sym (third (has_type_clash p n) (is_second_field p n) (is_second_method p t n) (is_second_constructor p t n) (is_second_local p n) (is_second_label p n) (is_next (has_import_clash p t) n) (is_next (is_import_not_canonical p t) n) (is_not_accessible p t (types p t) n) (has_wrong_supertype p t n) (has_static_import_fault p t n))

@@ -40,7 +40,8 @@ fn superinterface_entry(
     }
 }
 
-fn add_entry(alloc: Global, all: &mut Chains, entry: Option<Entry>) -> Result<(), OutOfMemory>
+/// Adds an entry, if there is one.
+pub fn add_entry(alloc: Global, all: &mut Chains, entry: Option<Entry>) -> Result<(), OutOfMemory>
     ensures { OnOk result (all.new ≡ all.old ++ entry_list entry) }
 {
     match entry {

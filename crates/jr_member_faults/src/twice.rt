@@ -113,8 +113,8 @@ fn member_entry(world: &World, at: u32) -> Option<Entry>
     entry_under(first, second, at)
 }
 
-// Something stands under the key.
-fn is_listed(all: &Chains, entry: Entry) -> bool
+/// Something stands under the key.
+pub fn is_listed(all: &Chains, entry: Entry) -> bool
     ensures { result ≡ keyed.is_listed all.now entry.first entry.second }
 {
     all.last(entry.first, entry.second).is_some()
