@@ -1,13 +1,13 @@
 -- The rows of a body from the last one back.
 use Rattle.std.proofs.Common.{◌≡◌, sym, subst, ℕ, ◌+◌, ◌-◌, ◌<◌, ◌≤◌, ◌^◌, [], length, arith, Option}
 use Rattle.jr_defs.specs.declared.referent.RowType.{RowType}
-use Rattle.jr_tree.specs.Rows.{label, end}
+use Rattle.jr_tree.specs.Rows.{end}
 use Rattle.jr_codes.specs.declared.source.Source.{Source}
 use Rattle.jr_codes.specs.Reads.{rows_of, facts}
 use Rattle.jr_expressions.specs.Stacks.{Stacks, stacks_of, Makes, WaitsFrom}
 use Rattle.jr_expressions.proofs.Joined.{row_waits, none_waits}
 use Rattle.jr_expressions.proofs.Operated.{one_counted}
-use Rattle.jr_elab.specs.Stacked.{AreRead, EndsInside}
+use Rattle.jr_elab.specs.Stacked.{AreRead}
 
 -- so far the parts of the rows from this one on wait
 pub record WaitsSo (s : Source) (outcome : Option RowType) (n row : ℕ) (start now : Stacks) : Type 0 where
@@ -47,7 +47,7 @@ one_back : (row stop : ℕ) → row + 1 ≤ stop → row ≤ stop
 one_back row stop le = omega (arith, le)
 
 waits_more : (s : Source) (outcome : Option RowType) (n first row : ℕ) (start old new : Stacks) → WaitsSo s outcome n (row + 1) start old → (n + 1 < 2 ^ 32 → first ≡ n + 1) → first ≤ row
-    → (EndsInside (label (rows_of s) row) (rows_of s) row → Makes s outcome row old new) → WaitsSo s outcome n row start new
+    → Makes s outcome row old new → WaitsSo s outcome n row start new
 waits_more s outcome n first row start old new so is le makes = record {
   least = λ all inside. from_first n first row (is (one_counted (all.read n inside))) le;
   most = λ all inside. one_back row (end (rows_of s) n) (so.most all inside);
@@ -58,7 +58,7 @@ waits_more s outcome n first row start old new so is le makes = record {
       (record {
         more = λ k from lt. all.deep.more n k (behind_first n first row k here le from) lt;
         inside = λ k from lt. all.deep.inside n k (behind_first n first row k here le from) lt;
-      }) less (so.waits all inside none) (makes (all.blocks row));
+      }) less (so.waits all inside none) makes;
 }
 
 sub_one : (first row : ℕ) → first < row → row ≡ row - 1 + 1
@@ -68,7 +68,7 @@ not_first : (first row : ℕ) → first < row → first ≤ row - 1
 not_first first row lt = omega (arith, lt)
 
 pub waits_back : (s : Source) (outcome : Option RowType) (n first row : ℕ) (start old new : Stacks) → WaitsSo s outcome n row start old → (n + 1 < 2 ^ 32 → first ≡ n + 1) → first < row
-    → (EndsInside (label (rows_of s) (row - 1)) (rows_of s) (row - 1) → Makes s outcome (row - 1) old new) → WaitsSo s outcome n (row - 1) start new
+    → Makes s outcome (row - 1) old new → WaitsSo s outcome n (row - 1) start new
 waits_back s outcome n first row start old new so is lt makes =
     waits_more s outcome n first (row - 1) start old new (subst (λ k. WaitsSo s outcome n k start old) (sub_one first row lt) so) is (not_first first row lt) makes
 

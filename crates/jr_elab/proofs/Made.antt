@@ -4,7 +4,7 @@ use Rattle.jr_ty.specs.declared.constant.Const.{Const}
 use Rattle.jr_defs.specs.declared.referent.RowType.{RowType}
 use Rattle.jr_tree.specs.declared.label.Label.{Label}
 use Rattle.jr_tree.specs.declared.label.Label.TheVariants as is
-use Rattle.jr_tree.specs.Rows.{Rows, label, end}
+use Rattle.jr_tree.specs.Rows.{label}
 use Rattle.jr_codes.specs.declared.source.Source.{Source}
 use Rattle.jr_codes.specs.Facts.{Facts}
 use Rattle.jr_codes.specs.Making.{Below, Made, code, nothing, unknown, Stands}
@@ -13,7 +13,7 @@ use Rattle.jr_expressions.specs.Expressions.{expression_made, constant_made}
 use Rattle.jr_expressions.specs.Stacks.{Stacks, stacks_of, ComesTo, Makes}
 use Rattle.jr_expressions.specs.Statements.{code_part, Parts, Comes, comes_of, as_code, as_case, as_group, as_catch, codes, is_code, all_are, alone, plain_made, statement_made, made_by}
 use Rattle.jr_expressions.proofs.Joined.{those_joined, those_parted, stacks_are, SameOthers}
-use Rattle.jr_elab.specs.Stacked.{Does, EndsInside}
+use Rattle.jr_elab.specs.Stacked.{Does}
 use Rattle.jr_elab.proofs.Stacking.{none_of, code_no_case, code_no_group, code_no_catch, outside, alone_stands}
 
 -- a row that is none of these statements is an expression, if it is anything
@@ -72,9 +72,6 @@ pub labeled_does : {s : Source} {n : ℕ} {l to : Label} (outcome : Option RowTy
     → Does s n (λ parts. statement_made l (facts s) outcome n parts) old new
 labeled_does {s} {n} {l} {to} outcome {old} {new} same d = does_along (λ parts. ap (λ x. statement_made x (facts s) outcome n parts) same) d
 
-pub block_inside : (p : Rows) (n : ℕ) {l : Label} {has_finally : Bool} → l ≡ is.Try has_finally → EndsInside l p n → end p (n + 1) ≤ end p n
-block_inside p n {l} {has_finally} same h = subst (λ x. EndsInside x p n) same h
-
 -- ---- the step of a row
 
 pub constant_makes : {s : Source} {n : ℕ} {v : Const} {outcome : Option RowType} {old new : Stacks} → (facts s).value n ≡ Some v → Becomes s n (λ parts. constant_made v (facts s) n parts) old.of_code new.of_code
@@ -96,6 +93,3 @@ not_past n len lt le = omega (arith, lt, le)
 
 pub past_makes : {s : Source} {n : ℕ} {outcome : Option RowType} {old new : Stacks} → length (rows_of s) ≤ n → Makes s outcome n old new
 past_makes {s} {n} past = record { makes = λ read inner outer h was. absurd (not_past n (length (rows_of s)) read.inside past) }
-
-pub inside_along : (p : Rows) (n : ℕ) {l : Label} → label p n ≡ l → EndsInside (label p n) p n → EndsInside l p n
-inside_along p n {l} same h = subst (λ x. EndsInside x p n) same h

@@ -378,12 +378,13 @@ try_if true inner outer n m new is st = st is
 try_if false inner outer n m new is st = tt
 
 pub try_does : {s : Source} {n e second : ℕ} {body : List Code} {taken : List Catch} (last : Option (List Code)) {below mid left new : Below} {catches catches_left : List (ℕ × Catch)} (has_finally : Bool)
-    (labels : List (ℕ × SwitchLabel)) (groups : List (ℕ × Group)) → end (rows_of s) (n + 1) ≤ end (rows_of s) n → (n + 1 < 2 ^ 32 → e ≡ end (rows_of s) n) → (n + 2 < 2 ^ 32 → second ≡ end (rows_of s) (n + 1))
+    (labels : List (ℕ × SwitchLabel)) (groups : List (ℕ × Group)) → second ≤ e → (n + 1 < 2 ^ 32 → e ≡ end (rows_of s) n) → (n + 2 < 2 ^ 32 → second ≡ end (rows_of s) (n + 1))
     → TakesFront second below mid body → TakesFront e catches catches_left taken → TakesLast has_finally e mid left last → new ≡ (n, c.Try body taken last) ∷ left
     → Does s n (λ parts. try_made (facts s) n has_finally parts) (stacks below labels groups catches) (stacks new labels groups catches_left)
-try_does {s} {n} {e} {second} {body} {taken} last {below} {mid} {left} {new} {catches} {catches_left} has_finally labels groups le same behind_first blocked caught_all lasts st = record {
+try_does {s} {n} {e} {second} {body} {taken} last {below} {mid} {left} {new} {catches} {catches_left} has_finally labels groups within same behind_first blocked caught_all lasts st = record {
   does = λ read inner outer h all.
       let stop : ℕ = end (rows_of s) n in let first : ℕ = end (rows_of s) (n + 1) in
+      let le : first ≤ stop = subst (λ k. k ≤ stop) (behind_first (two_counted read)) (subst (λ k. second ≤ k) (same (one_counted read)) within) in
       let of_codes : Parted (end (rows_of s) n) below (codes inner) (codes outer) = those_parted as_code inner outer h (ap (λ x. x.of_code) all) in
       let of_catches : Parted (end (rows_of s) n) catches (those as_catch inner) (those as_catch outer) = those_parted as_catch inner outer h (ap (λ x. x.of_catch) all) in
       let block : TakesFront first below mid body = subst (λ k. TakesFront k below mid body) (behind_first (two_counted read)) blocked in

@@ -1,9 +1,8 @@
 -- What elaboration is, on the definitions alone: one code for a row, one core for a program, and where rows have parts and are read (JLS 8, 14, 15).
-use Rattle.std.specs.Prelude.{◌≡◌, ℕ, ◌+◌, ◌<◌, ◌^◌, Bool, true, length, Option}
+use Rattle.std.specs.Prelude.{◌≡◌, ℕ, ◌+◌, ◌<◌, ◌^◌, true, length, Option}
 use Rattle.jr_core.specs.declared.bodies.Core.{Core}
 use Rattle.jr_core.specs.declared.code.Code.{Code}
-use Rattle.jr_tree.specs.declared.label.Label.TheVariants as is
-use Rattle.jr_tree.specs.Rows.{Rows, label, end}
+use Rattle.jr_tree.specs.Rows.{label, end}
 use Rattle.jr_tree.specs.Tree.{IsTree}
 use Rattle.jr_defs.specs.declared.referent.RowType.{RowType}
 use Rattle.jr_defs.specs.Overriding.{HasOneSuperclass}
@@ -30,10 +29,6 @@ NoneIsStrange f = (n k : ℕ) (below : Parts) → declares_body (label f.rows n)
 abbrev pub RowsHaveParts : Type 0
 RowsHaveParts = (f : Facts) → IsTree f.rows → NoneIsStrange f → HaveParts f
 
--- something stands in each `try`, as its block does (JLS 14.20)
-abbrev pub TriesHaveBlocks : Rows → Type 0
-TriesHaveBlocks p = (n : ℕ) (has_finally : Bool) → label p n ≡ is.Try has_finally → n + 1 < end p n
-
 -- what the tables of a program are to be, to be read whole
 abbrev pub WholeWorldsAreRead : Type 0
-WholeWorldsAreRead = (s : Source) → IsWholeWorld (table_of s) s.view.now.sight.world → IsSized (rows_of s) → length (rows_of s) + 3 < 2 ^ 32 → TriesHaveBlocks (rows_of s) → IsReadWhole s
+WholeWorldsAreRead = (s : Source) → IsWholeWorld (table_of s) s.view.now.sight.world → IsSized (rows_of s) → length (rows_of s) + 3 < 2 ^ 32 → IsReadWhole s

@@ -9,7 +9,6 @@ use Rattle.jr_core.specs.declared.code.Group.{Group}
 use Rattle.jr_core.specs.declared.code.SwitchLabel.{SwitchLabel}
 use Rattle.jr_core.specs.declared.code.SwitchLabel.TheVariants as l
 use Rattle.jr_tree.specs.declared.label.Label.{Label}
-use Rattle.jr_tree.specs.declared.label.Label.TheVariants as is
 use Rattle.jr_tree.specs.declared.label.Role.TheVariants as role
 use Rattle.jr_tree.specs.Rows.{Rows, label, end, role_at}
 use Rattle.jr_defs.specs.declared.referent.Element.{Element}
@@ -44,18 +43,12 @@ abbrev pub IsLabelAt : Rows → ℕ → Option Label → Type 0
 IsLabelAt p n (Some l) = label p n ≡ l
 IsLabelAt p n None = length p ≤ n
 
--- the block of a `try` ends inside it
-abbrev pub EndsInside : Label → Rows → ℕ → Type 0
-EndsInside (is.Try has_finally) p n = end p (n + 1) ≤ end p n
-EndsInside _ p n = Unit {0}
-
--- the tables are read at each row, the rows are nested, and each `try` has its block
+-- the tables are read at each row, and the rows are nested
 pub record AreRead (s : Source) : Type 0 where
   pub read : (n : ℕ) → n < length (rows_of s) → IsReadAt s n
   pub deep : AreDeep (facts s)
   pub more : (n : ℕ) → n < end (rows_of s) n
   pub last : (n : ℕ) → n < length (rows_of s) → end (rows_of s) n ≤ length (rows_of s)
-  pub blocks : (n : ℕ) → EndsInside (label (rows_of s) n) (rows_of s) n
 
 -- ---- what single statements take
 

@@ -1,5 +1,5 @@
 // Jumps, `switch` and `try` (JLS 14.11, 14.15 to 14.20).
-ghost use Rattle.std.specs.Prelude.{◌≡◌, ℕ, ◌+◌, ◌≤◌, List, ◌∷◌, Some, None, IfOk, OnOk};
+ghost use Rattle.std.specs.Prelude.{◌≡◌, ℕ, ◌+◌, ◌≤◌, ◌<◌, ◌^◌, List, ◌∷◌, Some, None, IfOk, OnOk};
 ghost use Rattle.jr_core.specs.declared.code.Catch.{Catch};
 ghost use Rattle.jr_core.specs.declared.code.Group.{Group};
 ghost use Rattle.jr_core.specs.declared.code.SwitchLabel.{SwitchLabel};
@@ -195,6 +195,19 @@ fn last_if(
     }
 }
 
+// The row behind the block of a `try`, which ends inside it. One that ended behind it would be answered for want of memory; none does in a tree.
+fn block_end(source: &Source, at: u32, end: u32) -> Result<u32, OutOfMemory>
+    ensures inside { IfOk result (λ block. block ≤ end) }
+    ensures ends { IfOk result (λ block. at + 2 < 2 ^ 32 → block ≡ rows.end (rows_of source.now) (at + 1)) }
+{
+    let block = source.second(at);
+    if block <= end {
+        Ok(block)
+    } else {
+        Err(OutOfMemory)
+    }
+}
+
 /// `try body catch .. finally last`
 pub fn try_catch(
     source: &Source,
@@ -203,10 +216,11 @@ pub fn try_catch(
     at: u32,
     has_finally: bool,
 ) -> Result<(), OutOfMemory>
-    ensures { OnOk result (rows.end (rows_of source.now) (at + 1) ≤ rows.end (rows_of source.now) at → (labels : List (ℕ × SwitchLabel)) → (groups : List (ℕ × Group)) → Does source.now at (λ parts. made.try_made (facts source.now) at has_finally parts) (stacks (waiting codes.old) labels groups (waiting catches.old)) (stacks (waiting codes.new) labels groups (waiting catches.new))) }
+    ensures { OnOk result ((labels : List (ℕ × SwitchLabel)) → (groups : List (ℕ × Group)) → Does source.now at (λ parts. made.try_made (facts source.now) at has_finally parts) (stacks (waiting codes.old) labels groups (waiting catches.old)) (stacks (waiting codes.new) labels groups (waiting catches.new))) }
 {
     let end = source.end(at);
-    let body = codes.before(source.alloc, source.second(at))?;
+    let block = block_end(source, at, end)?;
+    let body = codes.before(source.alloc, block)?;
     let catches = catches.before(source.alloc, end)?;
     let last = last_if(source, codes, end, has_finally)?;
     codes.push(

@@ -12,7 +12,7 @@ pub fn rows_have_parts()
     ensures { RowsHaveParts }
 {}
 
-/// The tables of a program are read whole, where the world is that of the program under its table, the rows can be counted, and each `try` has its block.
+/// The tables of a program are read whole, where the world is that of the program under its table and the rows can be counted.
 pub fn whole_worlds_are_read()
     ensures { WholeWorldsAreRead }
 {}

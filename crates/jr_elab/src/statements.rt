@@ -6,7 +6,7 @@ ghost use Rattle.jr_codes.specs.Making.{code, of_none, of_one};
 ghost use Rattle.jr_codes.specs.Reads.{rows_of, facts, Becomes};
 ghost use Rattle.jr_codes.specs.Waiting.{waiting};
 ghost use Rattle.jr_expressions.specs.Expressions.{codes_of};
-ghost use Rattle.jr_elab.specs.Stacked.{AreRead, Does, EndsInside, stacks_in};
+ghost use Rattle.jr_elab.specs.Stacked.{AreRead, Does, stacks_in};
 ghost use Rattle.jr_expressions.specs.Stacks.{Makes, WaitsFrom, stacks_of};
 ghost use Rattle.jr_expressions.specs.Statements as made;
 
@@ -151,7 +151,7 @@ fn make_labeled(
     at: u32,
     label: &Label,
 ) -> Result<(), OutOfMemory>
-    ensures made { OnOk result (EndsInside label.now (rows_of source.now) at → Does source.now at (λ parts. made.statement_made label.now (facts source.now) making.old.result_type at parts) (stacks_in making.old) (stacks_in making.new)) }
+    ensures made { OnOk result (Does source.now at (λ parts. made.statement_made label.now (facts source.now) making.old.result_type at parts) (stacks_in making.old) (stacks_in making.new)) }
     ensures same { OnOk result (making.new.result_type ≡ making.old.result_type) }
 {
     match label {
@@ -180,7 +180,7 @@ fn make_labeled(
 
 // Makes what the row is, where the parts below it are made.
 fn make(source: &Source, making: &mut Making, at: u32) -> Result<(), OutOfMemory>
-    ensures made { OnOk result (EndsInside (rows.label (rows_of source.now) at) (rows_of source.now) at → Makes source.now making.old.result_type at (stacks_in making.old) (stacks_in making.new)) }
+    ensures made { OnOk result (Makes source.now making.old.result_type at (stacks_in making.old) (stacks_in making.new)) }
     ensures same { OnOk result (making.new.result_type ≡ making.old.result_type) }
 {
     match source.value(at) {

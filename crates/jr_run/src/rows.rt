@@ -1,5 +1,5 @@
 // Rows by their numbers.
-ghost use Rattle.std.specs.Prelude.{◌≡◌, ◌+◌, ◌^◌, ◌<◌, length};
+ghost use Rattle.std.specs.Prelude.{◌≡◌, ◌+◌, ◌^◌, ◌<◌, Decides, length};
 
 use jr_tree::Row;
 
@@ -12,4 +12,11 @@ pub fn row_count(rows: &[Row]) -> u32
     } else {
         rows.len() as u32
     }
+}
+
+/// Whether the rows can be counted, with room for three more.
+pub fn are_few(rows: &[Row]) -> bool
+    ensures { Decides result (length rows.now + 3 < 2 ^ 32) }
+{
+    rows.len() < u32::MAX as usize - 2
 }

@@ -107,13 +107,13 @@ module _ (told : Option Image) (before after : ℕ) where
 -- ---- what is shown
 
 -- what is shown is said to a command that is no check
-to_asked : (asked : Option Command) (f : Image) (paths : List (List ℕ)) (status : Status) → (asked ≡ Some Check → ⊥) → IsShown f paths status → IsSaid asked f paths status
+to_asked : (asked : Option Command) (f : Image) (paths : List (List ℕ)) (status : Status) → (asked ≡ Some Check → ⊥) → IsShown asked f paths status → IsSaid asked f paths status
 to_asked None f paths status none shown = shown
 to_asked (Some Check) f paths status none shown = absurd (none refl)
 to_asked (Some other) f paths status none shown = shown
 
 module _ (asked : Option Command) (no_check : asked ≡ Some Check → ⊥) (told : Option Image) (before after : ℕ) where
-  told_shown : (paths : List (List ℕ)) (status : Status) → ((f : Image) → told ≡ Some f → IsShown f paths status) → ForTold told (λ f. IsSaid asked f paths status)
+  told_shown : (paths : List (List ℕ)) (status : Status) → ((f : Image) → told ≡ Some f → IsShown asked f paths status) → ForTold told (λ f. IsSaid asked f paths status)
   told_shown paths status each = spoken told (λ f. Unit {0}) (λ f. IsSaid asked f paths status) (all_told told) (λ f is none. to_asked asked f paths status no_check (each f is))
 
   pub shown_size : (what : Size) → ((f : Image) → told ≡ Some f → IsTooLarge f what) → Checks asked told [] before after (TooLarge what 0)
@@ -142,10 +142,10 @@ module _ (asked : Option Command) (no_check : asked ≡ Some Check → ⊥) (tol
     shown_fault (front.Broken rule place) checked keys = shown_refusal (front.Broken rule place) checked keys (status_of (front.Broken rule place)) refl
     shown_fault front.OutOfMemory checked keys = tt
 
-    pub showed_said : (status : Status) → Showed found paths status → Checks asked told paths before after status
-    showed_said status (has_text {text = text} checked is) = subst (Checks asked told paths before after) (sym is) (told_shown paths (Done (Printed text)) (λ f told_is. shows (holds f told_is) checked refl))
-    showed_said status (has_reason reason checked is) =
-        subst (Checks asked told paths before after) (sym is) (told_shown paths (BadRequest 0 (reason_number reason) None) (λ f told_is. shows_none reason (holds f told_is) checked refl))
+    pub showed_said : (status : Status) → Showed asked found paths status → Checks asked told paths before after status
+    showed_said status (has_text {text = text} checked answers is) = subst (Checks asked told paths before after) (sym is) (told_shown paths (Done (Printed text)) (λ f told_is. shows (holds f told_is) checked answers refl))
+    showed_said status (has_reason reason checked answers is) =
+        subst (Checks asked told paths before after) (sym is) (told_shown paths (BadRequest 0 (reason_number reason) None) (λ f told_is. shows_none reason (holds f told_is) checked answers refl))
     showed_said status (has_refusal {why = why} checked keys is) = subst (Checks asked told paths before after) (sym is) (shown_fault why checked keys)
     showed_said status (has_no_memory is) = subst (Checks asked told paths before after) (sym is) tt
 
@@ -220,15 +220,15 @@ module _ (f g : Image) (same : SameFiles f g) where
   verdict_same paths status (refused {found} none holds checked keys is) = refused (λ program. none (same_back program)) (files_same found holds) checked keys is
   verdict_same paths status (oversized {what} none large is) = oversized (λ program. none (same_back program)) (large_same large) is
 
-  shown_same : (paths : List (List ℕ)) (status : Status) → IsShown f paths status → IsShown g paths status
-  shown_same paths status (shows {found} holds checked is) = shows (files_same found holds) checked is
-  shown_same paths status (shows_none {found} reason holds checked is) = shows_none reason (files_same found holds) checked is
-  shown_same paths status (shows_refusal {found} holds checked keys is) = shows_refusal (files_same found holds) checked keys is
-  shown_same paths status (shows_size large is) = shows_size (large_same large) is
+  shown_same : (asked : Option Command) (paths : List (List ℕ)) (status : Status) → IsShown asked f paths status → IsShown asked g paths status
+  shown_same asked paths status (shows {found} holds checked answers is) = shows (files_same found holds) checked answers is
+  shown_same asked paths status (shows_none {found} reason holds checked answers is) = shows_none reason (files_same found holds) checked answers is
+  shown_same asked paths status (shows_refusal {found} holds checked keys is) = shows_refusal (files_same found holds) checked keys is
+  shown_same asked paths status (shows_size large is) = shows_size (large_same large) is
 
   said_same : (asked : Option Command) (paths : List (List ℕ)) (status : Status) → IsSaid asked f paths status → IsSaid asked g paths status
   said_same (Some Check) paths status said = verdict_same paths status said
-  said_same other paths status said = shown_same paths status said
+  said_same other paths status said = shown_same other paths status said
 
 -- ---- the answer
 

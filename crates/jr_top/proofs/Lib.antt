@@ -17,3 +17,4 @@ mod EngineAnswers
 mod Choosing
 mod Returns
 mod InTurn
+mod Shown

@@ -17,9 +17,11 @@ use Rattle.jr_request.specs.Words.{command_of}
 use Rattle.jr_request.specs.declared.command.Command.{Command}
 use Rattle.jr_request.specs.declared.command.Command.TheVariants.{Check, Run, Refs, Subtypes, Callers}
 use Rattle.jr_store.specs.Image.{Image, Tells, Rose}
+use Rattle.jr_run.specs.declared.fault.RunFault.TheVariants as run
 use Rattle.jr_top.specs.Plain.{AnswersPlain}
 use Rattle.jr_top.specs.Reasons.{reason_number}
 use Rattle.jr_top.specs.Renaming.{IsOnly, ForTold}
+use Rattle.jr_top.specs.Showing.{IsAnswerTo}
 use Rattle.jr_top.specs.declared.status.Phase.TheVariants.{Reading}
 use Rattle.jr_top.specs.declared.status.Report.TheVariants.{Checked, Printed}
 use Rattle.jr_top.specs.declared.status.Status.{Status}
@@ -91,24 +93,24 @@ pub data Fronted (found : FileMap) (paths : List (List ℕ)) (status : Status) :
   front_wants_memory : status ≡ OutOfMemory → Fronted found paths status
 
 -- What is shown of the files: a text of those that compile, or why what is asked for cannot be, and else what the front says of them, unless they are too large
--- to be read. Of the text nothing is said yet.
-pub data IsShown (f : Image) (paths : List (List ℕ)) (status : Status) : Type 0 where
-  shows : {found : FileMap} {text : List ℕ} → HoldsFiles f found → CheckedAs found (Ok tt) → status ≡ Done (Printed text) → IsShown f paths status
-  shows_none : {found : FileMap} (reason : Reason) → HoldsFiles f found → CheckedAs found (Ok tt) → status ≡ BadRequest 0 (reason_number reason) None → IsShown f paths status
-  shows_refusal : {found : FileMap} {why : FrontFault} → HoldsFiles f found → CheckedAs found (Err why) → paths ≡ map.keys found → status ≡ status_of why → IsShown f paths status
-  shows_size : {what : Size} → IsTooLarge f what → status ≡ TooLarge what 0 → IsShown f paths status
+-- to be read. To a run the text is what the machine prints.
+pub data IsShown (asked : Option Command) (f : Image) (paths : List (List ℕ)) (status : Status) : Type 0 where
+  shows : {found : FileMap} {text : List ℕ} → HoldsFiles f found → CheckedAs found (Ok tt) → IsAnswerTo asked found (Ok text) → status ≡ Done (Printed text) → IsShown asked f paths status
+  shows_none : {found : FileMap} (reason : Reason) → HoldsFiles f found → CheckedAs found (Ok tt) → IsAnswerTo asked found (Err (run.Bad reason)) → status ≡ BadRequest 0 (reason_number reason) None → IsShown asked f paths status
+  shows_refusal : {found : FileMap} {why : FrontFault} → HoldsFiles f found → CheckedAs found (Err why) → paths ≡ map.keys found → status ≡ status_of why → IsShown asked f paths status
+  shows_size : {what : Size} → IsTooLarge f what → status ≡ TooLarge what 0 → IsShown asked f paths status
 
 -- what is shown of the files that were read
-pub data Showed (found : FileMap) (paths : List (List ℕ)) (status : Status) : Type 0 where
-  has_text : {text : List ℕ} → CheckedAs found (Ok tt) → status ≡ Done (Printed text) → Showed found paths status
-  has_reason : (reason : Reason) → CheckedAs found (Ok tt) → status ≡ BadRequest 0 (reason_number reason) None → Showed found paths status
-  has_refusal : {why : FrontFault} → CheckedAs found (Err why) → paths ≡ map.keys found → status ≡ status_of why → Showed found paths status
-  has_no_memory : status ≡ OutOfMemory → Showed found paths status
+pub data Showed (asked : Option Command) (found : FileMap) (paths : List (List ℕ)) (status : Status) : Type 0 where
+  has_text : {text : List ℕ} → CheckedAs found (Ok tt) → IsAnswerTo asked found (Ok text) → status ≡ Done (Printed text) → Showed asked found paths status
+  has_reason : (reason : Reason) → CheckedAs found (Ok tt) → IsAnswerTo asked found (Err (run.Bad reason)) → status ≡ BadRequest 0 (reason_number reason) None → Showed asked found paths status
+  has_refusal : {why : FrontFault} → CheckedAs found (Err why) → paths ≡ map.keys found → status ≡ status_of why → Showed asked found paths status
+  has_no_memory : status ≡ OutOfMemory → Showed asked found paths status
 
 -- what is said of the files to a check, and to another command that reads them
 abbrev pub IsSaid : Option Command → Image → List (List ℕ) → Status → Type 0
 IsSaid (Some Check) f paths status = IsVerdict f paths status
-IsSaid other f paths status = IsShown f paths status
+IsSaid other f paths status = IsShown other f paths status
 
 -- when each answer comes
 abbrev pub Checks : Option Command → Option Image → List (List ℕ) → ℕ → ℕ → Status → Type 0

@@ -1,13 +1,73 @@
 -- What is shown of files.
-use Rattle.std.specs.Prelude.{ℕ, List, Result, Ok, Err, ⊤}
+use Rattle.std.specs.Prelude.{◌≡◌, ℕ, List, length, Option, Some, Result, Ok, Err, ⊤}
 use Rattle.jr_base.specs.Files.{FileMap}
+use Rattle.jr_defs.specs.Program.{rows_of}
+use Rattle.jr_index.specs.NodeRows.{unit_rows}
+use Rattle.jr_read.specs.Reading.{ReadsAs}
+use Rattle.jr_front.specs.Bound.{table_in, IsBoundIn}
 use Rattle.jr_front.specs.Checking.{CheckedAs}
+use Rattle.jr_front.specs.Compiling.{CompilesExactly}
+use Rattle.jr_front.specs.Viewed.{IsViewOf}
+use Rattle.jr_front.specs.declared.workspace.Workspace.{Workspace}
+use Rattle.jr_change.specs.declared.project.Project.{Project}
+use Rattle.jr_request.specs.declared.command.Command.{Command}
+use Rattle.jr_request.specs.declared.command.Command.TheVariants.{Run, Refs, Subtypes, Callers}
+use Rattle.jr_run.specs.Runs.{IsRunText}
+use Rattle.jr_run.specs.declared.fault.RunFault.{RunFault}
+use Rattle.jr_run.specs.declared.fault.RunFault.TheVariants as run
 use Rattle.jr_top.specs.declared.show_fault.ShowFault.{ShowFault}
 use Rattle.jr_top.specs.declared.show_fault.ShowFault.TheVariants as fault
+use Rattle.jr_top.specs.declared.showing.Question.{Question}
+use Rattle.jr_top.specs.declared.showing.Question.TheVariants as question
+use Rattle.jr_top.specs.declared.showing.Unanswered.{Unanswered}
+use Rattle.jr_top.specs.declared.showing.Unanswered.TheVariants as unanswered
 
--- Something is shown, or what is asked for cannot be, where the front accepts the files; else what the front says of them. Of the text nothing is said.
-abbrev pub ShownAs : FileMap → Result (List ℕ) ShowFault → Type 0
-ShownAs found (Ok text) = CheckedAs found (Ok tt)
-ShownAs found (Err (fault.Front why)) = CheckedAs found (Err why)
-ShownAs found (Err (fault.Bad reason)) = CheckedAs found (Ok tt)
-ShownAs found (Err fault.OutOfMemory) = ⊤
+-- ---- runs
+
+-- the files are read as the program, which compiles under its binding by the rules that are tested exactly, and all its tables are those under this binding
+pub record IsWorkspaceOf (found : FileMap) (w : Workspace) : Type 0 where
+  pub reads : ReadsAs found (Ok w.program)
+  pub compiles : CompilesExactly found w.program (table_in w)
+  pub rows : w.index.value ≡ rows_of w.program
+  pub bound : IsBoundIn w
+
+-- the program of the files with its tables, and the rows at which its units begin
+pub record IsProjectIn (found : FileMap) (project : Project) : Type 0 where
+  pub workspace : Workspace
+  pub of : IsWorkspaceOf found workspace
+  pub starts : project.marks.starts.now ≡ unit_rows workspace.index.value (length workspace.index.value)
+  pub view : IsViewOf workspace.index.value workspace.places.value workspace.scopes.value workspace.bound.value project.view
+
+-- the text of a run of the class that is named, in at most so many steps, or why there is none, by the program of the files (JLS 12.1)
+pub record IsRunOf (found : FileMap) (class : List ℕ) (steps : ℕ) (result : Result (List ℕ) RunFault) : Type 0 where
+  pub project : Project
+  pub of : IsProjectIn found project
+  pub runs : IsRunText project class steps result
+
+-- ---- questions
+
+-- the text, or the reason why there is none, answers the command; of texts but those of runs nothing is said yet
+abbrev pub IsAnswerTo : Option Command → FileMap → Result (List ℕ) RunFault → Type 0
+IsAnswerTo (Some (Run class steps)) found result = IsRunOf found class steps result
+IsAnswerTo other found result = ⊤
+
+-- the command asks the question
+abbrev pub IsQuestionOf : Option Command → Question → Type 0
+IsQuestionOf (Some (Run name count)) (question.Run class steps) = (class.now ≡ name) × (steps ≡ count)
+IsQuestionOf (Some (Refs name offset)) (question.References file at) = ⊤
+IsQuestionOf (Some (Subtypes name offset)) (question.Subtypes file at) = ⊤
+IsQuestionOf (Some (Callers name offset)) (question.Callers file at) = ⊤
+IsQuestionOf other asked = ⊥
+
+-- what a question on files that compile comes to
+abbrev pub AnsweredAs : Option Command → FileMap → Result (List ℕ) Unanswered → Type 0
+AnsweredAs asked found (Ok text) = IsAnswerTo asked found (Ok text)
+AnsweredAs asked found (Err (unanswered.Bad reason)) = IsAnswerTo asked found (Err (run.Bad reason))
+AnsweredAs asked found (Err unanswered.OutOfMemory) = ⊤
+
+-- Something is shown, or what is asked for cannot be, where the front accepts the files; else what the front says of them.
+abbrev pub ShownAs : Option Command → FileMap → Result (List ℕ) ShowFault → Type 0
+ShownAs asked found (Ok text) = CheckedAs found (Ok tt) × IsAnswerTo asked found (Ok text)
+ShownAs asked found (Err (fault.Front why)) = CheckedAs found (Err why)
+ShownAs asked found (Err (fault.Bad reason)) = CheckedAs found (Ok tt) × IsAnswerTo asked found (Err (run.Bad reason))
+ShownAs asked found (Err fault.OutOfMemory) = ⊤

@@ -1,8 +1,8 @@
 // What is shown of files that compile.
 ghost use Rattle.std.specs.Prelude.{◌≡◌, ◌≤◌, ◌↔◌, Option, Some, IsTrue};
-ghost use Rattle.jr_request.specs.declared.command.Command.TheVariants.{Check};
 ghost use Rattle.jr_store.specs.Image.{Image, LeavesOnly};
 ghost use Rattle.jr_top.specs.Checking.{IsReading, Showed, Checks};
+ghost use Rattle.jr_top.specs.Showing.{IsQuestionOf};
 
 use crate::check::{Verdict, check, paths_of, plainly, refusal};
 use crate::engine::reason_number;
@@ -31,7 +31,7 @@ pub fn is_reading(command: &Command) -> bool
 
 // What is shown of the files.
 fn shown(alloc: Global, found: &Files, question: Question<'_>) -> Verdict
-    ensures { Showed found.now result.paths.items result.status }
+    ensures { (asked : Option Command) → IsQuestionOf asked question.entry → Showed asked found.now result.paths.items result.status }
 {
     match show(alloc, found, question) {
         Ok(text) => plainly(alloc, Status::Done(Report::Printed(text))),
@@ -56,7 +56,7 @@ fn shown(alloc: Global, found: &Files, question: Question<'_>) -> Verdict
 
 // Shows what is asked of the files of the store.
 fn show_all<S: Store>(alloc: Global, question: Question<'_>, store: &mut S) -> Verdict
-    ensures answer { (asked : Option Command) → (asked ≡ Some Check → ⊥) → Checks asked (S.files store.old) result.paths.items (S.faults store.old) (S.faults store.new) result.status }
+    ensures answer { (asked : Option Command) → IsQuestionOf asked question.entry → Checks asked (S.files store.old) result.paths.items (S.faults store.old) (S.faults store.new) result.status }
     ensures files { S.files store.new ≡ S.files store.old }
     ensures later { S.faults store.old ≤ S.faults store.new }
     ensures crash { (c : Image) → S.may_leave store.new c → S.may_leave store.old c }

@@ -1,6 +1,10 @@
 // What is shown of files.
 
-ghost use Rattle.jr_top.specs.Showing.{ShownAs};
+ghost use Rattle.std.specs.Prelude.{Option, Some};
+ghost use Rattle.jr_base.specs.Files.{FileMap};
+ghost use Rattle.jr_request.specs.declared.command.Command.{Command};
+ghost use Rattle.jr_request.specs.declared.command.Command.TheVariants.{Run};
+ghost use Rattle.jr_top.specs.Showing.{AnsweredAs, IsProjectIn, IsQuestionOf, IsWorkspaceOf, ShownAs};
 
 use crate::show_fault::ShowFault;
 use jr_base::{Files, Text};
@@ -45,7 +49,9 @@ fn reported(
 }
 
 // What the class of a program prints.
-fn printed(alloc: Global, project: &Project, class: &[u8], steps: u64) -> Result<Text, Unanswered> {
+fn printed(alloc: Global, project: &Project, class: &[u8], steps: u64) -> Result<Text, Unanswered>
+    ensures { (found : FileMap) → IsProjectIn found project.now → AnsweredAs (Some (Run class.now steps)) found result }
+{
     match run_text(alloc, project, class, steps) {
         Ok(text) => Ok(text),
         Err(RunFault::Bad(reason)) => Err(Unanswered::Bad(reason)),
@@ -58,7 +64,9 @@ fn answered(
     alloc: Global,
     workspace: &Workspace,
     question: Question<'_>,
-) -> Result<Text, Unanswered> {
+) -> Result<Text, Unanswered>
+    ensures { (asked : Option Command) (found : FileMap) → IsQuestionOf asked question.entry → IsWorkspaceOf found workspace.now → AnsweredAs asked found result }
+{
     let project = Project {
         marks: workspace.marks(),
         view: workspace.view(),
@@ -75,7 +83,7 @@ fn answered(
 
 /// What is shown of files that compile, or why nothing is.
 pub fn show(alloc: Global, files: &Files, question: Question<'_>) -> Result<Text, ShowFault>
-    ensures { ShownAs files.now result }
+    ensures { (asked : Option Command) → IsQuestionOf asked question.entry → ShownAs asked files.now result }
 {
     match open_files(alloc, files) {
         Ok(workspace) => match answered(alloc, &workspace, question) {

@@ -3,16 +3,16 @@ use Rattle.std.proofs.lemmas.Result.{on_ok_weaker}
 use Rattle.jr_tree.specs.Rows.{label}
 use Rattle.jr_constants.specs.Values.{value_in_if}
 use Rattle.jr_codes.specs.Reads.{rows_of, texts_of}
-use Rattle.jr_elab.proofs.Made.{constant_makes, label_makes, past_makes, inside_along}
+use Rattle.jr_elab.proofs.Made.{constant_makes, label_makes, past_makes}
 use Rattle.jr_elab.proofs.statements.make.Goals as goal
 
 pub returns-in-Some-clause-made : goal.returns-in-Some-clause-made
-returns-in-Some-clause-made c = on_ok_weaker c.add_constant.result (λ becomes inside. constant_makes (ap (value_in_if (texts_of c.args.source.now)) (sym c.value.ensures ∙ c.in-Some.is)) becomes (record { label = refl; group = refl; catch = refl })) c.add_constant.ensures
+returns-in-Some-clause-made c = on_ok_weaker c.add_constant.result (λ becomes. constant_makes (ap (value_in_if (texts_of c.args.source.now)) (sym c.value.ensures ∙ c.in-Some.is)) becomes (record { label = refl; group = refl; catch = refl })) c.add_constant.ensures
 
 pub returns-in-Some-label_of-clause-made : goal.returns-in-Some-label_of-clause-made
 returns-in-Some-label_of-clause-made c =
     let named : label (rows_of c.args.source.now) c.args.at ≡ _ = rw c.in-Some-label_of.is at c.label_of.ensures in
-    on_ok_weaker c.make_labeled.result (λ does inside. label_makes (ap (value_in_if (texts_of c.args.source.now)) (sym c.value.ensures ∙ c.in-None.is)) named (does (inside_along _ _ named inside))) c.make_labeled.ensures.made
+    on_ok_weaker c.make_labeled.result (λ does. label_makes (ap (value_in_if (texts_of c.args.source.now)) (sym c.value.ensures ∙ c.in-None.is)) named does) c.make_labeled.ensures.made
 
 pub returns-in-None-label_of-clause-made : goal.returns-in-None-label_of-clause-made
-returns-in-None-label_of-clause-made c = λ inside. past_makes (rw c.in-None-label_of.is at c.label_of.ensures)
+returns-in-None-label_of-clause-made c = past_makes (rw c.in-None-label_of.is at c.label_of.ensures)

@@ -10,7 +10,7 @@ loop-row-init c = record { waits = waits_none _ _ _ _ _ c.end-end.ensures; kept 
 pub loop-row-preserved : goal.loop-row-preserved
 loop-row-preserved c = record {
   waits = waits_back _ _ _ _ _ _ _ _ c.loop-row.invariant.waits c.first-first.ensures c.loop-row-test.true
-      (λ block. subst (λ o. Makes c.args.source.now o (c.loop-row.row - 1) (stacks_in c.loop-row.making) (stacks_in c.make.new.making)) c.loop-row.invariant.kept (c.in_ok-make.ensures.made block));
+      (subst (λ o. Makes c.args.source.now o (c.loop-row.row - 1) (stacks_in c.loop-row.making) (stacks_in c.make.new.making)) c.loop-row.invariant.kept c.in_ok-make.ensures.made);
   kept = c.in_ok-make.ensures.same ∙ c.loop-row.invariant.kept;
 }
 
