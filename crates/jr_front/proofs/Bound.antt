@@ -80,4 +80,4 @@ bound_in w first second third these those scopes one two three here there names 
 
 -- no top-level type has the name of another, by the rows and the places as they are read
 pub placed_names : (w : Workspace) (first : Rows) (places : Places) → first ≡ rows_in w → places ≡ w.places.value → (ArePlaced first places → HasNoTopFault first) → HasNoTopClash w
-placed_names w first places one here none = subst (λ r. ArePlaced r w.places.value → HasNoTopFault r) one (subst (λ x. ArePlaced first x → HasNoTopFault first) here none)
+placed_names w first places one here none = record { none = subst (λ r. ArePlaced r w.places.value → HasNoTopFault r) one (subst (λ x. ArePlaced first x → HasNoTopFault first) here none) }

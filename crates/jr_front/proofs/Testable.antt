@@ -103,7 +103,7 @@ module _ (w : Workspace) (view : View) (bound : IsBoundIn w) (of : IsViewOf (row
       found = told_so AllFound found;
       kept = told_so (λ r x. (rule place : ℕ) → BreaksExact r x rule place → ⊥)
           (none_broken view (seen_view w view bound of).seen.placed.local (seen_so IsTypable (typable w bound)) (seen_so (λ r x. (o : ℕ) → length r ≤ o → x o ≡ Unbound) (past w bound)) view_values view_types
-          (subst HasNoTopFault (sym of.rows_are) (tops bound.binding.binding.under.seen.placed)) (none testable_view));
+          (subst HasNoTopFault (sym of.rows_are) (tops.none bound.binding.binding.under.seen.placed)) (none testable_view));
     }
 
 -- the same, as the rows and the places of the program are read

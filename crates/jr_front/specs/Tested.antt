@@ -47,8 +47,8 @@ abbrev pub HasNoTopFault : Rows → Type 0
 HasNoTopFault p = all_such (length p) (has_top_type_clash p) ≡ []
 
 -- the same of a program whose rows have their places
-abbrev pub HasNoTopClash : Workspace → Type 0
-HasNoTopClash w = ArePlaced (program_rows w) w.places.value → HasNoTopFault (program_rows w)
+pub record HasNoTopClash (w : Workspace) : Type 0 where
+  pub none : ArePlaced (program_rows w) w.places.value → HasNoTopFault (program_rows w)
 
 -- on members
 pub record HasNoMemberFault (view : View) : Type 0 where
