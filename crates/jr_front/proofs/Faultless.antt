@@ -1,7 +1,5 @@
 -- Where no faults are found, no row breaks an exact rule.
-use Rattle.std.proofs.Common.{◌≡◌, refl, sym, ◌∙◌, ap, ℕ, List, [], ◌∷◌, ◌++◌, length}
-use Rattle.jr_tree.specs.Rows.{Rows}
-use Rattle.jr_plain.specs.Search.{all_such}
+use Rattle.std.proofs.Common.{◌≡◌, refl, sym, ◌∙◌, ap, ℕ, List, [], ◌∷◌, ◌++◌}
 use Rattle.jr_rule.specs.declared.Fault.{Fault}
 use Rattle.jr_rule.specs.declared.Rule.{Rule}
 use Rattle.jr_rule.specs.declared.Rule.TheVariants as rule
@@ -10,9 +8,8 @@ use Rattle.jr_view.specs.declared.View.{View}
 use Rattle.jr_name_faults.specs.Faults as of_names
 use Rattle.jr_name_faults.specs.Views as names
 use Rattle.jr_member_faults.specs.Faults.{AreMemberFaults}
-use Rattle.jr_member_faults.specs.Tops.{has_top_type_clash}
 use Rattle.jr_type_faults.specs.Faults.{IsRightView, AreExactTypeFaults, AreOnlyOf, type_rules}
-use Rattle.jr_front.specs.Tested.{IsTestableView, HasNoNameFault, HasNoTopFault, HasNoMemberFault, HasNoTypeFault, HasNoFault}
+use Rattle.jr_front.specs.Tested.{IsTestableView, HasNoNameFault, HasNoMemberFault, HasNoTypeFault, HasNoFault}
 
 -- of two lists that have nothing together each has nothing
 pub none_first : {A : Type 0} (xs ys : List A) → xs ++ ys ≡ [] → xs ≡ []
@@ -54,10 +51,6 @@ no_members {new = new} view members only testable none = record {
       (none_before rule.ConstructorSignatures (only.others rule.ConstructorSignatures refl) (ap (rows_of rule.ConstructorSignatures) none));
   types = none_added rule.TypeNames (members.types testable.named) (none_before rule.TypeNames (only.others rule.TypeNames refl) (ap (rows_of rule.TypeNames) none));
 }
-
--- types outside any other
-pub no_tops : (p : Rows) (old new : List Fault) → AreFaultsOf rule.TypeNames (all_such (length p) (has_top_type_clash p)) old new → new ≡ [] → HasNoTopFault p
-no_tops p old new h none = none_added rule.TypeNames h (ap (rows_of rule.TypeNames) none)
 
 pub no_types : {mid new : List Fault} (view : View) → (IsRightView view → AreExactTypeFaults view mid new) → IsTestableView view → new ≡ [] → HasNoTypeFault view
 no_types view exact testable none = let told = exact testable.right in record { each = λ one e. none_added one (told.each one e) (ap (rows_of one) none) }
