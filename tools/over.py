@@ -33,6 +33,8 @@ def main():
     is_building = words[:1] == ['--build']
     base, words = os.path.realpath(words[is_building]), words[is_building + 1:]
     gate = load_gate()
+    if base == gate.TOP:
+        sys.exit('over.py: BASE is this clone itself, whose libraries would be taken away')
     rt, name = gate.load_rt(), os.path.basename(os.getcwd())
     crates = gate.load_crates(rt)
     rt.Crate.cuts_libraries = False
