@@ -10,8 +10,7 @@ ghost use Rattle.jr_bind.specs.Ranked as tell;
 
 use jr_base::OutOfMemory;
 use jr_lookup::{Scopes, Sight};
-use jr_members::declaring_type;
-use jr_places::{end_at, is_type, parent_at};
+use jr_places::{declaring_type, end_at, is_type, parent_at};
 use jr_supers::{Tabled, header_place};
 use jr_tree::Row;
 use std::alloc::Global;

@@ -19,11 +19,11 @@ ghost use Rattle.jr_dispatch.specs.Overridden as tell;
 ghost use Rattle.jr_dispatch.specs.Dispatching as dispatching;
 
 use jr_base::OutOfMemory;
-use jr_members::{
-    Callables, Declared, MemberKind, World, declaring_type, is_in_interface, is_method, is_private,
+use jr_members::{Callables, Declared, MemberKind, World};
+use jr_places::{
+    Stamps, declaring_type, is_class, is_in_interface, is_interface, is_method, is_private,
     is_protected, is_public, is_static, passes,
 };
-use jr_places::{Stamps, is_class, is_interface};
 use jr_supers::{Supers, Tabled};
 use jr_tree::Row;
 use std::alloc::Global;

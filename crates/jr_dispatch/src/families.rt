@@ -15,8 +15,8 @@ ghost use Rattle.jr_dispatch.specs.Methods.{AreMethods, IsWholeWorld};
 
 use crate::dispatch::{Methods, item_at, sorted_once};
 use jr_base::OutOfMemory;
-use jr_members::{MemberKind, World, declaring_type};
-use jr_places::{Chains, Entry, Stamps};
+use jr_members::{MemberKind, World};
+use jr_places::{Chains, Entry, Stamps, declaring_type};
 use jr_supers::Signatures;
 use std::alloc::Global;
 

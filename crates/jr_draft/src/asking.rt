@@ -6,8 +6,7 @@ ghost use Rattle.jr_draft.specs.Asking as asking;
 use jr_change::{ChangeFault, Project, Reason};
 use jr_defs::Referent;
 use jr_marks::Marks;
-use jr_members::constructed_class;
-use jr_places::role_at;
+use jr_places::{constructed_class, role_at};
 use jr_tree::{Role, Row};
 
 /// How many units the prelude has. They come first.

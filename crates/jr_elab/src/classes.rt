@@ -18,8 +18,7 @@ use jr_base::{DeclId, Items, OutOfMemory, TypeId};
 use jr_codes::{Source, add};
 use jr_core::Class;
 use jr_dispatch::{Found, Methods};
-use jr_members::{declaring_type, is_inner};
-use jr_places::{is_body_of, is_interface, is_type, role_at};
+use jr_places::{declaring_type, is_body_of, is_inner, is_interface, is_type, role_at};
 use jr_tree::{Label, Role, Row};
 
 // The row is an interface.

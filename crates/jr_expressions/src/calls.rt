@@ -17,8 +17,7 @@ use jr_base::{Boxed, Items, OutOfMemory};
 use jr_codes::{Parts, Source, add_item};
 use jr_core::Code;
 use jr_defs::{Referent, RowType};
-use jr_members::{constructed_class, is_inner, is_static};
-use jr_places::role_at;
+use jr_places::{constructed_class, is_inner, is_static, role_at};
 use jr_supers::is_callable;
 use jr_tree::{ReceiverKind, ThisOrSuper};
 

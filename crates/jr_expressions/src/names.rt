@@ -17,8 +17,7 @@ use jr_codes::{Parts, Source};
 use jr_constants::Value;
 use jr_core::Code;
 use jr_defs::Referent;
-use jr_members::is_static;
-use jr_places::role_at;
+use jr_places::{is_static, role_at};
 use jr_tree::Role;
 
 /// The instance of a class.

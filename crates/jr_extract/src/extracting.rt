@@ -8,8 +8,7 @@ use jr_base::{Span, is_identifier};
 use jr_change::{Change, ChangeFault, Project, Reason, RowRange};
 use jr_draft::{PRELUDE, count_units, path_of, unit_of_file, unit_row};
 use jr_marks::Marks;
-use jr_members::is_static;
-use jr_places::{end_at, parent_at};
+use jr_places::{end_at, is_static, parent_at};
 use jr_text::{part, tokens_span, unit_bytes};
 use std::alloc::Global;
 

@@ -3,8 +3,7 @@
 use crate::guards::{Guard, guard_at};
 use jr_base::OutOfMemory;
 use jr_defs::{Element, RowType};
-use jr_members::is_static;
-use jr_places::{end_at, parent_at};
+use jr_places::{end_at, is_static, parent_at};
 use jr_supers::{Supers, Tabled};
 use jr_tree::{Label, NamePlace, Row};
 use std::alloc::Global;

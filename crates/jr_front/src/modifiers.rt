@@ -1,8 +1,9 @@
 // Modifiers that are repeated or not allowed (JLS 8.1.1, 8.3.1, 8.4.3, 8.8.3, 9.1.1, 9.3, 9.4, 9.5).
 use jr_base::{Keyword, Kind, OutOfMemory, Token};
 use jr_marks::Marks;
-use jr_members::{is_in_interface, written_at};
-use jr_places::{end_at, is_interface, is_top_level, parent_at, role_at};
+use jr_places::{
+    end_at, is_in_interface, is_interface, is_top_level, parent_at, role_at, written_at,
+};
 use jr_rule::{Fault, Rule};
 use jr_tree::{Modifiers, Role, Row};
 

@@ -5,8 +5,7 @@ use crate::flows::{is_within, rows_of};
 use crate::starting::{initialized_by, node_in, runs_before};
 use jr_change::{Project, RowRange};
 use jr_flow::{FlowFault, Graph, PointKind, bodies};
-use jr_members::constructed_class;
-use jr_places::{is_interface, parent_at};
+use jr_places::{constructed_class, is_interface, parent_at};
 use jr_tree::{Label, Row};
 use std::alloc::Global;
 

@@ -3,8 +3,7 @@
 use crate::edges::Edge;
 use jr_change::{Project, Raised};
 use jr_flow::{FlowFault, PointKind, bodies, graph};
-use jr_members::{declaring_type, is_static};
-use jr_places::{parent_at, role_at};
+use jr_places::{declaring_type, is_static, parent_at, role_at};
 use jr_tree::{Label, Role, Row};
 use std::alloc::Global;
 

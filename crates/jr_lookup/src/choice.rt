@@ -16,7 +16,8 @@ ghost use Rattle.jr_lookup.specs.Within.{IsWithin};
 
 use jr_base::OutOfMemory;
 use jr_defs::RowType;
-use jr_members::{World, is_abstract};
+use jr_members::World;
+use jr_places::is_abstract;
 use jr_supers::is_reference;
 use std::alloc::Global;
 

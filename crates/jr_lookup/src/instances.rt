@@ -10,8 +10,9 @@ ghost use Rattle.jr_plain.specs.Instances as plain;
 ghost use Rattle.jr_members.specs.Sources.{ArePlaced};
 ghost use Rattle.jr_lookup.specs.Instances as tell;
 
-use jr_members::{declaring_type, is_inner, written_at};
-use jr_places::{Places, is_body_of, is_interface, parent_at};
+use jr_places::{
+    Places, declaring_type, is_body_of, is_inner, is_interface, parent_at, written_at,
+};
 use jr_tree::{Label, Row};
 
 // The code of a member is static: of a static method or initializer, or in the initializer of a static field.

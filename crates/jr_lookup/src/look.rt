@@ -31,8 +31,8 @@ use crate::simple::Sight;
 use crate::{choose, choose_imported};
 use jr_base::OutOfMemory;
 use jr_defs::{Referent, RowType};
-use jr_members::{MemberKind, is_inner};
-use jr_places::{end_at, is_body_of, parent_at, sought_at};
+use jr_members::MemberKind;
+use jr_places::{end_at, is_body_of, is_inner, parent_at, sought_at};
 use jr_tree::{Label, NameKind, ReceiverKind, Row, Sought, ThisOrSuper};
 use std::alloc::Global;
 

@@ -1,6 +1,6 @@
 // How far members are open (JLS 8.4.8.3).
 
-use jr_members::{is_private, is_protected, is_public};
+use jr_places::{is_private, is_protected, is_public};
 use jr_tree::Row;
 
 // The least open access of a member: private, package, protected or public, by numbers from 0. A member may be written with two.

@@ -4,7 +4,8 @@ use crate::access::is_narrower;
 use crate::throwing::Thrown;
 use crate::together::is_result_fit;
 use jr_base::OutOfMemory;
-use jr_members::{MemberKind, World, declaring_type, is_abstract, is_public, is_static};
+use jr_members::{MemberKind, World};
+use jr_places::{declaring_type, is_abstract, is_public, is_static};
 use std::alloc::Global;
 
 /// The rules that a type breaks by what it inherits.

@@ -7,8 +7,10 @@ ghost use Rattle.jr_defs.specs.MemberRules as defined;
 ghost use Rattle.jr_member_rules.specs.Bodies as plain;
 
 use crate::together::is_method;
-use jr_members::{constructed_class, declaring_type, is_abstract, is_in_interface, written_at};
-use jr_places::{is_body_of, is_class, is_interface, name_at, parent_at, role_at};
+use jr_places::{
+    constructed_class, declaring_type, is_abstract, is_body_of, is_class, is_in_interface,
+    is_interface, name_at, parent_at, role_at, written_at,
+};
 use jr_tree::{Label, Role, Row};
 
 // The method is native.

@@ -6,8 +6,7 @@ ghost use Rattle.jr_name_rules.specs.HeaderTests as plain;
 ghost use Rattle.jr_member_faults.specs.Headers as tell;
 
 use jr_base::OutOfMemory;
-use jr_members::{is_final, is_inner};
-use jr_places::{Chains, Entry, is_class, is_interface, parent_at};
+use jr_places::{Chains, Entry, is_class, is_final, is_inner, is_interface, parent_at};
 use jr_supers::{HeaderPlace, Tabled, header_place};
 use jr_tree::Row;
 use std::alloc::Global;

@@ -9,7 +9,7 @@ ghost use Rattle.jr_member_rules.specs.Inner as plain;
 
 use crate::bodies::body_type;
 use jr_constants::Constants;
-use jr_members::{declaring_type, is_inner, is_static};
+use jr_places::{declaring_type, is_inner, is_static};
 use jr_tree::{Label, Row};
 
 // The variable has a value.

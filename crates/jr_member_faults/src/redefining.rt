@@ -5,8 +5,8 @@ use crate::throwing::Thrown;
 use crate::together::{is_method, is_result_fit};
 use jr_base::OutOfMemory;
 use jr_dispatch::Methods;
-use jr_members::{World, can_inherit, declaring_type, is_static, written_at};
-use jr_places::{Chains, Entry};
+use jr_members::{World, can_inherit};
+use jr_places::{Chains, Entry, declaring_type, is_static, written_at};
 use jr_supers::entry_before;
 use std::alloc::Global;
 

@@ -18,8 +18,10 @@ ghost use Rattle.jr_member_faults.specs.Views as views;
 
 use crate::together::is_method;
 use jr_base::OutOfMemory;
-use jr_members::{World, constructed_class, declaring_type};
-use jr_places::{Chains, Entry, Numbering, Places, is_type, role_at};
+use jr_members::World;
+use jr_places::{
+    Chains, Entry, Numbering, Places, constructed_class, declaring_type, is_type, role_at,
+};
 use jr_supers::{Signatures, with_type};
 use jr_tree::{Role, Row};
 use std::alloc::Global;

@@ -1,5 +1,4 @@
 pub mod Each
-pub mod Accessed
 pub mod Heritage
 pub mod Keyed
 pub mod Climbing

@@ -11,9 +11,10 @@ ghost use Rattle.jr_members.specs.Near.{IsSubclass, IsInSubclass, class_by, is_n
 ghost use Rattle.jr_members.specs.Sources.{AreSeen};
 
 use crate::members::World;
-use crate::modifiers::{declaring_type, is_private, is_protected, is_public, needs_no_object};
 use jr_defs::{Element, RowType};
-use jr_places::{role_at, sought_at};
+use jr_places::{
+    declaring_type, is_private, is_protected, is_public, needs_no_object, role_at, sought_at,
+};
 use jr_tree::{Role, Row, Sought, ThisOrSuper};
 
 // Locals, parameters and labels have no access.

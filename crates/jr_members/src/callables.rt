@@ -10,9 +10,8 @@ ghost use Rattle.jr_supers.specs.Signatures.{AreSignatures};
 ghost use Rattle.jr_members.specs.Keys as tell;
 
 use crate::declared::{add_entry, entry_under};
-use crate::modifiers::{constructed_class, declaring_type};
 use jr_base::OutOfMemory;
-use jr_places::{Chains, Entry, role_at};
+use jr_places::{Chains, Entry, constructed_class, declaring_type, role_at};
 use jr_supers::{Signatures, Tabled};
 use jr_tree::{Role, Row};
 use std::alloc::Global;

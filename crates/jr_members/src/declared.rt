@@ -8,9 +8,8 @@ ghost use Rattle.jr_places.specs.Places.{ArePlaces};
 ghost use Rattle.jr_members.specs.Keys as tell;
 ghost use Rattle.jr_members.specs.declared.declared.MemberKind.{MemberKind as KindOf};
 
-use crate::modifiers::declaring_type;
 use jr_base::OutOfMemory;
-use jr_places::{Chains, Entry, role_at};
+use jr_places::{Chains, Entry, declaring_type, role_at};
 use jr_supers::Tabled;
 use jr_tree::{Role, Row};
 use std::alloc::Global;

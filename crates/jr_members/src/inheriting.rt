@@ -13,9 +13,9 @@ ghost use Rattle.jr_members.specs.Sources as given;
 
 use crate::declared::MemberKind;
 use crate::lists::push_if;
-use crate::modifiers::passes;
 use crate::named::{Sources, can_inherit};
 use jr_base::OutOfMemory;
+use jr_places::passes;
 use jr_supers::Signatures;
 use std::alloc::Global;
 

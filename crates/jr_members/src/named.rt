@@ -18,10 +18,11 @@ ghost use Rattle.jr_members.specs.declared.declared.MemberKind.{MemberKind as Ki
 use crate::declared::{Declared, MemberKind};
 use crate::inheriting::inherited;
 use crate::lists::{push_each, push_if};
-use crate::modifiers::{is_in_interface, is_private, is_protected, is_public};
 use crate::wanted::naming_types;
 use jr_base::OutOfMemory;
-use jr_places::{Chains, Entry, Stamps, is_interface};
+use jr_places::{
+    Chains, Entry, Stamps, is_in_interface, is_interface, is_private, is_protected, is_public,
+};
 use jr_supers::{Signatures, Supers, Tabled};
 use jr_tree::Row;
 use std::alloc::Global;

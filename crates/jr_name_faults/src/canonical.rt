@@ -10,8 +10,7 @@ ghost use Rattle.jr_places.specs.Packages.{same_some};
 ghost use Rattle.jr_members.specs.Sources.{ArePlaced};
 ghost use Rattle.jr_name_faults.specs.Canonical.{IsTopOf};
 
-use jr_members::declaring_type;
-use jr_places::{Places, end_at, is_top_level};
+use jr_places::{Places, declaring_type, end_at, is_top_level};
 use jr_tree::Row;
 
 fn is_one(one: Option<u32>, other: Option<u32>) -> bool

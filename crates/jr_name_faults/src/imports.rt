@@ -17,8 +17,8 @@ use crate::canonical::is_canonical_name;
 use crate::twins::Twins;
 use jr_base::OutOfMemory;
 use jr_lookup::import_kind;
-use jr_members::{MemberKind, World, is_private, is_public, is_static};
-use jr_places::{Places, is_top_level, parent_at};
+use jr_members::{MemberKind, World};
+use jr_places::{Places, is_private, is_public, is_static, is_top_level, parent_at};
 use jr_tree::{ImportKind, Label, Row};
 use std::alloc::Global;
 

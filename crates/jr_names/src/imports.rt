@@ -13,8 +13,8 @@ ghost use Rattle.jr_names.specs.Importing as along;
 ghost use Rattle.jr_names.specs.Renaming as spec;
 
 use jr_base::OutOfMemory;
-use jr_members::{MemberKind, World, has, is_private, is_public, is_static};
-use jr_places::{name_at, parent_at};
+use jr_members::{MemberKind, World, has};
+use jr_places::{is_private, is_public, is_static, name_at, parent_at};
 use jr_tree::{ImportKind, Label, Row};
 use std::alloc::Global;
 

@@ -7,10 +7,9 @@ use jr_base::{OutOfMemory, Span};
 use jr_change::{Change, ChangeFault, Project, Reason};
 use jr_draft::{Head, Leaving, asked, head_of, name_of_package, unit_row};
 use jr_marks::Marks;
-use jr_members::{
-    declaring_type, is_in_interface, is_private, is_protected, is_static, written_at,
+use jr_places::{
+    declaring_type, is_in_interface, is_private, is_protected, is_static, is_type, written_at,
 };
-use jr_places::is_type;
 use jr_text::{extent, part, token_span, tokens_span, unit_bytes};
 use jr_tree::Row;
 use std::alloc::Global;

@@ -1,4 +1,5 @@
 pub mod Rounding
+pub mod Accessed
 pub mod Childs
 pub mod Naming
 pub mod Holding

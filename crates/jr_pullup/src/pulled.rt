@@ -2,8 +2,7 @@
 
 use jr_change::{Project, Reason};
 use jr_draft::is_in_prelude;
-use jr_members::{declaring_type, is_inner};
-use jr_places::{end_at, is_body_of, is_class, role_at};
+use jr_places::{declaring_type, end_at, is_body_of, is_class, is_inner, role_at};
 use jr_tree::{Role, Row};
 
 /// A method of a class that goes to its superclass, by rows.

@@ -3,8 +3,8 @@
 use crate::listed::subtypes;
 use jr_base::OutOfMemory;
 use jr_dispatch::Methods;
-use jr_members::{MemberKind, World, declaring_type, is_in_interface};
-use jr_places::{Stamps, name_at, role_at};
+use jr_members::{MemberKind, World};
+use jr_places::{Stamps, declaring_type, is_in_interface, name_at, role_at};
 use jr_tree::Role;
 use std::alloc::Global;
 

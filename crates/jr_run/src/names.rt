@@ -9,8 +9,7 @@ ghost use Rattle.jr_run.specs.Names.{behind_dots, canonical_path, named, package
 ghost use Rattle.jr_run.specs.Names as tell;
 
 use jr_base::OutOfMemory;
-use jr_members::declaring_type;
-use jr_places::{Places, end_at, name_at};
+use jr_places::{Places, declaring_type, end_at, name_at};
 use jr_tree::{Label, Row};
 use std::alloc::Global;
 

@@ -15,8 +15,7 @@ use jr_base::{DeclId, OutOfMemory, Text};
 use jr_codes::Source;
 use jr_machine_defs::{Ran, RunEnd};
 use jr_machine_ops::same_decl;
-use jr_members::declaring_type;
-use jr_places::{name_at, role_at};
+use jr_places::{declaring_type, name_at, role_at};
 use jr_tree::{Role, Row};
 
 fn is_nothing(rows: &[Row], at: u32) -> bool

@@ -6,7 +6,7 @@ use crate::speller::Speller;
 use jr_base::OutOfMemory;
 use jr_change::{Suffix, TypeName};
 use jr_defs::{Element, Referent, RowType};
-use jr_members::declaring_type;
+use jr_places::declaring_type;
 use jr_supers::declaration;
 use jr_tree::NameKind;
 use std::alloc::Global;

@@ -4,8 +4,7 @@ use crate::reference::Reference;
 use crate::speller::Speller;
 use jr_change::Shape;
 use jr_defs::{Referent, RowType};
-use jr_members::is_static;
-use jr_places::role_at;
+use jr_places::{is_static, role_at};
 use jr_supers::declaration;
 use jr_tree::Role;
 

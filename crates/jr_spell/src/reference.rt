@@ -4,8 +4,7 @@ use crate::paths::Chain;
 use crate::speller::Speller;
 use jr_defs::Referent;
 use jr_lookup::import_kind;
-use jr_members::is_static;
-use jr_places::{end_at, is_type, parent_at, role_at, sought_at};
+use jr_places::{end_at, is_static, is_type, parent_at, role_at, sought_at};
 use jr_supers::declaration;
 use jr_tree::{Label, NameKind, NamePlace, Role, Row, Sought};
 

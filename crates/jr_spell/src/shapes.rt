@@ -9,7 +9,7 @@ use jr_base::OutOfMemory;
 use jr_change::{Shape, Suffix};
 use jr_defs::{Referent, RowType};
 use jr_lookup::{Left, has_instance, instance_round};
-use jr_members::declaring_type;
+use jr_places::declaring_type;
 use jr_supers::class_type;
 use jr_tree::Sought;
 use std::alloc::Global;

@@ -4,7 +4,7 @@ ghost use Rattle.jr_rules.specs.CreationTests as creations;
 ghost use Rattle.jr_type_facts.specs.Facts as tell;
 ghost use Rattle.jr_type_faults.specs.Parts as parts;
 
-use jr_members::is_abstract;
+use jr_places::is_abstract;
 use jr_type_facts::{Facts, is_new, is_super_call};
 
 // The type that is named at a row is abstract.

@@ -13,8 +13,7 @@ ghost use Rattle.jr_type_faults.specs.Parts as parts;
 use crate::objects::{innermost, member};
 use crate::rows::{is_before_end, is_next};
 use jr_lookup::is_in_static_context;
-use jr_members::{declaring_type, is_static};
-use jr_places::{parent_at, role_at, sought_at};
+use jr_places::{declaring_type, is_static, parent_at, role_at, sought_at};
 use jr_tree::{Role, Row, Sought};
 use jr_type_facts::{Facts, is_initializing, is_plain_assignment};
 

@@ -9,8 +9,7 @@ ghost use Rattle.jr_supers.specs.Supers.{AreSupersOf};
 ghost use Rattle.jr_types.specs.Casts as casts;
 
 use jr_defs::{Element, RowType};
-use jr_members::is_final;
-use jr_places::{is_class, is_interface};
+use jr_places::{is_class, is_final, is_interface};
 use jr_supers::{Supers, is_reference};
 use jr_tree::Row;
 

@@ -10,7 +10,7 @@ ghost use Rattle.jr_plain.specs.Modifiers as modifiers;
 ghost use Rattle.jr_plain.specs.Members as members;
 ghost use Rattle.jr_plain.specs.Same as same;
 
-use jr_places::{is_body_of, is_class, is_interface, is_type, parent_at, role_at};
+use crate::reading::{is_body_of, is_class, is_interface, is_type, parent_at, role_at};
 use jr_tree::{Label, Modifiers, Role, Row};
 
 const UNMODIFIED: Modifiers = Modifiers {
