@@ -18,6 +18,7 @@ use Rattle.jr_rules.specs.Computed.{values, types}
 use Rattle.jr_bound.proofs.Ruled.{bound_past}
 use Rattle.jr_dispatch.proofs.Having.{above_then}
 use Rattle.jr_constants.specs.Resting.{values_of, variables_of}
+use Rattle.jr_lookup.proofs.Instancing.{around_is}
 use Rattle.jr_bind.proofs.Confirmed.{program_in}
 use Rattle.jr_prelude.specs.Begins.{BeginsWithLang}
 use Rattle.jr_prelude.proofs.Begun.{once}
@@ -28,7 +29,7 @@ use Rattle.jr_view.specs.declared.View.{View}
 use Rattle.jr_front.specs.Bound.{rows_in, table_in, IsBoundIn}
 use Rattle.jr_front.specs.Compiling.{BreaksExact, KeepsExact}
 use Rattle.jr_front.specs.Tested.{IsTestableView, HasNoTopFault, HasNoTopClash, HasNoFault}
-use Rattle.jr_front.specs.Viewed.{IsViewOf}
+use Rattle.jr_front.specs.Viewed.{IsViewOf, HasTablesOfRows}
 use Rattle.jr_front.specs.declared.workspace.Workspace.{Workspace}
 use Rattle.jr_front.proofs.Kept.{none_broken}
 use Rattle.jr_front.proofs.Viewed.{seen_view, whole_view}
@@ -80,6 +81,14 @@ module _ (w : Workspace) (view : View) (bound : IsBoundIn w) (of : IsViewOf (row
 
   view_variables : (d : ℕ) → variables_of view.constants.now d ≡ variable_value (rows_of view) (table_of view) (values (rows_of view) (table_of view)) d
   view_variables d = ap (λ found. variables_of found d) of.constants_are ∙ seen_so (λ r x. variables_of w.bound.value.constants.value d ≡ variable_value r x (values r x) d) (variables_are w bound d)
+
+  pub tables_view : HasTablesOfRows view
+  tables_view = record {
+    typed = λ n. ap (λ (all : Types). all n) view_types;
+    valued = λ n. ap (λ (all : Constants). all n) view_values;
+    variable = view_variables;
+    around = around_is (rows_of view) view.sight.world.under.places.now (seen_view w view bound of).seen.placed;
+  }
 
   module _ (begins : BeginsWithLang (rows_in w)) where
     one_throwable : HasNoOtherThrowable (rows_in w)

@@ -2,6 +2,8 @@
 use Rattle.std.proofs.Common.{◌≡◌, refl, sym, ◌∙◌, ap, subst, ℕ, List, Option, Some, None, Result, Ok, Err}
 use Rattle.std.specs.Borrow.{Bor}
 use Rattle.jr_base.specs.Files.{FileMap}
+use Rattle.jr_front.specs.Viewed.{HasTablesOfRows}
+use Rattle.jr_front.proofs.Testable.{tables_view}
 use Rattle.jr_front.proofs.Viewed.{seen_view, whole_view}
 use Rattle.jr_change.specs.declared.project.Project.{Project}
 use Rattle.jr_request.specs.declared.command.Command.{Command}
@@ -21,6 +23,9 @@ read_project found project is = record {
   whole = whole_view is.workspace project.view is.of.bound is.view;
   sized = (seen_view is.workspace project.view is.of.bound is.view).sized;
 }
+
+pub project_tables : (found : FileMap) (project : Project) → IsProjectIn found project → HasTablesOfRows project.view
+project_tables found project is = tables_view is.workspace project.view is.of.bound is.view
 
 -- ---- questions
 

@@ -7,7 +7,7 @@ use Rattle.jr_read.specs.Reading.{ReadsAs}
 use Rattle.jr_front.specs.Bound.{table_in, IsBoundIn}
 use Rattle.jr_front.specs.Checking.{CheckedAs}
 use Rattle.jr_front.specs.Compiling.{CompilesExactly}
-use Rattle.jr_front.specs.Viewed.{IsViewOf}
+use Rattle.jr_front.specs.Viewed.{HasTablesOfRows, IsViewOf}
 use Rattle.jr_front.specs.declared.workspace.Workspace.{Workspace}
 use Rattle.jr_change.specs.declared.project.Project.{Project}
 use Rattle.jr_request.specs.declared.command.Command.{Command}
@@ -38,10 +38,12 @@ pub record IsProjectIn (found : FileMap) (project : Project) : Type 0 where
   pub starts : project.marks.starts.now ≡ unit_rows workspace.index.value (length workspace.index.value)
   pub view : IsViewOf workspace.index.value workspace.places.value workspace.scopes.value workspace.bound.value project.view
 
--- the text of a run of the class that is named, in at most so many steps, or why there is none, by the program of the files (JLS 12.1)
+-- the text of a run of the class that is named, in at most so many steps, or why there is none, by the program of the files (JLS 12.1), whose
+-- tables have of its rows what the definitions say
 pub record IsRunOf (found : FileMap) (class : List ℕ) (steps : ℕ) (result : Result (List ℕ) RunFault) : Type 0 where
   pub project : Project
   pub of : IsProjectIn found project
+  pub tables : HasTablesOfRows project.view
   pub runs : IsRunText project class steps result
 
 -- ---- questions

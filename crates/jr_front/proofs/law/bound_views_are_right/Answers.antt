@@ -1,4 +1,4 @@
-use Rattle.jr_front.proofs.Testable.{testable_view}
+use Rattle.jr_front.proofs.Testable.{tables_view, testable_view}
 use Rattle.jr_front.proofs.Viewed.{seen_view, whole_view}
 use Rattle.jr_front.proofs.law.bound_views_are_right.Goals as goal
 
@@ -7,6 +7,9 @@ returns-clause-seen c = seen_view
 
 pub returns-clause-whole : goal.returns-clause-whole
 returns-clause-whole c = whole_view
+
+pub returns-clause-tables : goal.returns-clause-tables
+returns-clause-tables c = tables_view
 
 pub returns-clause-testable : goal.returns-clause-testable
 returns-clause-testable c = λ w view bound begins of. testable_view w view bound of begins
