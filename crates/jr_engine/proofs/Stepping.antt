@@ -28,7 +28,7 @@ use Rattle.jr_change.specs.declared.project.Locks.{Locks}
 use Rattle.jr_change.specs.declared.project.Project.{Project}
 use Rattle.jr_headed.specs.Founded.{IsProgram}
 use Rattle.jr_draft.specs.Asking.{table_of}
-use Rattle.jr_asked.specs.Requested.{IsAskedBy, keeps_all}
+use Rattle.jr_engine.specs.Requested.{IsAskedBy, keeps_all}
 use Rattle.jr_locks.specs.Changed.{IsChanged, origins_by, copies_by}
 use Rattle.jr_edges.specs.Dispatched.{KeepsDispatch, IsTold}
 use Rattle.jr_edges.specs.declared.dispatched.Kept.{Kept}

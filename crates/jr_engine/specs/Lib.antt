@@ -1,3 +1,4 @@
+pub mod Requested
 pub mod Steps
 pub mod Written
 pub mod Planning

@@ -15,7 +15,7 @@ use Rattle.jr_marks.specs.Places.{IsOrdered}
 use Rattle.jr_change.specs.declared.change.Change.{Change}
 use Rattle.jr_change.specs.declared.project.Project.{Project}
 use Rattle.jr_draft.specs.Asking.{table_of}
-use Rattle.jr_asked.specs.Requested.{IsAskedBy, keeps_all}
+use Rattle.jr_engine.specs.Requested.{IsAskedBy, keeps_all}
 use Rattle.jr_locks.specs.Changed.{IsChanged, origins_by, copies_by}
 use Rattle.jr_edges.specs.Dispatched.{KeepsDispatch}
 use Rattle.jr_runs.specs.Respelled.{IsRespelled}

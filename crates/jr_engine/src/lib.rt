@@ -4,9 +4,11 @@
 mod asked;
 mod edges;
 mod fault;
+mod kept;
 mod left;
 mod locked;
 mod planning;
+mod requests;
 mod step;
 mod texts;
 mod tried;

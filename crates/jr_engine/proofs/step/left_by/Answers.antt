@@ -1,5 +1,5 @@
 use Rattle.std.proofs.Common.{sym, ◌∙◌, ap₂}
-use Rattle.jr_asked.specs.Requested.{keeps_all}
+use Rattle.jr_engine.specs.Requested.{keeps_all}
 use Rattle.jr_engine.proofs.Stepping.{stays_so}
 use Rattle.jr_engine.proofs.step.left_by.Goals as goal
 

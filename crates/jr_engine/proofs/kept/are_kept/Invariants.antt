@@ -1,6 +1,6 @@
 use Rattle.std.proofs.Common.{◌≡◌, true, length}
-use Rattle.jr_asked.specs.Requested.{are_kept}
-use Rattle.jr_asked.proofs.kept.are_kept.Given as goal
+use Rattle.jr_engine.specs.Requested.{are_kept}
+use Rattle.jr_engine.proofs.kept.are_kept.Given as goal
 
 abbrev pub invariant-loop-more : goal.invariant-loop-more
 invariant-loop-more l = are_kept l.rest l.number l.more ≡ true → are_kept l.units l.first l.changed ≡ true

@@ -1,7 +1,7 @@
 // Whether a change changes anything.
 
 ghost use Rattle.std.specs.Prelude.{◌≡◌, true};
-ghost use Rattle.jr_asked.specs.Requested as told;
+ghost use Rattle.jr_engine.specs.Requested as told;
 
 use jr_change::{ChangedUnit, UnitSource};
 use jr_defs::UnitAt;

@@ -1,7 +1,7 @@
 // The change for which a request asks.
 
 ghost use Rattle.jr_marks.specs.Places.{IsOrdered};
-ghost use Rattle.jr_asked.specs.Requested.{IsAskedBy};
+ghost use Rattle.jr_engine.specs.Requested.{IsAskedBy};
 
 use jr_base::Request;
 use jr_change::{Change, ChangeFault, Project};
