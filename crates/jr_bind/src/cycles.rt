@@ -33,7 +33,7 @@ fn first_under(alloc: Global, ranked: &Ranked) -> Result<u32, OutOfMemory>
     }
 }
 
-/// The rows can be counted, and have one bare Object.
+/// The rows can be counted, have one bare Object, and packages with names.
 pub fn are_countable(rows: &[Row]) -> bool
     ensures { result ≡ true → AreWell rows.now × (length rows.now + 3 < 2 ^ 32) }
 {

@@ -132,6 +132,13 @@ fn rebound_under(
     all_rebound(alloc, sight, &bound.types, end)
 }
 
+// The same, of a program that nothing needs behind it.
+fn rebound_by(alloc: Global, setting: Setting, bound: Bound) -> Result<Vec<Rebound>, OutOfMemory>
+    ensures { tell.IsLockedBy setting.entry bound → IfOk result (λ all. tell.AreRebound setting.entry.rows.now (entries bound.table.items) all.items) }
+{
+    rebound_under(alloc, setting, &bound)
+}
+
 /// What is made of supertypes and a table.
 #[derive(Drop)]
 struct Made {
@@ -232,7 +239,7 @@ pub fn bind_under(
 
 /// The rows of a program, as they rise, whose lookup under a table of locks gives another declaration than their locks (JLS 6.5), each once (`AreRebound`). Supertypes, members,
 /// imports, constants and types of expressions are those under the same table; a row without a lock is passed. There is no answer where some type stands above itself under
-/// the locks. Rows that cannot be counted, and those without one bare Object, are answered by want of memory.
+/// the locks. Rows that cannot be counted, have not one bare Object, or have packages without a name are answered by want of memory.
 pub fn rebind(
     alloc: Global,
     rows: &[Row],
@@ -245,15 +252,15 @@ pub fn rebind(
     if !are_countable(rows) {
         return Err(OutOfMemory);
     }
+    let setting = Setting {
+        rows,
+        places,
+        scopes,
+    };
     let table = locks.to_vec(alloc)?;
     match bind_under(alloc, rows, places, scopes, table)? {
         Some(bound) => {
-            let setting = Setting {
-                rows,
-                places,
-                scopes,
-            };
-            let all = rebound_under(alloc, setting, &bound)?;
+            let all = rebound_by(alloc, setting, bound)?;
             Ok(Some(all))
         }
         None => Ok(None),

@@ -5,7 +5,7 @@ use Rattle.jr_bind.proofs.Locked.{rebound_start, rebound_next}
 use Rattle.jr_bind.proofs.rebinding.all_rebound.Goals as goal
 
 pub loop-at-init : goal.loop-at-init
-loop-at-init c = λ can. subst (AreReboundTo (rows_of c.args.sight) (table_of c.args.sight) 0) (sym c.new-all.ensures) (rebound_start (rows_of c.args.sight) (table_of c.args.sight))
+loop-at-init c = λ can. subst (AreReboundTo (rows_of c.args.sight) (table_of c.args.sight) 0) (sym c.new-all.ensures.items) (rebound_start (rows_of c.args.sight) (table_of c.args.sight))
 
 pub loop-at-preserved : goal.loop-at-preserved
 loop-at-preserved c = λ can. rebound_next (rows_of c.args.sight) (table_of c.args.sight) c.loop-at.at c.loop-at.all.items _ c.in_ok-answer.answer (c.loop-at.invariant can) (c.in_ok-answer.ensures (can c.loop-at.at c.loop-at-test.true)) c.in_ok-push_if.ensures
