@@ -201,22 +201,3 @@ module _ (sight : Sight) (found : code.Constants) (types : List (Option RowType)
 
     pub binding_under : IsBound rows (table_of sight) → AllSettled rows (table_of sight) → IsBindingUnder rows (table_of sight) sight.world.under.places.now sight.world.supers.now sight.world.members.now found types
     binding_under bound settled = record { well = well; acyclic = acyclic; is_binding = record { settled = settled; bound = bound }; under = under }
-
--- those of a bound program, as they are read
-module _ (p : Rows) (places : Places) (bound : Bound) (table : List Referent) (supers : Supers) (members : Members) (imports : Imports) (types : List (Option RowType))
-    (table_is : table ≡ bound.table.items) (supers_are : supers ≡ bound.supers.value) (members_are : members ≡ bound.members.value) (imports_are : imports ≡ bound.imports.value) (types_are : types ≡ bound.types.items) where
-  pub tables_read : AreTablesOf p places bound → AreTables p (entries table) places supers members imports bound.constants.value types
-  tables_read h = subst (λ x. AreTables p (entries x) places supers members imports bound.constants.value types) (sym table_is)
-      (subst (λ x. AreTables p (entries bound.table.items) places x members imports bound.constants.value types) (sym supers_are)
-      (subst (λ x. AreTables p (entries bound.table.items) places bound.supers.value x imports bound.constants.value types) (sym members_are)
-      (subst (λ x. AreTables p (entries bound.table.items) places bound.supers.value bound.members.value x bound.constants.value types) (sym imports_are)
-      (subst (λ x. AreTables p (entries bound.table.items) places bound.supers.value bound.members.value bound.imports.value bound.constants.value x) (sym types_are) h))))
-
-  pub binding_read : AreTablesOf p places bound → IsProgramIn p places → IsBindingUnder p (entries table) places supers members bound.constants.value types → IsBindingOf p places bound
-  binding_read tables program h = record {
-    binding = subst (λ x. IsBindingUnder p (entries x) places bound.supers.value bound.members.value bound.constants.value bound.types.items) table_is
-        (subst (λ x. IsBindingUnder p (entries table) places x bound.members.value bound.constants.value bound.types.items) supers_are
-        (subst (λ x. IsBindingUnder p (entries table) places supers x bound.constants.value bound.types.items) members_are
-        (subst (λ x. IsBindingUnder p (entries table) places supers members bound.constants.value x) types_are h)));
-    imports_are = tables.imports_are program.placed;
-  }

@@ -7,13 +7,13 @@ use Rattle.jr_bind.specs.declared.stages.Stage.{Stage}
 use Rattle.jr_bind.specs.Late.{IsLateAt, AreLateTo}
 
 -- an item of a list with one more
-one_more : (all : List Stage) (x : Stage) (n : ℕ) (s : Stage) → slice_get (all ++ x ∷ []) n ≡ Some s → (n ≡ length all → ⊥) → slice_get all n ≡ Some s
+pub one_more : {A : Type 0} (all : List A) (x : A) (n : ℕ) (s : A) → slice_get (all ++ x ∷ []) n ≡ Some s → (n ≡ length all → ⊥) → slice_get all n ≡ Some s
 one_more [] x zero s e apart = absurd (apart refl)
 one_more [] x (suc n) s e apart = e
 one_more (y ∷ all) x zero s e apart = e
 one_more (y ∷ all) x (suc n) s e apart = one_more all x n s e (λ h. apart (ap suc h))
 
-last_one : (all : List Stage) (x : Stage) → slice_get (all ++ x ∷ []) (length all) ≡ Some x
+pub last_one : {A : Type 0} (all : List A) (x : A) → slice_get (all ++ x ∷ []) (length all) ≡ Some x
 last_one [] x = refl
 last_one (y ∷ all) x = last_one all x
 

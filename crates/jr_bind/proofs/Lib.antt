@@ -15,3 +15,4 @@ pub mod Joined
 pub mod FirstOnCycle
 pub mod RowByRow
 pub mod Sighted
+pub mod Locked

@@ -6,3 +6,4 @@ pub mod Confirmed
 pub mod Rounds
 pub mod Ranked
 pub mod Edges
+pub mod Rebound

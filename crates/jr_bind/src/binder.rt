@@ -6,6 +6,7 @@ ghost use Rattle.jr_bind.specs.Filled.{IsReady, KeepsRest};
 ghost use Rattle.jr_bind.specs.Naming.{FillsNames};
 ghost use Rattle.jr_bind.specs.Exact as exact;
 ghost use Rattle.jr_bind.specs.Confirmed as confirmed;
+ghost use Rattle.jr_bind.specs.Rebound as rebound;
 
 use crate::boxes::{boxed, imports_none, imports_of, members_of, supers_of};
 use crate::confirming::is_binding;
@@ -162,14 +163,9 @@ fn bind_rest(
     bind_names(alloc, setting, stages, imports, filling)
 }
 
-// The table of the program is its binding.
-fn is_binding_of(
-    alloc: Global,
-    setting: Setting,
-    bound: &Bound,
-    ranks: &[u32],
-) -> Result<bool, OutOfMemory>
-    ensures { confirmed.AreTablesOf setting.entry.rows.now setting.entry.places.now bound.now → confirmed.IsProgramOf setting.entry.rows.now setting.entry.places.now setting.entry.scopes.now → IfOk result (λ is. is ≡ true → confirmed.IsBindingOf setting.entry.rows.now setting.entry.places.now bound.now) }
+/// The rows under the table of a bound program, as lookup reads them.
+pub fn sight_of<'a>(setting: Setting<'a>, bound: &'a Bound) -> Sight<'a>
+    ensures { rebound.parts_of result ≡ rebound.parts_by setting.entry bound.now }
 {
     let under = Tabled {
         rows: setting.rows,
@@ -181,11 +177,23 @@ fn is_binding_of(
         supers: &bound.supers,
         members: &bound.members,
     };
-    let sight = Sight {
+    Sight {
         world,
         scopes: setting.scopes,
         imports: &bound.imports,
-    };
+    }
+}
+
+// The table of the program is its binding.
+fn is_binding_of(
+    alloc: Global,
+    setting: Setting,
+    bound: &Bound,
+    ranks: &[u32],
+) -> Result<bool, OutOfMemory>
+    ensures { confirmed.AreTablesOf setting.entry.rows.now setting.entry.places.now bound.now → confirmed.IsProgramOf setting.entry.rows.now setting.entry.places.now setting.entry.scopes.now → IfOk result (λ is. is ≡ true → confirmed.IsBindingOf setting.entry.rows.now setting.entry.places.now bound.now) }
+{
+    let sight = sight_of(setting, bound);
     is_binding(alloc, sight, &bound.types, ranks)
 }
 

@@ -33,8 +33,8 @@ fn first_under(alloc: Global, ranked: &Ranked) -> Result<u32, OutOfMemory>
     }
 }
 
-// The rows can be counted.
-fn are_countable(rows: &[Row]) -> bool
+/// The rows can be counted, have one bare Object, and packages with names.
+pub fn are_countable(rows: &[Row]) -> bool
     ensures { result ≡ true → AreWell rows.now × (length rows.now + 3 < 2 ^ 32) }
 {
     let Ok(end) = u32::try_from(rows.len()) else {

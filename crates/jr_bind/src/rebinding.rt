@@ -1,21 +1,31 @@
 // Lookup under a table of locks.
-ghost use Rattle.std.specs.Prelude.{◌≡◌, IfOk, IfSome};
+ghost use Rattle.std.specs.Prelude.{◌≡◌, ◌<◌, ◌++◌, IfOk, IfSome, OnOk, MatchOption, Decides};
+ghost use Rattle.jr_tree.specs.Rows as program;
 ghost use Rattle.jr_defs.specs.Referents.{entries};
 ghost use Rattle.jr_supers.specs.Supers.{IsWellHeaded, HasNoCycle, AreSupersOf};
+ghost use Rattle.jr_members.specs.Held.{ObjectIsBare};
+ghost use Rattle.jr_members.specs.Sources.{ArePlaced};
+ghost use Rattle.jr_lookup.specs.Behind.{CanLook};
+ghost use Rattle.jr_lookup.specs.Imports.{AreImports};
 ghost use Rattle.jr_bind.specs.Filled as filled;
 ghost use Rattle.jr_bind.specs.Filled.{IsReady};
 ghost use Rattle.jr_bind.specs.Exact as exact;
+ghost use Rattle.jr_bind.specs.Confirmed as confirmed;
+ghost use Rattle.jr_bind.specs.Rebound as tell;
 
-use crate::binder::Bound;
+use crate::binder::{Bound, sight_of};
 use crate::boxes::{imports_of, members_of, supers_of};
+use crate::confirming::is_same;
+use crate::cycles::are_countable;
 use crate::filling::{Filling, Known};
 use crate::headers::Setting;
 use jr_base::OutOfMemory;
 use jr_constants::Constants;
-use jr_defs::Referent;
+use jr_defs::{Referent, RowType};
+use jr_headed::has_no_cycle;
 use jr_lookup::{Imports, Scopes, Sight};
-use jr_members::{Members, World};
-use jr_places::{Places, is_type, sought_at};
+use jr_members::Members;
+use jr_places::{Places, sought_at};
 use jr_supers::{Supers, Tabled};
 use jr_tree::{Row, Sought};
 use std::alloc::Global;
@@ -27,123 +37,106 @@ pub struct Rebound {
     pub found: Referent,
 }
 
-// Where each type stands in an order of types.
-fn positions_of(alloc: Global, rows: &[Row], order: &[u32]) -> Result<Vec<usize>, OutOfMemory> {
-    let mut positions = vec![in alloc; 0usize; rows.len()]?;
-    for place in 0..order.len() {
-        if let Some(at) = order.get(place) {
-            if let Some(position) = positions.get_mut(*at as usize) {
-                *position = place;
-            }
-        }
-    }
-    Ok(positions)
-}
-
-// The type `over`, a supertype of the type `at`, does not stand before it.
-fn is_behind(rows: &[Row], positions: &[usize], at: u32, over: u32) -> bool {
-    match positions.get(over as usize) {
-        Some(high) => match positions.get(at as usize) {
-            Some(low) => is_type(rows, over) && *high >= *low,
-            None => false,
-        },
-        None => false,
-    }
-}
-
-// Some type stands above itself.
-fn has_cycle(alloc: Global, rows: &[Row], supers: &Supers) -> Result<bool, OutOfMemory> {
-    let positions = positions_of(alloc, rows, supers.order())?;
-    let direct = supers.direct();
-    for place in 0..direct.len() {
-        if let Ok(place) = u32::try_from(place) {
-            if let Some(entry) = direct.entry(place) {
-                if is_behind(rows, &positions, entry.first, entry.row) {
-                    return Ok(true);
-                }
-            }
-        }
-    }
-    Ok(false)
-}
-
 // Both are one declaration, found through any level, or the same in all else.
-fn is_same_target(lock: Referent, found: Referent) -> bool {
+fn is_same_target(lock: Referent, found: Referent) -> bool
+    ensures { Decides result (tell.IsSameTarget lock found) }
+{
     match lock {
         Referent::Declared { row, .. } => match found {
             Referent::Declared { row: other, .. } => row == other,
             _ => false,
         },
-        _ => lock == found,
+        _ => is_same(lock, found),
     }
 }
 
-// The lock of a row that looks for something, if it has one.
-fn lock_of(rows: &[Row], locks: &[Referent], at: u32) -> Option<Referent> {
-    if sought_at(rows, at) == Sought::Nothing {
-        return None;
-    }
-    match locks.get(at as usize) {
-        Some(Referent::Unbound) => None,
-        Some(lock) => Some(*lock),
-        None => None,
+// The row looks for something.
+fn seeks(rows: &[Row], at: u32) -> bool
+    ensures { result ≡ tell.seeks (program.sought_at rows.now at) }
+{
+    match sought_at(rows, at) {
+        Sought::Nothing => false,
+        _ => true,
     }
 }
 
-// What a row refers to under the table.
-fn look(alloc: Global, setting: Setting, bound: &Bound, at: u32) -> Result<Referent, OutOfMemory> {
-    let under = Tabled {
-        rows: setting.rows,
-        places: setting.places,
-        table: &bound.table,
-    };
-    let world = World {
-        under,
-        supers: &bound.supers,
-        members: &bound.members,
-    };
-    let sight = Sight {
-        world,
-        scopes: setting.scopes,
-        imports: &bound.imports,
-    };
-    sight.look(alloc, &bound.types, at)
+// It does, and has a lock.
+fn has_lock(under: Tabled, at: u32) -> bool
+    ensures { Decides result (tell.HasLock under.entry.rows.now (entries under.entry.table.now) at) }
+{
+    if !seeks(under.rows, at) {
+        return false;
+    }
+    !is_same(under.referent(at), Referent::Unbound)
 }
 
 // The row, where its lookup gives another declaration than its lock.
 fn rebound_at(
     alloc: Global,
-    setting: Setting,
-    bound: &Bound,
+    sight: Sight,
+    types: &[Option<RowType>],
     at: u32,
-) -> Result<Option<Rebound>, OutOfMemory> {
-    let Some(lock) = lock_of(setting.rows, &bound.table, at) else {
+) -> Result<Option<Rebound>, OutOfMemory>
+    ensures { CanLook (confirmed.table_of sight.entry) sight.entry types.now at → IfOk result (tell.IsReboundAt (confirmed.rows_of sight.entry) (confirmed.table_of sight.entry) at) }
+{
+    if !has_lock(sight.world.under, at) {
         return Ok(None);
-    };
-    let found = look(alloc, setting, bound, at)?;
-    if is_same_target(lock, found) {
+    }
+    let found = sight.look(alloc, types, at)?;
+    if is_same_target(sight.world.under.referent(at), found) {
         Ok(None)
     } else {
         Ok(Some(Rebound { row: at, found }))
     }
 }
 
-// All such rows, as they rise.
+// One more, if there is one.
+fn push_if(all: &mut Vec<Rebound>, answer: Option<Rebound>) -> Result<(), OutOfMemory>
+    ensures { OnOk result (all.new.items ≡ all.old.items ++ tell.one_if answer) }
+{
+    if let Some(rebound) = answer {
+        all.push(rebound)?;
+    }
+    Ok(())
+}
+
+// Those of the rows before the end, as they rise.
 fn all_rebound(
+    alloc: Global,
+    sight: Sight,
+    types: &[Option<RowType>],
+    end: u32,
+) -> Result<Vec<Rebound>, OutOfMemory>
+    ensures { confirmed.CanLookTo sight.entry types.now end → IfOk result (λ all. tell.AreReboundTo (confirmed.rows_of sight.entry) (confirmed.table_of sight.entry) end all.items) }
+{
+    let mut all = Vec::new(alloc);
+    for at in 0..end {
+        let answer = rebound_at(alloc, sight, types, at)?;
+        push_if(&mut all, answer)?;
+    }
+    Ok(all)
+}
+
+// All of them, of a program under its locks.
+fn rebound_under(
     alloc: Global,
     setting: Setting,
     bound: &Bound,
-) -> Result<Vec<Rebound>, OutOfMemory> {
-    let Ok(count) = u32::try_from(setting.rows.len()) else {
+) -> Result<Vec<Rebound>, OutOfMemory>
+    ensures { tell.IsLockedBy setting.entry bound.now → IfOk result (λ all. tell.AreRebound setting.entry.rows.now (entries bound.now.table.items) all.items) }
+{
+    let Ok(end) = u32::try_from(setting.rows.len()) else {
         return Err(OutOfMemory);
     };
-    let mut all = Vec::new(alloc);
-    for at in 0..count {
-        if let Some(rebound) = rebound_at(alloc, setting, bound, at)? {
-            all.push(rebound)?;
-        }
-    }
-    Ok(all)
+    let sight = sight_of(setting, bound);
+    all_rebound(alloc, sight, &bound.types, end)
+}
+
+// The same, of a program that nothing needs behind it.
+fn rebound_by(alloc: Global, setting: Setting, bound: Bound) -> Result<Vec<Rebound>, OutOfMemory>
+    ensures { tell.IsLockedBy setting.entry bound → IfOk result (λ all. tell.AreRebound setting.entry.rows.now (entries bound.table.items) all.items) }
+{
+    rebound_under(alloc, setting, &bound)
 }
 
 /// What is made of supertypes and a table.
@@ -162,6 +155,7 @@ fn made_by(
     filling: &mut Filling,
 ) -> Result<Made, OutOfMemory>
     ensures table { filling.new.table ≡ filling.old.table }
+    ensures imports { ArePlaced setting.entry.rows.now setting.entry.places.now → IfOk result (λ made. AreImports setting.entry.rows.now (filled.table_of filling.old) made.imports.value) }
     ensures exact { IsReady setting.entry.rows.now filling.old → (HasNoCycle setting.entry.rows.now (filled.table_of filling.old) → IsWellHeaded setting.entry.rows.now → AreSupersOf setting.entry.rows.now (filled.table_of filling.old) supers.now) → IfOk result (λ made. exact.IsProgramIn setting.entry.rows.now setting.entry.places.now → HasNoCycle setting.entry.rows.now (filled.table_of filling.old) → exact.AreUnder setting.entry.rows.now (filled.table_of filling.old) setting.entry.places.now supers.now made.members.value made.constants.value filling.new.types.items) }
 {
     let under = Tabled {
@@ -194,6 +188,7 @@ fn bind_locked(
     locks: Vec<Referent>,
 ) -> Result<Bound, OutOfMemory>
     ensures table { IfOk result (λ bound. bound.table ≡ locks) }
+    ensures imports { ArePlaced setting.entry.rows.now setting.entry.places.now → IfOk result (λ bound. AreImports setting.entry.rows.now (entries bound.table.items) bound.imports.value) }
     ensures exact { (HasNoCycle setting.entry.rows.now (entries locks.items) → IsWellHeaded setting.entry.rows.now → AreSupersOf setting.entry.rows.now (entries locks.items) supers.value) → IfOk result (λ bound. exact.IsExact setting.entry.rows.now setting.entry.places.now bound) }
 {
     let mut filling = Filling::new(alloc, setting.rows, locks)?;
@@ -220,6 +215,8 @@ pub fn bind_under(
 ) -> Result<Option<Bound>, OutOfMemory>
     ensures table { IfOk result (λ bound. IfSome bound (λ all. all.table ≡ locks)) }
     ensures exact { IfOk result (λ bound. IfSome bound (λ all. exact.IsExact rows.now places.now all)) }
+    ensures imports { ArePlaced rows.now places.now → IfOk result (λ bound. IfSome bound (λ all. AreImports rows.now (entries all.table.items) all.imports.value)) }
+    ensures cycle { IsWellHeaded rows.now → ObjectIsBare rows.now → IfOk result (λ bound. MatchOption bound (HasNoCycle rows.now (entries locks.items) → ⊥) (λ all. HasNoCycle rows.now (entries all.table.items))) }
 {
     let under = Tabled {
         rows,
@@ -227,7 +224,8 @@ pub fn bind_under(
         table: &locks,
     };
     let supers = supers_of(alloc, under)?;
-    if has_cycle(alloc, rows, &supers)? {
+    let is_acyclic = has_no_cycle(alloc, rows, &supers)?;
+    if !is_acyclic {
         return Ok(None);
     }
     let setting = Setting {
@@ -239,24 +237,30 @@ pub fn bind_under(
     Ok(Some(bound))
 }
 
-/// The rows, as they rise, whose lookup under a table of locks gives another declaration than their locks. Supertypes, members, imports, constants
-/// and types of expressions are those under the same table; a row without a lock is passed. There is no answer where some type stands above
-/// itself under the locks.
+/// The rows of a program, as they rise, whose lookup under a table of locks gives another declaration than their locks (JLS 6.5), each once (`AreRebound`). Supertypes, members,
+/// imports, constants and types of expressions are those under the same table; a row without a lock is passed. There is no answer where some type stands above itself under
+/// the locks. Rows that cannot be counted, have not one bare Object, or have packages without a name are answered by want of memory.
 pub fn rebind(
     alloc: Global,
     rows: &[Row],
     places: &Places,
     scopes: &Scopes,
     locks: &[Referent],
-) -> Result<Option<Vec<Rebound>>, OutOfMemory> {
-    match bind_under(alloc, rows, places, scopes, locks.to_vec(alloc)?)? {
+) -> Result<Option<Vec<Rebound>>, OutOfMemory>
+    ensures { confirmed.IsProgramOf rows.now places.now scopes.now → tell.AreLocks rows.now locks.now → IfOk result (λ answer. MatchOption answer (HasNoCycle rows.now (entries locks.now) → ⊥) (λ all. tell.IsRebinding rows.now (entries locks.now) all.items)) }
+{
+    if !are_countable(rows) {
+        return Err(OutOfMemory);
+    }
+    let setting = Setting {
+        rows,
+        places,
+        scopes,
+    };
+    let table = locks.to_vec(alloc)?;
+    match bind_under(alloc, rows, places, scopes, table)? {
         Some(bound) => {
-            let setting = Setting {
-                rows,
-                places,
-                scopes,
-            };
-            let all = all_rebound(alloc, setting, &bound)?;
+            let all = rebound_by(alloc, setting, bound)?;
             Ok(Some(all))
         }
         None => Ok(None),

@@ -1,4 +1,6 @@
-use Rattle.std.proofs.Common.{◌∙◌}
+use Rattle.std.proofs.Common.{◌∙◌, subst}
+use Rattle.jr_defs.specs.Referents.{entries}
+use Rattle.jr_lookup.specs.Imports.{AreImports}
 use Rattle.jr_bind.specs.Filled.{table_of}
 use Rattle.jr_bind.proofs.Whole.{under_exact, members_read, found_typed}
 use Rattle.jr_bind.proofs.rebinding.made_by.Goals as goal
@@ -13,3 +15,6 @@ returns-clause-exact c = λ ready supers_are. let filling = c.args.filling.now i
     (λ sized tree. c.in_ok-constants.ensures.ints sized tree ready.ints_size) (λ sized. ready.string_is sized.few)
     (λ constant can. found_typed p constant places supers filling c.find_constants.new.self c.find_types.new.self.types.items
     c.in_ok-constants.ensures.table c.in_ok-constants.ensures.types c.in_ok-constants.ensures.string ready (c.in_ok-find_types.ensures.types constant) can)
+
+pub returns-clause-imports : goal.returns-clause-imports
+returns-clause-imports c = λ placed. subst (λ all. AreImports c.args.setting.rows.now (entries all) c.in_ok-imports.imports.value) c.deref.ensures.value (c.in_ok-imports.ensures placed)
