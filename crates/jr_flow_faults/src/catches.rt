@@ -1,8 +1,12 @@
 // The catches of each `try`, and what arrives there (JLS 11.2.3, 14.20).
+ghost use Rattle.std.specs.Prelude.{OnOk};
+ghost use Rattle.jr_faults.specs.Added.{AreOnly};
+ghost use Rattle.jr_flow_faults.specs.Faults.{is_of_exceptions};
 
 use crate::classes::{Roots, has_above};
 use crate::thrown::caught_class;
 use jr_base::OutOfMemory;
+use jr_faults::rule_if;
 use jr_places::{Chains, Entry, parent_at};
 use jr_rule::{Fault, Rule};
 use jr_supers::{Supers, Tabled};
@@ -33,7 +37,9 @@ impl Catches {
         under: &Tabled,
         supers: &Supers,
         out: &mut Vec<Fault>,
-    ) -> Result<Catches, OutOfMemory> {
+    ) -> Result<Catches, OutOfMemory>
+        ensures { OnOk result (AreOnly is_of_exceptions out.old.items out.new.items) }
+    {
         let Ok(count) = u32::try_from(under.rows.len()) else {
             return Err(OutOfMemory);
         };
@@ -48,6 +54,7 @@ impl Catches {
         Ok(catches)
     }
 
+    #[tactic(auto, using(crate::proofs::Exceptions::covered_added, jr_faults::proofs::Told::only_kept))]
     fn add(
         &mut self,
         alloc: Global,
@@ -55,17 +62,15 @@ impl Catches {
         supers: &Supers,
         at: u32,
         out: &mut Vec<Fault>,
-    ) -> Result<(), OutOfMemory> {
+    ) -> Result<(), OutOfMemory>
+        ensures { OnOk result (AreOnly is_of_exceptions out.old.items out.new.items) }
+    {
         let Some(class) = caught_class(under, at) else {
             return Ok(());
         };
         let over = parent_at(under.rows, at);
-        if self.catches(supers, over, class) {
-            out.push(Fault {
-                row: at,
-                rule: Rule::CoveredCatch,
-            })?;
-        }
+        let is_covered = self.catches(supers, over, class);
+        rule_if(out, is_covered, at, Rule::CoveredCatch)?;
         self.table.add(
             alloc,
             Entry {
@@ -172,17 +177,15 @@ impl Arrived {
         supers: &Supers,
         roots: Roots,
         out: &mut Vec<Fault>,
-    ) -> Result<(), OutOfMemory> {
+    ) -> Result<(), OutOfMemory>
+        ensures { OnOk result (AreOnly is_of_exceptions out.old.items out.new.items) }
+    {
         let Ok(count) = u32::try_from(under.rows.len()) else {
             return Err(OutOfMemory);
         };
         for at in 0..count {
-            if is_catch(under.rows, at) && self.is_unthrown(under, supers, roots, at) {
-                out.push(Fault {
-                    row: at,
-                    rule: Rule::UnthrownCatch,
-                })?;
-            }
+            let is_broken = is_catch(under.rows, at) && self.is_unthrown(under, supers, roots, at);
+            rule_if(out, is_broken, at, Rule::UnthrownCatch)?;
         }
         Ok(())
     }

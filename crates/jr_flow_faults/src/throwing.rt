@@ -1,4 +1,9 @@
 // Checked exceptions that are neither caught nor declared (JLS 11.2.3).
+ghost use Rattle.std.specs.Prelude.{OnOk};
+ghost use Rattle.jr_tree.specs.Local.{IsLocal};
+ghost use Rattle.jr_faults.specs.Added.{AreOnly};
+ghost use Rattle.jr_flow_faults.specs.Computed.{rows_in};
+ghost use Rattle.jr_flow_faults.specs.Faults.{is_of_exceptions, is_of_flow, AreFlowFaults};
 
 use crate::catches::{Arrived, Catches};
 use crate::classes::Roots;
@@ -6,6 +11,7 @@ use crate::facts::facts_of;
 use crate::guards::{Around, first_guard, is_try};
 use crate::thrown::{lets_out, thrown_at};
 use jr_base::OutOfMemory;
+use jr_faults::rule_if;
 use jr_reach::{courses_of, reach_faults, reached_of};
 use jr_rule::{Fault, Rule};
 use jr_supers::Supers;
@@ -82,13 +88,16 @@ impl<'a> Reading<'a> {
     }
 
     // Whether what a row throws is caught or declared.
+    #[tactic(auto, using(crate::proofs::Exceptions::uncaught_added))]
     fn note_row(
         &self,
         alloc: Global,
         arrived: &mut Arrived,
         at: u32,
         out: &mut Vec<Fault>,
-    ) -> Result<(), OutOfMemory> {
+    ) -> Result<(), OutOfMemory>
+        ensures { OnOk result (AreOnly is_of_exceptions out.old.items out.new.items) }
+    {
         let view = self.view;
         let under = &view.sight.world.under;
         let mut is_broken = false;
@@ -96,16 +105,14 @@ impl<'a> Reading<'a> {
             let is_uncaught = self.is_uncaught(alloc, arrived, at, class)?;
             is_broken = is_broken || is_uncaught;
         }
-        if is_broken {
-            out.push(Fault {
-                row: at,
-                rule: Rule::UncaughtException,
-            })?;
-        }
+        rule_if(out, is_broken, at, Rule::UncaughtException)?;
         Ok(())
     }
 
-    fn note_all(&self, alloc: Global, out: &mut Vec<Fault>) -> Result<(), OutOfMemory> {
+    #[tactic(auto, using(jr_faults::proofs::Told::only_more))]
+    fn note_all(&self, alloc: Global, out: &mut Vec<Fault>) -> Result<(), OutOfMemory>
+        ensures { OnOk result (AreOnly is_of_exceptions out.old.items out.new.items) }
+    {
         let view = self.view;
         let under = &view.sight.world.under;
         let Ok(count) = u32::try_from(under.rows.len()) else {
@@ -115,7 +122,8 @@ impl<'a> Reading<'a> {
         for at in 0..count {
             self.note_row(alloc, &mut arrived, at, out)?;
         }
-        arrived.note_unthrown(under, self.supers(), self.roots, out)
+        arrived.note_unthrown(under, self.supers(), self.roots, out)?;
+        Ok(())
     }
 }
 
@@ -125,7 +133,9 @@ fn throw_faults(
     view: &View,
     around: &Around,
     out: &mut Vec<Fault>,
-) -> Result<(), OutOfMemory> {
+) -> Result<(), OutOfMemory>
+    ensures { OnOk result (AreOnly is_of_exceptions out.old.items out.new.items) }
+{
     let world = &view.sight.world;
     let guards = around.guards(alloc)?;
     let catches = Catches::of(alloc, &world.under, world.supers, out)?;
@@ -140,7 +150,10 @@ fn throw_faults(
 }
 
 /// Adds where the rules on jumps, on reaching and completing, and on checked exceptions are broken.
-pub fn flow_faults(alloc: Global, view: &View, out: &mut Vec<Fault>) -> Result<(), OutOfMemory> {
+pub fn flow_faults(alloc: Global, view: &View, out: &mut Vec<Fault>) -> Result<(), OutOfMemory>
+    ensures exact { IsLocal (rows_in view.now) → OnOk result (AreFlowFaults view.now out.old.items out.new.items) }
+    ensures only { OnOk result (AreOnly is_of_flow out.old.items out.new.items) }
+{
     let rows = view.sight.world.under.rows;
     if rows.len() >= u32::MAX as usize {
         return Err(OutOfMemory);

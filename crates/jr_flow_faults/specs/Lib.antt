@@ -1,0 +1,3 @@
+pub mod Known
+pub mod Computed
+pub mod Faults
