@@ -39,7 +39,7 @@ use Rattle.jr_name_faults.proofs.Twinned.{twins_more, twins_like, other_tells}
 
 -- ---- the tables as they grow
 
-no_twins : (P : ℕ → ℕ → ℕ → Type 0) → ((c x d : ℕ) → P c x d → ⊥) → AreTwins [] P
+pub no_twins : (P : ℕ → ℕ → ℕ → Type 0) → ((c x d : ℕ) → P c x d → ⊥) → AreTwins [] P
 no_twins P none = record { lists = λ c x d. (λ h. absurd (false≢true h), λ h. absurd (none c x d h)); apart = λ c x. tt }
 
 pub imports_start : (imports : code.Imports) → IsPlacedWorld imports.world.now → imports.tops.rows ≡ [] → imports.singles.rows ≡ [] → AreImportsTo (rows_of imports.world.now) (table_of imports.world.now) 0 0 imports
@@ -51,16 +51,6 @@ imports_start imports world tops singles = record {
   tops_are = subst (λ l. AreTwins l (IsTop (rows_of imports.world.now) 0)) (sym tops) (no_twins (IsTop (rows_of imports.world.now) 0) (λ c x d h. let lt = h.before in absurd (omega arith)));
   singles_are = subst (λ l. AreTwins l (IsSingle (rows_of imports.world.now) (table_of imports.world.now) 0)) (sym singles)
       (no_twins (IsSingle (rows_of imports.world.now) (table_of imports.world.now) 0) (λ c x d h. let lt = h.before in absurd (omega arith)));
-}
-
-pub imports_same : {p : Rows} {t : Table} {k n : ℕ} (old new : code.Imports) → AreImportsTo p t k n old → new.world.now ≡ old.world.now → new.tops.rows ≡ old.tops.rows → new.singles.rows ≡ old.singles.rows → AreImportsTo p t k n new
-imports_same {p} {t} {k} {n} old new h world tops singles = record {
-  rows_are = ap rows_of world ∙ h.rows_are;
-  table_is = ap table_of world ∙ h.table_is;
-  few = h.few;
-  placed = subst (λ w. ArePlaced p w.under.places.now) (sym world) h.placed;
-  tops_are = subst (λ l. AreTwins l (IsTop p k)) (sym tops) h.tops_are;
-  singles_are = subst (λ l. AreTwins l (IsSingle p t n)) (sym singles) h.singles_are;
 }
 
 top_later : {p : Rows} {k c x d : ℕ} → IsTop p k c x d → IsTop p (k + 1) c x d

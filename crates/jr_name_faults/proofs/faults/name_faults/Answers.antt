@@ -14,3 +14,6 @@ returns-clause-import_names c = λ right. c.in_ok-put_faults.ensures.import_name
 
 pub returns-clause-imported_types : goal.returns-clause-imported_types
 returns-clause-imported_types c = λ right. c.in_ok-put_faults.ensures.imported_types (c.in_ok-add_rows.ensures _ _ (c.new-imports.ensures (record { few = right.few; placed = right.placed })))
+
+pub returns-clause-static_imports : goal.returns-clause-static_imports
+returns-clause-static_imports c = λ tabled. c.in_ok-put_faults.ensures.static_imports (c.in_ok-add_rows-2.ensures _ (c.new-statics.ensures tabled))
