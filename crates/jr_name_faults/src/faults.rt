@@ -12,8 +12,8 @@ ghost use Rattle.jr_faults.specs.Added.{row_if, is_rule, AreOnly};
 ghost use Rattle.jr_name_faults.specs.Faults as tell;
 ghost use Rattle.jr_members.specs.declared.members.World as worlds;
 ghost use Rattle.jr_name_faults.specs.Imports.{rows_of, table_of, AreImportsTo};
-ghost use Rattle.jr_name_faults.specs.Locals.{IsBefore, IsEntered};
-ghost use Rattle.jr_name_faults.specs.Statics.{AreStatics};
+ghost use Rattle.jr_name_faults.specs.Locals.{AreLocalsTo, IsBefore, IsEntered};
+ghost use Rattle.jr_name_faults.specs.Statics.{AreStatics, AreStaticsTo};
 ghost use Rattle.jr_name_faults.specs.Views as views;
 
 use crate::access::is_not_accessible;
@@ -184,11 +184,30 @@ pub fn name_faults(alloc: Global, view: &View, out: &mut Vec<Fault>) -> Result<(
     let mut locals = Locals::new(alloc, world.under.rows, world.under.places)?;
     let mut imports = Imports::new(alloc, world);
     let mut statics = Statics::new(alloc, world);
+    all_faults(alloc, view, &mut locals, &mut imports, &mut statics, out)
+}
+
+// The same, by tables of no rows.
+fn all_faults(
+    alloc: Global,
+    view: &View,
+    locals: &mut Locals,
+    imports: &mut Imports,
+    statics: &mut Statics,
+    out: &mut Vec<Fault>,
+) -> Result<(), OutOfMemory>
+    ensures local_names { AreLocalsTo (views.rows_in view.now) 0 0 0 locals.old → OnOk result (tell.AreExactFaults view.now rules.LocalNames out.old.items out.new.items) }
+    ensures labels { AreLocalsTo (views.rows_in view.now) 0 0 0 locals.old → OnOk result (tell.AreExactFaults view.now rules.Labels out.old.items out.new.items) }
+    ensures access { views.IsSeenView view.now → OnOk result (tell.AreExactFaults view.now rules.Access out.old.items out.new.items) }
+    ensures import_names { AreImportsTo (views.rows_in view.now) (views.table_in view.now) 0 0 imports.old → OnOk result (tell.AreExactFaults view.now rules.ImportNames out.old.items out.new.items) }
+    ensures imported_types { AreImportsTo (views.rows_in view.now) (views.table_in view.now) 0 0 imports.old → OnOk result (tell.AreExactFaults view.now rules.ImportedTypes out.old.items out.new.items) }
+    ensures static_imports { AreStaticsTo view.now.sight.world 0 statics.old → OnOk result (tell.AreExactFaults view.now rules.StaticImports out.old.items out.new.items) }
+    ensures others { OnOk result (tell.AreOfNames out.old.items out.new.items) }
+{
     locals.add_parameters(alloc)?;
     imports.add_rows(alloc)?;
     statics.add_rows(alloc)?;
-    put_faults(alloc, view, &mut locals, &mut imports, &statics, out)?;
-    Ok(())
+    put_faults(alloc, view, locals, imports, statics, out)
 }
 
 fn row_count(rows: &[Row]) -> Result<u32, OutOfMemory>

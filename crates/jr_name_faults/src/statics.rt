@@ -1,5 +1,5 @@
 // Single static imports that bring nothing, or a type of a name that another type has (JLS 7.5.3).
-ghost use Rattle.std.specs.Prelude.{◌≡◌, ◌&&◌, ◌+◌, ◌++◌, ◌<◌, ◌||◌, false, filter, length, not, true, IfOk, OnOk};
+ghost use Rattle.std.specs.Prelude.{[], ◌≡◌, ◌&&◌, ◌+◌, ◌++◌, ◌<◌, ◌||◌, false, filter, length, not, true, IfOk, OnOk};
 ghost use Rattle.std.specs.List.{list_any};
 ghost use Rattle.jr_tree.specs.declared.label.ImportKind.TheVariants as importing;
 ghost use Rattle.jr_tree.specs.Rows.{Rows, label, parent};
@@ -109,9 +109,7 @@ fn add_members(
     ensures { IsTabledWorld world.now → OnOk result (sights.AddsSuch (sights.IsReached (rows_of world.now) (table_of world.now) kind unit name over) all.old.items all.new.items) }
 {
     let members = world.named(alloc, kind, over, name)?;
-    let some = members.as_slice();
-    add_importable(all, world, unit, some)?;
-    Ok(())
+    add_importable(all, world, unit, &members)
 }
 
 // Adds the static members of a kind that an import names.
@@ -133,16 +131,20 @@ fn add_imported(
     }
 }
 
-// The members that a single static import brings.
-fn imported(alloc: Global, world: &World, import: u32) -> Result<Vec<u32>, OutOfMemory>
-    ensures { IsTabledWorld world.now → is_import_label importing.StaticSingle (label (rows_of world.now) import) ≡ true
-        → IfOk result (λ all. Lists all.items (ImportedBy (rows_of world.now) (table_of world.now) (parent (rows_of world.now) import) import)) }
+// Adds the members that a single static import brings.
+fn add_all_imported(
+    alloc: Global,
+    all: &mut Vec<u32>,
+    world: &World,
+    import: u32,
+) -> Result<(), OutOfMemory>
+    ensures { IsTabledWorld world.now → is_import_label importing.StaticSingle (label (rows_of world.now) import) ≡ true → all.old.items ≡ []
+        → OnOk result (Lists all.new.items (ImportedBy (rows_of world.now) (table_of world.now) (parent (rows_of world.now) import) import)) }
 {
-    let mut all = Vec::new(alloc);
-    add_imported(alloc, &mut all, world, MemberKind::Field, import)?;
-    add_imported(alloc, &mut all, world, MemberKind::Type, import)?;
-    add_imported(alloc, &mut all, world, MemberKind::Method, import)?;
-    Ok(all)
+    add_imported(alloc, all, world, MemberKind::Field, import)?;
+    add_imported(alloc, all, world, MemberKind::Type, import)?;
+    add_imported(alloc, all, world, MemberKind::Method, import)?;
+    Ok(())
 }
 
 // The type that a row brings, if it is no static import: the row itself, or the type that it names.
@@ -224,10 +226,22 @@ impl<'a> Statics<'a> {
     fn add_row(&mut self, alloc: Global, at: u32) -> Result<(), OutOfMemory>
         ensures { (world : worlds.World) → tell.AreStaticsTo world at self.old → OnOk result (tell.AreStaticsTo world (at + 1) self.new) }
     {
+        let mut classes = Vec::new(alloc);
+        self.add_row_with(alloc, at, &mut classes)
+    }
+
+    // The same, where the types that it brings are put into a list.
+    fn add_row_with(
+        &mut self,
+        alloc: Global,
+        at: u32,
+        classes: &mut Vec<u32>,
+    ) -> Result<(), OutOfMemory>
+        ensures { (world : worlds.World) → tell.AreStaticsTo world at self.old → classes.old.items ≡ [] → OnOk result (tell.AreStaticsTo world (at + 1) self.new) }
+    {
         let world = self.world;
         let unit = parent_at(world.under.rows, at);
-        let mut classes = Vec::new(alloc);
-        add_types(alloc, &mut classes, world, at)?;
+        add_types(alloc, classes, world, at)?;
         let some = classes.as_slice();
         add_brought(
             alloc,
@@ -282,6 +296,23 @@ impl<'a> Statics<'a> {
         either(is_empty, is_clash)
     }
 
+    // The same, of the members that it brings, which are put into a list.
+    fn is_fault_with(
+        &self,
+        alloc: Global,
+        import: u32,
+        members: &mut Vec<u32>,
+    ) -> Result<bool, OutOfMemory>
+        ensures { (world : worlds.World) → tell.AreStatics world self.now → is_import_label importing.StaticSingle (label (rows_of world) import) ≡ true → members.old.items ≡ []
+            → IfOk result (λ is. is ≡ has_static_import_fault (rows_of world) (table_of world) import) }
+    {
+        let world = self.world;
+        add_all_imported(alloc, members, world, import)?;
+        let some = members.as_slice();
+        let is_fault = self.is_fault(import, some);
+        Ok(is_fault)
+    }
+
     /// A single static import brings nothing, or a type of a name that another type has.
     pub fn has_fault(&self, alloc: Global, at: u32) -> Result<bool, OutOfMemory>
         ensures { (world : worlds.World) → tell.AreStatics world self.now → IfOk result (λ is. is ≡ has_static_import_fault (rows_of world) (table_of world) at) }
@@ -290,9 +321,7 @@ impl<'a> Statics<'a> {
         if !is_static_single(world.under.rows, at) {
             return Ok(false);
         }
-        let members = imported(alloc, world, at)?;
-        let some = members.as_slice();
-        let is_fault = self.is_fault(at, some);
-        Ok(is_fault)
+        let mut members = Vec::new(alloc);
+        self.is_fault_with(alloc, at, &mut members)
     }
 }
