@@ -1,5 +1,5 @@
 -- The faults of the rules on names that are added, row by row, and these rules in the list of the definition.
-use Rattle.std.proofs.Common.{◌≡◌, refl, sym, ◌∙◌, ap, subst, arith, add-one, ℕ, ◌+◌, ◌-◌, Bool, true, false, cond, ◌||◌, List, [], ◌∷◌, ◌++◌, append_assoc, append-nil, length, nat_eq}
+use Rattle.std.proofs.Common.{◌≡◌, refl, sym, ◌∙◌, ap, subst, arith, add-one, ℕ, ◌+◌, ◌-◌, Bool, true, false, cond, ◌||◌, List, [], ◌∷◌, ◌++◌, append_assoc, length, nat_eq}
 use Rattle.jr_tree.specs.Rows.{Rows}
 use Rattle.jr_defs.specs.Referents.{Table}
 use Rattle.jr_plain.specs.Search.{has, all_such}
@@ -23,7 +23,7 @@ use Rattle.jr_name_faults.specs.declared.imports.Imports.{Imports}
 use Rattle.jr_name_faults.specs.Imports.{AreImportsTo}
 use Rattle.jr_name_faults.specs.Locals.{IsBefore}
 use Rattle.jr_name_faults.specs.Faults.{is_broken, is_of_names, AreOfNames, AreExactFaults, fault_if}
-use Rattle.jr_name_faults.specs.Views.{rows_in, table_in, types_in, IsSeenView}
+use Rattle.jr_name_faults.specs.Views.{rows_in, table_in, types_in}
 
 -- ---- what an import names stands behind it
 

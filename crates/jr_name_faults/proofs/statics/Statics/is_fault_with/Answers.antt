@@ -1,4 +1,4 @@
-use Rattle.std.proofs.Common.{◌≡◌, sym, subst, true, List, []}
+use Rattle.std.proofs.Common.{◌≡◌, sym, subst, true, []}
 use Rattle.jr_tree.specs.Rows.{label, parent}
 use Rattle.jr_tree.specs.declared.label.ImportKind.TheVariants as importing
 use Rattle.jr_defs.specs.Imports.{ImportedBy}
