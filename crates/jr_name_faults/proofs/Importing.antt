@@ -1,5 +1,5 @@
 -- The types that imports of single types name, and those that units declare, one row at a time.
-use Rattle.std.proofs.Common.{◌≡◌, ◌⊎◌, refl, sym, ◌∙◌, ap, ap₂, subst, inl, inr, ⊎_elim, arith, add-one, ℕ, ◌+◌, ◌<◌, ◌^◌, Bool, true, false, not, cond, ◌&&◌, ◌||◌, List, [], length, Option, Some, None, nat_eq, Decides}
+use Rattle.std.proofs.Common.{◌≡◌, ◌⊎◌, refl, sym, ◌∙◌, ap, ap₂, subst, inl, inr, ⊎_elim, arith, ℕ, ◌+◌, ◌<◌, Bool, true, false, not, cond, ◌&&◌, [], length, Some, None, nat_eq, Decides}
 use Rattle.std.proofs.lemmas.Bool.{false≢true, cases_eq, and_from, and_parts}
 use Rattle.std.proofs.lemmas.Bool.Decides.{Decides-eqb}
 use Rattle.std.proofs.lemmas.Option.{none-some, same_Some}
@@ -14,32 +14,29 @@ use Rattle.jr_defs.specs.Referents.{Table}
 use Rattle.jr_defs.specs.Imports.{ImportOf, ImportNames}
 use Rattle.jr_defs.specs.Declarations.{IsType}
 use Rattle.jr_defs.specs.Packages.{spelled}
-use Rattle.jr_defs.specs.Rules.{CanonicalName, DeclaresTop}
-use Rattle.jr_plain.specs.Search.{Lists}
+use Rattle.jr_defs.specs.Rules.{CanonicalName}
 use Rattle.jr_plain.specs.Enclosing.{is_top_level}
 use Rattle.jr_plain.specs.Imports.{is_import_label, is_import_of}
 use Rattle.jr_plain.proofs.Tests.{either, like, opposite}
 use Rattle.jr_plain.proofs.Bounds.{bounded, type_below}
 use Rattle.jr_plain.proofs.Enclosed.{top_level_tells}
 use Rattle.jr_plain.proofs.Imported.{import_of_tells}
-use Rattle.jr_places.specs.declared.chains.Entry.{Entry}
 use Rattle.jr_places.specs.Names.{name_row}
 use Rattle.jr_supers.proofs.Subtyped.{one_test}
-use Rattle.jr_members.specs.Named.{under}
 use Rattle.jr_members.specs.Sources.{ArePlaced}
 use Rattle.jr_name_rules.specs.Found.{found, imported_type}
 use Rattle.jr_name_rules.specs.ImportTests as plain
 use Rattle.jr_name_rules.proofs.Found.{imported_finds}
 use Rattle.jr_name_rules.proofs.Imports.{ImportClash, import_clash_tells, ImportNotCanonical, import_not_canonical_tells}
 use Rattle.jr_name_faults.specs.declared.imports.Imports as code
-use Rattle.jr_name_faults.specs.Twins.{has_other, with_twin, AreTwins}
-use Rattle.jr_name_faults.specs.Imports.{rows_of, table_of, IsPlacedWorld, single_type, IsTop, IsSingle, AreImportsTo, has_other_type, has_clash}
+use Rattle.jr_name_faults.specs.Twins.{with_twin, AreTwins}
+use Rattle.jr_name_faults.specs.Imports.{rows_of, table_of, IsPlacedWorld, single_type, IsTop, IsSingle, AreImportsTo, has_clash}
 use Rattle.jr_name_faults.proofs.Scoped.{names_same, rows_same}
 use Rattle.jr_name_faults.proofs.Twinned.{twins_more, twins_like, other_tells}
 
 -- ---- the tables as they grow
 
-no_twins : (P : ℕ → ℕ → ℕ → Type 0) → ((c x d : ℕ) → P c x d → ⊥) → AreTwins [] P
+pub no_twins : (P : ℕ → ℕ → ℕ → Type 0) → ((c x d : ℕ) → P c x d → ⊥) → AreTwins [] P
 no_twins P none = record { lists = λ c x d. (λ h. absurd (false≢true h), λ h. absurd (none c x d h)); apart = λ c x. tt }
 
 pub imports_start : (imports : code.Imports) → IsPlacedWorld imports.world.now → imports.tops.rows ≡ [] → imports.singles.rows ≡ [] → AreImportsTo (rows_of imports.world.now) (table_of imports.world.now) 0 0 imports
@@ -51,16 +48,6 @@ imports_start imports world tops singles = record {
   tops_are = subst (λ l. AreTwins l (IsTop (rows_of imports.world.now) 0)) (sym tops) (no_twins (IsTop (rows_of imports.world.now) 0) (λ c x d h. let lt = h.before in absurd (omega arith)));
   singles_are = subst (λ l. AreTwins l (IsSingle (rows_of imports.world.now) (table_of imports.world.now) 0)) (sym singles)
       (no_twins (IsSingle (rows_of imports.world.now) (table_of imports.world.now) 0) (λ c x d h. let lt = h.before in absurd (omega arith)));
-}
-
-pub imports_same : {p : Rows} {t : Table} {k n : ℕ} (old new : code.Imports) → AreImportsTo p t k n old → new.world.now ≡ old.world.now → new.tops.rows ≡ old.tops.rows → new.singles.rows ≡ old.singles.rows → AreImportsTo p t k n new
-imports_same {p} {t} {k} {n} old new h world tops singles = record {
-  rows_are = ap rows_of world ∙ h.rows_are;
-  table_is = ap table_of world ∙ h.table_is;
-  few = h.few;
-  placed = subst (λ w. ArePlaced p w.under.places.now) (sym world) h.placed;
-  tops_are = subst (λ l. AreTwins l (IsTop p k)) (sym tops) h.tops_are;
-  singles_are = subst (λ l. AreTwins l (IsSingle p t n)) (sym singles) h.singles_are;
 }
 
 top_later : {p : Rows} {k c x d : ℕ} → IsTop p k c x d → IsTop p (k + 1) c x d

@@ -1,5 +1,5 @@
 -- A name is read from its last identifier back, and the types round the one that it names from inside out.
-use Rattle.std.proofs.Common.{◌≡◌, ◌⊎◌, refl, sym, ◌∙◌, ap, ap₂, subst, inl, inr, ⊎_elim, arith, ℕ, zero, suc, ◌+◌, ◌-◌, ◌<◌, ◌≤◌, ◌^◌, Bool, true, false, List, [], ◌∷◌, ◌++◌, length, length-append, Option, Some, None, Decides}
+use Rattle.std.proofs.Common.{◌≡◌, ◌⊎◌, refl, sym, ◌∙◌, ap, ap₂, subst, inl, inr, ⊎_elim, arith, ℕ, zero, suc, ◌+◌, ◌-◌, ◌<◌, ◌≤◌, Bool, true, false, List, [], ◌∷◌, ◌++◌, length, length-append, Some, None, Decides}
 use Rattle.std.proofs.lemmas.Bool.{false≢true, cases_eq}
 use Rattle.std.proofs.lemmas.Option.{none-some, same_Some}
 use Rattle.jr_base.specs.declared.text.Text.{Text}
@@ -16,9 +16,9 @@ use Rattle.jr_defs.specs.Declarations.{IsType}
 use Rattle.jr_defs.specs.Enclosing.{DeclaredIn, IsTopLevel, holder}
 use Rattle.jr_defs.specs.Packages.{identifiers, spelled, InPackage, TypeOfPackage}
 use Rattle.jr_defs.specs.Rules.{CanonicalName}
-use Rattle.jr_plain.specs.Enclosing.{declaring_type, is_unit, is_top_level}
+use Rattle.jr_plain.specs.Enclosing.{declaring_type, is_unit}
 use Rattle.jr_plain.proofs.Bounds.{bounded}
-use Rattle.jr_plain.proofs.Enclosed.{declaring_finds, top_level_tells}
+use Rattle.jr_plain.proofs.Enclosed.{declaring_finds}
 use Rattle.jr_name_faults.specs.Canonical.{IsTopOf, parts_to, IsNameLabel, IsReadTo}
 
 -- ---- the identifiers of a name

@@ -1,5 +1,5 @@
 -- The faults of the rules on names that are added, row by row, and these rules in the list of the definition.
-use Rattle.std.proofs.Common.{◌≡◌, refl, sym, ◌∙◌, ap, subst, arith, add-one, ℕ, ◌+◌, ◌-◌, Bool, true, false, cond, ◌||◌, List, [], ◌∷◌, ◌++◌, append_assoc, append-nil, length, nat_eq}
+use Rattle.std.proofs.Common.{◌≡◌, refl, sym, ◌∙◌, ap, subst, arith, add-one, ℕ, ◌+◌, ◌-◌, Bool, true, false, cond, ◌||◌, List, [], ◌∷◌, ◌++◌, append_assoc, length, nat_eq}
 use Rattle.jr_tree.specs.Rows.{Rows}
 use Rattle.jr_defs.specs.Referents.{Table}
 use Rattle.jr_plain.specs.Search.{has, all_such}
@@ -23,7 +23,7 @@ use Rattle.jr_name_faults.specs.declared.imports.Imports.{Imports}
 use Rattle.jr_name_faults.specs.Imports.{AreImportsTo}
 use Rattle.jr_name_faults.specs.Locals.{IsBefore}
 use Rattle.jr_name_faults.specs.Faults.{is_broken, is_of_names, AreOfNames, AreExactFaults, fault_if}
-use Rattle.jr_name_faults.specs.Views.{rows_in, table_in, types_in, IsSeenView}
+use Rattle.jr_name_faults.specs.Views.{rows_in, table_in, types_in}
 
 -- ---- what an import names stands behind it
 
@@ -79,6 +79,16 @@ imports_more {view} {n} {old} {now} {new} {was} {imports} h passed names types =
   imported_types = row_more n rule.ImportedTypes (is_next (is_import_not_canonical (rows_in view) (table_in view))) h.imported_types types;
 }
 
+-- the same of static imports
+pub record AreStaticFaultsTo (view : View) (n : ℕ) (old now : List Fault) : Type 0 where
+  pub static_imports : AreFaultsOf rule.StaticImports (all_such n (has_static_import_fault (rows_in view) (table_in view))) old now
+
+pub statics_start : (view : View) (old : List Fault) → AreStaticFaultsTo view 0 old old
+statics_start view old = record { static_imports = none_added rule.StaticImports old }
+
+pub statics_more : {view : View} {n : ℕ} {old now new : List Fault} → AreStaticFaultsTo view n old now → AreFaultsOf rule.StaticImports (row_if (has_static_import_fault (rows_in view) (table_in view) n) n) now new → AreStaticFaultsTo view (n + 1) old new
+statics_more {view} {n} h statics = record { static_imports = row_more n rule.StaticImports (has_static_import_fault (rows_in view) (table_in view)) h.static_imports statics }
+
 -- those of other rules
 pub names_start : (old : List Fault) → AreOfNames old old
 names_start old = only_kept is_of_names old
@@ -101,6 +111,10 @@ met false k r rest e none = none
 last : (b : Bool) (k r : ℕ) → nat_eq k r ≡ false → has (rule_if b k) r ≡ false
 last true k r e = ap (λ c. c || false) e
 last false k r e = refl
+
+sole : (b : Bool) (k r : ℕ) → nat_eq k r ≡ true → has (rule_if b k) r ≡ b
+sole true k r e = ap (λ c. c || false) e
+sole false k r e = refl
 
 module _ (a b c d e f g h i j k : Bool) where
   abbrev l47 : List ℕ
@@ -151,6 +165,9 @@ module _ (a b c d e f g h i j k : Bool) where
   tenth : has l2 10 ≡ i
   tenth = past a 2 10 l3 refl ∙ past b 3 10 l4 refl ∙ past c 4 10 l5 refl ∙ past d 5 10 l6 refl ∙ past e 6 10 l7 refl ∙ past f 7 10 l8 refl ∙ past g 8 10 l9 refl ∙ past h 9 10 l10 refl ∙ met i 10 10 l13 refl (past j 13 10 l47 refl ∙ last k 47 10 refl)
 
+  forty_seventh : has l2 47 ≡ k
+  forty_seventh = past a 2 47 l3 refl ∙ past b 3 47 l4 refl ∙ past c 4 47 l5 refl ∙ past d 5 47 l6 refl ∙ past e 6 47 l7 refl ∙ past f 7 47 l8 refl ∙ past g 8 47 l9 refl ∙ past h 9 47 l10 refl ∙ past i 10 47 l13 refl ∙ past j 13 47 l47 refl ∙ sole k 47 47 refl
+
 module _ (p : Rows) (t : Table) (types : Types) (n : ℕ) where
   local_names_at : has (broken_at p t types n) 6 ≡ is_second_local p n
   local_names_at = sixth (has_type_clash p n) (is_second_field p n) (is_second_method p t n) (is_second_constructor p t n) (is_second_local p n) (is_second_label p n) (is_next (has_import_clash p t) n) (is_next (is_import_not_canonical p t) n) (is_not_accessible p t types n) (has_wrong_supertype p t n) (has_static_import_fault p t n)
@@ -166,6 +183,9 @@ module _ (p : Rows) (t : Table) (types : Types) (n : ℕ) where
 
   access_at : has (broken_at p t types n) 10 ≡ is_not_accessible p t types n
   access_at = tenth (has_type_clash p n) (is_second_field p n) (is_second_method p t n) (is_second_constructor p t n) (is_second_local p n) (is_second_label p n) (is_next (has_import_clash p t) n) (is_next (is_import_not_canonical p t) n) (is_not_accessible p t types n) (has_wrong_supertype p t n) (has_static_import_fault p t n)
+
+  static_imports_at : has (broken_at p t types n) 47 ≡ has_static_import_fault p t n
+  static_imports_at = forty_seventh (has_type_clash p n) (is_second_field p n) (is_second_method p t n) (is_second_constructor p t n) (is_second_local p n) (is_second_label p n) (is_next (has_import_clash p t) n) (is_next (is_import_not_canonical p t) n) (is_not_accessible p t types n) (has_wrong_supertype p t n) (has_static_import_fault p t n)
 
 told : (view : View) (n : ℕ) (old now : List Fault) → n ≡ length (rows_in view) → (r : Rule) (test : ℕ → Bool) → ((k : ℕ) → is_broken view r k ≡ test k) → AreFaultsOf r (all_such n test) old now → AreExactFaults view r old now
 told view n old now whole r test same k = subst (λ m. AreFaultsOf r (all_such m (is_broken view r)) old now) whole (rows_told test (is_broken view r) n r (λ m. sym (same m)) k)
@@ -188,6 +208,10 @@ told_imports {view} {n} {old} {now} whole h = told view n old now whole rule.Imp
 pub told_types : {view : View} {n : ℕ} {old now : List Fault} {imports : Imports} → n ≡ length (rows_in view) → AreImportFaultsTo view n old now imports → AreExactFaults view rule.ImportedTypes old now
 told_types {view} {n} {old} {now} whole h = told view n old now whole rule.ImportedTypes (is_next (is_import_not_canonical (rows_in view) (table_in view)))
     (imported_types_at (rows_in view) (table_in view) (types_in view)) h.imported_types
+
+pub told_statics : {view : View} {n : ℕ} {old now : List Fault} → n ≡ length (rows_in view) → AreStaticFaultsTo view n old now → AreExactFaults view rule.StaticImports old now
+told_statics {view} {n} {old} {now} whole h = told view n old now whole rule.StaticImports (has_static_import_fault (rows_in view) (table_in view))
+    (static_imports_at (rows_in view) (table_in view) (types_in view)) h.static_imports
 
 -- ---- faults of rules on types
 

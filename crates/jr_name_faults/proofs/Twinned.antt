@@ -1,13 +1,13 @@
 -- Rows under keys, of which those that follow each other are different, with one more.
-use Rattle.std.proofs.Common.{◌≡◌, ◌⊎◌, refl, sym, ◌∙◌, ap, ap₂, subst, inl, inr, ⊎_elim, ℕ, zero, suc, ◌+◌, ◌<◌, Bool, true, false, not, cond, ◌&&◌, ◌||◌, List, [], ◌∷◌, ◌++◌, drop, length, Option, Some, None, is_some, nat_eq, Decides}
+use Rattle.std.proofs.Common.{◌≡◌, ◌⊎◌, refl, sym, ◌∙◌, ap, subst, inl, inr, ⊎_elim, ℕ, ◌<◌, Bool, true, false, not, cond, ◌&&◌, ◌||◌, List, [], ◌∷◌, ◌++◌, length, Option, Some, None, is_some, nat_eq, Decides}
 use Rattle.std.specs.Prelude.{slice_get, unwrap_or}
 use Rattle.std.proofs.lemmas.Option.{unwrap_or-slice_get}
 use Rattle.std.proofs.lemmas.Bool.{false≢true, or_left, or_right, or_cases, and_from, and_parts, not_from_false, false_from_ne_true}
 use Rattle.std.proofs.lemmas.Bool.Decides.{Decides-eqb}
 use Rattle.jr_plain.specs.Search.{has, Lists}
-use Rattle.jr_plain.proofs.Tests.{like, never}
+use Rattle.jr_plain.proofs.Tests.{like}
 use Rattle.jr_places.specs.declared.chains.Entry.{Entry}
-use Rattle.jr_places.specs.Chains.{entry_at, last_under, last_like, rows_under, rows_from, WalkedTo}
+use Rattle.jr_places.specs.Chains.{entry_at, last_under, last_like, rows_from}
 use Rattle.jr_places.proofs.Tables.{walked_start, walked_more}
 use Rattle.jr_supers.specs.Above.{is_some_item}
 use Rattle.jr_supers.proofs.Keys.{item_in}

@@ -9,6 +9,7 @@ use Rattle.jr_places.specs.Names.{name_row}
 use Rattle.jr_members.specs.Sources.{ArePlaced}
 use Rattle.jr_members.specs.declared.members.World.{World}
 use Rattle.jr_members.specs.Named.{under}
+use Rattle.jr_members.specs.Worlds.{IsWorld}
 use Rattle.jr_name_rules.specs.Found.{imported_type}
 use Rattle.jr_name_faults.specs.declared.imports.Imports as code
 use Rattle.jr_name_faults.specs.Twins.{has_other, AreTwins}
@@ -23,6 +24,11 @@ table_of world = entries world.under.table.now
 pub record IsPlacedWorld (world : World) : Type 0 where
   pub few : length (rows_of world) < 2 ^ 32
   pub placed : ArePlaced (rows_of world) world.under.places.now
+
+-- few rows of a program with the prelude, whose types have under the table what they are to have
+pub record IsTabledWorld (world : World) : Type 0 where
+  pub few : length (rows_of world) < 2 ^ 32
+  pub right : IsWorld (table_of world) world
 
 -- the type that a single-type import names
 abbrev pub single_type : Rows → Table → ℕ → Option ℕ

@@ -14,6 +14,7 @@ use Rattle.jr_members.specs.Sources.{ArePlaced, AreSeen}
 use Rattle.jr_name_rules.specs.AccessTests.{has_hidden_class}
 use Rattle.jr_name_rules.specs.Found.{declared_row, found}
 use Rattle.jr_view.specs.declared.View.{View}
+use Rattle.jr_name_faults.specs.Imports.{IsTabledWorld}
 
 abbrev pub rows_in : View → Rows
 rows_in view = view.sight.world.under.rows.now
@@ -33,6 +34,10 @@ pub record IsPlacedView (view : View) : Type 0 where
 pub record IsSeenView (view : View) : Type 0 where
   pub few : length (rows_in view) < 2 ^ 32
   pub seen : AreSeen (rows_in view) (table_in view) view.sight.world.under.places.now view.sight.world.supers.now
+
+-- with all that its types have under the table
+abbrev pub IsTabledView : View → Type 0
+IsTabledView view = IsTabledWorld view.sight.world
 
 -- ---- what stands before a dot
 

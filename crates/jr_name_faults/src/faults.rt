@@ -5,18 +5,21 @@ ghost use Rattle.jr_defs.specs.Referents.{Table};
 ghost use Rattle.jr_name_rules.specs.AccessTests as access;
 ghost use Rattle.jr_name_rules.specs.DeclarationTests as plain;
 ghost use Rattle.jr_name_rules.specs.Found.{is_next};
-ghost use Rattle.jr_name_rules.specs.ImportTests.{has_import_clash, is_import_not_canonical};
+ghost use Rattle.jr_name_rules.specs.ImportTests.{has_import_clash, has_static_import_fault, is_import_not_canonical};
 ghost use Rattle.jr_rule.specs.declared.Rule.TheVariants as rules;
 ghost use Rattle.jr_rule.specs.Faults.{AreFaultsOf};
 ghost use Rattle.jr_faults.specs.Added.{row_if, is_rule, AreOnly};
 ghost use Rattle.jr_name_faults.specs.Faults as tell;
-ghost use Rattle.jr_name_faults.specs.Imports.{AreImportsTo};
-ghost use Rattle.jr_name_faults.specs.Locals.{IsBefore, IsEntered};
+ghost use Rattle.jr_members.specs.declared.members.World as worlds;
+ghost use Rattle.jr_name_faults.specs.Imports.{rows_of, table_of, AreImportsTo};
+ghost use Rattle.jr_name_faults.specs.Locals.{AreLocalsTo, IsBefore, IsEntered};
+ghost use Rattle.jr_name_faults.specs.Statics.{AreStatics, AreStaticsTo};
 ghost use Rattle.jr_name_faults.specs.Views as views;
 
 use crate::access::is_not_accessible;
 use crate::imports::Imports;
 use crate::locals::Locals;
+use crate::statics::Statics;
 use jr_base::OutOfMemory;
 use jr_faults::rule_if;
 use jr_rule::{Fault, Rule};
@@ -114,16 +117,17 @@ fn import_faults(
     Ok(())
 }
 
-// The rule on single static imports, where it is broken at a row.
+// The rule on static imports, where it is broken at a row.
 fn static_fault(
     alloc: Global,
-    imports: &Imports,
+    statics: &Statics,
     at: u32,
     out: &mut Vec<Fault>,
 ) -> Result<(), OutOfMemory>
-    ensures { OnOk result (AreOnly (is_rule rules.StaticImports) out.old.items out.new.items) }
+    ensures found { (world : worlds.World) → AreStatics world statics.now → OnOk result (AreFaultsOf rules.StaticImports (row_if (has_static_import_fault (rows_of world) (table_of world) at) at) out.old.items out.new.items) }
+    ensures others { OnOk result (AreOnly (is_rule rules.StaticImports) out.old.items out.new.items) }
 {
-    let is_broken = imports.has_static_import_fault(alloc, at)?;
+    let is_broken = statics.has_fault(alloc, at)?;
     rule_if(out, is_broken, at, Rule::StaticImports)?;
     Ok(())
 }
@@ -144,6 +148,7 @@ fn row_faults(
     view: &View,
     locals: &mut Locals,
     imports: &mut Imports,
+    statics: &Statics,
     at: u32,
     out: &mut Vec<Fault>,
 ) -> Result<(), OutOfMemory>
@@ -154,32 +159,55 @@ fn row_faults(
     ensures passed { (p : Rows) (t : Table) → at < length p → AreImportsTo p t (length p) (at - 1) imports.old → OnOk result (AreImportsTo p t (length p) at imports.new) }
     ensures import_names { (p : Rows) (t : Table) → at < length p → AreImportsTo p t (length p) (at - 1) imports.old → OnOk result (AreFaultsOf rules.ImportNames (row_if (is_next (has_import_clash p t) at) at) out.old.items out.new.items) }
     ensures imported_types { (p : Rows) (t : Table) → at < length p → AreImportsTo p t (length p) (at - 1) imports.old → OnOk result (AreFaultsOf rules.ImportedTypes (row_if (is_next (is_import_not_canonical p t) at) at) out.old.items out.new.items) }
+    ensures static_imports { AreStatics view.now.sight.world statics.now → OnOk result (AreFaultsOf rules.StaticImports (row_if (has_static_import_fault (views.rows_in view.now) (views.table_in view.now) at) at) out.old.items out.new.items) }
     ensures others { OnOk result (tell.AreOfNames out.old.items out.new.items) }
 {
     local_faults(alloc, locals, at, out)?;
     import_faults(alloc, imports, at, out)?;
     access_fault(view, at, out)?;
-    static_fault(alloc, imports, at, out)?;
+    static_fault(alloc, statics, at, out)?;
     Ok(())
 }
 
 /// Adds the rules on names that are broken, as their rows rise: locals, labels, imports and access.
-/// Of locals, labels, names of imports, imported types and access these are the rows at which the definition breaks the rule, where the tables are right. Of no other rules are faults added.
+/// Of each of these rules they are the rows at which the definition breaks it, where the tables are right. Of no other rules are faults added.
 pub fn name_faults(alloc: Global, view: &View, out: &mut Vec<Fault>) -> Result<(), OutOfMemory>
     ensures local_names { views.IsPlacedView view.now → OnOk result (tell.AreExactFaults view.now rules.LocalNames out.old.items out.new.items) }
     ensures labels { views.IsPlacedView view.now → OnOk result (tell.AreExactFaults view.now rules.Labels out.old.items out.new.items) }
     ensures access { views.IsSeenView view.now → OnOk result (tell.AreExactFaults view.now rules.Access out.old.items out.new.items) }
     ensures import_names { views.IsPlacedView view.now → OnOk result (tell.AreExactFaults view.now rules.ImportNames out.old.items out.new.items) }
     ensures imported_types { views.IsPlacedView view.now → OnOk result (tell.AreExactFaults view.now rules.ImportedTypes out.old.items out.new.items) }
+    ensures static_imports { views.IsTabledView view.now → OnOk result (tell.AreExactFaults view.now rules.StaticImports out.old.items out.new.items) }
     ensures others { OnOk result (tell.AreOfNames out.old.items out.new.items) }
 {
     let world = &view.sight.world;
     let mut locals = Locals::new(alloc, world.under.rows, world.under.places)?;
     let mut imports = Imports::new(alloc, world);
+    let mut statics = Statics::new(alloc, world);
+    all_faults(alloc, view, &mut locals, &mut imports, &mut statics, out)
+}
+
+// The same, by tables of no rows.
+fn all_faults(
+    alloc: Global,
+    view: &View,
+    locals: &mut Locals,
+    imports: &mut Imports,
+    statics: &mut Statics,
+    out: &mut Vec<Fault>,
+) -> Result<(), OutOfMemory>
+    ensures local_names { AreLocalsTo (views.rows_in view.now) 0 0 0 locals.old → OnOk result (tell.AreExactFaults view.now rules.LocalNames out.old.items out.new.items) }
+    ensures labels { AreLocalsTo (views.rows_in view.now) 0 0 0 locals.old → OnOk result (tell.AreExactFaults view.now rules.Labels out.old.items out.new.items) }
+    ensures access { views.IsSeenView view.now → OnOk result (tell.AreExactFaults view.now rules.Access out.old.items out.new.items) }
+    ensures import_names { AreImportsTo (views.rows_in view.now) (views.table_in view.now) 0 0 imports.old → OnOk result (tell.AreExactFaults view.now rules.ImportNames out.old.items out.new.items) }
+    ensures imported_types { AreImportsTo (views.rows_in view.now) (views.table_in view.now) 0 0 imports.old → OnOk result (tell.AreExactFaults view.now rules.ImportedTypes out.old.items out.new.items) }
+    ensures static_imports { AreStaticsTo view.now.sight.world 0 statics.old → OnOk result (tell.AreExactFaults view.now rules.StaticImports out.old.items out.new.items) }
+    ensures others { OnOk result (tell.AreOfNames out.old.items out.new.items) }
+{
     locals.add_parameters(alloc)?;
     imports.add_rows(alloc)?;
-    put_faults(alloc, view, &mut locals, &mut imports, out)?;
-    Ok(())
+    statics.add_rows(alloc)?;
+    put_faults(alloc, view, locals, imports, statics, out)
 }
 
 fn row_count(rows: &[Row]) -> Result<u32, OutOfMemory>
@@ -197,6 +225,7 @@ fn put_faults(
     view: &View,
     locals: &mut Locals,
     imports: &mut Imports,
+    statics: &Statics,
     out: &mut Vec<Fault>,
 ) -> Result<(), OutOfMemory>
     ensures local_names { IsBefore (views.rows_in view.now) 0 locals.old → OnOk result (tell.AreExactFaults view.now rules.LocalNames out.old.items out.new.items) }
@@ -204,11 +233,12 @@ fn put_faults(
     ensures access { views.IsSeenView view.now → OnOk result (tell.AreExactFaults view.now rules.Access out.old.items out.new.items) }
     ensures import_names { AreImportsTo (views.rows_in view.now) (views.table_in view.now) (length (views.rows_in view.now)) 0 imports.old → OnOk result (tell.AreExactFaults view.now rules.ImportNames out.old.items out.new.items) }
     ensures imported_types { AreImportsTo (views.rows_in view.now) (views.table_in view.now) (length (views.rows_in view.now)) 0 imports.old → OnOk result (tell.AreExactFaults view.now rules.ImportedTypes out.old.items out.new.items) }
+    ensures static_imports { AreStatics view.now.sight.world statics.now → OnOk result (tell.AreExactFaults view.now rules.StaticImports out.old.items out.new.items) }
     ensures others { OnOk result (tell.AreOfNames out.old.items out.new.items) }
 {
     let count = row_count(view.sight.world.under.rows)?;
     for at in 0..count {
-        row_faults(alloc, view, locals, imports, at, out)?;
+        row_faults(alloc, view, locals, imports, statics, at, out)?;
     }
     Ok(())
 }

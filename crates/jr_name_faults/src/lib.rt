@@ -7,6 +7,7 @@ mod ends;
 mod faults;
 mod imports;
 mod locals;
+mod statics;
 mod twins;
 
 pub use faults::name_faults;

@@ -73,11 +73,6 @@ impl Twins {
         Ok(())
     }
 
-    /// Whether any row stands under a key.
-    pub fn has_any(&self, first: u32, second: u32) -> bool {
-        self.rows.last(first, second).is_some()
-    }
-
     // Another row stands at the place, or any before it under its key.
     fn is_other(&self, place: u32, row: u32) -> bool
         ensures { place < length self.now.rows → result ≡ (not (nat_eq (entry_at self.now.rows place).row row) || is_some (last_like self.now.rows place)) }
@@ -94,20 +89,5 @@ impl Twins {
             Some(place) => self.is_other(place, row),
             None => false,
         }
-    }
-
-    /// The place of the last row under a key.
-    pub fn place(&self, first: u32, second: u32) -> Option<u32> {
-        self.rows.last(first, second)
-    }
-
-    /// The row at a place.
-    pub fn row(&self, place: u32) -> Option<u32> {
-        Some(self.rows.entry(place)?.row)
-    }
-
-    /// How many rows stand under all keys.
-    pub fn len(&self) -> usize {
-        self.rows.len()
     }
 }

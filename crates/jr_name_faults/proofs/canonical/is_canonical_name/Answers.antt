@@ -1,4 +1,4 @@
-use Rattle.std.proofs.Common.{◌≡◌, sym, ◌∙◌, arith, ◌+◌, ◌<◌, ◌^◌, length}
+use Rattle.std.proofs.Common.{◌≡◌, sym, ◌∙◌, arith, ◌+◌, ◌<◌, ◌^◌}
 use Rattle.jr_plain.proofs.Bounds.{type_below}
 use Rattle.jr_name_faults.proofs.Scoped.{names_same, rows_same}
 use Rattle.jr_name_faults.proofs.Spelled.{type_name_below, read_start, read_below, read_stop, read_more, read_other, read_end, read_top}

@@ -1,4 +1,4 @@
-use Rattle.std.proofs.Common.{◌≡◌, refl, subst, arith, ◌+◌, ◌-◌, ◌<◌, length}
+use Rattle.std.proofs.Common.{◌≡◌, refl, subst, arith, ◌+◌, ◌-◌, length}
 use Rattle.jr_rule.specs.declared.Rule.TheVariants as rule
 use Rattle.jr_name_rules.specs.ImportTests.{has_import_clash, is_import_not_canonical}
 use Rattle.jr_faults.proofs.Told.{none_then, then_none, only_kept, only_then}

@@ -1,4 +1,4 @@
-use Rattle.std.proofs.Common.{◌≡◌, sym, ◌∙◌, arith, Some, None}
+use Rattle.std.proofs.Common.{◌≡◌, sym, ◌∙◌, arith, Some}
 use Rattle.jr_name_faults.specs.Imports.{rows_of, table_of, single_type}
 use Rattle.jr_name_faults.proofs.Importing.{clash_some, clash_none, class_below}
 use Rattle.jr_name_faults.proofs.imports.Imports.has_import_clash.Goals as goal

@@ -1,4 +1,4 @@
-use Rattle.std.proofs.Common.{◌≡◌, refl, sym, ◌∙◌, arith, Some, None}
+use Rattle.std.proofs.Common.{◌≡◌, refl, sym, ◌∙◌, arith, Some}
 use Rattle.jr_name_faults.specs.Imports.{rows_of, table_of, single_type}
 use Rattle.jr_name_faults.proofs.Importing.{singles_none, singles_more, class_below}
 use Rattle.jr_name_faults.proofs.imports.Imports.pass.Goals as goal
