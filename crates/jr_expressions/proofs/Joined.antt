@@ -1,6 +1,5 @@
 -- Parts of rows that stand side by side, and the step of one row.
-use Rattle.std.proofs.Common.{◌≡◌, refl, sym, ◌∙◌, ap, subst, ℕ, ◌+◌, ◌<◌, ◌≤◌, Bool, true, false, cond, ◌&&◌, List, [], ◌∷◌, ◌++◌, append_assoc, Option, Some, None, arith}
-use Rattle.std.proofs.lemmas.Bool.{false≢true}
+use Rattle.std.proofs.Common.{◌≡◌, refl, sym, ◌∙◌, ap, subst, ℕ, ◌+◌, ◌<◌, ◌≤◌, List, [], ◌∷◌, ◌++◌, append_assoc, Option, Some, None, arith}
 use Rattle.jr_core.specs.declared.code.Catch.{Catch}
 use Rattle.jr_core.specs.declared.code.Group.{Group}
 use Rattle.jr_core.specs.declared.code.SwitchLabel.{SwitchLabel}
@@ -8,9 +7,9 @@ use Rattle.jr_defs.specs.declared.referent.RowType.{RowType}
 use Rattle.jr_tree.specs.Rows.{end}
 use Rattle.jr_codes.specs.declared.source.Source.{Source}
 use Rattle.jr_codes.specs.Facts.{Facts}
-use Rattle.jr_codes.specs.Making.{Below, Made, code, nothing, unknown, AreBefore, BeginsFrom, Parted, Stands}
-use Rattle.jr_codes.specs.Reads.{rows_of, facts, IsReadAt, Becomes}
-use Rattle.jr_expressions.specs.Statements.{Part, code_part, case_part, group_part, catch_part, Parts, strange, comes_of, as_code, as_case, as_group, as_catch, with_row, those, codes, is_code, all_are, alone, made_at, PartsAt, none, one, pass}
+use Rattle.jr_codes.specs.Making.{Below, AreBefore, BeginsFrom, Parted}
+use Rattle.jr_codes.specs.Reads.{rows_of, facts, IsReadAt}
+use Rattle.jr_expressions.specs.Statements.{Part, Parts, as_case, as_group, as_catch, with_row, those, codes, made_at, PartsAt, none, one, pass}
 use Rattle.jr_expressions.specs.Stacks.{Stacks, stacks_of, AreFrom, IsParted, ComesTo, Makes, WaitsFrom, AreDeep}
 
 -- each row from one up to another ends there at the latest
@@ -132,38 +131,7 @@ those_parted {T} {e} {all} kind inner outer h is = record {
   after = begins e (those kind outer) (those_from kind e outer h.after);
 }
 
-left_side : (a b : Bool) → a && b ≡ true → a ≡ true
-left_side true b h = refl
-left_side false b h = absurd (false≢true h)
-
-right_side : (a b : Bool) → a && b ≡ true → b ≡ true
-right_side true b h = h
-right_side false b h = absurd (false≢true h)
-
-none_of : {T : Type 0} → (kind : Part → Option T) → ((x : Part) → is_code x ≡ true → kind x ≡ None) → (parts : Parts) → all_are is_code parts ≡ true → those kind parts ≡ []
-none_of kind away [] h = refl
-none_of kind away (p ∷ parts) h =
-    ap (λ o. with_row p.0 o (those kind parts)) (away p.1 (left_side (is_code p.1) (all_are is_code parts) h)) ∙ none_of kind away parts (right_side (is_code p.1) (all_are is_code parts) h)
-
-no_case : (x : Part) → is_code x ≡ true → as_case x ≡ None
-no_case (code_part x) h = refl
-no_case (case_part x) h = absurd (false≢true h)
-no_case (group_part x) h = refl
-no_case (catch_part x) h = refl
-
-no_group : (x : Part) → is_code x ≡ true → as_group x ≡ None
-no_group (code_part x) h = refl
-no_group (case_part x) h = refl
-no_group (group_part x) h = absurd (false≢true h)
-no_group (catch_part x) h = refl
-
-no_catch : (x : Part) → is_code x ≡ true → as_catch x ≡ None
-no_catch (code_part x) h = refl
-no_catch (case_part x) h = refl
-no_catch (group_part x) h = refl
-no_catch (catch_part x) h = absurd (false≢true h)
-
--- ---- a row whose code comes of the codes below it
+-- ---- the stacks of parts
 
 abbrev stacks : Below → List (ℕ × SwitchLabel) → List (ℕ × Group) → List (ℕ × Catch) → Stacks
 stacks a b d e = record { of_code = a; of_label = b; of_group = d; of_catch = e }
@@ -178,32 +146,6 @@ pub record SameOthers (old new : Stacks) : Type 0 where
   pub label : new.of_label ≡ old.of_label
   pub group : new.of_group ≡ old.of_group
   pub catch : new.of_catch ≡ old.of_catch
-
-left_of : {T : Type 0} {now was : List (ℕ × T)} (kind : Part → Option T) → ((x : Part) → is_code x ≡ true → kind x ≡ None) → (inner outer : Parts) → all_are is_code inner ≡ true → now ≡ was
-    → was ≡ those kind (inner ++ outer) → now ≡ those kind outer
-left_of kind away inner outer all same is = same ∙ is ∙ those_joined kind inner outer ∙ ap (λ xs. xs ++ those kind outer) (none_of kind away inner all)
-
-made_to : (m : Made) (n : ℕ) (inner outer : Parts) (old new : Stacks) → all_are is_code inner ≡ true → old ≡ stacks_of (inner ++ outer) → SameOthers old new
-    → Stands m n (codes inner) (codes outer) new.of_code → ComesTo (comes_of m) n inner outer new
-made_to (code x) n inner outer old new all was same st =
-    stacks_are ((n, code_part x) ∷ outer) st (left_of as_case no_case inner outer all same.label (ap (λ s. s.of_label) was)) (left_of as_group no_group inner outer all same.group (ap (λ s. s.of_group) was))
-    (left_of as_catch no_catch inner outer all same.catch (ap (λ s. s.of_catch) was))
-made_to nothing n inner outer old new all was same st =
-    stacks_are (inner ++ outer) (st ∙ sym (those_joined as_code inner outer)) (same.label ∙ ap (λ s. s.of_label) was) (same.group ∙ ap (λ s. s.of_group) was) (same.catch ∙ ap (λ s. s.of_catch) was)
-made_to unknown n inner outer old new all was same st = tt
-
-alone_to : (b : Bool) (m : Made) (n : ℕ) (inner outer : Parts) (old new : Stacks) → all_are is_code inner ≡ b → old ≡ stacks_of (inner ++ outer) → SameOthers old new
-    → Stands m n (codes inner) (codes outer) new.of_code → ComesTo (cond b (comes_of m) strange) n inner outer new
-alone_to true m n inner outer old new all was same st = made_to m n inner outer old new all was same st
-alone_to false m n inner outer old new all was same st = tt
-
-pub plain_makes : {s : Source} {outcome : Option RowType} {n : ℕ} {old new : Stacks} (made : Below → Made) → (IsReadAt s n → (inner : Parts) → made_at (facts s) outcome n inner ≡ alone inner (λ below. comes_of (made below)))
-    → Becomes s n made old.of_code new.of_code → SameOthers old new → Makes s outcome n old new
-plain_makes {s} {outcome} {n} {old} {new} made is becomes same = record {
-  makes = λ read inner outer h was. subst (λ m. ComesTo m n inner outer new) (sym (is read inner))
-      (alone_to (all_are is_code inner) (made (codes inner)) n inner outer old new refl was same
-      (becomes.stands read (codes inner) (codes outer) (those_parted as_code inner outer h (ap (λ s. s.of_code) was))));
-}
 
 -- ---- the step of one row
 
