@@ -1,5 +1,5 @@
 -- The faults of jumps, reaching and completing that are added, rule by rule.
-use Rattle.std.proofs.Common.{◌≡◌, refl, sym, ◌∙◌, ap, ap₂, subst, ℕ, zero, suc, Bool, true, false, cond, List, [], ◌∷◌, ◌++◌, append_assoc, append-nil, length}
+use Rattle.std.proofs.Common.{◌≡◌, refl, sym, ◌∙◌, ap, subst, ℕ, zero, suc, Bool, true, false, List, [], ◌++◌, append_assoc, append-nil, length}
 use Rattle.jr_tree.specs.Rows.{Rows, label}
 use Rattle.jr_plain.specs.Search.{all_such}
 use Rattle.jr_rule.specs.declared.Fault.{Fault}
@@ -7,7 +7,7 @@ use Rattle.jr_rule.specs.declared.Rule.{Rule}
 use Rattle.jr_rule.specs.declared.Rule.TheVariants as rule
 use Rattle.jr_rule.specs.Faults.{AreFaultsOf}
 use Rattle.jr_faults.specs.Added.{row_if, is_rule, AreOnly}
-use Rattle.jr_faults.proofs.Told.{none_added, own_pushed, own_kept, only_pushed, only_kept, added_then, none_then, then_none, only_then, only_more}
+use Rattle.jr_faults.proofs.Told.{none_added, own_pushed, only_pushed, only_kept, added_then, none_then, then_none, only_then, only_more}
 use Rattle.jr_reach.specs.declared.course.Entry.{Entry}
 use Rattle.jr_reach.specs.Statements.{Facts, Entries, courses, entries, later}
 use Rattle.jr_reach.specs.Reached.{Reached, reached, reaches, earlier}

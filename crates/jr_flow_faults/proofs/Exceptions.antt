@@ -1,8 +1,7 @@
 -- Faults of the rules on exceptions alone.
-use Rattle.std.proofs.Common.{◌≡◌, Bool, false, List}
+use Rattle.std.proofs.Common.{List}
 use Rattle.std.proofs.lemmas.Bool.{or_parts}
 use Rattle.jr_rule.specs.declared.Fault.{Fault}
-use Rattle.jr_rule.specs.declared.Rule.{Rule}
 use Rattle.jr_rule.specs.declared.Rule.TheVariants as rule
 use Rattle.jr_faults.specs.Added.{is_rule, AreOnly}
 use Rattle.jr_flow_faults.specs.Faults.{is_of_exceptions}

@@ -10,7 +10,7 @@ use Rattle.jr_places.specs.Tabulated.{tabulated}
 use Rattle.jr_places.proofs.Tables.{tabulated_at, last_same}
 use Rattle.jr_rules.specs.StatementTests.{is_switch, is_loop, is_loop_or_switch}
 use Rattle.jr_flow_faults.specs.declared.jumps.Targets.{Targets}
-use Rattle.jr_flow_faults.specs.Computed.{innermost, no_targets, targets, targets_in, targets_below, targets_by}
+use Rattle.jr_flow_faults.specs.Computed.{innermost, no_targets, targets, targets_below, targets_by}
 
 -- the value of a test
 lt_true : (m n : ℕ) → m < n → nat_lt m n ≡ true

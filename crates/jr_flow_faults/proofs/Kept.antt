@@ -1,5 +1,5 @@
 -- Where no row breaks the rules on flow by the computed facts, none does.
-use Rattle.std.proofs.Common.{◌≡◌, refl, sym, ◌∙◌, ap, subst, ⊎_elim, arith, ℕ, ◌+◌, ◌<◌, ◌≤◌, Bool, true, false, not, ◌&&◌, ◌||◌, [], length, Option, Some, None}
+use Rattle.std.proofs.Common.{◌≡◌, refl, sym, ◌∙◌, ap, subst, ⊎_elim, arith, ℕ, ◌<◌, ◌≤◌, Bool, true, false, not, ◌&&◌, ◌||◌, [], length, Option, Some, None}
 use Rattle.std.proofs.Math.Path.{fun_ext}
 use Rattle.std.proofs.lemmas.Bool.{false≢true, cases_lt}
 use Rattle.std.proofs.lemmas.List.{get_or_past}
@@ -10,12 +10,9 @@ use Rattle.jr_tree.specs.Local.{IsLocal}
 use Rattle.jr_tree.specs.Rows.{Rows, label, parent, previous}
 use Rattle.jr_defs.specs.declared.referent.Referent.TheVariants.{Declared}
 use Rattle.jr_defs.specs.Referents.{Table}
-use Rattle.jr_plain.specs.Conversions.{Constants}
 use Rattle.jr_plain.specs.Search.{has, all_such}
-use Rattle.jr_plain.specs.Typing.{IsTypable}
 use Rattle.jr_plain.proofs.Bounds.{bounded}
 use Rattle.jr_plain.proofs.Searches.{such}
-use Rattle.jr_rules.specs.Computed.{values}
 use Rattle.jr_rules.specs.Statements.{IsRound, IsLoop, IsLoopOrSwitch, LabelsLoop, HasNoTarget}
 use Rattle.jr_reach.specs.declared.fact.Exit.{Exit}
 use Rattle.jr_reach.specs.Statements.{Facts, Entries, fact, courses, AreCourses, ReadsLater, CoursesAreOne}
@@ -23,10 +20,9 @@ use Rattle.jr_reach.specs.Reached.{Reached, AreReached, reached, ReadsEarlier, R
 use Rattle.jr_reach.specs.Faults.{is_nowhere, is_lost, is_statement, is_unreached, completes_wrongly}
 use Rattle.jr_reach.proofs.One.{each_has_courses}
 use Rattle.jr_reach.proofs.OneReached.{each_is_reached}
-use Rattle.jr_flow_faults.specs.Known.{IsInnermost, IsTargetOf, AreKnown}
-use Rattle.jr_flow_faults.specs.Computed.{facts}
+use Rattle.jr_flow_faults.specs.Known.{IsTargetOf, AreKnown}
 use Rattle.jr_flow_faults.specs.Faults.{BreaksFlow, lost_rows, unreached_rows, completing_rows}
-use Rattle.jr_flow_faults.proofs.Known.{facts_known, known_once}
+use Rattle.jr_flow_faults.proofs.Known.{known_once}
 
 -- a row that passes is listed
 none_such : (test : ℕ → Bool) (n k : ℕ) → all_such n test ≡ [] → k < n → test k ≡ true → ⊥

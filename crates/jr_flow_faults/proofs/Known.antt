@@ -1,6 +1,6 @@
 -- What is computed of rows is what is known of them, and it is known once.
-use Rattle.std.proofs.Common.{◌≡◌, ◌⊎◌, refl, sym, ◌∙◌, ap, subst, ⊎_elim, arith, ℕ, zero, suc, ◌+◌, ◌<◌, ◌≤◌, Bool, true, false, cond, ◌&&◌, ◌||◌, length, Option, Some, None, option_map, option_and_then, is_some, nat_eq, nat_lt, get_or, Decides}
-use Rattle.std.proofs.lemmas.Bool.{false≢true, cases_Bool}
+use Rattle.std.proofs.Common.{◌≡◌, refl, sym, ◌∙◌, ap, subst, arith, ℕ, zero, suc, ◌+◌, ◌<◌, Bool, true, false, cond, ◌&&◌, ◌||◌, length, Option, Some, None, is_some, nat_eq, nat_lt, Decides}
+use Rattle.std.proofs.lemmas.Bool.{false≢true}
 use Rattle.std.proofs.lemmas.Bool.Decides.{Decides-eqb, Decides-ltb, Decides-at}
 use Rattle.std.proofs.lemmas.List.{ext_get_or}
 use Rattle.std.proofs.lemmas.Option.{none-some, same_Some}
@@ -13,17 +13,16 @@ use Rattle.jr_defs.specs.declared.referent.Referent.{Referent}
 use Rattle.jr_defs.specs.declared.referent.Referent.TheVariants.{Declared}
 use Rattle.jr_defs.specs.Constants.{Constant}
 use Rattle.jr_defs.specs.Referents.{Table}
-use Rattle.jr_plain.specs.Search.{Finds, last_below, any_below, IsLast}
+use Rattle.jr_plain.specs.Search.{Finds, last_below, any_below}
 use Rattle.jr_plain.specs.Typing.{IsTypable}
 use Rattle.jr_plain.proofs.Bounds.{bounded}
-use Rattle.jr_plain.proofs.Enclosed.{only}
 use Rattle.jr_plain.proofs.Finding.{none_finds, like_finds, map_finds, then_finds}
 use Rattle.jr_plain.proofs.Searches.{some, finds_last}
 use Rattle.jr_plain.proofs.Tests.{always, never, both, like}
 use Rattle.jr_places.proofs.Tables.{length-tabulated, tabulated_at}
 use Rattle.jr_supers.specs.Tabled.{declared}
 use Rattle.jr_rules.specs.Computed.{values}
-use Rattle.jr_rules.specs.Statements.{IsLoop, IsLoopOrSwitch, IsRound, LabelsLoop}
+use Rattle.jr_rules.specs.Statements.{IsLoop, IsLoopOrSwitch, LabelsLoop}
 use Rattle.jr_rules.specs.StatementTests.{is_loop, is_loop_or_switch}
 use Rattle.jr_rules.proofs.Known.{values_find}
 use Rattle.jr_reach.specs.declared.fact.Exit.{Exit}

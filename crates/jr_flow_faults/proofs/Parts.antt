@@ -1,11 +1,11 @@
 -- Tables of the last parts that rows have.
-use Rattle.std.proofs.Common.{◌≡◌, ◌≢◌, refl, sym, ◌∙◌, ap, ap₂, subst, add-one, ⊎_elim, arith, ℕ, zero, suc, ◌+◌, ◌<◌, Bool, true, false, cond, List, length, Option, Some, None, nat_eq, get_or, replicate, slice_set}
+use Rattle.std.proofs.Common.{◌≡◌, ◌≢◌, refl, sym, ◌∙◌, ap, ap₂, add-one, ⊎_elim, arith, ℕ, ◌+◌, ◌<◌, true, false, cond, List, length, Option, Some, None, nat_eq, get_or, replicate, slice_set}
 use Rattle.std.proofs.lemmas.Bool.{cases_eq, cases_Bool}
 use Rattle.std.proofs.lemmas.Bool.Decides.{Decides-eqb}
 use Rattle.std.proofs.lemmas.List.{ext_get_or, get_or-set_same, get_or-set_other, get_or-replicate, length-set, length-replicate}
 use Rattle.jr_tree.specs.Rows.{Rows}
 use Rattle.jr_places.specs.Tabulated.{tabulated}
-use Rattle.jr_places.proofs.Tables.{length-tabulated, tabulated_at, tabulated_same}
+use Rattle.jr_places.proofs.Tables.{length-tabulated, tabulated_at}
 use Rattle.jr_flow_faults.specs.declared.facts.Part.{Part}
 use Rattle.jr_flow_faults.specs.Computed.{holder, is_it, last_part, last_parts, put_part}
 

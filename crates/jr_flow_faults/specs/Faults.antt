@@ -7,7 +7,7 @@ use Rattle.jr_rule.specs.declared.Fault.{Fault}
 use Rattle.jr_rule.specs.declared.Rule.{Rule}
 use Rattle.jr_rule.specs.declared.Rule.TheVariants as rule
 use Rattle.jr_rule.specs.Faults.{AreFaultsOf}
-use Rattle.jr_faults.specs.Added.{is_rule, AreOnly}
+use Rattle.jr_faults.specs.Added.{is_rule}
 use Rattle.jr_reach.specs.Statements.{Facts, Entries, AreCourses, courses}
 use Rattle.jr_reach.specs.Reached.{Reached, AreReached, reached}
 use Rattle.jr_reach.specs.Faults.{is_lost, is_unreached, completes_wrongly}
