@@ -30,13 +30,10 @@ use Rattle.jr_plain.proofs.Valued.{form_constants_find}
 use Rattle.jr_tree.proofs.Locals.{each_program_is_local}
 use Rattle.jr_tree.specs.Local.{IsLocal}
 use Rattle.jr_places.specs.declared.places.Places.{Places}
-use Rattle.jr_supers.specs.declared.subtypes.Supers.{Supers}
 use Rattle.jr_supers.specs.Direct.{HasSupers}
 use Rattle.jr_supers.specs.Supers.{IsWellHeaded, HasNoCycle}
-use Rattle.jr_members.specs.declared.members.Members.{Members}
 use Rattle.jr_members.specs.Held.{ObjectIsBare}
 use Rattle.jr_dispatch.proofs.Having.{above_then}
-use Rattle.jr_lookup.specs.declared.imports.Imports.{Imports}
 use Rattle.jr_lookup.specs.declared.scopes.Scopes.{Scopes}
 use Rattle.jr_lookup.specs.declared.simple.Sight.{Sight}
 use Rattle.jr_lookup.specs.Locals.{AreLocalsPlaced}
@@ -46,8 +43,7 @@ use Rattle.jr_headed.proofs.Headed.{well_headed}
 use Rattle.jr_constants.specs.declared.constants.Constants as code
 use Rattle.jr_constants.specs.Resting.{values_of}
 use Rattle.jr_lookup.specs.Behind.{IsTypeLabel, RefersByNames, type_in}
-use Rattle.jr_bind.specs.declared.binder.Bound.{Bound}
-use Rattle.jr_bind.specs.Confirmed.{rows_of, table_of, is_type_label, is_variable_label, may_refer_to, may_refer, may_refer_at, IsBoundAt, CanLookTo, CanConfirm, IsProgramOf, IsBindingUnder, AreTables, AreTablesOf, IsBindingOf}
+use Rattle.jr_bind.specs.Confirmed.{rows_of, table_of, is_type_label, is_variable_label, may_refer_to, may_refer, may_refer_at, IsBoundAt, CanLookTo, CanConfirm, IsProgramOf, IsBindingUnder, AreTables}
 use Rattle.jr_bind.specs.Ranked.{AllSettled}
 use Rattle.jr_bind.specs.Exact.{IsProgramIn, AreUnder}
 

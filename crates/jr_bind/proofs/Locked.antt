@@ -1,5 +1,5 @@
 -- Rows that look up another declaration than their lock, one by one.
-use Rattle.std.proofs.Common.{◌≡◌, refl, sym, ◌∙◌, ap, subst, inl, inr, ⊎_elim, arith, ℕ, zero, suc, ◌+◌, ◌<◌, ◌≤◌, ◌^◌, Bool, true, false, not, List, [], ◌∷◌, ◌++◌, length, Option, Some, None, slice_get, Decides}
+use Rattle.std.proofs.Common.{◌≡◌, refl, sym, ◌∙◌, ap, subst, ⊎_elim, arith, ℕ, zero, suc, ◌+◌, ◌<◌, ◌^◌, Bool, true, false, not, List, [], ◌∷◌, ◌++◌, length, Option, Some, None, slice_get, Decides}
 use Rattle.std.proofs.lemmas.Bool.{false≢true, cases_eq, cases_lt}
 use Rattle.std.proofs.lemmas.Option.{none-some, same_Some, slice_get_within}
 use Rattle.std.proofs.lemmas.List.{append-nil}
@@ -16,7 +16,7 @@ use Rattle.jr_defs.specs.Lookup.{Look}
 use Rattle.jr_defs.proofs.Unique.{answer_unique}
 use Rattle.jr_defs.proofs.TypesAgree.{otherwise_one}
 use Rattle.jr_plain.proofs.Bounds.{label_past}
-use Rattle.jr_plain.proofs.Tests.{both, opposite, like}
+use Rattle.jr_plain.proofs.Tests.{opposite, like}
 use Rattle.jr_supers.specs.declared.subtypes.Supers.{Supers}
 use Rattle.jr_supers.specs.Direct.{HasSupers}
 use Rattle.jr_supers.specs.Supers.{IsWellHeaded, HasNoCycle, AreSupersOf}

@@ -1,4 +1,4 @@
-use Rattle.std.proofs.Common.{◌≡◌, sym, ◌∙◌, subst, Bool, Decides}
+use Rattle.std.proofs.Common.{sym, ◌∙◌, subst}
 use Rattle.std.proofs.lemmas.Bool.{false≢true}
 use Rattle.jr_defs.specs.Referents.{entries}
 use Rattle.jr_supers.specs.Supers.{HasNoCycle}

@@ -1,8 +1,5 @@
 use Rattle.std.proofs.Common.{refl, sym, ◌∙◌, subst, true}
 use Rattle.std.proofs.lemmas.Bool.{false≢true}
-use Rattle.jr_defs.specs.Constants.{HasConstantForm}
-use Rattle.jr_defs.specs.Lookup.{Look}
-use Rattle.jr_lookup.specs.Behind.{CanLook}
 use Rattle.jr_bind.specs.Confirmed.{rows_of, table_of}
 use Rattle.jr_bind.specs.Rebound.{IsSameTarget}
 use Rattle.jr_bind.proofs.Locked.{not_locked, kept_at, rebound_is}

@@ -1,8 +1,8 @@
-use Rattle.std.proofs.Common.{◌≡◌, sym, subst, ◌<◌, length}
+use Rattle.std.proofs.Common.{◌≡◌, subst, ◌<◌, length}
 use Rattle.std.proofs.lemmas.Result.{IfOk-weaker}
 use Rattle.jr_defs.specs.Referents.{entries}
 use Rattle.jr_bind.specs.Confirmed.{rows_of, table_of}
-use Rattle.jr_bind.specs.Rebound.{AreRebound, AreReboundTo, parts_of, parts_by}
+use Rattle.jr_bind.specs.Rebound.{AreRebound, AreReboundTo}
 use Rattle.jr_bind.proofs.Locked.{can_look_under, rebound_from_sight, end_is}
 use Rattle.jr_bind.proofs.rebinding.rebound_under.Goals as goal
 
