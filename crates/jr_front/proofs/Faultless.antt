@@ -1,5 +1,6 @@
 -- Where no faults are found, no row breaks an exact rule.
 use Rattle.std.proofs.Common.{◌≡◌, refl, sym, ◌∙◌, ap, ℕ, List, [], ◌∷◌, ◌++◌}
+use Rattle.jr_tree.specs.Local.{IsLocal}
 use Rattle.jr_rule.specs.declared.Fault.{Fault}
 use Rattle.jr_rule.specs.declared.Rule.{Rule}
 use Rattle.jr_rule.specs.declared.Rule.TheVariants as rule
@@ -9,7 +10,9 @@ use Rattle.jr_name_faults.specs.Faults as of_names
 use Rattle.jr_name_faults.specs.Views as names
 use Rattle.jr_member_faults.specs.Faults.{AreMemberFaults}
 use Rattle.jr_type_faults.specs.Faults.{IsRightView, AreExactTypeFaults, AreOnlyOf, type_rules}
-use Rattle.jr_front.specs.Tested.{IsTestableView, HasNoNameFault, HasNoMemberFault, HasNoTypeFault, HasNoFault}
+use Rattle.jr_flow_faults.specs.Computed.{rows_in}
+use Rattle.jr_flow_faults.specs.Faults.{AreFlowFaults}
+use Rattle.jr_front.specs.Tested.{IsTestableView, HasNoNameFault, HasNoMemberFault, HasNoTypeFault, HasNoFlowFault, HasNoFault}
 
 -- of two lists that have nothing together each has nothing
 pub none_first : {A : Type 0} (xs ys : List A) → xs ++ ys ≡ [] → xs ≡ []
@@ -55,7 +58,17 @@ no_members {new = new} view members only testable none = record {
 pub no_types : {mid new : List Fault} (view : View) → (IsRightView view → AreExactTypeFaults view mid new) → IsTestableView view → new ≡ [] → HasNoTypeFault view
 no_types view exact testable none = let told = exact testable.right in record { each = λ one e. none_added one (told.each one e) (ap (rows_of one) none) }
 
--- the faults of two lists
-pub no_faults : (view : View) (others these all : List Fault) → all ≡ others ++ these → (others ≡ [] → HasNoMemberFault view) → (others ≡ [] → HasNoTypeFault view) → (these ≡ [] → HasNoNameFault view) → all ≡ [] → HasNoFault view
-no_faults view others these all are members types names none = let both : others ++ these ≡ [] = sym are ∙ none in
-    record { names = names (none_second others these both); members = members (none_first others these both); types = types (none_first others these both) }
+pub no_flow : {old new : List Fault} (view : View) → (IsLocal (rows_in view) → AreFlowFaults view old new) → IsTestableView view → new ≡ [] → HasNoFlowFault view
+no_flow view exact testable none = let told = exact testable.right.seen.seen.placed.local in record {
+  jumps = none_added rule.Jump told.jumps (ap (rows_of rule.Jump) none);
+  unreached = none_added rule.Unreachable told.unreached (ap (rows_of rule.Unreachable) none);
+  completing = none_added rule.Completion told.completing (ap (rows_of rule.Completion) none);
+}
+
+-- the faults of three lists
+pub no_faults : (view : View) (others flow most these all : List Fault) → most ≡ others ++ flow → all ≡ most ++ these → (others ≡ [] → HasNoMemberFault view) → (others ≡ [] → HasNoTypeFault view)
+    → (flow ≡ [] → HasNoFlowFault view) → (these ≡ [] → HasNoNameFault view) → all ≡ [] → HasNoFault view
+no_faults view others flow most these all first are members types flows names none =
+    let both : most ++ these ≡ [] = sym are ∙ none in
+    let rest : others ++ flow ≡ [] = sym first ∙ none_first most these both in
+    record { names = names (none_second most these both); members = members (none_first others flow rest); types = types (none_first others flow rest); flow = flows (none_second others flow rest) }

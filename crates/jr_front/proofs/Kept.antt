@@ -29,6 +29,10 @@ use Rattle.jr_name_faults.specs.Faults as of_names
 use Rattle.jr_member_faults.specs.Faults.{has_member_type_clash}
 use Rattle.jr_member_faults.specs.Tops.{has_top_type_clash}
 use Rattle.jr_member_faults.proofs.Told.{types_at}
+use Rattle.jr_flow_faults.specs.Computed.{facts, facts_in}
+use Rattle.jr_flow_faults.specs.Known.{AreKnown}
+use Rattle.jr_flow_faults.proofs.Kept.{flow_kept, jump_kept}
+use Rattle.jr_flow_faults.proofs.Known.{facts_known}
 use Rattle.jr_type_facts.specs.Views.{rows_in, table_in, types_in, constants_in}
 use Rattle.jr_type_faults.specs.Faults.{is_exact, is_broken}
 use Rattle.jr_front.specs.Compiling.{exact_rules, BreaksExact}
@@ -118,6 +122,9 @@ module _ (view : View) (local : IsLocal (rows_in view)) (typable : IsTypable (ro
   of_members_kept e (BreaksMembers.static_in_inner h i s a) = member_kept 21 none.members.statics (BreaksMembers.static_in_inner h i s a)
   of_members_kept e (BreaksMembers.static_initializer_in_inner h i is l) = member_kept 21 none.members.statics (BreaksMembers.static_initializer_in_inner h i is l)
 
+  known : AreKnown p t (facts_in view)
+  known = subst (λ (c : Constants). AreKnown p t (facts p t c)) (sym values_are) (facts_known p t typable)
+
   of_types_kept : {rule n : ℕ} → has exact_rules rule ≡ true → BreaksTypes p t rule n → ⊥
   of_types_kept e (BreaksTypes.lacks_object h) = type_kept rule.StaticContext refl (BreaksTypes.lacks_object h)
   of_types_kept e (BreaksTypes.used_too_early h) = type_kept rule.ForwardReference refl (BreaksTypes.used_too_early h)
@@ -133,8 +140,9 @@ module _ (view : View) (local : IsLocal (rows_in view)) (typable : IsTypable (ro
   of_types_kept e (BreaksTypes.returns h) = type_kept rule.Return refl (BreaksTypes.returns h)
   of_types_kept e (BreaksTypes.abstracts h) = type_kept rule.Abstract refl (BreaksTypes.abstracts h)
   of_types_kept e (BreaksTypes.array h) = type_kept rule.Index refl (BreaksTypes.array h)
-  of_types_kept e (BreaksTypes.jump h) = false≢true e
+  of_types_kept e (BreaksTypes.jump h) = jump_kept p t local (facts_in view) known none.flow.jumps none.flow.unreached none.flow.completing _ h
   of_types_kept e (BreaksTypes.branches h) = type_kept rule.Branches refl (BreaksTypes.branches h)
 
   pub none_broken : (rule place : ℕ) → BreaksExact p t rule place → ⊥
-  none_broken rule place b = ⊎_elim (⊎_elim (of_names_kept b.exact) (of_members_kept b.exact)) (of_types_kept b.exact) b.breaks
+  none_broken rule place b = ⊎_elim (⊎_elim (⊎_elim (of_names_kept b.exact) (of_members_kept b.exact)) (of_types_kept b.exact))
+      (flow_kept p t local (facts_in view) known none.flow.jumps none.flow.unreached none.flow.completing rule place) b.breaks

@@ -15,6 +15,8 @@ use Rattle.jr_member_faults.specs.Faults.{has_member_type_clash}
 use Rattle.jr_member_faults.specs.Tops.{has_top_type_clash}
 use Rattle.jr_member_faults.specs.Views.{rows_in, table_in, IsNamedWorld, IsSignedWorld, IsValuedView}
 use Rattle.jr_type_faults.specs.Faults.{IsRightView, is_exact, broken_rows}
+use Rattle.jr_flow_faults.specs.Computed.{facts_in}
+use Rattle.jr_flow_faults.specs.Faults.{lost_rows, unreached_rows, completing_rows}
 use Rattle.jr_front.specs.Bound.{rows_in as program_rows}
 use Rattle.jr_front.specs.declared.workspace.Workspace.{Workspace}
 
@@ -64,8 +66,15 @@ pub record HasNoMemberFault (view : View) : Type 0 where
 pub record HasNoTypeFault (view : View) : Type 0 where
   pub each : (one : Rule) → is_exact one ≡ true → broken_rows view one ≡ []
 
+-- on jumps, on statements that cannot be reached, and on bodies that complete otherwise than they may
+pub record HasNoFlowFault (view : View) : Type 0 where
+  pub jumps : lost_rows (rows_in view) (facts_in view) ≡ []
+  pub unreached : unreached_rows (rows_in view) (facts_in view) ≡ []
+  pub completing : completing_rows (rows_in view) (facts_in view) ≡ []
+
 -- no row breaks an exact rule
 pub record HasNoFault (view : View) : Type 0 where
   pub names : HasNoNameFault view
   pub members : HasNoMemberFault view
   pub types : HasNoTypeFault view
+  pub flow : HasNoFlowFault view

@@ -15,7 +15,7 @@ ghost use Rattle.jr_prelude.specs.Begins.{BeginsWithLang};
 ghost use Rattle.jr_front.specs.Bound.{IsBoundIn, rows_in, table_in};
 ghost use Rattle.jr_front.specs.Checking.{CheckedAs, IsOfPrograms, forgotten};
 ghost use Rattle.jr_front.specs.Compiling.{KeepsExact, CompilesExactly};
-ghost use Rattle.jr_front.specs.Tested.{IsTestableView, HasNoNameFault, HasNoTopFault, HasNoTopClash, HasNoMemberFault, HasNoTypeFault, HasNoFault};
+ghost use Rattle.jr_front.specs.Tested.{IsTestableView, HasNoNameFault, HasNoTopFault, HasNoTopClash, HasNoMemberFault, HasNoTypeFault, HasNoFlowFault, HasNoFault};
 
 use crate::broken::first_broken;
 use crate::fault::{FrontFault, unread};
@@ -68,6 +68,15 @@ fn name_faults_of(alloc: Global, view: &View) -> Result<Vec<Fault>, OutOfMemory>
     Ok(faults)
 }
 
+// The rules on flow that it breaks.
+fn flow_faults_of(alloc: Global, view: &View) -> Result<Vec<Fault>, OutOfMemory>
+    ensures { IsTestableView view.now → IfOk result (λ faults. faults.items ≡ [] → HasNoFlowFault view.now) }
+{
+    let mut faults = Vec::new(alloc);
+    flow_faults(alloc, view, &mut faults)?;
+    Ok(faults)
+}
+
 // The other rules that it breaks. Those on types come last, which add faults of their own rules alone.
 fn other_faults_of(alloc: Global, marks: &Marks, view: &View) -> Result<Vec<Fault>, OutOfMemory>
     ensures members { IsTestableView view.now → IfOk result (λ faults. faults.items ≡ [] → HasNoMemberFault view.now) }
@@ -75,7 +84,6 @@ fn other_faults_of(alloc: Global, marks: &Marks, view: &View) -> Result<Vec<Faul
 {
     let mut faults = Vec::new(alloc);
     modifier_faults(marks, &mut faults)?;
-    flow_faults(alloc, view, &mut faults)?;
     assign_faults(alloc, view, &mut faults)?;
     member_faults(alloc, view, &mut faults)?;
     type_faults(alloc, *view, &mut faults)?;
@@ -88,6 +96,8 @@ fn faults_of(alloc: Global, marks: &Marks, view: &View) -> Result<Vec<Fault>, Ou
     ensures { IsTestableView view.now → IfOk result (λ faults. faults.items ≡ [] → HasNoFault view.now) }
 {
     let mut faults = other_faults_of(alloc, marks, view)?;
+    let mut of_flow = flow_faults_of(alloc, view)?;
+    faults.append(&mut of_flow)?;
     let mut of_names = name_faults_of(alloc, view)?;
     faults.append(&mut of_names)?;
     Ok(faults)
