@@ -32,12 +32,14 @@ none_before {old} one h none = none_first (rows_of one old) [] (sym h.are ∙ no
 
 pub no_names : {old new : List Fault} (view : View) → (names.IsPlacedView view → of_names.AreExactFaults view rule.LocalNames old new) → (names.IsPlacedView view → of_names.AreExactFaults view rule.Labels old new)
     → (names.IsSeenView view → of_names.AreExactFaults view rule.Access old new) → (names.IsPlacedView view → of_names.AreExactFaults view rule.ImportNames old new)
-    → (names.IsPlacedView view → of_names.AreExactFaults view rule.ImportedTypes old new) → IsTestableView view → new ≡ [] → HasNoNameFault view
-no_names view locals labels access imports types testable none = record {
+    → (names.IsPlacedView view → of_names.AreExactFaults view rule.ImportedTypes old new) → (names.IsTabledView view → of_names.AreExactFaults view rule.StaticImports old new)
+    → IsTestableView view → new ≡ [] → HasNoNameFault view
+no_names view locals labels access imports types statics testable none = record {
   local_names = none_added rule.LocalNames (locals testable.placed) (ap (rows_of rule.LocalNames) none);
   labels = none_added rule.Labels (labels testable.placed) (ap (rows_of rule.Labels) none);
   import_names = none_added rule.ImportNames (imports testable.placed) (ap (rows_of rule.ImportNames) none);
   imported_types = none_added rule.ImportedTypes (types testable.placed) (ap (rows_of rule.ImportedTypes) none);
+  static_imports = none_added rule.StaticImports (statics testable.tabled) (ap (rows_of rule.StaticImports) none);
   access = none_added rule.Access (access testable.seen) (ap (rows_of rule.Access) none);
 }
 

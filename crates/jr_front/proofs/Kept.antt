@@ -94,9 +94,9 @@ module _ (view : View) (local : IsLocal (rows_in view)) (typable : IsTypable (ro
   of_names_kept e (Breaks.inner_superclass h is k) = declared_kept 13 none.members.supertypes (Breaks.inner_superclass h is k)
   of_names_kept e (Breaks.class_as_superinterface h is k) = declared_kept 13 none.members.supertypes (Breaks.class_as_superinterface h is k)
   of_names_kept e (Breaks.superinterface_twice h k lt is other) = declared_kept 13 none.members.supertypes (Breaks.superinterface_twice h k lt is other)
-  of_names_kept e (Breaks.imports_nothing h k) = false≢true e
-  of_names_kept e (Breaks.imports_another h type k apart named other) = false≢true e
-  of_names_kept e (Breaks.imports_beside h type top named other) = false≢true e
+  of_names_kept e (Breaks.imports_nothing h k) = named_kept rule.StaticImports none.names.static_imports (Breaks.imports_nothing h k)
+  of_names_kept e (Breaks.imports_another h type k apart named other) = named_kept rule.StaticImports none.names.static_imports (Breaks.imports_another h type k apart named other)
+  of_names_kept e (Breaks.imports_beside h type top named other) = named_kept rule.StaticImports none.names.static_imports (Breaks.imports_beside h type top named other)
 
   of_members_kept : {rule n : ℕ} → has exact_rules rule ≡ true → BreaksMembers p t rule n → ⊥
   of_members_kept e (BreaksMembers.not_implemented class a member is b lacking) = false≢true e

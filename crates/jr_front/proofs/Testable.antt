@@ -101,6 +101,7 @@ module _ (w : Workspace) (view : View) (bound : IsBoundIn w) (of : IsViewOf (row
           right = record { seen = right; throwable = subst (λ r. HasNoOtherThrowable r) (sym of.rows_are) one_throwable };
           placed = record { few = right.sized.few; placed = right.seen.placed };
           seen = record { few = right.sized.few; seen = right.seen };
+          tabled = record { few = right.sized.few; right = (whole_view w view bound of).world_is };
           named = right.seen.placed.are;
           signed = (whole_view w view bound of).world_is.members_are.signatures_are;
           valued = view_variables;

@@ -25,6 +25,7 @@ pub record IsTestableView (view : View) : Type 0 where
   pub right : IsRightView view
   pub placed : names.IsPlacedView view
   pub seen : names.IsSeenView view
+  pub tabled : names.IsTabledView view
   pub named : IsNamedWorld view.sight.world
   pub signed : IsSignedWorld view.sight.world
   pub valued : IsValuedView view
@@ -42,6 +43,7 @@ pub record HasNoNameFault (view : View) : Type 0 where
   pub labels : of_names.broken_rows view rule.Labels ≡ []
   pub import_names : of_names.broken_rows view rule.ImportNames ≡ []
   pub imported_types : of_names.broken_rows view rule.ImportedTypes ≡ []
+  pub static_imports : of_names.broken_rows view rule.StaticImports ≡ []
   pub access : of_names.broken_rows view rule.Access ≡ []
 
 -- no type outside any other has the name of one before it in its package, or of a subpackage
