@@ -1,13 +1,13 @@
 // Statements by what their rows are (JLS 14).
-ghost use Rattle.std.specs.Prelude.{◌≡◌, ◌+◌, ◌<◌, [], length, OnOk};
+ghost use Rattle.std.specs.Prelude.{◌≡◌, ◌+◌, ◌<◌, true, [], length, OnOk};
 ghost use Rattle.jr_core.specs.declared.code.Code.TheVariants as c;
 ghost use Rattle.jr_tree.specs.Rows as rows;
 ghost use Rattle.jr_codes.specs.Making.{code, of_none, of_one};
 ghost use Rattle.jr_codes.specs.Reads.{rows_of, facts, Becomes};
-ghost use Rattle.jr_codes.specs.Waiting.{waiting};
+ghost use Rattle.jr_codes.specs.Waiting.{behind, waiting};
 ghost use Rattle.jr_expressions.specs.Expressions.{codes_of};
-ghost use Rattle.jr_elab.specs.Stacked.{AreRead, Does, stacks_in};
-ghost use Rattle.jr_expressions.specs.Stacks.{Makes, WaitsFrom, stacks_of};
+ghost use Rattle.jr_elab.specs.Stacked.{AreCodesSettled, AreOutside, AreRead, Does, stacks_in};
+ghost use Rattle.jr_expressions.specs.Stacks.{AreCounted, IsAlone, Makes, WaitsFrom, stacks_of};
 ghost use Rattle.jr_expressions.specs.Statements as made;
 
 use crate::jumps::{catch, group, jump, returned, switch, switch_case, switch_default, try_catch};
@@ -50,6 +50,70 @@ impl Making {
             result_type,
         }
     }
+}
+
+/// How many parts of each kind wait that stand behind a row.
+struct Outside {
+    codes: usize,
+    labels: usize,
+    groups: usize,
+    catches: usize,
+}
+
+// How many parts wait that stand behind a row which ends here.
+fn count_behind<T: Drop>(parts: &Parts<T>, end: u32) -> usize
+    ensures { result ≡ length (behind end (waiting parts.now)) }
+{
+    let inside = parts.count_before(end);
+    parts.len().saturating_sub(inside)
+}
+
+// The same of each kind.
+fn outside_of(making: &Making, end: u32) -> Outside
+    ensures { AreOutside end (stacks_in making.now) result }
+{
+    let codes = count_behind(&making.codes, end);
+    let labels = count_behind(&making.labels, end);
+    let groups = count_behind(&making.groups, end);
+    let catches = count_behind(&making.catches, end);
+    Outside {
+        codes,
+        labels,
+        groups,
+        catches,
+    }
+}
+
+// No part is left but so many, and that of the row, if it is there.
+fn is_alone<T: Drop>(parts: &Parts<T>, at: u32, outside: usize) -> bool
+    ensures { result ≡ true → IsAlone at outside (waiting parts.now) }
+{
+    let count = parts.len();
+    if parts.has(at) {
+        count.saturating_sub(1) == outside
+    } else {
+        count == outside
+    }
+}
+
+// Where the row is code it is alone, and where it is a label no code is left below it.
+fn are_codes_settled(making: &Making, at: u32, outside: usize) -> bool
+    ensures { result ≡ true → AreCodesSettled at outside (stacks_in making.now) }
+{
+    if making.codes.has(at) && !is_alone(&making.codes, at, outside) {
+        return false;
+    }
+    !making.labels.has(at) || making.codes.len() == outside
+}
+
+// Nothing is left below the row that may not be. In a program that compiles nothing is.
+fn is_settled(making: &Making, at: u32, outside: &Outside) -> bool
+    ensures { result ≡ true → AreCounted at outside.now.codes outside.now.labels outside.now.groups outside.now.catches (stacks_in making.now) }
+{
+    are_codes_settled(making, at, outside.codes)
+        && is_alone(&making.labels, at, outside.labels)
+        && is_alone(&making.groups, at, outside.groups)
+        && is_alone(&making.catches, at, outside.catches)
 }
 
 /// `{ .. }` as a statement
@@ -179,8 +243,8 @@ fn make_labeled(
 }
 
 // Makes what the row is, where the parts below it are made.
-fn make(source: &Source, making: &mut Making, at: u32) -> Result<(), OutOfMemory>
-    ensures made { OnOk result (Makes source.now making.old.result_type at (stacks_in making.old) (stacks_in making.new)) }
+fn make_row(source: &Source, making: &mut Making, at: u32) -> Result<(), OutOfMemory>
+    ensures made { OnOk result (Does source.now at (made.made_at (facts source.now) making.old.result_type at) (stacks_in making.old) (stacks_in making.new)) }
     ensures same { OnOk result (making.new.result_type ≡ making.old.result_type) }
 {
     match source.value(at) {
@@ -189,6 +253,20 @@ fn make(source: &Source, making: &mut Making, at: u32) -> Result<(), OutOfMemory
             Some(label) => make_labeled(source, making, at, label),
             None => Ok(()),
         },
+    }
+}
+
+// The same, where all that stands below the row goes into it. What is left below it otherwise is answered for want of memory.
+fn make(source: &Source, making: &mut Making, at: u32) -> Result<(), OutOfMemory>
+    ensures made { OnOk result (Makes source.now making.old.result_type at (stacks_in making.old) (stacks_in making.new)) }
+    ensures same { OnOk result (making.new.result_type ≡ making.old.result_type) }
+{
+    let outside = outside_of(making, source.end(at));
+    make_row(source, making, at)?;
+    if is_settled(making, at, &outside) {
+        Ok(())
+    } else {
+        Err(OutOfMemory)
     }
 }
 
