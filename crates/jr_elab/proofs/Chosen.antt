@@ -1,24 +1,22 @@
 -- `if` and `return`, from what their functions call.
-use Rattle.std.proofs.Common.{◌≡◌, refl, sym, ◌∙◌, ap, subst, ℕ, ◌+◌, ◌<◌, ◌≤◌, ◌^◌, Bool, true, false, cond, [], ◌∷◌, Option, Some, None, nat_eq, nat_lt, length, arith}
-use Rattle.std.proofs.lemmas.Bool.{false≢true}
-use Rattle.std.proofs.lemmas.Bool.Decides.{Decides-eqb, Decides-ltb}
-use Rattle.std.proofs.lemmas.List.{get_or_past}
+use Rattle.std.proofs.Common.{◌≡◌, refl, sym, ◌∙◌, ap, subst, ℕ, ◌+◌, ◌<◌, ◌^◌, Bool, true, false, cond, [], ◌∷◌, ◌++◌, Option, Some, None, nat_lt, length, arith}
+use Rattle.std.proofs.lemmas.Bool.Decides.{Decides-eqb}
 use Rattle.std.proofs.lemmas.Option.{none-some}
 use Rattle.std.specs.Prelude.{option_map}
 use Rattle.jr_core.specs.declared.code.Code.{Code}
 use Rattle.jr_core.specs.declared.code.Code.TheVariants as c
 use Rattle.jr_defs.specs.declared.referent.RowType.{RowType}
-use Rattle.jr_tree.specs.declared.label.Label.TheVariants as is
-use Rattle.jr_tree.specs.Rows.{Rows, end}
+use Rattle.jr_tree.specs.Rows.{end}
 use Rattle.jr_codes.specs.declared.source.Source.{Source}
 use Rattle.jr_codes.specs.Facts.{Facts, has_child}
-use Rattle.jr_codes.specs.Making.{Below, code, unknown, code_if, of_none, BeginsFrom, Parted, Stands}
-use Rattle.jr_codes.specs.Waiting.{is_top, TakesIf}
+use Rattle.jr_codes.specs.Making.{Below, code, unknown, code_if, of_none, AreBefore, Parted, Stands}
+use Rattle.jr_codes.specs.Waiting.{TakesIf}
 use Rattle.jr_codes.specs.Conversions.{converted, Converts}
 use Rattle.jr_codes.specs.Reads.{rows_of, facts, child_of, IsReadAt, Becomes}
 use Rattle.jr_expressions.specs.Statements.{choice_made, returned, return_made}
-use Rattle.jr_expressions.proofs.Standing.{found, first_or, others, none_becomes, one_becomes}
+use Rattle.jr_expressions.proofs.Standing.{found, left_count, none_becomes, one_becomes}
 use Rattle.jr_expressions.proofs.Operated.{one_counted, two_counted}
+use Rattle.jr_elab.proofs.Left.{parts_taken}
 
 -- ---- `if`
 
@@ -62,7 +60,7 @@ choice_becomes {s} {n} {m} {e} {second} {third} {a} {b} {row} other {old} {first
   stands = λ read parts rest h alone.
       choice_where (nat_lt third e) (facts s) n m second third e a b other left mid new parts rest
       (subst (λ all. Parted e all parts rest) (one ∙ ap (λ all. (m, a) ∷ all) two) (subst (λ x. Parted x old parts rest) (sym (same (one_counted read))) h))
-      (subst (λ r. TakesIf r left mid other) place took) (third_is read at next fits) st (left_below n (c.If a b other) mid rest new st alone);
+      (subst (λ r. TakesIf r left mid other) place took) (third_is read at next fits) st (left_count rest st alone);
 }
 
 -- ---- `return`
@@ -71,7 +69,7 @@ pub value_becomes : {s : Source} {n m : ℕ} {made : Code} {to : RowType} {old l
     → Becomes s n (λ parts. returned (Some to) (facts s) parts) old new
 value_becomes {s} {n} {m} {made} {to} {old} {left} {new} one st =
     one_becomes (λ m a. code_if (option_map (λ x. c.Return (Some x)) (converted (facts s) m to a))) one.was
-    (found (option_map (λ x. c.Return (Some x)) (converted (facts s) m to one.given)) (c.Return (Some made)) n ((m, one.given) ∷ []) left new (ap (option_map (λ x. c.Return (Some x))) one.is) st)
+    (found (option_map (λ x. c.Return (Some x)) (converted (facts s) m to one.given)) (c.Return (Some made)) n left new (ap (option_map (λ x. c.Return (Some x))) one.is) st)
 
 child_there : (b : Bool) (row k : ℕ) → Some row ≡ cond b (Some k) None → b ≡ true
 child_there true row k h = refl

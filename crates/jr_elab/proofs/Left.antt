@@ -3,8 +3,7 @@ use Rattle.std.proofs.Common.{◌≡◌, refl, sym, ◌∙◌, ap, ℕ, suc, ◌
 use Rattle.std.proofs.lemmas.Bool.{false≢true}
 use Rattle.std.proofs.lemmas.Bool.Decides.{Decides-eqb}
 use Rattle.std.proofs.lemmas.List.{length-append}
-use Rattle.jr_core.specs.declared.code.Code.{Code}
-use Rattle.jr_codes.specs.Making.{Below, IsOneAt}
+use Rattle.jr_codes.specs.Making.{Below}
 use Rattle.jr_codes.specs.Waiting.{is_top, front, behind}
 use Rattle.jr_expressions.specs.Stacks.{AreFrom, AreRising, IsAlone, one_if}
 use Rattle.jr_expressions.specs.Statements.{Part, code_part, case_part, group_part, catch_part, Parts, as_code, as_case, as_group, as_catch, those, is_code, is_group, is_in_group, is_in_try, all_are}
@@ -67,9 +66,6 @@ parts_taken (t ∷ ts) (p ∷ ps) left rest is same =
 
 pub row_on_top : {T : Type 0} → (n : ℕ) (x : T) (left now : List (ℕ × T)) → now ≡ (n, x) ∷ left → is_top n now ≡ true
 row_on_top n x left now is = ap (is_top n) is ∙ (Decides-eqb n n).1 refl
-
-pub left_below : {T : Type 0} → (n : ℕ) (x : T) (left rest now : List (ℕ × T)) → now ≡ (n, x) ∷ left → IsOneAt n rest now → length left ≡ length rest
-left_below n x left rest now is one = less_one (length left) (length rest) (sym (ap length is) ∙ one (row_on_top n x left now is))
 
 -- ---- parts of one kind
 

@@ -12,10 +12,10 @@ use Rattle.jr_codes.specs.Waiting.{front, behind, StandsBefore, TakesFront}
 use Rattle.jr_codes.specs.Reads.{rows_of, facts, Becomes}
 use Rattle.jr_codes.proofs.Fronts.{front_none, behind_none}
 use Rattle.jr_expressions.specs.Statements.{is_list_of_expressions, row_behind, last_from, header_made, behind_header, body_made, updates_made, condition_made, for_made}
-use Rattle.jr_expressions.proofs.Standing.{first_or, others}
+use Rattle.jr_expressions.proofs.Standing.{first_or, others, left_count}
 use Rattle.jr_expressions.proofs.Operated.{one_counted, two_counted}
 use Rattle.jr_elab.specs.Stacked.{TakesCondition, TakesEvals, TakesHeader, AddsEval}
-use Rattle.jr_elab.proofs.Left.{none_added, not_none, left_below}
+use Rattle.jr_elab.proofs.Left.{none_added, not_none}
 
 -- ---- expressions that become statements
 
@@ -323,5 +323,5 @@ for_becomes {s} {n} {child} {e} {row} {up} {last} {first} on {update} {body} {ol
         updates = updates;
         taken = taken;
         is = is;
-      }) h refl (left_below n (c.For first on update body) rest more new is one);
+      }) h refl (left_count more is one);
 }

@@ -26,10 +26,10 @@ use Rattle.jr_expressions.specs.Expressions.{codes_of}
 use Rattle.jr_expressions.specs.Stacks.{Stacks, stacks_of, AreFrom, AreRising, ComesTo}
 use Rattle.jr_expressions.specs.Statements.{Part, code_part, case_part, group_part, catch_part, Parts, Comes, part, strange, as_code, as_case, as_group, as_catch, those, codes, items, is_code, all_are, alone, case_by, case_made, default_made, switch_made, group_made, catch_by, catch_made, try_by, try_made}
 use Rattle.jr_expressions.proofs.Joined.{rising_from, those_from, those_joined, those_parted, stacks_are}
-use Rattle.jr_expressions.proofs.Standing.{first_or, others}
+use Rattle.jr_expressions.proofs.Standing.{first_or, others, left_count}
 use Rattle.jr_expressions.proofs.Operated.{one_counted, two_counted}
 use Rattle.jr_elab.specs.Stacked.{stacks, Does, case_label, caught_class, caught, TakesLast}
-use Rattle.jr_elab.proofs.Left.{none_added, parts_taken, row_on_top, left_below, none_inside, none_under, not_none, only_codes, only_in_group, only_in_try, only_groups, no_parts}
+use Rattle.jr_elab.proofs.Left.{none_added, parts_taken, row_on_top, none_inside, none_under, not_none, only_codes, only_in_group, only_in_try, only_groups, no_parts}
 
 -- what waits of a kind, where none of it stands inside
 pub outside : {T : Type 0} {was : List (ℕ × T)} (kind : Part → Option T) (inner outer : Parts) → was ≡ those kind (inner ++ outer) → those kind inner ≡ [] → was ≡ those kind outer
@@ -190,7 +190,7 @@ switch_does {s} {n} {row} {e} {value} {below} {left} {new} {groups} {groups_left
       let no_label : those as_case inner ≡ [] = none_inside as_case n inner outer labels h.rising (ap (λ x. x.of_label) all) settled.label in
       let no_catch : those as_catch inner ≡ [] = none_inside as_catch n inner outer catches h.rising (ap (λ x. x.of_catch) all) settled.catch in
       let one : (codes inner ≡ (row, value) ∷ []) × (left ≡ codes outer) = parts_taken ((row, value) ∷ []) (codes inner) left (codes outer) (sym was ∙ ap (λ x. x.of_code) all ∙ those_joined as_code inner outer)
-          (left_below n (c.Switch value taken) left (codes outer) new st settled.code) in
+          (left_count (codes outer) st settled.code) in
       let all_groups : List Group = items (those as_group inner) in
       comes_part (switch_made inner) (switch_of value all_groups) n inner outer (stacks new labels groups_left catches)
       (switch_is inner row value (subst (λ k. AreRising k inner) (sym (first (one_counted read))) h.rising) one.0 no_label no_catch)
@@ -290,7 +290,7 @@ try_does {s} {n} {e} {second} {body} {taken} last {below} {mid} {left} {new} {ca
       let own : List Code = front first (codes inner) in let all_caught : List Catch = items (those as_catch inner) in
       let over : (try_by own all_caught has_finally (behind first (codes inner)) ≡ part (try_of own all_caught last)) × (left ≡ codes outer) =
           try_last has_finally stop own all_caught last mid left (behind first (codes inner)) (codes outer) (left_parted first stop below mid (codes inner) (codes outer) body le of_codes block) end_block
-          (left_below n (c.Try body taken last) left (codes outer) new st settled.code) in
+          (left_count (codes outer) st settled.code) in
       comes_part (try_made (facts s) n has_finally inner) (try_of own all_caught last) n inner outer (stacks new labels groups catches_left)
       (ap (λ b. cond b (try_by own all_caught has_finally (behind first (codes inner))) strange) (only_in_try inner no_label no_group) ∙ over.0)
       (stacks_are ((n, try_of own all_caught last) ∷ outer)

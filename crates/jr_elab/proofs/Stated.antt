@@ -13,10 +13,10 @@ use Rattle.jr_codes.specs.Waiting.{front, behind, TakesIf, TakesFront}
 use Rattle.jr_codes.specs.Reads.{rows_of, facts, child_of, Becomes}
 use Rattle.jr_expressions.specs.Expressions.{codes_of}
 use Rattle.jr_expressions.specs.Statements.{local_made, jump_target, jump_made}
-use Rattle.jr_expressions.proofs.Standing.{found, none_becomes}
+use Rattle.jr_expressions.proofs.Standing.{found, left_count, none_becomes}
 use Rattle.jr_expressions.proofs.Operated.{one_counted}
 use Rattle.jr_expressions.proofs.Initialized.{front_parted, behind_parted}
-use Rattle.jr_elab.proofs.Left.{parts_taken, left_below}
+use Rattle.jr_elab.proofs.Left.{parts_taken}
 
 pub nest_becomes : {s : Source} {n e : ℕ} {all : List Code} {old left new : Below} → (n + 1 < 2 ^ 32 → e ≡ end (rows_of s) n) → TakesFront e old left all → new ≡ (n, c.Nest all) ∷ left
     → Becomes s n (λ parts. code (c.Nest (codes_of parts))) old new
@@ -53,10 +53,10 @@ pub local_becomes : {s : Source} {n : ℕ} {child : Option ℕ} (on : Option Cod
     → new ≡ (n, c.Local ((facts s).decl n) on) ∷ mid → Becomes s n (λ parts. local_made (facts s) n parts) old new
 local_becomes {s} {n} {child} on {old} {mid} {new} same took st = record {
   stands = λ read parts rest h one. local_where (nat_lt (n + 1) (end (rows_of s) n)) on (facts s) n old mid parts rest new
-      (subst (λ k. TakesIf k old mid on) (same (one_counted read)) took) h.is st (left_below n (c.Local ((facts s).decl n) on) mid rest new st one);
+      (subst (λ k. TakesIf k old mid on) (same (one_counted read)) took) h.is st (left_count rest st one);
 }
 
 pub jump_becomes : {s : Source} {n : ℕ} {label : Option DeclId} {old new : Below} (g : Option DeclId → Code) (has_label : Bool) → jump_target (facts s) n has_label ≡ Some label → new ≡ (n, g label) ∷ old
     → Becomes s n (λ parts. jump_made g (facts s) n has_label parts) old new
 jump_becomes {s} {n} {label} {old} {new} g has_label is st =
-    none_becomes (code_if (option_map g (jump_target (facts s) n has_label))) (found (option_map g (jump_target (facts s) n has_label)) (g label) n [] old new (ap (option_map g) is) st)
+    none_becomes (code_if (option_map g (jump_target (facts s) n has_label))) (found (option_map g (jump_target (facts s) n has_label)) (g label) n old new (ap (option_map g) is) st)
