@@ -1,10 +1,10 @@
 // Statements by what their rows are (JLS 14).
-ghost use Rattle.std.specs.Prelude.{◌≡◌, ◌+◌, ◌<◌, true, [], length, OnOk};
+ghost use Rattle.std.specs.Prelude.{◌≡◌, suc, ◌+◌, ◌<◌, true, [], length, OnOk};
 ghost use Rattle.jr_core.specs.declared.code.Code.TheVariants as c;
 ghost use Rattle.jr_tree.specs.Rows as rows;
 ghost use Rattle.jr_codes.specs.Making.{code, of_none, of_one};
 ghost use Rattle.jr_codes.specs.Reads.{rows_of, facts, Becomes};
-ghost use Rattle.jr_codes.specs.Waiting.{behind, waiting};
+ghost use Rattle.jr_codes.specs.Waiting.{behind, is_top, waiting};
 ghost use Rattle.jr_expressions.specs.Expressions.{codes_of};
 ghost use Rattle.jr_elab.specs.Stacked.{AreCodesSettled, AreOutside, AreRead, Does, stacks_in};
 ghost use Rattle.jr_expressions.specs.Stacks.{AreCounted, IsAlone, Makes, WaitsFrom, stacks_of};
@@ -84,7 +84,7 @@ fn outside_of(making: &Making, end: u32) -> Outside
     }
 }
 
-// No part is left but so many, and that of the row, if it is there.
+// So many parts are left, and that of the row, if it is on top.
 fn is_alone<T: Drop>(parts: &Parts<T>, at: u32, outside: usize) -> bool
     ensures { result ≡ true → IsAlone at outside (waiting parts.now) }
 {
@@ -96,24 +96,45 @@ fn is_alone<T: Drop>(parts: &Parts<T>, at: u32, outside: usize) -> bool
     }
 }
 
-// Where the row is code it is alone, and where it is a label no code is left below it.
+// If the row is code, it is alone.
+fn is_alone_if<T: Drop>(parts: &Parts<T>, at: u32, outside: usize) -> bool
+    ensures { result ≡ true → is_top at (waiting parts.now) ≡ true → length (waiting parts.now) ≡ suc outside }
+{
+    if parts.has(at) {
+        is_alone(parts, at, outside)
+    } else {
+        true
+    }
+}
+
+// If the row is code, it is alone, and if it is a label, no code is left below it.
 fn are_codes_settled(making: &Making, at: u32, outside: usize) -> bool
     ensures { result ≡ true → AreCodesSettled at outside (stacks_in making.now) }
 {
-    if making.codes.has(at) && !is_alone(&making.codes, at, outside) {
+    if !is_alone_if(&making.codes, at, outside) {
         return false;
     }
-    !making.labels.has(at) || making.codes.len() == outside
+    if making.labels.has(at) {
+        making.codes.len() == outside
+    } else {
+        true
+    }
 }
 
 // Nothing is left below the row that may not be. In a program that compiles nothing is.
 fn is_settled(making: &Making, at: u32, outside: &Outside) -> bool
     ensures { result ≡ true → AreCounted at outside.now.codes outside.now.labels outside.now.groups outside.now.catches (stacks_in making.now) }
 {
-    are_codes_settled(making, at, outside.codes)
-        && is_alone(&making.labels, at, outside.labels)
-        && is_alone(&making.groups, at, outside.groups)
-        && is_alone(&making.catches, at, outside.catches)
+    if !are_codes_settled(making, at, outside.codes) {
+        return false;
+    }
+    if !is_alone(&making.labels, at, outside.labels) {
+        return false;
+    }
+    if !is_alone(&making.groups, at, outside.groups) {
+        return false;
+    }
+    is_alone(&making.catches, at, outside.catches)
 }
 
 /// `{ .. }` as a statement
