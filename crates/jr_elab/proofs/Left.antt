@@ -25,10 +25,13 @@ none_added (p ∷ xs) rest h = absurd (too_long (length xs) (length rest) (sym (
 one_more : (a b m : ℕ) → a + b ≡ m → suc a + b ≡ suc m
 one_more a b m h = omega (arith, h)
 
+none_more : (m : ℕ) → 0 + m ≡ m
+none_more m = omega arith
+
 split_by : {T : Type 0} → (b : Bool) (p : ℕ × T) (before : List T) (after ps : List (ℕ × T)) → length before + length after ≡ length ps
     → length (cond b (p.1 ∷ before) []) + length (cond b after (p ∷ ps)) ≡ suc (length ps)
 split_by true p before after ps h = one_more (length before) (length after) (length ps) h
-split_by false p before after ps h = refl
+split_by false p before after ps h = none_more (suc (length ps))
 
 split_count : {T : Type 0} → (e : ℕ) (all : List (ℕ × T)) → length (front e all) + length (behind e all) ≡ length all
 split_count e [] = refl
@@ -40,19 +43,6 @@ rest_of a b m h = omega (arith, h)
 -- the parts behind a row that ends here are the others
 pub behind_count : {T : Type 0} → (e k : ℕ) (all : List (ℕ × T)) → k ≡ length (front e all) → length all - k ≡ length (behind e all)
 behind_count e k all is = ap (λ m. length all - m) is ∙ rest_of (length (front e all)) (length (behind e all)) (length all) (split_count e all)
-
-pub alone_there : {T : Type 0} → (n k : ℕ) (all : List (ℕ × T)) → is_top n all ≡ true → length all - 1 ≡ k → IsAlone n k all
-alone_there n k [] top is = absurd (false≢true top)
-alone_there n k (p ∷ ps) top is = one_up (length ps) k is ∙ ap (λ b. one_if b k) (sym top)
-  where
-    one_up : (a k : ℕ) → suc a - 1 ≡ k → suc a ≡ suc k
-    one_up a k h = omega (arith, h)
-
-pub alone_away : {T : Type 0} → (n k : ℕ) (all : List (ℕ × T)) → is_top n all ≡ false → length all ≡ k → IsAlone n k all
-alone_away n k all away is = is ∙ ap (λ b. one_if b k) (sym away)
-
-pub alone_first : {T : Type 0} → (n k : ℕ) (all : List (ℕ × T)) → IsAlone n k all → is_top n all ≡ true → length all ≡ suc k
-alone_first n k all alone top = alone ∙ ap (λ b. one_if b k) top
 
 -- ---- codes
 

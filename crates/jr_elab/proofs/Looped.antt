@@ -198,8 +198,8 @@ too_few : (a b : ℕ) → suc a ≤ b → a ≡ b → ⊥
 too_few a b le same = omega (arith, le, same)
 
 -- the body is taken off, and then less is left than stands behind the row
-no_body : {row : ℕ} {body : Code} {after left rest : Below} → after ≡ (row, body) ∷ left → length after ≤ length rest → length left ≡ length rest → ⊥
-no_body {row} {body} {after} {left} {rest} taken le same = too_few (length left) (length rest) (subst (λ k. k ≤ length rest) (ap length taken) le) same
+no_body : {row : ℕ} {body : Code} {after left : Below} (rest : Below) → after ≡ (row, body) ∷ left → length after ≤ length rest → length left ≡ length rest → ⊥
+no_body {row} {body} {after} {left} rest taken le same = too_few (length left) (length rest) (subst (λ k. k ≤ length rest) (ap length taken) le) same
 
 -- ---- the body
 
@@ -213,7 +213,7 @@ body_one n last first on update all body r left parts rest new evals is st =
 body_stands : (n last : ℕ) (first : List Code) (on : Option Code) (update : List Code) (body : Code) (q after mid left parts rest new behinds : Below) → behind last q ≡ behinds → mid ≡ q ++ rest
     → TakesEvals last mid after update → after ≡ (last, body) ∷ left → new ≡ (n, c.For first on update body) ∷ left → length left ≡ length rest → Stands (body_made first on (front last q) last behinds) n parts rest new
 body_stands n last first on update body q after mid left parts rest new [] is was evals taken st same =
-    absurd (no_body taken (subst (λ xs. length xs ≤ length rest) (sym (evals.left ∙ ap (behind last) was)) (behind_fewer last q rest is)) same)
+    absurd (no_body rest taken (subst (λ xs. length xs ≤ length rest) (sym (evals.left ∙ ap (behind last) was)) (behind_fewer last q rest is)) same)
 body_stands n last first on update body q after mid left parts rest new (r ∷ []) is was evals taken st same =
     body_one n last first on update (front last q) body r left parts rest new
     (evals.taken ∙ ap (λ xs. map c.Eval (front last xs)) was ∙ ap (map c.Eval) (front_more last q rest [] r is))
@@ -269,7 +269,7 @@ none_behind : (f : Facts) (n bound : ℕ) (has_first has_condition : Bool) (row 
 none_behind f n bound has_first has_condition row up last first on update body old mid left after left_over new parts rest done was none same =
     let header : length mid ≤ length rest = subst (λ xs. length xs ≤ length rest) (sym (done.header.left ∙ ap (behind_header f (n + 1) has_first) was)) (header_fewer has_first f (n + 1) parts rest none) in
     let behind_condition : length left ≤ length rest = up_to (length left) (length mid) (length rest) (condition_fewer has_condition row mid left on done.condition) header in
-    no_body done.taken (up_to (length after) (length left) (length rest) (subst (λ xs. length xs ≤ length left) (sym done.updates.left) (behind_short last left)) behind_condition) same
+    no_body rest done.taken (up_to (length after) (length left) (length rest) (subst (λ xs. length xs ≤ length left) (sym done.updates.left) (behind_short last left)) behind_condition) same
 
 part_counted : (k row e bound : ℕ) → k ≡ row → k < e → e < bound → row + 1 < bound
 part_counted k row e bound same lt le = omega (arith, same, lt, le)
