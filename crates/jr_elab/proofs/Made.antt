@@ -81,14 +81,14 @@ labeled_does {s} {n} {l} {to} outcome {old} {new} same d = does_along (λ parts.
 
 -- ---- the step of a row
 
-pub constant_does : {s : Source} {n : ℕ} {v : Const} {outcome : Option RowType} {old new : Stacks} → (facts s).value n ≡ Some v → Becomes s n (λ parts. constant_made v (facts s) n parts) old.of_code new.of_code
+pub constant_does : {s : Source} {n : ℕ} {v : Const} {old new : Stacks} (outcome : Option RowType) → (facts s).value n ≡ Some v → Becomes s n (λ parts. constant_made v (facts s) n parts) old.of_code new.of_code
     → SameOthers old new → Does s n (made_at (facts s) outcome n) old new
-constant_does {s} {n} {v} {outcome} {old} {new} is becomes same =
+constant_does {s} {n} {v} {old} {new} outcome is becomes same =
     does_along (λ parts. ap (λ o. made_by o (facts s) outcome n parts) is) (plain_does {s = s} {n = n} {old = old} {new = new} (λ parts. constant_made v (facts s) n parts) becomes same)
 
-pub label_does : {s : Source} {n : ℕ} {l : Label} {outcome : Option RowType} {old new : Stacks} → (facts s).value n ≡ None → label (rows_of s) n ≡ l
+pub label_does : {s : Source} {n : ℕ} {l : Label} {old new : Stacks} (outcome : Option RowType) → (facts s).value n ≡ None → label (rows_of s) n ≡ l
     → Does s n (λ parts. statement_made l (facts s) outcome n parts) old new → Does s n (made_at (facts s) outcome n) old new
-label_does {s} {n} {l} {outcome} {old} {new} none named d =
+label_does {s} {n} {l} {old} {new} outcome none named d =
     does_along (λ parts. ap (λ o. made_by o (facts s) outcome n parts) none ∙ ap (λ x. statement_made x (facts s) outcome n parts) named) d
 
 not_past : (n len : ℕ) → n < len → len ≤ n → ⊥

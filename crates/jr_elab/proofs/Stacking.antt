@@ -78,7 +78,7 @@ pub taken_inside : {T : Type 0} {e : ℕ} {old new parts rest : List (ℕ × T)}
 taken_inside {T} {e} {old} {new} {parts} {rest} {all} h takes =
     takes.taken ∙ ap (front e) h.is ∙ front_within e e parts rest (itself e) h.after ∙ front_all e parts h.inside
 
-left_outside : {T : Type 0} {e : ℕ} {old new parts rest : List (ℕ × T)} {all : List T} → Parted e old parts rest → TakesFront e old new all → new ≡ rest
+pub left_outside : {T : Type 0} {e : ℕ} {old new parts rest : List (ℕ × T)} {all : List T} → Parted e old parts rest → TakesFront e old new all → new ≡ rest
 left_outside {T} {e} {old} {new} {parts} {rest} {all} h takes =
     takes.left ∙ ap (behind e) h.is ∙ behind_within e e parts rest (itself e) h.after ∙ ap (λ xs. xs ++ rest) (behind_all e parts h.inside)
 
@@ -110,7 +110,7 @@ case_does {s} {n} {row} {given} {made} {old} {left} {labels} {new} groups catche
       let no_group : those as_group inner ≡ [] = none_inside as_group n inner outer groups h.rising (ap (λ x. x.of_group) all) settled.group in
       let no_catch : those as_catch inner ≡ [] = none_inside as_catch n inner outer catches h.rising (ap (λ x. x.of_catch) all) settled.catch in
       let taken : (codes inner ≡ (row, given) ∷ []) × (left ≡ codes outer) = parts_taken ((row, given) ∷ []) (codes inner) left (codes outer) (sym was ∙ ap (λ x. x.of_code) all ∙ those_joined as_code inner outer)
-          (settled.label_code (row_on_top n made labels new st)) in
+      (settled.label_code (row_on_top n made labels new st)) in
       comes_part (alone inner (λ below. case_made value below)) (case_part made) n inner outer (stacks left new groups catches)
       (alone_is inner (λ below. case_made value below) (only_codes inner no_label no_group no_catch) ∙ ap (case_made value) taken.0
       ∙ case_is value made (row, given) (ap (λ k. case_label ((facts s).value k)) (sym (first (one_counted read))) ∙ is))
@@ -190,7 +190,7 @@ switch_does {s} {n} {row} {e} {value} {below} {left} {new} {groups} {groups_left
       let no_label : those as_case inner ≡ [] = none_inside as_case n inner outer labels h.rising (ap (λ x. x.of_label) all) settled.label in
       let no_catch : those as_catch inner ≡ [] = none_inside as_catch n inner outer catches h.rising (ap (λ x. x.of_catch) all) settled.catch in
       let one : (codes inner ≡ (row, value) ∷ []) × (left ≡ codes outer) = parts_taken ((row, value) ∷ []) (codes inner) left (codes outer) (sym was ∙ ap (λ x. x.of_code) all ∙ those_joined as_code inner outer)
-          (left_count (codes outer) st settled.code) in
+      (left_count (codes outer) st settled.code) in
       let all_groups : List Group = items (those as_group inner) in
       comes_part (switch_made inner) (switch_of value all_groups) n inner outer (stacks new labels groups_left catches)
       (switch_is inner row value (subst (λ k. AreRising k inner) (sym (first (one_counted read))) h.rising) one.0 no_label no_catch)
@@ -289,8 +289,8 @@ try_does {s} {n} {e} {second} {body} {taken} last {below} {mid} {left} {new} {ca
       let no_group : those as_group inner ≡ [] = none_inside as_group n inner outer groups h.rising (ap (λ x. x.of_group) all) settled.group in
       let own : List Code = front first (codes inner) in let all_caught : List Catch = items (those as_catch inner) in
       let over : (try_by own all_caught has_finally (behind first (codes inner)) ≡ part (try_of own all_caught last)) × (left ≡ codes outer) =
-          try_last has_finally stop own all_caught last mid left (behind first (codes inner)) (codes outer) (left_parted first stop below mid (codes inner) (codes outer) body le of_codes block) end_block
-          (left_count (codes outer) st settled.code) in
+      try_last has_finally stop own all_caught last mid left (behind first (codes inner)) (codes outer) (left_parted first stop below mid (codes inner) (codes outer) body le of_codes block) end_block
+      (left_count (codes outer) st settled.code) in
       comes_part (try_made (facts s) n has_finally inner) (try_of own all_caught last) n inner outer (stacks new labels groups catches_left)
       (ap (λ b. cond b (try_by own all_caught has_finally (behind first (codes inner))) strange) (only_in_try inner no_label no_group) ∙ over.0)
       (stacks_are ((n, try_of own all_caught last) ∷ outer)

@@ -21,7 +21,7 @@ fn core_of(source: &Source) -> Result<Core, OutOfMemory>
 }
 
 /// The core of a program that compiles, with declarations as its ids name them. What typing does not know of a row that the core needs is
-/// answered for want of memory.
+/// answered for want of memory, and so are parts of a body that are left below a row.
 pub fn elaborate(alloc: Global, view: &View, ids: &Ids) -> Result<Core, OutOfMemory>
     ensures { IfOk result (λ core. IsReadWhole (record { alloc = alloc; view = view.entry; ids = ids.entry }) → IsCoreOf (facts (record { alloc = alloc; view = view.entry; ids = ids.entry })) core) }
 {

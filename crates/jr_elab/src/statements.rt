@@ -121,7 +121,7 @@ fn are_codes_settled(making: &Making, at: u32, outside: usize) -> bool
     }
 }
 
-// Nothing is left below the row that may not be. In a program that compiles nothing is.
+// Nothing is left below the row that may not be.
 fn is_settled(making: &Making, at: u32, outside: &Outside) -> bool
     ensures { result ≡ true → AreCounted at outside.now.codes outside.now.labels outside.now.groups outside.now.catches (stacks_in making.now) }
 {
@@ -277,7 +277,7 @@ fn make_row(source: &Source, making: &mut Making, at: u32) -> Result<(), OutOfMe
     }
 }
 
-// The same, where all that stands below the row goes into it. What is left below it otherwise is answered for want of memory.
+// The same, where nothing is left below the row that may not be; else it is answered for want of memory.
 fn make(source: &Source, making: &mut Making, at: u32) -> Result<(), OutOfMemory>
     ensures made { OnOk result (Makes source.now making.old.result_type at (stacks_in making.old) (stacks_in making.new)) }
     ensures same { OnOk result (making.new.result_type ≡ making.old.result_type) }
