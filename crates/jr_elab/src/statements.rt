@@ -53,6 +53,7 @@ impl Making {
 }
 
 /// How many parts of each kind wait that stand behind a row.
+#[derive(Drop)]
 struct Outside {
     codes: usize,
     labels: usize,
