@@ -1,5 +1,6 @@
 -- Parts that are taken off one by one.
-use Rattle.std.proofs.Common.{◌≡◌, refl, sym, ◌∙◌, ap, ℕ, true, false, cond, List, [], ◌∷◌, ◌++◌, append-nil, append_assoc, Some, None, nat_lt}
+use Rattle.std.proofs.Common.{◌≡◌, refl, sym, ◌∙◌, ap, ℕ, suc, ◌+◌, arith, Bool, true, false, cond, List, [], ◌∷◌, ◌++◌, append-nil, append_assoc, length, Some, None, nat_lt}
+use Rattle.std.specs.List.{prefix_len}
 use Rattle.jr_codes.specs.Waiting.{front, behind, top_before, TakesBefore, TakesFront}
 
 front_one : {T : Type 0} → (end row : ℕ) (part : T) (old new : List (ℕ × T)) → nat_lt row end ≡ true → old ≡ (row, part) ∷ new → front end old ≡ part ∷ front end new
@@ -32,3 +33,16 @@ taken_all end first old new all so last = record {
   taken = sym (append-nil all) ∙ ap (λ xs. all ++ xs) (sym (front_none end old last.0)) ∙ so.taken;
   left = last.1 ∙ sym (behind_none end old last.0) ∙ so.left;
 }
+
+-- ---- parts that are counted
+
+one_more : (k m : ℕ) → k ≡ m → 1 + k ≡ suc m
+one_more k m same = omega (arith, same)
+
+count_by : {T : Type 0} → (b : Bool) (part : T) (more : List T) (k : ℕ) → k ≡ length more → cond b (1 + k) 0 ≡ length (cond b (part ∷ more) [])
+count_by true part more k same = one_more k (length more) same
+count_by false part more k same = refl
+
+pub front_count : {T : Type 0} → (end : ℕ) (all : List (ℕ × T)) → prefix_len (λ part. nat_lt part.0 end) all ≡ length (front end all)
+front_count end [] = refl
+front_count end (part ∷ all) = count_by (nat_lt part.0 end) part.1 (front end all) (prefix_len (λ part. nat_lt part.0 end) all) (front_count end all)

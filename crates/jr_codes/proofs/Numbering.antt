@@ -1,22 +1,20 @@
 -- Nodes as they are counted are those of declarations.
-use Rattle.std.proofs.Common.{◌≡◌, ◌⊎◌, inl, inr, ℕ, zero, suc, ◌+◌, ◌-◌, ◌<◌, ◌≤◌, ◌^◌, true, false, List, [], ◌∷◌, ◌++◌, length, get_or, refl, sym, ◌∙◌, ap, subst, arith, length-append}
+use Rattle.std.proofs.Common.{◌≡◌, inl, inr, ℕ, zero, suc, ◌+◌, ◌-◌, ◌<◌, ◌≤◌, ◌^◌, true, false, List, [], ◌∷◌, ◌++◌, length, get_or, refl, sym, ◌∙◌, ap, subst, arith, length-append}
 use Rattle.std.proofs.Math.ListN.{get_or-append}
 use Rattle.std.proofs.Math.Seq.{get_or-append_seam}
 use Rattle.std.proofs.lemmas.Bool.{cases_lt}
-use Rattle.std.proofs.lemmas.List.{get_or_past}
 use Rattle.jr_base.specs.declared.ids.DeclId.{DeclId}
 use Rattle.jr_base.specs.declared.ids.NodeAt.{NodeAt}
 use Rattle.jr_tree.specs.declared.label.Label.{Label}
 use Rattle.jr_tree.specs.declared.label.Label.TheVariants as is
 use Rattle.jr_tree.specs.declared.label.Role.TheVariants as role
-use Rattle.jr_tree.specs.Below.{Under}
 use Rattle.jr_tree.specs.Labels.{role_of, nodes_of}
 use Rattle.jr_tree.specs.Local.{IsLocal}
-use Rattle.jr_tree.specs.Rows.{Rows, label, parent, role_at, nodes_before}
+use Rattle.jr_tree.specs.Rows.{Rows, label, role_at, nodes_before}
 use Rattle.jr_defs.specs.Numbers.{units_before, one_if_unit, offset, numbered_at, nodes_to_by, declaration_part, IsDeclaration}
 use Rattle.jr_defs.specs.Numbers as numbers
 use Rattle.jr_defs.specs.Packages.{InUnit}
-use Rattle.jr_defs.proofs.Units.{up_to, nodes_rise, unit_there, none_inside}
+use Rattle.jr_defs.proofs.Units.{nodes_rise, unit_there, none_inside}
 use Rattle.jr_codes.specs.declared.ids.Count.{Count}
 use Rattle.jr_codes.specs.Reads.{node_at, decl_by, decl_at}
 use Rattle.jr_codes.specs.Numbered.{declaring, bounded, entered, node_of, passed, count_to, counted_nodes, NumbersDeclarations}

@@ -1,6 +1,7 @@
 -- What comes of a row by the parts below it.
-use Rattle.std.specs.Prelude.{◌≡◌, ℕ, ◌<◌, ◌≤◌, List, [], ◌∷◌, ◌++◌, Option, Some, None}
+use Rattle.std.specs.Prelude.{◌≡◌, ℕ, suc, ◌<◌, ◌≤◌, true, List, [], ◌∷◌, ◌++◌, length, Option, Some, None}
 use Rattle.jr_core.specs.declared.code.Code.{Code}
+use Rattle.jr_codes.specs.Waiting.{is_top}
 
 -- the codes that are made below a row and stand in no other one there, with their rows, in order of the text
 abbrev pub Below : Type 0
@@ -33,11 +34,6 @@ abbrev pub of_three : Below → (ℕ → Code → ℕ → Code → ℕ → Code 
 of_three ((m, a) ∷ ((k, b) ∷ ((l, c) ∷ []))) f = f m a k b l c
 of_three _ f = unknown
 
--- nothing is found, or this
-abbrev pub MayBe : {A : Type 0} → Option A → A → Type 0
-MayBe None a = Unit {0}
-MayBe (Some x) a = x ≡ a
-
 -- all rows of the parts stand before this one
 abbrev pub AreBefore : {T : Type 0} → ℕ → List (ℕ × T) → Type 0
 AreBefore end [] = Unit {0}
@@ -54,8 +50,12 @@ pub record Parted {T : Type 0} (end : ℕ) (all parts rest : List (ℕ × T)) : 
   pub inside : AreBefore end parts
   pub after : BeginsFrom end rest
 
+-- where the first part is that of the row, it is the only one that stands before the rest
+abbrev pub IsOneAt : {T : Type 0} → ℕ → List (ℕ × T) → List (ℕ × T) → Type 0
+IsOneAt n rest new = is_top n new ≡ true → length new ≡ suc (length rest)
+
 -- what waits then is this, where before there were these parts and the rest
 abbrev pub Stands : Made → ℕ → Below → Below → Below → Type 0
 Stands (code x) n parts rest new = new ≡ (n, x) ∷ rest
 Stands nothing n parts rest new = new ≡ parts ++ rest
-Stands unknown n parts rest new = Unit {0}
+Stands unknown n parts rest new = ⊥

@@ -16,7 +16,7 @@ use Rattle.jr_constants.specs.Values.{value_in_if}
 use Rattle.jr_constants.specs.declared.value.Value.{Value}
 use Rattle.jr_codes.specs.declared.source.Source.{Source}
 use Rattle.jr_codes.specs.Facts.{Facts}
-use Rattle.jr_codes.specs.Making.{Below, Made, Parted, Stands}
+use Rattle.jr_codes.specs.Making.{Below, Made, Parted, IsOneAt, Stands}
 
 -- the node of a row; past the end there is none
 abbrev pub node_at : List NodeAt → ℕ → NodeAt
@@ -71,9 +71,9 @@ pub record IsReadAt (s : Source) (n : ℕ) : Type 0 where
   pub supers : AreSupersOf (rows_of s) (table_of s) s.view.now.sight.world.supers.now
   pub signatures : AreSignatures (rows_of s) (table_of s) (signatures_of s)
 
--- whatever is made inside and behind the row, what comes of the row by the parts inside stands in their place
+-- whatever is made inside and behind the row, what comes of the row by the parts inside stands in their place, if nothing of them is left below it
 pub record Becomes (s : Source) (n : ℕ) (made : Below → Made) (old new : Below) : Type 0 where
-  pub stands : IsReadAt s n → (parts rest : Below) → Parted (end (rows_of s) n) old parts rest → Stands (made parts) n parts rest new
+  pub stands : IsReadAt s n → (parts rest : Below) → Parted (end (rows_of s) n) old parts rest → IsOneAt n rest new → Stands (made parts) n parts rest new
 
 -- the first row right below a row
 abbrev pub child_of : Rows → ℕ → Option ℕ

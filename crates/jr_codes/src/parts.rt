@@ -1,7 +1,7 @@
 // Parts that wait for the row round them. What they are is a parameter, since each exit of a function would write out what becomes of a part of a
 // known type.
 ghost use Rattle.std.specs.Prelude.{◌≡◌, [], ◌∷◌, ◌++◌, Some, IfOk, OnOk, length};
-ghost use Rattle.jr_codes.specs.Waiting.{waiting, top_row, is_top, top_before, TakesIf, TakesBefore, TakesFront, HandsOn, StandsBefore};
+ghost use Rattle.jr_codes.specs.Waiting.{waiting, top_row, is_top, top_before, TakesIf, TakesBefore, TakesFront, HandsOn, StandsBefore, front};
 
 use jr_base::{Boxed, Items, OutOfMemory};
 use std::alloc::Global;
@@ -43,6 +43,14 @@ impl<T: Drop> Parts<T> {
         ensures { result ≡ length (waiting self.now) }
     {
         self.entries.len()
+    }
+
+    /// How many parts on top stand at rows before this one.
+    pub fn count_before(&self, end: u32) -> usize
+        ensures { result ≡ length (front end (waiting self.now)) }
+    {
+        let parts = self.entries.iter().rev();
+        parts.take_while(|entry| entry.0 < end).count()
     }
 
     /// The row of the part on top.

@@ -1,5 +1,5 @@
 // What elaboration reads.
-ghost use Rattle.std.specs.Prelude.{◌≡◌, ◌+◌, ◌<◌, ◌^◌, true, Some, IfOk, slice_get};
+ghost use Rattle.std.specs.Prelude.{◌≡◌, ◌+◌, ◌<◌, ◌^◌, true, Some, IfOk, length, option_map, slice_get};
 ghost use Rattle.jr_constants.specs.Values.{text_at};
 ghost use Rattle.jr_tree.specs.Rows as all_rows;
 ghost use Rattle.jr_codes.specs.Conversions.{is_text};
@@ -213,6 +213,14 @@ impl<'a> Source<'a> {
     {
         let members = self.world().members;
         members.signatures().parameter(method, nth)
+    }
+
+    /// How many parameters a method or constructor has, if the types of all are found.
+    pub fn parameter_count(&self, method: u32) -> Option<u32>
+        ensures { AreSignatures (rows_of self.now) (table_of self.now) (signatures_of self.now) → tell.is_callable (all_rows.role_at (rows_of self.now) method) ≡ true → result ≡ option_map (λ all. length all) ((facts self.now).parameters method) }
+    {
+        let members = self.world().members;
+        members.signatures().count(method)
     }
 
     /// The innermost class round a row.

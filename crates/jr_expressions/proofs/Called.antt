@@ -20,13 +20,13 @@ use Rattle.jr_expressions.proofs.Passed.{top_taken}
 pub this_becomes : {s : Source} {n class : ℕ} {old new : Below} (is_qualified : Bool) → (IsReadAt s n → Some class ≡ class_of_this (facts s) n is_qualified) → new ≡ (n, this_in (facts s) class) ∷ old
     → Becomes s n (λ parts. this_made (facts s) n is_qualified parts) old new
 this_becomes {s} {n} {class} {old} {new} is_qualified is st = record {
-  stands = λ read parts rest h. (none_becomes {s = s} {n = n} (code_if (option_map (this_in (facts s)) (class_of_this (facts s) n is_qualified)))
-      (found (option_map (this_in (facts s)) (class_of_this (facts s) n is_qualified)) (this_in (facts s) class) n [] old new (ap (option_map (this_in (facts s))) (sym (is read))) st)).stands read parts rest h;
+  stands = λ read parts rest h lone. (none_becomes {s = s} {n = n} (code_if (option_map (this_in (facts s)) (class_of_this (facts s) n is_qualified)))
+      (found (option_map (this_in (facts s)) (class_of_this (facts s) n is_qualified)) (this_in (facts s) class) n old new (ap (option_map (this_in (facts s))) (sym (is read))) st)).stands read parts rest h lone;
 }
 
--- code stands there whatever the parts were
+-- what comes of the arguments stands there whatever the parts were
 if_stands : (o : Option Code) (n : ℕ) (parts more rest new : Below) → Stands (code_if o) n parts rest new → Stands (code_if o) n more rest new
-if_stands None n parts more rest new st = tt
+if_stands None n parts more rest new st = st
 if_stands (Some x) n parts more rest new st = st
 
 -- the first part inside the row is not that of its child
@@ -67,6 +67,6 @@ where_child false on f n m e old mid parts rest new child took h next =
 pub behind_becomes : {s : Source} {n : ℕ} (m : ℕ) {child : Option ℕ} (on : Option Code) {old mid new : Below} → (n + 1 < 2 ^ 32 → child ≡ child_of (rows_of s) n) → TakesIf child old mid on
     → Becomes s n (λ parts. call_on (facts s) m on false parts) mid new → Becomes s n (λ parts. call_behind (facts s) n m parts) old new
 behind_becomes {s} {n} m {child} on {old} {mid} {new} same took becomes = record {
-  stands = λ read parts rest h. where_child (nat_lt (n + 1) (end (rows_of s) n)) on (facts s) n m (end (rows_of s) n) old mid parts rest new refl
-      (subst (λ k. TakesIf k old mid on) (same (one_counted read)) took) h (λ more p. becomes.stands read more rest p);
+  stands = λ read parts rest h lone. where_child (nat_lt (n + 1) (end (rows_of s) n)) on (facts s) n m (end (rows_of s) n) old mid parts rest new refl
+      (subst (λ k. TakesIf k old mid on) (same (one_counted read)) took) h (λ more p. becomes.stands read more rest p lone);
 }

@@ -19,7 +19,7 @@ use Rattle.jr_expressions.specs.Names.{item_type, initialized_by, initialized, w
 use Rattle.jr_expressions.specs.Expressions.{value_by, value_made, codes_of, list_made, new_array_by, new_array_made}
 use Rattle.jr_expressions.specs.Passing.{TakesLengths}
 use Rattle.jr_codes.specs.Reads.{rows_of, facts, IsReadAt, Becomes}
-use Rattle.jr_expressions.proofs.Standing.{found, one_becomes, both_some}
+use Rattle.jr_expressions.proofs.Standing.{found, found_stands, one_becomes, both_some}
 use Rattle.jr_codes.proofs.Fronts.{front_none, behind_none}
 use Rattle.jr_expressions.proofs.Operated.{one_counted}
 
@@ -83,8 +83,8 @@ wanted_found {f} {n} {depth} {over} {ty} found is =
 pub value_becomes : {s : Source} {n m : ℕ} {y : Code} {to : RowType} {old left new : Below} → (IsReadAt s n → wanted_type (facts s) n ≡ Some to) → Converts (facts s) m to old left y → new ≡ (n, y) ∷ left
     → Becomes s n (λ parts. value_made (facts s) n parts) old new
 value_becomes {s} {n} {m} {y} {to} {old} {left} {new} is one st = record {
-  stands = λ read parts rest h. subst (λ o. Stands (value_by o (facts s) parts) n parts rest new) (sym (is read))
-      ((one_becomes {s = s} {n = n} (λ m a. code_if (converted (facts s) m to a)) one.was (found (converted (facts s) m to one.given) y n ((m, one.given) ∷ []) left new one.is st)).stands read parts rest h);
+  stands = λ read parts rest h lone. subst (λ o. Stands (value_by o (facts s) parts) n parts rest new) (sym (is read))
+      ((one_becomes {s = s} {n = n} (λ m a. code_if (converted (facts s) m to a)) one.was (found (converted (facts s) m to one.given) y n left new one.is st)).stands read parts rest h lone);
 }
 
 less_not : (k e : ℕ) → k < e → e ≤ k → ⊥
@@ -117,8 +117,8 @@ list_stands f n e to items old left new parts rest h takes st =
 pub list_becomes : {s : Source} {n e : ℕ} {to : RowType} {items : List Code} {old left new : Below} → (IsReadAt s n → wanted_type (facts s) n ≡ Some to) → (n + 1 < 2 ^ 32 → e ≡ end (rows_of s) n)
     → TakesFront e old left items → new ≡ (n, c.NewArray (type_in (facts s) to) [] (Some items)) ∷ left → Becomes s n (λ parts. list_made (facts s) n parts) old new
 list_becomes {s} {n} {e} {to} {items} {old} {left} {new} is same takes st = record {
-  stands = λ read parts rest h.
-      found (option_map (λ to. c.NewArray (type_in (facts s) to) [] (Some (codes_of parts))) (wanted_type (facts s) n)) (c.NewArray (type_in (facts s) to) [] (Some (codes_of parts))) n parts rest new
+  stands = λ read parts rest h lone.
+      found_stands (option_map (λ to. c.NewArray (type_in (facts s) to) [] (Some (codes_of parts))) (wanted_type (facts s) n)) (c.NewArray (type_in (facts s) to) [] (Some (codes_of parts))) n parts rest new
       (ap (option_map (λ to. c.NewArray (type_in (facts s) to) [] (Some (codes_of parts)))) (is read))
       (list_stands (facts s) n e to items old left new parts rest (subst (λ k. Parted k old parts rest) (sym (same (one_counted read))) h) takes st);
 }
@@ -128,9 +128,9 @@ list_becomes {s} {n} {e} {to} {items} {old} {left} {new} is same takes st = reco
 pub measured_becomes : {s : Source} {n e : ℕ} {to : RowType} {all : List Code} {old left new : Below} → (facts s).typed n ≡ Some to → (n + 1 < 2 ^ 32 → e ≡ end (rows_of s) n)
     → TakesLengths (facts s) e old left all → new ≡ (n, c.NewArray (type_in (facts s) to) all None) ∷ left → Becomes s n (λ parts. code_if (new_array_by (facts s) n parts)) old new
 measured_becomes {s} {n} {e} {to} {all} {old} {left} {new} typed same takes st = record {
-  stands = λ read parts rest h.
+  stands = λ read parts rest h lone.
       let taken = takes.each parts rest (subst (λ k. Parted k old parts rest) (sym (same (one_counted read))) h) in
-      found (new_array_by (facts s) n parts) (c.NewArray (type_in (facts s) to) all None) n parts rest new
+      found_stands (new_array_by (facts s) n parts) (c.NewArray (type_in (facts s) to) all None) n parts rest new
       (both_some (λ to dims. Some (c.NewArray (type_in (facts s) to) dims None)) typed taken.is) (st ∙ ap (λ r. (n, c.NewArray (type_in (facts s) to) all None) ∷ r) taken.leaves);
 }
 
@@ -144,11 +144,11 @@ with_some (suc count) f n parts h = refl
 pub listed_becomes : {s : Source} {n : ℕ} {old new : Below} (count : ℕ) → nat_eq count 0 ≡ true → Becomes s n (λ parts. of_one parts (λ m a. code a)) old new
     → Becomes s n (λ parts. new_array_made count (facts s) n parts) old new
 listed_becomes {s} {n} {old} {new} count none b = record {
-  stands = λ read parts rest h. subst (λ x. Stands x n parts rest new) (sym (with_none count (facts s) n parts none)) (b.stands read parts rest h);
+  stands = λ read parts rest h lone. subst (λ x. Stands x n parts rest new) (sym (with_none count (facts s) n parts none)) (b.stands read parts rest h lone);
 }
 
 pub counted_becomes : {s : Source} {n : ℕ} {old new : Below} (count : ℕ) → nat_eq count 0 ≡ false → Becomes s n (λ parts. code_if (new_array_by (facts s) n parts)) old new
     → Becomes s n (λ parts. new_array_made count (facts s) n parts) old new
 counted_becomes {s} {n} {old} {new} count some b = record {
-  stands = λ read parts rest h. subst (λ x. Stands x n parts rest new) (sym (with_some count (facts s) n parts some)) (b.stands read parts rest h);
+  stands = λ read parts rest h lone. subst (λ x. Stands x n parts rest new) (sym (with_some count (facts s) n parts some)) (b.stands read parts rest h lone);
 }

@@ -46,4 +46,4 @@ other_made (is.Assign op) f n parts _ _ _ _ _ _ _ _ _ _ _ h = absurd (h op refl)
 other_made _ f n parts _ _ _ _ _ _ _ _ _ _ _ _ = refl
 
 pub same_becomes : {s : Source} {n : ℕ} {made other : Below → Made} {old new : Below} → ((parts : Below) → made parts ≡ other parts) → Becomes s n other old new → Becomes s n made old new
-same_becomes {s} {n} {made} {other} {old} {new} same b = record { stands = λ read parts rest h. subst (λ x. Stands x n parts rest new) (sym (same parts)) (b.stands read parts rest h) }
+same_becomes {s} {n} {made} {other} {old} {new} same b = record { stands = λ read parts rest h lone. subst (λ x. Stands x n parts rest new) (sym (same parts)) (b.stands read parts rest h lone) }

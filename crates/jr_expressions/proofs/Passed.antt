@@ -3,13 +3,14 @@ use Rattle.std.proofs.Common.{◌≡◌, refl, sym, ◌∙◌, ap, subst, ℕ, z
 use Rattle.std.proofs.lemmas.Bool.{false≢true}
 use Rattle.std.proofs.lemmas.Bool.Decides.{Decides-ltb}
 use Rattle.std.proofs.lemmas.Option.{none-some}
+use Rattle.std.proofs.Math.Seq.{drop-length}
 use Rattle.std.specs.Prelude.{option_map, slice_get}
 use Rattle.jr_core.specs.declared.code.Code.{Code}
 use Rattle.jr_defs.specs.declared.referent.RowType.{RowType}
 use Rattle.jr_tree.specs.Rows.{end}
 use Rattle.jr_codes.specs.declared.source.Source.{Source}
 use Rattle.jr_codes.specs.Facts.{Facts}
-use Rattle.jr_codes.specs.Making.{Below, code_if, MayBe, BeginsFrom, Parted, Stands}
+use Rattle.jr_codes.specs.Making.{Below, code_if, BeginsFrom, Parted}
 use Rattle.jr_codes.specs.Waiting.{top_before, StandsBefore}
 use Rattle.jr_codes.specs.Conversions.{int, converted, Converts}
 use Rattle.jr_expressions.specs.Calls.{before, arguments_as, arguments_by, arguments}
@@ -17,7 +18,7 @@ use Rattle.jr_expressions.specs.Expressions.{lengths}
 use Rattle.jr_supers.specs.Signatures.{AreSignatures, nth_of}
 use Rattle.jr_codes.specs.Reads.{rows_of, table_of, signatures_of, facts, Becomes}
 use Rattle.jr_expressions.specs.Passing.{AddsArgument, TakesArguments, AddsLength, TakesLengths}
-use Rattle.jr_expressions.proofs.Standing.{first_or, others}
+use Rattle.jr_expressions.proofs.Standing.{first_or, others, found_stands}
 use Rattle.jr_expressions.proofs.Operated.{one_counted}
 
 -- ---- the first part of those inside a row
@@ -65,6 +66,10 @@ made_none (Some more) = refl
 length_more : (all : List Code) (a : Code) → length (all ++ a ∷ []) ≡ suc (length all)
 length_more [] a = refl
 length_more (x ∷ all) a = ap suc (length_more all a)
+
+abbrev count_or : ℕ → Option ℕ → ℕ
+count_or n None = n
+count_or n (Some m) = m
 
 abbrev type_or : RowType → Option RowType → RowType
 type_or a None = a
@@ -130,38 +135,39 @@ adds_argument {to = to} {made = made} wanted takes adds = record { to = to; made
 pub argument_shorter : (s : Source) (m row : ℕ) (old new : Below) (all after : List Code) → AddsArgument s m row old new all after → length new < length old
 argument_shorter s m row old new all after one = shorter (length new) (length old) (ap length one.takes.was)
 
-no_more : (f : Facts) (types : List RowType) (all : List Code) → MayBe (behind_made all (arguments_as f types [])) all
-no_more f [] all = append-nil all
-no_more f (a ∷ types) all = tt
+no_more : (f : Facts) (types : List RowType) (all : List Code) → types ≡ [] → behind_made all (arguments_as f types []) ≡ Some all
+no_more f types all none = ap (λ ts. behind_made all (arguments_as f ts [])) none ∙ ap Some (append-nil all)
 
-some_types : (o : Option (List RowType)) (f : Facts) (parts : Below) (all : List Code) → ((types : List RowType) → o ≡ Some types → MayBe (arguments_as f types parts) all)
-    → MayBe (arguments_by o f parts) all
-some_types None f parts all h = tt
-some_types (Some types) f parts all h = h types refl
+some_count : (n m : ℕ) → Some n ≡ Some m → n ≡ m
+some_count n m h = ap (λ o. count_or n o) h
 
-pub arguments_all : (s : Source) (m e : ℕ) (first now : Below) (all : List Code) → ArgumentsSo s m e first now all → StandsBefore e now None → TakesArguments s m e first now all
-arguments_all s m e first now all so none = record {
+some_types : (o : Option (List RowType)) (f : Facts) (parts : Below) (all : List Code) → option_map (λ types. length types) o ≡ Some (length all)
+    → ((types : List RowType) → o ≡ Some types → length types ≡ length all → arguments_as f types parts ≡ Some all) → arguments_by o f parts ≡ Some all
+some_types None f parts all count h = absurd (none-some _ count)
+some_types (Some types) f parts all count h = h types refl (some_count (length types) (length all) count)
+
+all_passed : (types : List RowType) (all : List Code) → length types ≡ length all → drop (length all) types ≡ []
+all_passed types all count = ap (λ k. drop k types) (sym count) ∙ drop-length types
+
+pub arguments_all : (s : Source) (m e : ℕ) (first now : Below) (all : List Code) → ArgumentsSo s m e first now all → StandsBefore e now None
+    → (AreSignatures (rows_of s) (table_of s) (signatures_of s) → option_map (λ types. length types) ((facts s).parameters m) ≡ Some (length all)) → TakesArguments s m e first now all
+arguments_all s m e first now all so none count = record {
   each = λ signed parts rest h.
       let was = so.so signed parts rest h in let empty = none_left e now was.left rest none was.parted in
       record {
         leaves = rest_left e now was.left rest empty was.parted;
-        is = some_types ((facts s).parameters m) (facts s) parts all (λ types has.
-            subst (λ o. MayBe o all) (sym (was.is types has ∙ ap (λ ps. behind_made all (arguments_as (facts s) (drop (length all) types) ps)) empty))
-            (no_more (facts s) (drop (length all) types) all));
+        is = some_types ((facts s).parameters m) (facts s) parts all (count signed) (λ types has many.
+            was.is types has ∙ ap (λ ps. behind_made all (arguments_as (facts s) (drop (length all) types) ps)) empty
+            ∙ no_more (facts s) (drop (length all) types) all (all_passed types all many));
       };
 }
-
-may_stand : (o : Option (List Code)) (g : List Code → Code) (n : ℕ) (all : List Code) (parts rest mid new : Below) → MayBe o all → mid ≡ rest → new ≡ (n, g all) ∷ mid
-    → Stands (code_if (option_map g o)) n parts rest new
-may_stand None g n all parts rest mid new may left st = tt
-may_stand (Some xs) g n all parts rest mid new may left st = st ∙ ap (λ l. (n, g l) ∷ mid) (sym may) ∙ ap (λ r. (n, g xs) ∷ r) left
 
 pub arguments_become : {s : Source} {n m e : ℕ} {old mid new : Below} {all : List Code} (g : List Code → Code) → (n + 1 < 2 ^ 32 → e ≡ end (rows_of s) n) → TakesArguments s m e old mid all
     → new ≡ (n, g all) ∷ mid → Becomes s n (λ parts. code_if (option_map g (arguments (facts s) m parts))) old new
 arguments_become {s} {n} {m} {e} {old} {mid} {new} {all} g same takes st = record {
-  stands = λ read parts rest h.
+  stands = λ read parts rest h lone.
       let taken = takes.each read.signatures parts rest (subst (λ k. Parted k old parts rest) (sym (same (one_counted read))) h) in
-      may_stand (arguments (facts s) m parts) g n all parts rest mid new taken.is taken.leaves st;
+      found_stands (option_map g (arguments (facts s) m parts)) (g all) n parts rest new (ap (option_map g) taken.is) (st ∙ ap (λ r. (n, g all) ∷ r) taken.leaves);
 }
 
 -- ---- lengths

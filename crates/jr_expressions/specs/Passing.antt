@@ -4,7 +4,7 @@ use Rattle.jr_core.specs.declared.code.Code.{Code}
 use Rattle.jr_defs.specs.declared.referent.RowType.{RowType}
 use Rattle.jr_codes.specs.declared.source.Source.{Source}
 use Rattle.jr_codes.specs.Facts.{Facts}
-use Rattle.jr_codes.specs.Making.{Below, MayBe, Parted}
+use Rattle.jr_codes.specs.Making.{Below, Parted}
 use Rattle.jr_codes.specs.Conversions.{Converts, int}
 use Rattle.jr_expressions.specs.Calls.{arguments}
 use Rattle.jr_expressions.specs.Expressions.{lengths}
@@ -19,10 +19,10 @@ pub record AddsArgument (s : Source) (m row : ℕ) (old new : Below) (before aft
   pub takes : Converts (facts s) row to old new made
   pub adds : after ≡ before ++ made ∷ []
 
--- the arguments are those of these parts, if they are some, and the rest is left
+-- the arguments are those of these parts, and the rest is left
 pub record AreArguments (s : Source) (m : ℕ) (parts rest left : Below) (all : List Code) : Type 0 where
   pub leaves : left ≡ rest
-  pub is : MayBe (arguments (facts s) m parts) all
+  pub is : arguments (facts s) m parts ≡ Some all
 
 -- the parts of the rows before this one become arguments
 pub record TakesArguments (s : Source) (m end : ℕ) (old new : Below) (all : List Code) : Type 0 where

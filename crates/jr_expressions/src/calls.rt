@@ -1,5 +1,5 @@
 // Calls and creations (JLS 8.8.7, 15.9, 15.12).
-ghost use Rattle.std.specs.Prelude.{◌≡◌, true, false, [], IfOk, OnOk, Some, None};
+ghost use Rattle.std.specs.Prelude.{◌≡◌, true, false, [], IfOk, OnOk, Some, None, length, option_map};
 ghost use Rattle.jr_core.specs.declared.code.Code.TheVariants as c;
 ghost use Rattle.jr_codes.specs.Making.{code, of_none};
 ghost use Rattle.jr_codes.specs.Waiting.{waiting};
@@ -59,7 +59,20 @@ fn add_argument(
     add_item(all, argument)
 }
 
-// The arguments that stand before a row, as values of the types of the parameters.
+// The method has so many parameters.
+fn has_parameters(source: &Source, method: u32, count: usize) -> bool
+    ensures { AreSignatures (rows_of source.now) (table_of source.now) (signatures_of source.now) → result ≡ true → option_map (λ all. length all) ((facts source.now).parameters method) ≡ Some count }
+{
+    if !is_callable(role_at(source.rows(), method)) {
+        return false;
+    }
+    match source.parameter_count(method) {
+        Some(wanted) => wanted as usize == count,
+        None => false,
+    }
+}
+
+// The arguments that stand before a row, as values of the types of the parameters, one for each.
 fn arguments(
     source: &Source,
     codes: &mut Parts<Code>,
@@ -71,6 +84,9 @@ fn arguments(
     let mut all = Items::new(source.alloc);
     while let Some(row) = codes.next(end) {
         add_argument(source, codes, &mut all, method, row)?;
+    }
+    if !has_parameters(source, method, all.len()) {
+        return Err(OutOfMemory);
     }
     Ok(all)
 }

@@ -1,10 +1,10 @@
 // Names, fields and `this` (JLS 6.5.6, 10.7, 15.8.3, 15.8.4, 15.11).
-ghost use Rattle.std.specs.Prelude.{◌≡◌, ◌<◌, ◌^◌, ◌∷◌, Some, None, IfOk, OnOk, length as length_of, if◌then◌else◌};
+ghost use Rattle.std.specs.Prelude.{◌≡◌, ◌<◌, ◌^◌, ◌∷◌, true, Some, None, IfOk, OnOk, length as length_of};
 ghost use Rattle.jr_core.specs.declared.code.Code.TheVariants as c;
 ghost use Rattle.jr_tree.specs.Rows as all_rows;
 ghost use Rattle.jr_supers.specs.Tabled as tell;
 ghost use Rattle.jr_codes.specs.Facts.{has_child};
-ghost use Rattle.jr_codes.specs.Making.{code, unknown, of_none, of_one};
+ghost use Rattle.jr_codes.specs.Making.{code, of_none, of_one};
 ghost use Rattle.jr_constants.specs.Values.{value_in, value_in_if};
 ghost use Rattle.jr_expressions.specs.Names as made;
 ghost use Rattle.jr_codes.specs.Reads.{rows_of, table_of, texts_of, facts, IsReadAt, Becomes};
@@ -124,7 +124,7 @@ fn field_behind(
     at: u32,
     row: u32,
 ) -> Result<(), OutOfMemory>
-    ensures { OnOk result (Becomes source.now at (λ parts. if has_child (facts source.now) at then made.field_behind (facts source.now) at row parts else unknown) (waiting codes.old) (waiting codes.new)) }
+    ensures { OnOk result (has_child (facts source.now) at ≡ true → Becomes source.now at (λ parts. made.field_behind (facts source.now) at row parts) (waiting codes.old) (waiting codes.new)) }
 {
     let on = codes.boxed_if(source.alloc, Some(source.first(at)))?;
     let field = source.decl(row);
