@@ -1,3 +1,4 @@
+pub mod Left
 pub mod Stated
 pub mod Chosen
 pub mod Looped

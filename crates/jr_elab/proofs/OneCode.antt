@@ -17,6 +17,7 @@ use Rattle.jr_codes.specs.Facts.{Facts, type_in}
 use Rattle.jr_expressions.specs.Bodies.{BodyAt, IsCallable, IsFieldBody, field as field_at, method as method_at, constructor as constructor_at, default as default_at, initializer as initializer_at, field_place, initialization, parameters_of}
 use Rattle.jr_expressions.specs.Expressions.{codes_of}
 use Rattle.jr_expressions.specs.Statements.{Part, code_part, Parts, Comes, part, through, codes, made_at, PartsAt, none, one, pass, CoreAt}
+use Rattle.jr_elab.specs.Cores.{IsMethodBy}
 
 past_stop : (n stop : ℕ) → n < stop → stop ≤ n → ⊥
 past_stop n stop lt le = omega (arith, lt, le)
@@ -108,20 +109,14 @@ field_once f n x y a b =
     ∙ ap (λ c. field_with f n b.ty c a.below) (class_once f n a.class b.class a.stands b.stands)
     ∙ ap (λ p. field_with f n b.ty b.class p) (parts_once a.parts b.parts) ∙ sym b.is
 
--- a method by the type of its result
-record IsMethodOf (f : Facts) (n : ℕ) (b : Body) : Type 0 where
-  outcome : RowType
-  has : type_of_declared f.rows f.refers n ≡ Some outcome
-  is : IsCallable f n (is_static f.rows n) outcome b
-
-method_once : (f : Facts) (n : ℕ) (x y : Body) → IsMethodOf f n x → IsMethodOf f n y → x ≡ y
+method_once : (f : Facts) (n : ℕ) (x y : Body) → IsMethodBy f n x → IsMethodBy f n y → x ≡ y
 method_once f n x y a b =
     callable_once f n (is_static f.rows n) b.outcome x y (subst (λ t. IsCallable f n (is_static f.rows n) t x) (type_once f n a.outcome b.outcome a.has b.has) a.is) b.is
 
 -- the body by the label of its row
 abbrev BodyBy : Label → Facts → ℕ → Body → Type 0
 BodyBy (is.Field modifiers dims) f n b = IsFieldBody f n b
-BodyBy (is.Method modifiers is_void has_body) f n b = IsMethodOf f n b
+BodyBy (is.Method modifiers is_void has_body) f n b = IsMethodBy f n b
 BodyBy (is.Constructor modifiers) f n b = IsCallable f n false (plain element.Void) b
 BodyBy is.DefaultConstructor f n b = IsCallable f n false (plain element.Void) b
 BodyBy (is.Initializer static) f n b = IsCallable f n static (plain element.Void) b

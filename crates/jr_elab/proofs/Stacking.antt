@@ -1,7 +1,7 @@
--- `switch` and `try`, whose parts are of several kinds (JLS 14.11, 14.20), and what a row does.
-use Rattle.std.proofs.Common.{◌≡◌, refl, sym, ◌∙◌, ap, subst, ℕ, ◌+◌, ◌<◌, ◌≤◌, ◌^◌, ℤ, Bool, true, false, cond, ◌&&◌, List, [], ◌∷◌, ◌++◌, map, Option, Some, None, nat_lt, arith}
-use Rattle.std.proofs.lemmas.Bool.{false≢true}
+-- `switch` and `try`, whose parts are of several kinds (JLS 14.11, 14.20).
+use Rattle.std.proofs.Common.{◌≡◌, refl, sym, ◌∙◌, ap, subst, ℕ, ◌+◌, ◌<◌, ◌≤◌, ◌^◌, ℤ, Bool, true, false, cond, List, [], ◌∷◌, ◌++◌, map, length, Option, Some, None, nat_lt, arith}
 use Rattle.std.proofs.lemmas.Bool.Decides.{Decides-ltb}
+use Rattle.std.proofs.lemmas.Option.{none-some, same_Some}
 use Rattle.std.specs.Prelude.{option_map}
 use Rattle.jr_base.specs.declared.ids.DeclId.{DeclId}
 use Rattle.jr_ty.specs.declared.constant.Const.{Const}
@@ -23,98 +23,13 @@ use Rattle.jr_codes.specs.Waiting.{front, behind, top_before, TakesFront}
 use Rattle.jr_codes.specs.Reads.{rows_of, facts, IsReadAt}
 use Rattle.jr_codes.proofs.Fronts.{front_none, behind_none}
 use Rattle.jr_expressions.specs.Expressions.{codes_of}
-use Rattle.jr_expressions.specs.Stacks.{Stacks, stacks_of, ComesTo}
-use Rattle.jr_expressions.specs.Statements.{Part, code_part, case_part, group_part, catch_part, Parts, Comes, part, strange, as_code, as_case, as_group, as_catch, those, codes, items, is_code, is_group, is_in_group, is_in_try, all_are, alone, case_by, case_made, default_made, switch_made, group_made, catch_by, catch_made, try_by, try_made}
-use Rattle.jr_expressions.proofs.Joined.{those_joined, those_parted, stacks_are}
-use Rattle.jr_expressions.proofs.Standing.{first_or, others}
+use Rattle.jr_expressions.specs.Stacks.{Stacks, stacks_of, AreFrom, AreRising, ComesTo}
+use Rattle.jr_expressions.specs.Statements.{Part, code_part, case_part, group_part, catch_part, Parts, Comes, part, strange, as_code, as_case, as_group, as_catch, those, codes, items, is_code, all_are, alone, case_by, case_made, default_made, switch_made, group_made, catch_by, catch_made, try_by, try_made}
+use Rattle.jr_expressions.proofs.Joined.{rising_from, those_from, those_joined, those_parted, stacks_are}
+use Rattle.jr_expressions.proofs.Standing.{first_or, others, left_count}
 use Rattle.jr_expressions.proofs.Operated.{one_counted, two_counted}
 use Rattle.jr_elab.specs.Stacked.{stacks, Does, case_label, caught_class, caught, TakesLast}
-
--- ---- parts of kinds that are not there
-
-left_side : (a b : Bool) → a && b ≡ true → a ≡ true
-left_side true b h = refl
-left_side false b h = absurd (false≢true h)
-
-right_side : (a b : Bool) → a && b ≡ true → b ≡ true
-right_side true b h = h
-right_side false b h = absurd (false≢true h)
-
--- parts of the first kind are none of the second
-abbrev pub IsApart : {T : Type 0} → (Part → Bool) → (Part → Option T) → Type 0
-IsApart test kind = (x : Part) → test x ≡ true → kind x ≡ None
-
-abbrev put : {T : Type 0} → ℕ → Option T → List (ℕ × T) → List (ℕ × T)
-put n None all = all
-put n (Some x) all = (n, x) ∷ all
-
-with_none : {T : Type 0} → (kind : Part → Option T) (p : ℕ × Part) (parts : Parts) → kind p.1 ≡ None → those kind parts ≡ [] → those kind (p ∷ parts) ≡ []
-with_none kind p parts none rest = ap (λ o. put p.0 o (those kind parts)) none ∙ rest
-
-pub none_of : {T : Type 0} → (test : Part → Bool) (kind : Part → Option T) → IsApart test kind → (parts : Parts) → all_are test parts ≡ true → those kind parts ≡ []
-none_of test kind away [] h = refl
-none_of test kind away (p ∷ parts) h =
-    with_none kind p parts (away p.1 (left_side (test p.1) (all_are test parts) h)) (none_of test kind away parts (right_side (test p.1) (all_are test parts) h))
-
-pub code_no_case : IsApart is_code as_case
-code_no_case (code_part x) h = refl
-code_no_case (case_part x) h = absurd (false≢true h)
-code_no_case (group_part x) h = refl
-code_no_case (catch_part x) h = refl
-
-pub code_no_group : IsApart is_code as_group
-code_no_group (code_part x) h = refl
-code_no_group (case_part x) h = refl
-code_no_group (group_part x) h = absurd (false≢true h)
-code_no_group (catch_part x) h = refl
-
-pub code_no_catch : IsApart is_code as_catch
-code_no_catch (code_part x) h = refl
-code_no_catch (case_part x) h = refl
-code_no_catch (group_part x) h = refl
-code_no_catch (catch_part x) h = absurd (false≢true h)
-
-in_group_no_group : IsApart is_in_group as_group
-in_group_no_group (code_part x) h = refl
-in_group_no_group (case_part x) h = refl
-in_group_no_group (group_part x) h = absurd (false≢true h)
-in_group_no_group (catch_part x) h = refl
-
-in_group_no_catch : IsApart is_in_group as_catch
-in_group_no_catch (code_part x) h = refl
-in_group_no_catch (case_part x) h = refl
-in_group_no_catch (group_part x) h = refl
-in_group_no_catch (catch_part x) h = absurd (false≢true h)
-
-in_try_no_case : IsApart is_in_try as_case
-in_try_no_case (code_part x) h = refl
-in_try_no_case (case_part x) h = absurd (false≢true h)
-in_try_no_case (group_part x) h = refl
-in_try_no_case (catch_part x) h = refl
-
-in_try_no_group : IsApart is_in_try as_group
-in_try_no_group (code_part x) h = refl
-in_try_no_group (case_part x) h = refl
-in_try_no_group (group_part x) h = absurd (false≢true h)
-in_try_no_group (catch_part x) h = refl
-
-group_no_code : IsApart is_group as_code
-group_no_code (code_part x) h = absurd (false≢true h)
-group_no_code (case_part x) h = refl
-group_no_code (group_part x) h = refl
-group_no_code (catch_part x) h = refl
-
-group_no_case : IsApart is_group as_case
-group_no_case (code_part x) h = refl
-group_no_case (case_part x) h = absurd (false≢true h)
-group_no_case (group_part x) h = refl
-group_no_case (catch_part x) h = refl
-
-group_no_catch : IsApart is_group as_catch
-group_no_catch (code_part x) h = refl
-group_no_catch (case_part x) h = refl
-group_no_catch (group_part x) h = refl
-group_no_catch (catch_part x) h = absurd (false≢true h)
+use Rattle.jr_elab.proofs.Left.{none_added, parts_taken, row_on_top, none_inside, none_under, not_none, only_codes, only_in_group, only_in_try, only_groups, no_parts}
 
 -- what waits of a kind, where none of it stands inside
 pub outside : {T : Type 0} {was : List (ℕ × T)} (kind : Part → Option T) (inner outer : Parts) → was ≡ those kind (inner ++ outer) → those kind inner ≡ [] → was ≡ those kind outer
@@ -163,67 +78,64 @@ pub taken_inside : {T : Type 0} {e : ℕ} {old new parts rest : List (ℕ × T)}
 taken_inside {T} {e} {old} {new} {parts} {rest} {all} h takes =
     takes.taken ∙ ap (front e) h.is ∙ front_within e e parts rest (itself e) h.after ∙ front_all e parts h.inside
 
-left_outside : {T : Type 0} {e : ℕ} {old new parts rest : List (ℕ × T)} {all : List T} → Parted e old parts rest → TakesFront e old new all → new ≡ rest
+pub left_outside : {T : Type 0} {e : ℕ} {old new parts rest : List (ℕ × T)} {all : List T} → Parted e old parts rest → TakesFront e old new all → new ≡ rest
 left_outside {T} {e} {old} {new} {parts} {rest} {all} h takes =
     takes.left ∙ ap (behind e) h.is ∙ behind_within e e parts rest (itself e) h.after ∙ ap (λ xs. xs ++ rest) (behind_all e parts h.inside)
 
+-- ---- what comes of a row
+
+pub comes_part : (m : Comes) (x : Part) (n : ℕ) (inner outer : Parts) (new : Stacks) → m ≡ part x → new ≡ stacks_of ((n, x) ∷ outer) → ComesTo m n inner outer new
+comes_part m x n inner outer new is st = subst (λ k. ComesTo k n inner outer new) (sym is) st
+
+pub alone_is : (inner : Parts) (made : Below → Comes) → all_are is_code inner ≡ true → alone inner made ≡ made (codes inner)
+alone_is inner made only = ap (λ b. cond b (made (codes inner)) strange) only
+
 -- ---- `case` and `default`
 
-abbrev label_or : SwitchLabel → Option SwitchLabel → SwitchLabel
-label_or d None = d
-label_or d (Some x) = x
+case_by_is : (o : Option ℤ) (label : SwitchLabel) → option_map l.Case o ≡ Some label → case_by o ≡ part (case_part label)
+case_by_is None label is = absurd (none-some label is)
+case_by_is (Some z) label is = ap (λ x. part (case_part x)) (same_Some (l.Case z) label is)
 
-case_by_stands : (o : Option ℤ) (made : SwitchLabel) (n : ℕ) (inner outer : Parts) (new : Stacks) → option_map l.Case o ≡ Some made → new ≡ stacks_of ((n, case_part made) ∷ outer)
-    → ComesTo (case_by o) n inner outer new
-case_by_stands None made n inner outer new is st = tt
-case_by_stands (Some z) made n inner outer new is st = st ∙ ap (λ x. stacks_of ((n, case_part x) ∷ outer)) (sym (ap (label_or made) is))
-
-case_label_stands : (value : Option Const) (made : SwitchLabel) (n : ℕ) (p : ℕ × Code) (inner outer : Parts) (new : Stacks) → case_label value ≡ Some made → new ≡ stacks_of ((n, case_part made) ∷ outer)
-    → ComesTo (case_made value (p ∷ [])) n inner outer new
-case_label_stands None made n p inner outer new is st = tt
-case_label_stands (Some v) made n p inner outer new is st = case_by_stands (as_int v) made n inner outer new is st
-
-case_stands : (value : Option Const) (made : SwitchLabel) (n : ℕ) (below : Below) (inner outer : Parts) (new : Stacks) → case_label value ≡ Some made
-    → ((p : ℕ × Code) → below ≡ p ∷ [] → new ≡ stacks_of ((n, case_part made) ∷ outer)) → ComesTo (case_made value below) n inner outer new
-case_stands None made n [] inner outer new is st = tt
-case_stands (Some v) made n [] inner outer new is st = tt
-case_stands value made n (p ∷ []) inner outer new is st = case_label_stands value made n p inner outer new is (st p refl)
-case_stands None made n (p ∷ (q ∷ ps)) inner outer new is st = tt
-case_stands (Some v) made n (p ∷ (q ∷ ps)) inner outer new is st = tt
-
-pub alone_stands : (b : Bool) (inner outer : Parts) (n : ℕ) (m : Comes) (new : Stacks) → all_are is_code inner ≡ b → (all_are is_code inner ≡ true → ComesTo m n inner outer new) → ComesTo (cond b m strange) n inner outer new
-alone_stands true inner outer n m new is st = st is
-alone_stands false inner outer n m new is st = tt
+case_is : (value : Option Const) (label : SwitchLabel) (p : ℕ × Code) → case_label value ≡ Some label → case_made value (p ∷ []) ≡ part (case_part label)
+case_is None label p is = absurd (none-some label is)
+case_is (Some v) label p is = case_by_is (as_int v) label is
 
 pub case_does : {s : Source} {n row : ℕ} {given : Code} {made : SwitchLabel} {old left : Below} {labels new : List (ℕ × SwitchLabel)} (groups : List (ℕ × Group)) (catches : List (ℕ × Catch)) → (n + 1 < 2 ^ 32 → row ≡ n + 1)
     → old ≡ (row, given) ∷ left → case_label ((facts s).value row) ≡ Some made → new ≡ (n, made) ∷ labels
     → Does s n (λ parts. alone parts (λ below. case_made ((facts s).value (n + 1)) below)) (stacks old labels groups catches) (stacks left new groups catches)
 case_does {s} {n} {row} {given} {made} {old} {left} {labels} {new} groups catches first was is st = record {
-  does = λ read inner outer h all. alone_stands (all_are is_code inner) inner outer n (case_made ((facts s).value (n + 1)) (codes inner)) (stacks left new groups catches) refl
-      (λ only. case_stands ((facts s).value (n + 1)) made n (codes inner) inner outer (stacks left new groups catches) (ap (λ k. case_label ((facts s).value k)) (sym (first (one_counted read))) ∙ is)
-      (λ p one. stacks_are ((n, case_part (made)) ∷ outer)
-      (ap others (sym was ∙ ap (λ x. x.of_code) all ∙ those_joined as_code inner outer ∙ ap (λ xs. xs ++ codes outer) one))
-      (st ∙ ap (λ xs. (n, made) ∷ xs) (outside as_case inner outer (ap (λ x. x.of_label) all) (none_of is_code as_case code_no_case inner only)))
-      (outside as_group inner outer (ap (λ x. x.of_group) all) (none_of is_code as_group code_no_group inner only))
-      (outside as_catch inner outer (ap (λ x. x.of_catch) all) (none_of is_code as_catch code_no_catch inner only))));
+  does = λ read inner outer h all settled.
+      let value : Option Const = (facts s).value (n + 1) in
+      let no_label : those as_case inner ≡ [] = none_under as_case n made inner outer labels new st (ap (λ x. x.of_label) all) settled.label in
+      let no_group : those as_group inner ≡ [] = none_inside as_group n inner outer groups h.rising (ap (λ x. x.of_group) all) settled.group in
+      let no_catch : those as_catch inner ≡ [] = none_inside as_catch n inner outer catches h.rising (ap (λ x. x.of_catch) all) settled.catch in
+      let taken : (codes inner ≡ (row, given) ∷ []) × (left ≡ codes outer) = parts_taken ((row, given) ∷ []) (codes inner) left (codes outer) (sym was ∙ ap (λ x. x.of_code) all ∙ those_joined as_code inner outer)
+      (settled.label_code (row_on_top n made labels new st)) in
+      comes_part (alone inner (λ below. case_made value below)) (case_part made) n inner outer (stacks left new groups catches)
+      (alone_is inner (λ below. case_made value below) (only_codes inner no_label no_group no_catch) ∙ ap (case_made value) taken.0
+      ∙ case_is value made (row, given) (ap (λ k. case_label ((facts s).value k)) (sym (first (one_counted read))) ∙ is))
+      (stacks_are ((n, case_part made) ∷ outer) taken.1
+      (st ∙ ap (λ xs. (n, made) ∷ xs) (outside as_case inner outer (ap (λ x. x.of_label) all) no_label))
+      (outside as_group inner outer (ap (λ x. x.of_group) all) no_group)
+      (outside as_catch inner outer (ap (λ x. x.of_catch) all) no_catch));
 }
-
-default_stands : (n : ℕ) (inner outer : Parts) (old new : Stacks) → old ≡ stacks_of (inner ++ outer) → new ≡ stacks old.of_code ((n, l.Default) ∷ old.of_label) old.of_group old.of_catch → ComesTo (default_made inner) n inner outer new
-default_stands n [] outer old new all st = st ∙ ap (λ x. stacks x.of_code ((n, l.Default) ∷ x.of_label) x.of_group x.of_catch) all
-default_stands n (p ∷ ps) outer old new all st = tt
 
 pub default_does : {s : Source} {n : ℕ} {labels new : List (ℕ × SwitchLabel)} (below : Below) (groups : List (ℕ × Group)) (catches : List (ℕ × Catch)) → new ≡ (n, l.Default) ∷ labels
     → Does s n (λ parts. default_made parts) (stacks below labels groups catches) (stacks below new groups catches)
 default_does {s} {n} {labels} {new} below groups catches st = record {
-  does = λ read inner outer h all. default_stands n inner outer (stacks below labels groups catches) (stacks below new groups catches) all (ap (λ x. stacks below x groups catches) st);
+  does = λ read inner outer h all settled.
+      let no_label : those as_case inner ≡ [] = none_under as_case n l.Default inner outer labels new st (ap (λ x. x.of_label) all) settled.label in
+      let no_group : those as_group inner ≡ [] = none_inside as_group n inner outer groups h.rising (ap (λ x. x.of_group) all) settled.group in
+      let no_catch : those as_catch inner ≡ [] = none_inside as_catch n inner outer catches h.rising (ap (λ x. x.of_catch) all) settled.catch in
+      let no_code : codes inner ≡ [] = none_added (codes inner) (codes outer) (sym (ap length (ap (λ x. x.of_code) all ∙ those_joined as_code inner outer)) ∙ settled.label_code (row_on_top n l.Default labels new st)) in
+      comes_part (default_made inner) (case_part l.Default) n inner outer (stacks below new groups catches) (ap default_made (no_parts inner no_code no_label no_group no_catch))
+      (stacks_are ((n, case_part l.Default) ∷ outer) (outside as_code inner outer (ap (λ x. x.of_code) all) no_code)
+      (st ∙ ap (λ xs. (n, l.Default) ∷ xs) (outside as_case inner outer (ap (λ x. x.of_label) all) no_label))
+      (outside as_group inner outer (ap (λ x. x.of_group) all) no_group)
+      (outside as_catch inner outer (ap (λ x. x.of_catch) all) no_catch));
 }
 
 -- ---- groups
-
-group_stands : (b : Bool) (n : ℕ) (made : Group) (inner outer : Parts) (new : Stacks) → all_are is_in_group inner ≡ b → (all_are is_in_group inner ≡ true → new ≡ stacks_of ((n, group_part made) ∷ outer))
-    → ComesTo (cond b (part (group_part made)) strange) n inner outer new
-group_stands true n made inner outer new is st = st is
-group_stands false n made inner outer new is st = tt
 
 abbrev group_of : List SwitchLabel → List Code → Group
 group_of labels stmts = roll-Group (record { labels = labels; stmts = stmts })
@@ -232,68 +144,59 @@ pub group_does : {s : Source} {n e : ℕ} {below left : Below} {labels labels_le
     → (n + 1 < 2 ^ 32 → e ≡ end (rows_of s) n) → TakesFront e labels labels_left cases → TakesFront e below left stmts → new ≡ (n, group_of cases stmts) ∷ groups
     → Does s n (λ parts. group_made parts) (stacks below labels groups catches) (stacks left labels_left new catches)
 group_does {s} {n} {e} {below} {left} {labels} {labels_left} {groups} {new} {cases} {stmts} catches same labeled stated st = record {
-  does = λ read inner outer h all.
+  does = λ read inner outer h all settled.
       let at : e ≡ end (rows_of s) n = same (one_counted read) in
       let of_labels : Parted (end (rows_of s) n) labels (those as_case inner) (those as_case outer) = those_parted as_case inner outer h (ap (λ x. x.of_label) all) in
       let of_codes : Parted (end (rows_of s) n) below (codes inner) (codes outer) = those_parted as_code inner outer h (ap (λ x. x.of_code) all) in
       let first : TakesFront (end (rows_of s) n) labels labels_left cases = subst (λ k. TakesFront k labels labels_left cases) at labeled in
       let second : TakesFront (end (rows_of s) n) below left stmts = subst (λ k. TakesFront k below left stmts) at stated in
-      group_stands (all_are is_in_group inner) n (group_of (items (those as_case inner)) (codes_of (codes inner))) inner outer (stacks left labels_left new catches) refl
-      (λ only. stacks_are ((n, group_part (group_of (items (those as_case inner)) (codes_of (codes inner)))) ∷ outer)
-      (left_outside of_codes second) (left_outside of_labels first)
+      let no_group : those as_group inner ≡ [] = none_under as_group n (group_of cases stmts) inner outer groups new st (ap (λ x. x.of_group) all) settled.group in
+      let no_catch : those as_catch inner ≡ [] = none_inside as_catch n inner outer catches h.rising (ap (λ x. x.of_catch) all) settled.catch in
+      let made : Group = group_of (items (those as_case inner)) (codes_of (codes inner)) in
+      comes_part (group_made inner) (group_part made) n inner outer (stacks left labels_left new catches) (ap (λ b. cond b (part (group_part made)) strange) (only_in_group inner no_group no_catch))
+      (stacks_are ((n, group_part made) ∷ outer) (left_outside of_codes second) (left_outside of_labels first)
       (st ∙ ap (λ x. (n, group_of x stmts) ∷ groups) (taken_inside of_labels first) ∙ ap (λ x. (n, group_of (items (those as_case inner)) x) ∷ groups) (taken_inside of_codes second)
-      ∙ ap (λ xs. (n, group_of (items (those as_case inner)) (codes_of (codes inner))) ∷ xs)
-      (outside as_group inner outer (ap (λ x. x.of_group) all) (none_of is_in_group as_group in_group_no_group inner only)))
-      (outside as_catch inner outer (ap (λ x. x.of_catch) all) (none_of is_in_group as_catch in_group_no_catch inner only)));
+      ∙ ap (λ xs. (n, made) ∷ xs) (outside as_group inner outer (ap (λ x. x.of_group) all) no_group))
+      (outside as_catch inner outer (ap (λ x. x.of_catch) all) no_catch));
 }
 
 -- ---- `switch`
 
-switch_rest : (b : Bool) (n m : ℕ) (a : Code) (ps outer : Parts) (new : Stacks) → all_are is_group ps ≡ b → (all_are is_group ps ≡ true → new ≡ stacks_of ((n, code_part (c.Switch a (items (those as_group ps)))) ∷ outer))
-    → ComesTo (cond b (part (code_part (c.Switch a (items (those as_group ps))))) strange) n ((m, code_part a) ∷ ps) outer new
-switch_rest true n m a ps outer new is st = st is
-switch_rest false n m a ps outer new is st = tt
+not_both : (row m : ℕ) → row ≤ m → m + 1 ≤ row → ⊥
+not_both row m le more = omega (arith, le, more)
 
-switch_stands : (n : ℕ) (inner outer : Parts) (new : Stacks)
-    → ((m : ℕ) (a : Code) (ps : Parts) → inner ≡ (m, code_part a) ∷ ps → all_are is_group ps ≡ true → new ≡ stacks_of ((n, code_part (c.Switch a (items (those as_group ps)))) ∷ outer))
-    → ComesTo (switch_made inner) n inner outer new
-switch_stands n [] outer new st = tt
-switch_stands n ((m, code_part a) ∷ ps) outer new st = switch_rest (all_are is_group ps) n m a ps outer new refl (st m a ps refl)
-switch_stands n ((m, case_part a) ∷ ps) outer new st = tt
-switch_stands n ((m, group_part a) ∷ ps) outer new st = tt
-switch_stands n ((m, catch_part a) ∷ ps) outer new st = tt
+abbrev switch_of : Code → List Group → Part
+switch_of value groups = code_part (c.Switch value groups)
 
--- what waits where the first part inside is code and the others are groups
-record SwitchParts (m : ℕ) (a : Code) (ps outer : Parts) (below : Below) (labels : List (ℕ × SwitchLabel)) (groups : List (ℕ × Group)) (catches : List (ℕ × Catch)) : Type 0 where
-  code : below ≡ (m, a) ∷ codes outer
-  label : labels ≡ those as_case outer
-  group : groups ≡ those as_group ps ++ those as_group outer
-  catch : catches ≡ those as_catch outer
-
-switch_parts : (m : ℕ) (a : Code) (ps outer : Parts) (below : Below) (labels : List (ℕ × SwitchLabel)) (groups : List (ℕ × Group)) (catches : List (ℕ × Catch))
-    → stacks below labels groups catches ≡ stacks_of (((m, code_part a) ∷ ps) ++ outer) → all_are is_group ps ≡ true → SwitchParts m a ps outer below labels groups catches
-switch_parts m a ps outer below labels groups catches all only = record {
-  code = ap (λ x. x.of_code) all ∙ ap (λ xs. (m, a) ∷ xs) (outside as_code ps outer refl (none_of is_group as_code group_no_code ps only));
-  label = ap (λ x. x.of_label) all ∙ outside as_case ps outer refl (none_of is_group as_case group_no_case ps only);
-  group = ap (λ x. x.of_group) all ∙ those_joined as_group ps outer;
-  catch = ap (λ x. x.of_catch) all ∙ outside as_catch ps outer refl (none_of is_group as_catch group_no_catch ps only);
-}
+-- the first row inside is that of the only code
+switch_is : (inner : Parts) (row : ℕ) (value : Code) → AreRising row inner → codes inner ≡ (row, value) ∷ [] → those as_case inner ≡ [] → those as_catch inner ≡ []
+    → switch_made inner ≡ part (switch_of value (items (those as_group inner)))
+switch_is [] row value rising one cases catches = absurd (not_none (row, value) [] (sym one))
+switch_is ((m, code_part a) ∷ ps) row value rising one cases catches =
+    ap (λ b. cond b (part (switch_of a (items (those as_group ps)))) strange) (only_groups ps (ap others one) cases catches)
+    ∙ ap (λ p. part (switch_of p.1 (items (those as_group ps)))) (ap (first_or (m, a)) one)
+switch_is ((m, case_part a) ∷ ps) row value rising one cases catches = absurd (not_none (m, a) (those as_case ps) cases)
+switch_is ((m, group_part a) ∷ ps) row value rising one cases catches =
+    let behind : AreFrom (m + 1) ((row, value) ∷ []) = subst (AreFrom (m + 1)) one (those_from as_code (m + 1) ps (rising_from (m + 1) ps rising.1)) in absurd (not_both row m rising.0 behind.0)
+switch_is ((m, catch_part a) ∷ ps) row value rising one cases catches = absurd (not_none (m, a) (those as_catch ps) catches)
 
 pub switch_does : {s : Source} {n row e : ℕ} {value : Code} {below left new : Below} {groups groups_left : List (ℕ × Group)} {taken : List Group} (labels : List (ℕ × SwitchLabel)) (catches : List (ℕ × Catch))
-    → (n + 1 < 2 ^ 32 → e ≡ end (rows_of s) n) → below ≡ (row, value) ∷ left → TakesFront e groups groups_left taken → new ≡ (n, c.Switch value taken) ∷ left
+    → (n + 1 < 2 ^ 32 → row ≡ n + 1) → (n + 1 < 2 ^ 32 → e ≡ end (rows_of s) n) → below ≡ (row, value) ∷ left → TakesFront e groups groups_left taken → new ≡ (n, c.Switch value taken) ∷ left
     → Does s n (λ parts. switch_made parts) (stacks below labels groups catches) (stacks new labels groups_left catches)
-switch_does {s} {n} {row} {e} {value} {below} {left} {new} {groups} {groups_left} {taken} labels catches same was grouped st = record {
-  does = λ read inner outer h all.
+switch_does {s} {n} {row} {e} {value} {below} {left} {new} {groups} {groups_left} {taken} labels catches first same was grouped st = record {
+  does = λ read inner outer h all settled.
       let of_groups : Parted (end (rows_of s) n) groups (those as_group inner) (those as_group outer) = those_parted as_group inner outer h (ap (λ x. x.of_group) all) in
-      let first : TakesFront (end (rows_of s) n) groups groups_left taken = subst (λ k. TakesFront k groups groups_left taken) (same (one_counted read)) grouped in
-      switch_stands n inner outer (stacks new labels groups_left catches) (λ m a ps is only.
-      let now : SwitchParts m a ps outer below labels groups catches = switch_parts m a ps outer below labels groups catches (all ∙ ap (λ xs. stacks_of (xs ++ outer)) is) only in
-      let both : (row, value) ∷ left ≡ (m, a) ∷ codes outer = sym was ∙ now.code in
-      stacks_are ((n, code_part (c.Switch a (items (those as_group ps)))) ∷ outer)
-      (st ∙ ap (λ x. (n, c.Switch x.1 taken) ∷ left) (ap (first_or (m, a)) both)
-      ∙ ap (λ x. (n, c.Switch a x) ∷ left) (taken_inside of_groups first ∙ ap (λ xs. items (those as_group xs)) is)
-      ∙ ap (λ xs. (n, c.Switch a (items (those as_group ps))) ∷ xs) (ap others both))
-      now.label (left_outside of_groups first) now.catch);
+      let arms : TakesFront (end (rows_of s) n) groups groups_left taken = subst (λ k. TakesFront k groups groups_left taken) (same (one_counted read)) grouped in
+      let no_label : those as_case inner ≡ [] = none_inside as_case n inner outer labels h.rising (ap (λ x. x.of_label) all) settled.label in
+      let no_catch : those as_catch inner ≡ [] = none_inside as_catch n inner outer catches h.rising (ap (λ x. x.of_catch) all) settled.catch in
+      let one : (codes inner ≡ (row, value) ∷ []) × (left ≡ codes outer) = parts_taken ((row, value) ∷ []) (codes inner) left (codes outer) (sym was ∙ ap (λ x. x.of_code) all ∙ those_joined as_code inner outer)
+      (left_count (codes outer) st settled.code) in
+      let all_groups : List Group = items (those as_group inner) in
+      comes_part (switch_made inner) (switch_of value all_groups) n inner outer (stacks new labels groups_left catches)
+      (switch_is inner row value (subst (λ k. AreRising k inner) (sym (first (one_counted read))) h.rising) one.0 no_label no_catch)
+      (stacks_are ((n, switch_of value all_groups) ∷ outer)
+      (st ∙ ap (λ x. (n, c.Switch value x) ∷ left) (taken_inside of_groups arms) ∙ ap (λ xs. (n, c.Switch value all_groups) ∷ xs) one.1)
+      (outside as_case inner outer (ap (λ x. x.of_label) all) no_label) (left_outside of_groups arms) (outside as_catch inner outer (ap (λ x. x.of_catch) all) no_catch));
 }
 
 -- ---- `catch`
@@ -301,61 +204,57 @@ switch_does {s} {n} {row} {e} {value} {below} {left} {new} {groups} {groups_left
 abbrev catch_of : DeclId → DeclId → List Code → Catch
 catch_of class param body = roll-Catch (record { class = record { 0 = class }; param = param; body = body })
 
-abbrev decl_or : DeclId → Option DeclId → DeclId
-decl_or d None = d
-decl_or d (Some x) = x
+catch_by_is : (e : Element) (f : Facts) (class : DeclId) (n : ℕ) (below : Below) → caught_class f e ≡ Some class → catch_by e f n below ≡ part (catch_part (catch_of class (f.decl (n + 1)) (codes_of below)))
+catch_by_is (element.Class k) f class n below is = ap (λ d. part (catch_part (catch_of d (f.decl (n + 1)) (codes_of below)))) (same_Some (f.decl k) class is)
+catch_by_is element.Boolean f class n below is = absurd (none-some class is)
+catch_by_is element.Byte f class n below is = absurd (none-some class is)
+catch_by_is element.Short f class n below is = absurd (none-some class is)
+catch_by_is element.Char f class n below is = absurd (none-some class is)
+catch_by_is element.Int f class n below is = absurd (none-some class is)
+catch_by_is element.Long f class n below is = absurd (none-some class is)
+catch_by_is element.Null f class n below is = absurd (none-some class is)
+catch_by_is element.Void f class n below is = absurd (none-some class is)
 
-some_left : (a b : DeclId) → Some a ≡ Some b → a ≡ b
-some_left a b h = ap (λ o. decl_or a o) h
-
-catch_by_stands : (e : Element) (f : Facts) (class : DeclId) (n : ℕ) (below : Below) (inner outer : Parts) (new : Stacks) → caught_class f e ≡ Some class
-    → new ≡ stacks_of ((n, catch_part (catch_of class (f.decl (n + 1)) (codes_of below))) ∷ outer) → ComesTo (catch_by e f n below) n inner outer new
-catch_by_stands (element.Class k) f class n below inner outer new is st =
-    st ∙ ap (λ d. stacks_of ((n, catch_part (catch_of d (f.decl (n + 1)) (codes_of below))) ∷ outer)) (sym (some_left (f.decl k) class is))
-catch_by_stands element.Boolean f class n below inner outer new is st = tt
-catch_by_stands element.Byte f class n below inner outer new is st = tt
-catch_by_stands element.Short f class n below inner outer new is st = tt
-catch_by_stands element.Char f class n below inner outer new is st = tt
-catch_by_stands element.Int f class n below inner outer new is st = tt
-catch_by_stands element.Long f class n below inner outer new is st = tt
-catch_by_stands element.Null f class n below inner outer new is st = tt
-catch_by_stands element.Void f class n below inner outer new is st = tt
-
-catch_stands : (o : Option RowType) (f : Facts) (class : DeclId) (n : ℕ) (below : Below) (inner outer : Parts) (new : Stacks) → caught f o ≡ Some class
-    → new ≡ stacks_of ((n, catch_part (catch_of class (f.decl (n + 1)) (codes_of below))) ∷ outer) → ComesTo (catch_made o f n below) n inner outer new
-catch_stands None f class n below inner outer new is st = tt
-catch_stands (Some a) f class n below inner outer new is st = catch_by_stands a.element f class n below inner outer new is st
+catch_is : (o : Option RowType) (f : Facts) (class : DeclId) (n : ℕ) (below : Below) → caught f o ≡ Some class → catch_made o f n below ≡ part (catch_part (catch_of class (f.decl (n + 1)) (codes_of below)))
+catch_is None f class n below is = absurd (none-some class is)
+catch_is (Some a) f class n below is = catch_by_is a.element f class n below is
 
 pub catch_does : {s : Source} {n row e : ℕ} {class param : DeclId} {body : List Code} {below left : Below} {catches new : List (ℕ × Catch)} (declares : ℕ → Option RowType) (labels : List (ℕ × SwitchLabel)) (groups : List (ℕ × Group))
     → (n + 1 < 2 ^ 32 → row ≡ n + 1) → (n + 1 < 2 ^ 32 → e ≡ end (rows_of s) n) → (IsReadAt s n → caught (facts s) (declares row) ≡ Some class) → param ≡ (facts s).decl row
     → TakesFront e below left body → new ≡ (n, catch_of class param body) ∷ catches
     → Does s n (λ parts. alone parts (λ codes. catch_made (declares (n + 1)) (facts s) n codes)) (stacks below labels groups catches) (stacks left labels groups new)
 catch_does {s} {n} {row} {e} {class} {param} {body} {below} {left} {catches} {new} declares labels groups at same is named takes st = record {
-  does = λ read inner outer h all.
+  does = λ read inner outer h all settled.
       let here : row ≡ n + 1 = at (one_counted read) in
       let of_codes : Parted (end (rows_of s) n) below (codes inner) (codes outer) = those_parted as_code inner outer h (ap (λ x. x.of_code) all) in
       let first : TakesFront (end (rows_of s) n) below left body = subst (λ k. TakesFront k below left body) (same (one_counted read)) takes in
-      alone_stands (all_are is_code inner) inner outer n (catch_made (declares (n + 1)) (facts s) n (codes inner)) (stacks left labels groups new) refl (λ only.
-      catch_stands (declares (n + 1)) (facts s) class n (codes inner) inner outer (stacks left labels groups new) (ap (λ k. caught (facts s) (declares k)) (sym here) ∙ is read)
-      (stacks_are ((n, catch_part (catch_of class ((facts s).decl (n + 1)) (codes_of (codes inner)))) ∷ outer)
-      (left_outside of_codes first)
-      (outside as_case inner outer (ap (λ x. x.of_label) all) (none_of is_code as_case code_no_case inner only))
-      (outside as_group inner outer (ap (λ x. x.of_group) all) (none_of is_code as_group code_no_group inner only))
+      let no_label : those as_case inner ≡ [] = none_inside as_case n inner outer labels h.rising (ap (λ x. x.of_label) all) settled.label in
+      let no_group : those as_group inner ≡ [] = none_inside as_group n inner outer groups h.rising (ap (λ x. x.of_group) all) settled.group in
+      let no_catch : those as_catch inner ≡ [] = none_under as_catch n (catch_of class param body) inner outer catches new st (ap (λ x. x.of_catch) all) settled.catch in
+      let made : Catch = catch_of class ((facts s).decl (n + 1)) (codes_of (codes inner)) in
+      comes_part (alone inner (λ codes. catch_made (declares (n + 1)) (facts s) n codes)) (catch_part made) n inner outer (stacks left labels groups new)
+      (alone_is inner (λ codes. catch_made (declares (n + 1)) (facts s) n codes) (only_codes inner no_label no_group no_catch)
+      ∙ catch_is (declares (n + 1)) (facts s) class n (codes inner) (ap (λ k. caught (facts s) (declares k)) (sym here) ∙ is read))
+      (stacks_are ((n, catch_part made) ∷ outer) (left_outside of_codes first)
+      (outside as_case inner outer (ap (λ x. x.of_label) all) no_label) (outside as_group inner outer (ap (λ x. x.of_group) all) no_group)
       (st ∙ ap (λ d. (n, catch_of class d body) ∷ catches) (named ∙ ap (λ k. (facts s).decl k) here)
       ∙ ap (λ xs. (n, catch_of class ((facts s).decl (n + 1)) xs) ∷ catches) (taken_inside of_codes first)
-      ∙ ap (λ xs. (n, catch_of class ((facts s).decl (n + 1)) (codes_of (codes inner))) ∷ xs)
-      (outside as_catch inner outer (ap (λ x. x.of_catch) all) (none_of is_code as_catch code_no_catch inner only)))));
+      ∙ ap (λ xs. (n, made) ∷ xs) (outside as_catch inner outer (ap (λ x. x.of_catch) all) no_catch)));
 }
 
 -- ---- `try`
 
-try_last : (has : Bool) (n e : ℕ) (body : List Code) (catches : List Catch) (last : Option (List Code)) (mid left over rest : Below) (inner outer : Parts) (new : Stacks) → Parted e mid over rest
-    → TakesLast has e mid left last → ((to : Option (List Code)) → last ≡ to → left ≡ rest → new ≡ stacks_of ((n, code_part (c.Try body catches to)) ∷ outer)) → ComesTo (try_by body catches has over) n inner outer new
-try_last true n e body catches (Some all) mid left over rest inner outer new h took st = st (Some (codes_of over)) (ap Some (taken_inside h took)) (left_outside h took)
-try_last true n e body catches None mid left over rest inner outer new h took st = absurd took
-try_last false n e body catches (Some all) mid left over rest inner outer new h took st = absurd took
-try_last false n e body catches None mid left [] rest inner outer new h took st = st None refl (took ∙ h.is)
-try_last false n e body catches None mid left (p ∷ ps) rest inner outer new h took st = tt
+abbrev try_of : List Code → List Catch → Option (List Code) → Part
+try_of body catches last = code_part (c.Try body catches last)
+
+-- the block of `finally` is taken, and nothing else is left
+try_last : (has : Bool) (e : ℕ) (body : List Code) (catches : List Catch) (last : Option (List Code)) (mid left over rest : Below) → Parted e mid over rest → TakesLast has e mid left last → length left ≡ length rest
+    → (try_by body catches has over ≡ part (try_of body catches last)) × (left ≡ rest)
+try_last true e body catches (Some all) mid left over rest h took same = (ap (λ xs. part (try_of body catches (Some xs))) (sym (taken_inside h took)), left_outside h took)
+try_last true e body catches None mid left over rest h took same = absurd took
+try_last false e body catches (Some all) mid left over rest h took same = absurd took
+try_last false e body catches None mid left over rest h took same =
+    let none : over ≡ [] = none_added over rest (sym (ap length (took ∙ h.is)) ∙ same) in (ap (try_by body catches false) none, took ∙ h.is ∙ ap (λ xs. xs ++ rest) none)
 
 before_by : (b : Bool) (e : ℕ) (zs ws : Below) → AreBefore e zs → AreBefore e ws → AreBefore e (cond b zs ws)
 before_by true e zs ws one other = one
@@ -373,16 +272,12 @@ left_parted stop e old mid parts rest all le h takes = record {
   after = h.after;
 }
 
-try_if : (b : Bool) (inner outer : Parts) (n : ℕ) (m : Comes) (new : Stacks) → all_are is_in_try inner ≡ b → (all_are is_in_try inner ≡ true → ComesTo m n inner outer new) → ComesTo (cond b m strange) n inner outer new
-try_if true inner outer n m new is st = st is
-try_if false inner outer n m new is st = tt
-
 pub try_does : {s : Source} {n e second : ℕ} {body : List Code} {taken : List Catch} (last : Option (List Code)) {below mid left new : Below} {catches catches_left : List (ℕ × Catch)} (has_finally : Bool)
     (labels : List (ℕ × SwitchLabel)) (groups : List (ℕ × Group)) → second ≤ e → (n + 1 < 2 ^ 32 → e ≡ end (rows_of s) n) → (n + 2 < 2 ^ 32 → second ≡ end (rows_of s) (n + 1))
     → TakesFront second below mid body → TakesFront e catches catches_left taken → TakesLast has_finally e mid left last → new ≡ (n, c.Try body taken last) ∷ left
     → Does s n (λ parts. try_made (facts s) n has_finally parts) (stacks below labels groups catches) (stacks new labels groups catches_left)
 try_does {s} {n} {e} {second} {body} {taken} last {below} {mid} {left} {new} {catches} {catches_left} has_finally labels groups within same behind_first blocked caught_all lasts st = record {
-  does = λ read inner outer h all.
+  does = λ read inner outer h all settled.
       let stop : ℕ = end (rows_of s) n in let first : ℕ = end (rows_of s) (n + 1) in
       let le : first ≤ stop = subst (λ k. k ≤ stop) (behind_first (two_counted read)) (subst (λ k. second ≤ k) (same (one_counted read)) within) in
       let of_codes : Parted (end (rows_of s) n) below (codes inner) (codes outer) = those_parted as_code inner outer h (ap (λ x. x.of_code) all) in
@@ -390,15 +285,17 @@ try_does {s} {n} {e} {second} {body} {taken} last {below} {mid} {left} {new} {ca
       let block : TakesFront first below mid body = subst (λ k. TakesFront k below mid body) (behind_first (two_counted read)) blocked in
       let arms : TakesFront stop catches catches_left taken = subst (λ k. TakesFront k catches catches_left taken) (same (one_counted read)) caught_all in
       let end_block : TakesLast has_finally stop mid left last = subst (λ k. TakesLast has_finally k mid left last) (same (one_counted read)) lasts in
-      try_if (all_are is_in_try inner) inner outer n (try_by (front first (codes inner)) (items (those as_catch inner)) has_finally (behind first (codes inner))) (stacks new labels groups catches_left) refl (λ only.
-      try_last has_finally n stop (front first (codes inner)) (items (those as_catch inner)) last mid left (behind first (codes inner)) (codes outer) inner outer (stacks new labels groups catches_left)
-      (left_parted first stop below mid (codes inner) (codes outer) body le of_codes block) end_block (λ to is rest.
-      stacks_are ((n, code_part (c.Try (front first (codes inner)) (items (those as_catch inner)) to)) ∷ outer)
+      let no_label : those as_case inner ≡ [] = none_inside as_case n inner outer labels h.rising (ap (λ x. x.of_label) all) settled.label in
+      let no_group : those as_group inner ≡ [] = none_inside as_group n inner outer groups h.rising (ap (λ x. x.of_group) all) settled.group in
+      let own : List Code = front first (codes inner) in let all_caught : List Catch = items (those as_catch inner) in
+      let over : (try_by own all_caught has_finally (behind first (codes inner)) ≡ part (try_of own all_caught last)) × (left ≡ codes outer) =
+      try_last has_finally stop own all_caught last mid left (behind first (codes inner)) (codes outer) (left_parted first stop below mid (codes inner) (codes outer) body le of_codes block) end_block
+      (left_count (codes outer) st settled.code) in
+      comes_part (try_made (facts s) n has_finally inner) (try_of own all_caught last) n inner outer (stacks new labels groups catches_left)
+      (ap (λ b. cond b (try_by own all_caught has_finally (behind first (codes inner))) strange) (only_in_try inner no_label no_group) ∙ over.0)
+      (stacks_are ((n, try_of own all_caught last) ∷ outer)
       (st ∙ ap (λ xs. (n, c.Try xs taken last) ∷ left) (block.taken ∙ ap (front first) of_codes.is ∙ front_within first stop (codes inner) (codes outer) le of_codes.after)
-      ∙ ap (λ xs. (n, c.Try (front first (codes inner)) xs last) ∷ left) (taken_inside of_catches arms)
-      ∙ ap (λ o. (n, c.Try (front first (codes inner)) (items (those as_catch inner)) o) ∷ left) is
-      ∙ ap (λ xs. (n, c.Try (front first (codes inner)) (items (those as_catch inner)) to) ∷ xs) rest)
-      (outside as_case inner outer (ap (λ x. x.of_label) all) (none_of is_in_try as_case in_try_no_case inner only))
-      (outside as_group inner outer (ap (λ x. x.of_group) all) (none_of is_in_try as_group in_try_no_group inner only))
-      (left_outside of_catches arms)));
+      ∙ ap (λ xs. (n, c.Try own xs last) ∷ left) (taken_inside of_catches arms)
+      ∙ ap (λ xs. (n, c.Try own all_caught last) ∷ xs) over.1)
+      (outside as_case inner outer (ap (λ x. x.of_label) all) no_label) (outside as_group inner outer (ap (λ x. x.of_group) all) no_group) (left_outside of_catches arms));
 }

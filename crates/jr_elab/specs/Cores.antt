@@ -28,8 +28,9 @@ use Rattle.jr_codes.specs.declared.source.Source.{Source}
 use Rattle.jr_codes.specs.Facts.{Facts}
 use Rattle.jr_codes.specs.Making.{Below}
 use Rattle.jr_codes.specs.Reads.{table_of}
-use Rattle.jr_expressions.specs.Bodies.{BodyAt, IsCallable}
-use Rattle.jr_expressions.specs.Statements.{Parts, PartsAt}
+use Rattle.jr_expressions.specs.Bodies.{BodyAt, IsCallable, field_place, initialization}
+use Rattle.jr_expressions.specs.Expressions.{codes_of}
+use Rattle.jr_expressions.specs.Statements.{Parts, PartsAt, codes}
 use Rattle.jr_elab.specs.Stacked.{AreRead}
 
 -- each item is told of the number at its place
@@ -151,11 +152,29 @@ abbrev pub first_before : ℕ → Below → Option Code
 first_before stop [] = None
 first_before stop (part ∷ all) = if nat_lt part.0 stop then Some part.1 else None
 
--- a method, made of the parts below it by the type of its result
+-- the code of the rows below the row
+pub record IsCodeBelow (f : Facts) (outcome : Option RowType) (n : ℕ) (code : List Code) : Type 0 where
+  pub below : Parts
+  pub parts : PartsAt f outcome (n + 1) (end f.rows n) below
+  pub is : code ≡ codes_of (codes below)
+
+-- the first code of the rows below the row, if there is one
+pub record IsValueBelow (f : Facts) (outcome : Option RowType) (n : ℕ) (value : Option Code) : Type 0 where
+  pub below : Parts
+  pub parts : PartsAt f outcome (n + 1) (end f.rows n) below
+  pub is : value ≡ first_code (codes below)
+
+-- the assignment of its initializer to the field at the row, in this class, if it has one (JLS 8.3.2)
+pub record IsInitialization (f : Facts) (class n : ℕ) (code : List Code) : Type 0 where
+  pub below : Parts
+  pub parts : PartsAt f None (n + 1) (end f.rows n) below
+  pub is : code ≡ initialization (field_place f class n) (codes below)
+
+-- a method, by the type of its result
 pub record IsMethodBy (f : Facts) (n : ℕ) (b : Body) : Type 0 where
   pub outcome : RowType
   pub has : type_of_declared f.rows f.refers n ≡ Some outcome
-  pub makes : (below : Parts) → PartsAt f (Some outcome) (n + 1) (end f.rows n) below → IsCallable f n (is_static f.rows n) outcome b
+  pub is : IsCallable f n (is_static f.rows n) outcome b
 
 -- ---- the core of a program
 

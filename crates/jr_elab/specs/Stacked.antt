@@ -1,5 +1,5 @@
 -- What a row does to the parts that wait, of which there are four kinds, and what the functions of single statements take of them (JLS 14).
-use Rattle.std.specs.Prelude.{◌≡◌, ℕ, ◌+◌, ◌<◌, ◌≤◌, Bool, true, false, List, [], ◌∷◌, ◌++◌, map, length, Option, Some, None, option_map, if◌then◌else◌}
+use Rattle.std.specs.Prelude.{◌≡◌, ℕ, suc, ◌+◌, ◌<◌, ◌≤◌, Bool, true, false, List, [], ◌∷◌, ◌++◌, map, length, Option, Some, None, option_map, if◌then◌else◌}
 use Rattle.jr_base.specs.declared.ids.DeclId.{DeclId}
 use Rattle.jr_ty.specs.declared.constant.Const.{Const}
 use Rattle.jr_core.specs.declared.code.Catch.{Catch}
@@ -20,10 +20,11 @@ use Rattle.jr_codes.specs.declared.source.Source.{Source}
 use Rattle.jr_codes.specs.Facts.{Facts}
 use Rattle.jr_codes.specs.Making.{Below}
 use Rattle.jr_codes.specs.Reads.{rows_of, facts, IsReadAt}
-use Rattle.jr_codes.specs.Waiting.{waiting, front, behind, TakesFront}
+use Rattle.jr_codes.specs.Waiting.{waiting, is_top, front, behind, TakesFront}
 use Rattle.jr_expressions.specs.Statements.{Parts, Comes, header_made, behind_header}
-use Rattle.jr_expressions.specs.Stacks.{Stacks, stacks_of, IsParted, ComesTo, AreDeep}
+use Rattle.jr_expressions.specs.Stacks.{Stacks, stacks_of, IsParted, IsSettled, ComesTo, AreDeep}
 use Rattle.jr_elab.specs.declared.statements.Making.{Making}
+use Rattle.jr_elab.specs.declared.statements.Outside.{Outside}
 
 -- the parts that wait while a body is made
 abbrev pub stacks_in : Making → Stacks
@@ -32,9 +33,21 @@ stacks_in making = record { of_code = waiting making.codes; of_label = waiting m
 abbrev pub stacks : Below → List (ℕ × SwitchLabel) → List (ℕ × Group) → List (ℕ × Catch) → Stacks
 stacks codes labels groups catches = record { of_code = codes; of_label = labels; of_group = groups; of_catch = catches }
 
--- whatever is made inside and behind the row, what comes of the parts inside stands in their place
+-- so many parts of each kind stand behind a row that ends here
+pub record AreOutside (end : ℕ) (now : Stacks) (counts : Outside) : Type 0 where
+  pub code : counts.codes ≡ length (behind end now.of_code)
+  pub label : counts.labels ≡ length (behind end now.of_label)
+  pub group : counts.groups ≡ length (behind end now.of_group)
+  pub catch : counts.catches ≡ length (behind end now.of_catch)
+
+-- of the codes that wait so many stand behind the row; where it is code it is alone before them, and where it is a label there is none
+pub record AreCodesSettled (n behind : ℕ) (now : Stacks) : Type 0 where
+  pub code : is_top n now.of_code ≡ true → length now.of_code ≡ suc behind
+  pub label_code : is_top n now.of_label ≡ true → length now.of_code ≡ behind
+
+-- whatever is made inside and behind the row, what comes of the parts inside stands in their place, if nothing that may not is left below it
 pub record Does (s : Source) (n : ℕ) (made : Parts → Comes) (old new : Stacks) : Type 0 where
-  pub does : IsReadAt s n → (inner outer : Parts) → IsParted (end (rows_of s) n) inner outer → old ≡ stacks_of (inner ++ outer) → ComesTo (made inner) n inner outer new
+  pub does : IsReadAt s n → (inner outer : Parts) → IsParted n (end (rows_of s) n) inner outer → old ≡ stacks_of (inner ++ outer) → IsSettled n outer new → ComesTo (made inner) n inner outer new
 
 -- ---- rows
 

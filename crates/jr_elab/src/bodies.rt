@@ -13,13 +13,11 @@ ghost use Rattle.jr_plain.specs.Types.{type_of_declared};
 ghost use Rattle.jr_codes.specs.Reads.{rows_of, table_of, texts_of, facts, IsReadAt};
 ghost use Rattle.jr_constants.specs.Values.{value_in};
 ghost use Rattle.jr_codes.specs.Waiting.{waiting};
-ghost use Rattle.jr_elab.specs.Cores.{AreEach, HaveParts, IsMethodBy, MayAdd, declares_body, first_before, first_code};
+ghost use Rattle.jr_elab.specs.Cores.{AreEach, IsCodeBelow, IsInitialization, IsMethodBy, IsValueBelow, MayAdd, declares_body, first_before};
 ghost use Rattle.jr_elab.specs.Stacked.{AreRead, parameter_if, stacks_in};
-ghost use Rattle.jr_expressions.specs.Bodies.{BodyAt, IsCallable, IsFieldBody, field_place, initialization, parameters_of};
-ghost use Rattle.jr_expressions.specs.Expressions.{codes_of};
+ghost use Rattle.jr_expressions.specs.Bodies.{BodyAt, IsCallable, IsFieldBody, field_place, parameters_of};
 ghost use Rattle.jr_expressions.specs.Names.{this_in};
 ghost use Rattle.jr_expressions.specs.Stacks.{stacks_of};
-ghost use Rattle.jr_expressions.specs.Statements as made;
 
 use crate::reads::{add_made, children, label_of, row_count};
 use crate::statements::{Making, make_below};
@@ -77,7 +75,7 @@ fn parameters(source: &Source, at: u32) -> Result<Items<DeclId>, OutOfMemory>
 
 // The code of what stands below a row, where nothing waits.
 fn code_below(source: &Source, making: &mut Making, at: u32) -> Result<Items<Code>, OutOfMemory>
-    ensures { IfOk result (λ code. AreRead source.now → at < length (rows_of source.now) → stacks_in making.old ≡ stacks_of [] → (below : made.Parts) → made.PartsAt (facts source.now) making.old.result_type (at + 1) (rows.end (rows_of source.now) at) below → code ≡ codes_of (made.codes below)) }
+    ensures { IfOk result (λ code. AreRead source.now → at < length (rows_of source.now) → stacks_in making.old ≡ stacks_of [] → IsCodeBelow (facts source.now) making.old.result_type at code) }
 {
     make_below(source, making, at)?;
     let code = making.codes.before(source.alloc, source.end(at))?;
@@ -86,7 +84,7 @@ fn code_below(source: &Source, making: &mut Making, at: u32) -> Result<Items<Cod
 
 // The statements of a method, constructor or initializer whose result has this type.
 fn statements_of(source: &Source, at: u32, result_type: RowType) -> Result<Items<Code>, OutOfMemory>
-    ensures { IfOk result (λ code. AreRead source.now → at < length (rows_of source.now) → (below : made.Parts) → made.PartsAt (facts source.now) (Some result_type) (at + 1) (rows.end (rows_of source.now) at) below → code ≡ codes_of (made.codes below)) }
+    ensures { IfOk result (λ code. AreRead source.now → at < length (rows_of source.now) → IsCodeBelow (facts source.now) (Some result_type) at code) }
 {
     let mut making = Making::new(source.alloc, Some(result_type));
     let code = code_below(source, &mut making, at);
@@ -115,7 +113,7 @@ fn value_below(
     making: &mut Making,
     at: u32,
 ) -> Result<Option<Boxed<Code>>, OutOfMemory>
-    ensures { IfOk result (λ value. AreRead source.now → at < length (rows_of source.now) → stacks_in making.old ≡ stacks_of [] → (below : made.Parts) → made.PartsAt (facts source.now) making.old.result_type (at + 1) (rows.end (rows_of source.now) at) below → value ≡ first_code (made.codes below)) }
+    ensures { IfOk result (λ value. AreRead source.now → at < length (rows_of source.now) → stacks_in making.old ≡ stacks_of [] → IsValueBelow (facts source.now) making.old.result_type at value) }
 {
     make_below(source, making, at)?;
     first_of(source, &mut making.codes, source.end(at))
@@ -123,7 +121,7 @@ fn value_below(
 
 // The value of a field's initializer, if it has one.
 fn initial_value(source: &Source, at: u32) -> Result<Option<Boxed<Code>>, OutOfMemory>
-    ensures { IfOk result (λ value. AreRead source.now → at < length (rows_of source.now) → (below : made.Parts) → made.PartsAt (facts source.now) None (at + 1) (rows.end (rows_of source.now) at) below → value ≡ first_code (made.codes below)) }
+    ensures { IfOk result (λ value. AreRead source.now → at < length (rows_of source.now) → IsValueBelow (facts source.now) None at value) }
 {
     let mut making = Making::new(source.alloc, None);
     let value = value_below(source, &mut making, at);
@@ -196,7 +194,7 @@ fn initialization_of(
 
 // The assignment of a field's initializer to it, if it has one.
 fn field_code(source: &Source, at: u32, class: u32) -> Result<Items<Code>, OutOfMemory>
-    ensures { IfOk result (λ all. AreRead source.now → at < length (rows_of source.now) → (below : made.Parts) → made.PartsAt (facts source.now) None (at + 1) (rows.end (rows_of source.now) at) below → all ≡ initialization (field_place (facts source.now) class at) (made.codes below)) }
+    ensures { IfOk result (λ all. AreRead source.now → at < length (rows_of source.now) → IsInitialization (facts source.now) class at all) }
 {
     let value = initial_value(source, at)?;
     match value {
@@ -242,7 +240,7 @@ fn class_round(source: &Source, at: u32) -> Result<u32, OutOfMemory>
 }
 
 fn field(source: &Source, at: u32) -> Result<Body, OutOfMemory>
-    ensures { IfOk result (λ body. AreRead source.now → at < length (rows_of source.now) → (below : made.Parts) → made.PartsAt (facts source.now) None (at + 1) (rows.end (rows_of source.now) at) below → IsFieldBody (facts source.now) at body) }
+    ensures { IfOk result (λ body. AreRead source.now → at < length (rows_of source.now) → IsFieldBody (facts source.now) at body) }
 {
     let class = class_round(source, at)?;
     let code = field_code(source, at, class)?;
@@ -272,7 +270,7 @@ fn callable(
     is_static: bool,
     result_type: RowType,
 ) -> Result<Body, OutOfMemory>
-    ensures { IfOk result (λ body. AreRead source.now → at < length (rows_of source.now) → (below : made.Parts) → made.PartsAt (facts source.now) (Some result_type) (at + 1) (rows.end (rows_of source.now) at) below → IsCallable (facts source.now) at is_static result_type body) }
+    ensures { IfOk result (λ body. AreRead source.now → at < length (rows_of source.now) → IsCallable (facts source.now) at is_static result_type body) }
 {
     let class = class_round(source, at)?;
     let code = statements_of(source, at, result_type)?;
@@ -303,7 +301,7 @@ fn method(source: &Source, at: u32) -> Result<Body, OutOfMemory>
 
 // A constructor or initializer.
 fn creating(source: &Source, at: u32, is_static: bool) -> Result<Body, OutOfMemory>
-    ensures { IfOk result (λ body. AreRead source.now → at < length (rows_of source.now) → (below : made.Parts) → made.PartsAt (facts source.now) (Some (plain element.Void)) (at + 1) (rows.end (rows_of source.now) at) below → IsCallable (facts source.now) at is_static (plain element.Void) body) }
+    ensures { IfOk result (λ body. AreRead source.now → at < length (rows_of source.now) → IsCallable (facts source.now) at is_static (plain element.Void) body) }
 {
     callable(source, at, is_static, plain_type(Element::Void))
 }
@@ -315,7 +313,7 @@ fn add_labeled(
     at: u32,
     label: &Label,
 ) -> Result<(), OutOfMemory>
-    ensures { OnOk result (rows.label (rows_of source.now) at ≡ label.now → AreRead source.now → HaveParts (facts source.now) → at < length (rows_of source.now) → MayAdd (declares_body label.now) (BodyAt (facts source.now) at) bodies.old bodies.new) }
+    ensures { OnOk result (rows.label (rows_of source.now) at ≡ label.now → AreRead source.now → at < length (rows_of source.now) → MayAdd (declares_body label.now) (BodyAt (facts source.now) at) bodies.old bodies.new) }
 {
     match label {
         Label::Field { .. } => add_made(bodies, field(source, at)),
@@ -329,7 +327,7 @@ fn add_labeled(
 
 // Adds the body that a row declares, if it declares one.
 fn add_body(source: &Source, bodies: &mut Items<Body>, at: u32) -> Result<(), OutOfMemory>
-    ensures { OnOk result (AreRead source.now → HaveParts (facts source.now) → at < length (rows_of source.now) → MayAdd (declares_body (rows.label (rows_of source.now) at)) (BodyAt (facts source.now) at) bodies.old bodies.new) }
+    ensures { OnOk result (AreRead source.now → at < length (rows_of source.now) → MayAdd (declares_body (rows.label (rows_of source.now) at)) (BodyAt (facts source.now) at) bodies.old bodies.new) }
 {
     match label_of(source, at) {
         Some(label) => add_labeled(source, bodies, at, label),
@@ -339,7 +337,7 @@ fn add_body(source: &Source, bodies: &mut Items<Body>, at: u32) -> Result<(), Ou
 
 /// The bodies of a program.
 pub fn bodies_of(source: &Source) -> Result<Items<Body>, OutOfMemory>
-    ensures { IfOk result (λ bodies. AreRead source.now → HaveParts (facts source.now) → AreEach (BodyAt (facts source.now)) (all_such (length (rows_of source.now)) (λ n. declares_body (rows.label (rows_of source.now) n))) bodies) }
+    ensures { IfOk result (λ bodies. AreRead source.now → AreEach (BodyAt (facts source.now)) (all_such (length (rows_of source.now)) (λ n. declares_body (rows.label (rows_of source.now) n))) bodies) }
 {
     let count = row_count(source)?;
     let mut bodies = Items::new(source.alloc);

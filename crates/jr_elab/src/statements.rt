@@ -1,13 +1,13 @@
 // Statements by what their rows are (JLS 14).
-ghost use Rattle.std.specs.Prelude.{◌≡◌, ◌+◌, ◌<◌, [], length, OnOk};
+ghost use Rattle.std.specs.Prelude.{◌≡◌, suc, ◌+◌, ◌<◌, true, [], length, OnOk};
 ghost use Rattle.jr_core.specs.declared.code.Code.TheVariants as c;
 ghost use Rattle.jr_tree.specs.Rows as rows;
 ghost use Rattle.jr_codes.specs.Making.{code, of_none, of_one};
 ghost use Rattle.jr_codes.specs.Reads.{rows_of, facts, Becomes};
-ghost use Rattle.jr_codes.specs.Waiting.{waiting};
+ghost use Rattle.jr_codes.specs.Waiting.{behind, is_top, waiting};
 ghost use Rattle.jr_expressions.specs.Expressions.{codes_of};
-ghost use Rattle.jr_elab.specs.Stacked.{AreRead, Does, stacks_in};
-ghost use Rattle.jr_expressions.specs.Stacks.{Makes, WaitsFrom, stacks_of};
+ghost use Rattle.jr_elab.specs.Stacked.{AreCodesSettled, AreOutside, AreRead, Does, stacks_in};
+ghost use Rattle.jr_expressions.specs.Stacks.{AreCounted, IsAlone, Makes, WaitsFrom, stacks_of};
 ghost use Rattle.jr_expressions.specs.Statements as made;
 
 use crate::jumps::{catch, group, jump, returned, switch, switch_case, switch_default, try_catch};
@@ -50,6 +50,92 @@ impl Making {
             result_type,
         }
     }
+}
+
+/// How many parts of each kind wait that stand behind a row.
+#[derive(Drop)]
+struct Outside {
+    codes: usize,
+    labels: usize,
+    groups: usize,
+    catches: usize,
+}
+
+// How many parts wait that stand behind a row which ends here.
+fn count_behind<T: Drop>(parts: &Parts<T>, end: u32) -> usize
+    ensures { result ≡ length (behind end (waiting parts.now)) }
+{
+    let inside = parts.count_before(end);
+    parts.len().saturating_sub(inside)
+}
+
+// The same of each kind.
+fn outside_of(making: &Making, end: u32) -> Outside
+    ensures { AreOutside end (stacks_in making.now) result }
+{
+    let codes = count_behind(&making.codes, end);
+    let labels = count_behind(&making.labels, end);
+    let groups = count_behind(&making.groups, end);
+    let catches = count_behind(&making.catches, end);
+    Outside {
+        codes,
+        labels,
+        groups,
+        catches,
+    }
+}
+
+// So many parts are left, and that of the row, if it is on top.
+fn is_alone<T: Drop>(parts: &Parts<T>, at: u32, outside: usize) -> bool
+    ensures { result ≡ true → IsAlone at outside (waiting parts.now) }
+{
+    let count = parts.len();
+    if parts.has(at) {
+        count.saturating_sub(1) == outside
+    } else {
+        count == outside
+    }
+}
+
+// If the row is code, it is alone.
+fn is_alone_if<T: Drop>(parts: &Parts<T>, at: u32, outside: usize) -> bool
+    ensures { result ≡ true → is_top at (waiting parts.now) ≡ true → length (waiting parts.now) ≡ suc outside }
+{
+    if parts.has(at) {
+        is_alone(parts, at, outside)
+    } else {
+        true
+    }
+}
+
+// If the row is code, it is alone, and if it is a label, no code is left below it.
+fn are_codes_settled(making: &Making, at: u32, outside: usize) -> bool
+    ensures { result ≡ true → AreCodesSettled at outside (stacks_in making.now) }
+{
+    if !is_alone_if(&making.codes, at, outside) {
+        return false;
+    }
+    if making.labels.has(at) {
+        making.codes.len() == outside
+    } else {
+        true
+    }
+}
+
+// Nothing is left below the row that may not be.
+fn is_settled(making: &Making, at: u32, outside: &Outside) -> bool
+    ensures { result ≡ true → AreCounted at outside.now.codes outside.now.labels outside.now.groups outside.now.catches (stacks_in making.now) }
+{
+    if !are_codes_settled(making, at, outside.codes) {
+        return false;
+    }
+    if !is_alone(&making.labels, at, outside.labels) {
+        return false;
+    }
+    if !is_alone(&making.groups, at, outside.groups) {
+        return false;
+    }
+    is_alone(&making.catches, at, outside.catches)
 }
 
 /// `{ .. }` as a statement
@@ -179,8 +265,8 @@ fn make_labeled(
 }
 
 // Makes what the row is, where the parts below it are made.
-fn make(source: &Source, making: &mut Making, at: u32) -> Result<(), OutOfMemory>
-    ensures made { OnOk result (Makes source.now making.old.result_type at (stacks_in making.old) (stacks_in making.new)) }
+fn make_row(source: &Source, making: &mut Making, at: u32) -> Result<(), OutOfMemory>
+    ensures made { OnOk result (Does source.now at (made.made_at (facts source.now) making.old.result_type at) (stacks_in making.old) (stacks_in making.new)) }
     ensures same { OnOk result (making.new.result_type ≡ making.old.result_type) }
 {
     match source.value(at) {
@@ -189,6 +275,20 @@ fn make(source: &Source, making: &mut Making, at: u32) -> Result<(), OutOfMemory
             Some(label) => make_labeled(source, making, at, label),
             None => Ok(()),
         },
+    }
+}
+
+// The same, where nothing is left below the row that may not be; else it is answered for want of memory.
+fn make(source: &Source, making: &mut Making, at: u32) -> Result<(), OutOfMemory>
+    ensures made { OnOk result (Makes source.now making.old.result_type at (stacks_in making.old) (stacks_in making.new)) }
+    ensures same { OnOk result (making.new.result_type ≡ making.old.result_type) }
+{
+    let outside = outside_of(making, source.end(at));
+    make_row(source, making, at)?;
+    if is_settled(making, at, &outside) {
+        Ok(())
+    } else {
+        Err(OutOfMemory)
     }
 }
 

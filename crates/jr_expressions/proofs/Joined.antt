@@ -1,5 +1,6 @@
 -- Parts of rows that stand side by side, and the step of one row.
-use Rattle.std.proofs.Common.{◌≡◌, refl, sym, ◌∙◌, ap, subst, ℕ, ◌+◌, ◌<◌, ◌≤◌, List, [], ◌∷◌, ◌++◌, append_assoc, Option, Some, None, arith}
+use Rattle.std.proofs.Common.{◌≡◌, refl, sym, ◌∙◌, ap, subst, ℕ, ◌+◌, ◌<◌, ◌≤◌, List, [], ◌∷◌, ◌++◌, append_assoc, Option, Some, None, ⊎_elim, arith}
+use Rattle.std.proofs.lemmas.Bool.{cases_lt}
 use Rattle.jr_core.specs.declared.code.Catch.{Catch}
 use Rattle.jr_core.specs.declared.code.Group.{Group}
 use Rattle.jr_core.specs.declared.code.SwitchLabel.{SwitchLabel}
@@ -8,9 +9,9 @@ use Rattle.jr_tree.specs.Rows.{end}
 use Rattle.jr_codes.specs.declared.source.Source.{Source}
 use Rattle.jr_codes.specs.Facts.{Facts}
 use Rattle.jr_codes.specs.Making.{Below, AreBefore, BeginsFrom, Parted}
-use Rattle.jr_codes.specs.Reads.{rows_of, facts, IsReadAt}
-use Rattle.jr_expressions.specs.Statements.{Part, Parts, as_case, as_group, as_catch, with_row, those, codes, made_at, PartsAt, none, one, pass}
-use Rattle.jr_expressions.specs.Stacks.{Stacks, stacks_of, AreFrom, IsParted, ComesTo, Makes, WaitsFrom, AreDeep}
+use Rattle.jr_codes.specs.Reads.{facts, IsReadAt}
+use Rattle.jr_expressions.specs.Statements.{Part, Parts, Comes, part, through, strange, as_code, as_case, as_group, as_catch, with_row, those, codes, made_at, PartsAt, none, one, pass}
+use Rattle.jr_expressions.specs.Stacks.{Stacks, stacks_of, AreFrom, AreRising, IsParted, ComesTo, Makes, WaitsFrom, AreDeep}
 
 -- each row from one up to another ends there at the latest
 pub record AreNested (f : Facts) (from stop : ℕ) : Type 0 where
@@ -35,15 +36,43 @@ meets a e le ge = omega (arith, le, ge)
 before_stop : (a e stop : ℕ) → a < e → e ≤ stop → a < stop
 before_stop a e stop lt le = omega (arith, lt, le)
 
--- parts up to a row, and parts from it on
-pub joined : {f : Facts} {outcome : Option RowType} {a e stop : ℕ} {ys xs : Parts} → AreNested f a e → a ≤ e → e ≤ stop → PartsAt f outcome a e xs → PartsAt f outcome e stop ys
-    → PartsAt f outcome a stop (xs ++ ys)
-joined {f} {outcome} {a} {e} {stop} {ys} nested le far (none past) behind = subst (λ k. PartsAt f outcome k stop ys) (meets a e le past) behind
-joined {f} {outcome} {a} {e} {stop} {ys} nested le far (one lt below made rest) behind =
-    one (before_stop a e stop lt far) below made (joined (narrower f a (end f.rows a) e (nested.more a (itself a) lt) nested) (nested.inside a (itself a) lt) far rest behind)
-joined {f} {outcome} {a} {e} {stop} {ys} nested le far (pass {below = inner} {rest = outer} lt below made rest) behind =
-    subst (PartsAt f outcome a stop) (sym (append_assoc inner outer ys))
-    (pass (before_stop a e stop lt far) below made (joined (narrower f a (end f.rows a) e (nested.more a (itself a) lt) nested) (nested.inside a (itself a) lt) far rest behind))
+up_from : (a e stop : ℕ) → a ≤ e → stop ≤ a → stop ≤ e
+up_from a e stop le past = omega (arith, le, past)
+
+down_to : (a e stop : ℕ) → e ≤ stop → stop ≤ a → e ≤ a
+down_to a e stop far past = omega (arith, far, past)
+
+-- the parts up to a row, and those from it on
+record IsSplit (f : Facts) (outcome : Option RowType) (a e stop : ℕ) (parts : Parts) : Type 0 where
+  inner : Parts
+  outer : Parts
+  first : PartsAt f outcome a e inner
+  second : PartsAt f outcome e stop outer
+  is : parts ≡ inner ++ outer
+
+split_here : {f : Facts} {outcome : Option RowType} {a e stop : ℕ} {parts : Parts} → a ≤ e → e ≤ a → PartsAt f outcome a stop parts → IsSplit f outcome a e stop parts
+split_here {f} {outcome} {a} {e} {stop} {parts} le past all =
+    record { inner = []; outer = parts; first = none past; second = subst (λ k. PartsAt f outcome k stop parts) (sym (meets a e le past)) all; is = refl }
+
+split_one : {f : Facts} {outcome : Option RowType} {a e stop : ℕ} {below rest : Parts} {x : Part} → a < e → PartsAt f outcome (a + 1) (end f.rows a) below → made_at f outcome a below ≡ part x
+    → IsSplit f outcome (end f.rows a) e stop rest → IsSplit f outcome a e stop ((a, x) ∷ rest)
+split_one {a = a} {x = x} lt below made split =
+    record { inner = (a, x) ∷ split.inner; outer = split.outer; first = one lt below made split.first; second = split.second; is = ap (λ all. (a, x) ∷ all) split.is }
+
+split_pass : {f : Facts} {outcome : Option RowType} {a e stop : ℕ} {below rest : Parts} → a < e → PartsAt f outcome (a + 1) (end f.rows a) below → made_at f outcome a below ≡ through
+    → IsSplit f outcome (end f.rows a) e stop rest → IsSplit f outcome a e stop (below ++ rest)
+split_pass {below = below} lt inside made split =
+    record { inner = below ++ split.inner; outer = split.outer; first = pass lt inside made split.first; second = split.second; is = ap (λ all. below ++ all) split.is ∙ sym (append_assoc below split.inner split.outer) }
+
+split_at : {f : Facts} {outcome : Option RowType} {a e stop : ℕ} {parts : Parts} → AreNested f a e → a ≤ e → e ≤ stop → PartsAt f outcome a stop parts → IsSplit f outcome a e stop parts
+split_at {f} {outcome} {a} {e} {stop} nested le far (none past) =
+    record { inner = []; outer = []; first = none (down_to a e stop far past); second = none (up_from a e stop le past); is = refl }
+split_at {f} {outcome} {a} {e} {stop} nested le far (one less below made rest) =
+    ⊎_elim (λ lt. split_one lt below made (split_at (narrower f a (end f.rows a) e (nested.more a (itself a) lt) nested) (nested.inside a (itself a) lt) far rest))
+    (λ past. split_here le past (one less below made rest)) (cases_lt a e)
+split_at {f} {outcome} {a} {e} {stop} nested le far (pass less below made rest) =
+    ⊎_elim (λ lt. split_pass lt below made (split_at (narrower f a (end f.rows a) e (nested.more a (itself a) lt) nested) (nested.inside a (itself a) lt) far rest))
+    (λ past. split_here le past (pass less below made rest)) (cases_lt a e)
 
 -- ---- where parts stand
 
@@ -96,6 +125,38 @@ all_from {f} {outcome} {a} {e} deep nested (pass {below = inner} {rest = outer} 
     from_both a inner outer (from_wider a (a + 1) inner (one_more a) (all_from deep (below_nested f a deep) below))
     (from_wider a (end f.rows a) outer more (all_from deep (narrower f a (end f.rows a) e more nested) behind))
 
+rising_wider : {T : Type 0} → (a b : ℕ) (xs : List (ℕ × T)) → a ≤ b → AreRising b xs → AreRising a xs
+rising_wider a b [] le h = tt
+rising_wider a b (p ∷ xs) le h = (not_less_than a b p.0 le h.0, h.1)
+  where
+    not_less_than : (a b k : ℕ) → a ≤ b → b ≤ k → a ≤ k
+    not_less_than a b k le more = omega (arith, le, more)
+
+next_up : (k e : ℕ) → k < e → k + 1 ≤ e
+next_up k e lt = omega (arith, lt)
+
+rising_both : {T : Type 0} → (a e : ℕ) (xs ys : List (ℕ × T)) → a ≤ e → AreRising a xs → AreBefore e xs → AreRising e ys → AreRising a (xs ++ ys)
+rising_both a e [] ys le first before second = rising_wider a e ys le second
+rising_both a e (p ∷ xs) ys le first before second = (first.0, rising_both (p.0 + 1) e xs ys (next_up p.0 e before.0) first.1 before.1 second)
+
+pub all_rising : {f : Facts} {outcome : Option RowType} {a e : ℕ} {xs : Parts} → AreDeep f → AreNested f a e → PartsAt f outcome a e xs → AreRising a xs
+all_rising {f} {outcome} {a} {e} deep nested (none past) = tt
+all_rising {f} {outcome} {a} {e} deep nested (one {rest = rest} lt below made behind) =
+    let more = nested.more a (itself a) lt in
+    (itself a, rising_wider (a + 1) (end f.rows a) rest (next_up a (end f.rows a) more) (all_rising deep (narrower f a (end f.rows a) e more nested) behind))
+all_rising {f} {outcome} {a} {e} deep nested (pass {below = inner} {rest = outer} lt below made behind) =
+    let more = nested.more a (itself a) lt in
+    rising_both a (end f.rows a) inner outer (up_to a (end f.rows a) (end f.rows a) more (itself (end f.rows a)))
+    (rising_wider a (a + 1) inner (up_to a (a + 1) (a + 1) (one_more a) (itself (a + 1))) (all_rising deep (below_nested f a deep) below))
+    (all_before deep (below_nested f a deep) below) (all_rising deep (narrower f a (end f.rows a) e more nested) behind)
+
+pub rising_from : {T : Type 0} → (a : ℕ) (xs : List (ℕ × T)) → AreRising a xs → AreFrom a xs
+rising_from a [] h = tt
+rising_from a (p ∷ xs) h = (h.0, from_wider a (p.0 + 1) xs (past_start a p.0 h.0) (rising_from (p.0 + 1) xs h.1))
+  where
+    past_start : (a k : ℕ) → a ≤ k → a < k + 1
+    past_start a k le = omega (arith, le)
+
 -- ---- parts of one kind
 
 row_joined : {T : Type 0} → (n : ℕ) (o : Option T) (xs ys : List (ℕ × T)) → with_row n o (xs ++ ys) ≡ with_row n o xs ++ ys
@@ -118,20 +179,20 @@ row_from : {T : Type 0} → (a n : ℕ) (o : Option T) (all : List (ℕ × T)) �
 row_from a n None all le h = h
 row_from a n (Some x) all le h = (le, h)
 
-those_from : {T : Type 0} → (kind : Part → Option T) (a : ℕ) (parts : Parts) → AreFrom a parts → AreFrom a (those kind parts)
+pub those_from : {T : Type 0} → (kind : Part → Option T) (a : ℕ) (parts : Parts) → AreFrom a parts → AreFrom a (those kind parts)
 those_from kind a [] h = tt
 those_from kind a (p ∷ parts) h = row_from a p.0 (kind p.1) (those kind parts) h.0 (those_from kind a parts h.1)
 
 -- those of a kind inside a row, and behind it
-pub those_parted : {T : Type 0} {e : ℕ} {all : List (ℕ × T)} (kind : Part → Option T) (inner outer : Parts) → IsParted e inner outer → all ≡ those kind (inner ++ outer)
+pub those_parted : {T : Type 0} {n e : ℕ} {all : List (ℕ × T)} (kind : Part → Option T) (inner outer : Parts) → IsParted n e inner outer → all ≡ those kind (inner ++ outer)
     → Parted e all (those kind inner) (those kind outer)
-those_parted {T} {e} {all} kind inner outer h is = record {
+those_parted {T} {n} {e} {all} kind inner outer h is = record {
   is = is ∙ those_joined kind inner outer;
   inside = those_before kind e inner h.inside;
   after = begins e (those kind outer) (those_from kind e outer h.after);
 }
 
--- ---- the stacks of parts
+-- ---- what waits
 
 abbrev stacks : Below → List (ℕ × SwitchLabel) → List (ℕ × Group) → List (ℕ × Catch) → Stacks
 stacks a b d e = record { of_code = a; of_label = b; of_group = d; of_catch = e }
@@ -149,38 +210,25 @@ pub record SameOthers (old new : Stacks) : Type 0 where
 
 -- ---- the step of one row
 
-not_past : (n stop : ℕ) → n < stop → stop ≤ n → ⊥
-not_past n stop lt le = omega (arith, lt, le)
-
-after_row : (f : Facts) (n : ℕ) → n < end f.rows n → n + 1 ≤ end f.rows n
-after_row f n lt = omega (arith, lt)
-
-step : {s : Source} {outcome : Option RowType} {n stop : ℕ} {old new : Stacks} (inner outer : Parts) → IsReadAt s n → AreDeep (facts s) → AreNested (facts s) n stop → n < stop
-    → WaitsFrom (facts s) outcome (n + 1) stop old → Makes s outcome n old new → PartsAt (facts s) outcome (n + 1) (end (rows_of s) n) inner → PartsAt (facts s) outcome (end (rows_of s) n) stop outer
-    → ComesTo (made_at (facts s) outcome n inner) n inner outer new
-step {s} {outcome} {n} {stop} {old} {new} inner outer read deep nested lt was makes below behind =
-    let more = nested.more n (itself n) lt in
-    makes.makes read inner outer
-    (record { inside = all_before deep (below_nested (facts s) n deep) below; after = all_from deep (narrower (facts s) n (end (rows_of s) n) stop more nested) behind })
-    (was.waits (inner ++ outer) (joined (below_nested (facts s) n deep) (after_row (facts s) n more) (nested.inside n (itself n) lt) below behind))
-
-step_waits : {s : Source} {outcome : Option RowType} {n stop : ℕ} {old new : Stacks} → IsReadAt s n → AreDeep (facts s) → AreNested (facts s) n stop → n < stop → WaitsFrom (facts s) outcome (n + 1) stop old
-    → Makes s outcome n old new → (parts : Parts) → PartsAt (facts s) outcome n stop parts → new ≡ stacks_of parts
-step_waits {s} {outcome} {n} {stop} {old} {new} read deep nested lt was makes parts (none past) = absurd (not_past n stop lt past)
-step_waits {s} {outcome} {n} {stop} {old} {new} read deep nested lt was makes parts (one {below = inner} {rest = outer} {x = x} less below here behind) =
-    subst (λ m. ComesTo m n inner outer new) here (step inner outer read deep nested lt was makes below behind)
-step_waits {s} {outcome} {n} {stop} {old} {new} read deep nested lt was makes parts (pass {below = inner} {rest = outer} less below here behind) =
-    subst (λ m. ComesTo m n inner outer new) here (step inner outer read deep nested lt was makes below behind)
+comes_waits : {f : Facts} {outcome : Option RowType} {n stop : ℕ} {inner outer : Parts} {new : Stacks} → n < stop → PartsAt f outcome (n + 1) (end f.rows n) inner → PartsAt f outcome (end f.rows n) stop outer
+    → (m : Comes) → made_at f outcome n inner ≡ m → ComesTo m n inner outer new → WaitsFrom f outcome n stop new
+comes_waits {n = n} {outer = outer} lt below behind (part x) made st = record { parts = (n, x) ∷ outer; are = one lt below made behind; is = st }
+comes_waits {inner = inner} {outer = outer} lt below behind through made st = record { parts = inner ++ outer; are = pass lt below made behind; is = st }
+comes_waits lt below behind strange made st = absurd st
 
 pub row_waits : {s : Source} {outcome : Option RowType} {n stop : ℕ} {old new : Stacks} → IsReadAt s n → AreDeep (facts s) → AreNested (facts s) n stop → n < stop → WaitsFrom (facts s) outcome (n + 1) stop old
     → Makes s outcome n old new → WaitsFrom (facts s) outcome n stop new
-row_waits read deep nested lt was makes = record { waits = λ parts h. step_waits read deep nested lt was makes parts h }
-
-nothing_left : {f : Facts} {outcome : Option RowType} {n stop : ℕ} (parts : Parts) → stop ≤ n → PartsAt f outcome n stop parts → parts ≡ []
-nothing_left {f} {outcome} {n} {stop} parts past (none le) = refl
-nothing_left {f} {outcome} {n} {stop} parts past (one lt below made rest) = absurd (not_past n stop lt past)
-nothing_left {f} {outcome} {n} {stop} parts past (pass lt below made rest) = absurd (not_past n stop lt past)
+row_waits {s} {outcome} {n} {stop} {old} {new} read deep nested lt was makes =
+    let f : Facts = facts s in let more = nested.more n (itself n) lt in let below : AreNested f (n + 1) (end f.rows n) = below_nested f n deep in
+    let split : IsSplit f outcome (n + 1) (end f.rows n) stop was.parts = split_at below (next_up n (end f.rows n) more) (nested.inside n (itself n) lt) was.are in
+    comes_waits lt split.first split.second (made_at f outcome n split.inner) refl
+    (makes.makes read split.inner split.outer
+    (record {
+      inside = all_before deep below split.first;
+      rising = all_rising deep below split.first;
+      after = all_from deep (narrower f n (end f.rows n) stop more nested) split.second;
+    }) (was.is ∙ ap stacks_of split.is))
 
 -- before the last row nothing waits
 pub none_waits : {f : Facts} {outcome : Option RowType} {n stop : ℕ} → stop ≤ n → WaitsFrom f outcome n stop (stacks_of [])
-none_waits past = record { waits = λ parts h. ap stacks_of (sym (nothing_left parts past h)) }
+none_waits past = record { parts = []; are = none past; is = refl }

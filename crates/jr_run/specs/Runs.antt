@@ -9,7 +9,7 @@ use Rattle.jr_dispatch.specs.Methods.{IsWholeWorld}
 use Rattle.jr_codes.specs.declared.source.Source.{Source}
 use Rattle.jr_codes.specs.Numbered.{NumbersDeclarations}
 use Rattle.jr_codes.specs.Reads.{facts, rows_of}
-use Rattle.jr_elab.specs.Cores.{HaveParts, IsCoreOf}
+use Rattle.jr_elab.specs.Cores.{IsCoreOf}
 use Rattle.jr_machine_defs.specs.declared.state.Ran.{Ran}
 use Rattle.jr_machine_defs.specs.Steps.{IsRun}
 use Rattle.jr_change.specs.declared.project.Project.{Project}
@@ -32,7 +32,7 @@ pub record IsTextFrom (view : View) (start n : ℕ) (text : Text) : Type 0 where
   pub of_view : source.view.now ≡ view
   pub numbered : NumbersDeclarations (rows_of source) source.ids.now.nodes.items
   pub core : Core
-  pub is_core : HaveParts (facts source) → IsCoreOf (facts source) core
+  pub is_core : IsCoreOf (facts source) core
   pub runs : IsTextOfCore source (plain_core core) start n text
 
 -- the tables of a program are those under its binding, and no number in its rows is too large

@@ -3,7 +3,7 @@ ghost use Rattle.std.specs.Prelude.{Ok, IfOk};
 ghost use Rattle.jr_base.specs.declared.text.Text as texts;
 ghost use Rattle.jr_core.specs.Mirror.{plain_core};
 ghost use Rattle.jr_codes.specs.Reads.{facts};
-ghost use Rattle.jr_elab.specs.Cores.{HaveParts, IsCoreOf, IsReadWhole};
+ghost use Rattle.jr_elab.specs.Cores.{IsCoreOf, IsReadWhole};
 ghost use Rattle.jr_run.specs.Reports.{IsPlacedSource};
 ghost use Rattle.jr_run.specs.Runs.{IsReadProject, IsRunText, IsTextFrom, IsTextOfCore};
 ghost use Rattle.jr_run.specs.Starting.{IsReadWorld, IsStartOf};
@@ -24,7 +24,7 @@ use std::alloc::Global;
 
 // The core of a program.
 fn core_of(source: &Source) -> Result<Core, OutOfMemory>
-    ensures { IfOk result (λ core. IsReadWhole source.now → HaveParts (facts source.now) → IsCoreOf (facts source.now) core) }
+    ensures { IfOk result (λ core. IsReadWhole source.now → IsCoreOf (facts source.now) core) }
 {
     elaborate(source.alloc, source.view, source.ids)
 }
