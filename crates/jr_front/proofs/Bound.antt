@@ -18,7 +18,6 @@ use Rattle.jr_prelude.specs.Begins.{lang_rows, BeginsWithLang}
 use Rattle.jr_prelude.proofs.Begun.{one_string}
 use Rattle.jr_bind.specs.Confirmed.{IsProgramOf, IsBindingOf}
 use Rattle.jr_front.specs.Bound.{rows_in, IsBoundIn}
-use Rattle.jr_front.specs.Tested.{HasNoTopFault, HasNoTopClash}
 use Rattle.jr_front.specs.declared.workspace.Workspace.{Workspace}
 
 module _ (p : Rows) (begins : BeginsWithLang p) where
@@ -60,24 +59,29 @@ module _ (p : Rows) (begins : BeginsWithLang p) where
   program_of places scopes is are scopes_are tops_are = record { program = is; places_are = are; scopes_are = scopes_are; tops_are = tops_are; lang = first_in_lang; one_string = only_string }
 
 -- what is made of the rows of a program, as they are read, is bound
-pub bound_in : (w : Workspace) (first second third : Rows) (these those : Places) (scopes : Scopes) → first ≡ rows_in w → second ≡ rows_in w → third ≡ rows_in w → these ≡ w.places.value → those ≡ w.places.value → scopes ≡ w.scopes.value
-    → ArePlaces first w.places.value → (ArePlaced second these → AreScopes second w.scopes.value) → (ArePlaced second these → AreTops second these w.scopes.value)
-    → (IsProgramOf third those scopes → IsBindingOf third those w.bound.value) → IsProgram (rows_in w) → BeginsWithLang (rows_in w) → IsBoundIn w
-bound_in w first second third these those scopes one two three here there names are scopes_are tops_are binding is begins = record { of = of; binding = bound of }
+pub bound_in : (w : Workspace) (rows : Rows) (these those : Places) (scopes : Scopes) → rows ≡ rows_in w → these ≡ w.places.value → those ≡ w.places.value → scopes ≡ w.scopes.value
+    → ArePlaces rows w.places.value → (ArePlaced rows these → AreScopes rows w.scopes.value) → (ArePlaced rows these → AreTops rows these w.scopes.value)
+    → (IsProgramOf rows those scopes → IsBindingOf rows those w.bound.value) → IsProgram (rows_in w) → BeginsWithLang (rows_in w) → IsBoundIn w
+bound_in w rows these those scopes one here there names are scopes_are tops_are binding is begins = record { of = of; binding = bound of }
   where
     in_scope : ArePlaced (rows_in w) w.places.value → AreScopes (rows_in w) w.scopes.value
-    in_scope = subst (λ r. ArePlaced r w.places.value → AreScopes r w.scopes.value) two (subst (λ x. ArePlaced second x → AreScopes second w.scopes.value) here scopes_are)
+    in_scope = subst (λ r. ArePlaced r w.places.value → AreScopes r w.scopes.value) one (subst (λ x. ArePlaced rows x → AreScopes rows w.scopes.value) here scopes_are)
 
     on_top : ArePlaced (rows_in w) w.places.value → AreTops (rows_in w) w.places.value w.scopes.value
-    on_top = subst (λ r. ArePlaced r w.places.value → AreTops r w.places.value w.scopes.value) two (subst (λ x. ArePlaced second x → AreTops second x w.scopes.value) here tops_are)
+    on_top = subst (λ r. ArePlaced r w.places.value → AreTops r w.places.value w.scopes.value) one (subst (λ x. ArePlaced rows x → AreTops rows x w.scopes.value) here tops_are)
 
     of : IsProgramOf (rows_in w) w.places.value w.scopes.value
     of = program_of (rows_in w) begins w.places.value w.scopes.value is (subst (λ r. ArePlaces r w.places.value) one are) in_scope on_top
 
     bound : IsProgramOf (rows_in w) w.places.value w.scopes.value → IsBindingOf (rows_in w) w.places.value w.bound.value
-    bound = subst (λ r. IsProgramOf r w.places.value w.scopes.value → IsBindingOf r w.places.value w.bound.value) three
-        (subst (λ x. IsProgramOf third x w.scopes.value → IsBindingOf third x w.bound.value) there (subst (λ y. IsProgramOf third those y → IsBindingOf third those w.bound.value) names binding))
+    bound = subst (λ r. IsProgramOf r w.places.value w.scopes.value → IsBindingOf r w.places.value w.bound.value) one
+        (subst (λ x. IsProgramOf rows x w.scopes.value → IsBindingOf rows x w.bound.value) there (subst (λ y. IsProgramOf rows those y → IsBindingOf rows those w.bound.value) names binding))
 
--- no top-level type has the name of another, by the rows and the places as they are read
-pub placed_names : (w : Workspace) (first : Rows) (places : Places) → first ≡ rows_in w → places ≡ w.places.value → (ArePlaced first places → HasNoTopFault first) → HasNoTopClash w
-placed_names w first places one here none = record { none = subst (λ r. ArePlaced r w.places.value → HasNoTopFault r) one (subst (λ x. ArePlaced first x → HasNoTopFault first) here none) }
+-- the rows of a program with their places and scopes, as they are read
+pub program_so : (p rows : Rows) (places these those : Places) (scopes there : Scopes) → rows ≡ p → these ≡ places → those ≡ places → there ≡ scopes → IsProgram p → BeginsWithLang p → ArePlaces rows places
+    → (ArePlaced rows these → AreScopes rows scopes) → (ArePlaced rows these → AreTops rows these scopes) → IsProgramOf rows those there
+program_so p rows places these those scopes there one here at names is begins are scopes_are tops_are =
+    subst (λ r. IsProgramOf r those there) (sym one) (subst (λ x. IsProgramOf p x there) (sym at) (subst (λ y. IsProgramOf p places y) (sym names)
+    (program_of p begins places scopes is (subst (λ r. ArePlaces r places) one are)
+    (subst (λ r. ArePlaced r places → AreScopes r scopes) one (subst (λ x. ArePlaced rows x → AreScopes rows scopes) here scopes_are))
+    (subst (λ r. ArePlaced r places → AreTops r places scopes) one (subst (λ x. ArePlaced rows x → AreTops rows x scopes) here tops_are)))))

@@ -71,7 +71,7 @@ fn told_by(marks: &Marks, why: FrontFault) -> FrontFault
 // That no two top-level types have one name, and none that of a package (JLS 7.1, 7.6).
 fn judge_names(alloc: Global, marks: &Marks, places: &Places) -> Result<(), FrontFault>
     ensures names { ArePlaced marks.now.rows.now places.now → OnOk result (HasNoTopFault marks.now.rows.now) }
-    ensures err { ArePlaced marks.now.rows.now places.now → IfErr result (IsNameReason marks.now) }
+    ensures err { IsProgram marks.now.rows.now → ArePlaced marks.now.rows.now places.now → IfErr result (IsNameReason marks.now) }
 {
     let faults = name_clashes(alloc, marks.rows, places)?;
     match first_broken(&faults, marks) {
