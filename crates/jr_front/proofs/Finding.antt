@@ -1,5 +1,5 @@
 -- What the makers of faults add, one after the other, is what is found.
-use Rattle.std.proofs.Common.{◌≡◌, refl, sym, ◌∙◌, ap, ℕ, Bool, true, false, ◌||◌, List, []}
+use Rattle.std.proofs.Common.{◌≡◌, refl, subst, ℕ, Bool, true, false, ◌||◌, List, []}
 use Rattle.std.specs.List.{AllByRecursion}
 use Rattle.std.proofs.lemmas.Bool.{or_parts}
 use Rattle.jr_tree.specs.Local.{IsLocal}
@@ -111,3 +111,28 @@ module _ {view : View} {a b c d e f : List Fault} (added : AreAdded view a b c d
       completing = of_flow rule.Completion refl told.completing;
     };
   }
+
+-- the same, as the steps of the code give it
+pub added_found : (view : View) (start a b c d e f : List Fault) → start ≡ [] → AreOnly (is_between 1 1) start a → AreOnly (is_between 38 40) a b → AreMemberFaults view b c → AreOnly is_on_members b c
+    → (IsRightView view → AreExactTypeFaults view c d) → AreOnlyOf type_rules c d → (IsLocal (rows_in view) → AreFlowFaults view d e) → AreOnly is_of_flow d e
+    → (names.IsPlacedView view → of_names.AreExactFaults view rule.LocalNames e f) → (names.IsPlacedView view → of_names.AreExactFaults view rule.Labels e f) → (names.IsSeenView view → of_names.AreExactFaults view rule.Access e f)
+    → (names.IsPlacedView view → of_names.AreExactFaults view rule.ImportNames e f) → (names.IsPlacedView view → of_names.AreExactFaults view rule.ImportedTypes e f)
+    → (names.IsTabledView view → of_names.AreExactFaults view rule.StaticImports e f) → of_names.AreOfNames e f → IsTestableView view → AreFaultsIn view f
+added_found view start a b c d e f none modifiers assigned members only_members types only_types flow only_flow local_names labels access import_names imported_types static_imports only_names =
+    are_found (record {
+      modifiers = subst (λ (l : List Fault). AreOnly (is_between 1 1) l a) none modifiers;
+      assigned = assigned;
+      members = members;
+      only_members = only_members;
+      types = types;
+      only_types = only_types;
+      flow = flow;
+      only_flow = only_flow;
+      local_names = local_names;
+      labels = labels;
+      access = access;
+      import_names = import_names;
+      imported_types = imported_types;
+      static_imports = static_imports;
+      only_names = only_names;
+    })

@@ -1,5 +1,5 @@
 -- The first of the faults that are found is the first cause of its kind.
-use Rattle.std.proofs.Common.{◌≡◌, refl, sym, ◌∙◌, ap, ap₂, subst, inl, inr, arith, ℕ, ◌<◌, Bool, true, false, ◌||◌, List, [], length, nat_le, Contains}
+use Rattle.std.proofs.Common.{◌≡◌, refl, sym, ◌∙◌, ap, ap₂, subst, inl, inr, arith, ℕ, ◌<◌, Bool, true, false, ◌||◌, List, [], length, nat_le, Contains, Result, Ok, Err, IfErr}
 use Rattle.std.proofs.lemmas.Bool.{false≢true, or_right, and_parts, leb-true}
 use Rattle.jr_base.specs.declared.token.Place.{Place}
 use Rattle.jr_tree.specs.Local.{IsLocal}
@@ -88,6 +88,12 @@ no_clash p faults clashes none = sym clashes.clashes.are ∙ ap (rows_of rule.Ty
 pub clashes_taken : (p : Rows) (found faults : List Fault) → AreFaultsOf rule.TypeNames (all_such (length p) (has_top_type_clash p)) [] found → AreTakenOver 2 2 found [] faults → AreClashes p faults
 clashes_taken p found faults of taken = record { others = taken.others; clashes = record { are = (taken.these rule.TypeNames refl).are ∙ of.are } }
 
+-- the same, as the steps of the code give it
+pub clashes_from : (p : Rows) (start found read none faults : List Fault) → start ≡ [] → read ≡ found → none ≡ [] → AreFaultsOf rule.TypeNames (all_such (length p) (has_top_type_clash p)) start found → AreTakenOver 2 2 read none faults → AreClashes p faults
+clashes_from p start found read none faults empty same blank of taken = clashes_taken p found faults
+    (subst (λ (l : List Fault). AreFaultsOf rule.TypeNames (all_such (length p) (has_top_type_clash p)) l found) empty of)
+    (subst (λ (l : List Fault). AreTakenOver 2 2 l [] faults) same (subst (λ (l : List Fault). AreTakenOver 2 2 read l faults) blank taken))
+
 -- the rows of a program are headed
 pub program_is_headed : (p : Rows) → IsProgram p → IsHeaded p
 program_is_headed p program = subst IsHeaded (sym program.rows_are) (headed_programs program.units program.shaped).0
@@ -107,3 +113,9 @@ first_break m t faults best right all h =
           let same = same_fault of.fault other (same_rule of.fault.rule other.rule of.number) of.row in
           h.first of.fault of.member (subst (λ (f : Fault). IsBetter (f.rule, place_of_fault m f) best) (sym same) better);
     }
+
+-- ---- results
+
+pub err_more : {A : Type 0} (P Q : FrontFault → Type 0) (result : Result A FrontFault) → ((why : FrontFault) → P why → Q why) → IfErr result P → IfErr result Q
+err_more P Q (Ok x) more h = tt
+err_more P Q (Err why) more h = more why h

@@ -217,7 +217,7 @@ pub fn open_program(alloc: Global, program: Program) -> Result<Workspace, FrontF
 }
 
 /// The program of the files with its tables, where they compile, and else the first reason why they do not.
-#[tactic(auto, using(crate::proofs::Reading::read_shaped, crate::proofs::Reading::read_begins, crate::proofs::Reading::opened, crate::proofs::Reading::opened_program, crate::proofs::Reading::compiled))]
+#[tactic(auto, using(crate::proofs::Reading::read_shaped, crate::proofs::Reading::read_begins, crate::proofs::Reading::opened_program, crate::proofs::Reading::compiled))]
 pub fn open_files(alloc: Global, files: &Files) -> Result<Workspace, FrontFault>
     ensures ok { IfOk result (λ workspace. ReadsAs files.now (Ok workspace.program)) }
     ensures rows { IfOk result (λ workspace. workspace.index.value ≡ rows_of workspace.program) }

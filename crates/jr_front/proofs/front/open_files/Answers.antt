@@ -10,3 +10,6 @@ returns-in-Ok-clause-compiles c = compiled c.args.files.now c.in-Ok.program c.op
 
 pub returns-in-Err-clause-checked : goal.returns-in-Err-clause-checked
 returns-in-Err-clause-checked c = subst (λ (why : FrontFault). CheckedAs c.args.files.now (Err why)) (sym c.unread.ensures) (not_read c.in-Err.ensures)
+
+pub returns-in-Ok-clause-checked : goal.returns-in-Ok-clause-checked
+returns-in-Ok-clause-checked c = ?
