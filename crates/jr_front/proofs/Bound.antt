@@ -1,5 +1,5 @@
 -- The rows of a program that begins with java.lang are bound as lookup asks.
-use Rattle.std.proofs.Common.{◌≡◌, refl, sym, ◌∙◌, ap, ap₂, subst, arith, ℕ, ◌-◌, ◌<◌, ◌∷◌, [], length, codes}
+use Rattle.std.proofs.Common.{◌≡◌, refl, sym, ◌∙◌, ap, ap₂, subst, arith, ℕ, ◌-◌, ◌<◌, ◌∷◌, [], length, codes, Result, Ok, IfOk}
 use Rattle.std.proofs.lemmas.Bool.{ltb-true}
 use Rattle.jr_base.specs.declared.text.Text.{Text}
 use Rattle.jr_tree.specs.declared.label.Label.TheVariants as is
@@ -9,9 +9,11 @@ use Rattle.jr_defs.specs.Declarations.{IsString}
 use Rattle.jr_defs.specs.Imports.{java_lang}
 use Rattle.jr_defs.specs.Packages.{InPackage, identifiers, package_by, package_of}
 use Rattle.jr_places.specs.declared.places.Places.{Places}
+use Rattle.jr_places.specs.Packages.{PackagesAreNamed}
 use Rattle.jr_places.specs.Places.{ArePlaces}
 use Rattle.jr_members.specs.Sources.{ArePlaced}
 use Rattle.jr_headed.specs.Founded.{IsProgram}
+use Rattle.jr_headed.proofs.Founding.{program_local}
 use Rattle.jr_lookup.specs.declared.scopes.Scopes.{Scopes}
 use Rattle.jr_lookup.specs.Scopes.{AreScopes, AreTops}
 use Rattle.jr_prelude.specs.Begins.{lang_rows, BeginsWithLang}
@@ -85,3 +87,7 @@ program_so p rows places these those scopes there one here at names is begins ar
     (program_of p begins places scopes is (subst (λ r. ArePlaces r places) one are)
     (subst (λ r. ArePlaced r places → AreScopes r scopes) one (subst (λ x. ArePlaced rows x → AreScopes rows scopes) here scopes_are))
     (subst (λ r. ArePlaced r places → AreTops r places scopes) one (subst (λ x. ArePlaced rows x → AreTops rows x scopes) here tops_are)))))
+
+-- places that were made of the rows of a program, as they are read
+pub placed_by : {E : Type 0} (rows : Rows) (made : Result Places E) (value read : Places) → IsProgram rows → PackagesAreNamed rows → IfOk made (λ places. ArePlaces rows places) → made ≡ Ok value → read ≡ value → ArePlaced rows read
+placed_by rows made value read is named are e same = record { local = program_local rows is; packages = named; are = subst (λ (x : Places). ArePlaces rows x) (sym same) (subst (λ r. IfOk r (λ places. ArePlaces rows places)) e are) }

@@ -119,3 +119,6 @@ first_break m t faults best right all h =
 pub err_more : {A : Type 0} (P Q : FrontFault → Type 0) (result : Result A FrontFault) → ((why : FrontFault) → P why → Q why) → IfErr result P → IfErr result Q
 err_more P Q (Ok x) more h = tt
 err_more P Q (Err why) more h = more why h
+
+pub err_is : {A : Type 0} (P : FrontFault → Type 0) (result : Result A FrontFault) (why : FrontFault) → result ≡ Err why → P why → IfErr result P
+err_is P result why e h = subst (λ r. IfErr r P) (sym e) h

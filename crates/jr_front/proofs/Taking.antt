@@ -44,10 +44,16 @@ pub taken_more : (first last : ℕ) (found old now new : List Fault) (k : ℕ) (
 taken_more first last found old now new k d lt within is h =
     let fault = get_or found k d in
     record {
-      others = record { others = λ one apart. record { are = ap (rows_of one) is ∙ rows_append one now (fault ∷ []) ∙ ap (λ l. rows_of one now ++ l) (other_row first last one fault apart within)
-          ∙ append-nil (rows_of one now) ∙ (h.others.others one apart).are } };
-      these = λ one inside. record { are = ap (rows_of one) is ∙ rows_append one now (fault ∷ []) ∙ ap (λ l. l ++ rows_of one (fault ∷ [])) (h.these one inside).are
-          ∙ append_assoc (rows_of one old) (rows_of one (take k found)) (rows_of one (fault ∷ [])) ∙ ap (λ l. rows_of one old ++ l) (sym (ap (rows_of one) (take_more found k d lt) ∙ rows_append one (take k found) (fault ∷ []))) };
+      others = record {
+        others = λ one apart. record {
+          are = ap (rows_of one) is ∙ rows_append one now (fault ∷ []) ∙ ap (λ l. rows_of one now ++ l) (other_row first last one fault apart within)
+              ∙ append-nil (rows_of one now) ∙ (h.others.others one apart).are;
+        };
+      };
+      these = λ one inside. record {
+        are = ap (rows_of one) is ∙ rows_append one now (fault ∷ []) ∙ ap (λ l. l ++ rows_of one (fault ∷ [])) (h.these one inside).are
+            ∙ append_assoc (rows_of one old) (rows_of one (take k found)) (rows_of one (fault ∷ [])) ∙ ap (λ l. rows_of one old ++ l) (sym (ap (rows_of one) (take_more found k d lt) ∙ rows_append one (take k found) (fault ∷ [])));
+      };
     }
 
 -- or is not
@@ -57,8 +63,10 @@ taken_past first last found old now k d lt apart h =
     let fault = get_or found k d in
     record {
       others = h.others;
-      these = λ one inside. record { are = (h.these one inside).are ∙ ap (λ l. rows_of one old ++ l) (sym (ap (rows_of one) (take_more found k d lt) ∙ rows_append one (take k found) (fault ∷ [])
-          ∙ ap (λ l. rows_of one (take k found) ++ l) (own_row first last one fault inside apart) ∙ append-nil (rows_of one (take k found)))) };
+      these = λ one inside. record {
+        are = (h.these one inside).are ∙ ap (λ l. rows_of one old ++ l) (sym (ap (rows_of one) (take_more found k d lt) ∙ rows_append one (take k found) (fault ∷ [])
+            ∙ ap (λ l. rows_of one (take k found) ++ l) (own_row first last one fault inside apart) ∙ append-nil (rows_of one (take k found))));
+      };
     }
 
 pub all_taken : (first last : ℕ) (found old new : List Fault) (k : ℕ) → length found ≤ k → AreTakenOver first last (take k found) old new → AreTakenOver first last found old new

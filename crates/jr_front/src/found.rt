@@ -26,12 +26,7 @@ fn is_between(rule: Rule, first: u8, last: u8) -> bool
 }
 
 // Adds those of the faults whose rules have a number from the first to the last.
-fn take_over(
-    found: &[Fault],
-    first: u8,
-    last: u8,
-    out: &mut Vec<Fault>,
-) -> Result<(), OutOfMemory>
+fn take_over(found: &[Fault], first: u8, last: u8, out: &mut Vec<Fault>) -> Result<(), OutOfMemory>
     ensures { OnOk result (AreTakenOver first last found.now out.old.items out.new.items) }
 {
     for fault in found {
@@ -75,11 +70,7 @@ pub fn faults_of(alloc: Global, marks: &Marks, view: &View) -> Result<Vec<Fault>
 }
 
 /// The top-level types that have the name of another in their package, or of a subpackage.
-pub fn name_clashes(
-    alloc: Global,
-    rows: &[Row],
-    places: &Places,
-) -> Result<Vec<Fault>, OutOfMemory>
+pub fn name_clashes(alloc: Global, rows: &[Row], places: &Places) -> Result<Vec<Fault>, OutOfMemory>
     ensures { ArePlaced rows.now places.now → IfOk result (λ faults. AreClashes rows.now faults.items) }
 {
     let mut found = Vec::new(alloc);
