@@ -1,5 +1,5 @@
 -- The rows of a program that begins with java.lang are bound as lookup asks.
-use Rattle.std.proofs.Common.{◌≡◌, refl, sym, ◌∙◌, ap, ap₂, subst, arith, ℕ, ◌-◌, ◌<◌, ◌∷◌, [], length, codes}
+use Rattle.std.proofs.Common.{◌≡◌, refl, sym, ◌∙◌, ap, ap₂, subst, arith, ℕ, ◌-◌, ◌<◌, ◌∷◌, [], length, codes, Result, Ok, IfOk}
 use Rattle.std.proofs.lemmas.Bool.{ltb-true}
 use Rattle.jr_base.specs.declared.text.Text.{Text}
 use Rattle.jr_tree.specs.declared.label.Label.TheVariants as is
@@ -9,16 +9,17 @@ use Rattle.jr_defs.specs.Declarations.{IsString}
 use Rattle.jr_defs.specs.Imports.{java_lang}
 use Rattle.jr_defs.specs.Packages.{InPackage, identifiers, package_by, package_of}
 use Rattle.jr_places.specs.declared.places.Places.{Places}
+use Rattle.jr_places.specs.Packages.{PackagesAreNamed}
 use Rattle.jr_places.specs.Places.{ArePlaces}
 use Rattle.jr_members.specs.Sources.{ArePlaced}
 use Rattle.jr_headed.specs.Founded.{IsProgram}
+use Rattle.jr_headed.proofs.Founding.{program_local}
 use Rattle.jr_lookup.specs.declared.scopes.Scopes.{Scopes}
 use Rattle.jr_lookup.specs.Scopes.{AreScopes, AreTops}
 use Rattle.jr_prelude.specs.Begins.{lang_rows, BeginsWithLang}
 use Rattle.jr_prelude.proofs.Begun.{one_string}
 use Rattle.jr_bind.specs.Confirmed.{IsProgramOf, IsBindingOf}
 use Rattle.jr_front.specs.Bound.{rows_in, IsBoundIn}
-use Rattle.jr_front.specs.Tested.{HasNoTopFault, HasNoTopClash}
 use Rattle.jr_front.specs.declared.workspace.Workspace.{Workspace}
 
 module _ (p : Rows) (begins : BeginsWithLang p) where
@@ -60,24 +61,33 @@ module _ (p : Rows) (begins : BeginsWithLang p) where
   program_of places scopes is are scopes_are tops_are = record { program = is; places_are = are; scopes_are = scopes_are; tops_are = tops_are; lang = first_in_lang; one_string = only_string }
 
 -- what is made of the rows of a program, as they are read, is bound
-pub bound_in : (w : Workspace) (first second third : Rows) (these those : Places) (scopes : Scopes) → first ≡ rows_in w → second ≡ rows_in w → third ≡ rows_in w → these ≡ w.places.value → those ≡ w.places.value → scopes ≡ w.scopes.value
-    → ArePlaces first w.places.value → (ArePlaced second these → AreScopes second w.scopes.value) → (ArePlaced second these → AreTops second these w.scopes.value)
-    → (IsProgramOf third those scopes → IsBindingOf third those w.bound.value) → IsProgram (rows_in w) → BeginsWithLang (rows_in w) → IsBoundIn w
-bound_in w first second third these those scopes one two three here there names are scopes_are tops_are binding is begins = record { of = of; binding = bound of }
+pub bound_in : (w : Workspace) (rows : Rows) (these those : Places) (scopes : Scopes) → rows ≡ rows_in w → these ≡ w.places.value → those ≡ w.places.value → scopes ≡ w.scopes.value
+    → ArePlaces rows w.places.value → (ArePlaced rows these → AreScopes rows w.scopes.value) → (ArePlaced rows these → AreTops rows these w.scopes.value)
+    → (IsProgramOf rows those scopes → IsBindingOf rows those w.bound.value) → IsProgram (rows_in w) → BeginsWithLang (rows_in w) → IsBoundIn w
+bound_in w rows these those scopes one here there names are scopes_are tops_are binding is begins = record { of = of; binding = bound of }
   where
     in_scope : ArePlaced (rows_in w) w.places.value → AreScopes (rows_in w) w.scopes.value
-    in_scope = subst (λ r. ArePlaced r w.places.value → AreScopes r w.scopes.value) two (subst (λ x. ArePlaced second x → AreScopes second w.scopes.value) here scopes_are)
+    in_scope = subst (λ r. ArePlaced r w.places.value → AreScopes r w.scopes.value) one (subst (λ x. ArePlaced rows x → AreScopes rows w.scopes.value) here scopes_are)
 
     on_top : ArePlaced (rows_in w) w.places.value → AreTops (rows_in w) w.places.value w.scopes.value
-    on_top = subst (λ r. ArePlaced r w.places.value → AreTops r w.places.value w.scopes.value) two (subst (λ x. ArePlaced second x → AreTops second x w.scopes.value) here tops_are)
+    on_top = subst (λ r. ArePlaced r w.places.value → AreTops r w.places.value w.scopes.value) one (subst (λ x. ArePlaced rows x → AreTops rows x w.scopes.value) here tops_are)
 
     of : IsProgramOf (rows_in w) w.places.value w.scopes.value
     of = program_of (rows_in w) begins w.places.value w.scopes.value is (subst (λ r. ArePlaces r w.places.value) one are) in_scope on_top
 
     bound : IsProgramOf (rows_in w) w.places.value w.scopes.value → IsBindingOf (rows_in w) w.places.value w.bound.value
-    bound = subst (λ r. IsProgramOf r w.places.value w.scopes.value → IsBindingOf r w.places.value w.bound.value) three
-        (subst (λ x. IsProgramOf third x w.scopes.value → IsBindingOf third x w.bound.value) there (subst (λ y. IsProgramOf third those y → IsBindingOf third those w.bound.value) names binding))
+    bound = subst (λ r. IsProgramOf r w.places.value w.scopes.value → IsBindingOf r w.places.value w.bound.value) one
+        (subst (λ x. IsProgramOf rows x w.scopes.value → IsBindingOf rows x w.bound.value) there (subst (λ y. IsProgramOf rows those y → IsBindingOf rows those w.bound.value) names binding))
 
--- no top-level type has the name of another, by the rows and the places as they are read
-pub placed_names : (w : Workspace) (first : Rows) (places : Places) → first ≡ rows_in w → places ≡ w.places.value → (ArePlaced first places → HasNoTopFault first) → HasNoTopClash w
-placed_names w first places one here none = record { none = subst (λ r. ArePlaced r w.places.value → HasNoTopFault r) one (subst (λ x. ArePlaced first x → HasNoTopFault first) here none) }
+-- the rows of a program with their places and scopes, as they are read
+pub program_so : (p rows : Rows) (places these those : Places) (scopes there : Scopes) → rows ≡ p → these ≡ places → those ≡ places → there ≡ scopes → IsProgram p → BeginsWithLang p → ArePlaces rows places
+    → (ArePlaced rows these → AreScopes rows scopes) → (ArePlaced rows these → AreTops rows these scopes) → IsProgramOf rows those there
+program_so p rows places these those scopes there one here at names is begins are scopes_are tops_are =
+    subst (λ r. IsProgramOf r those there) (sym one) (subst (λ x. IsProgramOf p x there) (sym at) (subst (λ y. IsProgramOf p places y) (sym names)
+    (program_of p begins places scopes is (subst (λ r. ArePlaces r places) one are)
+    (subst (λ r. ArePlaced r places → AreScopes r scopes) one (subst (λ x. ArePlaced rows x → AreScopes rows scopes) here scopes_are))
+    (subst (λ r. ArePlaced r places → AreTops r places scopes) one (subst (λ x. ArePlaced rows x → AreTops rows x scopes) here tops_are)))))
+
+-- places that were made of the rows of a program, as they are read
+pub placed_by : {E : Type 0} (rows : Rows) (made : Result Places E) (value read : Places) → IsProgram rows → PackagesAreNamed rows → IfOk made (λ places. ArePlaces rows places) → made ≡ Ok value → read ≡ value → ArePlaced rows read
+placed_by rows made value read is named are e same = record { local = program_local rows is; packages = named; are = subst (λ (x : Places). ArePlaces rows x) (sym same) (subst (λ r. IfOk r (λ places. ArePlaces rows places)) e are) }

@@ -1,9 +1,15 @@
 pub mod Bound
 pub mod Viewed
-pub mod Faultless
+pub mod Numbers
+pub mod Listed
+pub mod Taking
+pub mod Finding
+pub mod Flowing
 pub mod Kept
 pub mod Testable
 pub mod Reading
 pub mod Placing
 pub mod Losing
 pub mod Breaking
+pub mod Refused
+pub mod Refusals

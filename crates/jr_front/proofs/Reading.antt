@@ -10,8 +10,9 @@ use Rattle.jr_front.specs.Bound.{rows_in, table_in}
 use Rattle.jr_defs.specs.declared.program.Program.{Program}
 use Rattle.jr_defs.specs.declared.program.UnitAt.{UnitAt}
 use Rattle.jr_read.specs.Reading.{ReadsAs, program as one_program}
-use Rattle.jr_front.specs.Checking.{CheckedAs, IsOfPrograms, accepted, refused, forgotten}
+use Rattle.jr_front.specs.Checking.{CheckedAs, accepted, refused, forgotten}
 use Rattle.jr_front.specs.Compiling.{KeepsExact, CompilesExactly}
+use Rattle.jr_front.specs.Refusing.{IsRefusal}
 use Rattle.jr_front.specs.declared.fault.FrontFault.{FrontFault}
 use Rattle.jr_front.specs.declared.workspace.Workspace.{Workspace}
 
@@ -27,7 +28,7 @@ compiles_by : (found : FileMap) (p : Program) (w : Workspace) → ReadsAs found 
 compiles_by found p w (one_program few are within units) placed same kept = record { reads = units; placed = placed; keeps = subst (λ r. KeepsExact r (table_in w)) same kept }
 
 -- what is said of files, by what is said of their program
-pub opened : (found : FileMap) (p : Program) (result : Result Workspace FrontFault) → ReadsAs found (Ok p) → IfErr result IsOfPrograms → OnOk result (IsWellPlaced p) → IfOk result (λ workspace. workspace.index.value ≡ rows_of p)
+pub opened : (found : FileMap) (p : Program) (result : Result Workspace FrontFault) → ReadsAs found (Ok p) → IfErr result (IsRefusal p) → OnOk result (IsWellPlaced p) → IfOk result (λ workspace. workspace.index.value ≡ rows_of p)
     → IfOk result (λ workspace. KeepsExact (rows_in workspace) (table_in workspace)) → CheckedAs found (forgotten result)
 opened found p (Ok workspace) reads is placed same kept = accepted reads (compiles_by found p workspace reads placed same kept)
 opened found p (Err why) reads is placed same kept = refused reads is

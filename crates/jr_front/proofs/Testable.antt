@@ -1,16 +1,20 @@
 -- The view of a bound program is one that the exact rules can be tested on, and where their tests pass at no row it keeps them.
-use Rattle.std.proofs.Common.{◌≡◌, sym, ◌∙◌, ap, subst, ℕ, ◌≤◌, List, Option, None, length, slice_index_or, codes}
+use Rattle.std.proofs.Common.{◌≡◌, sym, ◌∙◌, ap, subst, ℕ, ◌≤◌, true, List, [], Option, None, length, slice_index_or, codes, Contains}
 use Rattle.std.proofs.Math.Path.{fun_ext}
+use Rattle.jr_base.specs.declared.token.Place.{Place}
+use Rattle.jr_tree.specs.Local.{IsLocal}
 use Rattle.jr_tree.specs.Rows.{Rows}
 use Rattle.jr_defs.specs.declared.referent.Referent.{Referent}
 use Rattle.jr_defs.specs.declared.referent.Referent.TheVariants.{Unbound}
 use Rattle.jr_defs.specs.declared.referent.RowType.{RowType}
+use Rattle.jr_defs.specs.Binding.{IsBound}
 use Rattle.jr_defs.specs.Compiling.{AllFound}
 use Rattle.jr_defs.specs.Constants.{HasConstantForm}
 use Rattle.jr_defs.specs.Referents.{Table, entries}
 use Rattle.jr_plain.specs.Constants.{variable_value}
 use Rattle.jr_plain.specs.Conversions.{Constants}
 use Rattle.jr_plain.specs.Overloads.{Types}
+use Rattle.jr_plain.specs.Search.{has}
 use Rattle.jr_plain.specs.Typing.{IsTypable, expression_types}
 use Rattle.jr_plain.proofs.Declared.{prelude_tells}
 use Rattle.jr_plain.proofs.Typables.{typable_from_lookup}
@@ -25,13 +29,21 @@ use Rattle.jr_prelude.proofs.Begun.{once}
 use Rattle.jr_member_faults.proofs.Values.{variables_same}
 use Rattle.jr_type_facts.specs.Tables.{HasNoOtherThrowable}
 use Rattle.jr_type_facts.specs.Views.{rows_in as rows_of, table_in as table_of, types_in, constants_in}
+use Rattle.jr_rule.specs.declared.Fault.{Fault}
+use Rattle.jr_rule.specs.declared.Rule.{Rule}
+use Rattle.jr_rule.specs.Numbers.{number_of}
+use Rattle.jr_marks.specs.declared.marks.Marks.{Marks}
 use Rattle.jr_view.specs.declared.View.{View}
 use Rattle.jr_front.specs.Bound.{rows_in, table_in, IsBoundIn}
-use Rattle.jr_front.specs.Compiling.{BreaksExact, KeepsExact}
-use Rattle.jr_front.specs.Tested.{IsTestableView, HasNoTopFault, HasNoTopClash, HasNoFault}
+use Rattle.jr_front.specs.Broken.{IsFirstBroken}
+use Rattle.jr_front.specs.Compiling.{exact_rules, BreaksExact, KeepsExact}
+use Rattle.jr_front.specs.Refusing.{IsFirstBreak}
+use Rattle.jr_front.specs.Tested.{IsTestableView, AreFaultsIn, HasNoTopFault}
 use Rattle.jr_front.specs.Viewed.{IsViewOf, HasTablesOfRows}
 use Rattle.jr_front.specs.declared.workspace.Workspace.{Workspace}
-use Rattle.jr_front.proofs.Kept.{none_broken}
+use Rattle.jr_front.proofs.Kept.{is_found, is_right}
+use Rattle.jr_front.proofs.Listed.{HasFault, none_in}
+use Rattle.jr_front.proofs.Refused.{first_break}
 use Rattle.jr_front.proofs.Viewed.{seen_view, whole_view}
 
 -- ---- a bound program
@@ -107,17 +119,44 @@ module _ (w : Workspace) (view : View) (bound : IsBoundIn w) (of : IsViewOf (row
           valued = view_variables;
         }
 
-    pub kept_view : AllFound (rows_of view) (table_of view) → HasNoTopClash w → (IsTestableView view → HasNoFault view) → KeepsExact (rows_in w) (table_in w)
+    bound_so : IsBound (rows_of view) (table_of view)
+    bound_so = seen_so IsBound bound.binding.binding.is_binding.bound
+
+    typable_so : IsTypable (rows_of view) (table_of view)
+    typable_so = seen_so IsTypable (typable w bound)
+
+    past_so : (o : ℕ) → length (rows_of view) ≤ o → table_of view o ≡ Unbound
+    past_so = seen_so (λ r x. (o : ℕ) → length r ≤ o → x o ≡ Unbound) (past w bound)
+
+    local_so : IsLocal (rows_of view)
+    local_so = (seen_view w view bound of).seen.placed.local
+
+    module _ (tops : HasNoTopFault (rows_in w)) (faults : List Fault) (all : AreFaultsIn view faults) where
+      tops_so : HasNoTopFault (rows_of view)
+      tops_so = subst HasNoTopFault (sym of.rows_are) tops
+
+      found_so : (k n : ℕ) → BreaksExact (rows_of view) (table_of view) k n → HasFault faults k n
+      found_so = is_found view testable_view local_so typable_so past_so view_values view_types tops_so faults all
+
+      right_so : AllFound (rows_of view) (table_of view) → (fault : Fault) → Contains faults fault → has exact_rules (number_of fault.rule) ≡ true → BreaksExact (rows_of view) (table_of view) (number_of fault.rule) fault.row
+      right_so found = is_right view testable_view local_so typable_so past_so view_values view_types tops_so faults all bound_so found
+
+      -- the first fault that is found is the first that is broken
+      pub broken_view : (m : Marks) (best : Rule × Place) → m.rows.now ≡ rows_in w → AllFound (rows_of view) (table_of view) → IsFirstBroken m faults best → IsFirstBreak m (table_in w) best.0 best.1
+      broken_view m best same found first = first_break m (table_in w) faults best
+          (subst (λ r. (fault : Fault) → Contains faults fault → has exact_rules (number_of fault.rule) ≡ true → BreaksExact r (table_in w) (number_of fault.rule) fault.row) (sym same)
+          (told_so (λ r x. (fault : Fault) → Contains faults fault → has exact_rules (number_of fault.rule) ≡ true → BreaksExact r x (number_of fault.rule) fault.row) (right_so found)))
+          (subst (λ r. (k n : ℕ) → BreaksExact r (table_in w) k n → HasFault faults k n) (sym same) (told_so (λ r x. (k n : ℕ) → BreaksExact r x k n → HasFault faults k n) found_so)) first
+
+    pub kept_view : AllFound (rows_of view) (table_of view) → HasNoTopFault (rows_in w) → (IsTestableView view → AreFaultsIn view []) → KeepsExact (rows_in w) (table_in w)
     kept_view found tops none = record {
       binding = bound.binding.binding.is_binding;
       found = told_so AllFound found;
-      kept = told_so (λ r x. (rule place : ℕ) → BreaksExact r x rule place → ⊥)
-          (none_broken view (seen_view w view bound of).seen.placed.local (seen_so IsTypable (typable w bound)) (seen_so (λ r x. (o : ℕ) → length r ≤ o → x o ≡ Unbound) (past w bound)) view_values view_types
-          (subst HasNoTopFault (sym of.rows_are) (tops.none bound.binding.binding.under.seen.placed)) (none testable_view));
+      kept = told_so (λ r x. (rule place : ℕ) → BreaksExact r x rule place → ⊥) (λ k n b. none_in k n (found_so tops [] (none testable_view) k n b));
     }
 
 -- the same, as the rows and the places of the program are read
 pub kept_so : (w : Workspace) (view : View) (marked rows : Rows) → IsViewOf (rows_in w) w.places.value w.scopes.value w.bound.value view → marked ≡ rows_in w → AllFound marked (table_of view)
-    → HasNoTopClash w → (IsTestableView view → HasNoFault view) → rows_in w ≡ rows → (BeginsWithLang rows → IsBoundIn w) → BeginsWithLang rows → KeepsExact (rows_in w) (table_in w)
+    → HasNoTopFault rows → (IsTestableView view → AreFaultsIn view []) → rows_in w ≡ rows → (BeginsWithLang rows → IsBoundIn w) → BeginsWithLang rows → KeepsExact (rows_in w) (table_in w)
 kept_so w view marked rows of same found tops none are bound begins =
-    kept_view w view (bound begins) of (subst BeginsWithLang (sym are) begins) (subst (λ r. AllFound r (table_of view)) (same ∙ sym of.rows_are) found) tops none
+    kept_view w view (bound begins) of (subst BeginsWithLang (sym are) begins) (subst (λ r. AllFound r (table_of view)) (same ∙ sym of.rows_are) found) (subst HasNoTopFault (sym are) tops) none

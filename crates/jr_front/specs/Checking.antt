@@ -1,4 +1,4 @@
--- What is said of files: that their program is found, or the first reason why there is none, or that it breaks a rule of the language.
+-- What is said of files: that their program is found, or the first reason why there is none, or why it does not compile.
 use Rattle.std.specs.Prelude.{Result, Ok, Err}
 use Rattle.jr_base.specs.Files.{FileMap}
 use Rattle.jr_defs.specs.declared.program.Program.{Program}
@@ -7,6 +7,7 @@ use Rattle.jr_read.specs.Reading.{ReadsAs}
 use Rattle.jr_read.specs.declared.fault.ReadFault.{ReadFault}
 use Rattle.jr_read.specs.declared.fault.ReadFault.TheVariants as unread
 use Rattle.jr_front.specs.Compiling.{CompilesExactly}
+use Rattle.jr_front.specs.Refusing.{IsRefusal}
 use Rattle.jr_front.specs.declared.fault.FrontFault.{FrontFault}
 use Rattle.jr_front.specs.declared.fault.FrontFault.TheVariants as fault
 use Rattle.jr_front.specs.declared.workspace.Workspace.{Workspace}
@@ -18,20 +19,10 @@ fault_of (unread.Lex cu why) = fault.Lex cu why
 fault_of (unread.Parse cu why at) = fault.Parse why (record { cu = cu; at = at })
 fault_of unread.OutOfMemory = fault.OutOfMemory
 
--- a reason that a program gives which was read
-abbrev pub IsOfPrograms : FrontFault → Type 0
-IsOfPrograms (fault.PathMismatch cu) = Unit {0}
-IsOfPrograms (fault.Duplicate place) = Unit {0}
-IsOfPrograms (fault.Cycle place) = Unit {0}
-IsOfPrograms (fault.Unbound place) = Unit {0}
-IsOfPrograms (fault.Broken rule place) = Unit {0}
-IsOfPrograms fault.OutOfMemory = Unit {0}
-IsOfPrograms other = ⊥
-
--- what is said of the files: those that are accepted are a program, which compiles by the rules that are tested exactly
+-- what is said of the files: those that are accepted are a program, which compiles by the rules that are tested exactly; those that are refused are no program, or one of which the first cause holds
 pub data CheckedAs (found : FileMap) : Result (Unit {0}) FrontFault → Type 0 where
   accepted : {program : Program} {table : Table} → ReadsAs found (Ok program) → CompilesExactly found program table → CheckedAs found (Ok tt)
-  refused : {program : Program} {why : FrontFault} → ReadsAs found (Ok program) → IsOfPrograms why → CheckedAs found (Err why)
+  refused : {program : Program} {why : FrontFault} → ReadsAs found (Ok program) → IsRefusal program why → CheckedAs found (Err why)
   not_read : {why : ReadFault} → ReadsAs found (Err why) → CheckedAs found (Err (fault_of why))
 
 -- what is found, without its tables

@@ -6,3 +6,5 @@ pub mod Checking
 pub mod Placed
 pub mod Unbound
 pub mod Broken
+pub mod Refusing
+pub mod Reasons

@@ -1,5 +1,5 @@
 // Whether files compile, and their tables where they do.
-ghost use Rattle.std.specs.Prelude.{◌≡◌, IfErr, IfOk, OnOk, Ok, [], map};
+ghost use Rattle.std.specs.Prelude.{◌≡◌, ◌⊎◌, IfErr, IfOk, OnOk, Ok, [], map};
 ghost use Rattle.std.specs.List.{AllByRecursion};
 ghost use Rattle.jr_tree.specs.Shape.{IsShaped};
 ghost use Rattle.jr_defs.specs.Compiling.{AllFound};
@@ -13,31 +13,29 @@ ghost use Rattle.jr_lookup.specs.Scopes.{AreScopes, AreTops};
 ghost use Rattle.jr_bind.specs.Confirmed.{IsProgramOf, IsBindingOf};
 ghost use Rattle.jr_prelude.specs.Begins.{BeginsWithLang};
 ghost use Rattle.jr_front.specs.Bound.{IsBoundIn, rows_in, table_in};
-ghost use Rattle.jr_front.specs.Checking.{CheckedAs, IsOfPrograms, forgotten};
+ghost use Rattle.jr_front.specs.Checking.{CheckedAs, forgotten};
 ghost use Rattle.jr_front.specs.Compiling.{KeepsExact, CompilesExactly};
-ghost use Rattle.jr_front.specs.Tested.{IsTestableView, HasNoNameFault, HasNoTopFault, HasNoTopClash, HasNoMemberFault, HasNoTypeFault, HasNoFlowFault, HasNoFault};
+ghost use Rattle.jr_front.specs.Reasons.{IsToldAs, IsPathReason, IsNameReason, IsCycleReason, IsTableReason, IsRuleReason};
+ghost use Rattle.jr_front.specs.Refusing.{IsRefusal};
+ghost use Rattle.jr_front.specs.Tested.{IsTestableView, AreClashes, AreFaultsIn, HasNoTopFault};
 
 use crate::broken::first_broken;
 use crate::fault::{FrontFault, unread};
-use crate::modifiers::modifier_faults;
+use crate::found::{faults_of, name_clashes};
 use crate::placed::first_misplaced;
 use crate::unbound::first_unbound;
-use crate::workspace::Workspace;
-use jr_assign_faults::assign_faults;
+use crate::workspace::{Workspace, marks_of};
 use jr_base::{Files, OutOfMemory};
 use jr_bind::{Binding, Bound, bind};
 use jr_defs::{Program, Referent};
-use jr_flow_faults::flow_faults;
+use jr_headed::are_packages_named;
 use jr_index::Index;
 use jr_lookup::Scopes;
 use jr_marks::Marks;
-use jr_member_faults::{member_faults, top_type_faults};
-use jr_name_faults::name_faults;
+use jr_ordered::is_ordered;
 use jr_places::Places;
 use jr_read::read;
-use jr_rule::Fault;
 use jr_tree::Row;
-use jr_type_faults::type_faults;
 use jr_view::View;
 use std::alloc::Global;
 
@@ -59,72 +57,25 @@ fn index_of(alloc: Global, program: &Program) -> Result<Box<Index>, OutOfMemory>
     boxed(alloc, Index::build(alloc, program))
 }
 
-// The rules on names that the program breaks.
-fn name_faults_of(alloc: Global, view: &View) -> Result<Vec<Fault>, OutOfMemory>
-    ensures { IsTestableView view.now → IfOk result (λ faults. faults.items ≡ [] → HasNoNameFault view.now) }
+// The reason, where the marks by which its place is told are in order.
+fn told_by(marks: &Marks, why: FrontFault) -> FrontFault
+    ensures { IsToldAs marks.now why result }
 {
-    let mut faults = Vec::new(alloc);
-    name_faults(alloc, view, &mut faults)?;
-    Ok(faults)
-}
-
-// The rules on flow that it breaks.
-fn flow_faults_of(alloc: Global, view: &View) -> Result<Vec<Fault>, OutOfMemory>
-    ensures { IsTestableView view.now → IfOk result (λ faults. faults.items ≡ [] → HasNoFlowFault view.now) }
-{
-    let mut faults = Vec::new(alloc);
-    flow_faults(alloc, view, &mut faults)?;
-    Ok(faults)
-}
-
-// The other rules that it breaks. Those on types come last, which add faults of their own rules alone.
-fn other_faults_of(alloc: Global, marks: &Marks, view: &View) -> Result<Vec<Fault>, OutOfMemory>
-    ensures members { IsTestableView view.now → IfOk result (λ faults. faults.items ≡ [] → HasNoMemberFault view.now) }
-    ensures types { IsTestableView view.now → IfOk result (λ faults. faults.items ≡ [] → HasNoTypeFault view.now) }
-{
-    let mut faults = Vec::new(alloc);
-    modifier_faults(marks, &mut faults)?;
-    assign_faults(alloc, view, &mut faults)?;
-    member_faults(alloc, view, &mut faults)?;
-    type_faults(alloc, *view, &mut faults)?;
-    Ok(faults)
-}
-
-// The rules that the program breaks.
-#[tactic(auto, using(crate::proofs::Faultless::no_faults))]
-fn faults_of(alloc: Global, marks: &Marks, view: &View) -> Result<Vec<Fault>, OutOfMemory>
-    ensures { IsTestableView view.now → IfOk result (λ faults. faults.items ≡ [] → HasNoFault view.now) }
-{
-    let mut faults = other_faults_of(alloc, marks, view)?;
-    let mut of_flow = flow_faults_of(alloc, view)?;
-    faults.append(&mut of_flow)?;
-    let mut of_names = name_faults_of(alloc, view)?;
-    faults.append(&mut of_names)?;
-    Ok(faults)
-}
-
-// The top-level types that have the name of another in their package, or of a subpackage.
-fn name_clashes(alloc: Global, rows: &[Row], places: &Places) -> Result<Vec<Fault>, OutOfMemory>
-    ensures { ArePlaced rows.now places.now → IfOk result (λ faults. faults.items ≡ [] → HasNoTopFault rows.now) }
-{
-    let mut faults = Vec::new(alloc);
-    top_type_faults(alloc, rows, places, &mut faults)?;
-    Ok(faults)
+    if is_ordered(marks) {
+        why
+    } else {
+        FrontFault::OutOfMemory
+    }
 }
 
 // That no two top-level types have one name, and none that of a package (JLS 7.1, 7.6).
-fn judge_names(
-    alloc: Global,
-    rows: &[Row],
-    marks: &Marks,
-    places: &Places,
-) -> Result<(), FrontFault>
-    ensures names { ArePlaced rows.now places.now → OnOk result (HasNoTopFault rows.now) }
-    ensures err { IfErr result IsOfPrograms }
+fn judge_names(alloc: Global, marks: &Marks, places: &Places) -> Result<(), FrontFault>
+    ensures names { ArePlaced marks.now.rows.now places.now → OnOk result (HasNoTopFault marks.now.rows.now) }
+    ensures err { IsProgram marks.now.rows.now → ArePlaced marks.now.rows.now places.now → IfErr result (IsNameReason marks.now) }
 {
-    let faults = name_clashes(alloc, rows, places)?;
+    let faults = name_clashes(alloc, marks.rows, places)?;
     match first_broken(&faults, marks) {
-        Some((_, place)) => Err(FrontFault::Duplicate(place)),
+        Some((_, place)) => Err(told_by(marks, FrontFault::Duplicate(place))),
         None => Ok(()),
     }
 }
@@ -132,22 +83,22 @@ fn judge_names(
 // That all names have a declaration.
 fn judge_table(marks: &Marks, table: &[Referent]) -> Result<(), FrontFault>
     ensures found { OnOk result (AllFound marks.now.rows.now (entries table.now)) }
-    ensures err { IfErr result IsOfPrograms }
+    ensures err { IfErr result (IsTableReason marks.now (entries table.now)) }
 {
     match first_unbound(marks, table) {
-        Some(place) => Err(FrontFault::Unbound(place)),
+        Some(place) => Err(told_by(marks, FrontFault::Unbound(place))),
         None => Ok(()),
     }
 }
 
 // That no rule is broken.
 fn judge_rules(alloc: Global, marks: &Marks, view: &View) -> Result<(), FrontFault>
-    ensures kept { IsTestableView view.now → OnOk result (HasNoFault view.now) }
-    ensures err { IfErr result IsOfPrograms }
+    ensures kept { IsTestableView view.now → OnOk result (AreFaultsIn view.now []) }
+    ensures err { IsTestableView view.now → IfErr result (IsRuleReason marks.now view.now) }
 {
     let faults = faults_of(alloc, marks, view)?;
     match first_broken(&faults, marks) {
-        Some((rule, place)) => Err(FrontFault::Broken(rule, place)),
+        Some((rule, place)) => Err(told_by(marks, FrontFault::Broken(rule, place))),
         None => Ok(()),
     }
 }
@@ -155,8 +106,8 @@ fn judge_rules(alloc: Global, marks: &Marks, view: &View) -> Result<(), FrontFau
 // That the program with this binding compiles.
 fn judge(alloc: Global, marks: &Marks, view: &View) -> Result<(), FrontFault>
     ensures found { OnOk result (AllFound marks.now.rows.now (entries view.now.sight.world.under.table.now)) }
-    ensures kept { IsTestableView view.now → OnOk result (HasNoFault view.now) }
-    ensures err { IfErr result IsOfPrograms }
+    ensures kept { IsTestableView view.now → OnOk result (AreFaultsIn view.now []) }
+    ensures err { IsTestableView view.now → IfErr result (λ why. IsTableReason marks.now (entries view.now.sight.world.under.table.now) why ⊎ (AllFound marks.now.rows.now (entries view.now.sight.world.under.table.now) × IsRuleReason marks.now view.now why)) }
 {
     judge_table(marks, view.sight.world.under.table)?;
     judge_rules(alloc, marks, view)
@@ -165,7 +116,7 @@ fn judge(alloc: Global, marks: &Marks, view: &View) -> Result<(), FrontFault>
 // That each unit stands at its place.
 fn judge_paths(program: &Program) -> Result<(), FrontFault>
     ensures placed { OnOk result (IsWellPlaced program.now) }
-    ensures err { IfErr result IsOfPrograms }
+    ensures err { IfErr result (IsPathReason program.now) }
 {
     match first_misplaced(program) {
         Some(cu) => Err(FrontFault::PathMismatch(cu)),
@@ -173,14 +124,17 @@ fn judge_paths(program: &Program) -> Result<(), FrontFault>
     }
 }
 
-// The places of rows, where no top-level type has the name of another.
-fn places_of(alloc: Global, rows: &[Row], marks: &Marks) -> Result<Box<Places>, FrontFault>
-    ensures tables { IfOk result (λ places. ArePlaces rows.now places.value) }
-    ensures names { IfOk result (λ places. ArePlaced rows.now places.value → HasNoTopFault rows.now) }
-    ensures err { IfErr result IsOfPrograms }
+// The places of the rows of a program, where no top-level type has the name of another.
+fn places_of(alloc: Global, marks: &Marks) -> Result<Box<Places>, FrontFault>
+    ensures tables { IfOk result (λ places. ArePlaces marks.now.rows.now places.value) }
+    ensures names { IsProgram marks.now.rows.now → OnOk result (HasNoTopFault marks.now.rows.now) }
+    ensures err { IsProgram marks.now.rows.now → IfErr result (IsNameReason marks.now) }
 {
-    let places = boxed(alloc, Places::of(alloc, rows))?;
-    judge_names(alloc, rows, marks, &places)?;
+    if !are_packages_named(marks.rows) {
+        return Err(FrontFault::OutOfMemory);
+    }
+    let places = boxed(alloc, Places::of(alloc, marks.rows))?;
+    judge_names(alloc, marks, &places)?;
     Ok(places)
 }
 
@@ -195,17 +149,16 @@ fn scopes_of(alloc: Global, rows: &[Row], places: &Places) -> Result<Box<Scopes>
 // The binding, where no type is its own supertype.
 fn bound_of(
     alloc: Global,
-    rows: &[Row],
     marks: &Marks,
     places: &Places,
     scopes: &Scopes,
 ) -> Result<Box<Bound>, FrontFault>
-    ensures binding { IsProgramOf rows.now places.now scopes.now → IfOk result (λ bound. IsBindingOf rows.now places.now bound.value) }
-    ensures err { IfErr result IsOfPrograms }
+    ensures binding { IsProgramOf marks.now.rows.now places.now scopes.now → IfOk result (λ bound. IsBindingOf marks.now.rows.now places.now bound.value) }
+    ensures err { IsProgramOf marks.now.rows.now places.now scopes.now → IfErr result (IsCycleReason marks.now) }
 {
-    match bind(alloc, rows, places, scopes)? {
+    match bind(alloc, marks.rows, places, scopes)? {
         Binding::Bound(bound) => Ok(bound),
-        Binding::Cycle(row) => Err(FrontFault::Cycle(marks.name_place(row))),
+        Binding::Cycle(row) => Err(told_by(marks, FrontFault::Cycle(marks.name_place(row)))),
     }
 }
 
@@ -218,13 +171,13 @@ fn bound_program(
     ensures same { IfOk result (λ workspace. workspace.program ≡ program) }
     ensures rows { IfOk result (λ workspace. workspace.index.value ≡ index.value) }
     ensures bound { IsProgram index.value → BeginsWithLang index.value → IfOk result IsBoundIn }
-    ensures names { IfOk result HasNoTopClash }
-    ensures err { IfErr result IsOfPrograms }
+    ensures names { IsProgram index.value → OnOk result (HasNoTopFault index.value) }
+    ensures err { IsProgram index.value → BeginsWithLang index.value → index.value ≡ rows_of program → IsWellPlaced program → IfErr result (IsRefusal program) }
 {
-    let places = places_of(alloc, index.rows(), &Marks::of(&program, &index))?;
-    let scopes = scopes_of(alloc, index.rows(), &places)?;
-    let marks = Marks::of(&program, &index);
-    let bound = bound_of(alloc, index.rows(), &marks, &places, &scopes)?;
+    let marks = marks_of(&program, &index);
+    let places = places_of(alloc, &marks)?;
+    let scopes = scopes_of(alloc, marks.rows, &places)?;
+    let bound = bound_of(alloc, &marks, &places, &scopes)?;
     Ok(Workspace {
         program,
         index,
@@ -240,8 +193,8 @@ fn tables_of(alloc: Global, program: Program) -> Result<Workspace, FrontFault>
     ensures same { IfOk result (λ workspace. workspace.program ≡ program) }
     ensures rows { IfOk result (λ workspace. workspace.index.value ≡ rows_of program) }
     ensures bound { BeginsWithLang (rows_of program) → IfOk result IsBoundIn }
-    ensures names { IfOk result HasNoTopClash }
-    ensures err { IfErr result IsOfPrograms }
+    ensures names { OnOk result (HasNoTopFault (rows_of program)) }
+    ensures err { BeginsWithLang (rows_of program) → IsWellPlaced program → IfErr result (IsRefusal program) }
 {
     let index = index_of(alloc, &program)?;
     bound_program(alloc, program, index)
@@ -255,7 +208,7 @@ pub fn open_program(alloc: Global, program: Program) -> Result<Workspace, FrontF
     ensures bound { BeginsWithLang (rows_of program) → IfOk result IsBoundIn }
     ensures placed { OnOk result (IsWellPlaced program) }
     ensures kept { BeginsWithLang (rows_of program) → IfOk result (λ workspace. KeepsExact (rows_in workspace) (table_in workspace)) }
-    ensures err { IfErr result IsOfPrograms }
+    ensures err { BeginsWithLang (rows_of program) → IfErr result (IsRefusal program) }
 {
     judge_paths(&program)?;
     let workspace = tables_of(alloc, program)?;
@@ -264,7 +217,7 @@ pub fn open_program(alloc: Global, program: Program) -> Result<Workspace, FrontF
 }
 
 /// The program of the files with its tables, where they compile, and else the first reason why they do not.
-#[tactic(auto, using(crate::proofs::Reading::read_shaped, crate::proofs::Reading::read_begins, crate::proofs::Reading::opened, crate::proofs::Reading::opened_program, crate::proofs::Reading::compiled))]
+#[tactic(auto, using(crate::proofs::Reading::read_shaped, crate::proofs::Reading::read_begins, crate::proofs::Reading::opened_program, crate::proofs::Reading::compiled))]
 pub fn open_files(alloc: Global, files: &Files) -> Result<Workspace, FrontFault>
     ensures ok { IfOk result (λ workspace. ReadsAs files.now (Ok workspace.program)) }
     ensures rows { IfOk result (λ workspace. workspace.index.value ≡ rows_of workspace.program) }

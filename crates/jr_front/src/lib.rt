@@ -3,6 +3,7 @@
 
 mod broken;
 mod fault;
+mod found;
 mod front;
 mod law;
 mod modifiers;

@@ -32,12 +32,7 @@ impl Workspace {
         ensures rows { result.rows.now ≡ self.now.index.value }
         ensures starts { result.starts.now ≡ unit_rows self.now.index.value (length self.now.index.value) }
     {
-        Marks {
-            units: self.program.units.as_slice(),
-            rows: self.index.rows(),
-            marks: self.index.marks(),
-            starts: self.index.units(),
-        }
+        marks_of(&self.program, &self.index)
     }
 
     /// The tables.
@@ -46,6 +41,20 @@ impl Workspace {
         ensures all { IsViewOf self.now.index.value self.now.places.value self.now.scopes.value self.now.bound.value result }
     {
         view_of(self.index.rows(), &self.places, &self.scopes, &self.bound)
+    }
+}
+
+/// Where the rows of a program stand in texts, as its index says.
+pub fn marks_of<'a>(program: &'a Program, index: &'a Index) -> Marks<'a>
+    ensures units { result.units.now ≡ program.now.units }
+    ensures rows { result.rows.now ≡ index.now }
+    ensures starts { result.starts.now ≡ unit_rows index.now (length index.now) }
+{
+    Marks {
+        units: program.units.as_slice(),
+        rows: index.rows(),
+        marks: index.marks(),
+        starts: index.units(),
     }
 }
 

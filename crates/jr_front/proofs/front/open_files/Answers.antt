@@ -1,7 +1,7 @@
 use Rattle.std.proofs.Common.{Err, sym, subst}
 use Rattle.jr_front.specs.Checking.{CheckedAs, not_read}
 use Rattle.jr_front.specs.declared.fault.FrontFault.{FrontFault}
-use Rattle.jr_front.proofs.Reading.{read_begins, compiled}
+use Rattle.jr_front.proofs.Reading.{read_begins, compiled, opened}
 use Rattle.jr_front.proofs.front.open_files.Goals as goal
 
 pub returns-in-Ok-clause-compiles : goal.returns-in-Ok-clause-compiles
@@ -10,3 +10,8 @@ returns-in-Ok-clause-compiles c = compiled c.args.files.now c.in-Ok.program c.op
 
 pub returns-in-Err-clause-checked : goal.returns-in-Err-clause-checked
 returns-in-Err-clause-checked c = subst (λ (why : FrontFault). CheckedAs c.args.files.now (Err why)) (sym c.unread.ensures) (not_read c.in-Err.ensures)
+
+pub returns-in-Ok-clause-checked : goal.returns-in-Ok-clause-checked
+returns-in-Ok-clause-checked c =
+    let begins = read_begins c.args.files.now c.in-Ok.program c.in-Ok.ensures in
+    opened c.args.files.now c.in-Ok.program c.open_program.result c.in-Ok.ensures (c.open_program.ensures.err begins) c.open_program.ensures.placed c.open_program.ensures.rows (c.open_program.ensures.kept begins)

@@ -1,0 +1,138 @@
+-- What the makers of faults add, one after the other, is what is found.
+use Rattle.std.proofs.Common.{◌≡◌, refl, subst, ℕ, Bool, true, false, ◌||◌, List, []}
+use Rattle.std.specs.List.{AllByRecursion}
+use Rattle.std.proofs.lemmas.Bool.{or_parts}
+use Rattle.jr_tree.specs.Local.{IsLocal}
+use Rattle.jr_rule.specs.declared.Fault.{Fault}
+use Rattle.jr_rule.specs.declared.Rule.{Rule}
+use Rattle.jr_rule.specs.declared.Rule.TheVariants as rule
+use Rattle.jr_rule.specs.Faults.{AreFaultsOf}
+use Rattle.jr_faults.specs.Added.{AreOnly}
+use Rattle.jr_faults.proofs.Told.{none_then, then_none}
+use Rattle.jr_view.specs.declared.View.{View}
+use Rattle.jr_name_faults.specs.Faults as of_names
+use Rattle.jr_name_faults.specs.Views as names
+use Rattle.jr_member_faults.specs.Faults.{AreMemberFaults, is_on_members}
+use Rattle.jr_type_faults.specs.Faults.{IsRightView, AreExactTypeFaults, AreOnlyOf, type_rules, exact_rules, is_among}
+use Rattle.jr_flow_faults.specs.Computed.{rows_in}
+use Rattle.jr_flow_faults.specs.Faults.{AreFlowFaults, is_of_flow}
+use Rattle.jr_front.specs.Tested.{is_between, IsTestableView, AreNameFaults, AreFaultsIn}
+use Rattle.jr_front.proofs.Numbers.{among_holds}
+
+-- the rules on modifiers and on assignment
+abbrev is_before : Rule → Bool
+is_before one = is_between 1 1 one || is_between 38 40 one
+
+-- what each maker adds
+pub record AreAdded (view : View) (a b c d e f : List Fault) : Type 0 where
+  pub modifiers : AreOnly (is_between 1 1) [] a
+  pub assigned : AreOnly (is_between 38 40) a b
+  pub members : AreMemberFaults view b c
+  pub only_members : AreOnly is_on_members b c
+  pub types : IsRightView view → AreExactTypeFaults view c d
+  pub only_types : AreOnlyOf type_rules c d
+  pub flow : IsLocal (rows_in view) → AreFlowFaults view d e
+  pub only_flow : AreOnly is_of_flow d e
+  pub local_names : names.IsPlacedView view → of_names.AreExactFaults view rule.LocalNames e f
+  pub labels : names.IsPlacedView view → of_names.AreExactFaults view rule.Labels e f
+  pub access : names.IsSeenView view → of_names.AreExactFaults view rule.Access e f
+  pub import_names : names.IsPlacedView view → of_names.AreExactFaults view rule.ImportNames e f
+  pub imported_types : names.IsPlacedView view → of_names.AreExactFaults view rule.ImportedTypes e f
+  pub static_imports : names.IsTabledView view → of_names.AreExactFaults view rule.StaticImports e f
+  pub only_names : of_names.AreOfNames e f
+
+-- a rule that is none of the other makers'
+abbrev is_no_member : Rule → Bool
+is_no_member one = is_before one || (is_among type_rules one || (is_of_flow one || of_names.is_of_names one))
+
+abbrev is_no_type : Rule → Bool
+is_no_type one = is_before one || (is_on_members one || (is_of_flow one || of_names.is_of_names one))
+
+abbrev is_no_flow : Rule → Bool
+is_no_flow one = is_before one || (is_on_members one || (is_among type_rules one || of_names.is_of_names one))
+
+abbrev is_no_name : Rule → Bool
+is_no_name one = is_before one || (is_on_members one || (is_among type_rules one || is_of_flow one))
+
+parts : (a b c d : Bool) → (a || (b || (c || d))) ≡ false → (a ≡ false) × (b ≡ false) × (c ≡ false) × (d ≡ false)
+parts a b c d e =
+    let first = or_parts a (b || (c || d)) e in
+    let second = or_parts b (c || d) first.1 in
+    let rest = or_parts c d second.1 in
+    (first.0, second.0, rest.0, rest.1)
+
+module _ {view : View} {a b c d e f : List Fault} (added : AreAdded view a b c d e f) where
+  none_before : (one : Rule) → is_before one ≡ false → AreFaultsOf one [] [] b
+  none_before one apart = let both = or_parts (is_between 1 1 one) (is_between 38 40 one) apart in none_then one (added.modifiers.others one both.0) (added.assigned.others one both.1)
+
+  of_members : {rows : List ℕ} (one : Rule) → is_no_member one ≡ false → AreFaultsOf one rows b c → AreFaultsOf one rows [] f
+  of_members one apart h = let each = parts (is_before one) (is_among type_rules one) (is_of_flow one) (of_names.is_of_names one) apart in
+      then_none one (then_none one (then_none one (none_then one (none_before one each.0) h) (added.only_types.others one each.1)) (added.only_flow.others one each.2)) (added.only_names.others one each.3)
+
+  of_types : {rows : List ℕ} (one : Rule) → is_no_type one ≡ false → AreFaultsOf one rows c d → AreFaultsOf one rows [] f
+  of_types one apart h = let each = parts (is_before one) (is_on_members one) (is_of_flow one) (of_names.is_of_names one) apart in
+      then_none one (then_none one (none_then one (none_then one (none_before one each.0) (added.only_members.others one each.1)) h) (added.only_flow.others one each.2)) (added.only_names.others one each.3)
+
+  of_flow : {rows : List ℕ} (one : Rule) → is_no_flow one ≡ false → AreFaultsOf one rows d e → AreFaultsOf one rows [] f
+  of_flow one apart h = let each = parts (is_before one) (is_on_members one) (is_among type_rules one) (of_names.is_of_names one) apart in
+      then_none one (none_then one (none_then one (none_then one (none_before one each.0) (added.only_members.others one each.1)) (added.only_types.others one each.2)) h) (added.only_names.others one each.3)
+
+  of_name : {rows : List ℕ} (one : Rule) → is_no_name one ≡ false → AreFaultsOf one rows e f → AreFaultsOf one rows [] f
+  of_name one apart h = let each = parts (is_before one) (is_on_members one) (is_among type_rules one) (is_of_flow one) apart in
+      none_then one (none_then one (none_then one (none_then one (none_before one each.0) (added.only_members.others one each.1)) (added.only_types.others one each.2)) (added.only_flow.others one each.3)) h
+
+  -- each exact rule on types is one of theirs alone
+  types_apart : AllByRecursion (λ one. is_no_type one ≡ false) exact_rules
+  types_apart = (refl, (refl, (refl, (refl, (refl, (refl, (refl, (refl, (refl, (refl, (refl, (refl, (refl, (refl, tt))))))))))))))
+
+  pub are_found : IsTestableView view → AreFaultsIn view f
+  are_found testable = record {
+    names = record {
+      local_names = of_name rule.LocalNames refl (added.local_names testable.placed);
+      labels = of_name rule.Labels refl (added.labels testable.placed);
+      import_names = of_name rule.ImportNames refl (added.import_names testable.placed);
+      imported_types = of_name rule.ImportedTypes refl (added.imported_types testable.placed);
+      static_imports = of_name rule.StaticImports refl (added.static_imports testable.tabled);
+      access = of_name rule.Access refl (added.access testable.seen);
+    };
+    members = record {
+      bodies = of_members rule.Bodies refl added.members.bodies;
+      statics = λ valued. of_members rule.InnerStatics refl (added.members.statics valued);
+      supertypes = of_members rule.Supertypes refl added.members.supertypes;
+      fields = λ named. of_members rule.FieldNames refl (added.members.fields named);
+      methods = λ named signed. of_members rule.MethodSignatures refl (added.members.methods named signed);
+      constructors = λ signed. of_members rule.ConstructorSignatures refl (added.members.constructors signed);
+      types = λ named. of_members rule.TypeNames refl (added.members.types named);
+    };
+    types = record { each = λ one is. of_types one (among_holds (λ other. is_no_type other ≡ false) exact_rules one types_apart is) ((added.types testable.right).each one is) };
+    flow = let told = added.flow testable.right.seen.seen.placed.local in record {
+      jumps = of_flow rule.Jump refl told.jumps;
+      unreached = of_flow rule.Unreachable refl told.unreached;
+      completing = of_flow rule.Completion refl told.completing;
+    };
+  }
+
+-- the same, as the steps of the code give it
+pub added_found : (view : View) (start a b c d e f : List Fault) → start ≡ [] → AreOnly (is_between 1 1) start a → AreOnly (is_between 38 40) a b → AreMemberFaults view b c → AreOnly is_on_members b c
+    → (IsRightView view → AreExactTypeFaults view c d) → AreOnlyOf type_rules c d → (IsLocal (rows_in view) → AreFlowFaults view d e) → AreOnly is_of_flow d e
+    → (names.IsPlacedView view → of_names.AreExactFaults view rule.LocalNames e f) → (names.IsPlacedView view → of_names.AreExactFaults view rule.Labels e f) → (names.IsSeenView view → of_names.AreExactFaults view rule.Access e f)
+    → (names.IsPlacedView view → of_names.AreExactFaults view rule.ImportNames e f) → (names.IsPlacedView view → of_names.AreExactFaults view rule.ImportedTypes e f)
+    → (names.IsTabledView view → of_names.AreExactFaults view rule.StaticImports e f) → of_names.AreOfNames e f → IsTestableView view → AreFaultsIn view f
+added_found view start a b c d e f none modifiers assigned members only_members types only_types flow only_flow local_names labels access import_names imported_types static_imports only_names =
+    are_found (record {
+      modifiers = subst (λ (l : List Fault). AreOnly (is_between 1 1) l a) none modifiers;
+      assigned = assigned;
+      members = members;
+      only_members = only_members;
+      types = types;
+      only_types = only_types;
+      flow = flow;
+      only_flow = only_flow;
+      local_names = local_names;
+      labels = labels;
+      access = access;
+      import_names = import_names;
+      imported_types = imported_types;
+      static_imports = static_imports;
+      only_names = only_names;
+    })

@@ -1,0 +1,79 @@
+-- What the tests of a program say where they fail is the first cause.
+use Rattle.std.proofs.Common.{◌≡◌, ◌⊎◌, refl, sym, ◌∙◌, ap, subst, inl, inr, ℕ, List, length, Result, Ok, Err, IfErr}
+use Rattle.jr_base.specs.declared.token.Place.{Place}
+use Rattle.jr_tree.specs.Rows.{Rows}
+use Rattle.jr_defs.specs.declared.program.Program.{Program}
+use Rattle.jr_defs.specs.declared.referent.Referent.{Referent}
+use Rattle.jr_defs.specs.Binding.{IsBinding, IsFirstOnCycle}
+use Rattle.jr_defs.specs.Compiling.{AllFound}
+use Rattle.jr_defs.specs.Program.{IsWellPlaced, rows_of}
+use Rattle.jr_defs.specs.Referents.{Table, entries}
+use Rattle.jr_rule.specs.declared.Rule.{Rule}
+use Rattle.jr_index.specs.NodeRows.{unit_rows}
+use Rattle.jr_marks.specs.Places.{IsOrdered}
+use Rattle.jr_marks.specs.declared.marks.Marks.{Marks}
+use Rattle.jr_prelude.specs.Begins.{BeginsWithLang}
+use Rattle.jr_view.specs.declared.View.{View}
+use Rattle.jr_front.specs.Bound.{rows_in, table_in, IsBoundIn}
+use Rattle.jr_front.specs.Reasons.{IsPathReason, IsNameReason, IsCycleReason, IsTableReason, IsRuleReason}
+use Rattle.jr_front.specs.Refusing.{AreMarksOf, IsNamed, IsBoundBy, IsFirstBreak, IsRefusal, misplaced, named_twice, on_cycle, lost, broken, no_memory}
+use Rattle.jr_front.specs.Tested.{IsTestableView, HasNoTopFault}
+use Rattle.jr_front.specs.Viewed.{IsViewOf}
+use Rattle.jr_front.specs.declared.fault.FrontFault.{FrontFault}
+use Rattle.jr_front.specs.declared.fault.FrontFault.TheVariants as fault
+use Rattle.jr_front.specs.declared.workspace.Workspace.{Workspace}
+use Rattle.jr_front.proofs.Testable.{broken_view}
+
+-- the marks that are made by an index of the rows of the program
+pub record AreMade (program : Program) (m : Marks) : Type 0 where
+  pub units : m.units.now ≡ program.units
+  pub rows : m.rows.now ≡ rows_of program
+  pub starts : m.starts.now ≡ unit_rows (rows_of program) (length (rows_of program))
+
+pub made_by : (program : Program) (index : Rows) (m : Marks) → index ≡ rows_of program → m.units.now ≡ program.units → m.rows.now ≡ index → m.starts.now ≡ unit_rows index (length index) → AreMade program m
+made_by program index m same units rows starts = record { units = units; rows = rows ∙ same; starts = starts ∙ ap (λ r. unit_rows r (length r)) same }
+
+pub paths_refused : (program : Program) (why : FrontFault) → IsPathReason program why → IsRefusal program why
+paths_refused program (fault.PathMismatch cu) h = misplaced h
+paths_refused program fault.OutOfMemory h = no_memory
+paths_refused program _ h = absurd h
+
+module _ (program : Program) (m : Marks) (made : AreMade program m) where
+  ordered_marks : IsOrdered m → AreMarksOf program m
+  ordered_marks ordered = record { units = made.units; rows = made.rows; starts = made.starts; ordered = ordered }
+
+  pub names_refused : IsWellPlaced program → (why : FrontFault) → IsNameReason m why → IsRefusal program why
+  names_refused placed (fault.Duplicate place) h = named_twice placed (ordered_marks h.0) h.1
+  names_refused placed fault.OutOfMemory h = no_memory
+  names_refused placed _ h = absurd h
+
+  pub cycle_refused : IsNamed program → (why : FrontFault) → IsCycleReason m why → IsRefusal program why
+  cycle_refused named (fault.Cycle place) h = subst (λ x. IsRefusal program (fault.Cycle x)) (sym h.1.at) (on_cycle named (ordered_marks h.0) (subst (λ r. IsFirstOnCycle r h.1.row) made.rows h.1.cycle))
+  cycle_refused named fault.OutOfMemory h = no_memory
+  cycle_refused named _ h = absurd h
+
+  pub table_refused : (t : Table) → IsBoundBy program t → (why : FrontFault) → IsTableReason m t why → IsRefusal program why
+  table_refused t bound (fault.Unbound place) h = lost bound (ordered_marks h.0) h.1
+  table_refused t bound fault.OutOfMemory h = no_memory
+  table_refused t bound _ h = absurd h
+
+  module _ (w : Workspace) (view : View) (bound : IsBoundIn w) (of : IsViewOf (rows_in w) w.places.value w.scopes.value w.bound.value view) (begins : BeginsWithLang (rows_in w)) (same : rows_in w ≡ rows_of program)
+      (placed : IsWellPlaced program) (tops : HasNoTopFault (rows_of program)) where
+    abbrev viewed : Table
+    viewed = entries view.sight.world.under.table.now
+
+    bound_by : IsBoundBy program viewed
+    bound_by = record { named = record { placed = placed; names = tops }; binding = subst (λ r. IsBinding r viewed) same (subst (λ (x : List Referent). IsBinding (rows_in w) (entries x)) (sym of.table_is) bound.binding.binding.is_binding) }
+
+    rules_refused : AllFound m.rows.now viewed → (why : FrontFault) → IsRuleReason m view why → IsRefusal program why
+    rules_refused found (fault.Broken rule place) h =
+        let marked : m.rows.now ≡ rows_in w = made.rows ∙ sym same in
+        let inside = subst (λ r. AllFound r viewed) (marked ∙ sym of.rows_are) found in
+        let first = broken_view w view bound of begins (subst HasNoTopFault (sym same) tops) h.1.faults h.1.found m (rule, place) marked inside h.1.first in
+        broken bound_by (subst (λ r. AllFound r viewed) made.rows found) (ordered_marks h.0) (subst (λ (x : List Referent). IsFirstBreak m (entries x) rule place) (sym of.table_is) first)
+    rules_refused found fault.OutOfMemory h = no_memory
+    rules_refused found _ h = absurd h
+
+    pub judged_refused : (why : FrontFault) → IsTableReason m viewed why ⊎ (AllFound m.rows.now viewed × IsRuleReason m view why) → IsRefusal program why
+    judged_refused why (inl h) = table_refused viewed bound_by why h
+    judged_refused why (inr h) = rules_refused h.0 why h.1
