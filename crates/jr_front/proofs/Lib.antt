@@ -7,3 +7,5 @@ pub mod Reading
 pub mod Placing
 pub mod Losing
 pub mod Breaking
+pub mod Repeating
+pub mod Allowing

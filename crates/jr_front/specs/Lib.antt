@@ -6,3 +6,4 @@ pub mod Checking
 pub mod Placed
 pub mod Unbound
 pub mod Broken
+pub mod Modifiers
