@@ -1,18 +1,23 @@
 -- The tests of modifiers tell what the definitions say.
-use Rattle.std.proofs.Common.{◌≡◌, ◌⊎◌, inl, inr, ⊎_elim, ℕ, Bool, true, Decides}
+use Rattle.std.proofs.Common.{◌≡◌, ◌⊎◌, inl, inr, ⊎_elim, sym, ◌∙◌, ap, ℕ, Bool, true, [], length, Decides}
+use Rattle.std.proofs.lemmas.Bool.{false≢true}
 use Rattle.jr_tree.specs.declared.label.Modifiers.{Modifiers}
 use Rattle.jr_tree.specs.declared.label.Role.{Role}
 use Rattle.jr_tree.specs.declared.label.Role.TheVariants as role
 use Rattle.jr_tree.specs.declared.tree.Modifier.{Modifier}
 use Rattle.jr_tree.specs.declared.tree.Modifier.TheVariants as modifier
+use Rattle.jr_tree.specs.Labels.{role_of}
 use Rattle.jr_tree.specs.Rows.{Rows, label, role_at}
 use Rattle.jr_defs.specs.Declarations.{IsType, IsClass}
 use Rattle.jr_defs.specs.Enclosing.{IsTopLevel}
 use Rattle.jr_defs.specs.Modifiers.{written}
+use Rattle.jr_plain.specs.Search.{has}
+use Rattle.jr_plain.proofs.Bounds.{bounded}
 use Rattle.jr_plain.proofs.Declared.{type_tells, class_tells}
 use Rattle.jr_plain.proofs.Enclosed.{top_level_tells}
 use Rattle.jr_plain.proofs.Modified.{in_interface_tells}
 use Rattle.jr_plain.proofs.Same.{role_tells}
+use Rattle.jr_plain.proofs.Searches.{such}
 use Rattle.jr_plain.proofs.Tests.{itself, always, never, both, either, opposite, like}
 use Rattle.jr_marks.specs.declared.marks.Marks.{Marks}
 use Rattle.jr_front.specs.Modifiers as tell
@@ -154,3 +159,9 @@ module _ (p : Rows) (d : ℕ) where
 
 pub modifiers_told : (m : Marks) (d : ℕ) → Decides (tell.breaks_modifiers m d) (BreaksModifiers m d)
 modifiers_told m d = like (both (modifiers_tell (role_at m.rows.now d)) (either (wrong_tells m.rows.now d) (repeats_tells m d))) (λ h. record { modified = h.0; wrong = h.1 }) (λ h. (h.modified, h.wrong))
+
+-- where no row passes the test, none breaks the rule
+pub modifiers_kept : (m : Marks) → tell.modifier_rows m ≡ [] → (d : ℕ) → BreaksModifiers m d → ⊥
+modifiers_kept m none d h =
+    let inside = bounded (λ l. HasModifiers (role_of l)) (λ h. h) m.rows.now d h.modified in
+    false≢true (ap (λ rows. has rows d) (sym none) ∙ (such (tell.breaks_modifiers m) (length m.rows.now) d).1 (inside, (modifiers_told m d).1 h))
