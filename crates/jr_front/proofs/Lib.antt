@@ -13,3 +13,5 @@ pub mod Losing
 pub mod Breaking
 pub mod Refused
 pub mod Refusals
+pub mod Repeating
+pub mod Allowing

@@ -8,3 +8,4 @@ pub mod Unbound
 pub mod Broken
 pub mod Refusing
 pub mod Reasons
+pub mod Modifiers

@@ -4,3 +4,6 @@ pub mod Membership
 pub mod Calling
 pub mod Initials
 pub mod Meeting
+pub mod Walking
+pub mod CallTrees
+pub mod CallRows

@@ -1,4 +1,5 @@
 pub mod Views
 pub mod Facts
 pub mod Tables
+pub mod Rounds
 pub mod Cases

@@ -3,6 +3,7 @@
 
 mod facts;
 mod labels;
+mod law;
 mod repeated;
 mod rounds;
 mod tables;
@@ -15,5 +16,6 @@ pub use labels::{
     is_return, is_super_call, is_switch, is_test, is_this_call, is_throw, is_value, takes_one,
     takes_two, tests_first, tests_second,
 };
+pub use law::each_body_calls_once;
 pub use repeated::switch_of;
 pub use tables::Tables;

@@ -1,6 +1,6 @@
 // What is found out once for all rows, each from what is known of the rows before it.
 
-ghost use Rattle.std.specs.Prelude.{◌≡◌, IfOk, codes, length, option_and_then};
+ghost use Rattle.std.specs.Prelude.{◌≡◌, IfOk, codes, is_some, length, option_and_then};
 ghost use Rattle.jr_tree.specs.Rows as all_rows;
 ghost use Rattle.jr_plain.specs.Declarations.{is_prelude};
 ghost use Rattle.jr_plain.specs.Typing as typing;
@@ -8,6 +8,7 @@ ghost use Rattle.jr_supers.specs.Tabled.{IsSized};
 ghost use Rattle.jr_rules.specs.PlaceTests as places;
 ghost use Rattle.jr_type_facts.specs.Views.{rows_in, table_in, types_in, constants_in, IsSeenView};
 ghost use Rattle.jr_type_facts.specs.Cases.{AreRepeated};
+ghost use Rattle.jr_type_facts.specs.Rounds.{HaveOneCall, AreRoundsOf};
 ghost use Rattle.jr_type_facts.specs.Tables as tell;
 
 use crate::facts::{is_variable, type_of};
@@ -27,7 +28,7 @@ pub struct Tables {
     members: Vec<Option<u32>>,
     calls: Vec<bool>,
     initializers: Vec<Option<RowType>>,
-    rounds: Vec<bool>,
+    rounds: Vec<Option<u32>>,
     repeated: Vec<bool>,
     pub throwable: Option<u32>,
 }
@@ -207,6 +208,7 @@ impl Tables {
     pub fn of(alloc: Global, view: View) -> Result<Tables, OutOfMemory>
         ensures right { IsSeenView view.entry → IfOk result (λ tables. tell.AreTables (rows_in view.entry) (table_in view.entry) (types_in view.entry) tables) }
         ensures repeated { IsSeenView view.entry → IfOk result (λ tables. AreRepeated (rows_in view.entry) (constants_in view.entry) (types_in view.entry) tables.repeated.items) }
+        ensures rounds { HaveOneCall (rows_in view.entry) → IfOk result (λ tables. AreRoundsOf (rows_in view.entry) (table_in view.entry) tables.rounds.items) }
     {
         let rows = view.sight.world.under.rows;
         let Ok(count) = u32::try_from(rows.len()) else {
@@ -255,8 +257,13 @@ impl Tables {
     }
 
     /// The row is a constructor that comes back to itself by `this(..)`.
-    pub fn calls_itself_round(&self, at: u32) -> bool {
-        is_marked(&self.rounds, at)
+    pub fn calls_itself_round(&self, at: u32) -> bool
+        ensures { result ≡ is_some (tell.item self.now.rounds.items at) }
+    {
+        match self.rounds.get(at as usize) {
+            Some(round) => round.is_some(),
+            None => false,
+        }
     }
 
     /// The row is a label of a switch that has the same one before it.

@@ -20,10 +20,10 @@ use Rattle.jr_rules.specs.StatementTests.{is_not_throwable, condition_is_not_boo
 use Rattle.jr_rules.specs.PlaceTests.{value_does_not_fit, void_is_used, array_does_not_fit}
 use Rattle.jr_rules.specs.Computed.{rule_if, broken_at}
 use Rattle.jr_view.specs.declared.View.{View}
-use Rattle.jr_name_faults.specs.Faults.{fault_if, row_if}
-use Rattle.jr_name_faults.proofs.Told.{other_added, added_then, none_then}
+use Rattle.jr_faults.specs.Added.{row_if}
+use Rattle.jr_faults.proofs.Told.{none_added, added_then, none_then}
 use Rattle.jr_type_facts.specs.Views.{rows_in}
-use Rattle.jr_type_faults.specs.Faults.{is_broken, is_same, is_among, is_exact, exact_rules, type_rules, rows_by, AddsRules, AddsRow, AreExactTypeFaults, AreOnlyOf}
+use Rattle.jr_type_faults.specs.Faults.{is_broken, is_same, is_among, is_exact, exact_rules, type_rules, rows_by, AddsRules, AddsRow, AreExactTypeFaults, AreOnlyOf, fault_if}
 
 -- ---- one rule at one row
 
@@ -77,6 +77,13 @@ adds_then {view} {xs} {ys} {n} {old} {mid} {new} h k = record { each = λ one ex
 
 -- ---- rules that are not tested
 
+other_rows : (one other : Rule) (b : Bool) (n : ℕ) → is_same other one ≡ false → rows_of one (fault_if b n other) ≡ []
+other_rows one other false n apart = refl
+other_rows one other true n apart = ap (λ b. cond b (n ∷ []) []) apart
+
+other_added : {old new : List Fault} (one other : Rule) (b : Bool) (n : ℕ) → is_same other one ≡ false → new ≡ old ++ fault_if b n other → AreFaultsOf one [] old new
+other_added {old} one other b n apart is = record { are = ap (rows_of one) is ∙ rows_append one old (fault_if b n other) ∙ ap (λ l. rows_of one old ++ l) (other_rows one other b n apart) }
+
 pub only : {old new : List Fault} (other : Rule) (b : Bool) (n : ℕ) → new ≡ old ++ fault_if b n other → AreOnlyOf (other ∷ []) old new
 only other b n added = record { others = λ one apart. other_added one other b n (or_parts _ _ apart).0 added }
 
@@ -86,9 +93,6 @@ among_both (x ∷ xs) ys one apart = let first = or_parts (is_same x one) (is_am
 
 pub only_then : {xs ys : List Rule} {old mid new : List Fault} → AreOnlyOf xs old mid → AreOnlyOf ys mid new → AreOnlyOf (xs ++ ys) old new
 only_then {xs} {ys} h k = record { others = λ one apart. let both = among_both xs ys one apart in none_then one (h.others one both.0) (k.others one both.1) }
-
-none_added : (one : Rule) (old : List Fault) → AreFaultsOf one [] old old
-none_added one old = record { are = sym (append-nil (rows_of one old)) }
 
 pub only_start : (rules : List Rule) (old : List Fault) → AreOnlyOf rules old old
 only_start rules old = record { others = λ one apart. none_added one old }
@@ -102,6 +106,7 @@ only_more h k = record { others = λ one apart. none_then one (h.others one apar
 rows_once : (view : View) (n : ℕ) (one : Rule) → is_exact one ≡ true → rows_by view n one type_rules ≡ row_if (is_broken view one n) n
 rows_once view n rule.StaticContext exact = append-nil _
 rows_once view n rule.ForwardReference exact = append-nil _
+rows_once view n rule.ConstructorCycle exact = append-nil _
 rows_once view n rule.Throwable exact = append-nil _
 rows_once view n rule.Operands exact = append-nil _
 rows_once view n rule.Assignable exact = append-nil _
@@ -184,6 +189,9 @@ module _ (p : Rows) (t : Table) (constant : Constants) (types : Types) (n : ℕ)
 
   pub early_at : has (broken_at p t constant types n) 12 ≡ is_used_too_early p t n
   early_at = at_rule 12 ∙ or_false _
+
+  pub round_at : has (broken_at p t constant types n) 22 ≡ calls_itself_round p t n
+  round_at = at_rule 22 ∙ or_false _
 
   pub throwable_at : has (broken_at p t constant types n) 23 ≡ is_not_throwable p t types n
   throwable_at = at_rule 23 ∙ or_false _

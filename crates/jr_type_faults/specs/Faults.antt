@@ -8,11 +8,12 @@ use Rattle.jr_rule.specs.Numbers.{number_of}
 use Rattle.jr_rule.specs.Faults.{AreFaultsOf}
 use Rattle.jr_rules.specs.Computed.{broken_at}
 use Rattle.jr_view.specs.declared.View.{View}
-use Rattle.jr_name_faults.specs.Faults.{row_if}
+use Rattle.jr_faults.specs.Added.{row_if}
 use Rattle.jr_type_facts.specs.declared.facts.Facts.{Facts}
 use Rattle.jr_type_facts.specs.Views.{rows_in, table_in, types_in, constants_in, IsSeenView}
 use Rattle.jr_type_facts.specs.Tables.{AreRightFacts, HasNoOtherThrowable}
-use Rattle.jr_type_faults.specs.Parts.{AreRepeatedIn}
+use Rattle.jr_type_facts.specs.Rounds.{HaveOneCall}
+use Rattle.jr_type_faults.specs.Parts.{AreRepeatedIn, AreRoundsIn}
 
 -- the definition breaks the rule at the row
 abbrev pub is_broken : View → Rule → ℕ → Bool
@@ -44,7 +45,7 @@ type_rules = contexts ++ (values ++ uses)
 
 -- those whose faults are those of the definition
 abbrev pub exact_rules : List Rule
-exact_rules = rule.StaticContext ∷ rule.ForwardReference ∷ rule.Throwable ∷ rule.Operands ∷ rule.Assignable ∷ rule.Variable ∷ rule.Cast ∷ rule.Condition
+exact_rules = rule.StaticContext ∷ rule.ForwardReference ∷ rule.ConstructorCycle ∷ rule.Throwable ∷ rule.Operands ∷ rule.Assignable ∷ rule.Variable ∷ rule.Cast ∷ rule.Condition
     ∷ rule.Switch ∷ rule.VoidValue ∷ rule.Return ∷ rule.Abstract ∷ rule.Index ∷ rule.Branches ∷ []
 
 abbrev pub is_exact : Rule → Bool
@@ -58,18 +59,24 @@ pub record AreExactTypeFaults (view : View) (old new : List Fault) : Type 0 wher
 pub record AreOnlyOf (rules : List Rule) (old new : List Fault) : Type 0 where
   pub others : (one : Rule) → is_among rules one ≡ false → AreFaultsOf one [] old new
 
--- a program whose places and supertypes are right, and which has one class Throwable in its prelude
+-- a program whose places and supertypes are right, which has one class Throwable in its prelude, and in which a constructor's body has one call `this(..)` at most
 pub record IsRightView (view : View) : Type 0 where
   pub seen : IsSeenView view
   pub throwable : HasNoOtherThrowable (rows_in view)
+  pub calls : HaveOneCall (rows_in view)
 
 -- the same, with right tables
 pub record CanTell (facts : Facts) : Type 0 where
   pub right : AreRightFacts facts
   pub repeated : AreRepeatedIn facts
+  pub rounds : AreRoundsIn facts
   pub throwable : HasNoOtherThrowable (rows_in facts.view)
 
 -- ---- at one row
+
+-- the fault, where the rule is broken
+abbrev pub fault_if : Bool → ℕ → Rule → List Fault
+fault_if is_broken n rule = if is_broken then record { row = n; rule = rule } ∷ [] else []
 
 -- the row, for each of these rules that is the one, where it is broken
 abbrev pub rows_by : View → ℕ → Rule → List Rule → List ℕ

@@ -26,6 +26,7 @@ use Rattle.jr_rules.specs.TypedTests.{type_below, is_int_like, declared_row, fou
 use Rattle.jr_type_facts.specs.declared.facts.Facts.{Facts}
 use Rattle.jr_type_facts.specs.Cases.{is_met, AreRepeated}
 use Rattle.jr_type_facts.specs.Facts.{rows_of, table_of, types_of, constants_of}
+use Rattle.jr_type_facts.specs.Rounds.{AreRoundsOf}
 
 -- ---- values and types
 
@@ -236,6 +237,10 @@ label_does_not_fit facts n = statements.is_case (label (rows_of facts) n) && lab
 -- the labels that are repeated are those of the definition
 abbrev pub AreRepeatedIn : Facts → Type 0
 AreRepeatedIn facts = AreRepeated (rows_of facts) (constants_of facts) (types_of facts) facts.tables.now.repeated.items
+
+-- the constructors that come back to themselves are those of the definition
+abbrev pub AreRoundsIn : Facts → Type 0
+AreRoundsIn facts = AreRoundsOf (rows_of facts) (table_of facts) facts.tables.now.rounds.items
 
 abbrev pub label_is_refused : Facts → ℕ → Bool
 label_is_refused facts n = label_does_not_fit facts n || is_met (rows_of facts) (constants_of facts) (types_of facts) n

@@ -1,6 +1,5 @@
 // The faults of all rows.
 ghost use Rattle.std.specs.Prelude.{◌≡◌, ◌++◌, ◌+◌, ◌<◌, ◌^◌, IfOk, OnOk, length};
-ghost use Rattle.jr_name_faults.specs.Faults.{fault_if};
 ghost use Rattle.jr_type_faults.specs.Faults as tell;
 
 use crate::creations::abstract_is_used;
@@ -21,7 +20,7 @@ use std::alloc::Global;
 
 // One fault more, if the rule is broken.
 fn push_if(is_broken: bool, row: u32, rule: Rule, out: &mut Vec<Fault>) -> Result<(), OutOfMemory>
-    ensures { OnOk result (out.new.items ≡ out.old.items ++ fault_if is_broken row rule) }
+    ensures { OnOk result (out.new.items ≡ out.old.items ++ tell.fault_if is_broken row rule) }
 {
     if is_broken {
         out.push(Fault { row, rule })?;
@@ -116,7 +115,7 @@ fn push_rows(facts: &Facts, out: &mut Vec<Fault>) -> Result<(), OutOfMemory>
 }
 
 /// Where the rules on types and expressions in code are broken: by rising rows, and at each row by rising numbers of rules.
-/// But for constructors that call themselves round these are the rows at which the definition breaks the rule, where the tables of the view are right.
+/// These are the rows at which the definition breaks the rule, where the tables of the view are right.
 pub fn type_faults(alloc: Global, view: View, out: &mut Vec<Fault>) -> Result<(), OutOfMemory>
     ensures exact { tell.IsRightView view.entry → OnOk result (tell.AreExactTypeFaults view.entry out.old.items out.new.items) }
     ensures only { OnOk result (tell.AreOnlyOf tell.type_rules out.old.items out.new.items) }
