@@ -7,7 +7,7 @@ use Rattle.jr_rule.specs.declared.Fault.{Fault}
 use Rattle.jr_rule.specs.declared.Rule.{Rule}
 use Rattle.jr_rule.specs.declared.Rule.TheVariants as rule
 use Rattle.jr_rule.specs.Faults.{AreFaultsOf}
-use Rattle.jr_faults.specs.Added.{AreOnly}
+use Rattle.jr_faults.specs.Added.{AreOnly, is_rule}
 use Rattle.jr_faults.proofs.Told.{none_then, then_none}
 use Rattle.jr_view.specs.declared.View.{View}
 use Rattle.jr_name_faults.specs.Faults as of_names
@@ -21,11 +21,11 @@ use Rattle.jr_front.proofs.Numbers.{among_holds}
 
 -- the rules on modifiers and on assignment
 abbrev is_before : Rule → Bool
-is_before one = is_between 1 1 one || is_between 38 40 one
+is_before one = is_rule rule.Modifiers one || is_between 38 40 one
 
 -- what each maker adds
 pub record AreAdded (view : View) (a b c d e f : List Fault) : Type 0 where
-  pub modifiers : AreOnly (is_between 1 1) [] a
+  pub modifiers : AreOnly (is_rule rule.Modifiers) [] a
   pub assigned : AreOnly (is_between 38 40) a b
   pub members : AreMemberFaults view b c
   pub only_members : AreOnly is_on_members b c
@@ -63,7 +63,7 @@ parts a b c d e =
 
 module _ {view : View} {a b c d e f : List Fault} (added : AreAdded view a b c d e f) where
   none_before : (one : Rule) → is_before one ≡ false → AreFaultsOf one [] [] b
-  none_before one apart = let both = or_parts (is_between 1 1 one) (is_between 38 40 one) apart in none_then one (added.modifiers.others one both.0) (added.assigned.others one both.1)
+  none_before one apart = let both = or_parts (is_rule rule.Modifiers one) (is_between 38 40 one) apart in none_then one (added.modifiers.others one both.0) (added.assigned.others one both.1)
 
   of_members : {rows : List ℕ} (one : Rule) → is_no_member one ≡ false → AreFaultsOf one rows b c → AreFaultsOf one rows [] f
   of_members one apart h = let each = parts (is_before one) (is_among type_rules one) (is_of_flow one) (of_names.is_of_names one) apart in
@@ -83,7 +83,7 @@ module _ {view : View} {a b c d e f : List Fault} (added : AreAdded view a b c d
 
   -- each exact rule on types is one of theirs alone
   types_apart : AllByRecursion (λ one. is_no_type one ≡ false) exact_rules
-  types_apart = (refl, (refl, (refl, (refl, (refl, (refl, (refl, (refl, (refl, (refl, (refl, (refl, (refl, (refl, tt))))))))))))))
+  types_apart = (refl, (refl, (refl, (refl, (refl, (refl, (refl, (refl, (refl, (refl, (refl, (refl, (refl, (refl, (refl, tt)))))))))))))))
 
   pub are_found : IsTestableView view → AreFaultsIn view f
   are_found testable = record {
@@ -113,14 +113,14 @@ module _ {view : View} {a b c d e f : List Fault} (added : AreAdded view a b c d
   }
 
 -- the same, as the steps of the code give it
-pub added_found : (view : View) (start a b c d e f : List Fault) → start ≡ [] → AreOnly (is_between 1 1) start a → AreOnly (is_between 38 40) a b → AreMemberFaults view b c → AreOnly is_on_members b c
+pub added_found : (view : View) (start a b c d e f : List Fault) → start ≡ [] → AreOnly (is_rule rule.Modifiers) start a → AreOnly (is_between 38 40) a b → AreMemberFaults view b c → AreOnly is_on_members b c
     → (IsRightView view → AreExactTypeFaults view c d) → AreOnlyOf type_rules c d → (IsLocal (rows_in view) → AreFlowFaults view d e) → AreOnly is_of_flow d e
     → (names.IsPlacedView view → of_names.AreExactFaults view rule.LocalNames e f) → (names.IsPlacedView view → of_names.AreExactFaults view rule.Labels e f) → (names.IsSeenView view → of_names.AreExactFaults view rule.Access e f)
     → (names.IsPlacedView view → of_names.AreExactFaults view rule.ImportNames e f) → (names.IsPlacedView view → of_names.AreExactFaults view rule.ImportedTypes e f)
     → (names.IsTabledView view → of_names.AreExactFaults view rule.StaticImports e f) → of_names.AreOfNames e f → IsTestableView view → AreFaultsIn view f
 added_found view start a b c d e f none modifiers assigned members only_members types only_types flow only_flow local_names labels access import_names imported_types static_imports only_names =
     are_found (record {
-      modifiers = subst (λ (l : List Fault). AreOnly (is_between 1 1) l a) none modifiers;
+      modifiers = subst (λ (l : List Fault). AreOnly (is_rule rule.Modifiers) l a) none modifiers;
       assigned = assigned;
       members = members;
       only_members = only_members;
@@ -136,3 +136,11 @@ added_found view start a b c d e f none modifiers assigned members only_members 
       static_imports = static_imports;
       only_names = only_names;
     })
+
+-- what the first maker adds of modifiers is what is found of them
+pub modifiers_found : {rows : List ℕ} {a b c d e f : List Fault} (start : List Fault) → start ≡ [] → AreFaultsOf rule.Modifiers rows start a → AreOnly (is_between 38 40) a b → AreOnly is_on_members b c → AreOnlyOf type_rules c d
+    → AreOnly is_of_flow d e → of_names.AreOfNames e f → AreFaultsOf rule.Modifiers rows [] f
+modifiers_found {rows} {a} start none h assigned members types flow names =
+    then_none rule.Modifiers (then_none rule.Modifiers (then_none rule.Modifiers (then_none rule.Modifiers (then_none rule.Modifiers
+    (subst (λ (l : List Fault). AreFaultsOf rule.Modifiers rows l a) none h) (assigned.others rule.Modifiers refl)) (members.others rule.Modifiers refl)) (types.others rule.Modifiers refl))
+    (flow.others rule.Modifiers refl)) (names.others rule.Modifiers refl)

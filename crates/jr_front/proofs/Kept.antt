@@ -142,7 +142,7 @@ module _ (view : View) (testable : IsTestableView view) (local : IsLocal (rows_i
   of_types_found : {rule n : ℕ} → has exact_rules rule ≡ true → BreaksTypes p t rule n → HasFault faults rule n
   of_types_found e (BreaksTypes.lacks_object h) = type_found rule.StaticContext refl (BreaksTypes.lacks_object h)
   of_types_found e (BreaksTypes.used_too_early h) = type_found rule.ForwardReference refl (BreaksTypes.used_too_early h)
-  of_types_found e (BreaksTypes.calls_itself_round h) = absurd (false≢true e)
+  of_types_found e (BreaksTypes.calls_itself_round h) = type_found rule.ConstructorCycle refl (BreaksTypes.calls_itself_round h)
   of_types_found e (BreaksTypes.not_throwable h) = type_found rule.Throwable refl (BreaksTypes.not_throwable h)
   of_types_found e (BreaksTypes.operands h) = type_found rule.Operands refl (BreaksTypes.operands h)
   of_types_found e (BreaksTypes.value h) = type_found rule.Assignable refl (BreaksTypes.value h)
@@ -229,38 +229,41 @@ module _ (view : View) (testable : IsTestableView view) (local : IsLocal (rows_i
                               (
                                 member_right rule.InnerStatics (all.members.statics testable.valued),
                                 (
-                                  type_right rule.Throwable refl,
+                                  type_right rule.ConstructorCycle refl,
                                   (
-                                    type_right rule.Operands refl,
+                                    type_right rule.Throwable refl,
                                     (
-                                      type_right rule.Assignable refl,
+                                      type_right rule.Operands refl,
                                       (
-                                        type_right rule.Variable refl,
+                                        type_right rule.Assignable refl,
                                         (
-                                          type_right rule.Cast refl,
+                                          type_right rule.Variable refl,
                                           (
-                                            type_right rule.Condition refl,
+                                            type_right rule.Cast refl,
                                             (
-                                              type_right rule.Switch refl,
+                                              type_right rule.Condition refl,
                                               (
-                                                type_right rule.VoidValue refl,
+                                                type_right rule.Switch refl,
                                                 (
-                                                  type_right rule.Return refl,
+                                                  type_right rule.VoidValue refl,
                                                   (
-                                                    type_right rule.Abstract refl,
+                                                    type_right rule.Return refl,
                                                     (
-                                                      type_right rule.Index refl,
+                                                      type_right rule.Abstract refl,
                                                       (
-                                                        jumps_right,
+                                                        type_right rule.Index refl,
                                                         (
-                                                          type_right rule.Branches refl,
+                                                          jumps_right,
                                                           (
-                                                            unreached_right,
+                                                            type_right rule.Branches refl,
                                                             (
-                                                              completing_right,
+                                                              unreached_right,
                                                               (
-                                                                named_right rule.StaticImports all.names.static_imports,
-                                                                tt,
+                                                                completing_right,
+                                                                (
+                                                                  named_right rule.StaticImports all.names.static_imports,
+                                                                  tt,
+                                                                ),
                                                               ),
                                                             ),
                                                           ),

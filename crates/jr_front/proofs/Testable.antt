@@ -27,7 +27,9 @@ use Rattle.jr_bind.proofs.Confirmed.{program_in}
 use Rattle.jr_prelude.specs.Begins.{BeginsWithLang}
 use Rattle.jr_prelude.proofs.Begun.{once}
 use Rattle.jr_member_faults.proofs.Values.{variables_same}
+use Rattle.jr_type_facts.specs.Rounds.{HaveOneCall}
 use Rattle.jr_type_facts.specs.Tables.{HasNoOtherThrowable}
+use Rattle.jr_type_facts.proofs.CallRows.{one_call}
 use Rattle.jr_type_facts.specs.Views.{rows_in as rows_of, table_in as table_of, types_in, constants_in}
 use Rattle.jr_rule.specs.declared.Fault.{Fault}
 use Rattle.jr_rule.specs.declared.Rule.{Rule}
@@ -106,11 +108,14 @@ module _ (w : Workspace) (view : View) (bound : IsBoundIn w) (of : IsViewOf (row
     one_throwable : HasNoOtherThrowable (rows_in w)
     one_throwable c d h k = once (rows_in w) begins (codes "Throwable") c d ((prelude_tells (rows_in w) (codes "Throwable") c).0 h) ((prelude_tells (rows_in w) (codes "Throwable") d).0 k)
 
+    one_call_each : HaveOneCall (rows_in w)
+    one_call_each = let is = bound.of.program in subst HaveOneCall (sym is.rows_are) (one_call is.units is.shaped)
+
     pub testable_view : IsTestableView view
     testable_view =
         let right = seen_view w view bound of in
         record {
-          right = record { seen = right; throwable = subst (λ r. HasNoOtherThrowable r) (sym of.rows_are) one_throwable };
+          right = record { seen = right; throwable = subst (λ r. HasNoOtherThrowable r) (sym of.rows_are) one_throwable; calls = subst HaveOneCall (sym of.rows_are) one_call_each };
           placed = record { few = right.sized.few; placed = right.seen.placed };
           seen = record { few = right.sized.few; seen = right.seen };
           tabled = record { few = right.sized.few; right = (whole_view w view bound of).world_is };

@@ -15,6 +15,8 @@ ghost use Rattle.jr_prelude.specs.Begins.{BeginsWithLang};
 ghost use Rattle.jr_front.specs.Bound.{IsBoundIn, rows_in, table_in};
 ghost use Rattle.jr_front.specs.Checking.{CheckedAs, forgotten};
 ghost use Rattle.jr_front.specs.Compiling.{KeepsExact, CompilesExactly};
+ghost use Rattle.jr_marks.specs.Places.{IsOrdered};
+ghost use Rattle.jr_front.specs.Modifiers.{modifier_rows};
 ghost use Rattle.jr_front.specs.Reasons.{IsToldAs, IsPathReason, IsNameReason, IsCycleReason, IsTableReason, IsRuleReason};
 ghost use Rattle.jr_front.specs.Refusing.{IsRefusal};
 ghost use Rattle.jr_front.specs.Tested.{IsTestableView, AreClashes, AreFaultsIn, HasNoTopFault};
@@ -94,6 +96,8 @@ fn judge_table(marks: &Marks, table: &[Referent]) -> Result<(), FrontFault>
 // That no rule is broken.
 fn judge_rules(alloc: Global, marks: &Marks, view: &View) -> Result<(), FrontFault>
     ensures kept { IsTestableView view.now → OnOk result (AreFaultsIn view.now []) }
+    ensures ordered { OnOk result (IsOrdered marks.now) }
+    ensures modifiers { OnOk result (modifier_rows marks.now ≡ []) }
     ensures err { IsTestableView view.now → IfErr result (IsRuleReason marks.now view.now) }
 {
     let faults = faults_of(alloc, marks, view)?;
