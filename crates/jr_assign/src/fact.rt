@@ -18,7 +18,7 @@ pub struct Fact {
     pub truth: Option<bool>,
     /// Where a break or continue goes to, if it has a target; `Return` at a return in a constructor.
     pub way: Option<Way>,
-    /// The block of a `finally`, or the body of a `for`.
+    /// The last part, where it has one: of a `for` its body, of a guarded `try` the block of its `finally`.
     pub last: Option<u32>,
     /// A switch has a label `default`.
     pub has_default: bool,
@@ -46,10 +46,10 @@ pub fn no_fact() -> Fact
     }
 }
 
-pub(crate) fn fact_of(facts: &[Fact], at: u32) -> Fact
+pub(crate) fn fact_of(facts: &[Fact], at: usize) -> Fact
     ensures { result ≡ fact facts.now at }
 {
-    match facts.get(at as usize) {
+    match facts.get(at) {
         Some(known) => *known,
         None => no_fact(),
     }

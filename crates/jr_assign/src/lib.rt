@@ -3,6 +3,8 @@
 
 mod builders;
 mod classes;
+mod confirm;
+mod course;
 mod fact;
 mod faults;
 mod form;
