@@ -1,5 +1,3 @@
 pub mod Changes
 pub mod Sets
 pub mod Assigned
-pub mod Words
-pub mod Confirmed

@@ -18,7 +18,7 @@ pub struct Fact {
     pub truth: Option<bool>,
     /// Where a break or continue goes to, if it has a target; `Return` at a return in a constructor.
     pub way: Option<Way>,
-    /// The last part, where it has one: of a `for` its body, of a guarded `try` the block of its `finally`.
+    /// The block of a `finally`, or the body of a `for`.
     pub last: Option<u32>,
     /// A switch has a label `default`.
     pub has_default: bool,
@@ -46,10 +46,10 @@ pub fn no_fact() -> Fact
     }
 }
 
-pub(crate) fn fact_of(facts: &[Fact], at: usize) -> Fact
+pub(crate) fn fact_of(facts: &[Fact], at: u32) -> Fact
     ensures { result ≡ fact facts.now at }
 {
-    match facts.get(at) {
+    match facts.get(at as usize) {
         Some(known) => *known,
         None => no_fact(),
     }

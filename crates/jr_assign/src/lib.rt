@@ -3,8 +3,6 @@
 
 mod builders;
 mod classes;
-mod confirm;
-mod course;
 mod fact;
 mod faults;
 mod form;

@@ -41,17 +41,6 @@ pub(crate) fn is_catch(rows: &[Row], at: u32) -> bool {
     }
 }
 
-/// The row is a `try` with a `finally`.
-pub(crate) fn is_guarded(rows: &[Row], at: u32) -> bool {
-    match rows.get(at as usize) {
-        Some(row) => match row.label {
-            Label::Try { has_finally } => has_finally,
-            _ => false,
-        },
-        None => false,
-    }
-}
-
 /// The row is a class.
 pub(crate) fn is_class(rows: &[Row], at: u32) -> bool {
     match rows.get(at as usize) {
@@ -125,7 +114,7 @@ pub(crate) fn for_parts(
     ForParts {
         first: if has_first { Some(start) } else { None },
         condition: if has_condition { Some(test) } else { None },
-        body: match fact_of(facts, at as usize).last {
+        body: match fact_of(facts, at).last {
             Some(body) => body,
             None => update,
         },

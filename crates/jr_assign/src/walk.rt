@@ -3,9 +3,7 @@
 use crate::fact::{Fact, Way, fact_of};
 use crate::form::{Form, form_at};
 use crate::numbers::Numbers;
-use crate::parts::{
-    ForParts, first_of, for_parts, is_catch, is_guarded, previous_at, second_of, third_of,
-};
+use crate::parts::{ForParts, first_of, for_parts, is_catch, previous_at, second_of, third_of};
 use crate::sets::{Set, Sets};
 use crate::turns::{Turn, turn_behind, turn_inside};
 use jr_base::OutOfMemory;
@@ -23,7 +21,7 @@ pub(crate) struct Known<'a> {
 
 impl<'a> Known<'a> {
     pub(crate) fn fact(self, at: u32) -> Fact {
-        fact_of(self.facts, at as usize)
+        fact_of(self.facts, at)
     }
 }
 
@@ -355,9 +353,6 @@ impl<'a> Passage<'a> {
 
     fn try_gain(&mut self, sets: &mut Sets, at: u32) -> Result<Gain, OutOfMemory> {
         let tried = self.tried(sets, at)?;
-        if !is_guarded(self.known.rows, at) {
-            return Ok(plain(tried));
-        }
         let Some(last) = self.known.fact(at).last else {
             return Ok(plain(tried));
         };

@@ -10,6 +10,7 @@ ghost use Rattle.jr_assign_faults.specs.Changed.{rows_in, table_in, final_rows};
 
 mod changed;
 mod facts;
+mod law;
 mod operands;
 mod variables;
 
