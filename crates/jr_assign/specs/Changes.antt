@@ -1,10 +1,12 @@
 -- A final variable is changed only where it is blank, and a field only by a constructor or initializer of its class (JLS 4.12.4, 8.3.1.2).
-use Rattle.std.specs.Prelude.{ℕ, zero, suc, ◌+◌, Bool, true, false, not, ◌&&◌, ◌||◌, if◌then◌else◌, List, [], ◌∷◌, ◌++◌, Option, Some, None, nat_eq, nat_lt, slice_index_or}
+use Rattle.std.specs.Prelude.{ℕ, zero, suc, ◌+◌, Bool, true, false, not, ◌&&◌, ◌||◌, if◌then◌else◌, List, [], ◌∷◌, ◌++◌, length, Option, Some, None, nat_eq, nat_lt, slice_index_or}
 use Rattle.jr_tree.specs.declared.label.Label.{Label}
 use Rattle.jr_tree.specs.declared.label.Label.TheVariants as is
 use Rattle.jr_tree.specs.Rows.{Rows, label, parent, end}
 use Rattle.jr_rule.specs.declared.Rule.TheVariants as rule
-use Rattle.jr_rule.specs.declared.Fault.{Fault}
+use Rattle.jr_rule.specs.declared.Rule.{Rule}
+use Rattle.jr_faults.specs.Added.{is_rule}
+use Rattle.jr_plain.specs.Search.{all_such}
 use Rattle.jr_assign.specs.declared.fact.Fact.{Fact}
 
 abbrev pub Facts : Type 0
@@ -12,7 +14,7 @@ Facts = List Fact
 
 -- what is known of a row besides its label
 abbrev pub fact : Facts → ℕ → Fact
-fact f n = slice_index_or f n (record { truth = None; way = None; last = None; has_default = false; hands_on = false; read = None; assigned = None; changed = None })
+fact f n = slice_index_or f n (record { truth = None; way = None; last = None; has_default = false; hands_on = false; read = None; assigned = None })
 
 -- ---- places
 
@@ -73,10 +75,20 @@ is_changed_wrongly p member (Some v) n = is_fixed (label p v) p v (member n)
 
 -- ---- the faults
 
-abbrev pub fault_if : Bool → ℕ → List Fault
-fault_if broken n = if broken then record { row = n; rule = rule.FinalAssignment } ∷ [] else []
+-- for each row the variable that is changed there
+abbrev pub Changed : Type 0
+Changed = List (Option ℕ)
 
--- those of the first k rows
-abbrev pub changes : Rows → Facts → (ℕ → ℕ) → ℕ → List Fault
-changes p f member zero = []
-changes p f member (suc k) = changes p f member k ++ fault_if (is_changed_wrongly p member (fact f k).changed k) k
+abbrev pub is_wrong_at : Rows → Changed → (ℕ → ℕ) → ℕ → Bool
+is_wrong_at p changed member n = is_changed_wrongly p member (slice_index_or changed n None) n
+
+-- the rows that break the rule
+abbrev pub wrong_rows : Rows → Changed → List ℕ
+wrong_rows p changed = all_such (length p) (is_wrong_at p changed (member_in (members p (length p))))
+
+-- the rules on locals that are read and not assigned and on blank finals, and besides on finals that are changed
+abbrev pub is_of_courses : Rule → Bool
+is_of_courses one = is_rule rule.UnassignedLocal one || is_rule rule.UnassignedFinal one
+
+abbrev pub is_of_assignment : Rule → Bool
+is_of_assignment one = is_rule rule.FinalAssignment one || is_of_courses one

@@ -1,15 +1,20 @@
 // Finals that are changed where they may not be (JLS 4.12.4, 8.3.1.2).
-ghost use Rattle.std.specs.Prelude.{◌≡◌, ◌++◌, ◌<◌, ◌^◌, OnOk, length};
+ghost use Rattle.std.specs.Prelude.{◌≡◌, ◌<◌, ◌^◌, None, OnOk, length, slice_index_or};
 ghost use Rattle.jr_tree.specs.Rows.{label};
-ghost use Rattle.jr_assign.specs.Changes.{builds, is_fixed, is_changed_wrongly, member_in, fault_if, changes};
+ghost use Rattle.jr_plain.specs.Search.{all_such};
+ghost use Rattle.jr_rule.specs.declared.Rule.TheVariants as rule;
+ghost use Rattle.jr_rule.specs.Faults.{AreFaultsOf};
+ghost use Rattle.jr_faults.specs.Added.{is_rule, AreOnly};
+ghost use Rattle.jr_assign.specs.Changes.{builds, is_fixed, is_changed_wrongly, is_wrong_at, member_in, wrong_rows};
 
-use crate::fact::{Fact, fact_of};
-use crate::member::member_of;
+use crate::member::{member_of, members_of};
 use crate::parts::{body_of_field, is_interface, is_valued};
 use jr_base::OutOfMemory;
+use jr_faults::rule_if;
 use jr_places::parent_at;
 use jr_rule::{Fault, Rule};
 use jr_tree::{Label, Row};
+use std::alloc::Global;
 
 // The member is a constructor or an initializer that stands in this body.
 fn is_builder(rows: &[Row], member: u32, body: u32) -> bool
@@ -55,32 +60,46 @@ fn is_wrong_change(rows: &[Row], members: &[u32], changed: Option<u32>, at: u32)
     }
 }
 
-fn note(out: &mut Vec<Fault>, is_broken: bool, at: u32) -> Result<(), OutOfMemory>
-    ensures { OnOk result (out.new.items ≡ out.old.items ++ fault_if is_broken at) }
+fn changed_at(changed: &[Option<u32>], at: u32) -> Option<u32>
+    ensures { result ≡ slice_index_or changed.now at None }
 {
-    if is_broken {
-        out.push(Fault {
-            row: at,
-            rule: Rule::FinalAssignment,
-        })?;
+    match changed.get(at as usize) {
+        Some(variable) => *variable,
+        None => None,
+    }
+}
+
+#[tactic(auto, using(jr_faults::proofs::Told::row_more, jr_faults::proofs::Told::only_more))]
+fn note_changes(
+    rows: &[Row],
+    members: &[u32],
+    changed: &[Option<u32>],
+    out: &mut Vec<Fault>,
+) -> Result<(), OutOfMemory>
+    requires { length rows.now < 2 ^ 32 }
+    ensures found { OnOk result (AreFaultsOf rule.FinalAssignment (all_such (length rows.now) (is_wrong_at rows.now changed.now (member_in members.now))) out.old.items out.new.items) }
+    ensures others { OnOk result (AreOnly (is_rule rule.FinalAssignment) out.old.items out.new.items) }
+{
+    for n in 0..rows.len() {
+        let at = n as u32;
+        let is_broken = is_wrong_change(rows, members, changed_at(changed, at), at);
+        rule_if(out, is_broken, at, Rule::FinalAssignment)?;
     }
     Ok(())
 }
 
-/// Adds the finals that are changed where they may not be, each by the row that refers to it.
-pub(crate) fn note_changes(
+/// Adds the finals that are changed where they may not be, each by the row that refers to it; `changed` has for each row the variable that is
+/// changed there.
+pub fn change_faults(
+    alloc: Global,
     rows: &[Row],
-    facts: &[Fact],
-    members: &[u32],
+    changed: &[Option<u32>],
     out: &mut Vec<Fault>,
 ) -> Result<(), OutOfMemory>
     requires { length rows.now < 2 ^ 32 }
-    ensures { OnOk result (out.new.items ≡ out.old.items ++ changes rows.now facts.now (member_in members.now) (length rows.now)) }
+    ensures found { OnOk result (AreFaultsOf rule.FinalAssignment (wrong_rows rows.now changed.now) out.old.items out.new.items) }
+    ensures others { OnOk result (AreOnly (is_rule rule.FinalAssignment) out.old.items out.new.items) }
 {
-    for n in 0..rows.len() {
-        let at = n as u32;
-        let is_broken = is_wrong_change(rows, members, fact_of(facts, at).changed, at);
-        note(out, is_broken, at)?;
-    }
-    Ok(())
+    let members = members_of(alloc, rows)?;
+    note_changes(rows, &members, changed, out)
 }

@@ -1,15 +1,12 @@
 // The members of each class, in the order in which it and its instances are made (JLS 8.3.2, 8.6, 8.7, 12.4.2, 12.5).
 ghost use Rattle.std.specs.Prelude.{◌<◌, ◌^◌, length};
 
-use crate::builders::note_changes;
 use crate::fact::Fact;
-use crate::member::members_of;
 use crate::numbers::Numbers;
 use crate::sets::{Set, Sets};
 use crate::walk::{Known, walk};
 use jr_base::OutOfMemory;
 use jr_places::{end_at, parent_at};
-use jr_rule::{Fault, Rule};
 use jr_tree::{Label, Row};
 use std::alloc::Global;
 
@@ -100,7 +97,7 @@ impl<'a> Making<'a> {
         alloc: Global,
         start: Set,
         root: u32,
-        out: &mut Vec<Fault>,
+        out: &mut Vec<u32>,
     ) -> Result<Set, OutOfMemory> {
         let ended = walk(alloc, self.known, &mut self.sets, start, root, out)?;
         self.sets.among(ended, self.fields)
@@ -112,7 +109,7 @@ impl<'a> Making<'a> {
         alloc: Global,
         is_static: bool,
         root: u32,
-        out: &mut Vec<Fault>,
+        out: &mut Vec<u32>,
     ) -> Result<(), OutOfMemory> {
         if is_static {
             self.statics = self.walk(alloc, self.statics, root, out)?;
@@ -123,7 +120,7 @@ impl<'a> Making<'a> {
     }
 
     // What is no constructor.
-    fn add(&mut self, alloc: Global, root: u32, out: &mut Vec<Fault>) -> Result<(), OutOfMemory> {
+    fn add(&mut self, alloc: Global, root: u32, out: &mut Vec<u32>) -> Result<(), OutOfMemory> {
         match part_at(self.known.rows, root) {
             Part::Initializer { is_static } => self.initialize(alloc, is_static, root, out),
             Part::Fields { is_static } => self.initialize(alloc, is_static, root, out),
@@ -140,7 +137,7 @@ impl<'a> Making<'a> {
         &mut self,
         alloc: Global,
         root: u32,
-        out: &mut Vec<Fault>,
+        out: &mut Vec<u32>,
     ) -> Result<(), OutOfMemory> {
         if part_at(self.known.rows, root) != Part::Constructor {
             return Ok(());
@@ -161,29 +158,28 @@ impl<'a> Making<'a> {
     }
 
     // The blank finals of a declaration of fields that are not assigned when all is made.
-    fn note_left(&self, root: u32, out: &mut Vec<Fault>) -> Result<(), OutOfMemory> {
+    fn note_left(&self, root: u32, out: &mut Vec<u32>) -> Result<(), OutOfMemory> {
         let Part::Fields { is_static } = part_at(self.known.rows, root) else {
             return Ok(());
         };
         for at in root..end_at(self.known.rows, root) {
             if self.is_left(is_static, at) {
-                out.push(Fault {
-                    row: at,
-                    rule: Rule::UnassignedFinal,
-                })?;
+                out.push(at)?;
             }
         }
         Ok(())
     }
 }
 
-// The faults of one body.
-fn note_body(
-    alloc: Global,
-    known: Known,
-    body: u32,
-    out: &mut Vec<Fault>,
-) -> Result<(), OutOfMemory> {
+/// What is found by walking: the rows at which a local is read and not assigned, and the blank final fields that are not assigned at an end.
+#[derive(Drop)]
+pub(crate) struct Found {
+    pub(crate) reads: Vec<u32>,
+    pub(crate) finals: Vec<u32>,
+}
+
+// The rows of one body.
+fn note_body(alloc: Global, known: Known, body: u32, out: &mut Found) -> Result<(), OutOfMemory> {
     let members = members_in(alloc, known.rows, body)?;
     let mut making = Making {
         known,
@@ -194,40 +190,41 @@ fn note_body(
         built: Set::Everything,
     };
     for member in &members {
-        making.add(alloc, *member, out)?;
+        making.add(alloc, *member, &mut out.reads)?;
     }
     for member in &members {
-        making.construct(alloc, *member, out)?;
+        making.construct(alloc, *member, &mut out.reads)?;
     }
     for member in &members {
-        making.note_left(*member, out)?;
+        making.note_left(*member, &mut out.finals)?;
     }
     Ok(())
 }
 
-/// Adds the locals that are read and not assigned, the finals that are changed where they may not be, and the blank final fields that are not
-/// assigned at an end, each by its row.
-pub fn assignment_faults(
+/// What is found in all bodies.
+pub(crate) fn found_in(
     alloc: Global,
     rows: &[Row],
     facts: &[Fact],
-    out: &mut Vec<Fault>,
-) -> Result<(), OutOfMemory>
+    members: &[u32],
+) -> Result<Found, OutOfMemory>
     requires { length rows.now < 2 ^ 32 }
 {
-    let members = members_of(alloc, rows)?;
-    note_changes(rows, facts, &members, out)?;
-    let numbers = Numbers::of(alloc, rows, &members)?;
+    let numbers = Numbers::of(alloc, rows, members)?;
     let known = Known {
         rows,
         facts,
         numbers: &numbers,
     };
+    let mut found = Found {
+        reads: Vec::new(alloc),
+        finals: Vec::new(alloc),
+    };
     for n in 0..rows.len() {
         let at = n as u32;
         if is_body(rows, at) {
-            note_body(alloc, known, at, out)?;
+            note_body(alloc, known, at, &mut found)?;
         }
     }
-    Ok(())
+    Ok(found)
 }

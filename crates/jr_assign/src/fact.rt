@@ -29,13 +29,11 @@ pub struct Fact {
     /// The local, or the blank final field of what is made there, that is assigned once the parts of the row are done: an assignment, or a local with
     /// an initializer.
     pub assigned: Option<u32>,
-    /// The variable that the row refers to, where it is the operand of an assignment or a step.
-    pub changed: Option<u32>,
 }
 
 /// What is known of a row of which nothing is.
 pub fn no_fact() -> Fact
-    ensures { result ≡ record { truth = None; way = None; last = None; has_default = false; hands_on = false; read = None; assigned = None; changed = None } }
+    ensures { result ≡ record { truth = None; way = None; last = None; has_default = false; hands_on = false; read = None; assigned = None } }
 {
     Fact {
         truth: None,
@@ -45,7 +43,6 @@ pub fn no_fact() -> Fact
         hands_on: false,
         read: None,
         assigned: None,
-        changed: None,
     }
 }
 

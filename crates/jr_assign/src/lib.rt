@@ -4,7 +4,9 @@
 mod builders;
 mod classes;
 mod fact;
+mod faults;
 mod form;
+mod law;
 mod member;
 mod numbers;
 mod parts;
@@ -12,6 +14,7 @@ mod sets;
 mod turns;
 mod walk;
 
-pub use classes::assignment_faults;
+pub use builders::change_faults;
 pub use fact::{Fact, Way, no_fact};
+pub use faults::assignment_faults;
 pub use member::members_of;

@@ -8,7 +8,6 @@ use crate::sets::{Set, Sets};
 use crate::turns::{Turn, turn_behind, turn_inside};
 use jr_base::OutOfMemory;
 use jr_places::{end_at, parent_at};
-use jr_rule::{Fault, Rule};
 use jr_tree::Row;
 use std::alloc::Global;
 
@@ -252,14 +251,11 @@ impl<'a> Passage<'a> {
         sets: &mut Sets,
         start: Set,
         at: u32,
-        out: &mut Vec<Fault>,
+        out: &mut Vec<u32>,
     ) -> Result<(), OutOfMemory> {
         let before = self.before(sets, start, at)?;
         if is_unassigned(self.known, sets, before, at) {
-            out.push(Fault {
-                row: at,
-                rule: Rule::UnassignedLocal,
-            })?;
+            out.push(at)?;
         }
         let jumps = self.jumps.len();
         self.set(
@@ -499,7 +495,7 @@ impl<'a> Passage<'a> {
         sets: &mut Sets,
         start: Set,
         turn: Turn,
-        out: &mut Vec<Fault>,
+        out: &mut Vec<u32>,
     ) -> Result<Option<Turn>, OutOfMemory> {
         match turn {
             Turn::Enter(at) => {
@@ -517,12 +513,7 @@ impl<'a> Passage<'a> {
     }
 
     // Walks through the member, from what is assigned before it.
-    fn run(
-        &mut self,
-        sets: &mut Sets,
-        start: Set,
-        out: &mut Vec<Fault>,
-    ) -> Result<(), OutOfMemory> {
+    fn run(&mut self, sets: &mut Sets, start: Set, out: &mut Vec<u32>) -> Result<(), OutOfMemory> {
         let mut next = Some(Turn::Enter(self.root));
         for _turn in 0..self.seen.len().saturating_mul(2) {
             let Some(turn) = next else {
@@ -584,7 +575,7 @@ pub(crate) fn walk(
     sets: &mut Sets,
     start: Set,
     root: u32,
-    out: &mut Vec<Fault>,
+    out: &mut Vec<u32>,
 ) -> Result<Set, OutOfMemory> {
     let size = end_at(known.rows, root).saturating_sub(root);
     let mut passage = Passage {

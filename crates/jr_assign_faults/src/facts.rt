@@ -1,6 +1,6 @@
 // What is known of rows besides their labels.
 
-use crate::operands::{Operand, operand_at};
+use crate::operands::{Operand, operand_of, operands_of};
 use crate::variables::Program;
 use jr_assign::{Fact, Way, members_of, no_fact};
 use jr_base::OutOfMemory;
@@ -83,17 +83,7 @@ fn fact_at(program: &Program, flow: jr_reach::Fact, operand: Operand, at: u32) -
     fact.has_default = flow.has_default;
     fact.read = program.read_at(operand, at);
     fact.assigned = program.assigned_at(at);
-    if operand != Operand::Other {
-        fact.changed = program.variable_at(at);
-    }
     fact
-}
-
-fn operand_of(operands: &[Operand], at: u32) -> Operand {
-    match operands.get(at as usize) {
-        Some(operand) => *operand,
-        None => Operand::Other,
-    }
 }
 
 /// What is known of each row of a bound program.
@@ -108,17 +98,14 @@ pub fn assign_facts_of(alloc: Global, view: &View) -> Result<Vec<Fact>, OutOfMem
         under,
         members: &members,
     };
-    let mut operands = Vec::new(alloc);
+    let operands = operands_of(alloc, under.rows, count)?;
     let mut facts = Vec::new(alloc);
     for at in 0..count {
-        let round = operand_of(&operands, parent_at(under.rows, at));
-        let operand = operand_at(under.rows, round, at);
-        operands.push(operand)?;
         let known = match flow.get(at as usize) {
             Some(known) => *known,
             None => no_flow(),
         };
-        facts.push(fact_at(&program, known, operand, at))?;
+        facts.push(fact_at(&program, known, operand_of(&operands, at), at))?;
         tell_around(under.rows, &mut facts, at);
     }
     Ok(facts)

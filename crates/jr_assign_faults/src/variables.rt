@@ -176,16 +176,4 @@ impl<'a> Program<'a> {
             _ => None,
         }
     }
-
-    /// The variable to which the operand of an assignment or step refers.
-    pub(crate) fn variable_at(&self, at: u32) -> Option<u32> {
-        let under = self.under;
-        let variable = under.declared(at)?;
-        match role_at(under.rows, variable) {
-            Role::Local => Some(variable),
-            Role::Parameter => Some(variable),
-            Role::Field => Some(variable),
-            _ => None,
-        }
-    }
 }

@@ -1,0 +1,92 @@
+-- Where the rows inside a row stand.
+use Rattle.std.proofs.Common.{◌≡◌, refl, sym, ◌∙◌, ap, subst, ⊎_elim, arith, ℕ, zero, suc, ◌+◌, ◌<◌, ◌≤◌, Bool, true, false, not, ◌&&◌, length, Option, Some, None, nat_eq, nat_lt}
+use Rattle.std.proofs.lemmas.Bool.{false≢true, cases_eq, cases_lt, ltb-true, lt-ltb, ltb-false}
+use Rattle.std.proofs.lemmas.Bool.Decides.{Decides-eqb}
+use Rattle.jr_tree.specs.Rows.{Rows, parent, end}
+use Rattle.jr_tree.specs.Tree.{IsTree}
+use Rattle.jr_plain.specs.Search.{last_below, IsLast}
+use Rattle.jr_plain.proofs.Searches.{finds_last}
+use Rattle.jr_plain.proofs.Children.{IsChild, child_below}
+use Rattle.jr_assign.specs.Assigned.{last_part}
+
+pub both_true : (a b : Bool) → (a && b) ≡ true → (a ≡ true) × (b ≡ true)
+both_true true true e = (refl, refl)
+both_true true false e = absurd (false≢true e)
+both_true false b e = absurd (false≢true e)
+
+pub not_true : (a : Bool) → not a ≡ true → a ≡ false
+not_true true e = absurd (false≢true e)
+not_true false e = refl
+
+-- a child of n that holds the row m
+pub record HoldsIn (p : Rows) (n m : ℕ) : Type 0 where
+  pub at : ℕ
+  pub child : IsChild p n at
+  pub low : at ≤ m
+  pub high : m < end p at
+
+-- the last child
+pub record IsLastChild (p : Rows) (n c : ℕ) : Type 0 where
+  pub child : IsChild p n c
+  pub last : (m : ℕ) → IsChild p n m → m ≤ c
+
+module _ (p : Rows) (tree : IsTree p) where
+  pub inside_ends : (n m : ℕ) → n < length p → m < end p n → m < length p
+  inside_ends n m lt h = let most = tree.last n lt in omega arith
+
+  pub child_ends : (n c : ℕ) → IsChild p n c → (c < end p n) × (end p c ≤ end p n)
+  child_ends n c h = let lt = h.0 in let inside = child_below p tree n c h in let held = tree.held c inside (omega arith) in let at : c < end p n = subst (λ q. c < end p q) h.1 held in (at, tree.apart n c lt at)
+
+  -- the next child stands where this one ends
+  pub next_child : (n k m : ℕ) → IsChild p n k → k < m → IsChild p n m → end p k ≤ m
+  next_child n k m child lt h = ⊎_elim (λ inside. let low = tree.inner k m lt inside in let up = h.1 in let after = child.0 in absurd (omega arith)) (λ le. le) (cases_lt m (end p k))
+
+  -- each row inside stands in a child
+  pub holds_in : (room n m : ℕ) → m ≤ room → n < length p → n < m → m < end p n → HoldsIn p n m
+  holds_in zero n m small there lt inside = absurd (omega arith)
+  holds_in (suc room) n m small there lt inside =
+      let below = inside_ends n m there inside in
+      let over = tree.inner n m lt inside in
+      let up = tree.up m below (omega arith) in
+      let held = tree.held m below (omega arith) in
+      ⊎_elim
+      (λ e. record { at = m; child = (lt, sym e); low = omega arith; high = tree.nested m })
+      (λ apart. let ends = tree.apart n m lt inside in
+      let h = holds_in room n (parent p m) (omega arith) there (omega arith) (omega arith) in
+      let low = h.low in let high = h.high in
+      record { at = h.at; child = h.child; low = omega arith; high = within h.at low high held })
+      (cases_eq n (parent p m))
+    where
+      within : {q m : ℕ} (c : ℕ) → c ≤ q → q < end p c → m < end p q → m < end p c
+      within {q} {m} c low high held = ⊎_elim (λ e. subst (λ c. m < end p c) (sym e) held) (λ apart. let ends = tree.apart c q (omega arith) high in omega arith) (cases_eq c q)
+
+  -- the last part is the last child
+  pub last_tells : (n c : ℕ) → last_part p n ≡ Some c → IsLastChild p n c
+  last_tells n c e =
+      let test : ℕ → Bool = λ c. nat_lt n c && nat_eq (parent p c) n in
+      let h = (finds_last test (λ k. test k ≡ true) (λ k. (λ e. e, λ e. e)) (length p) c).0 e in
+      record { child = told c h.1; last = λ m child. h.2 m (child_below p tree n m child) (tells m child) }
+    where
+      told : (c : ℕ) → (nat_lt n c && nat_eq (parent p c) n) ≡ true → IsChild p n c
+      told c t = let parts = both_true _ _ t in (ltb-true n c parts.0, (Decides-eqb (parent p c) n).0 parts.1)
+
+      tells : (m : ℕ) → IsChild p n m → (nat_lt n m && nat_eq (parent p m) n) ≡ true
+      tells m child = ap (λ b. b && nat_eq (parent p m) n) (lt-ltb n m child.0) ∙ (Decides-eqb (parent p m) n).1 child.1
+
+  -- what stands behind where the last child begins stands in it
+  pub in_last : (n c m : ℕ) → n < length p → IsLastChild p n c → c ≤ m → m < end p n → m < end p c
+  in_last n c m there last le inside =
+      let after = last.child.0 in
+      let h = holds_in m n m (omega arith) there (omega arith) inside in
+      let low = h.low in let high = h.high in
+      let least = last.last h.at h.child in
+      ⊎_elim (λ e. subst (λ x. m < end p x) e high) (λ apart. let next = next_child n h.at c h.child (omega arith) last.child in absurd (omega arith)) (cases_eq h.at c)
+
+  -- what stands before it stands in another
+  pub before_last : (n c m : ℕ) → n < length p → IsLastChild p n c → n < m → m < c → end p m ≤ c
+  before_last n c m there last lt less =
+      let after = child_ends n c last.child in let in_c = after.0 in
+      let h = holds_in m n m (omega arith) there lt (omega arith) in
+      let low = h.low in let high = h.high in
+      let next = next_child n h.at c h.child (omega arith) last.child in
+      ⊎_elim (λ e. subst (λ x. end p x ≤ c) e next) (λ apart. let ends = tree.apart h.at m (omega arith) high in omega arith) (cases_eq h.at m)
