@@ -24,3 +24,4 @@ pub mod Searching
 pub mod Weaving
 pub mod Woven
 pub mod Followed
+pub mod Limiting
