@@ -25,3 +25,4 @@ pub mod Weaving
 pub mod Woven
 pub mod Followed
 pub mod Limiting
+pub mod Few

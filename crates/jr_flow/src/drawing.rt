@@ -416,6 +416,7 @@ fn drawn(alloc: Global, states: &States, body: u32) -> Result<Graph, OutOfMemory
 pub fn graph(alloc: Global, view: &View, body: u32) -> Result<Graph, FlowFault>
     ensures graph { (m : Meaning) → IsViewOf view.now m → IsTree (rows_in view.now) → body < length (rows_in view.now) → IfOk result (λ made. (made.body ≡ body) × IsGraphOf (rows_in view.now) m made) }
     ensures large { (m : Meaning) → IsViewOf view.now m → IsTree (rows_in view.now) → body < length (rows_in view.now) → IfErr result (OnlyWhere (IsTooLarge (rows_in view.now) m body)) }
+    ensures small { (m : Meaning) → IsViewOf view.now m → IsTree (rows_in view.now) → body < length (rows_in view.now) → OnOk result (IsTooLarge (rows_in view.now) m body → ⊥) }
 {
     let code = code_of(alloc, view, body)?;
     let states = states_of(alloc, &code, view.sight.world.under.rows)?;
