@@ -7,7 +7,7 @@ use Rattle.jr_flow_defs.specs.declared.point.PointKind.{PointKind}
 use Rattle.jr_flow_defs.specs.declared.point.PointKind.TheVariants as kind
 use Rattle.jr_flow_defs.specs.Edges.{point, own_number}
 use Rattle.jr_flow.specs.declared.numbering.Numbering.{Numbering}
-use Rattle.jr_flow.specs.Numbered.{points_in, taken_in, numbers_in, is_free, IsAtBody, HasOwn, IsTaken, TakesNumber, Matches, ArePointed}
+use Rattle.jr_flow.specs.Numbered.{points_in, taken_in, numbers_in, is_free, IsAtBody, HasOwn, IsTaken, TakesNumber, Matches, HaveNumbers, count_points}
 use Rattle.jr_flow.proofs.Gets.{front_get, get_pushed, get_last, get_set_same, get_set_other, set_length}
 
 own_below : (x : PointKind) (k : ℕ) → own_number x ≡ Some k → k < 3
@@ -77,7 +77,7 @@ number_pushed body old new x n h other follows points taken numbers = record {
 -- ---- at the next place
 
 -- a numbering is told by its lists
-pub pointed_same : (body : ℕ) (old new : Numbering) (found : List (Option Point)) → points_in new ≡ points_in old → taken_in new ≡ taken_in old → numbers_in new ≡ numbers_in old → ArePointed body old found → ArePointed body new found
+pub pointed_same : (body : ℕ) (old new : Numbering) (found : List (Option Point)) → points_in new ≡ points_in old → taken_in new ≡ taken_in old → numbers_in new ≡ numbers_in old → HaveNumbers body old found → HaveNumbers body new found
 pointed_same body old new found points taken numbers h = record {
   own = record { entry = at 0 ∙ h.own.entry; exit = at 1 ∙ h.own.exit; thrown = at 2 ∙ h.own.thrown; three = ap length taken ∙ h.own.three };
   size = ap length numbers ∙ h.size;
@@ -94,7 +94,7 @@ pointed_same body old new found points taken numbers h = record {
     before i = ap (λ xs. slice_get xs i) (sym numbers)
 
 pub begun_pointed : (body : ℕ) (numbering : Numbering) → points_in numbering ≡ record { row = body; kind = kind.Entry } ∷ record { row = body; kind = kind.Exit } ∷ record { row = body; kind = kind.Thrown } ∷ []
-    → taken_in numbering ≡ false ∷ false ∷ false ∷ [] → numbers_in numbering ≡ [] → ArePointed body numbering []
+    → taken_in numbering ≡ false ∷ false ∷ false ∷ [] → numbers_in numbering ≡ [] → HaveNumbers body numbering []
 begun_pointed body numbering points taken numbers = record {
   own = record { entry = ap (λ xs. slice_get xs 0) points; exit = ap (λ xs. slice_get xs 1) points; thrown = ap (λ xs. slice_get xs 2) points; three = ap length taken };
   size = ap length numbers;
@@ -113,7 +113,7 @@ of_body body x = record { row = body; kind = x }
 pub begun : (body : ℕ) (none one two three : Numbering) → points_in none ≡ [] → taken_in none ≡ [] → numbers_in none ≡ []
     → points_in one ≡ points_in none ++ of_body body kind.Entry ∷ [] → taken_in one ≡ taken_in none ++ false ∷ [] → numbers_in one ≡ numbers_in none
     → points_in two ≡ points_in one ++ of_body body kind.Exit ∷ [] → taken_in two ≡ taken_in one ++ false ∷ [] → numbers_in two ≡ numbers_in one
-    → points_in three ≡ points_in two ++ of_body body kind.Thrown ∷ [] → taken_in three ≡ taken_in two ++ false ∷ [] → numbers_in three ≡ numbers_in two → ArePointed body three []
+    → points_in three ≡ points_in two ++ of_body body kind.Thrown ∷ [] → taken_in three ≡ taken_in two ++ false ∷ [] → numbers_in three ≡ numbers_in two → HaveNumbers body three []
 begun body none one two three a b c d e f g h i j k l = begun_pointed body three
     (j ∙ ap (λ xs. xs ++ of_body body kind.Thrown ∷ []) (g ∙ ap (λ xs. xs ++ of_body body kind.Exit ∷ []) (d ∙ ap (λ xs. xs ++ of_body body kind.Entry ∷ []) a)))
     (k ∙ ap (λ xs. xs ++ false ∷ []) (h ∙ ap (λ xs. xs ++ false ∷ []) (e ∙ ap (λ xs. xs ++ false ∷ []) b)))
@@ -124,7 +124,7 @@ free_found (Some false) e = refl
 free_found (Some true) e = absurd (false≢true e)
 free_found None e = absurd (false≢true e)
 
-module _ (body : ℕ) (old mid new : Numbering) (found : List (Option Point)) (h : ArePointed body old found) where
+module _ (body : ℕ) (old mid new : Numbering) (found : List (Option Point)) (h : HaveNumbers body old found) where
   -- the last place, or one before
   split : (o : Option ℕ) → numbers_in new ≡ numbers_in old ++ o ∷ [] → (i : ℕ) (n : Option ℕ) → slice_get (numbers_in new) i ≡ Some n → (slice_get (numbers_in old) i ≡ Some n) ⊎ ((i ≡ length found) × (o ≡ n))
   split o numbers i n e = ⊎_elim (λ a. inl a) (λ b. inr (b.0 ∙ h.size, b.1)) (get_pushed (numbers_in old) o n i (ap (λ xs. slice_get xs i) (sym numbers) ∙ e))
@@ -138,7 +138,7 @@ module _ (body : ℕ) (old mid new : Numbering) (found : List (Option Point)) (h
   inside : (i : ℕ) (n : Option ℕ) → slice_get (numbers_in old) i ≡ Some n → i < length found
   inside i n e = let lt = slice_get_within (numbers_in old) i n e in let size = h.size in omega (arith, lt, size)
 
-  pub none_added : points_in new ≡ points_in old → taken_in new ≡ taken_in old → numbers_in new ≡ numbers_in old ++ None ∷ [] → ArePointed body new (found ++ None ∷ [])
+  pub none_added : points_in new ≡ points_in old → taken_in new ≡ taken_in old → numbers_in new ≡ numbers_in old ++ None ∷ [] → HaveNumbers body new (found ++ None ∷ [])
   none_added points taken numbers = record {
     own = record { entry = at 0 ∙ h.own.entry; exit = at 1 ∙ h.own.exit; thrown = at 2 ∙ h.own.thrown; three = ap length taken ∙ h.own.three };
     size = ap length numbers ∙ length-append (numbers_in old) (None ∷ []) ∙ ap (λ k. k + 1) h.size ∙ sym (length-append found (None ∷ []));
@@ -158,7 +158,7 @@ module _ (body : ℕ) (old mid new : Numbering) (found : List (Option Point)) (h
       some : (i k : ℕ) → slice_get (numbers_in new) i ≡ Some (Some k) → slice_get (numbers_in old) i ≡ Some (Some k)
       some i k e = ⊎_elim (λ a. a) (λ b. absurd (none-some k b.1)) (split None numbers i (Some k) e)
 
-  pub point_added : (x : Point) (n : ℕ) → TakesNumber old mid x n → points_in new ≡ points_in mid → taken_in new ≡ taken_in mid → numbers_in new ≡ numbers_in mid ++ Some n ∷ [] → ArePointed body new (found ++ Some x ∷ [])
+  pub point_added : (x : Point) (n : ℕ) → TakesNumber old mid x n → points_in new ≡ points_in mid → taken_in new ≡ taken_in mid → numbers_in new ≡ numbers_in mid ++ Some n ∷ [] → HaveNumbers body new (found ++ Some x ∷ [])
   point_added x n t points taken more = record {
     own = record { entry = keeps 0 (record { row = body; kind = kind.Entry }) h.own.entry; exit = keeps 1 (record { row = body; kind = kind.Exit }) h.own.exit; thrown = keeps 2 (record { row = body; kind = kind.Thrown }) h.own.thrown; three = ap length taken ∙ t.three };
     size = ap length numbers ∙ length-append (numbers_in old) (Some n ∷ []) ∙ ap (λ k. k + 1) h.size ∙ sym (length-append found (Some x ∷ []));
@@ -198,3 +198,15 @@ module _ (body : ℕ) (old mid new : Numbering) (found : List (Option Point)) (h
       both i j k (inl a) (inr b) = absurd (t.fresh k (h.taken i k a) (sym (same_Some n k b.1)))
       both i j k (inr a) (inl b) = absurd (t.fresh k (h.taken j k b) (sym (same_Some n k a.1)))
       both i j k (inr a) (inr b) = a.0 ∙ sym b.0
+
+-- ---- how many are points
+
+pub count_some : (found : List (Option Point)) (x : Point) → count_points (found ++ Some x ∷ []) ≡ count_points found + 1
+count_some [] x = refl
+count_some (None ∷ found) x = count_some found x
+count_some (Some y ∷ found) x = let e = count_some found x in omega (arith, e)
+
+pub count_none : (found : List (Option Point)) → count_points (found ++ None ∷ []) ≡ count_points found
+count_none [] = refl
+count_none (None ∷ found) = count_none found
+count_none (Some y ∷ found) = ap suc (count_none found)

@@ -115,8 +115,8 @@ module _ (p : Rows) (m : Meaning) (body : ℕ) (states : States) (h : AreAllTurn
     own : (k : ℕ) → own_number x.kind ≡ Some k → number ≡ k
 
   numbered : (i : ℕ) (o : Option Point) → slice_get (map (point_of p m body) (states_of states)) i ≡ Some o → (n : Option ℕ) × (slice_get (numbers_in states.numbering) i ≡ Some n) × Matches (points_in states.numbering) o n
-  numbered i o e = let size = h.right.pointed.size in let lt = slice_get_within (map (point_of p m body) (states_of states)) i o e in let n = got (numbers_in states.numbering) i (omega (arith, lt, size)) in
-      (n.0, n.1, h.right.pointed.matched i o n.0 e n.1)
+  numbered i o e = let size = h.right.pointed.are.size in let lt = slice_get_within (map (point_of p m body) (states_of states)) i o e in let n = got (numbers_in states.numbering) i (omega (arith, lt, size)) in
+      (n.0, n.1, h.right.pointed.are.matched i o n.0 e n.1)
 
   found_is : (i : ℕ) (a : code.State) → slice_get (states_of states) i ≡ Some a → slice_get (map (point_of p m body) (states_of states)) i ≡ Some (point_of p m body a)
   found_is i a e = slice_get-map (point_of p m body) (states_of states) i ∙ ap (option_map (point_of p m body)) e
@@ -136,9 +136,9 @@ module _ (p : Rows) (m : Meaning) (body : ℕ) (states : States) (h : AreAllTurn
       by (Some n) e = ap Some e
 
   placed_at : (i k : ℕ) → number_in states i ≡ Some k → (a : defs.State) × (x : Point) × (slice_get places i ≡ Some a) × (f.point a ≡ Some x)
-  placed_at i k e = let at_i = number_at i k e in let size = h.right.pointed.size in let l = length-map (states_of states) (point_of p m body) in let lt = slice_get_within (numbers_in states.numbering) i (Some k) at_i in
+  placed_at i k e = let at_i = number_at i k e in let size = h.right.pointed.are.size in let l = length-map (states_of states) (point_of p m body) in let lt = slice_get_within (numbers_in states.numbering) i (Some k) at_i in
       let s = got (states_of states) i (omega (arith, lt, size, l)) in
-      let x = some (point_of p m body s.0) (h.right.pointed.matched i (point_of p m body s.0) (Some k) (found_is i s.0 s.1) at_i) in
+      let x = some (point_of p m body s.0) (h.right.pointed.are.matched i (point_of p m body s.0) (Some k) (found_is i s.0 s.1) at_i) in
       (state_seen (lists_of states.pending) s.0, x.0, place_is states i s.0 s.1, x.1)
     where
       some : (o : Option Point) → Matches (points_in states.numbering) o (Some k) → (x : Point) × (o ≡ Some x)
@@ -147,14 +147,14 @@ module _ (p : Rows) (m : Meaning) (body : ℕ) (states : States) (h : AreAllTurn
 
   pub points_are : ArePoints f body places (points_in states.numbering) (number_in states)
   points_are = record {
-    entry = h.right.pointed.own.entry;
-    exit = h.right.pointed.own.exit;
-    thrown = h.right.pointed.own.thrown;
+    entry = h.right.pointed.are.own.entry;
+    exit = h.right.pointed.are.own.exit;
+    thrown = h.right.pointed.are.own.thrown;
     numbered = λ i a x at_i is. let one = point_at i a x at_i is in (one.number, one.is, one.stands);
     own = λ i a x k at_i is at_body own. let one = point_at i a x at_i is in one.is ∙ ap Some (one.own k own);
     only = placed_at;
-    apart = λ i j k e e2. h.right.pointed.apart i j k (number_at i k e) (number_at j k e2);
-    all = λ k least most. let one = h.right.pointed.every k least most in (one.0, ap (option_and_then same_number) one.1);
+    apart = λ i j k e e2. h.right.pointed.are.apart i j k (number_at i k e) (number_at j k e2);
+    all = λ k least most. let one = h.right.pointed.are.every k least most in (one.0, ap (option_and_then same_number) one.1);
   }
 
   -- ---- the flow that is read

@@ -19,3 +19,10 @@ pub mod Counted
 pub mod Stating
 pub mod Walking
 pub mod Drawn
+pub mod Linking
+pub mod Searching
+pub mod Weaving
+pub mod Woven
+pub mod Followed
+pub mod Limiting
+pub mod Few

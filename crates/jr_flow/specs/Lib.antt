@@ -12,3 +12,6 @@ pub mod Grouped
 pub mod Numbered
 pub mod Stated
 pub mod Walked
+pub mod Linked
+pub mod Spread
+pub mod Woven

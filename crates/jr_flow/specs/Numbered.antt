@@ -1,9 +1,11 @@
 -- The numbers of points at places.
-use Rattle.std.specs.Prelude.{◌≡◌, ◌⊎◌, ℕ, ◌<◌, ◌≤◌, Bool, true, false, not, List, length, Option, Some, None, slice_get}
+use Rattle.std.specs.Prelude.{◌≡◌, ◌⊎◌, ℕ, suc, ◌<◌, ◌≤◌, Bool, true, false, not, List, [], ◌∷◌, length, Option, Some, None, slice_get}
 use Rattle.jr_flow_defs.specs.declared.point.Point.{Point}
 use Rattle.jr_flow_defs.specs.declared.point.PointKind.TheVariants as kind
 use Rattle.jr_flow_defs.specs.Edges.{point, own_number}
 use Rattle.jr_flow.specs.declared.numbering.Numbering.{Numbering}
+use Rattle.jr_flow.specs.declared.point.FlowFault.{FlowFault}
+use Rattle.jr_flow.specs.declared.point.FlowFault.TheVariants as fault
 
 abbrev pub points_in : Numbering → List Point
 points_in numbering = numbering.points.items
@@ -61,10 +63,29 @@ Matches points None None = Unit {0}
 Matches points _ _ = ⊥
 
 -- of what stands at each place the number is there, and each point but the entry and the exits stands at one
-pub record ArePointed (body : ℕ) (numbering : Numbering) (found : List (Option Point)) : Type 0 where
+pub record HaveNumbers (body : ℕ) (numbering : Numbering) (found : List (Option Point)) : Type 0 where
   pub own : HasOwn body numbering
   pub size : length (numbers_in numbering) ≡ length found
   pub matched : (i : ℕ) (o : Option Point) (n : Option ℕ) → slice_get found i ≡ Some o → slice_get (numbers_in numbering) i ≡ Some n → Matches (points_in numbering) o n
   pub apart : (i j k : ℕ) → slice_get (numbers_in numbering) i ≡ Some (Some k) → slice_get (numbers_in numbering) j ≡ Some (Some k) → i ≡ j
   pub every : (k : ℕ) → 3 ≤ k → k < length (points_in numbering) → (i : ℕ) × (slice_get (numbers_in numbering) i ≡ Some (Some k))
   pub taken : (i k : ℕ) → slice_get (numbers_in numbering) i ≡ Some (Some k) → IsTaken numbering k
+
+-- how many of them are points
+abbrev pub count_points : List (Option Point) → ℕ
+count_points [] = 0
+count_points (None ∷ rest) = count_points rest
+count_points (Some x ∷ rest) = suc (count_points rest)
+
+-- so it is, and no more points were found than there may be
+pub record ArePointed (body : ℕ) (numbering : Numbering) (found : List (Option Point)) : Type 0 where
+  pub are : HaveNumbers body numbering found
+  pub counted : numbering.count ≡ count_points found
+  pub most : numbering.count ≤ 65536
+
+-- ---- why there is no number
+
+-- the fault is that of too many points where this holds alone
+abbrev pub OnlyWhere : Type 0 → FlowFault → Type 0
+OnlyWhere P fault.TooManyPoints = P
+OnlyWhere P fault.OutOfMemory = Unit {0}

@@ -5,7 +5,7 @@ use Rattle.jr_tree.specs.Rows.{Rows}
 use Rattle.jr_flow_defs.specs.declared.point.Point.{Point}
 use Rattle.jr_flow_defs.specs.declared.point.PointKind.TheVariants as kind
 use Rattle.jr_flow_defs.specs.Meaning.{Meaning}
-use Rattle.jr_flow_defs.specs.Edges.{point, body_flow, IsGraph}
+use Rattle.jr_flow_defs.specs.Edges.{point, body_flow, IsGraph, DefUse}
 use Rattle.jr_flow_defs.specs.Graphs.{StepList, StepPath, PassesAt, is_definition_of, ReachesByNumbers}
 use Rattle.jr_flow.specs.declared.point.Step as code_step
 use Rattle.jr_flow.specs.declared.point.Graph as code
@@ -42,3 +42,7 @@ pub record HasPair (points : List Point) (pairs : List (ℕ × ℕ)) (i j : ℕ)
   pub pair : Contains pairs (from, to)
   pub defines : slice_get points from ≡ point i (kind.Definition local)
   pub uses : slice_get points to ≡ point j (kind.Use local)
+
+-- by the pairs the definitions at rows reach the uses at rows that they reach in the flow of the body, and no others
+abbrev pub AreDefUses : Rows → Meaning → code.Graph → List (ℕ × ℕ) → Type 0
+AreDefUses p m graph pairs = (i j : ℕ) → (DefUse (body_flow p m graph.body) i j → HasPair graph.points.items pairs i j) × (HasPair graph.points.items pairs i j → DefUse (body_flow p m graph.body) i j)

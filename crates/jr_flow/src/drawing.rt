@@ -1,5 +1,5 @@
 // The graph of a body: its points, and the steps that pass over no other place that is a point.
-ghost use Rattle.std.specs.Prelude.{◌≡◌, ◌+◌, ◌-◌, ◌<◌, ◌≤◌, ◌^◌, ◌++◌, ◌∷◌, [], ℕ, true, false, List, Option, Some, None, if◌then◌else◌, IfOk, IfSome, OnOk, length, map, slice_get, slice_set};
+ghost use Rattle.std.specs.Prelude.{◌≡◌, ◌+◌, ◌-◌, ◌<◌, ◌≤◌, ◌^◌, ◌++◌, ◌∷◌, [], ℕ, true, false, List, Option, Some, None, if◌then◌else◌, IfOk, IfErr, IfSome, OnOk, length, map, slice_get, slice_set};
 ghost use Rattle.std.specs.List.Sorted.{IsPermutation};
 ghost use Rattle.jr_places.specs.declared.stamps.Stamps as stamps;
 ghost use Rattle.jr_places.specs.Stamps.{IsStamping, IsEmptied, AddsStamp};
@@ -12,7 +12,9 @@ ghost use Rattle.jr_flow.specs.declared.states.States as code_states;
 ghost use Rattle.jr_flow.specs.Located.{states_in};
 ghost use Rattle.jr_flow.specs.Views.{rows_in, IsViewOf};
 ghost use Rattle.jr_flow.specs.Reached.{step_seen, IsGraphOf};
+ghost use Rattle.jr_flow.specs.Coded.{IsTooLarge};
 ghost use Rattle.jr_flow.specs.Grouped.{hops_in};
+ghost use Rattle.jr_flow.specs.Numbered.{OnlyWhere};
 ghost use Rattle.jr_flow.specs.Stated as stated;
 ghost use Rattle.jr_flow.specs.Walked as tell;
 
@@ -412,7 +414,9 @@ fn drawn(alloc: Global, states: &States, body: u32) -> Result<Graph, OutOfMemory
 
 /// The graph of the body that is declared at a row. There is none where it has more than 65,536 points: its entry, its exits as far as they are reached, and all others.
 pub fn graph(alloc: Global, view: &View, body: u32) -> Result<Graph, FlowFault>
-    ensures { (m : Meaning) → IsViewOf view.now m → IsTree (rows_in view.now) → body < length (rows_in view.now) → IfOk result (λ made. (made.body ≡ body) × IsGraphOf (rows_in view.now) m made) }
+    ensures graph { (m : Meaning) → IsViewOf view.now m → IsTree (rows_in view.now) → body < length (rows_in view.now) → IfOk result (λ made. (made.body ≡ body) × IsGraphOf (rows_in view.now) m made) }
+    ensures large { (m : Meaning) → IsViewOf view.now m → IsTree (rows_in view.now) → body < length (rows_in view.now) → IfErr result (OnlyWhere (IsTooLarge (rows_in view.now) m body)) }
+    ensures small { (m : Meaning) → IsViewOf view.now m → IsTree (rows_in view.now) → body < length (rows_in view.now) → OnOk result (IsTooLarge (rows_in view.now) m body → ⊥) }
 {
     let code = code_of(alloc, view, body)?;
     let states = states_of(alloc, &code, view.sight.world.under.rows)?;

@@ -1,8 +1,8 @@
 // The points among places, each with a number.
-ghost use Rattle.std.specs.Prelude.{◌≡◌, ℕ, true, false, ◌∷◌, ◌++◌, [], List, Option, Some, None, IfOk, OnOk, option_and_then, slice_get, slice_set};
+ghost use Rattle.std.specs.Prelude.{◌≡◌, ℕ, true, false, ◌∷◌, ◌++◌, [], List, Option, Some, None, ◌+◌, ◌<◌, ◌≤◌, IfOk, IfErr, OnOk, option_and_then, slice_get, slice_set};
 ghost use Rattle.jr_flow_defs.specs.declared.point.Point as defs;
 ghost use Rattle.jr_flow_defs.specs.Edges as edges;
-ghost use Rattle.jr_flow.specs.Numbered.{points_in, taken_in, numbers_in, is_free, IsAtBody, HasOwn, TakesNumber, ArePointed, AddsPoint, same_number};
+ghost use Rattle.jr_flow.specs.Numbered.{points_in, taken_in, numbers_in, is_free, IsAtBody, HasOwn, TakesNumber, HaveNumbers, ArePointed, AddsPoint, same_number, count_points, OnlyWhere};
 
 use crate::point::{FlowFault, Point, PointKind};
 use jr_base::{Limits, OutOfMemory};
@@ -46,6 +46,7 @@ impl Numbering {
         ensures points { points_in result ≡ [] }
         ensures taken { taken_in result ≡ [] }
         ensures numbers { numbers_in result ≡ [] }
+        ensures count { result.count ≡ 0 }
     {
         Numbering {
             points: Vec::new(alloc),
@@ -59,6 +60,7 @@ impl Numbering {
         ensures points { OnOk result (points_in self.new ≡ points_in self.old ++ record { row = row; kind = kind } ∷ []) }
         ensures taken { OnOk result (taken_in self.new ≡ taken_in self.old ++ false ∷ []) }
         ensures numbers { numbers_in self.new ≡ numbers_in self.old }
+        ensures count { self.new.count ≡ self.old.count }
     {
         self.points.push(Point { row, kind })?;
         self.taken.push(false)?;
@@ -87,29 +89,32 @@ impl Numbering {
     }
 
     // The number of the entry or of an exit, to which control comes at one place alone.
-    fn take(&mut self, number: u32) -> Result<u32, FlowFault>
-        ensures { (body : ℕ) (x : defs.Point) → HasOwn body self.old → IsAtBody body x → edges.own_number x.kind ≡ Some number → IfOk result (λ n. TakesNumber self.old self.new x n) }
+    fn take(&mut self, number: u32) -> Result<u32, OutOfMemory>
+        ensures taken { (body : ℕ) (x : defs.Point) → HasOwn body self.old → IsAtBody body x → edges.own_number x.kind ≡ Some number → IfOk result (λ n. TakesNumber self.old self.new x n) }
+        ensures count { self.new.count ≡ self.old.count }
     {
         if !self.is_free(number) {
-            return Err(FlowFault::OutOfMemory);
+            return Err(OutOfMemory);
         }
         mark(&mut self.taken, number);
         Ok(number)
     }
 
     // The number of any other point.
-    fn push(&mut self, point: Point) -> Result<u32, FlowFault>
-        ensures { (body : ℕ) → HasOwn body self.old → edges.own_number point.kind ≡ None → IfOk result (λ n. TakesNumber self.old self.new point n) }
+    fn push(&mut self, point: Point) -> Result<u32, OutOfMemory>
+        ensures taken { (body : ℕ) → HasOwn body self.old → edges.own_number point.kind ≡ None → IfOk result (λ n. TakesNumber self.old self.new point n) }
+        ensures count { self.new.count ≡ self.old.count }
     {
         let Ok(number) = u32::try_from(self.points.len()) else {
-            return Err(FlowFault::OutOfMemory);
+            return Err(OutOfMemory);
         };
         self.points.push(point)?;
         Ok(number)
     }
 
-    fn number(&mut self, point: Point) -> Result<u32, FlowFault>
-        ensures { (body : ℕ) → HasOwn body self.old → IsAtBody body point → IfOk result (λ n. TakesNumber self.old self.new point n) }
+    fn number(&mut self, point: Point) -> Result<u32, OutOfMemory>
+        ensures taken { (body : ℕ) → HasOwn body self.old → IsAtBody body point → IfOk result (λ n. TakesNumber self.old self.new point n) }
+        ensures count { self.new.count ≡ self.old.count }
     {
         match own_number(point.kind) {
             Some(number) => self.take(number),
@@ -122,6 +127,8 @@ impl Numbering {
         ensures points { points_in self.new ≡ points_in self.old }
         ensures taken { taken_in self.new ≡ taken_in self.old }
         ensures numbers { numbers_in self.new ≡ numbers_in self.old }
+        ensures counted { OnOk result ((self.new.count ≡ self.old.count + 1) × (self.new.count ≤ 65536)) }
+        ensures large { IfErr result (OnlyWhere (65536 < self.old.count + 1)) }
     {
         self.count = self.count.saturating_add(1);
         if self.count > Limits::FLOW {
@@ -132,7 +139,8 @@ impl Numbering {
 
     // A point stands at the next place.
     fn add_point(&mut self, point: Point) -> Result<(), FlowFault>
-        ensures { (body : ℕ) (all : List (Option defs.Point)) → ArePointed body self.old all → IsAtBody body point → OnOk result (ArePointed body self.new (all ++ Some point ∷ [])) }
+        ensures added { (body : ℕ) (all : List (Option defs.Point)) → ArePointed body self.old all → IsAtBody body point → OnOk result (ArePointed body self.new (all ++ Some point ∷ [])) }
+        ensures large { (body : ℕ) (all : List (Option defs.Point)) → ArePointed body self.old all → IfErr result (OnlyWhere (65536 < count_points (all ++ Some point ∷ []))) }
     {
         self.count_one()?;
         let number = self.number(point)?;
@@ -141,7 +149,7 @@ impl Numbering {
     }
 
     // No point stands at the next place.
-    fn add_none(&mut self) -> Result<(), FlowFault>
+    fn add_none(&mut self) -> Result<(), OutOfMemory>
         ensures { (body : ℕ) (all : List (Option defs.Point)) → ArePointed body self.old all → OnOk result (ArePointed body self.new (all ++ None ∷ [])) }
     {
         self.numbers.push(None)?;
@@ -150,11 +158,12 @@ impl Numbering {
 
     /// What stands at the next place.
     pub(crate) fn add(&mut self, found: Option<Point>) -> Result<(), FlowFault>
-        ensures { (body : ℕ) (all : List (Option defs.Point)) → ArePointed body self.old all → AddsPoint body found → OnOk result (ArePointed body self.new (all ++ found ∷ [])) }
+        ensures added { (body : ℕ) (all : List (Option defs.Point)) → ArePointed body self.old all → AddsPoint body found → OnOk result (ArePointed body self.new (all ++ found ∷ [])) }
+        ensures large { (body : ℕ) (all : List (Option defs.Point)) → ArePointed body self.old all → IfErr result (OnlyWhere (65536 < count_points (all ++ found ∷ []))) }
     {
         match found {
             Some(point) => self.add_point(point),
-            None => self.add_none(),
+            None => Ok(self.add_none()?),
         }
     }
 

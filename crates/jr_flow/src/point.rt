@@ -1,4 +1,6 @@
 // Points of flow, and the graph of a body.
+ghost use Rattle.std.specs.Prelude.{◌≡◌};
+ghost use Rattle.jr_flow.specs.declared.point.FlowFault.TheVariants.{OutOfMemory};
 
 use jr_base::OutOfMemory;
 pub use jr_flow_defs::{Point, PointKind};
@@ -31,18 +33,24 @@ pub enum FlowFault {
 }
 
 impl From<OutOfMemory> for FlowFault {
+    ghost from_gives = { λ _ fault. fault ≡ OutOfMemory };
+
     fn from(_: OutOfMemory) -> Self {
         FlowFault::OutOfMemory
     }
 }
 
 impl From<AllocError> for FlowFault {
+    ghost from_gives = { λ _ fault. fault ≡ OutOfMemory };
+
     fn from(_: AllocError) -> Self {
         FlowFault::OutOfMemory
     }
 }
 
 impl<T: Drop> From<AllocFailed<T>> for FlowFault {
+    ghost from_gives = { λ _ fault. fault ≡ OutOfMemory };
+
     fn from(_: AllocFailed<T>) -> Self {
         FlowFault::OutOfMemory
     }

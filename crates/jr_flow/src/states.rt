@@ -1,5 +1,5 @@
 // The places that control comes to in a body, from its entry on.
-ghost use Rattle.std.specs.Prelude.{◌≡◌, ◌+◌, ◌-◌, ◌<◌, ◌≤◌, ◌^◌, ◌∷◌, ◌++◌, [], ℕ, List, Option, Some, IfOk, OnOk, length, nat_lt, not, ◌&&◌, slice_get};
+ghost use Rattle.std.specs.Prelude.{◌≡◌, ◌+◌, ◌-◌, ◌<◌, ◌≤◌, ◌^◌, ◌∷◌, ◌++◌, [], ℕ, List, Option, Some, IfOk, IfErr, OnOk, length, nat_lt, not, ◌&&◌, slice_get};
 ghost use Rattle.jr_tree.specs.Rows.{end};
 ghost use Rattle.jr_flow_defs.specs.Meaning.{Meaning};
 ghost use Rattle.jr_flow_defs.specs.Paths.{IsReached};
@@ -7,11 +7,11 @@ ghost use Rattle.jr_flow_defs.specs.Edges.{body_flow};
 ghost use Rattle.jr_flow.specs.declared.hops.Hop as code_hop;
 ghost use Rattle.jr_flow.specs.declared.leaving.Way as code_way;
 ghost use Rattle.jr_flow.specs.declared.states.States as code_states;
-ghost use Rattle.jr_flow.specs.Coded.{IsCoded};
+ghost use Rattle.jr_flow.specs.Coded.{IsCoded, IsTooLarge};
 ghost use Rattle.jr_flow.specs.Pended.{lists_of};
 ghost use Rattle.jr_flow.specs.Places.{state_seen};
 ghost use Rattle.jr_flow.specs.Grouped.{hops_in};
-ghost use Rattle.jr_flow.specs.Numbered.{points_in};
+ghost use Rattle.jr_flow.specs.Numbered.{points_in, OnlyWhere};
 ghost use Rattle.jr_flow.specs.Stated as tell;
 ghost use Rattle.jr_flow.specs.Walked as read;
 
@@ -60,8 +60,9 @@ impl States {
 
     // The number of a place, which may be new.
     fn number(&mut self, code: &Code, rows: &[Row], state: State) -> Result<u32, FlowFault>
-        ensures { (m : Meaning) → IsCoded rows.now m code.now → tell.AreStates rows.now m code.now.body self.old → IsReached (body_flow rows.now m code.now.body) (state_seen (lists_of self.old.pending) state)
+        ensures done { (m : Meaning) → IsCoded rows.now m code.now → tell.AreStates rows.now m code.now.body self.old → IsReached (body_flow rows.now m code.now.body) (state_seen (lists_of self.old.pending) state)
             → IfOk result (λ n. tell.HasNumber rows.now m code.now.body self.old self.new state n) }
+        ensures large { (m : Meaning) → IsCoded rows.now m code.now → tell.AreStates rows.now m code.now.body self.old → IsReached (body_flow rows.now m code.now.body) (state_seen (lists_of self.old.pending) state) → IfErr result (OnlyWhere (IsTooLarge rows.now m code.now.body)) }
     {
         if let Some(known) = self.locations.find(state) {
             return Ok(known);
@@ -76,7 +77,8 @@ impl States {
 
     // The entry is the first place.
     fn enter(&mut self, code: &Code, rows: &[Row]) -> Result<(), FlowFault>
-        ensures { (m : Meaning) → IsCoded rows.now m code.now → tell.AreBegun code.now.body self.old → OnOk result (tell.IsExploring rows.now m code.now.body self.new 0) }
+        ensures done { (m : Meaning) → IsCoded rows.now m code.now → tell.AreBegun code.now.body self.old → OnOk result (tell.IsExploring rows.now m code.now.body self.new 0) }
+        ensures large { (m : Meaning) → IsCoded rows.now m code.now → tell.AreBegun code.now.body self.old → IfErr result (OnlyWhere (IsTooLarge rows.now m code.now.body)) }
     {
         let number = self.number(code, rows, before(code.body(), 0, NOTHING))?;
         if number != 0 {
@@ -87,9 +89,11 @@ impl States {
 
     // Notes a way from the last place that has hops.
     fn note(&mut self, code: &Code, rows: &[Row], way: Way) -> Result<(), FlowFault>
-        ensures { (m : Meaning) (before : code_states.States) (groups : List (List code_hop.Hop)) (ways : List code_way.Way) (k : ℕ) → IsCoded rows.now m code.now
+        ensures done { (m : Meaning) (before : code_states.States) (groups : List (List code_hop.Hop)) (ways : List code_way.Way) (k : ℕ) → IsCoded rows.now m code.now
             → tell.AreNoted rows.now m code.now.body before self.old groups ways k → slice_get ways k ≡ Some way → IsReached (body_flow rows.now m code.now.body) (state_seen (lists_of before.pending) way.to)
             → OnOk result (tell.AreNoted rows.now m code.now.body before self.new groups ways (k + 1)) }
+        ensures large { (m : Meaning) (before : code_states.States) (groups : List (List code_hop.Hop)) (ways : List code_way.Way) (k : ℕ) → IsCoded rows.now m code.now
+            → tell.AreNoted rows.now m code.now.body before self.old groups ways k → slice_get ways k ≡ Some way → IsReached (body_flow rows.now m code.now.body) (state_seen (lists_of before.pending) way.to) → IfErr result (OnlyWhere (IsTooLarge rows.now m code.now.body)) }
     {
         let to = self.number(code, rows, way.to)?;
         self.hops.push(Hop {
@@ -107,9 +111,11 @@ impl States {
         ways: &[Way],
         nth: usize,
     ) -> Result<(), FlowFault>
-        ensures { (m : Meaning) (before : code_states.States) (groups : List (List code_hop.Hop)) → IsCoded rows.now m code.now → nth < length ways.now
+        ensures done { (m : Meaning) (before : code_states.States) (groups : List (List code_hop.Hop)) → IsCoded rows.now m code.now → nth < length ways.now
             → tell.AreNoted rows.now m code.now.body before self.old groups ways.now nth → tell.AreWaysReached rows.now m code.now.body before.pending ways.now
             → OnOk result (tell.AreNoted rows.now m code.now.body before self.new groups ways.now (nth + 1)) }
+        ensures large { (m : Meaning) (before : code_states.States) (groups : List (List code_hop.Hop)) → IsCoded rows.now m code.now → nth < length ways.now
+            → tell.AreNoted rows.now m code.now.body before self.old groups ways.now nth → tell.AreWaysReached rows.now m code.now.body before.pending ways.now → IfErr result (OnlyWhere (IsTooLarge rows.now m code.now.body)) }
     {
         match way_at(ways, nth) {
             Some(way) => self.note(code, rows, way),
@@ -119,9 +125,11 @@ impl States {
 
     // Notes the ways from the last place that has hops.
     fn note_all(&mut self, code: &Code, rows: &[Row], ways: &[Way]) -> Result<(), FlowFault>
-        ensures { (m : Meaning) (before : code_states.States) (groups : List (List code_hop.Hop)) → IsCoded rows.now m code.now
+        ensures done { (m : Meaning) (before : code_states.States) (groups : List (List code_hop.Hop)) → IsCoded rows.now m code.now
             → tell.AreNoted rows.now m code.now.body before self.old groups ways.now 0 → tell.AreWaysReached rows.now m code.now.body before.pending ways.now
             → OnOk result (tell.AreNoted rows.now m code.now.body before self.new groups ways.now (length ways.now)) }
+        ensures large { (m : Meaning) (before : code_states.States) (groups : List (List code_hop.Hop)) → IsCoded rows.now m code.now
+            → tell.AreNoted rows.now m code.now.body before self.old groups ways.now 0 → tell.AreWaysReached rows.now m code.now.body before.pending ways.now → IfErr result (OnlyWhere (IsTooLarge rows.now m code.now.body)) }
     {
         for nth in 0..ways.len() {
             self.note_at(code, rows, ways, nth)?;
@@ -137,8 +145,9 @@ impl States {
         ways: &mut Vec<Way>,
         state: State,
     ) -> Result<(), FlowFault>
-        ensures { (m : Meaning) (groups : List (List code_hop.Hop)) → IsCoded rows.now m code.now → tell.AreTurned rows.now m code.now.body self.old groups → slice_get (tell.states_of self.old) (length groups) ≡ Some state
+        ensures done { (m : Meaning) (groups : List (List code_hop.Hop)) → IsCoded rows.now m code.now → tell.AreTurned rows.now m code.now.body self.old groups → slice_get (tell.states_of self.old) (length groups) ≡ Some state
             → OnOk result (tell.IsTurned rows.now m code.now.body self.old self.new groups) }
+        ensures large { (m : Meaning) (groups : List (List code_hop.Hop)) → IsCoded rows.now m code.now → tell.AreTurned rows.now m code.now.body self.old groups → slice_get (tell.states_of self.old) (length groups) ≡ Some state → IfErr result (OnlyWhere (IsTooLarge rows.now m code.now.body)) }
     {
         self.hops.begin()?;
         ways.clear();
@@ -148,7 +157,8 @@ impl States {
 
     // Finds all places and the ways between them.
     fn explore(&mut self, code: &Code, rows: &[Row], ways: &mut Vec<Way>) -> Result<(), FlowFault>
-        ensures { (m : Meaning) → IsCoded rows.now m code.now → tell.IsExploring rows.now m code.now.body self.old 0 → OnOk result (tell.AreAllTurned rows.now m code.now.body self.new) }
+        ensures done { (m : Meaning) → IsCoded rows.now m code.now → tell.IsExploring rows.now m code.now.body self.old 0 → OnOk result (tell.AreAllTurned rows.now m code.now.body self.new) }
+        ensures large { (m : Meaning) → IsCoded rows.now m code.now → tell.IsExploring rows.now m code.now.body self.old 0 → IfErr result (OnlyWhere (IsTooLarge rows.now m code.now.body)) }
     {
         for number in 0..u32::MAX {
             let Some(state) = self.locations.get(number) else {
@@ -223,7 +233,8 @@ fn explore_body(
     states: &mut States,
     ways: &mut Vec<Way>,
 ) -> Result<(), FlowFault>
-    ensures { (m : Meaning) → IsCoded rows.now m code.now → tell.AreBegun code.now.body states.old → OnOk result (tell.AreAllTurned rows.now m code.now.body states.new) }
+    ensures done { (m : Meaning) → IsCoded rows.now m code.now → tell.AreBegun code.now.body states.old → OnOk result (tell.AreAllTurned rows.now m code.now.body states.new) }
+    ensures large { (m : Meaning) → IsCoded rows.now m code.now → tell.AreBegun code.now.body states.old → IfErr result (OnlyWhere (IsTooLarge rows.now m code.now.body)) }
 {
     states.enter(code, rows)?;
     states.explore(code, rows, ways)
@@ -231,7 +242,8 @@ fn explore_body(
 
 /// The places that control comes to in a body, and the ways between them.
 pub(crate) fn states_of(alloc: Global, code: &Code, rows: &[Row]) -> Result<Box<States>, FlowFault>
-    ensures { (m : Meaning) → IsCoded rows.now m code.now → IfOk result (λ states. tell.AreAllTurned rows.now m code.now.body states.value) }
+    ensures done { (m : Meaning) → IsCoded rows.now m code.now → IfOk result (λ states. tell.AreAllTurned rows.now m code.now.body states.value) }
+    ensures large { (m : Meaning) → IsCoded rows.now m code.now → IfErr result (OnlyWhere (IsTooLarge rows.now m code.now.body)) }
 {
     let mut states = Box::new(alloc, begun(alloc, code.body())?)?;
     let mut ways = Vec::new(alloc);

@@ -1,0 +1,6 @@
+use Rattle.std.proofs.Common.{◌≡◌, map, take}
+use Rattle.jr_flow.specs.Woven.{pair_behind}
+use Rattle.jr_flow.proofs.webs.pairs_behind.Given as goal
+
+abbrev pub invariant-loop-nth : goal.invariant-loop-nth
+invariant-loop-nth l = l.pairs.items ≡ map pair_behind (take l.nth l.steps)
