@@ -138,7 +138,7 @@ module _ (p : Rows) where
 
 -- ---- parts
 
-block_tells : (l : Label) → Decides (is_block l) (l ≡ is.Block)
+pub block_tells : (l : Label) → Decides (is_block l) (l ≡ is.Block)
 block_tells is.Block = (λ h. refl, λ e. refl)
 block_tells _ = (λ h. absurd (false≢true h), λ e. absurd (cc))
 
@@ -176,7 +176,7 @@ module _ (p : Rows) (n : ℕ) where
   later_below : (k : ℕ) → IsLaterBlock p n k → k < length p
   later_below k h = bounded (λ l. l ≡ is.Block) (λ e. absurd (cc)) p k h.block
 
-  last_finds : Finds (last_part p part.Finally (length p) n) (λ k. IsLastBlock p n k)
+  pub last_finds : Finds (last_part p part.Finally (length p) n) (λ k. IsLastBlock p n k)
   last_finds = like_finds (last_part p part.Finally (length p) n) (finds_last (λ k. is_it (holder p part.Finally k) n) (λ k. IsLaterBlock p n k) later_tells (length p))
       (λ k h. record { block = h.1; last = λ j later. h.2 j (later_below j later) later })
       (λ k h. (later_below k h.block, h.block, λ j lt later. h.last j later))

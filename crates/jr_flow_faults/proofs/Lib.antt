@@ -4,4 +4,9 @@ mod Gathering
 pub mod Known
 pub mod Kept
 mod Exceptions
+pub mod Rooted
+pub mod Covered
+pub mod Outward
+pub mod Guarded
+pub mod Followed
 mod Added
