@@ -58,7 +58,7 @@ loop_or_switch_tells is.While = always
 loop_or_switch_tells (is.For has_first has_condition) = always
 loop_or_switch_tells _ = never
 
-declared_finds : (a : Referent) → Finds (declared a) (λ d. (level : Option ℕ) × (a ≡ Declared d level))
+pub declared_finds : (a : Referent) → Finds (declared a) (λ d. (level : Option ℕ) × (a ≡ Declared d level))
 declared_finds (Declared d level) x = (λ e. (level, ap (λ r. Declared r level) (same_Some d x e)), λ h. let e = h.1 in ap Some (row_of e))
   where
     row_of : {a b : ℕ} {l m : Option ℕ} → Declared a l ≡ Declared b m → a ≡ b

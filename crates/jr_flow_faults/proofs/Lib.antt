@@ -9,4 +9,6 @@ pub mod Covered
 pub mod Outward
 pub mod Guarded
 pub mod Followed
+pub mod Letting
+pub mod Uncaught
 mod Added

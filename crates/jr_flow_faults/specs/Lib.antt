@@ -2,6 +2,8 @@ pub mod Known
 pub mod Computed
 pub mod Roots
 pub mod Exceptions
-pub mod ExceptionTests
 pub mod Outwards
+pub mod ExceptionTests
+pub mod Arriving
+pub mod Reading
 pub mod Faults
