@@ -140,16 +140,20 @@ module _ (p : Rows) (local : IsLocal p) (t : Table) (completes : ℕ → Bool) (
 
     -- where no `try` is ahead, all are done
     pub following_pairs : ((o : ℕ) → From next o → IsTry (label p o) → ⊥) → AreFollowed p t completes c n old now
-    following_pairs past o d = (λ h. ⊎_elim (λ k. inl k) (λ k. inr (k.0, try_left o k.1 k.2)) (before.pairs o d h),
-        ⊎_elim (λ k. before.kept o d k) (λ k. subst (λ x. has_pair now o x ≡ true) k.0
-        (⊎_elim (λ a. a.0) (λ a. absurd (past o a k.1.body.statement)) (before.ahead o (left_arrives o k.1)))))
+    following_pairs past o d = (
+      λ h. ⊎_elim (λ k. inl k) (λ k. inr (k.0, try_left o k.1 k.2)) (before.pairs o d h),
+      ⊎_elim (λ k. before.kept o d k) (λ k. subst (λ x. has_pair now o x ≡ true) k.0
+          (⊎_elim (λ a. a.0) (λ a. absurd (past o a k.1.body.statement)) (before.ahead o (left_arrives o k.1)))),
+    )
 
     pub following_none : ((m : ℕ) → From next m → ⊥) → Finds None (IsReached p t completes c n)
     following_none past m = (λ h. absurd (none-some m h), λ h. ⊎_elim (λ a. absurd (code_no_try (label p m) h.is_code a.1)) (λ a. absurd (past m a)) (before.ahead m (reached_arrives m h)))
 
     pub following_end : (g : ℕ) → next ≡ Some g → (IsTry (label p g) → ⊥) → Finds (Some g) (IsReached p t completes c n)
-    following_end g is other m = (λ h. subst (IsReached p t completes c n) (same_Some g m h) reached,
-        λ h. ⊎_elim (λ a. absurd (code_no_try (label p m) h.is_code a.1)) (λ a. ap Some (here m (subst (λ o. From o m) is a))) (before.ahead m (reached_arrives m h)))
+    following_end g is other m = (
+      λ h. subst (IsReached p t completes c n) (same_Some g m h) reached,
+      λ h. ⊎_elim (λ a. absurd (code_no_try (label p m) h.is_code a.1)) (λ a. ap Some (here m (subst (λ o. From o m) is a))) (before.ahead m (reached_arrives m h)),
+    )
       where
         here : (m : ℕ) → Goes p t completes c g m → g ≡ m
         here m (Goes.there same) = same

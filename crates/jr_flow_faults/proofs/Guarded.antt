@@ -50,6 +50,10 @@ try_tells (is.Initializer s) = (λ h. absurd (false≢true h), λ h. absurd h)
 try_tells (is.Field m d) = (λ h. absurd (false≢true h), λ h. absurd h)
 try_tells _ = (λ h. absurd (false≢true h), λ h. absurd h)
 
+pub it_tells : {P : ℕ → Type 0} (o : Option ℕ) → Finds o P → (k : ℕ) → Decides (is_it o k) (P k)
+it_tells None finds k = (λ h. absurd (false≢true h), λ h. absurd (none-some k ((finds k).1 h)))
+it_tells (Some m) finds k = like (Decides-eqb m k) (λ h. (finds k).0 (ap Some h)) (λ h. same_Some m k ((finds k).1 h))
+
 module _ (p : Rows) (f : Facts) (e : Entries) (lasts : (n : ℕ) → Finds (fact f n).last (λ k. IsLastBlock p n k)) where
   abbrev completes : ℕ → Bool
   completes = completing e
@@ -66,10 +70,6 @@ module _ (p : Rows) (f : Facts) (e : Entries) (lasts : (n : ℕ) → Finds (fact
 
   pub finally_tells : (n : ℕ) → Decides (not (loses f e n)) (FinallyCompletes p completes n)
   finally_tells n = loses_tells n (fact f n).last (lasts n)
-
-  it_finds : {P : ℕ → Type 0} (o : Option ℕ) → Finds o P → (k : ℕ) → Decides (is_it o k) (P k)
-  it_finds None finds k = (λ h. absurd (false≢true h), λ h. absurd (none-some k ((finds k).1 h)))
-  it_finds (Some m) finds k = like (Decides-eqb m k) (λ h. (finds k).0 (ap Some h)) (λ h. same_Some m k ((finds k).1 h))
 
   -- ---- one row by those before it
 
@@ -124,7 +124,7 @@ module _ (p : Rows) (f : Facts) (e : Entries) (lasts : (n : ℕ) → Finds (fact
       by_tests false false false x y z g = (λ h. absurd (none-some g h), λ h. absurd (of_none (λ k. false≢true (x.1 k)) (λ k. false≢true (y.1 k)) (λ k. false≢true (z.1 k)) h))
 
       try_finds : Finds (guard_in_try p f e known n) Met
-      try_finds = by_tests (is_catch (label p n)) _ _ (catch_tells (label p n)) body_tells (it_finds (fact f (parent p n)).last (lasts (parent p n)) n)
+      try_finds = by_tests (is_catch (label p n)) _ _ (catch_tells (label p n)) body_tells (it_tells (fact f (parent p n)).last (lasts (parent p n)) n)
 
     of_code_out : {g : ℕ} → IsCode (label p (parent p n)) → Met g → parent p n ≡ g
     of_code_out is (Meets.code h) = refl

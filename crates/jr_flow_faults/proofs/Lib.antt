@@ -11,4 +11,6 @@ pub mod Guarded
 pub mod Followed
 pub mod Letting
 pub mod Uncaught
+pub mod Arriving
+pub mod Noted
 mod Added

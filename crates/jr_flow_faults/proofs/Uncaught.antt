@@ -55,7 +55,7 @@ use Rattle.jr_flow_faults.specs.Outwards.{guard_of, is_try, loses_by}
 use Rattle.jr_flow_faults.specs.ExceptionTests.{is_invocation, items, class_in, named_class, declared_classes, declared_by, invoked_classes, thrown_by, thrown_at, catch_class, is_constructor, declares, lets_by, all_declare, lets_out_by, lets_out, catches, is_code, is_try_block, finally_completes, goes_on, outwards_to, outwards, comes_uncaught, is_uncaught, is_thrown_in, can_throw, is_unthrown}
 use Rattle.jr_flow_faults.proofs.Known.{block_tells, last_finds, declared_finds}
 use Rattle.jr_flow_faults.proofs.Covered.{catch_tells, catch_finds, before_tells, class_finds, one_item, item_one}
-use Rattle.jr_flow_faults.proofs.Guarded.{try_tells}
+use Rattle.jr_flow_faults.proofs.Guarded.{try_tells, it_tells}
 use Rattle.jr_flow_faults.proofs.Outward.{under_try}
 
 -- ---- what is thrown
@@ -239,10 +239,6 @@ code_tells (is.Initializer s) = always
 code_tells (is.Field m d) = always
 code_tells _ = never
 
-last_tells : {P : ℕ → Type 0} (o : Option ℕ) → Finds o P → (k : ℕ) → Decides (is_it o k) (P k)
-last_tells None finds k = (λ h. absurd (false≢true h), λ h. absurd (none-some k ((finds k).1 h)))
-last_tells (Some m) finds k = like (Decides-eqb m k) (λ h. (finds k).0 (ap Some h)) (λ h. same_Some m k ((finds k).1 h))
-
 completes_tells : (p : Rows) (completes : ℕ → Bool) (n : ℕ) (last : Option ℕ) → Finds last (λ k. IsLastBlock p n k) → Decides (not (loses_by completes last)) (FinallyCompletes p completes n)
 completes_tells p completes n None finds = (λ h k b. absurd (none-some k ((finds k).1 b)), λ h. refl)
 completes_tells p completes n (Some k) finds = by (completes k) refl
@@ -270,7 +266,7 @@ module _ (p : Rows) (t : Table) (headed : IsHeaded p) (local : IsLocal p) (compl
   goes_tells c k = like (either (either (either (both (opposite (code_tells (label p k))) (opposite (try_tells (label p (parent p k)))))
       (both (both (try_block_tells (parent p k) k) (opposite (catches_tells (parent p k) c))) (finally_is (parent p k))))
       (both (both (try_tells (label p (parent p k))) (catch_tells (label p k))) (finally_is (parent p k))))
-      (last_tells (last_part p part.Finally (length p) (parent p k)) (last_finds p (parent p k)) k))
+      (it_tells (last_part p part.Finally (length p) (parent p k)) (last_finds p (parent p k)) k))
       (⊎_elim (⊎_elim (⊎_elim (λ h. GoesOn.of_part h.0 h.1) (λ h. GoesOn.of_body h.0.0 h.0.1 h.1)) (λ h. GoesOn.of_catch h.0.0 h.0.1 h.1)) (λ h. GoesOn.of_finally h))
       into
     where

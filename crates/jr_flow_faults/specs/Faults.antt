@@ -47,6 +47,10 @@ completing_rows p f = all_such (length p) (λ n. completes_wrongly (label p n) (
 abbrev pub is_of_exceptions : Rule → Bool
 is_of_exceptions one = is_rule rule.UncaughtException one || (is_rule rule.UnthrownCatch one || is_rule rule.CoveredCatch one)
 
+-- those that are found by following what is thrown
+abbrev pub is_followed : Rule → Bool
+is_followed one = is_rule rule.UncaughtException one || is_rule rule.UnthrownCatch one
+
 -- those on jumps, reaching and completing, and all on flow
 abbrev pub is_of_reach : Rule → Bool
 is_of_reach one = is_rule rule.Jump one || (is_rule rule.Unreachable one || is_rule rule.Completion one)

@@ -1,11 +1,4 @@
 // Checked classes (JLS 11.2).
-ghost use Rattle.std.specs.Prelude.{◌≡◌, codes, length, Decides};
-ghost use Rattle.jr_defs.specs.Referents.{Table};
-ghost use Rattle.jr_defs.specs.MemberRules.{IsChecked};
-ghost use Rattle.jr_plain.specs.Search.{first_below};
-ghost use Rattle.jr_plain.specs.Declarations.{is_prelude};
-ghost use Rattle.jr_supers.specs.Supers.{AreSupersOf};
-ghost use Rattle.jr_flow_faults.specs.Roots as tell;
 
 use jr_places::{Chains, is_type, name_at, parent_at};
 use jr_supers::Supers;
@@ -20,33 +13,20 @@ pub struct Roots {
     runtime: Option<u32>,
 }
 
-// A type of this name that the first unit of the prelude declares.
-fn is_of_prelude(rows: &[Row], at: u32, name: &[u8]) -> bool
-    ensures { result ≡ is_prelude rows.now name.now at }
-{
-    is_type(rows, at) && parent_at(rows, at) == 1 && name_at(rows, at) == name
-}
-
-// The first one.
-#[tactic(auto, using(crate::proofs::Rooted::root_found, crate::proofs::Rooted::root_next, crate::proofs::Rooted::root_none))]
-fn prelude_type(rows: &[Row], name: &[u8]) -> Option<u32>
-    ensures { length rows.now < 2 ^ 32 → result ≡ tell.prelude_type rows.now name.now }
-{
+// The type of this name that the first unit of the prelude declares.
+fn prelude_type(rows: &[Row], name: &[u8]) -> Option<u32> {
     let Ok(count) = u32::try_from(rows.len()) else {
         return None;
     };
     for at in 0..count {
-        if is_of_prelude(rows, at, name) {
+        if parent_at(rows, at) == 1 && is_type(rows, at) && name_at(rows, at) == name {
             return Some(at);
         }
     }
     None
 }
 
-// The class, or one above it, is the root.
-fn is_below(supers: &Supers, rows: &[Row], at: u32, root: Option<u32>) -> bool
-    ensures { (t : Table) → AreSupersOf rows.now t supers.now → Decides result (tell.IsBelow rows.now t at root) }
-{
+fn is_below(supers: &Supers, rows: &[Row], at: u32, root: Option<u32>) -> bool {
     match root {
         Some(over) => supers.is_at_or_above(rows, at, over),
         None => false,
@@ -55,9 +35,7 @@ fn is_below(supers: &Supers, rows: &[Row], at: u32, root: Option<u32>) -> bool
 
 impl Roots {
     /// The classes that the prelude declares.
-    pub fn of(rows: &[Row]) -> Roots
-        ensures { length rows.now < 2 ^ 32 → tell.HasOneOfEach rows.now → tell.AreRoots rows.now result }
-    {
+    pub fn of(rows: &[Row]) -> Roots {
         Roots {
             throwable: prelude_type(rows, b"Throwable"),
             exception: prelude_type(rows, b"Exception"),
@@ -67,18 +45,14 @@ impl Roots {
     }
 
     /// Throwable and what is below it, but for Error and RuntimeException and what is below those.
-    pub fn is_checked(self, supers: &Supers, rows: &[Row], at: u32) -> bool
-        ensures { (t : Table) → AreSupersOf rows.now t supers.now → tell.AreRoots rows.now self → Decides result (IsChecked rows.now t at) }
-    {
+    pub fn is_checked(self, supers: &Supers, rows: &[Row], at: u32) -> bool {
         is_below(supers, rows, at, self.throwable)
             && !is_below(supers, rows, at, self.error)
             && !is_below(supers, rows, at, self.runtime)
     }
 
     /// The class may be caught whatever is thrown: Exception or Throwable.
-    pub(crate) fn is_general(self, at: u32) -> bool
-        ensures { result ≡ tell.is_general self at }
-    {
+    pub(crate) fn is_general(self, at: u32) -> bool {
         self.exception == Some(at) || self.throwable == Some(at)
     }
 }

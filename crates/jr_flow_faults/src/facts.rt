@@ -42,8 +42,7 @@ enum Part {
     Default,
 }
 
-/// The row is a block.
-pub(crate) fn is_block(rows: &[Row], at: u32) -> bool
+fn is_block(rows: &[Row], at: u32) -> bool
     ensures { result ≡ tell.is_block (label rows.now at) }
 {
     match rows.get(at as usize) {
