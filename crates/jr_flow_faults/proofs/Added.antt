@@ -82,3 +82,7 @@ reach_told p f g old mid new same is others = let h = all_rows p f (courses p f)
 
 pub flow_only : (p : Rows) (f : Facts) (old mid new : List Fault) → mid ≡ old ++ faults p f → AreOnly is_of_exceptions mid new → AreOnly is_of_flow old new
 flow_only p f old mid new is others = only_then (all_rows p f (courses p f) (reached p f) (length p) old mid is).only others
+
+-- nor are faults of caught classes among those of jumps, reaching and completing
+pub covered_told : (p : Rows) (f : Facts) (old mid new : List Fault) (rows : List ℕ) → mid ≡ old ++ faults p f → AreFaultsOf rule.CoveredCatch rows mid new → AreFaultsOf rule.CoveredCatch rows old new
+covered_told p f old mid new rows is h = none_then rule.CoveredCatch ((all_rows p f (courses p f) (reached p f) (length p) old mid is).only.others rule.CoveredCatch refl) h

@@ -10,9 +10,12 @@ use Rattle.jr_tree.specs.Local.{IsLocal}
 use Rattle.jr_tree.specs.Rows.{Rows, label, parent, previous}
 use Rattle.jr_defs.specs.declared.referent.Referent.TheVariants.{Declared}
 use Rattle.jr_defs.specs.Referents.{Table}
-use Rattle.jr_plain.specs.Search.{has, all_such}
+use Rattle.jr_plain.specs.Headed.{IsHeaded}
+use Rattle.jr_plain.specs.Overloads.{Types}
+use Rattle.jr_plain.specs.Search.{Finds, has, all_such}
 use Rattle.jr_plain.proofs.Bounds.{bounded}
 use Rattle.jr_plain.proofs.Searches.{such}
+use Rattle.jr_rules.specs.Typed.{Typed}
 use Rattle.jr_rules.specs.Statements.{IsRound, IsLoop, IsLoopOrSwitch, LabelsLoop, HasNoTarget}
 use Rattle.jr_reach.specs.declared.fact.Exit.{Exit}
 use Rattle.jr_reach.specs.Statements.{Facts, Entries, fact, courses, AreCourses, ReadsLater, CoursesAreOne}
@@ -21,8 +24,14 @@ use Rattle.jr_reach.specs.Faults.{is_nowhere, is_lost, is_statement, is_unreache
 use Rattle.jr_reach.proofs.One.{each_has_courses}
 use Rattle.jr_reach.proofs.OneReached.{each_is_reached}
 use Rattle.jr_flow_faults.specs.Known.{IsTargetOf, AreKnown}
-use Rattle.jr_flow_faults.specs.Faults.{BreaksFlow, lost_rows, unreached_rows, completing_rows}
+use Rattle.jr_flow_faults.specs.Exceptions.{IsCatchOf, IsUncaught, IsUnthrown}
+use Rattle.jr_flow_faults.specs.ExceptionTests.{is_covered, covered_rows, is_uncaught, uncaught_rows, is_unthrown, unthrown_rows}
+use Rattle.jr_flow_faults.specs.Faults.{BreaksFlow, BreaksThrown, lost_rows, unreached_rows, completing_rows}
+use Rattle.jr_flow_faults.specs.Outwards.{completing}
+use Rattle.jr_flow_faults.proofs.Covered.{covered_tells}
 use Rattle.jr_flow_faults.proofs.Known.{known_once}
+use Rattle.jr_flow_faults.proofs.Noted.{thrower_row}
+use Rattle.jr_flow_faults.proofs.Uncaught.{uncaught_tells, unthrown_tells}
 
 -- a row that passes is listed
 none_such : (test : ℕ → Bool) (n k : ℕ) → all_such n test ≡ [] → k < n → test k ≡ true → ⊥
@@ -134,3 +143,27 @@ module _ (p : Rows) (t : Table) (local : IsLocal p) (f : Facts) (known : AreKnow
     jump_kept n (HasNoTarget.of_break at out) = jump_lost n (is.Break false) at refl (jump_row n (is.Break false) (λ e. absurd (cc)) at) (no_plain_break n at out)
     jump_kept n (HasNoTarget.of_continue at out) = jump_lost n (is.Continue false) at refl (jump_row n (is.Continue false) (λ e. absurd (cc)) at) (no_plain_continue n at out)
     jump_kept n (HasNoTarget.of_label at refers out) = jump_lost n (is.Continue true) at refl (jump_row n (is.Continue true) (λ e. absurd (cc)) at) (no_labeled_continue n at refers out)
+
+  -- ---- the rules on exceptions
+
+  module _ (headed : IsHeaded p) (type_of : Types) (typed : (n : ℕ) → Finds (type_of n) (λ a. Typed p t n a)) (no_uncaught : uncaught_rows p t type_of (completing (courses p f)) ≡ [])
+      (no_unthrown : unthrown_rows p t type_of (completing (courses p f)) ≡ []) (no_covered : covered_rows p t ≡ []) where
+    abbrev completes : ℕ → Bool
+    completes = completing (courses p f)
+
+    one_entries : (g : Facts) (e : Entries) → AreKnown p t g → AreCourses p g e → e ≡ courses p f
+    one_entries g e a b = fun_ext (one_courses.only e (courses p f) (subst (λ x. AreCourses p x e) (known_once p t g f a known) b) one_courses.computed)
+
+    catch_in : (o k c : ℕ) → IsCatchOf p t o k c → k < length p
+    catch_in o k c h = bounded (λ l. l ≡ is.Catch) (λ e. absurd (cc)) p k h.catch
+
+    uncaught_kept : (n : ℕ) → IsUncaught p t completes n → ⊥
+    uncaught_kept n h = none_such (is_uncaught p t type_of completes) (length p) n no_uncaught (thrower_row p t completes n h.class h.thrown) ((uncaught_tells p t headed local completes type_of typed n).1 h)
+
+    unthrown_kept : (n : ℕ) → IsUnthrown p t completes n → ⊥
+    unthrown_kept n h = none_such (is_unthrown p t type_of completes) (length p) n no_unthrown (catch_in (parent p n) n h.class h.catch) ((unthrown_tells p t headed local completes type_of typed n).1 h)
+
+    pub thrown_kept : (k n : ℕ) → BreaksThrown p t k n → ⊥
+    thrown_kept k n (BreaksThrown.uncaught {f = g} {e = e} a b h) = uncaught_kept n (subst (λ x. IsUncaught p t (completing x) n) (one_entries g e a b) h)
+    thrown_kept k n (BreaksThrown.unthrown {f = g} {e = e} a b h) = unthrown_kept n (subst (λ x. IsUnthrown p t (completing x) n) (one_entries g e a b) h)
+    thrown_kept k n (BreaksThrown.covered h) = none_such (is_covered p t) (length p) n no_covered (catch_in (parent p n) n h.class h.catch) ((covered_tells p t headed n).1 h)

@@ -58,7 +58,7 @@ loop_or_switch_tells is.While = always
 loop_or_switch_tells (is.For has_first has_condition) = always
 loop_or_switch_tells _ = never
 
-declared_finds : (a : Referent) → Finds (declared a) (λ d. (level : Option ℕ) × (a ≡ Declared d level))
+pub declared_finds : (a : Referent) → Finds (declared a) (λ d. (level : Option ℕ) × (a ≡ Declared d level))
 declared_finds (Declared d level) x = (λ e. (level, ap (λ r. Declared r level) (same_Some d x e)), λ h. let e = h.1 in ap Some (row_of e))
   where
     row_of : {a b : ℕ} {l m : Option ℕ} → Declared a l ≡ Declared b m → a ≡ b
@@ -138,7 +138,7 @@ module _ (p : Rows) where
 
 -- ---- parts
 
-block_tells : (l : Label) → Decides (is_block l) (l ≡ is.Block)
+pub block_tells : (l : Label) → Decides (is_block l) (l ≡ is.Block)
 block_tells is.Block = (λ h. refl, λ e. refl)
 block_tells _ = (λ h. absurd (false≢true h), λ e. absurd (cc))
 
@@ -176,7 +176,7 @@ module _ (p : Rows) (n : ℕ) where
   later_below : (k : ℕ) → IsLaterBlock p n k → k < length p
   later_below k h = bounded (λ l. l ≡ is.Block) (λ e. absurd (cc)) p k h.block
 
-  last_finds : Finds (last_part p part.Finally (length p) n) (λ k. IsLastBlock p n k)
+  pub last_finds : Finds (last_part p part.Finally (length p) n) (λ k. IsLastBlock p n k)
   last_finds = like_finds (last_part p part.Finally (length p) n) (finds_last (λ k. is_it (holder p part.Finally k) n) (λ k. IsLaterBlock p n k) later_tells (length p))
       (λ k h. record { block = h.1; last = λ j later. h.2 j (later_below j later) later })
       (λ k h. (later_below k h.block, h.block, λ j lt later. h.last j later))

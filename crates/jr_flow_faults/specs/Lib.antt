@@ -1,3 +1,9 @@
 pub mod Known
 pub mod Computed
+pub mod Roots
+pub mod Exceptions
+pub mod Outwards
+pub mod ExceptionTests
+pub mod Arriving
+pub mod Reading
 pub mod Faults

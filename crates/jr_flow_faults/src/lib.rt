@@ -6,6 +6,7 @@ mod classes;
 mod facts;
 mod guards;
 mod jumps;
+mod pairs;
 mod throwing;
 mod thrown;
 

@@ -2,8 +2,13 @@
 ghost use Rattle.std.specs.Prelude.{OnOk};
 ghost use Rattle.jr_tree.specs.Local.{IsLocal};
 ghost use Rattle.jr_faults.specs.Added.{AreOnly};
-ghost use Rattle.jr_flow_faults.specs.Computed.{rows_in};
-ghost use Rattle.jr_flow_faults.specs.Faults.{is_of_exceptions, is_of_flow, AreFlowFaults};
+ghost use Rattle.jr_rule.specs.Faults.{AreFaultsOf};
+ghost use Rattle.jr_rule.specs.declared.Rule.TheVariants as rule;
+ghost use Rattle.jr_supers.specs.Supers.{AreSupersOf};
+ghost use Rattle.jr_supers.specs.Tabled.{IsSized};
+ghost use Rattle.jr_flow_faults.specs.Computed.{rows_in, table_in};
+ghost use Rattle.jr_flow_faults.specs.ExceptionTests.{covered_rows};
+ghost use Rattle.jr_flow_faults.specs.Faults.{is_followed, is_of_exceptions, is_of_flow, AreFlowFaults};
 
 use crate::catches::{Arrived, Catches};
 use crate::classes::Roots;
@@ -88,7 +93,7 @@ impl<'a> Reading<'a> {
     }
 
     // Whether what a row throws is caught or declared.
-    #[tactic(auto, using(crate::proofs::Exceptions::uncaught_added))]
+    #[tactic(auto, using(crate::proofs::Exceptions::uncaught_followed))]
     fn note_row(
         &self,
         alloc: Global,
@@ -96,7 +101,7 @@ impl<'a> Reading<'a> {
         at: u32,
         out: &mut Vec<Fault>,
     ) -> Result<(), OutOfMemory>
-        ensures { OnOk result (AreOnly is_of_exceptions out.old.items out.new.items) }
+        ensures { OnOk result (AreOnly is_followed out.old.items out.new.items) }
     {
         let view = self.view;
         let under = &view.sight.world.under;
@@ -111,7 +116,7 @@ impl<'a> Reading<'a> {
 
     #[tactic(auto, using(jr_faults::proofs::Told::only_more))]
     fn note_all(&self, alloc: Global, out: &mut Vec<Fault>) -> Result<(), OutOfMemory>
-        ensures { OnOk result (AreOnly is_of_exceptions out.old.items out.new.items) }
+        ensures { OnOk result (AreOnly is_followed out.old.items out.new.items) }
     {
         let view = self.view;
         let under = &view.sight.world.under;
@@ -134,7 +139,8 @@ fn throw_faults(
     around: &Around,
     out: &mut Vec<Fault>,
 ) -> Result<(), OutOfMemory>
-    ensures { OnOk result (AreOnly is_of_exceptions out.old.items out.new.items) }
+    ensures covered { IsSized (rows_in view.now) → AreSupersOf (rows_in view.now) (table_in view.now) view.now.sight.world.supers.now → OnOk result (AreFaultsOf rule.CoveredCatch (covered_rows (rows_in view.now) (table_in view.now)) out.old.items out.new.items) }
+    ensures only { OnOk result (AreOnly is_of_exceptions out.old.items out.new.items) }
 {
     let world = &view.sight.world;
     let guards = around.guards(alloc)?;
@@ -152,6 +158,7 @@ fn throw_faults(
 /// Adds where the rules on jumps, on reaching and completing, and on checked exceptions are broken.
 pub fn flow_faults(alloc: Global, view: &View, out: &mut Vec<Fault>) -> Result<(), OutOfMemory>
     ensures exact { IsLocal (rows_in view.now) → OnOk result (AreFlowFaults view.now out.old.items out.new.items) }
+    ensures covered { IsSized (rows_in view.now) → AreSupersOf (rows_in view.now) (table_in view.now) view.now.sight.world.supers.now → OnOk result (AreFaultsOf rule.CoveredCatch (covered_rows (rows_in view.now) (table_in view.now)) out.old.items out.new.items) }
     ensures only { OnOk result (AreOnly is_of_flow out.old.items out.new.items) }
 {
     let rows = view.sight.world.under.rows;

@@ -1,5 +1,11 @@
 // What is thrown at a row, and what members declare (JLS 8.4.6, 8.8.5, 11.2).
+ghost use Rattle.std.specs.Prelude.{◌≡◌, ◌+◌};
+ghost use Rattle.jr_defs.specs.Referents.{entries};
+ghost use Rattle.jr_plain.specs.Types.{type_of_declared};
+ghost use Rattle.jr_supers.specs.Tabled.{IsSized};
+ghost use Rattle.jr_flow_faults.specs.ExceptionTests as tests;
 
+use crate::catches::is_catch;
 use crate::guards::{Guard, guard_at};
 use jr_base::OutOfMemory;
 use jr_defs::{Element, RowType};
@@ -9,7 +15,9 @@ use jr_tree::{Label, NamePlace, Row};
 use std::alloc::Global;
 
 // The class that a type is.
-fn class_of(ty: Option<RowType>) -> Option<u32> {
+fn class_of(ty: Option<RowType>) -> Option<u32>
+    ensures { result ≡ tests.class_in ty }
+{
     match ty {
         Some(
             RowType {
@@ -105,9 +113,26 @@ pub fn thrown_at(
     }
 }
 
-/// The class that a catch catches.
-pub(crate) fn caught_class(under: &Tabled, at: u32) -> Option<u32> {
-    class_of(under.type_of_declared(at.checked_add(1)?))
+// The class of the parameter behind a row.
+#[tactic(auto, using(crate::proofs::Covered::no_parameter))]
+fn parameter_class(under: &Tabled, at: u32) -> Option<u32>
+    ensures { IsSized under.now.rows.now → result ≡ tests.class_in (type_of_declared under.now.rows.now (entries under.now.table.now) (at + 1)) }
+{
+    match at.checked_add(1) {
+        Some(parameter) => class_of(under.type_of_declared(parameter)),
+        None => None,
+    }
+}
+
+/// The class of a catch.
+pub(crate) fn catch_class(under: &Tabled, at: u32) -> Option<u32>
+    ensures { IsSized under.now.rows.now → result ≡ tests.catch_class under.now.rows.now (entries under.now.table.now) at }
+{
+    if is_catch(under.rows, at) {
+        parameter_class(under, at)
+    } else {
+        None
+    }
 }
 
 // The method or constructor declares the class, or one above it.
