@@ -1,4 +1,6 @@
 // Edges that stand on one side alone, and the first of them.
+ghost use Rattle.std.specs.Prelude.{◌≡◌, Some, None};
+ghost use Rattle.jr_kept.specs.Ordered.{is_before, first_with, AreNone};
 
 /// An edge between two nodes, by their rows in the old program.
 #[derive(Clone, Copy, Debug, PartialEq, Eq)]
@@ -8,21 +10,19 @@ pub(crate) struct Edge {
 }
 
 impl Edge {
-    fn is_before(self, other: Edge) -> bool {
+    fn is_before(self, other: Edge) -> bool
+        ensures { result ≡ is_before self other }
+    {
         self.first < other.first || self.first == other.first && self.second < other.second
     }
 }
 
-fn earlier(known: Option<Edge>, edge: Edge) -> Option<Edge> {
+fn earlier(known: Option<Edge>, edge: Edge) -> Edge
+    ensures { result ≡ first_with known edge }
+{
     match known {
-        Some(before) => {
-            if edge.is_before(before) {
-                Some(edge)
-            } else {
-                known
-            }
-        }
-        None => Some(edge),
+        Some(before) => { if edge.is_before(before) { edge } else { before } }
+        None => edge,
     }
 }
 
@@ -34,7 +34,9 @@ pub(crate) struct Firsts {
 }
 
 impl Firsts {
-    pub(crate) fn none() -> Firsts {
+    pub(crate) fn none() -> Firsts
+        ensures { AreNone result }
+    {
         Firsts {
             before: None,
             after: None,
@@ -42,12 +44,18 @@ impl Firsts {
     }
 
     /// An edge stands in the old program alone.
-    pub(crate) fn put_old(&mut self, edge: Edge) {
-        self.before = earlier(self.before, edge);
+    pub(crate) fn put_old(&mut self, edge: Edge)
+        ensures before { self.new.before ≡ Some (first_with self.old.before edge) }
+        ensures after { self.new.after ≡ self.old.after }
+    {
+        self.before = Some(earlier(self.before, edge));
     }
 
     /// An edge stands in the changed program alone.
-    pub(crate) fn put_new(&mut self, edge: Edge) {
-        self.after = earlier(self.after, edge);
+    pub(crate) fn put_new(&mut self, edge: Edge)
+        ensures before { self.new.before ≡ self.old.before }
+        ensures after { self.new.after ≡ Some (first_with self.old.after edge) }
+    {
+        self.after = Some(earlier(self.after, edge));
     }
 }

@@ -1,4 +1,7 @@
 // A body before and after the change.
+ghost use Rattle.std.specs.Prelude.{◌≡◌, ◌+◌, ◌-◌, ◌<◌, ◌≤◌, ◌^◌, ◌&&◌, nat_lt, not};
+ghost use Rattle.jr_tree.specs.Rows as tree;
+ghost use Rattle.jr_flow_defs.specs.Acts as acts;
 
 use crate::names::Names;
 use jr_base::OutOfMemory;
@@ -23,7 +26,12 @@ pub(crate) struct Flows<'a> {
 }
 
 /// The rows of a declaration.
-pub(crate) fn rows_of(rows: &[Row], at: u32) -> RowRange {
+pub(crate) fn rows_of(rows: &[Row], at: u32) -> RowRange
+    ensures first { result.first ≡ at }
+    ensures few { result.end < 2 ^ 32 }
+    ensures near { result.first < 2 ^ 32 }
+    ensures end { at + 1 < 2 ^ 32 → result.end ≡ tree.end rows.now at }
+{
     RowRange {
         first: at,
         end: end_at(rows, at),
@@ -31,17 +39,23 @@ pub(crate) fn rows_of(rows: &[Row], at: u32) -> RowRange {
 }
 
 /// The row lies in the range.
-pub(crate) fn is_within(range: RowRange, row: u32) -> bool {
+pub(crate) fn is_within(range: RowRange, row: u32) -> bool
+    ensures { result ≡ (not (nat_lt row range.first) && nat_lt row range.end) }
+{
     range.first <= row && row < range.end
 }
 
 /// How many rows a range has.
-pub(crate) fn count_rows(range: RowRange) -> usize {
+pub(crate) fn count_rows(range: RowRange) -> usize
+    ensures { result ≡ range.end - range.first }
+{
     range.end.saturating_sub(range.first) as usize
 }
 
 /// The row is a parameter, of a method or of a catch.
-pub(crate) fn is_parameter(rows: &[Row], at: u32) -> bool {
+pub(crate) fn is_parameter(rows: &[Row], at: u32) -> bool
+    ensures { result ≡ acts.is_parameter (tree.label rows.now at) }
+{
     match rows.get(at as usize) {
         Some(row) => match row.label {
             Label::Parameter { .. } => true,

@@ -13,7 +13,7 @@ use crate::names::Names;
 use crate::returning::put_held_returns;
 use crate::starting::lost_initialization;
 use jr_base::{OutOfMemory, Place};
-use jr_change::{Change, Course, Locks, NO_ROW, Project, Raised, RowRange};
+use jr_change::{Change, Course, Locks, Project, Raised, RowRange};
 use jr_flow::{FlowFault, Graph, graph};
 use jr_locks::row_for;
 use std::alloc::Global;
@@ -109,10 +109,10 @@ fn lost_in_inlined(
 }
 
 // The statement, where it has no copy.
-fn dropped(copy: &[u32], statement: u32) -> u32 {
+fn dropped(copy: &[u32], statement: u32) -> Option<u32> {
     match row_for(copy, statement) {
-        Some(_) => NO_ROW,
-        None => statement,
+        Some(_) => None,
+        None => Some(statement),
     }
 }
 
@@ -210,7 +210,7 @@ fn lost_by_extracting(
         names: Names {
             rows: old.marks.rows,
             body,
-            dropped: NO_ROW,
+            dropped: None,
         },
         before: &before,
         rows,

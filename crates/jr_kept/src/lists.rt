@@ -1,4 +1,6 @@
 // Lists of numbers by number.
+ghost use Rattle.std.specs.Prelude.{◌≡◌, ◌∷◌, ◌++◌, [], ℕ, List, IfOk, OnOk, map, replicate};
+ghost use Rattle.jr_kept.specs.Listed.{put_at, lists_in, under_in, IsListing};
 
 use jr_base::OutOfMemory;
 use std::alloc::Global;
@@ -7,80 +9,75 @@ use std::alloc::Global;
 #[derive(Drop)]
 pub(crate) struct Lists {
     first: u32,
-    starts: Vec<usize>,
-    items: Vec<u32>,
+    lists: Vec<Vec<u32>>,
 }
 
-// The place of a list among so many.
-fn slot_of(first: u32, count: usize, number: u32) -> Option<usize> {
-    let slot = number.checked_sub(first)? as usize;
-    if slot < count { Some(slot) } else { None }
+// So many empty lists.
+fn empty_lists(alloc: Global, count: usize) -> Result<Vec<Vec<u32>>, OutOfMemory>
+    ensures { IfOk result (λ lists. map (λ list. list.items) lists.items ≡ replicate count []) }
+{
+    let mut lists = Vec::new(alloc);
+    for _list in 0..count {
+        lists.push(Vec::new(alloc))?;
+    }
+    Ok(lists)
 }
 
-fn starts_of(
-    alloc: Global,
-    first: u32,
-    count: usize,
-    pairs: &[(u32, u32)],
-) -> Result<Vec<usize>, OutOfMemory> {
-    let mut starts = vec![in alloc; 0usize; count.saturating_add(1)]?;
-    for (number, _) in pairs {
-        if let Some(slot) = slot_of(first, count, *number) {
-            if let Some(size) = starts.get_mut(slot.saturating_add(1)) {
-                *size = size.saturating_add(1);
-            }
-        }
+// Puts an item at the end of the list at a place, if there is one.
+fn put(lists: &mut Vec<Vec<u32>>, place: usize, item: u32) -> Result<(), OutOfMemory>
+    ensures { OnOk result (map (λ list. list.items) lists.new.items ≡ put_at (map (λ list. list.items) lists.old.items) place item) }
+{
+    if let Some(list) = lists.get_mut(place) {
+        list.push(item)?;
     }
-    let mut sum = 0usize;
-    for at in 0..starts.len() {
-        sum = sum.saturating_add(starts[at]);
-        starts[at] = sum;
-    }
-    Ok(starts)
+    Ok(())
 }
 
 impl Lists {
-    /// The second numbers of pairs, each under its first one. The pairs rise by their first numbers; those whose first number is none of so many
-    /// from `first` on are left out.
+    // Puts the second number under the first, if there is a list under it.
+    fn add(&mut self, number: u32, item: u32) -> Result<(), OutOfMemory>
+        ensures { (first count : ℕ) (pairs : List (ℕ × ℕ)) → IsListing self.old first count pairs → OnOk result (IsListing self.new first count (pairs ++ (number, item) ∷ [])) }
+    {
+        match number.checked_sub(self.first) {
+            Some(place) => put(&mut self.lists, place as usize, item),
+            None => Ok(()),
+        }
+    }
+
+    fn add_all(&mut self, pairs: &[(u32, u32)]) -> Result<(), OutOfMemory>
+        ensures { (first count : ℕ) → IsListing self.old first count [] → OnOk result (IsListing self.new first count pairs.now) }
+    {
+        for (number, item) in pairs {
+            self.add(*number, *item)?;
+        }
+        Ok(())
+    }
+
+    /// The second numbers of pairs, each under its first one. Pairs whose first number is none of so many from `first` on are left out.
     pub(crate) fn of(
         alloc: Global,
         first: u32,
         count: usize,
         pairs: &[(u32, u32)],
-    ) -> Result<Lists, OutOfMemory> {
-        let starts = starts_of(alloc, first, count, pairs)?;
-        let mut items = Vec::new(alloc);
-        for (number, item) in pairs {
-            if slot_of(first, count, *number).is_some() {
-                items.push(*item)?;
-            }
-        }
-        Ok(Lists {
-            first,
-            starts,
-            items,
-        })
+    ) -> Result<Lists, OutOfMemory>
+        ensures { IfOk result (λ lists. IsListing lists first count pairs.now) }
+    {
+        let lists = empty_lists(alloc, count)?;
+        let mut all = Lists { first, lists };
+        all.add_all(pairs)?;
+        Ok(all)
     }
 
     /// The list under a number; an empty one, where there is none.
-    pub(crate) fn under(&self, number: u32) -> &[u32] {
-        let Some(slot) = number.checked_sub(self.first) else {
+    pub(crate) fn under(&self, number: u32) -> &[u32]
+        ensures { result.now ≡ under_in self.now number }
+    {
+        let Some(place) = number.checked_sub(self.first) else {
             return &[];
         };
-        let Some(start) = self.starts.get(slot as usize) else {
-            return &[];
-        };
-        let Some(end) = self.starts.get((slot as usize).saturating_add(1)) else {
-            return &[];
-        };
-        part_of(self.items.as_slice(), *start, *end)
-    }
-}
-
-fn part_of(items: &[u32], start: usize, end: usize) -> &[u32] {
-    if start <= end && end <= items.len() {
-        &items[start..end]
-    } else {
-        &[]
+        match self.lists.get(place as usize) {
+            Some(list) => list.as_slice(),
+            None => &[],
+        }
     }
 }

@@ -1,4 +1,7 @@
 // The points that steps reach.
+ghost use Rattle.std.specs.Prelude.{◌≡◌, IfOk, map, length};
+ghost use Rattle.jr_flow.specs.Reached.{steps_of};
+ghost use Rattle.jr_kept.specs.Searched.{ends_of, AreWays};
 
 use crate::lists::Lists;
 use jr_base::OutOfMemory;
@@ -6,12 +9,22 @@ use jr_flow::Graph;
 use jr_places::Stamps;
 use std::alloc::Global;
 
-/// The points to which steps lead from each point.
-pub(crate) fn ways_of(alloc: Global, graph: &Graph) -> Result<Lists, OutOfMemory> {
+// The ends of each step.
+fn step_ends(alloc: Global, graph: &Graph) -> Result<Vec<(u32, u32)>, OutOfMemory>
+    ensures { IfOk result (λ pairs. pairs.items ≡ map ends_of graph.now.steps.items) }
+{
     let mut pairs = Vec::new(alloc);
     for step in &graph.steps {
         pairs.push((step.from, step.to))?;
     }
+    Ok(pairs)
+}
+
+/// The points to which steps lead from each point.
+pub(crate) fn ways_of(alloc: Global, graph: &Graph) -> Result<Lists, OutOfMemory>
+    ensures { IfOk result (λ ways. AreWays ways (length graph.now.points.items) (steps_of graph.now)) }
+{
+    let pairs = step_ends(alloc, graph)?;
     Lists::of(alloc, 0, graph.points.len(), &pairs)
 }
 
@@ -21,7 +34,6 @@ pub(crate) fn ways_back(alloc: Global, graph: &Graph) -> Result<Lists, OutOfMemo
     for step in &graph.steps {
         pairs.push((step.to, step.from))?;
     }
-    pairs.sort_unstable();
     Lists::of(alloc, 0, graph.points.len(), &pairs)
 }
 

@@ -1,0 +1,6 @@
+use Rattle.std.proofs.Common.{◌≤◌, take}
+use Rattle.jr_kept.specs.Named.{AreNames, old_naming}
+use Rattle.jr_kept.proofs.names.Names.of_old.Given as goal
+
+abbrev pub invariant-loop-point : goal.invariant-loop-point
+invariant-loop-point l = 2 ≤ l.count → AreNames l.self.body l.count (old_naming l.self) l.graph.body (take l.point-index l.point-items) l.all.items
