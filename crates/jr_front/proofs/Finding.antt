@@ -14,7 +14,10 @@ use Rattle.jr_name_faults.specs.Faults as of_names
 use Rattle.jr_name_faults.specs.Views as names
 use Rattle.jr_member_faults.specs.Faults.{AreMemberFaults, is_on_members}
 use Rattle.jr_type_faults.specs.Faults.{IsRightView, AreExactTypeFaults, AreOnlyOf, type_rules, exact_rules, is_among}
-use Rattle.jr_flow_faults.specs.Computed.{rows_in}
+use Rattle.jr_supers.specs.Supers.{AreSupersOf}
+use Rattle.jr_supers.specs.Tabled.{IsSized}
+use Rattle.jr_flow_faults.specs.Computed.{rows_in, table_in}
+use Rattle.jr_flow_faults.specs.ExceptionTests.{covered_rows}
 use Rattle.jr_flow_faults.specs.Faults.{AreFlowFaults, is_of_flow}
 use Rattle.jr_front.specs.Tested.{is_between, IsTestableView, AreNameFaults, AreFaultsIn}
 use Rattle.jr_front.proofs.Numbers.{among_holds}
@@ -22,6 +25,10 @@ use Rattle.jr_front.proofs.Numbers.{among_holds}
 -- the rules on modifiers and on assignment
 abbrev is_before : Rule → Bool
 is_before one = is_rule rule.Modifiers one || is_between 38 40 one
+
+-- the faults of catches that catch what is caught before, where rows can be counted and supertypes are those of the table
+abbrev AreCovered : View → List Fault → List Fault → Type 0
+AreCovered view old new = IsSized (rows_in view) → AreSupersOf (rows_in view) (table_in view) view.sight.world.supers.now → AreFaultsOf rule.CoveredCatch (covered_rows (rows_in view) (table_in view)) old new
 
 -- what each maker adds
 pub record AreAdded (view : View) (a b c d e f : List Fault) : Type 0 where
@@ -32,6 +39,7 @@ pub record AreAdded (view : View) (a b c d e f : List Fault) : Type 0 where
   pub types : IsRightView view → AreExactTypeFaults view c d
   pub only_types : AreOnlyOf type_rules c d
   pub flow : IsLocal (rows_in view) → AreFlowFaults view d e
+  pub covered : AreCovered view d e
   pub only_flow : AreOnly is_of_flow d e
   pub local_names : names.IsPlacedView view → of_names.AreExactFaults view rule.LocalNames e f
   pub labels : names.IsPlacedView view → of_names.AreExactFaults view rule.Labels e f
@@ -110,15 +118,16 @@ module _ {view : View} {a b c d e f : List Fault} (added : AreAdded view a b c d
       unreached = of_flow rule.Unreachable refl told.unreached;
       completing = of_flow rule.Completion refl told.completing;
     };
+    covered = of_flow rule.CoveredCatch refl (added.covered testable.right.seen.sized testable.right.seen.seen.above);
   }
 
 -- the same, as the steps of the code give it
 pub added_found : (view : View) (start a b c d e f : List Fault) → start ≡ [] → AreOnly (is_rule rule.Modifiers) start a → AreOnly (is_between 38 40) a b → AreMemberFaults view b c → AreOnly is_on_members b c
-    → (IsRightView view → AreExactTypeFaults view c d) → AreOnlyOf type_rules c d → (IsLocal (rows_in view) → AreFlowFaults view d e) → AreOnly is_of_flow d e
+    → (IsRightView view → AreExactTypeFaults view c d) → AreOnlyOf type_rules c d → (IsLocal (rows_in view) → AreFlowFaults view d e) → AreCovered view d e → AreOnly is_of_flow d e
     → (names.IsPlacedView view → of_names.AreExactFaults view rule.LocalNames e f) → (names.IsPlacedView view → of_names.AreExactFaults view rule.Labels e f) → (names.IsSeenView view → of_names.AreExactFaults view rule.Access e f)
     → (names.IsPlacedView view → of_names.AreExactFaults view rule.ImportNames e f) → (names.IsPlacedView view → of_names.AreExactFaults view rule.ImportedTypes e f)
     → (names.IsTabledView view → of_names.AreExactFaults view rule.StaticImports e f) → of_names.AreOfNames e f → IsTestableView view → AreFaultsIn view f
-added_found view start a b c d e f none modifiers assigned members only_members types only_types flow only_flow local_names labels access import_names imported_types static_imports only_names =
+added_found view start a b c d e f none modifiers assigned members only_members types only_types flow covered only_flow local_names labels access import_names imported_types static_imports only_names =
     are_found (record {
       modifiers = subst (λ (l : List Fault). AreOnly (is_rule rule.Modifiers) l a) none modifiers;
       assigned = assigned;
@@ -127,6 +136,7 @@ added_found view start a b c d e f none modifiers assigned members only_members 
       types = types;
       only_types = only_types;
       flow = flow;
+      covered = covered;
       only_flow = only_flow;
       local_names = local_names;
       labels = labels;

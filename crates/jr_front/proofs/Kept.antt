@@ -2,6 +2,7 @@
 use Rattle.std.proofs.Common.{◌≡◌, ◌⊎◌, refl, sym, ◌∙◌, ap, subst, inl, inr, ⊎_elim, ℕ, ◌≤◌, ◌<◌, Bool, true, false, ◌||◌, List, [], length, Contains}
 use Rattle.std.specs.List.{AllByRecursion}
 use Rattle.std.proofs.lemmas.Bool.{false≢true, or_cases, or_left}
+use Rattle.jr_tree.specs.declared.label.Label.TheVariants as is
 use Rattle.jr_tree.specs.Local.{IsLocal}
 use Rattle.jr_tree.specs.Rows.{Rows, label}
 use Rattle.jr_defs.specs.declared.referent.Referent.TheVariants.{Unbound}
@@ -14,6 +15,7 @@ use Rattle.jr_plain.specs.Conversions.{Constants}
 use Rattle.jr_plain.specs.Overloads.{Types}
 use Rattle.jr_plain.specs.Search.{has, all_such}
 use Rattle.jr_plain.specs.Typing.{IsTypable}
+use Rattle.jr_plain.proofs.Bounds.{bounded}
 use Rattle.jr_plain.proofs.Searches.{such}
 use Rattle.jr_rule.specs.declared.Fault.{Fault}
 use Rattle.jr_rule.specs.declared.Rule.{Rule}
@@ -39,7 +41,10 @@ use Rattle.jr_member_faults.specs.Faults.{has_member_type_clash}
 use Rattle.jr_member_faults.specs.Tops.{has_top_type_clash}
 use Rattle.jr_member_faults.proofs.Told.{types_at}
 use Rattle.jr_flow_faults.specs.Computed.{facts, facts_in}
-use Rattle.jr_flow_faults.specs.Faults.{BreaksFlow}
+use Rattle.jr_flow_faults.specs.Faults.{BreaksFlow, BreaksThrown}
+use Rattle.jr_flow_faults.specs.Exceptions.{IsCovered}
+use Rattle.jr_flow_faults.specs.ExceptionTests.{is_covered}
+use Rattle.jr_flow_faults.proofs.Covered.{covered_tells}
 use Rattle.jr_flow_faults.specs.Known.{AreKnown}
 use Rattle.jr_flow_faults.proofs.Known.{facts_known}
 use Rattle.jr_type_facts.specs.Views.{rows_in, table_in, types_in, constants_in}
@@ -157,15 +162,23 @@ module _ (view : View) (testable : IsTestableView view) (local : IsLocal (rows_i
   of_types_found e (BreaksTypes.jump {n = n} h) = let said = jump_said p t local (facts_in view) known n h in found rule.Jump (length p) (λ k. is_lost (label p k) (facts_in view) k) all.flow.jumps n said.0 said.1
   of_types_found e (BreaksTypes.branches h) = type_found rule.Branches refl (BreaksTypes.branches h)
 
+  covered_found : {n : ℕ} → IsCovered p t n → HasFault faults 43 n
+  covered_found {n} h = found rule.CoveredCatch (length p) (is_covered p t) all.covered n (bounded (λ l. l ≡ is.Catch) (λ e. absurd (cc)) p n h.catch.catch) ((covered_tells p t typable.headed n).1 h)
+
+  of_thrown_found : {rule n : ℕ} → has exact_rules rule ≡ true → BreaksThrown p t rule n → HasFault faults rule n
+  of_thrown_found e (BreaksThrown.uncaught a b h) = absurd (false≢true e)
+  of_thrown_found e (BreaksThrown.unthrown a b h) = absurd (false≢true e)
+  of_thrown_found e (BreaksThrown.covered h) = covered_found h
+
   pub is_found : (k n : ℕ) → BreaksExact p t k n → HasFault faults k n
   is_found k n b = ⊎_elim (⊎_elim (⊎_elim (of_names_found b.exact) (of_members_found b.exact)) (of_types_found b.exact))
-      (flow_said p t local (facts_in view) known (HasFault faults) (found rule.Unreachable (length p) (is_unreached p (reached p (facts_in view))) all.flow.unreached)
-      (found rule.Completion (length p) (λ m. completes_wrongly (label p m) (courses p (facts_in view) m).own.completes) all.flow.completing) k n) b.breaks
+      (⊎_elim (flow_said p t local (facts_in view) known (HasFault faults) (found rule.Unreachable (length p) (is_unreached p (reached p (facts_in view))) all.flow.unreached)
+      (found rule.Completion (length p) (λ m. completes_wrongly (label p m) (courses p (facts_in view) m).own.completes) all.flow.completing) k n) (of_thrown_found b.exact)) b.breaks
 
   -- ---- a fault of an exact rule is at a row that breaks it
 
   abbrev IsRight : ℕ → Type 0
-  IsRight k = (fault : Fault) → Contains faults fault → number_of fault.rule ≡ k → BreaksAll p t k fault.row ⊎ BreaksFlow p t k fault.row
+  IsRight k = (fault : Fault) → Contains faults fault → number_of fault.rule ≡ k → BreaksAll p t k fault.row ⊎ BreaksFlow p t k fault.row ⊎ BreaksThrown p t k fault.row
 
   declared_right : (one : Rule) → AreFaultsOf one (all_such (length p) (named.breaks p t (number_of one))) [] faults → IsRight (number_of one)
   declared_right one of fault inside e = inl (inl (inl ((breaks_tells p t (number_of one) fault.row typable).0 (passes one (length p) (named.breaks p t (number_of one)) of fault inside e))))
@@ -192,11 +205,14 @@ module _ (view : View) (testable : IsTestableView view) (local : IsLocal (rows_i
         (passes rule.Jump (length p) (λ k. is_lost (label p k) (facts_in view) k) all.flow.jumps fault inside e))))
 
     unreached_right : IsRight 36
-    unreached_right fault inside e = inr (unreached_breaks p t local (facts_in view) known fault.row (passes rule.Unreachable (length p) (is_unreached p (reached p (facts_in view))) all.flow.unreached fault inside e))
+    unreached_right fault inside e = inr (inl (unreached_breaks p t local (facts_in view) known fault.row (passes rule.Unreachable (length p) (is_unreached p (reached p (facts_in view))) all.flow.unreached fault inside e)))
 
     completing_right : IsRight 37
-    completing_right fault inside e = inr (completing_breaks p t local (facts_in view) known fault.row
-        (passes rule.Completion (length p) (λ k. completes_wrongly (label p k) (courses p (facts_in view) k).own.completes) all.flow.completing fault inside e))
+    completing_right fault inside e = inr (inl (completing_breaks p t local (facts_in view) known fault.row
+        (passes rule.Completion (length p) (λ k. completes_wrongly (label p k) (courses p (facts_in view) k).own.completes) all.flow.completing fault inside e)))
+
+    covered_right : IsRight 43
+    covered_right fault inside e = inr (inr (BreaksThrown.covered ((covered_tells p t typable.headed fault.row).0 (passes rule.CoveredCatch (length p) (is_covered p t) all.covered fault inside e))))
 
     -- one line for each of the exact rules, in their order
     each_right : AllByRecursion IsRight exact_rules
@@ -231,6 +247,7 @@ module _ (view : View) (testable : IsTestableView view) (local : IsLocal (rows_i
       type_right rule.Branches refl,
       unreached_right,
       completing_right,
+      covered_right,
       named_right rule.StaticImports all.names.static_imports,
       tt,
     )

@@ -15,6 +15,8 @@ use Rattle.jr_member_faults.specs.Faults.{AreMemberFaults}
 use Rattle.jr_member_faults.specs.Tops.{has_top_type_clash}
 use Rattle.jr_member_faults.specs.Views.{IsNamedWorld, IsSignedWorld, IsValuedView}
 use Rattle.jr_type_faults.specs.Faults.{IsRightView, AreExactTypeFaults}
+use Rattle.jr_flow_faults.specs.Computed.{rows_in, table_in}
+use Rattle.jr_flow_faults.specs.ExceptionTests.{covered_rows}
 use Rattle.jr_flow_faults.specs.Faults.{AreFlowFaults}
 
 -- the places, supertypes, signatures and values of variables of the view are right
@@ -66,3 +68,4 @@ pub record AreFaultsIn (view : View) (faults : List Fault) : Type 0 where
   pub members : AreMemberFaults view [] faults
   pub types : AreExactTypeFaults view [] faults
   pub flow : AreFlowFaults view [] faults
+  pub covered : AreFaultsOf rule.CoveredCatch (covered_rows (rows_in view) (table_in view)) [] faults
