@@ -1,0 +1,3 @@
+pub mod Leading
+pub mod Fitted
+pub mod Spelled

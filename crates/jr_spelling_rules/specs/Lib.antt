@@ -1,0 +1,4 @@
+pub mod Naming
+pub mod Candidates
+pub mod Fitting
+pub mod Spelling
