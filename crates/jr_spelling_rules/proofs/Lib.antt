@@ -1,3 +1,4 @@
 pub mod Leading
 pub mod Fitted
 pub mod Spelled
+pub mod Found

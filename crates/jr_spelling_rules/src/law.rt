@@ -9,7 +9,8 @@ ghost use Rattle.jr_defs.specs.Referents.{Table};
 ghost use Rattle.jr_plain.specs.Headed.{IsHeaded};
 ghost use Rattle.jr_plain.specs.Overloads.{Types};
 ghost use Rattle.jr_plain.specs.Search.{Finds};
-ghost use Rattle.jr_spelling_rules.specs.Naming.{Before, Leads, qualify};
+ghost use Rattle.jr_spelling_rules.specs.Naming.{Before, Leads, look_up, qualify};
+ghost use Rattle.jr_spelling_rules.specs.Behind.{IsFoundAt};
 ghost use Rattle.jr_spelling_rules.specs.Candidates.{Candidate};
 ghost use Rattle.jr_spelling_rules.specs.Fitting.{Fits, FitsSo, IsFirstFit, HasNoFit, TellsConstants, fits, fits_so, first_such};
 ghost use Rattle.jr_spelling_rules.specs.Spelling.{IsSpelling, HasNoSpelling, Written, spelling};
@@ -33,4 +34,10 @@ pub fn spellings_are_computed()
         → Finds (spelling p t type_of was_constant first n variable) (IsSpelling p t type_of was_constant first n) }
     ensures none { (p : Rows) (t : Table) (type_of : Types) (variable was_constant : ℕ → Bool) → IsHeaded p → TellsConstants p t variable → (first n : ℕ)
         → spelling p t type_of was_constant first n variable ≡ None → HasNoSpelling p t type_of was_constant first n }
+{}
+
+/// A name behind nothing, a package or a type refers to the one that is found there, and to no other.
+pub fn names_are_found()
+    ensures found { (p : Rows) (t : Table) (o : ℕ) (b : Before) (k : NameKind) (x : Text) → IsHeaded p → IsFoundAt p t x o b k (look_up p t o b k x) }
+    ensures only { (p : Rows) (t : Table) (o : ℕ) (b : Before) (k : NameKind) (x : Text) (a : Referent) → IsHeaded p → IsFoundAt p t x o b k a → a ≡ look_up p t o b k x }
 {}

@@ -3,4 +3,4 @@
 
 mod law;
 
-pub use law::{names_lead_one_way, spellings_are_computed};
+pub use law::{names_are_found, names_lead_one_way, spellings_are_computed};
