@@ -4,7 +4,7 @@ use crate::paths::package_name;
 use crate::resolving::{Resolved, kind_before};
 use crate::speller::Speller;
 use jr_base::OutOfMemory;
-use jr_change::{Suffix, TypeName};
+use jr_shapes::{Suffix, TypeName};
 use jr_defs::{Element, Referent, RowType};
 use jr_places::declaring_type;
 use jr_supers::declaration;

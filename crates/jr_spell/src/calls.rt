@@ -4,7 +4,7 @@ use crate::reference::Reference;
 use crate::resolving::Before;
 use crate::speller::Speller;
 use jr_base::OutOfMemory;
-use jr_change::TypeName;
+use jr_shapes::TypeName;
 use jr_defs::{Referent, RowType};
 use jr_lookup::{Candidates, Receiver, choose, instance_round};
 use jr_places::{end_at, parent_at};

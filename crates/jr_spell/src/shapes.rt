@@ -6,7 +6,7 @@ use crate::reference::{Form, Reference};
 use crate::resolving::Before;
 use crate::speller::Speller;
 use jr_base::OutOfMemory;
-use jr_change::{Shape, Suffix};
+use jr_shapes::{Shape, Suffix};
 use jr_defs::{Referent, RowType};
 use jr_lookup::{Left, has_instance, instance_round};
 use jr_places::declaring_type;
