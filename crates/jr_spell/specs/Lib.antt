@@ -1,1 +1,2 @@
 pub mod Spellers
+pub mod Standing
