@@ -10,9 +10,9 @@ ghost use Rattle.jr_spell.specs.Spellers as tell;
 
 use crate::reference::Reference;
 use crate::speller::Speller;
-use jr_shapes::Shape;
 use jr_defs::{Referent, RowType};
 use jr_places::{is_static, role_at};
+use jr_shapes::Shape;
 use jr_supers::declaration;
 use jr_tree::{Role, Row};
 

@@ -12,7 +12,7 @@ mod reference;
 mod resolving;
 mod shapes;
 mod speller;
-
+mod spelling;
 
 pub use fault::SpellFault;
-
+pub use spelling::spell;

@@ -47,9 +47,7 @@ impl<'a> Speller<'a> {
         ensures { tell.IsWholeSpeller self.now → standing.IsNumber (tell.rows_of self.now) name → IfOk result (λ found. Lists found.items (behind.TypeBehind (tell.rows_of self.now) (tell.table_of self.now) (name_of (tell.rows_of self.now) name) (naming.in_type class))) }
     {
         let view = self.view;
-        view.sight
-            .world
-            .named(alloc, MemberKind::Type, class, name)
+        view.sight.world.named(alloc, MemberKind::Type, class, name)
     }
 
     // The types of the package that the name at a row spells.
@@ -59,11 +57,7 @@ impl<'a> Speller<'a> {
         let view = self.view;
         let under = view.sight.world.under;
         match under.places.spelled(under.rows, row) {
-            Some(number) => {
-                view.sight
-                    .scopes
-                    .types_of_package(alloc, number, name)
-            }
+            Some(number) => { view.sight.scopes.types_of_package(alloc, number, name) }
             None => Ok(Vec::new(alloc)),
         }
     }

@@ -8,4 +8,4 @@ pub returns-in-Package : goal.returns-in-Package
 returns-in-Package c = λ b paths stands number. package_inside c.args.name c.in-Package.number paths stands number c.in-Package.is c.inside.result c.inside.ensures
 
 pub returns-in-OfType : goal.returns-in-OfType
-returns-in-OfType c = λ b paths stands number. package_of_type c.args.name c.in-OfType.class stands c.in-OfType.is
+returns-in-OfType c = λ b paths stands number. package_of_type c.args.name c.in-OfType.field-0 stands c.in-OfType.is
