@@ -5,9 +5,9 @@ use crate::reference::{Dot, Reference};
 use crate::resolving::{Before, Qualifiers};
 use crate::speller::Speller;
 use jr_base::OutOfMemory;
-use jr_change::Shape;
 use jr_defs::{Referent, RowType};
 use jr_places::is_type;
+use jr_shapes::Shape;
 use jr_tree::Sought;
 use std::alloc::Global;
 

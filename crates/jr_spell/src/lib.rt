@@ -6,6 +6,7 @@ mod calls;
 mod fault;
 mod fitting;
 mod kept;
+mod looking;
 mod paths;
 mod reference;
 mod resolving;

@@ -1,7 +1,9 @@
 // Packages by their identifiers.
+ghost use Rattle.std.specs.Prelude.{◌≡◌};
+ghost use Rattle.jr_places.specs.Numbers.{number_in};
+ghost use Rattle.jr_spell.specs.Standing as standing;
 
 use jr_base::OutOfMemory;
-use jr_lookup::Left;
 use jr_places::{Numbering, Places, end_at, parent_at};
 use jr_tree::{Label, Row};
 use std::alloc::Global;
@@ -89,21 +91,47 @@ impl Paths {
         Ok(paths)
     }
 
-    /// The package of this name in another one, if a unit's begins so.
-    pub fn inside(&self, over: Option<u32>, name: u32) -> Option<u32> {
-        self.numbers.find(over?, name)
+    // The package of this name in one with a number, if a unit's begins so.
+    fn inside_of(&self, over: u32, name: u32) -> Option<u32>
+        ensures { result ≡ number_in self.now.numbers over name }
+    {
+        self.numbers.find(over, name)
     }
 
-    /// The package as it stands before a dot.
-    pub fn left(&self, rows: &[Row], places: &Places, package: Option<u32>) -> Left {
-        match self.row(package) {
-            Some(row) => Left::Package(places.spelled(rows, row)),
-            None => Left::Package(None),
+    /// The package of this name in no other one, if a unit's begins so.
+    pub fn first(&self, name: u32) -> Option<u32>
+        ensures { result ≡ number_in self.now.numbers 0 name }
+    {
+        self.inside_of(Numbering::EMPTY, name)
+    }
+
+    /// The package of this name in another one, if a unit's begins so.
+    pub fn inside(&self, over: Option<u32>, name: u32) -> Option<u32>
+        ensures { result ≡ standing.inside self.now over name }
+    {
+        match over {
+            Some(number) => self.inside_of(number, name),
+            None => None,
         }
     }
 
-    fn row(&self, package: Option<u32>) -> Option<u32> {
-        let place = package?.checked_sub(1)?;
-        self.rows.get(place as usize).copied()
+    fn row_of(&self, number: u32) -> Option<u32>
+        ensures { result ≡ standing.row_of self.now number }
+    {
+        if number == 0 {
+            None
+        } else {
+            self.rows.get((number - 1) as usize).copied()
+        }
+    }
+
+    /// The row of the last identifier of a package.
+    pub fn row(&self, at: Option<u32>) -> Option<u32>
+        ensures { result ≡ standing.row_in self.now at }
+    {
+        match at {
+            Some(number) => self.row_of(number),
+            None => None,
+        }
     }
 }

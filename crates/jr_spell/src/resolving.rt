@@ -1,10 +1,15 @@
 // What identifiers with dots between them refer to, with all that stands before the last one (JLS 6.5).
+ghost use Rattle.std.specs.Prelude.{◌≡◌, ◌<◌, if◌then◌else◌, Some, None, IfOk, length};
+ghost use Rattle.jr_plain.specs.Declarations.{is_type};
+ghost use Rattle.jr_tree.specs.Rows.{name as name_of};
+ghost use Rattle.jr_spelling_rules.specs.Naming as naming;
+ghost use Rattle.jr_spell.specs.Spellers as tell;
+ghost use Rattle.jr_spell.specs.Standing as standing;
 
 use crate::speller::Speller;
 use jr_base::OutOfMemory;
 use jr_defs::Referent;
-use jr_lookup::Left;
-use jr_places::{Numbering, is_type};
+use jr_places::is_type;
 use jr_tree::NameKind;
 use std::alloc::Global;
 
@@ -32,7 +37,9 @@ pub struct Resolved {
 }
 
 /// The kind of an identifier before one of this kind (JLS 6.5.1).
-pub fn kind_before(kind: NameKind) -> NameKind {
+pub fn kind_before(kind: NameKind) -> NameKind
+    ensures { result ≡ naming.kind_before kind }
+{
     match kind {
         NameKind::Variable => NameKind::Ambiguous,
         NameKind::Ambiguous => NameKind::Ambiguous,
@@ -43,54 +50,37 @@ pub fn kind_before(kind: NameKind) -> NameKind {
 }
 
 impl<'a> Speller<'a> {
-    fn left(&self, before: Before) -> Left {
-        match before {
-            Before::Nothing => Left::Nothing,
-            Before::Package(package) => {
-                let paths = self.paths;
-                paths.left(self.rows(), self.places(), package)
-            }
-            Before::OfType(class) => Left::OfType(class),
-        }
-    }
-
-    /// What one identifier refers to.
-    pub fn look_up(
-        &self,
-        alloc: Global,
-        place: u32,
-        before: Before,
-        kind: NameKind,
-        name: u32,
-    ) -> Result<Referent, OutOfMemory> {
-        match before {
-            Before::Nothing => self.sight().simple(alloc, place, kind, name),
-            _ => self.sight().qualified(alloc, self.left(before), kind, name),
-        }
-    }
-
     // The package of this name behind what stands before it.
-    fn package_behind(&self, before: Before, name: u32) -> Option<Before> {
+    fn package_behind(&self, before: Before, name: u32) -> Option<Before>
+        ensures { (b : naming.Before) → standing.ArePaths self.now → standing.StandsFor self.now before b → standing.IsNumber (tell.rows_of self.now) name → standing.BothStand self.now result (naming.package_behind b (name_of (tell.rows_of self.now) name)) }
+    {
         let paths = self.paths;
         match before {
-            Before::Nothing => Some(Before::Package(paths.inside(Some(Numbering::EMPTY), name))),
-            Before::Package(package) => Some(Before::Package(paths.inside(package, name))),
+            Before::Nothing => Some(Before::Package(paths.first(name))),
+            Before::Package(number) => Some(Before::Package(paths.inside(number, name))),
             Before::OfType(_) => None,
         }
     }
 
     // What stands before the next identifier, where this one is a package or type.
-    fn next(&self, before: Before, name: u32, found: Referent) -> Option<Before> {
+    fn next(&self, before: Before, name: u32, found: Referent) -> Option<Before>
+        ensures { (b : naming.Before) → standing.ArePaths self.now → standing.StandsFor self.now before b → standing.IsNumber (tell.rows_of self.now) name → standing.BothStand self.now result (naming.next (tell.rows_of self.now) b (name_of (tell.rows_of self.now) name) found) }
+    {
         match found {
             Referent::Package => self.package_behind(before, name),
-            Referent::Declared { row, .. } => {
-                if is_type(self.rows(), row) {
-                    Some(Before::OfType(row))
-                } else {
-                    None
-                }
-            }
+            Referent::Declared { row, .. } => self.in_type(row),
             _ => None,
+        }
+    }
+
+    // The type, if it is one.
+    fn in_type(&self, row: u32) -> Option<Before>
+        ensures { standing.BothStand self.now result (if is_type (tell.rows_of self.now) row then Some (naming.in_type row) else None) }
+    {
+        if is_type(self.rows(), row) {
+            Some(Before::OfType(row))
+        } else {
+            None
         }
     }
 
@@ -101,7 +91,9 @@ impl<'a> Speller<'a> {
         place: u32,
         kind: NameKind,
         names: &[u32],
-    ) -> Result<Option<Qualifiers>, OutOfMemory> {
+    ) -> Result<Option<Qualifiers>, OutOfMemory>
+        ensures { tell.IsWholeSpeller self.now → standing.ArePaths self.now → standing.AreNumbers (tell.rows_of self.now) names.now → place < length (tell.rows_of self.now) → IfOk result (λ o. standing.AreQualified self.now o (naming.qualify (tell.rows_of self.now) (tell.table_of self.now) place kind naming.at_start (standing.texts_of (tell.rows_of self.now) names.now))) }
+    {
         let mut trace = Vec::new(alloc);
         let mut last = Before::Nothing;
         for name in names {

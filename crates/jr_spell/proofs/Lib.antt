@@ -1,0 +1,3 @@
+pub mod LockCases
+pub mod Named
+pub mod Leading

@@ -1,0 +1,2 @@
+pub mod Spellers
+pub mod Standing

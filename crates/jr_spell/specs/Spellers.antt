@@ -1,0 +1,44 @@
+-- What a speller reads, and what is known of it: the program under its locks, with supertypes, members and imports as the locks say.
+use Rattle.std.specs.Prelude.{◌≡◌, ℕ, ◌+◌, ◌<◌, ◌^◌, Bool, false, is_some, length, slice_index_or, None}
+use Rattle.jr_tree.specs.Rows.{Rows, sought_at}
+use Rattle.jr_defs.specs.Referents.{Table, entries}
+use Rattle.jr_plain.specs.Overloads.{Types}
+use Rattle.jr_members.specs.Sources.{AreSeen}
+use Rattle.jr_lookup.specs.Answers.{CanChoose}
+use Rattle.jr_lookup.specs.Locals.{AreLocalsPlaced}
+use Rattle.jr_lookup.specs.Sights.{IsSight}
+use Rattle.jr_spell.specs.declared.reference.Reference.{Reference}
+use Rattle.jr_spell.specs.declared.speller.Speller.{Speller}
+
+abbrev pub rows_of : Speller → Rows
+rows_of s = s.view.now.sight.world.under.rows.now
+
+abbrev pub table_of : Speller → Table
+table_of s = entries s.view.now.sight.world.under.table.now
+
+abbrev pub types_of : Speller → Types
+types_of s n = slice_index_or s.view.now.types.now n None
+
+-- the reference at the row was a constant expression
+abbrev pub was_constant : Speller → ℕ → Bool
+was_constant s n = slice_index_or s.constant.now n false
+
+-- the variable is constant
+abbrev pub is_constant_variable : Speller → ℕ → Bool
+is_constant_variable s d = is_some (slice_index_or s.view.now.constants.now.variables.items d None)
+
+-- rows of a program with their places, and the supertypes that the locks give
+pub record IsSeenSpeller (s : Speller) : Type 0 where
+  pub few : length (rows_of s) < 2 ^ 32
+  pub seen : AreSeen (rows_of s) (table_of s) s.view.now.sight.world.under.places.now s.view.now.sight.world.supers.now
+
+-- with all that lookup reads
+pub record IsWholeSpeller (s : Speller) : Type 0 where
+  pub sight_is : IsSight (table_of s) s.view.now.sight
+  pub placed : AreLocalsPlaced (rows_of s)
+  pub can : CanChoose (table_of s) s.view.now.sight.world
+
+-- the reference has the lock of its row, and what is sought there
+pub record IsAtRow (s : Speller) (r : Reference) : Type 0 where
+  pub lock_is : r.lock ≡ table_of s r.row
+  pub sought_is : r.sought ≡ sought_at (rows_of s) r.row

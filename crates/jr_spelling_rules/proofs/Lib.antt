@@ -1,0 +1,4 @@
+pub mod Leading
+pub mod Fitted
+pub mod Spelled
+pub mod Found
