@@ -8,3 +8,9 @@ mod Constructed
 mod Inside
 mod Tables
 mod Topped
+mod Looped
+mod Entries
+mod Overridden
+mod Checked
+mod Opened
+mod Methodical

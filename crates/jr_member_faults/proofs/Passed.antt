@@ -52,7 +52,7 @@ no_field role.Parameter e = refl
 no_field role.Local e = refl
 no_field role.Label e = refl
 
-no_method : (r : Role) → declares r ≡ false → same_role r role.Method ≡ false
+pub no_method : (r : Role) → declares r ≡ false → same_role r role.Method ≡ false
 no_method role.Method e = e
 no_method role.Nothing e = refl
 no_method role.Type e = refl

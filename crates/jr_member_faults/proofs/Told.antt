@@ -29,11 +29,13 @@ use Rattle.jr_faults.proofs.Told.{none_added, none_then, then_none, only_then, r
 use Rattle.jr_view.specs.declared.View.{View}
 use Rattle.jr_member_faults.specs.declared.twice.Declared as declaring
 use Rattle.jr_member_faults.specs.declared.headers.Headers as heading
-use Rattle.jr_member_faults.specs.Views.{rows_in, table_in, IsNamedWorld, IsSignedWorld, IsValuedView}
+use Rattle.jr_member_faults.specs.Views.{rows_in, table_in, IsNamedWorld, IsSignedWorld, IsRightWorld, IsValuedView}
 use Rattle.jr_member_faults.specs.Faults.{is_of_members, second_rule, is_second_as, is_type_clash, has_member_type_clash, is_of_declared, is_of_methods, is_on_members, AreMemberFaultsOn, AreMemberFaults}
 use Rattle.jr_member_faults.specs.Headers.{AreHeadersTo}
+use Rattle.jr_member_faults.specs.Methods.{is_over_final_in}
 use Rattle.jr_member_faults.specs.Tops.{has_top_type_clash}
 use Rattle.jr_member_faults.specs.Twice.{AreDeclaredTo}
+use Rattle.jr_member_faults.proofs.Methodical.{finals_past}
 use Rattle.jr_member_faults.proofs.Passed.{bodies_none, statics_none, fields_none, methods_none, constructors_none, types_none, supertypes_none}
 
 -- ---- what is declared twice
@@ -145,6 +147,11 @@ module _ (view : View) where
       → AreFaultsOf r xs a b → AreFaultsOf r xs a f
   declared_added {b = b} {c = c} {d = d} {e = e} h r i j k l at = then_none {mid = e} r (then_none {mid = d} r (then_none {mid = c} r (then_none {mid = b} r at (h.heading.others r i)) (h.methods.others r j)) (h.body.others r k)) (h.static.others r l)
 
+  -- a rule on methods
+  method_added : {a b c d e f : List Fault} {xs : List ℕ} → IsAdded a b c d e f → (r : Rule) → is_of_declared r ≡ false → is_rule rule.Supertypes r ≡ false → is_rule rule.Bodies r ≡ false → is_rule rule.InnerStatics r ≡ false
+      → AreFaultsOf r xs c d → AreFaultsOf r xs a f
+  method_added {b = b} {c = c} {d = d} {e = e} h r i j k l at = none_then {mid = b} r (h.declared.others r i) (none_then {mid = c} r (h.heading.others r j) (then_none {mid = e} r (then_none {mid = d} r at (h.body.others r k)) (h.static.others r l)))
+
   pub row_told : {n : ℕ} {a b c d e f : List Fault} → IsAdded a b c d e f
       → AreFaultsOf rule.Bodies (row_if (stands_wrong (rows_in view) n) n) d e
       → (IsValuedView view → AreFaultsOf rule.InnerStatics (row_if (is_static_there (rows_in view) (table_in view) (values (rows_in view) (table_in view)) n) n) e f)
@@ -153,8 +160,9 @@ module _ (view : View) where
       → (IsNamedWorld view.sight.world → IsSignedWorld view.sight.world → AreFaultsOf rule.MethodSignatures (row_if (is_second_method (rows_in view) (table_in view) n) n) a b)
       → (IsSignedWorld view.sight.world → AreFaultsOf rule.ConstructorSignatures (row_if (is_second_constructor (rows_in view) (table_in view) n) n) a b)
       → (IsNamedWorld view.sight.world → AreFaultsOf rule.TypeNames (row_if (has_member_type_clash (rows_in view) n) n) a b)
+      → (IsRightWorld view.sight.world → AreFaultsOf rule.FinalOverride (row_if (is_over_final_in view.sight.world n) n) c d)
       → AreMemberFaultsOn view (λ test. row_if (test n) n) a f
-  row_told {n} {a} {b} {c} {d} {e} {f} h bodies statics supertypes fields methods constructors types = record {
+  row_told {n} {a} {b} {c} {d} {e} {f} h bodies statics supertypes fields methods constructors types finals = record {
     bodies = none_then {mid = b} rule.Bodies (h.declared.others rule.Bodies refl) (none_then {mid = c} rule.Bodies (h.heading.others rule.Bodies refl) (none_then {mid = d} rule.Bodies (h.methods.others rule.Bodies refl) (then_none {mid = e} rule.Bodies bodies (h.static.others rule.Bodies refl))));
     statics = λ valued. none_then {mid = b} rule.InnerStatics (h.declared.others rule.InnerStatics refl) (none_then {mid = c} rule.InnerStatics (h.heading.others rule.InnerStatics refl) (none_then {mid = d} rule.InnerStatics (h.methods.others rule.InnerStatics refl)
         (none_then {mid = e} rule.InnerStatics (h.body.others rule.InnerStatics refl) (statics valued))));
@@ -163,6 +171,7 @@ module _ (view : View) where
     methods = λ named signed. declared_added h rule.MethodSignatures refl refl refl refl (methods named signed);
     constructors = λ signed. declared_added h rule.ConstructorSignatures refl refl refl refl (constructors signed);
     types = λ named. declared_added h rule.TypeNames refl refl refl refl (types named);
+    finals = λ right. method_added h rule.FinalOverride refl refl refl refl (finals right);
   }
 
   -- a row that is not looked at
@@ -175,6 +184,7 @@ module _ (view : View) where
     methods = λ named signed. told_at rule.MethodSignatures n (sym (methods_none (rows_in view) n none (table_in view))) (none_added rule.MethodSignatures old);
     constructors = λ signed. told_at rule.ConstructorSignatures n (sym (constructors_none (rows_in view) n none (table_in view))) (none_added rule.ConstructorSignatures old);
     types = λ named. told_at rule.TypeNames n (sym (types_none (rows_in view) n none)) (none_added rule.TypeNames old);
+    finals = λ right. told_at rule.FinalOverride n (sym (finals_past view.sight.world right n none)) (none_added rule.FinalOverride old);
   }
 
   -- ---- the rows so far
@@ -196,6 +206,7 @@ module _ (view : View) where
       methods = λ named signed. none_added rule.MethodSignatures old;
       constructors = λ signed. none_added rule.ConstructorSignatures old;
       types = λ named. none_added rule.TypeNames old;
+      finals = λ right. none_added rule.FinalOverride old;
     };
   }
 
@@ -212,6 +223,7 @@ module _ (view : View) where
       methods = λ named signed. row_more n rule.MethodSignatures (is_second_method (rows_in view) (table_in view)) (h.faults_are.methods named signed) (k.methods named signed);
       constructors = λ signed. row_more n rule.ConstructorSignatures (is_second_constructor (rows_in view) (table_in view)) (h.faults_are.constructors signed) (k.constructors signed);
       types = λ named. row_more n rule.TypeNames (has_member_type_clash (rows_in view)) (h.faults_are.types named) (k.types named);
+      finals = λ right. row_more n rule.FinalOverride (is_over_final_in view.sight.world) (h.faults_are.finals right) (k.finals right);
     };
   }
 
@@ -262,6 +274,9 @@ module _ (a b c d e f g h : Bool) where
 
   to_bodies : (r : ℕ) → nat_eq 14 r ≡ false → nat_eq 15 r ≡ false → nat_eq 16 r ≡ false → nat_eq 17 r ≡ false → nat_eq 18 r ≡ false → nat_eq 19 r ≡ false → has l14 r ≡ has l20 r
   to_bodies r i j k l m n = past a 14 r l15 i ∙ past b 15 r l16 j ∙ past c 16 r l17 k ∙ past d 17 r l18 l ∙ past e 18 r l19 m ∙ past f 19 r l20 n
+
+  eighteenth : has l14 18 ≡ e
+  eighteenth = past a 14 18 l15 refl ∙ past b 15 18 l16 refl ∙ past c 16 18 l17 refl ∙ past d 17 18 l18 refl ∙ met e 18 18 l19 refl (past f 19 18 l20 refl ∙ past g 20 18 (listed h 21) refl ∙ last h 21 18 refl)
 
   twentieth : has l14 20 ≡ g
   twentieth = to_bodies 20 refl refl refl refl refl refl ∙ met g 20 20 (listed h 21) refl (last h 21 20 refl)
@@ -328,6 +343,9 @@ module _ (p : Rows) (t : Table) (n : ℕ) where
   statics_at : is_static_there p t (values p t) n ≡ breaks_members p t 21 n
   statics_at = sym (twenty_first (leaves_methods p t n) (results_do_not_fit p t (overriding p t) n) (access_is_narrowed p t (overriding p t) n) (methods_are_mixed p t (overriding p t) n) (is_over_final p t (overriding p t) n) (more_is_thrown p t (overriding p t) n) (stands_wrong p n) (is_static_there p t (values p t) n))
 
+  finals_at : is_over_final p t (overriding p t) n ≡ breaks_members p t 18 n
+  finals_at = sym (eighteenth (leaves_methods p t n) (results_do_not_fit p t (overriding p t) n) (access_is_narrowed p t (overriding p t) n) (methods_are_mixed p t (overriding p t) n) (is_over_final p t (overriding p t) n) (more_is_thrown p t (overriding p t) n) (stands_wrong p n) (is_static_there p t (values p t) n))
+
   -- rule 2 inside types and outside any other
   pub types_at : breaks p t 2 n ≡ (has_member_type_clash p n || has_top_type_clash p n)
   types_at = second (has_type_clash p n) (is_second_field p n) (is_second_method p t n) (is_second_constructor p t n) (is_second_local p n) (is_second_label p n) (is_next (has_import_clash p t) n) (is_next (is_import_not_canonical p t) n) (is_not_accessible p t (types p t) n) (has_wrong_supertype p t n) (has_static_import_fault p t n)
@@ -370,6 +388,7 @@ all_told {n} {view} {old} {new} whole h = record {
   methods = λ named signed. told rule.MethodSignatures (methods_at (rows_in view) (table_in view)) (h.faults_are.methods named signed);
   constructors = λ signed. told rule.ConstructorSignatures (constructors_at (rows_in view) (table_in view)) (h.faults_are.constructors signed);
   types = λ named. subst (λ m. AreFaultsOf rule.TypeNames (all_such m (has_member_type_clash (rows_in view))) old new) whole (h.faults_are.types named);
+  finals = λ right. told rule.FinalOverride (finals_at (rows_in view) (table_in view)) (h.faults_are.finals right);
 }
   where
     told : {f g : ℕ → Bool} (r : Rule) → ((k : ℕ) → f k ≡ g k) → AreFaultsOf r (all_such n f) old new → AreFaultsOf r (all_such (length (rows_in view)) g) old new

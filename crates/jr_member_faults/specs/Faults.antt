@@ -19,7 +19,8 @@ use Rattle.jr_member_rules.specs.Inner.{is_static_there}
 use Rattle.jr_member_rules.specs.Computed.{values, breaks_members}
 use Rattle.jr_faults.specs.Added.{is_rule}
 use Rattle.jr_view.specs.declared.View.{View}
-use Rattle.jr_member_faults.specs.Views.{rows_in, table_in, IsNamedWorld, IsSignedWorld, IsValuedView}
+use Rattle.jr_member_faults.specs.Views.{rows_in, table_in, IsNamedWorld, IsSignedWorld, IsRightWorld, IsValuedView}
+use Rattle.jr_member_faults.specs.Methods.{is_over_final_in}
 
 -- ---- the rows that are looked at
 
@@ -82,6 +83,7 @@ pub record AreMemberFaultsOn (view : View) (rows_of : (ℕ → Bool) → List �
   pub methods : IsNamedWorld view.sight.world → IsSignedWorld view.sight.world → AreFaultsOf rule.MethodSignatures (rows_of (is_second_method (rows_in view) (table_in view))) old new
   pub constructors : IsSignedWorld view.sight.world → AreFaultsOf rule.ConstructorSignatures (rows_of (is_second_constructor (rows_in view) (table_in view))) old new
   pub types : IsNamedWorld view.sight.world → AreFaultsOf rule.TypeNames (rows_of (has_member_type_clash (rows_in view))) old new
+  pub finals : IsRightWorld view.sight.world → AreFaultsOf rule.FinalOverride (rows_of (is_over_final_in view.sight.world)) old new
 
 -- the faults of a rule on members that were added are those of the definition
 abbrev pub AreExactOnMembers : View → Rule → List Fault → List Fault → Type 0
@@ -100,3 +102,4 @@ pub record AreMemberFaults (view : View) (old new : List Fault) : Type 0 where
   pub methods : IsNamedWorld view.sight.world → IsSignedWorld view.sight.world → AreExactOnDeclarations view rule.MethodSignatures old new
   pub constructors : IsSignedWorld view.sight.world → AreExactOnDeclarations view rule.ConstructorSignatures old new
   pub types : IsNamedWorld view.sight.world → AreFaultsOf rule.TypeNames (all_such (length (rows_in view)) (has_member_type_clash (rows_in view))) old new
+  pub finals : IsRightWorld view.sight.world → AreExactOnMembers view rule.FinalOverride old new

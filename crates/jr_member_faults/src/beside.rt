@@ -179,18 +179,21 @@ impl<'a> Beside<'a> {
     }
 
     // A method is inherited that is not abstract, and declares more than one beside it allows.
-    fn inherits_throwing(&self, inherited: &[u32]) -> bool {
+    fn inherits_throwing(&self, alloc: Global, inherited: &[u32]) -> Result<bool, OutOfMemory> {
         let world = self.world;
         for method in inherited {
             if !is_abstract(world.under.rows, *method) {
                 for other in inherited {
-                    if self.thrown.declares_more(self.world, *method, *other) {
-                        return true;
+                    let is_more = self
+                        .thrown
+                        .declares_more(alloc, self.world, *method, *other)?;
+                    if is_more {
+                        return Ok(true);
                     }
                 }
             }
         }
-        false
+        Ok(false)
     }
 
     // The rules that members of one signature break.
@@ -199,7 +202,8 @@ impl<'a> Beside<'a> {
             return Ok(Left::NOTHING);
         }
         let inherited = self.inherited(alloc, group)?;
-        Ok(self.of_inherited(group, &inherited))
+        let left = self.of_inherited(alloc, group, &inherited)?;
+        Ok(left)
     }
 
     // Those of the methods that are inherited.
@@ -214,15 +218,21 @@ impl<'a> Beside<'a> {
     }
 
     // The rules that members of one signature break, of which these are inherited.
-    fn of_inherited(&self, group: &[u32], inherited: &[u32]) -> Left {
-        Left {
+    fn of_inherited(
+        &self,
+        alloc: Global,
+        group: &[u32],
+        inherited: &[u32],
+    ) -> Result<Left, OutOfMemory> {
+        let throws = self.inherits_throwing(alloc, inherited)?;
+        Ok(Left {
             leaves_methods: self.leaves_some(group),
             results: self.has_disagreeing(inherited) || self.all_disagree(group, inherited),
             access: self.inherits_narrower(inherited),
             statics: self.inherits_static(inherited),
-            throws: self.inherits_throwing(inherited),
+            throws,
             is_open: true,
-        }
+        })
     }
 
     // The rules that a member breaks which has no signature, since a type in it is not found: nothing is of its signature.

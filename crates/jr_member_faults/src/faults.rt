@@ -3,7 +3,9 @@ ghost use Rattle.std.specs.Prelude.{◌≡◌, ◌+◌, ◌<◌, ◌^◌, ◌||�
 ghost use Rattle.jr_tree.specs.declared.label.Role.TheVariants as roles;
 ghost use Rattle.jr_tree.specs.Rows as rows;
 ghost use Rattle.jr_defs.specs.Referents.{entries};
+ghost use Rattle.jr_defs.specs.MemberRules.{RedefinesMethod};
 ghost use Rattle.jr_plain.specs.Declarations.{is_type};
+ghost use Rattle.jr_plain.specs.Search.{Lists};
 ghost use Rattle.jr_rule.specs.Faults.{AreFaultsOf};
 ghost use Rattle.jr_rule.specs.declared.Rule.TheVariants as rules;
 ghost use Rattle.jr_name_rules.specs.DeclarationTests as declaring;
@@ -15,6 +17,7 @@ ghost use Rattle.jr_faults.specs.Added.{row_if, is_rule, AreOnly};
 ghost use Rattle.jr_member_faults.specs.Faults as tell;
 ghost use Rattle.jr_member_faults.specs.Headers.{AreHeadersTo};
 ghost use Rattle.jr_member_faults.specs.Twice.{AreDeclaredTo};
+ghost use Rattle.jr_member_faults.specs.Methods as of_methods;
 ghost use Rattle.jr_member_faults.specs.Views as views;
 
 use crate::beside::Left;
@@ -22,7 +25,7 @@ use crate::bodies::{is_initializer, stands_wrong};
 use crate::headers::Headers;
 use crate::inheriting::Inheriting;
 use crate::inner::is_static_there;
-use crate::redefining::{Redefining, Uppers};
+use crate::redefining::{Redefining, Uppers, is_mixed, is_narrowed, is_over_final};
 use crate::throwing::Thrown;
 use crate::twice::{Declared, is_inside_its_name};
 use jr_base::OutOfMemory;
@@ -116,37 +119,41 @@ impl<'a> Methods<'a> {
     }
 
     // The rules on methods beside and above others that are broken at a row.
-    fn faults(&mut self, alloc: Global, at: u32, out: &mut Vec<Fault>) -> Result<(), OutOfMemory>
-        ensures { OnOk result (AreOnly tell.is_of_methods out.old.items out.new.items) }
+    fn faults(&self, alloc: Global, at: u32, out: &mut Vec<Fault>) -> Result<(), OutOfMemory>
+        ensures others { OnOk result (AreOnly tell.is_of_methods out.old.items out.new.items) }
+        ensures finals { of_methods.AreRight self.now → OnOk result (AreFaultsOf rules.FinalOverride (row_if (of_methods.is_over_final_in self.now.redefining.world.now at) at) out.old.items out.new.items) }
     {
         let left = self.left_at(at);
         let redefining = self.redefining;
         let over = self.uppers.redefined(alloc, redefining.world, at)?;
-        method_faults(&redefining, left, at, &over, out)?;
+        method_faults(alloc, redefining, left, at, &over, out)?;
         Ok(())
     }
 }
 
 // The rules that are broken at a row by the methods that it overrides or hides, or by what it inherits as a type.
 fn method_faults(
-    redefining: &Redefining,
+    alloc: Global,
+    redefining: Redefining,
     left: Left,
     at: u32,
     over: &[u32],
     out: &mut Vec<Fault>,
 ) -> Result<(), OutOfMemory>
-    ensures { OnOk result (AreOnly tell.is_of_methods out.old.items out.new.items) }
+    ensures others { OnOk result (AreOnly tell.is_of_methods out.old.items out.new.items) }
+    ensures finals { views.IsRightWorld redefining.entry.world.now → Lists over.now (RedefinesMethod (views.rows_of redefining.entry.world.now) (views.table_of redefining.entry.world.now) at) → OnOk result (AreFaultsOf rules.FinalOverride (row_if (of_methods.is_over_final_in redefining.entry.world.now at) at) out.old.items out.new.items) }
 {
-    let results = redefining.has_other_result(at, over) || left.results;
-    let access = redefining.is_narrowed(at, over) || left.access;
-    let statics = redefining.is_mixed(at, over) || left.statics;
-    let throws = redefining.throws_more(at, over) || left.throws;
+    let is_other = redefining.has_other_result(at, over);
+    let is_narrower = is_narrowed(redefining.world, at, over);
+    let is_other_kind = is_mixed(redefining.world, at, over);
+    let is_final = is_over_final(redefining.world, over);
+    let throws_more = redefining.throws_more(alloc, at, over)?;
     rule_if(out, left.leaves_methods, at, Rule::AbstractMembers)?;
-    rule_if(out, results, at, Rule::Results)?;
-    rule_if(out, access, at, Rule::NarrowedAccess)?;
-    rule_if(out, statics, at, Rule::StaticOverride)?;
-    rule_if(out, redefining.is_over_final(over), at, Rule::FinalOverride)?;
-    rule_if(out, throws, at, Rule::OverrideThrows)?;
+    rule_if(out, is_other || left.results, at, Rule::Results)?;
+    rule_if(out, is_narrower || left.access, at, Rule::NarrowedAccess)?;
+    rule_if(out, is_other_kind || left.statics, at, Rule::StaticOverride)?;
+    rule_if(out, is_final, at, Rule::FinalOverride)?;
+    rule_if(out, throws_more || left.throws, at, Rule::OverrideThrows)?;
     Ok(())
 }
 
@@ -227,7 +234,7 @@ fn static_fault(view: &View, at: u32, out: &mut Vec<Fault>) -> Result<(), OutOfM
 fn row_faults(
     alloc: Global,
     view: &View,
-    methods: &mut Methods,
+    methods: &Methods,
     declared: &mut Declared,
     headers: &mut Headers,
     at: u32,
@@ -235,7 +242,7 @@ fn row_faults(
 ) -> Result<(), OutOfMemory>
     ensures declared { at < length (views.rows_in view.now) → AreDeclaredTo view.now.sight.world at declared.old → OnOk result (AreDeclaredTo view.now.sight.world (at + 1) declared.new) }
     ensures headers { AreHeadersTo (views.rows_in view.now) (views.table_in view.now) at headers.old.superinterfaces → OnOk result (AreHeadersTo (views.rows_in view.now) (views.table_in view.now) (at + 1) headers.new.superinterfaces) }
-    ensures found { at < length (views.rows_in view.now) → length (views.rows_in view.now) < 2 ^ 32 → AreDeclaredTo view.now.sight.world at declared.old → AreHeadersTo (views.rows_in view.now) (views.table_in view.now) at headers.old.superinterfaces → OnOk result (tell.AreMemberFaultsOn view.now (λ test. row_if (test at) at) out.old.items out.new.items) }
+    ensures found { at < length (views.rows_in view.now) → length (views.rows_in view.now) < 2 ^ 32 → of_methods.AreMethodsIn view.now methods.now → AreDeclaredTo view.now.sight.world at declared.old → AreHeadersTo (views.rows_in view.now) (views.table_in view.now) at headers.old.superinterfaces → OnOk result (tell.AreMemberFaultsOn view.now (λ test. row_if (test at) at) out.old.items out.new.items) }
     ensures only { OnOk result (AreOnly tell.is_on_members out.old.items out.new.items) }
 {
     let world = &view.sight.world;
@@ -252,7 +259,7 @@ fn row_faults(
 fn any_row_faults(
     alloc: Global,
     view: &View,
-    methods: &mut Methods,
+    methods: &Methods,
     declared: &mut Declared,
     headers: &mut Headers,
     at: u32,
@@ -260,7 +267,7 @@ fn any_row_faults(
 ) -> Result<(), OutOfMemory>
     ensures declared { at < length (views.rows_in view.now) → AreDeclaredTo view.now.sight.world at declared.old → OnOk result (AreDeclaredTo view.now.sight.world (at + 1) declared.new) }
     ensures headers { AreHeadersTo (views.rows_in view.now) (views.table_in view.now) at headers.old.superinterfaces → OnOk result (AreHeadersTo (views.rows_in view.now) (views.table_in view.now) (at + 1) headers.new.superinterfaces) }
-    ensures found { at < length (views.rows_in view.now) → length (views.rows_in view.now) < 2 ^ 32 → AreDeclaredTo view.now.sight.world at declared.old → AreHeadersTo (views.rows_in view.now) (views.table_in view.now) at headers.old.superinterfaces → OnOk result (tell.AreMemberFaultsOn view.now (λ test. row_if (test at) at) out.old.items out.new.items) }
+    ensures found { at < length (views.rows_in view.now) → length (views.rows_in view.now) < 2 ^ 32 → of_methods.AreMethodsIn view.now methods.now → AreDeclaredTo view.now.sight.world at declared.old → AreHeadersTo (views.rows_in view.now) (views.table_in view.now) at headers.old.superinterfaces → OnOk result (tell.AreMemberFaultsOn view.now (λ test. row_if (test at) at) out.old.items out.new.items) }
     ensures only { OnOk result (AreOnly tell.is_on_members out.old.items out.new.items) }
 {
     if !is_of_members(view.sight.world.under.rows, at) {
@@ -284,10 +291,10 @@ fn row_count(all: &[Row]) -> Result<u32, OutOfMemory>
 fn all_faults(
     alloc: Global,
     view: &View,
-    methods: &mut Methods,
+    methods: &Methods,
     out: &mut Vec<Fault>,
 ) -> Result<(), OutOfMemory>
-    ensures exact { OnOk result (tell.AreMemberFaults view.now out.old.items out.new.items) }
+    ensures exact { of_methods.AreMethodsIn view.now methods.now → OnOk result (tell.AreMemberFaults view.now out.old.items out.new.items) }
     ensures only { OnOk result (AreOnly tell.is_on_members out.old.items out.new.items) }
 {
     let mut declared = Declared::new(alloc);
@@ -300,12 +307,12 @@ fn all_faults(
 fn put_faults(
     alloc: Global,
     view: &View,
-    methods: &mut Methods,
+    methods: &Methods,
     declared: &mut Declared,
     headers: &mut Headers,
     out: &mut Vec<Fault>,
 ) -> Result<(), OutOfMemory>
-    ensures exact { AreDeclaredTo view.now.sight.world 0 declared.old → AreHeadersTo (views.rows_in view.now) (views.table_in view.now) 0 headers.old.superinterfaces → OnOk result (tell.AreMemberFaults view.now out.old.items out.new.items) }
+    ensures exact { of_methods.AreMethodsIn view.now methods.now → AreDeclaredTo view.now.sight.world 0 declared.old → AreHeadersTo (views.rows_in view.now) (views.table_in view.now) 0 headers.old.superinterfaces → OnOk result (tell.AreMemberFaults view.now out.old.items out.new.items) }
     ensures only { OnOk result (AreOnly tell.is_on_members out.old.items out.new.items) }
 {
     let count = row_count(view.sight.world.under.rows)?;
@@ -339,7 +346,7 @@ fn faults_with(
     let world = &view.sight.world;
     let lefts = lefts_of(alloc, world, thrown)?;
     let uppers = Uppers::new(alloc, world)?;
-    let mut methods = Methods {
+    let methods = Methods {
         redefining: Redefining {
             world,
             thrown: &*thrown,
@@ -347,6 +354,6 @@ fn faults_with(
         uppers,
         lefts,
     };
-    all_faults(alloc, view, &mut methods, out)?;
+    all_faults(alloc, view, &methods, out)?;
     Ok(())
 }

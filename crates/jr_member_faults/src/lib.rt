@@ -9,6 +9,7 @@ mod headers;
 mod inheriting;
 mod inner;
 mod law;
+mod listing;
 mod redefining;
 mod throwing;
 mod together;

@@ -1,154 +1,251 @@
 // What a method overrides or hides, and how it differs from that (JLS 8.4.3.3, 8.4.5, 8.4.8.1 to 8.4.8.3).
+ghost use Rattle.std.specs.Prelude.{◌≡◌, ◌++◌, ◌∷◌, [], ℕ, true, not, None, Some, IfOk, OnOk, Decides, filter, length};
+ghost use Rattle.std.specs.List.{flat_map, list_any};
+ghost use Rattle.jr_tree.specs.declared.label.Role.TheVariants as roles;
+ghost use Rattle.jr_tree.specs.Rows.{role_at as role_of_row, label as label_of_row};
+ghost use Rattle.jr_defs.specs.Enclosing.{DeclaredIn};
+ghost use Rattle.jr_defs.specs.Members.{SameMethods};
+ghost use Rattle.jr_defs.specs.MemberRules.{RedefinesMethod};
+ghost use Rattle.jr_defs.specs.Modifiers.{written};
+ghost use Rattle.jr_plain.specs.Overloads.{is_result_fit as is_fit};
+ghost use Rattle.jr_plain.specs.Overriding.{overriding};
+ghost use Rattle.jr_plain.specs.Search.{Lists};
+ghost use Rattle.jr_places.specs.Chains.{last_like};
+ghost use Rattle.jr_members.specs.Keys.{entries_of, signature_number};
+ghost use Rattle.jr_members.specs.Named.{under};
+ghost use Rattle.jr_dispatch.specs.Families.{declared_like};
+ghost use Rattle.jr_member_rules.specs.Redefining as plain;
+ghost use Rattle.jr_member_rules.specs.Throwing as throwing;
+ghost use Rattle.jr_member_faults.specs.Redefined as tell;
+ghost use Rattle.jr_member_faults.specs.Thrown.{AreThrown};
+ghost use Rattle.jr_member_faults.specs.Views as views;
 
 use crate::access::is_narrower;
+use crate::listing::{add_entry, push_if};
 use crate::throwing::Thrown;
 use crate::together::{is_method, is_result_fit};
 use jr_base::OutOfMemory;
 use jr_dispatch::Methods;
 use jr_members::{World, can_inherit};
 use jr_places::{Chains, Entry, declaring_type, is_static, written_at};
-use jr_supers::entry_before;
+use jr_tree::Row;
 use std::alloc::Global;
 
-/// Where the methods stand that others may override or hide.
+/// The methods of a program by their signatures.
 #[derive(Drop)]
 pub struct Uppers {
-    /// Methods under the numbers of their signatures and 0.
+    /// Under the numbers of their signatures and 0.
     signed: Chains,
-    /// The type whose methods are looked at, and the types above it.
-    of: Option<u32>,
-    above: Vec<u32>,
 }
 
-// Adds a row under the number of its signature, if it is a method that has one.
-fn add_signed(
-    alloc: Global,
-    world: &World,
-    signed: &mut Chains,
-    row: u32,
-) -> Result<(), OutOfMemory> {
+// Where a method stands that has a signature.
+fn signed_entry(world: &World, row: u32) -> Option<Entry>
+    ensures { result ≡ tell.number_entry_of world.now row }
+{
     if !is_method(world.under.rows, row) {
-        return Ok(());
+        return None;
     }
     match world.members.signatures().number(row) {
-        Some(first) => signed.add(
-            alloc,
-            Entry {
-                first,
-                second: 0,
-                row,
-            },
-        ),
-        None => Ok(()),
+        Some(first) => Some(Entry {
+            first,
+            second: 0,
+            row,
+        }),
+        None => None,
     }
 }
 
-impl Uppers {
-    /// The methods by their signatures.
-    pub fn new(alloc: Global, world: &World) -> Result<Uppers, OutOfMemory> {
-        let Ok(count) = u32::try_from(world.under.rows.len()) else {
-            return Err(OutOfMemory);
-        };
-        let mut signed = Chains::new(alloc);
-        for row in 0..count {
-            add_signed(alloc, world, &mut signed, row)?;
-        }
-        Ok(Uppers {
-            signed,
-            of: None,
-            above: Vec::new(alloc),
-        })
+// All methods that have signatures.
+fn signed_methods(alloc: Global, world: &World) -> Result<Chains, OutOfMemory>
+    ensures { IfOk result (λ signed. signed ≡ entries_of (tell.number_entry_of world.now) (length (views.rows_of world.now))) }
+{
+    let mut signed = Chains::new(alloc);
+    let Ok(count) = u32::try_from(world.under.rows.len()) else {
+        return Err(OutOfMemory);
+    };
+    for row in 0..count {
+        add_entry(alloc, &mut signed, signed_entry(world, row))?;
     }
+    Ok(signed)
+}
 
-    // Several methods of the program have the signature.
-    fn is_shared(&self, world: &World, method: u32) -> bool {
-        let Some(number) = world.members.signatures().number(method) else {
-            return false;
-        };
-        match self.signed.last(number, 0) {
-            Some(place) => entry_before(&self.signed, place).is_some(),
-            None => false,
-        }
-    }
-
-    // Looks at the methods of a type.
-    fn enter(&mut self, alloc: Global, world: &World, over: u32) -> Result<(), OutOfMemory> {
-        if self.of == Some(over) {
-            return Ok(());
-        }
-        self.above = world.supers.with_above(alloc, world.under.rows, over)?;
-        self.of = Some(over);
-        Ok(())
-    }
-
-    /// The methods that a method overrides or hides.
-    pub fn redefined(
-        &mut self,
-        alloc: Global,
-        world: &World,
-        method: u32,
-    ) -> Result<Vec<u32>, OutOfMemory> {
-        let mut all = Vec::new(alloc);
-        self.add_redefined(alloc, world, method, &mut all)?;
-        Ok(all)
-    }
-
-    // Adds the methods that a method overrides or hides.
-    fn add_redefined(
-        &mut self,
-        alloc: Global,
-        world: &World,
-        method: u32,
-        all: &mut Vec<u32>,
-    ) -> Result<(), OutOfMemory> {
-        if !is_method(world.under.rows, method) || !self.is_shared(world, method) {
-            return Ok(());
-        }
-        let Some(over) = declaring_type(world.under.rows, method) else {
-            return Ok(());
-        };
-        self.enter(alloc, world, over)?;
-        for upper in &self.above {
-            add_redefined_of(alloc, world, *upper, method, all)?;
-        }
-        Ok(())
+// No entry stands before this one under its key.
+fn is_first(all: &Chains, place: u32) -> bool
+    ensures { result ≡ true → last_like all.now place ≡ None }
+{
+    if (place as usize) < all.len() {
+        all.before(place).is_none()
+    } else {
+        false
     }
 }
 
-// Adds the methods of a type that a method overrides or hides.
-fn add_redefined_of(
+fn list_of(alloc: Global, at: u32) -> Result<Vec<u32>, OutOfMemory>
+    ensures { IfOk result (λ all. all.items ≡ at ∷ []) }
+{
+    let mut all = Vec::new(alloc);
+    all.push(at)?;
+    Ok(all)
+}
+
+// Adds the methods of the signature that a type declares.
+fn add_like(
     alloc: Global,
     world: &World,
-    upper: u32,
-    method: u32,
     all: &mut Vec<u32>,
-) -> Result<(), OutOfMemory> {
-    for other in &world.members.declared_like(alloc, upper, method)? {
-        if redefines(alloc, world, method, *other)? {
-            all.push(*other)?;
-        }
-    }
+    over: u32,
+    method: u32,
+) -> Result<(), OutOfMemory>
+    ensures { views.IsRightWorld world.now → role_of_row (views.rows_of world.now) method ≡ roles.Method → OnOk result (all.new.items ≡ all.old.items ++ declared_like (views.rows_of world.now) (views.table_of world.now) method over) }
+{
+    let like = world.members.declared_like(alloc, over, method)?;
+    all.extend_from_slice(&like)?;
     Ok(())
 }
 
-// The static method hides the other, which its type would inherit if it declared nothing.
-fn is_hiding(world: &World, method: u32, other: u32) -> bool {
-    let rows = world.under.rows;
-    match declaring_type(rows, method) {
-        Some(over) => match declaring_type(rows, other) {
-            Some(upper) => world.is_above(over, upper) && can_inherit(world.under, over, other),
-            None => false,
-        },
+// The methods of the signature that these types declare.
+fn all_like(
+    alloc: Global,
+    world: &World,
+    overs: &[u32],
+    method: u32,
+) -> Result<Vec<u32>, OutOfMemory>
+    ensures { views.IsRightWorld world.now → role_of_row (views.rows_of world.now) method ≡ roles.Method → IfOk result (λ all. all.items ≡ flat_map (declared_like (views.rows_of world.now) (views.table_of world.now) method) overs.now) }
+{
+    let mut all = Vec::new(alloc);
+    for over in overs {
+        add_like(alloc, world, &mut all, *over, method)?;
+    }
+    Ok(all)
+}
+
+// Those that the type of a method, which is this, and the types above it declare.
+fn like_from(alloc: Global, world: &World, over: u32, method: u32) -> Result<Vec<u32>, OutOfMemory>
+    ensures { views.IsRightWorld world.now → role_of_row (views.rows_of world.now) method ≡ roles.Method → DeclaredIn (views.rows_of world.now) over method → IfOk result (λ all. tell.AreLike (views.rows_of world.now) (views.table_of world.now) method all.items) }
+{
+    let overs = world.supers.with_above(alloc, world.under.rows, over)?;
+    let all = all_like(alloc, world, &overs, method)?;
+    Ok(all)
+}
+
+// The same, of any method.
+fn like_above(alloc: Global, world: &World, method: u32) -> Result<Vec<u32>, OutOfMemory>
+    ensures { views.IsRightWorld world.now → role_of_row (views.rows_of world.now) method ≡ roles.Method → IfOk result (λ all. tell.AreLike (views.rows_of world.now) (views.table_of world.now) method all.items) }
+{
+    match declaring_type(world.under.rows, method) {
+        Some(over) => like_from(alloc, world, over, method),
+        None => Ok(Vec::new(alloc)),
+    }
+}
+
+// The type stands below that of the method.
+fn is_from_above(world: &World, over: u32, method: u32) -> bool
+    ensures { views.IsRightWorld world.now → result ≡ plain.is_from_above (views.rows_of world.now) (views.table_of world.now) over method }
+{
+    match declaring_type(world.under.rows, method) {
+        Some(upper) => world.is_above(over, upper),
+        None => false,
+    }
+}
+
+// The type of the first method stands below that of the other, which it would inherit if it declared nothing.
+fn is_reached(world: &World, method: u32, other: u32) -> bool
+    ensures { views.IsRightWorld world.now → result ≡ tell.is_reached (views.rows_of world.now) (views.table_of world.now) method other }
+{
+    match declaring_type(world.under.rows, method) {
+        Some(over) => { is_from_above(world, over, other) && can_inherit(world.under, over, other) }
         None => false,
     }
 }
 
 // Of two methods of one signature the first overrides or hides the second.
-fn redefines(alloc: Global, world: &World, method: u32, other: u32) -> Result<bool, OutOfMemory> {
+fn redefines(alloc: Global, world: &World, method: u32, other: u32) -> Result<bool, OutOfMemory>
+    ensures { views.IsRightWorld world.now → SameMethods (views.rows_of world.now) (views.table_of world.now) method other → IfOk result (λ is. Decides is (RedefinesMethod (views.rows_of world.now) (views.table_of world.now) method other)) }
+{
     if is_static(world.under.rows, method) {
-        Ok(is_hiding(world, method, other))
-    } else {
-        Methods::of(world).overrides(alloc, method, other)
+        return Ok(is_reached(world, method, other));
+    }
+    let is = Methods::of(world).overrides(alloc, method, other)?;
+    Ok(is)
+}
+
+// Of these methods, those that a method overrides or hides.
+fn redefined_among(
+    alloc: Global,
+    world: &World,
+    like: &[u32],
+    method: u32,
+) -> Result<Vec<u32>, OutOfMemory>
+    ensures { views.IsRightWorld world.now → tell.AreSame (views.rows_of world.now) (views.table_of world.now) method like.now → IfOk result (λ all. all.items ≡ filter (plain.redefines (views.rows_of world.now) (views.table_of world.now) (overriding (views.rows_of world.now) (views.table_of world.now)) method) like.now) }
+{
+    let mut all = Vec::new(alloc);
+    for other in like {
+        let is_such = redefines(alloc, world, method, *other)?;
+        push_if(&mut all, is_such, *other)?;
+    }
+    Ok(all)
+}
+
+impl Uppers {
+    /// The methods by their signatures.
+    pub fn new(alloc: Global, world: &World) -> Result<Uppers, OutOfMemory>
+        ensures { IfOk result (λ uppers. tell.AreUppers world.now uppers) }
+    {
+        let signed = signed_methods(alloc, world)?;
+        Ok(Uppers { signed })
+    }
+
+    // There is one method of the signature.
+    fn is_alone(&self, number: u32) -> bool
+        ensures { result ≡ true → (row : ℕ) × (under self.now.signed number 0 ≡ row ∷ []) }
+    {
+        match self.signed.last(number, 0) {
+            Some(place) => is_first(&self.signed, place),
+            None => false,
+        }
+    }
+
+    // Methods of the signature of a method, with all that it overrides or hides among them.
+    fn like(&self, alloc: Global, world: &World, method: u32) -> Result<Vec<u32>, OutOfMemory>
+        ensures { views.IsRightWorld world.now → tell.AreUppers world.now self.now → role_of_row (views.rows_of world.now) method ≡ roles.Method → IfOk result (λ all. tell.AreLike (views.rows_of world.now) (views.table_of world.now) method all.items) }
+    {
+        match world.members.signatures().number(method) {
+            Some(number) => self.like_by(alloc, world, number, method),
+            None => Ok(Vec::new(alloc)),
+        }
+    }
+
+    // The same, where the number of the signature is known.
+    fn like_by(
+        &self,
+        alloc: Global,
+        world: &World,
+        number: u32,
+        method: u32,
+    ) -> Result<Vec<u32>, OutOfMemory>
+        ensures { views.IsRightWorld world.now → tell.AreUppers world.now self.now → role_of_row (views.rows_of world.now) method ≡ roles.Method → signature_number world.now.members.now.callables.signatures method ≡ Some number → IfOk result (λ all. tell.AreLike (views.rows_of world.now) (views.table_of world.now) method all.items) }
+    {
+        if self.is_alone(number) {
+            return list_of(alloc, method);
+        }
+        like_above(alloc, world, method)
+    }
+
+    /// The methods that a method overrides or hides.
+    pub fn redefined(
+        &self,
+        alloc: Global,
+        world: &World,
+        method: u32,
+    ) -> Result<Vec<u32>, OutOfMemory>
+        ensures { views.IsRightWorld world.now → tell.AreUppers world.now self.now → IfOk result (λ all. Lists all.items (RedefinesMethod (views.rows_of world.now) (views.table_of world.now) method)) }
+    {
+        if !is_method(world.under.rows, method) {
+            return Ok(Vec::new(alloc));
+        }
+        let like = self.like(alloc, world, method)?;
+        let all = redefined_among(alloc, world, &like, method)?;
+        Ok(all)
     }
 }
 
@@ -159,9 +256,64 @@ pub struct Redefining<'a> {
     pub thrown: &'a Thrown,
 }
 
+// A static method and an instance method.
+fn are_mixed(rows: &[Row], method: u32, other: u32) -> bool
+    ensures { result ≡ tell.are_mixed rows.now method other }
+{
+    if is_static(rows, method) {
+        !is_static(rows, other)
+    } else {
+        is_static(rows, other)
+    }
+}
+
+fn is_final(rows: &[Row], at: u32) -> bool
+    ensures { result ≡ (written (label_of_row rows.now at)).is_final }
+{
+    written_at(rows, at).is_final
+}
+
+/// One of these methods is of wider access.
+pub fn is_narrowed(world: &World, method: u32, redefined: &[u32]) -> bool
+    ensures { result ≡ list_any (λ k. plain.is_narrower (views.rows_of world.now) method k) redefined.now }
+{
+    for other in redefined {
+        if is_narrower(world.under.rows, method, *other) {
+            return true;
+        }
+    }
+    false
+}
+
+/// Of these methods, which a method overrides or hides, one is static and it is not, or the other way round.
+pub fn is_mixed(world: &World, method: u32, redefined: &[u32]) -> bool
+    ensures { result ≡ list_any (λ k. tell.are_mixed (views.rows_of world.now) method k) redefined.now }
+{
+    for other in redefined {
+        if are_mixed(world.under.rows, method, *other) {
+            return true;
+        }
+    }
+    false
+}
+
+/// One of these methods is final.
+pub fn is_over_final(world: &World, redefined: &[u32]) -> bool
+    ensures { result ≡ list_any (λ k. (written (label_of_row (views.rows_of world.now) k)).is_final) redefined.now }
+{
+    for other in redefined {
+        if is_final(world.under.rows, *other) {
+            return true;
+        }
+    }
+    false
+}
+
 impl<'a> Redefining<'a> {
     /// The result does not fit that of one of them.
-    pub fn has_other_result(&self, method: u32, redefined: &[u32]) -> bool {
+    pub fn has_other_result(&self, method: u32, redefined: &[u32]) -> bool
+        ensures { views.IsRightWorld self.now.world.now → result ≡ list_any (λ k. not (is_fit (views.rows_of self.now.world.now) (views.table_of self.now.world.now) method k)) redefined.now }
+    {
         for other in redefined {
             if !is_result_fit(self.world, method, *other) {
                 return true;
@@ -170,47 +322,23 @@ impl<'a> Redefining<'a> {
         false
     }
 
-    /// One of them is of wider access.
-    pub fn is_narrowed(&self, method: u32, redefined: &[u32]) -> bool {
-        let world = self.world;
-        for other in redefined {
-            if is_narrower(world.under.rows, method, *other) {
-                return true;
-            }
-        }
-        false
-    }
-
-    /// A static method hides an instance method, or an instance method overrides a static one.
-    pub fn is_mixed(&self, method: u32, redefined: &[u32]) -> bool {
-        let world = self.world;
-        let rows = world.under.rows;
-        for other in redefined {
-            if is_static(rows, method) != is_static(rows, *other) {
-                return true;
-            }
-        }
-        false
-    }
-
-    /// One of them is final.
-    pub fn is_over_final(&self, redefined: &[u32]) -> bool {
-        let world = self.world;
-        for other in redefined {
-            if written_at(world.under.rows, *other).is_final {
-                return true;
-            }
-        }
-        false
-    }
-
     /// The method declares a checked class that one of them does not allow.
-    pub fn throws_more(&self, method: u32, redefined: &[u32]) -> bool {
+    pub fn throws_more(
+        &self,
+        alloc: Global,
+        method: u32,
+        redefined: &[u32],
+    ) -> Result<bool, OutOfMemory>
+        ensures { views.IsRightWorld self.now.world.now → AreThrown (views.rows_of self.now.world.now) self.now.thrown.now → tell.AreSame (views.rows_of self.now.world.now) (views.table_of self.now.world.now) method redefined.now → IfOk result (λ is. is ≡ list_any (λ k. throwing.declares_more (views.rows_of self.now.world.now) (views.table_of self.now.world.now) method k) redefined.now) }
+    {
         for other in redefined {
-            if self.thrown.declares_more(self.world, method, *other) {
-                return true;
+            let is_more = self
+                .thrown
+                .declares_more(alloc, self.world, method, *other)?;
+            if is_more {
+                return Ok(true);
             }
         }
-        false
+        Ok(false)
     }
 }

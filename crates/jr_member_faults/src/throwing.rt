@@ -1,9 +1,21 @@
 // Checked classes that a method declares and another does not allow (JLS 8.4.6, 8.4.8.3, 11.2).
+ghost use Rattle.std.specs.Prelude.{◌≡◌, ◌&&◌, not, IfOk, length};
+ghost use Rattle.std.specs.List.{list_any};
+ghost use Rattle.jr_tree.specs.declared.label.Role.TheVariants as roles;
+ghost use Rattle.jr_tree.specs.Rows.{label, role_at as role_of_row};
+ghost use Rattle.jr_plain.specs.Declarations.{is_prelude};
+ghost use Rattle.jr_plain.specs.Same.{same_role};
+ghost use Rattle.jr_plain.specs.Search.{all_such};
+ghost use Rattle.jr_plain.specs.Supertypes.{declaration, is_at_or_above};
+ghost use Rattle.jr_members.specs.Keys.{entries_of};
+ghost use Rattle.jr_member_rules.specs.Throwing as plain;
+ghost use Rattle.jr_member_faults.specs.Thrown as tell;
+ghost use Rattle.jr_member_faults.specs.Views as views;
 
+use crate::listing::{add_entry, push_if};
 use jr_base::OutOfMemory;
 use jr_members::World;
 use jr_places::{Chains, Entry, is_type, name_at, parent_at, role_at};
-use jr_supers::entry_before;
 use jr_tree::{Label, NamePlace, Role, Row};
 use std::alloc::Global;
 
@@ -17,9 +29,11 @@ pub struct Thrown {
     runtimes: Vec<u32>,
 }
 
-// A name that stands for a class right below a method.
-fn is_thrown_name(rows: &[Row], at: u32) -> bool {
-    let is_name = match rows.get(at as usize) {
+// A name that stands for a class in the list of thrown classes.
+fn is_other_name(rows: &[Row], at: u32) -> bool
+    ensures { result ≡ plain.is_other_name (label rows.now at) }
+{
+    match rows.get(at as usize) {
         Some(row) => match row.label {
             Label::Name {
                 place: NamePlace::Other,
@@ -28,30 +42,58 @@ fn is_thrown_name(rows: &[Row], at: u32) -> bool {
             _ => false,
         },
         None => false,
-    };
-    is_name
-        && match role_at(rows, parent_at(rows, at)) {
-            Role::Method => true,
-            _ => false,
-        }
+    }
 }
 
-// The types of this name that the first unit of the prelude declares.
-fn of_prelude(alloc: Global, rows: &[Row], name: &[u8]) -> Result<Vec<u32>, OutOfMemory> {
+fn is_method_role(role: Role) -> bool
+    ensures { result ≡ same_role role roles.Method }
+{
+    match role {
+        Role::Method => true,
+        _ => false,
+    }
+}
+
+// Where a name stands that stands for a class right below a method.
+fn thrown_entry(rows: &[Row], at: u32) -> Option<Entry>
+    ensures { result ≡ tell.thrown_entry rows.now at }
+{
+    if is_other_name(rows, at) && is_method_role(role_at(rows, parent_at(rows, at))) {
+        Some(Entry {
+            first: parent_at(rows, at),
+            second: 0,
+            row: at,
+        })
+    } else {
+        None
+    }
+}
+
+// A type of this name that the first unit of the prelude declares.
+fn is_of_prelude(rows: &[Row], at: u32, name: &[u8]) -> bool
+    ensures { result ≡ is_prelude rows.now name.now at }
+{
+    is_type(rows, at) && parent_at(rows, at) == 1 && name_at(rows, at) == name
+}
+
+// All such types.
+fn of_prelude(alloc: Global, rows: &[Row], name: &[u8]) -> Result<Vec<u32>, OutOfMemory>
+    ensures { IfOk result (λ all. all.items ≡ all_such (length rows.now) (is_prelude rows.now name.now)) }
+{
     let Ok(count) = u32::try_from(rows.len()) else {
         return Err(OutOfMemory);
     };
     let mut all = Vec::new(alloc);
     for at in 0..count {
-        if parent_at(rows, at) == 1 && is_type(rows, at) && name_at(rows, at) == name {
-            all.push(at)?;
-        }
+        push_if(&mut all, is_of_prelude(rows, at, name), at)?;
     }
     Ok(all)
 }
 
 // One of the types is the class, or stands above it.
-fn is_below(world: &World, uppers: &[u32], class: u32) -> bool {
+fn is_below(world: &World, uppers: &[u32], class: u32) -> bool
+    ensures { views.IsRightWorld world.now → result ≡ list_any (λ s. is_at_or_above (views.rows_of world.now) (views.table_of world.now) class s) uppers.now }
+{
     for over in uppers {
         if world.supers.is_at_or_above(world.under.rows, class, *over) {
             return true;
@@ -60,35 +102,53 @@ fn is_below(world: &World, uppers: &[u32], class: u32) -> bool {
     false
 }
 
-// Adds the names of the classes that methods declare as thrown.
-fn add_names(alloc: Global, rows: &[Row], names: &mut Chains) -> Result<(), OutOfMemory> {
+// The names of the classes that methods declare as thrown.
+fn names_of(alloc: Global, rows: &[Row]) -> Result<Chains, OutOfMemory>
+    ensures { IfOk result (λ names. names ≡ entries_of (tell.thrown_entry rows.now) (length rows.now)) }
+{
+    let mut names = Chains::new(alloc);
     let Ok(count) = u32::try_from(rows.len()) else {
         return Err(OutOfMemory);
     };
-    for row in 0..count {
-        if is_thrown_name(rows, row) {
-            names.add(
-                alloc,
-                Entry {
-                    first: parent_at(rows, row),
-                    second: 0,
-                    row,
-                },
-            )?;
-        }
+    for at in 0..count {
+        add_entry(alloc, &mut names, thrown_entry(rows, at))?;
     }
-    Ok(())
+    Ok(names)
 }
 
-fn names_of(alloc: Global, rows: &[Row]) -> Result<Chains, OutOfMemory> {
-    let mut names = Chains::new(alloc);
-    add_names(alloc, rows, &mut names)?;
-    Ok(names)
+// The name is that of a class that stands above the class, or of the class.
+fn is_name_above(world: &World, name: u32, class: u32) -> bool
+    ensures { views.IsRightWorld world.now → result ≡ list_any (λ s. is_at_or_above (views.rows_of world.now) (views.table_of world.now) class s) (declaration (views.table_of world.now name)) }
+{
+    match world.under.declared(name) {
+        Some(over) => world.supers.is_at_or_above(world.under.rows, class, over),
+        None => false,
+    }
+}
+
+// One of the names is that of the class, or of one above it.
+fn is_any_above(world: &World, names: &[u32], class: u32) -> bool
+    ensures { views.IsRightWorld world.now → result ≡ list_any (λ n. list_any (λ s. is_at_or_above (views.rows_of world.now) (views.table_of world.now) class s) (declaration (views.table_of world.now n))) names.now }
+{
+    for name in names {
+        if is_name_above(world, *name, class) {
+            return true;
+        }
+    }
+    false
+}
+
+fn is_first_alone(one: bool, other: bool, third: bool) -> bool
+    ensures { result ≡ (one && (not other && not third)) }
+{
+    one && (!other && !third)
 }
 
 impl Thrown {
     /// What the methods declare.
-    pub fn of(alloc: Global, rows: &[Row]) -> Result<Thrown, OutOfMemory> {
+    pub fn of(alloc: Global, rows: &[Row]) -> Result<Thrown, OutOfMemory>
+        ensures { IfOk result (λ thrown. tell.AreThrown rows.now thrown) }
+    {
         let throwables = of_prelude(alloc, rows, b"Throwable")?;
         let errors = of_prelude(alloc, rows, b"Error")?;
         let runtimes = of_prelude(alloc, rows, b"RuntimeException")?;
@@ -102,53 +162,93 @@ impl Thrown {
     }
 
     // Throwable and what is below it, but for Error and RuntimeException and what is below those.
-    fn is_checked(&self, world: &World, class: u32) -> bool {
-        is_below(world, &self.throwables, class)
-            && !is_below(world, &self.errors, class)
-            && !is_below(world, &self.runtimes, class)
+    fn is_checked(&self, world: &World, class: u32) -> bool
+        ensures { views.IsRightWorld world.now → tell.AreThrown (views.rows_of world.now) self.now → result ≡ plain.is_checked (views.rows_of world.now) (views.table_of world.now) class }
+    {
+        let is_throwable = is_below(world, &self.throwables, class);
+        let is_error = is_below(world, &self.errors, class);
+        let is_runtime = is_below(world, &self.runtimes, class);
+        is_first_alone(is_throwable, is_error, is_runtime)
     }
 
     // The method declares the class or one above it.
-    fn allows(&self, world: &World, method: u32, class: u32) -> bool {
-        let mut place = self.names.last(method, 0);
-        for _turn in 0..self.names.len() {
-            let Some(here) = place else {
-                return false;
-            };
-            if let Some(entry) = self.names.entry(here) {
-                if let Some(over) = world.under.declared(entry.row) {
-                    if world.supers.is_at_or_above(world.under.rows, class, over) {
-                        return true;
-                    }
-                }
-            }
-            place = entry_before(&self.names, here);
+    fn allows(
+        &self,
+        alloc: Global,
+        world: &World,
+        method: u32,
+        class: u32,
+    ) -> Result<bool, OutOfMemory>
+        ensures { views.IsRightWorld world.now → tell.AreThrown (views.rows_of world.now) self.now → role_of_row (views.rows_of world.now) method ≡ roles.Method → IfOk result (λ is. is ≡ plain.allows (views.rows_of world.now) (views.table_of world.now) method class) }
+    {
+        let names = self.names.rows(alloc, method, 0)?;
+        Ok(is_any_above(world, &names, class))
+    }
+
+    // The class is a checked one that the method does not allow.
+    fn is_class_not_allowed(
+        &self,
+        alloc: Global,
+        world: &World,
+        method: u32,
+        class: u32,
+    ) -> Result<bool, OutOfMemory>
+        ensures { views.IsRightWorld world.now → tell.AreThrown (views.rows_of world.now) self.now → role_of_row (views.rows_of world.now) method ≡ roles.Method → IfOk result (λ is. is ≡ (plain.is_checked (views.rows_of world.now) (views.table_of world.now) class && not (plain.allows (views.rows_of world.now) (views.table_of world.now) method class))) }
+    {
+        if !self.is_checked(world, class) {
+            return Ok(false);
         }
-        false
+        let is_allowed = self.allows(alloc, world, method, class)?;
+        Ok(!is_allowed)
     }
 
     // The name is that of a checked class that the method does not allow.
-    fn is_not_allowed(&self, world: &World, method: u32, name: u32) -> bool {
+    fn is_not_allowed(
+        &self,
+        alloc: Global,
+        world: &World,
+        method: u32,
+        name: u32,
+    ) -> Result<bool, OutOfMemory>
+        ensures { views.IsRightWorld world.now → tell.AreThrown (views.rows_of world.now) self.now → role_of_row (views.rows_of world.now) method ≡ roles.Method → IfOk result (λ is. is ≡ tell.is_name_not_allowed (views.rows_of world.now) (views.table_of world.now) method name) }
+    {
         match world.under.declared(name) {
-            Some(class) => self.is_checked(world, class) && !self.allows(world, method, class),
-            None => false,
+            Some(class) => self.is_class_not_allowed(alloc, world, method, class),
+            None => Ok(false),
         }
     }
 
-    /// The first method declares a checked class that the second does not allow.
-    pub fn declares_more(&self, world: &World, method: u32, other: u32) -> bool {
-        let mut place = self.names.last(method, 0);
-        for _turn in 0..self.names.len() {
-            let Some(here) = place else {
-                return false;
-            };
-            if let Some(entry) = self.names.entry(here) {
-                if self.is_not_allowed(world, other, entry.row) {
-                    return true;
-                }
+    // One of the names is that of such a class.
+    fn is_any_not_allowed(
+        &self,
+        alloc: Global,
+        world: &World,
+        method: u32,
+        names: &[u32],
+    ) -> Result<bool, OutOfMemory>
+        ensures { views.IsRightWorld world.now → tell.AreThrown (views.rows_of world.now) self.now → role_of_row (views.rows_of world.now) method ≡ roles.Method → IfOk result (λ is. is ≡ list_any (tell.is_name_not_allowed (views.rows_of world.now) (views.table_of world.now) method) names.now) }
+    {
+        for name in names {
+            let is = self.is_not_allowed(alloc, world, method, *name)?;
+            if is {
+                return Ok(true);
             }
-            place = entry_before(&self.names, here);
         }
-        false
+        Ok(false)
+    }
+
+    /// The first method declares a checked class that the second does not allow.
+    pub fn declares_more(
+        &self,
+        alloc: Global,
+        world: &World,
+        method: u32,
+        other: u32,
+    ) -> Result<bool, OutOfMemory>
+        ensures { views.IsRightWorld world.now → tell.AreThrown (views.rows_of world.now) self.now → role_of_row (views.rows_of world.now) method ≡ roles.Method → role_of_row (views.rows_of world.now) other ≡ roles.Method → IfOk result (λ is. is ≡ plain.declares_more (views.rows_of world.now) (views.table_of world.now) method other) }
+    {
+        let names = self.names.rows(alloc, method, 0)?;
+        let is = self.is_any_not_allowed(alloc, world, other, &names)?;
+        Ok(is)
     }
 }

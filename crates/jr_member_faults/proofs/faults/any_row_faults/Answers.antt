@@ -12,7 +12,7 @@ pub returns-then-not-is_of_members-clause-headers : goal.returns-then-not-is_of_
 returns-then-not-is_of_members-clause-headers c = λ h. headers_past _ c.args.at (sym c.is_of_members.ensures ∙ c.if-not-is_of_members.true) _ c.args.headers.now.superinterfaces h
 
 pub returns-then-not-is_of_members-clause-found : goal.returns-then-not-is_of_members-clause-found
-returns-then-not-is_of_members-clause-found c = λ lt few d h. row_passed c.args.view.now c.args.at c.args.out.now.items lt (sym c.is_of_members.ensures ∙ c.if-not-is_of_members.true)
+returns-then-not-is_of_members-clause-found c = λ lt few methods d h. row_passed c.args.view.now c.args.at c.args.out.now.items lt (sym c.is_of_members.ensures ∙ c.if-not-is_of_members.true)
 
 pub returns-then-not-is_of_members-clause-only : goal.returns-then-not-is_of_members-clause-only
 returns-then-not-is_of_members-clause-only c = only_kept is_on_members c.args.out.now.items
