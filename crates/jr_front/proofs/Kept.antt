@@ -131,7 +131,7 @@ module _ (view : View) (testable : IsTestableView view) (local : IsLocal (rows_i
   of_members_found e (BreaksMembers.static_over_instance hides a) = absurd (false≢true e)
   of_members_found e (BreaksMembers.instance_over_static over a) = absurd (false≢true e)
   of_members_found e (BreaksMembers.inherited_static both a b) = absurd (false≢true e)
-  of_members_found e (BreaksMembers.over_final redefines a) = absurd (false≢true e)
+  of_members_found e (BreaksMembers.over_final redefines a) = member_found rule.FinalOverride (all.members.finals testable.whole) (BreaksMembers.over_final redefines a)
   of_members_found e (BreaksMembers.throws_more redefines a b c) = absurd (false≢true e)
   of_members_found e (BreaksMembers.inherited_throws both a thrown checked lacking) = absurd (false≢true e)
   of_members_found e (BreaksMembers.body_of_abstract is a b) = member_found rule.Bodies all.members.bodies (BreaksMembers.body_of_abstract is a b)
@@ -229,6 +229,7 @@ module _ (view : View) (testable : IsTestableView view) (local : IsLocal (rows_i
       type_right rule.StaticContext refl,
       type_right rule.ForwardReference refl,
       declared_right rule.Supertypes all.members.supertypes,
+      member_right rule.FinalOverride (all.members.finals testable.whole),
       member_right rule.Bodies all.members.bodies,
       member_right rule.InnerStatics (all.members.statics testable.valued),
       type_right rule.ConstructorCycle refl,

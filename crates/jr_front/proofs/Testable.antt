@@ -122,6 +122,7 @@ module _ (w : Workspace) (view : View) (bound : IsBoundIn w) (of : IsViewOf (row
           named = right.seen.placed.are;
           signed = (whole_view w view bound of).world_is.members_are.signatures_are;
           valued = view_variables;
+          whole = record { sized = right.sized; whole = whole_view w view bound of };
         }
 
     bound_so : IsBound (rows_of view) (table_of view)

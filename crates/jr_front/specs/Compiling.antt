@@ -11,7 +11,7 @@ use Rattle.jr_flow_faults.specs.Faults.{BreaksFlow, BreaksThrown}
 
 -- the numbers of the rules whose faults are those of the definition: on names, members, types, jumps, reaching, completing and what is caught
 abbrev pub exact_rules : List ℕ
-exact_rules = 2 ∷ 3 ∷ 4 ∷ 5 ∷ 6 ∷ 7 ∷ 8 ∷ 9 ∷ 10 ∷ 11 ∷ 12 ∷ 13 ∷ 20 ∷ 21 ∷ 22 ∷ 23 ∷ 24 ∷ 25 ∷ 26 ∷ 27 ∷ 28 ∷ 29 ∷ 30 ∷ 31 ∷ 32 ∷ 33 ∷ 34 ∷ 35 ∷ 36 ∷ 37 ∷ 43 ∷ 47 ∷ []
+exact_rules = 2 ∷ 3 ∷ 4 ∷ 5 ∷ 6 ∷ 7 ∷ 8 ∷ 9 ∷ 10 ∷ 11 ∷ 12 ∷ 13 ∷ 18 ∷ 20 ∷ 21 ∷ 22 ∷ 23 ∷ 24 ∷ 25 ∷ 26 ∷ 27 ∷ 28 ∷ 29 ∷ 30 ∷ 31 ∷ 32 ∷ 33 ∷ 34 ∷ 35 ∷ 36 ∷ 37 ∷ 43 ∷ 47 ∷ []
 
 -- one of these rules is broken at the row
 pub record BreaksExact (p : Rows) (t : Table) (rule place : ℕ) : Type 0 where

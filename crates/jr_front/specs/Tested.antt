@@ -13,7 +13,7 @@ use Rattle.jr_name_faults.specs.Faults.{AreExactFaults}
 use Rattle.jr_name_faults.specs.Views as names
 use Rattle.jr_member_faults.specs.Faults.{AreMemberFaults}
 use Rattle.jr_member_faults.specs.Tops.{has_top_type_clash}
-use Rattle.jr_member_faults.specs.Views.{IsNamedWorld, IsSignedWorld, IsValuedView}
+use Rattle.jr_member_faults.specs.Views.{IsNamedWorld, IsSignedWorld, IsRightWorld, IsValuedView}
 use Rattle.jr_type_faults.specs.Faults.{IsRightView, AreExactTypeFaults}
 use Rattle.jr_flow_faults.specs.Computed.{rows_in, table_in}
 use Rattle.jr_flow_faults.specs.ExceptionTests.{covered_rows}
@@ -28,6 +28,7 @@ pub record IsTestableView (view : View) : Type 0 where
   pub named : IsNamedWorld view.sight.world
   pub signed : IsSignedWorld view.sight.world
   pub valued : IsValuedView view
+  pub whole : IsRightWorld view.sight.world
 
 -- ---- the rules of a list of faults
 
