@@ -216,42 +216,7 @@ module _ (view : View) (testable : IsTestableView view) (local : IsLocal (rows_i
 
     -- one line for each of the exact rules, in their order
     each_right : AllByRecursion IsRight exact_rules
-    each_right = (
-      types_right,
-      declared_right rule.FieldNames (all.members.fields testable.named),
-      declared_right rule.MethodSignatures (all.members.methods testable.named testable.signed),
-      declared_right rule.ConstructorSignatures (all.members.constructors testable.signed),
-      named_right rule.LocalNames all.names.local_names,
-      named_right rule.Labels all.names.labels,
-      named_right rule.ImportNames all.names.import_names,
-      named_right rule.ImportedTypes all.names.imported_types,
-      named_right rule.Access all.names.access,
-      type_right rule.StaticContext refl,
-      type_right rule.ForwardReference refl,
-      declared_right rule.Supertypes all.members.supertypes,
-      member_right rule.FinalOverride (all.members.finals testable.whole),
-      member_right rule.Bodies all.members.bodies,
-      member_right rule.InnerStatics (all.members.statics testable.valued),
-      type_right rule.ConstructorCycle refl,
-      type_right rule.Throwable refl,
-      type_right rule.Operands refl,
-      type_right rule.Assignable refl,
-      type_right rule.Variable refl,
-      type_right rule.Cast refl,
-      type_right rule.Condition refl,
-      type_right rule.Switch refl,
-      type_right rule.VoidValue refl,
-      type_right rule.Return refl,
-      type_right rule.Abstract refl,
-      type_right rule.Index refl,
-      jumps_right,
-      type_right rule.Branches refl,
-      unreached_right,
-      completing_right,
-      covered_right,
-      named_right rule.StaticImports all.names.static_imports,
-      tt,
-    )
+    each_right = (types_right, (declared_right rule.FieldNames (all.members.fields testable.named), (declared_right rule.MethodSignatures (all.members.methods testable.named testable.signed), (declared_right rule.ConstructorSignatures (all.members.constructors testable.signed), (named_right rule.LocalNames all.names.local_names, (named_right rule.Labels all.names.labels, (named_right rule.ImportNames all.names.import_names, (named_right rule.ImportedTypes all.names.imported_types, (named_right rule.Access all.names.access, (type_right rule.StaticContext refl, (type_right rule.ForwardReference refl, (declared_right rule.Supertypes all.members.supertypes, (member_right rule.FinalOverride (all.members.finals testable.whole), (member_right rule.Bodies all.members.bodies, (member_right rule.InnerStatics (all.members.statics testable.valued), (type_right rule.ConstructorCycle refl, (type_right rule.Throwable refl, (type_right rule.Operands refl, (type_right rule.Assignable refl, (type_right rule.Variable refl, (type_right rule.Cast refl, (type_right rule.Condition refl, (type_right rule.Switch refl, (type_right rule.VoidValue refl, (type_right rule.Return refl, (type_right rule.Abstract refl, (type_right rule.Index refl, (jumps_right, (type_right rule.Branches refl, (unreached_right, (completing_right, (covered_right, (named_right rule.StaticImports all.names.static_imports, tt)))))))))))))))))))))))))))))))))
 
     pub is_right : (fault : Fault) → Contains faults fault → has exact_rules (number_of fault.rule) ≡ true → BreaksExact p t (number_of fault.rule) fault.row
     is_right fault inside exact = record { exact = exact; breaks = has_holds IsRight exact_rules (number_of fault.rule) each_right exact fault inside refl }
