@@ -123,8 +123,13 @@ module _ (p : Rows) (local : IsLocal p) where
             (same_then p local u c d (same_back p local c u ((same_package_tells p c u).0 (and_parts (is_same_package p c u) way.is_in_one_package one).0)) same)
 
         carried : IsCarried p way d
-        carried = λ e. let q = k refl in (q.0, (⊎_elim (λ a. inl a) (⊎_elim (λ a. inr (inl a)) (λ a. inr (inr ((and_parts (is_same_package p c u) way.is_in_one_package a.0).1, from_above a.0 a.1)))) q.1.0,
-            λ i. q.1.1 (or_right (is_interface p u) way.has_interface i)))
+        carried = λ e. let q = k refl in (
+          q.0,
+          (
+            ⊎_elim (λ a. inl a) (⊎_elim (λ a. inr (inl a)) (λ a. inr (inr ((and_parts (is_same_package p c u) way.is_in_one_package a.0).1, from_above a.0 a.1)))) q.1.0,
+            λ i. q.1.1 (or_right (is_interface p u) way.has_interface i),
+          ),
+        )
 
     pub near_below : IsNearest p t kind lists c x before
     near_below = record { is = record { starts = λ e. absurd (false≢true (sym e)); out = below_out; into = below_into }; from_is = refl; listed = near.listed }

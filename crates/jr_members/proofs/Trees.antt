@@ -186,7 +186,7 @@ module _ (bits name : ℕ) (lister : Lister) where
     found_below n x b other = ⊎_elim
         (λ k. ap (seek (mid ++ changed ∷ []) n x (b / 2)) k.0 ∙ seek_kept mid changed h.keeps.closed n x (b / 2) (Some under) h.set.there ∙ h.set.others n x (b / 2) other ∙ ap (seek nodes n x (b / 2)) (sym k.1))
         (λ k. let there = node_in nodes tree node b closed e in ap (seek (mid ++ changed ∷ []) n x (b / 2)) k ∙ seek_kept mid changed h.keeps.closed n x (b / 2) (below node b) (h.keeps.there (below node b) there)
-            ∙ h.keeps.same n x (b / 2) (below node b) there) (sides (is_even bits) (is_even b) node under)
+        ∙ h.keeps.same n x (b / 2) (below node b) there) (sides (is_even bits) (is_even b) node under)
 
     others : (n x b : ℕ) → nat_eq name x ≡ false → seek (mid ++ changed ∷ []) n x b (Some (length mid)) ≡ seek nodes n x b tree
     others zero x b other = refl

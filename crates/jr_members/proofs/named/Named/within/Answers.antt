@@ -7,7 +7,7 @@ use Rattle.jr_members.proofs.named.Named.within.Goals as goal
 pub returns-in-Some : goal.returns-in-Some
 returns-in-Some c = λ t kind placed all near known. let p = c.args.under.rows.now in let self = c.args.self.now in
     let found : IsLister p t kind self.lists (known_in self.nearest) c.args.over c.args.name c.args.outlook.runs c.in-Some.lister =
-      subst (λ f. IsSought p t kind self.lists (known_in self.nearest) c.args.over c.args.name c.args.outlook.runs f) (sym c.in-Some.ensures) ((near.each c.args.over c.args.outlook known).finds c.args.name) in
+    subst (λ f. IsSought p t kind self.lists (known_in self.nearest) c.args.over c.args.name c.args.outlook.runs f) (sym c.in-Some.ensures) ((near.each c.args.over c.args.outlook known).finds c.args.name) in
     c.carried_from.ensures t kind c.args.over placed all (subst (λ way. IsNearest p t kind self.lists c.args.over c.args.name way) (sym c.to.ensures) found.near)
 
 pub returns-in-None : goal.returns-in-None
