@@ -1,53 +1,48 @@
 -- Abstract methods of classes above that calls find.
-use Rattle.std.proofs.Common.{◌≡◌, ◌⊎◌, refl, sym, ◌∙◌, ap, ap₂, subst, inl, inr, ⊎_elim, ℕ, ◌+◌, ◌<◌, Bool, true, false, cond, not, ◌&&◌, ◌||◌, List, length, IsTrue, Option, Some, None, Decides}
+use Rattle.std.proofs.Common.{◌≡◌, ◌⊎◌, refl, sym, ◌∙◌, ap, subst, inl, inr, ⊎_elim, ℕ, ◌+◌, ◌<◌, Bool, true, false, cond, not, ◌&&◌, List, length, IsTrue, Option, Some, None, Decides}
 use Rattle.std.specs.List.{list_any}
-use Rattle.std.proofs.lemmas.Bool.{false≢true, true_from_ne_false, or_left, or_right, or_parts, and_parts, and_from}
-use Rattle.std.proofs.lemmas.Bool.Decides.{Decides-eqb}
+use Rattle.std.proofs.lemmas.Bool.{false≢true, or_left, or_right, or_parts, and_parts, and_from}
 use Rattle.std.proofs.lemmas.Option.{none-some, same_Some}
 use Rattle.jr_tree.specs.declared.label.Role.TheVariants as role
 use Rattle.jr_tree.specs.Rows.{Rows, role_at}
 use Rattle.jr_defs.specs.Referents.{Table}
 use Rattle.jr_defs.specs.Declarations.{IsType, IsClass, IsInterface, IsObject}
-use Rattle.jr_defs.specs.Enclosing.{DeclaredIn}
 use Rattle.jr_defs.specs.Modifiers.{written, IsAbstract}
 use Rattle.jr_defs.specs.Supertypes.{Super, Above, AtOrAbove}
 use Rattle.jr_defs.specs.Members.{MemberOf}
-use Rattle.jr_defs.specs.Overriding.{Has, Found, Dispatches, HasOneSuperclass}
+use Rattle.jr_defs.specs.Overriding.{Has, Found, HasOneSuperclass}
 use Rattle.jr_defs.proofs.OneMethod.{one_method}
-use Rattle.jr_plain.specs.Search.{has, any_below, Lists}
-use Rattle.jr_plain.specs.Headed.{IsHeaded}
+use Rattle.jr_plain.specs.Search.{has, Lists}
 use Rattle.jr_plain.specs.Declarations.{is_class, is_interface}
 use Rattle.jr_plain.specs.Enclosing.{declaring_type}
 use Rattle.jr_plain.specs.Modifiers.{is_abstract}
 use Rattle.jr_plain.specs.Overriding.{is_method, is_found}
-use Rattle.jr_plain.specs.Supertypes.{is_above}
 use Rattle.jr_plain.proofs.Tests.{itself, both, opposite, like}
-use Rattle.jr_plain.proofs.Searches.{some, some_of, some_item}
+use Rattle.jr_plain.proofs.Searches.{some, some_of}
 use Rattle.jr_plain.proofs.Bounds.{bounded, member_below, interface_below, type_below}
 use Rattle.jr_plain.proofs.Same.{role_tells}
-use Rattle.jr_plain.proofs.Declared.{type_tells, class_tells, interface_tells}
+use Rattle.jr_plain.proofs.Declared.{class_tells, interface_tells}
 use Rattle.jr_plain.proofs.Enclosed.{declaring_finds}
 use Rattle.jr_plain.proofs.Modified.{abstract_tells}
 use Rattle.jr_plain.proofs.Supertyped.{above_tells}
 use Rattle.jr_plain.proofs.Dispatched.{find_tells}
 use Rattle.jr_places.specs.declared.chains.Entry.{Entry}
-use Rattle.jr_places.specs.declared.stamps.Stamps.{Stamps}
-use Rattle.jr_places.specs.Stamps.{is_stamped, IsStamping, IsEmptied, AddsStamp}
-use Rattle.jr_supers.specs.Direct.{HasSupers, supers_in}
-use Rattle.jr_supers.specs.Supers.{IsWellHeaded, AreSupersOf}
+use Rattle.jr_places.specs.Stamps.{is_stamped, IsEmptied, AddsStamp}
+use Rattle.jr_supers.specs.Direct.{supers_in}
+use Rattle.jr_supers.specs.Supers.{IsWellHeaded}
 use Rattle.jr_supers.proofs.Subtyped.{one_test}
 use Rattle.jr_dispatch.specs.declared.dispatch.Methods as methods
 use Rattle.jr_dispatch.specs.Methods.{AreMethods}
 use Rattle.jr_dispatch.specs.Dispatching.{IsFoundAs}
 use Rattle.jr_members.specs.declared.members.World.{World}
-use Rattle.jr_members.specs.Keys.{entry_for, entries_of}
+use Rattle.jr_members.specs.Keys.{entry_for}
 use Rattle.jr_members.specs.Named.{under, has_list}
 use Rattle.jr_members.proofs.Keyed.{listed_some}
 use Rattle.jr_member_rules.specs.Inheriting as plain
 use Rattle.jr_member_rules.proofs.Redefined.{method_row}
 use Rattle.jr_member_rules.proofs.Inherited.{leaves_unfound_tells}
 use Rattle.jr_member_faults.specs.declared.unfound.Unfound.{Unfound}
-use Rattle.jr_member_faults.specs.Unfound.{IsAbstractOf, class_entry, abstract_entry, AreAbstracts, IsBelowAbstract, is_found_abstract, AreHad, leaves_of, leaves_at, IsUnfound, is_concrete, has_abstract, object_has_abstract, is_below_object, is_below_abstract, AreUnfound, AreStampedAbove, TellsUnfound}
+use Rattle.jr_member_faults.specs.Unfound.{IsAbstractOf, class_entry, abstract_entry, AreAbstracts, IsBelowAbstract, is_found_abstract, AreHad, leaves_at, IsUnfound, is_concrete, has_abstract, object_has_abstract, is_below_object, is_below_abstract, AreUnfound, AreStampedAbove, TellsUnfound}
 use Rattle.jr_member_faults.specs.Views.{rows_of, table_of, IsRightWorld}
 use Rattle.jr_member_faults.proofs.Entries.{entries_tell}
 use Rattle.jr_member_faults.proofs.Named.{the_object}

@@ -1,11 +1,10 @@
 -- Checked classes that methods declare, by the names that are kept of each.
-use Rattle.std.proofs.Common.{◌≡◌, ◌⊎◌, refl, sym, ◌∙◌, ap, ap₂, subst, ⊎_elim, add-one, ℕ, ◌+◌, ◌<◌, Bool, true, false, cond, not, ◌&&◌, ◌||◌, List, [], ◌∷◌, ◌++◌, length, codes, Option, Some, None, nat_eq, Decides}
+use Rattle.std.proofs.Common.{◌≡◌, refl, sym, ◌∙◌, ap, ap₂, subst, add-one, ℕ, ◌+◌, ◌<◌, Bool, true, false, cond, not, ◌&&◌, ◌||◌, List, ◌++◌, length, codes, Some, None, nat_eq, Decides}
 use Rattle.std.specs.List.{list_any}
-use Rattle.std.proofs.lemmas.Bool.{false≢true, and_parts, and_from}
+use Rattle.std.proofs.lemmas.Bool.{and_parts, and_from}
 use Rattle.std.proofs.lemmas.Bool.Decides.{Decides-eqb}
 use Rattle.std.proofs.lemmas.Option.{none-some, same_Some}
 use Rattle.jr_base.specs.declared.text.Text.{Text}
-use Rattle.jr_tree.specs.declared.label.Role.{Role}
 use Rattle.jr_tree.specs.declared.label.Role.TheVariants as role
 use Rattle.jr_tree.specs.Rows.{Rows, label, parent, role_at}
 use Rattle.jr_defs.specs.declared.referent.Referent.{Referent}
@@ -13,7 +12,7 @@ use Rattle.jr_defs.specs.declared.referent.Referent.TheVariants.{Unbound, Ambigu
 use Rattle.jr_defs.specs.Referents.{Table}
 use Rattle.jr_defs.specs.Supertypes.{AtOrAbove}
 use Rattle.jr_plain.specs.Headed.{IsHeaded}
-use Rattle.jr_plain.specs.Search.{has, any_below, all_such, Lists}
+use Rattle.jr_plain.specs.Search.{any_below, all_such, Lists}
 use Rattle.jr_plain.specs.Same.{same_role}
 use Rattle.jr_plain.specs.Declarations.{is_prelude}
 use Rattle.jr_plain.specs.Supertypes.{declaration, is_at_or_above}

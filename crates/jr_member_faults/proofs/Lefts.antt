@@ -39,7 +39,7 @@ use Rattle.jr_member_faults.specs.declared.beside.Left.{Left}
 use Rattle.jr_member_faults.specs.declared.beside.Clash.{Clash}
 use Rattle.jr_member_faults.specs.declared.beside.Clash.TheVariants as clash
 use Rattle.jr_member_faults.specs.Beside.{is_left, are_beside, is_first_in, do_clash, are_clashing, has_clashing, is_clashing, has_clash, fits_none, is_unfit, has_unfit, is_odd, has_twin, are_open}
-use Rattle.jr_member_faults.specs.Lefts.{or_left, left_of, Part, part_of, IsClashing, IsUnfit, IsLeftAbstract, IsBreaking, AreLeftsOf, IsPlain, IsPlainAt}
+use Rattle.jr_member_faults.specs.Lefts.{or_left, left_of, Part, part_of, IsClashing, IsUnfit, IsLeftAbstract, IsBreaking, AreLeftsOf, IsPlainAt}
 use Rattle.jr_member_faults.specs.Inherited.{nothing}
 
 abbrev made_left : Bool → Bool → Bool → Bool → Bool → Left

@@ -1,22 +1,19 @@
 -- The faults of the rules on methods beside and above others, at one row.
-use Rattle.std.proofs.Common.{◌≡◌, ◌⊎◌, refl, sym, ◌∙◌, ap, ap₂, subst, inl, inr, ⊎_elim, ℕ, Bool, true, false, cond, not, ◌&&◌, ◌||◌, List, [], length, Decides}
+use Rattle.std.proofs.Common.{◌≡◌, ◌⊎◌, refl, sym, ◌∙◌, ap, ap₂, subst, inl, inr, ℕ, Bool, true, false, cond, not, ◌||◌, List, []}
 use Rattle.std.specs.List.{list_any}
 use Rattle.std.proofs.lemmas.Bool.{false≢true, or_parts}
-use Rattle.jr_tree.specs.declared.label.Role.{Role}
-use Rattle.jr_tree.specs.declared.label.Role.TheVariants as role
 use Rattle.jr_tree.specs.Rows.{Rows, label, role_at}
 use Rattle.jr_defs.specs.Referents.{Table}
 use Rattle.jr_defs.specs.Declarations.{IsType}
 use Rattle.jr_defs.specs.Modifiers.{written, IsStatic}
 use Rattle.jr_defs.specs.Overriding.{Overrides}
 use Rattle.jr_defs.specs.MemberRules.{Hides, RedefinesMethod}
-use Rattle.jr_plain.specs.Search.{has, Lists}
+use Rattle.jr_plain.specs.Search.{Lists}
 use Rattle.jr_plain.specs.Headed.{IsHeaded}
-use Rattle.jr_plain.specs.Same.{same_role}
 use Rattle.jr_plain.specs.Modifiers.{is_static}
-use Rattle.jr_plain.specs.Overriding.{is_method, overriding}
+use Rattle.jr_plain.specs.Overriding.{overriding}
 use Rattle.jr_plain.specs.Overloads.{is_result_fit}
-use Rattle.jr_plain.proofs.Tests.{itself, opposite, either, like}
+use Rattle.jr_plain.proofs.Tests.{itself, opposite, like}
 use Rattle.jr_plain.proofs.Searches.{some_of}
 use Rattle.jr_plain.proofs.Declared.{type_tells}
 use Rattle.jr_plain.proofs.Modified.{static_tells}
@@ -25,20 +22,18 @@ use Rattle.jr_supers.proofs.Subtyped.{one_test}
 use Rattle.jr_members.specs.declared.members.World.{World}
 use Rattle.jr_dispatch.proofs.Overriding.{overrides_above}
 use Rattle.jr_rule.specs.declared.Fault.{Fault}
-use Rattle.jr_rule.specs.declared.Rule.{Rule}
 use Rattle.jr_rule.specs.declared.Rule.TheVariants as rule
 use Rattle.jr_rule.specs.Faults.{AreFaultsOf}
 use Rattle.jr_faults.specs.Added.{row_if, is_rule, AreOnly}
-use Rattle.jr_faults.proofs.Told.{none_then, then_none, only_then, told_at}
+use Rattle.jr_faults.proofs.Told.{none_then, then_none, told_at}
 use Rattle.jr_member_rules.specs.Redefining as plain
-use Rattle.jr_member_rules.specs.Throwing.{declares_more, throws_more}
-use Rattle.jr_member_rules.specs.Inheriting.{has_no_common_result, has_no_abstract_result, inherits_narrower, inherits_static, inherits_throwing}
+use Rattle.jr_member_rules.specs.Throwing.{declares_more}
 use Rattle.jr_member_rules.specs.Computed.{leaves_methods, results_do_not_fit, access_is_narrowed, methods_are_mixed, more_is_thrown}
 use Rattle.jr_member_rules.proofs.Redefined.{redefined_list, mixed_tells}
 use Rattle.jr_member_faults.specs.declared.beside.Left.{Left}
 use Rattle.jr_member_faults.specs.Faults.{declares, is_of_members}
 use Rattle.jr_member_faults.specs.Inherited.{nothing}
-use Rattle.jr_member_faults.specs.Methods.{AreFaultsOn, IsLeftAtRow, IsTold}
+use Rattle.jr_member_faults.specs.Methods.{AreFaultsOn, IsLeftAtRow}
 use Rattle.jr_member_faults.specs.Redefined.{AreSame, are_mixed}
 use Rattle.jr_member_faults.specs.Views.{rows_of, table_of, IsRightWorld}
 use Rattle.jr_member_faults.proofs.Checked.{same_lists}

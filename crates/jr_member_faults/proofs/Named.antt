@@ -1,11 +1,9 @@
 -- The names at which a type is looked at.
-use Rattle.std.proofs.Common.{◌≡◌, ◌⊎◌, refl, sym, ◌∙◌, ap, subst, inl, inr, ⊎_elim, ℕ, ◌<◌, Bool, true, false, ◌||◌, List, [], ◌∷◌, ◌++◌, append-nil, append_assoc, map, flat_map, length, Option, Some, None, nat_eq, Decides}
-use Rattle.std.specs.List.{list_any}
+use Rattle.std.proofs.Common.{◌≡◌, sym, ◌∙◌, ap, subst, inl, inr, ⊎_elim, ℕ, true, false, List, [], ◌∷◌, ◌++◌, append-nil, append_assoc, map, flat_map, length, Some, None, nat_eq}
 use Rattle.std.proofs.lemmas.Bool.{false≢true, or_left, or_right, or_cases}
 use Rattle.std.proofs.lemmas.Bool.Decides.{Decides-eqb}
 use Rattle.std.proofs.lemmas.List.Sorted.{list_any-IsPermutation}
 use Rattle.std.proofs.lemmas.Option.{none-some, same_Some}
-use Rattle.jr_tree.specs.Rows.{Rows}
 use Rattle.jr_defs.specs.Declarations.{IsObject}
 use Rattle.jr_defs.specs.Enclosing.{DeclaredIn}
 use Rattle.jr_plain.specs.Search.{has, Lists}
@@ -19,12 +17,12 @@ use Rattle.jr_supers.proofs.Listing.{once_has}
 use Rattle.jr_members.specs.declared.declared.MemberKind.TheVariants as kinds
 use Rattle.jr_members.specs.declared.members.World.{World}
 use Rattle.jr_members.specs.Each.{AreBelow}
-use Rattle.jr_members.specs.Gathered.{IsNaming, IsWantedAs}
+use Rattle.jr_members.specs.Gathered.{IsNaming}
 use Rattle.jr_members.specs.Keys.{falling, is_declared_by}
 use Rattle.jr_members.specs.Sources.{links_of}
 use Rattle.jr_members.proofs.Adding.{wanted_listed, wanted_below}
 use Rattle.jr_members.proofs.Declaring.{type_listed}
-use Rattle.jr_member_faults.specs.Names.{IsWanted, IsOfObject, AreNaming, AreOfObject, AreNamesAt}
+use Rattle.jr_member_faults.specs.Names.{AreNaming, AreOfObject, AreNamesAt}
 use Rattle.jr_member_faults.specs.Views.{rows_of, table_of, IsRightWorld}
 
 pub below_given : (bound : ℕ) (all given : List ℕ) → given ≡ all → AreBelow bound all → AreBelow bound given

@@ -4,7 +4,7 @@ use Rattle.std.specs.List.{list_any}
 use Rattle.jr_tree.specs.Rows.{Rows}
 use Rattle.jr_plain.specs.Search.{all_such}
 use Rattle.jr_plain.specs.Modifiers.{is_private, is_protected, is_public}
-use Rattle.jr_member_rules.specs.Redefining.{accesses, is_narrower}
+use Rattle.jr_member_rules.specs.Redefining.{is_narrower}
 use Rattle.jr_member_faults.specs.Redefined.{lowest, highest}
 
 -- the accesses of a member that is private, protected or public

@@ -1,6 +1,6 @@
 -- Methods by their signatures, and what a method overrides and hides among those of its own.
-use Rattle.std.proofs.Common.{◌≡◌, ◌⊎◌, refl, sym, ◌∙◌, ap, ap₂, subst, inl, inr, ⊎_elim, arith, ℕ, zero, suc, ◌<◌, Bool, true, false, cond, not, ◌&&◌, ◌||◌, List, [], ◌∷◌, ◌++◌, append-nil, filter, flat_map, length, Option, Some, None, option_map, nat_eq, Decides}
-use Rattle.std.proofs.lemmas.Bool.{false≢true, or_left, or_right, or_cases, cases_eq, and_parts}
+use Rattle.std.proofs.Common.{◌≡◌, refl, sym, ◌∙◌, ap, ap₂, subst, inr, ⊎_elim, ℕ, Bool, true, false, cond, ◌&&◌, List, [], ◌∷◌, filter, flat_map, length, Option, Some, None, option_map, nat_eq, Decides}
+use Rattle.std.proofs.lemmas.Bool.{false≢true, or_left, or_cases}
 use Rattle.std.proofs.lemmas.Bool.Decides.{Decides-eqb}
 use Rattle.std.proofs.lemmas.Option.{none-some, same_Some}
 use Rattle.jr_tree.specs.declared.label.Role.{Role}
@@ -18,7 +18,6 @@ use Rattle.jr_plain.specs.Enclosing.{declaring_type}
 use Rattle.jr_plain.specs.Same.{same_role}
 use Rattle.jr_plain.specs.Modifiers.{is_static}
 use Rattle.jr_plain.specs.Overriding.{is_method, overriding}
-use Rattle.jr_plain.specs.Types.{is_same_signature}
 use Rattle.jr_plain.proofs.Tests.{both, like}
 use Rattle.jr_plain.proofs.Searches.{among_filter, flat_of}
 use Rattle.jr_plain.proofs.Bounds.{member_below}
@@ -34,7 +33,7 @@ use Rattle.jr_supers.specs.Signatures.{same_numbers, AreSignatures}
 use Rattle.jr_supers.specs.Tabled.{is_callable}
 use Rattle.jr_supers.proofs.Signed.{same_signatures}
 use Rattle.jr_supers.proofs.Subtyped.{one_test}
-use Rattle.jr_members.specs.Keys.{falling, is_declared_like, entry_for, entry_list, entries_of, signature_number}
+use Rattle.jr_members.specs.Keys.{falling, is_declared_like, entry_for, entries_of, signature_number}
 use Rattle.jr_members.specs.Named.{under}
 use Rattle.jr_members.proofs.Declaring.{falling_lists}
 use Rattle.jr_members.proofs.Heritage.{one_type}
@@ -45,7 +44,7 @@ use Rattle.jr_dispatch.proofs.Overriding.{overrides_above}
 use Rattle.jr_member_rules.specs.Redefining as plain
 use Rattle.jr_member_rules.proofs.Redefined.{method_row, hiding_tells, redefines_tells}
 use Rattle.jr_member_faults.proofs.Entries.{entries_tell}
-use Rattle.jr_member_faults.specs.Redefined.{number_entry, AreSame, AreLike, is_reached}
+use Rattle.jr_member_faults.specs.Redefined.{number_entry, AreLike, is_reached}
 
 -- ---- methods by their signatures
 

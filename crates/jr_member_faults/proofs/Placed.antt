@@ -1,21 +1,18 @@
 -- What types break by what they inherit, under their rows.
-use Rattle.std.proofs.Common.{◌≡◌, ◌⊎◌, refl, sym, ◌∙◌, ap, ap₂, subst, inl, inr, ⊎_elim, arith, ℕ, zero, suc, ◌<◌, Bool, true, false, not, ◌&&◌, ◌||◌, List, [], ◌∷◌, ◌++◌, length, take, get_or, nat_eq, replicate, slice_set, Decides}
+use Rattle.std.proofs.Common.{◌≡◌, ◌⊎◌, refl, sym, ◌∙◌, ap, ap₂, subst, inl, inr, ⊎_elim, arith, ℕ, zero, suc, ◌<◌, Bool, true, false, not, ◌&&◌, ◌||◌, List, [], ◌∷◌, ◌++◌, length, take, replicate, slice_set, Decides}
 use Rattle.std.proofs.lemmas.Bool.{false≢true, cases_eq}
 use Rattle.std.proofs.lemmas.List.{get_or-set_other, length-set, length-replicate, take_at}
 use Rattle.std.proofs.lemmas.Grind.{get_or-set_at}
 use Rattle.jr_tree.specs.Rows.{Rows, label}
 use Rattle.jr_defs.specs.Referents.{Table}
 use Rattle.jr_defs.specs.Declarations.{IsType, IsClass}
-use Rattle.jr_defs.specs.Modifiers.{IsStatic, IsAbstract}
+use Rattle.jr_defs.specs.Modifiers.{IsAbstract}
 use Rattle.jr_defs.specs.Members.{MemberOf}
-use Rattle.jr_defs.specs.Overloads.{ResultFits}
-use Rattle.jr_defs.specs.MemberRules.{InheritsBoth}
 use Rattle.jr_plain.specs.Search.{has, any_below}
 use Rattle.jr_plain.specs.Headed.{IsHeaded}
 use Rattle.jr_plain.specs.Declarations.{is_type, is_class}
 use Rattle.jr_plain.specs.Modifiers.{is_static, is_abstract}
 use Rattle.jr_plain.specs.Members.{members}
-use Rattle.jr_plain.specs.Overloads.{is_result_fit}
 use Rattle.jr_plain.proofs.Tests.{both, opposite, either, like, decide}
 use Rattle.jr_plain.proofs.Bounds.{type_below}
 use Rattle.jr_plain.proofs.OfTypes.{class_type}
@@ -25,24 +22,22 @@ use Rattle.jr_plain.proofs.Overloaded.{result_tells}
 use Rattle.jr_places.specs.declared.chains.Entry.{Entry}
 use Rattle.jr_places.specs.Stamps.{is_stamped}
 use Rattle.jr_supers.proofs.Telling.{above_source}
-use Rattle.jr_supers.specs.Order.{IsSuperIn, AreBehind, IsOrderOf}
+use Rattle.jr_supers.specs.Order.{AreBehind, IsOrderOf}
 use Rattle.jr_supers.proofs.Subtyped.{one_test}
 use Rattle.jr_members.specs.declared.members.World.{World}
 use Rattle.jr_members.proofs.Each.{has_front, front_has, rest_has, front_in}
 use Rattle.jr_member_rules.specs.Inheriting as plain
 use Rattle.jr_member_rules.specs.Redefining.{is_narrower}
 use Rattle.jr_member_rules.specs.Throwing.{declares_more}
-use Rattle.jr_member_rules.proofs.Redefined.{IsNarrower, narrower_tells}
-use Rattle.jr_member_rules.proofs.Thrown.{IsNotAllowed, declares_more_tells}
+use Rattle.jr_member_rules.proofs.Redefined.{narrower_tells}
+use Rattle.jr_member_rules.proofs.Thrown.{declares_more_tells}
 use Rattle.jr_member_rules.specs.Computed.{leaves_methods}
-use Rattle.jr_member_rules.proofs.Inherited.{leaves_tells, Disagrees, AllDisagree, no_common_result_tells, no_abstract_result_tells, inherits_narrower_tells, inherits_static_tells, inherits_throwing_tells}
+use Rattle.jr_member_rules.proofs.Inherited.{leaves_tells, no_common_result_tells, no_abstract_result_tells, inherits_narrower_tells, inherits_static_tells, inherits_throwing_tells}
 use Rattle.jr_member_faults.specs.declared.unfound.Unfound.{Unfound}
 use Rattle.jr_member_faults.specs.declared.beside.Left.{Left}
-use Rattle.jr_member_faults.specs.declared.beside.Clash.{Clash}
 use Rattle.jr_member_faults.specs.declared.beside.Clash.TheVariants as clash
-use Rattle.jr_member_faults.specs.Beside.{is_first_in, do_clash}
-use Rattle.jr_member_faults.specs.Lefts.{Part, IsClashing, IsUnfit, IsLeftAbstract, IsBreaking}
-use Rattle.jr_member_faults.specs.Inherited.{IsReady, KeepsOpen, IsSettled, AddsType, closed, nothing, left_in, IsLeftOf, AreNothing, AreLefts, CanPut, PutsLeft, ArePut}
+use Rattle.jr_member_faults.specs.Lefts.{Part, IsClashing, IsUnfit, IsLeftAbstract}
+use Rattle.jr_member_faults.specs.Inherited.{IsSettled, AddsType, closed, nothing, left_in, IsLeftOf, AreNothing, AreLefts, CanPut, PutsLeft, ArePut}
 use Rattle.jr_member_faults.specs.Methods.{IsLeftAtRow}
 use Rattle.jr_member_faults.specs.Unfound.{IsBelowAbstract, is_concrete, AreUnfound, TellsUnfound}
 use Rattle.jr_member_faults.specs.Views.{rows_of, table_of, IsRightWorld}

@@ -1,14 +1,13 @@
 -- Names at which types are open, name by name and type by type.
-use Rattle.std.proofs.Common.{◌≡◌, ◌⊎◌, refl, sym, ◌∙◌, ap, subst, inl, inr, ⊎_elim, ℕ, ◌<◌, Bool, true, false, List, [], ◌∷◌, ◌++◌, length, Option, Some, None, nat_eq, Decides}
-use Rattle.std.proofs.lemmas.Bool.{false≢true, or_cases}
+use Rattle.std.proofs.Common.{◌≡◌, ◌⊎◌, refl, sym, ◌∙◌, ap, subst, inl, inr, ⊎_elim, ℕ, Bool, true, false, List, [], ◌∷◌, ◌++◌, Option, Some, None}
+use Rattle.std.proofs.lemmas.Bool.{false≢true}
 use Rattle.std.proofs.lemmas.Bool.Decides.{Decides-eqb}
-use Rattle.std.proofs.lemmas.Option.{none-some, same_Some}
-use Rattle.jr_tree.specs.declared.label.Role.TheVariants as role
-use Rattle.jr_tree.specs.Rows.{Rows, role_at}
+use Rattle.std.proofs.lemmas.Option.{same_Some}
+use Rattle.jr_tree.specs.Rows.{Rows}
 use Rattle.jr_defs.specs.Referents.{Table}
 use Rattle.jr_defs.specs.Declarations.{IsType}
 use Rattle.jr_defs.specs.Supertypes.{Super}
-use Rattle.jr_defs.specs.Members.{SameMethods, MemberOf}
+use Rattle.jr_defs.specs.Members.{MemberOf}
 use Rattle.jr_plain.specs.Headed.{IsHeaded}
 use Rattle.jr_plain.specs.Search.{has}
 use Rattle.jr_plain.proofs.Tests.{itself, like, decide}
@@ -17,7 +16,7 @@ use Rattle.jr_plain.proofs.Membership.{member_source}
 use Rattle.jr_places.specs.declared.chains.Entry.{Entry}
 use Rattle.jr_places.specs.Names.{name_row}
 use Rattle.jr_supers.specs.Above.{tables, up_at}
-use Rattle.jr_supers.specs.Order.{IsSuperIn, AreBehind}
+use Rattle.jr_supers.specs.Order.{IsSuperIn}
 use Rattle.jr_supers.proofs.Chained.{rises}
 use Rattle.jr_members.specs.declared.declared.MemberKind.TheVariants as kinds
 use Rattle.jr_members.specs.declared.members.World.{World}
@@ -30,9 +29,9 @@ use Rattle.jr_members.proofs.Each.{has_front, front_has, rest_has, front_in}
 use Rattle.jr_members.proofs.Heritage.{held_member, member_held, held_declared}
 use Rattle.jr_members.proofs.Keyed.{one_added}
 use Rattle.jr_member_faults.specs.declared.beside.Left.{Left}
-use Rattle.jr_member_faults.specs.Lefts.{or_left, Part, IsBreaking, AreLeftsOf, IsPlain, IsPlainAt, IsLeftAt}
+use Rattle.jr_member_faults.specs.Lefts.{or_left, Part, IsBreaking, IsPlain, IsPlainAt, IsLeftAt}
 use Rattle.jr_member_faults.specs.Inherited.{open_of, IsSettledAt, IsSettled, IsReady, KeepsOpen, IsNamedIn, AddsName, IsAddingNames, AddsNames, AddsType, nothing}
-use Rattle.jr_member_faults.specs.Names.{IsWanted, IsOfObject, AreNamesAt}
+use Rattle.jr_member_faults.specs.Names.{IsWanted, AreNamesAt}
 use Rattle.jr_member_faults.specs.Views.{rows_of, table_of, IsRightWorld}
 use Rattle.jr_member_faults.proofs.Lefts.{none_breaking, or_told, none_told, breaking_method}
 

@@ -1,19 +1,17 @@
 -- Types outside any other that have one name, or that of a subpackage.
-use Rattle.std.proofs.Common.{◌≡◌, ◌⊎◌, refl, sym, ◌∙◌, ap, ap₂, subst, inl, inr, ⊎_elim, arith, ℕ, zero, suc, ◌+◌, ◌-◌, ◌<◌, ◌≤◌, Bool, true, false, cond, ◌&&◌, ◌||◌, List, [], ◌∷◌, ◌++◌, append-nil, length, length-append, Option, Some, None, option_map, nat_eq, Decides}
-use Rattle.std.proofs.lemmas.Bool.{false≢true, cases_eq, cases_lt, and_parts, and_from}
+use Rattle.std.proofs.Common.{◌≡◌, refl, sym, ◌∙◌, ap, ap₂, subst, inl, inr, ⊎_elim, arith, ℕ, zero, suc, ◌+◌, ◌-◌, ◌<◌, Bool, true, false, cond, ◌&&◌, ◌||◌, List, [], ◌∷◌, ◌++◌, append-nil, length, length-append, Option, Some, None, option_map, nat_eq, Decides}
+use Rattle.std.proofs.lemmas.Bool.{false≢true, cases_eq, cases_lt, and_from}
 use Rattle.std.proofs.lemmas.Bool.Decides.{Decides-eqb, Decides-ltb}
 use Rattle.std.proofs.lemmas.Option.{none-some, same_Some}
 use Rattle.jr_base.specs.declared.text.Text.{Text}
 use Rattle.jr_tree.specs.declared.label.Label.{Label}
 use Rattle.jr_tree.specs.declared.label.Label.TheVariants as is
 use Rattle.jr_tree.specs.Rows.{Rows, label, name, end}
-use Rattle.jr_tree.specs.Tree.{IsTree}
 use Rattle.jr_defs.specs.Enclosing.{IsTopLevel}
 use Rattle.jr_defs.specs.Packages.{identifiers, spelled, package_by, package_of, InUnit, InPackage, SamePackage}
 use Rattle.jr_defs.specs.Rules.{IsSubpackage}
 use Rattle.jr_plain.specs.Search.{Finds, all_such}
 use Rattle.jr_plain.specs.Enclosing.{is_unit, is_top_level}
-use Rattle.jr_plain.specs.Packages.{is_in_unit}
 use Rattle.jr_plain.proofs.Tests.{both, either, opposite, like}
 use Rattle.jr_plain.proofs.Searches.{some}
 use Rattle.jr_plain.proofs.Same.{path_tells}

@@ -1,5 +1,5 @@
 -- What a type breaks by methods of one signature that it has beside each other (JLS 8.1.1.1, 8.4.5, 8.4.8.4, 9.4.1).
-use Rattle.std.specs.Prelude.{ℕ, Bool, true, false, not, ◌&&◌, ◌||◌, List, nat_eq}
+use Rattle.std.specs.Prelude.{ℕ, Bool, not, ◌&&◌, ◌||◌, List, nat_eq}
 use Rattle.std.specs.List.{list_any, list_all}
 use Rattle.jr_tree.specs.Rows.{Rows}
 use Rattle.jr_defs.specs.Referents.{Table}

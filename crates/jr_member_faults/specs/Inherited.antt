@@ -1,26 +1,22 @@
 -- What types break by what they inherit, type by type behind those above them (JLS 8.1.1.1, 8.4.5, 8.4.8.4, 9.4.1).
-use Rattle.std.specs.Prelude.{◌≡◌, ◌⊎◌, ℕ, Bool, true, false, not, ◌&&◌, ◌||◌, List, [], ◌∷◌, ◌++◌, length, Option, Some, None, slice_set, slice_index_or, Decides}
+use Rattle.std.specs.Prelude.{◌≡◌, ◌⊎◌, ℕ, Bool, true, false, ◌&&◌, ◌||◌, List, [], length, Option, Some, None, slice_set, slice_index_or, Decides}
 use Rattle.jr_tree.specs.Rows.{Rows}
-use Rattle.jr_defs.specs.Referents.{Table}
 use Rattle.jr_defs.specs.Declarations.{IsType}
 use Rattle.jr_defs.specs.Members.{MemberOf}
 use Rattle.jr_plain.specs.Search.{has}
-use Rattle.jr_plain.specs.Declarations.{is_class}
-use Rattle.jr_plain.specs.Modifiers.{is_abstract}
 use Rattle.jr_places.specs.declared.chains.Entry.{Entry}
 use Rattle.jr_places.specs.Stamps.{is_stamped}
 use Rattle.jr_supers.specs.Above.{up_at}
-use Rattle.jr_supers.specs.Order.{IsSuperIn, AreBehind}
+use Rattle.jr_supers.specs.Order.{AreBehind}
 use Rattle.jr_members.specs.declared.declared.MemberKind.TheVariants as kinds
 use Rattle.jr_members.specs.declared.members.World.{World}
 use Rattle.jr_members.specs.Held.{IsMemberAs}
-use Rattle.jr_members.specs.Keys.{entry_for}
 use Rattle.jr_members.specs.Named.{under}
 use Rattle.jr_members.specs.Sources.{links_of}
 use Rattle.jr_member_rules.specs.Computed.{leaves_methods}
 use Rattle.jr_member_faults.specs.declared.beside.Left.{Left}
 use Rattle.jr_member_faults.specs.declared.unfound.Unfound.{Unfound}
-use Rattle.jr_member_faults.specs.Lefts.{Part, part_of, IsBreaking, AreLeftsOf, IsPlainAt}
+use Rattle.jr_member_faults.specs.Lefts.{Part, IsBreaking, AreLeftsOf, IsPlainAt}
 use Rattle.jr_member_faults.specs.Unfound.{IsBelowAbstract, is_concrete, AreUnfound, AreStampedAbove}
 use Rattle.jr_member_faults.specs.Views.{rows_of, table_of}
 

@@ -3,7 +3,7 @@ use Rattle.std.specs.Prelude.{◌≡◌, ◌⊎◌, ℕ, Bool, true, false, ◌|
 use Rattle.jr_tree.specs.declared.label.Role.TheVariants as role
 use Rattle.jr_tree.specs.Rows.{Rows, role_at}
 use Rattle.jr_defs.specs.Referents.{Table}
-use Rattle.jr_defs.specs.Modifiers.{IsStatic, IsAbstract}
+use Rattle.jr_defs.specs.Modifiers.{IsAbstract}
 use Rattle.jr_defs.specs.Members.{SameMethods, MemberOf}
 use Rattle.jr_defs.specs.Overloads.{ResultFits}
 use Rattle.jr_defs.specs.MemberRules.{Implemented, InheritsBoth}
@@ -12,7 +12,6 @@ use Rattle.jr_members.specs.declared.declared.MemberKind.TheVariants as kinds
 use Rattle.jr_members.specs.declared.members.World.{World}
 use Rattle.jr_members.specs.Held.{IsMemberAs}
 use Rattle.jr_member_rules.specs.Redefining.{is_narrower}
-use Rattle.jr_member_rules.specs.Throwing.{declares_more}
 use Rattle.jr_member_rules.specs.Inheriting.{leaves_some}
 use Rattle.jr_member_faults.specs.declared.beside.Beside.{Beside}
 use Rattle.jr_member_faults.specs.declared.beside.Left.{Left}

@@ -19,7 +19,7 @@ use Rattle.jr_member_faults.specs.declared.faults.Methods.{Methods}
 use Rattle.jr_member_faults.specs.Inherited.{AreLefts}
 use Rattle.jr_member_faults.specs.Redefined.{AreUppers}
 use Rattle.jr_member_faults.specs.Thrown.{AreThrown}
-use Rattle.jr_member_faults.specs.Views.{rows_of, table_of, rows_in, IsRightWorld}
+use Rattle.jr_member_faults.specs.Views.{rows_of, table_of, IsRightWorld}
 
 -- the faults of the rules that were added, at the rows that a test gives
 pub record AreFaultsOn (world : World) (rows : (ℕ → Bool) → List ℕ) (old new : List Fault) : Type 0 where

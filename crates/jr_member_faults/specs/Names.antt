@@ -8,7 +8,7 @@ use Rattle.jr_plain.specs.Search.{has}
 use Rattle.jr_places.specs.Names.{name_row}
 use Rattle.jr_members.specs.declared.declared.MemberKind.TheVariants as kind
 use Rattle.jr_members.specs.declared.members.World.{World}
-use Rattle.jr_members.specs.Gathered.{IsNaming, IsWantedAs}
+use Rattle.jr_members.specs.Gathered.{IsWantedAs}
 use Rattle.jr_members.specs.Sources.{links_of}
 use Rattle.jr_members.specs.Each.{AreBelow}
 use Rattle.jr_member_faults.specs.Views.{rows_of, table_of}

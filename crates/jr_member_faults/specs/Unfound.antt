@@ -16,7 +16,6 @@ use Rattle.jr_plain.specs.Modifiers.{is_abstract}
 use Rattle.jr_plain.specs.Overriding.{is_method}
 use Rattle.jr_plain.specs.Supertypes.{is_above}
 use Rattle.jr_places.specs.declared.chains.Entry.{Entry}
-use Rattle.jr_places.specs.declared.stamps.Stamps.{Stamps}
 use Rattle.jr_places.specs.Stamps.{is_stamped, IsStamping}
 use Rattle.jr_members.specs.Keys.{entry_for, entries_of}
 use Rattle.jr_members.specs.Named.{under, has_list}

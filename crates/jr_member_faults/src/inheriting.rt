@@ -158,6 +158,13 @@ pub fn put_lefts(
     ensures { views.IsRightWorld world.now → AreThrown (views.rows_of world.now) thrown.now → inherited.AreNothing (views.rows_of world.now) lefts.old → OnOk result (inherited.AreLefts world.now lefts.new) }
 {
     let mut unfound = Unfound::new(alloc, world.under.rows)?;
-    put_all(alloc, world, thrown, world.supers.order(), &mut unfound, lefts)?;
+    put_all(
+        alloc,
+        world,
+        thrown,
+        world.supers.order(),
+        &mut unfound,
+        lefts,
+    )?;
     Ok(())
 }

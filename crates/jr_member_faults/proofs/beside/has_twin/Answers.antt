@@ -1,7 +1,7 @@
-use Rattle.std.proofs.Common.{◌≡◌, sym, ◌∙◌, ap, arith, ℕ, Bool, true, false, not, get_or}
+use Rattle.std.proofs.Common.{sym, ◌∙◌, arith, ℕ}
 use Rattle.jr_member_faults.proofs.Looped.{some_hit, some_next, some_end}
 use Rattle.jr_member_faults.specs.Beside.{are_twins}
-use Rattle.jr_member_faults.specs.Views.{rows_of, table_of, IsRightWorld}
+use Rattle.jr_member_faults.specs.Views.{rows_of, table_of}
 use Rattle.jr_member_faults.proofs.beside.has_twin.Goals as goal
 
 pub returns-then-are_twins : goal.returns-then-are_twins

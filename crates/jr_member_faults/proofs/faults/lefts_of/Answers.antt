@@ -1,5 +1,3 @@
-use Rattle.std.proofs.Common.{◌≡◌, sym, ◌∙◌, ap, subst, length}
-use Rattle.jr_member_faults.specs.Inherited.{AreLefts}
 use Rattle.jr_member_faults.specs.Views.{rows_of}
 use Rattle.jr_member_faults.proofs.Placed.{nothing_told, lefts_taken}
 use Rattle.jr_member_faults.proofs.faults.lefts_of.Goals as goal

@@ -1,4 +1,3 @@
-use Rattle.std.proofs.Common.{subst, sym}
 use Rattle.jr_member_faults.proofs.faults.member_faults.Goals as goal
 
 pub returns-clause-exact : goal.returns-clause-exact

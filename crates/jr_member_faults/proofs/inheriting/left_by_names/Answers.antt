@@ -1,7 +1,6 @@
-use Rattle.std.proofs.Common.{◌≡◌, sym, ◌∙◌, ap, subst}
+use Rattle.std.proofs.Common.{sym, ◌∙◌, ap, subst}
 use Rattle.jr_member_faults.specs.Inherited.{open_of}
 use Rattle.jr_member_faults.specs.Names.{AreNamesAt}
-use Rattle.jr_member_faults.specs.Inherited.{AddsNames}
 use Rattle.jr_member_faults.proofs.Settled.{type_told}
 use Rattle.jr_member_faults.proofs.inheriting.left_by_names.Goals as goal
 

@@ -1,4 +1,4 @@
-use Rattle.std.proofs.Common.{◌≡◌, arith}
+use Rattle.std.proofs.Common.{arith}
 use Rattle.std.proofs.lemmas.List.{drop_more, drop_all}
 use Rattle.jr_member_faults.proofs.Placed.{put_start, put_ready, put_next, put_end}
 use Rattle.jr_member_faults.proofs.inheriting.put_all.Goals as goal

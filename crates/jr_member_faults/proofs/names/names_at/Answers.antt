@@ -1,5 +1,4 @@
-use Rattle.std.proofs.Common.{◌≡◌, sym, ◌∙◌, ap, subst, ◌++◌, length}
-use Rattle.jr_members.specs.Each.{AreBelow}
+use Rattle.std.proofs.Common.{length}
 use Rattle.jr_member_faults.specs.Views.{rows_of}
 use Rattle.jr_member_faults.proofs.Named.{names_told, below_given}
 use Rattle.jr_member_faults.proofs.names.names_at.Goals as goal

@@ -1,7 +1,7 @@
 use Rattle.std.proofs.Common.{subst, sym, ◌∙◌, ap, flat_map, length}
 use Rattle.jr_members.specs.declared.declared.MemberKind.TheVariants as kinds
 use Rattle.jr_members.specs.Keys.{AreDeclared, falling, is_declared_by}
-use Rattle.jr_member_faults.specs.Views.{rows_of, table_of}
+use Rattle.jr_member_faults.specs.Views.{rows_of}
 use Rattle.jr_member_faults.proofs.Named.{naming_told}
 use Rattle.jr_member_faults.proofs.names.naming_methods.Goals as goal
 

@@ -1,4 +1,4 @@
-use Rattle.std.proofs.Common.{◌≡◌, ◌∙◌, ap, ◌++◌, ◌∷◌, []}
+use Rattle.std.proofs.Common.{◌∙◌, ap, ◌++◌, ◌∷◌, []}
 use Rattle.jr_supers.specs.Direct.{supers_in}
 use Rattle.jr_members.proofs.Adding.{naming_listed}
 use Rattle.jr_member_faults.specs.Views.{rows_of, table_of}

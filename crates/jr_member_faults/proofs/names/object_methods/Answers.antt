@@ -2,7 +2,7 @@ use Rattle.std.proofs.Common.{subst, sym, ◌∙◌, ap}
 use Rattle.std.proofs.lemmas.Result.{IfOk-weaker}
 use Rattle.jr_members.specs.declared.declared.MemberKind.TheVariants as kinds
 use Rattle.jr_members.specs.Keys.{AreDeclared}
-use Rattle.jr_member_faults.specs.Views.{rows_of, table_of}
+use Rattle.jr_member_faults.specs.Views.{rows_of}
 use Rattle.jr_member_faults.proofs.Named.{of_object_told, of_object_class, of_object_none}
 use Rattle.jr_member_faults.proofs.names.object_methods.Goals as goal
 

@@ -1,4 +1,4 @@
-use Rattle.std.proofs.Common.{◌≡◌, sym, ◌∙◌, subst}
+use Rattle.std.proofs.Common.{sym, ◌∙◌, subst}
 use Rattle.jr_defs.specs.Supertypes.{AtOrAbove}
 use Rattle.jr_supers.specs.Supers.{ListsOnce}
 use Rattle.jr_members.proofs.Adding.{up_first, up_more}

@@ -1,4 +1,4 @@
-use Rattle.std.proofs.Common.{◌≡◌, ap, arith, ◌++◌, flat_map}
+use Rattle.std.proofs.Common.{ap, arith, ◌++◌, flat_map}
 use Rattle.std.proofs.lemmas.List.{drop_more, drop_all}
 use Rattle.jr_dispatch.specs.Families.{declared_like}
 use Rattle.jr_member_faults.proofs.Looped.{flat_more, flat_end}

@@ -1,8 +1,8 @@
-use Rattle.std.proofs.Common.{◌≡◌, sym, ◌∙◌, ap, arith, ℕ, Bool, true, false, not, get_or}
+use Rattle.std.proofs.Common.{sym, ◌∙◌, arith, ℕ}
 use Rattle.jr_member_faults.proofs.Looped.{some_hit, some_next, some_end}
 use Rattle.jr_tree.specs.Rows.{label}
 use Rattle.jr_defs.specs.Modifiers.{written}
-use Rattle.jr_member_faults.specs.Views.{rows_of, table_of, IsRightWorld}
+use Rattle.jr_member_faults.specs.Views.{rows_of}
 use Rattle.jr_member_faults.proofs.redefining.is_over_final.Goals as goal
 
 pub returns-then-is_final : goal.returns-then-is_final

@@ -1,8 +1,8 @@
-use Rattle.std.proofs.Common.{◌≡◌, ℕ, true, not, drop}
+use Rattle.std.proofs.Common.{◌≡◌, ℕ, drop}
 use Rattle.std.specs.List.{list_any}
 use Rattle.jr_tree.specs.Rows.{label}
 use Rattle.jr_defs.specs.Modifiers.{written}
-use Rattle.jr_member_faults.specs.Views.{rows_of, table_of, IsRightWorld}
+use Rattle.jr_member_faults.specs.Views.{rows_of}
 use Rattle.jr_member_faults.proofs.redefining.is_over_final.Given as goal
 
 abbrev pub invariant-loop-other : goal.invariant-loop-other

@@ -1,4 +1,4 @@
-use Rattle.std.proofs.Common.{◌≡◌, ap, arith, ◌++◌, filter}
+use Rattle.std.proofs.Common.{ap, arith, ◌++◌, filter}
 use Rattle.std.proofs.lemmas.List.{drop_more, drop_all}
 use Rattle.jr_plain.specs.Overriding.{overriding}
 use Rattle.jr_members.proofs.Each.{filter_next, filter_end, item_in}

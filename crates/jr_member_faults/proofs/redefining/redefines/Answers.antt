@@ -1,7 +1,4 @@
 use Rattle.std.proofs.Common.{subst, sym, ◌∙◌, ap}
-use Rattle.jr_tree.specs.Rows.{role_at}
-use Rattle.jr_tree.specs.declared.label.Role.TheVariants as role
-use Rattle.jr_defs.specs.Overriding.{Overrides}
 use Rattle.jr_dispatch.specs.Methods.{AreMethods}
 use Rattle.jr_member_faults.specs.Views.{rows_of, table_of}
 use Rattle.jr_member_faults.proofs.Overridden.{hides_by, overrides_by, overriding_in}

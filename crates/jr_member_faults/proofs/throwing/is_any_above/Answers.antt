@@ -1,8 +1,8 @@
-use Rattle.std.proofs.Common.{◌≡◌, sym, ◌∙◌, ap, arith, ℕ, Bool, true, false, not, get_or}
+use Rattle.std.proofs.Common.{sym, ◌∙◌, arith, ℕ}
 use Rattle.jr_member_faults.proofs.Looped.{some_hit, some_next, some_end}
 use Rattle.std.specs.List.{list_any}
 use Rattle.jr_plain.specs.Supertypes.{declaration, is_at_or_above}
-use Rattle.jr_member_faults.specs.Views.{rows_of, table_of, IsRightWorld}
+use Rattle.jr_member_faults.specs.Views.{rows_of, table_of}
 use Rattle.jr_member_faults.proofs.throwing.is_any_above.Goals as goal
 
 pub returns-then-is_name_above : goal.returns-then-is_name_above

@@ -1,4 +1,4 @@
-use Rattle.std.proofs.Common.{◌≡◌, ℕ, true, not, drop}
+use Rattle.std.proofs.Common.{◌≡◌, ℕ, drop}
 use Rattle.std.specs.List.{list_any}
 use Rattle.jr_plain.specs.Supertypes.{is_at_or_above}
 use Rattle.jr_member_faults.specs.Views.{rows_of, table_of, IsRightWorld}

@@ -1,4 +1,4 @@
-use Rattle.std.proofs.Common.{◌≡◌, ◌<◌, ◌∙◌, arith, length}
+use Rattle.std.proofs.Common.{◌<◌, arith, length}
 use Rattle.jr_member_faults.proofs.Topped.{tops_start, tops_more, tops_end}
 use Rattle.jr_member_faults.proofs.tops.put_faults.Goals as goal
 

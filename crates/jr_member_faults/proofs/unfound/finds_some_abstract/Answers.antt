@@ -1,4 +1,4 @@
-use Rattle.std.proofs.Common.{◌≡◌, sym, ◌∙◌, arith, ℕ, true, false, get_or}
+use Rattle.std.proofs.Common.{sym, ◌∙◌, arith, ℕ}
 use Rattle.jr_members.proofs.Each.{item_in}
 use Rattle.jr_member_rules.specs.Inheriting.{finds_abstract}
 use Rattle.jr_member_faults.specs.Views.{rows_of, table_of}

@@ -1,4 +1,4 @@
-use Rattle.std.proofs.Common.{◌≡◌, sym, ◌∙◌, subst, false}
+use Rattle.std.proofs.Common.{sym, ◌∙◌, subst}
 use Rattle.jr_plain.specs.Search.{Lists}
 use Rattle.jr_members.specs.declared.declared.MemberKind.TheVariants as kinds
 use Rattle.jr_members.specs.Held.{IsMemberAs}

@@ -1,4 +1,4 @@
-use Rattle.std.proofs.Common.{◌≡◌, sym, ◌∙◌, ap, arith, ℕ, Bool, true, false, not, get_or}
+use Rattle.std.proofs.Common.{sym, ◌∙◌, arith, ℕ}
 use Rattle.jr_member_faults.proofs.Looped.{all_miss, all_next, all_end}
 use Rattle.jr_member_faults.specs.Beside.{fits_none}
 use Rattle.jr_member_faults.specs.Views.{rows_of, table_of}

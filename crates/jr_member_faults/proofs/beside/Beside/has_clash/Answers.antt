@@ -1,4 +1,4 @@
-use Rattle.std.proofs.Common.{◌≡◌, sym, ◌∙◌, ap, arith, ℕ, Bool, true, false, not, get_or}
+use Rattle.std.proofs.Common.{sym, ◌∙◌, arith, ℕ}
 use Rattle.jr_member_faults.proofs.Looped.{some_hit, some_next, some_end}
 use Rattle.jr_member_faults.specs.Beside.{is_clashing}
 use Rattle.jr_member_faults.specs.Views.{rows_of, table_of}

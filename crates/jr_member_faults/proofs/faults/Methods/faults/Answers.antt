@@ -1,4 +1,4 @@
-use Rattle.std.proofs.Common.{◌≡◌, sym, ◌∙◌, subst}
+use Rattle.std.proofs.Common.{sym, subst}
 use Rattle.jr_defs.specs.MemberRules.{RedefinesMethod}
 use Rattle.jr_plain.specs.Search.{Lists}
 use Rattle.jr_member_faults.specs.declared.beside.Left.{Left}

@@ -1,8 +1,8 @@
-use Rattle.std.proofs.Common.{◌≡◌, sym, ◌∙◌, ap, arith, ℕ, Bool, true, false, not, get_or}
+use Rattle.std.proofs.Common.{sym, ◌∙◌, arith, ℕ}
 use Rattle.jr_member_faults.proofs.Looped.{some_hit, some_next, some_end}
 use Rattle.jr_members.proofs.Each.{item_in}
 use Rattle.jr_member_rules.specs.Throwing.{declares_more}
-use Rattle.jr_member_faults.specs.Views.{rows_of, table_of, IsRightWorld}
+use Rattle.jr_member_faults.specs.Views.{rows_of, table_of}
 use Rattle.jr_member_faults.proofs.redefining.Redefining.throws_more.Goals as goal
 
 pub returns-then-is_more : goal.returns-then-is_more

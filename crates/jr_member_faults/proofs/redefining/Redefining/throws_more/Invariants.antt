@@ -1,4 +1,4 @@
-use Rattle.std.proofs.Common.{◌≡◌, ℕ, true, not, drop}
+use Rattle.std.proofs.Common.{◌≡◌, ℕ, drop}
 use Rattle.std.specs.List.{list_any}
 use Rattle.jr_member_rules.specs.Throwing.{declares_more}
 use Rattle.jr_member_faults.specs.Thrown.{AreThrown}

@@ -1,5 +1,4 @@
-use Rattle.std.proofs.Common.{◌≡◌, sym, ◌∙◌, ap, Some, None, slice_index_or}
-use Rattle.jr_supers.specs.Signatures.{number_of}
+use Rattle.std.proofs.Common.{sym, ◌∙◌, ap}
 use Rattle.jr_members.specs.Keys.{signature_number}
 use Rattle.jr_member_faults.specs.Views.{rows_of, table_of}
 use Rattle.jr_member_faults.proofs.Overridden.{like_unsigned}

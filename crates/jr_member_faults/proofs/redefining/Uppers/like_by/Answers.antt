@@ -1,4 +1,3 @@
-use Rattle.std.proofs.Common.{sym, ◌∙◌, IfOk}
 use Rattle.std.proofs.lemmas.Result.{IfOk-weaker}
 use Rattle.jr_member_faults.specs.Views.{rows_of, table_of}
 use Rattle.jr_member_faults.proofs.Overridden.{like_alone}

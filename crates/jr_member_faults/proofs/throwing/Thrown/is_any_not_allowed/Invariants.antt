@@ -1,4 +1,4 @@
-use Rattle.std.proofs.Common.{◌≡◌, ℕ, true, not, drop}
+use Rattle.std.proofs.Common.{◌≡◌, ℕ, drop}
 use Rattle.std.specs.List.{list_any}
 use Rattle.jr_tree.specs.declared.label.Role.TheVariants as roles
 use Rattle.jr_tree.specs.Rows.{role_at}

@@ -1,4 +1,4 @@
-use Rattle.std.proofs.Common.{◌≡◌, sym, ◌∙◌, arith, ℕ, true, false, get_or}
+use Rattle.std.proofs.Common.{sym, ◌∙◌, arith, ℕ}
 use Rattle.jr_member_faults.specs.Unfound.{leaves_at}
 use Rattle.jr_member_faults.specs.Views.{rows_of, table_of}
 use Rattle.jr_member_faults.proofs.Looped.{some_hit, some_next, some_end}

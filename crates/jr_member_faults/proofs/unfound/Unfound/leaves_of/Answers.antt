@@ -1,4 +1,4 @@
-use Rattle.std.proofs.Common.{◌≡◌, ◌∙◌, ap, ℕ}
+use Rattle.std.proofs.Common.{◌∙◌, ap, ℕ}
 use Rattle.std.specs.List.{list_any}
 use Rattle.jr_member_rules.specs.Inheriting.{finds_abstract}
 use Rattle.jr_member_faults.specs.Views.{rows_of, table_of}
