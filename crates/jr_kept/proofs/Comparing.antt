@@ -1,5 +1,5 @@
 -- Edges of control on both sides of a change, by names, by numbers of points, and by their definition.
-use Rattle.std.proofs.Common.{◌≡◌, ◌⊎◌, inl, inr, ⊎_elim, refl, sym, ◌∙◌, ap, ap₂, subst, arith, ℕ, zero, suc, ◌+◌, ◌<◌, ◌≤◌, Bool, true, false, ◌&&◌, if◌then◌else◌, List, length, Option, Some, None, IfNone, IfSome, is_some, nat_eq, nat_lt, slice_get}
+use Rattle.std.proofs.Common.{◌≡◌, ◌⊎◌, inl, inr, refl, sym, ◌∙◌, ap, ap₂, subst, arith, ℕ, zero, suc, ◌+◌, ◌<◌, ◌≤◌, Bool, true, false, ◌&&◌, if◌then◌else◌, List, length, Option, Some, None, IfNone, IfSome, is_some, nat_eq, nat_lt, slice_get}
 use Rattle.std.specs.List.{Contains}
 use Rattle.std.proofs.lemmas.Bool.{false≢true, cases_lt}
 use Rattle.std.proofs.lemmas.Bool.Decides.{Decides-eqb, Decides-ltb, Decides-and}
@@ -8,19 +8,19 @@ use Rattle.jr_tree.specs.Rows.{Rows, end}
 use Rattle.jr_places.specs.Stamps.{is_stamped}
 use Rattle.jr_flow_defs.specs.declared.point.Point.{Point}
 use Rattle.jr_flow_defs.specs.declared.point.PointKind.TheVariants as kind
-use Rattle.jr_flow_defs.specs.Paths.{Flow, IsReached, IsPoint}
+use Rattle.jr_flow_defs.specs.Paths.{Flow, IsPoint}
 use Rattle.jr_flow_defs.specs.Edges.{FlowNode, Naming, node_of_point, IsInside, IsGraph}
 use Rattle.jr_flow_defs.specs.Graphs.{StepList, StepPath, PassesAt, is_node_point, EdgeByNumbers}
 use Rattle.jr_flow_defs.specs.Computed.{is_inside}
-use Rattle.jr_flow_defs.specs.Kept.{Same, Origin, HasOneCopy, IsKeptNode, KeepsControl, old_name, new_name}
+use Rattle.jr_flow_defs.specs.Kept.{Same, Origin, HasOneCopy, KeepsControl, old_name, new_name}
 use Rattle.jr_flow_defs.proofs.Numbered.{reached_along, step_path, onward_point}
 use Rattle.jr_flow_defs.proofs.Reaching.{edges_go_by_numbers}
 use Rattle.jr_flow.proofs.Gets.{got}
 use Rattle.jr_kept.specs.declared.search.Side.{Side}
 use Rattle.jr_kept.specs.declared.search.Search.{Search}
 use Rattle.jr_kept.specs.Named.{no_name, node_of_number, node_by, IsNameOf, AreNames, origin_in}
-use Rattle.jr_kept.specs.Copied.{IsEvent, HasEventsOnce}
-use Rattle.jr_kept.specs.Searched.{AreWithin, AreFew, name_in, IsNamed, is_one_node, EdgeFrom, EdgeByNames, SideEdge, HasFound}
+use Rattle.jr_kept.specs.Copied.{HasEventsOnce}
+use Rattle.jr_kept.specs.Searched.{AreWithin, AreFew, name_in, IsNamed, is_one_node, EdgeByNames, SideEdge, HasFound}
 use Rattle.jr_kept.specs.declared.flows.Flows.{Flows}
 use Rattle.jr_flow.specs.Reached.{steps_of}
 use Rattle.jr_kept.specs.Compared.{SameFrom, SameNames, KeepsByNumbers, KeepsFlows}

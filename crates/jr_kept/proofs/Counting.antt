@@ -1,5 +1,5 @@
 -- Counting the copies of rows.
-use Rattle.std.proofs.Common.{◌≡◌, ◌⊎◌, inl, inr, ⊎_elim, refl, sym, ◌∙◌, ap, subst, arith, ℕ, zero, suc, ◌+◌, ◌<◌, ◌≤◌, Bool, true, false, not, ◌&&◌, if◌then◌else◌, List, [], ◌∷◌, ◌++◌, length, replicate, Option, Some, None, option_map, nat_eq, Decides, slice_get, slice_index_or}
+use Rattle.std.proofs.Common.{◌≡◌, ◌⊎◌, inl, inr, ⊎_elim, refl, sym, ◌∙◌, ap, subst, arith, ℕ, zero, suc, ◌+◌, ◌<◌, ◌≤◌, Bool, true, false, not, ◌&&◌, if◌then◌else◌, List, [], ◌∷◌, length, replicate, Option, Some, None, option_map, nat_eq, Decides, slice_get, slice_index_or}
 use Rattle.std.proofs.lemmas.Bool.{false≢true, cases_lt, cases_eq}
 use Rattle.std.proofs.lemmas.Bool.Decides.{Decides-eqb, Decides-and, Decides-not, Decides-like}
 use Rattle.std.proofs.lemmas.Option.{none-some, same_Some}
@@ -11,7 +11,7 @@ use Rattle.jr_flow_defs.specs.declared.point.PointKind.TheVariants as kind
 use Rattle.jr_flow_defs.specs.Acts.{is_parameter}
 use Rattle.jr_flow_defs.specs.Edges.{FlowNode, Naming, node_of_point}
 use Rattle.jr_flow_defs.specs.Kept.{HasOneCopy, old_name}
-use Rattle.jr_kept.specs.Named.{no_name, node_of_number, node_by, IsNameOf, origin_in}
+use Rattle.jr_kept.specs.Named.{no_name, node_of_number, IsNameOf, origin_in}
 use Rattle.jr_kept.specs.Copied.{Counts, IsOneMore, AddsOne, AreCounted, IsEvent, is_node, is_event}
 use Rattle.jr_kept.proofs.Naming.{get_inside, or_none}
 use Rattle.jr_kept.proofs.Searching.{got_or, or_got}

@@ -4,3 +4,8 @@ pub mod Searching
 pub mod Telling
 pub mod Counting
 pub mod Comparing
+pub mod Rounding
+pub mod Coming
+pub mod Pruning
+pub mod Splicing
+pub mod Joining

@@ -1,15 +1,14 @@
 -- Names of nodes as numbers.
-use Rattle.std.proofs.Common.{◌≡◌, ◌⊎◌, inl, inr, ⊎_elim, refl, sym, ◌∙◌, ap, subst, arith, ℕ, zero, suc, ◌+◌, ◌-◌, ◌<◌, ◌≤◌, Bool, true, false, if◌then◌else◌, List, [], ◌∷◌, ◌++◌, length, length-append, Option, Some, None, option_map, option_and_then, nat_eq, slice_get}
+use Rattle.std.proofs.Common.{◌≡◌, ◌⊎◌, inl, inr, refl, sym, ◌∙◌, ap, subst, arith, ℕ, zero, suc, ◌+◌, ◌-◌, ◌<◌, ◌≤◌, Bool, true, false, if◌then◌else◌, List, [], ◌∷◌, ◌++◌, length, length-append, Option, Some, None, option_map, nat_eq, slice_get}
 use Rattle.std.specs.Option.{option_eq}
-use Rattle.std.proofs.lemmas.Option.{none-some, same_Some}
+use Rattle.std.proofs.lemmas.Option.{none-some}
 use Rattle.jr_tree.specs.Rows.{Rows, label, parent}
 use Rattle.jr_flow_defs.specs.declared.point.Point.{Point}
-use Rattle.jr_flow_defs.specs.declared.point.PointKind.{PointKind}
 use Rattle.jr_flow_defs.specs.declared.point.PointKind.TheVariants as kind
-use Rattle.jr_flow_defs.specs.Edges.{FlowNode, Naming, node_of_point, or_node, own_by, named_by}
+use Rattle.jr_flow_defs.specs.Edges.{FlowNode, Naming, node_of_point, or_node}
 use Rattle.jr_flow_defs.specs.Kept.{is_qualifier, whole_name, old_name}
 use Rattle.jr_flow.proofs.Gets.{get_pushed}
-use Rattle.jr_kept.specs.Named.{no_name, node_of_number, node_by, IsNameOf, AreNames}
+use Rattle.jr_kept.specs.Named.{no_name, IsNameOf, AreNames}
 
 -- ---- the row of a node
 

@@ -6,7 +6,7 @@ use Rattle.std.proofs.lemmas.Option.{none-some, same_Some}
 use Rattle.std.proofs.lemmas.List.Elements.{Contains-append_left, Contains-append_right, Contains-append_cases, Contains-push, Contains-push_cases}
 use Rattle.jr_tree.specs.Rows.{Rows}
 use Rattle.jr_places.specs.declared.stamps.Stamps.{Stamps}
-use Rattle.jr_places.specs.Stamps.{is_stamped, IsStamping, IsEmptied, AddsStamp}
+use Rattle.jr_places.specs.Stamps.{is_stamped, IsEmptied, AddsStamp}
 use Rattle.jr_flow_defs.specs.declared.point.Point.{Point}
 use Rattle.jr_flow_defs.specs.Graphs.{StepList, StepPath}
 use Rattle.jr_flow_defs.proofs.Searched.{contains_out, contains_first, contains_more}

@@ -1,7 +1,6 @@
 -- What the first edges so far tell.
-use Rattle.std.proofs.Common.{◌≡◌}
 use Rattle.jr_kept.specs.declared.edges.Firsts.{Firsts}
-use Rattle.jr_kept.specs.Ordered.{AreNone, Tells}
+use Rattle.jr_kept.specs.Ordered.{Tells}
 
 pub tells_still : (a : Firsts) (P : Type 0) → P → Tells a a P
 tells_still a P p = record { none = λ h. (h, p); kept = λ h q. h }

@@ -1,5 +1,5 @@
 -- Edges of control that stand on both sides of a change, by numbers.
-use Rattle.std.specs.Prelude.{◌≡◌, ℕ, ◌<◌, Bool, true}
+use Rattle.std.specs.Prelude.{ℕ, ◌<◌}
 use Rattle.jr_flow_defs.specs.Meaning.{Meaning}
 use Rattle.jr_flow_defs.specs.Paths.{Flow}
 use Rattle.jr_flow_defs.specs.Edges.{FlowNode, IsGraph, body_flow}

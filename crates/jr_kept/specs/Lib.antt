@@ -4,3 +4,6 @@ pub mod Copied
 pub mod Ordered
 pub mod Searched
 pub mod Compared
+pub mod Courses
+pub mod Pruned
+pub mod Spliced

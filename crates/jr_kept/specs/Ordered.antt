@@ -19,3 +19,7 @@ AreNone firsts = (firsts.before ≡ None) × (firsts.after ≡ None)
 pub record Tells (old new : Firsts) (Holds : Type 0) : Type 0 where
   pub none : AreNone new → AreNone old × Holds
   pub kept : AreNone old → Holds → AreNone new
+
+-- nothing is found now only where nothing was before
+abbrev pub OnlyAdds : Firsts → Firsts → Type 0
+OnlyAdds old new = AreNone new → AreNone old

@@ -1,5 +1,5 @@
 -- Edges between named points, and the search for those from one point.
-use Rattle.std.specs.Prelude.{◌≡◌, ◌⊎◌, ℕ, ◌<◌, ◌≤◌, Bool, ◌+◌, true, false, ◌&&◌, List, length, map, min, Option, Some, None, IfSome, IfNone, nat_eq, slice_get, slice_index_or}
+use Rattle.std.specs.Prelude.{◌≡◌, ◌⊎◌, ℕ, ◌<◌, ◌≤◌, Bool, true, false, ◌&&◌, List, length, min, Option, Some, None, IfSome, IfNone, nat_eq, slice_get, slice_index_or}
 use Rattle.std.specs.List.{Contains}
 use Rattle.jr_tree.specs.Rows.{Rows}
 use Rattle.jr_places.specs.declared.stamps.Stamps.{Stamps}

@@ -1,4 +1,6 @@
 // What an inlining into a creation loses: its class is initialized before its arguments (JLS 12.4.1, 15.9.4), and was behind the initializer of the local.
+ghost use Rattle.std.specs.Prelude.{OnOk};
+ghost use Rattle.jr_kept.specs.Ordered.{OnlyAdds};
 
 use crate::edges::{Edge, Firsts};
 use crate::flows::{is_within, rows_of};
@@ -6,7 +8,7 @@ use crate::starting::{initialized_by, node_in, runs_before};
 use jr_change::{Project, RowRange};
 use jr_flow::{FlowFault, Graph, PointKind, bodies};
 use jr_places::{constructed_class, is_interface, parent_at};
-use jr_tree::{Label, Row};
+use jr_tree::Label;
 use std::alloc::Global;
 
 // The first node of the initializer of a local.
@@ -80,6 +82,51 @@ fn node_round(alloc: Global, old: &Project, body: u32, at: u32) -> Result<Option
     Ok(None)
 }
 
+// Puts an edge to a second node, if there is one.
+fn put_to(first: u32, second: Option<u32>, lost: &mut Firsts)
+    ensures { OnlyAdds lost.old lost.new }
+{
+    match second {
+        Some(second) => lost.put_old(Edge { first, second }),
+        None => {}
+    }
+}
+
+// A node that a creation round a row may begin before its arguments, where the row is a use of the local.
+fn node_round_use(
+    alloc: Global,
+    old: &Project,
+    body: u32,
+    local: u32,
+    row: u32,
+) -> Result<Option<u32>, FlowFault> {
+    if old.view.sight.world.under.declared(row) == Some(local) {
+        return node_round(alloc, old, body, row);
+    }
+    Ok(None)
+}
+
+// Puts an edge from a node to each that a creation round a use of the local may begin before its arguments.
+fn put_begun(
+    alloc: Global,
+    old: &Project,
+    body: RowRange,
+    local: u32,
+    first: u32,
+    lost: &mut Firsts,
+) -> Result<(), FlowFault>
+    ensures { OnOk result (OnlyAdds lost.old lost.new) }
+{
+    for row in body.first..body.end {
+        put_to(
+            first,
+            node_round_use(alloc, old, body.first, local, row)?,
+            lost,
+        );
+    }
+    Ok(())
+}
+
 /// Puts an edge from a node of the initializer of a local to a node of the initialization of a class, if a creation of the class has a use of the local
 /// among its arguments and may begin that initialization.
 pub(crate) fn put_delayed(
@@ -88,17 +135,18 @@ pub(crate) fn put_delayed(
     graph: &Graph,
     local: u32,
     lost: &mut Firsts,
-) -> Result<(), FlowFault> {
+) -> Result<(), FlowFault>
+    ensures { OnOk result (OnlyAdds lost.old lost.new) }
+{
     let Some(first) = node_of_initializer(graph, rows_of(old.marks.rows, local)) else {
         return Ok(());
     };
-    let body = rows_of(old.marks.rows, graph.body);
-    for row in body.first..body.end {
-        if old.view.sight.world.under.declared(row) == Some(local) {
-            if let Some(second) = node_round(alloc, old, body.first, row)? {
-                lost.put_old(Edge { first, second });
-            }
-        }
-    }
-    Ok(())
+    put_begun(
+        alloc,
+        old,
+        rows_of(old.marks.rows, graph.body),
+        local,
+        first,
+        lost,
+    )
 }

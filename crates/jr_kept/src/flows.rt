@@ -1,7 +1,9 @@
 // A body before and after the change.
-ghost use Rattle.std.specs.Prelude.{◌≡◌, ◌+◌, ◌-◌, ◌<◌, ◌≤◌, ◌^◌, ◌&&◌, nat_lt, not};
+ghost use Rattle.std.specs.Prelude.{◌≡◌, ◌+◌, ◌-◌, ◌<◌, ◌≤◌, ◌^◌, ◌&&◌, ℕ, if◌then◌else◌, Some, IfOk, IfSome, Decides, length, nat_lt, not};
+ghost use Rattle.std.specs.List.{Contains};
 ghost use Rattle.jr_tree.specs.Rows as tree;
 ghost use Rattle.jr_flow_defs.specs.Acts as acts;
+ghost use Rattle.jr_kept.specs.Courses.{IsBody, IsBodyRound};
 
 use crate::names::Names;
 use jr_base::OutOfMemory;
@@ -65,17 +67,34 @@ pub(crate) fn is_parameter(rows: &[Row], at: u32) -> bool
     }
 }
 
-/// The body in which a row stands.
-pub(crate) fn body_round(
-    alloc: Global,
-    rows: &[Row],
-    row: u32,
-) -> Result<Option<u32>, OutOfMemory> {
+// The row stands in the body.
+fn is_in_body(rows: &[Row], body: u32, row: u32) -> bool
+    ensures { body + 1 < 2 ^ 32 → Decides result ((body ≤ row) × (row < tree.end rows.now body)) }
+{
+    is_within(rows_of(rows, body), row)
+}
+
+fn last_if(found: Option<u32>, is_such: bool, body: u32) -> Option<u32>
+    ensures { result ≡ (if is_such then Some body else found) }
+{
+    if is_such { Some(body) } else { found }
+}
+
+// The last of some bodies in which a row stands.
+fn body_among(rows: &[Row], bodies: &[u32], row: u32) -> Option<u32>
+    ensures { length rows.now < 2 ^ 32 → ((k : ℕ) → Contains bodies.now k → IsBody rows.now k) → IfSome result (λ body. IsBodyRound rows.now row body) }
+{
     let mut found = None;
-    for body in &bodies(alloc, rows)? {
-        if is_within(rows_of(rows, *body), row) {
-            found = Some(*body);
-        }
+    for body in bodies {
+        found = last_if(found, is_in_body(rows, *body, row), *body);
     }
-    Ok(found)
+    found
+}
+
+/// The body in which a row stands.
+pub(crate) fn body_round(alloc: Global, rows: &[Row], row: u32) -> Result<Option<u32>, OutOfMemory>
+    ensures { length rows.now < 2 ^ 32 → IfOk result (λ found. IfSome found (λ body. IsBodyRound rows.now row body)) }
+{
+    let all = bodies(alloc, rows)?;
+    Ok(body_among(rows, &all, row))
 }

@@ -1,4 +1,13 @@
 // What a change loses.
+ghost use Rattle.std.specs.Prelude.{◌≡◌, ◌<◌, None, IfOk, IfSome, length, true};
+ghost use Rattle.jr_locks.specs.Origins.{origin_of, row_by};
+ghost use Rattle.jr_flow_defs.specs.Meaning.{Meaning};
+ghost use Rattle.jr_flow_defs.specs.Edges.{IsGraph};
+ghost use Rattle.jr_flow_defs.specs.Kept.{joined_flow};
+ghost use Rattle.jr_flow.specs.Reached.{steps_of, IsGraphOf};
+ghost use Rattle.jr_kept.specs.Ordered.{AreNone};
+ghost use Rattle.jr_kept.specs.Compared.{KeepsBodies, KeepsJoined, IsJoinedGraph};
+ghost use Rattle.jr_kept.specs.Courses as tell;
 
 use crate::arriving::put_lost_definitions;
 use crate::carried::put_lost_values;
@@ -12,10 +21,11 @@ use crate::joined::joined;
 use crate::names::Names;
 use crate::returning::put_held_returns;
 use crate::starting::lost_initialization;
-use jr_base::{OutOfMemory, Place};
+use jr_base::Place;
 use jr_change::{Change, Course, Locks, Project, Raised, RowRange};
 use jr_flow::{FlowFault, Graph, graph};
 use jr_locks::row_for;
+use jr_tree::Row;
 use std::alloc::Global;
 
 /// An edge between two nodes of a body that stands on one side of a change alone. Both places are in the old files.
@@ -43,7 +53,9 @@ fn placed(old: &Project, edge: Edge, is_old: bool) -> LostEdge {
     }
 }
 
-fn first_of(old: &Project, lost: Firsts) -> Option<LostEdge> {
+fn first_of(old: &Project, lost: Firsts) -> Option<LostEdge>
+    ensures { result ≡ None → AreNone lost }
+{
     match lost.before {
         Some(edge) => Some(placed(old, edge, true)),
         None => match lost.after {
@@ -79,7 +91,9 @@ fn lost_by_raising(
 }
 
 // What is lost where the body round an old row has no copy.
-fn lost_at(old: &Project, row: u32) -> LostFlow {
+fn lost_at(old: &Project, row: u32) -> LostFlow
+    ensures { result.control ≡ None → ⊥ }
+{
     let edge = Edge {
         first: row,
         second: row,
@@ -95,7 +109,9 @@ fn lost_in_inlined(
     old: &Project,
     flows: &Flows,
     local: u32,
-) -> Result<LostFlow, FlowFault> {
+) -> Result<LostFlow, FlowFault>
+    ensures { (m w : Meaning) → IsGraphOf flows.now.names.rows.now m flows.now.before.now → IsGraphOf flows.now.rows.now w flows.now.after.now → IfOk result (λ lost. lost.control ≡ None → KeepsBodies flows.now m w) }
+{
     let mut control = lost_control(alloc, flows)?;
     put_delayed(alloc, old, flows.before, local, &mut control)?;
     let mut lost = Firsts::none();
@@ -108,8 +124,33 @@ fn lost_in_inlined(
     })
 }
 
+// The graph of a body of a project.
+fn graph_of(alloc: Global, project: &Project, body: u32) -> Result<Graph, FlowFault>
+    ensures { (m : Meaning) → tell.IsSeen project.now m → body < length project.now.marks.rows.now → IfOk result (λ made. (made.body ≡ body) × IsGraphOf project.now.marks.rows.now m made) }
+{
+    graph(alloc, &project.view, body)
+}
+
+fn is_row(rows: &[Row], row: u32) -> bool
+    ensures { result ≡ true → row < length rows.now }
+{
+    (row as usize) < rows.len()
+}
+
+// What a table of copies or origins has for a row, if it is one of these rows.
+fn row_among(all: &[u32], rows: &[Row], at: u32) -> Option<u32>
+    ensures { IfSome result (λ row. (row_by (origin_of all.now at) ≡ Some row) × (row < length rows.now)) }
+{
+    match row_for(all, at) {
+        Some(row) => { if is_row(rows, row) { Some(row) } else { None } }
+        None => None,
+    }
+}
+
 // The statement, where it has no copy.
-fn dropped(copy: &[u32], statement: u32) -> Option<u32> {
+fn dropped(copy: &[u32], statement: u32) -> Option<u32>
+    ensures { result ≡ tell.dropped_by (row_by (origin_of copy.now statement)) statement }
+{
     match row_for(copy, statement) {
         Some(_) => None,
         None => Some(statement),
@@ -123,11 +164,14 @@ fn lost_by_inlining(
     locks: &Locks,
     local: u32,
     statement: u32,
-) -> Result<LostFlow, FlowFault> {
+) -> Result<LostFlow, FlowFault>
+    ensures { (m w : Meaning) → tell.IsSeen old.now m → tell.IsSeen locked.now w
+        → IfOk result (λ lost. lost.control ≡ None → tell.KeepsInlinedControl old.now.marks.rows.now locked.now.marks.rows.now m w locks.now.origin.items locks.now.copy.items local statement) }
+{
     let Some(body) = body_round(alloc, old.marks.rows, local)? else {
         return Ok(lost_at(old, local));
     };
-    let Some(copy) = row_for(&locks.copy, body) else {
+    let Some(copy) = row_among(&locks.copy, locked.marks.rows, body) else {
         return Ok(lost_at(old, local));
     };
     let names = Names {
@@ -135,8 +179,8 @@ fn lost_by_inlining(
         body,
         dropped: dropped(&locks.copy, statement),
     };
-    let before = graph(alloc, &old.view, body)?;
-    let after = graph(alloc, &locked.view, copy)?;
+    let before = graph_of(alloc, old, body)?;
+    let after = graph_of(alloc, locked, copy)?;
     let flows = Flows {
         names,
         before: &before,
@@ -154,7 +198,9 @@ fn lost_in_extracted(
     flows: &Flows,
     call: u32,
     method: u32,
-) -> Result<LostFlow, FlowFault> {
+) -> Result<LostFlow, FlowFault>
+    ensures { (m w : Meaning) → IsGraphOf flows.now.names.rows.now m flows.now.before.now → IsJoinedGraph flows.now w call method → IfOk result (λ lost. lost.control ≡ None → KeepsJoined flows.now m w call method) }
+{
     let mut control = lost_control(alloc, flows)?;
     put_held_returns(alloc, flows, method, &mut control)?;
     let mut lost = Firsts::none();
@@ -182,11 +228,22 @@ fn joined_graph(
     body: u32,
     call: u32,
     method: u32,
-) -> Result<Graph, FlowFault> {
-    let outer = graph(alloc, &locked.view, body)?;
-    let inner = graph(alloc, &locked.view, method)?;
+) -> Result<Graph, FlowFault>
+    ensures { (w : Meaning) → tell.IsSeen locked.now w → body < length locked.now.marks.rows.now → method < length locked.now.marks.rows.now → (body ≡ method → ⊥)
+        → IfOk result (λ made. (made.body ≡ body) × IsGraph (joined_flow locked.now.marks.rows.now w body call method) body made.points.items (steps_of made)) }
+{
+    let outer = graph_of(alloc, locked, body)?;
+    let inner = graph_of(alloc, locked, method)?;
     let joined = joined(alloc, &outer, &inner, call)?;
     Ok(joined)
+}
+
+// The method is another body than this.
+fn is_apart(rows: &[Row], body: u32, method: u32) -> bool
+    ensures row { result ≡ true → method < length rows.now }
+    ensures apart { result ≡ true → body ≡ method → ⊥ }
+{
+    is_row(rows, method) && body != method
 }
 
 fn lost_by_extracting(
@@ -196,15 +253,21 @@ fn lost_by_extracting(
     locks: &Locks,
     call: u32,
     method: u32,
-) -> Result<LostFlow, FlowFault> {
+) -> Result<LostFlow, FlowFault>
+    ensures { (m w : Meaning) → tell.IsSeen old.now m → tell.IsSeen locked.now w
+        → IfOk result (λ lost. lost.control ≡ None → tell.KeepsExtractedControl old.now.marks.rows.now locked.now.marks.rows.now m w locks.now.origin.items call method) }
+{
     let rows = locked.marks.rows;
     let Some(copy) = body_round(alloc, rows, call)? else {
         return Ok(lost_at(old, 0));
     };
-    let Some(body) = row_for(&locks.origin, copy) else {
+    let Some(body) = row_among(&locks.origin, old.marks.rows, copy) else {
         return Ok(lost_at(old, 0));
     };
-    let before = graph(alloc, &old.view, body)?;
+    if !is_apart(rows, copy, method) {
+        return Ok(lost_at(old, 0));
+    }
+    let before = graph_of(alloc, old, body)?;
     let after = joined_graph(alloc, locked, copy, call, method)?;
     let flows = Flows {
         names: Names {
@@ -236,7 +299,10 @@ pub fn lost_flow(
     locked: &Project,
     locks: &Locks,
     change: &Change,
-) -> Result<LostFlow, FlowFault> {
+) -> Result<LostFlow, FlowFault>
+    ensures { (m w : Meaning) → tell.IsSeen old.now m → tell.IsSeen locked.now w
+        → IfOk result (λ lost. lost.control ≡ None → tell.KeepsCourse change.now.course old.now.marks.rows.now locked.now.marks.rows.now m w locks.now.origin.items locks.now.copy.items) }
+{
     match change.course {
         Course::Same => lost_by_raising(alloc, old, change.raised),
         Course::Removed(_) => Ok(nothing()),

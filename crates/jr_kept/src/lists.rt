@@ -1,6 +1,6 @@
 // Lists of numbers by number.
 ghost use Rattle.std.specs.Prelude.{◌≡◌, ◌∷◌, ◌++◌, [], ℕ, List, IfOk, OnOk, map, replicate};
-ghost use Rattle.jr_kept.specs.Listed.{put_at, lists_in, under_in, IsListing};
+ghost use Rattle.jr_kept.specs.Listed.{put_at, under_in, IsListing};
 
 use jr_base::OutOfMemory;
 use std::alloc::Global;

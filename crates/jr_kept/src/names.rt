@@ -1,5 +1,5 @@
 // Names of the nodes of a body, by rows of the old program.
-ghost use Rattle.std.specs.Prelude.{◌≡◌, ◌≤◌, ℕ, Some, IfOk, nat_eq, if◌then◌else◌, option_map, option_and_then};
+ghost use Rattle.std.specs.Prelude.{◌≡◌, ◌≤◌, Some, IfOk, nat_eq, if◌then◌else◌, option_map, option_and_then};
 ghost use Rattle.std.specs.Option.{option_eq};
 ghost use Rattle.jr_tree.specs.Rows.{label};
 ghost use Rattle.jr_flow_defs.specs.Edges.{FlowNode, Naming, node_of_point};

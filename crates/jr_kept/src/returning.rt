@@ -1,4 +1,6 @@
 // The `return` statements of an added method, which complete the method in place of the body.
+ghost use Rattle.std.specs.Prelude.{OnOk};
+ghost use Rattle.jr_kept.specs.Ordered.{OnlyAdds};
 
 use crate::edges::{Edge, Firsts};
 use crate::flows::{Flows, count_rows, rows_of};
@@ -98,6 +100,19 @@ impl<'a> Returns<'a> {
     }
 }
 
+// Puts an edge from a row to itself, if it is one.
+fn put_held(held: Option<u32>, lost: &mut Firsts)
+    ensures { OnlyAdds lost.old lost.new }
+{
+    match held {
+        Some(row) => lost.put_old(Edge {
+            first: row,
+            second: row,
+        }),
+        None => {}
+    }
+}
+
 /// Puts an edge from each `return` to itself that has a copy in the method and does not complete the body at once, with nothing pending: a block of
 /// `finally` comes before the exit, or is left by it (JLS 14.17, 14.20.2).
 pub(crate) fn put_held_returns(
@@ -105,16 +120,13 @@ pub(crate) fn put_held_returns(
     flows: &Flows,
     method: u32,
     lost: &mut Firsts,
-) -> Result<(), OutOfMemory> {
+) -> Result<(), OutOfMemory>
+    ensures { OnOk result (OnlyAdds lost.old lost.new) }
+{
     let returns = Returns::of(alloc, &*flows, method)?;
     let graph = flows.before;
     for step in &graph.steps {
-        if let Some(row) = returns.held(step.from, step.to) {
-            lost.put_old(Edge {
-                first: row,
-                second: row,
-            });
-        }
+        put_held(returns.held(step.from, step.to), lost);
     }
     Ok(())
 }

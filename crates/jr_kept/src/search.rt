@@ -7,8 +7,6 @@ ghost use Rattle.jr_tree.specs.Rows as tree;
 ghost use Rattle.jr_flow_defs.specs.Graphs.{StepList};
 ghost use Rattle.jr_flow_defs.specs.Computed as computed;
 ghost use Rattle.jr_flow.specs.Reached.{steps_of};
-ghost use Rattle.jr_kept.specs.Listed.{under_in};
-ghost use Rattle.jr_kept.specs.Named.{no_name};
 ghost use Rattle.jr_kept.specs.Searched as tell;
 
 use crate::lists::Lists;

@@ -1,8 +1,8 @@
-use Rattle.std.proofs.Common.{◌≤◌, refl, arith}
+use Rattle.std.proofs.Common.{refl}
 use Rattle.std.proofs.lemmas.Result.{on_ok_weaker}
 use Rattle.jr_flow_defs.specs.Kept.{Same}
 use Rattle.jr_flow.specs.Reached.{steps_of}
-use Rattle.jr_kept.specs.Named.{no_name, old_naming, new_naming}
+use Rattle.jr_kept.specs.Named.{old_naming, new_naming}
 use Rattle.jr_kept.specs.Compared.{SameNames, OldEdge, NewEdge}
 use Rattle.jr_kept.proofs.Telling.{tells_like}
 use Rattle.jr_kept.proofs.Comparing.{names_few, sides_up, sides_down}

@@ -1,4 +1,4 @@
-use Rattle.std.proofs.Common.{◌≡◌, sym, ◌∙◌, arith, Some, slice_get}
+use Rattle.std.proofs.Common.{sym, ◌∙◌, arith}
 use Rattle.jr_kept.proofs.Counting.{counted_tells}
 use Rattle.jr_kept.proofs.copies.has_one_copy.Goals as goal
 

@@ -1,4 +1,4 @@
-use Rattle.std.proofs.Common.{sym, ◌∙◌, subst, length}
+use Rattle.std.proofs.Common.{sym, subst, length}
 use Rattle.std.proofs.lemmas.Result.{on_ok_weaker}
 use Rattle.jr_kept.specs.Named.{AreNames, origin_in, old_naming}
 use Rattle.jr_kept.specs.Ordered.{Tells}

@@ -1,4 +1,4 @@
-use Rattle.std.proofs.Common.{◌≡◌, ◌<◌, ◌≤◌, ⊎_elim, refl, sym, arith, length}
+use Rattle.std.proofs.Common.{◌<◌, ⊎_elim, refl, arith, length}
 use Rattle.std.proofs.lemmas.Bool.{cases_lt}
 use Rattle.jr_kept.proofs.Listing.{set_put, put_past}
 use Rattle.jr_kept.proofs.lists.put.Goals as goal

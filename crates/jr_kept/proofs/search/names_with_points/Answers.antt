@@ -1,4 +1,4 @@
-use Rattle.std.proofs.Common.{◌≡◌, sym, ◌∙◌, subst, arith, length}
+use Rattle.std.proofs.Common.{◌≡◌, sym, subst, arith, length}
 use Rattle.jr_kept.specs.Searched.{ArePairs}
 use Rattle.jr_kept.proofs.Searching.{pairs_none}
 use Rattle.jr_kept.proofs.search.names_with_points.Goals as goal

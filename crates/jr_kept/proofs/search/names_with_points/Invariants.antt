@@ -1,4 +1,3 @@
-use Rattle.std.proofs.Common.{◌≡◌}
 use Rattle.jr_kept.specs.Searched.{ArePairs}
 use Rattle.jr_kept.proofs.search.names_with_points.Given as goal
 

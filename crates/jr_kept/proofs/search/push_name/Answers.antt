@@ -1,4 +1,4 @@
-use Rattle.std.proofs.Common.{◌++◌, ◌∷◌, [], ◌+◌, sym, ◌∙◌, subst}
+use Rattle.std.proofs.Common.{◌+◌, sym, ◌∙◌, subst}
 use Rattle.jr_kept.specs.Searched.{ArePairs}
 use Rattle.jr_kept.proofs.Searching.{pairs_more, pairs_left}
 use Rattle.jr_kept.proofs.search.push_name.Goals as goal

@@ -1,4 +1,4 @@
-use Rattle.std.proofs.Common.{◌≡◌, ⊎_elim, sym, subst, arith, ℕ, ◌<◌, ◌+◌}
+use Rattle.std.proofs.Common.{◌≡◌, ⊎_elim, subst, arith, ◌+◌}
 use Rattle.std.proofs.lemmas.Bool.{cases_lt}
 use Rattle.jr_kept.specs.Ordered.{Tells}
 use Rattle.jr_kept.specs.Compared.{SameFrom, SameNames}

@@ -1,4 +1,3 @@
-use Rattle.std.proofs.Common.{ℕ, ◌<◌}
 use Rattle.jr_flow_defs.specs.Graphs.{StepList}
 use Rattle.jr_kept.specs.Ordered.{Tells}
 use Rattle.jr_kept.specs.Searched.{IsSide}

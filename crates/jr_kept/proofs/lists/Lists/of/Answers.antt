@@ -1,4 +1,4 @@
-use Rattle.std.proofs.Common.{◌≡◌, refl}
+use Rattle.std.proofs.Common.{refl}
 use Rattle.jr_kept.proofs.Listing.{listing_none}
 use Rattle.jr_kept.proofs.lists.Lists.of.Goals as goal
 

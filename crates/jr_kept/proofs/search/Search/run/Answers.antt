@@ -1,4 +1,4 @@
-use Rattle.std.proofs.Common.{[], subst}
+use Rattle.std.proofs.Common.{subst}
 use Rattle.std.proofs.lemmas.Result.{on_ok_weaker}
 use Rattle.jr_kept.specs.Searched.{FindsFromAll}
 use Rattle.jr_kept.proofs.Searching.{found_all, points_inside}

@@ -1,4 +1,4 @@
-use Rattle.std.proofs.Common.{ℕ, List, ◌<◌, length, take}
+use Rattle.std.proofs.Common.{ℕ, ◌<◌, length, take}
 use Rattle.std.specs.List.{Contains}
 use Rattle.jr_flow_defs.specs.Graphs.{StepList}
 use Rattle.jr_kept.specs.Searched.{IsSide, IsReady, FindsFromAll}

@@ -1,6 +1,6 @@
-use Rattle.std.proofs.Common.{true, false, subst}
+use Rattle.std.proofs.Common.{subst}
 use Rattle.jr_places.specs.Stamps.{AddsStamp}
-use Rattle.jr_kept.proofs.Searching.{target_added, target_known}
+use Rattle.jr_kept.proofs.Searching.{target_added}
 use Rattle.jr_kept.proofs.search.Targets.add.Goals as goal
 
 pub returns-in_ok-push : goal.returns-in_ok-push

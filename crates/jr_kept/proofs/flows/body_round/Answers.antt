@@ -1,0 +1,8 @@
+use Rattle.std.proofs.Common.{◌∙◌, subst, length}
+use Rattle.std.specs.List.{Contains}
+use Rattle.jr_kept.proofs.Rounding.{body_below}
+use Rattle.jr_kept.proofs.flows.body_round.Goals as goal
+
+pub returns : goal.returns
+returns c = λ few. let rows = c.args.rows.now in
+    c.body_among.ensures few (λ k among. let one = body_below rows (length rows) k (subst (λ xs. Contains xs k) (c.deref.ensures.value ∙ c.in_ok-all.ensures) among) in record { few = one.0; has = one.1 })

@@ -1,0 +1,30 @@
+use Rattle.std.proofs.Common.{◌≡◌, ◌∙◌, ◌<◌, ap, subst, length, Some, IfSome}
+use Rattle.std.proofs.lemmas.Result.{IfOk-weaker}
+use Rattle.jr_flow_defs.specs.Edges.{body_flow}
+use Rattle.jr_flow_defs.specs.Kept.{KeepsControl}
+use Rattle.jr_locks.specs.Origins.{origin_of, row_by}
+use Rattle.jr_kept.specs.Named.{origin_in}
+use Rattle.jr_kept.specs.Courses.{IsBodyRound, dropped_by}
+use Rattle.jr_kept.proofs.Rounding.{rows_few}
+use Rattle.jr_kept.proofs.kept.lost_by_inlining.Goals as goal
+
+pub returns-in_default : goal.returns-in_default
+returns-in_default c = λ m w seen other none. absurd (c.lost_at.ensures none)
+
+pub returns : goal.returns
+returns c = λ m w seen other. let p = c.args.old.now.marks.rows.now in let q = c.args.locked.now.marks.rows.now in let origin = c.args.locks.now.origin.items in let copies = c.args.locks.now.copy.items in
+    let local = c.args.local in let statement = c.args.statement in let body = c.in-Some.body in let after = c.in-Some-row_among.copy in
+    let round : IsBodyRound p local body = subst (λ o. IfSome o (λ k. IsBodyRound p local k)) c.in-Some.is (c.in_ok-body.ensures (rows_few c.args.old.now m seen)) in
+    let copy : (row_by (origin_of copies body) ≡ Some after) × (after < length q) = subst (λ o. IfSome o (λ k. (row_by (origin_of copies body) ≡ Some k) × (k < length q))) c.in-Some-row_among.is (subst (λ xs. IfSome c.row_among.result (λ k. (row_by (origin_of xs body) ≡ Some k) × (k < length q))) c.deref.ensures.value c.row_among.ensures) in
+    let before_graph = c.in_ok-before.ensures m seen round.is.few in let after_graph = c.in_ok-after.ensures w other copy.1 in
+    IfOk-weaker c.lost_in_inlined.result _ _ (λ lost keeps none. record {
+      body = body;
+      after = after;
+      round = round;
+      is_copy = copy.0;
+      few = copy.1;
+      kept = subst (λ d. KeepsControl p q (body_flow p m body) (body_flow q w after) body after d (origin_in origin)) (c.dropped.ensures ∙ ap (λ xs. dropped_by (row_by (origin_of xs statement)) statement) c.deref-2.ensures.value)
+          (subst (λ os. KeepsControl p q (body_flow p m body) (body_flow q w after) body after c.dropped.result (origin_in os)) c.as_slice.ensures.value
+          (subst (λ n. KeepsControl p q (body_flow p m body) (body_flow q w n) body n c.dropped.result (origin_in c.as_slice.result.now)) after_graph.0
+          (subst (λ n. KeepsControl p q (body_flow p m n) (body_flow q w c.in_ok-after.after.body) n c.in_ok-after.after.body c.dropped.result (origin_in c.as_slice.result.now)) before_graph.0 (keeps none))));
+    }) (c.lost_in_inlined.ensures m w before_graph.1 after_graph.1)

@@ -1,0 +1,61 @@
+-- What is kept of control where a change is found to lose none, by what it does to the order of statements.
+use Rattle.std.specs.Prelude.{◌≡◌, ⊤, ℕ, ◌<◌, ◌≤◌, true, List, length, Option, Some, None}
+use Rattle.jr_tree.specs.Rows.{Rows, end}
+use Rattle.jr_tree.specs.Tree.{IsTree}
+use Rattle.jr_change.specs.declared.change.Course.{Course}
+use Rattle.jr_change.specs.declared.change.Course.TheVariants as course
+use Rattle.jr_change.specs.declared.project.Project.{Project}
+use Rattle.jr_locks.specs.Origins.{origin_of, row_by}
+use Rattle.jr_flow_defs.specs.Meaning.{Meaning}
+use Rattle.jr_flow_defs.specs.Edges.{body_flow}
+use Rattle.jr_flow_defs.specs.Kept.{KeepsControl, joined_flow}
+use Rattle.jr_flow.specs.Bodies.{has_code}
+use Rattle.jr_flow.specs.Views.{rows_in, IsViewOf}
+use Rattle.jr_kept.specs.Named.{origin_in}
+
+-- the project has the rows of a tree, and its view is of the meaning
+pub record IsSeen (project : Project) (m : Meaning) : Type 0 where
+  pub rows : rows_in project.view ≡ project.marks.rows.now
+  pub view : IsViewOf project.view m
+  pub tree : IsTree project.marks.rows.now
+
+-- the row is that of a declaration that has code
+pub record IsBody (p : Rows) (body : ℕ) : Type 0 where
+  pub few : body < length p
+  pub has : has_code p body ≡ true
+
+-- the row stands in the body
+pub record IsBodyRound (p : Rows) (row body : ℕ) : Type 0 where
+  pub is : IsBody p body
+  pub from : body ≤ row
+  pub to : row < end p body
+
+-- the statement, where it has no copy
+abbrev pub dropped_by : Option ℕ → ℕ → Option ℕ
+dropped_by None statement = Some statement
+dropped_by (Some copy) statement = None
+
+-- the body round the local has a copy with the same edges of control, in which the statement has no name if it has no copy
+pub record KeepsInlinedControl (p q : Rows) (m w : Meaning) (origin copy : List ℕ) (local statement : ℕ) : Type 0 where
+  pub body : ℕ
+  pub after : ℕ
+  pub round : IsBodyRound p local body
+  pub is_copy : row_by (origin_of copy body) ≡ Some after
+  pub few : after < length q
+  pub kept : KeepsControl p q (body_flow p m body) (body_flow q w after) body after (dropped_by (row_by (origin_of copy statement)) statement) (origin_in origin)
+
+-- the body round the call, with the method in place of the call, has the edges of control of the body of which it is a copy
+pub record KeepsExtractedControl (p q : Rows) (m w : Meaning) (origin : List ℕ) (call method : ℕ) : Type 0 where
+  pub body : ℕ
+  pub after : ℕ
+  pub round : IsBodyRound q call after
+  pub is_copy : row_by (origin_of origin after) ≡ Some body
+  pub few : body < length p
+  pub kept : KeepsControl p q (body_flow p m body) (joined_flow q w after call method) body after None (origin_in origin)
+
+-- of other changes nothing is told
+abbrev pub KeepsCourse : Course → Rows → Rows → Meaning → Meaning → List ℕ → List ℕ → Type 0
+KeepsCourse (course.Inlined local statement) p q m w origin copy = KeepsInlinedControl p q m w origin copy local statement
+KeepsCourse (course.Extracted call method) p q m w origin copy = KeepsExtractedControl p q m w origin call method
+KeepsCourse course.Same p q m w origin copy = ⊤
+KeepsCourse (course.Removed range) p q m w origin copy = ⊤
