@@ -35,15 +35,6 @@ pub on_any : {A E : Type 0} (result : Result A E) (P : Type 0) → P → OnOk re
 on_any (Ok x) P h = h
 on_any (Err e) P h = tt
 
--- two facts of one result
-pub both_ok : {A E : Type 0} (result : Result A E) (P Q R : A → Type 0) → ((x : A) → P x → Q x → R x) → IfOk result P → IfOk result Q → IfOk result R
-both_ok (Ok x) P Q R f a b = f x a b
-both_ok (Err e) P Q R f a b = tt
-
-pub ok_swap : {A E : Type 0} (result : Result A E) (X : Type 0) (P : A → Type 0) → (X → IfOk result P) → IfOk result (λ x. X → P x)
-ok_swap (Ok x) X P f = f
-ok_swap (Err e) X P f = tt
-
 pub box_has : {A E : Type 0} (made : Result A E) (x : A) (P : A → Type 0) → made ≡ Ok x → IfOk made P → P x
 box_has made x P e h = subst (λ r. IfOk r P) e h
 

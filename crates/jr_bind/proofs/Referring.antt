@@ -1,6 +1,5 @@
 -- What refers to a type or a package is named so: by a name, or by a constructor, whose name is that of its class.
-use Rattle.std.proofs.Common.{◌≡◌, sym, ◌∙◌, subst, ⊎_elim, ℕ, true, false, List, Option, None}
-use Rattle.std.proofs.lemmas.Bool.{cases_eq}
+use Rattle.std.proofs.Common.{◌≡◌, sym, ◌∙◌, subst, ℕ, true, false, List, Option, None}
 use Rattle.jr_base.specs.declared.text.Text.{Text}
 use Rattle.jr_tree.specs.declared.label.Label.{Label}
 use Rattle.jr_tree.specs.declared.label.Label.TheVariants as is
@@ -21,7 +20,7 @@ use Rattle.jr_defs.specs.Enclosing.{ConstructorOf}
 use Rattle.jr_defs.specs.Members.{MemberNamed}
 use Rattle.jr_defs.specs.Lookup.{MethodCandidate, ImportedMethod, Candidate, IsPackageName, Otherwise, Look}
 use Rattle.jr_defs.proofs.CarryAnswers.{choice_candidate, imported_candidate}
-use Rattle.jr_lookup.specs.Behind.{IsTypeLabel, RefersByNames}
+use Rattle.jr_lookup.specs.Behind.{IsTypeLabel}
 
 -- what looks for a type, or may
 abbrev MayBeType : Sought → Type 0
@@ -103,21 +102,3 @@ names_type p t K o d a level h e v = type_label (label p o) (type_seeks p t o (n
 
 pub names_package : (p : Rows) (t : Table) (K : ℕ → Type 0) (o : ℕ) (a : Referent) → Look p t K o a → a ≡ Package → IsTypeLabel (label p o)
 names_package p t K o a h e = type_label (label p o) (package_seeks p t o (name p o) K h e)
-
--- in a table that agrees with lookup
-pub refers_from_lookup : (p : Rows) (t : Table) (K : ℕ → Type 0) → ((n : ℕ) → Look p t K n (t n)) → RefersByNames p t
-refers_from_lookup p t K looked = record {
-  type = λ n d level e v. names_type p t K n d (t n) level (looked n) e v;
-  packages = λ n e. names_package p t K n (t n) (looked n) e;
-}
-
--- and where one more row is looked up under a table in which it holds
-pub refers_then : (p : Rows) (t u : Table) (K : ℕ → Type 0) (o : ℕ) → RefersByNames p t → ((m : ℕ) → (m ≡ o → ⊥) → u m ≡ t m) → Look p t K o (u o) → RefersByNames p u
-refers_then p t u K o refers others looked = record {
-  type = λ n d level e v. ⊎_elim
-      (λ same. subst (λ n. IsTypeLabel (label p n)) (sym same) (names_type p t K o d (u o) level looked (subst (λ n. u n ≡ Declared d level) same e) v))
-      (λ apart. refers.type n d level (sym (others n apart) ∙ e) v) (cases_eq n o);
-  packages = λ n e. ⊎_elim
-      (λ same. subst (λ n. IsTypeLabel (label p n)) (sym same) (names_package p t K o (u o) looked (subst (λ n. u n ≡ Package) same e)))
-      (λ apart. refers.packages n (sym (others n apart) ∙ e)) (cases_eq n o);
-}
