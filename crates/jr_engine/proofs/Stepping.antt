@@ -1,5 +1,5 @@
 -- What is known of a step by its parts, and of steps one after another.
-use Rattle.std.proofs.Common.{◌≡◌, ◌∙◌, ap, refl, true, Option, None, List, [], ◌∷◌, ℕ, Result, Ok, Err, IfOk, IsTrue, length, map, arith, sym, subst}
+use Rattle.std.proofs.Common.{◌≡◌, ◌∙◌, ap, refl, true, Option, Some, None, is_some, List, [], ◌∷◌, ℕ, Result, Ok, Err, IfOk, IsTrue, length, map, arith, sym, subst}
 use Rattle.std.specs.FinMap as files
 use Rattle.std.specs.List.{AllByRecursion}
 use Rattle.jr_base.specs.Files.{FileMap}
@@ -16,7 +16,7 @@ use Rattle.jr_front.proofs.Viewed.{whole_view, whole_world}
 use Rattle.jr_front.specs.Viewed.{IsViewOf}
 use Rattle.jr_front.specs.declared.workspace.Workspace.{Workspace}
 use Rattle.jr_engine.specs.Planning.{IsAccepted, PlannedAs}
-use Rattle.jr_engine.specs.Steps.{Opened, IsOpened, IsRead, IsHeld, IsAskedOf, IsRequested, LeftBy, IsStep, stays, leaves, AreSteps, none, more, IsFollowed, opened, opened_by}
+use Rattle.jr_engine.specs.Steps.{Opened, IsOpened, IsRead, IsHeld, IsMeaningOf, KeepsFlow, IsAskedOf, IsRequested, LeftBy, IsStep, stays, leaves, AreSteps, none, more, IsFollowed, opened, opened_by}
 use Rattle.jr_tree.specs.Rows.{Rows}
 use Rattle.jr_defs.specs.Referents.{Table, entries}
 use Rattle.jr_defs.specs.declared.referent.Referent.{Referent}
@@ -37,14 +37,28 @@ use Rattle.jr_dispatch.specs.Methods.{AreMethods, IsWholeWorld}
 use Rattle.jr_headed.specs.Founded.{IsProgram, AreWell}
 use Rattle.jr_headed.proofs.Founding.{program_headed, program_local}
 use Rattle.jr_bind.specs.declared.binder.Bound.{Bound}
-use Rattle.jr_bind.specs.Exact.{IsExact, IsProgramIn}
+use Rattle.jr_bind.specs.Exact.{IsExact, IsBoundBy, IsProgramIn}
+use Rattle.jr_bind.proofs.Confirmed.{program_in}
+use Rattle.jr_constants.specs.declared.constants.Constants.{Constants}
+use Rattle.jr_constants.specs.declared.value.Value.{Value}
+use Rattle.jr_constants.specs.Resting.{values_of}
+use Rattle.jr_constants.specs.Tables.{item}
+use Rattle.jr_constants.specs.Values.{value_in_if}
+use Rattle.jr_types.specs.Typed.{types_in}
+use Rattle.jr_defs.specs.declared.referent.RowType.{RowType}
+use Rattle.jr_tree.specs.Tree.{IsTree}
+use Rattle.jr_tree.proofs.Trees.{each_program_is_tree}
+use Rattle.jr_supers.specs.Supers.{AreSupersOf}
+use Rattle.jr_flow_defs.specs.Meaning.{Meaning}
+use Rattle.jr_kept.specs.Courses.{IsSeen, KeepsCourse}
+use Rattle.jr_kept.specs.declared.kept.LostEdge.{LostEdge}
 use Rattle.jr_view.specs.declared.View.{View}
 use Rattle.jr_draft.specs.Asking.{table_of}
 use Rattle.jr_engine.specs.Requested.{IsAskedBy, keeps_all}
 use Rattle.jr_locks.specs.Changed.{IsChanged, origins_by, copies_by}
 use Rattle.jr_edges.specs.Dispatched.{KeepsDispatch, IsTold}
 use Rattle.jr_edges.specs.declared.dispatched.Lost.{Lost}
-use Rattle.jr_engine.specs.Written.{IsSpelledIn, IsLeftOf, IsAskedFor, IsLockedBy, IsBoundByLocks, KeepsCallsIn, rows_of as rows_under, locks_of}
+use Rattle.jr_engine.specs.Written.{IsSpelledIn, IsLeftOf, IsAskedFor, IsLockedBy, IsBoundByLocks, KeepsCallsIn, KeepsFlowIn, rows_of as rows_under, locks_of}
 use Rattle.jr_engine.specs.declared.asked.Asked.{Asked}
 use Rattle.jr_engine.specs.declared.fault.StepFault.{StepFault}
 use Rattle.jr_engine.specs.declared.left.Left.{Left}
@@ -93,27 +107,29 @@ pub stays_so : (w : Workspace) (request : Request) (change : Change) → IsAsked
 unfolding requested
 stays_so w request change a keeps = λ found is. stays (requested found w request change is a) keeps
 
-followed : (asked : Asked) (locked : Locked) (left : Left) → IsAskedFor asked → IsLockedBy asked locked → KeepsCallsIn asked locked → IsLeftOf locked left → IsFollowed asked.old.now asked.request.now left
-followed asked locked left a by kept is = record { ends = is.1; step = λ found read. leaves asked.change.now (requested found asked.old.now asked.request.now asked.change.now read a) by.changed kept is.0 }
+followed : (asked : Asked) (locked : Locked) (left : Left) → IsAskedFor asked → IsLockedBy asked locked → KeepsCallsIn asked locked → KeepsFlowIn asked locked → IsLeftOf locked left
+    → IsFollowed asked.old.now asked.request.now left
+followed asked locked left a by kept flow is = record { ends = is.1; step = λ found read. leaves asked.change.now (requested found asked.old.now asked.request.now asked.change.now read a) by.changed kept flow is.0 }
 
-pub followed_so : (asked : Asked) (locked : Locked) (result : Result Left StepFault) → IsAskedFor asked → IsLockedBy asked locked → KeepsCallsIn asked locked → IfOk result (λ left. IsLeftOf locked left)
-    → IfOk result (λ left. IsFollowed asked.old.now asked.request.now left)
-followed_so asked locked (Ok left) a by kept is = followed asked locked left a by kept is
-followed_so asked locked (Err why) a by kept is = tt
+pub followed_so : (asked : Asked) (locked : Locked) (result : Result Left StepFault) → IsAskedFor asked → IsLockedBy asked locked → KeepsCallsIn asked locked → KeepsFlowIn asked locked
+    → IfOk result (λ left. IsLeftOf locked left) → IfOk result (λ left. IsFollowed asked.old.now asked.request.now left)
+followed_so asked locked (Ok left) a by kept flow is = followed asked locked left a by kept flow is
+followed_so asked locked (Err why) a by kept flow is = tt
 
 locked_so : (asked : Asked) (locked : Locked) (rows : Rows) (locks : Locks) → IsChanged (rows_in asked.old.now) (table_in asked.old.now) asked.change.now rows (entries locks.table.items)
-    → locks.copy.items ≡ copies_by (origins_by asked.change.now) (length (rows_in asked.old.now)) → rows_under locked ≡ rows → locked.locks ≡ locks → IsLockedBy asked locked
-locked_so asked locked rows locks h copies same kept = record {
+    → locks.origin.items ≡ origins_by asked.change.now → locks.copy.items ≡ copies_by (origins_by asked.change.now) (length (rows_in asked.old.now)) → rows_under locked ≡ rows → locked.locks ≡ locks → IsLockedBy asked locked
+locked_so asked locked rows locks h origin copies same kept = record {
   changed = subst (λ (r : Rows). IsChanged (rows_in asked.old.now) (table_in asked.old.now) asked.change.now r (locks_of locked)) (sym same)
       (subst (λ (l : Locks). IsChanged (rows_in asked.old.now) (table_in asked.old.now) asked.change.now rows (entries l.table.items)) (sym kept) h);
+  origin = ap (λ (l : Locks). l.origin.items) kept ∙ origin;
   copies = ap (λ (l : Locks). l.copy.items) kept ∙ copies;
 }
 
 pub locked_result : (asked : Asked) (rows : Rows) (locks : Locks) (result : Result Locked StepFault) → IsChanged (rows_in asked.old.now) (table_in asked.old.now) asked.change.now rows (entries locks.table.items)
-    → locks.copy.items ≡ copies_by (origins_by asked.change.now) (length (rows_in asked.old.now)) → IfOk result (λ locked. locked.program.index.value ≡ rows)
+    → locks.origin.items ≡ origins_by asked.change.now → locks.copy.items ≡ copies_by (origins_by asked.change.now) (length (rows_in asked.old.now)) → IfOk result (λ locked. locked.program.index.value ≡ rows)
     → IfOk result (λ locked. locked.locks ≡ locks) → IfOk result (IsLockedBy asked)
-locked_result asked rows locks (Ok locked) h copies same kept = locked_so asked locked rows locks h copies same kept
-locked_result asked rows locks (Err why) h copies same kept = tt
+locked_result asked rows locks (Ok locked) h origin copies same kept = locked_so asked locked rows locks h origin copies same kept
+locked_result asked rows locks (Err why) h origin copies same kept = tt
 
 pub locked_shaped : (program : Program) (rows : Rows) (result : Result Locked StepFault) → AllByRecursion IsShaped (map (λ u. u.unit) program.units) → rows ≡ rows_of program
     → IfOk result (λ locked. locked.program.index.value ≡ rows) → IfOk result (λ locked. IsProgram (rows_under locked))
@@ -126,14 +142,18 @@ locked_shaped program rows (Err why) shaped are same = tt
 read_methods : (world : World) (t : Table) (all : Methods) → all.under ≡ world.under → ((t : Table) → IsWholeWorld t world → AreMethods world.under.rows.now t all) → IsWholeWorld t world → AreMethods all.under.rows.now t all
 read_methods world t all same read whole = subst (λ (u : Tabled). AreMethods u.rows.now t all) (sym same) (read t whole)
 
--- so it is of a changed program whose rows are as in all programs
-locked_world : (locked : Locked) (view : View) → IsProgram (rows_under locked) → AreWell (rows_under locked) → IsBoundByLocks locked
-    → IsViewOf (rows_under locked) locked.program.places.value locked.program.scopes.value locked.program.bound.value view → IsWholeWorld (entries view.sight.world.under.table.now) view.sight.world
-locked_world locked view program well is of =
+-- a changed program whose rows are as in all programs has the tables under its locks
+locked_under : (locked : Locked) → IsProgram (rows_under locked) → AreWell (rows_under locked) → IsBoundByLocks locked → IsBoundBy (rows_under locked) locked.program.places.value locked.program.bound.value
+locked_under locked program well is =
     let headed = program_headed (rows_under locked) program well in
     let placed : ArePlaced (rows_under locked) locked.program.places.value = record { local = program_local (rows_under locked) program; packages = well.packages; are = is.places } in
     let among : IsProgramIn (rows_under locked) locked.program.places.value = record { placed = placed; well = headed; sized = well.sized; bare = well.object.bare } in
-    whole_world locked.program view (is.exact among (is.acyclic headed well.object.bare)) of well.object.bare
+    is.exact among (is.acyclic headed well.object.bare)
+
+-- and so a whole world
+locked_world : (locked : Locked) (view : View) → IsProgram (rows_under locked) → AreWell (rows_under locked) → IsBoundByLocks locked
+    → IsViewOf (rows_under locked) locked.program.places.value locked.program.scopes.value locked.program.bound.value view → IsWholeWorld (entries view.sight.world.under.table.now) view.sight.world
+locked_world locked view program well is of = whole_world locked.program view (locked_under locked program well is) of well.object.bare
 
 -- what is told of the calls of two views is told of the old and the changed program
 told_between : (asked : Asked) (locked : Locked) (p q : Rows) (t l : List Referent) (copy : List ℕ) → p ≡ rows_in asked.old.now → t ≡ asked.old.now.bound.value.table.items → q ≡ rows_under locked
@@ -162,6 +182,65 @@ calls_kept asked locked old new before after copy found old_of new_of before_is 
     let second : KeepsDispatch before.under.rows.now t after.under.rows.now l copy = subst (λ (f : Option Lost). IsTold before.under.rows.now t after.under.rows.now l copy f) none first in
     told_between asked locked before.under.rows.now after.under.rows.now old.sight.world.under.table.now new.sight.world.under.table.now copy (ap (λ (u : Tabled). u.rows.now) before_is ∙ old_of.rows_are) old_of.table_is
         (ap (λ (u : Tabled). u.rows.now) after_is ∙ new_of.rows_are) (ap entries new_of.table_is ∙ is.table) (copies ∙ by.copies) second
+
+-- ---- where control goes
+
+-- what names, types and constants mean by the tables of a program
+meaning_in : Workspace → Meaning
+meaning_in w = record { targets = table_in w; values = values_of w.bound.value.constants.value; types = types_in w.bound.value.types.items }
+
+meaning_is : (w : Workspace) → IsBoundBy (rows_in w) w.places.value w.bound.value → IsMeaningOf (rows_in w) (table_in w) (meaning_in w)
+unfolding meaning_in
+meaning_is w under = record { targets = refl; types = under.types_are; sound = under.constants_are.sound; whole = under.constants_are.whole }
+
+some_value : (texts : List (List ℕ)) (value : Option Value) → is_some value ≡ is_some (value_in_if texts value)
+some_value texts None = refl
+some_value texts (Some value) = refl
+
+-- a project with the rows and tables of a program is seen by flow as it is
+seen_project : (w : Workspace) (project : Project) → IsBoundBy (rows_in w) w.places.value w.bound.value → ObjectIsBare (rows_in w) → IsProgram (rows_in w) → length (rows_in w) + 3 < 2 ^ 32
+    → project.marks.rows.now ≡ rows_in w → IsViewOf (rows_in w) w.places.value w.scopes.value w.bound.value project.view → IsSeen project (meaning_in w)
+unfolding meaning_in
+seen_project w project under bare program few rows of = record {
+  rows = of.rows_are ∙ sym rows;
+  view = record {
+    few = subst (λ (r : Rows). length r + 3 < 2 ^ 32) (sym of.rows_are) few;
+    targets = ap entries of.table_is;
+    supers = subst (λ (t : Table). AreSupersOf project.view.sight.world.under.rows.now t project.view.sight.world.supers.now) (ap entries of.table_is) (whole_world w project.view under of bare).world_is.seen.above;
+    types = λ n. ap (λ (all : List (Option RowType)). types_in all n) of.types_are;
+    constants = λ n. ap (λ (found : Constants). is_some (item found.values.items n)) of.constants_are ∙ some_value w.bound.value.constants.value.texts (item w.bound.value.constants.value.values.items n);
+  };
+  tree = subst (λ (r : Rows). IsTree r) (sym (rows ∙ program.rows_are)) (each_program_is_tree program.units);
+}
+
+abbrev IsCourseKept : Asked → Meaning → Meaning → Rows → Rows → List ℕ → List ℕ → Type 0
+IsCourseKept asked m w p q origin copy = KeepsCourse asked.change.now.course p q m w origin copy
+
+-- where no edge of control is lost between the two, control goes as it went
+pub flow_kept : (asked : Asked) (locked : Locked) (old new : Project) (control : Option LostEdge) → IsBoundIn asked.old.now → IsProgram (rows_under locked) → AreWell (rows_under locked) → IsBoundByLocks locked
+    → IsLockedBy asked locked → length (rows_in asked.old.now) + 3 < 2 ^ 32 → length (rows_under locked) + 3 < 2 ^ 32 → old.marks.rows.now ≡ rows_in asked.old.now → new.marks.rows.now ≡ rows_under locked
+    → IsViewOf (rows_in asked.old.now) asked.old.now.places.value asked.old.now.scopes.value asked.old.now.bound.value old.view
+    → IsViewOf (rows_under locked) locked.program.places.value locked.program.scopes.value locked.program.bound.value new.view
+    → ((m w : Meaning) → IsSeen old m → IsSeen new w → control ≡ None → KeepsCourse asked.change.now.course old.marks.rows.now new.marks.rows.now m w locked.locks.origin.items locked.locks.copy.items)
+    → control ≡ None → KeepsFlowIn asked locked
+flow_kept asked locked old new control bound program well is by few_old few_new old_rows new_rows old_of new_of told none =
+    let bare = program_in (rows_in asked.old.now) asked.old.now.places.value asked.old.now.scopes.value bound.of bound.binding.binding.well in
+    let under = bound.binding.binding.under in
+    let later = locked_under locked program well is in
+    let m = meaning_in asked.old.now in
+    let w = meaning_in locked.program in
+    let first : IsCourseKept asked m w old.marks.rows.now new.marks.rows.now locked.locks.origin.items locked.locks.copy.items =
+    told m w (seen_project asked.old.now old under bare.bare bound.of.program few_old old_rows old_of) (seen_project locked.program new later well.object.bare program few_new new_rows new_of) none in
+    let second : IsCourseKept asked m w (rows_in asked.old.now) (rows_under locked) locked.locks.origin.items locked.locks.copy.items =
+    subst (λ (p : Rows). IsCourseKept asked m w p (rows_under locked) locked.locks.origin.items locked.locks.copy.items) old_rows (subst (λ (q : Rows). IsCourseKept asked m w old.marks.rows.now q locked.locks.origin.items locked.locks.copy.items) new_rows first) in
+    record {
+      before = m;
+      after = w;
+      before_is = meaning_is asked.old.now under;
+      after_is = subst (λ (l : Table). IsMeaningOf (rows_under locked) l w) is.table (meaning_is locked.program later);
+      kept = subst (λ (copy : List ℕ). IsCourseKept asked m w (rows_in asked.old.now) (rows_under locked) (origins_by asked.change.now) copy) by.copies
+          (subst (λ (origin : List ℕ). IsCourseKept asked m w (rows_in asked.old.now) (rows_under locked) origin locked.locks.copy.items) by.origin second);
+    }
 
 -- ---- the changed program under its locks
 

@@ -9,6 +9,12 @@ use Rattle.jr_tree.specs.Rows.{Rows}
 use Rattle.jr_defs.specs.Program.{rows_of}
 use Rattle.jr_defs.specs.Referents.{Table, entries}
 use Rattle.jr_defs.specs.declared.program.Program.{Program}
+use Rattle.jr_ty.specs.declared.constant.Const.{Const}
+use Rattle.jr_defs.specs.Constants.{Constant}
+use Rattle.jr_plain.specs.Constants.{constants, has_constant_form}
+use Rattle.jr_plain.specs.Typing.{IsTypable, expression_types}
+use Rattle.jr_flow_defs.specs.Meaning.{Meaning}
+use Rattle.jr_kept.specs.Courses.{KeepsCourse}
 use Rattle.jr_shapes.specs.declared.spelling.Spelling.{Spelling}
 use Rattle.jr_index.specs.NodeRows.{unit_rows}
 use Rattle.jr_marks.specs.Places.{IsOrdered}
@@ -70,11 +76,26 @@ pub record IsRequested (o : Opened) (request : Request) (change : Change) : Type
 abbrev pub KeepsCalls : Opened → Change → Rows → Table → Type 0
 KeepsCalls old change rows locks = KeepsDispatch old.rows old.table rows locks (copies_by (origins_by change) (length old.rows))
 
+-- what names refer to by the table, with types of expressions by values, and the values of constants, all of them where each expression has one type (JLS 15, 15.28)
+pub record IsMeaningOf (p : Rows) (t : Table) (m : Meaning) : Type 0 where
+  pub targets : m.targets ≡ t
+  pub types : (n : ℕ) → m.types n ≡ expression_types p t m.values n
+  pub sound : (n : ℕ) (v : Const) → m.values n ≡ Some v → Constant p t n v
+  pub whole : IsTypable p t → (n : ℕ) → m.values n ≡ constants p t (has_constant_form p t) n
+
+-- after an inlining and an extraction control goes from statement to statement as it went (`KeepsControl`); of other changes nothing is told
+pub record KeepsFlow (p : Rows) (t : Table) (change : Change) (q : Rows) (l : Table) : Type 0 where
+  pub before : Meaning
+  pub after : Meaning
+  pub before_is : IsMeaningOf p t before
+  pub after_is : IsMeaningOf q l after
+  pub kept : KeepsCourse change.course p q before after (origins_by change) (copies_by (origins_by change) (length p))
+
 -- What a request leaves: the files as they are, where the change for which it asks keeps all units, or those of a changed program in which each row that comes from
--- an old one must refer to what that referred to, where it stands now, and calls find what they found.
+-- an old one must refer to what that referred to, where it stands now, calls find what they found, and control goes as it went.
 pub data IsStep (old : Opened) (request : Request) : Opened → Type 0 where
   stays : {change : Change} (asked : IsRequested old request change) → keeps_all asked.project.program.units change.units.items ≡ true → IsStep old request old
-  leaves : {rows : Rows} {locks : Table} {left : Opened} (change : Change) → IsRequested old request change → IsChanged old.rows old.table change rows locks → KeepsCalls old change rows locks → IsWritten rows locks left
+  leaves : {rows : Rows} {locks : Table} {left : Opened} (change : Change) → IsRequested old request change → IsChanged old.rows old.table change rows locks → KeepsCalls old change rows locks → KeepsFlow old.rows old.table change rows locks → IsWritten rows locks left
       → IsStep old request left
 
 -- a step a request, each from what the one before has left

@@ -11,7 +11,7 @@ use Rattle.jr_bind.specs.Exact.{IsExact}
 use Rattle.jr_runs.specs.Respelled.{IsRespelled}
 use Rattle.jr_locks.specs.Changed.{IsChanged, origins_by, copies_by}
 use Rattle.jr_edges.specs.Dispatched.{KeepsDispatch}
-use Rattle.jr_engine.specs.Steps.{IsWritten, IsHeld, IsAskedOf, opened_by}
+use Rattle.jr_engine.specs.Steps.{IsWritten, IsHeld, KeepsFlow, IsAskedOf, opened_by}
 use Rattle.jr_engine.specs.declared.asked.Asked.{Asked}
 use Rattle.jr_engine.specs.declared.left.Left.{Left}
 use Rattle.jr_engine.specs.declared.locked.Locked.{Locked}
@@ -38,6 +38,7 @@ IsAskedFor a = IsAskedOf a.old.now a.request.now a.change.now
 -- the changed program comes from the old one by the change, with the locks that follow and the first copies of old rows
 pub record IsLockedBy (a : Asked) (locked : Locked) : Type 0 where
   pub changed : IsChanged (rows_in a.old.now) (table_in a.old.now) a.change.now (rows_of locked) (locks_of locked)
+  pub origin : locked.locks.origin.items ≡ origins_by a.change.now
   pub copies : locked.locks.copy.items ≡ copies_by (origins_by a.change.now) (length (rows_in a.old.now))
 
 -- the table of the changed program is that of its locks, and its supertypes and members are those under them, where no type is above itself
@@ -46,6 +47,10 @@ pub record IsBoundByLocks (locked : Locked) : Type 0 where
   pub places : ArePlaces (rows_of locked) locked.program.places.value
   pub exact : IsExact (rows_of locked) locked.program.places.value locked.program.bound.value
   pub acyclic : IsWellHeaded (rows_of locked) → ObjectIsBare (rows_of locked) → HasNoCycle (rows_of locked) (table_in locked.program)
+
+-- control goes in the changed program as it went in the old one
+abbrev pub KeepsFlowIn : Asked → Locked → Type 0
+KeepsFlowIn a locked = KeepsFlow (rows_in a.old.now) (table_in a.old.now) a.change.now (rows_of locked) (locks_of locked)
 
 -- calls find in the changed program what they found in the old one
 abbrev pub KeepsCallsIn : Asked → Locked → Type 0

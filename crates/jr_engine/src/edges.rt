@@ -1,9 +1,9 @@
 // Whether edges of flow are kept, and whether there are too many points of flow.
 
-ghost use Rattle.std.specs.Prelude.{IfOk};
-ghost use Rattle.jr_headed.specs.Founded.{IsProgram};
-ghost use Rattle.jr_front.specs.Bound.{IsBoundIn};
-ghost use Rattle.jr_engine.specs.Written.{IsBoundByLocks, IsLockedBy, KeepsCallsIn, rows_of};
+ghost use Rattle.std.specs.Prelude.{◌≡◌, ◌+◌, ◌<◌, ◌^◌, true, length, Decides, IfOk};
+ghost use Rattle.jr_headed.specs.Founded.{AreWell, IsProgram};
+ghost use Rattle.jr_front.specs.Bound.{IsBoundIn, rows_in};
+ghost use Rattle.jr_engine.specs.Written.{IsBoundByLocks, IsLockedBy, KeepsCallsIn, KeepsFlowIn, rows_of};
 
 use crate::asked::{Asked, project_of};
 use crate::fault::{LostKind, StepFault};
@@ -16,6 +16,7 @@ use jr_flow::has_too_many_points;
 use jr_front::Workspace;
 use jr_headed::are_well;
 use jr_kept::{LostEdge, lost_flow};
+use jr_tree::Row;
 use std::alloc::Global;
 
 // The answer where an edge is lost.
@@ -56,17 +57,15 @@ fn lost_call(asked: Asked, lost: Lost) -> StepFault {
     }
 }
 
-// Calls find in each class the methods that they found there. Of the changed rows it is tested that supertypes and members under a table are exact, as in all programs.
+// Calls find in each class the methods that they found there.
 fn keeps_calls(alloc: Global, asked: Asked, locked: &Locked) -> Result<(), StepFault>
     requires old { IsBoundIn asked.old.now }
     requires new { IsProgram (rows_of locked.now) }
+    requires well { AreWell (rows_of locked.now) }
     requires locked { IsLockedBy asked locked.now }
     requires bound { IsBoundByLocks locked.now }
     ensures { IfOk result (λ _. KeepsCallsIn asked.entry locked.now) }
 {
-    if !are_well(locked.program.index.rows()) {
-        return Err(asked.differs());
-    }
     let old = asked.old.view();
     let new = locked.program.view();
     let before = Methods::of(&old.sight.world);
@@ -77,23 +76,64 @@ fn keeps_calls(alloc: Global, asked: Asked, locked: &Locked) -> Result<(), StepF
     }
 }
 
-/// Control goes as before, calls find in each class the methods that they found there, and uses of locals the values that they had.
+// The rows can be counted, with room for three more.
+fn are_few(rows: &[Row]) -> bool
+    ensures { Decides result (length rows.now + 3 < 2 ^ 32) }
+{
+    rows.len() < u32::MAX as usize - 2
+}
+
+// The rows of both programs can be counted, and supertypes and members of the changed ones under a table are exact, as in all programs.
+fn are_as_in_programs(asked: Asked, locked: &Locked) -> bool
+    ensures old { result ≡ true → length (rows_in asked.old.now) + 3 < 2 ^ 32 }
+    ensures new { result ≡ true → length (rows_of locked.now) + 3 < 2 ^ 32 }
+    ensures well { result ≡ true → AreWell (rows_of locked.now) }
+{
+    let rows = locked.program.index.rows();
+    are_few(asked.old.index.rows()) && are_few(rows) && are_well(rows)
+}
+
+// Control goes as before. It gives the first edge from a definition to a use that is lost.
+fn keeps_control(
+    alloc: Global,
+    asked: Asked,
+    locked: &Locked,
+) -> Result<Option<LostEdge>, StepFault>
+    requires old { IsBoundIn asked.old.now }
+    requires new { IsProgram (rows_of locked.now) }
+    requires well { AreWell (rows_of locked.now) }
+    requires few { length (rows_in asked.old.now) + 3 < 2 ^ 32 }
+    requires few_new { length (rows_of locked.now) + 3 < 2 ^ 32 }
+    requires locked { IsLockedBy asked locked.now }
+    requires bound { IsBoundByLocks locked.now }
+    ensures { IfOk result (λ _. KeepsFlowIn asked.entry locked.now) }
+{
+    let old = project_of(asked.old);
+    let new = project_of(&locked.program);
+    let flow = lost_flow(alloc, &old, &new, &locked.locks, asked.change)?;
+    match flow.control {
+        Some(edge) => Err(lost(LostKind::Control, edge)),
+        None => Ok(flow.def_use),
+    }
+}
+
+/// Control goes as before, calls find in each class the methods that they found there, and uses of locals the values that they had. Rows that are as in no program, which were
+/// not to be written, are refused.
 pub fn keeps_edges(alloc: Global, asked: Asked, locked: &Locked) -> Result<(), StepFault>
     requires old { IsBoundIn asked.old.now }
     requires new { IsProgram (rows_of locked.now) }
     requires locked { IsLockedBy asked locked.now }
     requires bound { IsBoundByLocks locked.now }
-    ensures { IfOk result (λ _. KeepsCallsIn asked.entry locked.now) }
+    ensures calls { IfOk result (λ _. KeepsCallsIn asked.entry locked.now) }
+    ensures flow { IfOk result (λ _. KeepsFlowIn asked.entry locked.now) }
 {
     is_changed_within_flow(alloc, asked, locked)?;
-    let old = project_of(asked.old);
-    let new = project_of(&locked.program);
-    let flow = lost_flow(alloc, &old, &new, &locked.locks, asked.change)?;
-    if let Some(edge) = flow.control {
-        return Err(lost(LostKind::Control, edge));
+    if !are_as_in_programs(asked, locked) {
+        return Err(asked.differs());
     }
+    let def_use = keeps_control(alloc, asked, locked)?;
     keeps_calls(alloc, asked, locked)?;
-    match flow.def_use {
+    match def_use {
         Some(edge) => Err(lost(LostKind::DefUse, edge)),
         None => Ok(()),
     }
