@@ -171,21 +171,21 @@ module _ (m : Marks) (view : View) (testable : IsTestableView view) (local : IsL
   of_thrown_found e (BreaksThrown.unthrown a b h) = absurd (false≢true e)
   of_thrown_found e (BreaksThrown.covered h) = covered_found h
 
-  marked_found : {rule n : ℕ} → BreaksMarked m rule n → HasFault faults rule n
-  marked_found {n = n} (BreaksMarked.modifiers h) = found rule.Modifiers (length m.rows.now) (breaks_modifiers m) all.modifiers n (modified_row m n h) ((modifiers_told m n).1 h)
+  marked_found : {k n : ℕ} → BreaksMarked m k n → HasFault faults k n
+  marked_found (BreaksMarked.modifiers {d = d} h) = found rule.Modifiers (length m.rows.now) (breaks_modifiers m) all.modifiers d (modified_row m d h) ((modifiers_told m d).1 h)
 
   flow_found : (k n : ℕ) → BreaksFlow p t k n → HasFault faults k n
   flow_found = flow_said p t local (facts_in view) known (HasFault faults) (found rule.Unreachable (length p) (is_unreached p (reached p (facts_in view))) all.flow.unreached)
       (found rule.Completion (length p) (λ n. completes_wrongly (label p n) (courses p (facts_in view) n).own.completes) all.flow.completing)
 
-  broken_found : {rule n : ℕ} → has exact_rules rule ≡ true → IsBroken m p t rule n → HasFault faults rule n
-  broken_found e (IsBroken.by_types h) = ⊎_elim (⊎_elim (of_names_found e) (of_members_found e)) (of_types_found e) h
-  broken_found {rule} {n} e (IsBroken.by_flow h) = flow_found rule n h
-  broken_found e (IsBroken.by_exceptions h) = of_thrown_found e h
-  broken_found e (IsBroken.by_tokens h) = marked_found h
+  broken_found : (k n : ℕ) → has exact_rules k ≡ true → IsBroken m p t k n → HasFault faults k n
+  broken_found k n e (IsBroken.by_types h) = ⊎_elim (⊎_elim (of_names_found e) (of_members_found e)) (of_types_found e) h
+  broken_found k n e (IsBroken.by_flow h) = flow_found k n h
+  broken_found k n e (IsBroken.by_exceptions h) = of_thrown_found e h
+  broken_found k n e (IsBroken.by_tokens h) = marked_found h
 
   pub is_found : (k n : ℕ) → BreaksExact m p t k n → HasFault faults k n
-  is_found k n b = broken_found b.exact b.broken
+  is_found k n b = broken_found k n b.exact b.broken
 
   -- ---- a fault of an exact rule is at a row that breaks it
 

@@ -243,5 +243,5 @@ pub fn modifier_faults(marks: &Marks, out: &mut Vec<Fault>) -> Result<(), OutOfM
 
 /// The test of modifiers tells what the definition says.
 pub fn modifiers_are_told()
-    ensures told { (m : marks.Marks) (d : ℕ) → Decides (tell.breaks_modifiers m d) (tell.BreaksModifiers m d) }
+    ensures { (m : marks.Marks) (d : ℕ) → Decides (tell.breaks_modifiers m d) (tell.BreaksModifiers m d) }
 {}

@@ -1,5 +1,5 @@
 use Rattle.jr_front.proofs.Allowing.{modifiers_told}
 use Rattle.jr_front.proofs.modifiers.modifiers_are_told.Goals as goal
 
-pub returns-clause-told : goal.returns-clause-told
-returns-clause-told c = modifiers_told
+pub returns : goal.returns
+returns c = modifiers_told
