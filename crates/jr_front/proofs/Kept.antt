@@ -12,9 +12,8 @@ use Rattle.jr_defs.specs.MemberRules.{BreaksMembers}
 use Rattle.jr_defs.specs.Rules.{Breaks}
 use Rattle.jr_plain.specs.Conversions.{Constants}
 use Rattle.jr_plain.specs.Overloads.{Types}
-use Rattle.jr_plain.specs.Search.{has, all_such}
+use Rattle.jr_plain.specs.Search.{Finds, has, all_such}
 use Rattle.jr_plain.specs.Typing.{IsTypable}
-use Rattle.jr_plain.proofs.Bounds.{bounded}
 use Rattle.jr_plain.proofs.Searches.{such}
 use Rattle.jr_rule.specs.declared.Fault.{Fault}
 use Rattle.jr_rule.specs.declared.Rule.{Rule}
@@ -28,7 +27,9 @@ use Rattle.jr_member_rules.specs.Computed.{breaks_members}
 use Rattle.jr_member_rules.proofs.AllRules as of_members
 use Rattle.jr_rules.specs.Computed as typed
 use Rattle.jr_rules.specs.TypeRules.{BreaksTypes}
+use Rattle.jr_rules.specs.Typed.{Typed}
 use Rattle.jr_rules.proofs.AllRules.{breaks_types_tells}
+use Rattle.jr_rules.proofs.Known.{types_find}
 use Rattle.jr_rules.proofs.Bounded as of_types
 use Rattle.jr_reach.specs.Reached.{reached}
 use Rattle.jr_reach.specs.Statements.{courses}
@@ -41,9 +42,8 @@ use Rattle.jr_member_faults.specs.Tops.{has_top_type_clash}
 use Rattle.jr_member_faults.proofs.Told.{types_at}
 use Rattle.jr_flow_faults.specs.Computed.{facts, facts_in}
 use Rattle.jr_flow_faults.specs.Faults.{BreaksFlow, BreaksThrown}
-use Rattle.jr_flow_faults.specs.Exceptions.{IsCovered}
-use Rattle.jr_flow_faults.specs.ExceptionTests.{is_covered}
-use Rattle.jr_flow_faults.proofs.Covered.{covered_tells}
+use Rattle.jr_flow_faults.specs.ExceptionTests.{is_uncaught, is_unthrown, is_covered}
+use Rattle.jr_flow_faults.specs.Outwards.{completing}
 use Rattle.jr_flow_faults.specs.Known.{AreKnown}
 use Rattle.jr_flow_faults.proofs.Known.{facts_known}
 use Rattle.jr_type_facts.specs.Views.{rows_in, table_in, types_in, constants_in}
@@ -53,6 +53,7 @@ use Rattle.jr_front.specs.Modifiers.{BreaksMarked, breaks_modifiers}
 use Rattle.jr_front.specs.Tested.{IsTestableView, AreFaultsIn, HasNoTopFault}
 use Rattle.jr_front.proofs.Allowing.{modifiers_told, modified_row}
 use Rattle.jr_front.proofs.Flowing.{unreached_breaks, completing_breaks, flow_said, jump_said, lost_breaks}
+use Rattle.jr_front.proofs.Throwing.{uncaught_breaks, unthrown_breaks, covered_breaks, thrown_said}
 use Rattle.jr_front.proofs.Listed.{HasFault, passes, found}
 
 -- a row that passes is listed
@@ -163,13 +164,15 @@ module _ (m : Marks) (view : View) (testable : IsTestableView view) (local : IsL
   of_types_found e (BreaksTypes.jump {n = n} h) = let said = jump_said p t local (facts_in view) known n h in found rule.Jump (length p) (λ k. is_lost (label p k) (facts_in view) k) all.flow.jumps n said.0 said.1
   of_types_found e (BreaksTypes.branches h) = type_found rule.Branches refl (BreaksTypes.branches h)
 
-  covered_found : {n : ℕ} → IsCovered p t n → HasFault faults 43 n
-  covered_found {n} h = found rule.CoveredCatch (length p) (is_covered p t) all.covered n (bounded (λ l. l ≡ is.Catch) (λ e. absurd (cc)) p n h.catch.catch) ((covered_tells p t typable.headed n).1 h)
+  typed_so : (n : ℕ) → Finds (types_in view n) (λ a. Typed p t n a)
+  typed_so n = subst (λ (f : Types). Finds (f n) (λ a. Typed p t n a)) (sym types_are) (types_find p t typable n)
 
-  of_thrown_found : {rule n : ℕ} → has exact_rules rule ≡ true → BreaksThrown p t rule n → HasFault faults rule n
-  of_thrown_found e (BreaksThrown.uncaught a b h) = absurd (false≢true e)
-  of_thrown_found e (BreaksThrown.unthrown a b h) = absurd (false≢true e)
-  of_thrown_found e (BreaksThrown.covered h) = covered_found h
+  abbrev completes : ℕ → Bool
+  completes = completing (courses p (facts_in view))
+
+  thrown_found : (k n : ℕ) → BreaksThrown p t k n → HasFault faults k n
+  thrown_found = thrown_said p t local typable.headed (facts_in view) known (types_in view) typed_so (HasFault faults) (found rule.UncaughtException (length p) (is_uncaught p t (types_in view) completes) all.thrown.uncaught)
+      (found rule.UnthrownCatch (length p) (is_unthrown p t (types_in view) completes) all.thrown.unthrown) (found rule.CoveredCatch (length p) (is_covered p t) all.thrown.covered)
 
   marked_found : {k n : ℕ} → BreaksMarked m k n → HasFault faults k n
   marked_found (BreaksMarked.modifiers {d = d} h) = found rule.Modifiers (length m.rows.now) (breaks_modifiers m) all.modifiers d (modified_row m d h) ((modifiers_told m d).1 h)
@@ -181,7 +184,7 @@ module _ (m : Marks) (view : View) (testable : IsTestableView view) (local : IsL
   broken_found : (k n : ℕ) → has exact_rules k ≡ true → IsBroken m p t k n → HasFault faults k n
   broken_found k n e (IsBroken.by_types h) = ⊎_elim (⊎_elim (of_names_found e) (of_members_found e)) (of_types_found e) h
   broken_found k n e (IsBroken.by_flow h) = flow_found k n h
-  broken_found k n e (IsBroken.by_exceptions h) = of_thrown_found e h
+  broken_found k n e (IsBroken.by_exceptions h) = thrown_found k n h
   broken_found k n e (IsBroken.by_tokens h) = marked_found h
 
   pub is_found : (k n : ℕ) → BreaksExact m p t k n → HasFault faults k n
@@ -223,8 +226,16 @@ module _ (m : Marks) (view : View) (testable : IsTestableView view) (local : IsL
     completing_right fault inside e = IsBroken.by_flow (completing_breaks p t local (facts_in view) known fault.row
         (passes rule.Completion (length p) (λ k. completes_wrongly (label p k) (courses p (facts_in view) k).own.completes) all.flow.completing fault inside e))
 
+    uncaught_right : IsRight 41
+    uncaught_right fault inside e = IsBroken.by_exceptions (uncaught_breaks p t local typable.headed (facts_in view) known (types_in view) typed_so fault.row
+        (passes rule.UncaughtException (length p) (is_uncaught p t (types_in view) completes) all.thrown.uncaught fault inside e))
+
+    unthrown_right : IsRight 42
+    unthrown_right fault inside e = IsBroken.by_exceptions (unthrown_breaks p t local typable.headed (facts_in view) known (types_in view) typed_so fault.row
+        (passes rule.UnthrownCatch (length p) (is_unthrown p t (types_in view) completes) all.thrown.unthrown fault inside e))
+
     covered_right : IsRight 43
-    covered_right fault inside e = IsBroken.by_exceptions (BreaksThrown.covered ((covered_tells p t typable.headed fault.row).0 (passes rule.CoveredCatch (length p) (is_covered p t) all.covered fault inside e)))
+    covered_right fault inside e = IsBroken.by_exceptions (covered_breaks p t local typable.headed (facts_in view) known (types_in view) typed_so fault.row (passes rule.CoveredCatch (length p) (is_covered p t) all.thrown.covered fault inside e))
 
     marked_right : IsRight 1
     marked_right fault inside e = IsBroken.by_tokens (BreaksMarked.modifiers ((modifiers_told m fault.row).0 (passes rule.Modifiers (length m.rows.now) (breaks_modifiers m) all.modifiers fault inside e)))
@@ -262,6 +273,8 @@ module _ (m : Marks) (view : View) (testable : IsTestableView view) (local : IsL
     right_of rule.Branches e = type_right rule.Branches refl
     right_of rule.Unreachable e = unreached_right
     right_of rule.Completion e = completing_right
+    right_of rule.UncaughtException e = uncaught_right
+    right_of rule.UnthrownCatch e = unthrown_right
     right_of rule.CoveredCatch e = covered_right
     right_of rule.StaticImports e = named_right rule.StaticImports all.names.static_imports
     right_of _ e = absurd (false≢true e)

@@ -16,11 +16,13 @@ use Rattle.jr_defs.specs.Referents.{Table, entries}
 use Rattle.jr_plain.specs.Constants.{variable_value}
 use Rattle.jr_plain.specs.Conversions.{Constants}
 use Rattle.jr_plain.specs.Overloads.{Types}
-use Rattle.jr_plain.specs.Search.{has}
+use Rattle.jr_plain.specs.Search.{Finds, has}
 use Rattle.jr_plain.specs.Typing.{IsTypable, expression_types}
 use Rattle.jr_plain.proofs.Declared.{prelude_tells}
 use Rattle.jr_plain.proofs.Typables.{typable_from_lookup}
 use Rattle.jr_rules.specs.Computed.{values, types}
+use Rattle.jr_rules.specs.Typed.{Typed}
+use Rattle.jr_rules.proofs.Known.{types_find}
 use Rattle.jr_bound.proofs.Ruled.{bound_past}
 use Rattle.jr_dispatch.proofs.Having.{above_then}
 use Rattle.jr_constants.specs.Resting.{values_of, variables_of}
@@ -33,6 +35,8 @@ use Rattle.jr_type_facts.specs.Rounds.{HaveOneCall}
 use Rattle.jr_type_facts.specs.Tables.{HasNoOtherThrowable}
 use Rattle.jr_type_facts.proofs.CallRows.{one_call}
 use Rattle.jr_type_facts.specs.Views.{rows_in as rows_of, table_in as table_of, types_in, constants_in}
+use Rattle.jr_flow_faults.specs.Reading.{IsThrowingView}
+use Rattle.jr_flow_faults.specs.Roots.{HasOneOfEach}
 use Rattle.jr_rule.specs.declared.Fault.{Fault}
 use Rattle.jr_rule.specs.declared.Rule.{Rule}
 use Rattle.jr_rule.specs.Numbers.{number_of}
@@ -113,6 +117,23 @@ module _ (w : Workspace) (view : View) (bound : IsBoundIn w) (of : IsViewOf (row
     one_call_each : HaveOneCall (rows_in w)
     one_call_each = let is = bound.of.program in subst HaveOneCall (sym is.rows_are) (one_call is.units is.shaped)
 
+    one_of_each : HasOneOfEach (rows_in w)
+    one_of_each = let one = once (rows_in w) begins in record { throwable = one (codes "Throwable"); exception = one (codes "Exception"); error = one (codes "Error"); runtime = one (codes "RuntimeException") }
+
+    typable_so : IsTypable (rows_of view) (table_of view)
+    typable_so = seen_so IsTypable (typable w bound)
+
+    throwing_view : IsThrowingView view
+    throwing_view =
+        let right = seen_view w view bound of in
+        record {
+          local = right.seen.placed.local;
+          sized = right.sized;
+          above = right.seen.above;
+          typed = λ n. subst (λ (f : Types). Finds (f n) (λ a. Typed (rows_of view) (table_of view) n a)) (sym view_types) (types_find (rows_of view) (table_of view) typable_so n);
+          roots = subst HasOneOfEach (sym of.rows_are) one_of_each;
+        }
+
     pub testable_view : IsTestableView view
     testable_view =
         let right = seen_view w view bound of in
@@ -125,13 +146,11 @@ module _ (w : Workspace) (view : View) (bound : IsBoundIn w) (of : IsViewOf (row
           signed = (whole_view w view bound of).world_is.members_are.signatures_are;
           valued = view_variables;
           whole = record { sized = right.sized; whole = whole_view w view bound of };
+          throwing = throwing_view;
         }
 
     bound_so : IsBound (rows_of view) (table_of view)
     bound_so = seen_so IsBound bound.binding.binding.is_binding.bound
-
-    typable_so : IsTypable (rows_of view) (table_of view)
-    typable_so = seen_so IsTypable (typable w bound)
 
     past_so : (o : ℕ) → length (rows_of view) ≤ o → table_of view o ≡ Unbound
     past_so = seen_so (λ r x. (o : ℕ) → length r ≤ o → x o ≡ Unbound) (past w bound)

@@ -17,12 +17,12 @@ use Rattle.jr_member_faults.specs.Tops.{has_top_type_clash}
 use Rattle.jr_member_faults.specs.Views.{IsNamedWorld, IsSignedWorld, IsRightWorld, IsValuedView}
 use Rattle.jr_type_faults.specs.Faults.{IsRightView, AreExactTypeFaults}
 use Rattle.jr_flow_faults.specs.Computed.{rows_in, table_in}
-use Rattle.jr_flow_faults.specs.ExceptionTests.{covered_rows}
-use Rattle.jr_flow_faults.specs.Faults.{AreFlowFaults}
+use Rattle.jr_flow_faults.specs.Faults.{AreFlowFaults, AreThrowFaults}
+use Rattle.jr_flow_faults.specs.Reading.{IsThrowingView}
 use Rattle.jr_assign_faults.specs.Changed.{final_rows}
 use Rattle.jr_front.specs.Modifiers.{modifier_rows}
 
--- the places, supertypes, signatures and values of variables of the view are right
+-- the places, supertypes, signatures, types and values of variables of the view are right, and java.lang has one class of each name by which others are checked
 pub record IsTestableView (view : View) : Type 0 where
   pub right : IsRightView view
   pub placed : names.IsPlacedView view
@@ -32,6 +32,7 @@ pub record IsTestableView (view : View) : Type 0 where
   pub signed : IsSignedWorld view.sight.world
   pub valued : IsValuedView view
   pub whole : IsRightWorld view.sight.world
+  pub throwing : IsThrowingView view
 
 -- ---- the rules of a list of faults
 
@@ -74,4 +75,4 @@ pub record AreFaultsIn (m : Marks) (view : View) (faults : List Fault) : Type 0 
   pub members : AreMemberFaults view [] faults
   pub types : AreExactTypeFaults view [] faults
   pub flow : AreFlowFaults view [] faults
-  pub covered : AreFaultsOf rule.CoveredCatch (covered_rows (rows_in view) (table_in view)) [] faults
+  pub thrown : AreThrowFaults view [] faults
