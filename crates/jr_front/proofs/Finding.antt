@@ -121,7 +121,11 @@ module _ {m : Marks} {view : View} {a b c d e f : List Fault} (added : AreAdded 
       methods = λ named signed. of_members rule.MethodSignatures refl (added.members.methods named signed);
       constructors = λ signed. of_members rule.ConstructorSignatures refl (added.members.constructors signed);
       types = λ named. of_members rule.TypeNames refl (added.members.types named);
+      results = λ whole. of_members rule.Results refl (added.members.results whole);
+      access = λ whole. of_members rule.NarrowedAccess refl (added.members.access whole);
+      mixed = λ whole. of_members rule.StaticOverride refl (added.members.mixed whole);
       finals = λ whole. of_members rule.FinalOverride refl (added.members.finals whole);
+      throws = λ whole. of_members rule.OverrideThrows refl (added.members.throws whole);
     };
     types = record { each = λ one is. of_types one (among_holds (λ other. is_no_type other ≡ false) exact_rules one types_apart is) ((added.types testable.right).each one is) };
     flow = let told = added.flow testable.right.seen.seen.placed.local in record {
