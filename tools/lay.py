@@ -79,7 +79,7 @@ def main():
         missing = lay(rt, names)
         if not missing or not waits:
             break
-        time.sleep(10)
+        time.sleep(30)
     if missing:
         print('not kept yet:', ' '.join(missing))
     return 1 if missing else 0

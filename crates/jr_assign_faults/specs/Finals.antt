@@ -42,3 +42,7 @@ pub data BreaksAssignment (p : Rows) (t : Table) : ℕ → ℕ → Type 0 where
 -- the law: each row that breaks the rule is found
 abbrev pub EachFinalIsFound : Type 0
 EachFinalIsFound = (p : Rows) (t : Table) → IsLocal p → (rule n : ℕ) → BreaksAssignment p t rule n → has (final_rows p t) n ≡ true
+
+-- and each that is found breaks it
+abbrev pub EachFoundFinalBreaks : Type 0
+EachFoundFinalBreaks = (p : Rows) (t : Table) → IsLocal p → (n : ℕ) → has (final_rows p t) n ≡ true → BreaksAssignment p t 39 n

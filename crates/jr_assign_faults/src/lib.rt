@@ -2,11 +2,13 @@
 #![tactic(auto)]
 
 ghost use Rattle.std.specs.Prelude.{◌<◌, ◌^◌, OnOk, length};
+ghost use Rattle.jr_tree.specs.Local.{IsLocal};
 ghost use Rattle.jr_rule.specs.declared.Rule.TheVariants as rule;
 ghost use Rattle.jr_rule.specs.Faults.{AreFaultsOf};
 ghost use Rattle.jr_faults.specs.Added.{AreOnly};
 ghost use Rattle.jr_assign.specs.Changes.{is_of_courses, is_of_assignment};
 ghost use Rattle.jr_assign_faults.specs.Changed.{rows_in, table_in, final_rows};
+ghost use Rattle.jr_assign_faults.specs.Faults.{AreExactFaults};
 
 mod changed;
 mod facts;
@@ -37,8 +39,7 @@ fn course_faults(
     assignment_faults(alloc, rows, &facts, faults)
 }
 
-/// Adds the locals that are read and not assigned, the finals that are changed, and the blank final fields that are not assigned at an end.
-pub fn assign_faults(alloc: Global, view: &View, faults: &mut Vec<Fault>) -> Result<(), OutOfMemory>
+fn all_faults(alloc: Global, view: &View, faults: &mut Vec<Fault>) -> Result<(), OutOfMemory>
     ensures changed { OnOk result (AreFaultsOf rule.FinalAssignment (final_rows (rows_in view.now) (table_in view.now)) faults.old.items faults.new.items) }
     ensures only { OnOk result (AreOnly is_of_assignment faults.old.items faults.new.items) }
 {
@@ -49,4 +50,14 @@ pub fn assign_faults(alloc: Global, view: &View, faults: &mut Vec<Fault>) -> Res
     final_faults(alloc, view, count, faults)?;
     course_faults(alloc, view, rows, faults)?;
     Ok(())
+}
+
+/// Adds the locals that are read and not assigned, the finals that are changed, and the blank final fields that are not assigned at an end.
+/// Of the finals these are just the rows that break the rule.
+pub fn assign_faults(alloc: Global, view: &View, faults: &mut Vec<Fault>) -> Result<(), OutOfMemory>
+    ensures changed { OnOk result (AreFaultsOf rule.FinalAssignment (final_rows (rows_in view.now) (table_in view.now)) faults.old.items faults.new.items) }
+    ensures finals { IsLocal (rows_in view.now) → OnOk result (AreExactFaults view.now rule.FinalAssignment faults.old.items faults.new.items) }
+    ensures only { OnOk result (AreOnly is_of_assignment faults.old.items faults.new.items) }
+{
+    all_faults(alloc, view, faults)
 }

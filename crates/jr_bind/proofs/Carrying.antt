@@ -28,6 +28,7 @@ use Rattle.jr_members.specs.declared.members.Members.{Members}
 use Rattle.jr_members.specs.declared.named.Named.{Named}
 use Rattle.jr_members.specs.Held.{Holds, IsHeldAs}
 use Rattle.jr_members.specs.Sources.{AreSeen, AreNamed}
+use Rattle.jr_members.proofs.Nearing.{near_over}
 use Rattle.jr_members.specs.Worlds.{AreMembersOf}
 
 module _ (p : Rows) (formed : IsFormed p) (t u : Table) (types : SameTypes p t u) where
@@ -159,6 +160,7 @@ module _ (p : Rows) (formed : IsFormed p) (t u : Table) (types : SameTypes p t u
       whole = λ c x e d k. h.all.whole c x e d (held_over p formed u t (turned_types p t u types) kind c x d k);
       once = h.all.once;
     };
+    near = near_over p t u kind named.lists named.nearest (λ c x d k. held_over p formed t u types kind c x d k) (λ c x d k. held_over p formed u t (turned_types p t u types) kind c x d k) h.near;
     done = λ c. record {
       own = (h.done c).own;
       held = λ x d k. ⊎_elim (λ e. inl e) (λ q. inr (q.0, q.1, held_over p formed t u types kind q.0 x d q.2, q.3, q.4))

@@ -1,29 +1,23 @@
 -- A table that lookup under itself confirms is the binding of its rows.
-use Rattle.std.proofs.Common.{◌≡◌, refl, sym, ◌∙◌, ap, subst, ⊎_elim, ℕ, ◌+◌, ◌<◌, ◌≤◌, ◌^◌, true, List, length, Option, Decides}
+use Rattle.std.proofs.Common.{◌≡◌, refl, sym, ◌∙◌, subst, ⊎_elim, arith, ℕ, ◌+◌, ◌<◌, ◌≤◌, ◌^◌, true, List, length, Option, Decides}
 use Rattle.std.proofs.lemmas.Bool.{cases_lt, false≢true}
 use Rattle.std.proofs.lemmas.List.{get_or_past}
 use Rattle.jr_tree.specs.declared.label.Label.{Label}
 use Rattle.jr_tree.specs.declared.label.Label.TheVariants as is
-use Rattle.jr_tree.specs.declared.label.Sought.TheVariants as sought
-use Rattle.jr_tree.specs.Rows.{Rows, label, name}
-use Rattle.jr_tree.specs.Labels.{sought_by}
+use Rattle.jr_tree.specs.Rows.{Rows, label}
 use Rattle.jr_defs.specs.declared.referent.Referent.{Referent}
 use Rattle.jr_defs.specs.declared.referent.Referent.TheVariants.{Unbound, ArrayLength, Package, Declared}
 use Rattle.jr_defs.specs.declared.referent.RowType.{RowType}
 use Rattle.jr_defs.specs.Referents.{Table, entries}
-use Rattle.jr_defs.specs.Binding.{IsBound}
 use Rattle.jr_defs.specs.Constants.{HasConstantForm, ConstantOf}
 use Rattle.jr_defs.specs.Declarations.{IsType, IsVariable}
-use Rattle.jr_defs.specs.Lookup.{Look, LookFor}
 use Rattle.jr_defs.specs.Supertypes.{Above}
 use Rattle.jr_defs.specs.Typing.{TypeOf}
 use Rattle.jr_plain.specs.Conversions.{Constants}
 use Rattle.jr_plain.specs.Search.{Finds, all_below}
 use Rattle.jr_plain.specs.Typing.{IsTypable, IsVariableLabel}
-use Rattle.jr_plain.proofs.Bounds.{label_past}
 use Rattle.jr_plain.proofs.Declared.{type_tells, variable_tells}
 use Rattle.jr_plain.proofs.Expressions.{expression_finds}
-use Rattle.jr_plain.proofs.LookedUp.{look_for_is}
 use Rattle.jr_plain.proofs.Searches.{all}
 use Rattle.jr_plain.proofs.Tests.{itself, both, implies}
 use Rattle.jr_plain.proofs.Valued.{form_constants_find}
@@ -43,7 +37,8 @@ use Rattle.jr_headed.proofs.Headed.{well_headed}
 use Rattle.jr_constants.specs.declared.constants.Constants as code
 use Rattle.jr_constants.specs.Resting.{values_of}
 use Rattle.jr_lookup.specs.Behind.{IsTypeLabel, RefersByNames, type_in}
-use Rattle.jr_bind.specs.Confirmed.{rows_of, table_of, is_type_label, is_variable_label, may_refer_to, may_refer, may_refer_at, IsBoundAt, CanLookTo, CanConfirm, IsProgramOf, IsBindingUnder, AreTables}
+use Rattle.jr_bind.specs.Confirmed.{rows_of, table_of, is_type_label, is_variable_label, may_refer_to, may_refer, may_refer_at, CanLookTo, CanConfirm, AreTypesBound, CanSeeTo, CanConfirmTypes, IsProgramOf, IsBindingUnder, AreTables}
+use Rattle.jr_bind.specs.Naming.{AreSetting, IsBoundByTypes}
 use Rattle.jr_bind.specs.Ranked.{AllSettled}
 use Rattle.jr_bind.specs.Exact.{IsProgramIn, AreUnder}
 
@@ -134,14 +129,6 @@ module _ (constant : Constants) (sight : Sight) (types : List (Option RowType)) 
     typed = λ m le. typed m;
   }
 
-  look_past : (n : ℕ) → length p ≤ n → IsBoundAt sight n
-  look_past n le = subst (λ a. Look p u (HasConstantForm p u) n a) (sym (unbound_past p sight.world.under.table.now size may n le))
-      (subst (λ s. LookFor p u (HasConstantForm p u) n (name p n) s Unbound) (sym (ap sought_by (label_past p n le)))
-      (look_for_is p u typable.headed (HasConstantForm p u) (type_in types) typed n (name p n) sought.Nothing))
-
-  pub all_bound : ((n : ℕ) → n < length p → IsBoundAt sight n) → IsBound p u
-  all_bound each n = ⊎_elim (λ lt. each n lt) (λ le. look_past n le) (cases_lt n (length p))
-
 -- ---- programs
 
 module _ (p : Rows) (places : Places) (scopes : Scopes) (of : IsProgramOf p places scopes) (well : AreWell p) where
@@ -182,7 +169,7 @@ module _ (sight : Sight) (found : code.Constants) (types : List (Option RowType)
         world = record { seen = under.seen; members_are = under.members_are; class = under.class };
         scopes = of.scopes_are inside_program.placed;
         tops = of.tops_are inside_program.placed;
-        imports = tables.imports_are inside_program.placed;
+        imports = tables.imports_are inside_program;
         seen = record { same = λ i is. refl };
         lang = of.lang;
       };
@@ -195,5 +182,26 @@ module _ (sight : Sight) (found : code.Constants) (types : List (Option RowType)
       types_are = under.types_are;
     }
 
-    pub binding_under : IsBound rows (table_of sight) → AllSettled rows (table_of sight) → IsBindingUnder rows (table_of sight) sight.world.under.places.now sight.world.supers.now sight.world.members.now found types
-    binding_under bound settled = record { well = well; acyclic = acyclic; is_binding = record { settled = settled; bound = bound }; under = under }
+    pub can_confirm_types : CanConfirmTypes sight
+    can_confirm_types = record { sight_is = can_confirm.sight_is; placed = can_confirm.placed }
+
+    setting : length rows + 3 < 2 ^ 32 → AreSetting rows sight.world.under.places.now sight.scopes.now
+    setting few = record {
+      lookable = record { few = few; sized = well.sized; bare = inside_program.bare; locals = can_confirm.placed; lang = of.lang };
+      scopes_are = of.scopes_are inside_program.placed;
+      tops = of.tops_are inside_program.placed;
+      one_string = of.one_string;
+    }
+
+    pub binding_under : length rows + 3 < 2 ^ 32 → IsBoundByTypes rows sight.world.under.places.now sight.scopes.now (table_of sight) → AreTypesBound sight → AllSettled rows (table_of sight)
+        → IsBindingUnder rows (table_of sight) sight.world.under.places.now sight.world.supers.now sight.world.members.now found types
+    binding_under few by_types bound settled = record {
+      well = well;
+      acyclic = acyclic;
+      is_binding = record { settled = settled; bound = by_types (setting few) inside_program acyclic bound };
+      under = under;
+    }
+
+-- what lookup sees at a row
+pub can_see_to : (sight : Sight) (end : ℕ) → CanConfirmTypes sight → end ≤ length sight.world.under.rows.now → CanSeeTo sight end
+can_see_to sight end can le n lt = record { sight_is = can.sight_is; placed = can.placed; inside = omega (arith, le, lt); same = refl }

@@ -1,7 +1,7 @@
 -- Rows of a stage are looked up one by one, and the types of rows from the last one back.
-use Rattle.std.proofs.Common.{◌≡◌, refl, sym, ◌∙◌, ap, subst, arith, ℕ, ◌+◌, ◌≤◌, ◌<◌, ◌^◌, ℤ, false, List, ◌++◌, take, drop, length, Option, Some, None, slice_get, slice_index_or, slice_set, replicate, Result, Ok, Err, IfOk, OnOk}
-use Rattle.std.proofs.lemmas.Bool.{false≢true}
-use Rattle.std.proofs.lemmas.List.{append-nil, drop_all, take_all, get_or-set_other, length-set, length-replicate}
+use Rattle.std.proofs.Common.{◌≡◌, refl, sym, ◌∙◌, ap, subst, inl, inr, ⊎_elim, arith, ℕ, ◌+◌, ◌≤◌, ◌<◌, ◌^◌, ℤ, false, List, ◌++◌, take, drop, length, Option, Some, None, slice_get, slice_index_or, slice_set, replicate, Result, Ok, Err, IfOk, OnOk}
+use Rattle.std.proofs.lemmas.Bool.{false≢true, cases_lt}
+use Rattle.std.proofs.lemmas.List.{append-nil, drop_all, take_all, get_or_past, get_or-replicate, get_or-set_other, length-set, length-replicate}
 use Rattle.jr_tree.specs.declared.label.NameKind.{NameKind}
 use Rattle.jr_tree.specs.declared.label.NameKind.TheVariants as kind
 use Rattle.jr_tree.specs.declared.label.Sought.{Sought}
@@ -35,6 +35,15 @@ pub on_any : {A E : Type 0} (result : Result A E) (P : Type 0) → P → OnOk re
 on_any (Ok x) P h = h
 on_any (Err e) P h = tt
 
+-- two facts of one result
+pub both_ok : {A E : Type 0} (result : Result A E) (P Q R : A → Type 0) → ((x : A) → P x → Q x → R x) → IfOk result P → IfOk result Q → IfOk result R
+both_ok (Ok x) P Q R f a b = f x a b
+both_ok (Err e) P Q R f a b = tt
+
+pub ok_swap : {A E : Type 0} (result : Result A E) (X : Type 0) (P : A → Type 0) → (X → IfOk result P) → IfOk result (λ x. X → P x)
+ok_swap (Ok x) X P f = f
+ok_swap (Err e) X P f = tt
+
 pub box_has : {A E : Type 0} (made : Result A E) (x : A) (P : A → Type 0) → made ≡ Ok x → IfOk made P → P x
 box_has made x P e h = subst (λ r. IfOk r P) e h
 
@@ -57,20 +66,24 @@ seeks_not _ e = λ h. h
 -- ---- rows of a stage
 
 pub rest_same : (f : code.Filling) → KeepsRest f f
-rest_same f = record { types_size = refl; ints_are = refl; string_is = refl }
+rest_same f = record { table_size = refl; types_size = refl; ints_are = refl; string_is = refl }
 
 pub rest_then : (f g h : code.Filling) → KeepsRest f g → KeepsRest g h → KeepsRest f h
-rest_then f g h a b = record { types_size = b.types_size ∙ a.types_size; ints_are = b.ints_are ∙ a.ints_are; string_is = b.string_is ∙ a.string_is }
+rest_then f g h a b = record { table_size = b.table_size ∙ a.table_size; types_size = b.types_size ∙ a.types_size; ints_are = b.ints_are ∙ a.ints_are; string_is = b.string_is ∙ a.string_is }
 
 -- one type is set
-pub set_rest : (old new : code.Filling) (n : ℕ) (a : Option RowType) → new.types.items ≡ slice_set old.types.items n a → new.ints ≡ old.ints → new.string ≡ old.string → KeepsRest old new
-set_rest old new n a e ints string = record { types_size = ap length e ∙ length-set old.types.items n a; ints_are = ap (λ v. v.items) ints; string_is = string }
+pub set_rest : (old new : code.Filling) (n : ℕ) (a : Option RowType) → new.types.items ≡ slice_set old.types.items n a → new.table ≡ old.table → new.ints ≡ old.ints → new.string ≡ old.string → KeepsRest old new
+set_rest old new n a e table ints string = record { table_size = ap (λ v. length v.items) table; types_size = ap length e ∙ length-set old.types.items n a; ints_are = ap (λ v. v.items) ints; string_is = string }
+
+none_at : {A : Type 0} (n k : ℕ) → slice_index_or (replicate {A = Option A} n None) k None ≡ None
+none_at {A} n k = let size : length (replicate {A = Option A} n None) ≡ n = length-replicate n None in ⊎_elim (λ lt. get_or-replicate n k None None lt) (λ le. get_or_past (replicate {A = Option A} n None) k None (omega arith)) (cases_lt k n)
 
 -- no types and no ints yet
 pub ready_new : (p : Rows) (filling : code.Filling) → filling.types.items ≡ replicate (length p) None → filling.ints.items ≡ replicate (length p) None → (length p < 2 ^ 32 → filling.string ≡ string_row p) → IsReady p filling
 ready_new p filling e f string = record {
   types_size = ap length e ∙ length-replicate (length p) None;
   ints_size = ap length f ∙ length-replicate (length p) None;
+  no_ints = λ k. ap (λ all. slice_index_or all k None) f ∙ none_at (length p) k;
   string_is = string;
 }
 
@@ -78,20 +91,22 @@ pub ready_then : (p : Rows) (old new : code.Filling) → IsReady p old → Keeps
 ready_then p old new ready rest = record {
   types_size = rest.types_size ∙ ready.types_size;
   ints_size = ap length rest.ints_are ∙ ready.ints_size;
+  no_ints = λ k. ap (λ all. slice_index_or all k None) rest.ints_are ∙ ready.no_ints k;
   string_is = λ few. rest.string_is ∙ ready.string_is few;
 }
 
 module _ (stages : List Stage) (stage : Stage) where
   -- a row of another stage
   pub row_passed : (n : ℕ) (f : code.Filling) → FillsRow stages stage n f f
-  row_passed n f = record { others = λ m h. refl; types_are = refl; rest = rest_same f }
+  row_passed n f = record { others = λ m h. refl; row = inr refl; types_are = refl; rest = rest_same f }
 
   pub row_filled : (n : ℕ) (old new : code.Filling) (found : Referent) → slice_get stages n ≡ Some stage → new.table.items ≡ slice_set old.table.items n found → new.types ≡ old.types → new.ints ≡ old.ints
       → new.string ≡ old.string → FillsRow stages stage n old new
   row_filled n old new found of set types ints string = record {
     others = λ m h. ap (λ all. entries all m) set ∙ get_or-set_other old.table.items n m _ Unbound (λ e. h (subst (λ k. slice_get stages k ≡ Some stage) (sym e) of) e);
+    row = inl of;
     types_are = ap (λ v. v.items) types;
-    rest = record { types_size = ap (λ v. length v.items) types; ints_are = ap (λ v. v.items) ints; string_is = string };
+    rest = record { table_size = ap length set ∙ length-set old.table.items n found; types_size = ap (λ v. length v.items) types; ints_are = ap (λ v. v.items) ints; string_is = string };
   }
 
   pub rows_start : (f : code.Filling) → FillsRows stages stage f f

@@ -1,6 +1,6 @@
 -- The stages of rows, one by one.
-use Rattle.std.proofs.Common.{◌≡◌, refl, sym, ◌∙◌, ap, subst, arith, ⊎_elim, ℕ, zero, suc, ◌+◌, List, [], ◌∷◌, ◌++◌, length, length-append, Some, slice_get}
-use Rattle.std.proofs.lemmas.Bool.{cases_eq}
+use Rattle.std.proofs.Common.{◌≡◌, refl, sym, ◌∙◌, ap, subst, arith, ⊎_elim, ℕ, Bool, true, false, zero, suc, ◌+◌, List, [], ◌∷◌, ◌++◌, length, length-append, Some, slice_get}
+use Rattle.std.proofs.lemmas.Bool.{false≢true, cases_eq}
 use Rattle.std.proofs.lemmas.Option.{none-some, same_Some}
 use Rattle.jr_tree.specs.Rows.{Rows}
 use Rattle.jr_bind.specs.declared.stages.Stage.{Stage}
@@ -28,3 +28,7 @@ late_next p stages next n x so e late = (
       let is : x ≡ s = same_Some x s (sym (last_one stages x) ∙ here) in subst (λ k. IsLateAt p k s) (sym (same ∙ so.0)) (subst (IsLateAt p n) is late))
       (λ apart. so.1 m s (one_more stages x m s (sym (ap (λ all. slice_get all m) e) ∙ at) apart)) (cases_eq m (length stages)),
 )
+
+pub no_header : (ends is_in : Bool) → (ends ≡ true → is_in ≡ true) → is_in ≡ false → ends ≡ false
+no_header true is_in h e = absurd (false≢true (sym e ∙ h refl))
+no_header false is_in h e = refl

@@ -16,3 +16,9 @@ pub mod FirstOnCycle
 pub mod RowByRow
 pub mod Sighted
 pub mod Locked
+pub mod Referring
+pub mod Knowing
+pub mod Dotting
+pub mod Turning
+pub mod Final
+pub mod Clearing

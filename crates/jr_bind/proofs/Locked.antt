@@ -33,6 +33,7 @@ use Rattle.jr_bind.specs.declared.rebinding.Rebound.{Rebound}
 use Rattle.jr_bind.specs.Confirmed.{rows_of, table_of, CanLookTo, IsProgramOf, IsBindingUnder, AreTables, AreTablesOf, IsBindingOf}
 use Rattle.jr_bind.specs.Exact.{IsExact}
 use Rattle.jr_bind.specs.Rebound.{IsSameTarget, HasLock, IsRebound, rebound_of, AreRebound, AreLocks, seeks, IsReboundAt, one_if, AreReboundTo, Parts, parts_of, parts_by, IsLocked, IsLockedBy}
+use Rattle.jr_bind.specs.Naming.{IsBoundByTypes}
 use Rattle.jr_bind.proofs.Confirmed.{program_in, can_confirm, can_look}
 use Rattle.jr_bind.proofs.Lateness.{one_more, last_one}
 
@@ -156,11 +157,14 @@ module _ (setting : Setting) (bound : Bound) (sight : Sight) (types : List (Opti
       → AreTables (rows_of sight) (table_of sight) sight.world.under.places.now sight.world.supers.now sight.world.members.now sight.imports.now found types
   tables_seen = to_sight (λ all types. AreTables all.rows (entries all.table) all.places all.supers all.members all.imports found types)
 
+  pub types_seen : IsBoundByTypes setting.rows.now setting.places.now setting.scopes.now (entries bound.table.items) → IsBoundByTypes (rows_of sight) sight.world.under.places.now sight.scopes.now (table_of sight)
+  types_seen = to_sight (λ all types. IsBoundByTypes all.rows all.places all.scopes (entries all.table))
+
   pub binding_seen : AreTablesOf setting.rows.now setting.places.now bound → IsProgramOf setting.rows.now setting.places.now setting.scopes.now
       → IsBindingUnder (rows_of sight) (table_of sight) sight.world.under.places.now sight.world.supers.now sight.world.members.now found types → IsBindingOf setting.rows.now setting.places.now bound
   binding_seen tables of h = let binding = from_sight (λ all types. IsBindingUnder all.rows (entries all.table) all.places all.supers all.members found types) h in record {
     binding = binding;
-    imports_are = tables.imports_are (program_in setting.rows.now setting.places.now setting.scopes.now of binding.well).placed;
+    imports_are = tables.imports_are (program_in setting.rows.now setting.places.now setting.scopes.now of binding.well);
   }
 
   -- under locks
@@ -195,5 +199,5 @@ locked_by setting bound locks e of well are acyclic imports exact = record {
   few = well.1;
   locks = subst (AreLocks setting.rows.now) (sym e) are;
   acyclic = acyclic;
-  tables = record { direct = λ program. (exact program acyclic).seen.above.direct; imports_are = imports; under = exact };
+  tables = record { direct = λ program. (exact program acyclic).seen.above.direct; imports_are = λ program. imports program.placed; under = exact };
 }

@@ -19,8 +19,10 @@ use Rattle.jr_supers.specs.Direct.{HasSupers}
 use Rattle.jr_supers.specs.Supers.{IsWellHeaded, HasNoCycle, AreSupersOf}
 use Rattle.jr_supers.specs.Tabled.{IsSized}
 use Rattle.jr_members.specs.declared.members.Members.{Members}
-use Rattle.jr_members.specs.Sources.{AreSeen}
+use Rattle.jr_members.specs.Sources.{ArePlaced, AreSeen}
 use Rattle.jr_members.specs.Worlds.{AreMembersOf}
+use Rattle.jr_lookup.specs.declared.imports.Imports.{Imports}
+use Rattle.jr_lookup.specs.Imports.{AreImports}
 use Rattle.jr_constants.specs.declared.constants.Constants as code
 use Rattle.jr_constants.specs.Resting.{values_of}
 use Rattle.jr_types.specs.Typed.{CanType, AreTypes, string_row}
@@ -33,6 +35,7 @@ use Rattle.jr_bind.specs.Exact.{IsProgramIn, AreFormed, AreUnder}
 use Rattle.jr_bind.specs.Naming.{FillsNames}
 use Rattle.jr_bind.proofs.Carrying.{direct_over, seen_over, members_over, acyclic_back}
 use Rattle.jr_bind.proofs.Keeping.{seeks_not, agree}
+use Rattle.jr_bind.proofs.Knowing.{imports_over}
 use Rattle.jr_bind.proofs.Constant.{constants_under, constants_over, ints_known}
 
 is_no_name : (l : Label) → is_name l ≡ false → IsNameLabel l → ⊥
@@ -44,7 +47,7 @@ program_formed p places h = formed p h.placed.local h.bare
 
 -- the rows of both stages seek no types
 pub names_late : (p : Rows) (stages : List Stage) → AreLate p stages → SeeksNoType p stages stage.Name
-names_late p stages late n of = seeks_not (sought_at p n) (late.1 n stage.Name of)
+names_late p stages late n of = seeks_not (sought_at p n) (late.1 n stage.Name of).0
 
 pub others_late : (p : Rows) (stages : List Stage) → AreLate p stages → SeeksNoType p stages stage.Other
 others_late p stages late n of = seeks_not (sought_at p n) (late.1 n stage.Other of).0
@@ -126,6 +129,13 @@ direct_read p places supers these first last found read e supers_are names progr
     let same : SameTypes p (table_of first) (table_of last) = record { at = (names program).same.at } in
     direct_over p (program_formed p places program) (table_of first) (table_of last) same supers.direct.supers
     (subst (λ all. HasSupers p (entries all) supers.direct.supers) e (supers_are program.well))
+
+-- and what imports bring
+pub imports_read : (p : Rows) (places : Places) (these : Supers) (imports : Imports) (first last : filling.Filling) (found : code.Constants) (read : List Referent) → read ≡ first.table.items
+    → (ArePlaced p places → AreImports p (entries read) imports) → (IsProgramIn p places → FillsNames p places these first last found) → IsProgramIn p places → AreImports p (table_of last) imports
+imports_read p places these imports first last found read e imports_are names program =
+    let same : SameTypes p (table_of first) (table_of last) = record { at = (names program).same.at } in
+    imports_over p (table_of first) (table_of last) (program_formed p places program) same imports (subst (λ all. AreImports p (entries all) imports) e (imports_are program.placed))
 
 -- all under one table
 pub under_exact : (p : Rows) (t : Table) (places : Places) (supers : Supers) (members : Members) (found : code.Constants) (types : List (Option RowType)) (ints : List (Option ℤ)) (string : Option ℕ)

@@ -1,8 +1,8 @@
 -- When the table of a program is its binding: each row refers to what lookup gives there under the table itself (JLS 6.5).
-use Rattle.std.specs.Prelude.{◌≡◌, ℕ, ◌<◌, Bool, true, false, not, ◌&&◌, ◌||◌, List, Option}
+use Rattle.std.specs.Prelude.{◌≡◌, ℕ, ◌<◌, Bool, true, false, not, ◌&&◌, ◌||◌, List, length, Option}
 use Rattle.jr_tree.specs.declared.label.Label.{Label}
 use Rattle.jr_tree.specs.declared.label.Label.TheVariants as is
-use Rattle.jr_tree.specs.Rows.{Rows, label}
+use Rattle.jr_tree.specs.Rows.{Rows, label, sought_at}
 use Rattle.jr_defs.specs.declared.referent.Referent.{Referent}
 use Rattle.jr_defs.specs.declared.referent.Referent.TheVariants.{ArrayLength, Package, Declared}
 use Rattle.jr_defs.specs.declared.referent.RowType.{RowType}
@@ -32,6 +32,7 @@ use Rattle.jr_lookup.specs.declared.imports.Imports.{Imports}
 use Rattle.jr_lookup.specs.declared.scopes.Scopes.{Scopes}
 use Rattle.jr_lookup.specs.declared.simple.Sight.{Sight}
 use Rattle.jr_lookup.specs.Behind.{CanLook}
+use Rattle.jr_lookup.specs.Calls.{CanSee}
 use Rattle.jr_lookup.specs.Imports.{AreImports}
 use Rattle.jr_lookup.specs.Locals.{AreLocalsPlaced}
 use Rattle.jr_lookup.specs.Scopes.{AreScopes, AreTops}
@@ -40,6 +41,7 @@ use Rattle.jr_headed.specs.Founded.{IsProgram, AreWell}
 use Rattle.jr_bind.specs.declared.binder.Binding.{Binding}
 use Rattle.jr_bind.specs.declared.binder.Binding.TheVariants as found
 use Rattle.jr_bind.specs.declared.binder.Bound.{Bound}
+use Rattle.jr_bind.specs.Late.{seeks_type}
 use Rattle.jr_bind.specs.Exact.{IsProgramIn, AreUnder}
 
 abbrev pub rows_of : Sight → Rows
@@ -82,6 +84,23 @@ may_refer_at p t n = may_refer p (label p n) (t n)
 abbrev pub IsBoundAt : Sight → ℕ → Type 0
 IsBoundAt sight n = Look (rows_of sight) (table_of sight) (HasConstantForm (rows_of sight) (table_of sight)) n (table_of sight n)
 
+-- so it is if the row seeks a type
+abbrev pub IsTypeBoundAt : Sight → ℕ → Type 0
+IsTypeBoundAt sight n = seeks_type (sought_at (rows_of sight) n) ≡ true → IsBoundAt sight n
+
+-- and at all rows
+abbrev pub AreTypesBound : Sight → Type 0
+AreTypesBound sight = (n : ℕ) → n < length (rows_of sight) → IsTypeBoundAt sight n
+
+-- lookup sees at these rows what the table says
+abbrev pub CanSeeTo : Sight → ℕ → Type 0
+CanSeeTo sight bound = (n : ℕ) → n < bound → CanSee (table_of sight) sight n
+
+-- the program with its supertypes, members and imports under its table
+pub record CanConfirmTypes (sight : Sight) : Type 0 where
+  pub sight_is : IsSight (table_of sight) sight
+  pub placed : AreLocalsPlaced (rows_of sight)
+
 -- lookup reads at these rows what the table says
 abbrev pub CanLookTo : Sight → List (Option RowType) → ℕ → Type 0
 CanLookTo sight types bound = (n : ℕ) → n < bound → CanLook (table_of sight) sight types n
@@ -118,7 +137,7 @@ pub record IsBindingUnder (p : Rows) (t : Table) (places : Places) (supers : Sup
 -- what tables under a table of names give where no type is above itself, and whatever is on a cycle
 pub record AreTables (p : Rows) (t : Table) (places : Places) (supers : Supers) (members : Members) (imports : Imports) (found : code.Constants) (types : List (Option RowType)) : Type 0 where
   pub direct : IsProgramIn p places → HasSupers p t supers.direct.supers
-  pub imports_are : ArePlaced p places → AreImports p t imports
+  pub imports_are : IsProgramIn p places → AreImports p t imports
   pub under : IsProgramIn p places → HasNoCycle p t → AreUnder p t places supers members found types
 
 -- those of a bound program

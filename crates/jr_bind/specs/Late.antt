@@ -1,5 +1,5 @@
--- The stages in which no name of a type is looked up.
-use Rattle.std.specs.Prelude.{◌≡◌, ℕ, Bool, true, false, List, length, Some, slice_get, ⊤}
+-- The stages of rows, by what they seek.
+use Rattle.std.specs.Prelude.{◌≡◌, ℕ, Bool, true, false, List, length, Some, is_some, slice_get}
 use Rattle.jr_tree.specs.declared.label.Label.{Label}
 use Rattle.jr_tree.specs.declared.label.Label.TheVariants as is
 use Rattle.jr_tree.specs.declared.label.NameKind.{NameKind}
@@ -7,6 +7,7 @@ use Rattle.jr_tree.specs.declared.label.NameKind.TheVariants as kind
 use Rattle.jr_tree.specs.declared.label.Sought.{Sought}
 use Rattle.jr_tree.specs.declared.label.Sought.TheVariants as sought
 use Rattle.jr_tree.specs.Rows.{Rows, label, sought_at}
+use Rattle.jr_supers.specs.Direct.{header_place}
 use Rattle.jr_bind.specs.declared.stages.Stage.{Stage}
 use Rattle.jr_bind.specs.declared.stages.Stage.TheVariants as stage
 
@@ -25,11 +26,22 @@ abbrev pub is_name : Label → Bool
 is_name (is.Name k at is_qualified) = true
 is_name _ = false
 
--- what is looked up in the stages behind those of types seeks no type, and no name is left for the last one
+abbrev pub seeks_nothing : Sought → Bool
+seeks_nothing sought.Nothing = true
+seeks_nothing _ = false
+
+-- the last identifier of a name in a header
+abbrev pub ends_header : Label → Bool
+ends_header l = is_some (header_place l)
+
+-- the stage by what is sought: types alone in the first three, then what other names seek, then all else
 abbrev pub IsLateAt : Rows → ℕ → Stage → Type 0
-IsLateAt p n stage.Name = seeks_type (sought_at p n) ≡ false
-IsLateAt p n stage.Other = (seeks_type (sought_at p n) ≡ false) × (is_name (label p n) ≡ false)
-IsLateAt p n _ = ⊤
+IsLateAt p n stage.Header = seeks_type (sought_at p n) ≡ true
+IsLateAt p n stage.Import = (seeks_type (sought_at p n) ≡ true) × (ends_header (label p n) ≡ false)
+IsLateAt p n stage.Type = (seeks_type (sought_at p n) ≡ true) × (ends_header (label p n) ≡ false)
+IsLateAt p n stage.Name = (seeks_type (sought_at p n) ≡ false) × (is_name (label p n) ≡ true) × (seeks_nothing (sought_at p n) ≡ false)
+IsLateAt p n stage.Other = (seeks_type (sought_at p n) ≡ false) × (is_name (label p n) ≡ false) × (seeks_nothing (sought_at p n) ≡ false)
+IsLateAt p n stage.Nothing = seeks_nothing (sought_at p n) ≡ true
 
 -- the first rows
 abbrev pub AreLateTo : Rows → List Stage → ℕ → Type 0

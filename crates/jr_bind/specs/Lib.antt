@@ -1,6 +1,9 @@
 pub mod Late
 pub mod Filled
 pub mod Exact
+pub mod Before
+pub mod Looked
+pub mod Turns
 pub mod Naming
 pub mod Confirmed
 pub mod Rounds

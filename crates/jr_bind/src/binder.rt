@@ -2,7 +2,10 @@
 ghost use Rattle.std.specs.Prelude.{◌≡◌, true, IfOk, OnOk};
 ghost use Rattle.jr_defs.specs.Binding.{IsFirstOnCycle};
 ghost use Rattle.jr_bind.specs.Late.{AreLate};
-ghost use Rattle.jr_bind.specs.Filled.{IsReady, KeepsRest};
+ghost use Rattle.jr_defs.specs.Referents.{entries};
+ghost use Rattle.jr_supers.specs.Supers.{HasNoCycle};
+ghost use Rattle.jr_bind.specs.Filled.{table_of, IsReady, KeepsRest};
+ghost use Rattle.jr_bind.specs.Naming as naming;
 ghost use Rattle.jr_bind.specs.Naming.{FillsNames};
 ghost use Rattle.jr_bind.specs.Exact as exact;
 ghost use Rattle.jr_bind.specs.Confirmed as confirmed;
@@ -11,7 +14,7 @@ ghost use Rattle.jr_bind.specs.Rebound as rebound;
 use crate::boxes::{boxed, imports_none, imports_of, members_of, supers_of};
 use crate::confirming::is_binding;
 use crate::cycles::first_on_cycle;
-use crate::filling::{Filling, Known};
+use crate::filling::{Filling, Known, headers_of};
 use crate::headers::{Setting, Settled, settle};
 use crate::stages::{Stage, stages_of};
 use jr_base::OutOfMemory;
@@ -49,13 +52,14 @@ fn fill_imports(
     stages: &[Stage],
     filling: &mut Filling,
 ) -> Result<Box<Imports>, OutOfMemory>
-    ensures { OnOk result (KeepsRest filling.old filling.new) }
+    ensures rest { OnOk result (KeepsRest filling.old filling.new) }
+    ensures types { AreLate known.entry.setting.rows.now stages.now → naming.BindsTypes known.entry.setting.rows.now filling.old.table.items → OnOk result (naming.BindsTypes known.entry.setting.rows.now filling.new.table.items) }
 {
     filling.fill(alloc, known, stages, Stage::Import)?;
     imports_of(alloc, filling.under(known))
 }
 
-// The stages of types: those in imports first, then all others. It gives what the imports bring.
+// The stages of types: those in imports first, then all others.
 fn fill_types<'a>(
     alloc: Global,
     setting: Setting<'a>,
@@ -63,8 +67,9 @@ fn fill_types<'a>(
     supers: &'a Supers,
     members: &'a Members,
     filling: &mut Filling,
-) -> Result<Box<Imports>, OutOfMemory>
-    ensures { OnOk result (KeepsRest filling.old filling.new) }
+) -> Result<(), OutOfMemory>
+    ensures rest { OnOk result (KeepsRest filling.old filling.new) }
+    ensures types { AreLate setting.entry.rows.now stages.now → naming.BindsTypes setting.entry.rows.now filling.old.table.items → OnOk result (naming.BindsTypes setting.entry.rows.now filling.new.table.items) }
 {
     let none = imports_none(alloc)?;
     let known = Known {
@@ -80,8 +85,7 @@ fn fill_types<'a>(
         members,
         imports: &imports,
     };
-    filling.fill(alloc, known, stages, Stage::Type)?;
-    Ok(imports)
+    filling.fill(alloc, known, stages, Stage::Type)
 }
 
 // The stages of names and of all else. It gives the values of constants.
@@ -91,7 +95,8 @@ fn fill_names(
     stages: &[Stage],
     filling: &mut Filling,
 ) -> Result<Box<Constants>, OutOfMemory>
-    ensures { exact.IsProgramIn known.entry.setting.rows.now known.entry.setting.places.now → AreLate known.entry.setting.rows.now stages.now → IsReady known.entry.setting.rows.now filling.old → IfOk result (λ found. FillsNames known.entry.setting.rows.now known.entry.setting.places.now known.entry.supers.now filling.old filling.new found.value) }
+    ensures fills { exact.IsProgramIn known.entry.setting.rows.now known.entry.setting.places.now → AreLate known.entry.setting.rows.now stages.now → IsReady known.entry.setting.rows.now filling.old → IfOk result (λ found. FillsNames known.entry.setting.rows.now known.entry.setting.places.now known.entry.supers.now filling.old filling.new found.value) }
+    ensures looked { exact.IsProgramIn known.entry.setting.rows.now known.entry.setting.places.now → AreLate known.entry.setting.rows.now stages.now → IsReady known.entry.setting.rows.now filling.old → naming.IsReadyToName known.entry filling.old → HasNoCycle known.entry.setting.rows.now (table_of filling.new) → naming.HasHeaderTypes known.entry.setting.rows.now (table_of filling.new) → OnOk result (naming.AreLookedUpIn known.entry.setting.rows.now stages.now (table_of filling.new)) }
 {
     filling.fill_typed(alloc, known, stages, Stage::Name)?;
     let constants = filling.find_constants(alloc, known)?;
@@ -104,10 +109,10 @@ fn bind_names(
     alloc: Global,
     setting: Setting,
     stages: &[Stage],
-    imports: Box<Imports>,
     filling: Filling,
 ) -> Result<Bound, OutOfMemory>
-    ensures { AreLate setting.entry.rows.now stages.now → IsReady setting.entry.rows.now filling → IfOk result (λ bound. confirmed.AreTablesOf setting.entry.rows.now setting.entry.places.now bound) }
+    ensures tables { AreLate setting.entry.rows.now stages.now → IsReady setting.entry.rows.now filling → IfOk result (λ bound. confirmed.AreTablesOf setting.entry.rows.now setting.entry.places.now bound) }
+    ensures bound { AreLate setting.entry.rows.now stages.now → IsReady setting.entry.rows.now filling → naming.BindsTypes setting.entry.rows.now filling.table.items → IfOk result (λ bound. naming.IsBoundByTypes setting.entry.rows.now setting.entry.places.now setting.entry.scopes.now (entries bound.table.items)) }
 {
     let mut filling = filling;
     let under = Tabled {
@@ -117,6 +122,7 @@ fn bind_names(
     };
     let supers = supers_of(alloc, under)?;
     let members = members_of(alloc, under, &supers)?;
+    let imports = imports_of(alloc, under)?;
     let known = Known {
         setting,
         supers: &supers,
@@ -125,12 +131,6 @@ fn bind_names(
     };
     let constants = fill_names(alloc, known, stages, &mut filling)?;
     let Filling { table, types, .. } = filling;
-    let under = Tabled {
-        rows: setting.rows,
-        places: setting.places,
-        table: &table,
-    };
-    let imports = imports_of(alloc, under)?;
     Ok(Bound {
         table,
         types,
@@ -148,7 +148,8 @@ fn bind_rest(
     stages: &[Stage],
     settled: Settled,
 ) -> Result<Bound, OutOfMemory>
-    ensures { AreLate setting.entry.rows.now stages.now → IfOk result (λ bound. confirmed.AreTablesOf setting.entry.rows.now setting.entry.places.now bound) }
+    ensures tables { AreLate setting.entry.rows.now stages.now → IfOk result (λ bound. confirmed.AreTablesOf setting.entry.rows.now setting.entry.places.now bound) }
+    ensures bound { AreLate setting.entry.rows.now stages.now → IfOk result (λ bound. naming.IsBoundByTypes setting.entry.rows.now setting.entry.places.now setting.entry.scopes.now (entries bound.table.items)) }
 {
     let Settled {
         table,
@@ -156,11 +157,13 @@ fn bind_rest(
         members,
         ..
     } = settled;
-    let mut filling = Filling::new(alloc, setting.rows, table)?;
-    let imports = fill_types(alloc, setting, stages, &supers, &members, &mut filling)?;
+    let headers = headers_of(alloc, stages, &table)?;
+    drop(table);
+    let mut filling = Filling::new(alloc, setting.rows, headers)?;
+    fill_types(alloc, setting, stages, &supers, &members, &mut filling)?;
     drop(members);
     drop(supers);
-    bind_names(alloc, setting, stages, imports, filling)
+    bind_names(alloc, setting, stages, filling)
 }
 
 /// The rows under the table of a bound program, as lookup reads them.
@@ -191,13 +194,13 @@ fn is_binding_of(
     bound: &Bound,
     ranks: &[u32],
 ) -> Result<bool, OutOfMemory>
-    ensures { confirmed.AreTablesOf setting.entry.rows.now setting.entry.places.now bound.now → confirmed.IsProgramOf setting.entry.rows.now setting.entry.places.now setting.entry.scopes.now → IfOk result (λ is. is ≡ true → confirmed.IsBindingOf setting.entry.rows.now setting.entry.places.now bound.now) }
+    ensures { confirmed.AreTablesOf setting.entry.rows.now setting.entry.places.now bound.now → naming.IsBoundByTypes setting.entry.rows.now setting.entry.places.now setting.entry.scopes.now (entries bound.now.table.items) → confirmed.IsProgramOf setting.entry.rows.now setting.entry.places.now setting.entry.scopes.now → IfOk result (λ is. is ≡ true → confirmed.IsBindingOf setting.entry.rows.now setting.entry.places.now bound.now) }
 {
     let sight = sight_of(setting, bound);
     is_binding(alloc, sight, &bound.types, ranks)
 }
 
-// The binding where all headers are settled. What lookup does not confirm is no binding, and is answered by want of memory.
+// The binding where all headers are settled. Where lookup does not confirm the names of types, or their order, the table is no binding, and is answered by want of memory.
 fn bind_all(
     alloc: Global,
     setting: Setting,
@@ -228,7 +231,9 @@ fn cycle_of<'a>(
 
 /// What the occurrences of a program refer to: headers first, then imports, types, other names and calls. Of the rows of a program the table is a binding (`IsBinding`):
 /// each row refers to what lookup gives there under the table itself, and all types are settled; and the other tables are those under it. Where headers lead back to their own type
-/// (JLS 8.1.4, 9.1.3) the answer is the first type on such a cycle (`IsFirstOnCycle`), and there is no binding.
+/// (JLS 8.1.4, 9.1.3) the answer is the first type on such a cycle (`IsFirstOnCycle`), and there is no binding. Rows that cannot be counted, have not one bare Object, or have
+/// packages without a name are answered by want of memory. So is a table whose names of types, or their order, lookup does not confirm, and a table of headers with types left open
+/// that it does not confirm (`first_on_cycle`): that neither comes is not proved, and neither was ever seen.
 pub fn bind(
     alloc: Global,
     rows: &[Row],

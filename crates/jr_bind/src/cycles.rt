@@ -1,5 +1,5 @@
 // The first type on a cycle of headers (JLS 8.1.4, 9.1.3).
-ghost use Rattle.std.specs.Prelude.{◌≡◌, ◌+◌, ◌<◌, ◌^◌, true, length, IfOk};
+ghost use Rattle.std.specs.Prelude.{◌+◌, ◌<◌, ◌^◌, length, IfOk};
 ghost use Rattle.jr_defs.specs.Binding.{IsFirstOnCycle};
 ghost use Rattle.jr_defs.specs.Referents.{entries};
 ghost use Rattle.jr_headed.specs.Founded.{AreWell};
@@ -8,13 +8,14 @@ ghost use Rattle.jr_bind.specs.Confirmed as confirmed;
 ghost use Rattle.jr_bind.specs.Edges.{IsWhole};
 
 use crate::boxes::{imports_of, members_of, supers_of};
+use crate::confirming::are_countable;
 use crate::edges::edges_of;
 use crate::headers::Setting;
 use crate::meeting::Ranked;
 use crate::rounds::first_on_round;
 use jr_base::OutOfMemory;
 use jr_defs::Referent;
-use jr_headed::{are_well, has_no_cycle};
+use jr_headed::has_no_cycle;
 use jr_lookup::{Scopes, Sight};
 use jr_members::World;
 use jr_supers::{Supers, Tabled};
@@ -31,19 +32,6 @@ fn first_under(alloc: Global, ranked: &Ranked) -> Result<u32, OutOfMemory>
         Some(first) => Ok(first),
         None => Err(OutOfMemory),
     }
-}
-
-/// The rows can be counted, have one bare Object, and packages with names.
-pub fn are_countable(rows: &[Row]) -> bool
-    ensures { result ≡ true → AreWell rows.now × (length rows.now + 3 < 2 ^ 32) }
-{
-    let Ok(end) = u32::try_from(rows.len()) else {
-        return false;
-    };
-    if end > u32::MAX - 3 {
-        return false;
-    }
-    are_well(rows)
 }
 
 // The same, with the members and imports under the table.

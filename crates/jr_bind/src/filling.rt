@@ -1,9 +1,10 @@
 // Rows that are looked up under a table that grows, with the types of those behind them.
 
-ghost use Rattle.std.specs.Prelude.{◌≡◌, ◌<◌, ◌^◌, ℕ, length, None, Some, Decides, IfOk, OnOk, replicate, slice_get, slice_set, slice_index_or};
+ghost use Rattle.std.specs.Prelude.{◌≡◌, ◌+◌, ◌<◌, ◌^◌, ℕ, length, None, Some, Decides, IfOk, OnOk, replicate, slice_get, slice_set, slice_index_or};
 ghost use Rattle.jr_tree.specs.Rows.{label};
 ghost use Rattle.jr_tree.specs.Tree.{IsTree};
 ghost use Rattle.jr_defs.specs.Formed.{IsFormed};
+ghost use Rattle.jr_defs.specs.declared.referent.Referent.TheVariants.{Unbound};
 ghost use Rattle.jr_defs.specs.Referents.{Table, entries};
 ghost use Rattle.jr_plain.specs.Conversions as values;
 ghost use Rattle.jr_plain.specs.Typing as plain;
@@ -12,8 +13,12 @@ ghost use Rattle.jr_types.specs.Typed.{CanType, AreTypes, types_in};
 ghost use Rattle.jr_bind.specs.Filled as filled;
 ghost use Rattle.jr_bind.specs.Filled.{IsReady, KeepsRest, FillsRow, FillsRows};
 ghost use Rattle.jr_bind.specs.Exact as exact;
+ghost use Rattle.jr_bind.specs.Looked as looked;
+ghost use Rattle.jr_bind.specs.Turns as turns;
 
 use crate::boxes::constants_of;
+use crate::confirming::referent_at;
+use crate::dotted::look_at;
 use crate::headers::Setting;
 use crate::stages::Stage;
 use jr_base::OutOfMemory;
@@ -131,6 +136,41 @@ fn no_ints(alloc: Global, rows: &[Row]) -> Result<Vec<Option<i32>>, OutOfMemory>
     Ok(vec![in alloc; None; rows.len()]?)
 }
 
+// Nothing yet, in a place for each row.
+fn no_referents(alloc: Global, stages: &[Stage]) -> Result<Vec<Referent>, OutOfMemory>
+    ensures { IfOk result (λ all. all.items ≡ replicate (length stages.now) Unbound) }
+{
+    Ok(vec![in alloc; Referent::Unbound; stages.len()]?)
+}
+
+// One row as the table has it, if it is the name of a type in a header.
+fn keep_header(kept: &mut Vec<Referent>, stages: &[Stage], table: &[Referent], at: u32)
+    ensures { filled.HoldsHeaders stages.now table.now kept.old.items at → filled.HoldsHeaders stages.now table.now kept.new.items (at + 1) }
+{
+    if !is_of(stages, Stage::Header, at) {
+        return;
+    }
+    put_referent(kept, at, referent_at(table, at));
+}
+
+/// The names of types in headers as the table has them, and nothing else.
+pub fn headers_of(
+    alloc: Global,
+    stages: &[Stage],
+    table: &[Referent],
+) -> Result<Vec<Referent>, OutOfMemory>
+    ensures { IfOk result (λ kept. filled.HoldsHeaders stages.now table.now kept.items (length stages.now)) }
+{
+    let Ok(count) = u32::try_from(stages.len()) else {
+        return Err(OutOfMemory);
+    };
+    let mut kept = no_referents(alloc, stages)?;
+    for at in 0..count {
+        keep_header(&mut kept, stages, table, at);
+    }
+    Ok(kept)
+}
+
 impl Filling {
     /// The table as it is given, and no types yet.
     pub fn new(alloc: Global, rows: &[Row], table: Vec<Referent>) -> Result<Filling, OutOfMemory>
@@ -156,22 +196,25 @@ impl Filling {
         }
     }
 
-    fn world<'a>(&'a self, known: Known<'a>) -> World<'a> {
-        World {
-            under: self.under(known),
+    // What a row refers to under the table, with the types of the rows behind it.
+    fn look(&self, alloc: Global, known: Known, at: u32) -> Result<Referent, OutOfMemory>
+        ensures { turns.IsKnownUnder (filled.table_of self.now) known.entry → at < length known.entry.setting.rows.now → looked.AreTypedIfNeeded known.entry.setting.rows.now (filled.table_of self.now) self.now.types.items at → IfOk result (looked.IsLookedUp known.entry.setting.rows.now (filled.table_of self.now) at) }
+    {
+        let world = World {
+            under: Tabled {
+                rows: known.setting.rows,
+                places: known.setting.places,
+                table: &self.table,
+            },
             supers: known.supers,
             members: known.members,
-        }
-    }
-
-    // What a row refers to under the table, with the types of the rows behind it.
-    fn look(&self, alloc: Global, known: Known, at: u32) -> Result<Referent, OutOfMemory> {
+        };
         let sight = Sight {
-            world: self.world(known),
+            world,
             scopes: known.setting.scopes,
             imports: known.imports,
         };
-        sight.look(alloc, &self.types, at)
+        look_at(alloc, sight, &self.types, at)
     }
 
     // The type of a row, where those of its parts are known.
@@ -238,7 +281,8 @@ impl Filling {
         stage: Stage,
         at: u32,
     ) -> Result<(), OutOfMemory>
-        ensures { OnOk result (FillsRow stages.now stage at self.old self.new) }
+        ensures fills { OnOk result (FillsRow stages.now stage at self.old self.new) }
+        ensures looked { slice_get stages.now at ≡ Some stage → turns.IsKnownUnder (filled.table_of self.old) known.entry → at < length known.entry.setting.rows.now → length self.old.table.items ≡ length known.entry.setting.rows.now → looked.AreTypedIfNeeded known.entry.setting.rows.now (filled.table_of self.old) self.old.types.items at → OnOk result (looked.IsLookedUp known.entry.setting.rows.now (filled.table_of self.old) at (filled.table_of self.new at)) }
     {
         if !is_of(stages, stage, at) {
             return Ok(());
@@ -277,6 +321,7 @@ impl Filling {
     ) -> Result<(), OutOfMemory>
         ensures rows { OnOk result (FillsRows stages.now stage self.old self.new) }
         ensures types { (constant : values.Constants) → IsFormed known.entry.setting.rows.now → filled.SeeksNoType known.entry.setting.rows.now stages.now stage → length stages.now ≡ length known.entry.setting.rows.now → CanType constant known.entry.setting.rows.now (filled.table_of self.old) known.entry.setting.places.now known.entry.supers.now self.old.ints.items self.old.string → length self.old.types.items ≡ length known.entry.setting.rows.now → OnOk result (AreTypes known.entry.setting.rows.now (filled.table_of self.new) constant self.new.types.items) }
+        ensures looked { (constant : values.Constants) → turns.CanFill known.entry stages.now stage constant self.old → OnOk result (looked.AreFilledFrom known.entry.setting.rows.now stages.now stage (filled.table_of self.old) (filled.table_of self.new) 0) }
     {
         let Ok(count) = u32::try_from(stages.len()) else {
             return Err(OutOfMemory);

@@ -5,6 +5,7 @@ mod binder;
 mod boxes;
 mod confirming;
 mod cycles;
+mod dotted;
 mod edges;
 mod filling;
 mod headers;

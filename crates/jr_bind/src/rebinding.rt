@@ -15,8 +15,7 @@ ghost use Rattle.jr_bind.specs.Rebound as tell;
 
 use crate::binder::{Bound, sight_of};
 use crate::boxes::{imports_of, members_of, supers_of};
-use crate::confirming::is_same;
-use crate::cycles::are_countable;
+use crate::confirming::{are_countable, is_same};
 use crate::filling::{Filling, Known};
 use crate::headers::Setting;
 use jr_base::OutOfMemory;

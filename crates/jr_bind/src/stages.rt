@@ -1,6 +1,6 @@
 // In which stage each row is bound.
-ghost use Rattle.std.specs.Prelude.{◌≡◌, IfOk};
-ghost use Rattle.jr_tree.specs.Rows.{label};
+ghost use Rattle.std.specs.Prelude.{◌≡◌, ℕ, true, IfOk};
+ghost use Rattle.jr_tree.specs.Rows.{Rows, label, sought_at};
 ghost use Rattle.jr_bind.specs.Late as late;
 
 use jr_base::OutOfMemory;
@@ -68,7 +68,8 @@ fn is_type_kind(kind: NameKind) -> bool
     }
 }
 
-fn seeks_type(sought: Sought) -> bool
+/// What is sought is a type, or a qualifier of one.
+pub fn seeks_type(sought: Sought) -> bool
     ensures { result ≡ late.seeks_type sought }
 {
     match sought {
@@ -78,8 +79,19 @@ fn seeks_type(sought: Sought) -> bool
     }
 }
 
+fn seeks_nothing(sought: Sought) -> bool
+    ensures { result ≡ late.seeks_nothing sought }
+{
+    match sought {
+        Sought::Nothing => true,
+        _ => false,
+    }
+}
+
 // Where a row stands, by where the row round it does.
-fn around_of(rows: &[Row], known: &[Around], at: u32) -> Around {
+fn around_of(rows: &[Row], known: &[Around], at: u32) -> Around
+    ensures { late.ends_header (label rows.now at) ≡ true → result.is_in_header ≡ true }
+{
     let over = match known.get(parent_at(rows, at) as usize) {
         Some(around) => *around,
         None => ELSEWHERE,
@@ -91,21 +103,29 @@ fn around_of(rows: &[Row], known: &[Around], at: u32) -> Around {
     }
 }
 
-fn stage_of(rows: &[Row], around: Around, at: u32) -> Stage
-    ensures { late.IsLateAt rows.now at result }
+// The stage of a row that seeks a type.
+fn type_stage(around: Around) -> Stage
+    ensures { (p : Rows) (n : ℕ) → late.seeks_type (sought_at p n) ≡ true → (late.ends_header (label p n) ≡ true → around.is_in_header ≡ true) → late.IsLateAt p n result }
 {
-    let sought = sought_at(rows, at);
-    if sought == Sought::Nothing {
-        return Stage::Nothing;
-    }
     if around.is_in_header {
         return Stage::Header;
     }
+    if around.is_in_import {
+        return Stage::Import;
+    }
+    Stage::Type
+}
+
+// In headers stand names of types alone.
+fn stage_of(rows: &[Row], around: Around, at: u32) -> Stage
+    ensures { (late.ends_header (label rows.now at) ≡ true → around.is_in_header ≡ true) → late.IsLateAt rows.now at result }
+{
+    let sought = sought_at(rows, at);
+    if seeks_nothing(sought) {
+        return Stage::Nothing;
+    }
     if seeks_type(sought) {
-        if around.is_in_import {
-            return Stage::Import;
-        }
-        return Stage::Type;
+        return type_stage(around);
     }
     if is_name(rows, at) {
         return Stage::Name;

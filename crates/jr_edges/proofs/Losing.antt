@@ -14,8 +14,7 @@ use Rattle.jr_supers.specs.Supers.{IsWellHeaded}
 use Rattle.jr_dispatch.specs.declared.dispatch.Found as code
 use Rattle.jr_dispatch.specs.Dispatching.{method_of, AreEdges, AreFoundIn}
 use Rattle.jr_edges.specs.declared.dispatched.Lost as lost_call
-use Rattle.jr_edges.specs.declared.dispatched.Kept.TheVariants as kept
-use Rattle.jr_edges.specs.Dispatched.{KeepsCall, KeepsClass, IsFirstLost, IsLostIn, IsClassTold, IsLost, IsTold}
+use Rattle.jr_edges.specs.Dispatched.{KeepsCall, KeepsClass, IsFirstLost, IsLostIn, IsClassTold, IsLost, AreTold, IsTold}
 use Rattle.jr_edges.proofs.Finding.{one_found}
 
 -- ---- lists
@@ -135,5 +134,10 @@ module _ (q : Rows) (l : Table) (copy : List ℕ) where
       classes = λ d lt. before d (subst (λ x. d < x) h.in_class lt);
     }
 
-    pub all_told : (end : ℕ) → end ≡ length p → ((c : ℕ) → c < end → KeepsClass q l copy p t c) → IsTold p t q l copy kept.All
-    all_told end is h c m f d = h c (subst (λ n. c < n) (sym is) (class_below p c d.class)) m f d
+    pub all_told : (end : ℕ) (lost : Option lost_call.Lost) → end ≡ length p → AreTold q l copy p t end lost → IsTold p t q l copy lost
+    all_told end None is h = λ c m f d. h c (subst (λ n. c < n) (sym is) (class_below p c d.class)) m f d
+    all_told end (Some lost) is h = h
+
+    pub told_so : {E : Type 0} (end : ℕ) (found : Result (Option lost_call.Lost) E) → end ≡ length p → IfOk found (λ lost. AreTold q l copy p t end lost) → IfOk found (λ lost. IsTold p t q l copy lost)
+    told_so end (Ok lost) is h = all_told end lost is h
+    told_so end (Err x) is h = tt

@@ -4,11 +4,8 @@ use Rattle.jr_tree.specs.Rows.{Rows}
 use Rattle.jr_defs.specs.Referents.{Table}
 use Rattle.jr_defs.specs.Overriding.{Dispatches}
 use Rattle.jr_dispatch.specs.declared.dispatch.Found as code
-use Rattle.jr_headed.specs.Founded.{IsWellFounded}
 use Rattle.jr_locks.specs.Origins.{row_by, origin_of}
 use Rattle.jr_edges.specs.declared.dispatched.Lost as lost_call
-use Rattle.jr_edges.specs.declared.dispatched.Kept.{Kept}
-use Rattle.jr_edges.specs.declared.dispatched.Kept.TheVariants as kept
 
 -- the row m is the copy of the old row n
 abbrev pub IsCopy : List ℕ → ℕ → ℕ → Type 0
@@ -64,8 +61,7 @@ module _ (q : Rows) (l : Table) (copy : List ℕ) where
 abbrev pub KeepsDispatch : Rows → Table → Rows → Table → List ℕ → Type 0
 KeepsDispatch p t q l copy = (c m f : ℕ) → Dispatches p t c m f → KeepsCall q l copy c m f
 
--- what is told of the calls of a program and the changed one
-abbrev pub IsTold : Rows → Table → Rows → Table → List ℕ → Kept → Type 0
-IsTold p t q l copy kept.All = KeepsDispatch p t q l copy
-IsTold p t q l copy (kept.Lost lost) = IsLost q l copy p t lost
-IsTold p t q l copy kept.Unknown = IsWellFounded p t → IsWellFounded q l → ⊥
+-- what is told of the calls of a program and the changed one: that all are kept, or the first that is not
+abbrev pub IsTold : Rows → Table → Rows → Table → List ℕ → Option lost_call.Lost → Type 0
+IsTold p t q l copy None = KeepsDispatch p t q l copy
+IsTold p t q l copy (Some lost) = IsLost q l copy p t lost

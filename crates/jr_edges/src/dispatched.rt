@@ -1,17 +1,13 @@
 // What calls find in classes, before and after (JLS 15.12.4.4).
-ghost use Rattle.std.specs.Prelude.{◌≡◌, ℕ, ◌<◌, ◌^◌, length, Option, IfOk, Decides};
-ghost use Rattle.jr_defs.specs.Referents.{Table, entries};
-ghost use Rattle.jr_places.specs.Places.{ArePlaces};
-ghost use Rattle.jr_dispatch.specs.Methods.{AreMethods, AreCalled};
-ghost use Rattle.jr_headed.specs.Founded.{IsProgram, IsWellFounded};
+ghost use Rattle.std.specs.Prelude.{◌≡◌, IfOk, Decides};
+ghost use Rattle.jr_defs.specs.Referents.{Table};
+ghost use Rattle.jr_dispatch.specs.Methods.{AreMethods};
 ghost use Rattle.jr_edges.specs.Dispatched as tell;
 
 use jr_base::OutOfMemory;
-use jr_dispatch::{Called, Found, Methods};
-use jr_headed::is_well_founded;
+use jr_dispatch::{Found, Methods};
 use jr_locks::row_for;
 use jr_places::is_class;
-use jr_supers::Tabled;
 use std::alloc::Global;
 
 /// A class and a method that it had, by rows of the old program: a call of the method finds there another one than it found.
@@ -19,16 +15,6 @@ use std::alloc::Global;
 pub struct Lost {
     pub class: u32,
     pub method: u32,
-}
-
-/// Whether calls find what they found.
-#[derive(Clone, Copy, Debug, PartialEq, Eq)]
-pub enum Kept {
-    All,
-    /// The first class, and of it the first method, whose call does not.
-    Lost(Lost),
-    /// The rows of a program are not well founded under its table, as those of one that compiles are.
-    Unknown,
 }
 
 // The copy of an old row was found.
@@ -113,55 +99,18 @@ fn lost_before(
     Ok(None)
 }
 
-// Of all classes.
-fn lost_of_all(
+/// Whether calls in the copies of classes find the copies of what they found: none where they do, else the first class, and of it the first method, by old rows, where
+/// they do not. Where a call finds another method, that edge of the changed program comes after the old one, which is lost too. Of 2^32 rows or more it is not told.
+pub fn lost_dispatch(
     alloc: Global,
     old: Methods,
-    locked: Methods,
+    new: Methods,
     copy: &[u32],
-) -> Result<Kept, OutOfMemory>
-    ensures { (t l : Table) → AreMethods old.entry.under.rows.now t old.entry → AreMethods locked.entry.under.rows.now l locked.entry → IfOk result (λ kept. tell.IsTold old.entry.under.rows.now t locked.entry.under.rows.now l copy.now kept) }
+) -> Result<Option<Lost>, OutOfMemory>
+    ensures { (t l : Table) → AreMethods old.entry.under.rows.now t old.entry → AreMethods new.entry.under.rows.now l new.entry → IfOk result (λ lost. tell.IsTold old.entry.under.rows.now t new.entry.under.rows.now l copy.now lost) }
 {
     let Ok(end) = u32::try_from(old.under.rows.len()) else {
         return Err(OutOfMemory);
     };
-    match lost_before(alloc, old, locked, copy, end)? {
-        Some(lost) => Ok(Kept::Lost(lost)),
-        None => Ok(Kept::All),
-    }
-}
-
-// With the tables of the changed program.
-fn lost_under(alloc: Global, old: Methods, new: Tabled, copy: &[u32]) -> Result<Kept, OutOfMemory>
-    ensures { (t : Table) → AreMethods old.entry.under.rows.now t old.entry → IsProgram new.entry.rows.now → IsWellFounded new.entry.rows.now (entries new.entry.table.now) → ArePlaces new.entry.rows.now new.entry.places.now → IfOk result (λ kept. tell.IsTold old.entry.under.rows.now t new.entry.rows.now (entries new.entry.table.now) copy.now kept) }
-{
-    let after = Called::of(alloc, new)?;
-    lost_of_all(alloc, old, after.methods(new), copy)
-}
-
-// With the tables of both programs.
-fn lost_between(alloc: Global, old: Tabled, new: Tabled, copy: &[u32]) -> Result<Kept, OutOfMemory>
-    ensures { IsProgram old.entry.rows.now → IsProgram new.entry.rows.now → IsWellFounded old.entry.rows.now (entries old.entry.table.now) → IsWellFounded new.entry.rows.now (entries new.entry.table.now) → ArePlaces old.entry.rows.now old.entry.places.now → ArePlaces new.entry.rows.now new.entry.places.now → IfOk result (λ kept. tell.IsTold old.entry.rows.now (entries old.entry.table.now) new.entry.rows.now (entries new.entry.table.now) copy.now kept) }
-{
-    let before = Called::of(alloc, old)?;
-    lost_under(alloc, before.methods(old), new, copy)
-}
-
-/// Whether calls in the copies of classes find the copies of what they found, and the first class, and of it the first method, by old rows, where
-/// not. Where a call finds another method, that edge of the changed program comes after the old one, which is lost too.
-pub fn lost_dispatch(
-    alloc: Global,
-    old: Tabled,
-    new: Tabled,
-    copy: &[u32],
-) -> Result<Kept, OutOfMemory>
-    ensures { IsProgram old.entry.rows.now → IsProgram new.entry.rows.now → ArePlaces old.entry.rows.now old.entry.places.now → ArePlaces new.entry.rows.now new.entry.places.now → IfOk result (λ kept. tell.IsTold old.entry.rows.now (entries old.entry.table.now) new.entry.rows.now (entries new.entry.table.now) copy.now kept) }
-{
-    if !is_well_founded(alloc, old)? {
-        return Ok(Kept::Unknown);
-    }
-    if !is_well_founded(alloc, new)? {
-        return Ok(Kept::Unknown);
-    }
-    lost_between(alloc, old, new, copy)
+    lost_before(alloc, old, new, copy, end)
 }

@@ -3,4 +3,4 @@
 
 mod dispatched;
 
-pub use dispatched::{Kept, Lost, lost_dispatch};
+pub use dispatched::{Lost, lost_dispatch};

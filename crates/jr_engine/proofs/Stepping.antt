@@ -1,5 +1,5 @@
 -- What is known of a step by its parts, and of steps one after another.
-use Rattle.std.proofs.Common.{◌≡◌, ◌∙◌, ap, refl, true, None, List, [], ◌∷◌, ℕ, Result, Ok, Err, IfOk, IsTrue, length, map, arith, sym, subst}
+use Rattle.std.proofs.Common.{◌≡◌, ◌∙◌, ap, refl, true, Option, None, List, [], ◌∷◌, ℕ, Result, Ok, Err, IfOk, IsTrue, length, map, arith, sym, subst}
 use Rattle.std.specs.FinMap as files
 use Rattle.std.specs.List.{AllByRecursion}
 use Rattle.jr_base.specs.Files.{FileMap}
@@ -12,28 +12,39 @@ use Rattle.jr_read.specs.Reading.{ReadsAs}
 use Rattle.jr_front.specs.Bound.{IsBoundIn, rows_in, table_in}
 use Rattle.jr_front.specs.Checking.{accepted}
 use Rattle.jr_front.specs.Compiling.{CompilesExactly}
-use Rattle.jr_front.proofs.Reading.{read_shaped}
-use Rattle.jr_front.proofs.Viewed.{whole_view}
+use Rattle.jr_front.proofs.Viewed.{whole_view, whole_world}
 use Rattle.jr_front.specs.Viewed.{IsViewOf}
 use Rattle.jr_front.specs.declared.workspace.Workspace.{Workspace}
 use Rattle.jr_engine.specs.Planning.{IsAccepted, PlannedAs}
 use Rattle.jr_engine.specs.Steps.{Opened, IsOpened, IsRead, IsHeld, IsAskedOf, IsRequested, LeftBy, IsStep, stays, leaves, AreSteps, none, more, IsFollowed, opened, opened_by}
 use Rattle.jr_tree.specs.Rows.{Rows}
-use Rattle.jr_defs.specs.Referents.{entries}
+use Rattle.jr_defs.specs.Referents.{Table, entries}
 use Rattle.jr_defs.specs.declared.referent.Referent.{Referent}
 use Rattle.jr_index.specs.NodeRows.{unit_rows}
 use Rattle.jr_marks.specs.Places.{IsOrdered}
 use Rattle.jr_change.specs.declared.change.Change.{Change}
 use Rattle.jr_change.specs.declared.project.Locks.{Locks}
 use Rattle.jr_change.specs.declared.project.Project.{Project}
-use Rattle.jr_headed.specs.Founded.{IsProgram}
+use Rattle.jr_places.specs.declared.places.Places.{Places}
+use Rattle.jr_places.specs.Places.{ArePlaces}
+use Rattle.jr_supers.specs.declared.tabled.Tabled.{Tabled}
+use Rattle.jr_supers.specs.Supers.{IsWellHeaded, HasNoCycle}
+use Rattle.jr_members.specs.declared.members.World.{World}
+use Rattle.jr_members.specs.Held.{ObjectIsBare}
+use Rattle.jr_members.specs.Sources.{ArePlaced}
+use Rattle.jr_dispatch.specs.declared.dispatch.Methods.{Methods}
+use Rattle.jr_dispatch.specs.Methods.{AreMethods, IsWholeWorld}
+use Rattle.jr_headed.specs.Founded.{IsProgram, AreWell}
+use Rattle.jr_headed.proofs.Founding.{program_headed, program_local}
+use Rattle.jr_bind.specs.declared.binder.Bound.{Bound}
+use Rattle.jr_bind.specs.Exact.{IsExact, IsProgramIn}
+use Rattle.jr_view.specs.declared.View.{View}
 use Rattle.jr_draft.specs.Asking.{table_of}
 use Rattle.jr_engine.specs.Requested.{IsAskedBy, keeps_all}
 use Rattle.jr_locks.specs.Changed.{IsChanged, origins_by, copies_by}
 use Rattle.jr_edges.specs.Dispatched.{KeepsDispatch, IsTold}
-use Rattle.jr_edges.specs.declared.dispatched.Kept.{Kept}
-use Rattle.jr_edges.specs.declared.dispatched.Kept.TheVariants.{All}
-use Rattle.jr_engine.specs.Written.{IsSpelledIn, IsLeftOf, IsAskedFor, IsLockedBy, KeepsCallsIn, rows_of as rows_under, locks_of}
+use Rattle.jr_edges.specs.declared.dispatched.Lost.{Lost}
+use Rattle.jr_engine.specs.Written.{IsSpelledIn, IsLeftOf, IsAskedFor, IsLockedBy, IsBoundByLocks, KeepsCallsIn, rows_of as rows_under, locks_of}
 use Rattle.jr_engine.specs.declared.asked.Asked.{Asked}
 use Rattle.jr_engine.specs.declared.fault.StepFault.{StepFault}
 use Rattle.jr_engine.specs.declared.left.Left.{Left}
@@ -54,8 +65,8 @@ held_so left is java = record { read = is; java = java }
 pub held_opened : (left : Left) → IsHeld left → IsOpened (opened_by left)
 held_opened left is = record { program = left.program.program; reads = is.read.reads; are = is.read.are; compiles = is.read.compiles; java = is.java }
 
-pub held_shaped : (left : Left) → IsHeld left → IsProgram (rows_in left.program)
-held_shaped left is = record { units = map (λ u. u.unit) left.program.program.units; shaped = read_shaped left.files left.program.program is.read.reads; rows_are = is.read.are }
+pub held_bound : (left : Left) → IsHeld left → IsBoundIn left.program
+held_bound left is = is.read.bound
 
 pub accepted_so : (o : Opened) → IsOpened o → IsAccepted o.files
 accepted_so o is = record { checked = accepted is.reads is.compiles; java = is.java }
@@ -111,20 +122,52 @@ locked_shaped program rows (Err why) shaped are same = tt
 
 -- ---- what calls find
 
--- what is told of the calls of rows, tables and copies is told of the old and the changed program, whose rows, tables and copies they are
-pub kept_so : (asked : Asked) (locked : Locked) (p q : Rows) (t l : List Referent) (copy : List ℕ) (kept : Kept) → p ≡ rows_in asked.old.now → t ≡ asked.old.now.bound.value.table.items → q ≡ rows_under locked
-    → l ≡ locked.locks.table.items → copy ≡ locked.locks.copy.items → IsLockedBy asked locked → IsProgram (rows_in asked.old.now) → IsProgram (rows_under locked)
-    → (IsProgram p → IsProgram q → IsTold p (entries t) q (entries l) copy kept) → kept ≡ All → KeepsCallsIn asked locked
-kept_so asked locked p q t l copy kept rows table new locks copies is old_is new_is told all =
+-- what calls read is right in a world whose supertypes and members are
+read_methods : (world : World) (t : Table) (all : Methods) → all.under ≡ world.under → ((t : Table) → IsWholeWorld t world → AreMethods world.under.rows.now t all) → IsWholeWorld t world → AreMethods all.under.rows.now t all
+read_methods world t all same read whole = subst (λ (u : Tabled). AreMethods u.rows.now t all) (sym same) (read t whole)
+
+-- so it is of a changed program whose rows are as in all programs
+locked_world : (locked : Locked) (view : View) → IsProgram (rows_under locked) → AreWell (rows_under locked) → IsBoundByLocks locked
+    → IsViewOf (rows_under locked) locked.program.places.value locked.program.scopes.value locked.program.bound.value view → IsWholeWorld (entries view.sight.world.under.table.now) view.sight.world
+locked_world locked view program well is of =
+    let headed = program_headed (rows_under locked) program well in
+    let placed : ArePlaced (rows_under locked) locked.program.places.value = record { local = program_local (rows_under locked) program; packages = well.packages; are = is.places } in
+    let among : IsProgramIn (rows_under locked) locked.program.places.value = record { placed = placed; well = headed; sized = well.sized; bare = well.object.bare } in
+    whole_world locked.program view (is.exact among (is.acyclic headed well.object.bare)) of well.object.bare
+
+-- what is told of the calls of two views is told of the old and the changed program
+told_between : (asked : Asked) (locked : Locked) (p q : Rows) (t l : List Referent) (copy : List ℕ) → p ≡ rows_in asked.old.now → t ≡ asked.old.now.bound.value.table.items → q ≡ rows_under locked
+    → entries l ≡ locks_of locked → copy ≡ copies_by (origins_by asked.change.now) (length (rows_in asked.old.now)) → KeepsDispatch p (entries t) q (entries l) copy → KeepsCallsIn asked locked
+told_between asked locked p q t l copy rows table new locks copies kept =
     let copied : List ℕ = copies_by (origins_by asked.change.now) (length (rows_in asked.old.now)) in
-    let first : IsTold p (entries t) q (entries l) copy kept = told (subst (λ (r : Rows). IsProgram r) (sym rows) old_is) (subst (λ (r : Rows). IsProgram r) (sym new) new_is) in
-    let second : KeepsDispatch p (entries t) q (entries l) copy = subst (λ (k : Kept). IsTold p (entries t) q (entries l) copy k) all first in
-    let third : KeepsDispatch p (entries t) q (entries l) copied = subst (λ (c : List ℕ). KeepsDispatch p (entries t) q (entries l) c) (copies ∙ is.copies) second in
-    let fourth : KeepsDispatch p (entries t) q (locks_of locked) copied = subst (λ (s : List Referent). KeepsDispatch p (entries t) q (entries s) copied) locks third in
-    let fifth : KeepsDispatch p (entries t) (rows_under locked) (locks_of locked) copied = subst (λ (r : Rows). KeepsDispatch p (entries t) r (locks_of locked) copied) new fourth in
-    let sixth : KeepsDispatch p (table_in asked.old.now) (rows_under locked) (locks_of locked) copied =
-    subst (λ (s : List Referent). KeepsDispatch p (entries s) (rows_under locked) (locks_of locked) copied) table fifth in
-    subst (λ (r : Rows). KeepsDispatch r (table_in asked.old.now) (rows_under locked) (locks_of locked) copied) rows sixth
+    let first : KeepsDispatch p (entries t) q (entries l) copied = subst (λ (c : List ℕ). KeepsDispatch p (entries t) q (entries l) c) copies kept in
+    let second : KeepsDispatch p (entries t) q (locks_of locked) copied = subst (λ (s : Table). KeepsDispatch p (entries t) q s copied) locks first in
+    let third : KeepsDispatch p (entries t) (rows_under locked) (locks_of locked) copied = subst (λ (r : Rows). KeepsDispatch p (entries t) r (locks_of locked) copied) new second in
+    let fourth : KeepsDispatch p (table_in asked.old.now) (rows_under locked) (locks_of locked) copied =
+    subst (λ (s : List Referent). KeepsDispatch p (entries s) (rows_under locked) (locks_of locked) copied) table third in
+    subst (λ (r : Rows). KeepsDispatch r (table_in asked.old.now) (rows_under locked) (locks_of locked) copied) rows fourth
+
+-- where no call is lost between two views, calls find what they found
+pub calls_kept : (asked : Asked) (locked : Locked) (old new : View) (before after : Methods) (copy : List ℕ) (found : Option Lost)
+    → IsViewOf (rows_in asked.old.now) asked.old.now.places.value asked.old.now.scopes.value asked.old.now.bound.value old
+    → IsViewOf (rows_under locked) locked.program.places.value locked.program.scopes.value locked.program.bound.value new → before.under ≡ old.sight.world.under → after.under ≡ new.sight.world.under
+    → ((t : Table) → IsWholeWorld t old.sight.world → AreMethods old.sight.world.under.rows.now t before) → ((t : Table) → IsWholeWorld t new.sight.world → AreMethods new.sight.world.under.rows.now t after)
+    → copy ≡ locked.locks.copy.items → IsBoundIn asked.old.now → IsProgram (rows_under locked) → AreWell (rows_under locked) → IsBoundByLocks locked → IsLockedBy asked locked
+    → ((t l : Table) → AreMethods before.under.rows.now t before → AreMethods after.under.rows.now l after → IsTold before.under.rows.now t after.under.rows.now l copy found) → found ≡ None → KeepsCallsIn asked locked
+calls_kept asked locked old new before after copy found old_of new_of before_is after_is old_read new_read copies bound program well is by told none =
+    let t : Table = entries old.sight.world.under.table.now in
+    let l : Table = entries new.sight.world.under.table.now in
+    let first : IsTold before.under.rows.now t after.under.rows.now l copy found = told t l (read_methods old.sight.world t before before_is old_read (whole_view asked.old.now old bound old_of))
+        (read_methods new.sight.world l after after_is new_read (locked_world locked new program well is new_of)) in
+    let second : KeepsDispatch before.under.rows.now t after.under.rows.now l copy = subst (λ (f : Option Lost). IsTold before.under.rows.now t after.under.rows.now l copy f) none first in
+    told_between asked locked before.under.rows.now after.under.rows.now old.sight.world.under.table.now new.sight.world.under.table.now copy (ap (λ (u : Tabled). u.rows.now) before_is ∙ old_of.rows_are) old_of.table_is
+        (ap (λ (u : Tabled). u.rows.now) after_is ∙ new_of.rows_are) (ap entries new_of.table_is ∙ is.table) (copies ∙ by.copies) second
+
+-- ---- the changed program under its locks
+
+bound_so : (locked : Locked) (rows : Rows) (places : Places) (bound : Bound) (locks : Locks) → locked.program.index.value ≡ rows → locked.program.places.value ≡ places → locked.program.bound.value ≡ bound → locked.locks ≡ locks
+    → bound.table.items ≡ locks.table.items → ArePlaces rows places → IsExact rows places bound → (IsWellHeaded rows → ObjectIsBare rows → HasNoCycle rows (entries bound.table.items)) → IsBoundByLocks locked
+bound_so locked rows places bound locks refl refl refl refl table placed exact acyclic = record { table = ap entries table; places = placed; exact = exact; acyclic = acyclic }
 
 -- ---- steps one after another
 

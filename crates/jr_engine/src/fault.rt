@@ -1,12 +1,10 @@
 // Why files are not changed.
 
-ghost use Rattle.jr_engine.specs.Planning.{RefusedAs};
-ghost use Rattle.jr_base.specs.Files.{FileMap};
-
-use jr_base::{DeclId, OccId, OutOfMemory, Path, Place, RuleId, Size};
+use jr_base::{DeclId, OccId, OutOfMemory, Path, Place, Size};
 use jr_change::Reason;
 use jr_flow::FlowFault;
 use jr_front::FrontFault;
+use jr_rule::Rule;
 use std::alloc::{AllocError, AllocFailed};
 
 /// Which kind of flow an edge is.
@@ -20,11 +18,9 @@ pub enum LostKind {
     DefUse,
 }
 
-/// Why files are not changed.
+/// Why a request leaves nothing of a program that compiles.
 #[derive(Clone, Copy, Debug, PartialEq, Eq)]
-pub enum EngineFault {
-    /// The files found do not compile.
-    Front(FrontFault),
+pub enum StepFault {
     /// What is asked for cannot be.
     BadRequest(Reason),
     /// The occurrence cannot be written so that it refers to what it referred to. The place is in the old files.
@@ -41,51 +37,24 @@ pub enum EngineFault {
         is_old: bool,
     },
     /// What is to be removed is used at the place in the old files.
-    StillUsed {
-        place: Place,
-    },
+    StillUsed { place: Place },
     /// The files left would break a rule. The place is in them.
-    Broken {
-        rule: RuleId,
-        place: Place,
-    },
+    Broken { rule: Rule, place: Place },
     /// The files left would not be what was to be written. The place is in the old files.
-    Differs {
-        place: Place,
-    },
+    Differs { place: Place },
     /// The files left would pass a limit.
     TooLarge(Size),
     /// An allocation failed.
     OutOfMemory,
 }
 
-/// Why a request leaves nothing of a program that compiles.
+/// Why files are not changed.
 #[derive(Clone, Copy, Debug, PartialEq, Eq)]
-pub enum StepFault {
-    BadRequest(Reason),
-    NoSpelling {
-        occ: OccId,
-        place: Place,
-        lock: DeclId,
-    },
-    LostEdge {
-        kind: LostKind,
-        first: Place,
-        second: Place,
-        is_old: bool,
-    },
-    StillUsed {
-        place: Place,
-    },
-    Broken {
-        rule: RuleId,
-        place: Place,
-    },
-    Differs {
-        place: Place,
-    },
-    TooLarge(Size),
-    OutOfMemory,
+pub enum EngineFault {
+    /// The files found do not compile.
+    Front(FrontFault),
+    /// They do, and the request leaves nothing of them.
+    Step(StepFault),
 }
 
 /// Why files are not changed, with the paths of the units, from 2 on, of the program in which the place lies.
@@ -95,32 +64,6 @@ pub struct Refused {
     pub request: u32,
     pub fault: EngineFault,
     pub paths: Vec<Path>,
-}
-
-/// Why files are not changed by such a request.
-pub fn told(fault: StepFault) -> EngineFault
-    ensures { (found : FileMap) → RefusedAs found result }
-{
-    match fault {
-        StepFault::BadRequest(reason) => EngineFault::BadRequest(reason),
-        StepFault::NoSpelling { occ, place, lock } => EngineFault::NoSpelling { occ, place, lock },
-        StepFault::LostEdge {
-            kind,
-            first,
-            second,
-            is_old,
-        } => EngineFault::LostEdge {
-            kind,
-            first,
-            second,
-            is_old,
-        },
-        StepFault::StillUsed { place } => EngineFault::StillUsed { place },
-        StepFault::Broken { rule, place } => EngineFault::Broken { rule, place },
-        StepFault::Differs { place } => EngineFault::Differs { place },
-        StepFault::TooLarge(size) => EngineFault::TooLarge(size),
-        StepFault::OutOfMemory => EngineFault::OutOfMemory,
-    }
 }
 
 impl From<OutOfMemory> for StepFault {

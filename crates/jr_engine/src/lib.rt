@@ -15,5 +15,5 @@ mod tried;
 mod verdicts;
 mod writing;
 
-pub use fault::{EngineFault, LostKind, Refused};
+pub use fault::{EngineFault, LostKind, Refused, StepFault};
 pub use planning::{plan, plan_all};

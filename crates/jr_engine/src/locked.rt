@@ -1,11 +1,15 @@
 // The changed program under its locks.
 
-ghost use Rattle.std.specs.Prelude.{◌≡◌, map, Ok, IfOk};
+ghost use Rattle.std.specs.Prelude.{◌≡◌, map, Ok, IfOk, IfSome};
 ghost use Rattle.std.specs.List.{AllByRecursion};
 ghost use Rattle.jr_tree.specs.Shape.{IsShaped};
 ghost use Rattle.jr_tree.specs.Rows.{program_rows};
+ghost use Rattle.jr_defs.specs.Referents.{entries};
+ghost use Rattle.jr_supers.specs.Supers.{IsWellHeaded, HasNoCycle};
+ghost use Rattle.jr_members.specs.Held.{ObjectIsBare};
 ghost use Rattle.jr_headed.specs.Founded.{IsProgram};
-ghost use Rattle.jr_engine.specs.Written.{IsLockedBy, rows_of};
+ghost use Rattle.jr_bind.specs.Exact.{IsExact};
+ghost use Rattle.jr_engine.specs.Written.{IsBoundByLocks, IsLockedBy, rows_of};
 
 use crate::asked::{Asked, project_of};
 use crate::fault::StepFault;
@@ -57,7 +61,11 @@ fn bound_by(
     places: &Places,
     scopes: &Scopes,
     table: &[Referent],
-) -> Result<Option<Box<Bound>>, OutOfMemory> {
+) -> Result<Option<Box<Bound>>, OutOfMemory>
+    ensures table { IfOk result (λ found. IfSome found (λ bound. bound.value.table.items ≡ table.now)) }
+    ensures exact { IfOk result (λ found. IfSome found (λ bound. IsExact rows.now places.now bound.value)) }
+    ensures acyclic { IsWellHeaded rows.now → ObjectIsBare rows.now → IfOk result (λ found. IfSome found (λ bound. HasNoCycle rows.now (entries bound.value.table.items))) }
+{
     match bind_under(alloc, rows, places, scopes, table.to_vec(alloc)?)? {
         Some(bound) => Ok(Some(Box::new(alloc, bound)?)),
         None => Ok(None),
@@ -74,6 +82,7 @@ fn locked_rows(
 ) -> Result<Locked, StepFault>
     ensures rows { IfOk result (λ locked. locked.program.index.value ≡ index.value) }
     ensures locks { IfOk result (λ locked. locked.locks ≡ locks) }
+    ensures bound { IfOk result IsBoundByLocks }
 {
     let rows = index.rows();
     let places = boxed(alloc, Places::of(alloc, rows))?;
@@ -99,6 +108,7 @@ fn locked_program(alloc: Global, asked: Asked, program: Program) -> Result<Locke
     requires { AllByRecursion IsShaped (map (λ u. u.unit) program.units) }
     ensures locked { IfOk result (IsLockedBy asked.entry) }
     ensures shaped { IfOk result (λ locked. IsProgram (rows_of locked)) }
+    ensures bound { IfOk result IsBoundByLocks }
 {
     let index = index_of(alloc, &program)?;
     let old = asked.old.index.rows();
@@ -113,6 +123,7 @@ fn locked_program(alloc: Global, asked: Asked, program: Program) -> Result<Locke
 pub fn lock(alloc: Global, asked: Asked) -> Result<Locked, StepFault>
     ensures locked { IfOk result (IsLockedBy asked.entry) }
     ensures shaped { IfOk result (λ locked. IsProgram (rows_of locked)) }
+    ensures bound { IfOk result IsBoundByLocks }
 {
     let units = asked.old.program.units.as_slice();
     let texts = changed_texts(alloc, units, asked.change)?;

@@ -3,15 +3,14 @@
 ghost use Rattle.std.specs.Prelude.{IfOk, IfErr, Err};
 ghost use Rattle.jr_base.specs.Files.{FileMap};
 ghost use Rattle.jr_front.specs.Checking.{CheckedAs};
-ghost use Rattle.jr_headed.specs.Founded.{IsProgram};
 ghost use Rattle.jr_engine.specs.Planning.{RefusedAs};
-ghost use Rattle.jr_front.specs.Bound.{rows_in};
+ghost use Rattle.jr_front.specs.Bound.{IsBoundIn};
 ghost use Rattle.jr_engine.specs.Steps.{LeftBy, IsFollowed, IsAskedOf};
 ghost use Rattle.jr_engine.specs.Written.{IsAskedFor};
 
 use crate::asked::{Asked, project_of};
 use crate::edges::{is_within_flow, keeps_edges};
-use crate::fault::{EngineFault, Refused, StepFault, told};
+use crate::fault::{EngineFault, Refused, StepFault};
 use crate::kept::changes_nothing;
 use crate::left::Left;
 use crate::locked::{lock, spellings};
@@ -28,7 +27,7 @@ use std::alloc::Global;
 
 // What a change leaves.
 fn followed(alloc: Global, asked: Asked) -> Result<Left, StepFault>
-    requires shaped { IsProgram (rows_in asked.old.now) }
+    requires bound { IsBoundIn asked.old.now }
     requires asked { IsAskedFor asked }
     ensures { IfOk result (λ left. IsFollowed asked.entry.old.now asked.entry.request.now left) }
 {
@@ -95,7 +94,7 @@ pub fn no_memory(alloc: Global, request: u32) -> Refused
 {
     Refused {
         request,
-        fault: EngineFault::OutOfMemory,
+        fault: EngineFault::Step(StepFault::OutOfMemory),
         paths: Vec::new(alloc),
     }
 }
@@ -121,7 +120,7 @@ fn refused_old(alloc: Global, old: &Workspace, request: u32, fault: StepFault) -
     refused(
         alloc,
         request,
-        told(fault),
+        EngineFault::Step(fault),
         paths_of(alloc, old.program.units.as_slice()),
     )
 }
@@ -134,7 +133,7 @@ fn refused_change(alloc: Global, asked: Asked, request: u32, fault: StepFault) -
         StepFault::Broken { .. } => refused(
             alloc,
             request,
-            told(fault),
+            EngineFault::Step(fault),
             changed_paths(alloc, &asked.change.units),
         ),
         _ => refused_old(alloc, asked.old, request, fault),
@@ -149,7 +148,7 @@ fn left_by(
     change: &Change,
     request: u32,
 ) -> Result<Option<Left>, Refused>
-    requires shaped { IsProgram (rows_in old.now) }
+    requires bound { IsBoundIn old.now }
     requires asked { IsAskedOf old.now asked.now change.now }
     ensures ok { IfOk result (LeftBy old.now asked.now) }
     ensures err { IfErr result (λ refused. (found : FileMap) → RefusedAs found refused.fault) }
@@ -194,7 +193,7 @@ pub fn left_behind(
     asked: &Request,
     request: u32,
 ) -> Result<Option<Left>, Refused>
-    requires { IsProgram (rows_in old.now) }
+    requires { IsBoundIn old.now }
     ensures ok { IfOk result (LeftBy old.now asked.now) }
     ensures err { IfErr result (λ refused. (found : FileMap) → RefusedAs found refused.fault) }
 {

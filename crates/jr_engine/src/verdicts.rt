@@ -2,7 +2,7 @@
 
 use crate::asked::Asked;
 use crate::fault::StepFault;
-use jr_base::{Place, RuleId, Size};
+use jr_base::{Place, Size};
 use jr_change::ChangeFault;
 use jr_front::FrontFault;
 use jr_parse::ParseFault;
@@ -21,10 +21,7 @@ pub fn no_change(fault: ChangeFault) -> StepFault {
 
 /// The rule is broken there in the written texts.
 pub fn broken(rule: Rule, place: Place) -> StepFault {
-    StepFault::Broken {
-        rule: RuleId(rule.number()),
-        place,
-    }
+    StepFault::Broken { rule, place }
 }
 
 // The tokens are no unit: they are nested too deep, or not those that were to be written.

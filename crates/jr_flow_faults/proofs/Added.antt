@@ -12,7 +12,9 @@ use Rattle.jr_reach.specs.declared.course.Entry.{Entry}
 use Rattle.jr_reach.specs.Statements.{Facts, Entries, courses, entries, later}
 use Rattle.jr_reach.specs.Reached.{Reached, reached, reaches, earlier}
 use Rattle.jr_reach.specs.Faults.{is_lost, is_unreached, completes_wrongly, fault_if, faults_at, faults_below, faults}
-use Rattle.jr_flow_faults.specs.Faults.{is_of_exceptions, is_of_reach, is_of_flow, AreReachFaults}
+use Rattle.jr_view.specs.declared.View.{View}
+use Rattle.jr_flow_faults.specs.Computed.{rows_in, facts_in}
+use Rattle.jr_flow_faults.specs.Faults.{is_of_exceptions, is_of_reach, is_of_flow, AreReachFaults, AreThrowFaults}
 
 -- ---- one fault
 
@@ -86,3 +88,15 @@ flow_only p f old mid new is others = only_then (all_rows p f (courses p f) (rea
 -- nor are faults of caught classes among those of jumps, reaching and completing
 pub covered_told : (p : Rows) (f : Facts) (old mid new : List Fault) (rows : List ℕ) → mid ≡ old ++ faults p f → AreFaultsOf rule.CoveredCatch rows mid new → AreFaultsOf rule.CoveredCatch rows old new
 covered_told p f old mid new rows is h = none_then rule.CoveredCatch ((all_rows p f (courses p f) (reached p f) (length p) old mid is).only.others rule.CoveredCatch refl) h
+
+-- nor those of thrown classes
+pub thrown_told : (view : View) (f : Facts) (old mid new : List Fault) → mid ≡ old ++ faults (rows_in view) f → AreThrowFaults view mid new → AreThrowFaults view old new
+thrown_told view f old mid new is h = let p = rows_in view in let before = (all_rows p f (courses p f) (reached p f) (length p) old mid is).only in record {
+  uncaught = none_then rule.UncaughtException (before.others rule.UncaughtException refl) h.uncaught;
+  unthrown = none_then rule.UnthrownCatch (before.others rule.UnthrownCatch refl) h.unthrown;
+}
+
+-- what is round the rows, from the tables
+pub around_told : (view : View) (f f1 : Facts) (all : List Entry) (f2 : Facts) (a1 : List Entry) → f ≡ facts_in view → f1 ≡ f → all ≡ entries (rows_in view) f1 (length (rows_in view)) → f2 ≡ f → a1 ≡ all
+    → (f2 ≡ facts_in view) × (a1 ≡ entries (rows_in view) (facts_in view) (length (rows_in view)))
+around_told view f f1 all f2 a1 known e1 all_are e2 e3 = (e2 ∙ known, e3 ∙ all_are ∙ ap (λ x. entries (rows_in view) x (length (rows_in view))) (e1 ∙ known))

@@ -1,29 +1,27 @@
 -- Classes that come out of bodies, and catches of what no body throws.
-use Rattle.std.proofs.Common.{◌≡◌, ◌⊎◌, refl, sym, ◌∙◌, ap, ap₂, subst, inl, inr, ⊎_elim, arith, ℕ, zero, suc, ◌+◌, ◌<◌, ◌≤◌, Bool, true, false, cond, not, ◌&&◌, ◌||◌, List, [], ◌∷◌, ◌++◌, codes, length, Option, Some, None, Decides}
+use Rattle.std.proofs.Common.{◌≡◌, ◌⊎◌, refl, sym, ◌∙◌, ap, subst, inl, inr, ⊎_elim, ℕ, Bool, true, false, cond, not, ◌||◌, List, [], ◌∷◌, ◌++◌, codes, Some, None, Decides}
 use Rattle.std.specs.List.{list_any}
-use Rattle.std.proofs.lemmas.Bool.{false≢true, cases_eq}
+use Rattle.std.proofs.lemmas.Bool.{false≢true}
 use Rattle.std.proofs.lemmas.Option.{none-some, same_Some}
-use Rattle.jr_tree.specs.Rows.{Rows, label, parent}
-use Rattle.jr_tree.specs.Local.{IsLocal}
+use Rattle.jr_tree.specs.Rows.{Rows, parent}
 use Rattle.jr_defs.specs.Declarations.{IsPrelude}
 use Rattle.jr_defs.specs.MemberRules.{IsChecked}
 use Rattle.jr_defs.specs.Referents.{Table, entries}
 use Rattle.jr_defs.specs.Supertypes.{AtOrAbove}
 use Rattle.jr_plain.specs.Overloads.{Types}
-use Rattle.jr_plain.specs.Search.{Finds, Lists, has}
-use Rattle.jr_plain.proofs.Tests.{both, either, itself, like, opposite}
+use Rattle.jr_plain.specs.Search.{has}
+use Rattle.jr_plain.proofs.Tests.{either, itself, like, opposite}
 use Rattle.jr_plain.proofs.Searches.{some_of}
 use Rattle.jr_places.specs.declared.chains.Entry.{Entry}
 use Rattle.jr_supers.specs.Pairs.{has_pair, with_pair, with_pairs}
-use Rattle.jr_supers.specs.Supers.{AreSupersOf, ListsOnce}
+use Rattle.jr_supers.specs.Supers.{ListsOnce}
 use Rattle.jr_supers.specs.declared.subtypes.Supers as upper
 use Rattle.jr_supers.specs.declared.tabled.Tabled as tabled
 use Rattle.jr_supers.proofs.Keys.{HasOr, with_pairs_tell}
 use Rattle.jr_supers.proofs.Subtyped.{one_test}
 use Rattle.jr_flow_faults.specs.declared.catches.Arrived as code
 use Rattle.jr_flow_faults.specs.declared.classes.Roots as rooted
-use Rattle.jr_flow_faults.specs.Computed.{is_it}
-use Rattle.jr_flow_faults.specs.Exceptions.{IsCatchOf, BodyThrows, IsUnthrown}
+use Rattle.jr_flow_faults.specs.Exceptions.{IsUnthrown}
 use Rattle.jr_flow_faults.specs.Roots.{AreRoots, is_general}
 use Rattle.jr_flow_faults.specs.Outwards.{AreAbove}
 use Rattle.jr_flow_faults.specs.Arriving.{HasRelated, IsUnthrownClass, IsUnthrownCatch, IsTelling, AreAllArrived}
@@ -70,19 +68,22 @@ pub general_tells : (p : Rows) (roots : rooted.Roots) → AreRoots p roots → (
 general_tells p roots are c = either (it_tells roots.exception are.exception c) (it_tells roots.throwable are.throwable c)
 
 module _ (p : Rows) (t : Table) (thrown : List Entry) (o c : ℕ) where
-  -- it is not checked, or general
-  pub no_unthrown : (roots : rooted.Roots) (a b : Bool) → AreRoots p roots → Decides a (IsChecked p t c) → b ≡ is_general roots c → (not a || b) ≡ true → Decides false (IsUnthrownClass p t thrown o c)
-  no_unthrown roots true true are d e h = (λ k. absurd (false≢true k), λ k. absurd (⊎_elim k.no_exception k.no_throwable ((general_tells p roots are c).0 (sym e))))
-  no_unthrown roots true false are d e h = absurd (false≢true h)
-  no_unthrown roots false b are d e h = (λ k. absurd (false≢true k), λ k. absurd (false≢true (d.1 k.checked)))
+  -- it is not checked
+  pub no_unchecked : (b : Bool) → Decides b (IsChecked p t c) → b ≡ false → Decides false (IsUnthrownClass p t thrown o c)
+  no_unchecked b d e = (λ k. absurd (false≢true k), λ k. absurd (false≢true (sym e ∙ d.1 k.checked)))
 
-  pub unthrown_class : (roots : rooted.Roots) (a b can : Bool) → AreRoots p roots → Decides a (IsChecked p t c) → b ≡ is_general roots c → (not a || b) ≡ false → Decides can (HasRelated p t thrown o c)
-      → Decides (not can) (IsUnthrownClass p t thrown o c)
-  unthrown_class roots true true can are d e h related = absurd (false≢true (sym h))
-  unthrown_class roots true false can are d e h related = like (opposite related)
-      (λ k. record { checked = d.0 refl; no_exception = λ i. false≢true (e ∙ (general_tells p roots are c).1 (inl i)); no_throwable = λ i. false≢true (e ∙ (general_tells p roots are c).1 (inr i)); none = k })
-      (λ k. k.none)
-  unthrown_class roots false b can are d e h related = absurd (false≢true (sym h))
+  module _ (roots : rooted.Roots) (are : AreRoots p roots) where
+    -- it is general
+    pub no_general : (b : Bool) → b ≡ is_general roots c → b ≡ true → Decides false (IsUnthrownClass p t thrown o c)
+    no_general b is e = (λ k. absurd (false≢true k), λ k. absurd (⊎_elim k.no_exception k.no_throwable ((general_tells p roots are c).0 (sym is ∙ e))))
+
+    pub unthrown_class : (a b can : Bool) → Decides a (IsChecked p t c) → a ≡ true → b ≡ is_general roots c → b ≡ false → Decides can (HasRelated p t thrown o c) → Decides (not can) (IsUnthrownClass p t thrown o c)
+    unthrown_class a b can d checked is apart related = like (opposite related)
+        (λ k. record { checked = d.0 checked; no_exception = λ i. general (inl i); no_throwable = λ i. general (inr i); none = k })
+        (λ k. k.none)
+      where
+        general : IsPrelude p (codes "Exception") c ⊎ IsPrelude p (codes "Throwable") c → ⊥
+        general i = false≢true (sym apart ∙ is ∙ (general_tells p roots are c).1 i)
 
 pub unthrown_some : (p : Rows) (t : Table) (thrown : List Entry) (n c : ℕ) (b : Bool) → catch_class p t n ≡ Some c → Decides b (IsUnthrownClass p t thrown (parent p n) c) → Decides b (IsUnthrownCatch p t thrown n)
 unthrown_some p t thrown n c b is d = like d (λ h. record { class = c; caught = is; unthrown = h }) (λ h. subst (λ x. IsUnthrownClass p t thrown (parent p n) x) (same_Some h.class c (sym h.caught ∙ is)) h.unthrown)

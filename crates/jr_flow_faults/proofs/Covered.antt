@@ -1,5 +1,5 @@
 -- The catches that stand in a table, and those whose class an earlier one catches.
-use Rattle.std.proofs.Common.{◌≡◌, ◌⊎◌, refl, sym, ◌∙◌, ap, subst, inl, inr, ⊎_elim, arith, ℕ, zero, suc, ◌+◌, ◌<◌, ◌≤◌, Bool, true, false, cond, ◌&&◌, ◌||◌, List, [], ◌∷◌, length, Option, Some, None, nat_eq, Decides}
+use Rattle.std.proofs.Common.{◌≡◌, ◌⊎◌, refl, sym, ◌∙◌, ap, subst, inl, inr, ⊎_elim, arith, ℕ, zero, suc, ◌+◌, ◌<◌, ◌≤◌, Bool, true, false, cond, ◌||◌, List, [], ◌∷◌, length, Option, Some, None, nat_eq, Decides}
 use Rattle.std.specs.List.{list_any}
 use Rattle.std.proofs.lemmas.Bool.{false≢true, cases_eq}
 use Rattle.std.proofs.lemmas.Bool.Decides.{Decides-eqb}
@@ -15,19 +15,19 @@ use Rattle.jr_defs.specs.Referents.{Table}
 use Rattle.jr_defs.specs.Supertypes.{AtOrAbove}
 use Rattle.jr_defs.specs.Types.{class_type, HasType}
 use Rattle.jr_plain.specs.Headed.{IsHeaded}
-use Rattle.jr_plain.specs.Search.{Finds, Lists, any_below, has}
+use Rattle.jr_plain.specs.Search.{Finds, has}
 use Rattle.jr_plain.specs.Supertypes.{is_at_or_above}
 use Rattle.jr_plain.specs.Types.{type_of_declared, type_of_by}
 use Rattle.jr_plain.proofs.Modified.{found_tells}
 use Rattle.jr_plain.proofs.Searches.{any, some_of}
 use Rattle.jr_plain.proofs.Supertyped.{at_or_above_tells}
-use Rattle.jr_plain.proofs.Tests.{both, either, itself, like}
+use Rattle.jr_plain.proofs.Tests.{both, like}
 use Rattle.jr_plain.proofs.Typed.{has_type_finds}
 use Rattle.jr_places.specs.declared.chains.Entry.{Entry}
 use Rattle.jr_rules.specs.StatementTests.{is_catch}
-use Rattle.jr_supers.specs.Pairs.{has_pair, with_pair, with_pairs}
+use Rattle.jr_supers.specs.Pairs.{has_pair}
 use Rattle.jr_supers.specs.Supers.{AreSupersOf, ListsOnce}
-use Rattle.jr_supers.proofs.Keys.{HasOr, with_pairs_tell}
+use Rattle.jr_supers.proofs.Keys.{with_pairs_tell}
 use Rattle.jr_supers.proofs.Subtyped.{one_test}
 use Rattle.jr_flow_faults.specs.Exceptions.{IsCatchOf, CatchesBefore, IsCovered}
 use Rattle.jr_flow_faults.specs.ExceptionTests.{class_by, class_of, class_in, catch_class, catches_before, is_covered, AreCatchesTo, with_class, with_catch}

@@ -1,10 +1,15 @@
 -- Faults of the rules on exceptions alone.
-use Rattle.std.proofs.Common.{◌≡◌, Bool, true, false, ◌||◌, List}
+use Rattle.std.proofs.Common.{◌≡◌, Bool, true, false, ◌||◌, List, Result, Ok, Err, OnOk}
 use Rattle.std.proofs.lemmas.Bool.{or_parts}
 use Rattle.jr_rule.specs.declared.Fault.{Fault}
 use Rattle.jr_rule.specs.declared.Rule.TheVariants as rule
 use Rattle.jr_faults.specs.Added.{is_rule, AreOnly}
 use Rattle.jr_flow_faults.specs.Faults.{is_followed, is_of_exceptions}
+
+-- two facts of a call that went well
+pub on_ok_both : {T E P Q R : Type 0} (r : Result T E) → (P → Q → R) → OnOk r P → OnOk r Q → OnOk r R
+on_ok_both (Ok x) both p q = both p q
+on_ok_both (Err e) both p q = tt
 
 or_none : (a b : Bool) → a ≡ false → b ≡ false → (a || b) ≡ false
 or_none true b e f = e

@@ -1,21 +1,18 @@
 -- The class that is followed comes to the members and bodies of the definition.
-use Rattle.std.proofs.Common.{◌≡◌, ◌⊎◌, refl, sym, ◌∙◌, ap, subst, inl, inr, ⊎_elim, arith, ℕ, zero, suc, ◌+◌, ◌<◌, ◌≤◌, Bool, true, false, cond, not, List, [], ◌∷◌, length, Option, Some, None, Decides}
-use Rattle.std.specs.List.{list_any}
-use Rattle.std.proofs.lemmas.Bool.{false≢true, cases_lt, cases_eq}
+use Rattle.std.proofs.Common.{◌≡◌, ◌⊎◌, refl, sym, ap, subst, inl, inr, ⊎_elim, arith, ℕ, suc, ◌+◌, ◌<◌, Bool, true, List, [], ◌∷◌, length, Option, Some, None, Decides}
 use Rattle.std.proofs.lemmas.Option.{none-some, same_Some}
-use Rattle.jr_tree.specs.declared.label.Label.{Label}
-use Rattle.jr_tree.specs.Rows.{Rows, label, parent}
+use Rattle.jr_tree.specs.Rows.{Rows, label}
 use Rattle.jr_tree.specs.Local.{IsLocal}
 use Rattle.jr_defs.specs.Referents.{Table}
 use Rattle.jr_plain.specs.Search.{Finds, has}
 use Rattle.jr_plain.proofs.Tests.{like}
 use Rattle.jr_places.specs.declared.chains.Entry.{Entry}
 use Rattle.jr_supers.specs.Pairs.{has_pair, with_pair}
-use Rattle.jr_supers.proofs.Keys.{HasOr, with_pairs_tell}
+use Rattle.jr_supers.proofs.Keys.{with_pairs_tell}
 use Rattle.jr_flow_faults.specs.Exceptions.{IsTry, IsCode, IsTryBlock, FinallyCompletes, Catches, ComesTo}
 use Rattle.jr_flow_faults.specs.Outwards.{Meets, Arrives, Goes, GoesFrom, IsReached, IsLeft, AreFollowed, IsFollowing}
 use Rattle.jr_flow_faults.proofs.Covered.{one_item, item_one}
-use Rattle.jr_flow_faults.proofs.Outward.{code_no_try, meets_before, meets_guard, arrives_out, arrives_into}
+use Rattle.jr_flow_faults.proofs.Outward.{code_no_try, meets_before, arrives_out, arrives_into}
 
 -- one pair more
 pub pair_tells : (pairs : List Entry) (low high o d : ℕ) → Decides (has_pair (with_pair pairs low high) o d) ((has_pair pairs o d ≡ true) ⊎ ((low ≡ o) × (high ≡ d)))

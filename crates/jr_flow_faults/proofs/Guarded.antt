@@ -1,5 +1,5 @@
 -- The table of guards has for each row what meets first what is thrown there.
-use Rattle.std.proofs.Common.{◌≡◌, ◌⊎◌, refl, sym, ◌∙◌, ap, subst, inl, inr, ⊎_elim, arith, add-one, ℕ, zero, suc, ◌+◌, ◌<◌, ◌≤◌, Bool, true, false, cond, not, ◌&&◌, List, [], ◌∷◌, ◌++◌, length, length-append, get_or, Option, Some, None, nat_eq, Decides}
+use Rattle.std.proofs.Common.{◌≡◌, ◌⊎◌, refl, sym, ◌∙◌, ap, subst, inl, inr, ⊎_elim, arith, ℕ, zero, suc, ◌+◌, ◌<◌, ◌≤◌, Bool, true, false, cond, not, ◌&&◌, List, [], ◌∷◌, length, length-append, Option, Some, None, nat_eq, Decides}
 use Rattle.std.proofs.lemmas.Bool.{false≢true, cases_lt, cases_eq}
 use Rattle.std.proofs.lemmas.Bool.Decides.{Decides-eqb}
 use Rattle.std.proofs.lemmas.List.{get_or_past}
@@ -11,7 +11,7 @@ use Rattle.jr_tree.specs.declared.label.Label.TheVariants as is
 use Rattle.jr_tree.specs.Rows.{Rows, label, parent}
 use Rattle.jr_tree.specs.Local.{IsLocal}
 use Rattle.jr_plain.specs.Search.{Finds}
-use Rattle.jr_plain.proofs.Tests.{both, itself, like, opposite}
+use Rattle.jr_plain.proofs.Tests.{both, like}
 use Rattle.jr_rules.specs.StatementTests.{is_catch}
 use Rattle.jr_reach.specs.Statements.{Facts, Entries, fact}
 use Rattle.jr_flow_faults.specs.declared.guards.Guard.{Guard}
@@ -19,10 +19,10 @@ use Rattle.jr_flow_faults.specs.declared.guards.Guard.TheVariants as guard
 use Rattle.jr_flow_faults.specs.Computed.{is_block, is_it}
 use Rattle.jr_flow_faults.specs.Known.{IsLastBlock}
 use Rattle.jr_flow_faults.specs.Exceptions.{IsTry, IsCode, IsTryBlock, FinallyCompletes}
-use Rattle.jr_flow_faults.specs.Outwards.{Meets, guard_of, is_try, completing, loses_by, loses, guard_in, guard_in_try, guard_under, guard_by, guards, next_guard}
+use Rattle.jr_flow_faults.specs.Outwards.{Meets, guard_of, is_try, completing, loses_by, loses, guard_in, guard_in_try, guard_under, guard_by, guards}
 use Rattle.jr_flow_faults.proofs.Known.{block_tells}
 use Rattle.jr_flow_faults.proofs.Covered.{catch_tells}
-use Rattle.jr_flow_faults.proofs.Outward.{code_no_try, code_no_block, code_no_catch, guarded_try, meets_row}
+use Rattle.jr_flow_faults.proofs.Outward.{code_no_try, guarded_try, meets_row}
 
 -- ---- kinds of guards
 

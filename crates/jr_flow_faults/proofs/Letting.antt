@@ -1,7 +1,15 @@
 -- Which classes are thrown at a row, and which members let a class out.
-use Rattle.std.proofs.Common.{◌≡◌, ◌⊎◌, refl, sym, ◌∙◌, ap, ap₂, subst, inl, inr, ⊎_elim, arith, ℕ, zero, suc, ◌+◌, ◌<◌, ◌≤◌, Bool, true, false, cond, not, ◌&&◌, ◌||◌, List, [], ◌∷◌, ◌++◌, length, drop, slice_index_or, Option, Some, None, Decides}
+use Rattle.std.proofs.Common.{◌≡◌, sym, ◌∙◌, ap, ℕ, ◌+◌, ◌<◌, ◌≤◌, Bool, true, false, ◌&&◌, ◌||◌, List, [], ◌∷◌, ◌++◌, append_assoc, append-nil, flat_map, length, drop, slice_index_or}
 use Rattle.std.specs.List.{list_any, list_all}
 use Rattle.std.proofs.lemmas.List.{drop_more, drop_all}
+
+-- ---- what the items of a list have
+
+pub flat_next : (f : ℕ → List ℕ) (all left more done new : List ℕ) (x : ℕ) → left ≡ x ∷ more → new ≡ done ++ f x → done ++ flat_map f left ≡ all → new ++ flat_map f more ≡ all
+flat_next f all left more done new x is e before = ap (λ xs. xs ++ flat_map f more) e ∙ append_assoc done (f x) (flat_map f more) ∙ ap (λ xs. done ++ flat_map f xs) (sym is) ∙ before
+
+pub flat_end : (f : ℕ → List ℕ) (all left done : List ℕ) → left ≡ [] → done ++ flat_map f left ≡ all → done ≡ all
+flat_end f all left done is before = sym (append-nil done) ∙ ap (λ xs. done ++ flat_map f xs) (sym is) ∙ before
 
 -- ---- tests of the items of a list, from one on
 

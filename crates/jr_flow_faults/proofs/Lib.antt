@@ -13,4 +13,5 @@ pub mod Letting
 pub mod Uncaught
 pub mod Arriving
 pub mod Noted
+mod Readings
 mod Added

@@ -1,10 +1,10 @@
 -- What is told of the classes that are thrown at a row.
-use Rattle.std.proofs.Common.{◌≡◌, ◌⊎◌, refl, sym, ◌∙◌, ap, ap₂, subst, inl, inr, ⊎_elim, arith, add-one, ℕ, zero, suc, ◌+◌, ◌<◌, ◌≤◌, Bool, true, false, cond, not, ◌&&◌, ◌||◌, List, [], ◌∷◌, ◌++◌, take, length, slice_index_or, Option, Some, None, nat_eq, Decides}
+use Rattle.std.proofs.Common.{◌≡◌, ◌⊎◌, refl, sym, ◌∙◌, ap, subst, inl, inr, ⊎_elim, arith, add-one, ℕ, ◌+◌, ◌<◌, ◌≤◌, Bool, true, false, cond, not, ◌||◌, List, [], ◌∷◌, ◌++◌, take, length, slice_index_or, Option, Some, None, nat_eq, Decides}
 use Rattle.std.specs.List.{list_any}
 use Rattle.std.proofs.Math.Seq.{take-suc}
-use Rattle.std.proofs.lemmas.Bool.{false≢true, cases_eq, or_cases, or_left, or_right}
+use Rattle.std.proofs.lemmas.Bool.{false≢true, cases_eq, or_left}
 use Rattle.std.proofs.lemmas.Bool.Decides.{Decides-eqb}
-use Rattle.std.proofs.lemmas.List.Folds.{list_any-append}
+use Rattle.std.proofs.lemmas.List.{take_all}
 use Rattle.std.proofs.lemmas.Option.{none-some, same_Some}
 use Rattle.jr_tree.specs.declared.label.Label.{Label}
 use Rattle.jr_tree.specs.declared.label.Label.TheVariants as is
@@ -26,12 +26,12 @@ use Rattle.jr_supers.specs.Supers.{ListsOnce}
 use Rattle.jr_supers.proofs.Subtyped.{one_test}
 use Rattle.jr_flow_faults.specs.declared.catches.Arrived as arriving
 use Rattle.jr_flow_faults.specs.Exceptions.{IsTry, IsCode, FinallyCompletes, Catches, IsCatchOf, IsInvocation, ThrownAt, BodyThrows, LetsOut, IsUncaught}
-use Rattle.jr_flow_faults.specs.Outwards.{Meets, GoesFrom, IsReached, IsLeft, AreFollowed, IsFollowing, AreAbove}
+use Rattle.jr_flow_faults.specs.Outwards.{Meets, GoesFrom, IsLeft, IsFollowing, AreAbove}
 use Rattle.jr_flow_faults.specs.ExceptionTests.{AreCatchesTo, lets_out, thrown_at, is_uncaught}
 use Rattle.jr_flow_faults.specs.Reading.{IsOnward, ComesUncaught, FollowsClass, FollowsUncaught, NotesClass, NotesClasses, RowThrows, AreArrived, NotesRow}
 use Rattle.jr_flow_faults.proofs.Covered.{one_item, item_one}
 use Rattle.jr_flow_faults.proofs.Followed.{following_caught, following_lost, following_on, following_pairs, following_none, following_end, none_ahead}
-use Rattle.jr_flow_faults.proofs.Uncaught.{catches_tells, lets_out_tells, thrown_list, uncaught_tells}
+use Rattle.jr_flow_faults.proofs.Uncaught.{lets_out_tells, thrown_list, uncaught_tells}
 
 no_invocation : (l : Label) → IsInvocation l → IsCode l → ⊥
 no_invocation (is.Call r) h k = k
@@ -165,6 +165,10 @@ module _ (p : Rows) (t : Table) (completes : ℕ → Bool) where
       (ap (λ x. take k classes ++ x ∷ []) is ∙ sym (take-suc classes k d lt) ∙ ap (λ m. take m classes) (sym (add-one k)))
       (classes_more n (take k classes) c old mid new a b first second)
 
+  -- all of them
+  pub classes_end : (n : ℕ) (classes : List ℕ) (k : ℕ) (old new : arriving.Arrived) (b : Bool) → length classes ≤ k → NotesClasses p t completes n (take k classes) old new b → NotesClasses p t completes n classes old new b
+  classes_end n classes k old new b le h = subst (λ xs. NotesClasses p t completes n xs old new b) (take_all k classes le) h
+
   -- ---- a row
 
   module _ (headed : IsHeaded p) (local : IsLocal p) (type_of : Types) (typed : (n : ℕ) → Finds (type_of n) (λ a. Typed p t n a)) (n : ℕ) (old new : arriving.Arrived) (before : AreArrived p t completes n old) where
@@ -195,6 +199,13 @@ module _ (p : Rows) (t : Table) (completes : ℕ → Bool) where
     pub some_thrown : (classes : List ℕ) → classes ≡ thrown_at p t type_of n → (classes ≡ [] → ⊥) → IsCode (label p n) → ⊥
     some_thrown [] are some is = some refl
     some_thrown (c ∷ more) are some is = thrower c ((thrown_list p t local type_of typed n c).0 (subst (λ xs. has xs c ≡ true) are (or_left (nat_eq c c) (has more c) ((Decides-eqb c c).1 refl)))) is
+
+  pub no_classes : (classes : List ℕ) (count : ℕ) (b : Bool) → count ≡ length classes → b ≡ nat_eq count 0 → b ≡ true → classes ≡ []
+  no_classes [] count b long is e = refl
+  no_classes (c ∷ more) count b long is e = let none = (Decides-eqb count 0).0 (sym is ∙ e) in absurd (omega arith)
+
+  pub some_classes : (classes : List ℕ) (count : ℕ) (b : Bool) → count ≡ length classes → b ≡ nat_eq count 0 → b ≡ false → classes ≡ [] → ⊥
+  some_classes classes count b long is e empty = let none = ap length empty in false≢true (sym e ∙ is ∙ (Decides-eqb count 0).1 (omega arith))
 
   -- ---- all rows
 

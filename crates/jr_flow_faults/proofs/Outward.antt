@@ -1,5 +1,5 @@
 -- From guard to guard an exception comes to the same members and bodies as from row to row.
-use Rattle.std.proofs.Common.{◌≡◌, ◌⊎◌, refl, sym, ◌∙◌, ap, subst, inl, inr, ⊎_elim, arith, ℕ, zero, suc, ◌+◌, ◌<◌, ◌≤◌, Bool, true, false, length}
+use Rattle.std.proofs.Common.{◌≡◌, ◌⊎◌, refl, sym, ◌∙◌, ap, subst, inl, inr, ⊎_elim, arith, ℕ, ◌+◌, ◌<◌, Bool, true, length}
 use Rattle.std.proofs.lemmas.Bool.{cases_lt, cases_eq}
 use Rattle.jr_tree.specs.declared.label.Label.{Label}
 use Rattle.jr_tree.specs.declared.label.Label.TheVariants as is
@@ -7,9 +7,8 @@ use Rattle.jr_tree.specs.Rows.{Rows, label, parent}
 use Rattle.jr_tree.specs.Local.{IsLocal}
 use Rattle.jr_defs.specs.Referents.{Table}
 use Rattle.jr_plain.proofs.Bounds.{bounded, parent_past}
-use Rattle.jr_flow_faults.specs.Known.{IsLastBlock}
 use Rattle.jr_flow_faults.specs.Exceptions.{IsTry, IsCode, IsTryBlock, FinallyCompletes, Catches, GoesOn, ComesTo}
-use Rattle.jr_flow_faults.specs.Outwards.{Meets, Arrives, IsReached, IsLeft}
+use Rattle.jr_flow_faults.specs.Outwards.{Meets, Arrives}
 
 -- ---- labels
 

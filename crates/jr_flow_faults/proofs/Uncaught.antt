@@ -1,6 +1,6 @@
 -- The tests of the rules on exceptions tell what they are to tell.
-use Rattle.std.proofs.Common.{◌≡◌, ◌⊎◌, refl, sym, ◌∙◌, ap, ap₂, subst, inl, inr, ⊎_elim, arith, ℕ, zero, suc, ◌+◌, ◌<◌, ◌≤◌, Bool, true, false, cond, not, ◌&&◌, ◌||◌, List, [], ◌∷◌, ◌++◌, codes, length, flat_map, Option, Some, None, nat_eq, Decides}
-use Rattle.std.specs.List.{list_any, list_all}
+use Rattle.std.proofs.Common.{◌≡◌, ◌⊎◌, refl, sym, ◌∙◌, ap, subst, inl, inr, ⊎_elim, arith, ℕ, zero, suc, ◌+◌, ◌<◌, ◌≤◌, Bool, true, false, cond, not, ◌&&◌, [], codes, length, Option, Some, None, nat_eq, Decides}
+use Rattle.std.specs.List.{list_any}
 use Rattle.std.proofs.lemmas.Bool.{false≢true, cases_lt, cases_eq, or_cases, or_left, or_right}
 use Rattle.std.proofs.lemmas.Bool.Decides.{Decides-eqb}
 use Rattle.std.proofs.lemmas.Option.{none-some, same_Some}
@@ -12,11 +12,8 @@ use Rattle.jr_tree.specs.declared.label.Role.TheVariants as role
 use Rattle.jr_tree.specs.Labels.{role_of}
 use Rattle.jr_tree.specs.Rows.{Rows, label, parent, role_at}
 use Rattle.jr_tree.specs.Local.{IsLocal}
-use Rattle.jr_defs.specs.declared.referent.Referent.{Referent}
 use Rattle.jr_defs.specs.declared.referent.Referent.TheVariants.{Declared}
-use Rattle.jr_defs.specs.declared.referent.RowType.{RowType}
 use Rattle.jr_defs.specs.Referents.{Table}
-use Rattle.jr_defs.specs.Declarations.{IsPrelude}
 use Rattle.jr_defs.specs.Enclosing.{holder}
 use Rattle.jr_defs.specs.MemberRules.{IsOtherName, Throws, IsChecked, Allows}
 use Rattle.jr_defs.specs.Modifiers.{IsStatic}
@@ -24,39 +21,33 @@ use Rattle.jr_defs.specs.Supertypes.{AtOrAbove}
 use Rattle.jr_defs.specs.Types.{class_type, HasType}
 use Rattle.jr_plain.specs.Enclosing.{children}
 use Rattle.jr_plain.specs.Headed.{IsHeaded}
-use Rattle.jr_plain.specs.Modifiers.{is_static}
 use Rattle.jr_plain.specs.Overloads.{Types}
-use Rattle.jr_plain.specs.Search.{Finds, Lists, any_below, has}
+use Rattle.jr_plain.specs.Search.{Finds, Lists, has}
 use Rattle.jr_plain.specs.Supertypes.{is_at_or_above}
 use Rattle.jr_plain.specs.Typing.{first}
-use Rattle.jr_plain.specs.Declarations.{is_prelude}
 use Rattle.jr_plain.proofs.Bounds.{bounded, parent_past, constructor_below}
 use Rattle.jr_plain.proofs.Children.{children_list, row_of_child}
 use Rattle.jr_plain.proofs.Declared.{prelude_tells}
 use Rattle.jr_plain.proofs.Modified.{found_tells, static_tells}
 use Rattle.jr_plain.proofs.Same.{role_tells}
-use Rattle.jr_plain.proofs.Searches.{any, some, some_of, every_of, flat_of}
+use Rattle.jr_plain.proofs.Searches.{some, some_of, every_of, flat_of}
 use Rattle.jr_plain.proofs.Supertyped.{at_or_above_tells}
 use Rattle.jr_plain.proofs.Tests.{always, never, both, either, opposite, implies, like}
 use Rattle.jr_rules.proofs.Kids.{first_finds}
 use Rattle.jr_rules.specs.Statements.{IsMethodOrConstructor}
-use Rattle.jr_rules.specs.StatementTests.{is_catch, is_other_name}
+use Rattle.jr_rules.specs.StatementTests.{is_other_name}
 use Rattle.jr_rules.specs.Typed.{Typed, FirstOf}
 use Rattle.jr_supers.specs.Tabled.{declared}
-use Rattle.jr_member_rules.specs.Throwing.{is_checked}
 use Rattle.jr_member_rules.proofs.Thrown.{checked_tells}
-use Rattle.jr_flow_faults.specs.declared.guards.Guard.{Guard}
-use Rattle.jr_flow_faults.specs.declared.guards.Guard.TheVariants as guard
 use Rattle.jr_flow_faults.specs.declared.facts.Part.TheVariants as part
-use Rattle.jr_flow_faults.specs.Computed.{is_block, is_it, last_part}
+use Rattle.jr_flow_faults.specs.Computed.{last_part}
 use Rattle.jr_flow_faults.specs.Known.{IsLastBlock}
-use Rattle.jr_flow_faults.specs.Exceptions.{IsInvocation, ThrownAt, IsCatchOf, Catches, IsTry, IsCode, IsTryBlock, FinallyCompletes, GoesOn, ComesTo, BodyThrows, IsOfInstances, IsConstructorBeside, LetsOut, IsUncaught, IsUnthrown}
-use Rattle.jr_flow_faults.specs.Outwards.{guard_of, is_try, loses_by}
+use Rattle.jr_flow_faults.specs.Exceptions.{IsInvocation, ThrownAt, IsCatchOf, Catches, IsTry, IsCode, IsTryBlock, FinallyCompletes, GoesOn, ComesTo, BodyThrows, IsOfInstances, LetsOut, IsUncaught, IsUnthrown}
+use Rattle.jr_flow_faults.specs.Outwards.{guard_of, loses_by}
 use Rattle.jr_flow_faults.specs.ExceptionTests.{is_invocation, items, class_in, named_class, declared_classes, declared_by, invoked_classes, thrown_by, thrown_at, catch_class, is_constructor, declares, lets_by, all_declare, lets_out_by, lets_out, catches, is_code, is_try_block, finally_completes, goes_on, outwards_to, outwards, comes_uncaught, is_uncaught, is_thrown_in, can_throw, is_unthrown}
 use Rattle.jr_flow_faults.proofs.Known.{block_tells, last_finds, declared_finds}
 use Rattle.jr_flow_faults.proofs.Covered.{catch_tells, catch_finds, before_tells, class_finds, one_item, item_one}
 use Rattle.jr_flow_faults.proofs.Guarded.{try_tells, it_tells}
-use Rattle.jr_flow_faults.proofs.Outward.{under_try}
 
 -- ---- what is thrown
 

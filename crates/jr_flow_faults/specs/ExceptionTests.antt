@@ -9,8 +9,7 @@ use Rattle.jr_defs.specs.declared.referent.Element.{Element}
 use Rattle.jr_defs.specs.declared.referent.Element.TheVariants as element
 use Rattle.jr_defs.specs.declared.referent.RowType.{RowType}
 use Rattle.jr_defs.specs.Referents.{Table}
-use Rattle.jr_defs.specs.Enclosing.{holder}
-use Rattle.jr_plain.specs.Search.{any_below, all_below, all_such, has}
+use Rattle.jr_plain.specs.Search.{any_below, all_such, has}
 use Rattle.jr_plain.specs.Same.{same_role}
 use Rattle.jr_plain.specs.Declarations.{is_prelude}
 use Rattle.jr_plain.specs.Enclosing.{children}
@@ -22,7 +21,7 @@ use Rattle.jr_plain.specs.Typing.{first}
 use Rattle.jr_places.specs.declared.chains.Entry.{Entry}
 use Rattle.jr_supers.specs.Pairs.{has_pair, with_pair}
 use Rattle.jr_supers.specs.Tabled.{declared}
-use Rattle.jr_rules.specs.StatementTests.{is_catch, is_method_or_constructor, is_other_name}
+use Rattle.jr_rules.specs.StatementTests.{is_catch, is_other_name}
 use Rattle.jr_rules.specs.TypedTests.{found}
 use Rattle.jr_member_rules.specs.Throwing.{is_checked}
 use Rattle.jr_flow_faults.specs.declared.guards.Guard.{Guard}

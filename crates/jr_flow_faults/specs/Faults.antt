@@ -16,7 +16,7 @@ use Rattle.jr_flow_faults.specs.Known.{AreKnown}
 use Rattle.jr_flow_faults.specs.Computed.{rows_in, table_in, facts_in}
 use Rattle.jr_flow_faults.specs.Exceptions.{IsUncaught, IsUnthrown, IsCovered}
 use Rattle.jr_flow_faults.specs.Outwards.{completing}
-use Rattle.jr_flow_faults.specs.ExceptionTests.{uncaught_rows, unthrown_rows, covered_rows}
+use Rattle.jr_flow_faults.specs.ExceptionTests.{uncaught_rows, unthrown_rows}
 use Rattle.jr_flow_faults.specs.Reading.{types_in, completes_in}
 
 -- by what is known of the rows: 36, the first of statements that cannot be reached, and 37, a body that completes otherwise than it may
@@ -68,8 +68,7 @@ pub record AreReachFaults (p : Rows) (f : Facts) (old new : List Fault) : Type 0
 abbrev pub AreFlowFaults : View → List Fault → List Fault → Type 0
 AreFlowFaults view old new = AreReachFaults (rows_in view) (facts_in view) old new
 
--- the faults of the rules on exceptions
+-- the faults of checked classes that are neither caught nor declared, and of catches of what no body throws
 pub record AreThrowFaults (view : View) (old new : List Fault) : Type 0 where
   pub uncaught : AreFaultsOf rule.UncaughtException (uncaught_rows (rows_in view) (table_in view) (types_in view) (completes_in view)) old new
   pub unthrown : AreFaultsOf rule.UnthrownCatch (unthrown_rows (rows_in view) (table_in view) (types_in view) (completes_in view)) old new
-  pub covered : AreFaultsOf rule.CoveredCatch (covered_rows (rows_in view) (table_in view)) old new

@@ -1,13 +1,11 @@
 -- What is read to follow what is thrown, and what is told of each row.
 use Rattle.std.specs.Prelude.{◌≡◌, ◌⊎◌, ℕ, ◌+◌, ◌<◌, Bool, not, true, List, length, Option, None, Decides}
-use Rattle.jr_tree.specs.Rows.{Rows, label}
+use Rattle.jr_tree.specs.Rows.{Rows}
 use Rattle.jr_tree.specs.Local.{IsLocal}
 use Rattle.jr_defs.specs.Referents.{Table}
 use Rattle.jr_defs.specs.MemberRules.{IsChecked}
-use Rattle.jr_defs.specs.Supertypes.{AtOrAbove}
 use Rattle.jr_plain.specs.Overloads.{Types}
 use Rattle.jr_plain.specs.Search.{Finds, has}
-use Rattle.jr_places.specs.declared.chains.Entry.{Entry}
 use Rattle.jr_rules.specs.Typed.{Typed}
 use Rattle.jr_supers.specs.Pairs.{has_pair}
 use Rattle.jr_supers.specs.Supers.{AreSupersOf}

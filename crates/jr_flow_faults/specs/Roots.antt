@@ -1,5 +1,5 @@
 -- The classes of java.lang by which others are checked (JLS 11.2).
-use Rattle.std.specs.Prelude.{◌≡◌, ℕ, Bool, ◌||◌, codes, length, Option, Some, None}
+use Rattle.std.specs.Prelude.{◌≡◌, ℕ, Bool, ◌||◌, codes, length, Option, Some}
 use Rattle.jr_base.specs.declared.text.Text.{Text}
 use Rattle.jr_tree.specs.Rows.{Rows}
 use Rattle.jr_defs.specs.Referents.{Table}

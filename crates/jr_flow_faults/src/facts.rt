@@ -42,7 +42,8 @@ enum Part {
     Default,
 }
 
-fn is_block(rows: &[Row], at: u32) -> bool
+/// The row is a block.
+pub(crate) fn is_block(rows: &[Row], at: u32) -> bool
     ensures { result ≡ tell.is_block (label rows.now at) }
 {
     match rows.get(at as usize) {

@@ -1,17 +1,21 @@
 // Checked exceptions that are neither caught nor declared (JLS 11.2.3).
-ghost use Rattle.std.specs.Prelude.{OnOk};
+ghost use Rattle.std.specs.Prelude.{◌+◌, ◌<◌, IfOk, OnOk, length};
 ghost use Rattle.jr_tree.specs.Local.{IsLocal};
-ghost use Rattle.jr_faults.specs.Added.{AreOnly};
+ghost use Rattle.jr_tree.specs.Rows.{label};
+ghost use Rattle.jr_defs.specs.Supertypes.{AtOrAbove};
 ghost use Rattle.jr_rule.specs.Faults.{AreFaultsOf};
 ghost use Rattle.jr_rule.specs.declared.Rule.TheVariants as rule;
-ghost use Rattle.jr_supers.specs.Supers.{AreSupersOf};
+ghost use Rattle.jr_supers.specs.Supers.{AreSupersOf, ListsOnce};
 ghost use Rattle.jr_supers.specs.Tabled.{IsSized};
+ghost use Rattle.jr_faults.specs.Added.{row_if, is_rule, AreOnly};
 ghost use Rattle.jr_flow_faults.specs.Computed.{rows_in, table_in};
-ghost use Rattle.jr_flow_faults.specs.ExceptionTests.{covered_rows};
-ghost use Rattle.jr_flow_faults.specs.Faults.{is_followed, is_of_exceptions, is_of_flow, AreFlowFaults};
+ghost use Rattle.jr_flow_faults.specs.Exceptions.{IsCode};
+ghost use Rattle.jr_flow_faults.specs.ExceptionTests as tests;
+ghost use Rattle.jr_flow_faults.specs.Faults.{is_of_exceptions, is_followed, is_of_flow, AreFlowFaults, AreThrowFaults};
+ghost use Rattle.jr_flow_faults.specs.Reading as tell;
 
 use crate::catches::{Arrived, Catches};
-use crate::classes::Roots;
+use crate::classes::{Roots, is_either};
 use crate::facts::facts_of;
 use crate::guards::{Around, first_guard, is_try};
 use crate::thrown::{lets_out, thrown_at};
@@ -19,7 +23,6 @@ use jr_base::OutOfMemory;
 use jr_faults::rule_if;
 use jr_reach::{courses_of, reach_faults, reached_of};
 use jr_rule::{Fault, Rule};
-use jr_supers::Supers;
 use jr_view::View;
 use std::alloc::Global;
 
@@ -33,44 +36,66 @@ struct Reading<'a> {
     roots: Roots,
 }
 
-// Where a thrown class ends.
-#[derive(Clone, Copy)]
-enum End {
-    Caught,
-    /// It comes to a member.
-    Member(u32),
-}
-
 impl<'a> Reading<'a> {
-    fn supers(&self) -> &'a Supers {
-        let view = self.view;
-        view.sight.world.supers
+    // What a class meets next that comes out of the body of a `try`, with these classes at or above it; nothing where it is caught or lost.
+    fn onward(&self, over: u32, class: u32, uppers: &[u32]) -> Option<u32>
+        ensures { tell.IsReading self.now → ListsOnce uppers.now (AtOrAbove (tell.rows_of self.now) (tell.table_of self.now) class)
+            → tell.IsOnward (tell.rows_of self.now) (tell.table_of self.now) (tell.completes_of self.now) class over result }
+    {
+        if self.catches.has_any(over, uppers) {
+            return None;
+        }
+        let around = self.around;
+        around.next_guard(self.guards, over)
     }
 
-    // Follows a class from a row outwards: where it is caught or lost, or to its member. Each body on the way throws it.
+    // Follows a class from a row outwards, to its member; nothing where it is caught or lost. Each body on the way throws it.
     fn follow(
         &self,
         alloc: Global,
         arrived: &mut Arrived,
         at: u32,
         class: u32,
-    ) -> Result<End, OutOfMemory> {
-        let around = self.around;
+        uppers: &[u32],
+    ) -> Result<Option<u32>, OutOfMemory>
+        ensures { tell.IsReading self.now → (IsCode (label (tell.rows_of self.now) at) → ⊥) → at < length (tell.rows_of self.now) → ListsOnce uppers.now (AtOrAbove (tell.rows_of self.now) (tell.table_of self.now) class)
+            → IfOk result (λ member. tell.FollowsClass (tell.rows_of self.now) (tell.table_of self.now) (tell.completes_of self.now) at class arrived.old arrived.new member) }
+    {
+        let view = self.view;
+        let rows = view.sight.world.under.rows;
         let mut next = first_guard(self.guards, at);
-        for _turn in 0..around.rows.len() {
+        for _turn in 0..rows.len() {
             let Some(over) = next else {
-                return Ok(End::Caught);
+                return Ok(None);
             };
-            if !is_try(around.rows, over) {
-                return Ok(End::Member(over));
+            if !is_try(rows, over) {
+                return Ok(Some(over));
             }
-            arrived.add(alloc, self.supers(), over, class)?;
-            if self.catches.catches(self.supers(), over, class) {
-                return Ok(End::Caught);
-            }
-            next = around.next_guard(self.guards, over);
+            arrived.add(alloc, over, class, uppers)?;
+            next = self.onward(over, class, uppers);
         }
-        Ok(End::Caught)
+        Ok(None)
+    }
+
+    // A checked class thrown at a row comes to a member that does not let it out.
+    fn comes_uncaught(
+        &self,
+        alloc: Global,
+        arrived: &mut Arrived,
+        at: u32,
+        class: u32,
+    ) -> Result<bool, OutOfMemory>
+        ensures { tell.IsReading self.now → (IsCode (label (tell.rows_of self.now) at) → ⊥) → at < length (tell.rows_of self.now)
+            → IfOk result (λ b. tell.FollowsUncaught (tell.rows_of self.now) (tell.table_of self.now) (tell.completes_of self.now) at class arrived.old arrived.new b) }
+    {
+        let view = self.view;
+        let world = &view.sight.world;
+        let uppers = world.supers.with_above(alloc, world.under.rows, class)?;
+        let Some(member) = self.follow(alloc, arrived, at, class, &uppers)? else {
+            return Ok(false);
+        };
+        let lets = lets_out(alloc, &world.under, world.supers, member, class)?;
+        Ok(!lets)
     }
 
     // A class thrown at a row is neither caught nor declared.
@@ -80,20 +105,57 @@ impl<'a> Reading<'a> {
         arrived: &mut Arrived,
         at: u32,
         class: u32,
-    ) -> Result<bool, OutOfMemory> {
+    ) -> Result<bool, OutOfMemory>
+        ensures { tell.IsReading self.now → (IsCode (label (tell.rows_of self.now) at) → ⊥) → at < length (tell.rows_of self.now)
+            → IfOk result (λ b. tell.NotesClass (tell.rows_of self.now) (tell.table_of self.now) (tell.completes_of self.now) at class arrived.old arrived.new b) }
+    {
         let view = self.view;
-        let under = &view.sight.world.under;
-        if !self.roots.is_checked(self.supers(), under.rows, class) {
+        let world = &view.sight.world;
+        let roots = self.roots;
+        if !roots.is_checked(world.supers, world.under.rows, class) {
             return Ok(false);
         }
-        match self.follow(alloc, arrived, at, class)? {
-            End::Caught => Ok(false),
-            End::Member(member) => Ok(!lets_out(alloc, under, self.supers(), member, class)?),
+        self.comes_uncaught(alloc, arrived, at, class)
+    }
+
+    // One of some classes thrown at a row is neither caught nor declared.
+    fn are_uncaught(
+        &self,
+        alloc: Global,
+        arrived: &mut Arrived,
+        at: u32,
+        classes: &[u32],
+    ) -> Result<bool, OutOfMemory>
+        ensures { tell.IsReading self.now → (IsCode (label (tell.rows_of self.now) at) → ⊥) → at < length (tell.rows_of self.now)
+            → IfOk result (λ b. tell.NotesClasses (tell.rows_of self.now) (tell.table_of self.now) (tell.completes_of self.now) at classes.now arrived.old arrived.new b) }
+    {
+        let mut is_broken = false;
+        for class in classes {
+            let is_uncaught = self.is_uncaught(alloc, arrived, at, *class)?;
+            is_broken = is_either(is_broken, is_uncaught);
         }
+        Ok(is_broken)
+    }
+
+    // What a row throws is neither caught nor declared.
+    fn is_row_uncaught(
+        &self,
+        alloc: Global,
+        arrived: &mut Arrived,
+        at: u32,
+    ) -> Result<bool, OutOfMemory>
+        ensures { tell.IsReading self.now → at < length (tell.rows_of self.now) → tell.AreArrived (tell.rows_of self.now) (tell.table_of self.now) (tell.completes_of self.now) at arrived.old
+            → IfOk result (λ b. tell.NotesRow (tell.rows_of self.now) (tell.table_of self.now) (tell.types_in self.now.view.now) (tell.completes_of self.now) at arrived.new b) }
+    {
+        let view = self.view;
+        let classes = thrown_at(alloc, &view.sight.world.under, view.types, at)?;
+        if classes.is_empty() {
+            return Ok(false);
+        }
+        self.are_uncaught(alloc, arrived, at, &classes)
     }
 
     // Whether what a row throws is caught or declared.
-    #[tactic(auto, using(crate::proofs::Exceptions::uncaught_followed))]
     fn note_row(
         &self,
         alloc: Global,
@@ -101,35 +163,75 @@ impl<'a> Reading<'a> {
         at: u32,
         out: &mut Vec<Fault>,
     ) -> Result<(), OutOfMemory>
-        ensures { OnOk result (AreOnly is_followed out.old.items out.new.items) }
+        ensures only { OnOk result (AreOnly (is_rule rule.UncaughtException) out.old.items out.new.items) }
+        ensures arrived { tell.IsReading self.now → at < length (tell.rows_of self.now) → tell.AreArrived (tell.rows_of self.now) (tell.table_of self.now) (tell.completes_of self.now) at arrived.old
+            → OnOk result (tell.AreArrived (tell.rows_of self.now) (tell.table_of self.now) (tell.completes_of self.now) (at + 1) arrived.new) }
+        ensures uncaught { tell.IsReading self.now → at < length (tell.rows_of self.now) → tell.AreArrived (tell.rows_of self.now) (tell.table_of self.now) (tell.completes_of self.now) at arrived.old
+            → OnOk result (AreFaultsOf rule.UncaughtException (row_if (tests.is_uncaught (tell.rows_of self.now) (tell.table_of self.now) (tell.types_in self.now.view.now) (tell.completes_of self.now) at) at) out.old.items out.new.items) }
+    {
+        let is_broken = self.is_row_uncaught(alloc, arrived, at)?;
+        rule_if(out, is_broken, at, Rule::UncaughtException)
+    }
+
+    // All rows; what came out of bodies is put into a table.
+    fn note_rows(
+        &self,
+        alloc: Global,
+        arrived: &mut Arrived,
+        out: &mut Vec<Fault>,
+    ) -> Result<(), OutOfMemory>
+        ensures only { OnOk result (AreOnly (is_rule rule.UncaughtException) out.old.items out.new.items) }
+        ensures arrived { tell.IsReading self.now → tell.AreArrived (tell.rows_of self.now) (tell.table_of self.now) (tell.completes_of self.now) 0 arrived.old
+            → OnOk result (tell.AreArrived (tell.rows_of self.now) (tell.table_of self.now) (tell.completes_of self.now) (length (tell.rows_of self.now)) arrived.new) }
+        ensures uncaught { tell.IsReading self.now → tell.AreArrived (tell.rows_of self.now) (tell.table_of self.now) (tell.completes_of self.now) 0 arrived.old
+            → OnOk result (AreFaultsOf rule.UncaughtException (tests.uncaught_rows (tell.rows_of self.now) (tell.table_of self.now) (tell.types_in self.now.view.now) (tell.completes_of self.now)) out.old.items out.new.items) }
     {
         let view = self.view;
-        let under = &view.sight.world.under;
-        let mut is_broken = false;
-        for class in thrown_at(alloc, under, view.types, at)? {
-            let is_uncaught = self.is_uncaught(alloc, arrived, at, class)?;
-            is_broken = is_broken || is_uncaught;
+        let Ok(count) = u32::try_from(view.sight.world.under.rows.len()) else {
+            return Err(OutOfMemory);
+        };
+        for at in 0..count {
+            self.note_row(alloc, arrived, at, out)?;
         }
-        rule_if(out, is_broken, at, Rule::UncaughtException)?;
         Ok(())
     }
 
-    #[tactic(auto, using(jr_faults::proofs::Told::only_more))]
     fn note_all(&self, alloc: Global, out: &mut Vec<Fault>) -> Result<(), OutOfMemory>
-        ensures { OnOk result (AreOnly is_followed out.old.items out.new.items) }
+        ensures only { OnOk result (AreOnly is_followed out.old.items out.new.items) }
+        ensures uncaught { tell.IsReading self.now → OnOk result (AreFaultsOf rule.UncaughtException (tests.uncaught_rows (tell.rows_of self.now) (tell.table_of self.now) (tell.types_in self.now.view.now) (tell.completes_of self.now)) out.old.items out.new.items) }
+        ensures unthrown { tell.IsReading self.now → OnOk result (AreFaultsOf rule.UnthrownCatch (tests.unthrown_rows (tell.rows_of self.now) (tell.table_of self.now) (tell.types_in self.now.view.now) (tell.completes_of self.now)) out.old.items out.new.items) }
     {
         let view = self.view;
-        let under = &view.sight.world.under;
-        let Ok(count) = u32::try_from(under.rows.len()) else {
-            return Err(OutOfMemory);
-        };
+        let world = &view.sight.world;
         let mut arrived = Arrived::new(alloc);
-        for at in 0..count {
-            self.note_row(alloc, &mut arrived, at, out)?;
-        }
-        arrived.note_unthrown(under, self.supers(), self.roots, out)?;
-        Ok(())
+        self.note_rows(alloc, &mut arrived, out)?;
+        arrived.note_unthrown(alloc, &world.under, world.supers, self.roots, out)
     }
+}
+
+// The faults of exceptions, by what is round each row and by the catches.
+fn follow_faults(
+    alloc: Global,
+    view: &View,
+    around: &Around,
+    catches: &Catches,
+    out: &mut Vec<Fault>,
+) -> Result<(), OutOfMemory>
+    ensures only { OnOk result (AreOnly is_followed out.old.items out.new.items) }
+    ensures uncaught { tell.IsThrowingView view.now → tell.IsAround view.now around.now → tests.AreCatchesTo (rows_in view.now) (table_in view.now) (length (rows_in view.now)) catches.now.table
+        → OnOk result (AreFaultsOf rule.UncaughtException (tests.uncaught_rows (rows_in view.now) (table_in view.now) (tell.types_in view.now) (tell.completes_in view.now)) out.old.items out.new.items) }
+    ensures unthrown { tell.IsThrowingView view.now → tell.IsAround view.now around.now → tests.AreCatchesTo (rows_in view.now) (table_in view.now) (length (rows_in view.now)) catches.now.table
+        → OnOk result (AreFaultsOf rule.UnthrownCatch (tests.unthrown_rows (rows_in view.now) (table_in view.now) (tell.types_in view.now) (tell.completes_in view.now)) out.old.items out.new.items) }
+{
+    let guards = around.guards(alloc)?;
+    let reading = Reading {
+        view: &*view,
+        around: &*around,
+        guards: &guards,
+        catches: &*catches,
+        roots: Roots::of(around.rows),
+    };
+    reading.note_all(alloc, out)
 }
 
 // The faults of exceptions.
@@ -139,26 +241,20 @@ fn throw_faults(
     around: &Around,
     out: &mut Vec<Fault>,
 ) -> Result<(), OutOfMemory>
-    ensures covered { IsSized (rows_in view.now) → AreSupersOf (rows_in view.now) (table_in view.now) view.now.sight.world.supers.now → OnOk result (AreFaultsOf rule.CoveredCatch (covered_rows (rows_in view.now) (table_in view.now)) out.old.items out.new.items) }
     ensures only { OnOk result (AreOnly is_of_exceptions out.old.items out.new.items) }
+    ensures covered { IsSized (rows_in view.now) → AreSupersOf (rows_in view.now) (table_in view.now) view.now.sight.world.supers.now → OnOk result (AreFaultsOf rule.CoveredCatch (tests.covered_rows (rows_in view.now) (table_in view.now)) out.old.items out.new.items) }
+    ensures thrown { tell.IsThrowingView view.now → tell.IsAround view.now around.now → OnOk result (AreThrowFaults view.now out.old.items out.new.items) }
 {
     let world = &view.sight.world;
-    let guards = around.guards(alloc)?;
     let catches = Catches::of(alloc, &world.under, world.supers, out)?;
-    let reading = Reading {
-        view: &*view,
-        around: &*around,
-        guards: &guards,
-        catches: &catches,
-        roots: Roots::of(around.rows),
-    };
-    reading.note_all(alloc, out)
+    follow_faults(alloc, view, around, &catches, out)
 }
 
 /// Adds where the rules on jumps, on reaching and completing, and on checked exceptions are broken.
 pub fn flow_faults(alloc: Global, view: &View, out: &mut Vec<Fault>) -> Result<(), OutOfMemory>
     ensures exact { IsLocal (rows_in view.now) → OnOk result (AreFlowFaults view.now out.old.items out.new.items) }
-    ensures covered { IsSized (rows_in view.now) → AreSupersOf (rows_in view.now) (table_in view.now) view.now.sight.world.supers.now → OnOk result (AreFaultsOf rule.CoveredCatch (covered_rows (rows_in view.now) (table_in view.now)) out.old.items out.new.items) }
+    ensures covered { IsSized (rows_in view.now) → AreSupersOf (rows_in view.now) (table_in view.now) view.now.sight.world.supers.now → OnOk result (AreFaultsOf rule.CoveredCatch (tests.covered_rows (rows_in view.now) (table_in view.now)) out.old.items out.new.items) }
+    ensures thrown { tell.IsThrowingView view.now → OnOk result (AreThrowFaults view.now out.old.items out.new.items) }
     ensures only { OnOk result (AreOnly is_of_flow out.old.items out.new.items) }
 {
     let rows = view.sight.world.under.rows;

@@ -13,4 +13,9 @@ mod Entries
 mod Overridden
 mod Checked
 mod Opened
+mod Lefts
+mod Named
+mod Abstracts
+mod Settled
+mod Placed
 mod Methodical

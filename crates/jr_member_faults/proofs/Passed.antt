@@ -72,7 +72,7 @@ no_constructor role.Parameter e = refl
 no_constructor role.Local e = refl
 no_constructor role.Label e = refl
 
-no_type : (r : Role) → declares r ≡ false → same_role r role.Type ≡ false
+pub no_type : (r : Role) → declares r ≡ false → same_role r role.Type ≡ false
 no_type role.Type e = e
 no_type role.Nothing e = refl
 no_type role.Field e = refl

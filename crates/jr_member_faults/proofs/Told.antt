@@ -32,10 +32,10 @@ use Rattle.jr_member_faults.specs.declared.headers.Headers as heading
 use Rattle.jr_member_faults.specs.Views.{rows_in, table_in, IsNamedWorld, IsSignedWorld, IsRightWorld, IsValuedView}
 use Rattle.jr_member_faults.specs.Faults.{is_of_members, second_rule, is_second_as, is_type_clash, has_member_type_clash, is_of_declared, is_of_methods, is_on_members, AreMemberFaultsOn, AreMemberFaults}
 use Rattle.jr_member_faults.specs.Headers.{AreHeadersTo}
-use Rattle.jr_member_faults.specs.Methods.{is_over_final_in}
+use Rattle.jr_member_faults.specs.Methods.{AreFaultsOn}
 use Rattle.jr_member_faults.specs.Tops.{has_top_type_clash}
 use Rattle.jr_member_faults.specs.Twice.{AreDeclaredTo}
-use Rattle.jr_member_faults.proofs.Methodical.{finals_past}
+use Rattle.jr_member_faults.proofs.Methodical.{methods_past}
 use Rattle.jr_member_faults.proofs.Passed.{bodies_none, statics_none, fields_none, methods_none, constructors_none, types_none, supertypes_none}
 
 -- ---- what is declared twice
@@ -132,6 +132,12 @@ methods_only h i j k l m = only_then (only_then (only_then (only_then (only_then
 -- ---- one row
 
 module _ (view : View) where
+  abbrev p : Rows
+  p = rows_in view
+
+  abbrev t : Table
+  t = table_in view
+
   pub record IsAdded (a b c d e f : List Fault) : Type 0 where
     pub declared : AreOnly is_of_declared a b
     pub heading : AreOnly (is_rule rule.Supertypes) b c
@@ -152,6 +158,16 @@ module _ (view : View) where
       → AreFaultsOf r xs c d → AreFaultsOf r xs a f
   method_added {b = b} {c = c} {d = d} {e = e} h r i j k l at = none_then {mid = b} r (h.declared.others r i) (none_then {mid = c} r (h.heading.others r j) (then_none {mid = e} r (then_none {mid = d} r at (h.body.others r k)) (h.static.others r l)))
 
+  methods_added : {a b c d e f : List Fault} {rows : (ℕ → Bool) → List ℕ} → IsAdded a b c d e f → AreFaultsOn view.sight.world rows c d → AreFaultsOn view.sight.world rows a f
+  methods_added h k = record {
+    abstracts = method_added h rule.AbstractMembers refl refl refl refl k.abstracts;
+    results = method_added h rule.Results refl refl refl refl k.results;
+    access = method_added h rule.NarrowedAccess refl refl refl refl k.access;
+    statics = method_added h rule.StaticOverride refl refl refl refl k.statics;
+    finals = method_added h rule.FinalOverride refl refl refl refl k.finals;
+    throws = method_added h rule.OverrideThrows refl refl refl refl k.throws;
+  }
+
   pub row_told : {n : ℕ} {a b c d e f : List Fault} → IsAdded a b c d e f
       → AreFaultsOf rule.Bodies (row_if (stands_wrong (rows_in view) n) n) d e
       → (IsValuedView view → AreFaultsOf rule.InnerStatics (row_if (is_static_there (rows_in view) (table_in view) (values (rows_in view) (table_in view)) n) n) e f)
@@ -160,9 +176,9 @@ module _ (view : View) where
       → (IsNamedWorld view.sight.world → IsSignedWorld view.sight.world → AreFaultsOf rule.MethodSignatures (row_if (is_second_method (rows_in view) (table_in view) n) n) a b)
       → (IsSignedWorld view.sight.world → AreFaultsOf rule.ConstructorSignatures (row_if (is_second_constructor (rows_in view) (table_in view) n) n) a b)
       → (IsNamedWorld view.sight.world → AreFaultsOf rule.TypeNames (row_if (has_member_type_clash (rows_in view) n) n) a b)
-      → (IsRightWorld view.sight.world → AreFaultsOf rule.FinalOverride (row_if (is_over_final_in view.sight.world n) n) c d)
+      → (IsRightWorld view.sight.world → AreFaultsOn view.sight.world (λ test. row_if (test n) n) c d)
       → AreMemberFaultsOn view (λ test. row_if (test n) n) a f
-  row_told {n} {a} {b} {c} {d} {e} {f} h bodies statics supertypes fields methods constructors types finals = record {
+  row_told {n} {a} {b} {c} {d} {e} {f} h bodies statics supertypes fields methods constructors types on_methods = record {
     bodies = none_then {mid = b} rule.Bodies (h.declared.others rule.Bodies refl) (none_then {mid = c} rule.Bodies (h.heading.others rule.Bodies refl) (none_then {mid = d} rule.Bodies (h.methods.others rule.Bodies refl) (then_none {mid = e} rule.Bodies bodies (h.static.others rule.Bodies refl))));
     statics = λ valued. none_then {mid = b} rule.InnerStatics (h.declared.others rule.InnerStatics refl) (none_then {mid = c} rule.InnerStatics (h.heading.others rule.InnerStatics refl) (none_then {mid = d} rule.InnerStatics (h.methods.others rule.InnerStatics refl)
         (none_then {mid = e} rule.InnerStatics (h.body.others rule.InnerStatics refl) (statics valued))));
@@ -171,7 +187,7 @@ module _ (view : View) where
     methods = λ named signed. declared_added h rule.MethodSignatures refl refl refl refl (methods named signed);
     constructors = λ signed. declared_added h rule.ConstructorSignatures refl refl refl refl (constructors signed);
     types = λ named. declared_added h rule.TypeNames refl refl refl refl (types named);
-    finals = λ right. method_added h rule.FinalOverride refl refl refl refl (finals right);
+    on_methods = λ right. methods_added h (on_methods right);
   }
 
   -- a row that is not looked at
@@ -184,7 +200,14 @@ module _ (view : View) where
     methods = λ named signed. told_at rule.MethodSignatures n (sym (methods_none (rows_in view) n none (table_in view))) (none_added rule.MethodSignatures old);
     constructors = λ signed. told_at rule.ConstructorSignatures n (sym (constructors_none (rows_in view) n none (table_in view))) (none_added rule.ConstructorSignatures old);
     types = λ named. told_at rule.TypeNames n (sym (types_none (rows_in view) n none)) (none_added rule.TypeNames old);
-    finals = λ right. told_at rule.FinalOverride n (sym (finals_past view.sight.world right n none)) (none_added rule.FinalOverride old);
+    on_methods = λ right. let past = methods_past view.sight.world right n none in record {
+      abstracts = told_at rule.AbstractMembers n (sym past.abstracts) (none_added rule.AbstractMembers old);
+      results = told_at rule.Results n (sym past.results) (none_added rule.Results old);
+      access = told_at rule.NarrowedAccess n (sym past.access) (none_added rule.NarrowedAccess old);
+      statics = told_at rule.StaticOverride n (sym past.statics) (none_added rule.StaticOverride old);
+      finals = told_at rule.FinalOverride n (sym past.finals) (none_added rule.FinalOverride old);
+      throws = told_at rule.OverrideThrows n (sym past.throws) (none_added rule.OverrideThrows old);
+    };
   }
 
   -- ---- the rows so far
@@ -206,7 +229,14 @@ module _ (view : View) where
       methods = λ named signed. none_added rule.MethodSignatures old;
       constructors = λ signed. none_added rule.ConstructorSignatures old;
       types = λ named. none_added rule.TypeNames old;
-      finals = λ right. none_added rule.FinalOverride old;
+      on_methods = λ right. record {
+        abstracts = none_added rule.AbstractMembers old;
+        results = none_added rule.Results old;
+        access = none_added rule.NarrowedAccess old;
+        statics = none_added rule.StaticOverride old;
+        finals = none_added rule.FinalOverride old;
+        throws = none_added rule.OverrideThrows old;
+      };
     };
   }
 
@@ -223,7 +253,14 @@ module _ (view : View) where
       methods = λ named signed. row_more n rule.MethodSignatures (is_second_method (rows_in view) (table_in view)) (h.faults_are.methods named signed) (k.methods named signed);
       constructors = λ signed. row_more n rule.ConstructorSignatures (is_second_constructor (rows_in view) (table_in view)) (h.faults_are.constructors signed) (k.constructors signed);
       types = λ named. row_more n rule.TypeNames (has_member_type_clash (rows_in view)) (h.faults_are.types named) (k.types named);
-      finals = λ right. row_more n rule.FinalOverride (is_over_final_in view.sight.world) (h.faults_are.finals right) (k.finals right);
+      on_methods = λ right. let before = h.faults_are.on_methods right in let more = k.on_methods right in record {
+        abstracts = row_more n rule.AbstractMembers (leaves_methods p t) before.abstracts more.abstracts;
+        results = row_more n rule.Results (results_do_not_fit p t (overriding p t)) before.results more.results;
+        access = row_more n rule.NarrowedAccess (access_is_narrowed p t (overriding p t)) before.access more.access;
+        statics = row_more n rule.StaticOverride (methods_are_mixed p t (overriding p t)) before.statics more.statics;
+        finals = row_more n rule.FinalOverride (is_over_final p t (overriding p t)) before.finals more.finals;
+        throws = row_more n rule.OverrideThrows (more_is_thrown p t (overriding p t)) before.throws more.throws;
+      };
     };
   }
 
@@ -275,8 +312,23 @@ module _ (a b c d e f g h : Bool) where
   to_bodies : (r : ℕ) → nat_eq 14 r ≡ false → nat_eq 15 r ≡ false → nat_eq 16 r ≡ false → nat_eq 17 r ≡ false → nat_eq 18 r ≡ false → nat_eq 19 r ≡ false → has l14 r ≡ has l20 r
   to_bodies r i j k l m n = past a 14 r l15 i ∙ past b 15 r l16 j ∙ past c 16 r l17 k ∙ past d 17 r l18 l ∙ past e 18 r l19 m ∙ past f 19 r l20 n
 
+  fourteenth : has l14 14 ≡ a
+  fourteenth = met a 14 14 l15 refl (past b 15 14 l16 refl ∙ past c 16 14 l17 refl ∙ past d 17 14 l18 refl ∙ past e 18 14 l19 refl ∙ past f 19 14 l20 refl ∙ past g 20 14 (listed h 21) refl ∙ last h 21 14 refl)
+
+  fifteenth : has l14 15 ≡ b
+  fifteenth = past a 14 15 l15 refl ∙ met b 15 15 l16 refl (past c 16 15 l17 refl ∙ past d 17 15 l18 refl ∙ past e 18 15 l19 refl ∙ past f 19 15 l20 refl ∙ past g 20 15 (listed h 21) refl ∙ last h 21 15 refl)
+
+  sixteenth : has l14 16 ≡ c
+  sixteenth = past a 14 16 l15 refl ∙ past b 15 16 l16 refl ∙ met c 16 16 l17 refl (past d 17 16 l18 refl ∙ past e 18 16 l19 refl ∙ past f 19 16 l20 refl ∙ past g 20 16 (listed h 21) refl ∙ last h 21 16 refl)
+
+  seventeenth : has l14 17 ≡ d
+  seventeenth = past a 14 17 l15 refl ∙ past b 15 17 l16 refl ∙ past c 16 17 l17 refl ∙ met d 17 17 l18 refl (past e 18 17 l19 refl ∙ past f 19 17 l20 refl ∙ past g 20 17 (listed h 21) refl ∙ last h 21 17 refl)
+
   eighteenth : has l14 18 ≡ e
   eighteenth = past a 14 18 l15 refl ∙ past b 15 18 l16 refl ∙ past c 16 18 l17 refl ∙ past d 17 18 l18 refl ∙ met e 18 18 l19 refl (past f 19 18 l20 refl ∙ past g 20 18 (listed h 21) refl ∙ last h 21 18 refl)
+
+  nineteenth : has l14 19 ≡ f
+  nineteenth = past a 14 19 l15 refl ∙ past b 15 19 l16 refl ∙ past c 16 19 l17 refl ∙ past d 17 19 l18 refl ∙ past e 18 19 l19 refl ∙ met f 19 19 l20 refl (past g 20 19 (listed h 21) refl ∙ last h 21 19 refl)
 
   twentieth : has l14 20 ≡ g
   twentieth = to_bodies 20 refl refl refl refl refl refl ∙ met g 20 20 (listed h 21) refl (last h 21 20 refl)
@@ -343,8 +395,23 @@ module _ (p : Rows) (t : Table) (n : ℕ) where
   statics_at : is_static_there p t (values p t) n ≡ breaks_members p t 21 n
   statics_at = sym (twenty_first (leaves_methods p t n) (results_do_not_fit p t (overriding p t) n) (access_is_narrowed p t (overriding p t) n) (methods_are_mixed p t (overriding p t) n) (is_over_final p t (overriding p t) n) (more_is_thrown p t (overriding p t) n) (stands_wrong p n) (is_static_there p t (values p t) n))
 
+  abstracts_at : leaves_methods p t n ≡ breaks_members p t 14 n
+  abstracts_at = sym (fourteenth (leaves_methods p t n) (results_do_not_fit p t (overriding p t) n) (access_is_narrowed p t (overriding p t) n) (methods_are_mixed p t (overriding p t) n) (is_over_final p t (overriding p t) n) (more_is_thrown p t (overriding p t) n) (stands_wrong p n) (is_static_there p t (values p t) n))
+
+  results_at : results_do_not_fit p t (overriding p t) n ≡ breaks_members p t 15 n
+  results_at = sym (fifteenth (leaves_methods p t n) (results_do_not_fit p t (overriding p t) n) (access_is_narrowed p t (overriding p t) n) (methods_are_mixed p t (overriding p t) n) (is_over_final p t (overriding p t) n) (more_is_thrown p t (overriding p t) n) (stands_wrong p n) (is_static_there p t (values p t) n))
+
+  access_at : access_is_narrowed p t (overriding p t) n ≡ breaks_members p t 16 n
+  access_at = sym (sixteenth (leaves_methods p t n) (results_do_not_fit p t (overriding p t) n) (access_is_narrowed p t (overriding p t) n) (methods_are_mixed p t (overriding p t) n) (is_over_final p t (overriding p t) n) (more_is_thrown p t (overriding p t) n) (stands_wrong p n) (is_static_there p t (values p t) n))
+
+  mixed_at : methods_are_mixed p t (overriding p t) n ≡ breaks_members p t 17 n
+  mixed_at = sym (seventeenth (leaves_methods p t n) (results_do_not_fit p t (overriding p t) n) (access_is_narrowed p t (overriding p t) n) (methods_are_mixed p t (overriding p t) n) (is_over_final p t (overriding p t) n) (more_is_thrown p t (overriding p t) n) (stands_wrong p n) (is_static_there p t (values p t) n))
+
   finals_at : is_over_final p t (overriding p t) n ≡ breaks_members p t 18 n
   finals_at = sym (eighteenth (leaves_methods p t n) (results_do_not_fit p t (overriding p t) n) (access_is_narrowed p t (overriding p t) n) (methods_are_mixed p t (overriding p t) n) (is_over_final p t (overriding p t) n) (more_is_thrown p t (overriding p t) n) (stands_wrong p n) (is_static_there p t (values p t) n))
+
+  throws_at : more_is_thrown p t (overriding p t) n ≡ breaks_members p t 19 n
+  throws_at = sym (nineteenth (leaves_methods p t n) (results_do_not_fit p t (overriding p t) n) (access_is_narrowed p t (overriding p t) n) (methods_are_mixed p t (overriding p t) n) (is_over_final p t (overriding p t) n) (more_is_thrown p t (overriding p t) n) (stands_wrong p n) (is_static_there p t (values p t) n))
 
   -- rule 2 inside types and outside any other
   pub types_at : breaks p t 2 n ≡ (has_member_type_clash p n || has_top_type_clash p n)
@@ -388,7 +455,12 @@ all_told {n} {view} {old} {new} whole h = record {
   methods = λ named signed. told rule.MethodSignatures (methods_at (rows_in view) (table_in view)) (h.faults_are.methods named signed);
   constructors = λ signed. told rule.ConstructorSignatures (constructors_at (rows_in view) (table_in view)) (h.faults_are.constructors signed);
   types = λ named. subst (λ m. AreFaultsOf rule.TypeNames (all_such m (has_member_type_clash (rows_in view))) old new) whole (h.faults_are.types named);
-  finals = λ right. told rule.FinalOverride (finals_at (rows_in view) (table_in view)) (h.faults_are.finals right);
+  abstracts = λ right. told rule.AbstractMembers (abstracts_at (rows_in view) (table_in view)) (h.faults_are.on_methods right).abstracts;
+  results = λ right. told rule.Results (results_at (rows_in view) (table_in view)) (h.faults_are.on_methods right).results;
+  access = λ right. told rule.NarrowedAccess (access_at (rows_in view) (table_in view)) (h.faults_are.on_methods right).access;
+  mixed = λ right. told rule.StaticOverride (mixed_at (rows_in view) (table_in view)) (h.faults_are.on_methods right).statics;
+  finals = λ right. told rule.FinalOverride (finals_at (rows_in view) (table_in view)) (h.faults_are.on_methods right).finals;
+  throws = λ right. told rule.OverrideThrows (throws_at (rows_in view) (table_in view)) (h.faults_are.on_methods right).throws;
 }
   where
     told : {f g : ℕ → Bool} (r : Rule) → ((k : ℕ) → f k ≡ g k) → AreFaultsOf r (all_such n f) old new → AreFaultsOf r (all_such (length (rows_in view)) g) old new

@@ -20,7 +20,7 @@ use Rattle.jr_member_rules.specs.Computed.{values, breaks_members}
 use Rattle.jr_faults.specs.Added.{is_rule}
 use Rattle.jr_view.specs.declared.View.{View}
 use Rattle.jr_member_faults.specs.Views.{rows_in, table_in, IsNamedWorld, IsSignedWorld, IsRightWorld, IsValuedView}
-use Rattle.jr_member_faults.specs.Methods.{is_over_final_in}
+use Rattle.jr_member_faults.specs.Methods.{AreFaultsOn}
 
 -- ---- the rows that are looked at
 
@@ -83,7 +83,7 @@ pub record AreMemberFaultsOn (view : View) (rows_of : (ℕ → Bool) → List �
   pub methods : IsNamedWorld view.sight.world → IsSignedWorld view.sight.world → AreFaultsOf rule.MethodSignatures (rows_of (is_second_method (rows_in view) (table_in view))) old new
   pub constructors : IsSignedWorld view.sight.world → AreFaultsOf rule.ConstructorSignatures (rows_of (is_second_constructor (rows_in view) (table_in view))) old new
   pub types : IsNamedWorld view.sight.world → AreFaultsOf rule.TypeNames (rows_of (has_member_type_clash (rows_in view))) old new
-  pub finals : IsRightWorld view.sight.world → AreFaultsOf rule.FinalOverride (rows_of (is_over_final_in view.sight.world)) old new
+  pub on_methods : IsRightWorld view.sight.world → AreFaultsOn view.sight.world rows_of old new
 
 -- the faults of a rule on members that were added are those of the definition
 abbrev pub AreExactOnMembers : View → Rule → List Fault → List Fault → Type 0
@@ -102,4 +102,9 @@ pub record AreMemberFaults (view : View) (old new : List Fault) : Type 0 where
   pub methods : IsNamedWorld view.sight.world → IsSignedWorld view.sight.world → AreExactOnDeclarations view rule.MethodSignatures old new
   pub constructors : IsSignedWorld view.sight.world → AreExactOnDeclarations view rule.ConstructorSignatures old new
   pub types : IsNamedWorld view.sight.world → AreFaultsOf rule.TypeNames (all_such (length (rows_in view)) (has_member_type_clash (rows_in view))) old new
+  pub abstracts : IsRightWorld view.sight.world → AreExactOnMembers view rule.AbstractMembers old new
+  pub results : IsRightWorld view.sight.world → AreExactOnMembers view rule.Results old new
+  pub access : IsRightWorld view.sight.world → AreExactOnMembers view rule.NarrowedAccess old new
+  pub mixed : IsRightWorld view.sight.world → AreExactOnMembers view rule.StaticOverride old new
   pub finals : IsRightWorld view.sight.world → AreExactOnMembers view rule.FinalOverride old new
+  pub throws : IsRightWorld view.sight.world → AreExactOnMembers view rule.OverrideThrows old new

@@ -3,6 +3,11 @@ pub mod Headers
 pub mod Twice
 pub mod Redefined
 pub mod Thrown
+pub mod Beside
+pub mod Unfound
+pub mod Lefts
+pub mod Names
+pub mod Inherited
 pub mod Methods
 pub mod Faults
 pub mod Tops

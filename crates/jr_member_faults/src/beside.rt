@@ -1,8 +1,17 @@
-// Methods of one signature that a type has as members (JLS 8.1.1.1, 8.4.5, 8.4.8.4, 9.4.1).
+// Methods of one name that a type has as members (JLS 8.1.1.1, 8.4.5, 8.4.8.4, 9.4.1).
+ghost use Rattle.std.specs.Prelude.{◌≡◌, ◌&&◌, IfOk};
+ghost use Rattle.jr_tree.specs.declared.label.Role.TheVariants as roles;
+ghost use Rattle.jr_tree.specs.Rows.{role_at as role_of_row};
+ghost use Rattle.jr_plain.specs.Enclosing as enclosing;
+ghost use Rattle.jr_plain.specs.Members as members;
+ghost use Rattle.jr_member_rules.specs.Inheriting as plain;
+ghost use Rattle.jr_member_faults.specs.Beside as tell;
+ghost use Rattle.jr_member_faults.specs.Lefts as lefts;
+ghost use Rattle.jr_member_faults.specs.Views as views;
 
 use crate::access::is_narrower;
 use crate::throwing::Thrown;
-use crate::together::is_result_fit;
+use crate::together::{is_either, is_method, is_result_fit};
 use jr_base::OutOfMemory;
 use jr_members::{MemberKind, World};
 use jr_places::{declaring_type, is_abstract, is_public, is_static};
@@ -11,8 +20,8 @@ use std::alloc::Global;
 /// The rules that a type breaks by what it inherits.
 #[derive(Clone, Copy, Debug, PartialEq, Eq)]
 pub struct Left {
-    /// A method is left abstract.
-    pub leaves_methods: bool,
+    /// A member is left abstract.
+    pub abstracts: bool,
     /// Inherited results do not go together.
     pub results: bool,
     /// A method is inherited beside one of wider access.
@@ -21,8 +30,15 @@ pub struct Left {
     pub statics: bool,
     /// A method is inherited that declares more than one beside it allows.
     pub throws: bool,
-    /// A type below may break one of them too.
-    pub is_open: bool,
+}
+
+/// What two inherited methods may break.
+#[derive(Clone, Copy)]
+pub enum Clash {
+    Results,
+    Access,
+    Statics,
+    Throws,
 }
 
 /// The methods that a type has beside each other.
@@ -36,244 +52,349 @@ pub struct Beside<'a> {
 impl Left {
     /// None.
     pub const NOTHING: Left = Left {
-        leaves_methods: false,
+        abstracts: false,
         results: false,
         access: false,
         statics: false,
         throws: false,
-        is_open: false,
     };
 
     /// The rules of both.
-    pub fn or(self, other: Left) -> Left {
+    pub fn or(self, other: Left) -> Left
+        ensures { result ≡ lefts.or_left self other }
+    {
         Left {
-            leaves_methods: self.leaves_methods || other.leaves_methods,
+            abstracts: self.abstracts || other.abstracts,
             results: self.results || other.results,
             access: self.access || other.access,
             statics: self.statics || other.statics,
             throws: self.throws || other.throws,
-            is_open: self.is_open || other.is_open,
         }
     }
 }
 
-impl<'a> Beside<'a> {
-    // The method is inherited: the type does not declare it.
-    fn is_inherited(&self, method: u32) -> bool {
-        let world = self.world;
-        declaring_type(world.under.rows, method) != Some(self.over)
+// The body of the type declares the method.
+fn is_declared_in(world: &World, over: u32, method: u32) -> bool
+    ensures { result ≡ enclosing.is_declared_in (views.rows_of world.now) over method }
+{
+    match declaring_type(world.under.rows, method) {
+        Some(found) => found == over,
+        None => false,
     }
+}
 
-    // The method alone may break a rule below, beside itself.
-    fn is_odd(&self, method: u32) -> bool {
-        let world = self.world;
-        is_abstract(world.under.rows, method)
-            || (!is_result_fit(self.world, method, method)
-                || is_narrower(world.under.rows, method, method))
-    }
+fn are_all(one: bool, other: bool, third: bool) -> bool
+    ensures { result ≡ (one && other && third) }
+{
+    one && other && third
+}
 
-    // A type below may break a rule at these methods, of one signature.
-    fn is_open(&self, group: &[u32]) -> bool {
-        if group.len() > 1 {
+// Both are methods, of one signature.
+fn are_same(world: &World, method: u32, other: u32) -> bool
+    ensures { views.IsRightWorld world.now → result ≡ members.are_same_methods (views.rows_of world.now) (views.table_of world.now) method other }
+{
+    let is_one = is_method(world.under.rows, method);
+    let is_other = is_method(world.under.rows, other);
+    let is_same = world.members.signatures().are_same(method, other);
+    are_all(is_one, is_other, is_same)
+}
+
+// A public method of an instance, and not abstract.
+fn is_public_instance(world: &World, method: u32) -> bool
+    ensures { result ≡ tell.is_public_instance (views.rows_of world.now) method }
+{
+    let rows = world.under.rows;
+    is_public(rows, method) && (!is_static(rows, method) && !is_abstract(rows, method))
+}
+
+// The first method implements the other.
+fn implements(world: &World, method: u32, other: u32) -> bool
+    ensures { views.IsRightWorld world.now → result ≡ tell.implements (views.rows_of world.now) (views.table_of world.now) other method }
+{
+    are_same(world, method, other) && is_public_instance(world, method)
+}
+
+// One of the methods implements the method.
+fn is_implemented(world: &World, all: &[u32], method: u32) -> bool
+    ensures { views.IsRightWorld world.now → result ≡ plain.is_implemented (views.rows_of world.now) (views.table_of world.now) all.now method }
+{
+    for other in all {
+        if implements(world, *other, method) {
             return true;
         }
-        for method in group {
-            if self.is_odd(*method) {
-                return true;
-            }
+    }
+    false
+}
+
+// The method is abstract, and none of the methods implements it.
+fn is_left(world: &World, all: &[u32], method: u32) -> bool
+    ensures { views.IsRightWorld world.now → result ≡ tell.is_left (views.rows_of world.now) (views.table_of world.now) all.now method }
+{
+    is_method(world.under.rows, method)
+        && is_abstract(world.under.rows, method)
+        && !is_implemented(world, all, method)
+}
+
+// One of the methods is left abstract.
+fn leaves_some(world: &World, all: &[u32]) -> bool
+    ensures { views.IsRightWorld world.now → result ≡ plain.leaves_some (views.rows_of world.now) (views.table_of world.now) all.now }
+{
+    for method in all {
+        if is_left(world, all, *method) {
+            return true;
         }
-        false
+    }
+    false
+}
+
+// The method alone may break a rule below, beside itself.
+fn is_odd(world: &World, method: u32) -> bool
+    ensures { views.IsRightWorld world.now → result ≡ tell.is_odd (views.rows_of world.now) (views.table_of world.now) method }
+{
+    let rows = world.under.rows;
+    !are_same(world, method, method)
+        || (is_abstract(rows, method)
+            || (!is_result_fit(world, method, method) || is_narrower(rows, method, method)))
+}
+
+// Two methods of one signature.
+fn are_twins(world: &World, method: u32, other: u32) -> bool
+    ensures { views.IsRightWorld world.now → result ≡ tell.are_twins (views.rows_of world.now) (views.table_of world.now) method other }
+{
+    method != other && are_same(world, method, other)
+}
+
+// Another one of the methods has the signature.
+fn has_twin(world: &World, all: &[u32], method: u32) -> bool
+    ensures { views.IsRightWorld world.now → result ≡ tell.has_twin (views.rows_of world.now) (views.table_of world.now) all.now method }
+{
+    for other in all {
+        if are_twins(world, method, *other) {
+            return true;
+        }
+    }
+    false
+}
+
+// A type below may break a rule by the method, beside itself or another one.
+fn is_open(world: &World, all: &[u32], method: u32) -> bool
+    ensures { views.IsRightWorld world.now → result ≡ tell.is_open (views.rows_of world.now) (views.table_of world.now) all.now method }
+{
+    is_odd(world, method) || has_twin(world, all, method)
+}
+
+// A type below may break a rule by these methods, or this one does.
+fn are_open(world: &World, all: &[u32]) -> bool
+    ensures { views.IsRightWorld world.now → result ≡ tell.are_open (views.rows_of world.now) (views.table_of world.now) all.now }
+{
+    for method in all {
+        if is_open(world, all, *method) {
+            return true;
+        }
+    }
+    false
+}
+
+impl<'a> Beside<'a> {
+    // Both methods have one signature, and the type declares neither.
+    fn are_beside(self, method: u32, other: u32) -> bool
+        ensures { views.IsRightWorld self.entry.world.now → result ≡ tell.are_beside (views.rows_of self.entry.world.now) (views.table_of self.entry.world.now) self.entry.over method other }
+    {
+        are_same(self.world, method, other)
+            && (!is_declared_in(self.world, self.over, method)
+                && !is_declared_in(self.world, self.over, other))
     }
 
-    // One of the methods is a public one of an instance, and not abstract.
-    fn is_implemented(&self, group: &[u32]) -> bool {
+    // The first of two methods, by which a rule may be broken.
+    fn is_first_in(self, clash: Clash, method: u32) -> bool
+        ensures { result ≡ tell.is_first_in (views.rows_of self.entry.world.now) clash method }
+    {
         let world = self.world;
         let rows = world.under.rows;
-        for method in group {
-            if is_public(rows, *method)
-                && (!is_static(rows, *method) && !is_abstract(rows, *method))
-            {
-                return true;
-            }
+        match clash {
+            Clash::Results => !is_abstract(rows, method),
+            Clash::Access => !is_abstract(rows, method),
+            Clash::Statics => is_static(rows, method),
+            Clash::Throws => !is_abstract(rows, method),
         }
-        false
     }
 
-    // One of the methods is abstract, and none implements it.
-    fn leaves_some(&self, group: &[u32]) -> bool {
-        let world = self.world;
-        let lacking = !self.is_implemented(group);
-        for method in group {
-            if is_abstract(world.under.rows, *method) && lacking {
-                return true;
-            }
-        }
-        false
-    }
-
-    // Of the inherited methods there is one whose result that of the method does not fit.
-    fn disagrees(&self, inherited: &[u32], method: u32) -> bool {
-        for other in inherited {
-            if !is_result_fit(self.world, method, *other) {
-                return true;
-            }
-        }
-        false
-    }
-
-    // An inherited method that is not abstract disagrees with another.
-    fn has_disagreeing(&self, inherited: &[u32]) -> bool {
-        let world = self.world;
-        for method in inherited {
-            if !is_abstract(world.under.rows, *method) && self.disagrees(inherited, *method) {
-                return true;
-            }
-        }
-        false
-    }
-
-    // Each of the methods is abstract and inherited, and disagrees with another.
-    fn all_disagree(&self, group: &[u32], inherited: &[u32]) -> bool {
-        let world = self.world;
-        for method in group {
-            if !is_abstract(world.under.rows, *method)
-                || !self.is_inherited(*method)
-                || !self.disagrees(inherited, *method)
-            {
-                return false;
-            }
-        }
-        true
-    }
-
-    // A method is inherited that is not abstract, beside one of wider access.
-    fn inherits_narrower(&self, inherited: &[u32]) -> bool {
+    // The two methods break the rule.
+    fn do_clash(
+        self,
+        alloc: Global,
+        clash: Clash,
+        method: u32,
+        other: u32,
+    ) -> Result<bool, OutOfMemory>
+        ensures { lefts.CanJudge self.entry → role_of_row (views.rows_of self.entry.world.now) method ≡ roles.Method → role_of_row (views.rows_of self.entry.world.now) other ≡ roles.Method → IfOk result (λ is. is ≡ tell.do_clash (views.rows_of self.entry.world.now) (views.table_of self.entry.world.now) clash method other) }
+    {
         let world = self.world;
         let rows = world.under.rows;
-        for method in inherited {
-            if !is_abstract(rows, *method) {
-                for other in inherited {
-                    if is_narrower(rows, *method, *other) {
-                        return true;
-                    }
-                }
-            }
+        match clash {
+            Clash::Results => Ok(!is_result_fit(self.world, method, other)),
+            Clash::Access => Ok(is_narrower(rows, method, other)),
+            Clash::Statics => Ok(!is_static(rows, other)),
+            Clash::Throws => self.thrown.declares_more(alloc, self.world, method, other),
         }
-        false
     }
 
-    // A static method is inherited beside one of an instance.
-    fn inherits_static(&self, inherited: &[u32]) -> bool {
-        let world = self.world;
-        let rows = world.under.rows;
-        for method in inherited {
-            if is_static(rows, *method) {
-                for other in inherited {
-                    if !is_static(rows, *other) {
-                        return true;
-                    }
-                }
-            }
+    // The two stand beside each other, and break the rule.
+    fn are_clashing(
+        self,
+        alloc: Global,
+        clash: Clash,
+        method: u32,
+        other: u32,
+    ) -> Result<bool, OutOfMemory>
+        ensures { lefts.CanJudge self.entry → IfOk result (λ is. is ≡ tell.are_clashing (views.rows_of self.entry.world.now) (views.table_of self.entry.world.now) clash self.entry.over method other) }
+    {
+        if !self.are_beside(method, other) {
+            return Ok(false);
         }
-        false
+        let is = self.do_clash(alloc, clash, method, other)?;
+        Ok(is)
     }
 
-    // A method is inherited that is not abstract, and declares more than one beside it allows.
-    fn inherits_throwing(&self, alloc: Global, inherited: &[u32]) -> Result<bool, OutOfMemory> {
-        let world = self.world;
-        for method in inherited {
-            if !is_abstract(world.under.rows, *method) {
-                for other in inherited {
-                    let is_more = self
-                        .thrown
-                        .declares_more(alloc, self.world, *method, *other)?;
-                    if is_more {
-                        return Ok(true);
-                    }
-                }
+    // Of these methods one stands beside the method, and the two break the rule.
+    fn has_clashing(
+        self,
+        alloc: Global,
+        clash: Clash,
+        all: &[u32],
+        method: u32,
+    ) -> Result<bool, OutOfMemory>
+        ensures { lefts.CanJudge self.entry → IfOk result (λ is. is ≡ tell.has_clashing (views.rows_of self.entry.world.now) (views.table_of self.entry.world.now) clash self.entry.over all.now method) }
+    {
+        for other in all {
+            let is = self.are_clashing(alloc, clash, method, *other)?;
+            if is {
+                return Ok(true);
             }
         }
         Ok(false)
     }
 
-    // The rules that members of one signature break.
-    fn of_group(&self, alloc: Global, group: &[u32]) -> Result<Left, OutOfMemory> {
-        if group.is_empty() || !self.is_open(group) {
-            return Ok(Left::NOTHING);
+    // The method is the first of two that break the rule, of which the other is one of these.
+    fn is_clashing(
+        self,
+        alloc: Global,
+        clash: Clash,
+        all: &[u32],
+        method: u32,
+    ) -> Result<bool, OutOfMemory>
+        ensures { lefts.CanJudge self.entry → IfOk result (λ is. is ≡ tell.is_clashing (views.rows_of self.entry.world.now) (views.table_of self.entry.world.now) clash self.entry.over all.now method) }
+    {
+        if !self.is_first_in(clash, method) {
+            return Ok(false);
         }
-        let inherited = self.inherited(alloc, group)?;
-        let left = self.of_inherited(alloc, group, &inherited)?;
-        Ok(left)
+        let is = self.has_clashing(alloc, clash, all, method)?;
+        Ok(is)
     }
 
-    // Those of the methods that are inherited.
-    fn inherited(&self, alloc: Global, group: &[u32]) -> Result<Vec<u32>, OutOfMemory> {
-        let mut inherited = Vec::new(alloc);
-        for method in group {
-            if self.is_inherited(*method) {
-                inherited.push(*method)?;
+    // Two of these methods break the rule.
+    fn has_clash(self, alloc: Global, clash: Clash, all: &[u32]) -> Result<bool, OutOfMemory>
+        ensures { lefts.CanJudge self.entry → IfOk result (λ is. is ≡ tell.has_clash (views.rows_of self.entry.world.now) (views.table_of self.entry.world.now) clash self.entry.over all.now) }
+    {
+        for method in all {
+            let is = self.is_clashing(alloc, clash, all, *method)?;
+            if is {
+                return Ok(true);
             }
         }
-        Ok(inherited)
+        Ok(false)
     }
 
-    // The rules that members of one signature break, of which these are inherited.
-    fn of_inherited(
-        &self,
+    // The other method has no signature of the first, or is abstract and its result does not fit that of another.
+    fn fits_none(
+        self,
         alloc: Global,
-        group: &[u32],
-        inherited: &[u32],
-    ) -> Result<Left, OutOfMemory> {
-        let throws = self.inherits_throwing(alloc, inherited)?;
+        all: &[u32],
+        method: u32,
+        other: u32,
+    ) -> Result<bool, OutOfMemory>
+        ensures { lefts.CanJudge self.entry → IfOk result (λ is. is ≡ tell.fits_none (views.rows_of self.entry.world.now) (views.table_of self.entry.world.now) self.entry.over all.now method other) }
+    {
+        if !are_same(self.world, other, method) {
+            return Ok(true);
+        }
+        let world = self.world;
+        if !is_abstract(world.under.rows, other) {
+            return Ok(false);
+        }
+        let is = self.has_clashing(alloc, Clash::Results, all, other)?;
+        Ok(is)
+    }
+
+    // So are all of these methods.
+    fn fit_none(self, alloc: Global, all: &[u32], method: u32) -> Result<bool, OutOfMemory>
+        ensures { lefts.CanJudge self.entry → IfOk result (λ is. is ≡ tell.fit_none (views.rows_of self.entry.world.now) (views.table_of self.entry.world.now) self.entry.over all.now method) }
+    {
+        for other in all {
+            let is = self.fits_none(alloc, all, method, *other)?;
+            if !is {
+                return Ok(false);
+            }
+        }
+        Ok(true)
+    }
+
+    // The results of abstract methods of one signature do not fit.
+    fn has_unfit(self, alloc: Global, all: &[u32]) -> Result<bool, OutOfMemory>
+        ensures { lefts.CanJudge self.entry → IfOk result (λ is. is ≡ tell.has_unfit (views.rows_of self.entry.world.now) (views.table_of self.entry.world.now) self.entry.over all.now) }
+    {
+        for method in all {
+            let is = self.is_unfit(alloc, all, *method)?;
+            if is {
+                return Ok(true);
+            }
+        }
+        Ok(false)
+    }
+
+    // Those of the signature of this one.
+    fn is_unfit(self, alloc: Global, all: &[u32], method: u32) -> Result<bool, OutOfMemory>
+        ensures { lefts.CanJudge self.entry → IfOk result (λ is. is ≡ tell.is_unfit (views.rows_of self.entry.world.now) (views.table_of self.entry.world.now) self.entry.over all.now method) }
+    {
+        let world = self.world;
+        if !is_method(world.under.rows, method) {
+            return Ok(false);
+        }
+        let is = self.fit_none(alloc, all, method)?;
+        Ok(is)
+    }
+
+    // The rules that these methods break.
+    fn left_of(self, alloc: Global, all: &[u32]) -> Result<Left, OutOfMemory>
+        ensures { lefts.CanJudge self.entry → IfOk result (λ left. left ≡ lefts.left_of (views.rows_of self.entry.world.now) (views.table_of self.entry.world.now) self.entry.over all.now) }
+    {
+        let clashes = self.has_clash(alloc, Clash::Results, all)?;
+        let unfit = self.has_unfit(alloc, all)?;
+        let access = self.has_clash(alloc, Clash::Access, all)?;
+        let statics = self.has_clash(alloc, Clash::Statics, all)?;
+        let throws = self.has_clash(alloc, Clash::Throws, all)?;
+        let results = is_either(clashes, unfit);
+        let abstracts = leaves_some(self.world, all);
         Ok(Left {
-            leaves_methods: self.leaves_some(group),
-            results: self.has_disagreeing(inherited) || self.all_disagree(group, inherited),
-            access: self.inherits_narrower(inherited),
-            statics: self.inherits_static(inherited),
+            abstracts,
+            results,
+            access,
+            statics,
             throws,
-            is_open: true,
         })
     }
 
-    // The rules that a member breaks which has no signature, since a type in it is not found: nothing is of its signature.
-    fn of_unsigned(&self, method: u32) -> Left {
-        let world = self.world;
-        Left {
-            leaves_methods: is_abstract(world.under.rows, method),
-            results: true,
-            is_open: true,
-            ..Left::NOTHING
+    /// The rules that the methods of a name break, given by its number, or none, where no type below breaks one by these alone.
+    pub fn at_name(self, alloc: Global, name: u32) -> Result<Option<Left>, OutOfMemory>
+        ensures { lefts.CanJudge self.entry → IfOk result (λ left. lefts.IsLeftAt self.entry.world.now self.entry.over name left) }
+    {
+        let all = self
+            .world
+            .named(alloc, MemberKind::Method, self.over, name)?;
+        if !are_open(self.world, &all) {
+            return Ok(None);
         }
-    }
-
-    // The rules that members break which are sorted by the numbers of their signatures.
-    fn of_sorted(&self, alloc: Global, signed: &[(u32, u32)]) -> Result<Left, OutOfMemory> {
-        let mut left = Left::NOTHING;
-        let mut group = Vec::new(alloc);
-        let mut last = None;
-        for (number, method) in signed {
-            if last != Some(*number) {
-                left = left.or(self.of_group(alloc, &group)?);
-                group = Vec::new(alloc);
-            }
-            group.push(*method)?;
-            last = Some(*number);
-        }
-        Ok(left.or(self.of_group(alloc, &group)?))
-    }
-
-    /// The rules that the methods of a name break, given by its number.
-    pub fn at_name(&self, alloc: Global, name: u32) -> Result<Left, OutOfMemory> {
-        let world = self.world;
-        let mut left = Left::NOTHING;
-        let mut signed = Vec::new(alloc);
-        for method in &world.named(alloc, MemberKind::Method, self.over, name)? {
-            match world.members.signatures().number(*method) {
-                Some(number) => signed.push((number, *method))?,
-                None => left = left.or(self.of_unsigned(*method)),
-            }
-        }
-        signed.sort_unstable();
-        Ok(left.or(self.of_sorted(alloc, &signed)?))
+        let left = self.left_of(alloc, &all)?;
+        Ok(Some(left))
     }
 }

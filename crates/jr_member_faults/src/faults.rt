@@ -3,9 +3,7 @@ ghost use Rattle.std.specs.Prelude.{◌≡◌, ◌+◌, ◌<◌, ◌^◌, ◌||�
 ghost use Rattle.jr_tree.specs.declared.label.Role.TheVariants as roles;
 ghost use Rattle.jr_tree.specs.Rows as rows;
 ghost use Rattle.jr_defs.specs.Referents.{entries};
-ghost use Rattle.jr_defs.specs.MemberRules.{RedefinesMethod};
 ghost use Rattle.jr_plain.specs.Declarations.{is_type};
-ghost use Rattle.jr_plain.specs.Search.{Lists};
 ghost use Rattle.jr_rule.specs.Faults.{AreFaultsOf};
 ghost use Rattle.jr_rule.specs.declared.Rule.TheVariants as rules;
 ghost use Rattle.jr_name_rules.specs.DeclarationTests as declaring;
@@ -17,16 +15,19 @@ ghost use Rattle.jr_faults.specs.Added.{row_if, is_rule, AreOnly};
 ghost use Rattle.jr_member_faults.specs.Faults as tell;
 ghost use Rattle.jr_member_faults.specs.Headers.{AreHeadersTo};
 ghost use Rattle.jr_member_faults.specs.Twice.{AreDeclaredTo};
+ghost use Rattle.jr_member_faults.specs.Inherited.{left_in, AreLefts};
 ghost use Rattle.jr_member_faults.specs.Methods as of_methods;
+ghost use Rattle.jr_member_faults.specs.Thrown.{AreThrown};
 ghost use Rattle.jr_member_faults.specs.Views as views;
 
 use crate::beside::Left;
 use crate::bodies::{is_initializer, stands_wrong};
 use crate::headers::Headers;
-use crate::inheriting::Inheriting;
+use crate::inheriting::put_lefts;
 use crate::inner::is_static_there;
 use crate::redefining::{Redefining, Uppers, is_mixed, is_narrowed, is_over_final};
 use crate::throwing::Thrown;
+use crate::together::is_either;
 use crate::twice::{Declared, is_inside_its_name};
 use jr_base::OutOfMemory;
 use jr_faults::rule_if;
@@ -111,7 +112,9 @@ struct Methods<'a> {
 
 impl<'a> Methods<'a> {
     // What a type breaks by what it inherits.
-    fn left_at(&self, at: u32) -> Left {
+    fn left_at(&self, at: u32) -> Left
+        ensures { result ≡ left_in self.now.lefts.items at }
+    {
         match self.lefts.get(at as usize) {
             Some(left) => *left,
             None => Left::NOTHING,
@@ -121,7 +124,7 @@ impl<'a> Methods<'a> {
     // The rules on methods beside and above others that are broken at a row.
     fn faults(&self, alloc: Global, at: u32, out: &mut Vec<Fault>) -> Result<(), OutOfMemory>
         ensures others { OnOk result (AreOnly tell.is_of_methods out.old.items out.new.items) }
-        ensures finals { of_methods.AreRight self.now → OnOk result (AreFaultsOf rules.FinalOverride (row_if (of_methods.is_over_final_in self.now.redefining.world.now at) at) out.old.items out.new.items) }
+        ensures found { of_methods.AreRight self.now → OnOk result (of_methods.AreFaultsOn self.now.redefining.world.now (λ test. row_if (test at) at) out.old.items out.new.items) }
     {
         let left = self.left_at(at);
         let redefining = self.redefining;
@@ -141,38 +144,33 @@ fn method_faults(
     out: &mut Vec<Fault>,
 ) -> Result<(), OutOfMemory>
     ensures others { OnOk result (AreOnly tell.is_of_methods out.old.items out.new.items) }
-    ensures finals { views.IsRightWorld redefining.entry.world.now → Lists over.now (RedefinesMethod (views.rows_of redefining.entry.world.now) (views.table_of redefining.entry.world.now) at) → OnOk result (AreFaultsOf rules.FinalOverride (row_if (of_methods.is_over_final_in redefining.entry.world.now at) at) out.old.items out.new.items) }
+    ensures found { of_methods.CanTell redefining.entry → of_methods.IsTold redefining.entry.world.now at over.now left → OnOk result (of_methods.AreFaultsOn redefining.entry.world.now (λ test. row_if (test at) at) out.old.items out.new.items) }
 {
     let is_other = redefining.has_other_result(at, over);
     let is_narrower = is_narrowed(redefining.world, at, over);
     let is_other_kind = is_mixed(redefining.world, at, over);
     let is_final = is_over_final(redefining.world, over);
     let throws_more = redefining.throws_more(alloc, at, over)?;
-    rule_if(out, left.leaves_methods, at, Rule::AbstractMembers)?;
-    rule_if(out, is_other || left.results, at, Rule::Results)?;
-    rule_if(out, is_narrower || left.access, at, Rule::NarrowedAccess)?;
-    rule_if(out, is_other_kind || left.statics, at, Rule::StaticOverride)?;
+    let results = is_either(is_other, left.results);
+    let access = is_either(is_narrower, left.access);
+    let statics = is_either(is_other_kind, left.statics);
+    let throws = is_either(throws_more, left.throws);
+    rule_if(out, left.abstracts, at, Rule::AbstractMembers)?;
+    rule_if(out, results, at, Rule::Results)?;
+    rule_if(out, access, at, Rule::NarrowedAccess)?;
+    rule_if(out, statics, at, Rule::StaticOverride)?;
     rule_if(out, is_final, at, Rule::FinalOverride)?;
-    rule_if(out, throws_more || left.throws, at, Rule::OverrideThrows)?;
+    rule_if(out, throws, at, Rule::OverrideThrows)?;
     Ok(())
 }
 
 // What the types break by what they inherit, by their rows.
-fn lefts_of(alloc: Global, world: &World, thrown: &Thrown) -> Result<Vec<Left>, OutOfMemory> {
+fn lefts_of(alloc: Global, world: &World, thrown: &Thrown) -> Result<Vec<Left>, OutOfMemory>
+    ensures { views.IsRightWorld world.now → AreThrown (views.rows_of world.now) thrown.now → IfOk result (λ lefts. AreLefts world.now lefts.items) }
+{
     let mut lefts = vec![in alloc; Left::NOTHING; world.under.rows.len()]?;
     put_lefts(alloc, world, thrown, &mut lefts)?;
     Ok(lefts)
-}
-
-// Puts what each type breaks by what it inherits under its row.
-fn put_lefts(
-    alloc: Global,
-    world: &World,
-    thrown: &Thrown,
-    lefts: &mut [Left],
-) -> Result<(), OutOfMemory> {
-    let mut inheriting = Inheriting::new(alloc, &*world, &*thrown)?;
-    inheriting.put_lefts(alloc, world.supers.order(), lefts)
 }
 
 // A type, field, method or constructor.
@@ -340,7 +338,7 @@ fn faults_with(
     thrown: &Thrown,
     out: &mut Vec<Fault>,
 ) -> Result<(), OutOfMemory>
-    ensures exact { OnOk result (tell.AreMemberFaults view.now out.old.items out.new.items) }
+    ensures exact { AreThrown (views.rows_in view.now) thrown.now → OnOk result (tell.AreMemberFaults view.now out.old.items out.new.items) }
     ensures only { OnOk result (AreOnly tell.is_on_members out.old.items out.new.items) }
 {
     let world = &view.sight.world;

@@ -10,11 +10,13 @@ mod inheriting;
 mod inner;
 mod law;
 mod listing;
+mod names;
 mod redefining;
 mod throwing;
 mod together;
 mod tops;
 mod twice;
+mod unfound;
 
 pub use faults::member_faults;
 pub use law::variables_are_valued;

@@ -1,5 +1,5 @@
 // Methods of one signature beside each other (JLS 8.4.2, 8.4.5).
-ghost use Rattle.std.specs.Prelude.{◌≡◌};
+ghost use Rattle.std.specs.Prelude.{◌≡◌, ◌||◌};
 ghost use Rattle.jr_plain.specs.Overloads as overloads;
 ghost use Rattle.jr_plain.specs.Overriding as plain;
 ghost use Rattle.jr_plain.specs.Same.{same_type};
@@ -19,6 +19,13 @@ pub fn is_method(all: &[Row], at: u32) -> bool
         Role::Method => true,
         _ => false,
     }
+}
+
+/// One of both.
+pub fn is_either(one: bool, other: bool) -> bool
+    ensures { result ≡ (one || other) }
+{
+    one || other
 }
 
 fn is_same_type(first: RowType, second: RowType) -> bool

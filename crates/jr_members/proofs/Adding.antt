@@ -31,15 +31,17 @@ use Rattle.jr_members.specs.declared.named.Sources.{Sources}
 use Rattle.jr_members.specs.Each.{ListsEach, with_each, AreBelow, IsPushedAs}
 use Rattle.jr_members.specs.Keys.{falling, is_declared_by, AreDeclared}
 use Rattle.jr_members.specs.Held.{role_of_kind, IsDeclaredAs, IsHeldAs}
-use Rattle.jr_members.specs.Named.{has_list, entries_for, IsTold, AreLists}
+use Rattle.jr_members.specs.Named.{has_list, entries_for, IsTold, AreLists, IsDone}
+use Rattle.jr_members.specs.Nearest.{AreNear, IsListed}
 use Rattle.jr_members.specs.Sources.{AreSeen, AreSources, links_of, AreOfKind, CanClimb}
-use Rattle.jr_members.specs.Gathered.{inherits, is_the, IsFurther, PushesUp, IsUpFurther, IsAddedUp, IsAddingUp, IsNaming, IsWantedAs, KeepsLists, CanGather, IsGatheringIn, CanAdd, CanAddTo, AddsList, IsAddingLists, AddsType, IsAddingTypes, AddsAll}
+use Rattle.jr_members.specs.Gathered.{inherits, is_the, IsFurther, PushesUp, IsUpFurther, IsAddedUp, IsAddingUp, IsNaming, IsWantedAs, KeepsLists, CanGather, IsGatheringIn, CanAdd, CanAddTo, AddsList, AddsLists, IsAddingLists, AddsType, IsAddingTypes, AddsAll}
 use Rattle.jr_members.proofs.Each.{has_front, front_has, first_in, rest_in, front_in, none_in, not_both}
 use Rattle.jr_members.proofs.Heritage.{held_declared}
 use Rattle.jr_members.proofs.Keyed.{keeps_itself, keeps_more, new_told}
 use Rattle.jr_members.proofs.Declaring.{type_listed}
 use Rattle.jr_members.proofs.Gathering.{gathering_start, gathering_more, gathering_end}
-use Rattle.jr_members.proofs.Doing.{listing_start, listing_next, listing_end, done_start, next_ready, done_next, done_end}
+use Rattle.jr_members.proofs.Nearing.{near_kept}
+use Rattle.jr_members.proofs.Doing.{from_up, listing_start, listing_next, listing_end, done_start, next_ready, done_next, done_end}
 
 -- ---- kinds and bounds
 
@@ -160,17 +162,17 @@ module _ (p : Rows) (t : Table) (supers : Supers) (right : AreSupersOf p t super
     gathered_all x own all stamps h = gathering_end p t tree (name_tells p) kind c x all h.gathering
 
     pub can_gather : (named : Named) (stamps : Stamps) → CanAddTo p t supers kind named stamps c → CanGather p t supers kind named c
-    can_gather named stamps h = record { declared_is = h.can.declared_is; all = h.can.all; ready = h.ready }
+    can_gather named stamps h = record { declared_is = h.can.declared_is; all = h.can.all; near = h.can.near; ready = h.ready }
 
     -- ---- lists are added
 
     pub list_there : (x : ℕ) (named : Named) (stamps : Stamps) → CanAddTo p t supers kind named stamps c → has_list named.lists c x ≡ true → AddsList p t supers kind c x named named stamps
     list_there x named stamps h some = record { can = h.can; keeps = keeps_itself p t (links_of supers) kind named.lists h.can.all; told = h.can.all.whole c x some }
 
-    pub list_added : (x : ℕ) (named new : Named) (old stamps : Stamps) (all : List ℕ) → CanAddTo p t supers kind named old c → new.declared ≡ named.declared → new.lists ≡ named.lists ++ entries_for c x all → has_list named.lists c x ≡ false
+    pub list_added : (x : ℕ) (named new : Named) (old stamps : Stamps) (all : List ℕ) → CanAddTo p t supers kind named old c → new.declared ≡ named.declared → new.nearest ≡ named.nearest → new.lists ≡ named.lists ++ entries_for c x all → has_list named.lists c x ≡ false
         → ListsEach all (IsHeldAs p t kind c x) → IsStamping stamps (length p) → AddsList p t supers kind c x named new stamps
-    list_added x named new old stamps all h same is none listed counted = let keeps = subst (λ l. KeepsLists p t (links_of supers) kind named.lists l) (sym is) (keeps_more p t (links_of supers) kind named.lists c x all listed none h.can.all) in record {
-      can = record { declared_is = subst (λ d. AreDeclared p kind d) (sym same) h.can.declared_is; all = keeps.all; counted = counted };
+    list_added x named new old stamps all h same near_is is none listed counted = let keeps = subst (λ l. KeepsLists p t (links_of supers) kind named.lists l) (sym is) (keeps_more p t (links_of supers) kind named.lists c x all listed none h.can.all) in record {
+      can = record { declared_is = subst (λ d. AreDeclared p kind d) (sym same) h.can.declared_is; all = keeps.all; near = subst (λ n. AreNear p t kind new.lists n) (sym near_is) (near_kept p t (links_of supers) kind named.lists new.lists named.nearest keeps h.can.near); counted = counted };
       keeps = keeps;
       told = subst (λ l. IsTold p t kind l c x) (sym is) (new_told p t (links_of supers) kind named.lists c x all listed);
     }
@@ -190,11 +192,29 @@ module _ (p : Rows) (t : Table) (supers : Supers) (right : AreSupersOf p t super
       wanted = λ e a. h.wanted e (rest_in d e rest rows is a);
     }
 
-    pub adding_end : (old new : Named) (stamps : Stamps) (rest : List ℕ) → rest ≡ [] → IsAddingLists p t supers kind c rest old new stamps → AddsType p t supers kind c old new stamps
+    pub adding_end : (old new : Named) (stamps : Stamps) (rest : List ℕ) → rest ≡ [] → IsAddingLists p t supers kind c rest old new stamps → AddsLists p t supers kind c old new stamps
     adding_end old new stamps rest none h = record {
       can = h.can.can;
       keeps = h.listing.keeps;
       done = listing_end p t right.well.headed (tables supers.above) right.above.above kind c old.lists rest new.lists none h.listing;
+      told = λ d k. ⊎_elim (λ a. a) (λ a. absurd (none_in d rest none a)) (h.listing.told d k);
+    }
+
+    -- c has lists for the names of the rows for which it wants them
+    pub type_is_listed : (old new : Named) (stamps : Stamps) (rows : List ℕ) → AddsLists p t supers kind c old new stamps → Lists rows (IsWantedAs p t (links_of supers) kind c) → IsListed p t kind new.lists (up_at (links_of supers) c) c rows
+    type_is_listed old new stamps rows h wanted = record {
+      all = h.can.all;
+      told = λ e among. h.told e ((wanted e).0 among);
+      below = record { each = λ e among. wanted_below kind c e ((wanted e).0 among) };
+      others = λ x apart. from_up p t right.well.headed (tables supers.above) right.above.above kind c x (name_tells p) (λ e k. apart e ((wanted e).1 k));
+    }
+
+    -- c is known besides
+    pub type_added : (old new last : Named) (stamps : Stamps) → AddsLists p t supers kind c old new stamps → last.declared ≡ new.declared → last.lists ≡ new.lists → AreNear p t kind new.lists last.nearest → AddsType p t supers kind c old last stamps
+    type_added old new last stamps h same is near = record {
+      can = record { declared_is = subst (λ d. AreDeclared p kind d) (sym same) h.can.declared_is; all = subst (λ l. AreLists p t kind l) (sym is) h.can.all; near = subst (λ l. AreNear p t kind l last.nearest) (sym is) near; counted = h.can.counted };
+      keeps = subst (λ l. KeepsLists p t (links_of supers) kind old.lists l) (sym is) h.keeps;
+      done = subst (λ l. IsDone p t (links_of supers) kind l c) (sym is) h.done;
     }
 
   -- ---- all types
@@ -223,6 +243,7 @@ module _ (p : Rows) (t : Table) (supers : Supers) (right : AreSupersOf p t super
       named_is = record {
         declared_is = h.can.declared_is;
         all = h.can.all;
+        near = h.can.near;
         done = done_end p t right.well.headed (tables supers.above) right.above.above kind supers.direct.supers right.direct rest named.lists none h.done;
       };
       counted = h.can.counted;

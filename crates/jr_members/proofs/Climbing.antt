@@ -40,10 +40,10 @@ module _ (p : Rows) (local : IsLocal p) where
   one_package : (o : ℕ) (q r : List Text) (a : InPackage p q o) (b : InPackage p r o) → package_of p a.unit ≡ package_of p b.unit
   one_package o q r a b = ap (package_of p) (one_unit p local o a.unit b.unit a.holds b.holds)
 
-  same_back : (m n : ℕ) → SamePackage p m n → SamePackage p n m
+  pub same_back : (m n : ℕ) → SamePackage p m n → SamePackage p n m
   same_back m n h = record { path = h.path; first = h.second; second = h.first }
 
-  same_then : (m n k : ℕ) → SamePackage p m n → SamePackage p n k → SamePackage p m k
+  pub same_then : (m n k : ℕ) → SamePackage p m n → SamePackage p n k → SamePackage p m k
   same_then m n k h j = let same : h.path ≡ j.path = sym h.second.has_path ∙ one_package n h.path j.path h.second j.first ∙ j.first.has_path in
       record { path = h.path; first = h.first; second = subst (λ q. InPackage p q k) (sym same) j.second }
 

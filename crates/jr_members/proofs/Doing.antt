@@ -2,12 +2,12 @@
 use Rattle.std.proofs.Common.{◌≡◌, ◌⊎◌, refl, sym, ◌∙◌, ap, subst, inl, inr, ⊎_elim, arith, ℕ, ◌<◌, Bool, true, false, List, [], ◌∷◌, ◌++◌, length, Option, Some, None, nat_eq, Decides}
 use Rattle.std.proofs.lemmas.Bool.{false≢true, false_from_ne_true, cases_eq}
 use Rattle.std.proofs.lemmas.Bool.Decides.{Decides-eqb}
-use Rattle.jr_tree.specs.Rows.{Rows}
+use Rattle.jr_tree.specs.Rows.{Rows, name}
 use Rattle.jr_defs.specs.Referents.{Table}
 use Rattle.jr_defs.specs.Declarations.{IsType}
 use Rattle.jr_defs.specs.Enclosing.{DeclaredIn}
 use Rattle.jr_defs.specs.Supertypes.{Super}
-use Rattle.jr_defs.specs.Members.{CanInherit, Passes}
+use Rattle.jr_defs.specs.Members.{IsLeft, CanInherit, Passes}
 use Rattle.jr_plain.specs.Search.{has, Lists}
 use Rattle.jr_plain.specs.Headed.{IsHeaded}
 use Rattle.jr_plain.proofs.Tests.{decide}
@@ -23,7 +23,8 @@ use Rattle.jr_members.specs.declared.declared.MemberKind.{MemberKind}
 use Rattle.jr_members.specs.Held.{Holds, IsOf, IsDeclaredAs, IsHeldAs}
 use Rattle.jr_members.specs.Named.{under, IsTold, AreLists, IsDone}
 use Rattle.jr_members.specs.Gathered.{is_the, IsNaming, IsWantedAs, IsReady, KeepsLists, IsListing, AreDone}
-use Rattle.jr_members.proofs.Heritage.{held_declared, held_source}
+use Rattle.jr_members.specs.Nearest.{IsFromUp}
+use Rattle.jr_members.proofs.Heritage.{replaced_alike, held_declared, held_source}
 use Rattle.jr_members.proofs.Keyed.{keeps_itself, keeps_then}
 use Rattle.jr_members.proofs.Each.{has_front, front_has, rest_has, front_in, none_in}
 
@@ -36,6 +37,33 @@ module _ (p : Rows) (t : Table) (headed : IsHeaded p) (T : Tables) (A : AreAbove
   }
 
   -- ---- one type
+
+  -- under a name that no type declares for which c has lists, it has what it inherits from the one above it
+  module _ (c x : ℕ) (alike : (e d : ℕ) → Decides (nat_eq (name_row p e) (name_row p d)) (name p e ≡ name p d)) (none : (e : ℕ) → IsWantedAs p t T.links kind c e → name_row p e ≡ x → ⊥) where
+    never : (d e : ℕ) → IsOf p kind x d → IsNaming p t T.links c e → DeclaredIn p e d → ⊥
+    never d e of naming declared = none d (record { role_is = of.role_is; holder = e; naming = naming; declared = declared }) of.named
+
+    up_out : (d : ℕ) → IsOf p kind x d → Holds p t c d → (u : ℕ) × (up_at T.links c ≡ Some u) × IsHeldAs p t kind u x d × Passes p u d × CanInherit p c d
+    up_out d of (Holds.declared h) = absurd (never d c of IsNaming.own h)
+    up_out d of (Holds.inherited {s = s} up more passes inherits left) = first (up_at T.links c) refl
+      where
+        further : (o : Option ℕ) → up_at T.links c ≡ o → is_the o s ≡ false → ⊥
+        further o e apart = let k = held_declared p t s d more in never d k.0 of (IsNaming.further up (subst (λ o. is_the o s ≡ false) (sym e) apart) k.1) k.2
+
+        first : (o : Option ℕ) → up_at T.links c ≡ o → (u : ℕ) × (up_at T.links c ≡ Some u) × IsHeldAs p t kind u x d × Passes p u d × CanInherit p c d
+        first None e = absurd (further None e refl)
+        first (Some u) e = ⊎_elim (λ same. (s, e ∙ ap Some same, record { of = of; held = more }, passes, inherits))
+            (λ apart. absurd (further (Some u) e (false_from_ne_true (nat_eq u s) (λ k. apart ((Decides-eqb u s).0 k))))) (cases_eq u s)
+
+    up_left : (d : ℕ) → IsOf p kind x d → IsLeft p t c d
+    up_left d of e declared h = let same = replaced_alike p t e d h in
+        never e c (record { role_is = same.0 ∙ of.role_is; named = (Decides-eqb (name_row p e) (name_row p d)).0 ((alike e d).1 same.1) ∙ of.named }) IsNaming.own declared
+
+    pub from_up : IsFromUp p t kind (up_at T.links c) c x
+    from_up = record {
+      out = λ d h. up_out d h.of h.held;
+      into = λ u d up h passes inherits. record { of = h.of; held = Holds.inherited (rises p t T A c u up).6 h.held passes inherits (up_left d h.of) };
+    }
 
   module _ (c : ℕ) (old : List Entry) where
     pub listing_start : (rows : List ℕ) → AreLists p t kind old → Lists rows (IsWantedAs p t T.links kind c) → IsListing p t T.links kind c rows old old

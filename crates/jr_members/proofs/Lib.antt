@@ -10,3 +10,5 @@ pub mod Adding
 pub mod Objects
 pub mod Rounded
 pub mod Accessing
+pub mod Trees
+pub mod Nearing

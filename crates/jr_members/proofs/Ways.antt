@@ -64,3 +64,7 @@ named_below p t kind c x d h = let k = held_declared p t c d h.held in
 pub none_held : (p : Rows) (t : Table) (kind : MemberKind) (c x : ℕ) (all : List ℕ) → all ≡ [] → any_below (length p) (is_named p kind x) ≡ false → ListsEach all (IsHeldAs p t kind c x)
 none_held p t kind c x all is none = subst (λ xs. ListsEach xs (IsHeldAs p t kind c x)) (sym is)
     (record { once = tt; lists = λ d. (λ h. absurd (false≢true h), λ h. absurd (false≢true (sym none ∙ named_below p t kind c x d h))) })
+
+-- what is searched for is not there
+pub none_at : (p : Rows) (t : Table) (kind : MemberKind) (c x : ℕ) (all : List ℕ) → all ≡ [] → ((d : ℕ) → IsHeldAs p t kind c x d → ⊥) → ListsEach all (IsHeldAs p t kind c x)
+none_at p t kind c x all is none = subst (λ xs. ListsEach xs (IsHeldAs p t kind c x)) (sym is) (record { once = tt; lists = λ d. (λ h. absurd (false≢true h), λ h. absurd (none d h)) })

@@ -25,6 +25,7 @@ use Rattle.jr_members.specs.Each.{StandOnce, IsStampedAs}
 use Rattle.jr_members.specs.Keys.{AreDeclared}
 use Rattle.jr_members.specs.Held.{role_of_kind, IsDeclaredAs, IsHeldAs, IsInheritedFrom}
 use Rattle.jr_members.specs.Named.{IsTold, AreLists, IsDone}
+use Rattle.jr_members.specs.Nearest.{AreNear}
 use Rattle.jr_members.specs.Sources.{links_of, AreNamed}
 
 -- ---- under one name
@@ -124,6 +125,7 @@ pub record AreDone (p : Rows) (t : Table) (links : List (Option Link)) (supers :
 pub record CanGather (p : Rows) (t : Table) (supers : Supers) (kind : MemberKind) (named : Named) (c : ℕ) : Type 0 where
   pub declared_is : AreDeclared p kind named.declared
   pub all : AreLists p t kind named.lists
+  pub near : AreNear p t kind named.lists named.nearest
   pub ready : IsReady p t (links_of supers) kind named.lists c
 
 -- the list of c for the name, whose items are stamped, but for the rest of its supertypes; those are what it declares under the name
@@ -136,6 +138,7 @@ pub record IsGatheringIn (p : Rows) (t : Table) (kind : MemberKind) (c x : ℕ) 
 pub record CanAdd (p : Rows) (t : Table) (kind : MemberKind) (named : Named) (stamps : Stamps) : Type 0 where
   pub declared_is : AreDeclared p kind named.declared
   pub all : AreLists p t kind named.lists
+  pub near : AreNear p t kind named.lists named.nearest
   pub counted : IsStamping stamps (length p)
 
 -- those of c can be
@@ -154,6 +157,13 @@ pub record IsAddingLists (p : Rows) (t : Table) (supers : Supers) (kind : Member
   pub can : CanAddTo p t supers kind new stamps c
   pub listing : IsListing p t (links_of supers) kind c rest old.lists new.lists
   pub wanted : (d : ℕ) → has rest d ≡ true → IsWantedAs p t (links_of supers) kind c d
+
+-- the same, with each name for which it wants one
+pub record AddsLists (p : Rows) (t : Table) (supers : Supers) (kind : MemberKind) (c : ℕ) (old new : Named) (stamps : Stamps) : Type 0 where
+  pub can : CanAdd p t kind new stamps
+  pub keeps : KeepsLists p t (links_of supers) kind old.lists new.lists
+  pub done : IsDone p t (links_of supers) kind new.lists c
+  pub told : (d : ℕ) → IsWantedAs p t (links_of supers) kind c d → IsTold p t kind new.lists c (name_row p d)
 
 -- the lists of c are there
 pub record AddsType (p : Rows) (t : Table) (supers : Supers) (kind : MemberKind) (c : ℕ) (old new : Named) (stamps : Stamps) : Type 0 where

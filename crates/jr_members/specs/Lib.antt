@@ -6,3 +6,4 @@ pub mod Sources
 pub mod Gathered
 pub mod Worlds
 pub mod Near
+pub mod Nearest

@@ -21,6 +21,7 @@ use Rattle.jr_members.specs.declared.named.Sources.{Sources}
 use Rattle.jr_members.specs.Keys.{AreDeclared}
 use Rattle.jr_members.specs.Held.{role_of_kind}
 use Rattle.jr_members.specs.Named.{AreLists, IsDone}
+use Rattle.jr_members.specs.Nearest.{AreNear}
 
 -- rows of a program with their places
 pub record ArePlaced (p : Rows) (places : Places) : Type 0 where
@@ -63,4 +64,5 @@ pub record CanClimb (p : Rows) (t : Table) (supers : Supers) (kind : MemberKind)
 pub record AreNamed (p : Rows) (t : Table) (supers : Supers) (kind : MemberKind) (named : Named) : Type 0 where
   pub declared_is : AreDeclared p kind named.declared
   pub all : AreLists p t kind named.lists
+  pub near : AreNear p t kind named.lists named.nearest
   pub done : (y : ℕ) → IsDone p t (links_of supers) kind named.lists y

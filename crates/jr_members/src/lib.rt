@@ -9,6 +9,7 @@ mod law;
 mod lists;
 mod members;
 mod named;
+mod nearest;
 mod wanted;
 
 pub use callables::Callables;

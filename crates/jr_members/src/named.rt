@@ -1,5 +1,5 @@
 // The members of one kind by their names, declared and inherited (JLS 8.2, 8.3, 8.4.8, 8.5).
-ghost use Rattle.std.specs.Prelude.{◌≡◌, ◌++◌, ◌∷◌, [], ℕ, List, length, filter, Decides, IfOk, OnOk};
+ghost use Rattle.std.specs.Prelude.{◌≡◌, ◌++◌, ◌∷◌, [], ℕ, List, length, filter, Some, Decides, IfOk, OnOk};
 ghost use Rattle.jr_tree.specs.Rows.{Rows};
 ghost use Rattle.jr_defs.specs.Referents.{Table};
 ghost use Rattle.jr_defs.specs.Members.{CanInherit};
@@ -12,12 +12,14 @@ ghost use Rattle.jr_members.specs.Gathered as gather;
 ghost use Rattle.jr_members.specs.Held.{IsHeldAs};
 ghost use Rattle.jr_members.specs.Keys as keys;
 ghost use Rattle.jr_members.specs.Named as tell;
+ghost use Rattle.jr_members.specs.Nearest as near;
 ghost use Rattle.jr_members.specs.Sources as given;
 ghost use Rattle.jr_members.specs.declared.declared.MemberKind.{MemberKind as KindOf};
 
 use crate::declared::{Declared, MemberKind};
 use crate::inheriting::inherited;
 use crate::lists::{push_each, push_if};
+use crate::nearest::{Lister, Nearest, Outlook};
 use crate::wanted::naming_types;
 use jr_base::OutOfMemory;
 use jr_places::{
@@ -34,6 +36,8 @@ pub struct Named {
     declared: Declared,
     /// The lists, under the keys of the type and the name.
     lists: Chains,
+    /// Where the lists stand that are nearest to each type.
+    nearest: Nearest,
 }
 
 /// What the tables of members are made from.
@@ -68,6 +72,19 @@ impl Way {
             has_steps: false,
             is_in_one_package: true,
             has_interface: false,
+        }
+    }
+
+    // The way from a type with this outlook to one that has a list.
+    fn to(over: u32, outlook: Outlook, lister: Lister) -> Way
+        ensures { result ≡ near.way_to over outlook.runs lister }
+    {
+        Way {
+            from: over,
+            here: lister.at,
+            has_steps: over != lister.at,
+            is_in_one_package: outlook.runs.of_package == lister.runs.of_package,
+            has_interface: outlook.runs.of_classes != lister.runs.of_classes,
         }
     }
 
@@ -191,6 +208,7 @@ impl Named {
         Named {
             declared: Declared::new(alloc, kind),
             lists: Chains::new(alloc),
+            nearest: Nearest::new(alloc),
         }
     }
 
@@ -198,10 +216,12 @@ impl Named {
     pub fn declared(alloc: Global, under: Tabled, kind: MemberKind) -> Result<Named, OutOfMemory>
         ensures declared { ArePlaces under.entry.rows.now under.entry.places.now → IfOk result (λ named. keys.AreDeclared under.entry.rows.now kind named.declared) }
         ensures none { IfOk result (λ named. named.lists ≡ []) }
+        ensures blank { IfOk result (λ named. near.IsBlank named.nearest) }
     {
         Ok(Named {
             declared: Declared::of(alloc, under, kind)?,
             lists: Chains::new(alloc),
+            nearest: Nearest::new(alloc),
         })
     }
 
@@ -214,13 +234,60 @@ impl Named {
         over: u32,
         name: u32,
     ) -> Result<Vec<u32>, OutOfMemory>
-        ensures { (t : Table) (kind : KindOf) → given.AreSeen under.entry.rows.now t under.entry.places.now supers.now → keys.AreDeclared under.entry.rows.now kind self.now.declared → given.CanClimb under.entry.rows.now t supers.now kind self.now.lists over → IfOk result (λ all. each.ListsEach all.items (IsHeldAs under.entry.rows.now t kind over name)) }
+        ensures { (t : Table) (kind : KindOf) → given.AreSeen under.entry.rows.now t under.entry.places.now supers.now → keys.AreDeclared under.entry.rows.now kind self.now.declared → given.CanClimb under.entry.rows.now t supers.now kind self.now.lists over → near.AreNear under.entry.rows.now t kind self.now.lists self.now.nearest → IfOk result (λ all. each.ListsEach all.items (IsHeldAs under.entry.rows.now t kind over name)) }
     {
         let has_name = self.declared.has_name(name);
         if !has_name {
             return Ok(Vec::new(alloc));
         }
+        match self.nearest.outlook(over) {
+            Some(outlook) => self.within(alloc, under, outlook, over, name),
+            None => self.further_up(alloc, under, supers, over, name),
+        }
+    }
+
+    // The same, of a type with this outlook.
+    fn within(
+        &self,
+        alloc: Global,
+        under: Tabled,
+        outlook: Outlook,
+        over: u32,
+        name: u32,
+    ) -> Result<Vec<u32>, OutOfMemory>
+        ensures { (t : Table) (kind : KindOf) → given.ArePlaced under.entry.rows.now under.entry.places.now → tell.AreLists under.entry.rows.now t kind self.now.lists → near.AreNear under.entry.rows.now t kind self.now.lists self.now.nearest → near.known_in self.now.nearest over ≡ Some outlook → IfOk result (λ all. each.ListsEach all.items (IsHeldAs under.entry.rows.now t kind over name)) }
+    {
+        match self.nearest.lister(outlook, name) {
+            Some(lister) => self.carried_from(alloc, under, Way::to(over, outlook, lister), name),
+            None => Ok(Vec::new(alloc)),
+        }
+    }
+
+    // The same, of a type whose nearest list is to be looked for.
+    fn further_up(
+        &self,
+        alloc: Global,
+        under: Tabled,
+        supers: &Supers,
+        over: u32,
+        name: u32,
+    ) -> Result<Vec<u32>, OutOfMemory>
+        ensures { (t : Table) (kind : KindOf) → given.AreSeen under.entry.rows.now t under.entry.places.now supers.now → given.CanClimb under.entry.rows.now t supers.now kind self.now.lists over → IfOk result (λ all. each.ListsEach all.items (IsHeldAs under.entry.rows.now t kind over name)) }
+    {
         let way = way_up(&self.lists, under, supers, over, name);
+        self.carried_from(alloc, under, way, name)
+    }
+
+    // The same, by the way to the nearest list.
+    fn carried_from(
+        &self,
+        alloc: Global,
+        under: Tabled,
+        way: Way,
+        name: u32,
+    ) -> Result<Vec<u32>, OutOfMemory>
+        ensures { (t : Table) (kind : KindOf) (c : ℕ) → given.ArePlaced under.entry.rows.now under.entry.places.now → tell.AreLists under.entry.rows.now t kind self.now.lists → tell.IsNearest under.entry.rows.now t kind self.now.lists c name way → IfOk result (λ all. each.ListsEach all.items (IsHeldAs under.entry.rows.now t kind c name)) }
+    {
         let all = self.lists.rows(alloc, way.here, name)?;
         carried(alloc, under, way, &all)
     }
@@ -347,7 +414,7 @@ impl Named {
         over: u32,
         rows: &[u32],
     ) -> Result<(), OutOfMemory>
-        ensures { (t : Table) (kind : KindOf) → given.AreSources t kind sources.entry → gather.CanAddTo sources.entry.under.rows.now t sources.entry.supers.now kind self.old stamps.old over → Lists rows.now (gather.IsWantedAs sources.entry.under.rows.now t (given.links_of sources.entry.supers.now) kind over) → OnOk result (gather.AddsType sources.entry.under.rows.now t sources.entry.supers.now kind over self.old self.new stamps.new) }
+        ensures { (t : Table) (kind : KindOf) → given.AreSources t kind sources.entry → gather.CanAddTo sources.entry.under.rows.now t sources.entry.supers.now kind self.old stamps.old over → Lists rows.now (gather.IsWantedAs sources.entry.under.rows.now t (given.links_of sources.entry.supers.now) kind over) → OnOk result (gather.AddsLists sources.entry.under.rows.now t sources.entry.supers.now kind over self.old self.new stamps.new) }
     {
         for at in rows {
             let name = sources.under.places.name(*at);
@@ -375,7 +442,8 @@ impl Named {
         ensures { (t : Table) (kind : KindOf) → given.AreSources t kind sources.entry → gather.CanAddTo sources.entry.under.rows.now t sources.entry.supers.now kind self.old stamps.old over → OnOk result (gather.AddsType sources.entry.under.rows.now t sources.entry.supers.now kind over self.old self.new stamps.new) }
     {
         let rows = self.wanted(alloc, sources, over)?;
-        self.add_lists(alloc, sources, stamps, over, &rows)
+        self.add_lists(alloc, sources, stamps, over, &rows)?;
+        self.nearest.add(sources.under, sources.supers, over, &rows)
     }
 
     // Adds the lists of all types, in an order in which supertypes come first.

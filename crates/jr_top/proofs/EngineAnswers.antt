@@ -13,6 +13,8 @@ use Rattle.jr_commit.proofs.Returning.{undoable_between}
 use Rattle.jr_engine.specs.Planning.{PlannedAs}
 use Rattle.jr_engine.specs.declared.fault.EngineFault.{EngineFault}
 use Rattle.jr_engine.specs.declared.fault.EngineFault.TheVariants as engine
+use Rattle.jr_engine.specs.declared.fault.StepFault.{StepFault}
+use Rattle.jr_engine.specs.declared.fault.StepFault.TheVariants as step
 use Rattle.jr_front.specs.declared.fault.FrontFault.{FrontFault}
 use Rattle.jr_front.specs.declared.fault.FrontFault.TheVariants as front
 use Rattle.jr_lex.specs.declared.fault.LexFault.TheVariants as lexing
@@ -25,7 +27,7 @@ use Rattle.jr_top.specs.Answers.{Reports, IsReported, OutcomeOf}
 use Rattle.jr_top.specs.Checking.{status_of}
 use Rattle.jr_top.specs.Crash.{StandsForEither, StandsAfter, IsSettled, Survives, SurvivesSettled}
 use Rattle.jr_top.specs.Decisions.{IsPlanFor, files_differ, files_are_same, is_refused, memory_is_short, DecidesAll, on_files, is_too_large, is_not_read, is_short}
-use Rattle.jr_top.specs.Engine.{MayAsk, answer_to, MayReplace, IsReplaced, IsUnchanged, IsPartlyReplaced, IsRefusedAs, Plans, replaced, unchanged, refused, oversized, not_read, not_written, no_memory, PlansAsked, AnswersPlanned, StandsForPlanned}
+use Rattle.jr_top.specs.Engine.{MayAsk, answer_to, step_answer, MayReplace, IsReplaced, IsUnchanged, IsPartlyReplaced, IsRefusedAs, Plans, replaced, unchanged, refused, oversized, not_read, not_written, no_memory, PlansAsked, AnswersPlanned, StandsForPlanned}
 use Rattle.jr_top.specs.Line.{line_of}
 use Rattle.jr_top.specs.Performing.{IsTaken, Commits, ReportedOf}
 use Rattle.jr_top.specs.Recovering.{AsksRecovery, Recovers}
@@ -93,16 +95,19 @@ front_refusal (front.Unbound place) = tt
 front_refusal (front.Broken rule place) = tt
 front_refusal front.OutOfMemory = tt
 
+step_refusal : (request : ℕ) (why : StepFault) → IsRefusal (step_answer request why)
+step_refusal request (step.BadRequest reason) = tt
+step_refusal request (step.NoSpelling occ place lock) = tt
+step_refusal request (step.LostEdge kind first second is_old) = tt
+step_refusal request (step.StillUsed place) = tt
+step_refusal request (step.Broken rule place) = tt
+step_refusal request (step.Differs place) = tt
+step_refusal request (step.TooLarge what) = tt
+step_refusal request step.OutOfMemory = tt
+
 pub engine_refusal : (request : ℕ) (why : EngineFault) → IsRefusal (answer_to request why)
 engine_refusal request (engine.Front why) = front_refusal why
-engine_refusal request (engine.BadRequest reason) = tt
-engine_refusal request (engine.NoSpelling occ place lock) = tt
-engine_refusal request (engine.LostEdge kind first second is_old) = tt
-engine_refusal request (engine.StillUsed place) = tt
-engine_refusal request (engine.Broken rule place) = tt
-engine_refusal request (engine.Differs place) = tt
-engine_refusal request (engine.TooLarge what) = tt
-engine_refusal request engine.OutOfMemory = tt
+engine_refusal request (engine.Step why) = step_refusal request why
 
 refusal_stands : (words : List (List ℕ)) (found image : Image) (status : Status) → IsRefusal status → RestoresTo image found → StandsAfter words found status image
 refusal_stands words found image (Done report) never stands = absurd never

@@ -11,6 +11,7 @@ use Rattle.jr_base.specs.declared.request.Request.TheVariants.{Rename}
 use Rattle.jr_commit.specs.Restoring.{Restored, SameFiles}
 use Rattle.jr_request.specs.Words.{command_of}
 use Rattle.jr_request.specs.declared.command.Command.TheVariants.{One}
+use Rattle.jr_rule.specs.declared.Rule.TheVariants.{LocalNames}
 use Rattle.jr_store.specs.Image.{Image, Tells}
 use Rattle.jr_thin.proofs.Exclusion.{one_answer}
 use Rattle.jr_thin.specs.Laws.{IsSame}
@@ -41,7 +42,7 @@ same_answer : (bytes : List ℕ) (r s : Renaming) → IsSame r s → answer_of b
 same_answer bytes renaming.NotServed renaming.NotServed same = refl
 same_answer bytes (renaming.NoSpelling occ at lock) (renaming.NoSpelling occ2 at2 lock2) same =
     ap (λ o. Some (NoSpelling 0 o (place_of at) lock)) same.0 ∙ ap (λ a. Some (NoSpelling 0 occ2 (place_of a) lock)) same.1 ∙ ap (λ l. Some (NoSpelling 0 occ2 (place_of at2) l)) same.2
-same_answer bytes (renaming.BrokenRule at) (renaming.BrokenRule at2) same = ap (λ a. Some (BrokenRule 0 (record { 0 = 6 }) (place_of a))) same
+same_answer bytes (renaming.BrokenRule at) (renaming.BrokenRule at2) same = ap (λ a. Some (BrokenRule 0 LocalNames (place_of a))) same
 same_answer bytes (renaming.Renamed new) (renaming.Renamed new2) same = ap (λ items. Some (renamed_answer bytes items)) same
 same_answer bytes r s never = absurd never
 
@@ -235,8 +236,8 @@ module _ (words : List (List ℕ)) (told left : Option Image) (kept outcomes : I
         each (BrokenRule request rule place) a =
             let asked = asked_here a.0 a.2 (λ b i n. IsBroken b i n place.at) a.3.4 in
             inl (record {
-              answer = same_status (renaming.BrokenRule place.at) asked.1 (BrokenRule request rule place) (BrokenRule 0 (record { 0 = 6 }) (place_of place.at)) asked.0
-                  (ap (λ q. BrokenRule q rule place) a.3.1 ∙ ap (λ k. BrokenRule 0 (record { 0 = k }) place) a.3.2 ∙ ap (λ u. BrokenRule 0 (record { 0 = 6 }) (record { cu = record { 0 = u }; at = place.at })) a.3.3) refl;
+              answer = same_status (renaming.BrokenRule place.at) asked.1 (BrokenRule request rule place) (BrokenRule 0 LocalNames (place_of place.at)) asked.0
+                  (ap (λ q. BrokenRule q rule place) a.3.1 ∙ ap (λ k. BrokenRule 0 k place) a.3.2 ∙ ap (λ u. BrokenRule 0 LocalNames (record { cu = record { 0 = u }; at = place.at })) a.3.3) refl;
               files = as_found a.0 a.2 a.3.0;
             })
         each (TooLarge File request) a =

@@ -4,6 +4,7 @@ use Rattle.std.specs.Io.KnownBytes.{Appends}
 use Rattle.jr_base.specs.declared.limits.Size.TheVariants.{File, Path}
 use Rattle.jr_commit.specs.Restoring.{IsOpen, KeepsOthers, Restored}
 use Rattle.jr_request.specs.Words.{command_of}
+use Rattle.jr_rule.specs.declared.Rule.TheVariants.{LocalNames}
 use Rattle.jr_store.specs.Image.{Image, Tells, OnlyTold, Rose}
 use Rattle.jr_store.specs.Streams.{AppendsPart}
 use Rattle.jr_thin.specs.Renaming.{IsLost, IsBroken, IsDone}
@@ -38,7 +39,7 @@ AnswersFound words found left outcomes before after (Done (Changed files)) = Lea
 AnswersFound words found left outcomes before after (NoSpelling request occ place lock) = (left ≡ found) × (request ≡ 0) × (place.cu.0 ≡ 2)
     × Asks words found (λ bytes at name. IsLost bytes at name occ place.at lock)
 -- the first local or parameter of the changed text that is declared in the scope of one of its name, at its place there
-AnswersFound words found left outcomes before after (BrokenRule request rule place) = (left ≡ found) × (request ≡ 0) × (rule.0 ≡ 6) × (place.cu.0 ≡ 2)
+AnswersFound words found left outcomes before after (BrokenRule request rule place) = (left ≡ found) × (request ≡ 0) × (rule ≡ LocalNames) × (place.cu.0 ≡ 2)
     × Asks words found (λ bytes at name. IsBroken bytes at name place.at)
 -- the path is longer than 1,024 bytes
 AnswersFound words found left outcomes before after (TooLarge Path request) = (left ≡ found) × (request ≡ 0)

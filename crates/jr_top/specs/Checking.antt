@@ -5,7 +5,6 @@ use Rattle.jr_base.specs.Files.{FileMap}
 use Rattle.jr_base.specs.declared.limits.Size.{Size}
 use Rattle.jr_lex.specs.declared.fault.LexFault.TheVariants as lexing
 use Rattle.jr_parse.specs.declared.fault.ParseFault.TheVariants as parsing
-use Rattle.jr_rule.specs.Numbers.{number_of}
 use Rattle.jr_front.specs.Checking.{CheckedAs}
 use Rattle.jr_front.specs.declared.fault.FrontFault.{FrontFault}
 use Rattle.jr_front.specs.declared.fault.FrontFault.TheVariants as front
@@ -75,7 +74,7 @@ status_of (front.PathMismatch cu) = NotCompiling (fault.PathMismatch cu)
 status_of (front.Duplicate place) = NotCompiling (fault.Duplicate place)
 status_of (front.Cycle place) = NotCompiling (fault.Cycle place)
 status_of (front.Unbound place) = NotCompiling (fault.Unbound place)
-status_of (front.Broken rule place) = NotCompiling (fault.Rule (record { 0 = number_of rule }) place)
+status_of (front.Broken rule place) = NotCompiling (fault.Rule rule place)
 status_of front.OutOfMemory = OutOfMemory
 
 -- What is said of the files: of one small program that it compiles, and else what the front says of all `.java` files, unless they are too large to be read.

@@ -19,6 +19,7 @@ use Rattle.jr_engine.specs.declared.fault.Refused.{Refused}
 use Rattle.jr_gather.specs.Gathering.{HoldsFiles, IsTooLarge}
 use Rattle.jr_request.specs.declared.command.Command.{Command}
 use Rattle.jr_request.specs.declared.command.Command.TheVariants as command
+use Rattle.jr_rule.specs.declared.Rule.TheVariants.{LocalNames}
 use Rattle.jr_store.specs.Image.{Image, Rose}
 use Rattle.jr_store.specs.Replay.{image_of}
 use Rattle.jr_thin.specs.Renaming.{IsLost, IsBroken, IsDone}
@@ -71,7 +72,7 @@ DecidesRename file at name told before after (Answer OutOfMemory) = Unit {0}
 DecidesRename file at name told before after (Refuse (NoSpelling request occ place lock) paths) =
     (request ≡ 0) × (place.cu.0 ≡ 2) × (paths.items ≡ file ∷ []) × (length file ≤ 1024) × HoldsSome told file (λ bytes. IsLost bytes at name occ place.at lock)
 DecidesRename file at name told before after (Refuse (BrokenRule request rule place) paths) =
-    (request ≡ 0) × (rule.0 ≡ 6) × (place.cu.0 ≡ 2) × (paths.items ≡ file ∷ []) × (length file ≤ 1024) × HoldsSome told file (λ bytes. IsBroken bytes at name place.at)
+    (request ≡ 0) × (rule ≡ LocalNames) × (place.cu.0 ≡ 2) × (paths.items ≡ file ∷ []) × (length file ≤ 1024) × HoldsSome told file (λ bytes. IsBroken bytes at name place.at)
 DecidesRename file at name told before after (Change plan) =
     (length file ≤ 1024) × (length plan.steps ≡ 1) × HoldsSome told file (λ old. (new : List ℕ) × IsDone old at name new × (new ≢ old) × (length new ≤ 1048576) × IsPlanOf file old new plan)
 DecidesRename file at name told before after other = ⊥
@@ -84,7 +85,7 @@ DecidesFound found at name (Answer OutOfMemory) = Unit {0}
 DecidesFound found at name (Refuse (NoSpelling request occ place lock) paths) =
     (request ≡ 0) × (place.cu.0 ≡ 2) × (paths.items ≡ found.paths.items) × IsLost found.bytes.items at name occ place.at lock
 DecidesFound found at name (Refuse (BrokenRule request rule place) paths) =
-    (request ≡ 0) × (rule.0 ≡ 6) × (place.cu.0 ≡ 2) × (paths.items ≡ found.paths.items) × IsBroken found.bytes.items at name place.at
+    (request ≡ 0) × (rule ≡ LocalNames) × (place.cu.0 ≡ 2) × (paths.items ≡ found.paths.items) × IsBroken found.bytes.items at name place.at
 DecidesFound found at name (Change plan) = (file : List ℕ) × (found.paths.items ≡ file ∷ []) × (new : List ℕ) × IsDone found.bytes.items at name new × (new ≢ found.bytes.items)
     × (length new ≤ 1048576) × IsPlanOf file found.bytes.items new plan
 DecidesFound found at name other = ⊥

@@ -18,6 +18,8 @@ use Rattle.jr_engine.specs.declared.fault.EngineFault.TheVariants as engine
 use Rattle.jr_engine.specs.declared.fault.LostKind.{LostKind}
 use Rattle.jr_engine.specs.declared.fault.LostKind.TheVariants as lost
 use Rattle.jr_engine.specs.declared.fault.Refused.{Refused}
+use Rattle.jr_engine.specs.declared.fault.StepFault.{StepFault}
+use Rattle.jr_engine.specs.declared.fault.StepFault.TheVariants as step
 use Rattle.jr_gather.specs.Gathering.{HoldsFiles, IsTooLarge}
 use Rattle.jr_request.specs.Words.{command_of}
 use Rattle.jr_request.specs.declared.command.Command.{Command}
@@ -67,17 +69,21 @@ kind_of lost.DefUse = DefUse
 abbrev pub side_of : Bool → Side
 side_of is_old = if is_old then Old else New
 
+-- the answer to a request that leaves nothing of files that compile
+abbrev pub step_answer : ℕ → StepFault → Status
+step_answer request (step.BadRequest reason) = status.BadRequest request (reason_number reason) None
+step_answer request (step.NoSpelling occ place lock) = status.NoSpelling request occ place lock
+step_answer request (step.LostEdge kind first second is_old) = status.LostEdge request (record { kind = kind_of kind; first = first; second = second; side = side_of is_old })
+step_answer request (step.StillUsed place) = status.StillUsed place
+step_answer request (step.Broken rule place) = status.BrokenRule request rule place
+step_answer request (step.Differs place) = status.Differs request place
+step_answer request (step.TooLarge what) = status.TooLarge what request
+step_answer request step.OutOfMemory = status.OutOfMemory
+
 -- the answer to requests that are refused
 abbrev pub answer_to : ℕ → EngineFault → Status
 answer_to request (engine.Front why) = status_of why
-answer_to request (engine.BadRequest reason) = status.BadRequest request (reason_number reason) None
-answer_to request (engine.NoSpelling occ place lock) = status.NoSpelling request occ place lock
-answer_to request (engine.LostEdge kind first second is_old) = status.LostEdge request (record { kind = kind_of kind; first = first; second = second; side = side_of is_old })
-answer_to request (engine.StillUsed place) = status.StillUsed place
-answer_to request (engine.Broken rule place) = status.BrokenRule request rule place
-answer_to request (engine.Differs place) = status.Differs request place
-answer_to request (engine.TooLarge what) = status.TooLarge what request
-answer_to request engine.OutOfMemory = status.OutOfMemory
+answer_to request (engine.Step why) = step_answer request why
 
 -- old and new differ at the paths of the differences of the files, the journal and the gate at most
 abbrev pub MayReplace : FileMap → FileMap → Image → Image → Type 0

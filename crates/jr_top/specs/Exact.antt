@@ -3,6 +3,7 @@ use Rattle.std.specs.Prelude.{◌≡◌, ◌≢◌, ℕ, List, length, nat_lt, b
 use Rattle.jr_base.specs.Paths.{is_java}
 use Rattle.jr_base.specs.declared.limits.Size.TheVariants.{File, Path}
 use Rattle.jr_base.specs.declared.token.Place.{Place}
+use Rattle.jr_rule.specs.declared.Rule.TheVariants.{LocalNames}
 use Rattle.jr_store.specs.Image.{Image, Tells}
 use Rattle.jr_thin.specs.declared.answers.Renaming.{Renaming}
 use Rattle.jr_thin.specs.declared.answers.Renaming.TheVariants as renaming
@@ -22,7 +23,7 @@ renamed_answer bytes new = if bytes_eq new bytes then Done (Changed 0) else (if 
 abbrev pub answer_of : List ℕ → Renaming → Option Status
 answer_of bytes renaming.NotServed = None
 answer_of bytes (renaming.NoSpelling occ at lock) = Some (NoSpelling 0 occ (place_of at) lock)
-answer_of bytes (renaming.BrokenRule at) = Some (BrokenRule 0 (record { 0 = 6 }) (place_of at))
+answer_of bytes (renaming.BrokenRule at) = Some (BrokenRule 0 LocalNames (place_of at))
 answer_of bytes (renaming.Renamed new) = Some (renamed_answer bytes new.items)
 
 -- a path of more than 1,024 bytes is refused first

@@ -3,6 +3,7 @@ use Rattle.std.specs.Prelude.{ℕ, ◌-◌, ◌==◌, nat_lt, List, [], ◌++◌
 use Rattle.jr_base.specs.declared.token.Place.{Place}
 use Rattle.jr_base.specs.declared.limits.Size.{Size}
 use Rattle.jr_base.specs.declared.limits.Size.TheVariants as size
+use Rattle.jr_rule.specs.Numbers.{number_of}
 use Rattle.jr_top.specs.declared.status.EdgeKind.{EdgeKind}
 use Rattle.jr_top.specs.declared.status.EdgeKind.TheVariants.{Control, Dispatch, DefUse}
 use Rattle.jr_top.specs.declared.status.NotCompiling.{NotCompiling}
@@ -67,7 +68,7 @@ fault_line paths (fault.PathMismatch unit) = codes "not compiling: path " ++ uni
 fault_line paths (fault.Duplicate place) = codes "not compiling: duplicate " ++ place_text paths place ++ codes "\n"
 fault_line paths (fault.Cycle place) = codes "not compiling: cycle " ++ place_text paths place ++ codes "\n"
 fault_line paths (fault.Unbound place) = codes "not compiling: unbound " ++ place_text paths place ++ codes "\n"
-fault_line paths (fault.Rule rule place) = codes "not compiling: rule " ++ decimal rule.0 ++ codes " " ++ place_text paths place ++ codes "\n"
+fault_line paths (fault.Rule rule place) = codes "not compiling: rule " ++ decimal (number_of rule) ++ codes " " ++ place_text paths place ++ codes "\n"
 
 -- a space and the field of a batch that is at fault, where one is named
 abbrev pub field_text : Option (List ℕ) → List ℕ
@@ -92,7 +93,7 @@ line_of paths (status.BadRequest request reason field) = request_prefix request 
 line_of paths (status.NotCompiling fault) = fault_line paths fault
 line_of paths (status.NoSpelling request occ place lock) = request_prefix request ++ codes "no spelling: " ++ place_text paths place ++ codes "\n"
 line_of paths (status.LostEdge request edge) = request_prefix request ++ codes "lost edge: " ++ edge_word edge.kind ++ codes " " ++ place_text paths edge.first ++ codes " " ++ place_text paths edge.second ++ codes "\n"
-line_of paths (status.BrokenRule request rule place) = request_prefix request ++ codes "broken rule: " ++ decimal rule.0 ++ codes " " ++ place_text paths place ++ codes "\n"
+line_of paths (status.BrokenRule request rule place) = request_prefix request ++ codes "broken rule: " ++ decimal (number_of rule) ++ codes " " ++ place_text paths place ++ codes "\n"
 line_of paths (status.StoreFault phase) = codes "store fault: " ++ phase_word phase ++ codes "\n"
 line_of paths status.SourceFault = codes "input fault\n"
 line_of paths status.SinkFault = []

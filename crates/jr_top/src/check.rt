@@ -8,7 +8,7 @@ ghost use Rattle.jr_top.specs.Checking.{IsTopFile, IsOneProgram, IsRead, Fronted
 ghost use Rattle.jr_top.specs.Renaming.{ForTold};
 
 use crate::status::{NotCompiling, Phase, Report, Status};
-use jr_base::{CuId, Files, OutOfMemory, Path, Place, RuleId};
+use jr_base::{CuId, Files, OutOfMemory, Path, Place};
 use jr_check::is_small_program;
 use jr_front::{FrontFault, check_files};
 use jr_gather::{Gathered, gather};
@@ -132,10 +132,7 @@ pub fn refusal(fault: FrontFault) -> Status
         FrontFault::Duplicate(place) => Status::NotCompiling(NotCompiling::Duplicate(place)),
         FrontFault::Cycle(place) => Status::NotCompiling(NotCompiling::Cycle(place)),
         FrontFault::Unbound(place) => Status::NotCompiling(NotCompiling::Unbound(place)),
-        FrontFault::Broken(rule, place) => Status::NotCompiling(NotCompiling::Rule(
-            RuleId(rule.number()),
-            place,
-        )),
+        FrontFault::Broken(rule, place) => Status::NotCompiling(NotCompiling::Rule(rule, place)),
         FrontFault::OutOfMemory => Status::OutOfMemory,
     }
 }

@@ -13,9 +13,10 @@ ghost use Rattle.jr_top.specs.Decisions.{IsOnePath, IsShortPath, IsHeld, found_b
 use crate::engine::{Asked, decide_all};
 use crate::hear::{Heard, hear};
 use crate::status::{Phase, Report, Status};
-use jr_base::{CuId, Files, OutOfMemory, Path, Place, Request, RuleId, Size, Text};
+use jr_base::{CuId, Files, OutOfMemory, Path, Place, Request, Size, Text};
 use jr_commit::{Plan, journal_fits};
 use jr_request::Command;
+use jr_rule::Rule;
 use jr_store::{Source, Store, StoreError};
 use jr_thin::{Renaming, rename};
 use std::alloc::Global;
@@ -141,7 +142,7 @@ fn decide_found(alloc: Global, found: Found, at: u32, name: &[u8]) -> Option<Dec
         Ok(Renaming::BrokenRule { at }) => Some(Decision::Refuse {
             status: Status::BrokenRule {
                 request: 0,
-                rule: RuleId(6),
+                rule: Rule::LocalNames,
                 place: Place { cu: CuId(2), at },
             },
             paths: found.paths,

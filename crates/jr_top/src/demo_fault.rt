@@ -1,7 +1,7 @@
 // Why nothing is shown.
 
 use jr_base::OutOfMemory;
-use jr_engine::{EngineFault, Refused};
+use jr_engine::{EngineFault, Refused, StepFault};
 use std::alloc::{AllocError, AllocFailed};
 
 /// Why nothing is shown.
@@ -15,7 +15,7 @@ pub enum DemoFault {
 /// Why nothing is shown where a request was refused.
 pub fn not_changed(refused: &Refused) -> DemoFault {
     match refused.fault {
-        EngineFault::OutOfMemory => DemoFault::OutOfMemory,
+        EngineFault::Step(StepFault::OutOfMemory) => DemoFault::OutOfMemory,
         _ => DemoFault::Refused,
     }
 }

@@ -3,7 +3,7 @@ ghost use Rattle.std.specs.Prelude.{◌≡◌, ◌≤◌, ◌∷◌, [], IfOk, O
 ghost use Rattle.jr_store.specs.Image.{Image, LeavesOnly};
 ghost use Rattle.jr_engine.specs.Planning.{IsAccepted, PlannedAs};
 ghost use Rattle.jr_top.specs.Decisions.{requests_of, IsPlanFor, DecidesFiles, DecidesAll};
-ghost use Rattle.jr_top.specs.Engine.{answer_to, kind_of, side_of};
+ghost use Rattle.jr_top.specs.Engine.{answer_to, step_answer, kind_of, side_of};
 ghost use Rattle.jr_top.specs.Reasons.{reason_number};
 
 use crate::check::refusal;
@@ -12,7 +12,7 @@ use crate::status::{Edge, EdgeKind, Phase, Report, Side, Status};
 use jr_base::{Files, OutOfMemory, Request};
 use jr_change::Reason;
 use jr_commit::{Plan, journal_fits};
-use jr_engine::{EngineFault, LostKind, Refused, plan, plan_all};
+use jr_engine::{EngineFault, LostKind, Refused, StepFault, plan, plan_all};
 use jr_gather::{Gathered, gather};
 use jr_store::{Store, StoreError};
 use std::alloc::Global;
@@ -66,24 +66,23 @@ fn side_of(is_old: bool) -> Side
     if is_old { Side::Old } else { Side::New }
 }
 
-// The answer to requests that are refused.
-fn answer_to(request: u32, fault: EngineFault) -> Status
-    ensures { result ≡ answer_to request fault }
+// The answer to a request that leaves nothing of files that compile.
+fn step_answer(request: u32, fault: StepFault) -> Status
+    ensures { result ≡ step_answer request fault }
 {
     match fault {
-        EngineFault::Front(why) => refusal(why),
-        EngineFault::BadRequest(reason) => Status::BadRequest {
+        StepFault::BadRequest(reason) => Status::BadRequest {
             request,
             reason: reason_number(reason),
             field: None,
         },
-        EngineFault::NoSpelling { occ, place, lock } => Status::NoSpelling {
+        StepFault::NoSpelling { occ, place, lock } => Status::NoSpelling {
             request,
             occ,
             place,
             lock,
         },
-        EngineFault::LostEdge {
+        StepFault::LostEdge {
             kind,
             first,
             second,
@@ -97,15 +96,25 @@ fn answer_to(request: u32, fault: EngineFault) -> Status
                 side: side_of(is_old),
             },
         },
-        EngineFault::StillUsed { place } => Status::StillUsed { place },
-        EngineFault::Broken { rule, place } => Status::BrokenRule {
+        StepFault::StillUsed { place } => Status::StillUsed { place },
+        StepFault::Broken { rule, place } => Status::BrokenRule {
             request,
             rule,
             place,
         },
-        EngineFault::Differs { place } => Status::Differs { request, place },
-        EngineFault::TooLarge(what) => Status::TooLarge { what, request },
-        EngineFault::OutOfMemory => Status::OutOfMemory,
+        StepFault::Differs { place } => Status::Differs { request, place },
+        StepFault::TooLarge(what) => Status::TooLarge { what, request },
+        StepFault::OutOfMemory => Status::OutOfMemory,
+    }
+}
+
+// The answer to requests that are refused.
+fn answer_to(request: u32, fault: EngineFault) -> Status
+    ensures { result ≡ answer_to request fault }
+{
+    match fault {
+        EngineFault::Front(why) => refusal(why),
+        EngineFault::Step(why) => step_answer(request, why),
     }
 }
 

@@ -35,7 +35,7 @@ pub fn line_of(alloc: Global, paths: &[Path], status: &Status) -> Result<Vec<u8>
             place,
         } => LineWriter::of_request(alloc, *request)?
             .text("broken rule: ")?
-            .number(u32::from(rule.0))?
+            .number(u32::from(rule.number()))?
             .text(" ")?
             .place(paths, *place)?
             .end(),
@@ -120,7 +120,7 @@ fn fault_line(alloc: Global, paths: &[Path], fault: NotCompiling) -> Result<Vec<
             .end(),
         NotCompiling::Rule(rule, place) => line
             .text("not compiling: rule ")?
-            .number(u32::from(rule.0))?
+            .number(u32::from(rule.number()))?
             .text(" ")?
             .place(paths, place)?
             .end(),

@@ -1,7 +1,8 @@
 // What the program answers.
 ghost use Rattle.std.specs.Prelude.{◌≡◌};
 
-use jr_base::{CuId, DeclId, OccId, Path, Place, RuleId, Size, Text};
+use jr_base::{CuId, DeclId, OccId, Path, Place, Size, Text};
+use jr_rule::Rule;
 
 /// What the store was doing when it failed.
 #[derive(Clone, Copy, Debug, PartialEq, Eq)]
@@ -42,7 +43,7 @@ pub enum NotCompiling {
     /// A name has no declaration, or more than one (JLS 6.5).
     Unbound(Place),
     /// A rule of the language is broken.
-    Rule(RuleId, Place),
+    Rule(Rule, Place),
 }
 
 /// Which kind of flow an edge is.
@@ -102,7 +103,7 @@ pub enum Status {
     /// The changed text breaks the rule at the place.
     BrokenRule {
         request: u32,
-        rule: RuleId,
+        rule: Rule,
         place: Place,
     },
     /// The store failed.

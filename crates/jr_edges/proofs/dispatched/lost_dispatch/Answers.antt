@@ -1,12 +1,5 @@
-use Rattle.std.proofs.Common.{sym, ◌∙◌}
-use Rattle.std.proofs.lemmas.Bool.{false≢true}
+use Rattle.jr_edges.proofs.Losing.{told_so}
 use Rattle.jr_edges.proofs.dispatched.lost_dispatch.Goals as goal
 
-pub returns-then-not-branch : goal.returns-then-not-branch
-returns-then-not-branch c = λ program more places stand founded well. false≢true (sym c.if-not-branch.true ∙ (c.in_ok-is_well_founded.ensures program).1 founded)
-
-pub returns-then-not-branch-2 : goal.returns-then-not-branch-2
-returns-then-not-branch-2 c = λ program more places stand founded well. false≢true (sym c.if-not-branch-2.true ∙ (c.in_ok-is_well_founded-2.ensures more).1 well)
-
 pub returns : goal.returns
-returns c = λ program more places stand. c.lost_between.ensures program more ((c.in_ok-is_well_founded.ensures program).0 c.if-not-branch.false) ((c.in_ok-is_well_founded-2.ensures more).0 c.if-not-branch-2.false) places stand
+returns c = λ t l old new. told_so c.args.new.under.rows.now l c.args.copy.now c.args.old.under.rows.now t c.in-Ok.end c.lost_before.result c.in-Ok.ensures.1 (c.lost_before.ensures t l old new)

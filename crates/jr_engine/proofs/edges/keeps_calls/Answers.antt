@@ -1,9 +1,7 @@
-use Rattle.std.proofs.Common.{◌∙◌, ap}
-use Rattle.jr_bind.specs.declared.binder.Bound.{Bound}
-use Rattle.jr_engine.proofs.Stepping.{kept_so}
+use Rattle.jr_engine.proofs.Stepping.{calls_kept}
 use Rattle.jr_engine.proofs.edges.keeps_calls.Goals as goal
 
-pub returns-in-All : goal.returns-in-All
-returns-in-All c = kept_so c.args.asked c.args.locked.now c.rows-old.result.now c.rows-rows.result.now c.deref-4.result.now c.deref-5.result.now c.deref-6.result.now c.in_ok-kept_between.field-0
-    (c.rows-old.ensures ∙ c.deref.ensures) (c.deref-4.ensures.value ∙ ap (λ (b : Bound). b.table.items) c.deref-2.ensures) (c.rows-rows.ensures ∙ c.deref-3.ensures) c.deref-5.ensures.value c.deref-6.ensures.value
-    c.requires.locked c.requires.old c.requires.new c.in_ok-kept_between.ensures c.in-All.is
+pub returns-in-None : goal.returns-in-None
+returns-in-None c = calls_kept c.args.asked c.args.locked.now c.view-old.result c.view-new.result c.of-before.result c.of-after.result c.deref-4.result.now c.in_ok-lost_dispatch.field-0 c.view-old.ensures.all c.view-new.ensures.all
+    c.of-before.ensures.under c.of-after.ensures.under c.of-before.ensures.methods c.of-after.ensures.methods c.deref-4.ensures.value c.requires.old c.requires.new (c.are_well.ensures.0 c.if-not-are_well.false) c.requires.bound
+    c.requires.locked c.in_ok-lost_dispatch.ensures c.in-None.is

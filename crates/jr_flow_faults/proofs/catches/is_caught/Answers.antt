@@ -1,4 +1,4 @@
-use Rattle.std.proofs.Common.{◌≡◌, ◌∙◌, ap}
+use Rattle.std.proofs.Common.{◌∙◌, ap}
 use Rattle.std.specs.List.{list_any}
 use Rattle.jr_supers.specs.Pairs.{has_pair}
 use Rattle.jr_flow_faults.proofs.Covered.{catches_told}

@@ -1,6 +1,7 @@
+use Rattle.std.proofs.Common.{refl}
 use Rattle.std.proofs.lemmas.Result.{on_ok_weaker}
 use Rattle.jr_flow_faults.specs.Computed.{rows_in, facts_in}
-use Rattle.jr_flow_faults.proofs.Added.{faults_told, reach_told, flow_only, covered_told}
+use Rattle.jr_flow_faults.proofs.Added.{faults_told, reach_told, flow_only, covered_told, thrown_told, around_told}
 use Rattle.jr_flow_faults.proofs.throwing.flow_faults.Goals as goal
 
 pub returns-clause-exact : goal.returns-clause-exact
@@ -20,3 +21,11 @@ returns-clause-covered c = λ sized above. on_ok_weaker c.throw_faults.result
     (λ h. covered_told (rows_in c.args.view.now) c.in_ok-facts.facts.items _ _ _ _
     (faults_told (rows_in c.args.view.now) c.in_ok-facts.facts.items _ _ _ c.in_ok-all.all.items _ _ c.in_ok-found.found.items _ _ _ c.deref.ensures.value c.deref-2.ensures.value c.deref-4.ensures.value
     c.in_ok-all.ensures c.deref-3.ensures.value c.deref-5.ensures.value c.in_ok-found.ensures c.deref-6.ensures.value c.in_ok-reach_faults.ensures) h) (c.throw_faults.ensures.covered sized above)
+
+pub returns-clause-thrown : goal.returns-clause-thrown
+returns-clause-thrown c = λ right. on_ok_weaker c.throw_faults.result
+    (λ h. thrown_told c.args.view.now c.in_ok-facts.facts.items _ _ _
+    (faults_told (rows_in c.args.view.now) c.in_ok-facts.facts.items _ _ _ c.in_ok-all.all.items _ _ c.in_ok-found.found.items _ _ _ c.deref.ensures.value c.deref-2.ensures.value c.deref-4.ensures.value
+    c.in_ok-all.ensures c.deref-3.ensures.value c.deref-5.ensures.value c.in_ok-found.ensures c.deref-6.ensures.value c.in_ok-reach_faults.ensures) h)
+    (let around = around_told c.args.view.now c.in_ok-facts.facts.items _ c.in_ok-all.all.items _ _ (c.in_ok-facts.ensures right.local) c.deref.ensures.value c.in_ok-all.ensures c.deref-7.ensures.value c.deref-8.ensures.value in
+    c.throw_faults.ensures.thrown right (record { rows_are = refl; facts_are = around.0; all_are = around.1 }))

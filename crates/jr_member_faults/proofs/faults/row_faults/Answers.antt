@@ -1,6 +1,5 @@
-use Rattle.std.proofs.Common.{arith, sym, subst}
-use Rattle.jr_member_faults.specs.Views.{IsRightWorld}
-use Rattle.jr_member_faults.proofs.Methodical.{finals_in}
+use Rattle.std.proofs.Common.{arith}
+use Rattle.jr_member_faults.proofs.Methodical.{faults_in}
 use Rattle.jr_member_faults.proofs.Told.{row_told, row_only}
 use Rattle.jr_member_faults.proofs.faults.row_faults.Goals as goal
 
@@ -22,8 +21,7 @@ returns-clause-found c = λ lt few methods d h. row_told c.args.view.now
     (c.in_ok-body_fault.ensures.found (omega arith)) (λ valued. c.in_ok-static_fault.ensures.found valued) (c.in_ok-supertype_fault.ensures.found lt h)
     (λ named. c.in_ok-declared_faults.ensures.fields lt d named) (λ named signed. c.in_ok-declared_faults.ensures.methods lt d named signed)
     (λ signed. c.in_ok-declared_faults.ensures.constructors lt d signed) (λ named. c.in_ok-declared_faults.ensures.types lt d named)
-    (λ right. finals_in c.args.at methods.world_is
-    (c.in_ok-faults.ensures.finals (record { right = subst (λ w. IsRightWorld w) (sym methods.world_is) right; uppers_are = methods.uppers_are })))
+    (λ right. faults_in c.args.at methods.world_is (c.in_ok-faults.ensures.found (methods.are right)))
 
 pub returns-clause-only : goal.returns-clause-only
 returns-clause-only c = row_only c.args.view.now

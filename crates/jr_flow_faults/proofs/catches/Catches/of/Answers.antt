@@ -1,10 +1,7 @@
-use Rattle.std.proofs.Common.{◌≡◌, ◌∙◌, sym, subst, arith, length}
-use Rattle.jr_plain.specs.Search.{all_such}
 use Rattle.jr_defs.specs.Referents.{entries}
 use Rattle.jr_rule.specs.declared.Rule.TheVariants as rule
-use Rattle.jr_rule.specs.Faults.{AreFaultsOf}
 use Rattle.jr_faults.proofs.Told.{none_added, only_kept, only_more, row_more}
-use Rattle.jr_flow_faults.specs.ExceptionTests.{is_covered, AreCatchesTo}
+use Rattle.jr_flow_faults.specs.ExceptionTests.{is_covered}
 use Rattle.jr_faults.specs.Added.{is_rule}
 use Rattle.jr_flow_faults.proofs.Exceptions.{covered_added}
 use Rattle.jr_flow_faults.proofs.Covered.{catches_start, catches_more}

@@ -1,4 +1,3 @@
-use Rattle.std.proofs.Common.{◌≡◌}
 use Rattle.jr_plain.specs.Search.{all_such}
 use Rattle.jr_defs.specs.Referents.{entries}
 use Rattle.jr_rule.specs.declared.Rule.TheVariants as rule
