@@ -19,7 +19,7 @@ use Rattle.jr_flow_faults.specs.Computed.{rows_in, table_in}
 use Rattle.jr_flow_faults.specs.Faults.{AreFlowFaults, AreThrowFaults, is_of_flow}
 use Rattle.jr_flow_faults.specs.Reading.{IsThrowingView}
 use Rattle.jr_assign.specs.Changes.{is_of_assignment}
-use Rattle.jr_assign_faults.specs.Changed.{final_rows}
+use Rattle.jr_assign_faults.specs.Faults as of_assignment
 use Rattle.jr_front.specs.Modifiers.{modifier_rows}
 use Rattle.jr_front.specs.Tested.{IsTestableView, AreFaultsIn}
 use Rattle.jr_front.proofs.Numbers.{among_holds}
@@ -32,7 +32,7 @@ is_before one = is_rule rule.Modifiers one || is_of_assignment one
 pub record AreAdded (m : Marks) (view : View) (a b c d e f : List Fault) : Type 0 where
   pub modifiers : AreFaultsOf rule.Modifiers (modifier_rows m) [] a
   pub only_modifiers : AreOnly (is_rule rule.Modifiers) [] a
-  pub changed : AreFaultsOf rule.FinalAssignment (final_rows (rows_in view) (table_in view)) a b
+  pub finals : IsLocal (rows_in view) → of_assignment.AreExactFaults view rule.FinalAssignment a b
   pub only_assigned : AreOnly is_of_assignment a b
   pub members : AreMemberFaults view b c
   pub only_members : AreOnly is_on_members b c
@@ -104,7 +104,11 @@ module _ {m : Marks} {view : View} {a b c d e f : List Fault} (added : AreAdded 
   pub are_found : IsTestableView view → AreFaultsIn m view f
   are_found testable = record {
     modifiers = of_first rule.Modifiers refl (then_none rule.Modifiers added.modifiers (added.only_assigned.others rule.Modifiers refl));
-    changed = of_first rule.FinalAssignment refl (none_then rule.FinalAssignment (added.only_modifiers.others rule.FinalAssignment refl) added.changed);
+    finals = let told = added.finals testable.right.seen.seen.placed.local in record {
+      rows = told.rows;
+      are = of_first rule.FinalAssignment refl (none_then rule.FinalAssignment (added.only_modifiers.others rule.FinalAssignment refl) told.are);
+      each = told.each;
+    };
     names = record {
       local_names = of_name rule.LocalNames refl (added.local_names testable.placed);
       labels = of_name rule.Labels refl (added.labels testable.placed);
@@ -121,6 +125,7 @@ module _ {m : Marks} {view : View} {a b c d e f : List Fault} (added : AreAdded 
       methods = λ named signed. of_members rule.MethodSignatures refl (added.members.methods named signed);
       constructors = λ signed. of_members rule.ConstructorSignatures refl (added.members.constructors signed);
       types = λ named. of_members rule.TypeNames refl (added.members.types named);
+      abstracts = λ whole. of_members rule.AbstractMembers refl (added.members.abstracts whole);
       results = λ whole. of_members rule.Results refl (added.members.results whole);
       access = λ whole. of_members rule.NarrowedAccess refl (added.members.access whole);
       mixed = λ whole. of_members rule.StaticOverride refl (added.members.mixed whole);
@@ -141,16 +146,17 @@ module _ {m : Marks} {view : View} {a b c d e f : List Fault} (added : AreAdded 
   }
 
 -- the same, as the steps of the code give it
-pub added_found : (m : Marks) (view : View) (start a b c d e f : List Fault) → start ≡ [] → AreFaultsOf rule.Modifiers (modifier_rows m) start a → AreOnly (is_rule rule.Modifiers) start a → AreFaultsOf rule.FinalAssignment (final_rows (rows_in view) (table_in view)) a b → AreOnly is_of_assignment a b → AreMemberFaults view b c → AreOnly is_on_members b c
+pub added_found : (m : Marks) (view : View) (start a b c d e f : List Fault) → start ≡ [] → AreFaultsOf rule.Modifiers (modifier_rows m) start a → AreOnly (is_rule rule.Modifiers) start a
+    → (IsLocal (rows_in view) → of_assignment.AreExactFaults view rule.FinalAssignment a b) → AreOnly is_of_assignment a b → AreMemberFaults view b c → AreOnly is_on_members b c
     → (IsRightView view → AreExactTypeFaults view c d) → AreOnlyOf type_rules c d → (IsLocal (rows_in view) → AreFlowFaults view d e) → (IsThrowingView view → AreThrowFaults view d e) → AreOnly is_of_flow d e
     → (names.IsPlacedView view → of_names.AreExactFaults view rule.LocalNames e f) → (names.IsPlacedView view → of_names.AreExactFaults view rule.Labels e f) → (names.IsSeenView view → of_names.AreExactFaults view rule.Access e f)
     → (names.IsPlacedView view → of_names.AreExactFaults view rule.ImportNames e f) → (names.IsPlacedView view → of_names.AreExactFaults view rule.ImportedTypes e f)
     → (names.IsTabledView view → of_names.AreExactFaults view rule.StaticImports e f) → of_names.AreOfNames e f → IsTestableView view → AreFaultsIn m view f
-added_found m view start a b c d e f none modifiers only_modifiers changed only_assigned members only_members types only_types flow thrown only_flow local_names labels access import_names imported_types static_imports only_names =
+added_found m view start a b c d e f none modifiers only_modifiers finals only_assigned members only_members types only_types flow thrown only_flow local_names labels access import_names imported_types static_imports only_names =
     are_found (record {
       modifiers = subst (λ (l : List Fault). AreFaultsOf rule.Modifiers (modifier_rows m) l a) none modifiers;
       only_modifiers = subst (λ (l : List Fault). AreOnly (is_rule rule.Modifiers) l a) none only_modifiers;
-      changed = changed;
+      finals = finals;
       only_assigned = only_assigned;
       members = members;
       only_members = only_members;

@@ -47,7 +47,7 @@ module _ (p : Rows) (t : Table) (local : IsLocal p) (f : Facts) (known : AreKnow
   reads_earlier : ReadsEarlier p
   reads_earlier = record { program = local.program; root = local.tree.root; below = λ n positive lt. local.tree.up n lt positive; beside = λ n positive lt. local.tree.before n lt positive }
 
-  pub one_courses : CoursesAreOne p f
+  one_courses : CoursesAreOne p f
   one_courses = each_has_courses p f reads_later
 
   one_reached : ReachedIsOne p f

@@ -46,6 +46,8 @@ use Rattle.jr_flow_faults.specs.ExceptionTests.{is_uncaught, is_unthrown, is_cov
 use Rattle.jr_flow_faults.specs.Outwards.{completing}
 use Rattle.jr_flow_faults.specs.Known.{AreKnown}
 use Rattle.jr_flow_faults.proofs.Known.{facts_known}
+use Rattle.jr_flow_faults.proofs.Kept.{uncaught_breaks, unthrown_breaks, covered_breaks, thrown_said}
+use Rattle.jr_assign_faults.specs.Finals.{BreaksAssignment}
 use Rattle.jr_type_facts.specs.Views.{rows_in, table_in, types_in, constants_in}
 use Rattle.jr_type_faults.specs.Faults.{is_exact, is_broken}
 use Rattle.jr_front.specs.Compiling.{exact_rules, IsBroken, BreaksExact}
@@ -53,8 +55,7 @@ use Rattle.jr_front.specs.Modifiers.{BreaksMarked, breaks_modifiers}
 use Rattle.jr_front.specs.Tested.{IsTestableView, AreFaultsIn, HasNoTopFault}
 use Rattle.jr_front.proofs.Allowing.{modifiers_told, modified_row}
 use Rattle.jr_front.proofs.Flowing.{unreached_breaks, completing_breaks, flow_said, jump_said, lost_breaks}
-use Rattle.jr_front.proofs.Throwing.{uncaught_breaks, unthrown_breaks, covered_breaks, thrown_said}
-use Rattle.jr_front.proofs.Listed.{HasFault, passes, found}
+use Rattle.jr_front.proofs.Listed.{HasFault, listed, fault_of, passes, found}
 
 -- a row that passes is listed
 none_such : (test : ℕ → Bool) (n k : ℕ) → all_such n test ≡ [] → k < n → test k ≡ true → ⊥
@@ -123,8 +124,8 @@ module _ (m : Marks) (view : View) (testable : IsTestableView view) (local : IsL
   of_names_found e (Breaks.imports_beside h type top named other) = named_found rule.StaticImports all.names.static_imports (Breaks.imports_beside h type top named other)
 
   of_members_found : {rule n : ℕ} → has exact_rules rule ≡ true → BreaksMembers p t rule n → HasFault faults rule n
-  of_members_found e (BreaksMembers.not_implemented class a member is b lacking) = absurd (false≢true e)
-  of_members_found e (BreaksMembers.not_found class a above s declares is b found d) = absurd (false≢true e)
+  of_members_found e (BreaksMembers.not_implemented class a member is b lacking) = member_found rule.AbstractMembers (all.members.abstracts testable.whole) (BreaksMembers.not_implemented class a member is b lacking)
+  of_members_found e (BreaksMembers.not_found class a above s declares is b found d) = member_found rule.AbstractMembers (all.members.abstracts testable.whole) (BreaksMembers.not_found class a above s declares is b found d)
   of_members_found e (BreaksMembers.other_result redefines lacking) = member_found rule.Results (all.members.results testable.whole) (BreaksMembers.other_result redefines lacking)
   of_members_found e (BreaksMembers.no_common_result both a lacking) = member_found rule.Results (all.members.results testable.whole) (BreaksMembers.no_common_result both a lacking)
   of_members_found e (BreaksMembers.no_abstract_result type member is each) = member_found rule.Results (all.members.results testable.whole) (BreaksMembers.no_abstract_result type member is each)
@@ -171,8 +172,14 @@ module _ (m : Marks) (view : View) (testable : IsTestableView view) (local : IsL
   completes = completing (courses p (facts_in view))
 
   thrown_found : (k n : ℕ) → BreaksThrown p t k n → HasFault faults k n
-  thrown_found = thrown_said p t local typable.headed (facts_in view) known (types_in view) typed_so (HasFault faults) (found rule.UncaughtException (length p) (is_uncaught p t (types_in view) completes) all.thrown.uncaught)
+  thrown_found = thrown_said p t local (facts_in view) known typable.headed (types_in view) typed_so (HasFault faults) (found rule.UncaughtException (length p) (is_uncaught p t (types_in view) completes) all.thrown.uncaught)
       (found rule.UnthrownCatch (length p) (is_unthrown p t (types_in view) completes) all.thrown.unthrown) (found rule.CoveredCatch (length p) (is_covered p t) all.thrown.covered)
+
+  finals_found : (n : ℕ) → BreaksAssignment p t 39 n → HasFault faults 39 n
+  finals_found n b = fault_of rule.FinalAssignment faults n (subst (λ rows. has rows n ≡ true) (sym all.finals.are) ((all.finals.each n).1 b))
+
+  assigned_found : {k n : ℕ} → BreaksAssignment p t k n → HasFault faults k n
+  assigned_found (BreaksAssignment.changed {n = n} lt is refers fixed) = finals_found n (BreaksAssignment.changed lt is refers fixed)
 
   marked_found : {k n : ℕ} → BreaksMarked m k n → HasFault faults k n
   marked_found (BreaksMarked.modifiers {d = d} h) = found rule.Modifiers (length m.rows.now) (breaks_modifiers m) all.modifiers d (modified_row m d h) ((modifiers_told m d).1 h)
@@ -185,6 +192,7 @@ module _ (m : Marks) (view : View) (testable : IsTestableView view) (local : IsL
   broken_found k n e (IsBroken.by_types h) = ⊎_elim (⊎_elim (of_names_found e) (of_members_found e)) (of_types_found e) h
   broken_found k n e (IsBroken.by_flow h) = flow_found k n h
   broken_found k n e (IsBroken.by_exceptions h) = thrown_found k n h
+  broken_found k n e (IsBroken.by_assignment h) = assigned_found h
   broken_found k n e (IsBroken.by_tokens h) = marked_found h
 
   pub is_found : (k n : ℕ) → BreaksExact m p t k n → HasFault faults k n
@@ -227,15 +235,18 @@ module _ (m : Marks) (view : View) (testable : IsTestableView view) (local : IsL
         (passes rule.Completion (length p) (λ k. completes_wrongly (label p k) (courses p (facts_in view) k).own.completes) all.flow.completing fault inside e))
 
     uncaught_right : IsRight 41
-    uncaught_right fault inside e = IsBroken.by_exceptions (uncaught_breaks p t local typable.headed (facts_in view) known (types_in view) typed_so fault.row
+    uncaught_right fault inside e = IsBroken.by_exceptions (uncaught_breaks p t local (facts_in view) known typable.headed (types_in view) typed_so fault.row
         (passes rule.UncaughtException (length p) (is_uncaught p t (types_in view) completes) all.thrown.uncaught fault inside e))
 
     unthrown_right : IsRight 42
-    unthrown_right fault inside e = IsBroken.by_exceptions (unthrown_breaks p t local typable.headed (facts_in view) known (types_in view) typed_so fault.row
+    unthrown_right fault inside e = IsBroken.by_exceptions (unthrown_breaks p t local (facts_in view) known typable.headed (types_in view) typed_so fault.row
         (passes rule.UnthrownCatch (length p) (is_unthrown p t (types_in view) completes) all.thrown.unthrown fault inside e))
 
     covered_right : IsRight 43
-    covered_right fault inside e = IsBroken.by_exceptions (covered_breaks p t local typable.headed (facts_in view) known (types_in view) typed_so fault.row (passes rule.CoveredCatch (length p) (is_covered p t) all.thrown.covered fault inside e))
+    covered_right fault inside e = IsBroken.by_exceptions (covered_breaks p t local (facts_in view) known typable.headed (types_in view) typed_so fault.row (passes rule.CoveredCatch (length p) (is_covered p t) all.thrown.covered fault inside e))
+
+    finals_right : IsRight 39
+    finals_right fault inside e = IsBroken.by_assignment ((all.finals.each fault.row).0 (subst (λ rows. has rows fault.row ≡ true) all.finals.are (listed rule.FinalAssignment faults fault inside e)))
 
     marked_right : IsRight 1
     marked_right fault inside e = IsBroken.by_tokens (BreaksMarked.modifiers ((modifiers_told m fault.row).0 (passes rule.Modifiers (length m.rows.now) (breaks_modifiers m) all.modifiers fault inside e)))
@@ -254,6 +265,7 @@ module _ (m : Marks) (view : View) (testable : IsTestableView view) (local : IsL
     right_of rule.StaticContext e = type_right rule.StaticContext refl
     right_of rule.ForwardReference e = type_right rule.ForwardReference refl
     right_of rule.Supertypes e = declared_right rule.Supertypes all.members.supertypes
+    right_of rule.AbstractMembers e = member_right rule.AbstractMembers (all.members.abstracts testable.whole)
     right_of rule.Results e = member_right rule.Results (all.members.results testable.whole)
     right_of rule.NarrowedAccess e = member_right rule.NarrowedAccess (all.members.access testable.whole)
     right_of rule.StaticOverride e = member_right rule.StaticOverride (all.members.mixed testable.whole)
@@ -277,6 +289,7 @@ module _ (m : Marks) (view : View) (testable : IsTestableView view) (local : IsL
     right_of rule.Branches e = type_right rule.Branches refl
     right_of rule.Unreachable e = unreached_right
     right_of rule.Completion e = completing_right
+    right_of rule.FinalAssignment e = finals_right
     right_of rule.UncaughtException e = uncaught_right
     right_of rule.UnthrownCatch e = unthrown_right
     right_of rule.CoveredCatch e = covered_right

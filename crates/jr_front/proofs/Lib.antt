@@ -5,7 +5,6 @@ pub mod Listed
 pub mod Taking
 pub mod Finding
 pub mod Flowing
-pub mod Throwing
 pub mod Kept
 pub mod Testable
 pub mod Reading

@@ -12,6 +12,7 @@ use Rattle.jr_index.specs.NodeRows.{unit_rows}
 use Rattle.jr_marks.specs.Places.{IsOrdered}
 use Rattle.jr_marks.specs.declared.marks.Marks.{Marks}
 use Rattle.jr_flow_faults.specs.Faults.{BreaksFlow, BreaksThrown}
+use Rattle.jr_assign_faults.specs.Finals.{BreaksAssignment}
 use Rattle.jr_front.specs.Modifiers.{BreaksMarked}
 
 -- where the rows of the program stand: its units, its rows, where units begin, in order; which tokens a row has is what its index gives, of which nothing is said
@@ -23,15 +24,16 @@ pub record AreMarksOf (program : Program) (m : Marks) : Type 0 where
 
 -- ---- rules
 
--- the numbers of the rules whose faults are those of the definition: on modifiers, names, members, types, jumps, reaching, completing and exceptions
+-- the numbers of the rules whose faults are those of the definition: on modifiers, names, members, types, jumps, reaching, completing, finals that are changed and exceptions
 abbrev pub exact_rules : List ℕ
-exact_rules = 1 ∷ 2 ∷ 3 ∷ 4 ∷ 5 ∷ 6 ∷ 7 ∷ 8 ∷ 9 ∷ 10 ∷ 11 ∷ 12 ∷ 13 ∷ 15 ∷ 16 ∷ 17 ∷ 18 ∷ 19 ∷ 20 ∷ 21 ∷ 22 ∷ 23 ∷ 24 ∷ 25 ∷ 26 ∷ 27 ∷ 28 ∷ 29 ∷ 30 ∷ 31 ∷ 32 ∷ 33 ∷ 34 ∷ 35 ∷ 36 ∷ 37 ∷ 41 ∷ 42 ∷ 43 ∷ 47 ∷ []
+exact_rules = 1 ∷ 2 ∷ 3 ∷ 4 ∷ 5 ∷ 6 ∷ 7 ∷ 8 ∷ 9 ∷ 10 ∷ 11 ∷ 12 ∷ 13 ∷ 14 ∷ 15 ∷ 16 ∷ 17 ∷ 18 ∷ 19 ∷ 20 ∷ 21 ∷ 22 ∷ 23 ∷ 24 ∷ 25 ∷ 26 ∷ 27 ∷ 28 ∷ 29 ∷ 30 ∷ 31 ∷ 32 ∷ 33 ∷ 34 ∷ 35 ∷ 36 ∷ 37 ∷ 39 ∷ 41 ∷ 42 ∷ 43 ∷ 47 ∷ []
 
 -- the rule is broken at the row: by rows and what they refer to, or by the tokens of the row
 pub data IsBroken (m : Marks) (p : Rows) (t : Table) (rule place : ℕ) : Type 0 where
   by_types : BreaksAll p t rule place → IsBroken m p t rule place
   by_flow : BreaksFlow p t rule place → IsBroken m p t rule place
   by_exceptions : BreaksThrown p t rule place → IsBroken m p t rule place
+  by_assignment : BreaksAssignment p t rule place → IsBroken m p t rule place
   by_tokens : BreaksMarked m rule place → IsBroken m p t rule place
 
 -- one of the rules that are tested exactly is broken at the row

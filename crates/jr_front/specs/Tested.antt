@@ -19,7 +19,7 @@ use Rattle.jr_type_faults.specs.Faults.{IsRightView, AreExactTypeFaults}
 use Rattle.jr_flow_faults.specs.Computed.{rows_in, table_in}
 use Rattle.jr_flow_faults.specs.Faults.{AreFlowFaults, AreThrowFaults}
 use Rattle.jr_flow_faults.specs.Reading.{IsThrowingView}
-use Rattle.jr_assign_faults.specs.Changed.{final_rows}
+use Rattle.jr_assign_faults.specs.Faults as of_assignment
 use Rattle.jr_front.specs.Modifiers.{modifier_rows}
 
 -- the places, supertypes, signatures, types and values of variables of the view are right, and java.lang has one class of each name by which others are checked
@@ -70,7 +70,7 @@ pub record AreNameFaults (view : View) (faults : List Fault) : Type 0 where
 -- the faults of each exact rule are just those at the rows of its definition. Of the other rules nothing is said
 pub record AreFaultsIn (m : Marks) (view : View) (faults : List Fault) : Type 0 where
   pub modifiers : AreFaultsOf rule.Modifiers (modifier_rows m) [] faults
-  pub changed : AreFaultsOf rule.FinalAssignment (final_rows (rows_in view) (table_in view)) [] faults
+  pub finals : of_assignment.AreExactFaults view rule.FinalAssignment [] faults
   pub names : AreNameFaults view faults
   pub members : AreMemberFaults view [] faults
   pub types : AreExactTypeFaults view [] faults
