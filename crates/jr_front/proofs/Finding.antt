@@ -15,7 +15,10 @@ use Rattle.jr_name_faults.specs.Faults as of_names
 use Rattle.jr_name_faults.specs.Views as names
 use Rattle.jr_member_faults.specs.Faults.{AreMemberFaults, is_on_members}
 use Rattle.jr_type_faults.specs.Faults.{IsRightView, AreExactTypeFaults, AreOnlyOf, type_rules, exact_rules, is_among}
+use Rattle.jr_supers.specs.Supers.{AreSupersOf}
+use Rattle.jr_supers.specs.Tabled.{IsSized}
 use Rattle.jr_flow_faults.specs.Computed.{rows_in, table_in}
+use Rattle.jr_flow_faults.specs.ExceptionTests.{covered_rows}
 use Rattle.jr_flow_faults.specs.Faults.{AreFlowFaults, AreThrowFaults, is_of_flow}
 use Rattle.jr_flow_faults.specs.Reading.{IsThrowingView}
 use Rattle.jr_assign.specs.Changes.{is_of_assignment}
@@ -27,6 +30,10 @@ use Rattle.jr_front.proofs.Numbers.{among_holds}
 -- the rules on modifiers and on assignment
 abbrev is_before : Rule → Bool
 is_before one = is_rule rule.Modifiers one || is_of_assignment one
+
+-- the faults of catches that catch what is caught before, where rows can be counted and supertypes are those of the table
+abbrev AreCovered : View → List Fault → List Fault → Type 0
+AreCovered view old new = IsSized (rows_in view) → AreSupersOf (rows_in view) (table_in view) view.sight.world.supers.now → AreFaultsOf rule.CoveredCatch (covered_rows (rows_in view) (table_in view)) old new
 
 -- what each maker adds
 pub record AreAdded (m : Marks) (view : View) (a b c d e f : List Fault) : Type 0 where
@@ -40,6 +47,7 @@ pub record AreAdded (m : Marks) (view : View) (a b c d e f : List Fault) : Type 
   pub only_types : AreOnlyOf type_rules c d
   pub flow : IsLocal (rows_in view) → AreFlowFaults view d e
   pub thrown : IsThrowingView view → AreThrowFaults view d e
+  pub covered : AreCovered view d e
   pub only_flow : AreOnly is_of_flow d e
   pub local_names : names.IsPlacedView view → of_names.AreExactFaults view rule.LocalNames e f
   pub labels : names.IsPlacedView view → of_names.AreExactFaults view rule.Labels e f
@@ -141,18 +149,18 @@ module _ {m : Marks} {view : View} {a b c d e f : List Fault} (added : AreAdded 
     thrown = let told = added.thrown testable.throwing in record {
       uncaught = of_flow rule.UncaughtException refl told.uncaught;
       unthrown = of_flow rule.UnthrownCatch refl told.unthrown;
-      covered = of_flow rule.CoveredCatch refl told.covered;
     };
+    covered = of_flow rule.CoveredCatch refl (added.covered testable.right.seen.sized testable.right.seen.seen.above);
   }
 
 -- the same, as the steps of the code give it
 pub added_found : (m : Marks) (view : View) (start a b c d e f : List Fault) → start ≡ [] → AreFaultsOf rule.Modifiers (modifier_rows m) start a → AreOnly (is_rule rule.Modifiers) start a
     → (IsLocal (rows_in view) → of_assignment.AreExactFaults view rule.FinalAssignment a b) → AreOnly is_of_assignment a b → AreMemberFaults view b c → AreOnly is_on_members b c
-    → (IsRightView view → AreExactTypeFaults view c d) → AreOnlyOf type_rules c d → (IsLocal (rows_in view) → AreFlowFaults view d e) → (IsThrowingView view → AreThrowFaults view d e) → AreOnly is_of_flow d e
+    → (IsRightView view → AreExactTypeFaults view c d) → AreOnlyOf type_rules c d → (IsLocal (rows_in view) → AreFlowFaults view d e) → (IsThrowingView view → AreThrowFaults view d e) → AreCovered view d e → AreOnly is_of_flow d e
     → (names.IsPlacedView view → of_names.AreExactFaults view rule.LocalNames e f) → (names.IsPlacedView view → of_names.AreExactFaults view rule.Labels e f) → (names.IsSeenView view → of_names.AreExactFaults view rule.Access e f)
     → (names.IsPlacedView view → of_names.AreExactFaults view rule.ImportNames e f) → (names.IsPlacedView view → of_names.AreExactFaults view rule.ImportedTypes e f)
     → (names.IsTabledView view → of_names.AreExactFaults view rule.StaticImports e f) → of_names.AreOfNames e f → IsTestableView view → AreFaultsIn m view f
-added_found m view start a b c d e f none modifiers only_modifiers finals only_assigned members only_members types only_types flow thrown only_flow local_names labels access import_names imported_types static_imports only_names =
+added_found m view start a b c d e f none modifiers only_modifiers finals only_assigned members only_members types only_types flow thrown covered only_flow local_names labels access import_names imported_types static_imports only_names =
     are_found (record {
       modifiers = subst (λ (l : List Fault). AreFaultsOf rule.Modifiers (modifier_rows m) l a) none modifiers;
       only_modifiers = subst (λ (l : List Fault). AreOnly (is_rule rule.Modifiers) l a) none only_modifiers;
@@ -164,6 +172,7 @@ added_found m view start a b c d e f none modifiers only_modifiers finals only_a
       only_types = only_types;
       flow = flow;
       thrown = thrown;
+      covered = covered;
       only_flow = only_flow;
       local_names = local_names;
       labels = labels;

@@ -173,7 +173,7 @@ module _ (m : Marks) (view : View) (testable : IsTestableView view) (local : IsL
 
   thrown_found : (k n : ℕ) → BreaksThrown p t k n → HasFault faults k n
   thrown_found = thrown_said p t local (facts_in view) known typable.headed (types_in view) typed_so (HasFault faults) (found rule.UncaughtException (length p) (is_uncaught p t (types_in view) completes) all.thrown.uncaught)
-      (found rule.UnthrownCatch (length p) (is_unthrown p t (types_in view) completes) all.thrown.unthrown) (found rule.CoveredCatch (length p) (is_covered p t) all.thrown.covered)
+      (found rule.UnthrownCatch (length p) (is_unthrown p t (types_in view) completes) all.thrown.unthrown) (found rule.CoveredCatch (length p) (is_covered p t) all.covered)
 
   finals_found : (n : ℕ) → BreaksAssignment p t 39 n → HasFault faults 39 n
   finals_found n b = fault_of rule.FinalAssignment faults n (subst (λ rows. has rows n ≡ true) (sym all.finals.are) ((all.finals.each n).1 b))
@@ -243,7 +243,7 @@ module _ (m : Marks) (view : View) (testable : IsTestableView view) (local : IsL
         (passes rule.UnthrownCatch (length p) (is_unthrown p t (types_in view) completes) all.thrown.unthrown fault inside e))
 
     covered_right : IsRight 43
-    covered_right fault inside e = IsBroken.by_exceptions (covered_breaks p t local (facts_in view) known typable.headed (types_in view) typed_so fault.row (passes rule.CoveredCatch (length p) (is_covered p t) all.thrown.covered fault inside e))
+    covered_right fault inside e = IsBroken.by_exceptions (covered_breaks p t local (facts_in view) known typable.headed (types_in view) typed_so fault.row (passes rule.CoveredCatch (length p) (is_covered p t) all.covered fault inside e))
 
     finals_right : IsRight 39
     finals_right fault inside e = IsBroken.by_assignment ((all.finals.each fault.row).0 (subst (λ rows. has rows fault.row ≡ true) all.finals.are (listed rule.FinalAssignment faults fault inside e)))

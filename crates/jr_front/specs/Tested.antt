@@ -17,6 +17,7 @@ use Rattle.jr_member_faults.specs.Tops.{has_top_type_clash}
 use Rattle.jr_member_faults.specs.Views.{IsNamedWorld, IsSignedWorld, IsRightWorld, IsValuedView}
 use Rattle.jr_type_faults.specs.Faults.{IsRightView, AreExactTypeFaults}
 use Rattle.jr_flow_faults.specs.Computed.{rows_in, table_in}
+use Rattle.jr_flow_faults.specs.ExceptionTests.{covered_rows}
 use Rattle.jr_flow_faults.specs.Faults.{AreFlowFaults, AreThrowFaults}
 use Rattle.jr_flow_faults.specs.Reading.{IsThrowingView}
 use Rattle.jr_assign_faults.specs.Faults as of_assignment
@@ -76,3 +77,4 @@ pub record AreFaultsIn (m : Marks) (view : View) (faults : List Fault) : Type 0 
   pub types : AreExactTypeFaults view [] faults
   pub flow : AreFlowFaults view [] faults
   pub thrown : AreThrowFaults view [] faults
+  pub covered : AreFaultsOf rule.CoveredCatch (covered_rows (rows_in view) (table_in view)) [] faults
