@@ -176,7 +176,7 @@ module _ (m : Marks) (view : View) (testable : IsTestableView view) (local : IsL
       (found rule.UnthrownCatch (length p) (is_unthrown p t (types_in view) completes) all.thrown.unthrown) (found rule.CoveredCatch (length p) (is_covered p t) all.covered)
 
   finals_found : (n : ℕ) → BreaksAssignment p t 39 n → HasFault faults 39 n
-  finals_found n b = fault_of rule.FinalAssignment faults n (subst (λ rows. has rows n ≡ true) (sym all.finals.are) ((all.finals.each n).1 b))
+  finals_found n b = fault_of rule.FinalAssignment faults n (subst (λ rows. has rows n ≡ true) (sym all.finals.are.are) ((all.finals.each n).1 b))
 
   assigned_found : {k n : ℕ} → BreaksAssignment p t k n → HasFault faults k n
   assigned_found (BreaksAssignment.changed {n = n} lt is refers fixed) = finals_found n (BreaksAssignment.changed lt is refers fixed)
@@ -246,7 +246,7 @@ module _ (m : Marks) (view : View) (testable : IsTestableView view) (local : IsL
     covered_right fault inside e = IsBroken.by_exceptions (covered_breaks p t local (facts_in view) known typable.headed (types_in view) typed_so fault.row (passes rule.CoveredCatch (length p) (is_covered p t) all.covered fault inside e))
 
     finals_right : IsRight 39
-    finals_right fault inside e = IsBroken.by_assignment ((all.finals.each fault.row).0 (subst (λ rows. has rows fault.row ≡ true) all.finals.are (listed rule.FinalAssignment faults fault inside e)))
+    finals_right fault inside e = IsBroken.by_assignment ((all.finals.each fault.row).0 (subst (λ rows. has rows fault.row ≡ true) all.finals.are.are (listed rule.FinalAssignment faults fault inside e)))
 
     marked_right : IsRight 1
     marked_right fault inside e = IsBroken.by_tokens (BreaksMarked.modifiers ((modifiers_told m fault.row).0 (passes rule.Modifiers (length m.rows.now) (breaks_modifiers m) all.modifiers fault inside e)))
