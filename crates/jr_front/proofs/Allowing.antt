@@ -1,6 +1,5 @@
 -- The tests of modifiers tell what the definitions say.
-use Rattle.std.proofs.Common.{◌≡◌, ◌⊎◌, inl, inr, ⊎_elim, sym, ◌∙◌, ap, ℕ, Bool, true, [], length, Decides}
-use Rattle.std.proofs.lemmas.Bool.{false≢true}
+use Rattle.std.proofs.Common.{◌≡◌, ◌⊎◌, inl, inr, ⊎_elim, ℕ, ◌<◌, Bool, true, length, Decides}
 use Rattle.jr_tree.specs.declared.label.Modifiers.{Modifiers}
 use Rattle.jr_tree.specs.declared.label.Role.{Role}
 use Rattle.jr_tree.specs.declared.label.Role.TheVariants as role
@@ -17,11 +16,10 @@ use Rattle.jr_plain.proofs.Declared.{type_tells, class_tells}
 use Rattle.jr_plain.proofs.Enclosed.{top_level_tells}
 use Rattle.jr_plain.proofs.Modified.{in_interface_tells}
 use Rattle.jr_plain.proofs.Same.{role_tells}
-use Rattle.jr_plain.proofs.Searches.{such}
 use Rattle.jr_plain.proofs.Tests.{itself, always, never, both, either, opposite, like}
 use Rattle.jr_marks.specs.declared.marks.Marks.{Marks}
 use Rattle.jr_front.specs.Modifiers as tell
-use Rattle.jr_front.specs.Modifiers.{HasModifiers, Has, IsOfClass, IsMethodOfClass, MayHave, Exclude, HasWrongModifier, BreaksModifiers, has_modifier}
+use Rattle.jr_front.specs.Modifiers.{HasModifiers, IsOfClass, IsMethodOfClass, MayHave, Exclude, HasWrongModifier, BreaksModifiers, has_modifier}
 use Rattle.jr_front.proofs.Repeating.{repeats_tells}
 
 modifiers_tell : (r : Role) → Decides (tell.has_modifiers r) (HasModifiers r)
@@ -160,8 +158,6 @@ module _ (p : Rows) (d : ℕ) where
 pub modifiers_told : (m : Marks) (d : ℕ) → Decides (tell.breaks_modifiers m d) (BreaksModifiers m d)
 modifiers_told m d = like (both (modifiers_tell (role_at m.rows.now d)) (either (wrong_tells m.rows.now d) (repeats_tells m d))) (λ h. record { modified = h.0; wrong = h.1 }) (λ h. (h.modified, h.wrong))
 
--- where no row passes the test, none breaks the rule
-pub modifiers_kept : (m : Marks) → tell.modifier_rows m ≡ [] → (d : ℕ) → BreaksModifiers m d → ⊥
-modifiers_kept m none d h =
-    let inside = bounded (λ l. HasModifiers (role_of l)) (λ h. h) m.rows.now d h.modified in
-    false≢true (ap (λ rows. has rows d) (sym none) ∙ (such (tell.breaks_modifiers m) (length m.rows.now) d).1 (inside, (modifiers_told m d).1 h))
+-- what breaks the rule is a row
+pub modified_row : (m : Marks) (d : ℕ) → BreaksModifiers m d → d < length m.rows.now
+modified_row m d h = bounded (λ l. HasModifiers (role_of l)) (λ h. h) m.rows.now d h.modified

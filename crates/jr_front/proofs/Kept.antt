@@ -1,6 +1,5 @@
 -- The faults that are found of the exact rules are at the rows that break these, and each such row has one; where there are none, none is broken.
-use Rattle.std.proofs.Common.{◌≡◌, ◌⊎◌, refl, sym, ◌∙◌, ap, subst, inl, inr, ⊎_elim, ℕ, ◌≤◌, ◌<◌, Bool, true, false, ◌||◌, List, [], length, Contains}
-use Rattle.std.specs.List.{AllByRecursion}
+use Rattle.std.proofs.Common.{◌≡◌, ◌⊎◌, refl, sym, ◌∙◌, ap, subst, inl, inr, ⊎_elim, ℕ, ◌≤◌, ◌<◌, Bool, true, false, List, [], length, Contains}
 use Rattle.std.proofs.lemmas.Bool.{false≢true, or_cases, or_left}
 use Rattle.jr_tree.specs.declared.label.Label.TheVariants as is
 use Rattle.jr_tree.specs.Local.{IsLocal}
@@ -13,9 +12,8 @@ use Rattle.jr_defs.specs.MemberRules.{BreaksMembers}
 use Rattle.jr_defs.specs.Rules.{Breaks}
 use Rattle.jr_plain.specs.Conversions.{Constants}
 use Rattle.jr_plain.specs.Overloads.{Types}
-use Rattle.jr_plain.specs.Search.{has, all_such}
+use Rattle.jr_plain.specs.Search.{Finds, has, all_such}
 use Rattle.jr_plain.specs.Typing.{IsTypable}
-use Rattle.jr_plain.proofs.Bounds.{bounded}
 use Rattle.jr_plain.proofs.Searches.{such}
 use Rattle.jr_rule.specs.declared.Fault.{Fault}
 use Rattle.jr_rule.specs.declared.Rule.{Rule}
@@ -28,13 +26,15 @@ use Rattle.jr_name_rules.proofs.Bounded.{broken_in_local}
 use Rattle.jr_member_rules.specs.Computed.{breaks_members}
 use Rattle.jr_member_rules.proofs.AllRules as of_members
 use Rattle.jr_rules.specs.Computed as typed
-use Rattle.jr_rules.specs.Compiling.{BreaksAll}
 use Rattle.jr_rules.specs.TypeRules.{BreaksTypes}
+use Rattle.jr_rules.specs.Typed.{Typed}
 use Rattle.jr_rules.proofs.AllRules.{breaks_types_tells}
+use Rattle.jr_rules.proofs.Known.{types_find}
 use Rattle.jr_rules.proofs.Bounded as of_types
 use Rattle.jr_reach.specs.Reached.{reached}
 use Rattle.jr_reach.specs.Statements.{courses}
 use Rattle.jr_reach.specs.Faults.{is_lost, is_unreached, completes_wrongly}
+use Rattle.jr_marks.specs.declared.marks.Marks.{Marks}
 use Rattle.jr_view.specs.declared.View.{View}
 use Rattle.jr_name_faults.specs.Faults as of_names
 use Rattle.jr_member_faults.specs.Faults.{has_member_type_clash}
@@ -42,25 +42,28 @@ use Rattle.jr_member_faults.specs.Tops.{has_top_type_clash}
 use Rattle.jr_member_faults.proofs.Told.{types_at}
 use Rattle.jr_flow_faults.specs.Computed.{facts, facts_in}
 use Rattle.jr_flow_faults.specs.Faults.{BreaksFlow, BreaksThrown}
-use Rattle.jr_flow_faults.specs.Exceptions.{IsCovered}
-use Rattle.jr_flow_faults.specs.ExceptionTests.{is_covered}
-use Rattle.jr_flow_faults.proofs.Covered.{covered_tells}
+use Rattle.jr_flow_faults.specs.ExceptionTests.{is_uncaught, is_unthrown, is_covered}
+use Rattle.jr_flow_faults.specs.Outwards.{completing}
 use Rattle.jr_flow_faults.specs.Known.{AreKnown}
 use Rattle.jr_flow_faults.proofs.Known.{facts_known}
+use Rattle.jr_flow_faults.proofs.Kept.{uncaught_breaks, unthrown_breaks, covered_breaks, thrown_said}
+use Rattle.jr_assign_faults.specs.Finals.{BreaksAssignment}
 use Rattle.jr_type_facts.specs.Views.{rows_in, table_in, types_in, constants_in}
 use Rattle.jr_type_faults.specs.Faults.{is_exact, is_broken}
-use Rattle.jr_front.specs.Compiling.{exact_rules, BreaksExact}
+use Rattle.jr_front.specs.Compiling.{exact_rules, IsBroken, BreaksExact}
+use Rattle.jr_front.specs.Modifiers.{BreaksMarked, breaks_modifiers}
 use Rattle.jr_front.specs.Tested.{IsTestableView, AreFaultsIn, HasNoTopFault}
+use Rattle.jr_front.proofs.Allowing.{modifiers_told, modified_row}
 use Rattle.jr_front.proofs.Flowing.{unreached_breaks, completing_breaks, flow_said, jump_said, lost_breaks}
-use Rattle.jr_front.proofs.Listed.{HasFault, has_holds, passes, found}
+use Rattle.jr_front.proofs.Listed.{HasFault, listed, fault_of, passes, found}
 
 -- a row that passes is listed
 none_such : (test : ℕ → Bool) (n k : ℕ) → all_such n test ≡ [] → k < n → test k ≡ true → ⊥
 none_such test n k none lt is = false≢true (ap (λ rows. has rows k) (sym none) ∙ (such test n k).1 (lt, is))
 
-module _ (view : View) (testable : IsTestableView view) (local : IsLocal (rows_in view)) (typable : IsTypable (rows_in view) (table_in view)) (past : (o : ℕ) → length (rows_in view) ≤ o → table_in view o ≡ Unbound)
+module _ (m : Marks) (view : View) (testable : IsTestableView view) (local : IsLocal (rows_in view)) (typable : IsTypable (rows_in view) (table_in view)) (past : (o : ℕ) → length (rows_in view) ≤ o → table_in view o ≡ Unbound)
     (values_are : constants_in view ≡ typed.values (rows_in view) (table_in view)) (types_are : types_in view ≡ typed.types (rows_in view) (table_in view)) (tops : HasNoTopFault (rows_in view))
-    (faults : List Fault) (all : AreFaultsIn view faults) where
+    (faults : List Fault) (all : AreFaultsIn m view faults) where
   abbrev p : Rows
   p = rows_in view
 
@@ -121,19 +124,19 @@ module _ (view : View) (testable : IsTestableView view) (local : IsLocal (rows_i
   of_names_found e (Breaks.imports_beside h type top named other) = named_found rule.StaticImports all.names.static_imports (Breaks.imports_beside h type top named other)
 
   of_members_found : {rule n : ℕ} → has exact_rules rule ≡ true → BreaksMembers p t rule n → HasFault faults rule n
-  of_members_found e (BreaksMembers.not_implemented class a member is b lacking) = absurd (false≢true e)
-  of_members_found e (BreaksMembers.not_found class a above s declares is b found d) = absurd (false≢true e)
-  of_members_found e (BreaksMembers.other_result redefines lacking) = absurd (false≢true e)
-  of_members_found e (BreaksMembers.no_common_result both a lacking) = absurd (false≢true e)
-  of_members_found e (BreaksMembers.no_abstract_result type member is each) = absurd (false≢true e)
-  of_members_found e (BreaksMembers.narrowed redefines x y lt) = absurd (false≢true e)
-  of_members_found e (BreaksMembers.inherited_narrows both a x y lt) = absurd (false≢true e)
-  of_members_found e (BreaksMembers.static_over_instance hides a) = absurd (false≢true e)
-  of_members_found e (BreaksMembers.instance_over_static over a) = absurd (false≢true e)
-  of_members_found e (BreaksMembers.inherited_static both a b) = absurd (false≢true e)
+  of_members_found e (BreaksMembers.not_implemented class a member is b lacking) = member_found rule.AbstractMembers (all.members.abstracts testable.whole) (BreaksMembers.not_implemented class a member is b lacking)
+  of_members_found e (BreaksMembers.not_found class a above s declares is b found d) = member_found rule.AbstractMembers (all.members.abstracts testable.whole) (BreaksMembers.not_found class a above s declares is b found d)
+  of_members_found e (BreaksMembers.other_result redefines lacking) = member_found rule.Results (all.members.results testable.whole) (BreaksMembers.other_result redefines lacking)
+  of_members_found e (BreaksMembers.no_common_result both a lacking) = member_found rule.Results (all.members.results testable.whole) (BreaksMembers.no_common_result both a lacking)
+  of_members_found e (BreaksMembers.no_abstract_result type member is each) = member_found rule.Results (all.members.results testable.whole) (BreaksMembers.no_abstract_result type member is each)
+  of_members_found e (BreaksMembers.narrowed redefines x y lt) = member_found rule.NarrowedAccess (all.members.access testable.whole) (BreaksMembers.narrowed redefines x y lt)
+  of_members_found e (BreaksMembers.inherited_narrows both a x y lt) = member_found rule.NarrowedAccess (all.members.access testable.whole) (BreaksMembers.inherited_narrows both a x y lt)
+  of_members_found e (BreaksMembers.static_over_instance hides a) = member_found rule.StaticOverride (all.members.mixed testable.whole) (BreaksMembers.static_over_instance hides a)
+  of_members_found e (BreaksMembers.instance_over_static over a) = member_found rule.StaticOverride (all.members.mixed testable.whole) (BreaksMembers.instance_over_static over a)
+  of_members_found e (BreaksMembers.inherited_static both a b) = member_found rule.StaticOverride (all.members.mixed testable.whole) (BreaksMembers.inherited_static both a b)
   of_members_found e (BreaksMembers.over_final redefines a) = member_found rule.FinalOverride (all.members.finals testable.whole) (BreaksMembers.over_final redefines a)
-  of_members_found e (BreaksMembers.throws_more redefines a b c) = absurd (false≢true e)
-  of_members_found e (BreaksMembers.inherited_throws both a thrown checked lacking) = absurd (false≢true e)
+  of_members_found e (BreaksMembers.throws_more redefines a b c) = member_found rule.OverrideThrows (all.members.throws testable.whole) (BreaksMembers.throws_more redefines a b c)
+  of_members_found e (BreaksMembers.inherited_throws both a thrown checked lacking) = member_found rule.OverrideThrows (all.members.throws testable.whole) (BreaksMembers.inherited_throws both a thrown checked lacking)
   of_members_found e (BreaksMembers.body_of_abstract is a b) = member_found rule.Bodies all.members.bodies (BreaksMembers.body_of_abstract is a b)
   of_members_found e (BreaksMembers.no_body is a b c) = member_found rule.Bodies all.members.bodies (BreaksMembers.no_body is a b c)
   of_members_found e (BreaksMembers.constructor_named_otherwise h is a) = member_found rule.Bodies all.members.bodies (BreaksMembers.constructor_named_otherwise h is a)
@@ -162,61 +165,136 @@ module _ (view : View) (testable : IsTestableView view) (local : IsLocal (rows_i
   of_types_found e (BreaksTypes.jump {n = n} h) = let said = jump_said p t local (facts_in view) known n h in found rule.Jump (length p) (λ k. is_lost (label p k) (facts_in view) k) all.flow.jumps n said.0 said.1
   of_types_found e (BreaksTypes.branches h) = type_found rule.Branches refl (BreaksTypes.branches h)
 
-  covered_found : {n : ℕ} → IsCovered p t n → HasFault faults 43 n
-  covered_found {n} h = found rule.CoveredCatch (length p) (is_covered p t) all.covered n (bounded (λ l. l ≡ is.Catch) (λ e. absurd (cc)) p n h.catch.catch) ((covered_tells p t typable.headed n).1 h)
+  typed_so : (n : ℕ) → Finds (types_in view n) (λ a. Typed p t n a)
+  typed_so n = subst (λ (f : Types). Finds (f n) (λ a. Typed p t n a)) (sym types_are) (types_find p t typable n)
 
-  of_thrown_found : {rule n : ℕ} → has exact_rules rule ≡ true → BreaksThrown p t rule n → HasFault faults rule n
-  of_thrown_found e (BreaksThrown.uncaught a b h) = absurd (false≢true e)
-  of_thrown_found e (BreaksThrown.unthrown a b h) = absurd (false≢true e)
-  of_thrown_found e (BreaksThrown.covered h) = covered_found h
+  abbrev completes : ℕ → Bool
+  completes = completing (courses p (facts_in view))
 
-  pub is_found : (k n : ℕ) → BreaksExact p t k n → HasFault faults k n
-  is_found k n b = ⊎_elim (⊎_elim (⊎_elim (of_names_found b.exact) (of_members_found b.exact)) (of_types_found b.exact))
-      (⊎_elim (flow_said p t local (facts_in view) known (HasFault faults) (found rule.Unreachable (length p) (is_unreached p (reached p (facts_in view))) all.flow.unreached)
-      (found rule.Completion (length p) (λ m. completes_wrongly (label p m) (courses p (facts_in view) m).own.completes) all.flow.completing) k n) (of_thrown_found b.exact)) b.breaks
+  thrown_found : (k n : ℕ) → BreaksThrown p t k n → HasFault faults k n
+  thrown_found = thrown_said p t local (facts_in view) known typable.headed (types_in view) typed_so (HasFault faults) (found rule.UncaughtException (length p) (is_uncaught p t (types_in view) completes) all.thrown.uncaught)
+      (found rule.UnthrownCatch (length p) (is_unthrown p t (types_in view) completes) all.thrown.unthrown) (found rule.CoveredCatch (length p) (is_covered p t) all.covered)
+
+  finals_found : (n : ℕ) → BreaksAssignment p t 39 n → HasFault faults 39 n
+  finals_found n b = fault_of rule.FinalAssignment faults n (subst (λ rows. has rows n ≡ true) (sym all.finals.are.are) ((all.finals.each n).1 b))
+
+  assigned_found : {k n : ℕ} → BreaksAssignment p t k n → HasFault faults k n
+  assigned_found (BreaksAssignment.changed {n = n} lt is refers fixed) = finals_found n (BreaksAssignment.changed lt is refers fixed)
+
+  marked_found : {k n : ℕ} → BreaksMarked m k n → HasFault faults k n
+  marked_found (BreaksMarked.modifiers {d = d} h) = found rule.Modifiers (length m.rows.now) (breaks_modifiers m) all.modifiers d (modified_row m d h) ((modifiers_told m d).1 h)
+
+  flow_found : (k n : ℕ) → BreaksFlow p t k n → HasFault faults k n
+  flow_found = flow_said p t local (facts_in view) known (HasFault faults) (found rule.Unreachable (length p) (is_unreached p (reached p (facts_in view))) all.flow.unreached)
+      (found rule.Completion (length p) (λ n. completes_wrongly (label p n) (courses p (facts_in view) n).own.completes) all.flow.completing)
+
+  broken_found : (k n : ℕ) → has exact_rules k ≡ true → IsBroken m p t k n → HasFault faults k n
+  broken_found k n e (IsBroken.by_types h) = ⊎_elim (⊎_elim (of_names_found e) (of_members_found e)) (of_types_found e) h
+  broken_found k n e (IsBroken.by_flow h) = flow_found k n h
+  broken_found k n e (IsBroken.by_exceptions h) = thrown_found k n h
+  broken_found k n e (IsBroken.by_assignment h) = assigned_found h
+  broken_found k n e (IsBroken.by_tokens h) = marked_found h
+
+  pub is_found : (k n : ℕ) → BreaksExact m p t k n → HasFault faults k n
+  is_found k n b = broken_found k n b.exact b.broken
 
   -- ---- a fault of an exact rule is at a row that breaks it
 
   abbrev IsRight : ℕ → Type 0
-  IsRight k = (fault : Fault) → Contains faults fault → number_of fault.rule ≡ k → BreaksAll p t k fault.row ⊎ BreaksFlow p t k fault.row ⊎ BreaksThrown p t k fault.row
+  IsRight k = (fault : Fault) → Contains faults fault → number_of fault.rule ≡ k → IsBroken m p t k fault.row
 
   declared_right : (one : Rule) → AreFaultsOf one (all_such (length p) (named.breaks p t (number_of one))) [] faults → IsRight (number_of one)
-  declared_right one of fault inside e = inl (inl (inl ((breaks_tells p t (number_of one) fault.row typable).0 (passes one (length p) (named.breaks p t (number_of one)) of fault inside e))))
+  declared_right one of fault inside e = IsBroken.by_types (inl (inl ((breaks_tells p t (number_of one) fault.row typable).0 (passes one (length p) (named.breaks p t (number_of one)) of fault inside e))))
 
   types_right : IsRight 2
-  types_right fault inside e = inl (inl (inl ((breaks_tells p t 2 fault.row typable).0 (types_at p t fault.row
+  types_right fault inside e = IsBroken.by_types (inl (inl ((breaks_tells p t 2 fault.row typable).0 (types_at p t fault.row
       ∙ or_left (has_member_type_clash p fault.row) (has_top_type_clash p fault.row) (passes rule.TypeNames (length p) (has_member_type_clash p) (all.members.types testable.named) fault inside e)))))
 
   named_right : (one : Rule) → of_names.AreExactFaults view one [] faults → IsRight (number_of one)
-  named_right one of fault inside e = inl (inl (inl ((breaks_tells p t (number_of one) fault.row typable).0
+  named_right one of fault inside e = IsBroken.by_types (inl (inl ((breaks_tells p t (number_of one) fault.row typable).0
       (subst (λ (f : Types). has (named.broken_at p t f fault.row) (number_of one) ≡ true) types_are (passes one (length p) (of_names.is_broken view one) of fault inside e)))))
 
   member_right : (one : Rule) → AreFaultsOf one (all_such (length p) (breaks_members p t (number_of one))) [] faults → IsRight (number_of one)
-  member_right one of fault inside e = inl (inl (inr ((of_members.breaks_members_tells p t typable (number_of one) fault.row).0 (passes one (length p) (breaks_members p t (number_of one)) of fault inside e))))
+  member_right one of fault inside e = IsBroken.by_types (inl (inr ((of_members.breaks_members_tells p t typable (number_of one) fault.row).0 (passes one (length p) (breaks_members p t (number_of one)) of fault inside e))))
 
   type_right : (one : Rule) → is_exact one ≡ true → IsRight (number_of one)
-  type_right one exact fault inside e = inl (inr ((breaks_types_tells p t typable (number_of one) fault.row).0
+  type_right one exact fault inside e = IsBroken.by_types (inr ((breaks_types_tells p t typable (number_of one) fault.row).0
       (subst (λ (c : Constants). has (typed.broken_at p t c (typed.types p t) fault.row) (number_of one) ≡ true) values_are
       (subst (λ (f : Types). has (typed.broken_at p t (constants_in view) f fault.row) (number_of one) ≡ true) types_are (passes one (length p) (is_broken view one) (all.types.each one exact) fault inside e)))))
 
   module _ (bound : IsBound p t) (all_found : AllFound p t) where
     jumps_right : IsRight 34
-    jumps_right fault inside e = inl (inr (BreaksTypes.jump (lost_breaks p t local (facts_in view) known bound all_found fault.row
+    jumps_right fault inside e = IsBroken.by_types (inr (BreaksTypes.jump (lost_breaks p t local (facts_in view) known bound all_found fault.row
         (passes rule.Jump (length p) (λ k. is_lost (label p k) (facts_in view) k) all.flow.jumps fault inside e))))
 
     unreached_right : IsRight 36
-    unreached_right fault inside e = inr (inl (unreached_breaks p t local (facts_in view) known fault.row (passes rule.Unreachable (length p) (is_unreached p (reached p (facts_in view))) all.flow.unreached fault inside e)))
+    unreached_right fault inside e = IsBroken.by_flow (unreached_breaks p t local (facts_in view) known fault.row (passes rule.Unreachable (length p) (is_unreached p (reached p (facts_in view))) all.flow.unreached fault inside e))
 
     completing_right : IsRight 37
-    completing_right fault inside e = inr (inl (completing_breaks p t local (facts_in view) known fault.row
-        (passes rule.Completion (length p) (λ k. completes_wrongly (label p k) (courses p (facts_in view) k).own.completes) all.flow.completing fault inside e)))
+    completing_right fault inside e = IsBroken.by_flow (completing_breaks p t local (facts_in view) known fault.row
+        (passes rule.Completion (length p) (λ k. completes_wrongly (label p k) (courses p (facts_in view) k).own.completes) all.flow.completing fault inside e))
+
+    uncaught_right : IsRight 41
+    uncaught_right fault inside e = IsBroken.by_exceptions (uncaught_breaks p t local (facts_in view) known typable.headed (types_in view) typed_so fault.row
+        (passes rule.UncaughtException (length p) (is_uncaught p t (types_in view) completes) all.thrown.uncaught fault inside e))
+
+    unthrown_right : IsRight 42
+    unthrown_right fault inside e = IsBroken.by_exceptions (unthrown_breaks p t local (facts_in view) known typable.headed (types_in view) typed_so fault.row
+        (passes rule.UnthrownCatch (length p) (is_unthrown p t (types_in view) completes) all.thrown.unthrown fault inside e))
 
     covered_right : IsRight 43
-    covered_right fault inside e = inr (inr (BreaksThrown.covered ((covered_tells p t typable.headed fault.row).0 (passes rule.CoveredCatch (length p) (is_covered p t) all.covered fault inside e))))
+    covered_right fault inside e = IsBroken.by_exceptions (covered_breaks p t local (facts_in view) known typable.headed (types_in view) typed_so fault.row (passes rule.CoveredCatch (length p) (is_covered p t) all.covered fault inside e))
 
-    -- one line for each of the exact rules, in their order
-    each_right : AllByRecursion IsRight exact_rules
-    each_right = (types_right, (declared_right rule.FieldNames (all.members.fields testable.named), (declared_right rule.MethodSignatures (all.members.methods testable.named testable.signed), (declared_right rule.ConstructorSignatures (all.members.constructors testable.signed), (named_right rule.LocalNames all.names.local_names, (named_right rule.Labels all.names.labels, (named_right rule.ImportNames all.names.import_names, (named_right rule.ImportedTypes all.names.imported_types, (named_right rule.Access all.names.access, (type_right rule.StaticContext refl, (type_right rule.ForwardReference refl, (declared_right rule.Supertypes all.members.supertypes, (member_right rule.FinalOverride (all.members.finals testable.whole), (member_right rule.Bodies all.members.bodies, (member_right rule.InnerStatics (all.members.statics testable.valued), (type_right rule.ConstructorCycle refl, (type_right rule.Throwable refl, (type_right rule.Operands refl, (type_right rule.Assignable refl, (type_right rule.Variable refl, (type_right rule.Cast refl, (type_right rule.Condition refl, (type_right rule.Switch refl, (type_right rule.VoidValue refl, (type_right rule.Return refl, (type_right rule.Abstract refl, (type_right rule.Index refl, (jumps_right, (type_right rule.Branches refl, (unreached_right, (completing_right, (covered_right, (named_right rule.StaticImports all.names.static_imports, tt)))))))))))))))))))))))))))))))))
+    finals_right : IsRight 39
+    finals_right fault inside e = IsBroken.by_assignment ((all.finals.each fault.row).0 (subst (λ rows. has rows fault.row ≡ true) all.finals.are.are (listed rule.FinalAssignment faults fault inside e)))
 
-    pub is_right : (fault : Fault) → Contains faults fault → has exact_rules (number_of fault.rule) ≡ true → BreaksExact p t (number_of fault.rule) fault.row
-    is_right fault inside exact = record { exact = exact; breaks = has_holds IsRight exact_rules (number_of fault.rule) each_right exact fault inside refl }
+    marked_right : IsRight 1
+    marked_right fault inside e = IsBroken.by_tokens (BreaksMarked.modifiers ((modifiers_told m fault.row).0 (passes rule.Modifiers (length m.rows.now) (breaks_modifiers m) all.modifiers fault inside e)))
+
+    right_of : (one : Rule) → has exact_rules (number_of one) ≡ true → IsRight (number_of one)
+    right_of rule.Modifiers e = marked_right
+    right_of rule.TypeNames e = types_right
+    right_of rule.FieldNames e = declared_right rule.FieldNames (all.members.fields testable.named)
+    right_of rule.MethodSignatures e = declared_right rule.MethodSignatures (all.members.methods testable.named testable.signed)
+    right_of rule.ConstructorSignatures e = declared_right rule.ConstructorSignatures (all.members.constructors testable.signed)
+    right_of rule.LocalNames e = named_right rule.LocalNames all.names.local_names
+    right_of rule.Labels e = named_right rule.Labels all.names.labels
+    right_of rule.ImportNames e = named_right rule.ImportNames all.names.import_names
+    right_of rule.ImportedTypes e = named_right rule.ImportedTypes all.names.imported_types
+    right_of rule.Access e = named_right rule.Access all.names.access
+    right_of rule.StaticContext e = type_right rule.StaticContext refl
+    right_of rule.ForwardReference e = type_right rule.ForwardReference refl
+    right_of rule.Supertypes e = declared_right rule.Supertypes all.members.supertypes
+    right_of rule.AbstractMembers e = member_right rule.AbstractMembers (all.members.abstracts testable.whole)
+    right_of rule.Results e = member_right rule.Results (all.members.results testable.whole)
+    right_of rule.NarrowedAccess e = member_right rule.NarrowedAccess (all.members.access testable.whole)
+    right_of rule.StaticOverride e = member_right rule.StaticOverride (all.members.mixed testable.whole)
+    right_of rule.FinalOverride e = member_right rule.FinalOverride (all.members.finals testable.whole)
+    right_of rule.OverrideThrows e = member_right rule.OverrideThrows (all.members.throws testable.whole)
+    right_of rule.Bodies e = member_right rule.Bodies all.members.bodies
+    right_of rule.InnerStatics e = member_right rule.InnerStatics (all.members.statics testable.valued)
+    right_of rule.ConstructorCycle e = type_right rule.ConstructorCycle refl
+    right_of rule.Throwable e = type_right rule.Throwable refl
+    right_of rule.Operands e = type_right rule.Operands refl
+    right_of rule.Assignable e = type_right rule.Assignable refl
+    right_of rule.Variable e = type_right rule.Variable refl
+    right_of rule.Cast e = type_right rule.Cast refl
+    right_of rule.Condition e = type_right rule.Condition refl
+    right_of rule.Switch e = type_right rule.Switch refl
+    right_of rule.VoidValue e = type_right rule.VoidValue refl
+    right_of rule.Return e = type_right rule.Return refl
+    right_of rule.Abstract e = type_right rule.Abstract refl
+    right_of rule.Index e = type_right rule.Index refl
+    right_of rule.Jump e = jumps_right
+    right_of rule.Branches e = type_right rule.Branches refl
+    right_of rule.Unreachable e = unreached_right
+    right_of rule.Completion e = completing_right
+    right_of rule.FinalAssignment e = finals_right
+    right_of rule.UncaughtException e = uncaught_right
+    right_of rule.UnthrownCatch e = unthrown_right
+    right_of rule.CoveredCatch e = covered_right
+    right_of rule.StaticImports e = named_right rule.StaticImports all.names.static_imports
+    right_of _ e = absurd (false≢true e)
+
+    pub is_right : (fault : Fault) → Contains faults fault → has exact_rules (number_of fault.rule) ≡ true → BreaksExact m p t (number_of fault.rule) fault.row
+    is_right fault inside exact = record { exact = exact; broken = right_of fault.rule exact fault inside refl }

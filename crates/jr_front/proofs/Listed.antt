@@ -1,6 +1,5 @@
 -- The rows of the faults of a rule, and the faults of a list.
-use Rattle.std.proofs.Common.{◌≡◌, refl, sym, ◌∙◌, ap, ap₂, subst, ⊎_elim, arith, ℕ, zero, suc, ◌+◌, ◌<◌, Bool, true, false, cond, ◌||◌, List, [], ◌∷◌, length, get_or, nat_eq, Contains}
-use Rattle.std.specs.List.{AllByRecursion}
+use Rattle.std.proofs.Common.{◌≡◌, refl, sym, ◌∙◌, ap, subst, ⊎_elim, arith, ℕ, zero, suc, ◌<◌, Bool, true, false, cond, List, [], ◌∷◌, length, get_or, nat_eq, Contains}
 use Rattle.std.proofs.lemmas.Bool.{false≢true, or_cases, or_left, or_right}
 use Rattle.std.proofs.lemmas.Bool.Decides.{Decides-eqb}
 use Rattle.jr_plain.specs.Search.{has, all_such}
@@ -9,11 +8,6 @@ use Rattle.jr_rule.specs.declared.Fault.{Fault}
 use Rattle.jr_rule.specs.declared.Rule.{Rule}
 use Rattle.jr_rule.specs.Numbers.{number_of}
 use Rattle.jr_rule.specs.Faults.{is_of, rows_of, AreFaultsOf}
-
--- what holds of each of the numbers holds of one that the list has
-pub has_holds : (P : ℕ → Type 0) (all : List ℕ) (n : ℕ) → AllByRecursion P all → has all n ≡ true → P n
-has_holds P [] n each e = absurd (false≢true e)
-has_holds P (first ∷ more) n each e = ⊎_elim (λ same. subst P ((Decides-eqb first n).0 same) each.0) (λ rest. has_holds P more n each.1 rest) (or_cases (nat_eq first n) (has more n) e)
 
 -- ---- from a fault to the rows of its rule
 

@@ -6,7 +6,7 @@ use Rattle.jr_tree.specs.Shape.{IsShaped}
 use Rattle.jr_defs.specs.Program.{AreUnitsOf, IsWellPlaced, none, more, rows_of}
 use Rattle.jr_prelude.specs.Begins.{BeginsWithLang}
 use Rattle.jr_prelude.proofs.Readings.{programs_begin}
-use Rattle.jr_front.specs.Bound.{rows_in, table_in}
+use Rattle.jr_front.specs.Bound.{table_in}
 use Rattle.jr_defs.specs.declared.program.Program.{Program}
 use Rattle.jr_defs.specs.declared.program.UnitAt.{UnitAt}
 use Rattle.jr_read.specs.Reading.{ReadsAs, program as one_program}
@@ -24,19 +24,19 @@ pub read_shaped : (found : FileMap) (p : Program) → ReadsAs found (Ok p) → A
 read_shaped found p (one_program few are within units) = units_shaped units
 
 -- files that are read and opened compile
-compiles_by : (found : FileMap) (p : Program) (w : Workspace) → ReadsAs found (Ok p) → IsWellPlaced p → w.index.value ≡ rows_of p → KeepsExact (rows_in w) (table_in w) → CompilesExactly found p (table_in w)
-compiles_by found p w (one_program few are within units) placed same kept = record { reads = units; placed = placed; keeps = subst (λ r. KeepsExact r (table_in w)) same kept }
+compiles_by : (found : FileMap) (p : Program) (w : Workspace) → ReadsAs found (Ok p) → IsWellPlaced p → KeepsExact p (table_in w) → CompilesExactly found p (table_in w)
+compiles_by found p w (one_program few are within units) placed kept = record { marks = kept.marks; are = kept.are; compiles = record { reads = units; placed = placed; keeps = kept.keeps } }
 
 -- what is said of files, by what is said of their program
-pub opened : (found : FileMap) (p : Program) (result : Result Workspace FrontFault) → ReadsAs found (Ok p) → IfErr result (IsRefusal p) → OnOk result (IsWellPlaced p) → IfOk result (λ workspace. workspace.index.value ≡ rows_of p)
-    → IfOk result (λ workspace. KeepsExact (rows_in workspace) (table_in workspace)) → CheckedAs found (forgotten result)
-opened found p (Ok workspace) reads is placed same kept = accepted reads (compiles_by found p workspace reads placed same kept)
-opened found p (Err why) reads is placed same kept = refused reads is
+pub opened : (found : FileMap) (p : Program) (result : Result Workspace FrontFault) → ReadsAs found (Ok p) → IfErr result (IsRefusal p) → OnOk result (IsWellPlaced p)
+    → IfOk result (λ workspace. KeepsExact p (table_in workspace)) → CheckedAs found (forgotten result)
+opened found p (Ok workspace) reads is placed kept = accepted reads (compiles_by found p workspace reads placed kept)
+opened found p (Err why) reads is placed kept = refused reads is
 
-pub compiled : (found : FileMap) (p : Program) (result : Result Workspace FrontFault) → ReadsAs found (Ok p) → IfOk result (λ workspace. workspace.program ≡ p) → OnOk result (IsWellPlaced p) → IfOk result (λ workspace. workspace.index.value ≡ rows_of p)
-    → IfOk result (λ workspace. KeepsExact (rows_in workspace) (table_in workspace)) → IfOk result (λ workspace. CompilesExactly found workspace.program (table_in workspace))
-compiled found p (Ok workspace) reads program placed same kept = subst (λ (q : Program). CompilesExactly found q (table_in workspace)) (sym program) (compiles_by found p workspace reads placed same kept)
-compiled found p (Err why) reads program placed same kept = tt
+pub compiled : (found : FileMap) (p : Program) (result : Result Workspace FrontFault) → ReadsAs found (Ok p) → IfOk result (λ workspace. workspace.program ≡ p) → OnOk result (IsWellPlaced p)
+    → IfOk result (λ workspace. KeepsExact p (table_in workspace)) → IfOk result (λ workspace. CompilesExactly found workspace.program (table_in workspace))
+compiled found p (Ok workspace) reads program placed kept = subst (λ (q : Program). CompilesExactly found q (table_in workspace)) (sym program) (compiles_by found p workspace reads placed kept)
+compiled found p (Err why) reads program placed kept = tt
 
 -- its rows begin with those of java.lang
 pub read_begins : (found : FileMap) (p : Program) → ReadsAs found (Ok p) → BeginsWithLang (rows_of p)

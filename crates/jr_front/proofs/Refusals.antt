@@ -1,6 +1,5 @@
 -- What the tests of a program say where they fail is the first cause.
-use Rattle.std.proofs.Common.{◌≡◌, ◌⊎◌, refl, sym, ◌∙◌, ap, subst, inl, inr, ℕ, List, length, Result, Ok, Err, IfErr}
-use Rattle.jr_base.specs.declared.token.Place.{Place}
+use Rattle.std.proofs.Common.{◌≡◌, ◌⊎◌, sym, ◌∙◌, ap, subst, inl, inr, List, length}
 use Rattle.jr_tree.specs.Rows.{Rows}
 use Rattle.jr_defs.specs.declared.program.Program.{Program}
 use Rattle.jr_defs.specs.declared.referent.Referent.{Referent}
@@ -8,16 +7,16 @@ use Rattle.jr_defs.specs.Binding.{IsBinding, IsFirstOnCycle}
 use Rattle.jr_defs.specs.Compiling.{AllFound}
 use Rattle.jr_defs.specs.Program.{IsWellPlaced, rows_of}
 use Rattle.jr_defs.specs.Referents.{Table, entries}
-use Rattle.jr_rule.specs.declared.Rule.{Rule}
 use Rattle.jr_index.specs.NodeRows.{unit_rows}
 use Rattle.jr_marks.specs.Places.{IsOrdered}
 use Rattle.jr_marks.specs.declared.marks.Marks.{Marks}
 use Rattle.jr_prelude.specs.Begins.{BeginsWithLang}
 use Rattle.jr_view.specs.declared.View.{View}
-use Rattle.jr_front.specs.Bound.{rows_in, table_in, IsBoundIn}
+use Rattle.jr_front.specs.Bound.{rows_in, IsBoundIn}
+use Rattle.jr_front.specs.Compiling.{AreMarksOf}
 use Rattle.jr_front.specs.Reasons.{IsPathReason, IsNameReason, IsCycleReason, IsTableReason, IsRuleReason}
-use Rattle.jr_front.specs.Refusing.{AreMarksOf, IsNamed, IsBoundBy, IsFirstBreak, IsRefusal, misplaced, named_twice, on_cycle, lost, broken, no_memory}
-use Rattle.jr_front.specs.Tested.{IsTestableView, HasNoTopFault}
+use Rattle.jr_front.specs.Refusing.{IsNamed, IsBoundBy, IsFirstBreak, IsRefusal, misplaced, named_twice, on_cycle, lost, broken, no_memory}
+use Rattle.jr_front.specs.Tested.{HasNoTopFault}
 use Rattle.jr_front.specs.Viewed.{IsViewOf}
 use Rattle.jr_front.specs.declared.fault.FrontFault.{FrontFault}
 use Rattle.jr_front.specs.declared.fault.FrontFault.TheVariants as fault
@@ -39,7 +38,7 @@ paths_refused program fault.OutOfMemory h = no_memory
 paths_refused program _ h = absurd h
 
 module _ (program : Program) (m : Marks) (made : AreMade program m) where
-  ordered_marks : IsOrdered m → AreMarksOf program m
+  pub ordered_marks : IsOrdered m → AreMarksOf program m
   ordered_marks ordered = record { units = made.units; rows = made.rows; starts = made.starts; ordered = ordered }
 
   pub names_refused : IsWellPlaced program → (why : FrontFault) → IsNameReason m why → IsRefusal program why
@@ -69,7 +68,7 @@ module _ (program : Program) (m : Marks) (made : AreMade program m) where
     rules_refused found (fault.Broken rule place) h =
         let marked : m.rows.now ≡ rows_in w = made.rows ∙ sym same in
         let inside = subst (λ r. AllFound r viewed) (marked ∙ sym of.rows_are) found in
-        let first = broken_view w view bound of begins (subst HasNoTopFault (sym same) tops) h.1.faults h.1.found m (rule, place) marked inside h.1.first in
+        let first = broken_view w view bound of begins m (subst HasNoTopFault (sym same) tops) h.1.faults h.1.found (rule, place) marked inside h.1.first in
         broken bound_by (subst (λ r. AllFound r viewed) made.rows found) (ordered_marks h.0) (subst (λ (x : List Referent). IsFirstBreak m (entries x) rule place) (sym of.table_is) first)
     rules_refused found fault.OutOfMemory h = no_memory
     rules_refused found _ h = absurd h

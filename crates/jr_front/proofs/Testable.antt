@@ -8,17 +8,21 @@ use Rattle.jr_defs.specs.declared.referent.Referent.{Referent}
 use Rattle.jr_defs.specs.declared.referent.Referent.TheVariants.{Unbound}
 use Rattle.jr_defs.specs.declared.referent.RowType.{RowType}
 use Rattle.jr_defs.specs.Binding.{IsBound}
-use Rattle.jr_defs.specs.Compiling.{AllFound}
+use Rattle.jr_defs.specs.declared.program.Program.{Program}
+use Rattle.jr_defs.specs.Compiling.{AllFound, KeepsRules}
 use Rattle.jr_defs.specs.Constants.{HasConstantForm}
+use Rattle.jr_defs.specs.Program.{rows_of as program_rows}
 use Rattle.jr_defs.specs.Referents.{Table, entries}
 use Rattle.jr_plain.specs.Constants.{variable_value}
 use Rattle.jr_plain.specs.Conversions.{Constants}
 use Rattle.jr_plain.specs.Overloads.{Types}
-use Rattle.jr_plain.specs.Search.{has}
+use Rattle.jr_plain.specs.Search.{Finds, has}
 use Rattle.jr_plain.specs.Typing.{IsTypable, expression_types}
 use Rattle.jr_plain.proofs.Declared.{prelude_tells}
 use Rattle.jr_plain.proofs.Typables.{typable_from_lookup}
 use Rattle.jr_rules.specs.Computed.{values, types}
+use Rattle.jr_rules.specs.Typed.{Typed}
+use Rattle.jr_rules.proofs.Known.{types_find}
 use Rattle.jr_bound.proofs.Ruled.{bound_past}
 use Rattle.jr_dispatch.proofs.Having.{above_then}
 use Rattle.jr_constants.specs.Resting.{values_of, variables_of}
@@ -31,6 +35,8 @@ use Rattle.jr_type_facts.specs.Rounds.{HaveOneCall}
 use Rattle.jr_type_facts.specs.Tables.{HasNoOtherThrowable}
 use Rattle.jr_type_facts.proofs.CallRows.{one_call}
 use Rattle.jr_type_facts.specs.Views.{rows_in as rows_of, table_in as table_of, types_in, constants_in}
+use Rattle.jr_flow_faults.specs.Reading.{IsThrowingView}
+use Rattle.jr_flow_faults.specs.Roots.{HasOneOfEach}
 use Rattle.jr_rule.specs.declared.Fault.{Fault}
 use Rattle.jr_rule.specs.declared.Rule.{Rule}
 use Rattle.jr_rule.specs.Numbers.{number_of}
@@ -38,7 +44,7 @@ use Rattle.jr_marks.specs.declared.marks.Marks.{Marks}
 use Rattle.jr_view.specs.declared.View.{View}
 use Rattle.jr_front.specs.Bound.{rows_in, table_in, IsBoundIn}
 use Rattle.jr_front.specs.Broken.{IsFirstBroken}
-use Rattle.jr_front.specs.Compiling.{exact_rules, BreaksExact, KeepsExact}
+use Rattle.jr_front.specs.Compiling.{AreMarksOf, exact_rules, BreaksExact, KeepsExact}
 use Rattle.jr_front.specs.Refusing.{IsFirstBreak}
 use Rattle.jr_front.specs.Tested.{IsTestableView, AreFaultsIn, HasNoTopFault}
 use Rattle.jr_front.specs.Viewed.{IsViewOf, HasTablesOfRows}
@@ -111,6 +117,23 @@ module _ (w : Workspace) (view : View) (bound : IsBoundIn w) (of : IsViewOf (row
     one_call_each : HaveOneCall (rows_in w)
     one_call_each = let is = bound.of.program in subst HaveOneCall (sym is.rows_are) (one_call is.units is.shaped)
 
+    one_of_each : HasOneOfEach (rows_in w)
+    one_of_each = let one = once (rows_in w) begins in record { throwable = one (codes "Throwable"); exception = one (codes "Exception"); error = one (codes "Error"); runtime = one (codes "RuntimeException") }
+
+    typable_so : IsTypable (rows_of view) (table_of view)
+    typable_so = seen_so IsTypable (typable w bound)
+
+    throwing_view : IsThrowingView view
+    throwing_view =
+        let right = seen_view w view bound of in
+        record {
+          local = right.seen.placed.local;
+          sized = right.sized;
+          above = right.seen.above;
+          typed = λ n. subst (λ (f : Types). Finds (f n) (λ a. Typed (rows_of view) (table_of view) n a)) (sym view_types) (types_find (rows_of view) (table_of view) typable_so n);
+          roots = subst HasOneOfEach (sym of.rows_are) one_of_each;
+        }
+
     pub testable_view : IsTestableView view
     testable_view =
         let right = seen_view w view bound of in
@@ -123,13 +146,11 @@ module _ (w : Workspace) (view : View) (bound : IsBoundIn w) (of : IsViewOf (row
           signed = (whole_view w view bound of).world_is.members_are.signatures_are;
           valued = view_variables;
           whole = record { sized = right.sized; whole = whole_view w view bound of };
+          throwing = throwing_view;
         }
 
     bound_so : IsBound (rows_of view) (table_of view)
     bound_so = seen_so IsBound bound.binding.binding.is_binding.bound
-
-    typable_so : IsTypable (rows_of view) (table_of view)
-    typable_so = seen_so IsTypable (typable w bound)
 
     past_so : (o : ℕ) → length (rows_of view) ≤ o → table_of view o ≡ Unbound
     past_so = seen_so (λ r x. (o : ℕ) → length r ≤ o → x o ≡ Unbound) (past w bound)
@@ -137,32 +158,40 @@ module _ (w : Workspace) (view : View) (bound : IsBoundIn w) (of : IsViewOf (row
     local_so : IsLocal (rows_of view)
     local_so = (seen_view w view bound of).seen.placed.local
 
-    module _ (tops : HasNoTopFault (rows_in w)) (faults : List Fault) (all : AreFaultsIn view faults) where
+    module _ (m : Marks) (tops : HasNoTopFault (rows_in w)) (faults : List Fault) (all : AreFaultsIn m view faults) where
       tops_so : HasNoTopFault (rows_of view)
       tops_so = subst HasNoTopFault (sym of.rows_are) tops
 
-      found_so : (k n : ℕ) → BreaksExact (rows_of view) (table_of view) k n → HasFault faults k n
-      found_so = is_found view testable_view local_so typable_so past_so view_values view_types tops_so faults all
+      found_so : (k n : ℕ) → BreaksExact m (rows_of view) (table_of view) k n → HasFault faults k n
+      found_so = is_found m view testable_view local_so typable_so past_so view_values view_types tops_so faults all
 
-      right_so : AllFound (rows_of view) (table_of view) → (fault : Fault) → Contains faults fault → has exact_rules (number_of fault.rule) ≡ true → BreaksExact (rows_of view) (table_of view) (number_of fault.rule) fault.row
-      right_so found = is_right view testable_view local_so typable_so past_so view_values view_types tops_so faults all bound_so found
+      -- each fault of an exact rule is at a row that breaks it
+      abbrev AreRight : Rows → Table → Type 0
+      AreRight r x = (fault : Fault) → Contains faults fault → has exact_rules (number_of fault.rule) ≡ true → BreaksExact m r x (number_of fault.rule) fault.row
+
+      right_so : AllFound (rows_of view) (table_of view) → AreRight (rows_of view) (table_of view)
+      right_so found = is_right m view testable_view local_so typable_so past_so view_values view_types tops_so faults all bound_so found
 
       -- the first fault that is found is the first that is broken
-      pub broken_view : (m : Marks) (best : Rule × Place) → m.rows.now ≡ rows_in w → AllFound (rows_of view) (table_of view) → IsFirstBroken m faults best → IsFirstBreak m (table_in w) best.0 best.1
-      broken_view m best same found first = first_break m (table_in w) faults best
-          (subst (λ r. (fault : Fault) → Contains faults fault → has exact_rules (number_of fault.rule) ≡ true → BreaksExact r (table_in w) (number_of fault.rule) fault.row) (sym same)
-          (told_so (λ r x. (fault : Fault) → Contains faults fault → has exact_rules (number_of fault.rule) ≡ true → BreaksExact r x (number_of fault.rule) fault.row) (right_so found)))
-          (subst (λ r. (k n : ℕ) → BreaksExact r (table_in w) k n → HasFault faults k n) (sym same) (told_so (λ r x. (k n : ℕ) → BreaksExact r x k n → HasFault faults k n) found_so)) first
+      pub broken_view : (best : Rule × Place) → m.rows.now ≡ rows_in w → AllFound (rows_of view) (table_of view) → IsFirstBroken m faults best → IsFirstBreak m (table_in w) best.0 best.1
+      broken_view best same found first = first_break m (table_in w) faults best
+          (subst (λ r. AreRight r (table_in w)) (sym same) (told_so AreRight (right_so found)))
+          (subst (λ r. (k n : ℕ) → BreaksExact m r (table_in w) k n → HasFault faults k n) (sym same) (told_so (λ r x. (k n : ℕ) → BreaksExact m r x k n → HasFault faults k n) found_so)) first
 
-    pub kept_view : AllFound (rows_of view) (table_of view) → HasNoTopFault (rows_in w) → (IsTestableView view → AreFaultsIn view []) → KeepsExact (rows_in w) (table_in w)
-    kept_view found tops none = record {
+    pub kept_view : (m : Marks) → AllFound (rows_of view) (table_of view) → HasNoTopFault (rows_in w) → (IsTestableView view → AreFaultsIn m view []) → KeepsRules (rows_in w) (table_in w) (BreaksExact m)
+    kept_view m found tops none = record {
       binding = bound.binding.binding.is_binding;
       found = told_so AllFound found;
-      kept = told_so (λ r x. (rule place : ℕ) → BreaksExact r x rule place → ⊥) (λ k n b. none_in k n (found_so tops [] (none testable_view) k n b));
+      kept = told_so (λ r x. (rule place : ℕ) → BreaksExact m r x rule place → ⊥) (λ k n b. none_in k n (found_so m tops [] (none testable_view) k n b));
     }
 
 -- the same, as the rows and the places of the program are read
-pub kept_so : (w : Workspace) (view : View) (marked rows : Rows) → IsViewOf (rows_in w) w.places.value w.scopes.value w.bound.value view → marked ≡ rows_in w → AllFound marked (table_of view)
-    → HasNoTopFault rows → (IsTestableView view → AreFaultsIn view []) → rows_in w ≡ rows → (BeginsWithLang rows → IsBoundIn w) → BeginsWithLang rows → KeepsExact (rows_in w) (table_in w)
-kept_so w view marked rows of same found tops none are bound begins =
-    kept_view w view (bound begins) of (subst BeginsWithLang (sym are) begins) (subst (λ r. AllFound r (table_of view)) (same ∙ sym of.rows_are) found) (subst HasNoTopFault (sym are) tops) none
+pub kept_so : (program : Program) (w : Workspace) (view : View) (m : Marks) → IsViewOf (rows_in w) w.places.value w.scopes.value w.bound.value view → AreMarksOf program m → AllFound m.rows.now (table_of view)
+    → HasNoTopFault (program_rows program) → (IsTestableView view → AreFaultsIn m view []) → rows_in w ≡ program_rows program → IsBoundIn w → BeginsWithLang (program_rows program) → KeepsExact program (table_in w)
+kept_so program w view m of are found tops none same bound begins =
+    let inside = subst (λ r. AllFound r (table_of view)) (are.rows ∙ sym same ∙ sym of.rows_are) found in
+    record {
+      marks = m;
+      are = are;
+      keeps = subst (λ r. KeepsRules r (table_in w) (BreaksExact m)) same (kept_view w view bound of (subst BeginsWithLang (sym same) begins) m inside (subst HasNoTopFault (sym same) tops) none);
+    }

@@ -135,6 +135,10 @@ pub record BreaksModifiers (m : Marks) (d : ℕ) : Type 0 where
   pub modified : HasModifiers (role_at m.rows.now d)
   pub wrong : HasWrongModifier m.rows.now d ⊎ RepeatsModifier m d
 
+-- the same by its number: 1
+pub data BreaksMarked (m : Marks) : ℕ → ℕ → Type 0 where
+  modifiers : {d : ℕ} → BreaksModifiers m d → BreaksMarked m 1 d
+
 -- ---- the same, computed
 
 abbrev pub has_modifiers : Role → Bool

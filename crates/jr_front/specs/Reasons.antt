@@ -50,7 +50,7 @@ IsTableReason m t other = ⊥
 -- the first of the faults that were found
 pub record IsFirstFound (m : Marks) (view : View) (best : Rule × Place) : Type 0 where
   pub faults : List Fault
-  pub found : AreFaultsIn view faults
+  pub found : AreFaultsIn m view faults
   pub first : IsFirstBroken m faults best
 
 abbrev pub IsRuleReason : Marks → View → FrontFault → Type 0

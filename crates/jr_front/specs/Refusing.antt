@@ -1,6 +1,6 @@
 -- Why a program that was read does not compile: the first cause in the order of the tests (units at their places, names of top-level types, cycles of headers, names,
 -- rules), and what holds since the tests before it passed.
-use Rattle.std.specs.Prelude.{◌≡◌, ℕ, ◌<◌, true, length}
+use Rattle.std.specs.Prelude.{◌≡◌, ℕ, true}
 use Rattle.jr_base.specs.declared.ids.CuId.{CuId}
 use Rattle.jr_base.specs.declared.token.Place.{Place}
 use Rattle.jr_tree.specs.Rows.{Rows}
@@ -14,24 +14,16 @@ use Rattle.jr_plain.specs.Search.{has}
 use Rattle.jr_rule.specs.declared.Fault.{Fault}
 use Rattle.jr_rule.specs.declared.Rule.{Rule}
 use Rattle.jr_rule.specs.Numbers.{number_of}
-use Rattle.jr_index.specs.NodeRows.{unit_rows}
-use Rattle.jr_marks.specs.Places.{IsOrdered, place_of_name}
+use Rattle.jr_marks.specs.Places.{place_of_name}
 use Rattle.jr_marks.specs.declared.marks.Marks.{Marks}
 use Rattle.jr_member_faults.specs.Tops.{has_top_type_clash}
 use Rattle.jr_front.specs.Broken.{IsBetter, place_of_fault}
-use Rattle.jr_front.specs.Compiling.{exact_rules, BreaksExact}
+use Rattle.jr_front.specs.Compiling.{AreMarksOf, exact_rules, BreaksExact}
 use Rattle.jr_front.specs.Placed.{IsFirstMisplacedOf}
 use Rattle.jr_front.specs.Tested.{HasNoTopFault}
 use Rattle.jr_front.specs.Unbound.{IsBefore, IsFirstLost}
 use Rattle.jr_front.specs.declared.fault.FrontFault.{FrontFault}
 use Rattle.jr_front.specs.declared.fault.FrontFault.TheVariants as fault
-
--- where the rows of the program stand: its units, its rows, where units begin, in order; which tokens a row has is what its index gives, of which nothing is said
-pub record AreMarksOf (program : Program) (m : Marks) : Type 0 where
-  pub units : m.units.now ≡ program.units
-  pub rows : m.rows.now ≡ rows_of program
-  pub starts : m.starts.now ≡ unit_rows (rows_of program) (length (rows_of program))
-  pub ordered : IsOrdered m
 
 -- ---- names of types outside any other (JLS 7.1, 7.6)
 
@@ -54,8 +46,8 @@ pub record IsFirstClash (m : Marks) (place : Place) : Type 0 where
 pub record IsFirstBreak (m : Marks) (t : Table) (rule : Rule) (place : Place) : Type 0 where
   pub row : ℕ
   pub at : place ≡ place_of_fault m (record { row = row; rule = rule })
-  pub breaks : has exact_rules (number_of rule) ≡ true → BreaksExact m.rows.now t (number_of rule) row
-  pub first : (other : Fault) → BreaksExact m.rows.now t (number_of other.rule) other.row → IsBetter (other.rule, place_of_fault m other) (rule, place) → ⊥
+  pub breaks : has exact_rules (number_of rule) ≡ true → BreaksExact m m.rows.now t (number_of rule) row
+  pub first : (other : Fault) → BreaksExact m m.rows.now t (number_of other.rule) other.row → IsBetter (other.rule, place_of_fault m other) (rule, place) → ⊥
 
 -- ---- the causes
 

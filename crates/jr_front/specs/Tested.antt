@@ -8,6 +8,7 @@ use Rattle.jr_rule.specs.declared.Rule.TheVariants as rule
 use Rattle.jr_rule.specs.Numbers.{number_of}
 use Rattle.jr_rule.specs.Faults.{AreFaultsOf, rows_of}
 use Rattle.jr_faults.specs.Added.{AreOnly}
+use Rattle.jr_marks.specs.declared.marks.Marks.{Marks}
 use Rattle.jr_view.specs.declared.View.{View}
 use Rattle.jr_name_faults.specs.Faults.{AreExactFaults}
 use Rattle.jr_name_faults.specs.Views as names
@@ -17,9 +18,12 @@ use Rattle.jr_member_faults.specs.Views.{IsNamedWorld, IsSignedWorld, IsRightWor
 use Rattle.jr_type_faults.specs.Faults.{IsRightView, AreExactTypeFaults}
 use Rattle.jr_flow_faults.specs.Computed.{rows_in, table_in}
 use Rattle.jr_flow_faults.specs.ExceptionTests.{covered_rows}
-use Rattle.jr_flow_faults.specs.Faults.{AreFlowFaults}
+use Rattle.jr_flow_faults.specs.Faults.{AreFlowFaults, AreThrowFaults}
+use Rattle.jr_flow_faults.specs.Reading.{IsThrowingView}
+use Rattle.jr_assign_faults.specs.Faults as of_assignment
+use Rattle.jr_front.specs.Modifiers.{modifier_rows}
 
--- the places, supertypes, signatures and values of variables of the view are right
+-- the places, supertypes, signatures, types and values of variables of the view are right, and java.lang has one class of each name by which others are checked
 pub record IsTestableView (view : View) : Type 0 where
   pub right : IsRightView view
   pub placed : names.IsPlacedView view
@@ -29,6 +33,7 @@ pub record IsTestableView (view : View) : Type 0 where
   pub signed : IsSignedWorld view.sight.world
   pub valued : IsValuedView view
   pub whole : IsRightWorld view.sight.world
+  pub throwing : IsThrowingView view
 
 -- ---- the rules of a list of faults
 
@@ -64,9 +69,12 @@ pub record AreNameFaults (view : View) (faults : List Fault) : Type 0 where
   pub access : AreExactFaults view rule.Access [] faults
 
 -- the faults of each exact rule are just those at the rows of its definition. Of the other rules nothing is said
-pub record AreFaultsIn (view : View) (faults : List Fault) : Type 0 where
+pub record AreFaultsIn (m : Marks) (view : View) (faults : List Fault) : Type 0 where
+  pub modifiers : AreFaultsOf rule.Modifiers (modifier_rows m) [] faults
+  pub finals : of_assignment.AreExactFaults view rule.FinalAssignment [] faults
   pub names : AreNameFaults view faults
   pub members : AreMemberFaults view [] faults
   pub types : AreExactTypeFaults view [] faults
   pub flow : AreFlowFaults view [] faults
+  pub thrown : AreThrowFaults view [] faults
   pub covered : AreFaultsOf rule.CoveredCatch (covered_rows (rows_in view) (table_in view)) [] faults

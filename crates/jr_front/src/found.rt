@@ -1,6 +1,5 @@
 // The rules that a bound program breaks, as they are found.
-ghost use Rattle.std.specs.Prelude.{◌≡◌, IfOk, OnOk, [], nat_le, ◌&&◌};
-ghost use Rattle.jr_rule.specs.Numbers.{number_of};
+ghost use Rattle.std.specs.Prelude.{◌≡◌, IfOk, OnOk, ◌&&◌};
 ghost use Rattle.jr_rule.specs.Faults.{AreFaultsOf};
 ghost use Rattle.jr_rule.specs.declared.Rule.TheVariants as rule;
 ghost use Rattle.jr_faults.specs.Added.{AreOnly, is_rule};
@@ -54,24 +53,14 @@ fn add_modifiers(marks: &Marks, out: &mut Vec<Fault>) -> Result<(), OutOfMemory>
     modifier_faults(marks, out)
 }
 
-// Adds the rules on assignment that are broken. What is taken over are faults of the rules 38 to 40 alone.
-fn add_assigned(alloc: Global, view: &View, out: &mut Vec<Fault>) -> Result<(), OutOfMemory>
-    ensures { OnOk result (AreOnly (is_between 38 40) out.old.items out.new.items) }
-{
-    let mut found = Vec::new(alloc);
-    assign_faults(alloc, view, &mut found)?;
-    take_over(&found, 38, 40, out)
-}
-
 /// The rules that the program breaks: those of one maker after those of another.
 pub fn faults_of(alloc: Global, marks: &Marks, view: &View) -> Result<Vec<Fault>, OutOfMemory>
-    ensures exact { IsTestableView view.now → IfOk result (λ faults. AreFaultsIn view.now faults.items) }
+    ensures exact { IsTestableView view.now → IfOk result (λ faults. AreFaultsIn marks.now view.now faults.items) }
     ensures ordered { OnOk result (IsOrdered marks.now) }
-    ensures modifiers { IfOk result (λ faults. AreFaultsOf rule.Modifiers (modifier_rows marks.now) [] faults.items) }
 {
     let mut faults = Vec::new(alloc);
     add_modifiers(marks, &mut faults)?;
-    add_assigned(alloc, view, &mut faults)?;
+    assign_faults(alloc, view, &mut faults)?;
     member_faults(alloc, view, &mut faults)?;
     type_faults(alloc, *view, &mut faults)?;
     flow_faults(alloc, view, &mut faults)?;

@@ -12,14 +12,13 @@ ghost use Rattle.jr_headed.specs.Founded.{IsProgram};
 ghost use Rattle.jr_lookup.specs.Scopes.{AreScopes, AreTops};
 ghost use Rattle.jr_bind.specs.Confirmed.{IsProgramOf, IsBindingOf};
 ghost use Rattle.jr_prelude.specs.Begins.{BeginsWithLang};
-ghost use Rattle.jr_front.specs.Bound.{IsBoundIn, rows_in, table_in};
+ghost use Rattle.jr_front.specs.Bound.{IsBoundIn, table_in};
 ghost use Rattle.jr_front.specs.Checking.{CheckedAs, forgotten};
 ghost use Rattle.jr_front.specs.Compiling.{KeepsExact, CompilesExactly};
 ghost use Rattle.jr_marks.specs.Places.{IsOrdered};
-ghost use Rattle.jr_front.specs.Modifiers.{modifier_rows};
 ghost use Rattle.jr_front.specs.Reasons.{IsToldAs, IsPathReason, IsNameReason, IsCycleReason, IsTableReason, IsRuleReason};
 ghost use Rattle.jr_front.specs.Refusing.{IsRefusal};
-ghost use Rattle.jr_front.specs.Tested.{IsTestableView, AreClashes, AreFaultsIn, HasNoTopFault};
+ghost use Rattle.jr_front.specs.Tested.{IsTestableView, AreFaultsIn, HasNoTopFault};
 
 use crate::broken::first_broken;
 use crate::fault::{FrontFault, unread};
@@ -95,9 +94,8 @@ fn judge_table(marks: &Marks, table: &[Referent]) -> Result<(), FrontFault>
 
 // That no rule is broken.
 fn judge_rules(alloc: Global, marks: &Marks, view: &View) -> Result<(), FrontFault>
-    ensures kept { IsTestableView view.now → OnOk result (AreFaultsIn view.now []) }
+    ensures kept { IsTestableView view.now → OnOk result (AreFaultsIn marks.now view.now []) }
     ensures ordered { OnOk result (IsOrdered marks.now) }
-    ensures modifiers { OnOk result (modifier_rows marks.now ≡ []) }
     ensures err { IsTestableView view.now → IfErr result (IsRuleReason marks.now view.now) }
 {
     let faults = faults_of(alloc, marks, view)?;
@@ -110,7 +108,8 @@ fn judge_rules(alloc: Global, marks: &Marks, view: &View) -> Result<(), FrontFau
 // That the program with this binding compiles.
 fn judge(alloc: Global, marks: &Marks, view: &View) -> Result<(), FrontFault>
     ensures found { OnOk result (AllFound marks.now.rows.now (entries view.now.sight.world.under.table.now)) }
-    ensures kept { IsTestableView view.now → OnOk result (AreFaultsIn view.now []) }
+    ensures kept { IsTestableView view.now → OnOk result (AreFaultsIn marks.now view.now []) }
+    ensures ordered { OnOk result (IsOrdered marks.now) }
     ensures err { IsTestableView view.now → IfErr result (λ why. IsTableReason marks.now (entries view.now.sight.world.under.table.now) why ⊎ (AllFound marks.now.rows.now (entries view.now.sight.world.under.table.now) × IsRuleReason marks.now view.now why)) }
 {
     judge_table(marks, view.sight.world.under.table)?;
@@ -211,7 +210,7 @@ pub fn open_program(alloc: Global, program: Program) -> Result<Workspace, FrontF
     ensures rows { IfOk result (λ workspace. workspace.index.value ≡ rows_of program) }
     ensures bound { BeginsWithLang (rows_of program) → IfOk result IsBoundIn }
     ensures placed { OnOk result (IsWellPlaced program) }
-    ensures kept { BeginsWithLang (rows_of program) → IfOk result (λ workspace. KeepsExact (rows_in workspace) (table_in workspace)) }
+    ensures kept { BeginsWithLang (rows_of program) → IfOk result (λ workspace. KeepsExact program (table_in workspace)) }
     ensures err { BeginsWithLang (rows_of program) → IfErr result (IsRefusal program) }
 {
     judge_paths(&program)?;

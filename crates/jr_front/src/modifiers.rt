@@ -241,8 +241,7 @@ pub fn modifier_faults(marks: &Marks, out: &mut Vec<Fault>) -> Result<(), OutOfM
     Ok(())
 }
 
-/// The test of modifiers tells what the definition says, and where it passes at no row none breaks the rule.
+/// The test of modifiers tells what the definition says.
 pub fn modifiers_are_told()
-    ensures told { (m : marks.Marks) (d : ℕ) → Decides (tell.breaks_modifiers m d) (tell.BreaksModifiers m d) }
-    ensures kept { (m : marks.Marks) → tell.modifier_rows m ≡ [] → (d : ℕ) → tell.BreaksModifiers m d → ⊥ }
+    ensures { (m : marks.Marks) (d : ℕ) → Decides (tell.breaks_modifiers m d) (tell.BreaksModifiers m d) }
 {}

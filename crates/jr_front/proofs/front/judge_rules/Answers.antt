@@ -1,9 +1,6 @@
-use Rattle.std.proofs.Common.{◌∙◌, sym, subst, List, []}
+use Rattle.std.proofs.Common.{◌∙◌, sym, subst, List}
 use Rattle.jr_rule.specs.declared.Fault.{Fault}
-use Rattle.jr_rule.specs.Faults.{AreFaultsOf}
-use Rattle.jr_rule.specs.declared.Rule.TheVariants as rule
 use Rattle.jr_front.specs.Broken.{IsFirstBroken}
-use Rattle.jr_front.specs.Modifiers.{modifier_rows}
 use Rattle.jr_front.specs.Reasons.{IsRuleReason}
 use Rattle.jr_front.specs.Tested.{AreFaultsIn}
 use Rattle.jr_front.specs.declared.fault.FrontFault.TheVariants.{Broken}
@@ -22,7 +19,4 @@ returns-in-Some-clause-err c = λ testable. told_reason (IsRuleReason c.args.mar
     )) tt
 
 pub returns-clause-kept : goal.returns-clause-kept
-returns-clause-kept c = λ testable. subst (λ (l : List Fault). AreFaultsIn c.args.view.now l) (sym c.deref.ensures.value ∙ c.first_broken.ensures.none.0 c.in-None.is) (c.in_ok-faults.ensures.exact testable)
-
-pub returns-clause-modifiers : goal.returns-clause-modifiers
-returns-clause-modifiers c = sym (subst (λ (l : List Fault). AreFaultsOf rule.Modifiers (modifier_rows c.args.marks.now) [] l) (sym c.deref.ensures.value ∙ c.first_broken.ensures.none.0 c.in-None.is) c.in_ok-faults.ensures.modifiers).are
+returns-clause-kept c = λ testable. subst (λ (l : List Fault). AreFaultsIn c.args.marks.now c.args.view.now l) (sym c.deref.ensures.value ∙ c.first_broken.ensures.none.0 c.in-None.is) (c.in_ok-faults.ensures.exact testable)

@@ -5,7 +5,7 @@ use Rattle.jr_front.proofs.Reading.{read_begins, compiled, opened}
 use Rattle.jr_front.proofs.front.open_files.Goals as goal
 
 pub returns-in-Ok-clause-compiles : goal.returns-in-Ok-clause-compiles
-returns-in-Ok-clause-compiles c = compiled c.args.files.now c.in-Ok.program c.open_program.result c.in-Ok.ensures c.open_program.ensures.same c.open_program.ensures.placed c.open_program.ensures.rows
+returns-in-Ok-clause-compiles c = compiled c.args.files.now c.in-Ok.program c.open_program.result c.in-Ok.ensures c.open_program.ensures.same c.open_program.ensures.placed
     (c.open_program.ensures.kept (read_begins c.args.files.now c.in-Ok.program c.in-Ok.ensures))
 
 pub returns-in-Err-clause-checked : goal.returns-in-Err-clause-checked
@@ -14,4 +14,4 @@ returns-in-Err-clause-checked c = subst (λ (why : FrontFault). CheckedAs c.args
 pub returns-in-Ok-clause-checked : goal.returns-in-Ok-clause-checked
 returns-in-Ok-clause-checked c =
     let begins = read_begins c.args.files.now c.in-Ok.program c.in-Ok.ensures in
-    opened c.args.files.now c.in-Ok.program c.open_program.result c.in-Ok.ensures (c.open_program.ensures.err begins) c.open_program.ensures.placed c.open_program.ensures.rows (c.open_program.ensures.kept begins)
+    opened c.args.files.now c.in-Ok.program c.open_program.result c.in-Ok.ensures (c.open_program.ensures.err begins) c.open_program.ensures.placed (c.open_program.ensures.kept begins)

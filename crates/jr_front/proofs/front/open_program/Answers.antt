@@ -4,13 +4,16 @@ use Rattle.jr_defs.specs.declared.program.Program.{Program}
 use Rattle.jr_prelude.specs.Begins.{BeginsWithLang}
 use Rattle.jr_front.specs.Refusing.{IsRefusal}
 use Rattle.jr_front.proofs.Refused.{err_is}
-use Rattle.jr_front.proofs.Refusals.{made_by, paths_refused, judged_refused}
+use Rattle.jr_front.proofs.Refusals.{made_by, ordered_marks, paths_refused, judged_refused}
 use Rattle.jr_front.proofs.Testable.{kept_so, testable_view}
 use Rattle.jr_front.proofs.front.open_program.Goals as goal
 
 pub returns-clause-kept : goal.returns-clause-kept
-returns-clause-kept c = kept_so c.in_ok-workspace.workspace c.view.result c.marks.result.rows.now _ c.view.ensures.all c.marks.ensures.rows c.in_ok-judge.ensures.found c.in_ok-workspace.ensures.names
-    c.in_ok-judge.ensures.kept c.in_ok-workspace.ensures.rows c.in_ok-workspace.ensures.bound
+returns-clause-kept c = λ begins.
+    let w = c.in_ok-workspace.workspace in
+    let made = made_by c.args.program w.index.value c.marks.result c.in_ok-workspace.ensures.rows (c.marks.ensures.units ∙ ap (λ (q : Program). q.units) c.in_ok-workspace.ensures.same) c.marks.ensures.rows c.marks.ensures.starts in
+    kept_so c.args.program w c.view.result c.marks.result c.view.ensures.all (ordered_marks c.args.program c.marks.result made c.in_ok-judge.ensures.ordered) c.in_ok-judge.ensures.found c.in_ok-workspace.ensures.names
+    c.in_ok-judge.ensures.kept c.in_ok-workspace.ensures.rows (c.in_ok-workspace.ensures.bound begins) begins
 
 pub returns-in_err-judge_paths-clause-err : goal.returns-in_err-judge_paths-clause-err
 returns-in_err-judge_paths-clause-err c = λ begins.
