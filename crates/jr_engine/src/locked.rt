@@ -1,14 +1,10 @@
 // The changed program under its locks.
 
-ghost use Rattle.std.specs.Prelude.{◌≡◌, map, Ok, IfOk, IfSome};
+ghost use Rattle.std.specs.Prelude.{◌≡◌, map, Ok, IfOk};
 ghost use Rattle.std.specs.List.{AllByRecursion};
 ghost use Rattle.jr_tree.specs.Shape.{IsShaped};
 ghost use Rattle.jr_tree.specs.Rows.{program_rows};
-ghost use Rattle.jr_defs.specs.Referents.{entries};
-ghost use Rattle.jr_supers.specs.Supers.{IsWellHeaded, HasNoCycle};
-ghost use Rattle.jr_members.specs.Held.{ObjectIsBare};
 ghost use Rattle.jr_headed.specs.Founded.{IsProgram};
-ghost use Rattle.jr_bind.specs.Exact.{IsExact};
 ghost use Rattle.jr_engine.specs.Written.{IsBoundByLocks, IsLockedBy, rows_of};
 
 use crate::asked::{Asked, project_of};
@@ -16,7 +12,7 @@ use crate::fault::StepFault;
 use crate::texts::changed_texts;
 use crate::verdicts::unread;
 use jr_base::{DeclId, NodeAt, NodeId, OccId, OutOfMemory};
-use jr_bind::{Bound, bind_under};
+use jr_bind::bind_under;
 use jr_change::{Locks, NO_ROW, Spelling};
 use jr_defs::{Program, Referent};
 use jr_front::Workspace;
@@ -26,7 +22,6 @@ use jr_lookup::Scopes;
 use jr_places::Places;
 use jr_read::read_units;
 use jr_spell::{SpellFault, spell};
-use jr_tree::Row;
 use std::alloc::Global;
 
 /// A changed program before its names are spelled anew: it is bound by its locks.
@@ -54,25 +49,7 @@ fn index_of(alloc: Global, program: &Program) -> Result<Box<Index>, OutOfMemory>
     boxed(alloc, Index::build(alloc, program))
 }
 
-// What the rows are under their locks. There is no answer where a type stands above itself under them.
-fn bound_by(
-    alloc: Global,
-    rows: &[Row],
-    places: &Places,
-    scopes: &Scopes,
-    table: &[Referent],
-) -> Result<Option<Box<Bound>>, OutOfMemory>
-    ensures table { IfOk result (λ found. IfSome found (λ bound. bound.value.table.items ≡ table.now)) }
-    ensures exact { IfOk result (λ found. IfSome found (λ bound. IsExact rows.now places.now bound.value)) }
-    ensures acyclic { IsWellHeaded rows.now → ObjectIsBare rows.now → IfOk result (λ found. IfSome found (λ bound. HasNoCycle rows.now (entries bound.value.table.items))) }
-{
-    match bind_under(alloc, rows, places, scopes, table.to_vec(alloc)?)? {
-        Some(bound) => Ok(Some(Box::new(alloc, bound)?)),
-        None => Ok(None),
-    }
-}
-
-// The program of these rows under its locks.
+// The program of these rows under its locks. There is none where a type stands above itself under them.
 fn locked_rows(
     alloc: Global,
     asked: Asked,
@@ -87,9 +64,11 @@ fn locked_rows(
     let rows = index.rows();
     let places = boxed(alloc, Places::of(alloc, rows))?;
     let scopes = boxed(alloc, Scopes::of(alloc, rows, &places))?;
-    let Some(bound) = bound_by(alloc, rows, &places, &scopes, &locks.table)? else {
+    let table = locks.table.to_vec(alloc)?;
+    let Some(bound) = bind_under(alloc, rows, &places, &scopes, table)? else {
         return Err(asked.differs());
     };
+    let bound = Box::new(alloc, bound)?;
     Ok(Locked {
         program: Workspace {
             program,
