@@ -1,5 +1,5 @@
 -- What is known of a step by its parts, and of steps one after another.
-use Rattle.std.proofs.Common.{◌≡◌, ◌∙◌, ap, refl, true, Option, Some, None, is_some, List, [], ◌∷◌, ℕ, Result, Ok, Err, IfOk, IsTrue, length, map, arith, sym, subst}
+use Rattle.std.proofs.Common.{◌≡◌, ◌∙◌, ◌+◌, ◌<◌, ◌^◌, ap, refl, true, Option, Some, None, is_some, List, [], ◌∷◌, ℕ, Result, Ok, Err, IfOk, IsTrue, length, map, arith, sym, subst}
 use Rattle.std.specs.FinMap as files
 use Rattle.std.specs.List.{AllByRecursion}
 use Rattle.jr_base.specs.Files.{FileMap}
@@ -174,12 +174,12 @@ pub calls_kept : (asked : Asked) (locked : Locked) (old new : View) (before afte
     → ((t : Table) → IsWholeWorld t old.sight.world → AreMethods old.sight.world.under.rows.now t before) → ((t : Table) → IsWholeWorld t new.sight.world → AreMethods new.sight.world.under.rows.now t after)
     → copy ≡ locked.locks.copy.items → IsBoundIn asked.old.now → IsProgram (rows_under locked) → AreWell (rows_under locked) → IsBoundByLocks locked → IsLockedBy asked locked
     → ((t l : Table) → AreMethods before.under.rows.now t before → AreMethods after.under.rows.now l after → IsTold before.under.rows.now t after.under.rows.now l copy found) → found ≡ None → KeepsCallsIn asked locked
-calls_kept asked locked old new before after copy found old_of new_of before_is after_is old_read new_read copies bound program well is by told none =
+calls_kept asked locked old new before after copy found old_of new_of before_is after_is old_read new_read copies bound program well is by told nothing =
     let t : Table = entries old.sight.world.under.table.now in
     let l : Table = entries new.sight.world.under.table.now in
     let first : IsTold before.under.rows.now t after.under.rows.now l copy found = told t l (read_methods old.sight.world t before before_is old_read (whole_view asked.old.now old bound old_of))
         (read_methods new.sight.world l after after_is new_read (locked_world locked new program well is new_of)) in
-    let second : KeepsDispatch before.under.rows.now t after.under.rows.now l copy = subst (λ (f : Option Lost). IsTold before.under.rows.now t after.under.rows.now l copy f) none first in
+    let second : KeepsDispatch before.under.rows.now t after.under.rows.now l copy = subst (λ (f : Option Lost). IsTold before.under.rows.now t after.under.rows.now l copy f) nothing first in
     told_between asked locked before.under.rows.now after.under.rows.now old.sight.world.under.table.now new.sight.world.under.table.now copy (ap (λ (u : Tabled). u.rows.now) before_is ∙ old_of.rows_are) old_of.table_is
         (ap (λ (u : Tabled). u.rows.now) after_is ∙ new_of.rows_are) (ap entries new_of.table_is ∙ is.table) (copies ∙ by.copies) second
 
@@ -223,14 +223,14 @@ pub flow_kept : (asked : Asked) (locked : Locked) (old new : Project) (control :
     → IsViewOf (rows_under locked) locked.program.places.value locked.program.scopes.value locked.program.bound.value new.view
     → ((m w : Meaning) → IsSeen old m → IsSeen new w → control ≡ None → KeepsCourse asked.change.now.course old.marks.rows.now new.marks.rows.now m w locked.locks.origin.items locked.locks.copy.items)
     → control ≡ None → KeepsFlowIn asked locked
-flow_kept asked locked old new control bound program well is by few_old few_new old_rows new_rows old_of new_of told none =
+flow_kept asked locked old new control bound program well is by few_old few_new old_rows new_rows old_of new_of told nothing =
     let bare = program_in (rows_in asked.old.now) asked.old.now.places.value asked.old.now.scopes.value bound.of bound.binding.binding.well in
     let under = bound.binding.binding.under in
     let later = locked_under locked program well is in
     let m = meaning_in asked.old.now in
     let w = meaning_in locked.program in
     let first : IsCourseKept asked m w old.marks.rows.now new.marks.rows.now locked.locks.origin.items locked.locks.copy.items =
-    told m w (seen_project asked.old.now old under bare.bare bound.of.program few_old old_rows old_of) (seen_project locked.program new later well.object.bare program few_new new_rows new_of) none in
+    told m w (seen_project asked.old.now old under bare.bare bound.of.program few_old old_rows old_of) (seen_project locked.program new later well.object.bare program few_new new_rows new_of) nothing in
     let second : IsCourseKept asked m w (rows_in asked.old.now) (rows_under locked) locked.locks.origin.items locked.locks.copy.items =
     subst (λ (p : Rows). IsCourseKept asked m w p (rows_under locked) locked.locks.origin.items locked.locks.copy.items) old_rows (subst (λ (q : Rows). IsCourseKept asked m w old.marks.rows.now q locked.locks.origin.items locked.locks.copy.items) new_rows first) in
     record {
@@ -244,9 +244,16 @@ flow_kept asked locked old new control bound program well is by few_old few_new 
 
 -- ---- the changed program under its locks
 
-bound_so : (locked : Locked) (rows : Rows) (places : Places) (bound : Bound) (locks : Locks) → locked.program.index.value ≡ rows → locked.program.places.value ≡ places → locked.program.bound.value ≡ bound → locked.locks ≡ locks
-    → bound.table.items ≡ locks.table.items → ArePlaces rows places → IsExact rows places bound → (IsWellHeaded rows → ObjectIsBare rows → HasNoCycle rows (entries bound.table.items)) → IsBoundByLocks locked
-bound_so locked rows places bound locks refl refl refl refl table placed exact acyclic = record { table = ap entries table; places = placed; exact = exact; acyclic = acyclic }
+pub bound_so : (locked : Locked) (rows : Rows) (places : Places) (bound : Bound) → rows ≡ rows_under locked → places ≡ locked.program.places.value → locked.program.bound.value ≡ bound
+    → bound.table.items ≡ locked.locks.table.items → ArePlaces rows locked.program.places.value → IsExact rows places bound → (IsWellHeaded rows → ObjectIsBare rows → HasNoCycle rows (entries bound.table.items)) → IsBoundByLocks locked
+bound_so locked rows places bound rows_are places_are bound_is table placed exact acyclic = record {
+  table = ap (λ (b : Bound). entries b.table.items) bound_is ∙ ap entries table;
+  places = subst (λ (r : Rows). ArePlaces r locked.program.places.value) rows_are placed;
+  exact = subst (λ (b : Bound). IsExact (rows_under locked) locked.program.places.value b) (sym bound_is)
+      (subst (λ (x : Places). IsExact (rows_under locked) x bound) places_are (subst (λ (r : Rows). IsExact r places bound) rows_are exact));
+  acyclic = subst (λ (b : Bound). IsWellHeaded (rows_under locked) → ObjectIsBare (rows_under locked) → HasNoCycle (rows_under locked) (entries b.table.items)) (sym bound_is)
+      (subst (λ (r : Rows). IsWellHeaded r → ObjectIsBare r → HasNoCycle r (entries bound.table.items)) rows_are acyclic);
+}
 
 -- ---- steps one after another
 

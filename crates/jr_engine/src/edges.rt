@@ -85,8 +85,8 @@ fn are_few(rows: &[Row]) -> bool
 
 // The rows of both programs can be counted, and supertypes and members of the changed ones under a table are exact, as in all programs.
 fn are_as_in_programs(asked: Asked, locked: &Locked) -> bool
-    ensures old { result ≡ true → length (rows_in asked.old.now) + 3 < 2 ^ 32 }
-    ensures new { result ≡ true → length (rows_of locked.now) + 3 < 2 ^ 32 }
+    ensures few { result ≡ true → length (rows_in asked.entry.old.now) + 3 < 2 ^ 32 }
+    ensures few_new { result ≡ true → length (rows_of locked.now) + 3 < 2 ^ 32 }
     ensures well { result ≡ true → AreWell (rows_of locked.now) }
 {
     let rows = locked.program.index.rows();
