@@ -178,10 +178,10 @@ calls_kept asked locked old new before after copy found old_of new_of before_is 
     let t : Table = entries old.sight.world.under.table.now in
     let l : Table = entries new.sight.world.under.table.now in
     let first : IsTold before.under.rows.now t after.under.rows.now l copy found = told t l (read_methods old.sight.world t before before_is old_read (whole_view asked.old.now old bound old_of))
-        (read_methods new.sight.world l after after_is new_read (locked_world locked new program well is new_of)) in
+    (read_methods new.sight.world l after after_is new_read (locked_world locked new program well is new_of)) in
     let second : KeepsDispatch before.under.rows.now t after.under.rows.now l copy = subst (λ (f : Option Lost). IsTold before.under.rows.now t after.under.rows.now l copy f) nothing first in
     told_between asked locked before.under.rows.now after.under.rows.now old.sight.world.under.table.now new.sight.world.under.table.now copy (ap (λ (u : Tabled). u.rows.now) before_is ∙ old_of.rows_are) old_of.table_is
-        (ap (λ (u : Tabled). u.rows.now) after_is ∙ new_of.rows_are) (ap entries new_of.table_is ∙ is.table) (copies ∙ by.copies) second
+    (ap (λ (u : Tabled). u.rows.now) after_is ∙ new_of.rows_are) (ap entries new_of.table_is ∙ is.table) (copies ∙ by.copies) second
 
 -- ---- where control goes
 

@@ -37,11 +37,18 @@ pub enum StepFault {
         is_old: bool,
     },
     /// What is to be removed is used at the place in the old files.
-    StillUsed { place: Place },
+    StillUsed {
+        place: Place,
+    },
     /// The files left would break a rule. The place is in them.
-    Broken { rule: Rule, place: Place },
+    Broken {
+        rule: Rule,
+        place: Place,
+    },
     /// The files left would not be what was to be written. The place is in the old files.
-    Differs { place: Place },
+    Differs {
+        place: Place,
+    },
     /// The files left would pass a limit.
     TooLarge(Size),
     /// An allocation failed.
