@@ -1,50 +1,53 @@
 #!/usr/bin/env python3
-"""Times the lexer through `rename` on an ASCII source of just under 64 KB that is lexed and then not served.
+"""Times the lexer on ASCII texts by a program of its own (lex.txt), which lexes a text many times and drops the tokens each time.
 
-    bench/lex.py [--bin PATH] [--runs N]
+    bench/lex.py [--bin PATH] [--instructions]
 
-The time of the same command on a file of a few bytes is taken off. What is left is reading the file, lexing it and dropping
-its tokens. Each line says the rate in megabytes a second, for each kind of text.
+PATH is that program, built; without it `tools/unproved.py` builds one, with tests in place of the proofs. Each line says the rate in
+megabytes a second, of the quickest time. With --instructions it also says the instructions that a byte takes, counted by valgrind, which
+are the same beside other work.
 """
 import argparse
 import os
+import re
 import subprocess
+import sys
 import tempfile
-import time
 
-SIZE = 65_400
-
-
-def filled(piece):
-    return piece * (SIZE // len(piece))
+HERE = os.path.dirname(os.path.abspath(__file__))
 
 
-def best(binary, text, runs):
-    with tempfile.TemporaryDirectory() as folder:
-        with open(os.path.join(folder, 'A.java'), 'w') as file:
-            file.write(text)
-        times = []
-        for _ in range(runs):
-            start = time.perf_counter()
-            subprocess.run([binary, folder, 'rename', 'A.java', '0', 'b'], stdout=subprocess.DEVNULL, check=False)
-            times.append(time.perf_counter() - start)
-        return min(times)
+def lexed(command, text, times):
+    return subprocess.run(command, input=b'%d\n' % times + text, capture_output=True, check=True)
+
+
+def instructions(binary, text):
+    def all_of(times):
+        done = lexed(['valgrind', '--tool=callgrind', '--callgrind-out-file=/dev/null', binary], text, times)
+        return int(re.search(rb'Collected : (\d+)', done.stderr).group(1))
+    return (all_of(3) - all_of(1)) / 2 / len(text)
 
 
 def main():
-    here = os.path.dirname(os.path.abspath(__file__))
-    parser = argparse.ArgumentParser()
-    parser.add_argument('--bin', default=os.path.join(here, '..', 'crates', 'refactor', 'out', 'refactor'))
-    parser.add_argument('--runs', type=int, default=20)
-    given = parser.parse_args()
-    with open(os.path.join(here, '..', 'examples', 'shop', 'shop', 'Cart.java')) as file:
+    parser = argparse.ArgumentParser(description=__doc__, formatter_class=argparse.RawDescriptionHelpFormatter)
+    parser.add_argument('--bin')
+    parser.add_argument('--instructions', action='store_true')
+    args = parser.parse_args()
+    with open(os.path.join(HERE, '..', 'examples', 'shop', 'shop', 'Cart.java'), 'rb') as file:
         cart = file.read()
-    empty = best(given.bin, 'x', given.runs)
-    for name, piece in [('source', cart), ('words', 'identifier '), ('comments', '/* a comment of some length */\n')]:
-        text = filled(piece)
-        took = best(given.bin, text, given.runs) - empty
-        rate = f'{len(text) / took / 1e6:.1f} MB/s' if took > 0.0005 else 'too short to tell'
-        print(f'{name}: {len(text)} bytes in {took * 1000:.2f} ms, {rate}')
+    texts = [('source', cart, 65_000), ('source', cart, 4_000_000), ('words', b'identifier ', 65_000), ('literals', b'"a literal of some length",\n', 65_000),
+             ('comments', b'/* a comment of some length */\n', 65_000)]
+    with tempfile.TemporaryDirectory() as folder:
+        binary = args.bin or os.path.join(folder, 'lex')
+        if not args.bin:
+            subprocess.run([sys.executable, os.path.join(HERE, '..', 'tools', 'unproved.py'), os.path.join(HERE, 'lex.txt'), binary, '-O', '2'], check=True)
+        for name, piece, size in texts:
+            text = piece * (size // len(piece))
+            length, tokens, nanos = map(int, lexed([binary], text, 20_000_000 // len(text)).stdout.split())
+            line = f'{name}: {length} bytes, {tokens} tokens, {length * 1000 / nanos:.1f} MB/s'
+            if args.instructions and size < 1_000_000:
+                line += f', {instructions(binary, text):.1f} instructions a byte'
+            print(line, flush=True)
 
 
 main()

@@ -17,3 +17,5 @@ pub mod Utf8
 pub mod ChunkTexts
 pub mod Following
 pub mod SymbolFronts
+pub mod WordLemmas
+pub mod CandidateRows

@@ -1,3 +1,4 @@
+pub mod Candidates
 pub mod Faults
 pub mod Items
 pub mod Laws

@@ -1,17 +1,20 @@
 // What stands at the front of a text: a gap, a token or a fault.
-ghost use Rattle.std.specs.Prelude.{◌≡◌, ◌^◌, ◌<◌, ◌≤◌, ◌==◌, ◌∷◌, [], ℕ, true, length, take, slice_index, IfOk, MatchOption, MatchResult};
+ghost use Rattle.std.specs.Prelude.{◌≡◌, ◌^◌, ◌<◌, ◌≤◌, ◌==◌, ◌∷◌, [], ℕ, true, false, length, take, slice_index, IfOk, MatchOption, MatchResult};
 ghost use Rattle.std.specs.Char.{is_ascii_digit};
+ghost use Rattle.jr_base.specs.Gaps.{is_blank};
 ghost use Rattle.jr_base.specs.Identifiers.{WordAt};
 ghost use Rattle.jr_base.specs.Literals.{is_quote};
 ghost use Rattle.jr_base.specs.Numerals.{integer_of};
 ghost use Rattle.jr_lex.specs.Items.{IsKindOf, NoInteger, IsItem, IsFault};
 
 use crate::LexFault;
-use crate::gaps::{block_comment, is_blank, line_comment, opens_block_comment, opens_line_comment};
+use crate::gaps::{block_comment, line_comment, opens_block_comment, opens_line_comment};
+use crate::keywords::keyword_in;
 use crate::literals::{Scan, is_quote, scan_literal};
 use crate::numerals::integer_of;
 use crate::symbols::{opens_fraction, symbol_at};
-use jr_base::{Kind, OutOfMemory, Text, Units, char_at, keyword_of, starts_word, word_end};
+use crate::words::{run_end, word_len};
+use jr_base::{Kind, OutOfMemory, Text, Units};
 use std::alloc::Global;
 
 /// A gap or a token, and its length.
@@ -25,7 +28,7 @@ pub enum Item {
 fn kind_of(alloc: Global, word: &str) -> Result<Kind, OutOfMemory>
     ensures { IfOk result (λ kind. IsKindOf word.now kind) }
 {
-    match keyword_of(word) {
+    match keyword_in(word) {
         Some(keyword) => Ok(Kind::Word(keyword)),
         None => Ok(Kind::Ident(Text::of(alloc, word.as_bytes())?)),
     }
@@ -38,13 +41,13 @@ fn word_item(alloc: Global, text: &str) -> Result<Option<Item>, OutOfMemory>
         ((len : ℕ) → WordAt text.now 0 len → ⊥)
         (λ item. IsItem text.now item)) }
 {
-    let (first, next) = char_at(text, 0);
-    if !starts_word(first) {
-        return Ok(None);
+    match word_len(text) {
+        Some(end) => {
+            let kind = kind_of(alloc, &text[..end])?;
+            Ok(Some(Item::Found(kind, end)))
+        }
+        None => Ok(None),
     }
-    let end = word_end(text, next);
-    let kind = kind_of(alloc, &text[..end])?;
-    Ok(Some(Item::Found(kind, end)))
 }
 
 /// Whether a point stands at a place.
@@ -67,7 +70,7 @@ fn integer_in(text: &str, len: usize) -> Option<Kind>
 fn integer_item(text: &str) -> Option<Item>
     ensures { MatchOption result (NoInteger text.now) (IsItem text.now) }
 {
-    let end = word_end(text, 0);
+    let end = run_end(text, 0);
     if has_point(text, end) {
         return None;
     }
@@ -108,16 +111,17 @@ fn literal_item(alloc: Global, text: &str, quote: u8, place: u32) -> Result<Item
     }
 }
 
-/// What stands at the front of a text, which stands at a place.
+/// What stands at the front of a text that begins with no blank. The text stands at a place.
 pub fn item_at(alloc: Global, text: &str, place: u32) -> Result<Item, LexFault>
     requires inside { 0 < length text.now }
     requires short { length text.now < 2 ^ 32 }
+    requires dark { is_blank (slice_index text.now 0) ≡ false }
     ensures { MatchResult result (λ item. IsItem text.now item) (λ fault. IsFault text.now place fault) }
 {
-    let bytes = text.as_bytes();
-    if is_blank(bytes[0]) {
-        return Ok(Item::Gap(1));
+    if let Some(item) = word_item(alloc, text)? {
+        return Ok(item);
     }
+    let bytes = text.as_bytes();
     if opens_line_comment(bytes) {
         return Ok(Item::Gap(line_comment(bytes)));
     }
@@ -135,9 +139,6 @@ pub fn item_at(alloc: Global, text: &str, place: u32) -> Result<Item, LexFault>
     }
     if is_quote(bytes[0]) {
         return literal_item(alloc, text, bytes[0], place);
-    }
-    if let Some(item) = word_item(alloc, text)? {
-        return Ok(item);
     }
     if opens_fraction(bytes) {
         return Err(LexFault::BadNumber(place));

@@ -6,6 +6,7 @@ ghost use Rattle.jr_base.specs.declared.token.Token.{Token};
 ghost use Rattle.jr_lex.specs.Faults.{IsFirstFault, IsMemory, IsStop};
 
 use crate::LexFault;
+use crate::gaps::is_blank;
 use crate::items::{Item, item_at};
 use jr_base::{Span, Token};
 use std::alloc::Global;
@@ -45,6 +46,10 @@ fn lex_text(alloc: Global, text: &str) -> Result<Vec<Token>, LexFault>
     let mut tokens = Vec::with_capacity(alloc, text.len() / 3 + 1)?;
     let mut at = 0;
     while at < text.len() {
+        if is_blank(text.as_bytes()[at]) {
+            at += 1;
+            continue;
+        }
         let rest = from_place(text, at);
         match item_at(alloc, rest, at as u32)? {
             Item::Gap(len) => at += len,

@@ -5,11 +5,13 @@ mod escapes;
 mod fault;
 mod gaps;
 mod items;
+mod keywords;
 pub mod laws;
 mod lexer;
 mod literals;
 mod numerals;
 mod symbols;
+mod words;
 
 pub use fault::LexFault;
 pub use lexer::lex;

@@ -12,7 +12,7 @@ pub returns-in-None-integer_item : goal.returns-in-None-integer_item
 returns-in-None-integer_item c =
     let e = c.as_bytes-bytes.ensures.value in
     let r = bad_number c.args.text.now
-    (rw e at (sym c.is_blank.ensures ∙ c.if-is_blank.false))
+    c.requires.dark
     (rw e at (sym c.opens_line_comment.ensures ∙ c.if-opens_line_comment.false))
     (rw e at (sym c.opens_block_comment.ensures ∙ c.if-opens_block_comment.false))
     (rw e at (sym c.is_ascii_digit.ensures.value ∙ c.if-is_ascii_digit.true))
@@ -23,7 +23,7 @@ pub returns-then-opens_fraction : goal.returns-then-opens_fraction
 returns-then-opens_fraction c =
     let e = c.as_bytes-bytes.ensures.value in
     let r = fraction c.args.text.now
-    (rw e at (sym c.is_blank.ensures ∙ c.if-is_blank.false))
+    c.requires.dark
     (rw e at (sym c.opens_line_comment.ensures ∙ c.if-opens_line_comment.false))
     (rw e at (sym c.opens_block_comment.ensures ∙ c.if-opens_block_comment.false))
     (rw e at (sym c.opens_fraction.ensures ∙ c.if-opens_fraction.true)) in
@@ -34,7 +34,7 @@ returns-in-Some-symbol_at c =
     let e = c.as_bytes-bytes.ensures.value in
     let h = rw e at c.in-Some-symbol_at.ensures in
     symbol_found c.args.text.now
-    (rw e at (sym c.is_blank.ensures ∙ c.if-is_blank.false))
+    c.requires.dark
     (rw e at (sym c.opens_line_comment.ensures ∙ c.if-opens_line_comment.false))
     (rw e at (sym c.opens_block_comment.ensures ∙ c.if-opens_block_comment.false))
     c.in-Some-symbol_at.len c.in-Some-symbol_at.symbol
@@ -44,7 +44,7 @@ pub returns-in-None-symbol_at : goal.returns-in-None-symbol_at
 returns-in-None-symbol_at c =
     let e = c.as_bytes-bytes.ensures.value in
     let r = bad_byte c.args.text.now
-    (rw e at (sym c.is_blank.ensures ∙ c.if-is_blank.false))
+    c.requires.dark
     (rw e at (sym c.opens_line_comment.ensures ∙ c.if-opens_line_comment.false))
     (rw e at (sym c.opens_block_comment.ensures ∙ c.if-opens_block_comment.false))
     (rw e at (sym c.is_ascii_digit.ensures.value ∙ c.if-is_ascii_digit.false))
