@@ -2,7 +2,7 @@
 use Rattle.std.proofs.Common.{◌≡◌, ℕ, zero, suc, ◌+◌, ◌<◌, ◌≤◌, Bool, true, false, ◌&&◌, cond, List, [], ◌∷◌, ◌++◌, length, get_or, take, drop, Some, Option, IsSome, IsTrue, refl, sym, ap, subst, ◌∙◌, arith, T, ◌||◌, length-append, append_assoc, inl, inr, ◌⊎◌, Vec}
 use Rattle.std.specs.List.{IsDistinct, AllByRecursion, list_any}
 use Rattle.std.specs.Ordering.{nat_cmp, eq_by_cmp, is_eq, is_lt}
-use Rattle.std.specs.Prelude.{bytes_eq, Contains}
+use Rattle.std.specs.Prelude.{bytes_eq, string_bytes, Contains}
 use Rattle.std.specs.Cmp.Lexicographic.{slice_cmp, nat_list_cmp_total}
 use Rattle.std.specs.declared.cmp.Ordering.{Ordering}
 use Rattle.std.specs.declared.cmp.Ordering.TheVariants.{Less, Equal, Greater}
@@ -16,7 +16,9 @@ use Rattle.std.specs.FinMap.Entries.{find, is_sorted, below_all}
 use Rattle.jr_base.specs.Files.{FileMap, plain}
 use Rattle.jr_base.specs.Paths.{is_java}
 use Rattle.jr_store.specs.Image.{Image, AreJava, Lists}
-use Rattle.jr_store.specs.Listing.{IsListing, java_paths}
+use Rattle.std.specs.HashSet.{contains_text}
+use Rattle.jr_store.specs.declared.folder_list.Listed.{Listed}
+use Rattle.jr_store.specs.Listing.{IsListing, IsListed, java_paths}
 use Rattle.jr_store.specs.Replay.{image_of}
 
 abbrev R : List ℕ → List ℕ → Ordering
@@ -215,3 +217,36 @@ listing_more most paths name listing room java new = record {
 pub listing_none : (most : ℕ) (paths : List (List ℕ)) → paths ≡ [] → IsListing most paths
 unfolding IsDistinct
 listing_none most paths is = subst (IsListing most) (sym is) (record { java = tt; distinct = tt; at_most = omega arith })
+
+pub listed_none : (most : ℕ) (all : Listed) → all.paths.items ≡ [] → all.names.keys ≡ [] → IsListed most all
+listed_none most all paths names = record {
+  listing = listing_none most all.paths.items paths;
+  names = λ name. ap (list_any (λ k. bytes_eq name (string_bytes k))) names ∙ sym (ap (list_any (bytes_eq name)) paths);
+}
+
+or_false : (b : Bool) → (b || false) ≡ cond b true false
+or_false true = refl
+or_false false = refl
+
+later : (a b c : Bool) → (a || cond b true c) ≡ cond b true (a || c)
+later true true c = refl
+later true false c = refl
+later false b c = refl
+
+any_more : (name : List ℕ) (paths : List (List ℕ)) (path : List ℕ) → list_any (bytes_eq name) (paths ++ path ∷ []) ≡ cond (bytes_eq path name) true (list_any (bytes_eq name) paths)
+any_more name [] path = or_false (bytes_eq name path) ∙ ap (λ b. cond b true false) (bytes_eq-sym name path)
+any_more name (p ∷ paths) path =
+    ap (λ b. bytes_eq name p || b) (any_more name paths path)
+    ∙ later (bytes_eq name p) (bytes_eq path name) (list_any (bytes_eq name) paths)
+
+-- one more path that is new, where there is room, beside the same text
+pub listed_more : (most : ℕ) (all more : Listed) (path : List ℕ) → IsListed most all → length all.paths.items < most → is_java path ≡ true → contains_text all.names path ≡ false
+    → more.paths.items ≡ all.paths.items ++ path ∷ [] → ((name : List ℕ) → contains_text more.names name ≡ cond (bytes_eq path name) true (contains_text all.names name)) → IsListed most more
+listed_more most all more path listed room java new pushed named = record {
+  listing = subst (IsListing most) (sym pushed) (listing_more most all.paths.items path listed.listing room java (sym (listed.names path) ∙ new));
+  names = λ name.
+      named name
+      ∙ ap (cond (bytes_eq path name) true) (listed.names name)
+      ∙ sym (any_more name all.paths.items path)
+      ∙ sym (ap (list_any (bytes_eq name)) pushed);
+}

@@ -1,15 +1,23 @@
 // The paths of the files below a folder of the system.
-ghost use Rattle.std.specs.Prelude.{◌≡◌, ◌≤◌, length, IfOk, bytes_eq};
-ghost use Rattle.std.specs.List.{list_any};
-ghost use Rattle.jr_store.specs.Listing.{IsListing};
+ghost use Rattle.std.specs.Prelude.{◌≡◌, ◌++◌, ◌∷◌, [], if◌then◌else◌, List, ℕ, true, IfOk, OnOk, bytes_eq, string_bytes};
+ghost use Rattle.std.specs.HashSet.{contains_text};
+ghost use Rattle.jr_store.specs.Listing.{IsListing, IsListed};
 
 use crate::StoreError;
 use crate::folder::store_error;
 use jr_base::{OutOfMemory, Path, PathFault};
 use std::alloc::{Allocator, Global};
+use std::collections::HashSet;
 use std::fs::{DirEntry, FileType, ReadDir};
 use std::rt::Files;
 use std::{fs, io};
+
+/// The paths that were found, and the same as texts.
+#[derive(Drop)]
+struct Listed {
+    paths: Vec<Path>,
+    names: HashSet<String>,
+}
 
 /// The paths below the folder that end in `.java`: all where there are at most `most`, else some `most` of them.
 pub fn list_all<R: Files>(
@@ -20,13 +28,16 @@ pub fn list_all<R: Files>(
 ) -> Result<Vec<Path>, StoreError>
     ensures { IfOk result (λ paths. IsListing most paths.items) }
 {
-    let mut paths = Vec::new(alloc);
+    let mut listed = Listed {
+        paths: Vec::new(alloc),
+        names: HashSet::new(alloc),
+    };
     // The folders that were found and not listed yet, each with a slash behind it.
     let mut pending = Vec::new(alloc);
-    list_one(rt, alloc, dir, "", most, &mut paths, &mut pending)?;
+    list_one(rt, alloc, dir, "", most, &mut listed, &mut pending)?;
     for _ in 0..u64::MAX {
         let Some(below) = pending.pop() else {
-            return Ok(paths);
+            return Ok(listed.paths);
         };
         list_one(
             rt,
@@ -34,7 +45,7 @@ pub fn list_all<R: Files>(
             dir,
             below.as_str(),
             most,
-            &mut paths,
+            &mut listed,
             &mut pending,
         )?;
     }
@@ -48,16 +59,16 @@ fn list_one<R: Files>(
     dir: &str,
     below: &str,
     most: usize,
-    paths: &mut Vec<Path>,
+    listed: &mut Listed,
     pending: &mut Vec<String>,
 ) -> Result<(), StoreError>
-    ensures { IsListing most paths.old.items → IsListing most paths.new.items }
+    ensures { IsListed most listed.old → OnOk result (IsListed most listed.new) }
 {
     let folder = joined(alloc, dir, "/", below)?;
     let system = (rt, alloc);
     for entry in open_folder(&system, folder.as_str())? {
         let (entry, kind) = with_kind(entry)?;
-        take(alloc, below, entry.file_name(), kind, most, paths, pending)?;
+        take(alloc, below, entry.file_name(), kind, most, listed, pending)?;
     }
     Ok(())
 }
@@ -92,10 +103,10 @@ fn take(
     name: &str,
     kind: FileType,
     most: usize,
-    paths: &mut Vec<Path>,
+    listed: &mut Listed,
     pending: &mut Vec<String>,
 ) -> Result<(), StoreError>
-    ensures { IsListing most paths.old.items → IsListing most paths.new.items }
+    ensures { IsListed most listed.old → OnOk result (IsListed most listed.new) }
 {
     if kind.is_dir() {
         let folder = joined(alloc, below, name, "/")?;
@@ -104,7 +115,7 @@ fn take(
         }
     } else if kind.is_file() {
         let file = joined(alloc, below, name, "")?;
-        add(alloc, paths, file.as_bytes(), most)?;
+        add(alloc, listed, file, most)?;
     }
     Ok(())
 }
@@ -117,24 +128,32 @@ fn joined(alloc: Global, front: &str, middle: &str, back: &str) -> Result<String
 }
 
 // Adds a path that ends in `.java`, is new and for which there is room.
-fn add(alloc: Global, paths: &mut Vec<Path>, name: &[u8], most: usize) -> Result<(), StoreError>
-    ensures { IsListing most paths.old.items → IsListing most paths.new.items }
+#[tactic(auto, using(crate::proofs::Listing::listed_more))]
+fn add(alloc: Global, listed: &mut Listed, name: String, most: usize) -> Result<(), StoreError>
+    ensures { IsListed most listed.old → OnOk result (IsListed most listed.new) }
 {
-    let path = match Path::parse(alloc, name) {
+    let path = match Path::parse(alloc, name.as_bytes()) {
         Ok(path) => path,
         Err(PathFault::OutOfMemory) => return Err(StoreError::OutOfMemory),
         Err(_) => return Err(StoreError::Failed),
     };
-    if paths.len() < most && path.is_java() && !holds(paths, path.bytes()) {
-        if paths.push(path).is_err() {
-            return Err(StoreError::OutOfMemory);
-        }
+    if listed.paths.len() < most && path.is_java() && !listed.names.contains(name.as_str()) {
+        put(listed, path, name)?;
     }
     Ok(())
 }
 
-fn holds(paths: &[Path], name: &[u8]) -> bool
-    ensures { result ≡ list_any (bytes_eq name.now) paths.now }
+// Adds a path, which is also given as a text.
+#[tactic(auto, using(std::proofs::lemmas::Map::Text::hash_set_updates_text))]
+fn put(listed: &mut Listed, path: Path, name: String) -> Result<(), StoreError>
+    ensures paths { OnOk result (listed.new.paths.items ≡ listed.old.paths.items ++ path ∷ []) }
+    ensures names { OnOk result ((q : List ℕ) → contains_text listed.new.names q ≡ (if bytes_eq (string_bytes name) q then true else contains_text listed.old.names q)) }
 {
-    paths.iter().any(|path| name == path.bytes())
+    if listed.names.insert(name).is_err() {
+        return Err(StoreError::OutOfMemory);
+    }
+    if listed.paths.push(path).is_err() {
+        return Err(StoreError::OutOfMemory);
+    }
+    Ok(())
 }

@@ -1,5 +1,5 @@
-use Rattle.jr_store.specs.Listing.{IsListing}
+use Rattle.jr_store.specs.Listing.{IsListed}
 use Rattle.jr_store.proofs.folder_list.list_all.Given as goal
 
 abbrev pub invariant-loop : goal.invariant-loop
-invariant-loop g l = IsListing l.most l.paths.items
+invariant-loop g l = IsListed l.most l.listed
