@@ -4,10 +4,9 @@ use Rattle.std.proofs.lemmas.Bool.{false≢true, cases_eq, cases_lt, ltb-true, l
 use Rattle.std.proofs.lemmas.Bool.Decides.{Decides-eqb}
 use Rattle.jr_tree.specs.Rows.{Rows, parent, end}
 use Rattle.jr_tree.specs.Tree.{IsTree}
-use Rattle.jr_plain.specs.Search.{last_below, IsLast}
-use Rattle.jr_plain.proofs.Searches.{finds_last}
 use Rattle.jr_plain.proofs.Children.{IsChild, child_below}
-use Rattle.jr_assign.specs.Assigned.{last_part}
+use Rattle.jr_assign.specs.Changes.{Facts}
+use Rattle.jr_assign.specs.Assigned.{last_part, is_last, has_last}
 
 pub both_true : (a b : Bool) → (a && b) ≡ true → (a ≡ true) × (b ≡ true)
 both_true true true e = (refl, refl)
@@ -61,17 +60,17 @@ module _ (p : Rows) (tree : IsTree p) where
       within {q} {m} c low high held = ⊎_elim (λ e. subst (λ c. m < end p c) (sym e) held) (λ apart. let ends = tree.apart c q (omega arith) high in omega arith) (cases_eq c q)
 
   -- the last part is the last child
-  pub last_tells : (n c : ℕ) → last_part p n ≡ Some c → IsLastChild p n c
-  last_tells n c e =
-      let test : ℕ → Bool = λ c. nat_lt n c && nat_eq (parent p c) n in
-      let h = (finds_last test (λ k. test k ≡ true) (λ k. (λ e. e, λ e. e)) (length p) c).0 e in
-      record { child = told c h.1; last = λ m child. h.2 m (child_below p tree n m child) (tells m child) }
-    where
-      told : (c : ℕ) → (nat_lt n c && nat_eq (parent p c) n) ≡ true → IsChild p n c
-      told c t = let parts = both_true _ _ t in (ltb-true n c parts.0, (Decides-eqb (parent p c) n).0 parts.1)
+  pub last_told : (n c : ℕ) → is_last (Some c) p n ≡ true → IsLastChild p n c
+  last_told n c t = let parts = both_true _ _ t in let more = both_true _ _ parts.1 in
+      let lt = ltb-true n c parts.0 in let up : parent p c ≡ n = (Decides-eqb (parent p c) n).0 more.0 in
+      let ends = ltb-false (end p c) (end p n) (not_true _ more.1) in
+      record {
+        child = (lt, up);
+        last = λ m child. ⊎_elim (λ less. let next = next_child n c m (lt, up) less child in let inside = (child_ends n m child).0 in absurd (omega arith)) (λ le. le) (cases_lt c m);
+      }
 
-      tells : (m : ℕ) → IsChild p n m → (nat_lt n m && nat_eq (parent p m) n) ≡ true
-      tells m child = ap (λ b. b && nat_eq (parent p m) n) (lt-ltb n m child.0) ∙ (Decides-eqb (parent p m) n).1 child.1
+  pub last_tells : (f : Facts) → ((n : ℕ) → has_last p f n ≡ true) → (n c : ℕ) → last_part f n ≡ Some c → IsLastChild p n c
+  last_tells f lasts n c e = last_told n c (sym (ap (λ o. is_last o p n) e) ∙ lasts n)
 
   -- what stands behind where the last child begins stands in it
   pub in_last : (n c m : ℕ) → n < length p → IsLastChild p n c → c ≤ m → m < end p n → m < end p c

@@ -1,5 +1,5 @@
 -- What is assigned before and behind a row depends on what is so before it alone, so the equations of a member have one solution.
-use Rattle.std.proofs.Common.{◌≡◌, refl, sym, ◌∙◌, ap, ap₂, subst, ⊎_elim, arith, ℕ, zero, suc, ◌+◌, ◌-◌, ◌<◌, ◌≤◌, Bool, true, false, not, ◌&&◌, if◌then◌else◌, length, Option, Some, None, nat_eq, nat_lt}
+use Rattle.std.proofs.Common.{◌≡◌, refl, sym, ◌∙◌, ap, ap₂, subst, ⊎_elim, arith, ℕ, zero, suc, ◌+◌, ◌-◌, ◌<◌, ◌≤◌, Bool, true, false, not, ◌&&◌, if◌then◌else◌, List, [], ◌∷◌, length, Option, Some, None, nat_eq, nat_lt}
 use Rattle.std.proofs.lemmas.Bool.{false≢true, cases_eq, cases_lt, cases_Bool, ltb-true, lt-ltb, le-ltb, ltb-false}
 use Rattle.std.proofs.lemmas.Bool.Decides.{Decides-eqb}
 use Rattle.jr_base.specs.declared.kind.Symbol.TheVariants as y
@@ -11,7 +11,7 @@ use Rattle.jr_plain.proofs.Children.{IsChild}
 use Rattle.jr_assign.specs.declared.fact.Way.{Way}
 use Rattle.jr_assign.specs.declared.fact.Way.TheVariants as way
 use Rattle.jr_assign.specs.Changes.{Facts, fact}
-use Rattle.jr_assign.specs.Sets.{Sets, only, both_of, either_of}
+use Rattle.jr_assign.specs.Sets.{Sets, only, both_of}
 use Rattle.jr_assign.specs.Assigned as tell
 use Rattle.jr_assign.specs.Assigned.{Seen, Gain, first, second, third, last_part, AreAssigned}
 use Rattle.jr_assign.proofs.Inside.{next_child, both_true, not_true, HoldsIn, IsLastChild, inside_ends, child_ends, holds_in, last_tells, in_last, before_last}
@@ -29,17 +29,12 @@ module _ {A : Type 0} (s : Sets A) where
   both_of_same test v w (suc k) h = let more = both_of_same test v w k (λ i lt t. h i (omega arith) t) in
       if_same (test k) (λ t. ap₂ s.both more (h k (omega arith) t)) (λ f. more)
 
-  either_of_same : (test : ℕ → Bool) (v w : ℕ → A) (x x' : A) (k : ℕ) → x ≡ x' → ((i : ℕ) → i < k → test i ≡ true → v i ≡ w i) → either_of s test v x k ≡ either_of s test w x' k
-  either_of_same test v w x x' zero e h = e
-  either_of_same test v w x x' (suc k) e h = let more = either_of_same test v w x x' k e (λ i lt t. h i (omega arith) t) in
-      if_same (test k) (λ t. ap₂ s.either more (h k (omega arith) t)) (λ f. more)
-
-module _ {A : Type 0} (s : Sets A) (p : Rows) (tree : IsTree p) (f : Facts) (root : ℕ) (there : root < length p) (a b : ℕ → Seen A) where
+module _ {A : Type 0} (s : Sets A) (p : Rows) (tree : IsTree p) (f : Facts) (lasts : (n : ℕ) → tell.has_last p f n ≡ true) (root : ℕ) (there : root < length p) (a b : ℕ → Seen A) where
   abbrev ma : ℕ → tell.Met A
-  ma = tell.met_at s p f root a
+  ma = tell.met_at s p f (tell.guarded_in p root) a
 
   abbrev mb : ℕ → tell.Met A
-  mb = tell.met_at s p f root b
+  mb = tell.met_at s p f (tell.guarded_in p root) b
 
   pub record Same (n : ℕ) : Type 0 where
     pub before : (a n).before ≡ (b n).before
@@ -51,18 +46,23 @@ module _ {A : Type 0} (s : Sets A) (p : Rows) (tree : IsTree p) (f : Facts) (roo
   abbrev AllSame : ℕ → ℕ → Type 0
   AllSame low high = (m : ℕ) → low ≤ m → m < high → Same m
 
-  last_same : (n low high : ℕ) → AllSame low high → low ≤ n → n < high → end p n ≤ high → tell.behind_last p a n ≡ tell.behind_last p b n
-  last_same n low high all le lt ends = by (last_part p n) refl
+  last_same : (n low high : ℕ) → AllSame low high → low ≤ n → n < high → end p n ≤ high → tell.behind_last f a n ≡ tell.behind_last f b n
+  last_same n low high all le lt ends = by (last_part f n) refl
     where
-      by : (o : Option ℕ) → last_part p n ≡ o → tell.behind_part p a o n ≡ tell.behind_part p b o n
+      by : (o : Option ℕ) → last_part f n ≡ o → tell.behind_part f a o n ≡ tell.behind_part f b o n
       by None e = (all n le lt).before
-      by (Some c) e = let last = last_tells p tree n c e in let after = last.child.0 in let ends_so = (child_ends p tree n c last.child).0 in (all c (omega arith) (omega arith)).done
+      by (Some c) e = let last = last_tells p tree f lasts n c e in let after = last.child.0 in let ends_so = (child_ends p tree n c last.child).0 in (all c (omega arith) (omega arith)).done
+
+  passed_same : (j low high : ℕ) → AllSame low high → ((t : ℕ) → tell.passes p f j t ≡ true → (low ≤ t) × ((t < high) × (end p t ≤ high))) → (ts : List ℕ) (x y : A) → x ≡ y
+      → tell.passed s p f (tell.guarded_in p root) a j ts x ≡ tell.passed s p f (tell.guarded_in p root) b j ts y
+  passed_same j low high all closed [] x y e = e
+  passed_same j low high all closed (t ∷ ts) x y e = passed_same j low high all closed ts _ _
+      (if_same (tell.passes p f j t) (λ h. let within = closed t h in ap₂ s.either e (last_same t low high all within.0 within.1.0 within.1.1)) (λ no. e))
 
   -- what a jump of the interval arrives with
   arrives_same : (j low high : ℕ) → AllSame low high → low ≤ j → j < high → end p j ≤ high
-      → ((t : ℕ) → tell.passes p f j t ≡ true → (low ≤ t) × ((t < high) × (end p t ≤ high))) → tell.arrives s p f root a j ≡ tell.arrives s p f root b j
-  arrives_same j low high all le lt ends closed = either_of_same s _ _ _ _ _ (end p root - root) (last_same j low high all le lt ends)
-      (λ i small t. let h = closed (root + i) t in last_same (root + i) low high all h.0 h.1.0 h.1.1)
+      → ((t : ℕ) → tell.passes p f j t ≡ true → (low ≤ t) × ((t < high) × (end p t ≤ high))) → tell.arrives s p f (tell.guarded_in p root) a j ≡ tell.arrives s p f (tell.guarded_in p root) b j
+  arrives_same j low high all le lt ends closed = passed_same j low high all closed (tell.guarded_in p root) _ _ (last_same j low high all le lt ends)
 
   -- ---- jumps
 
@@ -79,31 +79,29 @@ module _ {A : Type 0} (s : Sets A) (p : Rows) (tree : IsTree p) (f : Facts) (roo
   passed_tells j t e = let parts = both_true _ _ e in let more = both_true _ _ parts.1 in let round = both_true _ _ more.0 in let out = both_true _ _ more.1 in
       record { after = ltb-true t j round.0; inside = ltb-true j (end p t) round.1; over = out.1 }
 
-  break_tells : (w : Option Way) (n j : ℕ) → (fact f j).way ≡ w → tell.breaks_by w p n j ≡ true → (n < j) × ((j < end p n) × ((t : ℕ) → tell.is_over (fact f j).way t ≡ true → n < t))
+  break_tells : (w : Option Way) (n j : ℕ) → (fact f j).way ≡ w → tell.is_break_to w n ≡ true → (t : ℕ) → tell.is_over (fact f j).way t ≡ true → n < t
   break_tells None n j e h = absurd (false≢true h)
-  break_tells (Some (way.Break m)) n j e h = let parts = both_true _ _ h in let round = both_true _ _ parts.1 in
-      (ltb-true n j round.0, (ltb-true j (end p n) round.1, λ t over. subst (λ m. m < t) ((Decides-eqb m n).0 parts.0) (ltb-true m t (sym (ap (λ w. tell.is_over w t) e) ∙ over))))
+  break_tells (Some (way.Break m)) n j e h = λ t over. subst (λ m. m < t) ((Decides-eqb m n).0 h) (ltb-true m t (sym (ap (λ w. tell.is_over w t) e) ∙ over))
   break_tells (Some (way.Continue m)) n j e h = absurd (false≢true h)
   break_tells (Some way.Return) n j e h = absurd (false≢true h)
 
-  continue_tells : (w : Option Way) (n j : ℕ) → (fact f j).way ≡ w → tell.continues_by w p n j ≡ true → (tell.is_in_body (label p n) p n j ≡ true) × ((t : ℕ) → tell.is_over (fact f j).way t ≡ true → n < t)
+  continue_tells : (w : Option Way) (n j : ℕ) → (fact f j).way ≡ w → tell.is_continue_to w n ≡ true → (t : ℕ) → tell.is_over (fact f j).way t ≡ true → n < t
   continue_tells None n j e h = absurd (false≢true h)
-  continue_tells (Some (way.Continue m)) n j e h = let parts = both_true _ _ h in
-      (parts.1, λ t over. subst (λ m. m < t) ((Decides-eqb m n).0 parts.0) (ltb-true m t (sym (ap (λ w. tell.is_over w t) e) ∙ over)))
+  continue_tells (Some (way.Continue m)) n j e h = λ t over. subst (λ m. m < t) ((Decides-eqb m n).0 h) (ltb-true m t (sym (ap (λ w. tell.is_over w t) e) ∙ over))
   continue_tells (Some (way.Break m)) n j e h = absurd (false≢true h)
   continue_tells (Some way.Return) n j e h = absurd (false≢true h)
 
   -- all breaks that leave the row stand inside it
   broken_same : (n : ℕ) → n < length p → AllSame (n + 1) (end p n) → (ma n).broken ≡ (mb n).broken
-  broken_same n in_p all = both_of_same s _ _ _ (end p root - root) (λ i small e. let j = root + i in let h = break_tells (fact f j).way n j refl e in
-      let after = h.0 in let inside = h.1.0 in let over = h.1.1 in
-      arrives_same j (n + 1) (end p n) all (omega arith) inside (tree.apart n j after inside)
+  broken_same n in_p all = both_of_same s _ _ _ (end p n - (n + 1)) (λ i small e. let j = n + 1 + i in
+      let inside : j < end p n = omega arith in let over = break_tells (fact f j).way n j refl e in
+      arrives_same j (n + 1) (end p n) all (omega arith) inside (tree.apart n j (omega arith) inside)
       (λ t passed. let by = passed_tells j t passed in let above = over t by.over in let low = by.after in let ends = tree.apart n t above (omega arith) in (omega arith, (omega arith, ends))))
 
   -- those of a `do` stand in its first part
   continued_in_first : (n : ℕ) → n < length p → label p n ≡ is.Do → IsChild p n (n + 1) → AllSame (n + 1) (second p n) → (ma n).continued ≡ (mb n).continued
-  continued_in_first n in_p is_do child all = both_of_same s _ _ _ (end p root - root) (λ i small e. let j = root + i in let h = continue_tells (fact f j).way n j refl e in
-      let body = both_true (nat_lt n j) (nat_lt j (second p n)) (sym (ap (λ l. tell.is_in_body l p n j) is_do) ∙ h.0) in let over = h.1 in
+  continued_in_first n in_p is_do child all = both_of_same s _ _ _ (end p n - (n + 1)) (λ i small e. let j = n + 1 + i in let h = both_true _ _ e in
+      let body = both_true (nat_lt n j) (nat_lt j (second p n)) (sym (ap (λ l. tell.is_in_body l p f n j) is_do) ∙ h.1) in let over = continue_tells (fact f j).way n j refl h.0 in
       let after = ltb-true n j body.0 in let inside = ltb-true j (second p n) body.1 in
       arrives_same j (n + 1) (second p n) all (omega arith) inside (within j after inside)
       (λ t passed. let by = passed_tells j t passed in let above = over t by.over in let low = by.after in let lower : t < second p n = omega arith in (omega arith, (lower, within t above lower))))
@@ -112,10 +110,10 @@ module _ {A : Type 0} (s : Sets A) (p : Rows) (tree : IsTree p) (f : Facts) (roo
       within m lt inside = ⊎_elim (λ e. subst (λ x. end p x ≤ end p (n + 1)) e (omega arith)) (λ apart. tree.apart (n + 1) m (omega arith) inside) (cases_eq (n + 1) m)
 
   -- those of a `for` stand in its last part
-  continued_in_last : (n c : ℕ) → n < length p → tell.is_in_body (label p n) p n ≡ tell.is_in_last p n → last_part p n ≡ Some c → AllSame c (end p n) → (ma n).continued ≡ (mb n).continued
-  continued_in_last n c in_p in_body is_last all = both_of_same s _ _ _ (end p root - root) (λ i small e. let j = root + i in let h = continue_tells (fact f j).way n j refl e in
-      let body = both_true (not (nat_lt j c)) (nat_lt j (end p n)) (sym (ap (λ (g : ℕ → Bool). g j) in_body ∙ ap (λ o. tell.is_from o p n j) is_last) ∙ h.0) in let over = h.1 in
-      let last = last_tells p tree n c is_last in let after = last.child.0 in
+  continued_in_last : (n c : ℕ) → n < length p → tell.is_in_body (label p n) p f n ≡ tell.is_in_last p f n → last_part f n ≡ Some c → AllSame c (end p n) → (ma n).continued ≡ (mb n).continued
+  continued_in_last n c in_p in_body is_last all = both_of_same s _ _ _ (end p n - (n + 1)) (λ i small e. let j = n + 1 + i in let h = both_true _ _ e in
+      let body = both_true (not (nat_lt j c)) (nat_lt j (end p n)) (sym (ap (λ (g : ℕ → Bool). g j) in_body ∙ ap (λ o. tell.is_from o p n j) is_last) ∙ h.1) in let over = continue_tells (fact f j).way n j refl h.0 in
+      let last = last_tells p tree f lasts n c is_last in let after = last.child.0 in
       let from = ltb-false j c (not_true _ body.0) in let inside = ltb-true j (end p n) body.1 in
       arrives_same j c (end p n) all from inside (tree.apart n j (omega arith) inside)
       (λ t passed. let by = passed_tells j t passed in let above = over t by.over in let low = by.after in let high = by.inside in
@@ -125,18 +123,17 @@ module _ {A : Type 0} (s : Sets A) (p : Rows) (tree : IsTree p) (f : Facts) (roo
       behind t c last above high from = ⊎_elim (λ lt. let less = before_last p tree n c t in_p last above lt in absurd (omega arith)) (λ le. le) (cases_lt t c)
 
   caught_same : (n : ℕ) → n < length p → AllSame (n + 1) (end p n) → (ma n).caught ≡ (mb n).caught
-  caught_same n in_p all = both_of_same s _ _ _ (end p root - root) (λ i small e. let c = root + i in let parts = both_true _ _ (both_true _ _ e).1 in
-      let after = ltb-true n c parts.0 in let held = (child_ends p tree n c (after, (Decides-eqb (parent p c) n).0 parts.1)).0 in (all c (omega arith) held).done)
+  caught_same n in_p all = both_of_same s _ _ _ (end p n - (n + 1)) (λ i small e. (all (n + 1 + i) (omega arith) (omega arith)).done)
 
   -- ---- behind a row
 
   module _ (n : ℕ) (in_p : n < length p) (all : AllSame (n + 1) (end p n)) (start : (a n).before ≡ (b n).before) where
-    inner_same : tell.behind_last p a n ≡ tell.behind_last p b n
-    inner_same = by (last_part p n) refl
+    inner_same : tell.behind_last f a n ≡ tell.behind_last f b n
+    inner_same = by (last_part f n) refl
       where
-        by : (o : Option ℕ) → last_part p n ≡ o → tell.behind_part p a o n ≡ tell.behind_part p b o n
+        by : (o : Option ℕ) → last_part f n ≡ o → tell.behind_part f a o n ≡ tell.behind_part f b o n
         by None e = start
-        by (Some c) e = let last = last_tells p tree n c e in let after = last.child.0 in let ends_so = (child_ends p tree n c last.child).0 in (all c (omega arith) (omega arith)).done
+        by (Some c) e = let last = last_tells p tree f lasts n c e in let after = last.child.0 in let ends_so = (child_ends p tree n c last.child).0 in (all c (omega arith) (omega arith)).done
 
     at_first : nat_lt (second p n) (end p n) ≡ true → Same (first n)
     at_first h = let lt = ltb-true _ _ h in let up = tree.nested (n + 1) in all (n + 1) (omega arith) (omega arith)
@@ -168,9 +165,9 @@ module _ {A : Type 0} (s : Sets A) (p : Rows) (tree : IsTree p) (f : Facts) (roo
     gains_same : {x x' y y' z z' : A} → x ≡ x' → y ≡ y' → z ≡ z' → ◌≡◌ {A = Gain A} (record { done = x; yes = y; no = z }) (record { done = x'; yes = y'; no = z' })
     gains_same {x} {x'} {y} {y'} {z} {z'} e g h = ap₂ (λ (x : A) (y : A). bundle x y z) e g ∙ ap (λ (z : A). bundle x' y' z) h
 
-    test_part : (has_first : Bool) (o : Option ℕ) → last_part p n ≡ o → tell.ends_by o (tell.for_update p n has_first true) ≡ true → Same (tell.for_test p n has_first)
+    test_part : (has_first : Bool) (o : Option ℕ) → last_part f n ≡ o → tell.ends_by o (tell.for_update p n has_first true) ≡ true → Same (tell.for_test p n has_first)
     test_part has_first None e h = absurd (false≢true h)
-    test_part has_first (Some c) e h = let last = last_tells p tree n c e in let in_c = (child_ends p tree n c last.child).0 in
+    test_part has_first (Some c) e h = let last = last_tells p tree f lasts n c e in let in_c = (child_ends p tree n c last.child).0 in
         let le = ltb-false c (end p (tell.for_test p n has_first)) (not_true _ h) in let up = tree.nested (tell.for_test p n has_first) in
         all (tell.for_test p n has_first) (low has_first) (omega arith)
       where
@@ -178,23 +175,23 @@ module _ {A : Type 0} (s : Sets A) (p : Rows) (tree : IsTree p) (f : Facts) (roo
         low true = let up = tree.nested (n + 1) in omega arith
         low false = omega arith
 
-    for_end_same : (has_first has_condition : Bool) → tell.ends_by (last_part p n) (tell.for_update p n has_first has_condition) ≡ true → tell.for_end s p f a ma n has_first has_condition ≡ tell.for_end s p f b mb n has_first has_condition
+    for_end_same : (has_first has_condition : Bool) → tell.ends_by (last_part f n) (tell.for_update p n has_first has_condition) ≡ true → tell.for_end s p f a ma n has_first has_condition ≡ tell.for_end s p f b mb n has_first has_condition
     for_end_same has_first false h = refl
-    for_end_same has_first true h = (test_part has_first (last_part p n) refl h).no
+    for_end_same has_first true h = (test_part has_first (last_part f n) refl h).no
 
-    switch_same : nat_lt (first n) (end p n) ≡ true → (d : Bool) → tell.plain s p f a ma (if d then s.both (tell.behind_last p a n) ((ma n).broken) else s.both (s.both (tell.behind_last p a n) ((ma n).broken)) (a (first n)).done)
-        ≡ tell.plain s p f b mb (if d then s.both (tell.behind_last p b n) ((mb n).broken) else s.both (s.both (tell.behind_last p b n) ((mb n).broken)) (b (first n)).done)
+    switch_same : nat_lt (first n) (end p n) ≡ true → (d : Bool) → tell.plain s p f a ma (if d then s.both (tell.behind_last f a n) ((ma n).broken) else s.both (s.both (tell.behind_last f a n) ((ma n).broken)) (a (first n)).done)
+        ≡ tell.plain s p f b mb (if d then s.both (tell.behind_last f b n) ((mb n).broken) else s.both (s.both (tell.behind_last f b n) ((mb n).broken)) (b (first n)).done)
     switch_same h true = plain_same (ap₂ s.both inner_same broken_so)
     switch_same h false = plain_same (ap₂ s.both (ap₂ s.both inner_same broken_so) (only_first h).done)
 
     tried_same : nat_lt (first n) (end p n) ≡ true → tell.tried s p f a ma n ≡ tell.tried s p f b mb n
     tried_same h = ap₂ s.both (only_first h).done (caught_same n in_p all)
 
-    assigned_same : (o : Option ℕ) → tell.with_assigned s o (tell.behind_last p a n) ≡ tell.with_assigned s o (tell.behind_last p b n)
+    assigned_same : (o : Option ℕ) → tell.with_assigned s o (tell.behind_last f a n) ≡ tell.with_assigned s o (tell.behind_last f b n)
     assigned_same None = inner_same
     assigned_same (Some v) = ap (λ x. s.either (s.one v) x) inner_same
 
-    gain_same : (l : Label) → tell.has_parts_in l p n ≡ true → tell.gain_in s p f a ma l n ≡ tell.gain_in s p f b mb l n
+    gain_same : (l : Label) → tell.has_parts_in l p f n ≡ true → tell.gain_in s p f a ma l n ≡ tell.gain_in s p f b mb l n
     gain_same is.If h = plain_same (ap₂ s.both (at_second h).done (if_same (nat_lt (third p n) (end p n)) (λ t. (at_third t).done) (λ f. (at_first h).no)))
     gain_same is.While h = loop_same (at_first h).no
     gain_same is.Do h = loop_same (at_second h).no
@@ -219,7 +216,7 @@ module _ {A : Type 0} (s : Sets A) (p : Rows) (tree : IsTree p) (f : Facts) (roo
     known_same (Some true) x x' e = ap (λ (x : A). record { done = x; yes = x; no = s.all }) start
     known_same (Some false) x x' e = ap (λ (x : A). record { done = x; yes = s.all; no = x }) start
 
-    pub behind_same : tell.has_parts p n ≡ true → tell.gain_at s p f a ma n ≡ tell.gain_at s p f b mb n
+    pub behind_same : tell.has_parts p f n ≡ true → tell.gain_at s p f a ma n ≡ tell.gain_at s p f b mb n
     behind_same h = known_same (fact f n).truth _ _ (gain_same (label p n) h)
 
   -- ---- before a row that stands right in another
@@ -256,14 +253,14 @@ module _ {A : Type 0} (s : Sets A) (p : Rows) (tree : IsTree p) (f : Facts) (roo
     switch_so : tell.in_switch s p f a ma n c ≡ tell.in_switch s p f b mb n c
     switch_so = if_same (nat_eq c (first n)) (λ t. start) (λ f. ap₂ s.both (behind_first f).done siblings_same)
 
-    module _ (has_first has_condition : Bool) (other : tell.is_row (last_part p n) c ≡ false)
-        (updates : c ≡ tell.for_update p n has_first has_condition → s.both ((ma n).continued) (tell.behind_last p a n) ≡ s.both ((mb n).continued) (tell.behind_last p b n)) where
+    module _ (has_first has_condition : Bool) (other : tell.is_row (last_part f n) c ≡ false)
+        (updates : c ≡ tell.for_update p n has_first has_condition → s.both ((ma n).continued) (tell.behind_last f a n) ≡ s.both ((mb n).continued) (tell.behind_last f b n)) where
       begins_same : (h : Bool) → c ≡ tell.for_test p n h → tell.for_start s p f a ma n h ≡ tell.for_start s p f b mb n h
       begins_same true e = let up = tree.nested (n + 1) in (so_far (n + 1) (omega arith) (omega arith)).done
       begins_same false e = start
 
       for_same : tell.in_for s p f a ma n has_first has_condition c ≡ tell.in_for s p f b mb n has_first has_condition c
-      for_same = if_same (tell.is_row (last_part p n) c) (λ t. absurd (false≢true (sym other ∙ t))) (λ e.
+      for_same = if_same (tell.is_row (last_part f n) c) (λ t. absurd (false≢true (sym other ∙ t))) (λ e.
           if_same (has_first && nat_eq c (first n)) (λ t. start) (λ e.
           if_same (has_condition && nat_eq c (tell.for_test p n has_first)) (λ t. begins_same has_first ((Decides-eqb _ _).0 (both_true _ _ t).1)) (λ e.
           if_same (nat_eq c (tell.for_update p n has_first has_condition)) (λ t. updates ((Decides-eqb _ _).0 t)) (λ e. siblings_same))))
@@ -306,19 +303,19 @@ module _ {A : Type 0} (s : Sets A) (p : Rows) (tree : IsTree p) (f : Facts) (roo
   for_tells _ h = absurd (false≢true h)
 
   -- all rows inside a row, where each child whose equation gives the same is the same
-  module _ (n : ℕ) (in_p : n < length p) (e : (a n).before ≡ (b n).before) (parts_n : tell.has_parts p n ≡ true)
+  module _ (n : ℕ) (in_p : n < length p) (e : (a n).before ≡ (b n).before) (parts_n : tell.has_parts p f n ≡ true)
       (child_same : (c : ℕ) → IsChild p n c → tell.before_at s p f a ma c ≡ tell.before_at s p f b mb c → AllSame c (end p c)) where
     in_turn : is_for (label p n) ≡ false → AllSame (n + 1) (end p n)
     in_turn no_for = fill n (end p n) in_p (omega arith) (λ c child lt so_far. child_same c child (before_same n in_p e c child so_far (λ h k is_for_so. absurd (false≢true (sym no_for ∙ ap is_for is_for_so))))) (end p n) (omega arith)
 
-    module _ (has_first has_condition : Bool) (is_for_so : label p n ≡ is.For has_first has_condition) (last : ℕ) (is_last : last_part p n ≡ Some last) where
+    module _ (has_first has_condition : Bool) (is_for_so : label p n ≡ is.For has_first has_condition) (last : ℕ) (is_last : last_part f n ≡ Some last) where
       ends : tell.for_update p n has_first has_condition ≤ last
-      ends = ltb-false last _ (not_true _ (sym (ap (λ o. tell.ends_by o (tell.for_update p n has_first has_condition)) is_last) ∙ sym (ap (λ l. tell.has_parts_in l p n) is_for_so) ∙ parts_n))
+      ends = ltb-false last _ (not_true _ (sym (ap (λ o. tell.ends_by o (tell.for_update p n has_first has_condition)) is_last) ∙ sym (ap (λ l. tell.has_parts_in l p f n) is_for_so) ∙ parts_n))
 
       body : IsLastChild p n last
-      body = last_tells p tree n last is_last
+      body = last_tells p tree f lasts n last is_last
 
-      apart_from : (c : ℕ) → c < last → tell.is_row (last_part p n) c ≡ false
+      apart_from : (c : ℕ) → c < last → tell.is_row (last_part f n) c ≡ false
       apart_from c lt = ap (λ o. tell.is_row o c) is_last ∙ ⊎_elim (λ t. let same = (Decides-eqb last c).0 t in absurd (omega arith)) (λ f. f) (cases_Bool (nat_eq last c))
 
       same_for : (h k : Bool) → label p n ≡ is.For h k → (h ≡ has_first) × (k ≡ has_condition)
@@ -342,23 +339,23 @@ module _ {A : Type 0} (s : Sets A) (p : Rows) (tree : IsTree p) (f : Facts) (roo
       body_same : AllSame last (end p n)
       body_same m from to = child_same last body.child (before_last_same) m from (in_last p tree n last m in_p body from to)
         where
-          is_it : tell.is_row (last_part p n) last ≡ true
+          is_it : tell.is_row (last_part f n) last ≡ true
           is_it = ap (λ o. tell.is_row o last) is_last ∙ eq_true last last refl
 
           in_it : (h k : Bool) → label p n ≡ is.For h k → tell.in_for s p f a ma n h k last ≡ tell.in_for s p f b mb n h k last
-          in_it h k so = let same = same_for h k so in if_same (tell.is_row (last_part p n) last) (λ t. turns h k same.0 same.1) (λ no. absurd (false≢true (sym no ∙ is_it)))
+          in_it h k so = let same = same_for h k so in if_same (tell.is_row (last_part f n) last) (λ t. turns h k same.0 same.1) (λ no. absurd (false≢true (sym no ∙ is_it)))
 
           before_last_same : tell.before_at s p f a ma last ≡ tell.before_at s p f b mb last
           before_last_same = ap (λ x. tell.declared s (label p last) last x)
               (subst (λ q. tell.before_in s p f a ma (label p q) q last ≡ tell.before_in s p f b mb (label p q) q last) (sym body.child.1)
               (subst (λ l. tell.before_in s p f a ma l n last ≡ tell.before_in s p f b mb l n last) (sym is_for_so) (in_it has_first has_condition is_for_so)))
 
-      in_body_of : tell.is_in_body (label p n) p n ≡ tell.is_in_last p n
-      in_body_of = ap (λ l. tell.is_in_body l p n) is_for_so
+      in_body_of : tell.is_in_body (label p n) p f n ≡ tell.is_in_last p f n
+      in_body_of = ap (λ l. tell.is_in_body l p f n) is_for_so
 
-      updates_same : s.both ((ma n).continued) (tell.behind_last p a n) ≡ s.both ((mb n).continued) (tell.behind_last p b n)
+      updates_same : s.both ((ma n).continued) (tell.behind_last f a n) ≡ s.both ((mb n).continued) (tell.behind_last f b n)
       updates_same = let lt = (child_ends p tree n last body.child).0 in ap₂ s.both (continued_in_last n last in_p in_body_of is_last body_same)
-          (subst (λ o. tell.behind_part p a o n ≡ tell.behind_part p b o n) (sym is_last) (body_same last (omega arith) lt).done)
+          (subst (λ o. tell.behind_part f a o n ≡ tell.behind_part f b o n) (sym is_last) (body_same last (omega arith) lt).done)
 
       updates : AllSame (n + 1) last
       updates = let lt = (child_ends p tree n last body.child).0 in
@@ -368,14 +365,14 @@ module _ {A : Type 0} (s : Sets A) (p : Rows) (tree : IsTree p) (f : Facts) (roo
       for_rows : AllSame (n + 1) (end p n)
       for_rows m from to = ⊎_elim (λ lt. updates m from lt) (λ le. body_same m le to) (cases_lt m last)
 
-    with_last : (has_first has_condition : Bool) → label p n ≡ is.For has_first has_condition → (o : Option ℕ) → last_part p n ≡ o → AllSame (n + 1) (end p n)
-    with_last h k so None none = absurd (false≢true (sym (ap (λ o. tell.ends_by o (tell.for_update p n h k)) none) ∙ sym (ap (λ l. tell.has_parts_in l p n) so) ∙ parts_n))
+    with_last : (has_first has_condition : Bool) → label p n ≡ is.For has_first has_condition → (o : Option ℕ) → last_part f n ≡ o → AllSame (n + 1) (end p n)
+    with_last h k so None none = absurd (false≢true (sym (ap (λ o. tell.ends_by o (tell.for_update p n h k)) none) ∙ sym (ap (λ l. tell.has_parts_in l p f n) so) ∙ parts_n))
     with_last h k so (Some last) is_last = for_rows h k so last is_last
 
     inside : AllSame (n + 1) (end p n)
-    inside = ⊎_elim (λ t. let so = for_tells (label p n) t in with_last so.0 so.1 so.2 (last_part p n) refl) in_turn (cases_Bool (is_for (label p n)))
+    inside = ⊎_elim (λ t. let so = for_tells (label p n) t in with_last so.0 so.1 so.2 (last_part f n) refl) in_turn (cases_Bool (is_for (label p n)))
 
-  module _ (start : A) (ha : AreAssigned s p f root start a) (hb : AreAssigned s p f root start b) (parts : (n : ℕ) → root ≤ n → n < end p root → tell.has_parts p n ≡ true) where
+  module _ (start : A) (ha : AreAssigned s p f root start a) (hb : AreAssigned s p f root start b) (parts : (n : ℕ) → root ≤ n → n < end p root → tell.has_parts p f n ≡ true) where
     one_row : (n : ℕ) → root ≤ n → n < end p root → (a n).before ≡ (b n).before → AllSame (n + 1) (end p n) → Same n
     one_row n low high e all = let most = tree.last root there in let same = behind_same n (omega arith) all e (parts n low high) in record {
       before = e;
@@ -409,4 +406,4 @@ seen_same : {A : Type 0} (x y : Seen A) → x.before ≡ y.before → x.done ≡
 seen_same {A} x y e g h k = ap₂ (λ (before : A) (done : A). record { before = before; done = done; yes = x.yes; no = x.no }) e g ∙ ap₂ (λ (yes : A) (no : A). record { before = y.before; done = y.done; yes = yes; no = no }) h k
 
 pub each_member_once : tell.EachMemberIsAssignedOnce
-each_member_once v p f root start tree there parts = λ a b ha hb n low high. let same = rows_same (only v) p tree f root there a b start ha hb parts n low high in seen_same (a n) (b n) same.before same.done same.yes same.no
+each_member_once v p f root start tree there lasts parts = λ a b ha hb n low high. let same = rows_same (only v) p tree f lasts root there a b start ha hb parts n low high in seen_same (a n) (b n) same.before same.done same.yes same.no

@@ -1,16 +1,15 @@
 -- What is definitely assigned before and behind the rows of one member: equations, row by row, by the label of the row (JLS 16).
-use Rattle.std.specs.Prelude.{◌≡◌, ◌<◌, ◌≤◌, ℕ, zero, suc, ◌+◌, ◌-◌, Bool, true, false, not, ◌&&◌, ◌||◌, if◌then◌else◌, List, [], ◌∷◌, length, Option, Some, None, nat_eq, nat_lt, slice_index_or}
+use Rattle.std.specs.Prelude.{◌≡◌, ◌<◌, ◌≤◌, ℕ, zero, suc, ◌+◌, ◌-◌, Bool, true, false, not, ◌&&◌, ◌||◌, if◌then◌else◌, List, [], ◌∷◌, ◌++◌, length, Option, Some, None, nat_eq, nat_lt, slice_index_or}
 use Rattle.jr_base.specs.declared.kind.Symbol.{Symbol}
 use Rattle.jr_base.specs.declared.kind.Symbol.TheVariants as y
 use Rattle.jr_tree.specs.declared.label.Label.{Label}
 use Rattle.jr_tree.specs.declared.label.Label.TheVariants as is
 use Rattle.jr_tree.specs.Rows.{Rows, label, parent, end, previous}
 use Rattle.jr_tree.specs.Tree.{IsTree}
-use Rattle.jr_plain.specs.Search.{last_below}
 use Rattle.jr_assign.specs.declared.fact.Way.{Way}
 use Rattle.jr_assign.specs.declared.fact.Way.TheVariants as way
 use Rattle.jr_assign.specs.Changes.{Facts, fact}
-use Rattle.jr_assign.specs.Sets.{Sets, only, both_of, either_of}
+use Rattle.jr_assign.specs.Sets.{Sets, only, both_of}
 
 -- ---- places: the parts of a row
 
@@ -23,9 +22,17 @@ second p n = end p (first n)
 abbrev pub third : Rows → ℕ → ℕ
 third p n = end p (second p n)
 
--- the last part of a row: of a `for` its body, of a guarded `try` the block of its `finally`
-abbrev pub last_part : Rows → ℕ → Option ℕ
-last_part p n = last_below (length p) (λ c. nat_lt n c && nat_eq (parent p c) n)
+-- the last part of a row, as it is known: of a `for` its body, of a guarded `try` the block of its `finally`
+abbrev pub last_part : Facts → ℕ → Option ℕ
+last_part f n = (fact f n).last
+
+-- it is: nothing stands in the row, or the part does and ends where the row ends
+abbrev pub is_last : Option ℕ → Rows → ℕ → Bool
+is_last None p n = not (nat_lt (first n) (end p n))
+is_last (Some c) p n = nat_lt n c && (nat_eq (parent p c) n && not (nat_lt (end p c) (end p n)))
+
+abbrev pub has_last : Rows → Facts → ℕ → Bool
+has_last p f n = is_last (last_part f n) p n
 
 abbrev pub is_row : Option ℕ → ℕ → Bool
 is_row None n = false
@@ -55,13 +62,13 @@ abbrev pub is_from : Option ℕ → Rows → ℕ → ℕ → Bool
 is_from None p n b = false
 is_from (Some c) p n b = not (nat_lt b c) && nat_lt b (end p n)
 
-abbrev pub is_in_last : Rows → ℕ → ℕ → Bool
-is_in_last p n b = is_from (last_part p n) p n b
+abbrev pub is_in_last : Rows → Facts → ℕ → ℕ → Bool
+is_in_last p f n b = is_from (last_part f n) p n b
 
 -- it stands in the body of the loop
-abbrev pub is_in_body : Label → Rows → ℕ → ℕ → Bool
-is_in_body is.Do p n b = is_in_first p n b
-is_in_body _ p n b = is_in_last p n b
+abbrev pub is_in_body : Label → Rows → Facts → ℕ → ℕ → Bool
+is_in_body is.Do p f n b = is_in_first p n b
+is_in_body _ p f n b = is_in_last p f n b
 
 -- ---- jumps
 
@@ -74,27 +81,22 @@ is_over (Some way.Return) t = true
 
 -- the jump b stands in the body or a catch of the `try` t, and goes out through its `finally` (16.2.15)
 abbrev pub passes : Rows → Facts → ℕ → ℕ → Bool
-passes p f b t = is_guarded (label p t) && ((nat_lt t b && nat_lt b (end p t)) && (not (is_in_last p t b) && is_over (fact f b).way t))
+passes p f b t = is_guarded (label p t) && ((nat_lt t b && nat_lt b (end p t)) && (not (is_in_last p f t b) && is_over (fact f b).way t))
 
--- b is a break that leaves the statement n
-abbrev pub breaks_by : Option Way → Rows → ℕ → ℕ → Bool
-breaks_by (Some (way.Break m)) p n b = nat_eq m n && (nat_lt n b && nat_lt b (end p n))
-breaks_by _ p n b = false
+-- a break that goes to the statement n, a continue of the loop n in its body, a catch of the `try` n
+abbrev pub is_break_to : Option Way → ℕ → Bool
+is_break_to (Some (way.Break m)) n = nat_eq m n
+is_break_to _ n = false
 
-abbrev pub breaks_to : Rows → Facts → ℕ → ℕ → Bool
-breaks_to p f n b = breaks_by (fact f b).way p n b
-
--- b is a continue of the loop n, in its body
-abbrev pub continues_by : Option Way → Rows → ℕ → ℕ → Bool
-continues_by (Some (way.Continue m)) p n b = nat_eq m n && is_in_body (label p n) p n b
-continues_by _ p n b = false
+abbrev pub is_continue_to : Option Way → ℕ → Bool
+is_continue_to (Some (way.Continue m)) n = nat_eq m n
+is_continue_to _ n = false
 
 abbrev pub continues_to : Rows → Facts → ℕ → ℕ → Bool
-continues_to p f n b = continues_by (fact f b).way p n b
+continues_to p f n b = is_continue_to (fact f b).way n && is_in_body (label p n) p f n b
 
--- c is a catch of the `try` n
 abbrev pub is_catch_of : Rows → ℕ → ℕ → Bool
-is_catch_of p n c = is_catch (label p c) && (nat_lt n c && nat_eq (parent p c) n)
+is_catch_of p n c = is_catch (label p c) && nat_eq (parent p c) n
 
 -- ---- what holds at a row
 
@@ -128,29 +130,34 @@ pub record Met (A : Type 0) : Type 0 where
   pub continued : A
   pub caught : A
 
-module _ {A : Type 0} (p : Rows) (a : ℕ → Seen A) where
+module _ {A : Type 0} (f : Facts) (a : ℕ → Seen A) where
   -- behind the last part of a row, or before it where it has none
   abbrev pub behind_part : Option ℕ → ℕ → A
   behind_part None n = (a n).before
   behind_part (Some c) n = (a c).done
 
   abbrev pub behind_last : ℕ → A
-  behind_last n = behind_part (last_part p n) n
+  behind_last n = behind_part (last_part f n) n
 
--- the rows of the member stand from its root on
-module _ {A : Type 0} (s : Sets A) (p : Rows) (f : Facts) (root : ℕ) (a : ℕ → Seen A) where
-  abbrev pub size : ℕ
-  size = end p root - root
+-- the `try` statements with a `finally` that a jump may go through
+module _ {A : Type 0} (s : Sets A) (p : Rows) (f : Facts) (guarded : List ℕ) (a : ℕ → Seen A) where
+  abbrev pub passed : ℕ → List ℕ → A → A
+  passed b [] x = x
+  passed b (t ∷ ts) x = passed b ts (if passes p f b t then s.either x (behind_last f a t) else x)
 
   -- before a jump (16.2.13), or behind a `finally` that it goes through on its way
   abbrev pub arrives : ℕ → A
-  arrives b = either_of s (λ i. passes p f b (root + i)) (λ i. behind_last p a (root + i)) (behind_last p a b) size
+  arrives b = passed b guarded (behind_last f a b)
+
+  -- how many rows stand inside the row n, from its first part on
+  abbrev pub count : ℕ → ℕ
+  count n = end p n - first n
 
   abbrev pub met_at : ℕ → Met A
   met_at n = record {
-    broken = both_of s (λ i. breaks_to p f n (root + i)) (λ i. arrives (root + i)) size;
-    continued = both_of s (λ i. continues_to p f n (root + i)) (λ i. arrives (root + i)) size;
-    caught = both_of s (λ i. is_catch_of p n (root + i)) (λ i. (a (root + i)).done) size;
+    broken = both_of s (λ i. is_break_to (fact f (first n + i)).way n) (λ i. arrives (first n + i)) (count n);
+    continued = both_of s (λ i. continues_to p f n (first n + i)) (λ i. arrives (first n + i)) (count n);
+    caught = both_of s (λ i. is_catch_of p n (first n + i)) (λ i. (a (first n + i)).done) (count n);
   }
 
 -- ---- the equations
@@ -187,10 +194,10 @@ module _ {A : Type 0} (s : Sets A) (p : Rows) (f : Facts) (a : ℕ → Seen A) (
 
   -- the first of its updates comes behind the body and each continue
   abbrev pub in_for : ℕ → Bool → Bool → ℕ → A
-  in_for q has_first has_condition n = if is_row (last_part p q) n then for_turn q has_first has_condition
+  in_for q has_first has_condition n = if is_row (last_part f q) n then for_turn q has_first has_condition
       else (if has_first && nat_eq n (first q) then (a q).before
       else (if has_condition && nat_eq n (for_test p q has_first) then for_start q has_first
-      else (if nat_eq n (for_update p q has_first has_condition) then s.both (m q).continued (behind_last p a q) else behind n)))
+      else (if nat_eq n (for_update p q has_first has_condition) then s.both (m q).continued (behind_last f a q) else behind n)))
 
   -- by the label of q
   abbrev pub before_in : Label → ℕ → ℕ → A
@@ -232,14 +239,14 @@ module _ {A : Type 0} (s : Sets A) (p : Rows) (f : Facts) (a : ℕ → Seen A) (
 
   -- a switch ends behind its last group, by each break, and where no label fits (16.2.9)
   abbrev pub switch_gain : ℕ → Gain A
-  switch_gain n = let ended = s.both (behind_last p a n) (m n).broken in plain (if (fact f n).has_default then ended else s.both ended (a (first n)).done)
+  switch_gain n = let ended = s.both (behind_last f a n) (m n).broken in plain (if (fact f n).has_default then ended else s.both ended (a (first n)).done)
 
   abbrev pub tried : ℕ → A
   tried n = s.both (a (first n)).done (m n).caught
 
   -- a `try`: behind its body and each catch, or behind its `finally` (16.2.15)
   abbrev pub try_gain : ℕ → Bool → Gain A
-  try_gain n has_finally = plain (if has_finally then s.either (tried n) (behind_last p a n) else tried n)
+  try_gain n has_finally = plain (if has_finally then s.either (tried n) (behind_last f a n) else tried n)
 
   -- `?:` (16.1.5, 16.1.6)
   abbrev pub chosen : ℕ → Gain A
@@ -269,7 +276,7 @@ module _ {A : Type 0} (s : Sets A) (p : Rows) (f : Facts) (a : ℕ → Seen A) (
   gain_in is.Do n = loop_gain n (a (second p n)).no
   gain_in (is.For has_first has_condition) n = loop_gain n (for_end n has_first has_condition)
   gain_in is.Switch n = switch_gain n
-  gain_in is.Labeled n = plain (s.both (behind_last p a n) (m n).broken)
+  gain_in is.Labeled n = plain (s.both (behind_last f a n) (m n).broken)
   gain_in (is.Break has_label) n = plain s.all
   gain_in (is.Continue has_label) n = plain s.all
   gain_in is.Return n = plain s.all
@@ -280,7 +287,7 @@ module _ {A : Type 0} (s : Sets A) (p : Rows) (f : Facts) (a : ℕ → Seen A) (
   gain_in (is.Binary y.OrOr) n = one_holds n
   gain_in (is.Unary y.Not) n = negated n
   gain_in is.Paren n = enclosed n
-  gain_in _ n = plain (with_assigned s (fact f n).assigned (behind_last p a n))
+  gain_in _ n = plain (with_assigned s (fact f n).assigned (behind_last f a n))
 
   -- a constant (16.1.1): everything is assigned when it has the other value
   abbrev pub known : Option Bool → ℕ → Gain A → Gain A
@@ -297,34 +304,52 @@ abbrev pub ends_by : Option ℕ → ℕ → Bool
 ends_by None n = false
 ends_by (Some c) n = not (nat_lt c n)
 
-abbrev pub has_parts_in : Label → Rows → ℕ → Bool
-has_parts_in is.If p n = nat_lt (second p n) (end p n)
-has_parts_in is.While p n = nat_lt (second p n) (end p n)
-has_parts_in is.Do p n = nat_lt (second p n) (end p n)
-has_parts_in (is.For has_first has_condition) p n = ends_by (last_part p n) (for_update p n has_first has_condition)
-has_parts_in is.Switch p n = nat_lt (first n) (end p n)
-has_parts_in (is.Try has_finally) p n = nat_lt (first n) (end p n)
-has_parts_in is.Conditional p n = nat_lt (third p n) (end p n)
-has_parts_in (is.Binary op) p n = nat_lt (second p n) (end p n)
-has_parts_in (is.Unary op) p n = nat_lt (first n) (end p n)
-has_parts_in is.Paren p n = nat_lt (first n) (end p n)
-has_parts_in _ p n = true
+abbrev pub has_first : Rows → ℕ → Bool
+has_first p n = nat_lt (first n) (end p n)
 
-abbrev pub has_parts : Rows → ℕ → Bool
-has_parts p n = has_parts_in (label p n) p n
+abbrev pub has_second : Rows → ℕ → Bool
+has_second p n = nat_lt (second p n) (end p n)
+
+abbrev pub has_third : Rows → ℕ → Bool
+has_third p n = nat_lt (third p n) (end p n)
+
+abbrev pub has_parts_in : Label → Rows → Facts → ℕ → Bool
+has_parts_in is.If p f n = has_second p n
+has_parts_in is.While p f n = has_second p n
+has_parts_in is.Do p f n = has_second p n
+has_parts_in (is.For has_first has_condition) p f n = ends_by (last_part f n) (for_update p n has_first has_condition)
+has_parts_in is.Switch p f n = has_first p n
+has_parts_in (is.Try has_finally) p f n = has_first p n
+has_parts_in is.Conditional p f n = has_third p n
+has_parts_in (is.Binary op) p f n = has_second p n
+has_parts_in (is.Unary op) p f n = has_first p n
+has_parts_in is.Paren p f n = has_first p n
+has_parts_in _ p f n = true
+
+abbrev pub has_parts : Rows → Facts → ℕ → Bool
+has_parts p f n = has_parts_in (label p n) p f n
 
 -- ---- the definition: a table of a member, from what is assigned before it on
 
+-- of the first k rows of the member those with a `finally`
+abbrev pub guarded_from : Rows → ℕ → ℕ → List ℕ
+guarded_from p root zero = []
+guarded_from p root (suc k) = guarded_from p root k ++ (if is_guarded (label p (root + k)) then (root + k) ∷ [] else [])
+
+abbrev pub guarded_in : Rows → ℕ → List ℕ
+guarded_in p root = guarded_from p root (end p root - root)
+
 pub record AreAssigned {A : Type 0} (s : Sets A) (p : Rows) (f : Facts) (root : ℕ) (start : A) (a : ℕ → Seen A) : Type 0 where
   pub begins : (a root).before ≡ start
-  pub before : (n : ℕ) → root < n → n < end p root → (a n).before ≡ before_at s p f a (met_at s p f root a) n
-  pub done : (n : ℕ) → root ≤ n → n < end p root → (a n).done ≡ (gain_at s p f a (met_at s p f root a) n).done
-  pub yes : (n : ℕ) → root ≤ n → n < end p root → (a n).yes ≡ (gain_at s p f a (met_at s p f root a) n).yes
-  pub no : (n : ℕ) → root ≤ n → n < end p root → (a n).no ≡ (gain_at s p f a (met_at s p f root a) n).no
+  pub before : (n : ℕ) → root < n → n < end p root → (a n).before ≡ before_at s p f a (met_at s p f (guarded_in p root) a) n
+  pub done : (n : ℕ) → root ≤ n → n < end p root → (a n).done ≡ (gain_at s p f a (met_at s p f (guarded_in p root) a) n).done
+  pub yes : (n : ℕ) → root ≤ n → n < end p root → (a n).yes ≡ (gain_at s p f a (met_at s p f (guarded_in p root) a) n).yes
+  pub no : (n : ℕ) → root ≤ n → n < end p root → (a n).no ≡ (gain_at s p f a (met_at s p f (guarded_in p root) a) n).no
 
 -- the law: of one variable v there is one
 abbrev pub IsAssignedOnce : ℕ → Rows → Facts → ℕ → Bool → Type 0
 IsAssignedOnce v p f root start = (a b : ℕ → Seen Bool) → AreAssigned (only v) p f root start a → AreAssigned (only v) p f root start b → (n : ℕ) → root ≤ n → n < end p root → a n ≡ b n
 
 abbrev pub EachMemberIsAssignedOnce : Type 0
-EachMemberIsAssignedOnce = (v : ℕ) (p : Rows) (f : Facts) (root : ℕ) (start : Bool) → IsTree p → root < length p → ((n : ℕ) → root ≤ n → n < end p root → has_parts p n ≡ true) → IsAssignedOnce v p f root start
+EachMemberIsAssignedOnce = (v : ℕ) (p : Rows) (f : Facts) (root : ℕ) (start : Bool) → IsTree p → root < length p
+    → ((n : ℕ) → has_last p f n ≡ true) → ((n : ℕ) → root ≤ n → n < end p root → has_parts p f n ≡ true) → IsAssignedOnce v p f root start

@@ -14,7 +14,7 @@ Facts = List Fact
 
 -- what is known of a row besides its label
 abbrev pub fact : Facts → ℕ → Fact
-fact f n = slice_index_or f n (record { truth = None; way = None; last = None; has_default = false; hands_on = false; read = None; assigned = None })
+fact f n = slice_index_or f n (record { truth = None; way = None; last = None; has_default = false; read = None; assigned = None })
 
 -- ---- places
 

@@ -1,3 +1,6 @@
 pub mod Changes
 pub mod Sets
 pub mod Assigned
+pub mod Words
+pub mod Confirmed
+pub mod Judged

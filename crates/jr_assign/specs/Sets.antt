@@ -17,12 +17,7 @@ pub record Sets (A : Type 0) : Type 0 where
 abbrev pub only : ℕ → Sets Bool
 only v = record { none = false; all = true; both = λ a b. a && b; either = λ a b. a || b; one = λ d. nat_eq d v; less = λ d a. if nat_eq d v then false else a }
 
--- what is in all of the sets of the first k numbers that pass the test, and what of a set or one of these
-module _ {A : Type 0} (s : Sets A) (test : ℕ → Bool) (value : ℕ → A) where
-  abbrev pub both_of : ℕ → A
-  both_of zero = s.all
-  both_of (suc k) = let rest = both_of k in if test k then s.both rest (value k) else rest
-
-  abbrev pub either_of : A → ℕ → A
-  either_of start zero = start
-  either_of start (suc k) = let rest = either_of start k in if test k then s.either rest (value k) else rest
+-- what is in all of the sets of the first k numbers that pass the test
+abbrev pub both_of : {A : Type 0} → Sets A → (ℕ → Bool) → (ℕ → A) → ℕ → A
+both_of s test value zero = s.all
+both_of s test value (suc k) = let rest = both_of s test value k in if test k then s.both rest (value k) else rest

@@ -1,8 +1,10 @@
 // The members of each class, in the order in which it and its instances are made (JLS 8.3.2, 8.6, 8.7, 12.4.2, 12.5).
-ghost use Rattle.std.specs.Prelude.{◌<◌, ◌^◌, length};
+ghost use Rattle.std.specs.Prelude.{OnOk};
+ghost use Rattle.jr_assign.specs.Judged.{AreJudged};
 
 use crate::fact::Fact;
 use crate::numbers::Numbers;
+use crate::parts::{body_of_field, hands_on};
 use crate::sets::{Set, Sets};
 use crate::walk::{Known, walk};
 use jr_base::OutOfMemory;
@@ -80,52 +82,129 @@ fn variables_in(numbers: &Numbers, body: u32, members: &[u32]) -> u32 {
     most.saturating_add(numbers.count(body))
 }
 
-// One class: what is assigned when it is made, when an instance is begun, and when each of its constructors has ended.
+// One class: what is assigned when it is made, when an instance is begun, and when each of its constructors has ended; and the variable of each number.
 #[derive(Drop)]
-struct Making<'a> {
-    known: Known<'a>,
+struct Making {
     sets: Sets,
+    owners: Vec<Option<u32>>,
     fields: u32,
     statics: Set,
     instance: Set,
     built: Set,
 }
 
-impl<'a> Making<'a> {
+fn put_owner(owners: &mut Vec<Option<u32>>, number: Option<u32>, variable: u32) {
+    if let Some(number) = number {
+        if let Some(owner) = owners.get_mut(number as usize) {
+            *owner = Some(variable);
+        }
+    }
+}
+
+// The variables that the rows from one to another declare.
+fn put_owners(owners: &mut Vec<Option<u32>>, known: Known, from: u32, to: u32, is_wanted: Wanted) {
+    for at in from..to {
+        if is_wanted.is_such(known, at) {
+            put_owner(owners, known.numbers.number(at), at);
+        }
+    }
+}
+
+// The fields of a body, or the locals of a member.
+#[derive(Clone, Copy)]
+enum Wanted {
+    FieldsOf(u32),
+    Locals,
+}
+
+impl Wanted {
+    fn is_such(self, known: Known, at: u32) -> bool {
+        match known.rows.get(at as usize) {
+            Some(row) => match (self, &row.label) {
+                (Wanted::FieldsOf(body), Label::Field { .. }) => {
+                    body_of_field(known.rows, at) == body
+                }
+                (Wanted::Locals, Label::Local { .. }) => true,
+                _ => false,
+            },
+            None => false,
+        }
+    }
+}
+
+impl Making {
     fn walk(
         &mut self,
         alloc: Global,
+        known: Known,
         start: Set,
         root: u32,
-        out: &mut Vec<u32>,
-    ) -> Result<Set, OutOfMemory> {
-        let ended = walk(alloc, self.known, &mut self.sets, start, root, out)?;
-        self.sets.among(ended, self.fields)
+        verdicts: &mut Vec<Option<bool>>,
+    ) -> Result<Set, OutOfMemory>
+        ensures { OnOk result (AreJudged known.entry.rows.now known.entry.facts.now known.entry.members.now verdicts.old.items → AreJudged known.entry.rows.now known.entry.facts.now known.entry.members.now verdicts.new.items) }
+    {
+        put_owners(
+            &mut self.owners,
+            known,
+            root,
+            end_at(known.rows, root),
+            Wanted::Locals,
+        );
+        let ended = walk(
+            alloc,
+            known,
+            &mut self.sets,
+            start,
+            root,
+            &self.owners,
+            verdicts,
+        )?;
+        let fields = self.sets.among(ended, self.fields)?;
+        Ok(fields)
     }
 
     // An initializer, or fields with theirs.
     fn initialize(
         &mut self,
         alloc: Global,
+        known: Known,
         is_static: bool,
         root: u32,
-        out: &mut Vec<u32>,
-    ) -> Result<(), OutOfMemory> {
-        if is_static {
-            self.statics = self.walk(alloc, self.statics, root, out)?;
+        verdicts: &mut Vec<Option<bool>>,
+    ) -> Result<(), OutOfMemory>
+        ensures { OnOk result (AreJudged known.entry.rows.now known.entry.facts.now known.entry.members.now verdicts.old.items → AreJudged known.entry.rows.now known.entry.facts.now known.entry.members.now verdicts.new.items) }
+    {
+        let start = if is_static {
+            self.statics
         } else {
-            self.instance = self.walk(alloc, self.instance, root, out)?;
+            self.instance
+        };
+        let ended = self.walk(alloc, known, start, root, verdicts)?;
+        if is_static {
+            self.statics = ended;
+        } else {
+            self.instance = ended;
         }
         Ok(())
     }
 
     // What is no constructor.
-    fn add(&mut self, alloc: Global, root: u32, out: &mut Vec<u32>) -> Result<(), OutOfMemory> {
-        match part_at(self.known.rows, root) {
-            Part::Initializer { is_static } => self.initialize(alloc, is_static, root, out),
-            Part::Fields { is_static } => self.initialize(alloc, is_static, root, out),
+    fn add(
+        &mut self,
+        alloc: Global,
+        known: Known,
+        root: u32,
+        verdicts: &mut Vec<Option<bool>>,
+    ) -> Result<(), OutOfMemory>
+        ensures { OnOk result (AreJudged known.entry.rows.now known.entry.facts.now known.entry.members.now verdicts.old.items → AreJudged known.entry.rows.now known.entry.facts.now known.entry.members.now verdicts.new.items) }
+    {
+        match part_at(known.rows, root) {
+            Part::Initializer { is_static } => {
+                self.initialize(alloc, known, is_static, root, verdicts)
+            }
+            Part::Fields { is_static } => self.initialize(alloc, known, is_static, root, verdicts),
             Part::Method => {
-                walk(alloc, self.known, &mut self.sets, Set::Nothing, root, out)?;
+                self.walk(alloc, known, Set::Nothing, root, verdicts)?;
                 Ok(())
             }
             _ => Ok(()),
@@ -136,34 +215,37 @@ impl<'a> Making<'a> {
     fn construct(
         &mut self,
         alloc: Global,
+        known: Known,
         root: u32,
-        out: &mut Vec<u32>,
-    ) -> Result<(), OutOfMemory> {
-        if part_at(self.known.rows, root) != Part::Constructor {
+        verdicts: &mut Vec<Option<bool>>,
+    ) -> Result<(), OutOfMemory>
+        ensures { OnOk result (AreJudged known.entry.rows.now known.entry.facts.now known.entry.members.now verdicts.old.items → AreJudged known.entry.rows.now known.entry.facts.now known.entry.members.now verdicts.new.items) }
+    {
+        if part_at(known.rows, root) != Part::Constructor {
             return Ok(());
         }
-        let ended = self.walk(alloc, self.instance, root, out)?;
-        if !self.known.fact(root).hands_on {
+        let ended = self.walk(alloc, known, self.instance, root, verdicts)?;
+        if !hands_on(known.rows, root) {
             self.built = self.sets.both(self.built, ended)?;
         }
         Ok(())
     }
 
-    fn is_left(&self, is_static: bool, at: u32) -> bool {
+    fn is_left(&self, known: Known, is_static: bool, at: u32) -> bool {
         let set = if is_static { self.statics } else { self.built };
-        match self.known.numbers.number(at) {
+        match known.numbers.number(at) {
             Some(number) => !self.sets.has(set, number),
             None => false,
         }
     }
 
     // The blank finals of a declaration of fields that are not assigned when all is made.
-    fn note_left(&self, root: u32, out: &mut Vec<u32>) -> Result<(), OutOfMemory> {
-        let Part::Fields { is_static } = part_at(self.known.rows, root) else {
+    fn note_left(&self, known: Known, root: u32, out: &mut Vec<u32>) -> Result<(), OutOfMemory> {
+        let Part::Fields { is_static } = part_at(known.rows, root) else {
             return Ok(());
         };
-        for at in root..end_at(self.known.rows, root) {
-            if self.is_left(is_static, at) {
+        for at in root..end_at(known.rows, root) {
+            if self.is_left(known, is_static, at) {
                 out.push(at)?;
             }
         }
@@ -171,60 +253,107 @@ impl<'a> Making<'a> {
     }
 }
 
-/// What is found by walking: the rows at which a local is read and not assigned, and the blank final fields that are not assigned at an end.
-#[derive(Drop)]
-pub(crate) struct Found {
-    pub(crate) reads: Vec<u32>,
-    pub(crate) finals: Vec<u32>,
+// The members of a body in the order in which they are made.
+fn make_all(
+    alloc: Global,
+    known: Known,
+    making: &mut Making,
+    members: &[u32],
+    verdicts: &mut Vec<Option<bool>>,
+) -> Result<(), OutOfMemory>
+    ensures { OnOk result (AreJudged known.entry.rows.now known.entry.facts.now known.entry.members.now verdicts.old.items → AreJudged known.entry.rows.now known.entry.facts.now known.entry.members.now verdicts.new.items) }
+{
+    for member in members {
+        making.add(alloc, known, *member, verdicts)?;
+    }
+    for constructor in members {
+        making.construct(alloc, known, *constructor, verdicts)?;
+    }
+    Ok(())
+}
+
+fn note_all_left(
+    known: Known,
+    making: &Making,
+    members: &[u32],
+    out: &mut Vec<u32>,
+) -> Result<(), OutOfMemory> {
+    for member in members {
+        making.note_left(known, *member, out)?;
+    }
+    Ok(())
 }
 
 // The rows of one body.
-fn note_body(alloc: Global, known: Known, body: u32, out: &mut Found) -> Result<(), OutOfMemory> {
+fn note_body(
+    alloc: Global,
+    known: Known,
+    body: u32,
+    verdicts: &mut Vec<Option<bool>>,
+    finals: &mut Vec<u32>,
+) -> Result<(), OutOfMemory>
+    ensures { OnOk result (AreJudged known.entry.rows.now known.entry.facts.now known.entry.members.now verdicts.old.items → AreJudged known.entry.rows.now known.entry.facts.now known.entry.members.now verdicts.new.items) }
+{
     let members = members_in(alloc, known.rows, body)?;
+    let count = variables_in(known.numbers, body, &members);
     let mut making = Making {
-        known,
-        sets: Sets::new(alloc, variables_in(known.numbers, body, &members)),
+        sets: Sets::new(alloc, count),
+        owners: vec![in alloc; None; count as usize]?,
         fields: known.numbers.count(body),
         statics: Set::Nothing,
         instance: Set::Nothing,
         built: Set::Everything,
     };
-    for member in &members {
-        making.add(alloc, *member, &mut out.reads)?;
+    if making.fields > 0 {
+        put_owners(
+            &mut making.owners,
+            known,
+            body,
+            end_at(known.rows, body),
+            Wanted::FieldsOf(body),
+        );
     }
-    for member in &members {
-        making.construct(alloc, *member, &mut out.reads)?;
-    }
-    for member in &members {
-        making.note_left(*member, &mut out.finals)?;
+    make_all(alloc, known, &mut making, &members, verdicts)?;
+    note_all_left(known, &making, &members, finals)?;
+    Ok(())
+}
+
+fn note_bodies(
+    alloc: Global,
+    known: Known,
+    verdicts: &mut Vec<Option<bool>>,
+    finals: &mut Vec<u32>,
+) -> Result<(), OutOfMemory>
+    ensures { OnOk result (AreJudged known.entry.rows.now known.entry.facts.now known.entry.members.now verdicts.old.items → AreJudged known.entry.rows.now known.entry.facts.now known.entry.members.now verdicts.new.items) }
+{
+    let Ok(count) = u32::try_from(known.rows.len()) else {
+        return Err(OutOfMemory);
+    };
+    for at in 0..count {
+        if is_body(known.rows, at) {
+            note_body(alloc, known, at, verdicts, finals)?;
+        }
     }
     Ok(())
 }
 
-/// What is found in all bodies.
-pub(crate) fn found_in(
+/// Judges in all bodies the rows that read a local, and finds the blank final fields that are not assigned at an end.
+pub(crate) fn note_found(
     alloc: Global,
     rows: &[Row],
     facts: &[Fact],
     members: &[u32],
-) -> Result<Found, OutOfMemory>
-    requires { length rows.now < 2 ^ 32 }
+    verdicts: &mut Vec<Option<bool>>,
+    finals: &mut Vec<u32>,
+) -> Result<(), OutOfMemory>
+    ensures { OnOk result (AreJudged rows.now facts.now members.now verdicts.old.items → AreJudged rows.now facts.now members.now verdicts.new.items) }
 {
     let numbers = Numbers::of(alloc, rows, members)?;
     let known = Known {
         rows,
         facts,
         numbers: &numbers,
+        members,
     };
-    let mut found = Found {
-        reads: Vec::new(alloc),
-        finals: Vec::new(alloc),
-    };
-    for n in 0..rows.len() {
-        let at = n as u32;
-        if is_body(rows, at) {
-            note_body(alloc, known, at, &mut found)?;
-        }
-    }
-    Ok(found)
+    note_bodies(alloc, known, verdicts, finals)
 }

@@ -18,12 +18,10 @@ pub struct Fact {
     pub truth: Option<bool>,
     /// Where a break or continue goes to, if it has a target; `Return` at a return in a constructor.
     pub way: Option<Way>,
-    /// The block of a `finally`, or the body of a `for`.
+    /// The last part, where it has one: of a `for` its body, of a guarded `try` the block of its `finally`.
     pub last: Option<u32>,
     /// A switch has a label `default`.
     pub has_default: bool,
-    /// A constructor begins with a call `this(..)`.
-    pub hands_on: bool,
     /// The local that the row reads: a name of it that is not the target of a plain assignment.
     pub read: Option<u32>,
     /// The local, or the blank final field of what is made there, that is assigned once the parts of the row are done: an assignment, or a local with
@@ -33,23 +31,22 @@ pub struct Fact {
 
 /// What is known of a row of which nothing is.
 pub fn no_fact() -> Fact
-    ensures { result ≡ record { truth = None; way = None; last = None; has_default = false; hands_on = false; read = None; assigned = None } }
+    ensures { result ≡ record { truth = None; way = None; last = None; has_default = false; read = None; assigned = None } }
 {
     Fact {
         truth: None,
         way: None,
         last: None,
         has_default: false,
-        hands_on: false,
         read: None,
         assigned: None,
     }
 }
 
-pub(crate) fn fact_of(facts: &[Fact], at: u32) -> Fact
+pub(crate) fn fact_of(facts: &[Fact], at: usize) -> Fact
     ensures { result ≡ fact facts.now at }
 {
-    match facts.get(at as usize) {
+    match facts.get(at) {
         Some(known) => *known,
         None => no_fact(),
     }

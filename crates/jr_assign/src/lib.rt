@@ -3,9 +3,12 @@
 
 mod builders;
 mod classes;
+mod confirm;
+mod course;
 mod fact;
 mod faults;
 mod form;
+mod judge;
 mod law;
 mod member;
 mod numbers;

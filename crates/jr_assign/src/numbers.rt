@@ -50,6 +50,11 @@ impl Numbers {
         }
     }
 
+    /// For each row the number of the variable that it declares.
+    pub(crate) fn all(&self) -> &[Option<u32>] {
+        &self.numbers
+    }
+
     /// The number of the variable that a row declares, if it is followed.
     pub(crate) fn number(&self, at: u32) -> Option<u32> {
         match self.numbers.get(at as usize) {

@@ -5,7 +5,7 @@ ghost use Rattle.jr_assign.specs.Changes as changes;
 
 use crate::fact::{Fact, fact_of};
 use jr_places::{end_at, parent_at};
-use jr_tree::{Label, Row};
+use jr_tree::{Label, Row, ThisOrSuper};
 
 /// The sibling before a row, or the row round it where it is the first.
 pub(crate) fn previous_at(rows: &[Row], at: u32) -> u32 {
@@ -39,6 +39,39 @@ pub(crate) fn is_catch(rows: &[Row], at: u32) -> bool {
         },
         None => false,
     }
+}
+
+/// The row is a `try` with a `finally`.
+pub(crate) fn is_guarded(rows: &[Row], at: u32) -> bool {
+    match rows.get(at as usize) {
+        Some(row) => match row.label {
+            Label::Try { has_finally } => has_finally,
+            _ => false,
+        },
+        None => false,
+    }
+}
+
+fn is_handed_on(rows: &[Row], at: u32) -> bool {
+    match rows.get(at as usize) {
+        Some(row) => match row.label {
+            Label::ConstructorCall {
+                which: ThisOrSuper::This,
+            } => true,
+            _ => false,
+        },
+        None => false,
+    }
+}
+
+/// The constructor at a row begins with a call `this(..)`.
+pub(crate) fn hands_on(rows: &[Row], at: u32) -> bool {
+    for inside in at..end_at(rows, at) {
+        if is_handed_on(rows, inside) && parent_at(rows, parent_at(rows, inside)) == at {
+            return true;
+        }
+    }
+    false
 }
 
 /// The row is a class.
@@ -114,7 +147,7 @@ pub(crate) fn for_parts(
     ForParts {
         first: if has_first { Some(start) } else { None },
         condition: if has_condition { Some(test) } else { None },
-        body: match fact_of(facts, at).last {
+        body: match fact_of(facts, at as usize).last {
             Some(body) => body,
             None => update,
         },

@@ -49,7 +49,13 @@ impl Sets {
         }
     }
 
-    fn word(&self, set: Set, at: u32) -> u64 {
+    /// How many words a set has.
+    pub(crate) fn width(&self) -> u32 {
+        self.width
+    }
+
+    /// A word of a set.
+    pub(crate) fn word(&self, set: Set, at: u32) -> u64 {
         match set {
             Set::Nothing => 0,
             Set::Everything => u64::MAX,

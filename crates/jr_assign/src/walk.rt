@@ -1,9 +1,18 @@
 // What is assigned before and behind the rows of one member (JLS 16).
 
+ghost use Rattle.std.specs.Prelude.{◌≡◌, OnOk};
+ghost use Rattle.jr_assign.specs.Assigned.{guarded_in};
+ghost use Rattle.jr_assign.specs.Judged.{AreJudged};
+
+use crate::confirm::guarded_in;
+use crate::course::{self, Course};
 use crate::fact::{Fact, Way, fact_of};
 use crate::form::{Form, form_at};
+use crate::judge::Owners;
 use crate::numbers::Numbers;
-use crate::parts::{ForParts, first_of, for_parts, is_catch, previous_at, second_of, third_of};
+use crate::parts::{
+    ForParts, first_of, for_parts, is_catch, is_guarded, previous_at, second_of, third_of,
+};
 use crate::sets::{Set, Sets};
 use crate::turns::{Turn, turn_behind, turn_inside};
 use jr_base::OutOfMemory;
@@ -17,11 +26,13 @@ pub(crate) struct Known<'a> {
     pub(crate) rows: &'a [Row],
     pub(crate) facts: &'a [Fact],
     pub(crate) numbers: &'a Numbers,
+    /// The member that holds each row.
+    pub(crate) members: &'a [u32],
 }
 
 impl<'a> Known<'a> {
     pub(crate) fn fact(self, at: u32) -> Fact {
-        fact_of(self.facts, at)
+        fact_of(self.facts, at as usize)
     }
 }
 
@@ -246,17 +257,8 @@ impl<'a> Passage<'a> {
         Ok(set)
     }
 
-    fn enter(
-        &mut self,
-        sets: &mut Sets,
-        start: Set,
-        at: u32,
-        out: &mut Vec<u32>,
-    ) -> Result<(), OutOfMemory> {
+    fn enter(&mut self, sets: &mut Sets, start: Set, at: u32) -> Result<(), OutOfMemory> {
         let before = self.before(sets, start, at)?;
-        if is_unassigned(self.known, sets, before, at) {
-            out.push(at)?;
-        }
         let jumps = self.jumps.len();
         self.set(
             at,
@@ -353,6 +355,9 @@ impl<'a> Passage<'a> {
 
     fn try_gain(&mut self, sets: &mut Sets, at: u32) -> Result<Gain, OutOfMemory> {
         let tried = self.tried(sets, at)?;
+        if !is_guarded(self.known.rows, at) {
+            return Ok(plain(tried));
+        }
         let Some(last) = self.known.fact(at).last else {
             return Ok(plain(tried));
         };
@@ -495,11 +500,10 @@ impl<'a> Passage<'a> {
         sets: &mut Sets,
         start: Set,
         turn: Turn,
-        out: &mut Vec<u32>,
     ) -> Result<Option<Turn>, OutOfMemory> {
         match turn {
             Turn::Enter(at) => {
-                self.enter(sets, start, at, out)?;
+                self.enter(sets, start, at)?;
                 Ok(Some(turn_inside(self.known.rows, self.known.facts, at)))
             }
             Turn::Leave(at, last) => {
@@ -513,13 +517,13 @@ impl<'a> Passage<'a> {
     }
 
     // Walks through the member, from what is assigned before it.
-    fn run(&mut self, sets: &mut Sets, start: Set, out: &mut Vec<u32>) -> Result<(), OutOfMemory> {
+    fn run(&mut self, sets: &mut Sets, start: Set) -> Result<(), OutOfMemory> {
         let mut next = Some(Turn::Enter(self.root));
         for _turn in 0..self.seen.len().saturating_mul(2) {
             let Some(turn) = next else {
                 return Ok(());
             };
-            next = self.take(sets, start, turn, out)?;
+            next = self.take(sets, start, turn)?;
         }
         Ok(())
     }
@@ -557,26 +561,116 @@ fn constant(truth: Option<bool>, before: Set, found: Gain) -> Gain {
     }
 }
 
-// A local that is read at the row is not assigned before it.
-fn is_unassigned(known: Known, sets: &Sets, before: Set, at: u32) -> bool {
-    let Some(variable) = known.fact(at).read else {
-        return false;
-    };
-    match known.numbers.number(variable) {
-        Some(number) => !sets.has(before, number),
-        None => false,
+// What is assigned at the rows, of the variables of one word.
+fn words_of(
+    alloc: Global,
+    sets: &Sets,
+    seen: &[Seen],
+    word: u32,
+) -> Result<Vec<course::Seen>, OutOfMemory> {
+    let mut all = Vec::new(alloc);
+    for row in seen {
+        all.push(course::Seen {
+            before: sets.word(row.before, word),
+            done: sets.word(row.done, word),
+            yes: sets.word(row.yes, word),
+            no: sets.word(row.no, word),
+        })?;
     }
+    Ok(all)
 }
 
-/// Walks through a member from what is assigned before it, and adds the locals that are read and not assigned. What is assigned wherever it ends.
+// Judges the rows of a member by its table, for the variables of each word.
+fn judge_words(
+    known: Known,
+    sets: &Sets,
+    start: Set,
+    seen: &[Seen],
+    root: u32,
+    guarded: &[u32],
+    owners: &[Option<u32>],
+    verdicts: &mut Vec<Option<bool>>,
+    alloc: Global,
+) -> Result<(), OutOfMemory>
+    requires { guarded.now ≡ guarded_in known.rows.now root }
+    ensures { OnOk result (AreJudged known.entry.rows.now known.entry.facts.now known.entry.members.now verdicts.old.items → AreJudged known.entry.rows.now known.entry.facts.now known.entry.members.now verdicts.new.items) }
+{
+    for word in 0..sets.width() {
+        let table = words_of(alloc, sets, seen, word)?;
+        judge_word(
+            known,
+            word,
+            sets.word(start, word),
+            &table,
+            root,
+            guarded,
+            owners,
+            verdicts,
+        )?;
+    }
+    Ok(())
+}
+
+fn judge_word(
+    known: Known,
+    word: u32,
+    start: u64,
+    table: &[course::Seen],
+    root: u32,
+    guarded: &[u32],
+    owners: &[Option<u32>],
+    verdicts: &mut Vec<Option<bool>>,
+) -> Result<(), OutOfMemory>
+    requires { guarded.now ≡ guarded_in known.rows.now root }
+    ensures { OnOk result (AreJudged known.entry.rows.now known.entry.facts.now known.entry.members.now verdicts.old.items → AreJudged known.entry.rows.now known.entry.facts.now known.entry.members.now verdicts.new.items) }
+{
+    let course = Course {
+        rows: known.rows,
+        facts: known.facts,
+        numbers: known.numbers.all(),
+        from: word.saturating_mul(64),
+        root: root as usize,
+        seen: table,
+        guarded,
+    };
+    let round = Owners {
+        owners,
+        members: known.members,
+    };
+    course.judge(start, round, verdicts)
+}
+
+// Judges the rows of a member.
+fn judge_member(
+    alloc: Global,
+    known: Known,
+    sets: &Sets,
+    start: Set,
+    seen: &[Seen],
+    root: u32,
+    owners: &[Option<u32>],
+    verdicts: &mut Vec<Option<bool>>,
+) -> Result<(), OutOfMemory>
+    ensures { OnOk result (AreJudged known.entry.rows.now known.entry.facts.now known.entry.members.now verdicts.old.items → AreJudged known.entry.rows.now known.entry.facts.now known.entry.members.now verdicts.new.items) }
+{
+    let guarded = guarded_in(alloc, known.rows, root)?;
+    judge_words(
+        known, sets, start, seen, root, &guarded, owners, verdicts, alloc,
+    )
+}
+
+/// Walks through a member from what is assigned before it, and judges the locals that are read there. What is assigned wherever it ends.
 pub(crate) fn walk(
     alloc: Global,
     known: Known,
     sets: &mut Sets,
     start: Set,
     root: u32,
-    out: &mut Vec<u32>,
-) -> Result<Set, OutOfMemory> {
+    owners: &[Option<u32>],
+    verdicts: &mut Vec<Option<bool>>,
+) -> Result<Set, OutOfMemory>
+    ensures { OnOk result (AreJudged known.entry.rows.now known.entry.facts.now known.entry.members.now verdicts.old.items → AreJudged known.entry.rows.now known.entry.facts.now known.entry.members.now verdicts.new.items) }
+{
     let size = end_at(known.rows, root).saturating_sub(root);
     let mut passage = Passage {
         known,
@@ -584,6 +678,17 @@ pub(crate) fn walk(
         seen: vec![in alloc; unseen(); size as usize]?,
         jumps: Vec::new(alloc),
     };
-    passage.run(sets, start, out)?;
-    passage.ended(sets)
+    passage.run(sets, start)?;
+    judge_member(
+        alloc,
+        known,
+        sets,
+        start,
+        &passage.seen,
+        root,
+        owners,
+        verdicts,
+    )?;
+    let ended = passage.ended(sets)?;
+    Ok(ended)
 }

@@ -1,0 +1,221 @@
+-- What a confirmed table says of the rows of a member.
+use Rattle.std.proofs.Common.{◌≡◌, ◌≢◌, refl, sym, ◌∙◌, ap, ap₂, subst, ⊎_elim, arith, ℕ, zero, suc, ◌+◌, ◌-◌, ◌*◌, ◌%◌, ◌^◌, ◌<◌, ◌≤◌, Bool, true, false, not, ◌&&◌, if◌then◌else◌, List, [], ◌∷◌, length, Option, Some, None, nat_eq, nat_lt, bit_and, get_or, slice_index_or, slice_set}
+use Rattle.std.specs.Int.{bit_at}
+use Rattle.std.proofs.lemmas.Bool.{false≢true, cases_eq, cases_lt, cases_Bool, ltb-true, ltb-false}
+use Rattle.std.proofs.lemmas.Bool.Decides.{Decides-eqb}
+use Rattle.std.proofs.lemmas.List.{get_or-set_same, get_or-set_other, length-set}
+use Rattle.std.proofs.lemmas.Nat.{one_shl, pow_pos}
+use Rattle.std.proofs.lemmas.Nat.Bits.{and_pow, bit_at-zero, bit_at-lt, bit_at-pow_same, bit_at-pow_other}
+use Rattle.jr_tree.specs.declared.label.Label.{Label}
+use Rattle.jr_tree.specs.declared.label.Label.TheVariants as is
+use Rattle.jr_tree.specs.Rows.{Rows, label, end}
+use Rattle.jr_plain.specs.Search.{all_below}
+use Rattle.jr_assign.specs.declared.course.Course.{Course}
+use Rattle.jr_assign.specs.Changes.{Facts, fact, member_in}
+use Rattle.jr_assign.specs.Sets.{Sets, only}
+use Rattle.jr_assign.specs.Assigned.{Seen, Gain, AreAssigned, before_at, gain_at, met_at, guarded_in, has_parts, is_row}
+use Rattle.jr_assign.specs.Words.{bit_of, mask_of, mask, words, has_bit, bits_of, IsTold, HasBit, seen_by, sets_by, met_by}
+use Rattle.jr_assign.specs.Confirmed.{is_gain, before_of, is_right_at, is_right}
+use Rattle.jr_assign.specs.Judged.{IsJudged, AreJudged, Verdicts, verdict, number, is_owner, is_owned, is_owned_if, is_declared_owned, is_owned_at, are_owned, is_asked, judged_by, judged_at, IsConfirmed}
+use Rattle.jr_assign.proofs.Inside.{both_true, not_true}
+use Rattle.jr_assign.proofs.Bits.{each_word}
+
+pub each_below : (n : ℕ) (test : ℕ → Bool) → all_below n test ≡ true → (i : ℕ) → i < n → test i ≡ true
+each_below zero test e i lt = absurd (omega arith)
+each_below (suc n) test e i lt = let parts = both_true _ _ e in ⊎_elim (λ same. subst (λ j. test j ≡ true) (sym same) parts.1) (λ apart. each_below n test parts.0 i (omega arith)) (cases_eq i n)
+
+same : (x y : ℕ) → nat_eq x y ≡ true → x ≡ y
+same x y e = (Decides-eqb x y).0 e
+
+eq_true : (m n : ℕ) → m ≡ n → nat_eq m n ≡ true
+eq_true m n e = (Decides-eqb m n).1 e
+
+eq_false : (m n : ℕ) → m ≢ n → nat_eq m n ≡ false
+eq_false m n apart = ⊎_elim (λ t. absurd (apart ((Decides-eqb m n).0 t))) (λ f. f) (cases_Bool (nat_eq m n))
+
+-- ---- a variable with a bit
+
+record BitOf (from : ℕ) (o : Option ℕ) : Type 0 where
+  number : ℕ
+  is : o ≡ Some number
+  low : from ≤ number
+  small : number - from < 64
+  mask : mask_of from o ≡ 2 ^ (number - from)
+
+bit_told : (from : ℕ) (o : Option ℕ) → nat_eq (mask_of from o) 0 ≡ false → BitOf from o
+bit_told from None e = absurd (false≢true (sym e))
+bit_told from (Some k) e = by (nat_lt k from) (nat_lt (k - from) 64) refl refl e
+  where
+    by : (b d : Bool) → nat_lt k from ≡ b → nat_lt (k - from) 64 ≡ d → nat_eq (if b then 0 else (if d then 1 * 2 ^ (k - from) % 2 ^ 64 else 0)) 0 ≡ false → BitOf from (Some k)
+    by true d eb ed e = absurd (false≢true (sym e))
+    by false false eb ed e = absurd (false≢true (sym e))
+    by false true eb ed e = let small = ltb-true (k - from) 64 ed in record {
+      number = k;
+      is = refl;
+      low = ltb-false k from eb;
+      small = small;
+      mask = ap (λ b. if b then 0 else (if nat_lt (k - from) 64 then 1 * 2 ^ (k - from) % 2 ^ 64 else 0)) eb ∙ ap (λ d. if d then 1 * 2 ^ (k - from) % 2 ^ 64 else 0) ed ∙ one_shl (k - from) 64 small;
+    }
+
+-- the bit of another number is none of this one
+mask_bit : (from k j : ℕ) → j < 64 → from + j ≢ k → has_bit j (mask_of from (Some k)) ≡ false
+mask_bit from k j small apart = by (nat_lt k from) (nat_lt (k - from) 64) refl refl
+  where
+    none : nat_eq (bit_at 0 j) 1 ≡ false
+    none = ap (λ b. nat_eq b 1) (bit_at-zero j)
+
+    by : (b d : Bool) → nat_lt k from ≡ b → nat_lt (k - from) 64 ≡ d → nat_eq (bit_at (if b then 0 else (if d then 1 * 2 ^ (k - from) % 2 ^ 64 else 0)) j) 1 ≡ false
+    by true d eb ed = none
+    by false false eb ed = none
+    by false true eb ed = let low = ltb-false k from eb in ap (λ m. nat_eq (bit_at m j) 1) (one_shl (k - from) 64 (ltb-true _ _ ed)) ∙ ap (λ b. nat_eq b 1) (bit_at-pow_other (k - from) j (λ e. apart (omega arith)))
+
+module _ (c : Course) (owners : List (Option ℕ)) (v : ℕ) (bit : BitOf c.from (number c v)) (owned : is_owned c owners v ≡ true) where
+  abbrev j : ℕ
+  j = bit.number - c.from
+
+  back : c.from + j ≡ bit.number
+  back = let low = bit.low in omega arith
+
+  own : is_row (slice_index_or owners bit.number None) v ≡ true
+  own = sym (ap (λ o. is_owner owners o v) bit.is) ∙ owned
+
+  mask_is : mask c.numbers.now c.from v ≡ 2 ^ j
+  mask_is = bit.mask
+
+  told_by : (o : Option ℕ) (d : ℕ) → number c d ≡ o → is_owner owners o d ≡ true → has_bit j (mask_of c.from o) ≡ nat_eq d v
+  told_by None d e h = ap (λ b. nat_eq b 1) (bit_at-zero j) ∙ sym (eq_false d v (λ at. absurd (none_some (sym e ∙ ap (number c) at ∙ bit.is))))
+    where
+      none_some : {k : ℕ} → None ≡ Some k → ⊥
+      none_some e = cc
+  told_by (Some k) d e h = ⊎_elim
+      (λ at. let one = one_row (slice_index_or owners k None) d v h (ap (λ k. is_row (slice_index_or owners k None) v) at ∙ own) in
+      ap (λ o. has_bit j (mask_of c.from o)) (sym e ∙ ap (number c) one) ∙ ap (has_bit j) bit.mask ∙ ap (λ b. nat_eq b 1) (bit_at-pow_same j) ∙ sym (eq_true d v one))
+      (λ apart. mask_bit c.from k j bit.small (λ at. let over = back in apart (omega arith)) ∙ sym (eq_false d v (λ at. apart (some_same (sym e ∙ ap (number c) at ∙ bit.is)))))
+      (cases_eq k bit.number)
+    where
+      some_same : {k l : ℕ} → Some k ≡ Some l → k ≡ l
+      some_same e = cc
+
+      one_row : (o : Option ℕ) (d v : ℕ) → is_row o d ≡ true → is_row o v ≡ true → d ≡ v
+      one_row None d v a b = absurd (false≢true a)
+      one_row (Some m) d v a b = sym (same m d a) ∙ same m v b
+
+  told : (d : ℕ) → is_owned c owners d ≡ true → IsTold c.numbers.now c.from v j d
+  told d h = told_by (number c d) d refl h
+
+  declared_told : (l : Label) (n : ℕ) (is_final : Bool) (dims : ℕ) → l ≡ is.Local is_final dims → is_declared_owned l c owners n ≡ true → is_owned c owners n ≡ true
+  declared_told l n is_final dims e h = sym (ap (λ l. is_declared_owned l c owners n) e) ∙ h
+
+  assigned_told : (o : Option ℕ) (d : ℕ) → o ≡ Some d → is_owned_if c owners o ≡ true → is_owned c owners d ≡ true
+  assigned_told o d e h = sym (ap (is_owned_if c owners) e) ∙ h
+
+  has_bit_of : are_owned c owners ≡ true → HasBit c.numbers.now c.from v j c.rows.now c.facts.now c.root
+  has_bit_of all = record {
+    small = bit.small;
+    declared = λ n low high is_final dims e. told n (declared_told (label c.rows.now n) n is_final dims e (both_true _ _ (at_row n (omega arith) high)).0);
+    assigned = λ n low high d e. told d (assigned_told (fact c.facts.now n).assigned d e (both_true _ _ (at_row n low high)).1);
+  }
+    where
+      at_row : (n : ℕ) → c.root ≤ n → n < end c.rows.now c.root → is_owned_at c owners n ≡ true
+      at_row n low high = let back : c.root + (n - c.root) ≡ n = omega arith in subst (λ n. is_owned_at c owners n ≡ true) back
+          (each_below (end c.rows.now c.root - c.root) (λ i. is_owned_at c owners (c.root + i)) all (n - c.root) (omega arith))
+
+-- ---- a table that is confirmed
+
+module _ (c : Course) (start : ℕ) (owners : List (Option ℕ)) (sure : IsConfirmed c start owners) where
+  right_at : (n : ℕ) → c.root ≤ n → n < end c.rows.now c.root → is_right_at c start n ≡ true
+  right_at n low high = let back : c.root + (n - c.root) ≡ n = omega arith in subst (λ n. is_right_at c start n ≡ true) back
+      (each_below (end c.rows.now c.root - c.root) (λ i. is_right_at c start (c.root + i)) sure.right (n - c.root) (omega arith))
+
+  before_is : (n : ℕ) → c.root ≤ n → n < end c.rows.now c.root → (seen_by c n).before ≡ before_of c start n
+  before_is n low high = same _ _ (both_true _ _ (both_true _ _ (right_at n low high)).1).0
+
+  abbrev gain : ℕ → Gain ℕ
+  gain n = gain_at (sets_by c) c.rows.now c.facts.now (seen_by c) (met_by c) n
+
+  gain_is : (n : ℕ) → c.root ≤ n → n < end c.rows.now c.root → is_gain (gain n) (seen_by c n) ≡ true
+  gain_is n low high = (both_true _ _ (both_true _ _ (right_at n low high)).1).1
+
+  of_guarded : (n : ℕ) → gain n ≡ gain_at (sets_by c) c.rows.now c.facts.now (seen_by c) (met_at (sets_by c) c.rows.now c.facts.now (guarded_in c.rows.now c.root) (seen_by c)) n
+  of_guarded n = ap (λ ts. gain_at (sets_by c) c.rows.now c.facts.now (seen_by c) (met_at (sets_by c) c.rows.now c.facts.now ts (seen_by c)) n) sure.guarded
+
+  are_assigned : c.root < end c.rows.now c.root → AreAssigned (words c.numbers.now c.from) c.rows.now c.facts.now c.root start (seen_by c)
+  are_assigned some = record {
+    begins = before_is c.root (omega arith) some ∙ ap (λ b. if b then start else before_at (sets_by c) c.rows.now c.facts.now (seen_by c) (met_by c) c.root) (eq_true c.root c.root refl);
+    before = λ n low high. before_is n (omega arith) high ∙ ap (λ b. if b then start else before_at (sets_by c) c.rows.now c.facts.now (seen_by c) (met_by c) n) (eq_false n c.root (λ e. absurd (omega arith)))
+        ∙ ap (λ ts. before_at (sets_by c) c.rows.now c.facts.now (seen_by c) (met_at (sets_by c) c.rows.now c.facts.now ts (seen_by c)) n) sure.guarded;
+    done = λ n low high. same _ _ (both_true _ _ (gain_is n low high)).0 ∙ ap (λ (g : Gain ℕ). g.done) (of_guarded n);
+    yes = λ n low high. same _ _ (both_true _ _ (both_true _ _ (gain_is n low high)).1).0 ∙ ap (λ (g : Gain ℕ). g.yes) (of_guarded n);
+    no = λ n low high. same _ _ (both_true _ _ (both_true _ _ (gain_is n low high)).1).1 ∙ ap (λ (g : Gain ℕ). g.no) (of_guarded n);
+  }
+
+  -- the bit of a word, as it is tested
+  bit_tested : (x m k : ℕ) → m ≡ 2 ^ k → not (nat_eq (bit_and x m) 0) ≡ has_bit k x
+  bit_tested x m k e = ap (λ m. not (nat_eq (bit_and x m) 0)) e ∙ ap (λ b. not (nat_eq b 0)) (and_pow x k) ∙ by (bit_at x k) (bit_at-lt x k)
+    where
+      by : (b : ℕ) → b < 2 → not (nat_eq (b * 2 ^ k) 0) ≡ nat_eq b 1
+      by zero lt = ap not (eq_true (0 * 2 ^ k) 0 (omega arith))
+      by (suc zero) lt = ap not (eq_false (1 * 2 ^ k) 0 (λ e. let some = pow_pos k in absurd (omega arith)))
+      by (suc (suc b)) lt = absurd (omega arith)
+
+  module _ (held : List ℕ) (v n : ℕ) (read : (fact c.facts.now n).read ≡ Some v) (asked : is_asked c start owners held v n ≡ true) (low : c.root ≤ n) (high : n < end c.rows.now c.root) where
+    asks : (not (nat_eq (mask c.numbers.now c.from v) 0) ≡ true) × ((nat_eq (bit_and start (mask c.numbers.now c.from v)) 0 && (is_owned c owners v && nat_eq (member_in held n) c.root)) ≡ true)
+    asks = both_true _ _ asked
+
+    bit : BitOf c.from (number c v)
+    bit = bit_told c.from (number c v) (not_true _ asks.0)
+
+    owned : is_owned c owners v ≡ true
+    owned = (both_true _ _ (both_true _ _ asks.1).1).0
+
+    holder : member_in held n ≡ c.root
+    holder = same _ _ (both_true _ _ (both_true _ _ asks.1).1).1
+
+    unset : has_bit (bit.number - c.from) start ≡ false
+    unset = sym (bit_tested start (mask c.numbers.now c.from v) (bit.number - c.from) bit.mask) ∙ ap not (both_true _ _ asks.1).0
+
+    judged : IsJudged c.rows.now c.facts.now (member_in held n) n (not (nat_eq (bit_and (seen_by c n).before (mask c.numbers.now c.from v)) 0))
+    judged = subst (λ root. IsJudged c.rows.now c.facts.now root n (not (nat_eq (bit_and (seen_by c n).before (mask c.numbers.now c.from v)) 0))) (sym holder) (record {
+      variable = v;
+      read = read;
+      table = bits_of (bit.number - c.from) (seen_by c);
+      assigned = subst (λ b. AreAssigned (only v) c.rows.now c.facts.now c.root b (bits_of (bit.number - c.from) (seen_by c))) unset
+          (each_word c.numbers.now c.from v (bit.number - c.from) c.rows.now c.facts.now c.root start (seen_by c) (has_bit_of c owners v bit owned sure.owned) (are_assigned (omega arith)));
+      parts = λ m from to. (both_true _ _ (right_at m from to)).0;
+      low = low;
+      high = high;
+      is = sym (bit_tested (seen_by c n).before (mask c.numbers.now c.from v) (bit.number - c.from) bit.mask);
+    })
+
+-- one row more
+pub judged_more : (c : Course) (start : ℕ) (owners : List (Option ℕ)) (held : List ℕ) → IsConfirmed c start owners → (n : ℕ) → c.root ≤ n → n < end c.rows.now c.root → (old new : Verdicts)
+    → AreJudged c.rows.now c.facts.now held old → new ≡ judged_at c start owners held n old → AreJudged c.rows.now c.facts.now held new
+judged_more c start owners held sure n low high old new are is = subst (AreJudged c.rows.now c.facts.now held) (sym is) (by (fact c.facts.now n).read refl)
+  where
+    put : (x : Bool) → IsJudged c.rows.now c.facts.now (member_in held n) n x → AreJudged c.rows.now c.facts.now held (slice_set old n (Some x))
+    put x judged = record {
+      each = λ m b e. ⊎_elim
+          (λ at. ⊎_elim
+          (λ lt. subst (λ m. IsJudged c.rows.now c.facts.now (member_in held m) m b) (sym at) (subst (IsJudged c.rows.now c.facts.now (member_in held n) n) (some_same (sym (get_or-set_same old n (Some x) None lt) ∙ sym (ap (λ m. verdict (slice_set old n (Some x)) m) at) ∙ e)) judged))
+          (λ past. are.each m b (sym (ap (λ all. verdict all m) (set_past old n (Some x) past)) ∙ e))
+          (cases_lt n (length old)))
+          (λ apart. are.each m b (sym (get_or-set_other old n m (Some x) None apart) ∙ e))
+          (cases_eq m n);
+    }
+      where
+        some_same : {a b : Bool} → Some a ≡ Some b → a ≡ b
+        some_same e = cc
+
+        set_past : (xs : Verdicts) (i : ℕ) (x : Option Bool) → length xs ≤ i → slice_set xs i x ≡ xs
+        set_past [] i x le = refl
+        set_past (y ∷ ys) zero x le = absurd (omega arith)
+        set_past (y ∷ ys) (suc i) x le = ap (λ l. y ∷ l) (set_past ys i x (omega arith))
+
+    choose : (v : ℕ) → (fact c.facts.now n).read ≡ Some v → (b : Bool) → is_asked c start owners held v n ≡ b
+        → AreJudged c.rows.now c.facts.now held (if b then slice_set old n (Some (not (nat_eq (bit_and (seen_by c n).before (mask c.numbers.now c.from v)) 0))) else old)
+    choose v read true asked = put _ (judged c start owners sure held v n read asked low high)
+    choose v read false asked = are
+
+    by : (o : Option ℕ) → (fact c.facts.now n).read ≡ o → AreJudged c.rows.now c.facts.now held (judged_by c start owners held o n old)
+    by None read = are
+    by (Some v) read = choose v read (is_asked c start owners held v n) refl

@@ -1,0 +1,9 @@
+use Rattle.std.proofs.Common.{◌≡◌, ◌+◌}
+use Rattle.jr_assign.specs.Changes.{fact}
+use Rattle.jr_assign.specs.Sets.{both_of}
+use Rattle.jr_assign.specs.Assigned.{is_break_to, arrives}
+use Rattle.jr_assign.specs.Words.{sets_by, seen_by}
+use Rattle.jr_assign.proofs.course.Course.broken.Given as goal
+
+abbrev pub invariant-loop-inside : goal.invariant-loop-inside
+invariant-loop-inside l = l.set ≡ both_of (sets_by l.self) (λ i. is_break_to (fact l.self.facts.now (l.at + 1 + i)).way l.at) (λ i. arrives (sets_by l.self) l.self.rows.now l.self.facts.now l.self.guarded.now (seen_by l.self) (l.at + 1 + i)) l.inside
