@@ -1,5 +1,5 @@
 -- The rows at which a final variable is changed are found, and no others.
-use Rattle.std.proofs.Common.{◌≡◌, ◌⊎◌, refl, sym, ◌∙◌, ap, ap₂, subst, inl, inr, ⊎_elim, arith, ℕ, zero, suc, ◌+◌, ◌<◌, ◌≤◌, Bool, true, false, not, ◌&&◌, ◌||◌, if◌then◌else◌, List, [], ◌∷◌, ◌++◌, length, Option, Some, None, nat_eq, nat_lt, get_or}
+use Rattle.std.proofs.Common.{◌≡◌, ◌⊎◌, refl, sym, ◌∙◌, ap, subst, inl, inr, ⊎_elim, arith, ℕ, zero, suc, ◌+◌, ◌<◌, ◌≤◌, Bool, true, false, not, ◌&&◌, ◌||◌, if◌then◌else◌, List, [], ◌∷◌, ◌++◌, length, Option, Some, None, nat_eq, get_or}
 use Rattle.std.proofs.lemmas.Bool.{false≢true, cases_eq, lt-ltb, ltb-true, or_cases}
 use Rattle.std.proofs.lemmas.Bool.Decides.{Decides-eqb}
 use Rattle.std.proofs.lemmas.List.{length-append}
@@ -19,9 +19,8 @@ use Rattle.jr_tree.specs.Labels.{role_of}
 use Rattle.jr_defs.specs.declared.referent.Referent.{Referent}
 use Rattle.jr_defs.specs.declared.referent.Referent.TheVariants.{Declared}
 use Rattle.jr_defs.specs.Referents.{Table}
-use Rattle.jr_plain.specs.Search.{all_such, has}
+use Rattle.jr_plain.specs.Search.{has}
 use Rattle.jr_plain.proofs.Searches.{such}
-use Rattle.jr_places.specs.Tabulated.{tabulated}
 use Rattle.jr_places.proofs.Tables.{tabulated_at}
 use Rattle.jr_rule.specs.declared.Fault.{Fault}
 use Rattle.jr_rule.specs.declared.Rule.TheVariants as rule
@@ -174,11 +173,15 @@ module _ (p : Rows) (t : Table) (local : IsLocal p) where
   changed_by_told operand.Target n e = refl
   changed_by_told operand.Changed n e = refl
 
-  pub wrong_told : (rule n : ℕ) → BreaksAssignment p t rule n → has (final_rows p t) n ≡ true
-  wrong_told _ n (BreaksAssignment.changed {v = v} lt changed refers fixed) =
+  wrong_in : (rule n : ℕ) → rule ≡ 39 → BreaksAssignment p t rule n → has (final_rows p t) n ≡ true
+  wrong_in _ n e (BreaksAssignment.unassigned a b c) = absurd (omega arith)
+  wrong_in _ n e (BreaksAssignment.changed {v = v} lt changed refers fixed) =
       let is : get_or (changes p t (length p)) n None ≡ Some v = tabulated_at (changed_in p t (operands p (length p))) None (length p) n lt
       ∙ changed_by_told (op n) n (changed_told n lt changed) ∙ ap (λ r. variable_of p (declared r)) refers ∙ variable_told n v fixed in
       (such (is_wrong_at p (changes p t (length p)) held) (length p) n).1 (lt, ap (λ o. is_changed_wrongly p held o n) is ∙ fixed_told n v lt fixed)
+
+  pub wrong_told : (n : ℕ) → BreaksAssignment p t 39 n → has (final_rows p t) n ≡ true
+  wrong_told n = wrong_in 39 n refl
 
   -- ---- what is found breaks the rule
 
@@ -275,5 +278,5 @@ pub finals_exact : (view : View) (old new : List Fault) → IsLocal (rows_in vie
 finals_exact view old new local are = record {
   rows = final_rows (rows_in view) (table_in view);
   are = are;
-  each = λ n. (wrong_breaks (rows_in view) (table_in view) local n, wrong_told (rows_in view) (table_in view) local 39 n);
+  each = λ n. (wrong_breaks (rows_in view) (table_in view) local n, wrong_told (rows_in view) (table_in view) local n);
 }

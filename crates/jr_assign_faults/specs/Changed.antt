@@ -1,5 +1,5 @@
 -- Which variables are assigned or stepped, and where that breaks the rule on finals (JLS 4.12.4, 8.3.1.2, 15.14, 15.15, 15.26).
-use Rattle.std.specs.Prelude.{ℕ, zero, suc, ◌+◌, Bool, true, false, if◌then◌else◌, List, [], ◌∷◌, ◌++◌, length, Option, Some, None, nat_eq, slice_index_or}
+use Rattle.std.specs.Prelude.{ℕ, zero, suc, ◌+◌, if◌then◌else◌, List, [], ◌∷◌, ◌++◌, length, Option, Some, None, nat_eq, slice_index_or}
 use Rattle.jr_base.specs.declared.kind.Symbol.{Symbol}
 use Rattle.jr_base.specs.declared.kind.Symbol.TheVariants as y
 use Rattle.jr_tree.specs.declared.label.Label.{Label}
@@ -8,7 +8,6 @@ use Rattle.jr_tree.specs.declared.label.Role.{Role}
 use Rattle.jr_tree.specs.declared.label.Role.TheVariants as role
 use Rattle.jr_tree.specs.Rows.{Rows, label, parent, role_at}
 use Rattle.jr_defs.specs.Referents.{Table, entries}
-use Rattle.jr_plain.specs.Search.{all_such}
 use Rattle.jr_places.specs.Tabulated.{tabulated}
 use Rattle.jr_supers.specs.Tabled.{declared}
 use Rattle.jr_view.specs.declared.View.{View}

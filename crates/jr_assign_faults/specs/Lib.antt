@@ -1,3 +1,4 @@
 pub mod Changed
+pub mod Known
 pub mod Finals
 pub mod Faults

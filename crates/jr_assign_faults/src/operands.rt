@@ -1,6 +1,8 @@
 // Which rows are the operand of an assignment or a step.
-ghost use Rattle.std.specs.Prelude.{◌≡◌, ◌+◌, ◌<◌, ◌^◌, IfOk, length};
+ghost use Rattle.std.specs.Prelude.{◌≡◌, ◌+◌, ◌<◌, ◌^◌, true, IfOk, length};
+ghost use Rattle.jr_tree.specs.Rows.{label};
 ghost use Rattle.jr_assign_faults.specs.Changed as tell;
+ghost use Rattle.jr_assign_faults.specs.Known.{bare, is_paren};
 
 use jr_base::{OutOfMemory, Symbol};
 use jr_places::parent_at;
@@ -84,7 +86,10 @@ pub(crate) fn operands_of(
     Ok(all)
 }
 
-fn is_paren(rows: &[Row], at: u32) -> bool {
+fn is_paren(rows: &[Row], at: u32) -> bool
+    ensures is { result ≡ is_paren (label rows.now at) }
+    ensures inside { result ≡ true → at < length rows.now }
+{
     match rows.get(at as usize) {
         Some(row) => match row.label {
             Label::Paren => true,
@@ -95,7 +100,10 @@ fn is_paren(rows: &[Row], at: u32) -> bool {
 }
 
 /// What stands in the parentheses at a row, if there are some.
-pub(crate) fn bare(rows: &[Row], at: u32) -> u32 {
+#[tactic(auto, using(crate::proofs::Known::bare_stops))]
+pub(crate) fn bare(rows: &[Row], at: u32) -> u32
+    ensures { length rows.now < 2 ^ 32 → result ≡ bare rows.now (length rows.now) at }
+{
     let mut inner = at;
     for _turn in 0..rows.len() {
         if !is_paren(rows, inner) {

@@ -1,44 +1,29 @@
-// Which variable a row reads, assigns or changes.
+// Which variable a row reads or assigns (JLS 14.4, 15.26, 16).
+ghost use Rattle.std.specs.Prelude.{◌≡◌, ◌+◌, ◌<◌, ◌^◌, length};
+ghost use Rattle.jr_tree.specs.Rows.{label, role_at};
+ghost use Rattle.jr_defs.specs.Referents.{entries};
+ghost use Rattle.jr_supers.specs.Tabled.{declared};
+ghost use Rattle.jr_assign.specs.Changes.{field_body, member_in};
+ghost use Rattle.jr_assign_faults.specs.Known as tell;
 
 use crate::operands::{Operand, bare};
 use jr_places::{end_at, parent_at, role_at};
 use jr_supers::Tabled;
 use jr_tree::{Label, Role, Row};
 
-/// A program under its table, and for each row the member that holds it.
-#[derive(Clone, Copy)]
-pub(crate) struct Program<'a> {
-    pub(crate) under: &'a Tabled<'a>,
-    pub(crate) members: &'a [u32],
-}
-
-// The body of a class that is made by a member, and whether it makes the class or an instance.
-#[derive(Clone, Copy)]
-struct Maker {
-    body: u32,
-    is_static: bool,
-}
-
-fn maker_of(rows: &[Row], member: u32) -> Option<Maker> {
-    let over = parent_at(rows, member);
-    match rows.get(member as usize)?.label {
-        Label::Constructor { .. } => Some(Maker {
-            body: over,
-            is_static: false,
-        }),
-        Label::Initializer { is_static } => Some(Maker {
-            body: over,
-            is_static,
-        }),
-        Label::Field { modifiers, .. } => Some(Maker {
-            body: parent_at(rows, over),
-            is_static: modifiers.is_static,
-        }),
-        _ => None,
+/// The member that holds a row.
+pub(crate) fn member_of(members: &[u32], at: u32) -> u32
+    ensures { result ≡ member_in members.now at }
+{
+    match members.get(at as usize) {
+        Some(member) => *member,
+        None => 0,
     }
 }
 
-fn is_static_field(rows: &[Row], field: u32) -> bool {
+fn is_static_field(rows: &[Row], field: u32) -> bool
+    ensures { result ≡ tell.is_static_field (label rows.now field) }
+{
     match rows.get(field as usize) {
         Some(row) => match row.label {
             Label::Field { modifiers, .. } => modifiers.is_static,
@@ -48,132 +33,165 @@ fn is_static_field(rows: &[Row], field: u32) -> bool {
     }
 }
 
-fn is_simple_name(rows: &[Row], at: u32) -> bool {
-    match rows.get(at as usize) {
-        Some(row) => match row.label {
-            Label::Name {
-                is_qualified: false,
-                ..
-            } => true,
-            _ => false,
-        },
-        None => false,
-    }
+fn is_same(first: bool, second: bool) -> bool
+    ensures { result ≡ tell.is_same first second }
+{
+    if first { second } else { !second }
 }
 
-fn is_name(rows: &[Row], at: u32) -> bool {
-    match rows.get(at as usize) {
-        Some(row) => match row.label {
-            Label::Name { .. } => true,
-            _ => false,
-        },
-        None => false,
-    }
+// The body in which a field stands.
+fn body_of_field(rows: &[Row], field: u32) -> u32
+    ensures { result ≡ field_body rows.now field }
+{
+    parent_at(rows, parent_at(rows, field))
 }
 
-fn is_this(rows: &[Row], at: u32) -> bool {
-    match rows.get(at as usize) {
+// The member makes what a field of the body belongs to: the class, or an instance of it.
+fn makes(rows: &[Row], member: u32, body: u32, is_static: bool) -> bool
+    ensures { result ≡ tell.makes (label rows.now member) rows.now member body is_static }
+{
+    match rows.get(member as usize) {
         Some(row) => match row.label {
-            Label::This {
-                is_qualified: false,
-            } => true,
-            _ => false,
-        },
-        None => false,
-    }
-}
-
-// A field of `this`, by its simple name behind the dot.
-fn is_of_this(rows: &[Row], at: u32) -> bool {
-    match rows.get(at as usize) {
-        Some(row) => match row.label {
-            Label::Select => is_this(rows, at.saturating_add(1)),
-            _ => false,
-        },
-        None => false,
-    }
-}
-
-impl<'a> Program<'a> {
-    pub(crate) fn rows(&self) -> &'a [Row] {
-        let under = self.under;
-        under.rows
-    }
-
-    fn member(&self, at: u32) -> u32 {
-        match self.members.get(at as usize) {
-            Some(member) => *member,
-            None => 0,
-        }
-    }
-
-    /// The row stands in a constructor.
-    pub(crate) fn is_in_constructor(&self, at: u32) -> bool {
-        match self.rows().get(self.member(at) as usize) {
-            Some(row) => match row.label {
-                Label::Constructor { .. } => true,
-                _ => false,
-            },
-            None => false,
-        }
-    }
-
-    // The field is one of the class or instance that is made where the row stands.
-    fn is_made_at(&self, field: u32, at: u32) -> bool {
-        let rows = self.rows();
-        let Some(maker) = maker_of(rows, self.member(at)) else {
-            return false;
-        };
-        let body = parent_at(rows, parent_at(rows, field));
-        maker.body == body && maker.is_static == is_static_field(rows, field)
-    }
-
-    // The variable that the target of an assignment assigns (JLS 16): a local, or a field by its simple name, or by `this.` and it.
-    fn assigned_by(&self, target: u32) -> Option<u32> {
-        let under = self.under;
-        let rows = under.rows;
-        let variable = under.declared(target)?;
-        match role_at(rows, variable) {
-            Role::Local => Some(variable),
-            Role::Field => {
-                let is_own = is_simple_name(rows, target) || is_of_this(rows, target);
-                if is_own && self.is_made_at(variable, target) {
-                    Some(variable)
-                } else {
-                    None
-                }
+            Label::Constructor { .. } => parent_at(rows, member) == body && !is_static,
+            Label::Initializer {
+                is_static: of_class,
+            } => parent_at(rows, member) == body && is_same(of_class, is_static),
+            Label::Field { modifiers, .. } => {
+                body_of_field(rows, member) == body && is_same(modifiers.is_static, is_static)
             }
-            _ => None,
-        }
+            _ => false,
+        },
+        None => false,
     }
+}
 
-    /// The variable that is assigned once the parts of the row are done.
-    pub(crate) fn assigned_at(&self, at: u32) -> Option<u32> {
-        let first = at.checked_add(1)?;
-        match self.rows().get(at as usize)?.label {
-            Label::Assign { .. } => self.assigned_by(bare(self.rows(), first)),
-            Label::Local { .. } => {
-                if end_at(self.rows(), at) > first {
-                    Some(at)
-                } else {
-                    None
-                }
-            }
-            _ => None,
-        }
+fn is_this(rows: &[Row], at: u32) -> bool
+    ensures { result ≡ tell.is_this (label rows.now at) }
+{
+    match rows.get(at as usize) {
+        Some(row) => match row.label {
+            Label::This { is_qualified } => !is_qualified,
+            _ => false,
+        },
+        None => false,
     }
+}
 
-    /// The local that the row reads.
-    pub(crate) fn read_at(&self, operand: Operand, at: u32) -> Option<u32> {
-        let under = self.under;
-        let rows = under.rows;
-        if !is_name(rows, at) || operand == Operand::Target {
-            return None;
-        }
-        let variable = under.declared(at)?;
-        match role_at(rows, variable) {
+// A field by its simple name, or by `this.` and that, where the row has this label.
+fn is_own_in(label: &Label, rows: &[Row], at: u32) -> bool
+    ensures { at + 1 < 2 ^ 32 → result ≡ tell.is_own label.now rows.now at }
+{
+    match label {
+        Label::Name { is_qualified, .. } => !*is_qualified,
+        Label::Select => is_this(rows, at.saturating_add(1)),
+        _ => false,
+    }
+}
+
+fn is_own(rows: &[Row], at: u32) -> bool
+    ensures { length rows.now < 2 ^ 32 → result ≡ tell.is_own (label rows.now at) rows.now at }
+{
+    match rows.get(at as usize) {
+        Some(row) => is_own_in(&row.label, rows, at),
+        None => false,
+    }
+}
+
+// The variable, where it is a field of what is made where the target of an assignment stands.
+fn field_by(rows: &[Row], members: &[u32], target: u32, variable: u32) -> Option<u32>
+    ensures { length rows.now < 2 ^ 32 → result ≡ tell.field_by rows.now (member_in members.now target) target variable }
+{
+    let is_made = makes(
+        rows,
+        member_of(members, target),
+        body_of_field(rows, variable),
+        is_static_field(rows, variable),
+    );
+    if is_own(rows, target) && is_made {
+        Some(variable)
+    } else {
+        None
+    }
+}
+
+// The variable that the target of an assignment assigns: a local, or such a field.
+fn target_by(rows: &[Row], members: &[u32], target: u32, variable: u32) -> Option<u32>
+    ensures { length rows.now < 2 ^ 32 → result ≡ tell.target_by (role_at rows.now variable) rows.now (member_in members.now target) target variable }
+{
+    match role_at(rows, variable) {
+        Role::Local => Some(variable),
+        Role::Field => field_by(rows, members, target, variable),
+        _ => None,
+    }
+}
+
+fn target_at(under: &Tabled, members: &[u32], target: u32) -> Option<u32>
+    ensures { length under.now.rows.now < 2 ^ 32 → result ≡ tell.target_at under.now.rows.now (entries under.now.table.now) members.now target }
+{
+    match under.declared(target) {
+        Some(variable) => target_by(under.rows, members, target, variable),
+        None => None,
+    }
+}
+
+// A local, where it has an initializer.
+fn valued_local(rows: &[Row], at: u32) -> Option<u32>
+    requires { at + 1 < 2 ^ 32 }
+    ensures { result ≡ tell.valued_local rows.now at }
+{
+    if at + 1 < end_at(rows, at) {
+        Some(at)
+    } else {
+        None
+    }
+}
+
+/// The variable that is assigned once the parts of the row are done.
+pub(crate) fn assigned_at(under: &Tabled, members: &[u32], at: u32) -> Option<u32>
+    requires { at + 1 < 2 ^ 32 }
+    ensures { length under.now.rows.now < 2 ^ 32 → result ≡ tell.assigned_by (label under.now.rows.now at) under.now.rows.now (entries under.now.table.now) members.now at }
+{
+    match under.rows.get(at as usize) {
+        Some(row) => match row.label {
+            Label::Assign { .. } => target_at(under, members, bare(under.rows, at + 1)),
+            Label::Local { .. } => valued_local(under.rows, at),
+            _ => None,
+        },
+        None => None,
+    }
+}
+
+fn is_read(operand: Operand) -> bool
+    ensures { result ≡ tell.is_read operand }
+{
+    match operand {
+        Operand::Target => false,
+        _ => true,
+    }
+}
+
+fn local_of(rows: &[Row], declared: Option<u32>) -> Option<u32>
+    ensures { result ≡ tell.local_of rows.now declared }
+{
+    match declared {
+        Some(variable) => match role_at(rows, variable) {
             Role::Local => Some(variable),
             _ => None,
-        }
+        },
+        None => None,
+    }
+}
+
+/// The local that the row reads.
+pub(crate) fn read_at(under: &Tabled, operand: Operand, at: u32) -> Option<u32>
+    ensures { result ≡ tell.read_by (label under.now.rows.now at) operand (tell.local_of under.now.rows.now (declared (entries under.now.table.now at))) }
+{
+    let local = local_of(under.rows, under.declared(at));
+    match under.rows.get(at as usize) {
+        Some(row) => match row.label {
+            Label::Name { .. } => { if is_read(operand) { local } else { None } }
+            _ => None,
+        },
+        None => None,
     }
 }

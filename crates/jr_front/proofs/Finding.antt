@@ -17,9 +17,10 @@ use Rattle.jr_member_faults.specs.Faults.{AreMemberFaults, is_on_members}
 use Rattle.jr_type_faults.specs.Faults.{IsRightView, AreExactTypeFaults, AreOnlyOf, type_rules, exact_rules, is_among}
 use Rattle.jr_supers.specs.Supers.{AreSupersOf}
 use Rattle.jr_supers.specs.Tabled.{IsSized}
-use Rattle.jr_flow_faults.specs.Computed.{rows_in, table_in}
+use Rattle.jr_flow_faults.specs.Computed.{rows_in, table_in, facts_in}
 use Rattle.jr_flow_faults.specs.ExceptionTests.{covered_rows}
 use Rattle.jr_flow_faults.specs.Faults.{AreFlowFaults, AreThrowFaults, is_of_flow}
+use Rattle.jr_flow_faults.specs.Known.{AreKnown}
 use Rattle.jr_flow_faults.specs.Reading.{IsThrowingView}
 use Rattle.jr_assign.specs.Changes.{is_of_assignment}
 use Rattle.jr_assign_faults.specs.Faults as of_assignment
@@ -39,6 +40,7 @@ AreCovered view old new = IsSized (rows_in view) → AreSupersOf (rows_in view) 
 pub record AreAdded (m : Marks) (view : View) (a b c d e f : List Fault) : Type 0 where
   pub modifiers : AreFaultsOf rule.Modifiers (modifier_rows m) [] a
   pub only_modifiers : AreOnly (is_rule rule.Modifiers) [] a
+  pub reads : IsLocal (rows_in view) → AreKnown (rows_in view) (table_in view) (facts_in view) → of_assignment.AreExactFaults view rule.UnassignedLocal a b
   pub finals : IsLocal (rows_in view) → of_assignment.AreExactFaults view rule.FinalAssignment a b
   pub only_assigned : AreOnly is_of_assignment a b
   pub members : AreMemberFaults view b c
@@ -112,6 +114,11 @@ module _ {m : Marks} {view : View} {a b c d e f : List Fault} (added : AreAdded 
   pub are_found : IsTestableView view → AreFaultsIn m view f
   are_found testable = record {
     modifiers = of_first rule.Modifiers refl (then_none rule.Modifiers added.modifiers (added.only_assigned.others rule.Modifiers refl));
+    reads = λ known. let told = added.reads testable.right.seen.seen.placed.local known in record {
+      rows = told.rows;
+      are = of_first rule.UnassignedLocal refl (none_then rule.UnassignedLocal (added.only_modifiers.others rule.UnassignedLocal refl) told.are);
+      each = told.each;
+    };
     finals = let told = added.finals testable.right.seen.seen.placed.local in record {
       rows = told.rows;
       are = of_first rule.FinalAssignment refl (none_then rule.FinalAssignment (added.only_modifiers.others rule.FinalAssignment refl) told.are);
@@ -155,15 +162,17 @@ module _ {m : Marks} {view : View} {a b c d e f : List Fault} (added : AreAdded 
 
 -- the same, as the steps of the code give it
 pub added_found : (m : Marks) (view : View) (start a b c d e f : List Fault) → start ≡ [] → AreFaultsOf rule.Modifiers (modifier_rows m) start a → AreOnly (is_rule rule.Modifiers) start a
+    → (IsLocal (rows_in view) → AreKnown (rows_in view) (table_in view) (facts_in view) → of_assignment.AreExactFaults view rule.UnassignedLocal a b)
     → (IsLocal (rows_in view) → of_assignment.AreExactFaults view rule.FinalAssignment a b) → AreOnly is_of_assignment a b → AreMemberFaults view b c → AreOnly is_on_members b c
     → (IsRightView view → AreExactTypeFaults view c d) → AreOnlyOf type_rules c d → (IsLocal (rows_in view) → AreFlowFaults view d e) → (IsThrowingView view → AreThrowFaults view d e) → AreCovered view d e → AreOnly is_of_flow d e
     → (names.IsPlacedView view → of_names.AreExactFaults view rule.LocalNames e f) → (names.IsPlacedView view → of_names.AreExactFaults view rule.Labels e f) → (names.IsSeenView view → of_names.AreExactFaults view rule.Access e f)
     → (names.IsPlacedView view → of_names.AreExactFaults view rule.ImportNames e f) → (names.IsPlacedView view → of_names.AreExactFaults view rule.ImportedTypes e f)
     → (names.IsTabledView view → of_names.AreExactFaults view rule.StaticImports e f) → of_names.AreOfNames e f → IsTestableView view → AreFaultsIn m view f
-added_found m view start a b c d e f none modifiers only_modifiers finals only_assigned members only_members types only_types flow thrown covered only_flow local_names labels access import_names imported_types static_imports only_names =
+added_found m view start a b c d e f none modifiers only_modifiers reads finals only_assigned members only_members types only_types flow thrown covered only_flow local_names labels access import_names imported_types static_imports only_names =
     are_found (record {
       modifiers = subst (λ (l : List Fault). AreFaultsOf rule.Modifiers (modifier_rows m) l a) none modifiers;
       only_modifiers = subst (λ (l : List Fault). AreOnly (is_rule rule.Modifiers) l a) none only_modifiers;
+      reads = reads;
       finals = finals;
       only_assigned = only_assigned;
       members = members;

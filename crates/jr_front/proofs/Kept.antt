@@ -178,7 +178,11 @@ module _ (m : Marks) (view : View) (testable : IsTestableView view) (local : IsL
   finals_found : (n : ℕ) → BreaksAssignment p t 39 n → HasFault faults 39 n
   finals_found n b = fault_of rule.FinalAssignment faults n (subst (λ rows. has rows n ≡ true) (sym all.finals.are.are) ((all.finals.each n).1 b))
 
+  reads_found : (n : ℕ) → BreaksAssignment p t 38 n → HasFault faults 38 n
+  reads_found n b = let told = all.reads known in fault_of rule.UnassignedLocal faults n (subst (λ rows. has rows n ≡ true) (sym told.are.are) ((told.each n).1 b))
+
   assigned_found : {k n : ℕ} → BreaksAssignment p t k n → HasFault faults k n
+  assigned_found (BreaksAssignment.unassigned {n = n} a b c) = reads_found n (BreaksAssignment.unassigned a b c)
   assigned_found (BreaksAssignment.changed {n = n} lt is refers fixed) = finals_found n (BreaksAssignment.changed lt is refers fixed)
 
   marked_found : {k n : ℕ} → BreaksMarked m k n → HasFault faults k n
@@ -245,6 +249,9 @@ module _ (m : Marks) (view : View) (testable : IsTestableView view) (local : IsL
     covered_right : IsRight 43
     covered_right fault inside e = IsBroken.by_exceptions (covered_breaks p t local (facts_in view) known typable.headed (types_in view) typed_so fault.row (passes rule.CoveredCatch (length p) (is_covered p t) all.covered fault inside e))
 
+    reads_right : IsRight 38
+    reads_right fault inside e = let told = all.reads known in IsBroken.by_assignment ((told.each fault.row).0 (subst (λ rows. has rows fault.row ≡ true) told.are.are (listed rule.UnassignedLocal faults fault inside e)))
+
     finals_right : IsRight 39
     finals_right fault inside e = IsBroken.by_assignment ((all.finals.each fault.row).0 (subst (λ rows. has rows fault.row ≡ true) all.finals.are.are (listed rule.FinalAssignment faults fault inside e)))
 
@@ -289,6 +296,7 @@ module _ (m : Marks) (view : View) (testable : IsTestableView view) (local : IsL
     right_of rule.Branches e = type_right rule.Branches refl
     right_of rule.Unreachable e = unreached_right
     right_of rule.Completion e = completing_right
+    right_of rule.UnassignedLocal e = reads_right
     right_of rule.FinalAssignment e = finals_right
     right_of rule.UncaughtException e = uncaught_right
     right_of rule.UnthrownCatch e = unthrown_right

@@ -16,9 +16,10 @@ use Rattle.jr_member_faults.specs.Faults.{AreMemberFaults}
 use Rattle.jr_member_faults.specs.Tops.{has_top_type_clash}
 use Rattle.jr_member_faults.specs.Views.{IsNamedWorld, IsSignedWorld, IsRightWorld, IsValuedView}
 use Rattle.jr_type_faults.specs.Faults.{IsRightView, AreExactTypeFaults}
-use Rattle.jr_flow_faults.specs.Computed.{rows_in, table_in}
+use Rattle.jr_flow_faults.specs.Computed.{rows_in, table_in, facts_in}
 use Rattle.jr_flow_faults.specs.ExceptionTests.{covered_rows}
 use Rattle.jr_flow_faults.specs.Faults.{AreFlowFaults, AreThrowFaults}
+use Rattle.jr_flow_faults.specs.Known.{AreKnown}
 use Rattle.jr_flow_faults.specs.Reading.{IsThrowingView}
 use Rattle.jr_assign_faults.specs.Faults as of_assignment
 use Rattle.jr_front.specs.Modifiers.{modifier_rows}
@@ -71,6 +72,7 @@ pub record AreNameFaults (view : View) (faults : List Fault) : Type 0 where
 -- the faults of each exact rule are just those at the rows of its definition. Of the other rules nothing is said
 pub record AreFaultsIn (m : Marks) (view : View) (faults : List Fault) : Type 0 where
   pub modifiers : AreFaultsOf rule.Modifiers (modifier_rows m) [] faults
+  pub reads : AreKnown (rows_in view) (table_in view) (facts_in view) → of_assignment.AreExactFaults view rule.UnassignedLocal [] faults
   pub finals : of_assignment.AreExactFaults view rule.FinalAssignment [] faults
   pub names : AreNameFaults view faults
   pub members : AreMemberFaults view [] faults
