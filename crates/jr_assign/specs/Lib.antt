@@ -4,3 +4,4 @@ pub mod Assigned
 pub mod Words
 pub mod Confirmed
 pub mod Judged
+pub mod Blank

@@ -1,5 +1,6 @@
 // The laws of definite assignment.
 ghost use Rattle.jr_assign.specs.Assigned.{EachMemberIsAssignedOnce};
+ghost use Rattle.jr_assign.specs.Blank.{EachMakingIsOne};
 ghost use Rattle.jr_assign.specs.Words.{EachWordIsOfVariables};
 
 /// The equations of a member have one solution.
@@ -10,4 +11,9 @@ pub fn each_member_is_assigned_once()
 /// A solution for the bits of words is one for each of their variables.
 pub fn each_word_is_of_variables()
     ensures { EachWordIsOfVariables }
+{}
+
+/// Whether a blank final field is assigned before a member of its class has one answer.
+pub fn each_making_is_one()
+    ensures { EachMakingIsOne }
 {}
