@@ -9,3 +9,9 @@ pub mod Coming
 pub mod Pruning
 pub mod Splicing
 pub mod Joining
+pub mod Gathers
+pub mod Uses
+pub mod Spreads
+pub mod Disturbing
+pub mod Hindering
+pub mod Inlining

@@ -4,7 +4,7 @@ use Rattle.jr_flow_defs.specs.Meaning.{Meaning}
 use Rattle.jr_flow_defs.specs.Paths.{Flow}
 use Rattle.jr_flow_defs.specs.Edges.{FlowNode, IsGraph, body_flow}
 use Rattle.jr_flow_defs.specs.Graphs.{StepList, EdgeByNumbers}
-use Rattle.jr_flow_defs.specs.Kept.{Same, KeepsControl, joined_flow}
+use Rattle.jr_flow_defs.specs.Kept.{Same, KeepsControl, KeepsBody, joined_flow}
 use Rattle.jr_flow.specs.Reached.{steps_of}
 use Rattle.jr_kept.specs.declared.flows.Flows.{Flows}
 use Rattle.jr_kept.specs.declared.control.Searches.{Searches}
@@ -43,6 +43,11 @@ KeepsFlows flows f g = KeepsControl flows.names.rows.now flows.rows.now f g flow
 -- a body and what it has become
 abbrev pub KeepsBodies : Flows → Meaning → Meaning → Type 0
 KeepsBodies flows m w = KeepsFlows flows (body_flow flows.names.rows.now m flows.before.now.body) (body_flow flows.rows.now w flows.after.now.body)
+
+-- and they keep edges from definitions to uses too
+abbrev pub KeepsWholeBodies : Flows → Meaning → Meaning → Type 0
+KeepsWholeBodies flows m w = KeepsBody flows.names.rows.now flows.rows.now (body_flow flows.names.rows.now m flows.before.now.body) (body_flow flows.rows.now w flows.after.now.body)
+    flows.before.now.body flows.after.now.body flows.names.dropped (origin_in flows.origin.now)
 
 -- a body and what it has become, with a method in place of its call
 abbrev pub KeepsJoined : Flows → Meaning → Meaning → ℕ → ℕ → Type 0

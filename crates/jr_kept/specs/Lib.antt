@@ -7,3 +7,8 @@ pub mod Compared
 pub mod Courses
 pub mod Pruned
 pub mod Spliced
+pub mod Gathered
+pub mod Arrived
+pub mod Spread
+pub mod Disturbed
+pub mod Hindered

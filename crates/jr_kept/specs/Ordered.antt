@@ -23,3 +23,7 @@ pub record Tells (old new : Firsts) (Holds : Type 0) : Type 0 where
 -- nothing is found now only where nothing was before
 abbrev pub OnlyAdds : Firsts → Firsts → Type 0
 OnlyAdds old new = AreNone new → AreNone old
+
+-- nothing is found now only where nothing was before and the fact holds
+abbrev pub Checks : Firsts → Firsts → Type 0 → Type 0
+Checks old new Holds = AreNone new → AreNone old × Holds

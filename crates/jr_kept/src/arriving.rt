@@ -1,140 +1,233 @@
 // Edges from definitions to uses that are lost.
+ghost use Rattle.std.specs.Prelude.{◌≡◌, ◌<◌, ℕ, Some, true, IfOk, OnOk, length};
+ghost use Rattle.std.specs.List.{Contains};
+ghost use Rattle.jr_places.specs.Stamps.{is_stamped, IsStamping, IsEmptied};
+ghost use Rattle.jr_kept.specs.Listed.{under_in};
+ghost use Rattle.jr_kept.specs.Named.{origin_in};
+ghost use Rattle.jr_kept.specs.Ordered.{Checks};
+ghost use Rattle.jr_kept.specs.Gathered.{use_in, is_original, AreBelow, AreInside, AreOriginals};
+ghost use Rattle.jr_kept.specs.Arrived as tell;
 
 use crate::defining::defining_row;
 use crate::edges::{Edge, Firsts};
-use crate::flows::{Flows, count_rows, rows_of};
-use crate::gathering::{Gathering, definitions_by_use};
+use crate::flows::Flows;
+use crate::gathering::{Gathering, Originals, definitions_by_use, point_at, row_bound};
 use crate::handing::Handing;
 use crate::lists::Lists;
 use jr_base::OutOfMemory;
-use jr_flow::PointKind;
+use jr_flow::{Point, PointKind};
 use jr_locks::row_for;
 use jr_places::Stamps;
+use jr_tree::Row;
 use std::alloc::Global;
 
 /// The definitions that reach each use before and after the change.
+#[derive(Clone, Copy)]
+struct Uses<'a> {
+    /// The rows of the old program.
+    rows: &'a [Row],
+    before: &'a Lists,
+    after: &'a Lists,
+    handing: &'a Handing,
+    /// The old row of which each row of the changed program is a copy, or `NO_ROW`.
+    origin: &'a [u32],
+}
+
+// Puts an edge of the old program from a definition to a use, unless it is there.
+fn put_old_unless(rows: &[Row], definition: u32, used: u32, is_there: bool, lost: &mut Firsts)
+    ensures { Checks lost.old lost.new (is_there ≡ true) }
+{
+    if !is_there {
+        lost.put_old(Edge {
+            first: defining_row(rows, definition),
+            second: used,
+        });
+    }
+}
+
+// Puts an edge of the changed program from a definition to a use, unless it is there.
+fn put_new_unless(rows: &[Row], definition: u32, used: u32, is_there: bool, lost: &mut Firsts)
+    ensures { Checks lost.old lost.new (is_there ≡ true) }
+{
+    if !is_there {
+        lost.put_new(Edge {
+            first: defining_row(rows, definition),
+            second: used,
+        });
+    }
+}
+
+// Puts the definitions of the old use that do not reach its copy.
+fn put_old_alone(
+    rows: &[Row],
+    definitions: &[u32],
+    originals: &Originals,
+    used: u32,
+    lost: &mut Firsts,
+)
+    ensures { Checks lost.old lost.new ((n : ℕ) → Contains definitions.now n → is_original originals.now n ≡ true) }
+{
+    for definition in definitions {
+        put_old_unless(rows, *definition, used, originals.has(*definition), lost);
+    }
+}
+
+// Puts the definitions that reach the copy of the old use, and not this.
+fn put_new_alone(rows: &[Row], definitions: &[u32], old: &Stamps, used: u32, lost: &mut Firsts)
+    ensures { Checks lost.old lost.new ((n : ℕ) → Contains definitions.now n → is_stamped old.now n ≡ true) }
+{
+    for definition in definitions {
+        put_new_unless(rows, *definition, used, old.has(*definition), lost);
+    }
+}
+
+/// Puts rows into a set.
+pub(crate) fn fill(set: &mut Stamps, rows: &[u32])
+    ensures { (bound : ℕ) → IsEmptied set.old bound → IsStamping set.new bound × ((n : ℕ) → is_stamped set.new n ≡ true → Contains rows.now n) }
+{
+    for row in rows {
+        let _ = set.add(*row);
+    }
+}
+
+/// The definitions of a use of the old program, and those of its copy.
 #[derive(Drop)]
-struct Reaches {
-    before: Lists,
-    after: Lists,
+struct Sides {
+    known: Stamps,
+    gathering: Gathering,
+}
+
+impl Sides {
+    // Puts the definitions that reach just one of an old use and its copy.
+    fn compare(
+        &mut self,
+        uses: &Uses,
+        used: u32,
+        old: u32,
+        lost: &mut Firsts,
+    ) -> Result<(), OutOfMemory>
+        ensures { (many bound : ℕ) → AreInside (under_in uses.now.after.now) bound → tell.AreSides self.old many bound → OnOk result (tell.AreSides self.new many bound × Checks lost.old lost.new (tell.IsSame uses.now used old)) }
+    {
+        self.known.empty()?;
+        self.gathering
+            .run(uses.after, uses.handing, uses.origin, used)?;
+        fill(&mut self.known, uses.before.under(old));
+        put_old_alone(
+            uses.rows,
+            uses.before.under(old),
+            &self.gathering.originals,
+            old,
+            lost,
+        );
+        put_new_alone(
+            uses.rows,
+            self.gathering.originals.rows(),
+            &self.known,
+            old,
+            lost,
+        );
+        Ok(())
+    }
 }
 
 /// What comparing works with.
 #[derive(Drop)]
 struct Comparing {
-    gathering: Gathering,
-    old: Stamps,
+    sides: Sides,
     /// The uses of the changed program that were compared.
     done: Stamps,
 }
 
-// The uses of the changed program that are copies, each with its old row.
-fn copied_uses(alloc: Global, flows: &Flows) -> Result<Vec<(u32, u32)>, OutOfMemory> {
-    let mut all = Vec::new(alloc);
-    let graph = flows.after;
-    for point in &graph.points {
-        if let PointKind::Use { .. } = point.kind {
-            if let Some(old) = row_for(flows.origin, point.row) {
-                all.push((point.row, old))?;
-            }
-        }
-    }
-    Ok(all)
-}
-
 impl Comparing {
-    fn new(alloc: Global, flows: &Flows) -> Result<Comparing, OutOfMemory> {
-        let before = rows_of(flows.names.rows, flows.names.body);
-        let old = Stamps::new(alloc, count_rows(before))?;
-        let done = Stamps::new(alloc, count_rows(flows.span))?;
-        let gathering = Gathering::new(alloc, flows)?;
+    // Nothing was compared. Rows of both programs are below these bounds.
+    fn new(alloc: Global, old: usize, new: usize) -> Result<Comparing, OutOfMemory>
+        ensures { IfOk result (λ comparing. tell.AreSides comparing.sides old new × IsEmptied comparing.done new) }
+    {
+        let done = Stamps::new(alloc, new)?;
+        let known = Stamps::new(alloc, old)?;
+        let gathering = Gathering::new(alloc, old, new)?;
         Ok(Comparing {
-            gathering,
-            old,
+            sides: Sides { known, gathering },
             done,
         })
     }
 
-    // Puts the definitions of the old use that do not reach its copy.
-    fn put_old_alone(&mut self, flows: &Flows, before: &[u32], old: u32, lost: &mut Firsts) {
-        for definition in before {
-            let _ = self.old.add(definition.saturating_sub(flows.names.body));
-            if !self.gathering.has(flows, *definition) {
-                lost.put_old(Edge {
-                    first: defining_row(flows.names.rows, *definition),
-                    second: old,
-                });
-            }
-        }
-    }
-
-    // Puts the definitions that reach the copy of the old use, and not this.
-    fn put_new_alone(&self, flows: &Flows, old: u32, lost: &mut Firsts) {
-        for definition in self.gathering.named() {
-            if !self.old.has(definition.saturating_sub(flows.names.body)) {
-                lost.put_new(Edge {
-                    first: defining_row(flows.names.rows, *definition),
-                    second: old,
-                });
-            }
-        }
-    }
-
-    // Compares what reaches a use with what reached the old one.
+    // Compares what reaches a use with what reached the old one, unless this was done.
     fn compare(
         &mut self,
-        flows: &Flows,
-        reaches: &Reaches,
-        handing: &Handing,
-        pair: (u32, u32),
+        uses: &Uses,
+        used: u32,
+        old: u32,
         lost: &mut Firsts,
-    ) -> Result<(), OutOfMemory> {
-        let (used, old) = pair;
-        if !self.done.add(used.saturating_sub(flows.span.first)) {
-            return Ok(());
+    ) -> Result<(), OutOfMemory>
+        ensures { (many bound : ℕ) → AreInside (under_in uses.now.after.now) bound → used < bound → origin_in uses.now.origin.now used ≡ Some old → tell.CanCompare self.old many bound
+            → OnOk result (tell.CanCompare self.new many bound × tell.Compares uses.now self.old.done self.new.done lost.old lost.new × (is_stamped self.new.done used ≡ true)) }
+    {
+        if self.done.add(used) {
+            return self.sides.compare(uses, used, old, lost);
         }
-        self.old.empty()?;
-        self.gathering.run(flows, &reaches.after, handing, used)?;
-        self.put_old_alone(flows, reaches.before.under(old), old, lost);
-        self.put_new_alone(flows, old, lost);
         Ok(())
     }
 
-    // Compares what reaches uses, each with its old row.
+    // Compares at a point, if it is a use that is a copy.
+    fn compare_at(
+        &mut self,
+        uses: &Uses,
+        point: Point,
+        lost: &mut Firsts,
+    ) -> Result<(), OutOfMemory>
+        ensures { (many bound : ℕ) → AreInside (under_in uses.now.after.now) bound → point.row < bound → tell.CanCompare self.old many bound
+            → OnOk result (tell.CanCompare self.new many bound × tell.Compares uses.now self.old.done self.new.done lost.old lost.new × tell.IsDone uses.now self.new.done point) }
+    {
+        match old_use(uses.origin, point) {
+            Some(old) => self.compare(uses, point.row, old, lost),
+            None => Ok(()),
+        }
+    }
+
+    // Compares at each point.
     fn compare_all(
         &mut self,
-        flows: &Flows,
-        reaches: &Reaches,
-        handing: &Handing,
-        uses: &[(u32, u32)],
+        uses: &Uses,
+        points: &[Point],
         lost: &mut Firsts,
-    ) -> Result<(), OutOfMemory> {
-        for pair in uses {
-            self.compare(flows, reaches, handing, *pair, lost)?;
+    ) -> Result<(), OutOfMemory>
+        ensures { (many bound : ℕ) → AreInside (under_in uses.now.after.now) bound → AreBelow points.now (length points.now) bound → tell.CanCompare self.old many bound
+            → OnOk result (tell.Compares uses.now self.old.done self.new.done lost.old lost.new × tell.AreDone uses.now self.new.done points.now (length points.now)) }
+    {
+        for number in 0..points.len() {
+            let Some(point) = point_at(points, number) else {
+                return Err(OutOfMemory);
+            };
+            self.compare_at(uses, point, lost)?;
         }
         Ok(())
     }
 }
 
-// The definitions that reach each use before and after the change.
-fn reaches_of(alloc: Global, flows: &Flows) -> Result<Reaches, OutOfMemory> {
-    let span = rows_of(flows.names.rows, flows.names.body);
-    let before = definitions_by_use(alloc, flows.before, span)?;
-    let after = definitions_by_use(alloc, flows.after, flows.span)?;
-    Ok(Reaches { before, after })
+// The old row of a use that is a copy.
+fn old_use(origin: &[u32], point: Point) -> Option<u32>
+    ensures { result ≡ tell.old_use (origin_in origin.now) point }
+{
+    match point.kind {
+        PointKind::Use { .. } => row_for(origin, point.row),
+        _ => None,
+    }
 }
 
-// Compares what reaches each use that is a copy.
+// Compares what reaches each use that is a copy. Rows of both programs are below these bounds.
 fn compare_uses(
     alloc: Global,
-    flows: &Flows,
-    reaches: &Reaches,
-    handing: &Handing,
+    uses: &Uses,
+    points: &[Point],
+    old: usize,
+    new: usize,
     lost: &mut Firsts,
-) -> Result<(), OutOfMemory> {
-    let uses = copied_uses(alloc, flows)?;
-    let mut comparing = Comparing::new(alloc, flows)?;
-    comparing.compare_all(flows, reaches, handing, &uses, lost)
+) -> Result<(), OutOfMemory>
+    ensures { AreInside (under_in uses.now.after.now) new → AreBelow points.now (length points.now) new → OnOk result (Checks lost.old lost.new (tell.AreSame uses.now points.now)) }
+{
+    let mut comparing = Comparing::new(alloc, old, new)?;
+    comparing.compare_all(uses, points, lost)
 }
 
 /// Puts the first edges from a definition to a use that are lost, where both are named by what they are copies of: for each use that is a copy the
@@ -144,7 +237,19 @@ pub(crate) fn put_lost_definitions(
     flows: &Flows,
     handing: &Handing,
     lost: &mut Firsts,
-) -> Result<(), OutOfMemory> {
-    let reaches = reaches_of(alloc, flows)?;
-    compare_uses(alloc, flows, &reaches, handing, lost)
+) -> Result<(), OutOfMemory>
+    ensures { OnOk result (Checks lost.old lost.new (tell.KeepsUses flows.now (use_in handing.now))) }
+{
+    let before = definitions_by_use(alloc, flows.before)?;
+    let after = definitions_by_use(alloc, flows.after)?;
+    let old = row_bound(flows.before.points.as_slice());
+    let new = row_bound(flows.after.points.as_slice());
+    let uses = Uses {
+        rows: flows.names.rows,
+        before: &before,
+        after: &after,
+        handing,
+        origin: flows.origin,
+    };
+    compare_uses(alloc, &uses, flows.after.points.as_slice(), old, new, lost)
 }

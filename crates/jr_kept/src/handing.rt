@@ -1,4 +1,6 @@
 // Definitions that only hand on what reaches a use: parameters of an added method, and the local to which its call is assigned.
+ghost use Rattle.std.specs.Prelude.{◌≡◌, ℕ, None};
+ghost use Rattle.jr_kept.specs.Gathered as tell;
 
 use crate::flows::{Flows, is_parameter, is_within, rows_of};
 use jr_base::OutOfMemory;
@@ -77,7 +79,9 @@ fn returned(flows: &Flows, method: u32) -> Option<u32> {
 
 impl Handing {
     /// No definition hands anything on.
-    pub(crate) fn none(alloc: Global) -> Handing {
+    pub(crate) fn none(alloc: Global) -> Handing
+        ensures { (d : ℕ) → tell.use_in result d ≡ None }
+    {
         Handing {
             first: 0,
             uses: Vec::new(alloc),
@@ -137,7 +141,12 @@ impl Handing {
     }
 
     /// The use whose definitions a definition hands on; None where it is one itself.
-    pub(crate) fn use_of(&self, definition: u32) -> Option<u32> {
-        row_for(&self.uses, definition.checked_sub(self.first)?)
+    pub(crate) fn use_of(&self, definition: u32) -> Option<u32>
+        ensures { result ≡ tell.use_in self.now definition }
+    {
+        match definition.checked_sub(self.first) {
+            Some(place) => row_for(&self.uses, place),
+            None => None,
+        }
     }
 }

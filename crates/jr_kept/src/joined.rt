@@ -38,7 +38,8 @@ fn is_call(points: &[Point], call: u32, number: u32) -> bool
     }
 }
 
-fn push_if(all: &mut Vec<u32>, is_such: bool, number: u32) -> Result<(), OutOfMemory>
+/// Puts the number, if it is such.
+pub(crate) fn push_if(all: &mut Vec<u32>, is_such: bool, number: u32) -> Result<(), OutOfMemory>
     ensures { OnOk result (all.new.items ≡ all.old.items ++ (if is_such then number ∷ [] else [])) }
 {
     if is_such {

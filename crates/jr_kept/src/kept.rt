@@ -1,12 +1,13 @@
 // What a change loses.
-ghost use Rattle.std.specs.Prelude.{◌≡◌, ◌<◌, None, IfOk, IfSome, length, true};
+ghost use Rattle.std.specs.Prelude.{◌≡◌, ◌+◌, ◌<◌, ◌^◌, None, IfOk, IfSome, length, true};
 ghost use Rattle.jr_locks.specs.Origins.{origin_of, row_by};
 ghost use Rattle.jr_flow_defs.specs.Meaning.{Meaning};
-ghost use Rattle.jr_flow_defs.specs.Edges.{IsGraph};
+ghost use Rattle.jr_flow_defs.specs.Edges.{IsGraph, body_flow};
 ghost use Rattle.jr_flow_defs.specs.Kept.{joined_flow};
 ghost use Rattle.jr_flow.specs.Reached.{steps_of, IsGraphOf};
 ghost use Rattle.jr_kept.specs.Ordered.{AreNone};
-ghost use Rattle.jr_kept.specs.Compared.{KeepsBodies, KeepsJoined, IsJoinedGraph};
+ghost use Rattle.jr_kept.specs.Compared.{KeepsBodies, KeepsWholeBodies, KeepsJoined, IsJoinedGraph};
+ghost use Rattle.jr_kept.specs.Hindered.{IsHindered};
 ghost use Rattle.jr_kept.specs.Courses as tell;
 
 use crate::arriving::put_lost_definitions;
@@ -110,7 +111,8 @@ fn lost_in_inlined(
     flows: &Flows,
     local: u32,
 ) -> Result<LostFlow, FlowFault>
-    ensures { (m w : Meaning) → IsGraphOf flows.now.names.rows.now m flows.now.before.now → IsGraphOf flows.now.rows.now w flows.now.after.now → IfOk result (λ lost. lost.control ≡ None → KeepsBodies flows.now m w) }
+    ensures control { (m w : Meaning) → IsGraphOf flows.now.names.rows.now m flows.now.before.now → IsGraphOf flows.now.rows.now w flows.now.after.now → IfOk result (λ lost. lost.control ≡ None → KeepsBodies flows.now m w) }
+    ensures uses { (m w : Meaning) → IsGraphOf flows.now.names.rows.now m flows.now.before.now → IsGraphOf flows.now.rows.now w flows.now.after.now → IfOk result (λ lost. lost.control ≡ None → lost.def_use ≡ None → KeepsWholeBodies flows.now m w × (local + 1 < 2 ^ 32 → IsHindered flows.now.names.rows.now (body_flow flows.now.names.rows.now m flows.now.before.now.body) local → ⊥)) }
 {
     let mut control = lost_control(alloc, flows)?;
     put_delayed(alloc, old, flows.before, local, &mut control)?;
@@ -165,8 +167,10 @@ fn lost_by_inlining(
     local: u32,
     statement: u32,
 ) -> Result<LostFlow, FlowFault>
-    ensures { (m w : Meaning) → tell.IsSeen old.now m → tell.IsSeen locked.now w
+    ensures control { (m w : Meaning) → tell.IsSeen old.now m → tell.IsSeen locked.now w
         → IfOk result (λ lost. lost.control ≡ None → tell.KeepsInlinedControl old.now.marks.rows.now locked.now.marks.rows.now m w locks.now.origin.items locks.now.copy.items local statement) }
+    ensures uses { (m w : Meaning) → tell.IsSeen old.now m → tell.IsSeen locked.now w
+        → IfOk result (λ lost. lost.control ≡ None → lost.def_use ≡ None → tell.KeepsInlinedFlow old.now.marks.rows.now locked.now.marks.rows.now m w locks.now.origin.items locks.now.copy.items local statement) }
 {
     let Some(body) = body_round(alloc, old.marks.rows, local)? else {
         return Ok(lost_at(old, local));
@@ -300,8 +304,10 @@ pub fn lost_flow(
     locks: &Locks,
     change: &Change,
 ) -> Result<LostFlow, FlowFault>
-    ensures { (m w : Meaning) → tell.IsSeen old.now m → tell.IsSeen locked.now w
+    ensures control { (m w : Meaning) → tell.IsSeen old.now m → tell.IsSeen locked.now w
         → IfOk result (λ lost. lost.control ≡ None → tell.KeepsCourse change.now.course old.now.marks.rows.now locked.now.marks.rows.now m w locks.now.origin.items locks.now.copy.items) }
+    ensures uses { (m w : Meaning) → tell.IsSeen old.now m → tell.IsSeen locked.now w
+        → IfOk result (λ lost. lost.control ≡ None → lost.def_use ≡ None → tell.KeepsUsesOf change.now.course old.now.marks.rows.now locked.now.marks.rows.now m w locks.now.origin.items locks.now.copy.items) }
 {
     match change.course {
         Course::Same => lost_by_raising(alloc, old, change.raised),

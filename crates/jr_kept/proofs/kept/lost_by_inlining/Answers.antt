@@ -1,18 +1,23 @@
-use Rattle.std.proofs.Common.{◌≡◌, ◌∙◌, ◌<◌, ap, subst, length, Some, IfSome}
+use Rattle.std.proofs.Common.{◌≡◌, arith, ◌∙◌, ◌<◌, ap, subst, length, Some, IfSome}
 use Rattle.std.proofs.lemmas.Result.{IfOk-weaker}
 use Rattle.jr_flow_defs.specs.Edges.{body_flow}
-use Rattle.jr_flow_defs.specs.Kept.{KeepsControl}
+use Rattle.jr_flow_defs.specs.Kept.{KeepsControl, KeepsBody}
 use Rattle.jr_locks.specs.Origins.{origin_of, row_by}
 use Rattle.jr_kept.specs.Named.{origin_in}
 use Rattle.jr_kept.specs.Courses.{IsBodyRound, dropped_by}
+use Rattle.jr_kept.specs.Hindered.{IsHindered}
+use Rattle.jr_kept.proofs.Hindering.{hindered}
 use Rattle.jr_kept.proofs.Rounding.{rows_few}
 use Rattle.jr_kept.proofs.kept.lost_by_inlining.Goals as goal
 
-pub returns-in_default : goal.returns-in_default
-returns-in_default c = λ m w seen other none. absurd (c.lost_at.ensures none)
+pub returns-in_default-clause-control : goal.returns-in_default-clause-control
+returns-in_default-clause-control c = λ m w seen other none. absurd (c.lost_at.ensures none)
 
-pub returns : goal.returns
-returns c = λ m w seen other. let p = c.args.old.now.marks.rows.now in let q = c.args.locked.now.marks.rows.now in let origin = c.args.locks.now.origin.items in let copies = c.args.locks.now.copy.items in
+pub returns-in_default-clause-uses : goal.returns-in_default-clause-uses
+returns-in_default-clause-uses c = λ m w seen other none no_use. absurd (c.lost_at.ensures none)
+
+pub returns-clause-control : goal.returns-clause-control
+returns-clause-control c = λ m w seen other. let p = c.args.old.now.marks.rows.now in let q = c.args.locked.now.marks.rows.now in let origin = c.args.locks.now.origin.items in let copies = c.args.locks.now.copy.items in
     let local = c.args.local in let statement = c.args.statement in let body = c.in-Some.body in let after = c.in-Some-row_among.copy in
     let round : IsBodyRound p local body = subst (λ o. IfSome o (λ k. IsBodyRound p local k)) c.in-Some.is (c.in_ok-body.ensures (rows_few c.args.old.now m seen)) in
     let copy : (row_by (origin_of copies body) ≡ Some after) × (after < length q) = subst (λ o. IfSome o (λ k. (row_by (origin_of copies body) ≡ Some k) × (k < length q))) c.in-Some-row_among.is (subst (λ xs. IfSome c.row_among.result (λ k. (row_by (origin_of xs body) ≡ Some k) × (k < length q))) c.deref.ensures.value c.row_among.ensures) in
@@ -27,4 +32,30 @@ returns c = λ m w seen other. let p = c.args.old.now.marks.rows.now in let q = 
           (subst (λ os. KeepsControl p q (body_flow p m body) (body_flow q w after) body after c.dropped.result (origin_in os)) c.as_slice.ensures.value
           (subst (λ n. KeepsControl p q (body_flow p m body) (body_flow q w n) body n c.dropped.result (origin_in c.as_slice.result.now)) after_graph.0
           (subst (λ n. KeepsControl p q (body_flow p m n) (body_flow q w c.in_ok-after.after.body) n c.in_ok-after.after.body c.dropped.result (origin_in c.as_slice.result.now)) before_graph.0 (keeps none))));
-    }) (c.lost_in_inlined.ensures m w before_graph.1 after_graph.1)
+    }) (c.lost_in_inlined.ensures.control m w before_graph.1 after_graph.1)
+
+pub returns-clause-uses : goal.returns-clause-uses
+returns-clause-uses c = λ m w seen other. let p = c.args.old.now.marks.rows.now in let q = c.args.locked.now.marks.rows.now in let origin = c.args.locks.now.origin.items in let copies = c.args.locks.now.copy.items in
+    let local = c.args.local in let statement = c.args.statement in let body = c.in-Some.body in let after = c.in-Some-row_among.copy in
+    let round : IsBodyRound p local body = subst (λ o. IfSome o (λ k. IsBodyRound p local k)) c.in-Some.is (c.in_ok-body.ensures (rows_few c.args.old.now m seen)) in
+    let copy : (row_by (origin_of copies body) ≡ Some after) × (after < length q) = subst (λ o. IfSome o (λ k. (row_by (origin_of copies body) ≡ Some k) × (k < length q))) c.in-Some-row_among.is (subst (λ xs. IfSome c.row_among.result (λ k. (row_by (origin_of xs body) ≡ Some k) × (k < length q))) c.deref.ensures.value c.row_among.ensures) in
+    let before_graph = c.in_ok-before.ensures m seen round.is.few in let after_graph = c.in_ok-after.ensures w other copy.1 in
+    let few = rows_few c.args.old.now m seen in let last = seen.tree.last body round.is.few in let to = round.to in
+    IfOk-weaker c.lost_in_inlined.result _ _ (λ lost keeps none no_use.
+    let both = keeps none no_use in
+    let kept : KeepsBody p q (body_flow p m body) (body_flow q w after) body after (dropped_by (row_by (origin_of copies statement)) statement) (origin_in origin) =
+    subst (λ d. KeepsBody p q (body_flow p m body) (body_flow q w after) body after d (origin_in origin)) (c.dropped.ensures ∙ ap (λ xs. dropped_by (row_by (origin_of xs statement)) statement) c.deref-2.ensures.value)
+    (subst (λ os. KeepsBody p q (body_flow p m body) (body_flow q w after) body after c.dropped.result (origin_in os)) c.as_slice.ensures.value
+    (subst (λ n. KeepsBody p q (body_flow p m body) (body_flow q w n) body n c.dropped.result (origin_in c.as_slice.result.now)) after_graph.0
+    (subst (λ n. KeepsBody p q (body_flow p m n) (body_flow q w c.in_ok-after.after.body) n c.in_ok-after.after.body c.dropped.result (origin_in c.as_slice.result.now)) before_graph.0 both.0))) in
+    let calm : IsHindered p (body_flow p m body) local → ⊥ = subst (λ n. IsHindered p (body_flow p m n) local → ⊥) before_graph.0 (both.1 (omega (arith, few, last, to))) in
+    record {
+      body = body;
+      after = after;
+      round = round;
+      is_copy = copy.0;
+      few = copy.1;
+      kept = kept;
+      unhindered = calm;
+      inlined = λ arrive. record { kept = kept; undisturbed = λ h. calm (hindered p (body_flow p m body) local arrive h) };
+    }) (c.lost_in_inlined.ensures.uses m w before_graph.1 after_graph.1)

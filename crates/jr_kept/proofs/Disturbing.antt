@@ -1,0 +1,206 @@
+-- Definitions between that of a local and its uses, by the numbers of points, and those of a flow.
+use Rattle.std.proofs.Common.{◌≡◌, ◌⊎◌, inl, inr, ⊎_elim, refl, sym, ◌∙◌, ap, subst, arith, ℕ, zero, suc, ◌+◌, ◌<◌, ◌≤◌, Bool, true, false, not, ◌&&◌, ◌||◌, if◌then◌else◌, List, [], ◌∷◌, ◌++◌, length, map, Option, Some, None, IfSome, nat_eq, nat_lt, slice_get}
+use Rattle.std.specs.List.{Contains}
+use Rattle.std.proofs.lemmas.Bool.{false≢true, cases_lt}
+use Rattle.std.proofs.lemmas.Bool.Decides.{Decides-eqb, Decides-ltb}
+use Rattle.std.proofs.lemmas.Option.{none-some, same_Some}
+use Rattle.std.proofs.lemmas.List.Elements.{Contains-append_left, Contains-append_right, Contains-append_cases}
+use Rattle.jr_tree.specs.Rows.{Rows, end}
+use Rattle.jr_places.specs.declared.stamps.Stamps.{Stamps}
+use Rattle.jr_places.specs.Stamps.{is_stamped, IsStamping, AddsStamp}
+use Rattle.jr_flow_defs.specs.declared.point.Point.{Point}
+use Rattle.jr_flow_defs.specs.declared.point.PointKind.{PointKind}
+use Rattle.jr_flow_defs.specs.declared.point.PointKind.TheVariants as kind
+use Rattle.jr_flow_defs.specs.Edges.{point}
+use Rattle.jr_flow_defs.specs.Graphs.{StepList, StepPath, PassesAt, is_definition_of}
+use Rattle.jr_flow_defs.specs.Computed.{is_definition}
+use Rattle.jr_flow_defs.proofs.Searched.{contains_out, contains_first, contains_more}
+use Rattle.jr_flow.specs.declared.point.Step.{Step}
+use Rattle.jr_flow.specs.Reached.{step_seen}
+use Rattle.jr_kept.specs.declared.lists.Lists.{Lists}
+use Rattle.jr_kept.specs.Listed.{under_in}
+use Rattle.jr_kept.specs.Searched.{HasStepTo, AreWays, AreWithin}
+use Rattle.jr_kept.specs.Spread.{AreWaysBack, IsSpread, AreSpread}
+use Rattle.jr_kept.specs.Disturbed.{is_inside, is_point_inside, such_by, is_such, AreSuch, IsBetween, AreBetween, throws, MayThrow, ThrowsInside, local_of, local_at, AreLocalsBelow, some_if, held_by, held_at, AddsIf, AreHeld, is_changed, disturbs_by, disturbs, NoneDisturbs, IsHeld, IsUndisturbed}
+use Rattle.jr_kept.proofs.Naming.{get_inside}
+use Rattle.jr_kept.proofs.Searching.{none_in}
+
+-- ---- tests
+
+or_false : (a b : Bool) → (a || b) ≡ false → (a ≡ false) × (b ≡ false)
+or_false true b e = absurd (false≢true (sym e))
+or_false false b e = (refl, e)
+
+pub and_true : (a b : Bool) → a ≡ true → b ≡ true → (a && b) ≡ true
+and_true true b e f = f
+and_true false b e f = absurd (false≢true e)
+
+pub never_true : (b : Bool) → (b ≡ true → ⊥) → b ≡ false
+never_true true h = absurd (h refl)
+never_true false h = refl
+
+either_way : (b : Bool) → (b ≡ true) ⊎ (b ≡ false)
+either_way true = inl refl
+either_way false = inr refl
+
+-- ---- the points of a local
+
+such_definition : (d : ℕ) (k : PointKind) → such_by true d k ≡ is_definition d k
+such_definition d kind.Entry = refl
+such_definition d kind.Exit = refl
+such_definition d kind.Thrown = refl
+such_definition d kind.Node = refl
+such_definition d (kind.Definition e) = refl
+such_definition d (kind.Use e) = refl
+
+same_eq : (d : ℕ) → nat_eq d d ≡ true
+same_eq d = (Decides-eqb d d).1 refl
+
+pub such_none : (points : List Point) (b : Bool) (d : ℕ) → AreSuch points b d 0 []
+such_none points b d k = (λ c. absurd (none_in k c), λ lt. absurd (omega (arith, lt)))
+
+if_out : (b : Bool) (n k : ℕ) → Contains {X = ℕ} (if b then n ∷ [] else []) k → (b ≡ true) × (n ≡ k)
+if_out true n k c = ⊎_elim (λ same. (refl, same)) (λ more. absurd (none_in k more)) (contains_out n [] k c)
+if_out false n k c = absurd (none_in k c)
+
+pub such_more : (points : List Point) (b : Bool) (d n : ℕ) (all : List ℕ) (x : Point) → slice_get points n ≡ Some x → AreSuch points b d n all → AreSuch points b d (n + 1) (all ++ (if is_such b d x then n ∷ [] else []))
+such_more points b d n all x at h k = (
+  λ c. ⊎_elim (λ early. (h k).0 early)
+      (λ late. let o = if_out (is_such b d x) n k late in record { point = x; stands = ap (slice_get points) (sym o.1) ∙ at; passes = o.0 })
+      (Contains-append_cases all (if is_such b d x then n ∷ [] else []) k c),
+  λ lt s. ⊎_elim (λ early. Contains-append_left all (if is_such b d x then n ∷ [] else []) k ((h k).1 early s))
+      (λ past. let same : n ≡ k = omega (arith, lt, past) in let is_x : s.point ≡ x = same_Some s.point x (sym s.stands ∙ ap (slice_get points) (sym same) ∙ at) in
+      Contains-append_right all (if is_such b d x then n ∷ [] else []) k
+      (subst (λ (t : Bool). Contains {X = ℕ} (if t then n ∷ [] else []) k) (sym (ap (is_such b d) (sym is_x) ∙ s.passes)) (subst (λ m. Contains (n ∷ []) m) same (contains_first n []))))
+      (cases_lt k n),
+)
+
+-- ---- ways between
+
+module _ (points : List Point) (steps : StepList) (d : ℕ) (within : AreWithin (length points) steps) (definitions uses : List ℕ) (are : AreSuch points true d (length points) definitions) (used : AreSuch points false d (length points) uses)
+    (barred : Stamps) (bars : (n : ℕ) → is_stamped barred n ≡ true → Contains definitions n) where
+  abbrev Stops : ℕ → Type 0
+  Stops k = PassesAt points (is_definition_of d) k
+
+  free : (k : ℕ) → (Stops k → ⊥) → is_stamped barred k ≡ false
+  free k apart = never_true (is_stamped barred k) (λ s. let o = (are k).0 (bars k s) in apart (record { point = o.point; stands = o.stands; passes = sym (such_definition d o.point.kind) ∙ o.passes }))
+
+  module _ (ways : Lists) (are_ways : AreWays ways (length points) steps) where
+    path_spread : (i k : ℕ) → Contains definitions i → StepPath steps Stops i k → (Stops k → ⊥) → IsSpread (under_in ways) definitions barred (length points) k
+    path_spread i k from (StepPath.step t c) apart = let lt = within i k t c in IsSpread.first from ((are_ways i k lt.0).1 (t, c)) lt.1 (free k apart)
+    path_spread i k from (StepPath.on {k = m} t path stop c) apart = let lt = within m k t c in IsSpread.on (path_spread i m from path stop) ((are_ways m k lt.0).1 (t, c)) lt.1 (free k apart)
+
+  module _ (back : Lists) (are_back : AreWaysBack back (length points) steps) where
+    abbrev Spreads : ℕ → Type 0
+    Spreads k = IsSpread (under_in back) uses barred (length points) k
+
+    path_back : (k x : ℕ) → ((y : ℕ) → HasStepTo steps y x → (Stops y → ⊥) → Spreads y) → StepPath steps Stops k x → (Stops k → ⊥) → Spreads k
+    path_back k x source (StepPath.step t c) apart = source k (t, c) apart
+    path_back k x source (StepPath.on {k = m} t path stop c) apart = path_back k m
+        (λ y s a. let lt = within y m s.0 s.1 in IsSpread.on (source m (t, c) stop) (are_back m y lt.1 s) lt.0 (free y a)) path apart
+
+  pub are_between : (ways back : Lists) (behind before : Stamps) → AreWays ways (length points) steps → AreWaysBack back (length points) steps → AreSpread (under_in ways) definitions barred (length points) behind
+      → AreSpread (under_in back) uses barred (length points) before → AreBetween points steps d behind before
+  are_between ways back behind before are_ways are_back spread spread_back k b apart = (
+    spread k (path_spread ways are_ways b.from k from b.before apart),
+    spread_back k (path_back back are_back k b.to (λ y s a. let lt = within y b.to s.0 s.1 in IsSpread.first to (are_back b.to y lt.1 s) lt.0 (free y a)) b.after apart),
+  )
+    where
+      from : Contains definitions b.from
+      from = (are b.from).1 (get_inside points b.from _ b.defines) (record { point = record { row = b.row; kind = kind.Definition d }; stands = b.defines; passes = same_eq d })
+
+      to : Contains uses b.to
+      to = (used b.to).1 (get_inside points b.to _ b.uses) (record { point = record { row = b.used_at; kind = kind.Use d }; stands = b.uses; passes = same_eq d })
+
+-- ---- throws
+
+pub throw_more : (first end : ℕ) (points : List Point) (steps : List Step) (n : ℕ) (told one both : Bool) → one ≡ throws first end points (slice_get steps n) → both ≡ (told || one) → MayThrow first end points steps n told → MayThrow first end points steps (n + 1) both
+throw_more first end points steps n told one both is either h none k lt = let neither = or_false told one (sym either ∙ none) in
+    ⊎_elim (λ early. h neither.0 k early) (λ past. let same : n ≡ k = omega (arith, lt, past) in ap (λ m. throws first end points (slice_get steps m)) (sym same) ∙ sym is ∙ neither.1) (cases_lt k n)
+
+-- a step of the list
+record Stepping (all : List Step) (x : ℕ × ℕ × Bool) : Type 0 where
+  place : ℕ
+  step : Step
+  stands : slice_get all place ≡ Some step
+  seen : step_seen step ≡ x
+
+step_got : (all : List Step) (x : ℕ × ℕ × Bool) → Contains (map step_seen all) x → Stepping all x
+step_got [] x c = absurd (none_in x c)
+step_got (s ∷ all) x c = ⊎_elim (λ same. record { place = 0; step = s; stands = refl; seen = same })
+    (λ more. let o = step_got all x more in record { place = suc o.place; step = o.step; stands = o.stands; seen = o.seen }) (contains_out (step_seen s) (map step_seen all) x c)
+
+throws_told : (first end : ℕ) (points : List Point) (steps : List Step) (told : Bool) → MayThrow first end points steps (length steps) told → ThrowsInside points (map step_seen steps) first end → told ≡ true
+throws_told first end points steps told h t = ⊎_elim (λ is. is) (λ none. absurd (false≢true (sym (h none o.place (get_inside steps o.place o.step o.stands)) ∙ here))) (either_way told)
+  where
+    o : Stepping steps (t.from, t.to, true)
+    o = step_got steps (t.from, t.to, true) t.step
+
+    here : throws first end points (slice_get steps o.place) ≡ true
+    here = ap (throws first end points) o.stands
+        ∙ and_true o.step.is_throw (is_point_inside first end (slice_get points o.step.from)) (ap (λ (x : ℕ × ℕ × Bool). x.2) o.seen)
+        (ap (λ m. is_point_inside first end (slice_get points m)) (ap (λ (x : ℕ × ℕ × Bool). x.0) o.seen) ∙ ap (is_point_inside first end) t.stands ∙ t.inside)
+
+-- ---- locals that are held
+
+pub below_more : (points : List Point) (n old new : ℕ) (local : Option ℕ) → local ≡ local_at (slice_get points n) → old ≤ new → IfSome local (λ d. d < new) → AreLocalsBelow points n old → AreLocalsBelow points (n + 1) new
+below_more points n old new local is le here h k d lt e = ⊎_elim (λ early. let less = h k d early e in omega (arith, less, le))
+    (λ past. let same : n ≡ k = omega (arith, lt, past) in subst (λ (o : Option ℕ). IfSome o (λ m. m < new)) (is ∙ ap (λ m. local_at (slice_get points m)) same ∙ e) here) (cases_lt k n)
+
+pub adds_some : (old new : Stamps) (bound local : ℕ) (is_new : Bool) → AddsStamp old new bound local is_new → AddsIf old new bound (Some local)
+adds_some old new bound local is_new adds = record {
+  counted = adds.counted;
+  kept = adds.kept;
+  here = λ n e lt. subst (λ m. is_stamped new m ≡ true) (same_Some local n e) (⊎_elim (λ is. (adds.new_one is).1) (λ not_new. adds.kept local (adds.was (subst (λ m. m < bound) (sym (same_Some local n e)) lt) not_new)) (either_way is_new));
+}
+
+pub adds_none : (set : Stamps) (bound : ℕ) → IsStamping set bound → AddsIf set set bound None
+adds_none set bound counted = record { counted = counted; kept = λ n s. s; here = λ n e. absurd (none-some n e) }
+
+held_local : (k : PointKind) (inside may_throw : Bool) (d : ℕ) → held_by k inside may_throw ≡ Some d → local_of k ≡ Some d
+held_local (kind.Definition e) inside true d h = h
+held_local (kind.Definition e) inside false d h = absurd (none-some d h)
+held_local (kind.Use e) true may_throw d h = h
+held_local (kind.Use e) false may_throw d h = absurd (none-some d h)
+held_local kind.Entry inside may_throw d h = absurd (none-some d h)
+held_local kind.Exit inside may_throw d h = absurd (none-some d h)
+held_local kind.Thrown inside may_throw d h = absurd (none-some d h)
+held_local kind.Node inside may_throw d h = absurd (none-some d h)
+
+held_among : (first end : ℕ) (may_throw : Bool) (o : Option Point) (d : ℕ) → held_at first end may_throw o ≡ Some d → local_at o ≡ Some d
+held_among first end may_throw None d h = absurd (none-some d h)
+held_among first end may_throw (Some x) d h = held_local x.kind (is_inside first end x.row) may_throw d h
+
+pub held_more : (first end : ℕ) (may_throw : Bool) (points : List Point) (n bound : ℕ) (set added : Stamps) (local : Option ℕ) → local ≡ held_at first end may_throw (slice_get points n) → n < length points → AreLocalsBelow points (length points) bound → AddsIf set added bound local
+    → AreHeld first end may_throw points n set → AreHeld first end may_throw points (n + 1) added
+held_more first end may_throw points n bound set added local is less below adds h k d lt e = ⊎_elim (λ early. adds.kept d (h k d early e))
+    (λ past. let same : n ≡ k = omega (arith, lt, past) in let here = ap (λ m. held_at first end may_throw (slice_get points m)) same ∙ e in
+    adds.here d (is ∙ here) (below n d less (held_among first end may_throw (slice_get points n) d here))) (cases_lt k n)
+
+-- ---- what disturbs
+
+pub none_more : (first end : ℕ) (held behind before : Stamps) (points : List Point) (n : ℕ) (x : Point) → slice_get points n ≡ Some x → NoneDisturbs first end held behind before points n → disturbs first end held behind before n x ≡ false → NoneDisturbs first end held behind before points (n + 1)
+none_more first end held behind before points n x at early now k y lt e = ⊎_elim (λ less. early k y less e)
+    (λ past. let same : n ≡ k = omega (arith, lt, past) in let is_x : x ≡ y = same_Some x y (sym at ∙ ap (slice_get points) same ∙ e) in
+    subst (λ z. disturbs first end held behind before k z ≡ false) is_x (subst (λ m. disturbs first end held behind before m x ≡ false) same now)) (cases_lt k n)
+
+pub undisturbed : (p : Rows) (points : List Point) (steps : List Step) (d last : ℕ) (may_throw : Bool) (held behind before : Stamps) → last ≡ end p d → MayThrow d last points steps (length steps) may_throw → AreHeld d last may_throw points (length points) held
+    → AreBetween points (map step_seen steps) d behind before → NoneDisturbs d last held behind before points (length points) → IsUndisturbed p points (map step_seen steps) d
+undisturbed p points steps d last may_throw held behind before is may are between none = record {
+  inside = λ k row local at in_it. false≢true (sym (or_false (is_inside d last row) (is_changed held behind before k local) (told k row local at)).0 ∙ (ap (λ e. is_inside d e row) is ∙ in_it));
+  between = λ k row local at other holds b. let both = between k b (λ s. other (defined k row local at s)) in
+      false≢true (sym (or_false (is_inside d last row) (is_changed held behind before k local) (told k row local at)).1
+      ∙ and_true (is_stamped held local && is_stamped behind k) (is_stamped before k) (and_true (is_stamped held local) (is_stamped behind k) (is_held k row local at holds) both.0) both.1);
+}
+  where
+    told : (k row local : ℕ) → slice_get points k ≡ point row (kind.Definition local) → (is_inside d last row || is_changed held behind before k local) ≡ false
+    told k row local at = none k (record { row = row; kind = kind.Definition local }) (get_inside points k _ at) at
+
+    defined : (k row local : ℕ) → slice_get points k ≡ point row (kind.Definition local) → PassesAt points (is_definition_of d) k → local ≡ d
+    defined k row local at s = (Decides-eqb local d).0 (subst (λ x. is_definition d x.kind ≡ true) (same_Some s.point (record { row = row; kind = kind.Definition local }) (sym s.stands ∙ at)) s.passes)
+
+    is_held : (k row local : ℕ) → slice_get points k ≡ point row (kind.Definition local) → IsHeld p points (map step_seen steps) d local → is_stamped held local ≡ true
+    is_held k row local at (IsHeld.used j used_at stands in_it) = are j local (get_inside points j _ stands)
+        (ap (held_at d last may_throw) stands ∙ ap (λ t. some_if local t) (ap (λ e. is_inside d e used_at) is ∙ in_it))
+    is_held k row local at (IsHeld.throwing t) = are k local (get_inside points k _ at)
+        (ap (held_at d last may_throw) at ∙ ap (λ b. some_if local b) (throws_told d last points steps may_throw may (subst (λ e. ThrowsInside points (map step_seen steps) d e) (sym is) t)))

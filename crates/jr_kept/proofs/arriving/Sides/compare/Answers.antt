@@ -1,0 +1,17 @@
+use Rattle.std.proofs.Common.{◌≡◌, ℕ, true, sym, ◌∙◌, subst}
+use Rattle.std.specs.List.{Contains}
+use Rattle.jr_places.specs.Stamps.{is_stamped}
+use Rattle.jr_kept.specs.Gathered.{is_original}
+use Rattle.jr_kept.proofs.arriving.Sides.compare.Goals as goal
+
+pub returns : goal.returns
+returns c = λ many bound inside sides. let gathered = c.in_ok-run.ensures many bound inside sides.gathers in let filled = c.fill.ensures many (c.in_ok-empty.ensures many sides.counted) in (
+  record { counted = filled.0; gathers = gathered.0 },
+  λ none. let new = c.put_new_alone.ensures none in let old = c.put_old_alone.ensures new.0 in (
+    old.0,
+    λ n. (
+      λ m. (gathered.1 n).0 (gathered.0.originals.listed n (old.1 n (subst (λ xs. Contains xs n) (sym c.under-2.ensures) m))),
+      λ o. subst (λ xs. Contains xs n) c.under.ensures (filled.1 n (new.1 n (subst (λ xs. Contains xs n) (sym c.rows.ensures) ((gathered.1 n).1 o)))),
+    ),
+  ),
+)
