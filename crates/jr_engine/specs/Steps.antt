@@ -14,7 +14,7 @@ use Rattle.jr_defs.specs.Constants.{Constant}
 use Rattle.jr_plain.specs.Constants.{constants, has_constant_form}
 use Rattle.jr_plain.specs.Typing.{IsTypable, expression_types}
 use Rattle.jr_flow_defs.specs.Meaning.{Meaning}
-use Rattle.jr_kept.specs.Courses.{KeepsCourse}
+use Rattle.jr_kept.specs.Courses.{KeepsCourse, KeepsUsesOf}
 use Rattle.jr_shapes.specs.declared.spelling.Spelling.{Spelling}
 use Rattle.jr_index.specs.NodeRows.{unit_rows}
 use Rattle.jr_marks.specs.Places.{IsOrdered}
@@ -83,13 +83,15 @@ pub record IsMeaningOf (p : Rows) (t : Table) (m : Meaning) : Type 0 where
   pub sound : (n : ℕ) (v : Const) → m.values n ≡ Some v → Constant p t n v
   pub whole : IsTypable p t → (n : ℕ) → m.values n ≡ constants p t (has_constant_form p t) n
 
--- after an inlining and an extraction control goes from statement to statement as it went (`KeepsControl`); of other changes nothing is told
+-- after an inlining and an extraction control goes from statement to statement as it went (`KeepsControl`), and after an inlining the same definitions reach each
+-- use (`KeepsInlinedFlow`); of other changes nothing is told
 pub record KeepsFlow (p : Rows) (t : Table) (change : Change) (q : Rows) (l : Table) : Type 0 where
   pub before : Meaning
   pub after : Meaning
   pub before_is : IsMeaningOf p t before
   pub after_is : IsMeaningOf q l after
   pub kept : KeepsCourse change.course p q before after (origins_by change) (copies_by (origins_by change) (length p))
+  pub uses : KeepsUsesOf change.course p q before after (origins_by change) (copies_by (origins_by change) (length p))
 
 -- What a request leaves: the files as they are, where the change for which it asks keeps all units, or those of a changed program in which each row that comes from
 -- an old one must refer to what that referred to, where it stands now, calls find what they found, and control goes as it went.

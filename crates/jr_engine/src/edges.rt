@@ -1,6 +1,6 @@
 // Whether edges of flow are kept, and whether there are too many points of flow.
 
-ghost use Rattle.std.specs.Prelude.{◌≡◌, ◌+◌, ◌<◌, ◌^◌, true, length, Decides, IfOk};
+ghost use Rattle.std.specs.Prelude.{◌≡◌, ◌+◌, ◌<◌, ◌^◌, None, true, length, Decides, IfOk};
 ghost use Rattle.jr_headed.specs.Founded.{AreWell, IsProgram};
 ghost use Rattle.jr_front.specs.Bound.{IsBoundIn, rows_in};
 ghost use Rattle.jr_engine.specs.Written.{IsBoundByLocks, IsLockedBy, KeepsCallsIn, KeepsFlowIn, rows_of};
@@ -93,7 +93,7 @@ fn are_as_in_programs(asked: Asked, locked: &Locked) -> bool
     are_few(asked.old.index.rows()) && are_few(rows) && are_well(rows)
 }
 
-// Control goes as before. It gives the first edge from a definition to a use that is lost.
+// Control goes as before, and where no edge from a definition to a use is lost, uses have the values that they had. It gives the first that is lost.
 fn keeps_control(
     alloc: Global,
     asked: Asked,
@@ -106,7 +106,7 @@ fn keeps_control(
     requires few_new { length (rows_of locked.now) + 3 < 2 ^ 32 }
     requires locked { IsLockedBy asked locked.now }
     requires bound { IsBoundByLocks locked.now }
-    ensures { IfOk result (λ _. KeepsFlowIn asked.entry locked.now) }
+    ensures { IfOk result (λ def_use. def_use ≡ None → KeepsFlowIn asked.entry locked.now) }
 {
     let old = project_of(asked.old);
     let new = project_of(&locked.program);
