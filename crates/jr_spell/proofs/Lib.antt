@@ -1,3 +1,6 @@
 pub mod LockCases
+pub mod Packed
 pub mod Named
 pub mod Leading
+pub mod Suffixed
+pub mod Tracing

@@ -1,5 +1,5 @@
 -- What is found behind a type, in a package and alone is what the definitions find there.
-use Rattle.std.proofs.Common.{◌≡◌, refl, sym, ◌∙◌, ap, subst, ℕ, ◌<◌, Bool, true, false, ◌||◌, List, [], ◌∷◌, ◌++◌, length, Option, Some, None, Result, IfOk, nat_eq, Decides, append-nil}
+use Rattle.std.proofs.Common.{◌≡◌, refl, sym, ◌∙◌, ap, subst, ℕ, ◌<◌, true, false, ◌||◌, List, [], ◌∷◌, length, Option, Some, None, Result, IfOk, append-nil}
 use Rattle.std.proofs.lemmas.Bool.{false≢true}
 use Rattle.std.proofs.lemmas.Bool.Decides.{Decides-eqb}
 use Rattle.std.proofs.lemmas.Option.{none-some, same_Some}
@@ -10,13 +10,10 @@ use Rattle.jr_tree.specs.declared.label.Role.TheVariants as role
 use Rattle.jr_tree.specs.declared.label.NameKind.{NameKind}
 use Rattle.jr_tree.specs.declared.label.NameKind.TheVariants as kind
 use Rattle.jr_tree.specs.Rows.{Rows, name, role_at}
-use Rattle.jr_defs.specs.declared.referent.Space.{Space}
 use Rattle.jr_defs.specs.declared.referent.Space.TheVariants as space
 use Rattle.jr_defs.specs.declared.referent.Referent.{Referent}
-use Rattle.jr_defs.specs.declared.referent.Referent.TheVariants.{Unbound}
 use Rattle.jr_defs.specs.Referents.{Table, IsAnswer}
 use Rattle.jr_defs.specs.Declarations as def
-use Rattle.jr_defs.specs.Members.{MemberNamed}
 use Rattle.jr_defs.specs.Packages.{spelled, TypeOfPackage}
 use Rattle.jr_plain.specs.Headed.{IsHeaded}
 use Rattle.jr_plain.specs.Search.{has, Lists}
@@ -27,7 +24,6 @@ use Rattle.jr_plain.proofs.Tests.{never, like}
 use Rattle.jr_plain.proofs.Listed.{at_level_has}
 use Rattle.jr_plain.proofs.Answered.{answer_is}
 use Rattle.jr_places.specs.Names.{name_row}
-use Rattle.jr_members.specs.declared.declared.MemberKind.{MemberKind}
 use Rattle.jr_members.specs.declared.declared.MemberKind.TheVariants as member
 use Rattle.jr_members.specs.Each.{ListsEach}
 use Rattle.jr_members.specs.Held.{IsMemberAs}
@@ -36,13 +32,14 @@ use Rattle.jr_lookup.specs.Sights.{IsTopNamed}
 use Rattle.jr_lookup.proofs.Looking.{number_of}
 use Rattle.jr_lookup.proofs.Referring.{as_named, named_as}
 use Rattle.jr_spelling_rules.specs.Naming.{Before, at_start, in_package, in_type, look_up}
-use Rattle.jr_spelling_rules.specs.Behind.{FieldBehind, TypeBehind, NamedBehind, else_behind}
-use Rattle.jr_spelling_rules.proofs.Found.{looked_up_only}
+use Rattle.jr_spelling_rules.specs.Behind.{FieldBehind, TypeBehind, NamedBehind}
 use Rattle.jr_spell.specs.declared.resolving.Before.{Before as Code}
 use Rattle.jr_spell.specs.declared.resolving.Before.TheVariants as code
 use Rattle.jr_spell.specs.declared.speller.Speller.{Speller}
-use Rattle.jr_spell.specs.Spellers.{rows_of, table_of, IsWholeSpeller}
-use Rattle.jr_spell.specs.Standing.{IsNumber, row_in, NoneBegins, IsPath, StandsFor, BothStand}
+use Rattle.jr_spell.specs.declared.paths.Paths.{Paths}
+use Rattle.jr_spell.specs.Packaging.{IsNumber, NoneBegins, IsPath}
+use Rattle.jr_spell.specs.Spellers.{rows_of, IsWholeSpeller}
+use Rattle.jr_spell.specs.Standing.{StandsFor}
 
 pub headed : (s : Speller) → IsWholeSpeller s → IsHeaded (rows_of s)
 headed s whole = headed_from_local (rows_of s) whole.sight_is.world.seen.placed.local
@@ -184,15 +181,15 @@ stands_type c StandsFor.of_type e = cc
 same_package : {a b : Option ℕ} → code.Package a ≡ code.Package b → a ≡ b
 same_package e = cc
 
-pub stands_package : {s : Speller} {a : Code} {b : Before} (number : Option ℕ) → StandsFor s a b → a ≡ code.Package number → (path : List Text) × (b ≡ in_package path) × IsPath s number path
-stands_package number StandsFor.nothing e = absurd cc
-stands_package {s} number (StandsFor.of_package {number = other} {path = path} h) e = (path, refl, subst (λ o. IsPath s o path) (same_package e) h)
-stands_package number StandsFor.of_type e = absurd cc
+pub stands_package : {s : Speller} {a : Code} {b : Before} (at : Option ℕ) → StandsFor s a b → a ≡ code.Package at → (path : List Text) × (b ≡ in_package path) × IsPath (rows_of s) s.paths.now at path
+stands_package at StandsFor.nothing e = absurd cc
+stands_package {s} at (StandsFor.of_package {at = other} {path = path} h) e = (path, refl, subst (λ o. IsPath (rows_of s) s.paths.now o path) (same_package e) h)
+stands_package at StandsFor.of_type e = absurd cc
 
-pub path_row : {s : Speller} {number : Option ℕ} {path : List Text} (r : ℕ) → IsPath s number path → row_in s.paths.now number ≡ Some r → (r < length (rows_of s)) × (spelled (rows_of s) r ≡ path)
-path_row {s} r (IsPath.known {r = q} e lt is) h = let same = same_Some q r (sym e ∙ h) in (subst (λ k. k < length (rows_of s)) same lt, ap (spelled (rows_of s)) (sym same) ∙ is)
-path_row r (IsPath.unknown e none) h = absurd (none-some r (sym e ∙ h))
+pub path_row : {p : Rows} {paths : Paths} {at : Option ℕ} {path : List Text} (r : ℕ) → IsPath p paths at path → at ≡ Some r → (r < length p) × (spelled p r ≡ path)
+path_row {p} r (IsPath.known {r = q} reach lt is) h = let same = same_Some q r h in (subst (λ k. k < length p) same lt, ap (spelled p) (sym same) ∙ is)
+path_row r (IsPath.unknown none) h = absurd (none-some r h)
 
-pub path_none : {s : Speller} {number : Option ℕ} {path : List Text} → IsPath s number path → row_in s.paths.now number ≡ None → NoneBegins (rows_of s) path
-path_none (IsPath.known {r = q} e lt is) h = absurd (none-some q (sym h ∙ e))
-path_none (IsPath.unknown e none) h = none
+pub path_none : {p : Rows} {paths : Paths} {at : Option ℕ} {path : List Text} → IsPath p paths at path → at ≡ None → NoneBegins p path
+path_none (IsPath.known {r = q} reach lt is) h = absurd (none-some q (sym h))
+path_none (IsPath.unknown none) h = none

@@ -1,2 +1,4 @@
+pub mod Packaging
 pub mod Spellers
 pub mod Standing
+pub mod Adding

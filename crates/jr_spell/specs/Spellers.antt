@@ -1,5 +1,5 @@
 -- What a speller reads, and what is known of it: the program under its locks, with supertypes, members and imports as the locks say.
-use Rattle.std.specs.Prelude.{◌≡◌, ℕ, ◌+◌, ◌<◌, ◌^◌, Bool, false, is_some, length, slice_index_or, None}
+use Rattle.std.specs.Prelude.{◌≡◌, ℕ, ◌<◌, ◌^◌, Bool, false, if◌then◌else◌, Option, Some, None, is_some, length, slice_index_or}
 use Rattle.jr_tree.specs.Rows.{Rows, sought_at}
 use Rattle.jr_defs.specs.Referents.{Table, entries}
 use Rattle.jr_plain.specs.Overloads.{Types}
@@ -7,8 +7,13 @@ use Rattle.jr_members.specs.Sources.{AreSeen}
 use Rattle.jr_lookup.specs.Answers.{CanChoose}
 use Rattle.jr_lookup.specs.Locals.{AreLocalsPlaced}
 use Rattle.jr_lookup.specs.Sights.{IsSight}
+use Rattle.jr_shapes.specs.declared.spelling.Shape.{Shape}
+use Rattle.jr_spelling_rules.specs.Fitting.{fits_so}
+use Rattle.jr_spell.specs.declared.fitting.Fit.{Fit}
+use Rattle.jr_spell.specs.declared.fitting.Looked.{Looked}
 use Rattle.jr_spell.specs.declared.reference.Reference.{Reference}
 use Rattle.jr_spell.specs.declared.speller.Speller.{Speller}
+use Rattle.jr_spell.specs.Packaging.{ArePaths}
 
 abbrev pub rows_of : Speller → Rows
 rows_of s = s.view.now.sight.world.under.rows.now
@@ -37,8 +42,20 @@ pub record IsWholeSpeller (s : Speller) : Type 0 where
   pub sight_is : IsSight (table_of s) s.view.now.sight
   pub placed : AreLocalsPlaced (rows_of s)
   pub can : CanChoose (table_of s) s.view.now.sight.world
+  pub paths : ArePaths (rows_of s) s.paths.now
 
 -- the reference has the lock of its row, and what is sought there
 pub record IsAtRow (s : Speller) (r : Reference) : Type 0 where
   pub lock_is : r.lock ≡ table_of s r.row
   pub sought_is : r.sought ≡ sought_at (rows_of s) r.row
+
+-- ---- spellings that fit
+
+-- what is found in this way fits
+abbrev pub fits_looked : Speller → Reference → Looked → Bool
+fits_looked s r looked =
+    fits_so (rows_of s) (table_of s) (is_constant_variable s) (was_constant s) r.row looked.found looked.way.receiver looked.way.level looked.way.is_constant_form
+
+-- the spelling of the shape, where it does
+abbrev pub fit_by : Bool → Shape → Looked → Option Fit
+fit_by is_fit shape looked = if is_fit then Some (record { shape = shape; found = looked.found; trace = looked.trace }) else None

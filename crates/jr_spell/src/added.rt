@@ -1,13 +1,19 @@
 // Names of types that a spelling adds.
+ghost use Rattle.std.specs.Prelude.{◌≡◌, ◌<◌, ℕ, IfOk, length, map, reverse, suc, option_map};
+ghost use Rattle.jr_tree.specs.declared.label.NameKind.TheVariants as names;
+ghost use Rattle.jr_places.specs.Names.{name_row};
+ghost use Rattle.jr_shapes.specs.Names.{suffix as suffix_of};
+ghost use Rattle.jr_spelling_rules.specs.Candidates as candidate;
+ghost use Rattle.jr_spell.specs.Adding as adding;
+ghost use Rattle.jr_spell.specs.Spellers as tell;
 
+use crate::fitting::target_of;
 use crate::paths::package_name;
-use crate::resolving::{Resolved, kind_before};
+use crate::resolving::Resolved;
 use crate::speller::Speller;
 use jr_base::OutOfMemory;
 use jr_defs::{Element, Referent, RowType};
-use jr_places::declaring_type;
-use jr_shapes::{Suffix, TypeName};
-use jr_supers::declaration;
+use jr_shapes::{Suffix, TypeName, suffix_rows};
 use jr_tree::NameKind;
 use std::alloc::Global;
 
@@ -18,18 +24,55 @@ pub struct Added {
     pub trace: Vec<Referent>,
 }
 
-/// The last items, so many of them.
-pub fn tail(all: &[u32], count: usize) -> &[u32] {
-    let from = all.len().saturating_sub(count);
-    &all[from..]
-}
-
 /// Adds the items in their order.
 pub fn push_all(all: &mut Vec<Referent>, items: &[Referent]) -> Result<(), OutOfMemory> {
     for item in items {
         all.push(*item)?;
     }
     Ok(())
+}
+
+// All but the first item.
+fn behind_first(all: &[u32]) -> &[u32]
+    ensures { result.now ≡ candidate.behind_first all.now }
+{
+    match all.split_first() {
+        Some((_, rest)) => rest,
+        None => all,
+    }
+}
+
+fn in_reverse(mut all: Vec<u32>) -> Vec<u32>
+    ensures { result.items ≡ reverse all.items }
+{
+    all.reverse();
+    all
+}
+
+// What is found is the type.
+fn is_type_found(found: Referent, class: u32) -> bool
+    ensures { result ≡ candidate.is_same_row (candidate.target found) class }
+{
+    match target_of(found) {
+        Some(row) => row == class,
+        None => false,
+    }
+}
+
+// The trace with what is found, where it is the type.
+fn with_type(
+    found: Referent,
+    trace: Vec<Referent>,
+    class: u32,
+) -> Result<Option<Vec<Referent>>, OutOfMemory>
+    ensures { IfOk result (λ o. option_map (λ all. all.items) o ≡ adding.traced (candidate.is_same_row (candidate.target found) class) trace.items found) }
+{
+    if !is_type_found(found, class) {
+        return Ok(None);
+    }
+    let mut all = trace;
+    all.push(found)?;
+    Ok(Some(all))
 }
 
 impl<'a> Speller<'a> {
@@ -45,53 +88,66 @@ impl<'a> Speller<'a> {
         Ok(())
     }
 
-    // The types whose bodies hold a type, from the innermost one out.
-    fn types_round(&self, alloc: Global, class: u32) -> Result<Vec<u32>, OutOfMemory> {
+    // The numbers of the names of rows.
+    fn numbers_of(&self, alloc: Global, at: &[u32]) -> Result<Vec<u32>, OutOfMemory>
+        ensures { tell.IsWholeSpeller self.now → adding.AreWithin (tell.rows_of self.now) at.now → IfOk result (λ all. all.items ≡ map (λ n. name_row (tell.rows_of self.now) n) at.now) }
+    {
         let mut all = Vec::new(alloc);
-        let mut here = class;
-        for _turn in 0..class {
-            match declaring_type(self.rows(), here) {
-                Some(over) => {
-                    all.push(over)?;
-                    here = over;
-                }
-                None => return Ok(all),
-            }
+        for row in at {
+            all.push(self.places().name(*row))?;
         }
         Ok(all)
     }
 
-    /// The identifiers of the canonical name of a type before its last one, by their numbers (JLS 6.7).
-    pub fn names_before(&self, alloc: Global, class: u32) -> Result<Vec<u32>, OutOfMemory> {
-        let mut names = Vec::new(alloc);
-        self.push_package(&mut names, class)?;
-        let mut round = self.types_round(alloc, class)?;
-        for _turn in 0..round.len() {
-            if let Some(over) = round.pop() {
-                names.push(self.places().name(over))?;
-            }
-        }
-        Ok(names)
+    /// The numbers of the names of rows, from the last row back.
+    pub fn numbers_back(&self, alloc: Global, at: &[u32]) -> Result<Vec<u32>, OutOfMemory>
+        ensures { tell.IsWholeSpeller self.now → adding.AreWithin (tell.rows_of self.now) at.now → IfOk result (λ all. adding.AreNumbersOf (tell.rows_of self.now) (candidate.texts (tell.rows_of self.now) at.now) all.items) }
+    {
+        let all = self.numbers_of(alloc, at)?;
+        Ok(in_reverse(all))
     }
 
-    // What the last identifiers of the name of a type refer to, so many of them before the last one.
+    /// The identifiers before the last one of so many last ones of the canonical name of a type, by their numbers (JLS 6.7).
+    pub fn names_before(&self, alloc: Global, suffix: Suffix) -> Result<Vec<u32>, OutOfMemory>
+        ensures { tell.IsWholeSpeller self.now → suffix.of < length (tell.rows_of self.now) → IfOk result (λ all. adding.AreNumbersOf (tell.rows_of self.now) (candidate.texts (tell.rows_of self.now) (candidate.behind_first (suffix_of (tell.rows_of self.now) suffix.count suffix.of))) all.items) }
+    {
+        let rows = suffix_rows(alloc, self.rows(), suffix)?;
+        self.numbers_back(alloc, behind_first(&rows))
+    }
+
+    /// How many identifiers the canonical name of a type has (JLS 6.7).
+    pub fn name_length(&self, alloc: Global, class: u32) -> Result<u32, OutOfMemory>
+        ensures { IfOk result (λ n. n ≡ candidate.name_length (tell.rows_of self.now) class) }
+    {
+        let Ok(most) = u32::try_from(self.rows().len()) else {
+            return Err(OutOfMemory);
+        };
+        let suffix = Suffix {
+            of: class,
+            count: most,
+        };
+        let rows = suffix_rows(alloc, self.rows(), suffix)?;
+        let Ok(count) = u32::try_from(rows.len()) else {
+            return Err(OutOfMemory);
+        };
+        Ok(count)
+    }
+
+    // What the last identifiers of the name of a type refer to at a place, where that is the type.
     fn resolve_suffix(
         &self,
         alloc: Global,
         place: u32,
         kind: NameKind,
-        class: u32,
-        before: &[u32],
-    ) -> Result<Option<Vec<Referent>>, OutOfMemory> {
-        let name = self.places().name(class);
-        match self.resolve(alloc, place, kind, before, name)? {
-            Some(Resolved { found, mut trace }) => {
-                if declaration(found) != Some(class) {
-                    return Ok(None);
-                }
-                trace.push(found)?;
-                Ok(Some(trace))
-            }
+        suffix: Suffix,
+    ) -> Result<Option<Vec<Referent>>, OutOfMemory>
+        ensures { (more : ℕ) → suffix.count ≡ suc more → tell.IsWholeSpeller self.now → suffix.of < length (tell.rows_of self.now) → place < length (tell.rows_of self.now) → IfOk result (λ o. option_map (λ all. all.items) o ≡ candidate.suffix_trace (tell.rows_of self.now) (tell.table_of self.now) place kind suffix.of more) }
+    {
+        let names = self.names_before(alloc, suffix)?;
+        let name = self.places().name(suffix.of);
+        let resolved = self.resolve(alloc, place, kind, &names, name)?;
+        match resolved {
+            Some(Resolved { found, trace }) => with_type(found, trace, suffix.of),
             None => Ok(None),
         }
     }
@@ -103,19 +159,19 @@ impl<'a> Speller<'a> {
         place: u32,
         kind: NameKind,
         class: u32,
-    ) -> Result<Option<Added>, OutOfMemory> {
-        let before = self.names_before(alloc, class)?;
-        let Ok(count) = u32::try_from(before.len()) else {
-            return Err(OutOfMemory);
-        };
-        for more in 0..=count {
-            let names = tail(&before, more as usize);
-            if let Some(trace) = self.resolve_suffix(alloc, place, kind, class, names)? {
-                let suffix = Suffix {
-                    of: class,
-                    count: more.saturating_add(1),
-                };
-                return Ok(Some(Added { suffix, trace }));
+    ) -> Result<Option<Added>, OutOfMemory>
+        ensures { tell.IsWholeSpeller self.now → class < length (tell.rows_of self.now) → place < length (tell.rows_of self.now) → IfOk result (λ o. adding.IsAdded o (candidate.suffix_from (tell.rows_of self.now) (tell.table_of self.now) place kind class 0 (candidate.name_length (tell.rows_of self.now) class))) }
+    {
+        let count = self.name_length(alloc, class)?;
+        for more in 0..count {
+            let suffix = Suffix {
+                of: class,
+                count: more + 1,
+            };
+            let traced = self.resolve_suffix(alloc, place, kind, suffix)?;
+            match traced {
+                Some(trace) => return Ok(Some(Added { suffix, trace })),
+                None => (),
             }
         }
         Ok(None)
@@ -128,8 +184,10 @@ impl<'a> Speller<'a> {
         place: u32,
         kind: NameKind,
         class: u32,
-    ) -> Result<Option<Added>, OutOfMemory> {
-        if !self.world().is_accessible(class, place, None) {
+    ) -> Result<Option<Added>, OutOfMemory>
+        ensures { tell.IsWholeSpeller self.now → class < length (tell.rows_of self.now) → place < length (tell.rows_of self.now) → IfOk result (λ o. adding.IsAdded o (candidate.added (tell.rows_of self.now) (tell.table_of self.now) place kind class)) }
+    {
+        if !self.is_accessible(class, place, None) {
             return Ok(None);
         }
         self.first_suffix(alloc, place, kind, class)
@@ -141,7 +199,9 @@ impl<'a> Speller<'a> {
         alloc: Global,
         place: u32,
         class: u32,
-    ) -> Result<Option<Added>, OutOfMemory> {
+    ) -> Result<Option<Added>, OutOfMemory>
+        ensures { tell.IsWholeSpeller self.now → class < length (tell.rows_of self.now) → place < length (tell.rows_of self.now) → IfOk result (λ o. adding.IsAdded o (candidate.added (tell.rows_of self.now) (tell.table_of self.now) place names.Type class)) }
+    {
         self.added(alloc, place, NameKind::Type, class)
     }
 
@@ -151,8 +211,10 @@ impl<'a> Speller<'a> {
         alloc: Global,
         place: u32,
         class: u32,
-    ) -> Result<Option<Added>, OutOfMemory> {
-        self.added(alloc, place, kind_before(NameKind::Variable), class)
+    ) -> Result<Option<Added>, OutOfMemory>
+        ensures { tell.IsWholeSpeller self.now → class < length (tell.rows_of self.now) → place < length (tell.rows_of self.now) → IfOk result (λ o. adding.IsAdded o (candidate.added (tell.rows_of self.now) (tell.table_of self.now) place names.Ambiguous class)) }
+    {
+        self.added(alloc, place, NameKind::Ambiguous, class)
     }
 
     /// How the type is written in a cast of an argument.

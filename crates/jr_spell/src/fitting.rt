@@ -13,7 +13,6 @@ use crate::speller::Speller;
 use jr_defs::{Referent, RowType};
 use jr_places::{is_static, role_at};
 use jr_shapes::Shape;
-use jr_supers::declaration;
 use jr_tree::{Role, Row};
 
 /// How a spelling reaches what it finds.
@@ -136,7 +135,8 @@ fn is_same_object(rows: &[Row], lock: Referent, through: Option<u32>) -> bool
 }
 
 impl<'a> Speller<'a> {
-    fn is_accessible(&self, target: u32, place: u32, receiver: Option<RowType>) -> bool
+    /// The declaration is accessible at a place, through a receiver of this type where there is one.
+    pub fn is_accessible(&self, target: u32, place: u32, receiver: Option<RowType>) -> bool
         ensures { tell.IsSeenSpeller self.now → result ≡ access.is_accessible (tell.rows_of self.now) (tell.table_of self.now) target place receiver }
     {
         let view = self.view;
@@ -189,7 +189,9 @@ impl<'a> Speller<'a> {
     }
 
     /// The spelling of this shape, where what it finds fits.
-    pub fn fit_of(&self, reference: &Reference, shape: Shape, looked: Looked) -> Option<Fit> {
+    pub fn fit_of(&self, reference: &Reference, shape: Shape, looked: Looked) -> Option<Fit>
+        ensures { tell.IsSeenSpeller self.now → tell.IsAtRow self.now reference.now → result ≡ tell.fit_by (tell.fits_looked self.now reference.now looked) shape looked }
+    {
         let Looked { found, trace, way } = looked;
         if self.fits(reference, found, way) {
             Some(Fit {

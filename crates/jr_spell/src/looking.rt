@@ -8,6 +8,7 @@ ghost use Rattle.jr_plain.specs.Search.{Lists};
 ghost use Rattle.jr_lookup.specs.Sights.{IsTopNamed};
 ghost use Rattle.jr_spelling_rules.specs.Naming as naming;
 ghost use Rattle.jr_spelling_rules.specs.Behind as behind;
+ghost use Rattle.jr_spell.specs.Packaging as packaging;
 ghost use Rattle.jr_spell.specs.Spellers as tell;
 ghost use Rattle.jr_spell.specs.Standing as standing;
 
@@ -34,7 +35,7 @@ fn otherwise_in_package(kind: NameKind) -> Referent
 impl<'a> Speller<'a> {
     // The fields of the class.
     fn fields_of(&self, alloc: Global, class: u32, name: u32) -> Result<Vec<u32>, OutOfMemory>
-        ensures { tell.IsWholeSpeller self.now → standing.IsNumber (tell.rows_of self.now) name → IfOk result (λ found. Lists found.items (behind.FieldBehind (tell.rows_of self.now) (tell.table_of self.now) (name_of (tell.rows_of self.now) name) (naming.in_type class))) }
+        ensures { tell.IsWholeSpeller self.now → packaging.IsNumber (tell.rows_of self.now) name → IfOk result (λ found. Lists found.items (behind.FieldBehind (tell.rows_of self.now) (tell.table_of self.now) (name_of (tell.rows_of self.now) name) (naming.in_type class))) }
     {
         let view = self.view;
         view.sight
@@ -44,7 +45,7 @@ impl<'a> Speller<'a> {
 
     // The member types of the class.
     fn types_of(&self, alloc: Global, class: u32, name: u32) -> Result<Vec<u32>, OutOfMemory>
-        ensures { tell.IsWholeSpeller self.now → standing.IsNumber (tell.rows_of self.now) name → IfOk result (λ found. Lists found.items (behind.TypeBehind (tell.rows_of self.now) (tell.table_of self.now) (name_of (tell.rows_of self.now) name) (naming.in_type class))) }
+        ensures { tell.IsWholeSpeller self.now → packaging.IsNumber (tell.rows_of self.now) name → IfOk result (λ found. Lists found.items (behind.TypeBehind (tell.rows_of self.now) (tell.table_of self.now) (name_of (tell.rows_of self.now) name) (naming.in_type class))) }
     {
         let view = self.view;
         view.sight.world.named(alloc, MemberKind::Type, class, name)
@@ -69,10 +70,9 @@ impl<'a> Speller<'a> {
         number: Option<u32>,
         name: u32,
     ) -> Result<Vec<u32>, OutOfMemory>
-        ensures { (path : List Text) → tell.IsWholeSpeller self.now → standing.IsPath self.now number path → standing.IsNumber (tell.rows_of self.now) name → IfOk result (λ found. Lists found.items (behind.TypeBehind (tell.rows_of self.now) (tell.table_of self.now) (name_of (tell.rows_of self.now) name) (naming.in_package path))) }
+        ensures { (path : List Text) → tell.IsWholeSpeller self.now → packaging.IsPath (tell.rows_of self.now) self.now.paths.now number path → packaging.IsNumber (tell.rows_of self.now) name → IfOk result (λ found. Lists found.items (behind.TypeBehind (tell.rows_of self.now) (tell.table_of self.now) (name_of (tell.rows_of self.now) name) (naming.in_package path))) }
     {
-        let paths = self.paths;
-        match paths.row(number) {
+        match number {
             Some(row) => self.types_beside(alloc, row, name),
             None => Ok(Vec::new(alloc)),
         }
@@ -85,7 +85,7 @@ impl<'a> Speller<'a> {
         class: u32,
         name: u32,
     ) -> Result<Vec<u32>, OutOfMemory>
-        ensures { tell.IsWholeSpeller self.now → standing.IsNumber (tell.rows_of self.now) name → IfOk result (λ found. Lists found.items (behind.NamedBehind (tell.rows_of self.now) (tell.table_of self.now) (name_of (tell.rows_of self.now) name) (naming.in_type class) names.Ambiguous)) }
+        ensures { tell.IsWholeSpeller self.now → packaging.IsNumber (tell.rows_of self.now) name → IfOk result (λ found. Lists found.items (behind.NamedBehind (tell.rows_of self.now) (tell.table_of self.now) (name_of (tell.rows_of self.now) name) (naming.in_type class) names.Ambiguous)) }
     {
         let fields = self.fields_of(alloc, class, name)?;
         if !fields.is_empty() {
@@ -102,7 +102,7 @@ impl<'a> Speller<'a> {
         kind: NameKind,
         name: u32,
     ) -> Result<Vec<u32>, OutOfMemory>
-        ensures { tell.IsWholeSpeller self.now → standing.IsNumber (tell.rows_of self.now) name → IfOk result (λ found. Lists found.items (behind.NamedBehind (tell.rows_of self.now) (tell.table_of self.now) (name_of (tell.rows_of self.now) name) (naming.in_type class) kind)) }
+        ensures { tell.IsWholeSpeller self.now → packaging.IsNumber (tell.rows_of self.now) name → IfOk result (λ found. Lists found.items (behind.NamedBehind (tell.rows_of self.now) (tell.table_of self.now) (name_of (tell.rows_of self.now) name) (naming.in_type class) kind)) }
     {
         match kind {
             NameKind::Variable => self.fields_of(alloc, class, name),
@@ -121,7 +121,7 @@ impl<'a> Speller<'a> {
         kind: NameKind,
         name: u32,
     ) -> Result<Vec<u32>, OutOfMemory>
-        ensures { (path : List Text) → tell.IsWholeSpeller self.now → standing.IsPath self.now number path → standing.IsNumber (tell.rows_of self.now) name → IfOk result (λ found. Lists found.items (behind.NamedBehind (tell.rows_of self.now) (tell.table_of self.now) (name_of (tell.rows_of self.now) name) (naming.in_package path) kind)) }
+        ensures { (path : List Text) → tell.IsWholeSpeller self.now → packaging.IsPath (tell.rows_of self.now) self.now.paths.now number path → packaging.IsNumber (tell.rows_of self.now) name → IfOk result (λ found. Lists found.items (behind.NamedBehind (tell.rows_of self.now) (tell.table_of self.now) (name_of (tell.rows_of self.now) name) (naming.in_package path) kind)) }
     {
         match kind {
             NameKind::Type => self.types_in(alloc, number, name),
@@ -140,7 +140,7 @@ impl<'a> Speller<'a> {
         kind: NameKind,
         name: u32,
     ) -> Result<Referent, OutOfMemory>
-        ensures { tell.IsWholeSpeller self.now → standing.IsNumber (tell.rows_of self.now) name → IfOk result (λ a. a ≡ naming.look_up (tell.rows_of self.now) (tell.table_of self.now) place (naming.in_type class) kind (name_of (tell.rows_of self.now) name)) }
+        ensures { tell.IsWholeSpeller self.now → packaging.IsNumber (tell.rows_of self.now) name → IfOk result (λ a. a ≡ naming.look_up (tell.rows_of self.now) (tell.table_of self.now) place (naming.in_type class) kind (name_of (tell.rows_of self.now) name)) }
     {
         let rows = self.named_of(alloc, class, kind, name)?;
         Ok(Candidates { rows, level: None }.answer(Referent::Unbound))
@@ -155,7 +155,7 @@ impl<'a> Speller<'a> {
         kind: NameKind,
         name: u32,
     ) -> Result<Referent, OutOfMemory>
-        ensures { (path : List Text) → tell.IsWholeSpeller self.now → standing.IsPath self.now number path → standing.IsNumber (tell.rows_of self.now) name → IfOk result (λ a. a ≡ naming.look_up (tell.rows_of self.now) (tell.table_of self.now) place (naming.in_package path) kind (name_of (tell.rows_of self.now) name)) }
+        ensures { (path : List Text) → tell.IsWholeSpeller self.now → packaging.IsPath (tell.rows_of self.now) self.now.paths.now number path → packaging.IsNumber (tell.rows_of self.now) name → IfOk result (λ a. a ≡ naming.look_up (tell.rows_of self.now) (tell.table_of self.now) place (naming.in_package path) kind (name_of (tell.rows_of self.now) name)) }
     {
         let rows = self.named_in(alloc, number, kind, name)?;
         let otherwise = otherwise_in_package(kind);
@@ -170,7 +170,7 @@ impl<'a> Speller<'a> {
         kind: NameKind,
         name: u32,
     ) -> Result<Referent, OutOfMemory>
-        ensures { tell.IsWholeSpeller self.now → standing.IsNumber (tell.rows_of self.now) name → place < length (tell.rows_of self.now) → IfOk result (λ a. a ≡ naming.look_up (tell.rows_of self.now) (tell.table_of self.now) place naming.at_start kind (name_of (tell.rows_of self.now) name)) }
+        ensures { tell.IsWholeSpeller self.now → packaging.IsNumber (tell.rows_of self.now) name → place < length (tell.rows_of self.now) → IfOk result (λ a. a ≡ naming.look_up (tell.rows_of self.now) (tell.table_of self.now) place naming.at_start kind (name_of (tell.rows_of self.now) name)) }
     {
         let view = self.view;
         view.sight.simple(alloc, place, kind, name)
@@ -185,7 +185,7 @@ impl<'a> Speller<'a> {
         kind: NameKind,
         name: u32,
     ) -> Result<Referent, OutOfMemory>
-        ensures { (b : naming.Before) → tell.IsWholeSpeller self.now → standing.StandsFor self.now before b → standing.IsNumber (tell.rows_of self.now) name → place < length (tell.rows_of self.now) → IfOk result (λ a. a ≡ naming.look_up (tell.rows_of self.now) (tell.table_of self.now) place b kind (name_of (tell.rows_of self.now) name)) }
+        ensures { (b : naming.Before) → tell.IsWholeSpeller self.now → standing.StandsFor self.now before b → packaging.IsNumber (tell.rows_of self.now) name → place < length (tell.rows_of self.now) → IfOk result (λ a. a ≡ naming.look_up (tell.rows_of self.now) (tell.table_of self.now) place b kind (name_of (tell.rows_of self.now) name)) }
     {
         match before {
             Before::Nothing => self.look_up_alone(alloc, place, kind, name),

@@ -1,4 +1,6 @@
 // References and what stands before them.
+ghost use Rattle.std.specs.Prelude.{◌≡◌, IfSome};
+ghost use Rattle.jr_spell.specs.Spellers as tell;
 
 use crate::paths::Chain;
 use crate::speller::Speller;
@@ -249,7 +251,11 @@ impl<'a> Speller<'a> {
         }
     }
 
-    fn reference_to(&self, row: u32, lock: Referent, sought: Sought) -> Reference {
+    fn reference_to(&self, row: u32, lock: Referent, sought: Sought) -> Reference
+        ensures row { result.row ≡ row }
+        ensures lock { result.lock ≡ lock }
+        ensures sought { result.sought ≡ sought }
+    {
         let dot = self.dot_of(row, sought);
         Reference {
             row,
@@ -263,7 +269,10 @@ impl<'a> Speller<'a> {
     }
 
     /// The reference at a row, if it is one that has a lock. A package or type before a dot belongs to the reference behind it.
-    pub fn reference(&self, row: u32) -> Option<Reference> {
+    pub fn reference(&self, row: u32) -> Option<Reference>
+        ensures row { IfSome result (λ r. r.row ≡ row) }
+        ensures at_row { IfSome result (λ r. tell.IsAtRow self.now r) }
+    {
         if is_before_dot(self.rows(), row) && self.is_package_or_type(row) {
             return None;
         }
@@ -272,10 +281,21 @@ impl<'a> Speller<'a> {
             Sought::Nothing => return None,
             _ => (),
         }
-        match self.under().referent(row) {
+        self.reference_with(row, sought)
+    }
+
+    // The reference, where it has a lock.
+    fn reference_with(&self, row: u32, sought: Sought) -> Option<Reference>
+        ensures row { IfSome result (λ r. r.row ≡ row) }
+        ensures lock { IfSome result (λ r. r.lock ≡ tell.table_of self.now row) }
+        ensures sought { IfSome result (λ r. r.sought ≡ sought) }
+    {
+        let view = self.view;
+        let lock = view.sight.world.under.referent(row);
+        match lock {
             Referent::Unbound => None,
             Referent::Ambiguous => None,
-            lock => Some(self.reference_to(row, lock, sought)),
+            _ => Some(self.reference_to(row, lock, sought)),
         }
     }
 }

@@ -3,6 +3,7 @@ ghost use Rattle.std.specs.Prelude.{◌≡◌, ◌<◌, if◌then◌else◌, Som
 ghost use Rattle.jr_plain.specs.Declarations.{is_type};
 ghost use Rattle.jr_tree.specs.Rows.{name as name_of};
 ghost use Rattle.jr_spelling_rules.specs.Naming as naming;
+ghost use Rattle.jr_spell.specs.Packaging as packaging;
 ghost use Rattle.jr_spell.specs.Spellers as tell;
 ghost use Rattle.jr_spell.specs.Standing as standing;
 
@@ -17,7 +18,7 @@ use std::alloc::Global;
 #[derive(Clone, Copy, Debug, PartialEq, Eq)]
 pub enum Before {
     Nothing,
-    /// A package, by its number among those that units declare.
+    /// A package, by a row that spells its name, if a unit's begins so.
     Package(Option<u32>),
     OfType(u32),
 }
@@ -52,7 +53,7 @@ pub fn kind_before(kind: NameKind) -> NameKind
 impl<'a> Speller<'a> {
     // The package of this name behind what stands before it.
     fn package_behind(&self, before: Before, name: u32) -> Option<Before>
-        ensures { (b : naming.Before) → standing.ArePaths self.now → standing.StandsFor self.now before b → standing.IsNumber (tell.rows_of self.now) name → standing.BothStand self.now result (naming.package_behind b (name_of (tell.rows_of self.now) name)) }
+        ensures { (b : naming.Before) → tell.IsWholeSpeller self.now → standing.StandsFor self.now before b → packaging.IsNumber (tell.rows_of self.now) name → standing.BothStand self.now result (naming.package_behind b (name_of (tell.rows_of self.now) name)) }
     {
         let paths = self.paths;
         match before {
@@ -64,7 +65,7 @@ impl<'a> Speller<'a> {
 
     // What stands before the next identifier, where this one is a package or type.
     fn next(&self, before: Before, name: u32, found: Referent) -> Option<Before>
-        ensures { (b : naming.Before) → standing.ArePaths self.now → standing.StandsFor self.now before b → standing.IsNumber (tell.rows_of self.now) name → standing.BothStand self.now result (naming.next (tell.rows_of self.now) b (name_of (tell.rows_of self.now) name) found) }
+        ensures { (b : naming.Before) → tell.IsWholeSpeller self.now → standing.StandsFor self.now before b → packaging.IsNumber (tell.rows_of self.now) name → standing.BothStand self.now result (naming.next (tell.rows_of self.now) b (name_of (tell.rows_of self.now) name) found) }
     {
         match found {
             Referent::Package => self.package_behind(before, name),
@@ -92,7 +93,7 @@ impl<'a> Speller<'a> {
         kind: NameKind,
         names: &[u32],
     ) -> Result<Option<Qualifiers>, OutOfMemory>
-        ensures { tell.IsWholeSpeller self.now → standing.ArePaths self.now → standing.AreNumbers (tell.rows_of self.now) names.now → place < length (tell.rows_of self.now) → IfOk result (λ o. standing.AreQualified self.now o (naming.qualify (tell.rows_of self.now) (tell.table_of self.now) place kind naming.at_start (standing.texts_of (tell.rows_of self.now) names.now))) }
+        ensures { tell.IsWholeSpeller self.now → packaging.AreNumbers (tell.rows_of self.now) names.now → place < length (tell.rows_of self.now) → IfOk result (λ o. standing.AreQualified self.now o (naming.qualify (tell.rows_of self.now) (tell.table_of self.now) place kind naming.at_start (standing.texts_of (tell.rows_of self.now) names.now))) }
     {
         let mut trace = Vec::new(alloc);
         let mut last = Before::Nothing;
@@ -115,17 +116,17 @@ impl<'a> Speller<'a> {
         kind: NameKind,
         names: &[u32],
         name: u32,
-    ) -> Result<Option<Resolved>, OutOfMemory> {
-        let Some(Qualifiers { last, trace }) = self.qualifiers(
-            alloc,
-            place,
-            kind_before(kind),
-            names,
-        )?
-        else {
-            return Ok(None);
-        };
-        let found = self.look_up(alloc, place, last, kind, name)?;
-        Ok(Some(Resolved { found, trace }))
+    ) -> Result<Option<Resolved>, OutOfMemory>
+        ensures { tell.IsWholeSpeller self.now → packaging.AreNumbers (tell.rows_of self.now) names.now → packaging.IsNumber (tell.rows_of self.now) name → place < length (tell.rows_of self.now) → IfOk result (λ o. standing.AreResolved self.now place kind names.now name o) }
+    {
+        let before = kind_before(kind);
+        let led = self.qualifiers(alloc, place, before, names)?;
+        match led {
+            Some(Qualifiers { last, trace }) => {
+                let found = self.look_up(alloc, place, last, kind, name)?;
+                Ok(Some(Resolved { found, trace }))
+            }
+            None => Ok(None),
+        }
     }
 }

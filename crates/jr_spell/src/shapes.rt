@@ -1,6 +1,6 @@
 // The other shapes of a reference, in their order.
 
-use crate::added::{Added, push_all, tail};
+use crate::added::{Added, push_all};
 use crate::fitting::{Fit, Looked, Way, level_of};
 use crate::reference::{Form, Reference};
 use crate::resolving::Before;
@@ -283,23 +283,16 @@ impl<'a> Speller<'a> {
         }
     }
 
-    // A type by the last identifiers of its name, so many of them before the last one.
+    // A type by so many last identifiers of its name.
     fn named(
         &self,
         alloc: Global,
         reference: &Reference,
-        class: u32,
-        before: &[u32],
+        suffix: Suffix,
     ) -> Result<Option<Fit>, OutOfMemory> {
-        let Ok(more) = u32::try_from(before.len()) else {
-            return Err(OutOfMemory);
-        };
-        let shape = Shape::Named(Suffix {
-            of: class,
-            count: more.saturating_add(1),
-        });
-        match self.look_behind_names(alloc, reference, &[], before)? {
-            Some(looked) => Ok(self.fit_of(reference, shape, looked)),
+        let before = self.names_before(alloc, suffix)?;
+        match self.look_behind_names(alloc, reference, &[], &before)? {
+            Some(looked) => Ok(self.fit_of(reference, Shape::Named(suffix), looked)),
             None => Ok(None),
         }
     }
@@ -309,9 +302,13 @@ impl<'a> Speller<'a> {
         let Some(class) = reference.target() else {
             return Ok(None);
         };
-        let before = self.names_before(alloc, class)?;
-        for more in 0..=before.len() {
-            let fit = self.named(alloc, reference, class, tail(&before, more))?;
+        let count = self.name_length(alloc, class)?;
+        for more in 0..count {
+            let suffix = Suffix {
+                of: class,
+                count: more + 1,
+            };
+            let fit = self.named(alloc, reference, suffix)?;
             if fit.is_some() {
                 return Ok(fit);
             }
@@ -323,8 +320,8 @@ impl<'a> Speller<'a> {
     fn import_fit(&self, alloc: Global, reference: &Reference) -> Result<Option<Fit>, OutOfMemory> {
         match reference.target() {
             Some(class) => {
-                let before = self.names_before(alloc, class)?;
-                self.named(alloc, reference, class, &before)
+                let count = self.name_length(alloc, class)?;
+                self.named(alloc, reference, Suffix { of: class, count })
             }
             None => Ok(None),
         }

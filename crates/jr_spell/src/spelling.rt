@@ -239,7 +239,7 @@ pub fn spell(
     let view = &locked.view;
     let rows = view.sight.world.under.rows;
     let units = locked.marks.starts;
-    let paths = Paths::of(alloc, rows, view.sight.world.under.places, units)?;
+    let paths = Paths::of(alloc, rows, view.sight.world.under.places)?;
     let speller = Speller {
         view,
         constant,
