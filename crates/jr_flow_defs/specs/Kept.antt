@@ -1,7 +1,6 @@
 -- Edges that a change keeps: those of a body and of what it has become, with nodes named by what they are copies of.
 use Rattle.std.specs.Prelude.{◌≡◌, ℕ, zero, suc, ◌<◌, Bool, true, false, if◌then◌else◌, List, [], ◌∷◌, filter, Option, Some, None, option_and_then, nat_eq, slice_get}
 use Rattle.std.specs.Option.{option_eq}
-use Rattle.std.specs.List.{Contains}
 use Rattle.jr_tree.specs.declared.label.Label.{Label}
 use Rattle.jr_tree.specs.declared.label.Label.TheVariants as is
 use Rattle.jr_tree.specs.declared.label.NamePlace.TheVariants as place
@@ -128,14 +127,14 @@ pub record IsChangedBetween {A : Type 0} (f : Flow A) (d local : ℕ) : Type 0 w
   pub before : Path f (Defines f d) from between
   pub after : Path f (Defines f d) between to
 
--- in the initializer of the local d stands an event that may throw
+-- in the initializer of the local d stands an event from which a throw comes to a point: one that catches it, or the exit
 pub record HasEventIn {A : Type 0} (p : Rows) (f : Flow A) (d : ℕ) : Type 0 where
   pub at : A
   pub next : A
   pub row : ℕ
   pub reached : IsReached f at
   pub stands : f.point at ≡ point row kind.Node
-  pub throws : Contains (f.hops at) (record { to = next; is_throw = true })
+  pub throws : Steps f at next true
   pub inside : (d < row) × (row < end p d)
 
 -- what keeps the local d from being replaced by its initializer: a definition in it, or one between, of a local that it uses, or of any where it may
