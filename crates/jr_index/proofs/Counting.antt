@@ -7,7 +7,7 @@ use Rattle.jr_tree.specs.Mirror.Exprs.{plain_exprs}
 use Rattle.jr_tree.specs.Exprs.{count}
 use Rattle.jr_tree.specs.declared.label.NameKind.{NameKind}
 use Rattle.jr_tree.specs.declared.label.NamePlace.{NamePlace}
-use Rattle.jr_index.specs.Events.{Open, Close, opens, closes, name_label}
+use Rattle.jr_index.specs.Events.{Open, Close, Pass, Own, opens, closes, name_label}
 
 -- the identifier before the last one that is open
 pub opens_step : (meant : NameKind) (at : NamePlace) (parts : List Text) (n : ℕ) → 0 < n
@@ -16,9 +16,9 @@ opens_step meant at parts zero h = absurd (omega arith)
 opens_step meant at parts (suc n) h = let e : suc n - 1 ≡ n = omega arith in rw e refl
 
 -- one closes, and the others
-pub closes_step : (n : ℕ) → 0 < n → closes n ≡ Close ∷ closes (n - 1)
-closes_step zero h = absurd (omega arith)
-closes_step (suc n) h = let e : suc n - 1 ≡ n = omega arith in rw e refl
+pub closes_step : (dots n : ℕ) → 0 < n → closes dots n ≡ Pass dots ∷ Own ∷ Close ∷ closes 1 (n - 1)
+closes_step dots zero h = absurd (omega arith)
+closes_step dots (suc n) h = let e : suc n - 1 ≡ n = omega arith in rw e refl
 
 -- as many expressions as there were
 pub count_all : (all : List declared_expr.Expr) → length all ≡ count (plain_exprs all)

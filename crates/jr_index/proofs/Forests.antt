@@ -9,8 +9,10 @@ use Rattle.jr_tree.specs.declared.row.Row.{Row}
 use Rattle.jr_tree.specs.Forest.{Forest, none, more, size}
 use Rattle.jr_tree.specs.Rows.{Rows, rows_from, row}
 use Rattle.jr_tree.proofs.Trees.{length_rows}
-use Rattle.jr_index.specs.Events.{Open, Close, Events}
-use Rattle.jr_index.specs.Building.{State, opened, closed, built}
+use Rattle.jr_index.specs.Events.{Open, Close, Pass, Own, OwnLast, Declare, Restart, Events}
+use Rattle.jr_index.specs.Building.{State, opened, closed, step, built}
+use Rattle.jr_index.specs.Marking as marking
+use Rattle.jr_index.specs.Marking.{Course, run}
 
 abbrev pub events_of : Forest → Events
 events_of none = []
@@ -18,8 +20,50 @@ events_of (more l x kids rest) = Open l x ∷ (events_of kids ++ Close ∷ event
 
 pub built_append : (s : State) (xs ys : Events) → built s (xs ++ ys) ≡ built (built s xs) ys
 built_append s [] ys = refl
-built_append s (Open l x ∷ xs) ys = built_append (opened l x s) xs ys
-built_append s (Close ∷ xs) ys = built_append (closed s) xs ys
+built_append s (e ∷ xs) ys = built_append (step e s) xs ys
+
+-- the labels alone, as they open and close
+abbrev pub erase : Events → Events
+erase [] = []
+erase (Open l x ∷ es) = Open l x ∷ erase es
+erase (Close ∷ es) = Close ∷ erase es
+erase (Pass n ∷ es) = erase es
+erase (Own ∷ es) = erase es
+erase (OwnLast ∷ es) = erase es
+erase (Declare ∷ es) = erase es
+erase (Restart ∷ es) = erase es
+
+pub erase_append : (xs ys : Events) → erase (xs ++ ys) ≡ erase xs ++ erase ys
+erase_append [] ys = refl
+erase_append (Open l x ∷ xs) ys = ap (λ all. Open l x ∷ all) (erase_append xs ys)
+erase_append (Close ∷ xs) ys = ap (λ all. Close ∷ all) (erase_append xs ys)
+erase_append (Pass n ∷ xs) ys = erase_append xs ys
+erase_append (Own ∷ xs) ys = erase_append xs ys
+erase_append (OwnLast ∷ xs) ys = erase_append xs ys
+erase_append (Declare ∷ xs) ys = erase_append xs ys
+erase_append (Restart ∷ xs) ys = erase_append xs ys
+
+-- tokens leave rows as they are
+pub built_erased : (s : State) (es : Events) → built s es ≡ built s (erase es)
+built_erased s [] = refl
+built_erased s (Open l x ∷ es) = built_erased (opened l x s) es
+built_erased s (Close ∷ es) = built_erased (closed s) es
+built_erased s (Pass n ∷ es) = built_erased s es
+built_erased s (Own ∷ es) = built_erased s es
+built_erased s (OwnLast ∷ es) = built_erased s es
+built_erased s (Declare ∷ es) = built_erased s es
+built_erased s (Restart ∷ es) = built_erased s es
+
+-- the rows of a course
+pub run_rows : (c : Course) (es : Events) → (run c es).building ≡ built c.building es
+run_rows c [] = refl
+run_rows c (Open l x ∷ es) = run_rows (marking.step (Open l x) c) es
+run_rows c (Close ∷ es) = run_rows (marking.step Close c) es
+run_rows c (Pass n ∷ es) = run_rows (marking.step (Pass n) c) es
+run_rows c (Own ∷ es) = run_rows (marking.step Own c) es
+run_rows c (OwnLast ∷ es) = run_rows (marking.step OwnLast c) es
+run_rows c (Declare ∷ es) = run_rows (marking.step Declare c) es
+run_rows c (Restart ∷ es) = run_rows (marking.step Restart c) es
 
 abbrev state : Rows → ℕ → ℕ → State
 state rows over before = record { rows = rows; over = over; before = before }

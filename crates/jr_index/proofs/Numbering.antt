@@ -6,7 +6,9 @@ use Rattle.jr_tree.specs.declared.label.Label.{Label}
 use Rattle.jr_tree.specs.declared.label.Label.TheVariants as is
 use Rattle.jr_tree.specs.Rows.{Rows, label, nodes_before}
 use Rattle.jr_defs.specs.Numbers.{units_before, one_if_unit}
-use Rattle.jr_defs.proofs.Units.{up_to}
+use Rattle.std.proofs.lemmas.Grind.{get_or_default_zero}
+use Rattle.std.specs.List.Sorted.{IsNonDecreasing}
+use Rattle.jr_defs.proofs.Units.{up_to, units_rise}
 use Rattle.jr_index.specs.NodeRows.{counts, unit_rows, if_unit}
 
 pub length_counts : (p : Rows) (n : ℕ) → length (counts p n) ≡ n + 1
@@ -79,3 +81,29 @@ unit_found p (suc n) u lt e =
   where
     earlier : (u < n) ⊎ (n ≡ u)
     earlier = let w : (u < n) ⊎ (n ≤ u) = grind arith in elim w [ inl l ↦ inl l | inr g ↦ inr (omega arith) ]
+
+-- the units stand one behind another among the first rows
+pub units_within : (p : Rows) (n u d : ℕ) → u < length (unit_rows p n) → get_or (unit_rows p n) u d < n
+units_within p n u d h =
+    let many = length_units p n in
+    let same = get_or_default_zero (unit_rows p n) u d h in
+    let below = (unit_at p n u (omega arith)).below in
+    omega arith
+
+pub units_rising : (p : Rows) (n : ℕ) → IsNonDecreasing (unit_rows p n)
+units_rising p n i j d le h =
+    let many = length_units p n in
+    let u = get_or (unit_rows p n) i 0 in
+    let v = get_or (unit_rows p n) j 0 in
+    let a = unit_at p n i (omega arith) in
+    let b = unit_at p n j (omega arith) in
+    let x = get_or_default_zero (unit_rows p n) i d (omega arith) in
+    let y = get_or_default_zero (unit_rows p n) j d (omega arith) in
+    let side : (v < u) ⊎ (u ≤ v) = grind arith in
+    elim side [
+      | inl l ↦ (let r = units_rise p (suc v) u (omega arith) in
+          let o : one_if_unit (label p v) ≡ 1 = ap one_if_unit b.unit in
+          let first = a.number in
+          let second = b.number in absurd (omega arith))
+      | inr g ↦ omega arith
+    ]

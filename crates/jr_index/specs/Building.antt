@@ -24,6 +24,7 @@ closed s = record { rows = set s.rows s.over (record (row s.rows s.over) { end =
 abbrev pub step : Event → State → State
 step (Open l name) s = opened l name s
 step Close s = closed s
+step _ s = s
 
 abbrev pub built : State → Events → State
 built s [] = s

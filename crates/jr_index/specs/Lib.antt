@@ -1,5 +1,9 @@
 pub mod Events
 pub mod Building
 pub mod Views
+pub mod Marking
+pub mod Within
+pub mod Naming
+pub mod UnitRows
 pub mod NodeRows
 pub mod Writing

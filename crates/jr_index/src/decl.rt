@@ -37,7 +37,7 @@ fn add_field(out: &mut RowWriter, mods: &[Modifier], field: &Declarator)
 }
 
 fn add_fields(out: &mut RowWriter, mods: &[Modifier], fields: &[Declarator])
-    ensures { Adds out.old out.new (e.fields_events mods.now (s.plain_declarators fields.now)) }
+    ensures { Adds out.old out.new (e.fields_events 0 mods.now (s.plain_declarators fields.now)) }
 {
     let mut commas = 0;
     for field in fields {
@@ -56,35 +56,27 @@ fn calls_first(body: &Block) -> bool
 
 /// The call of `super()` where none is written (JLS 8.8.7). It stands at the name of the constructor.
 #[tactic(auto, using(crate::proofs::Adding::adds_two))]
-fn add_implicit_call(out: &mut RowWriter, is_written: bool, name: u32)
+fn add_implicit_call(out: &mut RowWriter, is_written: bool)
     ensures { Adds out.old out.new (e.implicit_call is_written) }
 {
     if is_written {
         return;
     }
-    let here = out.at;
-    out.go_to(name);
     out.begin(Label::ImplicitCall);
-    out.own_at(name);
     out.close();
-    out.go_to(here);
 }
 
 /// The constructor of a class in which none is written (JLS 8.8.9). It stands at the name of the class.
 #[tactic(auto, using(crate::proofs::Adding::adds_two))]
-fn add_default_constructor(out: &mut RowWriter, is_written: bool, name: u32)
+fn add_default_constructor(out: &mut RowWriter, is_written: bool)
     ensures { Adds out.old out.new (e.default_constructor is_written) }
 {
     if is_written {
         return;
     }
-    let here = out.at;
-    out.go_to(name);
     out.begin(Label::DefaultConstructor);
-    out.own_at(name);
-    add_implicit_call(out, false, name);
+    add_implicit_call(out, false);
     out.close();
-    out.go_to(here);
 }
 
 fn has_constructor(members: &[Member]) -> bool
@@ -99,7 +91,7 @@ fn has_constructor(members: &[Member]) -> bool
 
 /// The body of a method, or the `;` in its place.
 fn add_any_block(out: &mut RowWriter, body: &Option<Block>)
-    ensures { Adds out.old out.new (e.if_some e.block_events (option_map s.plain_block body.now)) }
+    ensures { Adds out.old out.new (e.body_or_semicolon (option_map s.plain_block body.now)) }
 {
     match body {
         None => out.pass(1),
@@ -108,7 +100,7 @@ fn add_any_block(out: &mut RowWriter, body: &Option<Block>)
 }
 
 fn add_superclass(out: &mut RowWriter, parent: &Option<Name>)
-    ensures { Adds out.old out.new (e.if_some (e.name_events kind.Type place.Superclass) parent.now) }
+    ensures { Adds out.old out.new (e.superclass_events parent.now) }
 {
     if let Some(name) = parent {
         out.pass(1);
@@ -138,11 +130,10 @@ fn add_decl(out: &mut RowWriter, is_member: bool, decl: &TypeDecl)
             );
             out.pass(mods.as_slice().len());
             out.pass(1);
-            let own = out.at;
-            out.own();
+            out.declare();
             add_superclass(out, parent);
             add_type_names(out, NamePlace::Superinterface, faces.as_slice());
-            add_body(out, true, own, body.as_slice());
+            add_body(out, true, body.as_slice());
             out.close();
         }
         TypeDecl::Interface {
@@ -161,24 +152,23 @@ fn add_decl(out: &mut RowWriter, is_member: bool, decl: &TypeDecl)
             );
             out.pass(mods.as_slice().len());
             out.pass(1);
-            let own = out.at;
-            out.own();
+            out.declare();
             add_type_names(out, NamePlace::Superinterface, faces.as_slice());
-            add_body(out, false, own, body.as_slice());
+            add_body(out, false, body.as_slice());
             out.close();
         }
         TypeDecl::Empty => out.leaf(Label::EmptyDecl { is_member }, 1),
     }
 }
 
-/// The body of a type whose name has this number.
+/// The body of a type.
 #[cycle(add_decl)]
-fn add_body(out: &mut RowWriter, is_class: bool, name: u32, members: &[Member])
+fn add_body(out: &mut RowWriter, is_class: bool, members: &[Member])
     ensures { Adds out.old out.new (e.body_events is_class (m.plain_members members.now)) }
 {
     out.begin(Label::Body);
     out.pass(1);
-    add_default_constructor(out, !is_class || has_constructor(members), name);
+    add_default_constructor(out, !is_class || has_constructor(members));
     add_members(out, members);
     out.pass(1);
     out.close();
@@ -241,9 +231,8 @@ fn add_member(out: &mut RowWriter, member: &Member)
             let modifiers = modifiers_of(mods.as_slice());
             out.open(Label::Constructor { modifiers }, name);
             out.pass(mods.as_slice().len());
-            let own = out.at;
-            out.own();
-            add_implicit_call(out, calls_first(body), own);
+            out.declare();
+            add_implicit_call(out, calls_first(body));
             out.pass(1);
             add_params(out, params.as_slice());
             out.pass(1);
@@ -274,7 +263,7 @@ fn add_decls(out: &mut RowWriter, decls: &[TypeDecl])
 pub fn add_unit(out: &mut RowWriter, unit: &Unit)
     ensures { Adds out.old out.new (e.unit_events (m.plain_unit unit.now)) }
 {
-    out.go_to(0);
+    out.restart();
     out.begin(Label::Unit);
     add_package(out, &unit.package);
     add_imports(out, unit.imports.as_slice());

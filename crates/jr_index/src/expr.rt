@@ -3,7 +3,7 @@ ghost use Rattle.std.specs.Prelude.{◌≡◌};
 ghost use Rattle.std.specs.Option.{option_map};
 ghost use Rattle.jr_tree.specs.Mirror.Exprs as m;
 ghost use Rattle.jr_index.specs.Events as e;
-ghost use Rattle.jr_index.specs.Writing.{Adds, Keeps};
+ghost use Rattle.jr_index.specs.Writing.{Adds};
 ghost use Rattle.jr_tree.specs.Exprs as l;
 ghost use Rattle.jr_tree.specs.declared.label.Label.TheVariants as is;
 
@@ -119,9 +119,9 @@ pub fn add_expr(out: &mut RowWriter, expr: &Expr)
         }
         Expr::New { name, args } => {
             out.begin(Label::New);
-            own_last(out, name);
             out.pass(1);
             add_type_name(out, name);
+            out.own_last();
             add_args(out, args.as_slice());
             out.close();
         }
@@ -143,7 +143,7 @@ pub fn add_expr(out: &mut RowWriter, expr: &Expr)
 }
 
 fn add_literal(out: &mut RowWriter, kind: &Kind)
-    ensures { Adds out.old out.new (e.leaf (is.Literal kind.now)) }
+    ensures { Adds out.old out.new (e.leaf (is.Literal kind.now) 1) }
 {
     match kind.copy(out.alloc) {
         Ok(kind) => out.leaf(Label::Literal { kind }, 1),
@@ -168,19 +168,6 @@ fn add_this(out: &mut RowWriter, class: &Option<Name>)
             out.close();
         }
     }
-}
-
-/// The innermost row that is open has the token of the last identifier of this name, which stands behind the next token.
-fn own_last(out: &mut RowWriter, name: &Name)
-    ensures { Keeps out.old out.new }
-{
-    let before = name
-        .parts
-        .as_slice()
-        .len()
-        .saturating_mul(2)
-        .saturating_sub(1);
-    out.own_at(out.ahead(before));
 }
 
 /// The label of a creation of an array with these lengths and so many more pairs of brackets.
@@ -242,37 +229,39 @@ fn add_receiver(out: &mut RowWriter, receiver: &Receiver)
     }
 }
 
-/// Expressions with so many tokens between two of them.
+/// Expressions with commas between them.
 #[cycle(add_expr)]
-pub fn add_exprs(out: &mut RowWriter, exprs: &[Expr], between: usize)
-    ensures { Adds out.old out.new (e.exprs_events (m.plain_exprs exprs.now)) }
+pub fn add_exprs(out: &mut RowWriter, exprs: &[Expr])
+    ensures { Adds out.old out.new (e.exprs_events 0 (m.plain_exprs exprs.now)) }
 {
-    let mut tokens = 0;
+    let mut commas = 0;
     for expr in exprs {
-        out.pass(tokens);
+        out.pass(commas);
         add_expr(out, expr);
-        tokens = between;
+        commas = 1;
     }
 }
 
 /// Arguments in parentheses.
 #[cycle(add_expr)]
 pub fn add_args(out: &mut RowWriter, args: &[Expr])
-    ensures { Adds out.old out.new (e.exprs_events (m.plain_exprs args.now)) }
+    ensures { Adds out.old out.new (e.args_events (m.plain_exprs args.now)) }
 {
     out.pass(1);
-    add_exprs(out, args, 1);
+    add_exprs(out, args);
     out.pass(1);
 }
 
 /// Lengths of an array, each in brackets.
 #[cycle(add_expr)]
 fn add_lengths(out: &mut RowWriter, lengths: &[Expr])
-    ensures { Adds out.old out.new (e.exprs_events (m.plain_exprs lengths.now)) }
+    ensures { Adds out.old out.new (e.lengths_events (m.plain_exprs lengths.now)) }
 {
-    out.pass_if(!lengths.is_empty());
-    add_exprs(out, lengths, 2);
-    out.pass_if(!lengths.is_empty());
+    for size in lengths {
+        out.pass(1);
+        add_expr(out, size);
+        out.pass(1);
+    }
 }
 
 #[cycle(add_expr)]
@@ -313,7 +302,7 @@ pub fn add_init(out: &mut RowWriter, init: &Init)
 
 #[cycle(add_expr)]
 fn add_inits(out: &mut RowWriter, inits: &[Init])
-    ensures { Adds out.old out.new (e.inits_events (m.plain_inits inits.now)) }
+    ensures { Adds out.old out.new (e.inits_events 0 (m.plain_inits inits.now)) }
 {
     let mut commas = 0;
     for init in inits {
@@ -325,7 +314,7 @@ fn add_inits(out: &mut RowWriter, inits: &[Init])
 
 /// An initializer and the `=` before it.
 pub fn add_any_init(out: &mut RowWriter, init: &Option<Init>)
-    ensures { Adds out.old out.new (e.if_some e.init_events (option_map m.plain_init init.now)) }
+    ensures { Adds out.old out.new (e.any_init_events (option_map m.plain_init init.now)) }
 {
     if let Some(init) = init {
         out.pass(1);

@@ -6,6 +6,8 @@ ghost use Rattle.jr_tree.specs.Labels.{nodes_of};
 ghost use Rattle.jr_tree.specs.Rows.{row, end, label, program_rows};
 ghost use Rattle.jr_tree.specs.Tree.{IsTree};
 ghost use Rattle.jr_index.specs.NodeRows.{IsIndex, IsNodeOf, IsNowhere, IsNearest, IsParentNode, over_nth, counts, unit_rows};
+ghost use Rattle.jr_index.specs.Marking.{program_marks};
+ghost use Rattle.jr_index.specs.Within.{AreWithin};
 
 use crate::mark::Mark;
 use crate::marked_rows_of;
@@ -15,7 +17,7 @@ use jr_tree::{Label, NamePlace, ReceiverKind, Row};
 use std::alloc::Global;
 use std::marker::Model;
 
-/// The rows of a program, seen by contracts as those rows, and tables of the units and nodes that they stand for.
+/// The rows of a program and their marks, seen by contracts as these, and tables of the units and nodes that the rows stand for.
 #[derive(Drop)]
 pub struct Index {
     rows: Vec<Row>,
@@ -28,14 +30,15 @@ pub struct Index {
 }
 
 impl Model for Index {
-    ghost use Rattle.jr_tree.specs.Rows.{Rows};
+    ghost use Rattle.jr_index.specs.Marking.{Marked};
     ghost use Rattle.jr_index.specs.NodeRows.{IsIndex};
+    ghost use Rattle.jr_index.specs.Within.{AreWithin};
 
-    ghost Value = { Rows };
+    ghost Value = { Marked };
 
-    ghost view = { λ index. index.rows.items };
+    ghost view = { λ index. record { rows = index.rows.items; marks = index.marks.items } };
 
-    ghost invariant = { λ index. IsIndex index.rows.items index.nodes.items index.units.items };
+    ghost invariant = { λ index. IsIndex index.rows.items index.nodes.items index.units.items × AreWithin index.rows.items index.marks.items };
 }
 
 /// One of the nodes that a row stands for, with the number of those before it.
@@ -49,7 +52,8 @@ impl Index {
     /// The index of a program whose units are shaped.
     pub fn build(alloc: Global, program: &Program) -> Result<Index, OutOfMemory>
         requires { AllByRecursion IsShaped (map (λ u. u.unit) program.now.units) }
-        ensures { IfOk result (λ index. index ≡ program_rows (map (λ u. u.unit) program.now.units)) }
+        ensures rows { IfOk result (λ index. index.rows ≡ program_rows (map (λ u. u.unit) program.now.units)) }
+        ensures marks { IfOk result (λ index. index.marks ≡ program_marks (map (λ u. u.unit) program.now.units)) }
     {
         let marked = marked_rows_of(alloc, program)?;
         let Ok(_) = u32::try_from(marked.rows.len()) else {
@@ -67,33 +71,37 @@ impl Index {
 
     /// The rows, of which the first is the program.
     pub fn rows(&self) -> &[Row]
-        ensures { result.now ≡ self.now }
+        ensures rows { result.now ≡ self.now.rows }
+        ensures few { length result.now < 2 ^ 32 }
     {
         &self.rows
     }
 
-    /// A mark for each row.
-    pub fn marks(&self) -> &[Mark] {
+    /// A mark for each row, inside that of the row over it.
+    pub fn marks(&self) -> &[Mark]
+        ensures marks { result.now ≡ self.now.marks }
+        ensures within { AreWithin self.now.rows result.now }
+    {
         &self.marks
     }
 
     /// The rows of the units.
     pub fn units(&self) -> &[u32]
-        ensures { result.now ≡ unit_rows self.now (length self.now) }
+        ensures { result.now ≡ unit_rows self.now.rows (length self.now.rows) }
     {
         &self.units
     }
 
     /// The row that stands for a node. `None` where the program has no such node.
     pub fn find(&self, node: NodeAt) -> Option<NodeOfRow>
-        ensures { MatchOption result (IsNowhere self.now node) (λ found. IsNodeOf self.now found.row found.nth node) }
+        ensures { MatchOption result (IsNowhere self.now.rows node) (λ found. IsNodeOf self.now.rows found.row found.nth node) }
     {
         find_row(&self.rows, &self.nodes, &self.units, node)
     }
 
     /// The node right above a node. `None` for the node of a unit, and where the program has no such node.
     pub fn parent(&self, node: NodeAt) -> Option<NodeAt>
-        ensures { MatchOption result ((node.node.0 ≡ 0) ⊎ IsNowhere self.now node) (λ up. (0 < node.node.0) × IsParentNode self.now node up) }
+        ensures { MatchOption result ((node.node.0 ≡ 0) ⊎ IsNowhere self.now.rows node) (λ up. (0 < node.node.0) × IsParentNode self.now.rows node up) }
     {
         let found = self.find(node)?;
         if node.node.0 == 0 {

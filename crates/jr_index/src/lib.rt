@@ -4,6 +4,8 @@
 ghost use Rattle.std.specs.Prelude.{◌≡◌, IfOk, map};
 ghost use Rattle.jr_tree.specs.Rows.{program_rows};
 ghost use Rattle.jr_index.specs.Events as e;
+ghost use Rattle.jr_index.specs.Marking.{program_marks};
+ghost use Rattle.jr_index.specs.Within.{AreWithin};
 ghost use Rattle.jr_index.specs.Writing.{Adds};
 
 mod building;
@@ -23,7 +25,7 @@ pub use index::{Index, NodeOfRow};
 use jr_base::OutOfMemory;
 use jr_defs::{Program, UnitAt};
 use jr_tree::{Label, Row};
-pub use law::nodes_are_numbered;
+pub use law::{marks_are_own, marks_are_within, nodes_are_numbered, units_are_in_order};
 pub use mark::{Mark, NO_TOKEN};
 use std::alloc::Global;
 
@@ -40,14 +42,16 @@ fn add_program(out: &mut RowWriter, program: &Program)
 {
     out.begin(Label::Program);
     add_units(out, program.units.as_slice());
-    out.go_to(0);
+    out.restart();
     out.close();
 }
 
 /// The rows of a program and their marks: row 0 is the program, and each row stands behind the one round it (preorder).
-#[tactic(auto, using(crate::proofs::Labels::built_program))]
+#[tactic(auto, using(crate::proofs::Labels::built_program, crate::proofs::Nesting::marks_within))]
 pub fn marked_rows_of(alloc: Global, program: &Program) -> Result<MarkedRows, OutOfMemory>
-    ensures { IfOk result (λ marked. marked.rows.items ≡ program_rows (map (λ u. u.unit) program.now.units)) }
+    ensures marks { IfOk result (λ marked. marked.marks.items ≡ program_marks (map (λ u. u.unit) program.now.units)) }
+    ensures within { IfOk result (λ marked. AreWithin marked.rows.items marked.marks.items) }
+    ensures rows { IfOk result (λ marked. marked.rows.items ≡ program_rows (map (λ u. u.unit) program.now.units)) }
 {
     let mut out = RowWriter::new(alloc);
     add_program(&mut out, program);

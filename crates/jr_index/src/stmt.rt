@@ -27,7 +27,7 @@ fn add_local(out: &mut RowWriter, is_final: bool, local: &Declarator)
 }
 
 fn add_locals(out: &mut RowWriter, is_final: bool, locals: &[Declarator])
-    ensures { Adds out.old out.new (e.locals_events is_final (m.plain_declarators locals.now)) }
+    ensures { Adds out.old out.new (e.locals_events 0 is_final (m.plain_declarators locals.now)) }
 {
     let mut commas = 0;
     for local in locals {
@@ -54,7 +54,7 @@ fn add_for(out: &mut RowWriter, first: &ForInit)
         }
         ForInit::Exprs { exprs } => {
             out.begin(Label::ForExprs);
-            add_exprs(out, exprs.as_slice(), 1);
+            add_exprs(out, exprs.as_slice());
             out.close();
         }
     }
@@ -93,7 +93,7 @@ fn add_cases(out: &mut RowWriter, labels: &[SwitchLabel])
 
 /// A `break` or `continue`.
 fn add_jump(out: &mut RowWriter, jump: Label, target: &Option<Text>)
-    ensures { Adds out.old out.new (e.named jump (l.label_name target.now) []) }
+    ensures { Adds out.old out.new (e.jump_events jump target.now) }
 {
     match target {
         None => out.leaf(jump, 2),
@@ -177,7 +177,7 @@ pub fn add_stmt(out: &mut RowWriter, stmt: &Stmt)
             out.pass(1);
             add_any_expr(out, cond);
             out.pass(1);
-            add_exprs(out, update.as_slice(), 1);
+            add_exprs(out, update.as_slice());
             out.pass(1);
             add_stmt(out, body.get());
             out.close();

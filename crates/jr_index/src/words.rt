@@ -45,7 +45,7 @@ fn name_label(meant: NameKind, place: NamePlace, count: usize, index: usize) -> 
     }
 }
 
-/// The identifiers from the last one back; each has the dot of the one before it at its side.
+/// The identifiers from the last one back.
 #[tactic(auto, using(crate::proofs::Counting::opens_step, crate::proofs::Adding::goes_on))]
 fn open_parts(out: &mut RowWriter, meant: NameKind, place: NamePlace, parts: &[Text])
     ensures { Adds out.old out.new (e.opens meant place parts.now (length parts.now)) }
@@ -54,21 +54,20 @@ fn open_parts(out: &mut RowWriter, meant: NameKind, place: NamePlace, parts: &[T
     while left > 0 {
         left -= 1;
         out.open(name_label(meant, place, parts.len(), left), &parts[left]);
-        out.own_at(out.ahead(left.saturating_mul(2)));
     }
 }
 
-/// Closes so many identifiers, with a dot before each but the first.
-#[tactic(auto, using(crate::proofs::Counting::closes_step, crate::proofs::Adding::goes_on))]
+/// Passes and closes so many identifiers, with a dot before each but the first.
 fn close_parts(out: &mut RowWriter, count: usize)
-    ensures { Adds out.old out.new (e.closes count) }
+    ensures { Adds out.old out.new (e.closes 0 count) }
 {
     let mut left = count;
-    let mut tokens = 1;
+    let mut dots = 0;
     while left > 0 {
-        out.pass(tokens);
+        out.pass(dots);
+        out.own();
         out.close();
-        tokens = 2;
+        dots = 1;
         left -= 1;
     }
 }
@@ -143,7 +142,7 @@ pub fn add_param(out: &mut RowWriter, param: &Param)
 }
 
 pub fn add_params(out: &mut RowWriter, params: &[Param])
-    ensures { Adds out.old out.new (e.params_events params.now) }
+    ensures { Adds out.old out.new (e.params_events 0 params.now) }
 {
     let mut commas = 0;
     for param in params {

@@ -1,6 +1,6 @@
 use Rattle.std.proofs.Common.{rules}
-use Rattle.jr_index.proofs.Adding.{node, after, are}
+use Rattle.jr_index.proofs.Adding.{adds_two, node, are}
 use Rattle.jr_index.proofs.add_program.Goals as goal
 
 pub returns : goal.returns
-returns c = are (node c.begin.ensures c.add_units.ensures (after c.go_to.ensures c.close.ensures)) (search rules)
+returns c = are (node c.begin.ensures (adds_two c.add_units.ensures c.restart.ensures) c.close.ensures) (search rules)

@@ -5,4 +5,4 @@ use Rattle.jr_index.specs.Writing.{written, Leads}
 use Rattle.jr_index.proofs.decl.add_fields.Given as goal
 
 abbrev pub invariant-loop-field : goal.invariant-loop-field
-invariant-loop-field l = Leads (written l.initial.out) (written l.out) (e.fields_events l.mods (s.plain_declarators (drop l.field-index l.fields))) (e.fields_events l.mods (s.plain_declarators (l.fields)))
+invariant-loop-field l = Leads (written l.initial.out) (written l.out) (e.fields_events l.commas l.mods (s.plain_declarators (drop l.field-index l.fields))) (e.fields_events 0 l.mods (s.plain_declarators (l.fields)))
