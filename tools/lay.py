@@ -3,68 +3,76 @@
 
     lay.py [--wait] CRATE..
 
-CRATE is what is to be checked: each library below it whose sources, and those below, are as some run of `rt ci` passed them is linked into crates/*/out. What is not kept
-yet is named, and the status is then 1; with --wait it is looked for again every ten seconds. It serves an `rt` that keeps (`rt help` says so); where it keeps nothing,
-`tools/gate.py` and `tools/over.py` do this.
+CRATE is what is to be checked: of each library below it the one that was kept last is linked into crates/*/out, whether or not its sources are those of this clone (to compare them takes minutes). So what is
+checked over them shows what it shows where they are the same, and `rt ci` alone decides. What is not kept yet is named, and the status is then 1; with --wait it is looked for again every ten seconds. It
+serves an `rt` that keeps (`rt help` says so); where it keeps nothing, `tools/gate.py` and `tools/over.py` do this.
 """
+import glob
 import importlib.machinery
 import importlib.util
+import json
 import os
 import shutil
 import sys
 import time
 
 TOP = os.path.realpath(os.path.join(os.path.dirname(os.path.realpath(__file__)), '..'))
+KEPT = '/opt/rattle-kept'
 
 
 def load_rt():
-    path = shutil.which('rt')
-    loader = importlib.machinery.SourceFileLoader('rt_main', os.path.realpath(path))
-    kit = os.path.realpath('/opt/rattle/bin/rt')
-    if os.path.isfile(kit):
-        loader = importlib.machinery.SourceFileLoader('rt_main', kit)
+    path = '/opt/rattle/bin/rt'
+    loader = importlib.machinery.SourceFileLoader('rt_main', path)
     rt = importlib.util.module_from_spec(importlib.util.spec_from_loader('rt_main', loader))
     sys.modules['rt_main'] = rt
-    sys.path.insert(0, os.path.dirname(kit))
+    sys.path.insert(0, os.path.dirname(path))
     loader.exec_module(rt)
     return rt
 
 
+def newest(name):
+    """The folder of the library that was kept last, and what it was made of."""
+    found = sorted(glob.glob(f'{KEPT}/proof-{name}-*/made.json'), key=os.path.getmtime)
+    if not found:
+        return None
+    with open(found[-1], encoding='utf-8') as file:
+        return os.path.dirname(found[-1]), json.load(file)
+
+
+def is_laid(at, key, stamp):
+    def text(name):
+        try:
+            with open(f'{at}/{name}', encoding='utf-8') as file:
+                return file.read()
+        except OSError:
+            return None
+    return text('laid') == key and text('stamp') == stamp
+
+
+def lay_one(crate):
+    """Links the library, and returns whether there is one."""
+    kept = newest(crate.name)
+    if not kept:
+        return False
+    folder, made = kept
+    at, stamp = f'{crate.folder}/out/rlib', crate.stamp()
+    if is_laid(at, made['key'], stamp):
+        return True
+    shutil.rmtree(at, ignore_errors=True)
+    for number, (path, _) in enumerate(made['files']):
+        os.makedirs(os.path.dirname(f'{crate.folder}/out/{path}'), exist_ok=True)
+        os.link(f'{folder}/{number}', f'{crate.folder}/out/{path}')
+    for name, text in (('stamp', stamp), ('laid', made['key'])):
+        with open(f'{at}/{name}', 'w', encoding='utf-8') as file:
+            file.write(text)
+    return True
+
+
 def lay(rt, names):
-    """Links what is kept, lowest first, and returns what is missing below the crates of these names."""
-    every = rt.rtlib.crates_below(TOP)
-    crates = {it.name: it for it in every}
-    wanted = []
-    for name in names:
-        wanted += [it for it in crates[name].below() if it.name not in [other.name for other in wanted]]
-    wanted = [it.name for it in wanted]
-    order = [it for it in every if it.name in wanted]
-    order.sort(key=lambda it: len(it.below()))
-    kept, laid, missing = rt.Kept(every), set(), []
-    for crate in order:
-        if any(dep.name not in laid for dep in crate.below() if dep.name in crates):
-            missing.append(crate.name)
-            continue
-        stamp = crate.stamp()
-        key = kept.key(crate)
-        at = f'{crate.folder}/out/rlib'
-        if crate.is_built() and os.path.isfile(f'{at}/laid') and open(f'{at}/laid').read() == key:
-            kept.is_built(crate)
-            laid.add(crate.name)
-            continue
-        if not os.path.isdir(kept.place(crate, False, key)):
-            missing.append(crate.name)
-            continue
-        shutil.rmtree(at, ignore_errors=True)
-        if not kept.give(crate, False, key):
-            missing.append(crate.name)
-            continue
-        kept.is_built(crate)
-        laid.add(crate.name)
-        for name, text in (('stamp', stamp), ('laid', key)):
-            with open(f'{at}/{name}', 'w', encoding='utf-8') as file:
-                file.write(text)
-    return missing
+    """Links what is kept, and returns what is missing below the crates of these names."""
+    crates = {it.name: it for it in rt.rtlib.crates_below(TOP)}
+    wanted = {it.name: it for name in names for it in crates[name].below()}
+    return [name for name, crate in wanted.items() if not lay_one(crate)]
 
 
 def main():
@@ -75,11 +83,10 @@ def main():
         sys.exit(__doc__)
     os.chdir(TOP)
     rt = load_rt()
-    while True:
+    missing = lay(rt, names)
+    while missing and waits:
+        time.sleep(10)
         missing = lay(rt, names)
-        if not missing or not waits:
-            break
-        time.sleep(30)
     if missing:
         print('not kept yet:', ' '.join(missing))
     return 1 if missing else 0

@@ -414,7 +414,7 @@ public class Bindings {
             }
             DiagnosticCollector<JavaFileObject> found = new DiagnosticCollector<>();
             Memory memory = new Memory(files);
-            JavacTask task = (JavacTask) compiler.getTask(null, memory, found, List.of("-proc:none", "-Xlint:none", "-nowarn", "-XDsuppressNotes"), null, sources);
+            JavacTask task = (JavacTask) compiler.getTask(null, memory, found, List.of("-source", "7", "-target", "7", "-proc:none", "-Xlint:none", "-nowarn", "-XDsuppressNotes"), null, sources);
             try {
                 Iterable<? extends CompilationUnitTree> units = task.parse();
                 task.analyze();

@@ -1,9 +1,9 @@
 #!/usr/bin/env python3
-"""Holds `check` on definite assignment against the marks of assign.txt, and the marks against javac.
+"""Holds `check` on definite assignment against the marks of cases/assign.txt, and the marks against javac.
 
   assign.py [--bin PATH]      PATH is the built program refactor; javac is on the path
 
-In assign.txt `== NAME TITLE` begins a program, and a number in a comment stands before each token at which that rule is broken. The answer of
+In that file `== NAME TITLE` begins a program, and a number in a comment stands before each token at which that rule is broken. The answer of
 `check` is to be the first mark. javac, which names each variable once, is to name an error in each program with marks, and in no other, but for those
 whose title says that javac differs, and why. Differences are shown, and the exit status is 1 where there is one.
 """
@@ -47,7 +47,7 @@ def main():
     parser = argparse.ArgumentParser()
     parser.add_argument('--bin')
     args = parser.parse_args()
-    with open(os.path.join(HERE, 'assign.txt')) as file:
+    with open(os.path.join(HERE, 'cases', 'assign.txt')) as file:
         every = list(programs(file.read()))
     different = 0
     with tempfile.TemporaryDirectory() as top:

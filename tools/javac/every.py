@@ -2,7 +2,7 @@
 
   every.py --bin REFACTOR --classes DIR [--programs FILE] [--only NAME,..] [--kinds KIND,..] [--found FILE] [--refused FILE]
 
-FILE (every.txt) has programs, each begun by a line `==== NAME`, with its files each begun by a line `--- PATH`. DIR is as for change.py. A program that javac compiles is
+FILE (cases/every.txt) has programs, each begun by a line `==== NAME`, with its files each begun by a line `--- PATH`. DIR is as for change.py. A program that javac compiles is
 checked and run, and then each request is made in it: each declaration renamed to each name of the program and to a fresh one, each type moved to each
 package, each declaration deleted, each member type lifted, each method pulled up, each local inlined, each run of statements extracted, the first run of each
 block extracted under the name of each method (`named`), each package renamed.
@@ -176,7 +176,7 @@ def main():
     parser = argparse.ArgumentParser(description=__doc__, formatter_class=argparse.RawDescriptionHelpFormatter)
     parser.add_argument('--bin', required=True)
     parser.add_argument('--classes', required=True)
-    parser.add_argument('--programs', default=os.path.join(os.path.dirname(os.path.abspath(__file__)), 'every.txt'))
+    parser.add_argument('--programs', default=os.path.join(os.path.dirname(os.path.abspath(__file__)), 'cases', 'every.txt'))
     parser.add_argument('--only', type=lambda words: words.split(','))
     parser.add_argument('--kinds', type=lambda words: words.split(','), default='run,rename,move,inline,pullup,lift,delete,extract,named,repackage'.split(','))
     parser.add_argument('--found', default='/dev/stdout')

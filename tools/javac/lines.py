@@ -29,7 +29,7 @@ def main():
     parser = argparse.ArgumentParser(description=__doc__, formatter_class=argparse.RawDescriptionHelpFormatter)
     parser.add_argument('--bin', required=True)
     parser.add_argument('--classes', required=True)
-    parser.add_argument('--texts', default=HERE + '/lines.txt')
+    parser.add_argument('--texts', default=HERE + '/cases/lines.txt')
     args = parser.parse_args()
     javac, wrong, count = change.Javac(args.classes), 0, 0
     with open(args.texts, encoding='utf-8', newline='\n') as file, tempfile.TemporaryDirectory() as folder:

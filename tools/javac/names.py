@@ -1,13 +1,14 @@
 #!/usr/bin/env python3
 """Holds the binding against javac: each identifier of random programs is to have the declaration that the compiler gives.
 
-  names.py --many MANY --classes DIR [--count N] [--seed S] [--steps N] [--seconds T]
+  names.py --many MANY --classes DIR [--count N] [--seed S] [--steps N] [--seconds T] [--cases FILE]
 
-MANY is the program of many.txt, DIR is as for change.py. The programs are made by small.py and taken where javac compiles them. With --steps each is also run, for at
+MANY is the program of many.txt, DIR is as for change.py. First come the programs of FILE (cases/names.txt), then random ones, which are made by small.py and taken where javac compiles them. With --steps each is also run, for at
 most so many steps, and is to print what java prints. Programs that the check does not accept are counted by what it says, and shown. Differences are shown, and the exit status is 1 where there is one.
 """
 import argparse
 import collections
+import os
 import random
 import re
 import sys
@@ -117,6 +118,30 @@ class Trial:
             self.judge(files, block, answer)
 
 
+def cases(path):
+    """The programs of the file: name, whether the check refuses it, files."""
+    with open(path) as file:
+        parts = re.split(r'^==== ', file.read(), flags=re.M)[1:]
+    for part in parts:
+        head, _, rest = part.partition('\n')
+        texts = re.split(r'^--- (\S+)\n', rest, flags=re.M)[1:]
+        yield head.removeprefix('~ ').strip(), head.startswith('~'), sorted(zip(texts[::2], texts[1::2]))
+
+
+def try_cases(trial, javac, path):
+    """Those of the file, each as its mark says."""
+    for name, is_refused, files in cases(path):
+        block = javac.ask(files, 'names')
+        answer = many.answers(trial.args.many, [files], 0)[0]
+        errors = [line for line in block if line.startswith('E ')]
+        if errors or is_refused != bool(answer.fault):
+            trial.wrong += 1
+            trial.show('case %s: ours %s, javac %s' % (name, answer.fault or 'ok', errors or 'ok'), files)
+        elif not is_refused:
+            trial.judge(files, block, answer)
+        trial.counts['cases' + (' that are refused by a choice' if is_refused else '')] += 1
+
+
 def programs(args, javac, counts):
     """Random programs that javac compiles, each with what it says."""
     how = 'run' if args.steps else 'names'
@@ -138,8 +163,10 @@ def main():
     parser.add_argument('--seed', type=int, default=1)
     parser.add_argument('--steps', type=int, default=0)
     parser.add_argument('--seconds', type=float, default=1e9)
+    parser.add_argument('--cases', default=os.path.join(os.path.dirname(os.path.abspath(__file__)), 'cases', 'names.txt'))
     args = parser.parse_args()
     javac, trial, found, end = change.Javac(args.classes), Trial(args), [], time.time() + args.seconds
+    try_cases(trial, javac, args.cases)
     for one in programs(args, javac, trial.counts):
         found.append(one)
         if len(found) == 100:

@@ -126,13 +126,13 @@ locked_so asked locked rows locks h origin copies same kept = record {
 }
 
 pub locked_result : (asked : Asked) (rows : Rows) (locks : Locks) (result : Result Locked StepFault) → IsChanged (rows_in asked.old.now) (table_in asked.old.now) asked.change.now rows (entries locks.table.items)
-    → locks.origin.items ≡ origins_by asked.change.now → locks.copy.items ≡ copies_by (origins_by asked.change.now) (length (rows_in asked.old.now)) → IfOk result (λ locked. locked.program.index.value ≡ rows)
+    → locks.origin.items ≡ origins_by asked.change.now → locks.copy.items ≡ copies_by (origins_by asked.change.now) (length (rows_in asked.old.now)) → IfOk result (λ locked. locked.program.index.value.rows ≡ rows)
     → IfOk result (λ locked. locked.locks ≡ locks) → IfOk result (IsLockedBy asked)
 locked_result asked rows locks (Ok locked) h origin copies same kept = locked_so asked locked rows locks h origin copies same kept
 locked_result asked rows locks (Err why) h origin copies same kept = tt
 
 pub locked_shaped : (program : Program) (rows : Rows) (result : Result Locked StepFault) → AllByRecursion IsShaped (map (λ u. u.unit) program.units) → rows ≡ rows_of program
-    → IfOk result (λ locked. locked.program.index.value ≡ rows) → IfOk result (λ locked. IsProgram (rows_under locked))
+    → IfOk result (λ locked. locked.program.index.value.rows ≡ rows) → IfOk result (λ locked. IsProgram (rows_under locked))
 locked_shaped program rows (Ok locked) shaped are same = record { units = map (λ u. u.unit) program.units; shaped = shaped; rows_are = same ∙ are }
 locked_shaped program rows (Err why) shaped are same = tt
 

@@ -44,7 +44,7 @@ fn boxed<T: Drop>(alloc: Global, made: Result<T, OutOfMemory>) -> Result<Box<T>,
 // The rows of a program whose units are shaped.
 fn index_of(alloc: Global, program: &Program) -> Result<Box<Index>, OutOfMemory>
     requires { AllByRecursion IsShaped (map (λ u. u.unit) program.now.units) }
-    ensures { IfOk result (λ index. index.value ≡ program_rows (map (λ u. u.unit) program.now.units)) }
+    ensures { IfOk result (λ index. index.value.rows ≡ program_rows (map (λ u. u.unit) program.now.units)) }
 {
     boxed(alloc, Index::build(alloc, program))
 }
@@ -57,7 +57,7 @@ fn locked_rows(
     index: Box<Index>,
     locks: Locks,
 ) -> Result<Locked, StepFault>
-    ensures rows { IfOk result (λ locked. locked.program.index.value ≡ index.value) }
+    ensures rows { IfOk result (λ locked. locked.program.index.value.rows ≡ index.value.rows) }
     ensures locks { IfOk result (λ locked. locked.locks ≡ locks) }
     ensures bound { IfOk result IsBoundByLocks }
 {

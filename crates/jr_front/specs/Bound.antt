@@ -5,7 +5,7 @@ use Rattle.jr_bind.specs.Confirmed.{IsProgramOf, IsBindingOf}
 use Rattle.jr_front.specs.declared.workspace.Workspace.{Workspace}
 
 abbrev pub rows_in : Workspace → Rows
-rows_in w = w.index.value
+rows_in w = w.index.value.rows
 
 abbrev pub table_in : Workspace → Table
 table_in w = entries w.bound.value.table.items

@@ -53,7 +53,7 @@ fn boxed<T: Drop>(alloc: Global, made: Result<T, OutOfMemory>) -> Result<Box<T>,
 // The rows of a program whose units are shaped.
 fn index_of(alloc: Global, program: &Program) -> Result<Box<Index>, OutOfMemory>
     requires { AllByRecursion IsShaped (map (λ u. u.unit) program.now.units) }
-    ensures { IfOk result (λ index. index.value ≡ rows_of program.now) }
+    ensures { IfOk result (λ index. index.value.rows ≡ rows_of program.now) }
 {
     boxed(alloc, Index::build(alloc, program))
 }
@@ -172,10 +172,10 @@ fn bound_program(
     index: Box<Index>,
 ) -> Result<Workspace, FrontFault>
     ensures same { IfOk result (λ workspace. workspace.program ≡ program) }
-    ensures rows { IfOk result (λ workspace. workspace.index.value ≡ index.value) }
-    ensures bound { IsProgram index.value → BeginsWithLang index.value → IfOk result IsBoundIn }
-    ensures names { IsProgram index.value → OnOk result (HasNoTopFault index.value) }
-    ensures err { IsProgram index.value → BeginsWithLang index.value → index.value ≡ rows_of program → IsWellPlaced program → IfErr result (IsRefusal program) }
+    ensures rows { IfOk result (λ workspace. workspace.index.value.rows ≡ index.value.rows) }
+    ensures bound { IsProgram index.value.rows → BeginsWithLang index.value.rows → IfOk result IsBoundIn }
+    ensures names { IsProgram index.value.rows → OnOk result (HasNoTopFault index.value.rows) }
+    ensures err { IsProgram index.value.rows → BeginsWithLang index.value.rows → index.value.rows ≡ rows_of program → IsWellPlaced program → IfErr result (IsRefusal program) }
 {
     let marks = marks_of(&program, &index);
     let places = places_of(alloc, &marks)?;
@@ -194,7 +194,7 @@ fn bound_program(
 fn tables_of(alloc: Global, program: Program) -> Result<Workspace, FrontFault>
     requires { AllByRecursion IsShaped (map (λ u. u.unit) program.units) }
     ensures same { IfOk result (λ workspace. workspace.program ≡ program) }
-    ensures rows { IfOk result (λ workspace. workspace.index.value ≡ rows_of program) }
+    ensures rows { IfOk result (λ workspace. workspace.index.value.rows ≡ rows_of program) }
     ensures bound { BeginsWithLang (rows_of program) → IfOk result IsBoundIn }
     ensures names { OnOk result (HasNoTopFault (rows_of program)) }
     ensures err { BeginsWithLang (rows_of program) → IsWellPlaced program → IfErr result (IsRefusal program) }
@@ -207,7 +207,7 @@ fn tables_of(alloc: Global, program: Program) -> Result<Workspace, FrontFault>
 pub fn open_program(alloc: Global, program: Program) -> Result<Workspace, FrontFault>
     requires { AllByRecursion IsShaped (map (λ u. u.unit) program.units) }
     ensures same { IfOk result (λ workspace. workspace.program ≡ program) }
-    ensures rows { IfOk result (λ workspace. workspace.index.value ≡ rows_of program) }
+    ensures rows { IfOk result (λ workspace. workspace.index.value.rows ≡ rows_of program) }
     ensures bound { BeginsWithLang (rows_of program) → IfOk result IsBoundIn }
     ensures placed { OnOk result (IsWellPlaced program) }
     ensures kept { BeginsWithLang (rows_of program) → IfOk result (λ workspace. KeepsExact program (table_in workspace)) }
@@ -223,7 +223,7 @@ pub fn open_program(alloc: Global, program: Program) -> Result<Workspace, FrontF
 #[tactic(auto, using(crate::proofs::Reading::read_shaped, crate::proofs::Reading::read_begins, crate::proofs::Reading::opened_program, crate::proofs::Reading::compiled))]
 pub fn open_files(alloc: Global, files: &Files) -> Result<Workspace, FrontFault>
     ensures ok { IfOk result (λ workspace. ReadsAs files.now (Ok workspace.program)) }
-    ensures rows { IfOk result (λ workspace. workspace.index.value ≡ rows_of workspace.program) }
+    ensures rows { IfOk result (λ workspace. workspace.index.value.rows ≡ rows_of workspace.program) }
     ensures bound { IfOk result IsBoundIn }
     ensures compiles { IfOk result (λ workspace. CompilesExactly files.now workspace.program (table_in workspace)) }
     ensures checked { CheckedAs files.now (forgotten result) }

@@ -29,8 +29,8 @@ impl Workspace {
     /// Where the rows stand in texts.
     pub fn marks(&self) -> Marks<'_>
         ensures units { result.units.now ≡ self.now.program.units }
-        ensures rows { result.rows.now ≡ self.now.index.value }
-        ensures starts { result.starts.now ≡ unit_rows self.now.index.value (length self.now.index.value) }
+        ensures rows { result.rows.now ≡ self.now.index.value.rows }
+        ensures starts { result.starts.now ≡ unit_rows self.now.index.value.rows (length self.now.index.value.rows) }
     {
         marks_of(&self.program, &self.index)
     }
@@ -38,7 +38,7 @@ impl Workspace {
     /// The tables.
     pub fn view(&self) -> View<'_>
         ensures table { result.sight.world.under.table.now ≡ self.now.bound.value.table.items }
-        ensures all { IsViewOf self.now.index.value self.now.places.value self.now.scopes.value self.now.bound.value result }
+        ensures all { IsViewOf self.now.index.value.rows self.now.places.value self.now.scopes.value self.now.bound.value result }
     {
         view_of(self.index.rows(), &self.places, &self.scopes, &self.bound)
     }
@@ -47,8 +47,8 @@ impl Workspace {
 /// Where the rows of a program stand in texts, as its index says.
 pub fn marks_of<'a>(program: &'a Program, index: &'a Index) -> Marks<'a>
     ensures units { result.units.now ≡ program.now.units }
-    ensures rows { result.rows.now ≡ index.now }
-    ensures starts { result.starts.now ≡ unit_rows index.now (length index.now) }
+    ensures rows { result.rows.now ≡ index.now.rows }
+    ensures starts { result.starts.now ≡ unit_rows index.now.rows (length index.now.rows) }
 {
     Marks {
         units: program.units.as_slice(),

@@ -28,6 +28,7 @@ use Rattle.jr_top.specs.Renaming.{files_named, ForTold}
 use Rattle.jr_top.specs.declared.status.Phase.TheVariants.{Recovering, Reading, Writing}
 use Rattle.jr_top.specs.declared.status.Status.{Status}
 use Rattle.jr_top.specs.declared.status.Status.TheVariants.{Done, NoSpelling, BrokenRule, StoreFault, TooLarge, OutOfMemory, BadJournal, Differs}
+use Rattle.jr_top.proofs.Outcomes.{rose_earlier}
 
 -- what a crash leaves before the call stands for the files found
 pub here_by : (f r : Image) (outcomes : Image → Type 0) → StartsRecover f outcomes → Restored f r → (c : Image) → outcomes c → RestoresTo c r
@@ -41,10 +42,7 @@ weaker moment left_since old new P Q run weak = record {
   before = λ t c le left. ⊎_elim (λ was. inl was) (λ now. inr (weak c now)) (run.before t c le left);
 }
 
-rose_earlier : (before middle after : ℕ) → before ≤ middle → Rose middle after → Rose before after
-rose_earlier before middle after later rose = omega arith
-
--- a fault that was counted later was counted in the whole call
+-- what is answered to a later part of the call is answered to the whole
 pub earlier : (words : List (List ℕ)) (found left : Option Image) (outcomes : Image → Type 0) (before middle after : ℕ) (status : Status) → before ≤ middle → AnswersFound words found left outcomes middle after status → AnswersFound words found left outcomes before after status
 earlier words found left outcomes before middle after (StoreFault Reading) later a = (a.0, a.1, rose_earlier before middle after later a.2)
 earlier words found left outcomes before middle after (StoreFault Writing) later a = (a.0, rose_earlier before middle after later a.1)

@@ -1,7 +1,6 @@
 -- From what is said of the files to the answer to a command that reads them.
-use Rattle.std.proofs.Common.{◌≡◌, ◌⊎◌, inl, inr, ℕ, zero, suc, ◌+◌, ◌<◌, ◌≤◌, Bool, false, List, [], ◌∷◌, Option, Some, None, Err, IsTrue, refl, sym, ap, subst, ◌∙◌, arith}
-use Rattle.std.specs.Prelude.{IsSome, Contains, ◌↔◌}
-use Rattle.std.proofs.lemmas.Bool.{false≢true}
+use Rattle.std.proofs.Common.{◌≡◌, ◌⊎◌, inl, inr, ℕ, zero, suc, ◌+◌, ◌<◌, ◌≤◌, List, [], ◌∷◌, Option, Some, None, Err, IsTrue, refl, sym, ap, subst, ◌∙◌, arith}
+use Rattle.std.specs.Prelude.{IsSome, Contains}
 use Rattle.std.specs.FinMap as map
 use Rattle.jr_base.specs.Files.{FileMap}
 use Rattle.jr_base.specs.Paths.{is_java}
@@ -20,7 +19,7 @@ use Rattle.jr_request.specs.declared.command.Command.{Command}
 use Rattle.jr_request.specs.declared.command.Command.TheVariants.{Check, Run, Refs, Subtypes, Callers}
 use Rattle.jr_store.specs.Image.{Image, AreJava, Tells, Rose}
 use Rattle.jr_top.specs.Answers.{IsFailure}
-use Rattle.jr_top.specs.Checking.{IsReading, AsksReading, IsOneProgram, IsVerdict, small, accepted, refused, oversized, Fronted, front_accepts, front_refuses, front_wants_memory, IsShown, shows, shows_none, shows_refusal, shows_size, Showed, has_text, has_reason, has_refusal, has_no_memory, IsSaid, Checks, AnswersReading, IsCheckedSo, status_of}
+use Rattle.jr_top.specs.Checking.{IsReading, AsksReading, IsVerdict, accepted, refused, oversized, Fronted, front_accepts, front_refuses, front_wants_memory, IsShown, shows, shows_none, shows_refusal, shows_size, Showed, has_text, has_reason, has_refusal, has_no_memory, IsSaid, Checks, AnswersReading, IsCheckedSo, status_of}
 use Rattle.jr_top.specs.Crash.{Survives}
 use Rattle.jr_top.specs.Line.{line_of}
 use Rattle.jr_top.specs.Performing.{ReportedOf}
@@ -31,7 +30,7 @@ use Rattle.jr_top.specs.declared.status.Phase.TheVariants.{Recovering, Reading}
 use Rattle.jr_top.specs.declared.status.Report.TheVariants.{Checked, Printed}
 use Rattle.jr_top.specs.declared.status.Status.{Status}
 use Rattle.jr_top.specs.declared.status.Status.TheVariants.{Done, BadRequest, NotCompiling, StoreFault, TooLarge, OutOfMemory, BadJournal}
-use Rattle.jr_top.proofs.Outcomes.{found_files, no_bad_journal}
+use Rattle.jr_top.proofs.Outcomes.{for_told, rose_earlier, found_files, no_bad_journal}
 use Rattle.jr_top.proofs.PlainAnswers.{IsPlain}
 
 -- a command that reads the files needs them
@@ -51,58 +50,40 @@ no_reading words file at name asks (command, is, reads) = subst IsReading (same_
 pub reading_plain : (words : List (List ℕ)) → AsksReading words → (paths : List (List ℕ)) → IsPlain words paths (line_of paths)
 reading_plain words (command, is, reads) paths = record { recovery = (command, is, reading_needs command reads); shown = λ status. refl }
 
-rose_earlier : (before middle after : ℕ) → before ≤ middle → Rose middle after → Rose before after
-rose_earlier before middle after later rose = omega arith
-
 -- ---- what is said of the files
 
-spoken : (told : Option Image) (N P : Image → Type 0) → ForTold told N → ((f : Image) → told ≡ Some f → N f → P f) → ForTold told P
-spoken None N P none each = tt
-spoken (Some f) N P none each = each f refl none
-
-all_told : (told : Option Image) → ForTold told (λ f. Unit {0})
-all_told None = tt
-all_told (Some f) = tt
-
-abbrev pub IsNoSmall : Image → Type 0
-IsNoSmall f = IsOneProgram f → ⊥
-
 module _ (told : Option Image) (before after : ℕ) where
-  pub small_said : ForTold told IsOneProgram → Checks (Some Check) told [] before after (Done (Checked 1))
-  small_said program = spoken told IsOneProgram (λ f. IsVerdict f [] (Done (Checked 1))) program (λ f is one. small one refl)
+  pub oversized_said : (what : Size) → ((f : Image) → told ≡ Some f → IsTooLarge f what) → Checks (Some Check) told [] before after (TooLarge what 0)
+  oversized_said what large = for_told told (λ f. IsVerdict f [] (TooLarge what 0)) (λ f is. oversized (large f is) refl)
 
-  module _ (none : ForTold told IsNoSmall) where
-    pub oversized_said : (what : Size) → ((f : Image) → told ≡ Some f → IsTooLarge f what) → Checks (Some Check) told [] before after (TooLarge what 0)
-    oversized_said what large = spoken told IsNoSmall (λ f. IsVerdict f [] (TooLarge what 0)) none (λ f is no. oversized no (large f is) refl)
+  module _ (found : FileMap) (holds : (f : Image) → told ≡ Some f → HoldsFiles f found) (paths : List (List ℕ)) where
+    refused_as : (why : FrontFault) → CheckedAs found (Err why) → paths ≡ map.keys found → (status : Status) → status ≡ status_of why → ForTold told (λ f. IsVerdict f paths status)
+    refused_as why checked keys status is = for_told told (λ f. IsVerdict f paths status) (λ f told_is. refused (holds f told_is) checked keys is)
 
-    module _ (found : FileMap) (holds : (f : Image) → told ≡ Some f → HoldsFiles f found) (paths : List (List ℕ)) where
-      refused_as : (why : FrontFault) → CheckedAs found (Err why) → paths ≡ map.keys found → (status : Status) → status ≡ status_of why → ForTold told (λ f. IsVerdict f paths status)
-      refused_as why checked keys status is = spoken told IsNoSmall (λ f. IsVerdict f paths status) none (λ f told_is no. refused no (holds f told_is) checked keys is)
+    by_fault : (why : FrontFault) → CheckedAs found (Err why) → paths ≡ map.keys found → Checks (Some Check) told paths before after (status_of why)
+    by_fault (front.TooLarge what) checked keys = refused_as (front.TooLarge what) checked keys (status_of (front.TooLarge what)) refl
+    by_fault (front.Lex cu (lexing.BadByte at)) checked keys = refused_as (front.Lex cu (lexing.BadByte at)) checked keys (status_of (front.Lex cu (lexing.BadByte at))) refl
+    by_fault (front.Lex cu (lexing.OpenComment at)) checked keys = refused_as (front.Lex cu (lexing.OpenComment at)) checked keys (status_of (front.Lex cu (lexing.OpenComment at))) refl
+    by_fault (front.Lex cu (lexing.OpenLiteral at)) checked keys = refused_as (front.Lex cu (lexing.OpenLiteral at)) checked keys (status_of (front.Lex cu (lexing.OpenLiteral at))) refl
+    by_fault (front.Lex cu (lexing.BadEscape at)) checked keys = refused_as (front.Lex cu (lexing.BadEscape at)) checked keys (status_of (front.Lex cu (lexing.BadEscape at))) refl
+    by_fault (front.Lex cu (lexing.BadNumber at)) checked keys = refused_as (front.Lex cu (lexing.BadNumber at)) checked keys (status_of (front.Lex cu (lexing.BadNumber at))) refl
+    by_fault (front.Lex cu (lexing.NotUtf8 at)) checked keys = refused_as (front.Lex cu (lexing.NotUtf8 at)) checked keys (status_of (front.Lex cu (lexing.NotUtf8 at))) refl
+    by_fault (front.Lex cu lexing.OutOfMemory) checked keys = tt
+    by_fault (front.Parse (parsing.NoTree number) place) checked keys = refused_as (front.Parse (parsing.NoTree number) place) checked keys (status_of (front.Parse (parsing.NoTree number) place)) refl
+    by_fault (front.Parse (parsing.TooDeep number) place) checked keys = refused_as (front.Parse (parsing.TooDeep number) place) checked keys (status_of (front.Parse (parsing.TooDeep number) place)) refl
+    by_fault (front.Parse parsing.OutOfMemory place) checked keys = tt
+    by_fault (front.PathMismatch cu) checked keys = refused_as (front.PathMismatch cu) checked keys (status_of (front.PathMismatch cu)) refl
+    by_fault (front.Duplicate place) checked keys = refused_as (front.Duplicate place) checked keys (status_of (front.Duplicate place)) refl
+    by_fault (front.Cycle place) checked keys = refused_as (front.Cycle place) checked keys (status_of (front.Cycle place)) refl
+    by_fault (front.Unbound place) checked keys = refused_as (front.Unbound place) checked keys (status_of (front.Unbound place)) refl
+    by_fault (front.Broken rule place) checked keys = refused_as (front.Broken rule place) checked keys (status_of (front.Broken rule place)) refl
+    by_fault front.OutOfMemory checked keys = tt
 
-      by_fault : (why : FrontFault) → CheckedAs found (Err why) → paths ≡ map.keys found → Checks (Some Check) told paths before after (status_of why)
-      by_fault (front.TooLarge what) checked keys = refused_as (front.TooLarge what) checked keys (status_of (front.TooLarge what)) refl
-      by_fault (front.Lex cu (lexing.BadByte at)) checked keys = refused_as (front.Lex cu (lexing.BadByte at)) checked keys (status_of (front.Lex cu (lexing.BadByte at))) refl
-      by_fault (front.Lex cu (lexing.OpenComment at)) checked keys = refused_as (front.Lex cu (lexing.OpenComment at)) checked keys (status_of (front.Lex cu (lexing.OpenComment at))) refl
-      by_fault (front.Lex cu (lexing.OpenLiteral at)) checked keys = refused_as (front.Lex cu (lexing.OpenLiteral at)) checked keys (status_of (front.Lex cu (lexing.OpenLiteral at))) refl
-      by_fault (front.Lex cu (lexing.BadEscape at)) checked keys = refused_as (front.Lex cu (lexing.BadEscape at)) checked keys (status_of (front.Lex cu (lexing.BadEscape at))) refl
-      by_fault (front.Lex cu (lexing.BadNumber at)) checked keys = refused_as (front.Lex cu (lexing.BadNumber at)) checked keys (status_of (front.Lex cu (lexing.BadNumber at))) refl
-      by_fault (front.Lex cu (lexing.NotUtf8 at)) checked keys = refused_as (front.Lex cu (lexing.NotUtf8 at)) checked keys (status_of (front.Lex cu (lexing.NotUtf8 at))) refl
-      by_fault (front.Lex cu lexing.OutOfMemory) checked keys = tt
-      by_fault (front.Parse (parsing.NoTree number) place) checked keys = refused_as (front.Parse (parsing.NoTree number) place) checked keys (status_of (front.Parse (parsing.NoTree number) place)) refl
-      by_fault (front.Parse (parsing.TooDeep number) place) checked keys = refused_as (front.Parse (parsing.TooDeep number) place) checked keys (status_of (front.Parse (parsing.TooDeep number) place)) refl
-      by_fault (front.Parse parsing.OutOfMemory place) checked keys = tt
-      by_fault (front.PathMismatch cu) checked keys = refused_as (front.PathMismatch cu) checked keys (status_of (front.PathMismatch cu)) refl
-      by_fault (front.Duplicate place) checked keys = refused_as (front.Duplicate place) checked keys (status_of (front.Duplicate place)) refl
-      by_fault (front.Cycle place) checked keys = refused_as (front.Cycle place) checked keys (status_of (front.Cycle place)) refl
-      by_fault (front.Unbound place) checked keys = refused_as (front.Unbound place) checked keys (status_of (front.Unbound place)) refl
-      by_fault (front.Broken rule place) checked keys = refused_as (front.Broken rule place) checked keys (status_of (front.Broken rule place)) refl
-      by_fault front.OutOfMemory checked keys = tt
-
-      pub fronted_said : (status : Status) → Fronted found paths status → Checks (Some Check) told paths before after status
-      fronted_said status (front_accepts checked is) =
-          subst (Checks (Some Check) told paths before after) (sym is) (spoken told IsNoSmall (λ f. IsVerdict f paths (Done (Checked (map.len found)))) none (λ f told_is no. accepted no (holds f told_is) checked refl))
-      fronted_said status (front_refuses {why = why} checked keys is) = subst (Checks (Some Check) told paths before after) (sym is) (by_fault why checked keys)
-      fronted_said status (front_wants_memory is) = subst (Checks (Some Check) told paths before after) (sym is) tt
+    pub fronted_said : (status : Status) → Fronted found paths status → Checks (Some Check) told paths before after status
+    fronted_said status (front_accepts checked is) =
+        subst (Checks (Some Check) told paths before after) (sym is) (for_told told (λ f. IsVerdict f paths (Done (Checked (map.len found)))) (λ f told_is. accepted (holds f told_is) checked refl))
+    fronted_said status (front_refuses {why = why} checked keys is) = subst (Checks (Some Check) told paths before after) (sym is) (by_fault why checked keys)
+    fronted_said status (front_wants_memory is) = subst (Checks (Some Check) told paths before after) (sym is) tt
 
 -- ---- what is shown
 
@@ -114,7 +95,7 @@ to_asked (Some other) f paths status none shown = shown
 
 module _ (asked : Option Command) (no_check : asked ≡ Some Check → ⊥) (told : Option Image) (before after : ℕ) where
   told_shown : (paths : List (List ℕ)) (status : Status) → ((f : Image) → told ≡ Some f → IsShown asked f paths status) → ForTold told (λ f. IsSaid asked f paths status)
-  told_shown paths status each = spoken told (λ f. Unit {0}) (λ f. IsSaid asked f paths status) (all_told told) (λ f is none. to_asked asked f paths status no_check (each f is))
+  told_shown paths status each = for_told told (λ f. IsSaid asked f paths status) (λ f is. to_asked asked f paths status no_check (each f is))
 
   pub shown_size : (what : Size) → ((f : Image) → told ≡ Some f → IsTooLarge f what) → Checks asked told [] before after (TooLarge what 0)
   shown_size what large = told_shown [] (TooLarge what 0) (λ f is. shows_size (large f is) refl)
@@ -149,23 +130,6 @@ module _ (asked : Option Command) (no_check : asked ≡ Some Check → ⊥) (tol
     showed_said status (has_refusal {why = why} checked keys is) = subst (Checks asked told paths before after) (sym is) (shown_fault why checked keys)
     showed_said status (has_no_memory is) = subst (Checks asked told paths before after) (sym is) tt
 
--- what is said later is said of the whole
-pub said_earlier : (asked : Option Command) (told : Option Image) (paths : List (List ℕ)) (before middle after : ℕ) → before ≤ middle → (status : Status) → Checks asked told paths middle after status → Checks asked told paths before after status
-said_earlier asked told paths before middle after later (Done (Checked files)) h = h
-said_earlier asked told paths before middle after later (Done (Printed text)) h = h
-said_earlier asked told paths before middle after later (Done other) h = absurd h
-said_earlier asked told paths before middle after later (BadRequest request reason field) h = h
-said_earlier asked told paths before middle after later (NotCompiling why) h = h
-said_earlier asked told paths before middle after later (TooLarge what request) h = h
-said_earlier asked told paths before middle after later (StoreFault Reading) h = rose_earlier before middle after later h
-said_earlier asked told paths before middle after later (StoreFault other) h = absurd h
-said_earlier asked told paths before middle after later OutOfMemory h = tt
-said_earlier asked told paths before middle after later other h = absurd h
-
-pub none_small : (told : Option Image) (answer : Bool) → answer ≡ false → ForTold told (λ f. IsTrue answer ↔ IsOneProgram f) → ForTold told IsNoSmall
-none_small None answer is says = tt
-none_small (Some f) answer is says = λ program. false≢true (sym is ∙ says.1 program)
-
 -- ---- the same of files that are the same
 
 java_at : (paths : List (List ℕ)) → AreJava paths → (path : List ℕ) → Contains paths path → IsTrue (is_java path)
@@ -173,27 +137,7 @@ java_at [] java path (k, below, is) = absurd (omega arith)
 java_at (p ∷ paths) java path (zero, below, is) = subst (λ (q : List ℕ). IsTrue (is_java q)) is java.0
 java_at (p ∷ paths) java path (suc k, below, is) = java_at paths java.1 path (k, omega arith, is)
 
-one_same : (f g : Image) → SameFiles f g → IsOneProgram f → IsOneProgram g
-one_same f g same program =
-    let held = program.1 in (
-      program.0,
-      record {
-        file = held.file;
-        only = (held.only.0, λ path java there. held.only.1 path java (subst IsSome (sym (same path java)) there));
-        there = sym (same held.file held.only.0) ∙ held.there;
-        top = held.top;
-        small = held.small;
-      },
-      program.2,
-    )
-
 module _ (f g : Image) (same : SameFiles f g) where
-  program_same : IsOneProgram f → IsOneProgram g
-  program_same = one_same f g same
-
-  same_back : IsOneProgram g → IsOneProgram f
-  same_back = one_same g f (λ path java. sym (same path java))
-
   files_same : (found : FileMap) → HoldsFiles f found → HoldsFiles g found
   files_same found holds = record { java = holds.java; each = λ path java. sym (same path java) ∙ holds.each path java }
 
@@ -215,10 +159,9 @@ module _ (f g : Image) (same : SameFiles f g) where
   large_same (much_in_all paths are many) = much_in_all paths (are_same paths are) (subst (λ (n : ℕ). limits.TOTAL < n) (sym (sizes_same paths are.java)) many)
 
   verdict_same : (paths : List (List ℕ)) (status : Status) → IsVerdict f paths status → IsVerdict g paths status
-  verdict_same paths status (small program is) = small (program_same program) is
-  verdict_same paths status (accepted {found} none holds checked is) = accepted (λ program. none (same_back program)) (files_same found holds) checked is
-  verdict_same paths status (refused {found} none holds checked keys is) = refused (λ program. none (same_back program)) (files_same found holds) checked keys is
-  verdict_same paths status (oversized {what} none large is) = oversized (λ program. none (same_back program)) (large_same large) is
+  verdict_same paths status (accepted {found} holds checked is) = accepted (files_same found holds) checked is
+  verdict_same paths status (refused {found} holds checked keys is) = refused (files_same found holds) checked keys is
+  verdict_same paths status (oversized {what} large is) = oversized (large_same large) is
 
   shown_same : (asked : Option Command) (paths : List (List ℕ)) (status : Status) → IsShown asked f paths status → IsShown asked g paths status
   shown_same asked paths status (shows {found} holds checked answers is) = shows (files_same found holds) checked answers is

@@ -22,11 +22,8 @@ use Rattle.jr_top.specs.Renaming.{AsksRename, Holds, ForTold}
 use Rattle.jr_top.specs.declared.decide.Decision.{Decision}
 use Rattle.jr_top.specs.declared.decide.Decision.TheVariants.{Answer, Change}
 use Rattle.jr_top.specs.declared.status.Status.{Status}
-use Rattle.jr_top.proofs.Outcomes.{found_files}
+use Rattle.jr_top.proofs.Outcomes.{rose_earlier, found_files}
 use Rattle.jr_top.proofs.Settled.{holds_back}
-
-rose_earlier : (before middle after : ℕ) → before ≤ middle → Rose middle after → Rose before after
-rose_earlier before middle after later rose = omega arith
 
 -- what is decided on later files, which are the same, is decided on the files
 pub earlier_all : (requests : List Request) (told mid : Option Image) (before middle after : ℕ) (decision : Decision) → mid ≡ told → before ≤ middle → DecidesAll requests mid middle after decision → DecidesAll requests told before after decision

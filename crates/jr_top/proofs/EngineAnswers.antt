@@ -38,6 +38,7 @@ use Rattle.jr_top.specs.declared.status.Report.TheVariants.{Changed}
 use Rattle.jr_top.specs.declared.status.Status.{Status}
 use Rattle.jr_top.specs.declared.status.Status.TheVariants.{Done, StoreFault, SinkFault, TooLarge, OutOfMemory}
 use Rattle.jr_top.proofs.Carried.{weaker, settled as settled_after, still_told}
+use Rattle.jr_top.proofs.Outcomes.{for_told, rose_earlier}
 use Rattle.jr_top.proofs.Settled.{settled_stands, restores_same}
 
 -- ---- decisions and statuses apart
@@ -113,13 +114,6 @@ refusal_stands : (words : List (List ℕ)) (found image : Image) (status : Statu
 refusal_stands words found image (Done report) never stands = absurd never
 refusal_stands words found image (StoreFault phase) never stands = absurd never
 refusal_stands words found image other is stands = stands
-
-rose_earlier : (before middle after : ℕ) → before ≤ middle → Rose middle after → Rose before after
-rose_earlier before middle after later rose = omega arith
-
-pub for_told : (told : Option Image) (P : Image → Type 0) → ((f : Image) → told ≡ Some f → P f) → ForTold told P
-for_told None P each = tt
-for_told (Some f) P each = each f refl
 
 told_for : (told : Option Image) (P : Image → Type 0) → ForTold told P → (f : Image) → told ≡ Some f → P f
 told_for None P all f is = absurd (none-some f is)

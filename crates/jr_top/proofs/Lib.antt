@@ -9,7 +9,6 @@ mod Exact
 mod PlainAnswers
 mod BatchAnswers
 mod CheckAnswers
-mod OneFile
 mod UndoAnswers
 mod Starts
 mod Accepted

@@ -1,9 +1,9 @@
 -- From the status that was reported to the status that is answered.
-use Rattle.std.proofs.Common.{◌≡◌, ℕ, List, Option, Some, None, refl, sym, subst, ◌∙◌, inl, inr}
+use Rattle.std.proofs.Common.{◌≡◌, ℕ, ◌≤◌, List, Option, Some, None, refl, sym, subst, ◌∙◌, inl, inr, arith}
 use Rattle.std.proofs.lemmas.Option.{same_Some, none-some}
 use Rattle.std.specs.Io.KnownBytes.{Appends}
 use Rattle.jr_commit.specs.Restoring.{IsOpen, Restored, SameFiles}
-use Rattle.jr_store.specs.Image.{Image}
+use Rattle.jr_store.specs.Image.{Image, Rose}
 use Rattle.jr_thin.specs.Renaming.{Serves}
 use Rattle.jr_top.specs.Recovering.{Recovers}
 use Rattle.jr_top.specs.Renaming.{AsksRename, Holds, ForTold}
@@ -13,6 +13,15 @@ use Rattle.jr_top.specs.Performing.{Reported}
 use Rattle.jr_top.specs.declared.status.Phase.TheVariants.{Recovering, Reading, Writing}
 use Rattle.jr_top.specs.declared.status.Status.{Status}
 use Rattle.jr_top.specs.declared.status.Status.TheVariants.{Done, BadWords, NoSpelling, BrokenRule, StoreFault, SinkFault, TooLarge, OutOfMemory, BadJournal, Differs}
+
+-- what holds of the files that are told of holds of what is told
+pub for_told : (told : Option Image) (P : Image → Type 0) → ((f : Image) → told ≡ Some f → P f) → ForTold told P
+for_told None P each = tt
+for_told (Some f) P each = each f refl
+
+-- a fault that was counted later was counted in the whole call
+pub rose_earlier : (before middle after : ℕ) → before ≤ middle → Rose middle after → Rose before after
+rose_earlier before middle after later rose = omega arith
 
 -- recovery has found the files that the image stood for
 pub found_files : (files found : Image) (told here : Option Image) → told ≡ Some files → Restored files found → Recovers told here → (g : Image) × (here ≡ Some g) × SameFiles g found

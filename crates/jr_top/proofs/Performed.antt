@@ -12,6 +12,7 @@ use Rattle.jr_commit.specs.SidesAt.{with_sides}
 use Rattle.jr_commit.proofs.Moments.{goes_further}
 use Rattle.jr_store.specs.Image.{LeavesOnly}
 use Rattle.jr_top.proofs.Carried.{weaker}
+use Rattle.jr_top.proofs.Outcomes.{rose_earlier}
 use Rattle.jr_top.proofs.Settled.{settled_stands, starts, restores_same, stands_changed, committed, some_step, off_one, stands_committed}
 use Rattle.jr_thin.specs.Renaming.{IsDone}
 use Rattle.jr_top.specs.Line.{line_of}
@@ -82,9 +83,6 @@ module _ (words : List (List ℕ)) (told left : Option Image) (kept outcomes : I
     subst (λ (f : Status). Reports f (line_of paths f) result old new fewer more) is r,
   )
 
-  rose_earlier : (middle : ℕ) → before ≤ middle → Rose middle after → Rose before after
-  rose_earlier middle later rose = omega arith
-
   module _ (file : List ℕ) (at : ℕ) (name : List ℕ) (plan : Planned) (asked : AsksRename words file at name) (short : length file ≤ 1024) (single : length plan.steps ≡ 1) where
     abbrev Planned_of : Option Image → Type 0
     Planned_of t = HoldsSome t file (λ old. (new : List ℕ) × IsDone old at name new × (new ≢ old) × (length new ≤ 1048576) × IsPlanOf file old new plan)
@@ -130,7 +128,7 @@ module _ (words : List (List ℕ)) (told left : Option Image) (kept outcomes : I
           refl,
         )
     changed middle mid entered (StoreFault Writing) same later fewer held either (part, rose) =
-        ((((file, at, name, asked, tell_part told left held (subst (λ (t : Option Image). Tells t left (ChangesOnlyPlanned plan)) same part)), rose_earlier middle later rose), either), refl)
+        ((((file, at, name, asked, tell_part told left held (subst (λ (t : Option Image). Tells t left (ChangesOnlyPlanned plan)) same part)), rose_earlier before middle after later rose), either), refl)
     changed middle mid entered OutOfMemory same later fewer held either (left_is, outcomes_are) =
         ((left_is ∙ same, λ f r told_is settled c l. settled_stands f r kept settled c (fewer c (outcomes_are c l))), refl)
     changed middle mid entered other same later fewer held either never = absurd never

@@ -9,6 +9,7 @@ use Rattle.jr_top.specs.Crash.{LeavesStart, IsNoFault}
 use Rattle.jr_top.specs.declared.status.Phase.{Phase}
 use Rattle.jr_top.specs.declared.status.Status.{Status}
 use Rattle.jr_top.specs.declared.status.Status.TheVariants.{StoreFault, SinkFault}
+use Rattle.jr_top.proofs.Outcomes.{rose_earlier}
 
 -- where one may begin whatever is answered
 pub begun : (before after : ℕ) (Begins : Type 0) → Begins → (result : Status) → LeavesStart before after Begins result
@@ -21,9 +22,6 @@ pub at_fault : (before after : ℕ) (Begins : Type 0) (phase : Phase) (line : Li
     → LeavesStart before after Begins result
 at_fault before after Begins phase line result old new fewer more rose (inl done) = subst (LeavesStart before after Begins) (sym done.0) tt
 at_fault before after Begins phase line result old new fewer more rose (inr failed) = subst (LeavesStart before after Begins) (sym failed.0) (inr rose)
-
-rose_earlier : (before middle after : ℕ) → before ≤ middle → Rose middle after → Rose before after
-rose_earlier before middle after later rose = omega arith
 
 -- what is so from a later call on is so from an earlier one on
 pub earlier_start : (before middle after : ℕ) (Begins : Type 0) (result : Status) → before ≤ middle → LeavesStart middle after Begins result → LeavesStart before after Begins result

@@ -33,7 +33,7 @@ use Rattle.jr_top.specs.declared.status.Report.TheVariants.{Changed}
 use Rattle.jr_top.specs.declared.status.Status.{Status}
 use Rattle.jr_top.specs.declared.status.Status.TheVariants.{Done, NoUndo, StoreFault, SinkFault, OutOfMemory, BadJournal}
 use Rattle.jr_top.proofs.Carried.{weaker, journal_kept, journal_restored, settled, still_told}
-use Rattle.jr_top.proofs.Outcomes.{no_bad_journal}
+use Rattle.jr_top.proofs.Outcomes.{for_told, rose_earlier, no_bad_journal}
 use Rattle.jr_top.proofs.PlainAnswers.{IsPlain, plain, reports_of, unnamed}
 use Rattle.jr_top.proofs.Settled.{settled_stands, restores_same}
 
@@ -143,13 +143,6 @@ module _ (es : List PlainEntry) (plan : Planned) (back : TakesBack es plan) wher
         (λ c stands. ⊎_elim (λ was. inl (restores_same c f r was is.same)) (λ now. inr (inr (inl (stands_undone words r c kept asks is now)))) stands)
 
 -- ---- what is answered after recovery
-
-for_told : (told : Option Image) (P : Image → Type 0) → ((f : Image) → told ≡ Some f → P f) → ForTold told P
-for_told None P each = tt
-for_told (Some f) P each = each f refl
-
-rose_earlier : (before middle after : ℕ) → before ≤ middle → Rose middle after → Rose before after
-rose_earlier before middle after later rose = omega arith
 
 module _ (words : List (List ℕ)) (asks : AsksUndo words) (told left : Option Image) (kept outcomes : Image → Type 0) (before after : ℕ) where
   abbrev pub SaidFound : Status → Type 0

@@ -10,7 +10,6 @@ use Rattle.jr_front.specs.declared.fault.FrontFault.{FrontFault}
 use Rattle.jr_front.specs.declared.fault.FrontFault.TheVariants as front
 use Rattle.jr_gather.specs.Gathering.{HoldsFiles, IsTooLarge}
 use Rattle.jr_change.specs.declared.reason.Reason.{Reason}
-use Rattle.jr_check.specs.Small.{IsSmallProgram}
 use Rattle.jr_commit.specs.Restoring.{SameFiles}
 use Rattle.jr_request.specs.Words.{command_of}
 use Rattle.jr_request.specs.declared.command.Command.{Command}
@@ -19,7 +18,7 @@ use Rattle.jr_store.specs.Image.{Image, Tells, Rose}
 use Rattle.jr_run.specs.declared.fault.RunFault.TheVariants as run
 use Rattle.jr_top.specs.Plain.{AnswersPlain}
 use Rattle.jr_top.specs.Reasons.{reason_number}
-use Rattle.jr_top.specs.Renaming.{IsOnly, ForTold}
+use Rattle.jr_top.specs.Renaming.{ForTold}
 use Rattle.jr_top.specs.Showing.{IsAnswerTo}
 use Rattle.jr_top.specs.declared.status.Phase.TheVariants.{Reading}
 use Rattle.jr_top.specs.declared.status.Report.TheVariants.{Checked, Printed}
@@ -39,23 +38,6 @@ IsReading other = ⊥
 -- the words ask for such a command
 abbrev pub AsksReading : List (List ℕ) → Type 0
 AsksReading words = (command : Command) × (command_of words ≡ Some command) × IsReading command
-
--- a path of at most 1,024 bytes in no folder, where a unit of the unnamed package stands (JLS 7.2)
-pub record IsTopFile (file : List ℕ) : Type 0 where
-  pub short : length file ≤ 1024
-  pub no_folder : Contains file 47 → ⊥
-
--- one `.java` file is there, stands in no folder and holds these bytes, of which there are at most 1,048,576
-pub record HoldsOne (files : Image) (bytes : List ℕ) : Type 0 where
-  pub file : List ℕ
-  pub only : IsOnly files file
-  pub there : files file ≡ Some bytes
-  pub top : IsTopFile file
-  pub small : length bytes ≤ 1048576
-
--- the one file is a small program
-abbrev pub IsOneProgram : Image → Type 0
-IsOneProgram files = (bytes : List ℕ) × HoldsOne files bytes × IsSmallProgram bytes
 
 -- the answer to files that do not compile, by the first reason
 abbrev pub status_of : FrontFault → Status
@@ -77,13 +59,11 @@ status_of (front.Unbound place) = NotCompiling (fault.Unbound place)
 status_of (front.Broken rule place) = NotCompiling (fault.Rule rule place)
 status_of front.OutOfMemory = OutOfMemory
 
--- What is said of the files: of one small program that it compiles, and else what the front says of all `.java` files, unless they are too large to be read.
--- The paths of a line are those of the files.
+-- What is said of the files: what the front says of all `.java` files, unless they are too large to be read. The paths of a line are those of the files.
 pub data IsVerdict (f : Image) (paths : List (List ℕ)) (status : Status) : Type 0 where
-  small : IsOneProgram f → status ≡ Done (Checked 1) → IsVerdict f paths status
-  accepted : {found : FileMap} → (IsOneProgram f → ⊥) → HoldsFiles f found → CheckedAs found (Ok tt) → status ≡ Done (Checked (map.len found)) → IsVerdict f paths status
-  refused : {found : FileMap} {why : FrontFault} → (IsOneProgram f → ⊥) → HoldsFiles f found → CheckedAs found (Err why) → paths ≡ map.keys found → status ≡ status_of why → IsVerdict f paths status
-  oversized : {what : Size} → (IsOneProgram f → ⊥) → IsTooLarge f what → status ≡ TooLarge what 0 → IsVerdict f paths status
+  accepted : {found : FileMap} → HoldsFiles f found → CheckedAs found (Ok tt) → status ≡ Done (Checked (map.len found)) → IsVerdict f paths status
+  refused : {found : FileMap} {why : FrontFault} → HoldsFiles f found → CheckedAs found (Err why) → paths ≡ map.keys found → status ≡ status_of why → IsVerdict f paths status
+  oversized : {what : Size} → IsTooLarge f what → status ≡ TooLarge what 0 → IsVerdict f paths status
 
 -- what the front says of the files that were read
 pub data Fronted (found : FileMap) (paths : List (List ℕ)) (status : Status) : Type 0 where
@@ -131,8 +111,3 @@ pub record IsCheckedSo (asked : Option Command) (found : Image) (left : Option I
   pub paths : List (List ℕ)
   pub answer : IsSaid asked found paths status
   pub files : Tells (Some found) left (λ old new. SameFiles new old)
-
--- what the bytes that were read say: these are the one file's, or there are none such
-abbrev pub IsRead : Image → Option (List ℕ) → Type 0
-IsRead files (Some bytes) = HoldsOne files bytes
-IsRead files None = (bytes : List ℕ) → HoldsOne files bytes → ⊥

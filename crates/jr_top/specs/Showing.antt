@@ -28,15 +28,15 @@ use Rattle.jr_top.specs.declared.showing.Unanswered.TheVariants as unanswered
 pub record IsWorkspaceOf (found : FileMap) (w : Workspace) : Type 0 where
   pub reads : ReadsAs found (Ok w.program)
   pub compiles : CompilesExactly found w.program (table_in w)
-  pub rows : w.index.value ≡ rows_of w.program
+  pub rows : w.index.value.rows ≡ rows_of w.program
   pub bound : IsBoundIn w
 
 -- the program of the files with its tables, and the rows at which its units begin
 pub record IsProjectIn (found : FileMap) (project : Project) : Type 0 where
   pub workspace : Workspace
   pub of : IsWorkspaceOf found workspace
-  pub starts : project.marks.starts.now ≡ unit_rows workspace.index.value (length workspace.index.value)
-  pub view : IsViewOf workspace.index.value workspace.places.value workspace.scopes.value workspace.bound.value project.view
+  pub starts : project.marks.starts.now ≡ unit_rows workspace.index.value.rows (length workspace.index.value.rows)
+  pub view : IsViewOf workspace.index.value.rows workspace.places.value workspace.scopes.value workspace.bound.value project.view
 
 -- the text of a run of the class that is named, in at most so many steps, or why there is none, by the program of the files (JLS 12.1), whose
 -- tables have of its rows what the definitions say

@@ -1,15 +1,13 @@
 // The answer to `check`.
-ghost use Rattle.std.specs.Prelude.{◌≡◌, ◌≤◌, ◌↔◌, [], ◌∷◌, ℕ, List, Some, IsTrue, IfOk, IfSome, MatchOption, length, option_map, Result, map, Vec};
+ghost use Rattle.std.specs.Prelude.{◌≡◌, ◌≤◌, [], Some, IfOk, Result, map, Vec};
 ghost use Rattle.jr_front.specs.declared.fault.FrontFault.TheVariants as front;
 ghost use Rattle.jr_base.specs.Files.{plain};
 ghost use Rattle.jr_request.specs.declared.command.Command.TheVariants.{Check};
-ghost use Rattle.jr_store.specs.Image.{Image, HasStoreCause, LeavesOnly};
-ghost use Rattle.jr_top.specs.Checking.{IsTopFile, IsOneProgram, IsRead, Fronted, Checks, status_of};
-ghost use Rattle.jr_top.specs.Renaming.{ForTold};
+ghost use Rattle.jr_store.specs.Image.{Image, LeavesOnly};
+ghost use Rattle.jr_top.specs.Checking.{Fronted, Checks, status_of};
 
 use crate::status::{NotCompiling, Phase, Report, Status};
 use jr_base::{CuId, Files, OutOfMemory, Path, Place};
-use jr_check::is_small_program;
 use jr_front::{FrontFault, check_files};
 use jr_gather::{Gathered, gather};
 use jr_lex::LexFault;
@@ -22,61 +20,6 @@ use std::alloc::Global;
 pub struct Verdict {
     pub status: Status,
     pub paths: Vec<Path>,
-}
-
-// The path that is the only one.
-fn only(paths: &[Path]) -> Option<&Path>
-    ensures { MatchOption result ((file : List ℕ) → paths.now ≡ file ∷ [] → ⊥) (λ path. paths.now ≡ path.now ∷ []) }
-{
-    match paths {
-        [path] => Some(path),
-        _ => None,
-    }
-}
-
-fn is_top_file(file: &[u8]) -> bool
-    ensures { IsTrue result ↔ IsTopFile file.now }
-{
-    file.len() <= 1024 && !file.contains(&b'/')
-}
-
-// The bytes of the one file; None where there is no such file, or it stands in a folder or is large.
-fn read_one<S: Store>(alloc: Global, store: &mut S) -> Result<Option<Vec<u8>>, StoreError>
-    ensures read { IfOk result (λ found. ForTold (S.files store.old) (λ files. IsRead files (option_map (λ bytes. bytes.items) found))) }
-    ensures small { IfOk result (λ found. IfSome found (λ bytes. length bytes.items ≤ 1048576)) }
-    ensures files { S.files store.new ≡ S.files store.old }
-    ensures crash { (c : Image) → S.may_leave store.new c → S.may_leave store.old c }
-    ensures any_moment { LeavesOnly S.moment S.left_since store.old store.new (S.may_leave store.old) }
-    ensures cause { HasStoreCause (S.faults store.old) (S.faults store.new) result }
-{
-    let paths = store.list(alloc, 2)?;
-    let Some(path) = only(&paths) else {
-        return Ok(None);
-    };
-    if !is_top_file(path.bytes()) {
-        return Ok(None);
-    }
-    let Some(bytes) = store.read(alloc, path, 1_048_577)? else {
-        return Ok(None);
-    };
-    if bytes.len() > 1_048_576 {
-        return Ok(None);
-    }
-    Ok(Some(bytes))
-}
-
-// Whether the files are one small program.
-fn is_one_program<S: Store>(alloc: Global, store: &mut S) -> Result<bool, StoreError>
-    ensures one { IfOk result (λ yes. ForTold (S.files store.old) (λ files. IsTrue yes ↔ IsOneProgram files)) }
-    ensures files { S.files store.new ≡ S.files store.old }
-    ensures crash { (c : Image) → S.may_leave store.new c → S.may_leave store.old c }
-    ensures any_moment { LeavesOnly S.moment S.left_since store.old store.new (S.may_leave store.old) }
-    ensures cause { HasStoreCause (S.faults store.old) (S.faults store.new) result }
-{
-    match read_one(alloc, store)? {
-        Some(bytes) => Ok(is_small_program(alloc, &bytes)?),
-        None => Ok(false),
-    }
 }
 
 /// The paths of the files.
@@ -167,27 +110,6 @@ fn judge(alloc: Global, found: &Files) -> Verdict
     }
 }
 
-// What is said of files that are not one small program.
-fn check_all<S: Store>(alloc: Global, store: &mut S) -> Verdict
-    ensures answer { (ForTold (S.files store.old) (λ files. IsOneProgram files → ⊥)) → Checks (Some Check) (S.files store.old) result.paths.items (S.faults store.old) (S.faults store.new) result.status }
-    ensures files { S.files store.new ≡ S.files store.old }
-    ensures later { S.faults store.old ≤ S.faults store.new }
-    ensures crash { (c : Image) → S.may_leave store.new c → S.may_leave store.old c }
-    ensures any_moment { LeavesOnly S.moment S.left_since store.old store.new (S.may_leave store.old) }
-{
-    match gather(alloc, store) {
-        Ok(Gathered::Files(found)) => judge(alloc, &found),
-        Ok(Gathered::TooLarge(what)) => plainly(alloc, Status::TooLarge { what, request: 0 }),
-        Err(StoreError::Failed) => plainly(
-            alloc,
-            Status::StoreFault {
-                phase: Phase::Reading,
-            },
-        ),
-        Err(StoreError::OutOfMemory) => plainly(alloc, Status::OutOfMemory),
-    }
-}
-
 /// Says whether the files compile, and if not, why and where.
 pub fn check<S: Store>(alloc: Global, store: &mut S) -> Verdict
     ensures answer { Checks (Some Check) (S.files store.old) result.paths.items (S.faults store.old) (S.faults store.new) result.status }
@@ -196,9 +118,9 @@ pub fn check<S: Store>(alloc: Global, store: &mut S) -> Verdict
     ensures crash { (c : Image) → S.may_leave store.new c → S.may_leave store.old c }
     ensures any_moment { LeavesOnly S.moment S.left_since store.old store.new (S.may_leave store.old) }
 {
-    match is_one_program(alloc, store) {
-        Ok(true) => plainly(alloc, Status::Done(Report::Checked(1))),
-        Ok(false) => check_all(alloc, store),
+    match gather(alloc, store) {
+        Ok(Gathered::Files(found)) => judge(alloc, &found),
+        Ok(Gathered::TooLarge(what)) => plainly(alloc, Status::TooLarge { what, request: 0 }),
         Err(StoreError::Failed) => plainly(
             alloc,
             Status::StoreFault {

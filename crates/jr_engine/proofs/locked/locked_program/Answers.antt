@@ -2,4 +2,4 @@ use Rattle.jr_engine.proofs.Stepping.{locked_shaped}
 use Rattle.jr_engine.proofs.locked.locked_program.Goals as goal
 
 pub returns-in-Some-clause-shaped : goal.returns-in-Some-clause-shaped
-returns-in-Some-clause-shaped c = locked_shaped c.args.program c.in_ok-index.index.value c.locked_rows.result c.requires c.in_ok-index.ensures c.locked_rows.ensures.rows
+returns-in-Some-clause-shaped c = locked_shaped c.args.program c.in_ok-index.index.value.rows c.locked_rows.result c.requires c.in_ok-index.ensures c.locked_rows.ensures.rows

@@ -11,7 +11,7 @@ use Rattle.jr_front.proofs.front.open_program.Goals as goal
 pub returns-clause-kept : goal.returns-clause-kept
 returns-clause-kept c = λ begins.
     let w = c.in_ok-workspace.workspace in
-    let made = made_by c.args.program w.index.value c.marks.result c.in_ok-workspace.ensures.rows (c.marks.ensures.units ∙ ap (λ (q : Program). q.units) c.in_ok-workspace.ensures.same) c.marks.ensures.rows c.marks.ensures.starts in
+    let made = made_by c.args.program w.index.value.rows c.marks.result c.in_ok-workspace.ensures.rows (c.marks.ensures.units ∙ ap (λ (q : Program). q.units) c.in_ok-workspace.ensures.same) c.marks.ensures.rows c.marks.ensures.starts in
     kept_so c.args.program w c.view.result c.marks.result c.view.ensures.all (ordered_marks c.args.program c.marks.result made c.in_ok-judge.ensures.ordered) c.in_ok-judge.ensures.found c.in_ok-workspace.ensures.names
     c.in_ok-judge.ensures.kept c.in_ok-workspace.ensures.rows (c.in_ok-workspace.ensures.bound begins) begins
 
@@ -33,6 +33,6 @@ returns-in_err-judge-clause-err c = λ begins.
     let bound = c.in_ok-workspace.ensures.bound begins in
     err_is (IsRefusal c.args.program) c.from_residual-in_err-judge.result c.in_err-judge.field-0.0 (p.1 ∙ ap Err p.2)
     (judged_refused c.args.program c.marks.result
-    (made_by c.args.program w.index.value c.marks.result c.in_ok-workspace.ensures.rows (c.marks.ensures.units ∙ ap (λ (q : Program). q.units) c.in_ok-workspace.ensures.same) c.marks.ensures.rows c.marks.ensures.starts)
+    (made_by c.args.program w.index.value.rows c.marks.result c.in_ok-workspace.ensures.rows (c.marks.ensures.units ∙ ap (λ (q : Program). q.units) c.in_ok-workspace.ensures.same) c.marks.ensures.rows c.marks.ensures.starts)
     w c.view.result bound c.view.ensures.all here c.in_ok-workspace.ensures.rows c.in_ok-judge_paths.ensures.placed c.in_ok-workspace.ensures.names c.in_err-judge.field-0.0
     (c.in_err-judge.ensures.err (testable_view w c.view.result bound c.view.ensures.all here)))

@@ -1,7 +1,7 @@
 use Rattle.std.proofs.Common.{refl}
 use Rattle.jr_gather.specs.Gathering.{HoldsFiles, IsTooLarge}
 use Rattle.jr_top.specs.Decisions.{on_files, is_too_large}
-use Rattle.jr_top.proofs.EngineAnswers.{for_told}
+use Rattle.jr_top.proofs.Outcomes.{for_told}
 use Rattle.jr_top.proofs.engine.decide_all.Goals as goal
 
 pub returns-in-Ok-Files-clause-decision : goal.returns-in-Ok-Files-clause-decision
