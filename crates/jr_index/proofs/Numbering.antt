@@ -82,6 +82,17 @@ unit_found p (suc n) u lt e =
     earlier : (u < n) ⊎ (n ≡ u)
     earlier = let w : (u < n) ⊎ (n ≤ u) = grind arith in elim w [ inl l ↦ inl l | inr g ↦ inr (omega arith) ]
 
+one_at_most : (l : Label) → one_if_unit l ≤ 1
+one_at_most is.Unit = omega arith
+one_at_most _ = omega arith
+
+few_before : (p : Rows) (n : ℕ) → units_before p n ≤ n
+few_before p zero = omega arith
+few_before p (suc n) = let before = few_before p n in let here = one_at_most (label p n) in omega arith
+
+pub units_few : (p : Rows) (n : ℕ) → length (unit_rows p n) ≤ n
+units_few p n = let many = length_units p n in let few = few_before p n in omega arith
+
 -- the units stand one behind another among the first rows
 pub units_within : (p : Rows) (n u d : ℕ) → u < length (unit_rows p n) → get_or (unit_rows p n) u d < n
 units_within p n u d h =

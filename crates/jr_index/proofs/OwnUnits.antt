@@ -1,7 +1,7 @@
 -- The units of a program: each has its own tokens, and ends behind the last of them.
 use Rattle.std.proofs.Common.{◌≡◌, ℕ, ◌+◌, ◌<◌, List, [], ◌∷◌, ◌++◌, length, Some, refl, sym, ◌∙◌, ap, subst, arith, append-nil}
 use Rattle.std.specs.Prelude.{slice_get, nat_eq, if◌then◌else◌}
-use Rattle.std.proofs.lemmas.List.{get_or-set_other}
+use Rattle.std.proofs.lemmas.List.{length-set, get_or-set_other}
 use Rattle.jr_tree.specs.declared.tree.Unit as declared_unit
 use Rattle.jr_tree.specs.declared.label.Label.TheVariants as is
 use Rattle.jr_tree.specs.declared.row.Row.{Row}
@@ -22,7 +22,7 @@ use Rattle.jr_index.proofs.Written.{below_unit}
 record UnitRun (ts : Tokens) (c d : Course) : Type 0 where
   kept : Kept c d
   own : AreOwn ts d.building.rows d.marks (length c.building.rows) (length d.building.rows)
-  ends : Ends (step Restart c) d ts
+  ends : Ends is.Unit (step Restart c) d ts
 
 from_start : (c : Course) → c.building.over ≡ 0 → (step Restart c).at ≡ 0
 from_start c e = ap (λ k. if nat_eq k 0 then 0 else c.at) e
@@ -67,7 +67,7 @@ module _ (u : declared_unit.Unit) (us : List declared_unit.Unit) (c m d : Course
   added : UnitsRun (u ∷ us) c d
   added = record {
     kept = kept_two one.kept rest.kept;
-    own = AreUnitsOwn.more (let e = end_is in let m = one.ends.more in omega arith)
+    own = AreUnitsOwn.more (ap (λ (r : Row). r.label) (rest.kept.rows at one.ends.more) ∙ one.ends.opens) (let e = end_is in let m = one.ends.more in omega arith)
         (subst (λ k. AreOwn (tokens_of u) d.building.rows d.marks at k) (sym end_is)
         (own_still at (length m.building.rows) rest.kept (omega arith) (let o = one.kept.over in let a = above in omega arith) one.own))
         (ap (λ (m : Mark). m.after) mark_is ∙ ended)
@@ -75,7 +75,7 @@ module _ (u : declared_unit.Unit) (us : List declared_unit.Unit) (c m d : Course
   }
 
 units_run : (us : List declared_unit.Unit) (c : Course) → Fits c → c.building.over ≡ 0 → UnitsRun us c (run c (e.units_events us))
-units_run [] c f top = record { kept = kept_same c c f refl refl; own = AreUnitsOwn.none }
+units_run [] c f top = record { kept = kept_same c c f refl refl; own = AreUnitsOwn.none refl }
 units_run (u ∷ us) c f top =
     let one = unit_run (d.plain_unit u) c f top in
     let next = run c (e.unit_events (d.plain_unit u)) in
@@ -84,7 +84,7 @@ units_run (u ∷ us) c f top =
     (added u us c next (run next (e.units_events us)) f top one rest)
 
 -- rows and marks but for those of the program
-module _ (p q : Rows) (ms ns : List Mark) (rows : (k : ℕ) → (k ≡ 0 → ⊥) → row q k ≡ row p k) (marks : (k : ℕ) → (k ≡ 0 → ⊥) → mark_at ns k ≡ mark_at ms k) where
+module _ (p q : Rows) (ms ns : List Mark) (same : length q ≡ length p) (rows : (k : ℕ) → (k ≡ 0 → ⊥) → row q k ≡ row p k) (marks : (k : ℕ) → (k ≡ 0 → ⊥) → mark_at ns k ≡ mark_at ms k) where
   not_first : (k : ℕ) → 0 < k → k ≡ 0 → ⊥
   not_first k lt e = absurd (omega arith)
 
@@ -98,10 +98,10 @@ module _ (p q : Rows) (ms ns : List Mark) (rows : (k : ℕ) → (k ≡ 0 → ⊥
   }
 
   units_on : (us : List declared_unit.Unit) (at : ℕ) → 0 < at → AreUnitsOwn p ms us at → AreUnitsOwn q ns us at
-  units_on _ at some AreUnitsOwn.none = AreUnitsOwn.none
-  units_on (u ∷ us) at some (AreUnitsOwn.more lt own after rest) =
+  units_on _ at some (AreUnitsOwn.none e) = AreUnitsOwn.none (e ∙ sym same)
+  units_on (u ∷ us) at some (AreUnitsOwn.more unit lt own after rest) =
       let ends : end q at ≡ end p at = ap (λ (r : Row). r.end) (rows at (not_first at some)) in
-      AreUnitsOwn.more (omega arith)
+      AreUnitsOwn.more (ap (λ (r : Row). r.label) (rows at (not_first at some)) ∙ unit) (omega arith)
       (subst (λ k. AreOwn (tokens_of u) q ns at k) (sym ends) (own_on (tokens_of u) at (end p at) some own))
       (ap (λ (m : Mark). m.after) (marks at (not_first at some)) ∙ after)
       (subst (λ k. AreUnitsOwn q ns us k) (sym ends) (units_on us (end p at) (omega arith) rest))
@@ -118,7 +118,7 @@ marks_own us =
     = run_append c (e.units_events us ++ Restart ∷ []) (Close ∷ []) ∙ ap (step Close) (run_append c (e.units_events us) (Restart ∷ [])) in
     let over = units.kept.over in
     let done : AreUnitsOwn (step Close f).building.rows (step Close f).marks us 1
-    = units_on d.building.rows (step Close f).building.rows d.marks (step Close f).marks
+    = units_on d.building.rows (step Close f).building.rows d.marks (step Close f).marks (length-set d.building.rows d.building.over closing)
     (λ k ne. get_or-set_other d.building.rows d.building.over k closing (record { label = is.Skip; name = []; parent = k; end = k + 1; previous = k }) (λ e. ne (e ∙ over)))
     (λ k ne. end_elsewhere (is_hidden (label f.building.rows f.building.over)) f.marks f.building.over f.at k (λ e. ne (e ∙ over)))
     us 1 (omega arith) units.own in

@@ -436,16 +436,18 @@ passes n m ts e = record {
 pub own_like : {a : Kind} {es : Events} {ts us : Tokens} → Owns a es ts → ts ≡ us → Owns a es us
 own_like {a} {es} h e = subst (λ xs. Owns a es xs) e h
 
--- a label that is written: where its rows and its tokens end
-pub record Ends (c d : Course) (ts : Tokens) : Type 0 where
+-- a label that is written: its row, and where its rows and its tokens end
+pub record Ends (l : Label) (c d : Course) (ts : Tokens) : Type 0 where
+  pub opens : label d.building.rows (length c.building.rows) ≡ l
   pub more : length c.building.rows < length d.building.rows
   pub rows : end d.building.rows (length c.building.rows) ≡ length d.building.rows
   pub after : (mark_at d.marks (length c.building.rows)).after ≡ c.at + length ts
 
-pub node_ends : (l : Label) (x : Text) (kids : Events) (ts : Tokens) → is_hidden l ≡ false → Loose kids ts → (T : Tokens) (c : Course) → Fits c → Reads T c.at ts → Ends c (run c (named l x kids)) ts
+pub node_ends : (l : Label) (x : Text) (kids : Events) (ts : Tokens) → is_hidden l ≡ false → Loose kids ts → (T : Tokens) (c : Course) → Fits c → Reads T c.at ts → Ends l c (run c (named l x kids)) ts
 node_ends l x kids ts seen k T c f r =
-    subst (λ d. Ends c d ts) (sym (run_append (begun l x kids ts k T c f r) kids (Close ∷ [])))
+    subst (λ d. Ends l c d ts) (sym (run_append (begun l x kids ts k T c f r) kids (Close ∷ [])))
     (record {
+      opens = ended_label l x kids ts k T c f r (length c.building.rows) ∙ ap (λ (r : Row). r.label) (own_row l x kids ts k T c f r);
       more = (let m = more_filled l x kids ts k T c f r in let e = ended_size l x kids ts k T c f r in omega arith);
       rows = ended_end l x kids ts k T c f r;
       after = ended_after l x kids ts k T c f r seen;

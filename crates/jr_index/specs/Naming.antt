@@ -47,11 +47,12 @@ own_kind _ x = kind.Ident x
 pub record AreOwn (ts : Tokens) (p : Rows) (ms : List Mark) (from to : ℕ) : Type 0 where
   pub own : (n : ℕ) → from ≤ n → n < to → has_own (label p n) ≡ true → slice_get ts (mark_at ms n).own ≡ Some (own_kind (label p n) (name p n))
 
--- of these units, whose rows begin at a number
+-- of these units, whose rows begin at a number, one behind another up to the last row
 pub data AreUnitsOwn (p : Rows) (ms : List Mark) : List declared_unit.Unit → ℕ → Type 0 where
-  none : {at : ℕ} → AreUnitsOwn p ms [] at
-  more : {u : declared_unit.Unit} {units : List declared_unit.Unit} {at : ℕ} → at < end p at → AreOwn (tokens_of u) p ms at (end p at)
-      → (mark_at ms at).after ≡ length (tokens_of u) → AreUnitsOwn p ms units (end p at) → AreUnitsOwn p ms (u ∷ units) at
+  none : {at : ℕ} → at ≡ length p → AreUnitsOwn p ms [] at
+  more : {u : declared_unit.Unit} {units : List declared_unit.Unit} {at : ℕ} → label p at ≡ is.Unit → at < end p at
+      → AreOwn (tokens_of u) p ms at (end p at) → (mark_at ms at).after ≡ length (tokens_of u) → AreUnitsOwn p ms units (end p at)
+      → AreUnitsOwn p ms (u ∷ units) at
 
 -- the law: the units of a program stand behind its first row
 abbrev pub MarksAreOwn : Type 0

@@ -1,7 +1,7 @@
 // The laws of numbers, of marks and of units.
 ghost use Rattle.jr_index.specs.NodeRows.{NodesAreNumbered};
 ghost use Rattle.jr_index.specs.Naming.{MarksAreOwn};
-ghost use Rattle.jr_index.specs.UnitRows.{UnitsAreInOrder};
+ghost use Rattle.jr_index.specs.UnitRows.{UnitsAreInOrder, UnitsHaveRows};
 ghost use Rattle.jr_index.specs.Within.{MarksAreWithin};
 
 /// The node by which the definitions name a declaration or occurrence is one of those that its row stands for.
@@ -22,4 +22,9 @@ pub fn marks_are_own()
 /// The rows of units are among the rows, one behind another.
 pub fn units_are_in_order()
     ensures { UnitsAreInOrder }
+{}
+
+/// Each unit of a program of shaped units has a row.
+pub fn units_have_rows()
+    ensures { UnitsHaveRows }
 {}

@@ -25,7 +25,9 @@ pub use index::{Index, NodeOfRow};
 use jr_base::OutOfMemory;
 use jr_defs::{Program, UnitAt};
 use jr_tree::{Label, Row};
-pub use law::{marks_are_own, marks_are_within, nodes_are_numbered, units_are_in_order};
+pub use law::{
+    marks_are_own, marks_are_within, nodes_are_numbered, units_are_in_order, units_have_rows,
+};
 pub use mark::{Mark, NO_TOKEN};
 use std::alloc::Global;
 

@@ -1,5 +1,5 @@
 -- Searches by halves.
-use Rattle.std.proofs.Common.{◌≡◌, refl, sym, ◌∙◌, ap, subst, ⊎_elim, arith, ℕ, zero, suc, ◌+◌, ◌<◌, ◌≤◌, Bool, true, false, cond, List, [], ◌∷◌, length, get_or, nat_le, nat_lt, ◌&&◌, Option, Some, None}
+use Rattle.std.proofs.Common.{◌≡◌, refl, sym, ◌∙◌, ap, ⊎_elim, arith, ℕ, zero, suc, ◌+◌, ◌<◌, ◌≤◌, Bool, true, false, cond, List, [], ◌∷◌, length, get_or, nat_le, nat_lt, ◌&&◌, Option, Some, None}
 use Rattle.std.proofs.lemmas.Bool.{false≢true, cases_lt}
 use Rattle.std.proofs.lemmas.List.{get_or_read}
 use Rattle.std.proofs.lemmas.List.Recursion.{is_count_by}
@@ -9,7 +9,6 @@ use Rattle.std.specs.List.Sorted.{IsNonDecreasing}
 use Rattle.jr_base.specs.declared.token.Token.{Token}
 use Rattle.std.specs.List.{slice_get}
 use Rattle.std.specs.Prelude.{IfSome}
-use Rattle.jr_plain.specs.Search.{first_below}
 use Rattle.jr_marks.specs.Places.{count_to, AreApart, IsCut, holds, is_identifier, identifier_at}
 use Rattle.jr_marks.proofs.Firsts.{first_none, first_some}
 

@@ -1,5 +1,5 @@
 -- Where rows stand in texts, and the row at an offset.
-use Rattle.std.specs.Prelude.{◌≡◌, ℕ, ◌-◌, ◌+◌, ◌^◌, ◌≤◌, ◌<◌, Bool, true, false, ◌&&◌, if◌then◌else◌, List, [], length, Option, Some, None, nat_eq, nat_lt, nat_le, slice_get, slice_index_or}
+use Rattle.std.specs.Prelude.{◌≡◌, ℕ, ◌-◌, ◌^◌, ◌≤◌, ◌<◌, Bool, true, false, ◌&&◌, if◌then◌else◌, List, [], length, Option, Some, None, nat_eq, nat_lt, nat_le, slice_get, slice_index_or}
 use Rattle.std.specs.List.{count_by}
 use Rattle.std.specs.List.Sorted.{IsNonDecreasing}
 use Rattle.jr_base.specs.declared.kind.Kind.{Kind}

@@ -1,6 +1,7 @@
 // Places of rows, and rows at places.
-ghost use Rattle.std.specs.Prelude.{◌≡◌, slice_get};
+ghost use Rattle.std.specs.Prelude.{◌≡◌, ◌<◌, ◌^◌, length, slice_get};
 ghost use Rattle.jr_tree.specs.Rows.{label};
+ghost use Rattle.jr_index.specs.NodeRows.{unit_rows};
 ghost use Rattle.jr_marks.specs.Places as places;
 
 use crate::searching::{count_up_to, identifier_at};
@@ -25,7 +26,13 @@ pub struct Marks<'p> {
 
 impl<'p> Marks<'p> {
     /// The marks of a program, by its index.
-    pub fn of(program: &'p Program, index: &'p Index) -> Marks<'p> {
+    pub fn of(program: &'p Program, index: &'p Index) -> Marks<'p>
+        ensures units { result.units.now ≡ program.now.units }
+        ensures rows { result.rows.now ≡ index.now.rows }
+        ensures marks { result.marks.now ≡ index.now.marks }
+        ensures starts { result.starts.now ≡ unit_rows index.now.rows (length index.now.rows) }
+        ensures few { length result.rows.now < 2 ^ 32 }
+    {
         Marks {
             units: program.units.as_slice(),
             rows: index.rows(),

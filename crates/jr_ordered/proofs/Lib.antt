@@ -1,2 +1,3 @@
 pub mod StandApart
 pub mod Rising
+pub mod Lexed

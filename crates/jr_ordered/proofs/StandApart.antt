@@ -12,9 +12,9 @@ abbrev pub apart_from : ℕ → List Token → Bool
 apart_from end [] = true
 apart_from end (t ∷ ts) = (nat_le end t.span.start && nat_lt t.span.start t.span.end) && apart_from t.span.end ts
 
-record AreBehind (end : ℕ) (ts : List Token) : Type 0 where
-  apart : AreApart ts
-  begins : (k : ℕ) (d : Token) → k < length ts → end ≤ (slice_index_or ts k d).span.start
+pub record AreBehind (end : ℕ) (ts : List Token) : Type 0 where
+  pub apart : AreApart ts
+  pub begins : (k : ℕ) (d : Token) → k < length ts → end ≤ (slice_index_or ts k d).span.start
 
 decides_le : (a b : ℕ) → Decides (nat_le a b) (a ≤ b)
 decides_le a b = (
@@ -36,7 +36,7 @@ module _ (end : ℕ) (t : Token) (ts : List Token) where
   begins_on le lt h zero d within = le
   begins_on le lt h (suc k) d within = let b = h.begins k d (omega arith) in omega arith
 
-  joined : ((end ≤ t.span.start) × (t.span.start < t.span.end)) × AreBehind t.span.end ts → AreBehind end (t ∷ ts)
+  pub joined : ((end ≤ t.span.start) × (t.span.start < t.span.end)) × AreBehind t.span.end ts → AreBehind end (t ∷ ts)
   joined h = record { apart = record { whole = whole_on h.0.1 h.1.apart; apart = apart_on h.1 }; begins = begins_on h.0.0 h.0.1 h.1 }
 
   parted : AreBehind end (t ∷ ts) → ((end ≤ t.span.start) × (t.span.start < t.span.end)) × AreBehind t.span.end ts
@@ -51,9 +51,12 @@ module _ (end : ℕ) (t : Token) (ts : List Token) where
     },
   )
 
+pub none_behind : (end : ℕ) → AreBehind end []
+none_behind end = record { apart = record { whole = λ k d lt. absurd (omega arith); apart = λ j k d lt within. absurd (omega arith) }; begins = λ k d lt. absurd (omega arith) }
+
 behind_tells : (end : ℕ) (ts : List Token) → Decides (apart_from end ts) (AreBehind end ts)
 behind_tells end [] = (
-  λ is. record { apart = record { whole = λ k d lt. absurd (omega arith); apart = λ j k d lt within. absurd (omega arith) }; begins = λ k d lt. absurd (omega arith) },
+  λ is. none_behind end,
   λ h. refl,
 )
 behind_tells end (t ∷ ts) = Decides-like (apart_from end (t ∷ ts)) (joined end t ts) (parted end t ts) (Decides-and _ (apart_from t.span.end ts)

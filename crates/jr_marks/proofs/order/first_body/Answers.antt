@@ -1,4 +1,4 @@
-use Rattle.std.proofs.Common.{◌≡◌, ◌∙◌, sym, arith, nat_lt, ◌&&◌}
+use Rattle.std.proofs.Common.{◌∙◌, sym, arith, nat_lt, ◌&&◌}
 use Rattle.std.proofs.lemmas.Bool.Decides.{Decides-ltb}
 use Rattle.jr_tree.specs.Rows.{label}
 use Rattle.jr_plain.specs.Enclosing.{is_body}
