@@ -1,5 +1,5 @@
 -- The words of fields: what is assigned where a member ends, behind the parts of a body, and where its constructors end.
-use Rattle.std.proofs.Common.{◌≡◌, refl, sym, ◌∙◌, ap, ap₂, subst, ⊎_elim, arith, ℕ, zero, suc, ◌+◌, ◌-◌, ◌<◌, ◌≤◌, Bool, true, false, not, ◌&&◌, if◌then◌else◌, List, length, Option, Some, None, nat_eq, bit_and, slice_index_or, slice_set}
+use Rattle.std.proofs.Common.{◌≡◌, refl, sym, ◌∙◌, ap, ap₂, subst, ⊎_elim, arith, ℕ, ◌+◌, ◌-◌, ◌<◌, Bool, true, false, ◌&&◌, if◌then◌else◌, List, Option, Some, None, nat_eq, bit_and, slice_index_or, slice_set}
 use Rattle.std.proofs.lemmas.Bool.{false≢true, cases_eq}
 use Rattle.std.proofs.lemmas.Bool.Decides.{Decides-eqb}
 use Rattle.std.proofs.lemmas.Nat.Bits.{bit_at-zero, bit_at_ones}
@@ -8,7 +8,7 @@ use Rattle.jr_assign.specs.declared.course.Course.{Course}
 use Rattle.jr_assign.specs.declared.fields.Group.{Group}
 use Rattle.jr_assign.specs.Changes.{Facts, fact, field_body}
 use Rattle.jr_assign.specs.Sets.{only, both_of}
-use Rattle.jr_assign.specs.Assigned.{Seen, AreAssigned, arrives, guarded_in}
+use Rattle.jr_assign.specs.Assigned.{AreAssigned, arrives, guarded_in}
 use Rattle.jr_assign.specs.Words.{ones, mask, has_bit, bits_of, IsTold, sets_by, seen_by}
 use Rattle.jr_assign.specs.Confirmed.{is_right}
 use Rattle.jr_assign.specs.Judged.{IsConfirmed, Verdicts, number, is_owned, are_owned}

@@ -1,21 +1,21 @@
 -- What a confirmed table says of the rows of a member.
-use Rattle.std.proofs.Common.{◌≡◌, ◌≢◌, refl, sym, ◌∙◌, ap, ap₂, subst, ⊎_elim, arith, ℕ, zero, suc, ◌+◌, ◌-◌, ◌*◌, ◌%◌, ◌^◌, ◌<◌, ◌≤◌, Bool, true, false, not, ◌&&◌, if◌then◌else◌, List, [], ◌∷◌, length, Option, Some, None, nat_eq, nat_lt, bit_and, get_or, slice_index_or, slice_set}
+use Rattle.std.proofs.Common.{◌≡◌, ◌≢◌, refl, sym, ◌∙◌, ap, subst, ⊎_elim, arith, ℕ, zero, suc, ◌+◌, ◌-◌, ◌*◌, ◌%◌, ◌^◌, ◌<◌, ◌≤◌, Bool, true, false, not, ◌&&◌, if◌then◌else◌, List, [], ◌∷◌, length, Option, Some, None, nat_eq, nat_lt, bit_and, slice_index_or, slice_set}
 use Rattle.std.specs.Int.{bit_at}
 use Rattle.std.proofs.lemmas.Bool.{false≢true, cases_eq, cases_lt, cases_Bool, ltb-true, ltb-false}
 use Rattle.std.proofs.lemmas.Bool.Decides.{Decides-eqb}
-use Rattle.std.proofs.lemmas.List.{get_or-set_same, get_or-set_other, length-set}
+use Rattle.std.proofs.lemmas.List.{get_or-set_same, get_or-set_other}
 use Rattle.std.proofs.lemmas.Nat.{one_shl, pow_pos}
 use Rattle.std.proofs.lemmas.Nat.Bits.{and_pow, bit_at-zero, bit_at-lt, bit_at-pow_same, bit_at-pow_other}
 use Rattle.jr_tree.specs.declared.label.Label.{Label}
 use Rattle.jr_tree.specs.declared.label.Label.TheVariants as is
-use Rattle.jr_tree.specs.Rows.{Rows, label, end}
+use Rattle.jr_tree.specs.Rows.{label, end}
 use Rattle.jr_plain.specs.Search.{all_below}
 use Rattle.jr_assign.specs.declared.course.Course.{Course}
-use Rattle.jr_assign.specs.Changes.{Facts, fact, member_in}
-use Rattle.jr_assign.specs.Sets.{Sets, only}
-use Rattle.jr_assign.specs.Assigned.{Seen, Gain, AreAssigned, before_at, gain_at, met_at, guarded_in, has_parts, is_row}
-use Rattle.jr_assign.specs.Words.{bit_of, mask_of, mask, words, has_bit, bits_of, IsTold, HasBit, seen_by, sets_by, met_by}
-use Rattle.jr_assign.specs.Confirmed.{is_gain, before_of, is_right_at, is_right}
+use Rattle.jr_assign.specs.Changes.{fact, member_in}
+use Rattle.jr_assign.specs.Sets.{only}
+use Rattle.jr_assign.specs.Assigned.{Gain, AreAssigned, before_at, gain_at, met_at, guarded_in, is_row}
+use Rattle.jr_assign.specs.Words.{mask_of, mask, words, has_bit, bits_of, IsTold, HasBit, seen_by, sets_by, met_by}
+use Rattle.jr_assign.specs.Confirmed.{is_gain, before_of, is_right_at}
 use Rattle.jr_assign.specs.Judged.{IsJudged, AreJudged, Verdicts, verdict, number, is_owner, is_owned, is_owned_if, is_declared_owned, is_owned_at, are_owned, is_asked, judged_by, judged_at, IsConfirmed}
 use Rattle.jr_assign.proofs.Inside.{both_true, not_true}
 use Rattle.jr_assign.proofs.Bits.{each_word}

@@ -1,14 +1,12 @@
 -- The faults that are found are those of the rule on blank final fields.
-use Rattle.std.proofs.Common.{◌≡◌, refl, sym, ◌∙◌, ap, subst, ⊎_elim, arith, ℕ, zero, suc, ◌+◌, ◌-◌, ◌<◌, ◌≤◌, Bool, true, false, not, ◌&&◌, ◌||◌, if◌then◌else◌, List, length, Option, Some, None, nat_eq, nat_lt, get_or, replicate}
-use Rattle.std.proofs.lemmas.Bool.{false≢true, cases_eq, cases_lt, le-ltb}
+use Rattle.std.proofs.Common.{◌≡◌, refl, sym, ◌∙◌, ap, subst, ⊎_elim, arith, ℕ, ◌+◌, ◌-◌, ◌<◌, ◌≤◌, Bool, true, false, if◌then◌else◌, List, length, Option, Some, None, replicate}
+use Rattle.std.proofs.lemmas.Bool.{false≢true, cases_eq, cases_lt}
 use Rattle.std.proofs.lemmas.Bool.Decides.{Decides-eqb}
 use Rattle.std.proofs.lemmas.List.{get_or_past}
 use Rattle.jr_tree.specs.declared.label.Label.TheVariants as is
-use Rattle.jr_tree.specs.declared.label.Label.{Label}
 use Rattle.jr_tree.specs.declared.row.Row.{Row}
 use Rattle.jr_tree.specs.Rows.{Rows, label, parent, end}
 use Rattle.jr_tree.specs.Tree.{IsTree}
-use Rattle.jr_plain.specs.Search.{has}
 use Rattle.jr_plain.proofs.Children.{child_below}
 use Rattle.jr_plain.proofs.Searches.{lists}
 use Rattle.jr_rule.specs.declared.Fault.{Fault}
@@ -18,7 +16,7 @@ use Rattle.jr_assign.specs.Changes.{Facts, field_body}
 use Rattle.jr_assign.specs.Assigned.{has_last, has_parts}
 use Rattle.jr_assign.specs.Confirmed.{are_last}
 use Rattle.jr_assign.specs.Judged.{Verdicts, verdict, is_lost, is_settled}
-use Rattle.jr_assign.specs.Blank.{is_constructor, is_first, is_static_field, is_blank_in, is_blank, EndsSo, IsBefore, IsLeftBlank, HaveParts}
+use Rattle.jr_assign.specs.Blank.{is_constructor, is_first, is_blank_in, is_blank, IsBefore, IsLeftBlank, HaveParts}
 use Rattle.jr_assign.specs.Made.{IsBuilt, IsMade, AreFieldsJudged, blank_field, left_rows, are_fields_settled, have_parts, AreLeftBlank}
 use Rattle.jr_assign.proofs.Inside.{both_true, inside_ends}
 use Rattle.jr_assign.proofs.Judging.{each_below}

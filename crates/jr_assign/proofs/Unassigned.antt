@@ -1,11 +1,10 @@
 -- The faults that are found are those of the rule on locals that are read.
-use Rattle.std.proofs.Common.{◌≡◌, refl, sym, ◌∙◌, ap, subst, ⊎_elim, arith, ℕ, zero, suc, ◌+◌, ◌<◌, ◌≤◌, Bool, true, false, not, ◌&&◌, List, length, Option, Some, None, nat_eq, nat_lt, get_or, replicate}
+use Rattle.std.proofs.Common.{◌≡◌, refl, sym, ◌∙◌, ap, subst, ⊎_elim, arith, ℕ, zero, suc, ◌+◌, ◌<◌, ◌≤◌, Bool, true, false, not, List, length, Option, Some, None, nat_lt, replicate}
 use Rattle.std.proofs.lemmas.Bool.{false≢true, cases_lt, le-ltb}
 use Rattle.std.proofs.lemmas.Bool.Decides.{Decides-eqb}
 use Rattle.std.proofs.lemmas.List.{get_or_past}
 use Rattle.jr_tree.specs.Rows.{Rows, end}
 use Rattle.jr_tree.specs.Tree.{IsTree}
-use Rattle.jr_plain.specs.Search.{all_below, all_such, has}
 use Rattle.jr_plain.proofs.Searches.{lists}
 use Rattle.jr_rule.specs.declared.Fault.{Fault}
 use Rattle.jr_rule.specs.declared.Rule.TheVariants as rule
@@ -18,7 +17,7 @@ use Rattle.jr_assign.specs.Changes.{Facts, fact, members, member_in}
 use Rattle.jr_assign.specs.Sets.{only}
 use Rattle.jr_assign.specs.Assigned.{Seen, AreAssigned, has_last, is_last}
 use Rattle.jr_assign.specs.Confirmed.{are_last}
-use Rattle.jr_assign.specs.Judged.{ReadsUnassigned, IsJudged, Verdicts, verdict, AreJudged, is_lost, lost_rows, is_settled, are_settled, AreUnassignedReads}
+use Rattle.jr_assign.specs.Judged.{ReadsUnassigned, Verdicts, verdict, AreJudged, is_lost, lost_rows, is_settled, are_settled, AreUnassignedReads}
 use Rattle.jr_assign.specs.Made.{AreLeftBlank}
 use Rattle.jr_assign.proofs.Inside.{both_true}
 use Rattle.jr_assign.proofs.Once.{each_member_once}
