@@ -83,8 +83,8 @@ pub record IsMeaningOf (p : Rows) (t : Table) (m : Meaning) : Type 0 where
   pub sound : (n : ℕ) (v : Const) → m.values n ≡ Some v → Constant p t n v
   pub whole : IsTypable p t → (n : ℕ) → m.values n ≡ constants p t (has_constant_form p t) n
 
--- after an inlining and an extraction control goes from statement to statement as it went (`KeepsControl`), and after an inlining the same definitions reach each
--- use (`KeepsInlinedFlow`); of other changes nothing is told
+-- after an inlining and an extraction control goes from statement to statement as it went (`KeepsControl`), and the same definitions reach each use
+-- (`KeepsInlinedFlow`, `KeepsExtractedFlow`); of other changes nothing is told
 pub record KeepsFlow (p : Rows) (t : Table) (change : Change) (q : Rows) (l : Table) : Type 0 where
   pub before : Meaning
   pub after : Meaning

@@ -8,11 +8,11 @@ use Rattle.jr_tree.specs.Rows.{Rows, end}
 use Rattle.jr_places.specs.Stamps.{is_stamped}
 use Rattle.jr_flow_defs.specs.declared.point.Point.{Point}
 use Rattle.jr_flow_defs.specs.declared.point.PointKind.TheVariants as kind
-use Rattle.jr_flow_defs.specs.Paths.{Flow, IsPoint}
-use Rattle.jr_flow_defs.specs.Edges.{FlowNode, Naming, node_of_point, IsInside, IsGraph}
+use Rattle.jr_flow_defs.specs.Paths.{Flow, IsReached, IsPoint}
+use Rattle.jr_flow_defs.specs.Edges.{FlowNode, Naming, node_of_point, IsInside, IsGraph, own_number}
 use Rattle.jr_flow_defs.specs.Graphs.{StepList, StepPath, PassesAt, is_node_point, EdgeByNumbers}
 use Rattle.jr_flow_defs.specs.Computed.{is_inside}
-use Rattle.jr_flow_defs.specs.Kept.{Same, Origin, HasOneCopy, KeepsControl, old_name, new_name}
+use Rattle.jr_flow_defs.specs.Kept.{Same, Origin, KeepsControl, old_name, new_name}
 use Rattle.jr_flow_defs.proofs.Numbered.{reached_along, step_path, onward_point}
 use Rattle.jr_flow_defs.proofs.Reaching.{edges_go_by_numbers}
 use Rattle.jr_flow.proofs.Gets.{got}
@@ -243,6 +243,30 @@ steps_within f body points steps g i j t c = let s = g.only i j t c in
       get_inside points j at.point (subst (λ k. slice_get points k ≡ Some at.point) s.numbers.1 (g.numbering.stands s.to at.point reached at.stands)),
     )
 
+-- control comes to a place at which the point stands
+pub record StandsAt {A : Type 0} (f : Flow A) (x : Point) : Type 0 where
+  pub at : A
+  pub reached : IsReached f at
+  pub stands : f.point at ≡ Some x
+
+pub place_of : {A : Type 0} (f : Flow A) (body : ℕ) (points : List Point) (steps : StepList) → IsGraph f body points steps → (k : ℕ) (x : Point) → slice_get points k ≡ Some x → own_number x.kind ≡ None → StandsAt f x
+place_of f body points steps g k x e none = by (cases_lt k 3)
+  where
+    not_own : (y : Point) (m : ℕ) → slice_get points k ≡ Some y → own_number y.kind ≡ Some m → ⊥
+    not_own y m there is = none-some m (sym none ∙ ap (λ z. own_number z.kind) (same_Some x y (sym e ∙ there)) ∙ is)
+
+    own : (m : ℕ) → k ≡ m → m < 3 → ⊥
+    own zero same lt = not_own (record { row = body; kind = kind.Entry }) 0 (ap (slice_get points) same ∙ g.numbering.entry) refl
+    own (suc zero) same lt = not_own (record { row = body; kind = kind.Exit }) 1 (ap (slice_get points) same ∙ g.numbering.exit) refl
+    own (suc (suc zero)) same lt = not_own (record { row = body; kind = kind.Thrown }) 2 (ap (slice_get points) same ∙ g.numbering.thrown) refl
+    own (suc (suc (suc m))) same lt = absurd (omega (arith, lt))
+
+    by : (k < 3) ⊎ (3 ≤ k) → StandsAt f x
+    by (inl lt) = absurd (own k refl lt)
+    by (inr le) = let place = g.numbering.all k le (get_inside points k x e) in
+        let same = same_Some place.1 x (sym (subst (λ m. slice_get points m ≡ Some place.1) place.4 (g.numbering.stands place.0 place.1 place.2 place.3)) ∙ e) in
+        record { at = place.0; reached = place.2; stands = place.3 ∙ ap Some same }
+
 module _ {A B : Type 0} (p q : Rows) (f : Flow A) (g : Flow B) (old new : ℕ) (dropped : Option ℕ) (origin : Origin) (points more : List Point) (s t : StepList) (before : IsGraph f old points s) (after : IsGraph g new more t) where
   abbrev SameNumbers : Type 0
   SameNumbers = Same (EdgeByNumbers p old (λ n. old_name p dropped n) points s) (EdgeByNumbers q new (λ n. new_name p dropped origin n) more t)
@@ -257,26 +281,11 @@ module _ {A B : Type 0} (p q : Rows) (f : Flow A) (g : Flow B) (old new : ℕ) (
   }
 
   pub kept_once : KeepsControl p q f g old new dropped origin → HasEventsOnce p dropped origin points
-  kept_once kept k x e event = by (cases_lt k 3)
+  kept_once kept k x e event = let place = place_of f old points s before k x e (ap own_number event.node) in
+      kept.once x.row (record { at = place.at; reached = place.reached; stands = place.stands ∙ ap Some node_is; name = event.name; named = event.named; event = event.event })
     where
-      not_own : (y : Point) → slice_get points k ≡ Some y → (y.kind ≡ kind.Node → ⊥) → ⊥
-      not_own y there apart = apart (ap (λ z. z.kind) (same_Some y x (sym there ∙ e)) ∙ event.node)
-
-      own : (m : ℕ) → k ≡ m → m < 3 → ⊥
-      own zero same lt = not_own (record { row = old; kind = kind.Entry }) (ap (slice_get points) same ∙ before.numbering.entry) (λ h. cc)
-      own (suc zero) same lt = not_own (record { row = old; kind = kind.Exit }) (ap (slice_get points) same ∙ before.numbering.exit) (λ h. cc)
-      own (suc (suc zero)) same lt = not_own (record { row = old; kind = kind.Thrown }) (ap (slice_get points) same ∙ before.numbering.thrown) (λ h. cc)
-      own (suc (suc (suc m))) same lt = absurd (omega (arith, lt))
-
-      by : (k < 3) ⊎ (3 ≤ k) → HasOneCopy origin x.row
-      by (inl lt) = absurd (own k refl lt)
-      by (inr le) =
-          let place = before.numbering.all k le (get_inside points k x e) in
-          let same = same_Some place.1 x (sym (subst (λ m. slice_get points m ≡ Some place.1) place.4 (before.numbering.stands place.0 place.1 place.2 place.3)) ∙ e) in
-          kept.once x.row (record { at = place.0; reached = place.2; stands = place.3 ∙ ap Some (same ∙ node_is); name = event.name; named = event.named; event = event.event })
-        where
-          node_is : x ≡ record { row = x.row; kind = kind.Node }
-          node_is = ap (λ z. record { row = x.row; kind = z }) event.node
+      node_is : x ≡ record { row = x.row; kind = kind.Node }
+      node_is = ap (λ z. record { row = x.row; kind = z }) event.node
 
   pub kept_numbers : KeepsControl p q f g old new dropped origin → SameNumbers
   kept_numbers kept x y = (

@@ -1,5 +1,5 @@
 -- Definitions between that of a local and its uses, by the numbers of points, and those of a flow.
-use Rattle.std.proofs.Common.{◌≡◌, ◌⊎◌, inl, inr, ⊎_elim, refl, sym, ◌∙◌, ap, subst, arith, ℕ, zero, suc, ◌+◌, ◌<◌, ◌≤◌, Bool, true, false, not, ◌&&◌, ◌||◌, if◌then◌else◌, List, [], ◌∷◌, ◌++◌, length, map, Option, Some, None, IfSome, nat_eq, nat_lt, slice_get}
+use Rattle.std.proofs.Common.{◌≡◌, ◌⊎◌, inl, inr, ⊎_elim, refl, sym, ◌∙◌, ap, subst, arith, ℕ, suc, ◌+◌, ◌<◌, ◌≤◌, Bool, true, false, not, ◌&&◌, ◌||◌, if◌then◌else◌, List, [], ◌∷◌, ◌++◌, length, map, Option, Some, None, IfSome, nat_eq, nat_lt, slice_get, Decides}
 use Rattle.std.specs.List.{Contains}
 use Rattle.std.proofs.lemmas.Bool.{false≢true, cases_lt}
 use Rattle.std.proofs.lemmas.Bool.Decides.{Decides-eqb, Decides-ltb}
@@ -14,14 +14,14 @@ use Rattle.jr_flow_defs.specs.declared.point.PointKind.TheVariants as kind
 use Rattle.jr_flow_defs.specs.Edges.{point}
 use Rattle.jr_flow_defs.specs.Graphs.{StepList, StepPath, PassesAt, is_definition_of}
 use Rattle.jr_flow_defs.specs.Computed.{is_definition}
-use Rattle.jr_flow_defs.proofs.Searched.{contains_out, contains_first, contains_more}
+use Rattle.jr_flow_defs.proofs.Searched.{contains_out, contains_first}
 use Rattle.jr_flow.specs.declared.point.Step.{Step}
 use Rattle.jr_flow.specs.Reached.{step_seen}
 use Rattle.jr_kept.specs.declared.lists.Lists.{Lists}
 use Rattle.jr_kept.specs.Listed.{under_in}
 use Rattle.jr_kept.specs.Searched.{HasStepTo, AreWays, AreWithin}
 use Rattle.jr_kept.specs.Spread.{AreWaysBack, IsSpread, AreSpread}
-use Rattle.jr_kept.specs.Disturbed.{is_inside, is_point_inside, such_by, is_such, AreSuch, IsBetween, AreBetween, throws, MayThrow, ThrowsInside, local_of, local_at, AreLocalsBelow, some_if, held_by, held_at, AddsIf, AreHeld, is_changed, disturbs_by, disturbs, NoneDisturbs, IsHeld, IsUndisturbed}
+use Rattle.jr_kept.specs.Disturbed.{is_inside, is_point_inside, such_by, is_such, AreSuch, AreBetween, throws, MayThrow, ThrowsInside, local_of, local_at, AreLocalsBelow, some_if, held_by, held_at, AddsIf, AreHeld, is_changed, disturbs, NoneDisturbs, IsHeld, IsUndisturbed}
 use Rattle.jr_kept.proofs.Naming.{get_inside}
 use Rattle.jr_kept.proofs.Searching.{none_in}
 
@@ -35,9 +35,31 @@ pub and_true : (a b : Bool) → a ≡ true → b ≡ true → (a && b) ≡ true
 and_true true b e f = f
 and_true false b e f = absurd (false≢true e)
 
+pub and_out : (a b : Bool) → (a && b) ≡ true → (a ≡ true) × (b ≡ true)
+and_out true b e = (refl, e)
+and_out false b e = absurd (false≢true e)
+
 pub never_true : (b : Bool) → (b ≡ true → ⊥) → b ≡ false
 never_true true h = absurd (h refl)
 never_true false h = refl
+
+-- a row is inside just where it stands behind the first one and before the end
+pub inside_tells : (first last row : ℕ) → Decides (is_inside first last row) ((first < row) × (row < last))
+inside_tells first last row = (
+  λ e. let both = and_out (not (nat_eq row first)) (not (nat_lt row first) && nat_lt row last) e in let rest = and_out (not (nat_lt row first)) (nat_lt row last) both.1 in
+      (behind (cases_lt first row) both.0 rest.0, (Decides-ltb row last).0 rest.1),
+  λ h. let later = h.0 in
+      and_true (not (nat_eq row first)) (not (nat_lt row first) && nat_lt row last) (ap not (never_true (nat_eq row first) (λ e. let same = (Decides-eqb row first).0 e in absurd (omega (arith, later, same)))))
+      (and_true (not (nat_lt row first)) (nat_lt row last) (ap not (never_true (nat_lt row first) (λ e. let less = (Decides-ltb row first).0 e in absurd (omega (arith, later, less))))) ((Decides-ltb row last).1 h.1)),
+)
+  where
+    behind : (first < row) ⊎ (row ≤ first) → not (nat_eq row first) ≡ true → not (nat_lt row first) ≡ true → first < row
+    behind (inl lt) e f = lt
+    behind (inr le) e f = by (cases_lt row first)
+      where
+        by : (row < first) ⊎ (first ≤ row) → first < row
+        by (inl less) = absurd (false≢true (sym (ap not ((Decides-ltb row first).1 less)) ∙ f))
+        by (inr past) = let same : row ≡ first = omega (arith, le, past) in absurd (false≢true (sym (ap not ((Decides-eqb row first).1 same)) ∙ e))
 
 either_way : (b : Bool) → (b ≡ true) ⊎ (b ≡ false)
 either_way true = inl refl

@@ -13,5 +13,6 @@ pub mod Gathers
 pub mod Uses
 pub mod Spreads
 pub mod Disturbing
-pub mod Hindering
-pub mod Inlining
+pub mod Changing
+pub mod Arrivals
+pub mod Crossing

@@ -1,10 +1,12 @@
 -- Bodies round rows.
-use Rattle.std.proofs.Common.{◌≡◌, ◌⊎◌, ⊎_elim, refl, subst, arith, ℕ, zero, suc, ◌+◌, ◌<◌, ◌≤◌, ◌^◌, Bool, true, false, not, ◌&&◌, if◌then◌else◌, [], ◌∷◌, length, Option, Some, IfSome, nat_lt, Decides}
+use Rattle.std.proofs.Common.{◌≡◌, ⊎_elim, refl, sym, ap, subst, arith, ℕ, zero, suc, ◌+◌, ◌<◌, ◌≤◌, ◌^◌, Bool, true, false, not, ◌&&◌, if◌then◌else◌, [], ◌∷◌, length, Option, Some, IfSome, nat_lt, Decides}
 use Rattle.std.specs.List.{Contains}
 use Rattle.std.proofs.lemmas.Bool.{false≢true, cases_lt}
+use Rattle.std.proofs.lemmas.List.{get_or_past}
 use Rattle.std.proofs.lemmas.Bool.Decides.{Decides-ltb, Decides-and}
 use Rattle.std.proofs.lemmas.List.Elements.{Contains-append_cases}
-use Rattle.jr_tree.specs.Rows.{Rows}
+use Rattle.jr_tree.specs.Rows.{Rows, parent}
+use Rattle.jr_tree.specs.Tree.{IsTree}
 use Rattle.jr_flow_defs.proofs.Searched.{contains_out}
 use Rattle.jr_flow.specs.Bodies.{has_code, bodies_below}
 use Rattle.jr_change.specs.declared.project.Project.{Project}
@@ -38,3 +40,11 @@ round_next p row body found false tells before = before
 
 pub rows_few : (project : Project) (m : Meaning) → IsSeen project m → length project.marks.rows.now < 2 ^ 32
 rows_few project m seen = let few = subst (λ p. length p + 3 < 2 ^ 32) seen.rows seen.view.few in omega (arith, few)
+
+-- no row stands before its parent
+pub parent_before : (p : Rows) → IsTree p → (n : ℕ) → parent p n ≤ n
+parent_before p tree zero = subst (λ k. k ≤ 0) (sym tree.root) (omega arith)
+parent_before p tree (suc n) = ⊎_elim
+    (λ lt. let less = tree.up (suc n) lt (omega arith) in omega (arith, less))
+    (λ le. subst (λ k. k ≤ suc n) (sym (ap (λ r. r.parent) (get_or_past p (suc n) _ le))) (omega arith))
+    (cases_lt (suc n) (length p))

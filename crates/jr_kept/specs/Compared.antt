@@ -4,7 +4,7 @@ use Rattle.jr_flow_defs.specs.Meaning.{Meaning}
 use Rattle.jr_flow_defs.specs.Paths.{Flow}
 use Rattle.jr_flow_defs.specs.Edges.{FlowNode, IsGraph, body_flow}
 use Rattle.jr_flow_defs.specs.Graphs.{StepList, EdgeByNumbers}
-use Rattle.jr_flow_defs.specs.Kept.{Same, KeepsControl, KeepsBody, joined_flow}
+use Rattle.jr_flow_defs.specs.Kept.{Same, KeepsControl, KeepsDefinitions, KeepsBody, Hands, IsHanding, joined_flow}
 use Rattle.jr_flow.specs.Reached.{steps_of}
 use Rattle.jr_kept.specs.declared.flows.Flows.{Flows}
 use Rattle.jr_kept.specs.declared.control.Searches.{Searches}
@@ -55,3 +55,8 @@ KeepsJoined flows m w call method = KeepsFlows flows (body_flow flows.names.rows
 
 abbrev pub IsJoinedGraph : Flows → Meaning → ℕ → ℕ → Type 0
 IsJoinedGraph flows w call method = IsGraph (joined_flow flows.rows.now w flows.after.now.body call method) flows.after.now.body flows.after.now.points.items (steps_of flows.after.now)
+
+-- and they keep edges from definitions to uses too, where parameters and what the call is assigned to hand on
+abbrev pub KeepsJoinedUses : Flows → Meaning → Meaning → ℕ → ℕ → Type 0
+KeepsJoinedUses flows m w call method = let g = joined_flow flows.rows.now w flows.after.now.body call method in
+    KeepsDefinitions (body_flow flows.names.rows.now m flows.before.now.body) g (IsHanding flows.rows.now g call method) (Hands flows.rows.now g call method (origin_in flows.origin.now)) (origin_in flows.origin.now)

@@ -8,11 +8,10 @@ use Rattle.jr_change.specs.declared.project.Project.{Project}
 use Rattle.jr_locks.specs.Origins.{origin_of, row_by}
 use Rattle.jr_flow_defs.specs.Meaning.{Meaning}
 use Rattle.jr_flow_defs.specs.Edges.{body_flow}
-use Rattle.jr_flow_defs.specs.Kept.{KeepsControl, KeepsBody, KeepsInlined, joined_flow}
+use Rattle.jr_flow_defs.specs.Kept.{KeepsControl, KeepsDefinitions, KeepsInlined, Hands, IsHanding, joined_flow}
 use Rattle.jr_flow.specs.Bodies.{has_code}
 use Rattle.jr_flow.specs.Views.{rows_in, IsViewOf}
 use Rattle.jr_kept.specs.Named.{origin_in}
-use Rattle.jr_kept.specs.Hindered.{ThrowsArrive, IsHindered}
 
 -- the project has the rows of a tree, and its view is of the meaning
 pub record IsSeen (project : Project) (m : Meaning) : Type 0 where
@@ -61,21 +60,29 @@ KeepsCourse (course.Extracted call method) p q m w origin copy = KeepsExtractedC
 KeepsCourse course.Same p q m w origin copy = ⊤
 KeepsCourse (course.Removed range) p q m w origin copy = ⊤
 
--- the body round the local has a copy with the same edges, in which the statement has no name if it has no copy, and nothing hinders the local from being replaced;
--- so it keeps what is to be kept of a local that is replaced by its initializer, where each throw in that comes to a point
+-- the body round the local has a copy that keeps what is to be kept of a local that is replaced by its initializer, where the statement has no name if it has no copy
 pub record KeepsInlinedFlow (p q : Rows) (m w : Meaning) (origin copy : List ℕ) (local statement : ℕ) : Type 0 where
   pub body : ℕ
   pub after : ℕ
   pub round : IsBodyRound p local body
   pub is_copy : row_by (origin_of copy body) ≡ Some after
   pub few : after < length q
-  pub kept : KeepsBody p q (body_flow p m body) (body_flow q w after) body after (dropped_by (row_by (origin_of copy statement)) statement) (origin_in origin)
-  pub unhindered : IsHindered p (body_flow p m body) local → ⊥
-  pub inlined : ThrowsArrive p (body_flow p m body) local → KeepsInlined p q m w body after local (dropped_by (row_by (origin_of copy statement)) statement) (origin_in origin)
+  pub inlined : KeepsInlined p q m w body after local (dropped_by (row_by (origin_of copy statement)) statement) (origin_in origin)
+
+-- the body round the call, with the method in place of the call, has the same edges as the body of which it is a copy, where parameters and what the call is assigned to
+-- hand on what reaches arguments and what is returned
+pub record KeepsExtractedFlow (p q : Rows) (m w : Meaning) (origin : List ℕ) (call method : ℕ) : Type 0 where
+  pub body : ℕ
+  pub after : ℕ
+  pub round : IsBodyRound q call after
+  pub is_copy : row_by (origin_of origin after) ≡ Some body
+  pub few : body < length p
+  pub control : KeepsControl p q (body_flow p m body) (joined_flow q w after call method) body after None (origin_in origin)
+  pub definitions : KeepsDefinitions (body_flow p m body) (joined_flow q w after call method) (IsHanding q (joined_flow q w after call method) call method) (Hands q (joined_flow q w after call method) call method (origin_in origin)) (origin_in origin)
 
 -- what is kept where no edge from a definition to a use is lost either; of other changes nothing is told
 abbrev pub KeepsUsesOf : Course → Rows → Rows → Meaning → Meaning → List ℕ → List ℕ → Type 0
 KeepsUsesOf (course.Inlined local statement) p q m w origin copy = KeepsInlinedFlow p q m w origin copy local statement
-KeepsUsesOf (course.Extracted call method) p q m w origin copy = ⊤
+KeepsUsesOf (course.Extracted call method) p q m w origin copy = KeepsExtractedFlow p q m w origin call method
 KeepsUsesOf course.Same p q m w origin copy = ⊤
 KeepsUsesOf (course.Removed range) p q m w origin copy = ⊤

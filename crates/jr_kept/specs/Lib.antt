@@ -11,4 +11,4 @@ pub mod Gathered
 pub mod Arrived
 pub mod Spread
 pub mod Disturbed
-pub mod Hindered
+pub mod Handed

@@ -1,4 +1,6 @@
 // Values of locals that an added method does not hand back.
+ghost use Rattle.std.specs.Prelude.{OnOk};
+ghost use Rattle.jr_kept.specs.Ordered.{OnlyAdds};
 
 use crate::defining::defining_row;
 use crate::edges::{Edge, Firsts};
@@ -161,7 +163,9 @@ impl<'a> Carrying<'a> {
     }
 
     // Puts the edge between a definition of the method and a use behind its exit. An added use, as that of an argument, stands for the definition.
-    fn put(&self, definition: u32, used: u32, handing: &Handing, lost: &mut Firsts) {
+    fn put(&self, definition: u32, used: u32, handing: &Handing, lost: &mut Firsts)
+        ensures { OnlyAdds lost.old lost.new }
+    {
         let flows = self.flows;
         let from = self.row(definition);
         if definition < self.count && handing.use_of(from).is_none() {
@@ -185,7 +189,9 @@ pub(crate) fn put_lost_values(
     handing: &Handing,
     method: u32,
     lost: &mut Firsts,
-) -> Result<(), OutOfMemory> {
+) -> Result<(), OutOfMemory>
+    ensures { OnOk result (OnlyAdds lost.old lost.new) }
+{
     let carrying = Carrying::of(flows, method)?;
     let graph = carrying.graph(alloc)?;
     for (definition, used) in &reaching(alloc, &graph)? {

@@ -22,8 +22,8 @@ use jr_places::Stamps;
 use jr_tree::Row;
 use std::alloc::Global;
 
-// The row stands in the initializer of the local, whose rows these are.
-fn is_inside(range: RowRange, row: u32) -> bool
+/// The row stands inside a row, whose rows these are.
+pub(crate) fn is_inside(range: RowRange, row: u32) -> bool
     ensures { result ≡ tell.is_inside range.first range.end row }
 {
     row != range.first && is_within(range, row)
@@ -172,7 +172,8 @@ fn local_bound(points: &[Point]) -> usize
     bound
 }
 
-fn some_if(local: u32, is_such: bool) -> Option<u32>
+/// The number, where it is such.
+pub(crate) fn some_if(local: u32, is_such: bool) -> Option<u32>
     ensures { result ≡ tell.some_if local is_such }
 {
     if is_such { Some(local) } else { None }

@@ -3,11 +3,10 @@ ghost use Rattle.std.specs.Prelude.{◌≡◌, ◌+◌, ◌<◌, ◌^◌, None, 
 ghost use Rattle.jr_locks.specs.Origins.{origin_of, row_by};
 ghost use Rattle.jr_flow_defs.specs.Meaning.{Meaning};
 ghost use Rattle.jr_flow_defs.specs.Edges.{IsGraph, body_flow};
-ghost use Rattle.jr_flow_defs.specs.Kept.{joined_flow};
+ghost use Rattle.jr_flow_defs.specs.Kept.{IsDisturbed, joined_flow, statement_round};
 ghost use Rattle.jr_flow.specs.Reached.{steps_of, IsGraphOf};
 ghost use Rattle.jr_kept.specs.Ordered.{AreNone};
-ghost use Rattle.jr_kept.specs.Compared.{KeepsBodies, KeepsWholeBodies, KeepsJoined, IsJoinedGraph};
-ghost use Rattle.jr_kept.specs.Hindered.{IsHindered};
+ghost use Rattle.jr_kept.specs.Compared.{KeepsBodies, KeepsWholeBodies, KeepsJoined, KeepsJoinedUses, IsJoinedGraph};
 ghost use Rattle.jr_kept.specs.Courses as tell;
 
 use crate::arriving::put_lost_definitions;
@@ -112,7 +111,7 @@ fn lost_in_inlined(
     local: u32,
 ) -> Result<LostFlow, FlowFault>
     ensures control { (m w : Meaning) → IsGraphOf flows.now.names.rows.now m flows.now.before.now → IsGraphOf flows.now.rows.now w flows.now.after.now → IfOk result (λ lost. lost.control ≡ None → KeepsBodies flows.now m w) }
-    ensures uses { (m w : Meaning) → IsGraphOf flows.now.names.rows.now m flows.now.before.now → IsGraphOf flows.now.rows.now w flows.now.after.now → IfOk result (λ lost. lost.control ≡ None → lost.def_use ≡ None → KeepsWholeBodies flows.now m w × (local + 1 < 2 ^ 32 → IsHindered flows.now.names.rows.now (body_flow flows.now.names.rows.now m flows.now.before.now.body) local → ⊥)) }
+    ensures uses { (m w : Meaning) → IsGraphOf flows.now.names.rows.now m flows.now.before.now → IsGraphOf flows.now.rows.now w flows.now.after.now → IfOk result (λ lost. lost.control ≡ None → lost.def_use ≡ None → KeepsWholeBodies flows.now m w × (local + 1 < 2 ^ 32 → IsDisturbed flows.now.names.rows.now (body_flow flows.now.names.rows.now m flows.now.before.now.body) local → ⊥)) }
 {
     let mut control = lost_control(alloc, flows)?;
     put_delayed(alloc, old, flows.before, local, &mut control)?;
@@ -203,12 +202,14 @@ fn lost_in_extracted(
     call: u32,
     method: u32,
 ) -> Result<LostFlow, FlowFault>
-    ensures { (m w : Meaning) → IsGraphOf flows.now.names.rows.now m flows.now.before.now → IsJoinedGraph flows.now w call method → IfOk result (λ lost. lost.control ≡ None → KeepsJoined flows.now m w call method) }
+    ensures control { (m w : Meaning) → IsGraphOf flows.now.names.rows.now m flows.now.before.now → IsJoinedGraph flows.now w call method → IfOk result (λ lost. lost.control ≡ None → KeepsJoined flows.now m w call method) }
+    ensures uses { (m w : Meaning) → IsGraphOf flows.now.names.rows.now m flows.now.before.now → IsJoinedGraph flows.now w call method → call + 1 < 2 ^ 32 → method + 1 < 2 ^ 32 → statement_round flows.now.rows.now call call + 1 < 2 ^ 32
+        → IfOk result (λ lost. lost.control ≡ None → lost.def_use ≡ None → KeepsJoined flows.now m w call method × KeepsJoinedUses flows.now m w call method) }
 {
     let mut control = lost_control(alloc, flows)?;
     put_held_returns(alloc, flows, method, &mut control)?;
     let mut lost = Firsts::none();
-    let handing = Handing::of(alloc, flows, call, method)?;
+    let handing = Handing::of(alloc, flows, call, method, &mut lost)?;
     put_lost_definitions(alloc, flows, &handing, &mut lost)?;
     put_lost_values(alloc, flows, &handing, method, &mut lost)?;
     Ok(LostFlow {
@@ -258,8 +259,10 @@ fn lost_by_extracting(
     call: u32,
     method: u32,
 ) -> Result<LostFlow, FlowFault>
-    ensures { (m w : Meaning) → tell.IsSeen old.now m → tell.IsSeen locked.now w
+    ensures control { (m w : Meaning) → tell.IsSeen old.now m → tell.IsSeen locked.now w
         → IfOk result (λ lost. lost.control ≡ None → tell.KeepsExtractedControl old.now.marks.rows.now locked.now.marks.rows.now m w locks.now.origin.items call method) }
+    ensures uses { (m w : Meaning) → tell.IsSeen old.now m → tell.IsSeen locked.now w
+        → IfOk result (λ lost. lost.control ≡ None → lost.def_use ≡ None → tell.KeepsExtractedFlow old.now.marks.rows.now locked.now.marks.rows.now m w locks.now.origin.items call method) }
 {
     let rows = locked.marks.rows;
     let Some(copy) = body_round(alloc, rows, call)? else {

@@ -1,22 +1,29 @@
-use Rattle.std.proofs.Common.{◌≡◌, ◌<◌, sym, subst, length, Some, IfSome, None}
+use Rattle.std.proofs.Common.{◌≡◌, ◌<◌, ◌≤◌, arith, sym, subst, length, Some, IfSome, None}
 use Rattle.std.proofs.lemmas.Result.{IfOk-weaker}
 use Rattle.jr_flow_defs.specs.Edges.{body_flow, IsGraph}
-use Rattle.jr_flow_defs.specs.Kept.{KeepsControl, joined_flow}
+use Rattle.jr_flow_defs.specs.Kept.{KeepsControl, KeepsDefinitions, Hands, IsHanding, joined_flow, statement_round}
 use Rattle.jr_flow.specs.Reached.{steps_of}
 use Rattle.jr_locks.specs.Origins.{origin_of, row_by}
 use Rattle.jr_kept.specs.Named.{origin_in}
 use Rattle.jr_kept.specs.Courses.{IsBodyRound}
-use Rattle.jr_kept.proofs.Rounding.{rows_few}
+use Rattle.jr_kept.proofs.Crossing.{statement_before}
+use Rattle.jr_kept.proofs.Rounding.{rows_few, parent_before}
 use Rattle.jr_kept.proofs.kept.lost_by_extracting.Goals as goal
 
-pub returns-in_default : goal.returns-in_default
-returns-in_default c = λ m w seen other none. absurd (c.lost_at.ensures none)
+pub returns-in_default-clause-control : goal.returns-in_default-clause-control
+returns-in_default-clause-control c = λ m w seen other none. absurd (c.lost_at.ensures none)
 
-pub returns-then-not-is_apart : goal.returns-then-not-is_apart
-returns-then-not-is_apart c = λ m w seen other none. absurd (c.lost_at-then-not-is_apart.ensures none)
+pub returns-in_default-clause-uses : goal.returns-in_default-clause-uses
+returns-in_default-clause-uses c = λ m w seen other none no_use. absurd (c.lost_at.ensures none)
 
-pub returns : goal.returns
-returns c = λ m w seen other. let p = c.args.old.now.marks.rows.now in let q = c.args.locked.now.marks.rows.now in let origin = c.args.locks.now.origin.items in
+pub returns-then-not-is_apart-clause-control : goal.returns-then-not-is_apart-clause-control
+returns-then-not-is_apart-clause-control c = λ m w seen other none. absurd (c.lost_at-then-not-is_apart.ensures none)
+
+pub returns-then-not-is_apart-clause-uses : goal.returns-then-not-is_apart-clause-uses
+returns-then-not-is_apart-clause-uses c = λ m w seen other none no_use. absurd (c.lost_at-then-not-is_apart.ensures none)
+
+pub returns-clause-control : goal.returns-clause-control
+returns-clause-control c = λ m w seen other. let p = c.args.old.now.marks.rows.now in let q = c.args.locked.now.marks.rows.now in let origin = c.args.locks.now.origin.items in
     let call = c.args.call in let method = c.args.method in let after = c.in-Some.copy in let body = c.in-Some-row_among.body in let joined = c.in_ok-after.after in
     let round : IsBodyRound q call after = subst (λ o. IfSome o (λ k. IsBodyRound q call k)) c.in-Some.is (c.in_ok-copy.ensures (rows_few c.args.locked.now w other)) in
     let copy : (row_by (origin_of origin after) ≡ Some body) × (body < length p) = subst (λ o. IfSome o (λ k. (row_by (origin_of origin after) ≡ Some k) × (k < length p))) c.in-Some-row_among.is (subst (λ xs. IfSome c.row_among.result (λ k. (row_by (origin_of xs after) ≡ Some k) × (k < length p))) c.deref.ensures.value c.row_among.ensures) in
@@ -31,5 +38,32 @@ returns c = λ m w seen other. let p = c.args.old.now.marks.rows.now in let q = 
       kept = subst (λ os. KeepsControl p q (body_flow p m body) (joined_flow q w after call method) body after None (origin_in os)) c.as_slice.ensures.value
           (subst (λ n. KeepsControl p q (body_flow p m body) (joined_flow q w n call method) body n None (origin_in c.as_slice.result.now)) after_graph.0
           (subst (λ n. KeepsControl p q (body_flow p m n) (joined_flow q w joined.body call method) n joined.body None (origin_in c.as_slice.result.now)) before_graph.0 (keeps none)));
-    }) (c.lost_in_extracted.ensures m w before_graph.1
+    }) (c.lost_in_extracted.ensures.control m w before_graph.1
     (subst (λ n. IsGraph (joined_flow q w n call method) n joined.points.items (steps_of joined)) (sym after_graph.0) after_graph.1))
+
+pub returns-clause-uses : goal.returns-clause-uses
+returns-clause-uses c = λ m w seen other. let p = c.args.old.now.marks.rows.now in let q = c.args.locked.now.marks.rows.now in let origin = c.args.locks.now.origin.items in
+    let call = c.args.call in let method = c.args.method in let after = c.in-Some.copy in let body = c.in-Some-row_among.body in let joined = c.in_ok-after.after in
+    let round : IsBodyRound q call after = subst (λ o. IfSome o (λ k. IsBodyRound q call k)) c.in-Some.is (c.in_ok-copy.ensures (rows_few c.args.locked.now w other)) in
+    let copy : (row_by (origin_of origin after) ≡ Some body) × (body < length p) = subst (λ o. IfSome o (λ k. (row_by (origin_of origin after) ≡ Some k) × (k < length p))) c.in-Some-row_among.is (subst (λ xs. IfSome c.row_among.result (λ k. (row_by (origin_of xs after) ≡ Some k) × (k < length p))) c.deref.ensures.value c.row_among.ensures) in
+    let before_graph = c.in_ok-before.ensures m seen copy.1 in let is_row = c.is_apart.ensures.row c.if-not-is_apart.false in
+    let after_graph = c.in_ok-after.ensures w other round.is.few is_row (c.is_apart.ensures.apart c.if-not-is_apart.false) in
+    let few = rows_few c.args.locked.now w other in let last = other.tree.last after round.is.few in let to = round.to in
+    let up : statement_round q call call ≤ call = statement_before q (parent_before q other.tree) call call in
+    IfOk-weaker c.lost_in_extracted.result _ _ (λ lost keeps none no_use.
+    let both = keeps none no_use in
+    record {
+      body = body;
+      after = after;
+      round = round;
+      is_copy = copy.0;
+      few = copy.1;
+      control = subst (λ os. KeepsControl p q (body_flow p m body) (joined_flow q w after call method) body after None (origin_in os)) c.as_slice.ensures.value
+          (subst (λ n. KeepsControl p q (body_flow p m body) (joined_flow q w n call method) body n None (origin_in c.as_slice.result.now)) after_graph.0
+          (subst (λ n. KeepsControl p q (body_flow p m n) (joined_flow q w joined.body call method) n joined.body None (origin_in c.as_slice.result.now)) before_graph.0 both.0));
+      definitions = subst (λ os. KeepsDefinitions (body_flow p m body) (joined_flow q w after call method) (IsHanding q (joined_flow q w after call method) call method) (Hands q (joined_flow q w after call method) call method (origin_in os)) (origin_in os)) c.as_slice.ensures.value
+          (subst (λ n. KeepsDefinitions (body_flow p m body) (joined_flow q w n call method) (IsHanding q (joined_flow q w n call method) call method) (Hands q (joined_flow q w n call method) call method (origin_in c.as_slice.result.now)) (origin_in c.as_slice.result.now)) after_graph.0
+          (subst (λ n. KeepsDefinitions (body_flow p m n) (joined_flow q w joined.body call method) (IsHanding q (joined_flow q w joined.body call method) call method) (Hands q (joined_flow q w joined.body call method) call method (origin_in c.as_slice.result.now)) (origin_in c.as_slice.result.now)) before_graph.0 both.1));
+    }) (c.lost_in_extracted.ensures.uses m w before_graph.1
+    (subst (λ n. IsGraph (joined_flow q w n call method) n joined.points.items (steps_of joined)) (sym after_graph.0) after_graph.1)
+    (omega (arith, few, last, to)) (omega (arith, few, is_row)) (omega (arith, few, last, to, up)))

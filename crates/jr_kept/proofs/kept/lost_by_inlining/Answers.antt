@@ -1,12 +1,10 @@
 use Rattle.std.proofs.Common.{◌≡◌, arith, ◌∙◌, ◌<◌, ap, subst, length, Some, IfSome}
 use Rattle.std.proofs.lemmas.Result.{IfOk-weaker}
 use Rattle.jr_flow_defs.specs.Edges.{body_flow}
-use Rattle.jr_flow_defs.specs.Kept.{KeepsControl, KeepsBody}
+use Rattle.jr_flow_defs.specs.Kept.{KeepsControl, KeepsBody, IsDisturbed}
 use Rattle.jr_locks.specs.Origins.{origin_of, row_by}
 use Rattle.jr_kept.specs.Named.{origin_in}
 use Rattle.jr_kept.specs.Courses.{IsBodyRound, dropped_by}
-use Rattle.jr_kept.specs.Hindered.{IsHindered}
-use Rattle.jr_kept.proofs.Hindering.{hindered}
 use Rattle.jr_kept.proofs.Rounding.{rows_few}
 use Rattle.jr_kept.proofs.kept.lost_by_inlining.Goals as goal
 
@@ -48,14 +46,12 @@ returns-clause-uses c = λ m w seen other. let p = c.args.old.now.marks.rows.now
     (subst (λ os. KeepsBody p q (body_flow p m body) (body_flow q w after) body after c.dropped.result (origin_in os)) c.as_slice.ensures.value
     (subst (λ n. KeepsBody p q (body_flow p m body) (body_flow q w n) body n c.dropped.result (origin_in c.as_slice.result.now)) after_graph.0
     (subst (λ n. KeepsBody p q (body_flow p m n) (body_flow q w c.in_ok-after.after.body) n c.in_ok-after.after.body c.dropped.result (origin_in c.as_slice.result.now)) before_graph.0 both.0))) in
-    let calm : IsHindered p (body_flow p m body) local → ⊥ = subst (λ n. IsHindered p (body_flow p m n) local → ⊥) before_graph.0 (both.1 (omega (arith, few, last, to))) in
+    let calm : IsDisturbed p (body_flow p m body) local → ⊥ = subst (λ n. IsDisturbed p (body_flow p m n) local → ⊥) before_graph.0 (both.1 (omega (arith, few, last, to))) in
     record {
       body = body;
       after = after;
       round = round;
       is_copy = copy.0;
       few = copy.1;
-      kept = kept;
-      unhindered = calm;
-      inlined = λ arrive. record { kept = kept; undisturbed = λ h. calm (hindered p (body_flow p m body) local arrive h) };
+      inlined = record { kept = kept; undisturbed = calm };
     }) (c.lost_in_inlined.ensures.uses m w before_graph.1 after_graph.1)

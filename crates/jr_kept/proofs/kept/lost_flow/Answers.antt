@@ -12,4 +12,8 @@ returns-in-Inlined-clause-uses c = λ m w seen other. let p = c.args.old.now.mar
 
 pub returns-in-Extracted-clause-control : goal.returns-in-Extracted-clause-control
 returns-in-Extracted-clause-control c = λ m w seen other. let p = c.args.old.now.marks.rows.now in let q = c.args.locked.now.marks.rows.now in
-    subst (λ course. IfOk c.lost_by_extracting.result (λ lost. lost.control ≡ None → KeepsCourse course p q m w c.args.locks.now.origin.items c.args.locks.now.copy.items)) (sym c.in-Extracted.is) (c.lost_by_extracting.ensures m w seen other)
+    subst (λ course. IfOk c.lost_by_extracting.result (λ lost. lost.control ≡ None → KeepsCourse course p q m w c.args.locks.now.origin.items c.args.locks.now.copy.items)) (sym c.in-Extracted.is) (c.lost_by_extracting.ensures.control m w seen other)
+
+pub returns-in-Extracted-clause-uses : goal.returns-in-Extracted-clause-uses
+returns-in-Extracted-clause-uses c = λ m w seen other. let p = c.args.old.now.marks.rows.now in let q = c.args.locked.now.marks.rows.now in
+    subst (λ course. IfOk c.lost_by_extracting.result (λ lost. lost.control ≡ None → lost.def_use ≡ None → KeepsUsesOf course p q m w c.args.locks.now.origin.items c.args.locks.now.copy.items)) (sym c.in-Extracted.is) (c.lost_by_extracting.ensures.uses m w seen other)

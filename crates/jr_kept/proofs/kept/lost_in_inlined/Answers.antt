@@ -2,8 +2,8 @@ use Rattle.jr_flow_defs.specs.Edges.{body_flow}
 use Rattle.jr_flow.specs.Reached.{steps_of}
 use Rattle.jr_kept.specs.Gathered.{use_in}
 use Rattle.jr_kept.proofs.Comparing.{steps_within}
-use Rattle.jr_kept.proofs.Inlining.{definitions_kept}
-use Rattle.jr_kept.proofs.Hindering.{unhindered}
+use Rattle.jr_kept.proofs.Arrivals.{definitions_kept}
+use Rattle.jr_kept.proofs.Changing.{never_disturbed}
 use Rattle.jr_kept.proofs.kept.lost_in_inlined.Goals as goal
 
 pub returns-clause-control : goal.returns-clause-control
@@ -18,5 +18,5 @@ returns-clause-uses c = λ m w before after none no_use. let flows = c.args.flow
         control = (c.in_ok-control.ensures.bodies m w before after).0 (c.in_ok-put_delayed.ensures (c.first_of.ensures none));
         definitions = definitions_kept flows f g before after (use_in c.none-handing.result) c.none-handing.ensures uses.1;
       },
-      λ few h. unhindered p f old.body old.points.items (steps_of old) before c.args.local (calm.1 few) h,
+      λ few h. never_disturbed p f old.body old.points.items (steps_of old) before c.args.local (calm.1 few) h,
     )

@@ -1,8 +1,7 @@
--- What keeps a local from being replaced, by the numbers of points and in a flow.
-use Rattle.std.proofs.Common.{◌≡◌, refl, sym, ◌∙◌, ap, subst, arith, ℕ, ◌<◌, Bool, true, false, not, ◌&&◌, List, Option, Some, None, nat_eq, nat_lt, slice_get}
+-- Changes of locals between that of a local and its uses, by the numbers of points and in a flow.
+use Rattle.std.proofs.Common.{◌≡◌, refl, sym, ◌∙◌, ap, subst, ℕ, Bool, true, List, Option, Some, None, slice_get}
 use Rattle.std.specs.List.{Contains}
 use Rattle.std.proofs.lemmas.Bool.{false≢true}
-use Rattle.std.proofs.lemmas.Bool.Decides.{Decides-eqb, Decides-ltb}
 use Rattle.std.proofs.lemmas.Option.{same_Some}
 use Rattle.jr_tree.specs.Rows.{Rows, end}
 use Rattle.jr_flow_defs.specs.declared.point.Point.{Point}
@@ -11,19 +10,11 @@ use Rattle.jr_flow_defs.specs.Paths.{Flow, IsReached, Path, IsPoint}
 use Rattle.jr_flow_defs.specs.Edges.{point, IsGraph, Defines}
 use Rattle.jr_flow_defs.specs.Graphs.{StepList, StepPath, StopsAt, PassesAt, is_definition_of}
 use Rattle.jr_flow_defs.specs.Computed.{is_definition, defined_at}
-use Rattle.jr_flow_defs.specs.Kept.{IsUsedIn, IsDefinedIn, IsChangedBetween, HasEventIn, IsDisturbed}
+use Rattle.jr_flow_defs.specs.Kept.{IsChangedBetween, IsDisturbed}
 use Rattle.jr_flow_defs.proofs.Flowing.{definition_tells}
 use Rattle.jr_flow_defs.proofs.Numbered.{by_numbers, reached_along}
-use Rattle.jr_kept.specs.Disturbed.{is_inside, IsBetween, ThrowsInside, IsHeld, IsUndisturbed}
-use Rattle.jr_kept.specs.Hindered.{ThrowsIn, ThrowsArrive, IsHindered}
-use Rattle.jr_kept.proofs.Disturbing.{and_true, never_true}
-
--- ---- rows of the initializer
-
-inside_true : (d last row : ℕ) → (d < row) × (row < last) → is_inside d last row ≡ true
-inside_true d last row h = let later = h.0 in
-    and_true (not (nat_eq row d)) (not (nat_lt row d) && nat_lt row last) (ap not (never_true (nat_eq row d) (λ e. let same = (Decides-eqb row d).0 e in absurd (omega (arith, later, same)))))
-    (and_true (not (nat_lt row d)) (nat_lt row last) (ap not (never_true (nat_lt row d) (λ e. let less = (Decides-ltb row d).0 e in absurd (omega (arith, later, less))))) ((Decides-ltb row last).1 h.1))
+use Rattle.jr_kept.specs.Disturbed.{IsBetween, IsHeld, IsUndisturbed}
+use Rattle.jr_kept.proofs.Disturbing.{inside_tells}
 
 -- ---- paths that pass no other definition
 
@@ -87,21 +78,15 @@ module _ {A : Type 0} (p : Rows) (f : Flow A) (body : ℕ) (points : List Point)
   between_none : (local : ℕ) (h : IsChangedBetween f d local) → IsUndisturbed p points steps d → IsHeld p points steps d local → ⊥
   between_none local h none holds = none.between (g.number h.between) h.row local (g.numbering.stands h.between (record { row = h.row; kind = kind.Definition local }) (changed_reached local h) h.changes) h.other holds (is_between local h)
 
-  pub unhindered : IsUndisturbed p points steps d → IsHindered p f d → ⊥
-  unhindered none (IsHindered.inside {local = local} h) = none.inside (g.number h.at) h.row local (g.numbering.stands h.at (record { row = h.row; kind = kind.Definition local }) h.reached h.defines) (inside_true d (end p d) h.row h.inside)
-  unhindered none (IsHindered.between {local = local} u h) = between_none local h none
-      (IsHeld.used (g.number u.at) u.row (g.numbering.stands u.at (record { row = u.row; kind = kind.Use local }) u.reached u.uses) (inside_true d (end p d) u.row u.inside))
-  unhindered none (IsHindered.throwing {local = local} t h) = between_none local h none (IsHeld.throwing (record {
+  pub never_disturbed : IsUndisturbed p points steps d → IsDisturbed p f d → ⊥
+  never_disturbed none (IsDisturbed.inside {local = local} h) = none.inside (g.number h.at) h.row local (g.numbering.stands h.at (record { row = h.row; kind = kind.Definition local }) h.reached h.defines) ((inside_tells d (end p d) h.row).1 h.inside)
+  never_disturbed none (IsDisturbed.between {local = local} u h) = between_none local h none
+      (IsHeld.used (g.number u.at) u.row (g.numbering.stands u.at (record { row = u.row; kind = kind.Use local }) u.reached u.uses) ((inside_tells d (end p d) u.row).1 u.inside))
+  never_disturbed none (IsDisturbed.throwing {local = local} t h) = between_none local h none (IsHeld.throwing (record {
     from = g.number t.at;
     to = g.number t.next;
     point = record { row = t.row; kind = kind.Node };
     step = g.every (g.number t.at) (g.number t.next) true (record { from = t.at; to = t.next; reached = t.reached; numbers = (refl, refl); steps = t.throws });
     stands = g.numbering.stands t.at (record { row = t.row; kind = kind.Node }) t.reached t.stands;
-    inside = inside_true d (end p d) t.row t.inside;
+    inside = (inside_tells d (end p d) t.row).1 t.inside;
   }))
-
--- where throws come to points, that is all that disturbs
-pub hindered : {A : Type 0} (p : Rows) (f : Flow A) (d : ℕ) → ThrowsArrive p f d → IsDisturbed p f d → IsHindered p f d
-hindered p f d arrive (IsDisturbed.inside h) = IsHindered.inside h
-hindered p f d arrive (IsDisturbed.between u h) = IsHindered.between u h
-hindered p f d arrive (IsDisturbed.throwing e h) = IsHindered.throwing (arrive e) h
