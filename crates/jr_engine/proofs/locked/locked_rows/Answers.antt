@@ -3,11 +3,12 @@ use Rattle.jr_defs.specs.Referents.{entries}
 use Rattle.jr_places.specs.Places.{ArePlaces}
 use Rattle.jr_supers.specs.Supers.{HasNoCycle}
 use Rattle.jr_bind.specs.Exact.{IsExact}
+use Rattle.jr_index.specs.Marking.{Marked}
 use Rattle.jr_engine.proofs.Stepping.{bound_so}
 use Rattle.jr_engine.proofs.locked.locked_rows.Goals as goal
 
 pub returns-clause-bound : goal.returns-clause-bound
-returns-clause-bound c = let rows = c.rows-rows.ensures ∙ c.deref.ensures in
+returns-clause-bound c = let rows = c.rows-rows.ensures.rows ∙ ap (λ (v : Marked). v.rows) c.deref.ensures in
     let placed = subst (λ r. IfOk r (λ p. ArePlaces c.rows-rows.result.now p)) c.in_ok-places.ensures c.of.ensures.tables in
     let table = subst (λ o. IfSome o (λ all. all.table ≡ c.in_ok-table.table)) c.in-Some.is c.in_ok-bound.ensures.table in
     let exact = subst (λ o. IfSome o (IsExact c.rows-rows.result.now c.deref-4.result.now)) c.in-Some.is c.in_ok-bound.ensures.exact in
