@@ -1,5 +1,5 @@
 -- What is handed on between a body and a method that it calls, by points and in a flow.
-use Rattle.std.proofs.Common.{◌≡◌, ◌⊎◌, inl, inr, ⊎_elim, refl, sym, ◌∙◌, ap, subst, arith, ℕ, zero, suc, ◌+◌, ◌-◌, ◌<◌, ◌≤◌, Bool, true, false, not, ◌&&◌, if◌then◌else◌, List, [], ◌∷◌, ◌++◌, length, Option, Some, None, IfSome, is_some, nat_eq, nat_lt, slice_get, slice_set, slice_index_or}
+use Rattle.std.proofs.Common.{◌≡◌, ◌⊎◌, inl, inr, ⊎_elim, refl, sym, ◌∙◌, ap, subst, arith, ℕ, zero, suc, ◌+◌, ◌-◌, ◌<◌, ◌≤◌, Bool, true, false, not, ◌&&◌, if◌then◌else◌, List, [], ◌∷◌, ◌++◌, Option, Some, None, IfSome, is_some, nat_eq, nat_lt, slice_get, slice_set, slice_index_or}
 use Rattle.std.proofs.lemmas.Bool.{false≢true, cases_lt, ltb-false}
 use Rattle.std.proofs.lemmas.Option.{none-some, same_Some}
 use Rattle.jr_tree.specs.Rows.{Rows, label, parent, end}
@@ -17,10 +17,9 @@ use Rattle.jr_kept.specs.declared.handing.Crossing.{Crossing}
 use Rattle.jr_kept.specs.declared.handing.Handing.{Handing}
 use Rattle.jr_kept.specs.Disturbed.{is_inside, some_if}
 use Rattle.jr_kept.specs.Gathered.{use_in}
-use Rattle.jr_kept.specs.Handed.{defined_by, defined_in, used_by, added_in, IsDefinedAt, IsAddedAt, AddsOne, AddsPairs, AddsAssigned, IsFrom, HasPairs, HasAssigned, IsOnly, IsAssignedIn, OnlyCrosses, HasCrossing, IsHandingOf}
+use Rattle.jr_kept.specs.Handed.{defined_by, defined_in, used_by, added_in, IsDefinedAt, IsAddedAt, AddsOne, AddsPairs, AddsAssigned, IsFrom, HasPairs, HasAssigned, IsOnly, IsAssignedIn, OnlyCrosses, IsHandingOf}
 use Rattle.jr_kept.proofs.Comparing.{place_of}
 use Rattle.jr_kept.proofs.Disturbing.{and_true, and_out, inside_tells}
-use Rattle.jr_kept.proofs.Naming.{get_inside}
 
 -- ---- rows
 
@@ -165,20 +164,6 @@ given first last d local o e inside = ap (defined_in first last) e ∙ ap (λ b.
 taken : (first last : ℕ) (origin : Origin) (k local : ℕ) (o : Option Point) → o ≡ point k (kind.Use local) → (first < k) × (k < last) → origin k ≡ None → added_in first last origin o ≡ Some k
 taken first last origin k local o e inside added = ap (added_in first last origin) e
     ∙ ap (λ b. some_if k b) (and_true (is_inside first last k) (not (is_some (origin k))) ((inside_tells first last k).1 inside) (ap (λ z. not (is_some z)) added))
-
-point_inside : (points : List Point) (first last number d : ℕ) → defined_in first last (slice_get points number) ≡ Some d → number < length points
-point_inside points first last number d e = let o = gives first last d (slice_get points number) e in get_inside points number _ o.stands
-
-use_inside : (points : List Point) (first last : ℕ) (origin : Origin) (number k : ℕ) → added_in first last origin (slice_get points number) ≡ Some k → number < length points
-use_inside points first last origin number k e = let o = takes first last origin k (slice_get points number) e in get_inside points number _ o.stands
-
-pub has_crossing : (handing : Handing) (crossing : Crossing) (points : List Point) (origin : Origin) → HasPairs handing crossing.parameters.items crossing.arguments.items (length crossing.parameters.items)
-    → HasAssigned handing points crossing.statement.first crossing.statement.end crossing.returned (length points) → IsOnly points crossing.method.first crossing.method.end origin crossing.returned (length points) → HasCrossing handing crossing points origin
-has_crossing handing crossing points origin pairs assigned only = record {
-  pairs = λ d k p. pairs p.place d k (get_inside crossing.parameters.items p.place d p.definition) p.definition p.used;
-  assigned = λ d a. assigned a.number d (point_inside points crossing.statement.first crossing.statement.end a.number d a.defines) a.defines;
-  one = λ k a. only a.number k (use_inside points crossing.method.first crossing.method.end origin a.number k a.uses) a.uses;
-}
 
 -- ---- in a flow
 
