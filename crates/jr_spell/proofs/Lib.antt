@@ -1,6 +1,12 @@
 pub mod LockCases
 pub mod Packed
 pub mod Named
+pub mod Formed
 pub mod Leading
 pub mod Suffixed
+pub mod Keeping
+pub mod Shaped
 pub mod Tracing
+pub mod Spelled
+pub mod ByObject
+pub mod BySuper

@@ -43,7 +43,7 @@ module _ (p : Rows) where
   end_is : (n : ℕ) → n < length p → end_of p n ≡ end p n
   end_is n lt = ap (λ r. r.end) (get_or_default p n (record { label = is.Skip; name = []; parent = n; end = n; previous = n }) (record { label = is.Skip; name = []; parent = n; end = n + 1; previous = n }) lt)
 
-  package_within : IsTree p → (first n : ℕ) → AreWithin p (name_in first (package_at p n))
+  pub package_within : IsTree p → (first n : ℕ) → AreWithin p (name_in first (package_at p n))
   package_within tree first n = by (is_package (label p n)) refl
     where
       by : (b : Bool) → is_package (label p n) ≡ b → AreWithin p (name_in first (if b then Some (end_of p n) else None))

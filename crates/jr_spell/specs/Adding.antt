@@ -1,10 +1,12 @@
 -- Names of types that a spelling adds, in code and as the definition has them.
-use Rattle.std.specs.Prelude.{◌≡◌, ℕ, ◌<◌, Bool, length, List, [], ◌∷◌, ◌++◌, Option, Some, None, if◌then◌else◌}
+use Rattle.std.specs.Prelude.{◌≡◌, ℕ, ◌<◌, Bool, false, length, List, [], ◌∷◌, ◌++◌, Option, Some, None, if◌then◌else◌}
 use Rattle.std.specs.List.{AllByRecursion}
+use Rattle.std.specs.Option.{option_map_or}
 use Rattle.jr_base.specs.declared.text.Text.{Text}
 use Rattle.jr_tree.specs.Rows.{Rows}
 use Rattle.jr_defs.specs.declared.referent.Referent.{Referent}
-use Rattle.jr_spelling_rules.specs.Candidates.{Added}
+use Rattle.jr_defs.specs.Referents.{Table}
+use Rattle.jr_spelling_rules.specs.Candidates.{Added, is_empty, package_before}
 use Rattle.jr_spell.specs.declared.added.Added.{Added as Code}
 use Rattle.jr_spell.specs.Packaging.{AreNumbers}
 use Rattle.jr_spell.specs.Standing.{texts_of}
@@ -17,6 +19,15 @@ AreWithin p all = AllByRecursion (λ n. n < length p) all
 pub record AreNumbersOf (p : Rows) (texts : List Text) (names : List ℕ) : Type 0 where
   pub numbers : AreNumbers p names
   pub spells : texts_of p names ≡ texts
+
+-- a name as it would be written, and the numbers of its identifiers
+pub data AreNumbered (p : Rows) : Option (List ℕ) → Option (List Text) → Type 0 where
+  none : AreNumbered p None None
+  some : {all : List ℕ} {texts : List Text} → AreNumbersOf p texts all → AreNumbered p (Some all) (Some texts)
+
+-- a package before a reference would become the unnamed one
+abbrev pub loses : Rows → Table → Option ℕ → List ℕ → Bool
+loses p t behind parts = option_map_or is_empty (package_before p t behind parts) false
 
 -- with what is found, where it is the type
 abbrev pub traced : Bool → List Referent → Referent → Option (List Referent)

@@ -1,4 +1,8 @@
 pub mod Packaging
+pub mod Forming
 pub mod Spellers
 pub mod Standing
 pub mod Adding
+pub mod Shaping
+pub mod Objects
+pub mod Spelling

@@ -1,5 +1,5 @@
 // Names of types that a spelling adds.
-ghost use Rattle.std.specs.Prelude.{◌≡◌, ◌<◌, ℕ, IfOk, length, map, reverse, suc, option_map};
+ghost use Rattle.std.specs.Prelude.{◌≡◌, ◌<◌, ◌++◌, ℕ, IfOk, length, map, reverse, suc, option_map};
 ghost use Rattle.jr_tree.specs.declared.label.NameKind.TheVariants as names;
 ghost use Rattle.jr_places.specs.Names.{name_row};
 ghost use Rattle.jr_shapes.specs.Names.{suffix as suffix_of};
@@ -8,7 +8,6 @@ ghost use Rattle.jr_spell.specs.Adding as adding;
 ghost use Rattle.jr_spell.specs.Spellers as tell;
 
 use crate::fitting::target_of;
-use crate::paths::package_name;
 use crate::resolving::Resolved;
 use crate::speller::Speller;
 use jr_base::OutOfMemory;
@@ -24,12 +23,12 @@ pub struct Added {
     pub trace: Vec<Referent>,
 }
 
-/// Adds the items in their order.
-pub fn push_all(all: &mut Vec<Referent>, items: &[Referent]) -> Result<(), OutOfMemory> {
-    for item in items {
-        all.push(*item)?;
-    }
-    Ok(())
+/// Both lists, one behind the other.
+pub fn joined(mut all: Vec<Referent>, rest: &[Referent]) -> Result<Vec<Referent>, OutOfMemory>
+    ensures { IfOk result (λ both. both.items ≡ all.items ++ rest.now) }
+{
+    all.extend_from_slice(rest)?;
+    Ok(all)
 }
 
 // All but the first item.
@@ -76,18 +75,6 @@ fn with_type(
 }
 
 impl<'a> Speller<'a> {
-    /// Adds the identifiers of the package of a row, by their numbers. The unnamed package has none.
-    pub fn push_package(&self, names: &mut Vec<u32>, at: u32) -> Result<(), OutOfMemory> {
-        let Some(unit) = self.places().unit(at) else {
-            return Ok(());
-        };
-        let chain = package_name(self.rows(), unit);
-        for nth in 0..chain.len() {
-            names.push(self.places().name(chain.row(nth)))?;
-        }
-        Ok(())
-    }
-
     // The numbers of the names of rows.
     fn numbers_of(&self, alloc: Global, at: &[u32]) -> Result<Vec<u32>, OutOfMemory>
         ensures { tell.IsWholeSpeller self.now → adding.AreWithin (tell.rows_of self.now) at.now → IfOk result (λ all. all.items ≡ map (λ n. name_row (tell.rows_of self.now) n) at.now) }

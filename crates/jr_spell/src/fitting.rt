@@ -1,11 +1,12 @@
 // When a spelling fits.
-ghost use Rattle.std.specs.Prelude.{true, false, ◌≡◌, ◌||◌, ◌&&◌, Some, not, nat_eq, Decides};
+ghost use Rattle.std.specs.Prelude.{true, false, ◌≡◌, ◌||◌, ◌&&◌, Some, List, not, nat_eq, Decides};
 ghost use Rattle.std.specs.Option.{option_map_or};
 ghost use Rattle.jr_plain.specs.Access as access;
 ghost use Rattle.jr_plain.specs.Same.{same_level, same_role};
 ghost use Rattle.jr_tree.specs.declared.label.Role.TheVariants as roles;
 ghost use Rattle.jr_spelling_rules.specs.Candidates as candidate;
 ghost use Rattle.jr_spelling_rules.specs.Fitting as fitting;
+ghost use Rattle.jr_spell.specs.Shaping as shaping;
 ghost use Rattle.jr_spell.specs.Spellers as tell;
 
 use crate::reference::Reference;
@@ -201,6 +202,21 @@ impl<'a> Speller<'a> {
             })
         } else {
             None
+        }
+    }
+
+    /// The spelling of this shape, where something is found in its way that fits.
+    pub fn fit_found(
+        &self,
+        reference: &Reference,
+        shape: Shape,
+        looked: Option<Looked>,
+    ) -> Option<Fit>
+        ensures { (all : List candidate.Candidate) → tell.IsSeenSpeller self.now → tell.IsAtRow self.now reference.now → shaping.AreLooked self.now reference.now.row shape looked all → shaping.IsFirstOf self.now reference.now.row all result }
+    {
+        match looked {
+            Some(way) => self.fit_of(reference, shape, way),
+            None => None,
         }
     }
 }

@@ -1,4 +1,20 @@
 // The old shape of a reference with the new names.
+ghost use Rattle.std.specs.Prelude.{◌≡◌, ◌∷◌, ℕ, true, false, IfOk, List, Option, option_map};
+ghost use Rattle.jr_defs.specs.declared.referent.Referent.{Referent as Found};
+ghost use Rattle.jr_defs.specs.declared.referent.RowType.{RowType as Ty};
+ghost use Rattle.jr_defs.specs.Referents.{entries};
+ghost use Rattle.jr_shapes.specs.declared.spelling.Shape.{Shape as Written};
+ghost use Rattle.jr_shapes.specs.declared.spelling.Shape.TheVariants as shapes;
+ghost use Rattle.jr_shapes.specs.Names.{kept_package};
+ghost use Rattle.jr_shapes.specs.Parts as part;
+ghost use Rattle.jr_spelling_rules.specs.Candidates as candidate;
+ghost use Rattle.jr_spelling_rules.specs.Fitting as fitting;
+ghost use Rattle.jr_spelling_rules.specs.Naming as naming;
+ghost use Rattle.jr_spell.specs.Adding as adding;
+ghost use Rattle.jr_spell.specs.Packaging as packaging;
+ghost use Rattle.jr_spell.specs.Shaping as shaping;
+ghost use Rattle.jr_spell.specs.Spellers as tell;
+ghost use Rattle.jr_spell.specs.Standing as standing;
 
 use crate::fitting::{Fit, Looked, Way, level_of};
 use crate::reference::{Dot, Reference};
@@ -6,13 +22,14 @@ use crate::resolving::{Before, Qualifiers};
 use crate::speller::Speller;
 use jr_base::OutOfMemory;
 use jr_defs::{Referent, RowType};
-use jr_places::is_type;
-use jr_shapes::Shape;
-use jr_tree::Sought;
+use jr_shapes::{Shape, kept_rows, parts_of, push_package, referent_at, type_of};
+use jr_tree::{Row, Sought};
 use std::alloc::Global;
 
 /// The way of a name alone, or of `super` and a name.
-fn way_of(found: Referent, is_constant_form: bool) -> Way {
+pub fn way_of(found: Referent, is_constant_form: bool) -> Way
+    ensures { result ≡ shaping.way_of found is_constant_form }
+{
     Way {
         receiver: None,
         level: level_of(found),
@@ -20,64 +37,51 @@ fn way_of(found: Referent, is_constant_form: bool) -> Way {
     }
 }
 
+// The package of the type behind is the unnamed one.
+fn is_unnamed(alloc: Global, rows: &[Row], behind: Option<u32>) -> Result<bool, OutOfMemory>
+    ensures { (n : ℕ) (rest : List ℕ) → IfOk result (λ b. b ≡ candidate.is_empty (kept_package rows.now behind (n ∷ rest))) }
+{
+    match behind {
+        Some(class) => {
+            let mut names = Vec::new(alloc);
+            push_package(&mut names, rows, class)?;
+            Ok(names.is_empty())
+        }
+        None => Ok(false),
+    }
+}
+
+// A package among the parts of a reference would become the unnamed one.
+fn loses_package(
+    alloc: Global,
+    rows: &[Row],
+    table: &[Referent],
+    found: Referent,
+    parts: &[u32],
+) -> Result<bool, OutOfMemory>
+    ensures { IfOk result (λ b. b ≡ adding.loses rows.now (entries table.now) (part.type_of rows.now found) parts.now) }
+{
+    let mut behind = type_of(rows, found);
+    for at in parts {
+        match type_of(rows, referent_at(table, *at)) {
+            Some(class) => behind = Some(class),
+            None => return is_unnamed(alloc, rows, behind),
+        }
+    }
+    Ok(false)
+}
+
 impl<'a> Speller<'a> {
-    // The first type behind the packages before a reference: one before the dot, or what it refers to itself.
-    fn type_behind_packages(&self, reference: &Reference) -> Option<u32> {
-        for nth in 0..reference.chain.len() {
-            let class = self.under().referred_type(reference.chain.row(nth));
-            if class.is_some() {
-                return class;
-            }
+    /// The packages and types before a reference, from the last one back.
+    pub fn parts(&self, alloc: Global, reference: &Reference) -> Result<Vec<u32>, OutOfMemory>
+        ensures { IfOk result (λ all. all.items ≡ part.parts (tell.rows_of self.now) (tell.table_of self.now) reference.now.row) }
+    {
+        if reference.row == u32::MAX {
+            return Err(OutOfMemory);
         }
-        let target = reference.target()?;
-        if is_type(self.rows(), target) {
-            Some(target)
-        } else {
-            None
-        }
-    }
-
-    // Adds the identifiers as they stand.
-    fn push_written(&self, names: &mut Vec<u32>, reference: &Reference) -> Result<(), OutOfMemory> {
-        for nth in 0..reference.chain.len() {
-            names.push(self.places().name(reference.chain.row(nth)))?;
-        }
-        Ok(())
-    }
-
-    // Adds the identifiers of the package before a reference, if there is one: those of the package of the type behind it.
-    fn push_package_part(
-        &self,
-        names: &mut Vec<u32>,
-        reference: &Reference,
-    ) -> Result<(), OutOfMemory> {
-        match self.under().referent(reference.chain.row(0)) {
-            Referent::Package => match self.type_behind_packages(reference) {
-                Some(class) => self.push_package(names, class),
-                None => self.push_written(names, reference),
-            },
-            _ => Ok(()),
-        }
-    }
-
-    // Adds the names of the types before a reference.
-    fn push_types_part(
-        &self,
-        names: &mut Vec<u32>,
-        reference: &Reference,
-    ) -> Result<(), OutOfMemory> {
-        for nth in 0..reference.chain.len() {
-            if let Some(class) = self.under().referred_type(reference.chain.row(nth)) {
-                names.push(self.places().name(class))?;
-            }
-        }
-        Ok(())
-    }
-
-    // A package stands before the reference.
-    fn has_package(&self, reference: &Reference) -> bool {
-        reference.chain.len() > 0
-            && self.under().referent(reference.chain.row(0)) == Referent::Package
+        let view = self.view;
+        let under = view.sight.world.under;
+        parts_of(alloc, under.rows, under.table, reference.row)
     }
 
     /// The packages and types before a reference, by the numbers of the names that they have now; none where a package would become the unnamed one.
@@ -85,15 +89,19 @@ impl<'a> Speller<'a> {
         &self,
         alloc: Global,
         reference: &Reference,
-    ) -> Result<Option<Vec<u32>>, OutOfMemory> {
-        let mut names = Vec::new(alloc);
-        if self.has_package(reference) {
-            self.push_package_part(&mut names, reference)?;
-            if names.is_empty() {
-                return Ok(None);
-            }
+    ) -> Result<Option<Vec<u32>>, OutOfMemory>
+        ensures { tell.IsWholeSpeller self.now → tell.IsAtRow self.now reference.now → IfOk result (λ o. adding.AreNumbered (tell.rows_of self.now) (option_map (λ all. all.items) o) (candidate.kept_names (tell.rows_of self.now) (tell.table_of self.now) reference.now.row)) }
+    {
+        let view = self.view;
+        let under = view.sight.world.under;
+        let lock = reference.lock;
+        let parts = self.parts(alloc, reference)?;
+        let loses = loses_package(alloc, under.rows, under.table, lock, &parts)?;
+        if loses {
+            return Ok(None);
         }
-        self.push_types_part(&mut names, reference)?;
+        let rows = kept_rows(alloc, under.rows, under.table, lock, &parts)?;
+        let names = self.numbers_back(alloc, &rows)?;
         Ok(Some(names))
     }
 
@@ -104,7 +112,9 @@ impl<'a> Speller<'a> {
         reference: &Reference,
         arguments: &[RowType],
         before: Before,
-    ) -> Result<Referent, OutOfMemory> {
+    ) -> Result<Referent, OutOfMemory>
+        ensures { (b : naming.Before) (given : Option (List Ty)) (shape : Written) (trace : List Found) → tell.IsWholeSpeller self.now → tell.IsSought self.now reference.now → candidate.is_call reference.now.sought ≡ false → standing.StandsFor self.now before b → IfOk result (λ a. a ≡ fitting.found (tell.rows_of self.now) (tell.table_of self.now) reference.now.row (candidate.behind (tell.rows_of self.now) (tell.table_of self.now) given reference.now.row shape trace b)) }
+    {
         if reference.is_call() {
             self.named_method(alloc, reference, arguments, before)
         } else {
@@ -125,20 +135,18 @@ impl<'a> Speller<'a> {
         reference: &Reference,
         arguments: &[RowType],
         names: &[u32],
-    ) -> Result<Option<Looked>, OutOfMemory> {
-        let place = reference.row;
-        let Some(Qualifiers { last, trace }) = self.qualifiers(
-            alloc,
-            place,
-            reference.kind_before(),
-            names,
-        )?
-        else {
-            return Ok(None);
-        };
-        let found = self.look_behind(alloc, reference, arguments, last)?;
-        let way = way_of(found, reference.is_variable());
-        Ok(Some(Looked { found, trace, way }))
+    ) -> Result<Option<Looked>, OutOfMemory>
+        ensures { (given : Option (List Ty)) (shape : Written) → tell.IsWholeSpeller self.now → tell.IsSought self.now reference.now → candidate.is_call reference.now.sought ≡ false → packaging.AreNumbers (tell.rows_of self.now) names.now → IfOk result (λ o. shaping.AreLooked self.now reference.now.row shape o (candidate.behind_names (tell.rows_of self.now) (tell.table_of self.now) given reference.now.row shape (standing.texts_of (tell.rows_of self.now) names.now))) }
+    {
+        let led = self.qualifiers(alloc, reference.row, reference.kind_before(), names)?;
+        match led {
+            Some(Qualifiers { last, trace }) => {
+                let found = self.look_behind(alloc, reference, arguments, last)?;
+                let way = way_of(found, reference.is_variable());
+                Ok(Some(Looked { found, trace, way }))
+            }
+            None => Ok(None),
+        }
     }
 
     // What a member of the expression before the dot is.
@@ -213,16 +221,32 @@ impl<'a> Speller<'a> {
         })
     }
 
-    fn look_absent(
+    // What the old shape finds behind the expression, `super`, `new` or nothing that stands there.
+    fn look_as_it_stands(
         &self,
         alloc: Global,
         reference: &Reference,
         arguments: &[RowType],
-    ) -> Result<Option<Looked>, OutOfMemory> {
-        match reference.sought {
-            Sought::Simple { .. } => self.look_behind_names(alloc, reference, arguments, &[]),
-            Sought::Method => self.look_behind_names(alloc, reference, arguments, &[]),
-            _ => Ok(Some(self.look_fixed(alloc, reference, arguments)?)),
+    ) -> Result<Looked, OutOfMemory> {
+        match reference.dot {
+            Dot::Value => self.look_behind_value(alloc, reference, arguments),
+            _ => self.look_fixed(alloc, reference, arguments),
+        }
+    }
+
+    // What the old shape finds behind its packages and types.
+    fn look_kept_names(
+        &self,
+        alloc: Global,
+        reference: &Reference,
+        arguments: &[RowType],
+    ) -> Result<Option<Looked>, OutOfMemory>
+        ensures { (given : Option (List Ty)) → tell.IsWholeSpeller self.now → tell.IsSought self.now reference.now → candidate.is_call reference.now.sought ≡ false → IfOk result (λ o. shaping.AreLooked self.now reference.now.row shapes.Kept o (shaping.kept_by_names (tell.rows_of self.now) (tell.table_of self.now) given reference.now.row)) }
+    {
+        let kept = self.kept_names(alloc, reference)?;
+        match kept {
+            Some(names) => self.look_behind_names(alloc, reference, arguments, &names),
+            None => Ok(None),
         }
     }
 
@@ -232,15 +256,14 @@ impl<'a> Speller<'a> {
         alloc: Global,
         reference: &Reference,
         arguments: &[RowType],
-    ) -> Result<Option<Looked>, OutOfMemory> {
-        match reference.dot {
-            Dot::Absent => self.look_absent(alloc, reference, arguments),
-            Dot::Value => Ok(Some(self.look_behind_value(alloc, reference, arguments)?)),
-            Dot::Names => match self.kept_names(alloc, reference)? {
-                Some(names) => self.look_behind_names(alloc, reference, arguments, &names),
-                None => Ok(None),
-            },
+    ) -> Result<Option<Looked>, OutOfMemory>
+        ensures { (given : Option (List Ty)) → tell.IsWholeSpeller self.now → tell.IsSought self.now reference.now → candidate.is_call reference.now.sought ≡ false → candidate.is_by_names (tell.rows_of self.now) (tell.table_of self.now) reference.now.row ≡ true → IfOk result (λ o. shaping.AreLooked self.now reference.now.row shapes.Kept o (candidate.old (tell.rows_of self.now) (tell.table_of self.now) (tell.types_of self.now) given reference.now.row)) }
+    {
+        if reference.is_by_names() {
+            return self.look_kept_names(alloc, reference, arguments);
         }
+        let looked = self.look_as_it_stands(alloc, reference, arguments)?;
+        Ok(Some(looked))
     }
 
     /// The old shape, where it fits.
@@ -249,10 +272,10 @@ impl<'a> Speller<'a> {
         alloc: Global,
         reference: &Reference,
         arguments: &[RowType],
-    ) -> Result<Option<Fit>, OutOfMemory> {
-        match self.look_kept(alloc, reference, arguments)? {
-            Some(looked) => Ok(self.fit_of(reference, Shape::Kept, looked)),
-            None => Ok(None),
-        }
+    ) -> Result<Option<Fit>, OutOfMemory>
+        ensures { (given : Option (List Ty)) → tell.IsWholeSpeller self.now → tell.IsSought self.now reference.now → candidate.is_call reference.now.sought ≡ false → candidate.is_by_names (tell.rows_of self.now) (tell.table_of self.now) reference.now.row ≡ true → IfOk result (λ o. shaping.IsFirstOf self.now reference.now.row (candidate.old (tell.rows_of self.now) (tell.table_of self.now) (tell.types_of self.now) given reference.now.row) o) }
+    {
+        let looked = self.look_kept(alloc, reference, arguments)?;
+        Ok(self.fit_found(reference, Shape::Kept, looked))
     }
 }

@@ -7,6 +7,7 @@ mod fault;
 mod fitting;
 mod kept;
 mod looking;
+mod objects;
 mod paths;
 mod reference;
 mod resolving;

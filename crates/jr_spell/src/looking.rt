@@ -131,8 +131,8 @@ impl<'a> Speller<'a> {
         }
     }
 
-    // What the name refers to behind the class.
-    fn look_up_of(
+    /// What the name refers to behind the class.
+    pub fn look_up_of(
         &self,
         alloc: Global,
         place: u32,

@@ -1,42 +1,79 @@
 // The spellings of all references.
+ghost use Rattle.std.specs.Prelude.{◌≡◌, ◌<◌, ◌++◌, ◌∷◌, [], true, false, IfOk, IfErr, IfSome, OnOk, List, Option, length};
+ghost use Rattle.jr_defs.specs.declared.referent.RowType.{RowType as Ty};
+ghost use Rattle.jr_spelling_rules.specs.Candidates as candidate;
+ghost use Rattle.jr_spelling_rules.specs.Spelling as rule;
+ghost use Rattle.jr_spell.specs.declared.fault.SpellFault.TheVariants as faults;
+ghost use Rattle.jr_spell.specs.declared.speller.Speller.{Speller as Reader};
+ghost use Rattle.jr_spell.specs.Forming as forming;
+ghost use Rattle.jr_spell.specs.Shaping as shaping;
+ghost use Rattle.jr_spell.specs.Spellers as tell;
+ghost use Rattle.jr_spell.specs.Spelling as spelled;
 
 use crate::fault::SpellFault;
-use crate::fitting::{Fit, Looked};
+use crate::fitting::{Fit, Looked, level_of, target_of};
 use crate::paths::Paths;
 use crate::reference::{Dot, Reference};
-use crate::resolving::Resolved;
 use crate::speller::Speller;
 use jr_base::OutOfMemory;
 use jr_change::{Project, Shape, Spelling};
-use jr_defs::Referent;
+use jr_defs::{Referent, RowType};
 use jr_marks::order_of_occurrences;
+use jr_tree::Row;
 use std::alloc::Global;
 
 /// How many units the prelude has. They come first.
 const PRELUDE: usize = 2;
 
+/// What is referred to is a row.
+fn has_target(rows: &[Row], lock: Referent) -> bool
+    ensures { result ≡ true → tell.HasTarget rows.now lock }
+{
+    match target_of(lock) {
+        Some(target) => (target as usize) < rows.len(),
+        None => true,
+    }
+}
+
+/// The type whose object it is reached through is a row.
+fn has_level(rows: &[Row], lock: Referent) -> bool
+    ensures { result ≡ true → tell.HasLevel rows.now lock }
+{
+    match level_of(lock) {
+        Some(level) => (level as usize) < rows.len(),
+        None => true,
+    }
+}
+
 impl<'a> Speller<'a> {
-    // The spelling without casts of arguments.
-    fn uncast(
+    // The spelling without casts of arguments, these having such types.
+    fn spelling_with(
         &self,
         alloc: Global,
         reference: &Reference,
-    ) -> Result<Option<Spelling>, OutOfMemory> {
-        if !reference.is_call() {
-            let fit = self.first_fit(alloc, reference, &[])?;
-            return Ok(spelling_of(alloc, reference, fit));
-        }
+        arguments: &[RowType],
+    ) -> Result<Option<Spelling>, OutOfMemory>
+        ensures row { IfOk result (λ o. IfSome o (λ a. a.row ≡ reference.now.row)) }
+        ensures first { (given : Option (List Ty)) → tell.IsWholeSpeller self.now → tell.IsSought self.now reference.now → forming.is_named (tell.rows_of self.now) (tell.table_of self.now) reference.now.row ≡ true → IfOk result (λ o. spelled.IsWritten reference.now.row o (shaping.plainly self.now reference.now.row given)) }
+    {
+        let fit = self.first_fit(alloc, reference, arguments)?;
+        Ok(spelling_of(alloc, reference.row, fit))
+    }
+
+    // The spelling of a call without casts of arguments.
+    fn uncast(&self, alloc: Global, reference: &Reference) -> Result<Option<Spelling>, OutOfMemory>
+        ensures row { IfOk result (λ o. IfSome o (λ a. a.row ≡ reference.now.row)) }
+    {
         match self.argument_types(alloc, reference)? {
-            Some(arguments) => {
-                let fit = self.first_fit(alloc, reference, &arguments)?;
-                Ok(spelling_of(alloc, reference, fit))
-            }
+            Some(arguments) => self.spelling_with(alloc, reference, &arguments),
             None => Ok(None),
         }
     }
 
     // The spelling with each argument cast to the type of its parameter.
-    fn cast(&self, alloc: Global, reference: &Reference) -> Result<Option<Spelling>, OutOfMemory> {
+    fn cast(&self, alloc: Global, reference: &Reference) -> Result<Option<Spelling>, OutOfMemory>
+        ensures row { IfOk result (λ o. IfSome o (λ a. a.row ≡ reference.now.row)) }
+    {
         let Some(parameters) = self.parameter_types(alloc, reference)? else {
             return Ok(None);
         };
@@ -66,41 +103,50 @@ impl<'a> Speller<'a> {
         }
     }
 
-    // The first spelling that fits.
-    fn first_spelling(
+    // The first spelling of a call that fits.
+    fn call_spelling(
         &self,
         alloc: Global,
         reference: &Reference,
-    ) -> Result<Option<Spelling>, OutOfMemory> {
+    ) -> Result<Option<Spelling>, OutOfMemory>
+        ensures row { IfOk result (λ o. IfSome o (λ a. a.row ≡ reference.now.row)) }
+    {
         let spelling = self.uncast(alloc, reference)?;
-        if spelling.is_some() || !reference.is_call() || self.is_prelude(reference.row) {
+        if spelling.is_some() || self.is_prelude(reference.row) {
             return Ok(spelling);
         }
         self.cast(alloc, reference)
     }
 
-    // The identifiers before the last one stand as they are to be written.
-    fn are_written(&self, reference: &Reference, names: &[u32]) -> bool {
-        if names.len() != reference.chain.len() as usize {
-            return false;
+    // The first spelling that fits.
+    fn first_spelling(
+        &self,
+        alloc: Global,
+        reference: &Reference,
+    ) -> Result<Option<Spelling>, OutOfMemory>
+        ensures row { IfOk result (λ o. IfSome o (λ a. a.row ≡ reference.now.row)) }
+        ensures first { tell.IsWholeSpeller self.now → tell.IsSought self.now reference.now → forming.is_named (tell.rows_of self.now) (tell.table_of self.now) reference.now.row ≡ true → IfOk result (λ o. spelled.IsWritten reference.now.row o (shaping.spelling_at self.now reference.now.row)) }
+    {
+        if reference.is_call() {
+            self.call_spelling(alloc, reference)
+        } else {
+            self.spelling_with(alloc, reference, &[])
         }
-        for nth in 0..reference.chain.len() {
-            let written = self.places().name(reference.chain.row(nth));
-            if names.get(nth as usize).copied() != Some(written) {
-                return false;
-            }
-        }
-        true
     }
 
     // The old shape needs no new text.
-    fn is_text_kept(&self, alloc: Global, reference: &Reference) -> Result<bool, OutOfMemory> {
+    fn is_text_kept(
+        &self,
+        alloc: Global,
+        reference: &Reference,
+        parts: &[u32],
+    ) -> Result<bool, OutOfMemory> {
         if self.places().name(reference.row) != reference.name {
             return Ok(false);
         }
         match reference.dot {
             Dot::Names => match self.kept_names(alloc, reference)? {
-                Some(names) => Ok(self.are_written(reference, &names)),
+                Some(names) => Ok(are_equal(&names, &self.numbers_back(alloc, parts)?)),
                 None => Ok(false),
             },
             _ => Ok(true),
@@ -108,19 +154,17 @@ impl<'a> Speller<'a> {
     }
 
     // The packages and types before the reference are those of the locks.
-    fn is_trace_kept(&self, reference: &Reference, trace: &[Referent]) -> bool {
-        if trace.len() != reference.chain.len() as usize {
+    fn is_trace_kept(&self, parts: &[u32], trace: &[Referent]) -> bool {
+        let count = parts.len();
+        if trace.len() != count {
             return false;
         }
-        for nth in 0..reference.chain.len() {
-            let lock = self.under().referent(reference.chain.row(nth));
-            match trace.get(nth as usize) {
-                Some(found) => {
-                    if *found != lock {
-                        return false;
-                    }
-                }
-                None => return false,
+        for nth in 0..count {
+            let Some(part) = parts.get(count - 1 - nth) else {
+                return false;
+            };
+            if trace.get(nth).copied() != Some(self.under().referent(*part)) {
+                return false;
             }
         }
         true
@@ -136,10 +180,11 @@ impl<'a> Speller<'a> {
         if !is_kept(spelling.shape) || !spelling.casts.is_empty() {
             return Ok(false);
         }
-        if spelling.found != reference.lock || !self.is_trace_kept(reference, &spelling.trace) {
+        let parts = self.parts(alloc, reference)?;
+        if spelling.found != reference.lock || !self.is_trace_kept(&parts, &spelling.trace) {
             return Ok(false);
         }
-        self.is_text_kept(alloc, reference)
+        self.is_text_kept(alloc, reference, &parts)
     }
 
     // What the old shape finds, where it finds anything; for a package also a type that is found in its place.
@@ -156,29 +201,116 @@ impl<'a> Speller<'a> {
         }
     }
 
-    // Adds the spelling of one row, if it is a reference and does not stay as it stands.
-    fn spell_row(
+    // Why the reference cannot be written.
+    fn refused(&self, alloc: Global, reference: &Reference) -> SpellFault
+        ensures { spelled.IsFaultAt reference.now.row result }
+    {
+        match self.found_instead(alloc, reference) {
+            Ok(found) => SpellFault::NoSpelling {
+                row: reference.row,
+                found,
+            },
+            Err(_) => SpellFault::OutOfMemory,
+        }
+    }
+
+    // Adds the spelling of a reference, unless it stays as it stands.
+    fn add(
         &self,
         alloc: Global,
         all: &mut Vec<Spelling>,
-        row: u32,
-    ) -> Result<(), SpellFault> {
-        let Some(reference) = self.reference(row) else {
-            return Ok(());
+        reference: &Reference,
+        spelling: Spelling,
+    ) -> Result<(), SpellFault>
+        ensures spelled { shaping.IsSpelled self.now spelling → shaping.AreSpelled self.now all.old.items → OnOk result (shaping.AreSpelled self.now all.new.items) }
+        ensures fault { IfErr result (λ fault. fault ≡ faults.OutOfMemory) }
+    {
+        let Ok(is_plain) = self.is_plain(alloc, reference, &spelling) else {
+            return Err(SpellFault::OutOfMemory);
         };
-        match self.first_spelling(alloc, &reference)? {
-            Some(spelling) => {
-                if !self.is_plain(alloc, &reference, &spelling)? {
-                    all.push(spelling)?;
-                }
-                Ok(())
-            }
-            None => Err(SpellFault::NoSpelling {
-                row,
-                found: self.found_instead(alloc, &reference)?,
-            }),
+        if is_plain {
+            return Ok(());
+        }
+        push_spelling(all, spelling)
+    }
+
+    // Adds the spelling of a reference, if it does not stay as it stands.
+    fn spell_reference(
+        &self,
+        alloc: Global,
+        all: &mut Vec<Spelling>,
+        reference: &Reference,
+    ) -> Result<(), SpellFault>
+        ensures spelled { tell.IsWholeSpeller self.now → tell.IsSought self.now reference.now → shaping.AreSpelled self.now all.old.items → OnOk result (shaping.AreSpelled self.now all.new.items) }
+        ensures fault { tell.IsWholeSpeller self.now → tell.IsSought self.now reference.now → IfErr result (λ fault. shaping.HasNone self.now fault) }
+    {
+        let Ok(first) = self.first_spelling(alloc, reference) else {
+            return Err(SpellFault::OutOfMemory);
+        };
+        match first {
+            Some(spelling) => self.add(alloc, all, reference, spelling),
+            None => Err(self.refused(alloc, reference)),
         }
     }
+
+    // The row is one of the program, and so is what it must refer to.
+    fn is_known(&self, row: u32) -> bool
+        ensures there { result ≡ true → row < length (tell.rows_of self.now) }
+        ensures target { result ≡ true → tell.HasTarget (tell.rows_of self.now) (tell.table_of self.now row) }
+        ensures level { result ≡ true → tell.HasLevel (tell.rows_of self.now) (tell.table_of self.now row) }
+    {
+        let view = self.view;
+        let under = view.sight.world.under;
+        if (row as usize) >= under.rows.len() {
+            return false;
+        }
+        let lock = under.referent(row);
+        has_target(under.rows, lock) && has_level(under.rows, lock)
+    }
+
+    // Adds the spelling of one row, if it is a reference and does not stay as it stands.
+    fn spell_row(&self, alloc: Global, all: &mut Vec<Spelling>, row: u32) -> Result<(), SpellFault>
+        ensures spelled { tell.IsWholeSpeller self.now → shaping.AreSpelled self.now all.old.items → OnOk result (shaping.AreSpelled self.now all.new.items) }
+        ensures fault { tell.IsWholeSpeller self.now → IfErr result (λ fault. shaping.HasNone self.now fault) }
+    {
+        if !self.is_known(row) {
+            return Err(SpellFault::OutOfMemory);
+        }
+        match self.reference(row) {
+            Some(reference) => self.spell_reference(alloc, all, &reference),
+            None => Ok(()),
+        }
+    }
+
+    // The spellings of these rows that do not stay as they stand.
+    fn spell_all(&self, alloc: Global, order: &[u32]) -> Result<Vec<Spelling>, SpellFault>
+        ensures spelled { tell.IsWholeSpeller self.now → IfOk result (λ all. shaping.AreSpelled self.now all.items) }
+        ensures fault { tell.IsWholeSpeller self.now → IfErr result (λ fault. shaping.HasNone self.now fault) }
+    {
+        let mut all = Vec::new(alloc);
+        for row in order {
+            match self.spell_row(alloc, &mut all, *row) {
+                Ok(()) => (),
+                Err(fault) => return Err(fault),
+            }
+        }
+        Ok(all)
+    }
+}
+
+// Both are one list.
+fn are_equal(one: &[u32], other: &[u32]) -> bool {
+    one == other
+}
+
+fn push_spelling(all: &mut Vec<Spelling>, spelling: Spelling) -> Result<(), SpellFault>
+    ensures pushed { OnOk result (all.new.items ≡ all.old.items ++ spelling ∷ []) }
+    ensures fault { IfErr result (λ fault. fault ≡ faults.OutOfMemory) }
+{
+    if all.push(spelling).is_err() {
+        return Err(SpellFault::OutOfMemory);
+    }
+    Ok(())
 }
 
 /// What is found, or the last type before it where nothing is.
@@ -201,7 +333,10 @@ fn is_kept(shape: Shape) -> bool {
 }
 
 /// A spelling without casts.
-fn spelling_of(alloc: Global, reference: &Reference, fit: Option<Fit>) -> Option<Spelling> {
+fn spelling_of(alloc: Global, row: u32, fit: Option<Fit>) -> Option<Spelling>
+    ensures row { IfSome result (λ a. a.row ≡ row) }
+    ensures first { (o : Option candidate.Candidate) (s : Reader) → shaping.IsFitOf s row fit o → spelled.IsWritten row result (shaping.written_plain s row o) }
+{
     match fit {
         Some(
             Fit {
@@ -210,7 +345,7 @@ fn spelling_of(alloc: Global, reference: &Reference, fit: Option<Fit>) -> Option
                 trace,
             },
         ) => Some(Spelling {
-            row: reference.row,
+            row,
             shape,
             casts: Vec::new(alloc),
             found,
@@ -221,7 +356,9 @@ fn spelling_of(alloc: Global, reference: &Reference, fit: Option<Fit>) -> Option
 }
 
 /// The first row behind the prelude.
-fn first_written(units: &[u32]) -> u32 {
+fn first_written(units: &[u32]) -> u32
+    ensures { result ≡ spelled.first_written units.now }
+{
     match units.get(PRELUDE) {
         Some(row) => *row,
         None => u32::MAX,
@@ -235,20 +372,24 @@ pub fn spell(
     alloc: Global,
     locked: &Project,
     constant: &[bool],
-) -> Result<Vec<Spelling>, SpellFault> {
+) -> Result<Vec<Spelling>, SpellFault>
+    ensures spelled { shaping.IsWholeView locked.now.view → IfOk result (λ all. shaping.AreSpelledIn locked.now.view constant.now (spelled.first_written locked.now.marks.starts.now) all.items) }
+    ensures fault { shaping.IsWholeView locked.now.view → IfErr result (λ fault. shaping.HasNoneIn locked.now.view constant.now (spelled.first_written locked.now.marks.starts.now) fault) }
+{
     let view = &locked.view;
     let rows = view.sight.world.under.rows;
+    let Ok(paths) = Paths::of(alloc, rows, view.sight.world.under.places) else {
+        return Err(SpellFault::OutOfMemory);
+    };
+    let Ok(order) = order_of_occurrences(alloc, rows) else {
+        return Err(SpellFault::OutOfMemory);
+    };
     let units = locked.marks.starts;
-    let paths = Paths::of(alloc, rows, view.sight.world.under.places)?;
     let speller = Speller {
         view,
         constant,
         paths: &paths,
         written: first_written(units),
     };
-    let mut all = Vec::new(alloc);
-    for row in &order_of_occurrences(alloc, rows)? {
-        speller.spell_row(alloc, &mut all, *row)?;
-    }
-    Ok(all)
+    speller.spell_all(alloc, &order)
 }

@@ -1,0 +1,11 @@
+use Rattle.std.proofs.Common.{◌∙◌}
+use Rattle.jr_spell.specs.Spellers.{rows_of, table_of}
+use Rattle.jr_spell.proofs.ByObject.{with_some, with_none}
+use Rattle.jr_spell.proofs.speller.Speller.instance_level.Goals as goal
+
+pub returns-in-Some : goal.returns-in-Some
+returns-in-Some c = λ seen at. let s = c.args.self.now in let r = c.args.reference.now in
+    c.only_if.ensures ∙ with_some (rows_of s) (table_of s) r.row r.lock c.level.result c.in-Some.level c.has_instance-has.result at.lock_is c.level.ensures c.in-Some.is (c.has_instance-has.ensures seen.seen.placed)
+
+pub returns-in-None : goal.returns-in-None
+returns-in-None c = λ seen at. let s = c.args.self.now in let r = c.args.reference.now in with_none (rows_of s) (table_of s) r.row r.lock c.level.result at.lock_is c.level.ensures c.in-None.is

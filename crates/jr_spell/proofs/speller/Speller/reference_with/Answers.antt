@@ -1,0 +1,6 @@
+use Rattle.std.proofs.Common.{sym, subst}
+use Rattle.jr_spell.specs.Spellers.{rows_of, IsKnown}
+use Rattle.jr_spell.proofs.speller.Speller.reference_with.Goals as goal
+
+pub returns-in_default-clause-whole : goal.returns-in_default-clause-whole
+returns-in_default-clause-whole c = λ whole sought lt known. c.reference_to.ensures.whole whole c.referent-lock.ensures sought lt (subst (IsKnown (rows_of c.args.self.now)) (sym c.referent-lock.ensures) known)
