@@ -1,10 +1,8 @@
 -- The bits of words: one variable of 64.
-use Rattle.std.proofs.Common.{◌≡◌, ◌≢◌, refl, sym, ◌∙◌, ap, ap₂, subst, ⊎_elim, arith, ℕ, zero, suc, ◌+◌, ◌-◌, ◌<◌, ◌≤◌, ◌^◌, ◌*◌, ◌%◌, min, max, Bool, true, false, not, ◌&&◌, ◌||◌, if◌then◌else◌, List, Option, Some, None, nat_eq, nat_lt, bit_and, bit_or, slice_index_or}
+use Rattle.std.proofs.Common.{◌≡◌, refl, ◌∙◌, ap, arith, ℕ, zero, suc, ◌-◌, ◌<◌, ◌^◌, ◌*◌, ◌%◌, min, max, Bool, true, false, ◌&&◌, ◌||◌, if◌then◌else◌, List, Option, Some, None, nat_eq, nat_lt, slice_index_or}
 use Rattle.std.specs.Int.{bit_at, bit_not, w64}
-use Rattle.std.proofs.lemmas.Bool.{false≢true, cases_eq, cases_lt, cases_Bool, ltb-true, lt-ltb, le-ltb, ltb-false}
-use Rattle.std.proofs.lemmas.Bool.Decides.{Decides-eqb}
-use Rattle.std.proofs.lemmas.Nat.Bits.{bit_at-zero, bit_at_and, bit_at_or, bit_at_ones, bit_at_not, bit_at-lt, bit_at-pow_same, bit_at-pow_other}
-use Rattle.jr_assign.specs.Sets.{Sets, only}
+use Rattle.std.proofs.lemmas.Nat.Bits.{bit_at-zero, bit_at_and, bit_at_or, bit_at_ones, bit_at_not, bit_at-lt}
+use Rattle.jr_assign.specs.Sets.{only}
 use Rattle.jr_assign.specs.Words.{mask_of, mask, words, has_bit, IsTold, EachWordIsOfVariables}
 use Rattle.jr_assign.proofs.Carried.{Keeps, carries}
 

@@ -1,5 +1,5 @@
 -- A table of sets is one of each variable: the equations go over with what they are made of.
-use Rattle.std.proofs.Common.{◌≡◌, refl, sym, ◌∙◌, ap, ap₂, arith, ℕ, zero, suc, ◌+◌, ◌-◌, ◌<◌, ◌≤◌, Bool, true, false, not, ◌&&◌, ◌||◌, if◌then◌else◌, List, [], ◌∷◌, length, Option, Some, None, nat_eq, nat_lt}
+use Rattle.std.proofs.Common.{◌≡◌, refl, ◌∙◌, ap, ap₂, ℕ, zero, suc, ◌+◌, ◌-◌, ◌<◌, ◌≤◌, Bool, true, false, ◌&&◌, if◌then◌else◌, List, [], ◌∷◌, Option, Some, None, nat_eq, nat_lt}
 use Rattle.jr_base.specs.declared.kind.Symbol.TheVariants as y
 use Rattle.jr_tree.specs.declared.label.Label.{Label}
 use Rattle.jr_tree.specs.declared.label.Label.TheVariants as is
@@ -49,10 +49,10 @@ module _ {A B : Type 0} (s : Sets A) (r : Sets B) (h : A → B) (Is : ℕ → Ty
   passed_kept b [] x y e = e
   passed_kept b (t ∷ ts) x y e = passed_kept b ts _ _ (if_kept h (tell.passes p f b t) _ _ _ _ (keeps.either x (tell.behind_last f a t) ∙ ap₂ r.either e (last_kept t)) e)
 
-  arrives_kept : (b : ℕ) → h (tell.arrives s p f guarded a b) ≡ tell.arrives r p f guarded b1 b
+  pub arrives_kept : (b : ℕ) → h (tell.arrives s p f guarded a b) ≡ tell.arrives r p f guarded b1 b
   arrives_kept b = passed_kept b guarded _ _ (last_kept b)
 
-  both_kept : (test : ℕ → Bool) (v : ℕ → A) (w : ℕ → B) (k : ℕ) → ((i : ℕ) → h (v i) ≡ w i) → h (both_of s test v k) ≡ both_of r test w k
+  pub both_kept : (test : ℕ → Bool) (v : ℕ → A) (w : ℕ → B) (k : ℕ) → ((i : ℕ) → h (v i) ≡ w i) → h (both_of s test v k) ≡ both_of r test w k
   both_kept test v w zero e = keeps.all
   both_kept test v w (suc k) e = let more = both_kept test v w k e in if_kept h (test k) _ _ _ _ (keeps.both _ _ ∙ ap₂ r.both more (e k)) more
 

@@ -1,21 +1,21 @@
 -- What a confirmed table says of the rows of a member.
-use Rattle.std.proofs.Common.{◌≡◌, ◌≢◌, refl, sym, ◌∙◌, ap, ap₂, subst, ⊎_elim, arith, ℕ, zero, suc, ◌+◌, ◌-◌, ◌*◌, ◌%◌, ◌^◌, ◌<◌, ◌≤◌, Bool, true, false, not, ◌&&◌, if◌then◌else◌, List, [], ◌∷◌, length, Option, Some, None, nat_eq, nat_lt, bit_and, get_or, slice_index_or, slice_set}
+use Rattle.std.proofs.Common.{◌≡◌, ◌≢◌, refl, sym, ◌∙◌, ap, subst, ⊎_elim, arith, ℕ, zero, suc, ◌+◌, ◌-◌, ◌*◌, ◌%◌, ◌^◌, ◌<◌, ◌≤◌, Bool, true, false, not, ◌&&◌, if◌then◌else◌, List, [], ◌∷◌, length, Option, Some, None, nat_eq, nat_lt, bit_and, slice_index_or, slice_set}
 use Rattle.std.specs.Int.{bit_at}
 use Rattle.std.proofs.lemmas.Bool.{false≢true, cases_eq, cases_lt, cases_Bool, ltb-true, ltb-false}
 use Rattle.std.proofs.lemmas.Bool.Decides.{Decides-eqb}
-use Rattle.std.proofs.lemmas.List.{get_or-set_same, get_or-set_other, length-set}
+use Rattle.std.proofs.lemmas.List.{get_or-set_same, get_or-set_other}
 use Rattle.std.proofs.lemmas.Nat.{one_shl, pow_pos}
 use Rattle.std.proofs.lemmas.Nat.Bits.{and_pow, bit_at-zero, bit_at-lt, bit_at-pow_same, bit_at-pow_other}
 use Rattle.jr_tree.specs.declared.label.Label.{Label}
 use Rattle.jr_tree.specs.declared.label.Label.TheVariants as is
-use Rattle.jr_tree.specs.Rows.{Rows, label, end}
+use Rattle.jr_tree.specs.Rows.{label, end}
 use Rattle.jr_plain.specs.Search.{all_below}
 use Rattle.jr_assign.specs.declared.course.Course.{Course}
-use Rattle.jr_assign.specs.Changes.{Facts, fact, member_in}
-use Rattle.jr_assign.specs.Sets.{Sets, only}
-use Rattle.jr_assign.specs.Assigned.{Seen, Gain, AreAssigned, before_at, gain_at, met_at, guarded_in, has_parts, is_row}
-use Rattle.jr_assign.specs.Words.{bit_of, mask_of, mask, words, has_bit, bits_of, IsTold, HasBit, seen_by, sets_by, met_by}
-use Rattle.jr_assign.specs.Confirmed.{is_gain, before_of, is_right_at, is_right}
+use Rattle.jr_assign.specs.Changes.{fact, member_in}
+use Rattle.jr_assign.specs.Sets.{only}
+use Rattle.jr_assign.specs.Assigned.{Gain, AreAssigned, before_at, gain_at, met_at, guarded_in, is_row}
+use Rattle.jr_assign.specs.Words.{mask_of, mask, words, has_bit, bits_of, IsTold, HasBit, seen_by, sets_by, met_by}
+use Rattle.jr_assign.specs.Confirmed.{is_gain, before_of, is_right_at}
 use Rattle.jr_assign.specs.Judged.{IsJudged, AreJudged, Verdicts, verdict, number, is_owner, is_owned, is_owned_if, is_declared_owned, is_owned_at, are_owned, is_asked, judged_by, judged_at, IsConfirmed}
 use Rattle.jr_assign.proofs.Inside.{both_true, not_true}
 use Rattle.jr_assign.proofs.Bits.{each_word}
@@ -35,14 +35,14 @@ eq_false m n apart = ⊎_elim (λ t. absurd (apart ((Decides-eqb m n).0 t))) (λ
 
 -- ---- a variable with a bit
 
-record BitOf (from : ℕ) (o : Option ℕ) : Type 0 where
-  number : ℕ
-  is : o ≡ Some number
-  low : from ≤ number
-  small : number - from < 64
-  mask : mask_of from o ≡ 2 ^ (number - from)
+pub record BitOf (from : ℕ) (o : Option ℕ) : Type 0 where
+  pub number : ℕ
+  pub is : o ≡ Some number
+  pub low : from ≤ number
+  pub small : number - from < 64
+  pub mask : mask_of from o ≡ 2 ^ (number - from)
 
-bit_told : (from : ℕ) (o : Option ℕ) → nat_eq (mask_of from o) 0 ≡ false → BitOf from o
+pub bit_told : (from : ℕ) (o : Option ℕ) → nat_eq (mask_of from o) 0 ≡ false → BitOf from o
 bit_told from None e = absurd (false≢true (sym e))
 bit_told from (Some k) e = by (nat_lt k from) (nat_lt (k - from) 64) refl refl e
   where
@@ -109,7 +109,7 @@ module _ (c : Course) (owners : List (Option ℕ)) (v : ℕ) (bit : BitOf c.from
   assigned_told : (o : Option ℕ) (d : ℕ) → o ≡ Some d → is_owned_if c owners o ≡ true → is_owned c owners d ≡ true
   assigned_told o d e h = sym (ap (is_owned_if c owners) e) ∙ h
 
-  has_bit_of : are_owned c owners ≡ true → HasBit c.numbers.now c.from v j c.rows.now c.facts.now c.root
+  pub has_bit_of : are_owned c owners ≡ true → HasBit c.numbers.now c.from v j c.rows.now c.facts.now c.root
   has_bit_of all = record {
     small = bit.small;
     declared = λ n low high is_final dims e. told n (declared_told (label c.rows.now n) n is_final dims e (both_true _ _ (at_row n (omega arith) high)).0);
@@ -119,6 +119,15 @@ module _ (c : Course) (owners : List (Option ℕ)) (v : ℕ) (bit : BitOf c.from
       at_row : (n : ℕ) → c.root ≤ n → n < end c.rows.now c.root → is_owned_at c owners n ≡ true
       at_row n low high = let back : c.root + (n - c.root) ≡ n = omega arith in subst (λ n. is_owned_at c owners n ≡ true) back
           (each_below (end c.rows.now c.root - c.root) (λ i. is_owned_at c owners (c.root + i)) all (n - c.root) (omega arith))
+
+-- the bit of a word, as it is tested
+pub bit_tested : (x m k : ℕ) → m ≡ 2 ^ k → not (nat_eq (bit_and x m) 0) ≡ has_bit k x
+bit_tested x m k e = ap (λ m. not (nat_eq (bit_and x m) 0)) e ∙ ap (λ b. not (nat_eq b 0)) (and_pow x k) ∙ by (bit_at x k) (bit_at-lt x k)
+  where
+    by : (b : ℕ) → b < 2 → not (nat_eq (b * 2 ^ k) 0) ≡ nat_eq b 1
+    by zero lt = ap not (eq_true (0 * 2 ^ k) 0 (omega arith))
+    by (suc zero) lt = ap not (eq_false (1 * 2 ^ k) 0 (λ e. let some = pow_pos k in absurd (omega arith)))
+    by (suc (suc b)) lt = absurd (omega arith)
 
 -- ---- a table that is confirmed
 
@@ -139,7 +148,7 @@ module _ (c : Course) (start : ℕ) (owners : List (Option ℕ)) (sure : IsConfi
   of_guarded : (n : ℕ) → gain n ≡ gain_at (sets_by c) c.rows.now c.facts.now (seen_by c) (met_at (sets_by c) c.rows.now c.facts.now (guarded_in c.rows.now c.root) (seen_by c)) n
   of_guarded n = ap (λ ts. gain_at (sets_by c) c.rows.now c.facts.now (seen_by c) (met_at (sets_by c) c.rows.now c.facts.now ts (seen_by c)) n) sure.guarded
 
-  are_assigned : c.root < end c.rows.now c.root → AreAssigned (words c.numbers.now c.from) c.rows.now c.facts.now c.root start (seen_by c)
+  pub are_assigned : c.root < end c.rows.now c.root → AreAssigned (words c.numbers.now c.from) c.rows.now c.facts.now c.root start (seen_by c)
   are_assigned some = record {
     begins = before_is c.root (omega arith) some ∙ ap (λ b. if b then start else before_at (sets_by c) c.rows.now c.facts.now (seen_by c) (met_by c) c.root) (eq_true c.root c.root refl);
     before = λ n low high. before_is n (omega arith) high ∙ ap (λ b. if b then start else before_at (sets_by c) c.rows.now c.facts.now (seen_by c) (met_by c) n) (eq_false n c.root (λ e. absurd (omega arith)))
@@ -148,15 +157,6 @@ module _ (c : Course) (start : ℕ) (owners : List (Option ℕ)) (sure : IsConfi
     yes = λ n low high. same _ _ (both_true _ _ (both_true _ _ (gain_is n low high)).1).0 ∙ ap (λ (g : Gain ℕ). g.yes) (of_guarded n);
     no = λ n low high. same _ _ (both_true _ _ (both_true _ _ (gain_is n low high)).1).1 ∙ ap (λ (g : Gain ℕ). g.no) (of_guarded n);
   }
-
-  -- the bit of a word, as it is tested
-  bit_tested : (x m k : ℕ) → m ≡ 2 ^ k → not (nat_eq (bit_and x m) 0) ≡ has_bit k x
-  bit_tested x m k e = ap (λ m. not (nat_eq (bit_and x m) 0)) e ∙ ap (λ b. not (nat_eq b 0)) (and_pow x k) ∙ by (bit_at x k) (bit_at-lt x k)
-    where
-      by : (b : ℕ) → b < 2 → not (nat_eq (b * 2 ^ k) 0) ≡ nat_eq b 1
-      by zero lt = ap not (eq_true (0 * 2 ^ k) 0 (omega arith))
-      by (suc zero) lt = ap not (eq_false (1 * 2 ^ k) 0 (λ e. let some = pow_pos k in absurd (omega arith)))
-      by (suc (suc b)) lt = absurd (omega arith)
 
   module _ (held : List ℕ) (v n : ℕ) (read : (fact c.facts.now n).read ≡ Some v) (asked : is_asked c start owners held v n ≡ true) (low : c.root ≤ n) (high : n < end c.rows.now c.root) where
     asks : (not (nat_eq (mask c.numbers.now c.from v) 0) ≡ true) × ((nat_eq (bit_and start (mask c.numbers.now c.from v)) 0 && (is_owned c owners v && nat_eq (member_in held n) c.root)) ≡ true)
@@ -187,29 +187,31 @@ module _ (c : Course) (start : ℕ) (owners : List (Option ℕ)) (sure : IsConfi
       is = sym (bit_tested (seen_by c n).before (mask c.numbers.now c.from v) (bit.number - c.from) bit.mask);
     })
 
+-- a verdict more
+pub verdict_more : (P : ℕ → Bool → Type 0) (old : Verdicts) (n : ℕ) (x : Bool) → ((m : ℕ) (b : Bool) → verdict old m ≡ Some b → P m b) → P n x → (m : ℕ) (b : Bool) → verdict (slice_set old n (Some x)) m ≡ Some b → P m b
+verdict_more P old n x each here m b e = ⊎_elim
+    (λ at. ⊎_elim
+    (λ lt. subst (λ m. P m b) (sym at) (subst (P n) (some_same (sym (get_or-set_same old n (Some x) None lt) ∙ sym (ap (λ m. verdict (slice_set old n (Some x)) m) at) ∙ e)) here))
+    (λ past. each m b (sym (ap (λ all. verdict all m) (set_past old n (Some x) past)) ∙ e))
+    (cases_lt n (length old)))
+    (λ apart. each m b (sym (get_or-set_other old n m (Some x) None apart) ∙ e))
+    (cases_eq m n)
+  where
+    some_same : {a b : Bool} → Some a ≡ Some b → a ≡ b
+    some_same e = cc
+
+    set_past : (xs : Verdicts) (i : ℕ) (x : Option Bool) → length xs ≤ i → slice_set xs i x ≡ xs
+    set_past [] i x le = refl
+    set_past (y ∷ ys) zero x le = absurd (omega arith)
+    set_past (y ∷ ys) (suc i) x le = ap (λ l. y ∷ l) (set_past ys i x (omega arith))
+
 -- one row more
 pub judged_more : (c : Course) (start : ℕ) (owners : List (Option ℕ)) (held : List ℕ) → IsConfirmed c start owners → (n : ℕ) → c.root ≤ n → n < end c.rows.now c.root → (old new : Verdicts)
     → AreJudged c.rows.now c.facts.now held old → new ≡ judged_at c start owners held n old → AreJudged c.rows.now c.facts.now held new
 judged_more c start owners held sure n low high old new are is = subst (AreJudged c.rows.now c.facts.now held) (sym is) (by (fact c.facts.now n).read refl)
   where
     put : (x : Bool) → IsJudged c.rows.now c.facts.now (member_in held n) n x → AreJudged c.rows.now c.facts.now held (slice_set old n (Some x))
-    put x judged = record {
-      each = λ m b e. ⊎_elim
-          (λ at. ⊎_elim
-          (λ lt. subst (λ m. IsJudged c.rows.now c.facts.now (member_in held m) m b) (sym at) (subst (IsJudged c.rows.now c.facts.now (member_in held n) n) (some_same (sym (get_or-set_same old n (Some x) None lt) ∙ sym (ap (λ m. verdict (slice_set old n (Some x)) m) at) ∙ e)) judged))
-          (λ past. are.each m b (sym (ap (λ all. verdict all m) (set_past old n (Some x) past)) ∙ e))
-          (cases_lt n (length old)))
-          (λ apart. are.each m b (sym (get_or-set_other old n m (Some x) None apart) ∙ e))
-          (cases_eq m n);
-    }
-      where
-        some_same : {a b : Bool} → Some a ≡ Some b → a ≡ b
-        some_same e = cc
-
-        set_past : (xs : Verdicts) (i : ℕ) (x : Option Bool) → length xs ≤ i → slice_set xs i x ≡ xs
-        set_past [] i x le = refl
-        set_past (y ∷ ys) zero x le = absurd (omega arith)
-        set_past (y ∷ ys) (suc i) x le = ap (λ l. y ∷ l) (set_past ys i x (omega arith))
+    put x judged = record { each = verdict_more (λ m b. IsJudged c.rows.now c.facts.now (member_in held m) m b) old n x are.each judged }
 
     choose : (v : ℕ) → (fact c.facts.now n).read ≡ Some v → (b : Bool) → is_asked c start owners held v n ≡ b
         → AreJudged c.rows.now c.facts.now held (if b then slice_set old n (Some (not (nat_eq (bit_and (seen_by c n).before (mask c.numbers.now c.from v)) 0))) else old)

@@ -1,6 +1,6 @@
 -- What is assigned before and behind a row depends on what is so before it alone, so the equations of a member have one solution.
 use Rattle.std.proofs.Common.{◌≡◌, refl, sym, ◌∙◌, ap, ap₂, subst, ⊎_elim, arith, ℕ, zero, suc, ◌+◌, ◌-◌, ◌<◌, ◌≤◌, Bool, true, false, not, ◌&&◌, if◌then◌else◌, List, [], ◌∷◌, length, Option, Some, None, nat_eq, nat_lt}
-use Rattle.std.proofs.lemmas.Bool.{false≢true, cases_eq, cases_lt, cases_Bool, ltb-true, lt-ltb, le-ltb, ltb-false}
+use Rattle.std.proofs.lemmas.Bool.{false≢true, cases_eq, cases_lt, cases_Bool, ltb-true, lt-ltb, ltb-false}
 use Rattle.std.proofs.lemmas.Bool.Decides.{Decides-eqb}
 use Rattle.jr_base.specs.declared.kind.Symbol.TheVariants as y
 use Rattle.jr_tree.specs.declared.label.Label.{Label}
@@ -14,7 +14,7 @@ use Rattle.jr_assign.specs.Changes.{Facts, fact}
 use Rattle.jr_assign.specs.Sets.{Sets, only, both_of}
 use Rattle.jr_assign.specs.Assigned as tell
 use Rattle.jr_assign.specs.Assigned.{Seen, Gain, first, second, third, last_part, AreAssigned}
-use Rattle.jr_assign.proofs.Inside.{next_child, both_true, not_true, HoldsIn, IsLastChild, inside_ends, child_ends, holds_in, last_tells, in_last, before_last}
+use Rattle.jr_assign.proofs.Inside.{next_child, both_true, not_true, IsLastChild, child_ends, holds_in, last_tells, in_last, before_last}
 
 eq_true : (m n : ℕ) → m ≡ n → nat_eq m n ≡ true
 eq_true m n e = (Decides-eqb m n).1 e

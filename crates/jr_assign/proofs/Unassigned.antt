@@ -1,24 +1,24 @@
 -- The faults that are found are those of the rule on locals that are read.
-use Rattle.std.proofs.Common.{◌≡◌, refl, sym, ◌∙◌, ap, subst, ⊎_elim, arith, ℕ, zero, suc, ◌+◌, ◌<◌, ◌≤◌, Bool, true, false, not, ◌&&◌, List, length, Option, Some, None, nat_eq, nat_lt, get_or, replicate}
+use Rattle.std.proofs.Common.{◌≡◌, refl, sym, ◌∙◌, ap, subst, ⊎_elim, arith, ℕ, zero, suc, ◌+◌, ◌<◌, ◌≤◌, Bool, true, false, not, List, length, Option, Some, None, nat_lt, replicate}
 use Rattle.std.proofs.lemmas.Bool.{false≢true, cases_lt, le-ltb}
 use Rattle.std.proofs.lemmas.Bool.Decides.{Decides-eqb}
 use Rattle.std.proofs.lemmas.List.{get_or_past}
 use Rattle.jr_tree.specs.Rows.{Rows, end}
 use Rattle.jr_tree.specs.Tree.{IsTree}
-use Rattle.jr_plain.specs.Search.{all_below, all_such, has}
 use Rattle.jr_plain.proofs.Searches.{lists}
 use Rattle.jr_rule.specs.declared.Fault.{Fault}
 use Rattle.jr_rule.specs.declared.Rule.TheVariants as rule
 use Rattle.jr_rule.specs.Faults.{AreFaultsOf}
 use Rattle.jr_faults.specs.Added.{is_rule, AreOnly}
-use Rattle.jr_faults.proofs.Told.{then_none}
+use Rattle.jr_faults.proofs.Told.{then_none, none_then}
 use Rattle.jr_assign.specs.declared.fact.Fact.{Fact}
 use Rattle.jr_tree.specs.declared.row.Row.{Row}
 use Rattle.jr_assign.specs.Changes.{Facts, fact, members, member_in}
 use Rattle.jr_assign.specs.Sets.{only}
 use Rattle.jr_assign.specs.Assigned.{Seen, AreAssigned, has_last, is_last}
 use Rattle.jr_assign.specs.Confirmed.{are_last}
-use Rattle.jr_assign.specs.Judged.{ReadsUnassigned, IsJudged, Verdicts, verdict, AreJudged, is_lost, lost_rows, is_settled, are_settled, AreUnassignedReads}
+use Rattle.jr_assign.specs.Judged.{ReadsUnassigned, Verdicts, verdict, AreJudged, is_lost, lost_rows, is_settled, are_settled, AreUnassignedReads}
+use Rattle.jr_assign.specs.Made.{AreLeftBlank}
 use Rattle.jr_assign.proofs.Inside.{both_true}
 use Rattle.jr_assign.proofs.Once.{each_member_once}
 use Rattle.jr_assign.proofs.Judging.{each_below}
@@ -67,10 +67,10 @@ module _ (p : Rows) (f : Facts) (tree : IsTree p) (lasts : are_last p f ≡ true
     within : (n : ℕ) → ReadsUnassigned p f n → n < length p
     within n r = ⊎_elim (λ lt. lt) (λ past. let long = as_long in absurd (none_some (sym (ap (λ (x : Fact). x.read) (get_or_past f n no_fact (omega arith))) ∙ r.read))) (cases_lt n (length p))
 
-    pub reads_told : (old mid new : List Fault) → AreFaultsOf rule.UnassignedLocal (lost_rows p f all) old mid → AreOnly (is_rule rule.UnassignedFinal) mid new → AreUnassignedReads p f old new
-    reads_told old mid new are only_finals = record {
+    pub reads_told : (old new : List Fault) → AreFaultsOf rule.UnassignedLocal (lost_rows p f all) old new → AreUnassignedReads p f old new
+    reads_told old new are = record {
       rows = lost_rows p f all;
-      are = then_none rule.UnassignedLocal are (only_finals.others rule.UnassignedLocal refl);
+      are = are;
       each = lists (λ n. is_lost (fact f n).read (verdict all n)) (ReadsUnassigned p f) (λ n. (
         λ h. lost_reads n (fact f n).read (verdict all n) refl refl h,
         λ r. reads_lost n r (within n r) (fact f n).read (verdict all n) refl refl (each_below (length p) (λ n. is_settled (fact f n).read (verdict all n)) settled n (within n r)),
@@ -78,15 +78,25 @@ module _ (p : Rows) (f : Facts) (tree : IsTree p) (lasts : are_last p f ≡ true
     }
 
 -- nothing is judged yet
-pub none_judged : (p : Rows) (f : Facts) (held : List ℕ) (n : ℕ) (all : Verdicts) → all ≡ replicate n None → AreJudged p f held all
-none_judged p f held n all is = record { each = λ m b e. absurd (none_some (sym (ap (λ all. verdict all m) is ∙ none_at n m) ∙ e)) }
+pub no_verdict : (n : ℕ) (all : Verdicts) (m : ℕ) {b : Bool} → all ≡ replicate n None → verdict all m ≡ Some b → ⊥
+no_verdict n all m is e = none_some (sym (ap (λ all. verdict all m) is ∙ none_at n m) ∙ e)
   where
     none_at : (n m : ℕ) → verdict (replicate n None) m ≡ None
     none_at zero m = refl
     none_at (suc n) zero = refl
     none_at (suc n) (suc m) = none_at n m
 
+pub none_judged : (p : Rows) (f : Facts) (held : List ℕ) (n : ℕ) (all : Verdicts) → all ≡ replicate n None → AreJudged p f held all
+none_judged p f held n all is = record { each = λ m b e. absurd (no_verdict n all m is e) }
+
 -- what is judged of all members, from nothing on
 pub all_judged : (p : Rows) (f : Facts) (held : List ℕ) (none found seen : Verdicts) → held ≡ members p (length p) → none ≡ replicate (length p) None
     → (AreJudged p f held none → AreJudged p f held found) → seen ≡ found → AreJudged p f (members p (length p)) seen
 all_judged p f held none found seen h n more s = subst (λ all. AreJudged p f (members p (length p)) all) (sym s) (subst (λ ms. AreJudged p f ms found) h (more (none_judged p f held (length p) none n)))
+
+-- faults of the other rule behind them
+pub reads_then : (p : Rows) (f : Facts) (old mid new : List Fault) → AreUnassignedReads p f old mid → AreOnly (is_rule rule.UnassignedFinal) mid new → AreUnassignedReads p f old new
+reads_then p f old mid new h only = record { rows = h.rows; are = then_none rule.UnassignedLocal h.are (only.others rule.UnassignedLocal refl); each = h.each }
+
+pub then_blanks : (p : Rows) (f : Facts) (old mid new : List Fault) → AreOnly (is_rule rule.UnassignedLocal) old mid → AreLeftBlank p f mid new → AreLeftBlank p f old new
+then_blanks p f old mid new only h = record { rows = h.rows; are = none_then rule.UnassignedFinal (only.others rule.UnassignedFinal refl) h.are; each = h.each }

@@ -1,5 +1,5 @@
 -- A table of a member is confirmed by a test of each of its rows.
-use Rattle.std.specs.Prelude.{◌≡◌, ℕ, ◌+◌, ◌-◌, Bool, true, ◌&&◌, if◌then◌else◌, length, nat_eq}
+use Rattle.std.specs.Prelude.{ℕ, ◌+◌, ◌-◌, Bool, ◌&&◌, if◌then◌else◌, length, nat_eq}
 use Rattle.jr_tree.specs.Rows.{Rows, end}
 use Rattle.jr_plain.specs.Search.{all_below}
 use Rattle.jr_assign.specs.declared.course.Course.{Course}

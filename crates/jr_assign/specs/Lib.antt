@@ -5,3 +5,4 @@ pub mod Words
 pub mod Confirmed
 pub mod Judged
 pub mod Blank
+pub mod Made

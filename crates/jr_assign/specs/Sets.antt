@@ -1,5 +1,5 @@
 -- Sets of variables: what is assigned at a place.
-use Rattle.std.specs.Prelude.{ℕ, suc, zero, Bool, true, false, ◌&&◌, ◌||◌, if◌then◌else◌, Option, Some, None, nat_eq}
+use Rattle.std.specs.Prelude.{ℕ, suc, zero, Bool, true, false, ◌&&◌, ◌||◌, if◌then◌else◌, nat_eq}
 
 -- the sets of some kind
 pub record Sets (A : Type 0) : Type 0 where

@@ -1,5 +1,5 @@
 -- Sets of 64 variables as the bits of a word, and tables of them.
-use Rattle.std.specs.Prelude.{◌≡◌, ◌<◌, ◌≤◌, ℕ, ◌+◌, ◌-◌, ◌^◌, ◌*◌, ◌%◌, Bool, List, Option, Some, None, bit_and, bit_or, if◌then◌else◌, nat_eq, nat_lt, slice_index_or}
+use Rattle.std.specs.Prelude.{◌≡◌, ◌<◌, ◌≤◌, ℕ, ◌-◌, ◌^◌, ◌*◌, ◌%◌, Bool, List, Option, Some, None, bit_and, bit_or, if◌then◌else◌, nat_eq, nat_lt, slice_index_or}
 use Rattle.std.specs.Int.{bit_at, bit_not, w64}
 use Rattle.jr_tree.specs.declared.label.Label.TheVariants as is
 use Rattle.jr_tree.specs.Rows.{Rows, label, end}

@@ -3,6 +3,7 @@ ghost use Rattle.std.specs.Prelude.{◌≡◌, ◌&&◌, ◌<◌, ◌^◌, IfOk,
 ghost use Rattle.jr_tree.specs.Rows.{label};
 ghost use Rattle.jr_assign.specs.Assigned as tell;
 ghost use Rattle.jr_assign.specs.Confirmed as sure;
+ghost use Rattle.jr_assign.specs.Made as made;
 ghost use Rattle.jr_assign.specs.Words.{gain_of, seen_of};
 
 use crate::course::{
@@ -116,6 +117,19 @@ pub(crate) fn are_last(rows: &[Row], facts: &[Fact]) -> bool
     facts.len() == rows.len() && are
 }
 
+/// All rows have the parts that are read.
+pub(crate) fn have_parts(rows: &[Row], facts: &[Fact]) -> bool
+    requires { length rows.now < 2 ^ 32 }
+    ensures { result ≡ made.have_parts rows.now facts.now }
+{
+    let mut have = true;
+    for at in 0..rows.len() {
+        let is_here = has_parts(rows, facts, at);
+        have = have && is_here;
+    }
+    have
+}
+
 /// The `try` statements with a `finally` in a member.
 pub(crate) fn guarded_in(alloc: Global, rows: &[Row], root: u32) -> Result<Vec<u32>, OutOfMemory>
     ensures { IfOk result (λ all. all.items ≡ tell.guarded_in rows.now root) }
@@ -134,7 +148,8 @@ pub(crate) fn guarded_in(alloc: Global, rows: &[Row], root: u32) -> Result<Vec<u
 }
 
 impl<'a> Course<'a> {
-    fn before_of(self, start: u64, at: usize) -> u64
+    /// Before a row of the member.
+    pub(crate) fn before_of(self, start: u64, at: usize) -> u64
         requires { at < 2 ^ 58 }
         ensures { result ≡ sure.before_of self.entry start at }
     {

@@ -2,7 +2,9 @@
 ghost use Rattle.std.specs.Prelude.{◌≡◌, ◌<◌, ◌≤◌, ◌+◌, ◌-◌, ◌^◌};
 ghost use Rattle.jr_tree.specs.Rows.{label, parent, end, previous};
 ghost use Rattle.jr_assign.specs.Assigned as tell;
+ghost use Rattle.jr_assign.specs.Blank.{is_return};
 ghost use Rattle.jr_assign.specs.Changes.{fact};
+ghost use Rattle.jr_assign.specs.Made.{returned_by, ended_by};
 ghost use Rattle.jr_assign.specs.Words.{mask_of, mask, seen_at, gain_of, seen_by, met_by, sets_by};
 
 use crate::fact::{Fact, Way, fact_of};
@@ -120,7 +122,8 @@ fn is_row(part: Option<u32>, at: usize) -> bool
     }
 }
 
-fn mask_of(from: u32, number: Option<u32>) -> u64
+/// The bit of a number, in the word that begins with one.
+pub(crate) fn mask_of(from: u32, number: Option<u32>) -> u64
     ensures { result ≡ mask_of from number }
 {
     match number {
@@ -216,6 +219,15 @@ fn is_break_to(way: Option<Way>, at: usize) -> bool
 {
     match way {
         Some(Way::Break(to)) => to as usize == at,
+        _ => false,
+    }
+}
+
+fn is_return(way: Option<Way>) -> bool
+    ensures { result ≡ is_return way }
+{
+    match way {
+        Some(Way::Return) => true,
         _ => false,
     }
 }
@@ -383,6 +395,29 @@ impl<'a> Course<'a> {
             }
         }
         set
+    }
+
+    // Before each return.
+    fn returned(self) -> u64
+        requires { self.root < 2 ^ 32 }
+        ensures { result ≡ returned_by self.entry }
+    {
+        let mut set = u64::MAX;
+        for inside in 0..self.size() {
+            let row = self.root + inside;
+            if is_return(self.fact(row).way) {
+                set &= self.arrives(row);
+            }
+        }
+        set
+    }
+
+    /// What is assigned wherever the member ends: at its end, and at each return.
+    pub(crate) fn ended(self) -> u64
+        requires { self.root < 2 ^ 32 }
+        ensures { result ≡ ended_by self.entry }
+    {
+        self.seen(self.root).done & self.returned()
     }
 
     // ---- before a row

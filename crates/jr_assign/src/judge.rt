@@ -43,7 +43,8 @@ fn owner_of(owners: &[Option<u32>], number: u32) -> Option<u32>
     }
 }
 
-fn is_owner(owners: &[Option<u32>], number: Option<u32>, variable: usize) -> bool
+/// No other variable has this number.
+pub(crate) fn is_owner(owners: &[Option<u32>], number: Option<u32>, variable: usize) -> bool
     ensures { result ≡ tell.is_owner owners.now number variable }
 {
     match number {
@@ -52,7 +53,8 @@ fn is_owner(owners: &[Option<u32>], number: Option<u32>, variable: usize) -> boo
     }
 }
 
-fn put(verdicts: &mut Vec<Option<bool>>, at: usize, is_assigned: bool)
+/// Says of a row whether its variable is assigned.
+pub(crate) fn put(verdicts: &mut Vec<Option<bool>>, at: usize, is_assigned: bool)
     ensures { verdicts.new.items ≡ slice_set verdicts.old.items at (Some is_assigned) }
 {
     if at < verdicts.len() {
@@ -103,8 +105,8 @@ impl<'a> Course<'a> {
         self.is_declared_owned(owners, at) && self.is_owned_if(owners, self.fact(at).assigned)
     }
 
-    // The variables that the member declares and assigns have numbers of their own.
-    fn are_owned(self, owners: &[Option<u32>]) -> bool
+    /// The variables that the member declares and assigns have numbers of their own.
+    pub(crate) fn are_owned(self, owners: &[Option<u32>]) -> bool
         requires { self.root < 2 ^ 32 }
         ensures { result ≡ tell.are_owned self.entry owners.now }
     {

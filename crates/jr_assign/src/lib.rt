@@ -2,20 +2,19 @@
 #![tactic(auto)]
 
 mod builders;
-mod classes;
 mod confirm;
 mod course;
 mod fact;
 mod faults;
-mod form;
+mod fields;
 mod judge;
 mod law;
+mod locals;
 mod member;
 mod numbers;
 mod parts;
-mod sets;
+mod run;
 mod turns;
-mod walk;
 
 pub use builders::change_faults;
 pub use fact::{Fact, Way, no_fact};

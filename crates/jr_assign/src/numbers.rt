@@ -1,16 +1,17 @@
-// The numbers of the variables that are followed, in the sets of their class: its blank final fields first, and then the locals of each member.
+// The numbers of the variables that are followed: the blank final fields of each body, or the locals of each member.
 
 use crate::member::member_of;
-use crate::parts::{body_of_field, is_class, is_valued};
+use crate::parts::{body_of_field, is_blank};
 use jr_base::OutOfMemory;
-use jr_places::parent_at;
+use jr_places::end_at;
 use jr_tree::{Label, Row};
 use std::alloc::Global;
 
-/// For each row the number of the variable that it declares, and how many variables a body (its fields) or a member (its locals) has.
+/// For each row the number of the variable that it declares and the body or member that holds it, and how many variables each of these has.
 #[derive(Drop)]
 pub(crate) struct Numbers {
     numbers: Vec<Option<u32>>,
+    holders: Vec<u32>,
     counts: Vec<u32>,
 }
 
@@ -24,21 +25,10 @@ fn is_local(rows: &[Row], at: u32) -> bool {
     }
 }
 
-fn is_final_field(rows: &[Row], at: u32) -> bool {
-    match rows.get(at as usize) {
-        Some(row) => match row.label {
-            Label::Field { modifiers, .. } => modifiers.is_final,
-            _ => false,
-        },
-        None => false,
+fn put_owner(owners: &mut Vec<Option<u32>>, number: u32, variable: u32) {
+    if let Some(owner) = owners.get_mut(number as usize) {
+        *owner = Some(variable);
     }
-}
-
-// A blank final field of a class.
-fn is_blank_final(rows: &[Row], at: u32) -> bool {
-    is_final_field(rows, at)
-        && !is_valued(rows, at)
-        && is_class(rows, parent_at(rows, body_of_field(rows, at)))
 }
 
 impl Numbers {
@@ -50,65 +40,88 @@ impl Numbers {
         }
     }
 
+    /// How many words have a bit for each of these variables.
+    pub(crate) fn words(&self, at: u32) -> u32 {
+        self.count(at).saturating_add(63) / 64
+    }
+
     /// For each row the number of the variable that it declares.
     pub(crate) fn all(&self) -> &[Option<u32>] {
         &self.numbers
     }
 
-    /// The number of the variable that a row declares, if it is followed.
-    pub(crate) fn number(&self, at: u32) -> Option<u32> {
-        match self.numbers.get(at as usize) {
-            Some(number) => *number,
-            None => None,
+    // The number of the variable of the body or member that a row declares.
+    fn number(&self, holder: u32, at: u32) -> Option<u32> {
+        match (self.holders.get(at as usize), self.numbers.get(at as usize)) {
+            (Some(held), Some(number)) => { if *held == holder { *number } else { None } }
+            _ => None,
         }
+    }
+
+    /// The variable of each number, in the body or member at a row.
+    pub(crate) fn owners(
+        &self,
+        alloc: Global,
+        rows: &[Row],
+        holder: u32,
+    ) -> Result<Vec<Option<u32>>, OutOfMemory> {
+        let mut owners = vec![in alloc; None; self.count(holder) as usize]?;
+        for at in holder..end_at(rows, holder) {
+            if let Some(number) = self.number(holder, at) {
+                put_owner(&mut owners, number, at);
+            }
+        }
+        Ok(owners)
     }
 
     // One variable more in a body or member.
-    fn grow(&mut self, at: u32) {
-        if let Some(count) = self.counts.get_mut(at as usize) {
-            *count = count.saturating_add(1);
-        }
-    }
-
-    fn set(&mut self, at: u32, to: u32) {
+    fn add(&mut self, holder: u32, at: u32) {
+        let next = self.count(holder);
         if let Some(number) = self.numbers.get_mut(at as usize) {
-            *number = Some(to);
+            *number = Some(next);
+        }
+        if let Some(held) = self.holders.get_mut(at as usize) {
+            *held = holder;
+        }
+        if let Some(count) = self.counts.get_mut(holder as usize) {
+            *count = next.saturating_add(1);
         }
     }
 
-    fn add_field(&mut self, rows: &[Row], at: u32) {
-        let body = body_of_field(rows, at);
-        let number = self.count(body);
-        self.set(at, number);
-        self.grow(body);
-    }
-
-    fn add_local(&mut self, rows: &[Row], members: &[u32], at: u32) {
-        let member = member_of(members, at);
-        let number = self
-            .count(parent_at(rows, member))
-            .saturating_add(self.count(member));
-        self.set(at, number);
-        self.grow(member);
-    }
-
-    /// The numbers of the variables of a program.
-    pub(crate) fn of(alloc: Global, rows: &[Row], members: &[u32]) -> Result<Numbers, OutOfMemory> {
-        let Ok(count) = u32::try_from(rows.len()) else {
-            return Err(OutOfMemory);
-        };
-        let mut all = Numbers {
+    fn none(alloc: Global, rows: &[Row]) -> Result<Numbers, OutOfMemory> {
+        Ok(Numbers {
             numbers: vec![in alloc; None; rows.len()]?,
+            holders: vec![in alloc; 0u32; rows.len()]?,
             counts: vec![in alloc; 0u32; rows.len()]?,
-        };
-        for at in 0..count {
-            if is_blank_final(rows, at) {
-                all.add_field(rows, at);
+        })
+    }
+
+    /// The numbers of blank final fields, by the bodies in which they stand.
+    pub(crate) fn of_fields(
+        alloc: Global,
+        rows: &[Row],
+        size: u32,
+    ) -> Result<Numbers, OutOfMemory> {
+        let mut all = Numbers::none(alloc, rows)?;
+        for at in 0..size {
+            if is_blank(rows, at) {
+                all.add(body_of_field(rows, at), at);
             }
         }
-        for at in 0..count {
+        Ok(all)
+    }
+
+    /// The numbers of locals, by the members that hold them.
+    pub(crate) fn of_locals(
+        alloc: Global,
+        rows: &[Row],
+        members: &[u32],
+        size: u32,
+    ) -> Result<Numbers, OutOfMemory> {
+        let mut all = Numbers::none(alloc, rows)?;
+        for at in 0..size {
             if is_local(rows, at) {
-                all.add_local(rows, members, at);
+                all.add(member_of(members, at), at);
             }
         }
         Ok(all)

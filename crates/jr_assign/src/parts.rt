@@ -1,88 +1,26 @@
 // Parts of rows.
-ghost use Rattle.std.specs.Prelude.{◌≡◌};
-ghost use Rattle.jr_tree.specs.Rows.{label};
+ghost use Rattle.std.specs.Prelude.{◌≡◌, ◌||◌, IfOk};
+ghost use Rattle.jr_tree.specs.Rows.{label, end};
+ghost use Rattle.jr_plain.specs.Search.{any_below};
+ghost use Rattle.jr_assign.specs.Blank as blank;
 ghost use Rattle.jr_assign.specs.Changes as changes;
+ghost use Rattle.jr_assign.specs.Made as made;
 
 use crate::fact::{Fact, fact_of};
+use jr_base::OutOfMemory;
 use jr_places::{end_at, parent_at};
 use jr_tree::{Label, Row, ThisOrSuper};
 
-/// The sibling before a row, or the row round it where it is the first.
-pub(crate) fn previous_at(rows: &[Row], at: u32) -> u32 {
-    match rows.get(at as usize) {
-        Some(row) => row.previous,
-        None => at,
-    }
+fn is_same(first: bool, second: bool) -> bool
+    ensures { result ≡ blank.is_same first second }
+{
+    if first { second } else { !second }
 }
 
-/// The first part of a row, where it has one.
-pub(crate) fn first_of(at: u32) -> u32 {
-    at.saturating_add(1)
-}
-
-/// The second part of a row, where it has two.
-pub(crate) fn second_of(rows: &[Row], at: u32) -> u32 {
-    end_at(rows, first_of(at))
-}
-
-/// The third part of a row, where it has three.
-pub(crate) fn third_of(rows: &[Row], at: u32) -> u32 {
-    end_at(rows, second_of(rows, at))
-}
-
-/// The row is a catch.
-pub(crate) fn is_catch(rows: &[Row], at: u32) -> bool {
-    match rows.get(at as usize) {
-        Some(row) => match row.label {
-            Label::Catch => true,
-            _ => false,
-        },
-        None => false,
-    }
-}
-
-/// The row is a `try` with a `finally`.
-pub(crate) fn is_guarded(rows: &[Row], at: u32) -> bool {
-    match rows.get(at as usize) {
-        Some(row) => match row.label {
-            Label::Try { has_finally } => has_finally,
-            _ => false,
-        },
-        None => false,
-    }
-}
-
-fn is_handed_on(rows: &[Row], at: u32) -> bool {
-    match rows.get(at as usize) {
-        Some(row) => match row.label {
-            Label::ConstructorCall {
-                which: ThisOrSuper::This,
-            } => true,
-            _ => false,
-        },
-        None => false,
-    }
-}
-
-/// The constructor at a row begins with a call `this(..)`.
-pub(crate) fn hands_on(rows: &[Row], at: u32) -> bool {
-    for inside in at..end_at(rows, at) {
-        if is_handed_on(rows, inside) && parent_at(rows, parent_at(rows, inside)) == at {
-            return true;
-        }
-    }
-    false
-}
-
-/// The row is a class.
-pub(crate) fn is_class(rows: &[Row], at: u32) -> bool {
-    match rows.get(at as usize) {
-        Some(row) => match row.label {
-            Label::Class { .. } => true,
-            _ => false,
-        },
-        None => false,
-    }
+fn either(first: bool, second: bool) -> bool
+    ensures { result ≡ (first || second) }
+{
+    first || second
 }
 
 /// The row is an interface.
@@ -95,6 +33,28 @@ pub(crate) fn is_interface(rows: &[Row], at: u32) -> bool
             _ => false,
         },
         None => false,
+    }
+}
+
+fn is_class(rows: &[Row], at: u32) -> bool
+    ensures { result ≡ blank.is_class (label rows.now at) }
+{
+    match rows.get(at as usize) {
+        Some(row) => match row.label {
+            Label::Class { .. } => true,
+            _ => false,
+        },
+        None => false,
+    }
+}
+
+/// Where a row ends.
+pub(crate) fn end_in(rows: &[Row], at: u32) -> Result<u32, OutOfMemory>
+    ensures { IfOk result (λ found. found ≡ end rows.now at) }
+{
+    match rows.get(at as usize) {
+        Some(row) => Ok(row.end),
+        None => Err(OutOfMemory),
     }
 }
 
@@ -115,6 +75,119 @@ pub(crate) fn is_valued(rows: &[Row], at: u32) -> bool
     }
 }
 
+/// The row is a blank final field of a class.
+pub(crate) fn is_blank(rows: &[Row], at: u32) -> bool
+    ensures { result ≡ blank.is_blank rows.now at }
+{
+    match rows.get(at as usize) {
+        Some(row) => match row.label {
+            Label::Field { modifiers, .. } => {
+                modifiers.is_final
+                    && !is_valued(rows, at)
+                    && is_class(rows, parent_at(rows, body_of_field(rows, at)))
+            }
+            _ => false,
+        },
+        None => false,
+    }
+}
+
+/// The row is a field of a class itself.
+pub(crate) fn is_static_field(rows: &[Row], at: u32) -> bool
+    ensures { result ≡ blank.is_static_field (label rows.now at) }
+{
+    match rows.get(at as usize) {
+        Some(row) => match row.label {
+            Label::Field { modifiers, .. } => modifiers.is_static,
+            _ => false,
+        },
+        None => false,
+    }
+}
+
+/// The row is an initializer or fields, of a class or of its instances.
+pub(crate) fn is_part(rows: &[Row], at: u32, is_static: bool) -> bool
+    ensures { result ≡ blank.is_part (label rows.now at) is_static }
+{
+    match rows.get(at as usize) {
+        Some(row) => match row.label {
+            Label::Initializer {
+                is_static: of_class,
+            } => is_same(of_class, is_static),
+            Label::Fields { modifiers } => is_same(modifiers.is_static, is_static),
+            _ => false,
+        },
+        None => false,
+    }
+}
+
+fn is_constructor(rows: &[Row], at: u32) -> bool
+    ensures { result ≡ blank.is_constructor (label rows.now at) }
+{
+    match rows.get(at as usize) {
+        Some(row) => match row.label {
+            Label::Constructor { .. } => true,
+            Label::DefaultConstructor => true,
+            _ => false,
+        },
+        None => false,
+    }
+}
+
+fn is_this_call(rows: &[Row], at: u32) -> bool
+    ensures { result ≡ blank.is_this_call (label rows.now at) }
+{
+    match rows.get(at as usize) {
+        Some(row) => match row.label {
+            Label::ConstructorCall {
+                which: ThisOrSuper::This,
+            } => true,
+            _ => false,
+        },
+        None => false,
+    }
+}
+
+// The row is a call `this(..)` with which the constructor begins.
+fn is_handing(rows: &[Row], constructor: u32, at: u32) -> bool
+    ensures { result ≡ made.is_handing rows.now constructor at }
+{
+    constructor < at
+        && is_this_call(rows, at)
+        && parent_at(rows, parent_at(rows, at)) == constructor
+}
+
+// Of the rows before the end one is such a call.
+#[tactic(auto, using(crate::proofs::Handing::handing_begins))]
+fn hands_below(rows: &[Row], constructor: u32, end: u32) -> bool
+    ensures { result ≡ any_below end (made.is_handing rows.now constructor) }
+{
+    let mut hands = false;
+    for inside in 0..end.saturating_sub(constructor) {
+        let is_here = is_handing(rows, constructor, constructor + inside);
+        hands = either(hands, is_here);
+    }
+    hands
+}
+
+// The constructor at a row begins with a call `this(..)`.
+#[tactic(auto, using(crate::proofs::Handing::none_past))]
+fn hands_on(rows: &[Row], constructor: u32) -> bool
+    ensures { result ≡ blank.hands_on rows.now constructor }
+{
+    match rows.get(constructor as usize) {
+        Some(row) => hands_below(rows, constructor, row.end),
+        None => false,
+    }
+}
+
+/// The row is a constructor of the body that begins with no call `this(..)`.
+pub(crate) fn is_first(rows: &[Row], body: u32, at: u32) -> bool
+    ensures { result ≡ blank.is_first rows.now body at }
+{
+    is_constructor(rows, at) && parent_at(rows, at) == body && !hands_on(rows, at)
+}
+
 /// The parts of a `for` (JLS 14.14.1). Its updates stand between its header and its body.
 #[derive(Clone, Copy)]
 pub(crate) struct ForParts {
@@ -133,7 +206,7 @@ pub(crate) fn for_parts(
     has_first: bool,
     has_condition: bool,
 ) -> ForParts {
-    let start = first_of(at);
+    let start = at.saturating_add(1);
     let test = if has_first {
         end_at(rows, start)
     } else {

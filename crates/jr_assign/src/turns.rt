@@ -1,17 +1,15 @@
 // The order in which rows are entered and left: that of evaluation, so the updates of a `for` come behind its body.
 
 use crate::fact::Fact;
-use crate::form::{Form, form_at};
-use crate::parts::{ForParts, first_of, for_parts};
+use crate::parts::{ForParts, for_parts};
 use jr_places::{end_at, parent_at};
-use jr_tree::Row;
+use jr_tree::{Label, Row};
 
 /// A step of the walk.
 #[derive(Clone, Copy)]
 pub(crate) enum Turn {
     Enter(u32),
-    /// The row is left, and the part of it that was left last.
-    Leave(u32, Option<u32>),
+    Leave(u32),
 }
 
 fn first_in_for(parts: ForParts) -> u32 {
@@ -46,18 +44,30 @@ fn next_in_for(rows: &[Row], parts: ForParts, at: u32) -> Option<u32> {
     if next == parts.body { None } else { Some(next) }
 }
 
+// The parts of the row, if it is a `for`.
+fn for_at(rows: &[Row], facts: &[Fact], at: u32) -> Option<ForParts> {
+    match rows.get(at as usize) {
+        Some(row) => match row.label {
+            Label::For {
+                has_first,
+                has_condition,
+            } => Some(for_parts(rows, facts, at, has_first, has_condition)),
+            _ => None,
+        },
+        None => None,
+    }
+}
+
 /// The turn behind the entry of a row.
 pub(crate) fn turn_inside(rows: &[Row], facts: &[Fact], at: u32) -> Turn {
-    match form_at(rows, at) {
-        Form::For {
-            has_first,
-            has_condition,
-        } => Turn::Enter(first_in_for(for_parts(rows, facts, at, has_first, has_condition))),
-        _ => {
-            if first_of(at) < end_at(rows, at) {
-                Turn::Enter(first_of(at))
+    let first = at.saturating_add(1);
+    match for_at(rows, facts, at) {
+        Some(parts) => Turn::Enter(first_in_for(parts)),
+        None => {
+            if first < end_at(rows, at) {
+                Turn::Enter(first)
             } else {
-                Turn::Leave(at, None)
+                Turn::Leave(at)
             }
         }
     }
@@ -66,16 +76,9 @@ pub(crate) fn turn_inside(rows: &[Row], facts: &[Fact], at: u32) -> Turn {
 /// The turn behind a row that was left.
 pub(crate) fn turn_behind(rows: &[Row], facts: &[Fact], at: u32) -> Turn {
     let over = parent_at(rows, at);
-    let next = match form_at(rows, over) {
-        Form::For {
-            has_first,
-            has_condition,
-        } => next_in_for(
-            rows,
-            for_parts(rows, facts, over, has_first, has_condition),
-            at,
-        ),
-        _ => {
+    let next = match for_at(rows, facts, over) {
+        Some(parts) => next_in_for(rows, parts, at),
+        None => {
             if end_at(rows, at) < end_at(rows, over) {
                 Some(end_at(rows, at))
             } else {
@@ -85,6 +88,6 @@ pub(crate) fn turn_behind(rows: &[Row], facts: &[Fact], at: u32) -> Turn {
     };
     match next {
         Some(row) => Turn::Enter(row),
-        None => Turn::Leave(over, Some(at)),
+        None => Turn::Leave(over),
     }
 }

@@ -1,5 +1,5 @@
 use Rattle.jr_assign.specs.Judged.{AreJudged}
-use Rattle.jr_assign.proofs.classes.note_bodies.Given as goal
+use Rattle.jr_assign.proofs.locals.judge_members.Given as goal
 
 abbrev pub invariant-loop-at : goal.invariant-loop-at
 invariant-loop-at l = AreJudged l.known.rows.now l.known.facts.now l.known.members.now l.fn.verdicts.items → AreJudged l.known.rows.now l.known.facts.now l.known.members.now l.verdicts.items
