@@ -175,6 +175,7 @@ module _ (p : Rows) (t : Table) (local : IsLocal p) where
 
   wrong_in : (rule n : ℕ) → rule ≡ 39 → BreaksAssignment p t rule n → has (final_rows p t) n ≡ true
   wrong_in _ n e (BreaksAssignment.unassigned a b c) = absurd (omega arith)
+  wrong_in _ n e (BreaksAssignment.left_blank a b c) = absurd (omega arith)
   wrong_in _ n e (BreaksAssignment.changed {v = v} lt changed refers fixed) =
       let is : get_or (changes p t (length p)) n None ≡ Some v = tabulated_at (changed_in p t (operands p (length p))) None (length p) n lt
       ∙ changed_by_told (op n) n (changed_told n lt changed) ∙ ap (λ r. variable_of p (declared r)) refers ∙ variable_told n v fixed in

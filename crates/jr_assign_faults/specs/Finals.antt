@@ -1,4 +1,4 @@
--- Where a final variable is changed and may not be, and where a local is read that is not definitely assigned (JLS 4.12.4, 8.3.1.2, 9.3, 15.14, 15.15, 15.26, 16).
+-- Where a final variable is changed and may not be, where a local is read that is not definitely assigned, and which blank final fields are not assigned at an end (JLS 4.12.4, 8.3.1.2, 9.3, 15.14, 15.15, 15.26, 16).
 use Rattle.std.specs.Prelude.{◌≡◌, ◌<◌, ℕ, ◌+◌, true, false, length, Option}
 use Rattle.jr_base.specs.declared.kind.Symbol.{Symbol}
 use Rattle.jr_tree.specs.declared.label.Label.TheVariants as is
@@ -12,6 +12,7 @@ use Rattle.jr_reach.specs.Statements as flow
 use Rattle.jr_flow_faults.specs.Known as of_flow
 use Rattle.jr_assign.specs.Changes.{Facts, is_member, is_interface, field_body, builds}
 use Rattle.jr_assign.specs.Judged.{ReadsUnassigned}
+use Rattle.jr_assign.specs.Blank.{IsLeftBlank}
 use Rattle.jr_assign_faults.specs.Changed.{final_rows}
 use Rattle.jr_assign_faults.specs.Known.{AreKnown}
 
@@ -39,10 +40,11 @@ pub data IsFixed (p : Rows) (n v : ℕ) : Type 0 where
   valued : IsFinalField p v → v + 1 < end p v → IsFixed p n v
   elsewhere : IsFinalField p v → ((m : ℕ) → IsHeldBy p n m → builds (label p m) p m (field_body p v) ≡ false) → IsFixed p n v
 
--- the rules, by the row that refers to the variable: 38, a local is read before it is definitely assigned, and 39
+-- the rules, by the row that refers to the variable: 38, a local is read before it is definitely assigned, and 39; and by the row of the field 40
 pub data BreaksAssignment (p : Rows) (t : Table) : ℕ → ℕ → Type 0 where
   unassigned : {f : flow.Facts} {facts : Facts} {n : ℕ} → of_flow.AreKnown p t f → AreKnown p t f facts → ReadsUnassigned p facts n → BreaksAssignment p t 38 n
   changed : {n v : ℕ} {level : Option ℕ} → n < length p → IsChanged p n → t n ≡ Declared v level → IsFixed p n v → BreaksAssignment p t 39 n
+  left_blank : {f : flow.Facts} {facts : Facts} {n : ℕ} → of_flow.AreKnown p t f → AreKnown p t f facts → IsLeftBlank p facts n → BreaksAssignment p t 40 n
 
 -- the law: each row that breaks the rule on finals is found
 abbrev pub EachFinalIsFound : Type 0

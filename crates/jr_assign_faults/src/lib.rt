@@ -30,6 +30,7 @@ use std::alloc::Global;
 fn course_faults(alloc: Global, view: &View, faults: &mut Vec<Fault>) -> Result<(), OutOfMemory>
     requires { length (rows_in view.now) < 2 ^ 32 }
     ensures reads { IsLocal (rows_in view.now) → AreKnown (rows_in view.now) (table_in view.now) (facts_in view.now) → OnOk result (AreExactFaults view.now rule.UnassignedLocal faults.old.items faults.new.items) }
+    ensures blanks { IsLocal (rows_in view.now) → AreKnown (rows_in view.now) (table_in view.now) (facts_in view.now) → OnOk result (AreExactFaults view.now rule.UnassignedFinal faults.old.items faults.new.items) }
     ensures only { OnOk result (AreOnly is_of_courses faults.old.items faults.new.items) }
 {
     let facts = assign_facts_of(alloc, view)?;
@@ -38,6 +39,7 @@ fn course_faults(alloc: Global, view: &View, faults: &mut Vec<Fault>) -> Result<
 
 fn all_faults(alloc: Global, view: &View, faults: &mut Vec<Fault>) -> Result<(), OutOfMemory>
     ensures reads { IsLocal (rows_in view.now) → AreKnown (rows_in view.now) (table_in view.now) (facts_in view.now) → OnOk result (AreExactFaults view.now rule.UnassignedLocal faults.old.items faults.new.items) }
+    ensures blanks { IsLocal (rows_in view.now) → AreKnown (rows_in view.now) (table_in view.now) (facts_in view.now) → OnOk result (AreExactFaults view.now rule.UnassignedFinal faults.old.items faults.new.items) }
     ensures changed { OnOk result (AreFaultsOf rule.FinalAssignment (final_rows (rows_in view.now) (table_in view.now)) faults.old.items faults.new.items) }
     ensures only { OnOk result (AreOnly is_of_assignment faults.old.items faults.new.items) }
 {
@@ -51,10 +53,11 @@ fn all_faults(alloc: Global, view: &View, faults: &mut Vec<Fault>) -> Result<(),
 }
 
 /// Adds the locals that are read and not assigned, the finals that are changed, and the blank final fields that are not assigned at an end.
-/// Of the locals and the finals these are just the rows that break the rule.
+/// These are just the rows that break the rules.
 pub fn assign_faults(alloc: Global, view: &View, faults: &mut Vec<Fault>) -> Result<(), OutOfMemory>
     ensures changed { OnOk result (AreFaultsOf rule.FinalAssignment (final_rows (rows_in view.now) (table_in view.now)) faults.old.items faults.new.items) }
     ensures reads { IsLocal (rows_in view.now) → AreKnown (rows_in view.now) (table_in view.now) (facts_in view.now) → OnOk result (AreExactFaults view.now rule.UnassignedLocal faults.old.items faults.new.items) }
+    ensures blanks { IsLocal (rows_in view.now) → AreKnown (rows_in view.now) (table_in view.now) (facts_in view.now) → OnOk result (AreExactFaults view.now rule.UnassignedFinal faults.old.items faults.new.items) }
     ensures finals { IsLocal (rows_in view.now) → OnOk result (AreExactFaults view.now rule.FinalAssignment faults.old.items faults.new.items) }
     ensures only { OnOk result (AreOnly is_of_assignment faults.old.items faults.new.items) }
 {
