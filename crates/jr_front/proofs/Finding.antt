@@ -42,6 +42,7 @@ pub record AreAdded (m : Marks) (view : View) (a b c d e f : List Fault) : Type 
   pub only_modifiers : AreOnly (is_rule rule.Modifiers) [] a
   pub reads : IsLocal (rows_in view) → AreKnown (rows_in view) (table_in view) (facts_in view) → of_assignment.AreExactFaults view rule.UnassignedLocal a b
   pub finals : IsLocal (rows_in view) → of_assignment.AreExactFaults view rule.FinalAssignment a b
+  pub blanks : IsLocal (rows_in view) → AreKnown (rows_in view) (table_in view) (facts_in view) → of_assignment.AreExactFaults view rule.UnassignedFinal a b
   pub only_assigned : AreOnly is_of_assignment a b
   pub members : AreMemberFaults view b c
   pub only_members : AreOnly is_on_members b c
@@ -124,6 +125,11 @@ module _ {m : Marks} {view : View} {a b c d e f : List Fault} (added : AreAdded 
       are = of_first rule.FinalAssignment refl (none_then rule.FinalAssignment (added.only_modifiers.others rule.FinalAssignment refl) told.are);
       each = told.each;
     };
+    blanks = λ known. let told = added.blanks testable.right.seen.seen.placed.local known in record {
+      rows = told.rows;
+      are = of_first rule.UnassignedFinal refl (none_then rule.UnassignedFinal (added.only_modifiers.others rule.UnassignedFinal refl) told.are);
+      each = told.each;
+    };
     names = record {
       local_names = of_name rule.LocalNames refl (added.local_names testable.placed);
       labels = of_name rule.Labels refl (added.labels testable.placed);
@@ -163,17 +169,19 @@ module _ {m : Marks} {view : View} {a b c d e f : List Fault} (added : AreAdded 
 -- the same, as the steps of the code give it
 pub added_found : (m : Marks) (view : View) (start a b c d e f : List Fault) → start ≡ [] → AreFaultsOf rule.Modifiers (modifier_rows m) start a → AreOnly (is_rule rule.Modifiers) start a
     → (IsLocal (rows_in view) → AreKnown (rows_in view) (table_in view) (facts_in view) → of_assignment.AreExactFaults view rule.UnassignedLocal a b)
-    → (IsLocal (rows_in view) → of_assignment.AreExactFaults view rule.FinalAssignment a b) → AreOnly is_of_assignment a b → AreMemberFaults view b c → AreOnly is_on_members b c
+    → (IsLocal (rows_in view) → of_assignment.AreExactFaults view rule.FinalAssignment a b)
+    → (IsLocal (rows_in view) → AreKnown (rows_in view) (table_in view) (facts_in view) → of_assignment.AreExactFaults view rule.UnassignedFinal a b) → AreOnly is_of_assignment a b → AreMemberFaults view b c → AreOnly is_on_members b c
     → (IsRightView view → AreExactTypeFaults view c d) → AreOnlyOf type_rules c d → (IsLocal (rows_in view) → AreFlowFaults view d e) → (IsThrowingView view → AreThrowFaults view d e) → AreCovered view d e → AreOnly is_of_flow d e
     → (names.IsPlacedView view → of_names.AreExactFaults view rule.LocalNames e f) → (names.IsPlacedView view → of_names.AreExactFaults view rule.Labels e f) → (names.IsSeenView view → of_names.AreExactFaults view rule.Access e f)
     → (names.IsPlacedView view → of_names.AreExactFaults view rule.ImportNames e f) → (names.IsPlacedView view → of_names.AreExactFaults view rule.ImportedTypes e f)
     → (names.IsTabledView view → of_names.AreExactFaults view rule.StaticImports e f) → of_names.AreOfNames e f → IsTestableView view → AreFaultsIn m view f
-added_found m view start a b c d e f none modifiers only_modifiers reads finals only_assigned members only_members types only_types flow thrown covered only_flow local_names labels access import_names imported_types static_imports only_names =
+added_found m view start a b c d e f none modifiers only_modifiers reads finals blanks only_assigned members only_members types only_types flow thrown covered only_flow local_names labels access import_names imported_types static_imports only_names =
     are_found (record {
       modifiers = subst (λ (l : List Fault). AreFaultsOf rule.Modifiers (modifier_rows m) l a) none modifiers;
       only_modifiers = subst (λ (l : List Fault). AreOnly (is_rule rule.Modifiers) l a) none only_modifiers;
       reads = reads;
       finals = finals;
+      blanks = blanks;
       only_assigned = only_assigned;
       members = members;
       only_members = only_members;

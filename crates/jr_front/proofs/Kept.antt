@@ -181,9 +181,13 @@ module _ (m : Marks) (view : View) (testable : IsTestableView view) (local : IsL
   reads_found : (n : ℕ) → BreaksAssignment p t 38 n → HasFault faults 38 n
   reads_found n b = let told = all.reads known in fault_of rule.UnassignedLocal faults n (subst (λ rows. has rows n ≡ true) (sym told.are.are) ((told.each n).1 b))
 
+  blanks_found : (n : ℕ) → BreaksAssignment p t 40 n → HasFault faults 40 n
+  blanks_found n b = let told = all.blanks known in fault_of rule.UnassignedFinal faults n (subst (λ rows. has rows n ≡ true) (sym told.are.are) ((told.each n).1 b))
+
   assigned_found : {k n : ℕ} → BreaksAssignment p t k n → HasFault faults k n
   assigned_found (BreaksAssignment.unassigned {n = n} a b c) = reads_found n (BreaksAssignment.unassigned a b c)
   assigned_found (BreaksAssignment.changed {n = n} lt is refers fixed) = finals_found n (BreaksAssignment.changed lt is refers fixed)
+  assigned_found (BreaksAssignment.left_blank {n = n} a b c) = blanks_found n (BreaksAssignment.left_blank a b c)
 
   marked_found : {k n : ℕ} → BreaksMarked m k n → HasFault faults k n
   marked_found (BreaksMarked.modifiers {d = d} h) = found rule.Modifiers (length m.rows.now) (breaks_modifiers m) all.modifiers d (modified_row m d h) ((modifiers_told m d).1 h)
@@ -255,6 +259,9 @@ module _ (m : Marks) (view : View) (testable : IsTestableView view) (local : IsL
     finals_right : IsRight 39
     finals_right fault inside e = IsBroken.by_assignment ((all.finals.each fault.row).0 (subst (λ rows. has rows fault.row ≡ true) all.finals.are.are (listed rule.FinalAssignment faults fault inside e)))
 
+    blanks_right : IsRight 40
+    blanks_right fault inside e = let told = all.blanks known in IsBroken.by_assignment ((told.each fault.row).0 (subst (λ rows. has rows fault.row ≡ true) told.are.are (listed rule.UnassignedFinal faults fault inside e)))
+
     marked_right : IsRight 1
     marked_right fault inside e = IsBroken.by_tokens (BreaksMarked.modifiers ((modifiers_told m fault.row).0 (passes rule.Modifiers (length m.rows.now) (breaks_modifiers m) all.modifiers fault inside e)))
 
@@ -298,6 +305,7 @@ module _ (m : Marks) (view : View) (testable : IsTestableView view) (local : IsL
     right_of rule.Completion e = completing_right
     right_of rule.UnassignedLocal e = reads_right
     right_of rule.FinalAssignment e = finals_right
+    right_of rule.UnassignedFinal e = blanks_right
     right_of rule.UncaughtException e = uncaught_right
     right_of rule.UnthrownCatch e = unthrown_right
     right_of rule.CoveredCatch e = covered_right

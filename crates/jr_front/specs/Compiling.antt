@@ -24,9 +24,9 @@ pub record AreMarksOf (program : Program) (m : Marks) : Type 0 where
 
 -- ---- rules
 
--- the numbers of the rules whose faults are those of the definition: on modifiers, names, members, types, jumps, reaching, completing, locals that are read, finals that are changed and exceptions
+-- the numbers of the rules whose faults are those of the definition: on modifiers, names, members, types, jumps, reaching, completing, locals that are read, finals that are changed, blank finals and exceptions
 abbrev pub exact_rules : List ℕ
-exact_rules = 1 ∷ 2 ∷ 3 ∷ 4 ∷ 5 ∷ 6 ∷ 7 ∷ 8 ∷ 9 ∷ 10 ∷ 11 ∷ 12 ∷ 13 ∷ 14 ∷ 15 ∷ 16 ∷ 17 ∷ 18 ∷ 19 ∷ 20 ∷ 21 ∷ 22 ∷ 23 ∷ 24 ∷ 25 ∷ 26 ∷ 27 ∷ 28 ∷ 29 ∷ 30 ∷ 31 ∷ 32 ∷ 33 ∷ 34 ∷ 35 ∷ 36 ∷ 37 ∷ 38 ∷ 39 ∷ 41 ∷ 42 ∷ 43 ∷ 47 ∷ []
+exact_rules = 1 ∷ 2 ∷ 3 ∷ 4 ∷ 5 ∷ 6 ∷ 7 ∷ 8 ∷ 9 ∷ 10 ∷ 11 ∷ 12 ∷ 13 ∷ 14 ∷ 15 ∷ 16 ∷ 17 ∷ 18 ∷ 19 ∷ 20 ∷ 21 ∷ 22 ∷ 23 ∷ 24 ∷ 25 ∷ 26 ∷ 27 ∷ 28 ∷ 29 ∷ 30 ∷ 31 ∷ 32 ∷ 33 ∷ 34 ∷ 35 ∷ 36 ∷ 37 ∷ 38 ∷ 39 ∷ 40 ∷ 41 ∷ 42 ∷ 43 ∷ 47 ∷ []
 
 -- the rule is broken at the row: by rows and what they refer to, or by the tokens of the row
 pub data IsBroken (m : Marks) (p : Rows) (t : Table) (rule place : ℕ) : Type 0 where

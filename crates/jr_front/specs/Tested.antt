@@ -74,6 +74,7 @@ pub record AreFaultsIn (m : Marks) (view : View) (faults : List Fault) : Type 0 
   pub modifiers : AreFaultsOf rule.Modifiers (modifier_rows m) [] faults
   pub reads : AreKnown (rows_in view) (table_in view) (facts_in view) → of_assignment.AreExactFaults view rule.UnassignedLocal [] faults
   pub finals : of_assignment.AreExactFaults view rule.FinalAssignment [] faults
+  pub blanks : AreKnown (rows_in view) (table_in view) (facts_in view) → of_assignment.AreExactFaults view rule.UnassignedFinal [] faults
   pub names : AreNameFaults view faults
   pub members : AreMemberFaults view [] faults
   pub types : AreExactTypeFaults view [] faults
