@@ -1,10 +1,9 @@
 -- Ways to write a member by an object are those of the definition.
 use Rattle.std.proofs.Common.{◌≡◌, refl, sym, ◌∙◌, ap, ap₂, subst, ℕ, ◌<◌, Bool, true, false, not, ◌&&◌, cond, List, [], ◌∷◌, ◌++◌, length, Option, Some, None}
 use Rattle.std.specs.Option.{is_some}
-use Rattle.std.proofs.lemmas.Bool.{and_parts, false≢true}
+use Rattle.std.proofs.lemmas.Bool.{and_parts}
 use Rattle.std.proofs.lemmas.Option.{none-some, same_Some}
 use Rattle.jr_tree.specs.declared.label.NameKind.TheVariants as kind
-use Rattle.jr_tree.specs.declared.label.Role.TheVariants as role
 use Rattle.jr_tree.specs.declared.label.Sought.{Sought}
 use Rattle.jr_tree.specs.declared.label.Sought.TheVariants as sought
 use Rattle.jr_tree.specs.Rows.{Rows, label, name, parent, role_at, sought_at}
@@ -12,7 +11,6 @@ use Rattle.jr_defs.specs.declared.referent.Referent.{Referent}
 use Rattle.jr_defs.specs.declared.referent.RowType.{RowType}
 use Rattle.jr_defs.specs.Enclosing.{holder}
 use Rattle.jr_defs.specs.Referents.{Table}
-use Rattle.jr_defs.specs.Types.{class_type}
 use Rattle.jr_plain.specs.Declarations.{is_type}
 use Rattle.jr_plain.specs.Enclosing.{declaring_type, innermost, is_body, is_body_of, is_declared_in, is_member_role}
 use Rattle.jr_plain.specs.Instances.{has_instance}
@@ -38,7 +36,7 @@ use Rattle.jr_spell.specs.declared.speller.Speller.{Speller}
 use Rattle.jr_spell.specs.Adding.{IsAdded}
 use Rattle.jr_spell.specs.Objects as object
 use Rattle.jr_spell.specs.Objects.{IsSame}
-use Rattle.jr_spell.specs.Shaping.{IsFitOf, IsFirstOf, AreLooked}
+use Rattle.jr_spell.specs.Shaping.{IsFirstOf, AreLooked}
 use Rattle.jr_spell.specs.Spellers.{rows_of, table_of, number_by, fits_looked, fit_by}
 use Rattle.jr_spell.proofs.Keeping.{is_type_below}
 use Rattle.jr_spell.proofs.Shaped.{fit_looked}

@@ -1,5 +1,5 @@
 -- What a name refers to as a field of the superclass.
-use Rattle.std.proofs.Common.{◌≡◌, refl, sym, ◌∙◌, ap, subst, ℕ, if◌then◌else◌, List, [], ◌∷◌, Option, Some, None, Decides}
+use Rattle.std.proofs.Common.{◌≡◌, refl, sym, ◌∙◌, ap, subst, ℕ, if◌then◌else◌, List, [], Option, None, Decides}
 use Rattle.std.specs.List.{flat_map}
 use Rattle.std.proofs.lemmas.Bool.Decides.{Decides-eqb}
 use Rattle.std.specs.Prelude.{nat_eq}
@@ -15,7 +15,7 @@ use Rattle.jr_defs.specs.Enclosing.{Innermost}
 use Rattle.jr_defs.specs.Instances.{HasInstance}
 use Rattle.jr_defs.specs.Lookup.{SuperOf, Candidate, Otherwise, LookFor}
 use Rattle.jr_defs.specs.Members.{MemberNamed}
-use Rattle.jr_defs.specs.Referents.{Table, IsAnswer}
+use Rattle.jr_defs.specs.Referents.{Table}
 use Rattle.jr_defs.specs.Supertypes.{Superclass}
 use Rattle.jr_plain.specs.Enclosing.{innermost}
 use Rattle.jr_plain.specs.Headed.{IsHeaded}

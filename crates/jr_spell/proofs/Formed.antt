@@ -1,5 +1,5 @@
 -- What code tells of a reference is what the definitions say: whether packages or types stand before its dot, and which other ways there are.
-use Rattle.std.proofs.Common.{◌≡◌, refl, sym, ◌∙◌, ap, ap₂, arith, ℕ, zero, suc, ◌+◌, ◌-◌, ◌<◌, ◌≤◌, Bool, true, false, not, ◌&&◌, ◌||◌, cond, List, [], ◌∷◌, Option, Some, None, nat_lt}
+use Rattle.std.proofs.Common.{◌≡◌, refl, sym, ◌∙◌, ap, ap₂, arith, ℕ, zero, suc, ◌+◌, ◌-◌, ◌<◌, Bool, true, false, not, ◌&&◌, ◌||◌, cond, List, [], ◌∷◌, Option, Some, None, nat_lt}
 use Rattle.std.specs.Option.{is_some}
 use Rattle.std.proofs.lemmas.Bool.{and_parts, false≢true}
 use Rattle.std.proofs.lemmas.Bool.Decides.{Decides-ltb}
@@ -19,7 +19,7 @@ use Rattle.jr_shapes.specs.Parts.{end_of, is_qualifier, before_dot, parts_from, 
 use Rattle.jr_spelling_rules.specs.Candidates as candidate
 use Rattle.jr_spell.specs.declared.reference.Dot.{Dot}
 use Rattle.jr_spell.specs.declared.reference.Form.TheVariants as form
-use Rattle.jr_spell.specs.Forming.{has_name_before, has_parts, is_names, is_static_by, type_form, member_form, role_form, name_form, form_by, form_at, by_form, is_named}
+use Rattle.jr_spell.specs.Forming.{has_name_before, has_parts, is_names, is_static_by, member_form, role_form, name_form, form_by, form_at, by_form, is_named}
 
 false_by : (b : Bool) → not b ≡ true → b ≡ false
 false_by true e = absurd (false≢true e)

@@ -1,12 +1,11 @@
 -- The packages and types before a reference as they would be written now.
-use Rattle.std.proofs.Common.{◌≡◌, refl, sym, ◌∙◌, ap, ap₂, subst, arith, ℕ, zero, suc, ◌+◌, ◌-◌, ◌<◌, Bool, true, false, ◌&&◌, cond, List, [], ◌∷◌, ◌++◌, length, Option, Some, None, nat_eq}
+use Rattle.std.proofs.Common.{◌≡◌, refl, sym, ◌∙◌, ap, ap₂, subst, ℕ, zero, suc, ◌+◌, ◌-◌, ◌<◌, Bool, true, false, cond, List, [], ◌∷◌, length, Option, Some, None, nat_eq}
 use Rattle.std.specs.Prelude.{⊤}
 use Rattle.std.specs.Option.{option_map_or}
 use Rattle.std.proofs.Math.Dec.{eqb-suc-zero}
 use Rattle.std.proofs.lemmas.Bool.{and_parts, false≢true}
 use Rattle.std.proofs.lemmas.Option.{none-some, same_Some}
 use Rattle.jr_base.specs.declared.text.Text.{Text}
-use Rattle.jr_tree.specs.declared.label.Label.{Label}
 use Rattle.jr_tree.specs.declared.label.Role.TheVariants as role
 use Rattle.jr_tree.specs.Labels.{role_of}
 use Rattle.jr_tree.specs.Rows.{Rows, label, parent}
@@ -19,7 +18,7 @@ use Rattle.jr_plain.specs.Same.{same_role}
 use Rattle.jr_plain.proofs.Bounds.{bounded}
 use Rattle.jr_shapes.specs.declared.parts.Before.{Before}
 use Rattle.jr_shapes.specs.declared.parts.Before.TheVariants as before
-use Rattle.jr_shapes.specs.Names.{kept, kept_package, package_names}
+use Rattle.jr_shapes.specs.Names.{kept, kept_package}
 use Rattle.jr_shapes.specs.Parts.{end_of, is_name, is_part, is_qualifier, type_of, before_at, parts_from, parts_by, parts}
 use Rattle.jr_spelling_rules.specs.Candidates as candidate
 use Rattle.jr_spell.specs.Adding.{AreWithin, AreNumbersOf, AreNumbered, loses}

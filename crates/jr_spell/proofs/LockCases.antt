@@ -1,5 +1,5 @@
 -- What is found is the lock, by its cases.
-use Rattle.std.proofs.Common.{◌≡◌, refl, sym, ◌∙◌, ap, ℕ, Bool, true, false, cond, Option, Some, None, nat_eq, Decides}
+use Rattle.std.proofs.Common.{◌≡◌, sym, ◌∙◌, ap, ℕ, Bool, false, Option, Some, None, nat_eq, Decides}
 use Rattle.std.specs.Option.{option_map_or}
 use Rattle.std.proofs.lemmas.Bool.Decides.{same_from_decides}
 use Rattle.jr_defs.specs.declared.referent.Referent.{Referent}

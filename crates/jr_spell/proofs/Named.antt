@@ -1,5 +1,5 @@
 -- What is found behind a type, in a package and alone is what the definitions find there.
-use Rattle.std.proofs.Common.{◌≡◌, refl, sym, ◌∙◌, ap, subst, ℕ, ◌<◌, true, false, ◌||◌, List, [], ◌∷◌, length, Option, Some, None, Result, IfOk, append-nil}
+use Rattle.std.proofs.Common.{◌≡◌, refl, sym, ◌∙◌, ap, subst, ℕ, ◌<◌, ◌||◌, List, [], ◌∷◌, length, Option, Some, None, Result, IfOk, append-nil}
 use Rattle.std.proofs.lemmas.Bool.{false≢true}
 use Rattle.std.proofs.lemmas.Bool.Decides.{Decides-eqb}
 use Rattle.std.proofs.lemmas.Option.{none-some, same_Some}

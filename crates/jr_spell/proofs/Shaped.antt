@@ -1,7 +1,5 @@
 -- What a shape finds is what its candidate finds, and the first that fits is the first of the candidates.
-use Rattle.std.proofs.Common.{◌≡◌, refl, sym, ◌∙◌, ap, ap₂, subst, arith, ℕ, zero, suc, ◌+◌, ◌-◌, ◌<◌, ◌≤◌, Bool, true, false, not, ◌&&◌, cond, List, [], ◌∷◌, ◌++◌, length, Option, Some, None, nat_lt}
-use Rattle.std.specs.Option.{is_none}
-use Rattle.std.proofs.lemmas.Bool.{and_parts, false≢true}
+use Rattle.std.proofs.Common.{◌≡◌, refl, sym, ◌∙◌, ap, ap₂, subst, arith, ℕ, zero, suc, ◌+◌, ◌-◌, ◌<◌, ◌≤◌, Bool, true, false, cond, List, [], ◌∷◌, ◌++◌, length, Option, Some, None, nat_lt}
 use Rattle.std.proofs.lemmas.Option.{none-some, same_Some}
 use Rattle.jr_base.specs.declared.text.Text.{Text}
 use Rattle.jr_tree.specs.declared.label.NameKind.{NameKind}
@@ -18,7 +16,7 @@ use Rattle.jr_shapes.specs.declared.spelling.Shape.TheVariants as shape
 use Rattle.jr_shapes.specs.declared.spelling.Suffix.{Suffix}
 use Rattle.jr_shapes.specs.Names.{has_own_identifier, named_by, suffix, target_of}
 use Rattle.jr_plain.specs.Overloads.{Types}
-use Rattle.jr_with.specs.World.{Left, world_of}
+use Rattle.jr_with.specs.World.{world_of}
 use Rattle.jr_with.specs.With.{look_with}
 use Rattle.jr_lookup.proofs.Looking.{named_first}
 use Rattle.jr_spelling_rules.specs.Candidates as candidate
@@ -34,7 +32,7 @@ use Rattle.jr_spell.specs.Packaging.{IsNumber}
 use Rattle.jr_spell.specs.Adding.{AreNumbersOf}
 use Rattle.jr_spell.specs.Standing.{texts_of}
 use Rattle.jr_spell.specs.Shaping.{IsLookedAs, AreLooked, way_of, fits_at, IsFitOf, IsFirstOf, kept_by_names, others_from}
-use Rattle.jr_spell.specs.Spellers.{rows_of, table_of, is_constant_variable, was_constant, HasTarget, number_by, IsSought, fits_looked, fit_by}
+use Rattle.jr_spell.specs.Spellers.{rows_of, table_of, is_constant_variable, was_constant, HasTarget, number_by, fits_looked, fit_by}
 use Rattle.jr_spell.proofs.Packed.{is_number}
 
 -- ---- the name that a reference gets

@@ -3,8 +3,7 @@ use Rattle.std.proofs.Common.{◌≡◌, refl, sym, ◌∙◌, ap, subst, ℕ, B
 use Rattle.std.specs.List.{AllByRecursion}
 use Rattle.std.specs.Option.{is_none}
 use Rattle.std.proofs.lemmas.Option.{none-some, same_Some}
-use Rattle.jr_tree.specs.Rows.{Rows, sought_at}
-use Rattle.jr_defs.specs.Referents.{Table}
+use Rattle.jr_tree.specs.Rows.{sought_at}
 use Rattle.jr_plain.specs.Lookup.{arguments}
 use Rattle.jr_shapes.specs.declared.spelling.Spelling.{Spelling}
 use Rattle.jr_spelling_rules.specs.Candidates as candidate

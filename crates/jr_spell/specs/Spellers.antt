@@ -1,5 +1,5 @@
 -- What a speller reads, and what is known of it: the program under its locks, with supertypes, members and imports as the locks say.
-use Rattle.std.specs.Prelude.{◌≡◌, ℕ, ◌+◌, ◌<◌, ◌^◌, Bool, false, if◌then◌else◌, Option, Some, None, is_some, length, slice_index_or}
+use Rattle.std.specs.Prelude.{◌≡◌, ℕ, ◌<◌, ◌^◌, Bool, false, if◌then◌else◌, Option, Some, None, is_some, length, slice_index_or}
 use Rattle.jr_tree.specs.Rows.{Rows, sought_at}
 use Rattle.jr_defs.specs.declared.referent.Referent.{Referent}
 use Rattle.jr_defs.specs.Referents.{Table, entries}

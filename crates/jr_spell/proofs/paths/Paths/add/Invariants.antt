@@ -1,4 +1,4 @@
-use Rattle.std.proofs.Common.{◌≡◌, ◌+◌, ◌<◌, ◌^◌}
+use Rattle.std.proofs.Common.{◌+◌, ◌<◌, ◌^◌}
 use Rattle.jr_members.specs.Sources.{ArePlaced}
 use Rattle.jr_spell.specs.Packaging.{HoldsName, chain_of, AreEntries, EntersTo}
 use Rattle.jr_spell.proofs.paths.Paths.add.Given as goal

@@ -1,10 +1,9 @@
-use Rattle.std.proofs.Common.{◌≡◌, ◌∙◌, sym, subst, arith, None, []}
+use Rattle.std.proofs.Common.{◌∙◌, sym, subst, arith, None, []}
 use Rattle.jr_shapes.specs.declared.spelling.Shape.TheVariants as shape
 use Rattle.jr_spelling_rules.specs.Candidates as candidate
 use Rattle.jr_spell.specs.Packaging.{AreNumbers}
 use Rattle.jr_spell.specs.Shaping.{IsFirstOf, IsFitOf, AreLooked}
 use Rattle.jr_spell.specs.Spellers.{rows_of, table_of}
-use Rattle.jr_spell.specs.Standing.{texts_of}
 use Rattle.jr_spell.proofs.Formed.{bare_gone, bare_there}
 use Rattle.jr_spell.proofs.Tracing.{seen_of}
 use Rattle.jr_spell.proofs.speller.Speller.bare.Goals as goal

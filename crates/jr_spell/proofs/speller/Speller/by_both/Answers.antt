@@ -1,4 +1,4 @@
-use Rattle.std.proofs.Common.{subst, IfOk, ap, ap₂, ◌∙◌, ◌∷◌, ◌++◌, []}
+use Rattle.std.proofs.Common.{subst, IfOk, ap, ◌∙◌, ◌∷◌, ◌++◌, []}
 use Rattle.jr_shapes.specs.declared.spelling.Shape.TheVariants as shape
 use Rattle.jr_spelling_rules.specs.Candidates as candidate
 use Rattle.jr_spell.specs.Shaping.{IsFirstOf}

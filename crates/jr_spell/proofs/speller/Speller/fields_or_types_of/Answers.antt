@@ -1,10 +1,10 @@
-use Rattle.std.proofs.Common.{◌≡◌, [], sym, ◌∙◌, ap, arith, length, nat_eq}
+use Rattle.std.proofs.Common.{◌≡◌, sym, ◌∙◌, ap, arith, length, nat_eq}
 use Rattle.std.proofs.lemmas.Bool.{false≢true}
 use Rattle.std.proofs.lemmas.Bool.Decides.{Decides-eqb}
 use Rattle.std.proofs.lemmas.Result.{IfOk-weaker}
 use Rattle.std.proofs.lemmas.List.{nil_from_length}
 use Rattle.jr_tree.specs.Rows.{name}
-use Rattle.jr_spelling_rules.specs.Naming.{at_start, in_package, in_type}
+use Rattle.jr_spelling_rules.specs.Naming.{in_type}
 use Rattle.jr_spell.specs.Spellers.{rows_of, table_of}
 use Rattle.jr_spell.proofs.Named.{first_ambiguous, then_ambiguous}
 use Rattle.jr_spell.proofs.speller.Speller.fields_or_types_of.Goals as goal

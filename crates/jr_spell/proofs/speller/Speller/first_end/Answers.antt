@@ -1,7 +1,7 @@
 use Rattle.std.proofs.Common.{◌≡◌, ◌+◌, arith, subst, suc}
 use Rattle.jr_spelling_rules.specs.Candidates as candidate
 use Rattle.jr_spell.specs.Shaping.{IsFirstOf}
-use Rattle.jr_spell.specs.Spellers.{rows_of, table_of, types_of}
+use Rattle.jr_spell.specs.Spellers.{rows_of, table_of}
 use Rattle.jr_spell.proofs.Shaped.{from_start, from_later, from_here, from_end}
 use Rattle.jr_spell.proofs.speller.Speller.first_end.Goals as goal
 

@@ -1,4 +1,4 @@
-use Rattle.std.proofs.Common.{◌∙◌, sym, ap, subst}
+use Rattle.std.proofs.Common.{◌∙◌, ap, subst}
 use Rattle.std.proofs.lemmas.Result.{IfOk-weaker}
 use Rattle.jr_spelling_rules.specs.Candidates as candidate
 use Rattle.jr_spell.specs.Shaping.{IsFirstOf, others_from}

@@ -1,7 +1,7 @@
-use Rattle.std.proofs.Common.{◌∙◌, sym, ap, subst, IfOk, None, true, false}
+use Rattle.std.proofs.Common.{◌∙◌, sym, ap, subst, IfOk, None, true}
 use Rattle.jr_spelling_rules.specs.Candidates.{target}
 use Rattle.jr_spell.specs.Shaping.{IsFirstOf, IsFitOf}
-use Rattle.jr_spell.specs.Spellers.{rows_of, table_of, types_of}
+use Rattle.jr_spell.specs.Spellers.{rows_of, table_of}
 use Rattle.jr_spell.proofs.Formed.{type_is, no_type}
 use Rattle.jr_spell.proofs.speller.Speller.import_fit.Goals as goal
 

@@ -2,7 +2,7 @@ use Rattle.std.proofs.Common.{◌∙◌, ap}
 use Rattle.jr_shapes.specs.Names.{kept}
 use Rattle.jr_shapes.specs.Parts.{type_of}
 use Rattle.jr_spell.specs.Adding.{loses}
-use Rattle.jr_spell.specs.Spellers.{rows_of, table_of, types_of}
+use Rattle.jr_spell.specs.Spellers.{rows_of, table_of}
 use Rattle.jr_spell.proofs.Keeping.{kept_none, kept_given}
 use Rattle.jr_spell.proofs.speller.Speller.kept_names.Goals as goal
 

@@ -1,6 +1,6 @@
 use Rattle.std.proofs.lemmas.Result.{IfOk-weaker}
 use Rattle.jr_tree.specs.Rows.{name}
-use Rattle.jr_spelling_rules.specs.Naming.{at_start, in_package, in_type}
+use Rattle.jr_spelling_rules.specs.Naming.{at_start}
 use Rattle.jr_spelling_rules.proofs.Found.{looked_up_only}
 use Rattle.jr_spell.specs.Spellers.{rows_of, table_of}
 use Rattle.jr_spell.proofs.Named.{headed, number_is}

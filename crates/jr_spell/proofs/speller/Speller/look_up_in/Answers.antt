@@ -2,7 +2,7 @@ use Rattle.std.proofs.Common.{◌∙◌, ap, None}
 use Rattle.jr_plain.specs.Lists.{at_level}
 use Rattle.jr_plain.specs.Referents.{answer_of}
 use Rattle.jr_tree.specs.Rows.{name}
-use Rattle.jr_spelling_rules.specs.Naming.{at_start, in_package, in_type}
+use Rattle.jr_spelling_rules.specs.Naming.{in_package}
 use Rattle.jr_spelling_rules.specs.Behind.{NamedBehind, else_behind}
 use Rattle.jr_spelling_rules.proofs.Found.{looked_up_only}
 use Rattle.jr_spell.specs.Spellers.{rows_of, table_of}

@@ -1,6 +1,6 @@
 use Rattle.jr_defs.specs.declared.referent.Referent.TheVariants.{Unbound}
 use Rattle.jr_tree.specs.Rows.{name}
-use Rattle.jr_spelling_rules.specs.Naming.{at_start, in_package, in_type}
+use Rattle.jr_spelling_rules.specs.Naming.{in_type}
 use Rattle.jr_spelling_rules.specs.Behind.{NamedBehind}
 use Rattle.jr_spelling_rules.proofs.Found.{looked_up_only}
 use Rattle.jr_spell.specs.Spellers.{rows_of, table_of}

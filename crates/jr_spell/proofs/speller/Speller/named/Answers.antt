@@ -1,9 +1,9 @@
-use Rattle.std.proofs.Common.{◌∙◌, sym, ap, subst}
+use Rattle.std.proofs.Common.{sym, subst}
 use Rattle.jr_shapes.specs.declared.spelling.Shape.TheVariants as shape
 use Rattle.jr_spelling_rules.specs.Candidates as candidate
 use Rattle.jr_spell.specs.Adding.{AreNumbersOf}
 use Rattle.jr_shapes.specs.Names.{suffix}
-use Rattle.jr_spell.specs.Spellers.{rows_of, table_of, types_of}
+use Rattle.jr_spell.specs.Spellers.{rows_of, table_of}
 use Rattle.jr_spell.proofs.Shaped.{named_looked}
 use Rattle.jr_spell.proofs.Tracing.{seen_of}
 use Rattle.jr_spell.proofs.speller.Speller.named.Goals as goal

@@ -1,7 +1,7 @@
 use Rattle.std.proofs.lemmas.Result.{IfOk-weaker}
 use Rattle.jr_tree.specs.declared.label.NameKind.TheVariants as kind
 use Rattle.jr_tree.specs.Rows.{name}
-use Rattle.jr_spelling_rules.specs.Naming.{at_start, in_package, in_type}
+use Rattle.jr_spelling_rules.specs.Naming.{in_package}
 use Rattle.jr_spell.specs.Spellers.{rows_of, table_of}
 use Rattle.jr_spell.proofs.Named.{by_kind, as_types, as_package_or_types, as_ambiguous_in, as_no_variables}
 use Rattle.jr_spell.proofs.speller.Speller.named_in.Goals as goal

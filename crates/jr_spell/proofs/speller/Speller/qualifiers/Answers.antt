@@ -1,4 +1,4 @@
-use Rattle.std.proofs.Common.{sym, subst, arith, ◌+◌}
+use Rattle.std.proofs.Common.{sym, subst, arith}
 use Rattle.std.proofs.lemmas.List.{drop_more, drop_all}
 use Rattle.jr_spell.specs.declared.resolving.Before.TheVariants as code
 use Rattle.jr_spell.specs.Standing.{LeadsOn}

@@ -1,7 +1,7 @@
-use Rattle.std.proofs.Common.{◌≡◌, ◌∙◌, ◌+◌, ◌<◌, ◌^◌, ap₂, arith}
+use Rattle.std.proofs.Common.{◌∙◌, ◌+◌, ◌<◌, ◌^◌, ap₂, arith}
 use Rattle.jr_spelling_rules.specs.Candidates.{target}
 use Rattle.jr_spell.specs.Forming.{form_by}
-use Rattle.jr_spell.specs.Spellers.{rows_of, table_of, types_of}
+use Rattle.jr_spell.specs.Spellers.{rows_of, table_of}
 use Rattle.jr_spell.proofs.speller.Speller.reference_to.Goals as goal
 
 pub returns-clause-whole : goal.returns-clause-whole

@@ -1,7 +1,7 @@
 use Rattle.std.proofs.Common.{sym, subst, IfOk, None}
 use Rattle.jr_spell.specs.Forming.{by_form}
 use Rattle.jr_spell.specs.Shaping.{IsFirstOf, IsFitOf}
-use Rattle.jr_spell.specs.Spellers.{rows_of, table_of, types_of}
+use Rattle.jr_spell.specs.Spellers.{rows_of, table_of}
 use Rattle.jr_spell.proofs.speller.Speller.reshaped.Goals as goal
 
 pub returns-in-Fixed : goal.returns-in-Fixed

@@ -1,7 +1,7 @@
 use Rattle.std.proofs.Common.{◌∙◌, sym, ap, subst, IfOk, None}
 use Rattle.jr_spell.specs.Forming.{by_form}
 use Rattle.jr_spell.specs.Shaping.{IsFirstOf, IsFitOf}
-use Rattle.jr_spell.specs.Spellers.{rows_of, table_of, types_of}
+use Rattle.jr_spell.specs.Spellers.{rows_of, table_of}
 use Rattle.jr_spell.proofs.Formed.{by_form_is}
 use Rattle.jr_spell.proofs.Shaped.{others_gone, others_there}
 use Rattle.jr_spell.proofs.speller.Speller.reshaped_here.Goals as goal

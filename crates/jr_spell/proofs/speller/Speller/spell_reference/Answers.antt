@@ -1,9 +1,6 @@
-use Rattle.std.proofs.Common.{◌≡◌, ◌∙◌, sym, ap, subst}
+use Rattle.std.proofs.Common.{◌≡◌, subst}
 use Rattle.std.specs.Prelude.{IfSome}
 use Rattle.std.proofs.lemmas.Result.{IfErr-weaker}
-use Rattle.jr_spell.specs.Shaping.{HasNone, spelling_at}
-use Rattle.jr_spell.specs.Spelling.{IsWritten}
-use Rattle.jr_spell.specs.Spellers.{rows_of, table_of, types_of}
 use Rattle.jr_spell.proofs.Spelled.{none_refused, one_spelled, no_memory}
 use Rattle.jr_spell.proofs.speller.Speller.spell_reference.Goals as goal
 

@@ -1,7 +1,6 @@
 use Rattle.std.proofs.Common.{subst}
 use Rattle.std.proofs.lemmas.Result.{IfOk-weaker}
 use Rattle.jr_spelling_rules.specs.Candidates as candidate
-use Rattle.jr_spell.specs.Objects as object
 use Rattle.jr_spell.specs.Shaping.{IsFirstOf}
 use Rattle.jr_spell.specs.Spellers.{rows_of, table_of}
 use Rattle.jr_spell.proofs.Shaped.{fit_front, fit_behind}

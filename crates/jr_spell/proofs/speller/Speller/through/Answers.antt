@@ -1,4 +1,3 @@
-use Rattle.std.proofs.Common.{◌∙◌}
 use Rattle.jr_spell.proofs.ByObject.{object_first}
 use Rattle.jr_spell.proofs.Tracing.{seen_of}
 use Rattle.jr_spell.proofs.speller.Speller.through.Goals as goal

@@ -1,6 +1,6 @@
 use Rattle.std.proofs.lemmas.Result.{IfOk-weaker}
 use Rattle.jr_lookup.proofs.Demanding.{spelled_some, spelled_nowhere}
-use Rattle.jr_spell.specs.Spellers.{rows_of, table_of}
+use Rattle.jr_spell.specs.Spellers.{rows_of}
 use Rattle.jr_spell.proofs.speller.Speller.types_beside.Goals as goal
 
 pub returns-in-Some : goal.returns-in-Some
