@@ -3,13 +3,29 @@ use Rattle.std.proofs.Common.{◌≡◌, ℕ, ◌<◌, ◌^◌, List, length, ma
 use Rattle.std.specs.Prelude.{slice_get, slice_index_or}
 use Rattle.std.specs.List.Sorted.{IsNonDecreasing}
 use Rattle.std.proofs.lemmas.List.{length-map}
+use Rattle.jr_tree.specs.Rows.{Rows}
+use Rattle.jr_defs.specs.declared.program.Program.{Program}
 use Rattle.jr_defs.specs.declared.program.UnitAt.{UnitAt}
 use Rattle.jr_defs.specs.Program.{rows_of}
+use Rattle.jr_index.specs.declared.mark.Mark.{Mark}
+use Rattle.jr_index.specs.Marking.{program_marks}
 use Rattle.jr_index.specs.NodeRows.{unit_rows}
 use Rattle.jr_index.proofs.Numbering.{units_few, units_within, units_rising}
 use Rattle.jr_index.proofs.UnitCount.{units_have_rows}
 use Rattle.jr_marks.specs.Places.{AreApart, tokens_by}
-use Rattle.jr_marks.specs.Made.{MarksAreOrdered}
+use Rattle.jr_marks.specs.Made.{AreMade, MarksAreOrdered}
+use Rattle.jr_marks.specs.declared.marks.Marks.{Marks}
+
+-- the marks by an index that has the rows and marks of the program
+pub made_by : (program : Program) (rows : Rows) (marks : List Mark) (m : Marks) → m.units.now ≡ program.units → m.rows.now ≡ rows → m.marks.now ≡ marks → m.starts.now ≡ unit_rows rows (length rows)
+    → length m.rows.now < 2 ^ 32 → rows ≡ rows_of program → marks ≡ program_marks (map (λ u. u.unit) program.units) → AreMade program m
+made_by program rows marks m units these marked starts few same told = record {
+  units = units;
+  rows = these ∙ same;
+  marks = marked ∙ told;
+  starts = starts ∙ ap (λ (r : Rows). unit_rows r (length r)) same;
+  few = few;
+}
 
 pub marks_ordered : MarksAreOrdered
 marks_ordered program m shaped made read =

@@ -12,6 +12,10 @@ use Rattle.jr_tree.specs.Rows.{Rows, label, end}
 use Rattle.jr_plain.specs.Search.{first_below}
 use Rattle.jr_defs.specs.declared.program.UnitAt.{UnitAt}
 use Rattle.jr_index.specs.declared.mark.Mark.{Mark}
+use Rattle.jr_rule.specs.declared.Fault.{Fault}
+use Rattle.jr_rule.specs.declared.PlaceKind.{PlaceKind}
+use Rattle.jr_rule.specs.declared.PlaceKind.TheVariants as shown
+use Rattle.jr_rule.specs.Shown.{place_kind}
 use Rattle.jr_marks.specs.declared.marks.Marks.{Marks}
 
 -- ---- tokens
@@ -95,6 +99,18 @@ place_in m unit token = record { cu = record { 0 = unit }; at = if nat_le 2 unit
 
 abbrev pub place_of_name : Marks → ℕ → Place
 place_of_name m n = place_in m (unit_of m n) (own_or_first (mark_of m n))
+
+-- the first token of a row
+abbrev pub place_of_first : Marks → ℕ → Place
+place_of_first m n = place_in m (unit_of m n) (mark_of m n).first
+
+abbrev pub place_by : PlaceKind → Marks → ℕ → Place
+place_by shown.Name m n = place_of_name m n
+place_by shown.First m n = place_of_first m n
+
+-- where a broken rule is shown: at the identifier by which the row refers or that it declares, or at its first token
+abbrev pub place_of_fault : Marks → Fault → Place
+place_of_fault m fault = place_by (place_kind fault.rule) m fault.row
 
 -- ---- the row at an offset
 

@@ -1,7 +1,10 @@
 // Places of rows, and rows at places.
-ghost use Rattle.std.specs.Prelude.{◌≡◌, ◌<◌, ◌^◌, length, slice_get};
+ghost use Rattle.std.specs.Prelude.{◌≡◌, ◌<◌, ◌^◌, length, map, slice_get};
 ghost use Rattle.jr_tree.specs.Rows.{label};
+ghost use Rattle.jr_defs.specs.Program.{rows_of};
+ghost use Rattle.jr_index.specs.Marking.{program_marks};
 ghost use Rattle.jr_index.specs.NodeRows.{unit_rows};
+ghost use Rattle.jr_marks.specs.Made.{AreMade};
 ghost use Rattle.jr_marks.specs.Places as places;
 
 use crate::searching::{count_up_to, identifier_at};
@@ -25,6 +28,7 @@ pub struct Marks<'p> {
 }
 
 impl<'p> Marks<'p> {
+    #[tactic(auto, using(crate::proofs::Made::made_by))]
     /// The marks of a program, by its index.
     pub fn of(program: &'p Program, index: &'p Index) -> Marks<'p>
         ensures units { result.units.now ≡ program.now.units }
@@ -32,6 +36,7 @@ impl<'p> Marks<'p> {
         ensures marks { result.marks.now ≡ index.now.marks }
         ensures starts { result.starts.now ≡ unit_rows index.now.rows (length index.now.rows) }
         ensures few { length result.rows.now < 2 ^ 32 }
+        ensures made { index.now.rows ≡ rows_of program.now → index.now.marks ≡ program_marks (map (λ u. u.unit) program.now.units) → AreMade program.now result }
     {
         Marks {
             units: program.units.as_slice(),
@@ -66,7 +71,9 @@ impl<'p> Marks<'p> {
     }
 
     /// The place at which a broken rule is shown.
-    pub fn fault_place(&self, fault: Fault) -> Place {
+    pub fn fault_place(&self, fault: Fault) -> Place
+        ensures { places.IsOrdered self.now → result ≡ places.place_of_fault self.now fault }
+    {
         match fault.rule.place() {
             PlaceKind::Name => self.name_place(fault.row),
             PlaceKind::First => self.first_place(fault.row),
@@ -112,7 +119,9 @@ impl<'p> Marks<'p> {
     }
 
     /// The place of the first token of a row.
-    fn first_place(&self, row: u32) -> Place {
+    fn first_place(&self, row: u32) -> Place
+        ensures { places.IsOrdered self.now → result ≡ places.place_of_first self.now row }
+    {
         self.token_place(row, self.mark(row).first)
     }
 

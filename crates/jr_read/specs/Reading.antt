@@ -1,6 +1,7 @@
 -- What files read as, or the first reason why they are no program (JLS 3, 7.3).
-use Rattle.std.specs.Prelude.{◌≡◌, ◌⊎◌, ℕ, zero, suc, ◌-◌, nat_lt, Bool, true, false, ◌||◌, List, [], ◌∷◌, ◌++◌, drop, length, map, Result, Ok, Err, None, Some, ⊤}
+use Rattle.std.specs.Prelude.{◌≡◌, ◌⊎◌, ℕ, zero, suc, ◌-◌, nat_lt, Bool, true, false, ◌||◌, ◌<◌, ◌^◌, List, [], ◌∷◌, ◌++◌, drop, length, map, Result, Ok, Err, None, Some, ⊤}
 use Rattle.std.specs.FinMap as files
+use Rattle.std.specs.List.{AllByRecursion}
 use Rattle.jr_base.specs.Files.{FileMap}
 use Rattle.jr_base.specs.Reading.{Lex}
 use Rattle.jr_base.specs.declared.limits.Size.TheVariants as size
@@ -167,3 +168,7 @@ pub data ReadsAs (found : FileMap) : Result Program ReadFault → Type 0 where
   program : {lexed : List Lexed} {p : Program} → first_too_large (files.entries found) ≡ None → AreLexed (unit_files found) lexed
       → have_too_many lexed ≡ false → ProgramOf found p → ReadsAs found (Ok p)
   memory : ReadsAs found (Err fault.OutOfMemory)
+
+-- none of the files of a program that was read, and none of the prelude, has 2 ^ 32 bytes
+abbrev pub ReadFilesAreSmall : Type 0
+ReadFilesAreSmall = (found : FileMap) (program : Program) → ReadsAs found (Ok program) → AllByRecursion (λ file. length file.1 < 2 ^ 32) (unit_files found)

@@ -2,6 +2,7 @@
 #![tactic(auto)]
 
 mod fault;
+mod law;
 mod lexed;
 mod outline;
 mod prelude;
@@ -9,6 +10,7 @@ mod program;
 mod sizes;
 
 pub use fault::ReadFault;
+pub use law::read_files_are_small;
 pub use lexed::Lexed;
 pub use outline::rows_of_source;
 pub use prelude::{io_source, lang_source};

@@ -3,6 +3,7 @@
 
 ghost use Rattle.std.specs.Prelude.{◌≡◌};
 ghost use Rattle.jr_rule.specs.Numbers.{number_of};
+ghost use Rattle.jr_rule.specs.Shown.{place_kind};
 
 /// A compile rule.
 #[derive(Clone, Copy, Debug, PartialEq, Eq)]
@@ -176,7 +177,9 @@ impl Rule {
     }
 
     /// Where the rule is shown.
-    pub fn place(self) -> PlaceKind {
+    pub fn place(self) -> PlaceKind
+        ensures { result ≡ place_kind self }
+    {
         match self {
             Rule::Operands => PlaceKind::First,
             Rule::Cast => PlaceKind::First,
