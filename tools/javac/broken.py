@@ -29,7 +29,7 @@ TEXTS = {
          '= ZQ.java\nabstract interface ZQ { public static final int zq = 1; }', '= ZQ.java\nclass ZQ { protected ZQ() { } private ZQ(int a) { } }', '> final int zq = 1;']),
     2: (['class ZQ { } class ZQ { }', 'class ZQ { class ZQ { } }', 'class ZQ { class ZR { class ZQ { } } }', '= ZQ.java\nclass ZQ { } <class|interface> ZQ { }',
          '= ZQ.java\nclass ZQ { }\n= ZR.java\nclass ZQ { }', '= zp/zq.java\npackage zp; class zq { }\n= zp/zq/A.java\npackage zp.zq; class A { }'],
-        ['class ZQ { } class ZR { }', '= ZQ.java\nclass ZQ { }\n= zp/ZQ.java\npackage zp; class ZQ { }', 'class ZQ { int ZQ; int ZQ() { return 1; } }', '= z.java\nclass z { }']),
+        ['class ZQ { } class ZR { }', '= ZQ.java\nclass ZQ { }\n= zp/ZQ.java\npackage zp; class ZQ { }', 'class ZQ { int ZQ; int ZQ() { return 1; } }', '= zl.java\nclass zl { }']),
     3: (['int zq; <int|long|Object> zq;', 'int zq, zr, zq;', '= ZQ.java\ninterface ZQ { int zq = 1; int zq = 2; }', '^ static int zq; int zq;'],
         ['int zq; int zq() { return zq; }', 'int zq; void zr() { int zq = 1; }', 'int zq, zr;']),
     4: (['void zq(<int|long|Object> a) { } <int|void> zq(int b) { return; }'.replace('return;', 'throw new RuntimeException();').replace('<int|long|Object> a', 'int a'),
