@@ -94,7 +94,7 @@ TEXTS = {
           '^ static class ZX extends Exception { } static class ZC { void zf() throws Exception { } } static class ZD extends ZC { void zf() throws ZX { } }']),
     20: (['^ static abstract class ZC { abstract void zf() { } }', 'void zq();', '^ static class ZC { abstract void zf(); }', 'native void zq() { }', '= ZQ.java\ninterface ZQ { void zf() { } }', '= ZQ.java\nclass ZQ { ZR() { } }', '= ZQ.java\nclass ZQ { static void zf(); }'],
          ['^ static abstract class ZC { abstract void zf(); void zg() { } }', 'native void zq();', '= ZQ.java\nclass ZQ { ZQ() { } }']),
-    21: (['~ = ZQ.java\nclass ZQ { class ZR { static int zf = 1; } }', '~ = ZQ.java\nclass ZQ { class ZR { static { } } }', '~ = ZQ.java\nclass ZQ { class ZR { interface ZS { } } }', '~ = ZQ.java\nclass ZQ { class ZR { static void zf() { } } }', '~ = ZQ.java\nclass ZQ { class ZR { static class ZS { } } }'],
+    21: (['= ZQ.java\nclass ZQ { class ZR { static int zf = 1; } }', '= ZQ.java\nclass ZQ { class ZR { static { } } }', '= ZQ.java\nclass ZQ { class ZR { interface ZS { } } }', '= ZQ.java\nclass ZQ { class ZR { static void zf() { } } }', '= ZQ.java\nclass ZQ { class ZR { static class ZS { } } }'],
          ['= ZQ.java\nclass ZQ { class ZR { static final int zf = 1; } }', '= ZQ.java\nclass ZQ { static class ZR { static int zf = 1; interface ZS { } } }']),
     22: (['= ZQ.java\nclass ZQ { ZQ() { this(1); } ZQ(int a) { this(); } }', '= ZQ.java\nclass ZQ { ZQ() { this(); } }', '= ZQ.java\nclass ZQ { ZQ(int a) { this(1L); } ZQ(long a) { this(""); } ZQ(String a) { this(1); } }'],
          ['= ZQ.java\nclass ZQ { ZQ() { this(1); } ZQ(int a) { } }', '= ZQ.java\nclass ZQ { ZQ() { this(1); } ZQ(int a) { this(1L); } ZQ(long a) { } }']),

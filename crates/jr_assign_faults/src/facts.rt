@@ -1,6 +1,5 @@
 // What is known of rows besides their labels.
 ghost use Rattle.std.specs.Prelude.{◌≡◌, ◌+◌, ◌<◌, ◌^◌, IfOk, None, length, slice_index_or};
-ghost use Rattle.jr_tree.specs.Local.{IsLocal};
 ghost use Rattle.jr_tree.specs.Rows.{label};
 ghost use Rattle.jr_defs.specs.Referents.{entries};
 ghost use Rattle.jr_places.specs.Tabulated.{tabulated};
@@ -14,7 +13,6 @@ use crate::operands::{Operand, operand_of, operands_of};
 use crate::variables::{assigned_at, member_of, read_at};
 use jr_assign::{Fact, Way, members_of};
 use jr_base::OutOfMemory;
-use jr_flow_faults::facts_of;
 use jr_places::{end_at, parent_at};
 use jr_reach::{Exit, no_fact};
 use jr_supers::Tabled;
@@ -149,20 +147,23 @@ fn facts_by(alloc: Global, under: &Tabled, told: Told, count: u32) -> Result<Vec
     Ok(all)
 }
 
-/// What is known of each row of a bound program.
-pub fn assign_facts_of(alloc: Global, view: &View) -> Result<Vec<Fact>, OutOfMemory>
-    ensures { IsLocal (rows_in view.now) → IfOk result (λ all. tell.AreRead (rows_in view.now) (table_in view.now) (facts_in view.now) all.items) }
+/// What is known of each row of a bound program, with what flow knows of it (`facts_of` of `jr_flow_faults`).
+pub fn assign_facts_of(
+    alloc: Global,
+    view: &View,
+    flow: &[jr_reach::Fact],
+) -> Result<Vec<Fact>, OutOfMemory>
+    ensures { flow.now ≡ facts_in view.now → IfOk result (λ all. tell.AreRead (rows_in view.now) (table_in view.now) (facts_in view.now) all.items) }
 {
     let under = &view.sight.world.under;
     let Ok(count) = u32::try_from(under.rows.len()) else {
         return Err(OutOfMemory);
     };
-    let flow = facts_of(alloc, view)?;
     let members = members_of(alloc, under.rows)?;
     let operands = operands_of(alloc, under.rows, count)?;
     let lasts = lasts_of(alloc, under.rows, count)?;
     let told = Told {
-        flow: &flow,
+        flow,
         members: &members,
         operands: &operands,
         lasts: &lasts,

@@ -1,6 +1,5 @@
 // Checked exceptions that are neither caught nor declared (JLS 11.2.3).
-ghost use Rattle.std.specs.Prelude.{◌+◌, ◌<◌, IfOk, OnOk, length};
-ghost use Rattle.jr_tree.specs.Local.{IsLocal};
+ghost use Rattle.std.specs.Prelude.{◌≡◌, ◌+◌, ◌<◌, IfOk, OnOk, length};
 ghost use Rattle.jr_tree.specs.Rows.{label};
 ghost use Rattle.jr_defs.specs.Supertypes.{AtOrAbove};
 ghost use Rattle.jr_rule.specs.Faults.{AreFaultsOf};
@@ -8,7 +7,7 @@ ghost use Rattle.jr_rule.specs.declared.Rule.TheVariants as rule;
 ghost use Rattle.jr_supers.specs.Supers.{AreSupersOf, ListsOnce};
 ghost use Rattle.jr_supers.specs.Tabled.{IsSized};
 ghost use Rattle.jr_faults.specs.Added.{row_if, is_rule, AreOnly};
-ghost use Rattle.jr_flow_faults.specs.Computed.{rows_in, table_in};
+ghost use Rattle.jr_flow_faults.specs.Computed.{rows_in, table_in, facts_in};
 ghost use Rattle.jr_flow_faults.specs.Exceptions.{IsCode};
 ghost use Rattle.jr_flow_faults.specs.ExceptionTests as tests;
 ghost use Rattle.jr_flow_faults.specs.Faults.{is_of_exceptions, is_followed, is_of_flow, AreFlowFaults, AreThrowFaults};
@@ -16,12 +15,11 @@ ghost use Rattle.jr_flow_faults.specs.Reading as tell;
 
 use crate::catches::{Arrived, Catches};
 use crate::classes::{Roots, is_either};
-use crate::facts::facts_of;
 use crate::guards::{Around, first_guard, is_try};
 use crate::thrown::{lets_out, thrown_at};
 use jr_base::OutOfMemory;
 use jr_faults::rule_if;
-use jr_reach::{courses_of, reach_faults, reached_of};
+use jr_reach::{Fact, courses_of, reach_faults, reached_of};
 use jr_rule::{Fault, Rule};
 use jr_view::View;
 use std::alloc::Global;
@@ -250,24 +248,28 @@ fn throw_faults(
     follow_faults(alloc, view, around, &catches, out)
 }
 
-/// Adds where the rules on jumps, on reaching and completing, and on checked exceptions are broken.
-pub fn flow_faults(alloc: Global, view: &View, out: &mut Vec<Fault>) -> Result<(), OutOfMemory>
-    ensures exact { IsLocal (rows_in view.now) → OnOk result (AreFlowFaults view.now out.old.items out.new.items) }
+/// Adds where the rules on jumps, on reaching and completing, and on checked exceptions are broken, by what is known of each row (`facts_of`).
+pub fn flow_faults(
+    alloc: Global,
+    view: &View,
+    facts: &[Fact],
+    out: &mut Vec<Fault>,
+) -> Result<(), OutOfMemory>
+    ensures exact { facts.now ≡ facts_in view.now → OnOk result (AreFlowFaults view.now out.old.items out.new.items) }
     ensures covered { IsSized (rows_in view.now) → AreSupersOf (rows_in view.now) (table_in view.now) view.now.sight.world.supers.now → OnOk result (AreFaultsOf rule.CoveredCatch (tests.covered_rows (rows_in view.now) (table_in view.now)) out.old.items out.new.items) }
-    ensures thrown { tell.IsThrowingView view.now → OnOk result (AreThrowFaults view.now out.old.items out.new.items) }
+    ensures thrown { tell.IsThrowingView view.now → facts.now ≡ facts_in view.now → OnOk result (AreThrowFaults view.now out.old.items out.new.items) }
     ensures only { OnOk result (AreOnly is_of_flow out.old.items out.new.items) }
 {
     let rows = view.sight.world.under.rows;
     if rows.len() >= u32::MAX as usize {
         return Err(OutOfMemory);
     }
-    let facts = facts_of(alloc, view)?;
-    let all = courses_of(alloc, rows, &facts)?;
-    let found = reached_of(alloc, rows, &facts, &all)?;
-    reach_faults(rows, &facts, &all, &found, out)?;
+    let all = courses_of(alloc, rows, facts)?;
+    let found = reached_of(alloc, rows, facts, &all)?;
+    reach_faults(rows, facts, &all, &found, out)?;
     let around = Around {
         rows,
-        facts: &facts,
+        facts,
         all: &all,
     };
     throw_faults(alloc, view, &around, out)

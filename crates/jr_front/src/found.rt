@@ -7,7 +7,7 @@ ghost use Rattle.jr_front.specs.Tested.{IsTestableView, AreClashes, AreFaultsIn,
 use crate::modifiers::modifier_faults;
 use jr_assign_faults::assign_faults;
 use jr_base::OutOfMemory;
-use jr_flow_faults::flow_faults;
+use jr_flow_faults::{facts_of, flow_faults};
 use jr_marks::Marks;
 use jr_member_faults::{member_faults, top_type_faults};
 use jr_name_faults::name_faults;
@@ -42,10 +42,11 @@ pub fn faults_of(alloc: Global, marks: &Marks, view: &View) -> Result<Vec<Fault>
 {
     let mut faults = Vec::new(alloc);
     modifier_faults(marks, &mut faults)?;
-    assign_faults(alloc, view, &mut faults)?;
+    let known = facts_of(alloc, view)?;
+    assign_faults(alloc, view, &known, &mut faults)?;
     member_faults(alloc, view, &mut faults)?;
     type_faults(alloc, *view, &mut faults)?;
-    flow_faults(alloc, view, &mut faults)?;
+    flow_faults(alloc, view, &known, &mut faults)?;
     name_faults(alloc, view, &mut faults)?;
     Ok(faults)
 }

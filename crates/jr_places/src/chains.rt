@@ -1,6 +1,6 @@
 // Entries under keys, each with the one before it under the same key.
 ghost use Rattle.std.specs.Prelude.{◌≡◌, ◌++◌, ◌∷◌, [], ◌<◌, IfOk, OnOk, length, slice_get};
-ghost use Rattle.jr_places.specs.Chains.{entry_at, last_under, last_like, rows_under};
+ghost use Rattle.jr_places.specs.Chains.{entry_at, last_under, last_like, rows_under, IsChained};
 
 use jr_base::OutOfMemory;
 use std::alloc::Global;
@@ -35,6 +35,26 @@ impl Model for Chains {
     ghost invariant = { λ chains. IsChained chains.entries.items chains.last chains.before.items };
 }
 
+// One more entry in each part of a list.
+fn put(
+    entries: &mut Vec<Entry>,
+    last: &mut HashMap<(u32, u32), u32>,
+    before: &mut Vec<Option<u32>>,
+    entry: Entry,
+) -> Result<(), OutOfMemory>
+    ensures more { OnOk result (entries.new.items ≡ entries.old.items ++ entry ∷ []) }
+    ensures chained { IsChained entries.old.items last.old before.old.items → OnOk result (IsChained entries.new.items last.new before.new.items) }
+{
+    let count = entries.len();
+    if count >= u32::MAX as usize {
+        return Err(OutOfMemory);
+    }
+    let earlier = last.insert((entry.first, entry.second), count as u32)?;
+    before.push(earlier)?;
+    entries.push(entry)?;
+    Ok(())
+}
+
 impl Chains {
     /// No entries.
     pub fn new(alloc: Global) -> Chains
@@ -56,14 +76,7 @@ impl Chains {
             mut last,
             mut before,
         } = self;
-        let count = entries.len();
-        if count >= u32::MAX as usize {
-            return Err(OutOfMemory);
-        }
-        let at = count as u32;
-        let earlier = last.insert((entry.first, entry.second), at)?;
-        before.push(earlier)?;
-        entries.push(entry)?;
+        put(&mut entries, &mut last, &mut before, entry)?;
         Ok(Chains {
             entries,
             last,
@@ -75,9 +88,13 @@ impl Chains {
     pub fn add(&mut self, alloc: Global, entry: Entry) -> Result<(), OutOfMemory>
         ensures { OnOk result (self.new ≡ self.old ++ entry ∷ []) }
     {
-        let entries = std::mem::replace(self, Chains::new(alloc));
-        *self = entries.push(entry)?;
-        Ok(())
+        match put(&mut self.entries, &mut self.last, &mut self.before, entry) {
+            Ok(()) => Ok(()),
+            Err(fault) => {
+                *self = Chains::new(alloc);
+                Err(fault)
+            }
+        }
     }
 
     /// How many entries there are.
