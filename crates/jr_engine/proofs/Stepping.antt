@@ -11,7 +11,7 @@ use Rattle.jr_defs.specs.declared.program.Program.{Program}
 use Rattle.jr_read.specs.Reading.{ReadsAs}
 use Rattle.jr_front.specs.Bound.{IsBoundIn, rows_in, table_in}
 use Rattle.jr_front.specs.Checking.{accepted}
-use Rattle.jr_front.specs.Compiling.{CompilesExactly}
+use Rattle.jr_front.specs.Compiling.{Compiles}
 use Rattle.jr_front.proofs.Viewed.{whole_view, whole_world}
 use Rattle.jr_front.specs.Viewed.{IsViewOf}
 use Rattle.jr_front.specs.declared.workspace.Workspace.{Workspace}
@@ -65,11 +65,11 @@ use Rattle.jr_engine.specs.declared.left.Left.{Left}
 use Rattle.jr_engine.specs.declared.locked.Locked.{Locked}
 use Rattle.jr_engine.specs.declared.tried.Spelled.{Spelled}
 
-pub read_so : (files : FileMap) (w : Workspace) → ReadsAs files (Ok w.program) → rows_in w ≡ rows_of w.program → IsBoundIn w → CompilesExactly files w.program (table_in w) → IsRead files w
+pub read_so : (files : FileMap) (w : Workspace) → ReadsAs files (Ok w.program) → rows_in w ≡ rows_of w.program → IsBoundIn w → Compiles files w.program (table_in w) → IsRead files w
 read_so files w reads are bound compiles = record { reads = reads; are = are; bound = bound; compiles = compiles }
 
 -- so of equal files
-pub read_copy : (files copy : FileMap) (w : Workspace) → copy ≡ files → ReadsAs files (Ok w.program) → rows_in w ≡ rows_of w.program → IsBoundIn w → CompilesExactly files w.program (table_in w) → IsRead copy w
+pub read_copy : (files copy : FileMap) (w : Workspace) → copy ≡ files → ReadsAs files (Ok w.program) → rows_in w ≡ rows_of w.program → IsBoundIn w → Compiles files w.program (table_in w) → IsRead copy w
 read_copy files copy w same reads are bound compiles = subst (λ (f : FileMap). IsRead f w) (sym same) (read_so files w reads are bound compiles)
 
 pub held_so : (left : Left) → IsRead left.files left.program → AllByRecursion (λ path. IsTrue (is_java path)) (files.keys left.files) → IsHeld left

@@ -28,7 +28,7 @@ use Rattle.jr_runs.specs.Respelled.{IsRespelled}
 use Rattle.jr_read.specs.Reading.{ReadsAs}
 use Rattle.jr_dispatch.specs.Methods.{IsWholeWorld}
 use Rattle.jr_front.specs.Bound.{rows_in, table_in, IsBoundIn}
-use Rattle.jr_front.specs.Compiling.{CompilesExactly}
+use Rattle.jr_front.specs.Compiling.{Compiles}
 use Rattle.jr_front.specs.Viewed.{IsViewOf}
 use Rattle.jr_front.specs.declared.workspace.Workspace.{Workspace}
 use Rattle.jr_engine.specs.declared.left.Left.{Left}
@@ -39,12 +39,12 @@ pub record Opened : Type 0 where
   pub rows : Rows
   pub table : Table
 
--- the files, whose paths end in `.java`, are a program, these are its rows, and by their binding, which is the table, it compiles by the rules that are tested exactly
+-- the files, whose paths end in `.java`, are a program, these are its rows, and by their binding, which is the table, it compiles
 pub record IsOpened (o : Opened) : Type 0 where
   pub program : Program
   pub reads : ReadsAs o.files (Ok program)
   pub are : o.rows ≡ rows_of program
-  pub compiles : CompilesExactly o.files program o.table
+  pub compiles : Compiles o.files program o.table
   pub java : AllByRecursion (λ path. IsTrue (is_java path)) (files.keys o.files)
 
 -- The files left are a changed program that is written with some spellings: each of its rows stands there, and by the binding of the rows of the files
@@ -119,7 +119,7 @@ pub record IsRead (found : FileMap) (w : Workspace) : Type 0 where
   pub reads : ReadsAs found (Ok w.program)
   pub are : rows_in w ≡ rows_of w.program
   pub bound : IsBoundIn w
-  pub compiles : CompilesExactly found w.program (table_in w)
+  pub compiles : Compiles found w.program (table_in w)
 
 -- the program is that of the files, whose paths end in `.java`
 pub record IsHeld (left : Left) : Type 0 where

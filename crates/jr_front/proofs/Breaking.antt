@@ -6,10 +6,10 @@ use Rattle.jr_base.specs.declared.token.Place.{Place}
 use Rattle.jr_rule.specs.declared.Fault.{Fault}
 use Rattle.jr_rule.specs.declared.Rule.{Rule}
 use Rattle.jr_rule.specs.Numbers.{number_of}
-use Rattle.jr_marks.specs.Places.{IsOrdered}
+use Rattle.jr_marks.specs.Places.{IsOrdered, place_of_fault}
 use Rattle.jr_marks.specs.declared.marks.Marks.{Marks}
 use Rattle.jr_front.specs.Unbound.{IsBefore}
-use Rattle.jr_front.specs.Broken.{IsBetter, IsBetterOf, IsFirstBroken, place_of_fault}
+use Rattle.jr_front.specs.Broken.{IsBetter, IsBetterOf, IsFirstBroken}
 use Rattle.jr_front.proofs.Losing.{before_trans, never_before_itself}
 
 better_trans : (a b c : Rule × Place) → IsBetter a b → IsBetter b c → IsBetter a c

@@ -1,7 +1,7 @@
 -- What the makers of faults add, one after the other, is what is found.
-use Rattle.std.proofs.Common.{◌≡◌, refl, subst, ℕ, Bool, false, ◌||◌, List, []}
+use Rattle.std.proofs.Common.{◌≡◌, refl, subst, ℕ, Bool, true, false, ◌||◌, List, []}
 use Rattle.std.specs.List.{AllByRecursion}
-use Rattle.std.proofs.lemmas.Bool.{or_parts}
+use Rattle.std.proofs.lemmas.Bool.{false≢true, or_parts}
 use Rattle.jr_tree.specs.Local.{IsLocal}
 use Rattle.jr_rule.specs.declared.Fault.{Fault}
 use Rattle.jr_rule.specs.declared.Rule.{Rule}
@@ -25,7 +25,7 @@ use Rattle.jr_flow_faults.specs.Reading.{IsThrowingView}
 use Rattle.jr_assign.specs.Changes.{is_of_assignment}
 use Rattle.jr_assign_faults.specs.Faults as of_assignment
 use Rattle.jr_front.specs.Modifiers.{modifier_rows}
-use Rattle.jr_front.specs.Tested.{IsTestableView, AreFaultsIn}
+use Rattle.jr_front.specs.Tested.{IsTestableView, AreFaultsIn, is_of_changes}
 use Rattle.jr_front.proofs.Numbers.{among_holds}
 
 -- the rules on modifiers and on assignment
@@ -76,6 +76,13 @@ is_no_name one = is_before one || (is_on_members one || (is_among type_rules one
 -- one of a maker behind the first two
 abbrev is_later : Rule → Bool
 is_later one = is_on_members one || (is_among type_rules one || (is_of_flow one || of_names.is_of_names one))
+
+-- no maker adds one of the rules of changes
+of_no_maker : (one : Rule) → is_of_changes one ≡ true → (is_before one ≡ false) × (is_later one ≡ false)
+of_no_maker rule.PathTwice is = (refl, refl)
+of_no_maker rule.TypeChange is = (refl, refl)
+of_no_maker rule.HeaderCycle is = (refl, refl)
+of_no_maker _ is = absurd (false≢true is)
 
 parts : (a b c d : Bool) → (a || (b || (c || d))) ≡ false → (a ≡ false) × (b ≡ false) × (c ≡ false) × (d ≡ false)
 parts a b c d e =
@@ -164,6 +171,7 @@ module _ {m : Marks} {view : View} {a b c d e f : List Fault} (added : AreAdded 
       unthrown = of_flow rule.UnthrownCatch refl told.unthrown;
     };
     covered = of_flow rule.CoveredCatch refl (added.covered testable.right.seen.sized testable.right.seen.seen.above);
+    others = λ one is. let both = of_no_maker one is in of_first one both.1 (none_before one both.0);
   }
 
 -- the same, as the steps of the code give it

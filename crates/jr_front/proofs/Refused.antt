@@ -14,7 +14,7 @@ use Rattle.jr_rule.specs.declared.Rule.{Rule}
 use Rattle.jr_rule.specs.declared.Rule.TheVariants as rule
 use Rattle.jr_rule.specs.Numbers.{number_of}
 use Rattle.jr_rule.specs.Faults.{rows_of, AreFaultsOf}
-use Rattle.jr_marks.specs.Places.{IsOrdered, place_of_name}
+use Rattle.jr_marks.specs.Places.{place_of_fault, place_of_name}
 use Rattle.jr_marks.specs.declared.marks.Marks.{Marks}
 use Rattle.jr_headed.specs.Founded.{IsProgram}
 use Rattle.jr_headed.proofs.Programs.{headed_programs}
@@ -24,21 +24,14 @@ use Rattle.jr_name_rules.proofs.Bounded.{broken_in_local}
 use Rattle.jr_member_faults.specs.Faults.{has_member_type_clash}
 use Rattle.jr_member_faults.specs.Tops.{has_top_type_clash}
 use Rattle.jr_member_faults.proofs.Told.{types_at}
-use Rattle.jr_front.specs.Broken.{IsBetter, IsFirstBroken, place_of_fault}
-use Rattle.jr_front.specs.Compiling.{exact_rules, BreaksExact}
-use Rattle.jr_front.specs.Reasons.{IsToldAs}
+use Rattle.jr_front.specs.Broken.{IsBetter, IsFirstBroken}
+use Rattle.jr_front.specs.Compiling.{BreaksRule}
 use Rattle.jr_front.specs.Refusing.{IsFirstClash, IsFirstBreak}
 use Rattle.jr_front.specs.Tested.{is_between, AreTakenOver, AreClashes, HasNoTopFault}
 use Rattle.jr_front.specs.Unbound.{IsBefore}
 use Rattle.jr_front.specs.declared.fault.FrontFault.{FrontFault}
-use Rattle.jr_front.specs.declared.fault.FrontFault.TheVariants as fault
 use Rattle.jr_front.proofs.Listed.{HasFault, listed, passes, found}
 use Rattle.jr_front.proofs.Numbers.{same_rule}
-
--- what is told is the reason, or want of memory
-pub told_reason : (P : FrontFault → Type 0) (m : Marks) (why told : FrontFault) → IsToldAs m why told → (IsOrdered m → P why) → P fault.OutOfMemory → P told
-told_reason P m why told (inl h) reason none = subst P (sym h.1) (reason h.0)
-told_reason P m why told (inr e) reason none = subst P (sym e) none
 
 abbrev fault_at : Rule → ℕ → Fault
 fault_at rule row = record { row = row; rule = rule }
@@ -100,14 +93,14 @@ program_is_headed p program = subst IsHeaded (sym program.rows_are) (headed_prog
 
 -- ---- rules
 
-pub first_break : (m : Marks) (t : Table) (faults : List Fault) (best : Rule × Place) → ((fault : Fault) → Contains faults fault → has exact_rules (number_of fault.rule) ≡ true → BreaksExact m m.rows.now t (number_of fault.rule) fault.row)
-    → ((k n : ℕ) → BreaksExact m m.rows.now t k n → HasFault faults k n) → IsFirstBroken m faults best → IsFirstBreak m t best.0 best.1
+pub first_break : (m : Marks) (t : Table) (faults : List Fault) (best : Rule × Place) → ((fault : Fault) → Contains faults fault → BreaksRule m m.rows.now t (number_of fault.rule) fault.row)
+    → ((k n : ℕ) → BreaksRule m m.rows.now t k n → HasFault faults k n) → IsFirstBroken m faults best → IsFirstBreak m t best.0 best.1
 first_break m t faults best right all h =
     let rule_is : best.0 ≡ h.fault.rule = ap (λ (b : Rule × Place). b.0) h.told in
     record {
       row = h.fault.row;
       at = ap (λ (b : Rule × Place). b.1) h.told ∙ ap (λ r. place_of_fault m (fault_at r h.fault.row)) (sym rule_is);
-      breaks = λ exact. subst (λ r. BreaksExact m m.rows.now t (number_of r) h.fault.row) (sym rule_is) (right h.fault h.member (subst (λ r. has exact_rules (number_of r) ≡ true) rule_is exact));
+      breaks = subst (λ r. BreaksRule m m.rows.now t (number_of r) h.fault.row) (sym rule_is) (right h.fault h.member);
       first = λ other breaks better.
           let of = all (number_of other.rule) other.row breaks in
           let same = same_fault of.fault other (same_rule of.fault.rule other.rule of.number) of.row in

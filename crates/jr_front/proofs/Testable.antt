@@ -1,4 +1,4 @@
--- The view of a bound program is one that the exact rules can be tested on, and where their tests pass at no row it keeps them.
+-- The view of a bound program is one that the rules can be tested on, and where their tests pass at no row it keeps them.
 use Rattle.std.proofs.Common.{◌≡◌, sym, ◌∙◌, ap, subst, ℕ, ◌≤◌, true, List, [], Option, None, length, slice_index_or, codes, Contains}
 use Rattle.std.proofs.Math.Path.{fun_ext}
 use Rattle.jr_base.specs.declared.token.Place.{Place}
@@ -16,7 +16,7 @@ use Rattle.jr_defs.specs.Referents.{Table, entries}
 use Rattle.jr_plain.specs.Constants.{variable_value}
 use Rattle.jr_plain.specs.Conversions.{Constants}
 use Rattle.jr_plain.specs.Overloads.{Types}
-use Rattle.jr_plain.specs.Search.{Finds, has}
+use Rattle.jr_plain.specs.Search.{Finds}
 use Rattle.jr_plain.specs.Typing.{IsTypable, expression_types}
 use Rattle.jr_plain.proofs.Declared.{prelude_tells}
 use Rattle.jr_plain.proofs.Typables.{typable_from_lookup}
@@ -40,11 +40,12 @@ use Rattle.jr_flow_faults.specs.Roots.{HasOneOfEach}
 use Rattle.jr_rule.specs.declared.Fault.{Fault}
 use Rattle.jr_rule.specs.declared.Rule.{Rule}
 use Rattle.jr_rule.specs.Numbers.{number_of}
+use Rattle.jr_marks.specs.Made.{AreMade}
 use Rattle.jr_marks.specs.declared.marks.Marks.{Marks}
 use Rattle.jr_view.specs.declared.View.{View}
 use Rattle.jr_front.specs.Bound.{rows_in, table_in, IsBoundIn}
 use Rattle.jr_front.specs.Broken.{IsFirstBroken}
-use Rattle.jr_front.specs.Compiling.{AreMarksOf, exact_rules, BreaksExact, KeepsExact}
+use Rattle.jr_front.specs.Compiling.{BreaksRule, KeepsAllRules}
 use Rattle.jr_front.specs.Refusing.{IsFirstBreak}
 use Rattle.jr_front.specs.Tested.{IsTestableView, AreFaultsIn, HasNoTopFault}
 use Rattle.jr_front.specs.Viewed.{IsViewOf, HasTablesOfRows}
@@ -162,12 +163,12 @@ module _ (w : Workspace) (view : View) (bound : IsBoundIn w) (of : IsViewOf (row
       tops_so : HasNoTopFault (rows_of view)
       tops_so = subst HasNoTopFault (sym of.rows_are) tops
 
-      found_so : (k n : ℕ) → BreaksExact m (rows_of view) (table_of view) k n → HasFault faults k n
+      found_so : (k n : ℕ) → BreaksRule m (rows_of view) (table_of view) k n → HasFault faults k n
       found_so = is_found m view testable_view local_so typable_so past_so view_values view_types tops_so faults all
 
-      -- each fault of an exact rule is at a row that breaks it
+      -- each fault is at a row that breaks its rule
       abbrev AreRight : Rows → Table → Type 0
-      AreRight r x = (fault : Fault) → Contains faults fault → has exact_rules (number_of fault.rule) ≡ true → BreaksExact m r x (number_of fault.rule) fault.row
+      AreRight r x = (fault : Fault) → Contains faults fault → BreaksRule m r x (number_of fault.rule) fault.row
 
       right_so : AllFound (rows_of view) (table_of view) → AreRight (rows_of view) (table_of view)
       right_so found = is_right m view testable_view local_so typable_so past_so view_values view_types tops_so faults all bound_so found
@@ -176,22 +177,22 @@ module _ (w : Workspace) (view : View) (bound : IsBoundIn w) (of : IsViewOf (row
       pub broken_view : (best : Rule × Place) → m.rows.now ≡ rows_in w → AllFound (rows_of view) (table_of view) → IsFirstBroken m faults best → IsFirstBreak m (table_in w) best.0 best.1
       broken_view best same found first = first_break m (table_in w) faults best
           (subst (λ r. AreRight r (table_in w)) (sym same) (told_so AreRight (right_so found)))
-          (subst (λ r. (k n : ℕ) → BreaksExact m r (table_in w) k n → HasFault faults k n) (sym same) (told_so (λ r x. (k n : ℕ) → BreaksExact m r x k n → HasFault faults k n) found_so)) first
+          (subst (λ r. (k n : ℕ) → BreaksRule m r (table_in w) k n → HasFault faults k n) (sym same) (told_so (λ r x. (k n : ℕ) → BreaksRule m r x k n → HasFault faults k n) found_so)) first
 
-    pub kept_view : (m : Marks) → AllFound (rows_of view) (table_of view) → HasNoTopFault (rows_in w) → (IsTestableView view → AreFaultsIn m view []) → KeepsRules (rows_in w) (table_in w) (BreaksExact m)
+    pub kept_view : (m : Marks) → AllFound (rows_of view) (table_of view) → HasNoTopFault (rows_in w) → (IsTestableView view → AreFaultsIn m view []) → KeepsRules (rows_in w) (table_in w) (BreaksRule m)
     kept_view m found tops none = record {
       binding = bound.binding.binding.is_binding;
       found = told_so AllFound found;
-      kept = told_so (λ r x. (rule place : ℕ) → BreaksExact m r x rule place → ⊥) (λ k n b. none_in k n (found_so m tops [] (none testable_view) k n b));
+      kept = told_so (λ r x. (rule place : ℕ) → BreaksRule m r x rule place → ⊥) (λ k n b. none_in k n (found_so m tops [] (none testable_view) k n b));
     }
 
 -- the same, as the rows and the places of the program are read
-pub kept_so : (program : Program) (w : Workspace) (view : View) (m : Marks) → IsViewOf (rows_in w) w.places.value w.scopes.value w.bound.value view → AreMarksOf program m → AllFound m.rows.now (table_of view)
-    → HasNoTopFault (program_rows program) → (IsTestableView view → AreFaultsIn m view []) → rows_in w ≡ program_rows program → IsBoundIn w → BeginsWithLang (program_rows program) → KeepsExact program (table_in w)
+pub kept_so : (program : Program) (w : Workspace) (view : View) (m : Marks) → IsViewOf (rows_in w) w.places.value w.scopes.value w.bound.value view → AreMade program m → AllFound m.rows.now (table_of view)
+    → HasNoTopFault (program_rows program) → (IsTestableView view → AreFaultsIn m view []) → rows_in w ≡ program_rows program → IsBoundIn w → BeginsWithLang (program_rows program) → KeepsAllRules program (table_in w)
 kept_so program w view m of are found tops none same bound begins =
     let inside = subst (λ r. AllFound r (table_of view)) (are.rows ∙ sym same ∙ sym of.rows_are) found in
     record {
       marks = m;
       are = are;
-      keeps = subst (λ r. KeepsRules r (table_in w) (BreaksExact m)) same (kept_view w view bound of (subst BeginsWithLang (sym same) begins) m inside (subst HasNoTopFault (sym same) tops) none);
+      keeps = subst (λ r. KeepsRules r (table_in w) (BreaksRule m)) same (kept_view w view bound of (subst BeginsWithLang (sym same) begins) m inside (subst HasNoTopFault (sym same) tops) none);
     }

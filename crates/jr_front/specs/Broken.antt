@@ -1,28 +1,12 @@
 -- Which broken rule is shown: the first by place, and at one place the one with the least number.
-use Rattle.std.specs.Prelude.{◌≡◌, ◌⊎◌, ◌<◌, Bool, true, false, if◌then◌else◌, List, Contains, Option, None, Some}
+use Rattle.std.specs.Prelude.{◌≡◌, ◌⊎◌, ◌<◌, List, Contains, Option, None, Some}
 use Rattle.jr_base.specs.declared.token.Place.{Place}
 use Rattle.jr_rule.specs.declared.Fault.{Fault}
 use Rattle.jr_rule.specs.declared.Rule.{Rule}
-use Rattle.jr_rule.specs.declared.Rule.TheVariants as rule
 use Rattle.jr_rule.specs.Numbers.{number_of}
-use Rattle.jr_marks.specs.Places.{place_in, place_of_name, unit_of, mark_of}
+use Rattle.jr_marks.specs.Places.{place_of_fault}
 use Rattle.jr_marks.specs.declared.marks.Marks.{Marks}
 use Rattle.jr_front.specs.Unbound.{IsBefore}
-
--- the rules that are shown at the first token of a row, and not at the name that it declares or by which it refers
-abbrev pub is_shown_first : Rule → Bool
-is_shown_first rule.Operands = true
-is_shown_first rule.Cast = true
-is_shown_first rule.Condition = true
-is_shown_first rule.Index = true
-is_shown_first rule.Jump = true
-is_shown_first rule.Branches = true
-is_shown_first rule.Unreachable = true
-is_shown_first _ = false
-
--- where a broken rule is shown
-abbrev pub place_of_fault : Marks → Fault → Place
-place_of_fault m fault = if is_shown_first fault.rule then place_in m (unit_of m fault.row) (mark_of m fault.row).first else place_of_name m fault.row
 
 -- the first place comes before the other, or they are one and the number of the first rule is less
 abbrev pub IsBetter : Rule × Place → Rule × Place → Type 0

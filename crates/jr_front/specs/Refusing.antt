@@ -10,15 +10,15 @@ use Rattle.jr_defs.specs.Compiling.{AllFound}
 use Rattle.jr_defs.specs.Program.{IsWellPlaced, rows_of}
 use Rattle.jr_defs.specs.Referents.{Table}
 use Rattle.jr_defs.specs.Rules.{Breaks}
-use Rattle.jr_plain.specs.Search.{has}
 use Rattle.jr_rule.specs.declared.Fault.{Fault}
 use Rattle.jr_rule.specs.declared.Rule.{Rule}
 use Rattle.jr_rule.specs.Numbers.{number_of}
-use Rattle.jr_marks.specs.Places.{place_of_name}
+use Rattle.jr_marks.specs.Made.{AreMade}
+use Rattle.jr_marks.specs.Places.{place_of_fault, place_of_name}
 use Rattle.jr_marks.specs.declared.marks.Marks.{Marks}
 use Rattle.jr_member_faults.specs.Tops.{has_top_type_clash}
-use Rattle.jr_front.specs.Broken.{IsBetter, place_of_fault}
-use Rattle.jr_front.specs.Compiling.{AreMarksOf, exact_rules, BreaksExact}
+use Rattle.jr_front.specs.Broken.{IsBetter}
+use Rattle.jr_front.specs.Compiling.{BreaksRule}
 use Rattle.jr_front.specs.Placed.{IsFirstMisplacedOf}
 use Rattle.jr_front.specs.Tested.{HasNoTopFault}
 use Rattle.jr_front.specs.Unbound.{IsBefore, IsFirstLost}
@@ -41,13 +41,12 @@ pub record IsFirstClash (m : Marks) (place : Place) : Type 0 where
 
 -- ---- rules
 
--- where a rule is shown as broken at a row; if the rule is exact it is broken there, and no row that breaks an exact rule is shown before it, by place and at one place by number. Of a rule that is
--- not exact it is not said that it is broken
+-- where a rule that is broken at a row is shown, and no row that breaks a rule is shown before it, by place and at one place by number
 pub record IsFirstBreak (m : Marks) (t : Table) (rule : Rule) (place : Place) : Type 0 where
   pub row : ℕ
   pub at : place ≡ place_of_fault m (record { row = row; rule = rule })
-  pub breaks : has exact_rules (number_of rule) ≡ true → BreaksExact m m.rows.now t (number_of rule) row
-  pub first : (other : Fault) → BreaksExact m m.rows.now t (number_of other.rule) other.row → IsBetter (other.rule, place_of_fault m other) (rule, place) → ⊥
+  pub breaks : BreaksRule m m.rows.now t (number_of rule) row
+  pub first : (other : Fault) → BreaksRule m m.rows.now t (number_of other.rule) other.row → IsBetter (other.rule, place_of_fault m other) (rule, place) → ⊥
 
 -- ---- the causes
 
@@ -64,9 +63,9 @@ pub record IsBoundBy (program : Program) (t : Table) : Type 0 where
 -- the cause of each reason; want of memory has none
 pub data IsRefusal (program : Program) : FrontFault → Type 0 where
   misplaced : {cu : CuId} → IsFirstMisplacedOf program.units cu → IsRefusal program (fault.PathMismatch cu)
-  named_twice : {m : Marks} {place : Place} → IsWellPlaced program → AreMarksOf program m → IsFirstClash m place → IsRefusal program (fault.Duplicate place)
-  on_cycle : {m : Marks} {row : ℕ} → IsNamed program → AreMarksOf program m → IsFirstOnCycle (rows_of program) row → IsRefusal program (fault.Cycle (place_of_name m row))
-  lost : {m : Marks} {t : Table} {place : Place} → IsBoundBy program t → AreMarksOf program m → IsFirstLost m t place → IsRefusal program (fault.Unbound place)
-  broken : {m : Marks} {t : Table} {rule : Rule} {place : Place} → IsBoundBy program t → AllFound (rows_of program) t → AreMarksOf program m → IsFirstBreak m t rule place
+  named_twice : {m : Marks} {place : Place} → IsWellPlaced program → AreMade program m → IsFirstClash m place → IsRefusal program (fault.Duplicate place)
+  on_cycle : {m : Marks} {row : ℕ} → IsNamed program → AreMade program m → IsFirstOnCycle (rows_of program) row → IsRefusal program (fault.Cycle (place_of_name m row))
+  lost : {m : Marks} {t : Table} {place : Place} → IsBoundBy program t → AreMade program m → IsFirstLost m t place → IsRefusal program (fault.Unbound place)
+  broken : {m : Marks} {t : Table} {rule : Rule} {place : Place} → IsBoundBy program t → AllFound (rows_of program) t → AreMade program m → IsFirstBreak m t rule place
       → IsRefusal program (fault.Broken rule place)
   no_memory : IsRefusal program fault.OutOfMemory

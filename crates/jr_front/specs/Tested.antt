@@ -1,5 +1,5 @@
--- What the exact rules ask of a view, and the faults that are found where it has that.
-use Rattle.std.specs.Prelude.{◌≡◌, ℕ, Bool, true, ◌&&◌, List, [], length, nat_le}
+-- What the rules ask of a view, and the faults that are found where it has that.
+use Rattle.std.specs.Prelude.{◌≡◌, ℕ, Bool, true, false, ◌&&◌, List, [], length, nat_le}
 use Rattle.jr_tree.specs.Rows.{Rows}
 use Rattle.jr_plain.specs.Search.{all_such}
 use Rattle.jr_rule.specs.declared.Fault.{Fault}
@@ -58,7 +58,7 @@ pub record AreClashes (p : Rows) (faults : List Fault) : Type 0 where
   pub others : AreOnly (is_between 2 2) [] faults
   pub clashes : AreFaultsOf rule.TypeNames (all_such (length p) (has_top_type_clash p)) [] faults
 
--- ---- the exact rules
+-- ---- the rules of a bound program
 
 -- the faults of the rules on names
 pub record AreNameFaults (view : View) (faults : List Fault) : Type 0 where
@@ -69,7 +69,14 @@ pub record AreNameFaults (view : View) (faults : List Fault) : Type 0 where
   pub static_imports : AreExactFaults view rule.StaticImports [] faults
   pub access : AreExactFaults view rule.Access [] faults
 
--- the faults of each exact rule are just those at the rows of its definition. Of the other rules nothing is said
+-- the rules of changes, which no program breaks by itself: files of one path and types that change are tested where a change is made, and a cycle of headers is told before any rule
+abbrev pub is_of_changes : Rule → Bool
+is_of_changes rule.PathTwice = true
+is_of_changes rule.TypeChange = true
+is_of_changes rule.HeaderCycle = true
+is_of_changes _ = false
+
+-- the faults of each rule are just those at the rows of its definition
 pub record AreFaultsIn (m : Marks) (view : View) (faults : List Fault) : Type 0 where
   pub modifiers : AreFaultsOf rule.Modifiers (modifier_rows m) [] faults
   pub reads : AreKnown (rows_in view) (table_in view) (facts_in view) → of_assignment.AreExactFaults view rule.UnassignedLocal [] faults
@@ -81,3 +88,4 @@ pub record AreFaultsIn (m : Marks) (view : View) (faults : List Fault) : Type 0 
   pub flow : AreFlowFaults view [] faults
   pub thrown : AreThrowFaults view [] faults
   pub covered : AreFaultsOf rule.CoveredCatch (covered_rows (rows_in view) (table_in view)) [] faults
+  pub others : (one : Rule) → is_of_changes one ≡ true → AreFaultsOf one [] [] faults

@@ -1,10 +1,6 @@
 // The rules that a bound program breaks, as they are found.
 ghost use Rattle.std.specs.Prelude.{◌≡◌, IfOk, OnOk, ◌&&◌};
-ghost use Rattle.jr_rule.specs.Faults.{AreFaultsOf};
-ghost use Rattle.jr_rule.specs.declared.Rule.TheVariants as rule;
-ghost use Rattle.jr_faults.specs.Added.{AreOnly, is_rule};
 ghost use Rattle.jr_marks.specs.Places.{IsOrdered};
-ghost use Rattle.jr_front.specs.Modifiers.{modifier_rows};
 ghost use Rattle.jr_members.specs.Sources.{ArePlaced};
 ghost use Rattle.jr_front.specs.Tested.{IsTestableView, AreClashes, AreFaultsIn, AreTakenOver, is_between};
 
@@ -15,7 +11,6 @@ use jr_flow_faults::{facts_of, flow_faults};
 use jr_marks::Marks;
 use jr_member_faults::{member_faults, top_type_faults};
 use jr_name_faults::name_faults;
-use jr_ordered::is_ordered;
 use jr_places::Places;
 use jr_rule::{Fault, Rule};
 use jr_tree::Row;
@@ -41,25 +36,12 @@ fn take_over(found: &[Fault], first: u8, last: u8, out: &mut Vec<Fault>) -> Resu
     Ok(())
 }
 
-// Adds the modifiers that are repeated or may not stand there, by marks that are in order.
-fn add_modifiers(marks: &Marks, out: &mut Vec<Fault>) -> Result<(), OutOfMemory>
-    ensures ordered { OnOk result (IsOrdered marks.now) }
-    ensures found { OnOk result (AreFaultsOf rule.Modifiers (modifier_rows marks.now) out.old.items out.new.items) }
-    ensures others { OnOk result (AreOnly (is_rule rule.Modifiers) out.old.items out.new.items) }
-{
-    if !is_ordered(marks) {
-        return Err(OutOfMemory);
-    }
-    modifier_faults(marks, out)
-}
-
-/// The rules that the program breaks: those of one maker after those of another.
+/// The rules that the program breaks, by marks that are ordered: those of one maker after those of another.
 pub fn faults_of(alloc: Global, marks: &Marks, view: &View) -> Result<Vec<Fault>, OutOfMemory>
-    ensures exact { IsTestableView view.now → IfOk result (λ faults. AreFaultsIn marks.now view.now faults.items) }
-    ensures ordered { OnOk result (IsOrdered marks.now) }
+    ensures { IsOrdered marks.now → IsTestableView view.now → IfOk result (λ faults. AreFaultsIn marks.now view.now faults.items) }
 {
     let mut faults = Vec::new(alloc);
-    add_modifiers(marks, &mut faults)?;
+    modifier_faults(marks, &mut faults)?;
     let known = facts_of(alloc, view)?;
     assign_faults(alloc, view, &known, &mut faults)?;
     member_faults(alloc, view, &mut faults)?;

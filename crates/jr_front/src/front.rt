@@ -12,11 +12,13 @@ ghost use Rattle.jr_headed.specs.Founded.{IsProgram};
 ghost use Rattle.jr_lookup.specs.Scopes.{AreScopes, AreTops};
 ghost use Rattle.jr_bind.specs.Confirmed.{IsProgramOf, IsBindingOf};
 ghost use Rattle.jr_prelude.specs.Begins.{BeginsWithLang};
-ghost use Rattle.jr_front.specs.Bound.{IsBoundIn, table_in};
+ghost use Rattle.jr_front.specs.Bound.{IsBoundIn, IsIndexed, table_in};
 ghost use Rattle.jr_front.specs.Checking.{CheckedAs, forgotten};
-ghost use Rattle.jr_front.specs.Compiling.{KeepsExact, CompilesExactly};
+ghost use Rattle.jr_front.specs.Compiling.{KeepsAllRules, Compiles};
+ghost use Rattle.jr_index.specs.Marking.{program_marks};
+ghost use Rattle.jr_marks.specs.Made.{HaveTokensApart};
 ghost use Rattle.jr_marks.specs.Places.{IsOrdered};
-ghost use Rattle.jr_front.specs.Reasons.{IsToldAs, IsPathReason, IsNameReason, IsCycleReason, IsTableReason, IsRuleReason};
+ghost use Rattle.jr_front.specs.Reasons.{IsPathReason, IsNameReason, IsCycleReason, IsTableReason, IsRuleReason};
 ghost use Rattle.jr_front.specs.Refusing.{IsRefusal};
 ghost use Rattle.jr_front.specs.Tested.{IsTestableView, AreFaultsIn, HasNoTopFault};
 
@@ -25,7 +27,7 @@ use crate::fault::{FrontFault, unread};
 use crate::found::{faults_of, name_clashes};
 use crate::placed::first_misplaced;
 use crate::unbound::first_unbound;
-use crate::workspace::{Workspace, marks_of};
+use crate::workspace::Workspace;
 use jr_base::{Files, OutOfMemory};
 use jr_bind::{Binding, Bound, bind};
 use jr_defs::{Program, Referent};
@@ -33,7 +35,6 @@ use jr_headed::are_packages_named;
 use jr_index::Index;
 use jr_lookup::Scopes;
 use jr_marks::Marks;
-use jr_ordered::is_ordered;
 use jr_places::Places;
 use jr_read::read;
 use jr_tree::Row;
@@ -50,33 +51,23 @@ fn boxed<T: Drop>(alloc: Global, made: Result<T, OutOfMemory>) -> Result<Box<T>,
     }
 }
 
-// The rows of a program whose units are shaped.
+// The rows and marks of a program whose units are shaped.
 fn index_of(alloc: Global, program: &Program) -> Result<Box<Index>, OutOfMemory>
     requires { AllByRecursion IsShaped (map (λ u. u.unit) program.now.units) }
-    ensures { IfOk result (λ index. index.value.rows ≡ rows_of program.now) }
+    ensures rows { IfOk result (λ index. index.value.rows ≡ rows_of program.now) }
+    ensures marks { IfOk result (λ index. index.value.marks ≡ program_marks (map (λ u. u.unit) program.now.units)) }
 {
     boxed(alloc, Index::build(alloc, program))
-}
-
-// The reason, where the marks by which its place is told are in order.
-fn told_by(marks: &Marks, why: FrontFault) -> FrontFault
-    ensures { IsToldAs marks.now why result }
-{
-    if is_ordered(marks) {
-        why
-    } else {
-        FrontFault::OutOfMemory
-    }
 }
 
 // That no two top-level types have one name, and none that of a package (JLS 7.1, 7.6).
 fn judge_names(alloc: Global, marks: &Marks, places: &Places) -> Result<(), FrontFault>
     ensures names { ArePlaced marks.now.rows.now places.now → OnOk result (HasNoTopFault marks.now.rows.now) }
-    ensures err { IsProgram marks.now.rows.now → ArePlaced marks.now.rows.now places.now → IfErr result (IsNameReason marks.now) }
+    ensures err { IsOrdered marks.now → IsProgram marks.now.rows.now → ArePlaced marks.now.rows.now places.now → IfErr result (IsNameReason marks.now) }
 {
     let faults = name_clashes(alloc, marks.rows, places)?;
     match first_broken(&faults, marks) {
-        Some((_, place)) => Err(told_by(marks, FrontFault::Duplicate(place))),
+        Some((_, place)) => Err(FrontFault::Duplicate(place)),
         None => Ok(()),
     }
 }
@@ -84,23 +75,22 @@ fn judge_names(alloc: Global, marks: &Marks, places: &Places) -> Result<(), Fron
 // That all names have a declaration.
 fn judge_table(marks: &Marks, table: &[Referent]) -> Result<(), FrontFault>
     ensures found { OnOk result (AllFound marks.now.rows.now (entries table.now)) }
-    ensures err { IfErr result (IsTableReason marks.now (entries table.now)) }
+    ensures err { IsOrdered marks.now → IfErr result (IsTableReason marks.now (entries table.now)) }
 {
     match first_unbound(marks, table) {
-        Some(place) => Err(told_by(marks, FrontFault::Unbound(place))),
+        Some(place) => Err(FrontFault::Unbound(place)),
         None => Ok(()),
     }
 }
 
 // That no rule is broken.
 fn judge_rules(alloc: Global, marks: &Marks, view: &View) -> Result<(), FrontFault>
-    ensures kept { IsTestableView view.now → OnOk result (AreFaultsIn marks.now view.now []) }
-    ensures ordered { OnOk result (IsOrdered marks.now) }
-    ensures err { IsTestableView view.now → IfErr result (IsRuleReason marks.now view.now) }
+    ensures kept { IsOrdered marks.now → IsTestableView view.now → OnOk result (AreFaultsIn marks.now view.now []) }
+    ensures err { IsOrdered marks.now → IsTestableView view.now → IfErr result (IsRuleReason marks.now view.now) }
 {
     let faults = faults_of(alloc, marks, view)?;
     match first_broken(&faults, marks) {
-        Some((rule, place)) => Err(told_by(marks, FrontFault::Broken(rule, place))),
+        Some((rule, place)) => Err(FrontFault::Broken(rule, place)),
         None => Ok(()),
     }
 }
@@ -108,9 +98,8 @@ fn judge_rules(alloc: Global, marks: &Marks, view: &View) -> Result<(), FrontFau
 // That the program with this binding compiles.
 fn judge(alloc: Global, marks: &Marks, view: &View) -> Result<(), FrontFault>
     ensures found { OnOk result (AllFound marks.now.rows.now (entries view.now.sight.world.under.table.now)) }
-    ensures kept { IsTestableView view.now → OnOk result (AreFaultsIn marks.now view.now []) }
-    ensures ordered { OnOk result (IsOrdered marks.now) }
-    ensures err { IsTestableView view.now → IfErr result (λ why. IsTableReason marks.now (entries view.now.sight.world.under.table.now) why ⊎ (AllFound marks.now.rows.now (entries view.now.sight.world.under.table.now) × IsRuleReason marks.now view.now why)) }
+    ensures kept { IsOrdered marks.now → IsTestableView view.now → OnOk result (AreFaultsIn marks.now view.now []) }
+    ensures err { IsOrdered marks.now → IsTestableView view.now → IfErr result (λ why. IsTableReason marks.now (entries view.now.sight.world.under.table.now) why ⊎ (AllFound marks.now.rows.now (entries view.now.sight.world.under.table.now) × IsRuleReason marks.now view.now why)) }
 {
     judge_table(marks, view.sight.world.under.table)?;
     judge_rules(alloc, marks, view)
@@ -131,7 +120,7 @@ fn judge_paths(program: &Program) -> Result<(), FrontFault>
 fn places_of(alloc: Global, marks: &Marks) -> Result<Box<Places>, FrontFault>
     ensures tables { IfOk result (λ places. ArePlaces marks.now.rows.now places.value) }
     ensures names { IsProgram marks.now.rows.now → OnOk result (HasNoTopFault marks.now.rows.now) }
-    ensures err { IsProgram marks.now.rows.now → IfErr result (IsNameReason marks.now) }
+    ensures err { IsOrdered marks.now → IsProgram marks.now.rows.now → IfErr result (IsNameReason marks.now) }
 {
     if !are_packages_named(marks.rows) {
         return Err(FrontFault::OutOfMemory);
@@ -157,11 +146,11 @@ fn bound_of(
     scopes: &Scopes,
 ) -> Result<Box<Bound>, FrontFault>
     ensures binding { IsProgramOf marks.now.rows.now places.now scopes.now → IfOk result (λ bound. IsBindingOf marks.now.rows.now places.now bound.value) }
-    ensures err { IsProgramOf marks.now.rows.now places.now scopes.now → IfErr result (IsCycleReason marks.now) }
+    ensures err { IsOrdered marks.now → IsProgramOf marks.now.rows.now places.now scopes.now → IfErr result (IsCycleReason marks.now) }
 {
     match bind(alloc, marks.rows, places, scopes)? {
         Binding::Bound(bound) => Ok(bound),
-        Binding::Cycle(row) => Err(told_by(marks, FrontFault::Cycle(marks.name_place(row)))),
+        Binding::Cycle(row) => Err(FrontFault::Cycle(marks.name_place(row))),
     }
 }
 
@@ -173,11 +162,12 @@ fn bound_program(
 ) -> Result<Workspace, FrontFault>
     ensures same { IfOk result (λ workspace. workspace.program ≡ program) }
     ensures rows { IfOk result (λ workspace. workspace.index.value.rows ≡ index.value.rows) }
+    ensures marks { IfOk result (λ workspace. workspace.index.value.marks ≡ index.value.marks) }
     ensures bound { IsProgram index.value.rows → BeginsWithLang index.value.rows → IfOk result IsBoundIn }
     ensures names { IsProgram index.value.rows → OnOk result (HasNoTopFault index.value.rows) }
-    ensures err { IsProgram index.value.rows → BeginsWithLang index.value.rows → index.value.rows ≡ rows_of program → IsWellPlaced program → IfErr result (IsRefusal program) }
+    ensures err { IsProgram index.value.rows → BeginsWithLang index.value.rows → IsIndexed program index.value → IsWellPlaced program → IfErr result (IsRefusal program) }
 {
-    let marks = marks_of(&program, &index);
+    let marks = Marks::of(&program, &index);
     let places = places_of(alloc, &marks)?;
     let scopes = scopes_of(alloc, marks.rows, &places)?;
     let bound = bound_of(alloc, &marks, &places, &scopes)?;
@@ -195,23 +185,25 @@ fn tables_of(alloc: Global, program: Program) -> Result<Workspace, FrontFault>
     requires { AllByRecursion IsShaped (map (λ u. u.unit) program.units) }
     ensures same { IfOk result (λ workspace. workspace.program ≡ program) }
     ensures rows { IfOk result (λ workspace. workspace.index.value.rows ≡ rows_of program) }
+    ensures marks { IfOk result (λ workspace. workspace.index.value.marks ≡ program_marks (map (λ u. u.unit) program.units)) }
     ensures bound { BeginsWithLang (rows_of program) → IfOk result IsBoundIn }
     ensures names { OnOk result (HasNoTopFault (rows_of program)) }
-    ensures err { BeginsWithLang (rows_of program) → IsWellPlaced program → IfErr result (IsRefusal program) }
+    ensures err { BeginsWithLang (rows_of program) → HaveTokensApart program.units → IsWellPlaced program → IfErr result (IsRefusal program) }
 {
     let index = index_of(alloc, &program)?;
     bound_program(alloc, program, index)
 }
 
-/// The program with its tables, where it compiles, and else the first reason why it does not. Two of its units may have one path.
+/// The program with its tables, where it compiles, and else the first reason why it does not. Two of its units may have one path. Places are told by its tokens, which
+/// stand apart where the units were read from files.
 pub fn open_program(alloc: Global, program: Program) -> Result<Workspace, FrontFault>
     requires { AllByRecursion IsShaped (map (λ u. u.unit) program.units) }
     ensures same { IfOk result (λ workspace. workspace.program ≡ program) }
     ensures rows { IfOk result (λ workspace. workspace.index.value.rows ≡ rows_of program) }
     ensures bound { BeginsWithLang (rows_of program) → IfOk result IsBoundIn }
     ensures placed { OnOk result (IsWellPlaced program) }
-    ensures kept { BeginsWithLang (rows_of program) → IfOk result (λ workspace. KeepsExact program (table_in workspace)) }
-    ensures err { BeginsWithLang (rows_of program) → IfErr result (IsRefusal program) }
+    ensures kept { BeginsWithLang (rows_of program) → HaveTokensApart program.units → IfOk result (λ workspace. KeepsAllRules program (table_in workspace)) }
+    ensures err { BeginsWithLang (rows_of program) → HaveTokensApart program.units → IfErr result (IsRefusal program) }
 {
     judge_paths(&program)?;
     let workspace = tables_of(alloc, program)?;
@@ -225,7 +217,7 @@ pub fn open_files(alloc: Global, files: &Files) -> Result<Workspace, FrontFault>
     ensures ok { IfOk result (λ workspace. ReadsAs files.now (Ok workspace.program)) }
     ensures rows { IfOk result (λ workspace. workspace.index.value.rows ≡ rows_of workspace.program) }
     ensures bound { IfOk result IsBoundIn }
-    ensures compiles { IfOk result (λ workspace. CompilesExactly files.now workspace.program (table_in workspace)) }
+    ensures compiles { IfOk result (λ workspace. Compiles files.now workspace.program (table_in workspace)) }
     ensures checked { CheckedAs files.now (forgotten result) }
 {
     match read(alloc, files) {

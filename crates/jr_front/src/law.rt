@@ -10,7 +10,7 @@ ghost use Rattle.jr_front.specs.Viewed.{HasTablesOfRows, IsViewOf};
 ghost use Rattle.jr_front.specs.declared.workspace.Workspace.{Workspace};
 
 /// The view of a bound program has the places, supertypes and members of its binding, as the rules and calls ask, and of each row the type, the value
-/// and the class round it that the definitions give. Where the program begins with java.lang the exact rules
+/// and the class round it that the definitions give. Where the program begins with java.lang the rules
 /// can be tested on it.
 pub fn bound_views_are_right()
     ensures seen { (w : Workspace) (view : View) → IsBoundIn w → IsViewOf (rows_in w) w.places.value w.scopes.value w.bound.value view → IsSeenView view }

@@ -1,6 +1,9 @@
 // A program that compiles, with its tables.
-ghost use Rattle.std.specs.Prelude.{◌≡◌, length};
+ghost use Rattle.std.specs.Prelude.{◌≡◌, length, map};
+ghost use Rattle.jr_defs.specs.Program.{rows_of};
+ghost use Rattle.jr_index.specs.Marking.{program_marks};
 ghost use Rattle.jr_index.specs.NodeRows.{unit_rows};
+ghost use Rattle.jr_marks.specs.Made.{AreMade};
 ghost use Rattle.jr_front.specs.Viewed.{IsViewOf};
 
 use jr_bind::Bound;
@@ -31,8 +34,9 @@ impl Workspace {
         ensures units { result.units.now ≡ self.now.program.units }
         ensures rows { result.rows.now ≡ self.now.index.value.rows }
         ensures starts { result.starts.now ≡ unit_rows self.now.index.value.rows (length self.now.index.value.rows) }
+        ensures made { self.now.index.value.rows ≡ rows_of self.now.program → self.now.index.value.marks ≡ program_marks (map (λ u. u.unit) self.now.program.units) → AreMade self.now.program result }
     {
-        marks_of(&self.program, &self.index)
+        Marks::of(&self.program, &self.index)
     }
 
     /// The tables.
@@ -41,20 +45,6 @@ impl Workspace {
         ensures all { IsViewOf self.now.index.value.rows self.now.places.value self.now.scopes.value self.now.bound.value result }
     {
         view_of(self.index.rows(), &self.places, &self.scopes, &self.bound)
-    }
-}
-
-/// Where the rows of a program stand in texts, as its index says.
-pub fn marks_of<'a>(program: &'a Program, index: &'a Index) -> Marks<'a>
-    ensures units { result.units.now ≡ program.now.units }
-    ensures rows { result.rows.now ≡ index.now.rows }
-    ensures starts { result.starts.now ≡ unit_rows index.now.rows (length index.now.rows) }
-{
-    Marks {
-        units: program.units.as_slice(),
-        rows: index.rows(),
-        marks: index.marks(),
-        starts: index.units(),
     }
 }
 

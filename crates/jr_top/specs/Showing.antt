@@ -6,7 +6,7 @@ use Rattle.jr_index.specs.NodeRows.{unit_rows}
 use Rattle.jr_read.specs.Reading.{ReadsAs}
 use Rattle.jr_front.specs.Bound.{table_in, IsBoundIn}
 use Rattle.jr_front.specs.Checking.{CheckedAs}
-use Rattle.jr_front.specs.Compiling.{CompilesExactly}
+use Rattle.jr_front.specs.Compiling.{Compiles}
 use Rattle.jr_front.specs.Viewed.{HasTablesOfRows, IsViewOf}
 use Rattle.jr_front.specs.declared.workspace.Workspace.{Workspace}
 use Rattle.jr_change.specs.declared.project.Project.{Project}
@@ -24,10 +24,10 @@ use Rattle.jr_top.specs.declared.showing.Unanswered.TheVariants as unanswered
 
 -- ---- runs
 
--- the files are read as the program, which compiles under its binding by the rules that are tested exactly, and all its tables are those under this binding
+-- the files are read as the program, which compiles under its binding, and all its tables are those under this binding
 pub record IsWorkspaceOf (found : FileMap) (w : Workspace) : Type 0 where
   pub reads : ReadsAs found (Ok w.program)
-  pub compiles : CompilesExactly found w.program (table_in w)
+  pub compiles : Compiles found w.program (table_in w)
   pub rows : w.index.value.rows ≡ rows_of w.program
   pub bound : IsBoundIn w
 
