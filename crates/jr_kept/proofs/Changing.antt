@@ -48,11 +48,11 @@ module _ {A : Type 0} (p : Rows) (f : Flow A) (body : ℕ) (points : List Point)
       let same : s.point ≡ x.point = same_Some s.point x.point (sym s.stands ∙ subst (λ m. slice_get points m ≡ Some x.point) h.numbers.0 (g.numbering.stands h.from x.point h.reached x.stands)) in
       record { at = h.from; reached = h.reached; point = x; numbered = h.numbers.0; stop = ap (defined_at d) x.stands ∙ ap (λ z. is_definition d z.kind) (sym same) ∙ s.passes }
 
-  to_numbers : (a b : A) → IsReached f a → IsPoint f a → IsPoint f b → Path f (Defines f d) a b → StepPath steps Stops (g.number a) (g.number b)
+  pub to_numbers : (a b : A) → IsReached f a → IsPoint f a → IsPoint f b → Path f (Defines f d) a b → StepPath steps Stops (g.number a) (g.number b)
   to_numbers a b r x y path = steps_under steps (StopsAt f g.number stops) Stops number_stops (g.number a) (g.number b)
       (by_numbers f body points steps g stops points_stop a b r x y (path_under f (Defines f d) (λ z. stops z ≡ true) defines a b path))
 
-  comes_to : (a b : A) → IsReached f a → Path f (Defines f d) a b → IsReached f b
+  pub comes_to : (a b : A) → IsReached f a → Path f (Defines f d) a b → IsReached f b
   comes_to a b r path = reached_along f (λ z. stops z ≡ true) points_stop a b r (path_under f (Defines f d) (λ z. stops z ≡ true) defines a b path)
 
   changed_reached : (local : ℕ) (h : IsChangedBetween f d local) → IsReached f h.between

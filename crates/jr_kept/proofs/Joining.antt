@@ -75,7 +75,7 @@ way_into : {A : Type 0} (t : Bool) (a : A) → same_way t (record { to = a; is_t
 way_into true a = refl
 way_into false a = refl
 
-not_true : (b : Bool) → (b ≡ true → ⊥) → b ≡ false
+pub not_true : (b : Bool) → (b ≡ true → ⊥) → b ≡ false
 not_true true h = absurd (h refl)
 not_true false h = refl
 
@@ -136,12 +136,12 @@ module _ (p : Rows) (m : Meaning) (body : ℕ) where
     leaves : is_exit mo body n ≡ true
     thrown : is_throw how ≡ t
 
-  exit_tells : (mo : Moment) (n : ℕ) → is_exit mo body n ≡ true → (t : Bool) × IsLeft mo n t
+  pub exit_tells : (mo : Moment) (n : ℕ) → is_exit mo body n ≡ true → (t : Bool) × IsLeft mo n t
   exit_tells (before i) n e = absurd (false≢true e)
   exit_tells (completed c) n e = (is_throw c, record { how = c; left = refl; leaves = e; thrown = refl })
 
   -- at an exit stands its point
-  exit_stands : (mo : Moment) (n : ℕ) (t : Bool) → IsLeft mo n t → (k : PointKind) × (point_by mo p m body n ≡ point body k) × (own_number k ≡ Some (exit_number t))
+  pub exit_stands : (mo : Moment) (n : ℕ) (t : Bool) → IsLeft mo n t → (k : PointKind) × (point_by mo p m body n ≡ point body k) × (own_number k ≡ Some (exit_number t))
   exit_stands (before i) n t h = absurd (false≢true h.leaves)
   exit_stands (completed c) n t h = (
     exit_kind h.how,
@@ -176,7 +176,7 @@ module _ (p : Rows) (m : Meaning) (body : ℕ) where
   none_if b xs e = ap (λ z. if z then [] else xs) e
 
   -- nothing comes behind an exit
-  exit_ends : (a b : State) (t : Bool) → is_exit a.moment body a.row ≡ true → Contains (hops p m body a) (record { to = b; is_throw = t }) → ⊥
+  pub exit_ends : (a b : State) (t : Bool) → is_exit a.moment body a.row ≡ true → Contains (hops p m body a) (record { to = b; is_throw = t }) → ⊥
   exit_ends a b t e c = let l = (exit_tells a.moment a.row e).1 in let here : nat_eq a.row body ≡ true = sym (ap (λ z. is_exit z body a.row) l.left) ∙ e in
       none_in _ (subst (λ xs. Contains xs (record { to = b; is_throw = t })) (ap (λ mo. hops_by mo p m body a.row a.pending) l.left ∙ none_if (nat_eq a.row body) (map (λ x. plainly (ending body x)) (left_by (label p (parent p a.row)) p m (parent p a.row) a.row l.how a.pending)) here) c)
 
@@ -275,7 +275,7 @@ module _ (p : Rows) (m : Meaning) (body call method : ℕ) where
   next_stands (outside a) y g r = outer_next a y g.is_throw (is_called a) refl r g.hop
   next_stands (inside b a) y g s = inner_next b a y g.is_throw (is_left b) refl s g.hop
 
-  stands : (x : Within) → IsReached J x → Stands x
+  pub stands : (x : Within) → IsReached J x → Stands x
   stands x IsReached.start = IsReached.start
   stands y (IsReached.on {a = x} r g) = next_stands x y g (stands x r)
 
@@ -296,7 +296,7 @@ module _ (p : Rows) (m : Meaning) (body call method : ℕ) where
   outer_goes : (a b : State) → is_called a ≡ false → Goes F a b → Goes J (outside a) (outside b)
   outer_goes a b e g = record { is_throw = g.is_throw; hop = subst (λ xs. Contains xs (record { to = outside b; is_throw = g.is_throw })) (sym (outer_hops a e)) (each_into outside (F.hops a) b g.is_throw g.hop) }
 
-  inner_goes : (b c a : State) → is_left b ≡ false → Goes G b c → Goes J (inside b a) (inside c a)
+  pub inner_goes : (b c a : State) → is_left b ≡ false → Goes G b c → Goes J (inside b a) (inside c a)
   inner_goes b c a e g = record { is_throw = g.is_throw; hop = subst (λ xs. Contains xs (record { to = inside c a; is_throw = g.is_throw })) (sym (inner_hops b a e)) (each_into (λ x. inside x a) (G.hops b) c g.is_throw g.hop) }
 
   outer_onward : (a b : State) → Onward F a b → Onward J (outside a) (outside b)

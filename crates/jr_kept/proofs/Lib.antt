@@ -16,3 +16,6 @@ pub mod Disturbing
 pub mod Changing
 pub mod Arrivals
 pub mod Crossing
+pub mod Each
+pub mod Carrying
+pub mod Losing

@@ -1,5 +1,5 @@
 -- Bodies round rows.
-use Rattle.std.proofs.Common.{◌≡◌, ⊎_elim, refl, sym, ap, subst, arith, ℕ, zero, suc, ◌+◌, ◌<◌, ◌≤◌, ◌^◌, Bool, true, false, not, ◌&&◌, if◌then◌else◌, [], ◌∷◌, length, Option, Some, IfSome, nat_lt, Decides}
+use Rattle.std.proofs.Common.{◌≡◌, ⊎_elim, refl, sym, ap, subst, arith, ℕ, zero, suc, ◌+◌, ◌<◌, ◌≤◌, ◌^◌, Bool, true, false, not, ◌&&◌, if◌then◌else◌, [], ◌∷◌, length, Option, Some, None, IfSome, nat_lt, Decides}
 use Rattle.std.specs.List.{Contains}
 use Rattle.std.proofs.lemmas.Bool.{false≢true, cases_lt}
 use Rattle.std.proofs.lemmas.List.{get_or_past}
@@ -48,3 +48,7 @@ parent_before p tree (suc n) = ⊎_elim
     (λ lt. let less = tree.up (suc n) lt (omega arith) in omega (arith, less))
     (λ le. subst (λ k. k ≤ suc n) (sym (ap (λ r. r.parent) (get_or_past p (suc n) _ le))) (omega arith))
     (cases_lt (suc n) (length p))
+
+pub round_declared : (p : Rows) (row statement : ℕ) (found : Option ℕ) → parent p row ≡ statement → IfSome found (λ k. IsBodyRound p row k) → IfSome found (λ k. IsBodyRound p row k × (parent p row ≡ statement))
+round_declared p row statement None e round = round
+round_declared p row statement (Some body) e round = (round, e)

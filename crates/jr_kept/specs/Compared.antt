@@ -1,11 +1,13 @@
 -- Edges of control that stand on both sides of a change, by numbers.
-use Rattle.std.specs.Prelude.{ℕ, ◌<◌}
+use Rattle.std.specs.Prelude.{◌≡◌, ℕ, ◌<◌}
 use Rattle.jr_flow_defs.specs.Meaning.{Meaning}
 use Rattle.jr_flow_defs.specs.Paths.{Flow}
 use Rattle.jr_flow_defs.specs.Edges.{FlowNode, IsGraph, body_flow}
 use Rattle.jr_flow_defs.specs.Graphs.{StepList, EdgeByNumbers}
-use Rattle.jr_flow_defs.specs.Kept.{Same, KeepsControl, KeepsDefinitions, KeepsBody, Hands, IsHanding, joined_flow}
-use Rattle.jr_flow.specs.Reached.{steps_of}
+use Rattle.jr_flow_defs.specs.Kept.{Same, KeepsControl, KeepsDefinitions, KeepsBody, Hands, IsHanding, IsLost, joined_flow}
+use Rattle.jr_tree.specs.Rows.{Rows}
+use Rattle.jr_flow.specs.declared.point.Graph as code
+use Rattle.jr_flow.specs.Reached.{steps_of, IsGraphOf}
 use Rattle.jr_kept.specs.declared.flows.Flows.{Flows}
 use Rattle.jr_kept.specs.declared.control.Searches.{Searches}
 use Rattle.jr_kept.specs.declared.search.Side.{Side}
@@ -60,3 +62,11 @@ IsJoinedGraph flows w call method = IsGraph (joined_flow flows.rows.now w flows.
 abbrev pub KeepsJoinedUses : Flows → Meaning → Meaning → ℕ → ℕ → Type 0
 KeepsJoinedUses flows m w call method = let g = joined_flow flows.rows.now w flows.after.now.body call method in
     KeepsDefinitions (body_flow flows.names.rows.now m flows.before.now.body) g (IsHanding flows.rows.now g call method) (Hands flows.rows.now g call method (origin_in flows.origin.now)) (origin_in flows.origin.now)
+
+-- the graph is that of the method by itself
+abbrev pub IsMethodGraph : Rows → Meaning → code.Graph → ℕ → Type 0
+IsMethodGraph q w inner method = (inner.body ≡ method) × IsGraphOf q w inner
+
+-- and no value that a local gets in the method is lost
+abbrev pub KeepsJoinedValues : Flows → Meaning → ℕ → ℕ → Type 0
+KeepsJoinedValues flows w call method = IsLost flows.rows.now w (joined_flow flows.rows.now w flows.after.now.body call method) call method (origin_in flows.origin.now) → ⊥

@@ -1,6 +1,6 @@
 -- What is kept of control where a change is found to lose none, by what it does to the order of statements.
 use Rattle.std.specs.Prelude.{◌≡◌, ⊤, ℕ, ◌<◌, ◌≤◌, true, List, length, Option, Some, None}
-use Rattle.jr_tree.specs.Rows.{Rows, end}
+use Rattle.jr_tree.specs.Rows.{Rows, parent, end}
 use Rattle.jr_tree.specs.Tree.{IsTree}
 use Rattle.jr_change.specs.declared.change.Course.{Course}
 use Rattle.jr_change.specs.declared.change.Course.TheVariants as course
@@ -8,7 +8,7 @@ use Rattle.jr_change.specs.declared.project.Project.{Project}
 use Rattle.jr_locks.specs.Origins.{origin_of, row_by}
 use Rattle.jr_flow_defs.specs.Meaning.{Meaning}
 use Rattle.jr_flow_defs.specs.Edges.{body_flow}
-use Rattle.jr_flow_defs.specs.Kept.{KeepsControl, KeepsDefinitions, KeepsInlined, Hands, IsHanding, joined_flow}
+use Rattle.jr_flow_defs.specs.Kept.{KeepsControl, KeepsDefinitions, KeepsInlined, Hands, IsHanding, IsLost, joined_flow}
 use Rattle.jr_flow.specs.Bodies.{has_code}
 use Rattle.jr_flow.specs.Views.{rows_in, IsViewOf}
 use Rattle.jr_kept.specs.Named.{origin_in}
@@ -60,17 +60,18 @@ KeepsCourse (course.Extracted call method) p q m w origin copy = KeepsExtractedC
 KeepsCourse course.Same p q m w origin copy = ⊤
 KeepsCourse (course.Removed range) p q m w origin copy = ⊤
 
--- the body round the local has a copy that keeps what is to be kept of a local that is replaced by its initializer, where the statement has no name if it has no copy
+-- the body round the local has a copy that keeps what is to be kept of a local that is replaced by its initializer, where its declaration has no name if it has no copy
 pub record KeepsInlinedFlow (p q : Rows) (m w : Meaning) (origin copy : List ℕ) (local statement : ℕ) : Type 0 where
   pub body : ℕ
   pub after : ℕ
   pub round : IsBodyRound p local body
   pub is_copy : row_by (origin_of copy body) ≡ Some after
   pub few : after < length q
+  pub declared : parent p local ≡ statement
   pub inlined : KeepsInlined p q m w body after local (dropped_by (row_by (origin_of copy statement)) statement) (origin_in origin)
 
 -- the body round the call, with the method in place of the call, has the same edges as the body of which it is a copy, where parameters and what the call is assigned to
--- hand on what reaches arguments and what is returned
+-- hand on what reaches arguments and what is returned, and no value that a local gets in the method is lost
 pub record KeepsExtractedFlow (p q : Rows) (m w : Meaning) (origin : List ℕ) (call method : ℕ) : Type 0 where
   pub body : ℕ
   pub after : ℕ
@@ -79,6 +80,7 @@ pub record KeepsExtractedFlow (p q : Rows) (m w : Meaning) (origin : List ℕ) (
   pub few : body < length p
   pub control : KeepsControl p q (body_flow p m body) (joined_flow q w after call method) body after None (origin_in origin)
   pub definitions : KeepsDefinitions (body_flow p m body) (joined_flow q w after call method) (IsHanding q (joined_flow q w after call method) call method) (Hands q (joined_flow q w after call method) call method (origin_in origin)) (origin_in origin)
+  pub unlost : IsLost q w (joined_flow q w after call method) call method (origin_in origin) → ⊥
 
 -- what is kept where no edge from a definition to a use is lost either; of other changes nothing is told
 abbrev pub KeepsUsesOf : Course → Rows → Rows → Meaning → Meaning → List ℕ → List ℕ → Type 0

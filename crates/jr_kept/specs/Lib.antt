@@ -12,3 +12,4 @@ pub mod Arrived
 pub mod Spread
 pub mod Disturbed
 pub mod Handed
+pub mod Carried

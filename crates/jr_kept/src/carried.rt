@@ -1,201 +1,466 @@
 // Values of locals that an added method does not hand back.
-ghost use Rattle.std.specs.Prelude.{OnOk};
-ghost use Rattle.jr_kept.specs.Ordered.{OnlyAdds};
+ghost use Rattle.std.specs.Prelude.{◌≡◌, ◌<◌, ◌≤◌, ◌++◌, ℕ, Bool, Some, None, true, false, IfOk, OnOk, length, not, nat_lt, slice_get};
+ghost use Rattle.std.specs.List.{Contains};
+ghost use Rattle.jr_flow_defs.specs.declared.point.PointKind.TheVariants as kind;
+ghost use Rattle.jr_flow_defs.specs.Edges.{point};
+ghost use Rattle.jr_flow.specs.Reached.{steps_of};
+ghost use Rattle.jr_kept.specs.Disturbed.{some_if};
+ghost use Rattle.jr_kept.specs.Gathered.{AddsRow, AreOriginals};
+ghost use Rattle.jr_kept.specs.Listed.{under_in};
+ghost use Rattle.jr_kept.specs.Named.{origin_in};
+ghost use Rattle.jr_kept.specs.Ordered.{Checks};
+ghost use Rattle.jr_kept.specs.Searched.{AreWithin};
+ghost use Rattle.jr_kept.specs.Spliced.{exit_number};
+ghost use Rattle.jr_kept.specs.Carried as tell;
 
 use crate::defining::defining_row;
+use crate::dropped::{local_bound, some_if};
 use crate::edges::{Edge, Firsts};
-use crate::flows::{Flows, is_within, rows_of};
+use crate::flows::Flows;
+use crate::gathering::{Originals, point_at, push_pair};
 use crate::handing::Handing;
+use crate::lists::Lists;
+use crate::reached::count_of;
 use jr_base::OutOfMemory;
-use jr_change::RowRange;
 use jr_flow::{Graph, Point, PointKind, Step, reaching};
 use jr_locks::row_for;
 use std::alloc::Global;
 
-/// A body with the points of an added method in place of its call, and the rows of that method.
+/// A value that a local of a method has where the method is left.
 #[derive(Clone, Copy)]
-struct Carrying<'a> {
-    flows: &'a Flows<'a>,
-    method: RowRange,
-    /// How many points there are.
-    count: u32,
+struct Value {
+    /// The row of the definition by which the local gets it.
+    row: u32,
+    local: u32,
 }
 
-impl<'a> Carrying<'a> {
-    fn of(flows: &'a Flows<'a>, method: u32) -> Result<Carrying<'a>, OutOfMemory> {
-        let graph = flows.after;
-        let Ok(count) = u32::try_from(graph.points.len()) else {
-            return Err(OutOfMemory);
-        };
-        Ok(Carrying {
-            flows,
-            method: rows_of(flows.rows, method),
-            count,
-        })
-    }
+// ---- locals
 
-    fn is_inside(&self, point: Point) -> bool {
-        is_within(self.method, point.row)
+// The local that gets a value at the point, or else: that is used there.
+fn local_if(point: Option<Point>, is_definition: bool) -> Option<u32>
+    ensures { result ≡ tell.local_if is_definition point }
+{
+    match point {
+        Some(point) => match point.kind {
+            PointKind::Definition { local } => some_if(local, is_definition),
+            PointKind::Use { local } => some_if(local, !is_definition),
+            _ => None,
+        },
+        None => None,
     }
+}
 
-    // The method is left at the point.
-    fn is_exit(&self, point: Point) -> bool {
-        let is_end = point.kind == PointKind::Exit || point.kind == PointKind::Thrown;
-        is_end && point.row == self.method.first
+fn add_if(all: &mut Originals, local: Option<u32>) -> Result<(), OutOfMemory>
+    ensures { (bound : ℕ) → AreOriginals all.old bound → OnOk result (AreOriginals all.new bound × AddsRow all.old.all.items all.new.all.items local) }
+{
+    match local {
+        Some(local) => all.add(local),
+        None => Ok(()),
     }
+}
 
-    // The definition or use of the old local of which the local of a point is a copy; each other point is a mere node.
-    fn named(&self, point: Point) -> PointKind {
-        let flows = self.flows;
-        match point.kind {
-            PointKind::Definition { local } => match row_for(flows.origin, local) {
-                Some(local) => PointKind::Definition { local },
-                None => PointKind::Node,
-            },
-            PointKind::Use { local } => match row_for(flows.origin, local) {
-                Some(local) => PointKind::Use { local },
-                None => PointKind::Node,
-            },
-            _ => PointKind::Node,
-        }
+fn add_locals(all: &mut Originals, points: &[Point], is_definition: bool) -> Result<(), OutOfMemory>
+    ensures { (bound : ℕ) → AreOriginals all.old bound → OnOk result (tell.HasLocals points.now is_definition (length points.now) all.new.all.items) }
+{
+    for number in 0..points.len() {
+        add_if(all, local_if(point_at(points, number), is_definition))?;
     }
+    Ok(())
+}
 
-    // What stands at a point as long as the method was not left: a copy in the method gets a value.
-    fn first_kind(&self, point: Point) -> PointKind {
-        match self.named(point) {
+// The locals that get a value at the points, or else: that are used there. Each stands once.
+fn locals_at(alloc: Global, points: &[Point], is_definition: bool) -> Result<Originals, OutOfMemory>
+    ensures { IfOk result (λ all. tell.HasLocals points.now is_definition (length points.now) all.all.items) }
+{
+    let mut all = Originals::new(alloc, local_bound(points))?;
+    add_locals(&mut all, points, is_definition)?;
+    Ok(all)
+}
+
+// ---- graphs with more points
+
+fn copy_of(alloc: Global, graph: &Graph) -> Result<Graph, OutOfMemory>
+    ensures points { IfOk result (λ made. made.points.items ≡ graph.now.points.items) }
+    ensures steps { IfOk result (λ made. made.steps.items ≡ graph.now.steps.items) }
+{
+    let mut points = Vec::new(alloc);
+    points.extend_from_slice(graph.points.as_slice())?;
+    let mut steps = Vec::new(alloc);
+    steps.extend_from_slice(graph.steps.as_slice())?;
+    Ok(Graph {
+        body: graph.body,
+        points,
+        steps,
+    })
+}
+
+// Puts a use of the local behind a point.
+fn put_use(made: &mut Graph, from: u32, local: u32) -> Result<(), OutOfMemory>
+    ensures { OnOk result (tell.Grows made.old made.new × tell.IsUsedAfter made.new (length made.old.points.items) from local) }
+{
+    let to = count_of(made.points.len())?;
+    made.points.push(Point {
+        row: 0,
+        kind: PointKind::Use { local },
+    })?;
+    made.steps.push(Step {
+        from,
+        to,
+        is_throw: false,
+    })?;
+    Ok(())
+}
+
+// Puts a use of each local behind a point.
+fn put_uses(made: &mut Graph, from: u32, locals: &[u32]) -> Result<(), OutOfMemory>
+    ensures { OnOk result (tell.Grows made.old made.new × ((d : ℕ) → Contains locals.now d → tell.IsUsedAfter made.new (length made.old.points.items) from d)) }
+{
+    for local in locals {
+        put_use(made, from, *local)?;
+    }
+    Ok(())
+}
+
+// Puts a definition of the local at the row before a point.
+fn put_definition(made: &mut Graph, to: u32, row: u32, local: u32) -> Result<(), OutOfMemory>
+    ensures { OnOk result (tell.Grows made.old made.new × tell.IsDefinedBefore made.new (length made.old.points.items) to row local) }
+{
+    let from = count_of(made.points.len())?;
+    made.points.push(Point {
+        row,
+        kind: PointKind::Definition { local },
+    })?;
+    made.steps.push(Step {
+        from,
+        to,
+        is_throw: false,
+    })?;
+    Ok(())
+}
+
+// ---- values that leave the method
+
+fn exit_number(is_throw: bool) -> u32
+    ensures { result ≡ exit_number is_throw }
+{
+    if is_throw { 2 } else { 1 }
+}
+
+fn value_if(row: u32, local: u32, is_such: bool) -> Option<Value>
+    ensures { result ≡ tell.value_if row local is_such }
+{
+    if is_such {
+        Some(Value { row, local })
+    } else {
+        None
+    }
+}
+
+// What the local of the point gets there, where that is such and does not only hand on.
+fn value_at(handing: &Handing, point: Option<Point>, is_such: bool) -> Option<Value>
+    ensures { result ≡ tell.value_at handing.now point is_such }
+{
+    match point {
+        Some(point) => match point.kind {
             PointKind::Definition { local } => {
-                if self.is_inside(point) {
-                    PointKind::Definition { local }
-                } else {
-                    PointKind::Node
-                }
+                let is_value = handing.use_of(point.row).is_none() && is_such;
+                value_if(point.row, local, is_value)
             }
-            _ => PointKind::Node,
-        }
-    }
-
-    // What stands at a point once the method was left: a copy in the body gets a value or is used.
-    fn second_kind(&self, point: Point) -> PointKind {
-        if self.is_inside(point) {
-            PointKind::Node
-        } else {
-            self.named(point)
-        }
-    }
-
-    fn points(&self, alloc: Global) -> Result<Vec<Point>, OutOfMemory> {
-        let graph = self.flows.after;
-        let mut all = Vec::new(alloc);
-        for point in &graph.points {
-            all.push(Point {
-                row: point.row,
-                kind: self.first_kind(*point),
-            })?;
-        }
-        for point in &graph.points {
-            all.push(Point {
-                row: point.row,
-                kind: self.second_kind(*point),
-            })?;
-        }
-        Ok(all)
-    }
-
-    // The number of a point behind an exit of the method.
-    fn second(&self, number: u32) -> Result<u32, OutOfMemory> {
-        match number.checked_add(self.count) {
-            Some(second) => Ok(second),
-            None => Err(OutOfMemory),
-        }
-    }
-
-    // Adds the steps that a step is: inside the method, from an exit of it, and behind one.
-    fn put_steps(&self, all: &mut Vec<Step>, step: Step) -> Result<(), OutOfMemory> {
-        let graph = self.flows.after;
-        let Some(point) = graph.points.get(step.from as usize).copied() else {
-            return Ok(());
-        };
-        let to = self.second(step.to)?;
-        if self.is_exit(point) {
-            all.push(Step {
-                from: step.from,
-                to,
-                is_throw: step.is_throw,
-            })?;
-        } else if self.is_inside(point) {
-            all.push(step)?;
-        }
-        all.push(Step {
-            from: self.second(step.from)?,
-            to,
-            is_throw: step.is_throw,
-        })?;
-        Ok(())
-    }
-
-    fn steps(&self, alloc: Global) -> Result<Vec<Step>, OutOfMemory> {
-        let graph = self.flows.after;
-        let mut all = Vec::new(alloc);
-        for step in &graph.steps {
-            self.put_steps(&mut all, *step)?;
-        }
-        Ok(all)
-    }
-
-    // The points of the method up to its exits, and behind these all points once more. Locals are those of the old body.
-    fn graph(&self, alloc: Global) -> Result<Graph, OutOfMemory> {
-        let graph = self.flows.after;
-        let points = self.points(alloc)?;
-        let steps = self.steps(alloc)?;
-        Ok(Graph {
-            body: graph.body,
-            points,
-            steps,
-        })
-    }
-
-    fn row(&self, number: u32) -> u32 {
-        let graph = self.flows.after;
-        match graph.points.get(number as usize) {
-            Some(point) => point.row,
-            None => 0,
-        }
-    }
-
-    // Puts the edge between a definition of the method and a use behind its exit. An added use, as that of an argument, stands for the definition.
-    fn put(&self, definition: u32, used: u32, handing: &Handing, lost: &mut Firsts)
-        ensures { OnlyAdds lost.old lost.new }
-    {
-        let flows = self.flows;
-        let from = self.row(definition);
-        if definition < self.count && handing.use_of(from).is_none() {
-            let names = &flows.names;
-            let old = row_for(flows.origin, from).unwrap_or(names.body);
-            let first = defining_row(names.rows, old);
-            let to = self.row(used.saturating_sub(self.count));
-            lost.put_old(Edge {
-                first,
-                second: row_for(flows.origin, to).unwrap_or(first),
-            });
-        }
+            _ => None,
+        },
+        None => None,
     }
 }
 
-/// Puts the edges by which a value that a local gets in the method reaches an exit of it, and from there a use of the copy of the local outside: the copy
-/// does not have that value there. Parameters have no value of their own, and what is handed back is another definition.
+fn push_value(values: &mut Vec<Value>, value: Option<Value>) -> Result<(), OutOfMemory>
+    ensures { OnOk result (values.new.items ≡ values.old.items ++ tell.item_of value) }
+{
+    if let Some(value) = value {
+        values.push(value)?;
+    }
+    Ok(())
+}
+
+// The values that reach one of the points behind the first ones.
+fn values_of(
+    alloc: Global,
+    points: &[Point],
+    handing: &Handing,
+    count: u32,
+    pairs: &[(u32, u32)],
+) -> Result<Vec<Value>, OutOfMemory>
+    ensures { IfOk result (λ values. values.items ≡ tell.values_by points.now handing.now count pairs.now) }
+{
+    let mut values = Vec::new(alloc);
+    for (definition, used) in pairs {
+        let point = point_at(points, *definition as usize);
+        push_value(&mut values, value_at(handing, point, *used >= count))?;
+    }
+    Ok(values)
+}
+
+// The values that locals of the method have where it is left, by a throw or not, but for those that only hand on.
+fn leaving(
+    alloc: Global,
+    method: &Graph,
+    handing: &Handing,
+    is_throw: bool,
+) -> Result<Vec<Value>, OutOfMemory>
+    ensures { AreWithin (length method.now.points.items) (steps_of method.now) → tell.HasExits method.now.points.items method.now.body → IfOk result (λ values. tell.AreLeaving method.now.points.items (steps_of method.now) handing.now (exit_number is_throw) values.items) }
+{
+    let count = count_of(method.points.len())?;
+    let locals = locals_at(alloc, method.points.as_slice(), true)?;
+    let mut made = copy_of(alloc, method)?;
+    put_uses(&mut made, exit_number(is_throw), locals.rows())?;
+    let pairs = reaching(alloc, &made)?;
+    values_of(alloc, made.points.as_slice(), handing, count, &pairs)
+}
+
+// ---- uses behind the method
+
+// The local with the old one of which it is a copy, for each that is one.
+fn copy_pairs(alloc: Global, origin: &[u32], locals: &[u32]) -> Result<Vec<(u32, u32)>, OutOfMemory>
+    ensures { IfOk result (λ pairs. pairs.items ≡ tell.pairs_by (origin_in origin.now) locals.now) }
+{
+    let mut pairs = Vec::new(alloc);
+    for local in locals {
+        push_pair(&mut pairs, row_for(origin, *local), Some(*local))?;
+    }
+    Ok(pairs)
+}
+
+// The copies of each old local that are used at the points.
+fn copies_used(alloc: Global, points: &[Point], origin: &[u32]) -> Result<Lists, OutOfMemory>
+    ensures { IfOk result (λ copies. tell.AreCopies points.now (origin_in origin.now) (under_in copies)) }
+{
+    let locals = locals_at(alloc, points, false)?;
+    let pairs = copy_pairs(alloc, origin, locals.rows())?;
+    Lists::of_all(alloc, &pairs)
+}
+
+fn is_exit_kind(kind: PointKind, is_throw: bool) -> bool
+    ensures { result ≡ tell.is_exit_kind is_throw kind }
+{
+    match kind {
+        PointKind::Exit => !is_throw,
+        PointKind::Thrown => is_throw,
+        _ => false,
+    }
+}
+
+// The point is the exit of the method, by a throw or not.
+fn is_exit(point: Option<Point>, method: u32, is_throw: bool) -> bool
+    ensures { result ≡ tell.is_exit_at method is_throw point }
+{
+    match point {
+        Some(point) => point.row == method && is_exit_kind(point.kind, is_throw),
+        None => false,
+    }
+}
+
+// Puts a step, if it is such.
+fn put_step_if(made: &mut Graph, from: u32, to: u32, is_such: bool) -> Result<(), OutOfMemory>
+    ensures points { OnOk result (made.new.points.items ≡ made.old.points.items) }
+    ensures kept { OnOk result ((i j : ℕ) (t : Bool) → Contains (steps_of made.old) (i, j, t) → Contains (steps_of made.new) (i, j, t)) }
+    ensures here { OnOk result (is_such ≡ true → Contains (steps_of made.new) (from, to, false)) }
+{
+    if is_such {
+        made.steps.push(Step {
+            from,
+            to,
+            is_throw: false,
+        })?;
+    }
+    Ok(())
+}
+
+// Puts a step from the hub to each exit of the method, by a throw or not.
+fn put_exits(
+    made: &mut Graph,
+    hub: u32,
+    points: &[Point],
+    method: u32,
+    is_throw: bool,
+) -> Result<(), OutOfMemory>
+    ensures points { OnOk result (made.new.points.items ≡ made.old.points.items) }
+    ensures kept { OnOk result ((i j : ℕ) (t : Bool) → Contains (steps_of made.old) (i, j, t) → Contains (steps_of made.new) (i, j, t)) }
+    ensures here { OnOk result ((k : ℕ) → k < length points.now → tell.is_exit_at method is_throw (slice_get points.now k) ≡ true → Contains (steps_of made.new) (hub, k, false)) }
+{
+    let count = count_of(points.len())?;
+    for number in 0..count {
+        let point = point_at(points, number as usize);
+        put_step_if(made, hub, number, is_exit(point, method, is_throw))?;
+    }
+    Ok(())
+}
+
+// The graph with one point more, the hub, that stands before each exit of the method, by a throw or not.
+fn with_hub(alloc: Global, graph: &Graph, method: u32, is_throw: bool) -> Result<Graph, OutOfMemory>
+    ensures grows { IfOk result (λ made. tell.Grows graph.now made) }
+    ensures hub { IfOk result (λ made. tell.HasHub graph.now.points.items made method is_throw (length graph.now.points.items)) }
+{
+    let hub = count_of(graph.points.len())?;
+    let mut made = copy_of(alloc, graph)?;
+    made.points.push(Point {
+        row: method,
+        kind: PointKind::Node,
+    })?;
+    put_exits(&mut made, hub, graph.points.as_slice(), method, is_throw)?;
+    Ok(made)
+}
+
+// Puts a definition of the copy before the hub, unless it is the local of the value itself.
+fn put_other(made: &mut Graph, hub: u32, value: Value, copy: u32) -> Result<(), OutOfMemory>
+    ensures { OnOk result (tell.Grows made.old made.new × ((value.local ≡ copy → ⊥) → tell.IsDefinedBefore made.new (length made.old.points.items) hub value.row copy)) }
+{
+    if value.local == copy {
+        return Ok(());
+    }
+    put_definition(made, hub, value.row, copy)
+}
+
+// Puts definitions of the copies before the hub.
+fn put_others(made: &mut Graph, hub: u32, value: Value, copies: &[u32]) -> Result<(), OutOfMemory>
+    ensures { OnOk result (tell.Grows made.old made.new × ((copy : ℕ) → Contains copies.now copy → (value.local ≡ copy → ⊥) → tell.IsDefinedBefore made.new (length made.old.points.items) hub value.row copy)) }
+{
+    for copy in copies {
+        put_other(made, hub, value, *copy)?;
+    }
+    Ok(())
+}
+
+// Puts definitions of the other copies of the local of the value before the hub.
+fn put_value(
+    made: &mut Graph,
+    hub: u32,
+    value: Value,
+    copies: &Lists,
+    origin: &[u32],
+) -> Result<(), OutOfMemory>
+    ensures { OnOk result (tell.Grows made.old made.new × ((copy old : ℕ) → origin_in origin.now value.local ≡ Some old → Contains (under_in copies.now old) copy → (value.local ≡ copy → ⊥) → tell.IsDefinedBefore made.new (length made.old.points.items) hub value.row copy)) }
+{
+    match row_for(origin, value.local) {
+        Some(old) => put_others(made, hub, value, copies.under(old)),
+        None => Ok(()),
+    }
+}
+
+fn put_values(
+    made: &mut Graph,
+    hub: u32,
+    values: &[Value],
+    copies: &Lists,
+    origin: &[u32],
+) -> Result<(), OutOfMemory>
+    ensures { OnOk result (tell.Grows made.old made.new × tell.AreDefined made.new (length made.old.points.items) hub values.now (under_in copies.now) (origin_in origin.now)) }
+{
+    for value in values {
+        put_value(made, hub, *value, copies, origin)?;
+    }
+    Ok(())
+}
+
+// ---- what is lost
+
+fn row_at(points: &[Point], number: u32) -> u32 {
+    match points.get(number as usize) {
+        Some(point) => point.row,
+        None => 0,
+    }
+}
+
+// From a definition in the method to a use behind its exit. An added use, as that of an argument, stands for the definition.
+fn edge_between(flows: &Flows, definition: u32, used: u32) -> Edge {
+    let names = &flows.names;
+    let old = row_for(flows.origin, definition).unwrap_or(names.body);
+    let first = defining_row(names.rows, old);
+    Edge {
+        first,
+        second: row_for(flows.origin, used).unwrap_or(first),
+    }
+}
+
+// Puts the edge between the points of a definition and of a use, unless the definition is one of the first points.
+fn put_late(
+    flows: &Flows,
+    points: &[Point],
+    definition: u32,
+    used: u32,
+    is_early: bool,
+    lost: &mut Firsts,
+)
+    ensures { Checks lost.old lost.new (is_early ≡ true) }
+{
+    if !is_early {
+        lost.put_old(edge_between(flows, row_at(points, definition), row_at(points, used)));
+    }
+}
+
+fn put_all_late(
+    flows: &Flows,
+    points: &[Point],
+    pairs: &[(u32, u32)],
+    count: u32,
+    lost: &mut Firsts,
+)
+    ensures { Checks lost.old lost.new ((x : ℕ × ℕ) → Contains pairs.now x → x.0 < count) }
+{
+    for (definition, used) in pairs {
+        put_late(flows, points, *definition, *used, *definition < count, lost);
+    }
+}
+
+// Puts the edges from values to uses of other copies of their locals that are reached from an exit of the method, by a throw or not.
+fn put_used_behind(
+    alloc: Global,
+    flows: &Flows,
+    method: u32,
+    is_throw: bool,
+    values: &[Value],
+    copies: &Lists,
+    lost: &mut Firsts,
+) -> Result<(), OutOfMemory>
+    ensures { AreWithin (length flows.now.after.now.points.items) (steps_of flows.now.after.now) → tell.AreCopies flows.now.after.now.points.items (origin_in flows.now.origin.now) (under_in copies.now)
+        → OnOk result (Checks lost.old lost.new (tell.NoneBehind flows.now.after.now.points.items (steps_of flows.now.after.now) method is_throw (origin_in flows.now.origin.now) values.now)) }
+{
+    let hub = count_of(flows.after.points.len())?;
+    let mut made = with_hub(alloc, flows.after, method, is_throw)?;
+    put_values(&mut made, hub, values, copies, flows.origin)?;
+    let pairs = reaching(alloc, &made)?;
+    put_all_late(flows, made.points.as_slice(), &pairs, hub, lost);
+    Ok(())
+}
+
+// Puts the edges of the values that leave the method by a throw, or not.
+fn put_lost_by(
+    alloc: Global,
+    flows: &Flows,
+    method: &Graph,
+    handing: &Handing,
+    copies: &Lists,
+    is_throw: bool,
+    lost: &mut Firsts,
+) -> Result<(), OutOfMemory>
+    ensures { AreWithin (length method.now.points.items) (steps_of method.now) → tell.HasExits method.now.points.items method.now.body → AreWithin (length flows.now.after.now.points.items) (steps_of flows.now.after.now) → tell.AreCopies flows.now.after.now.points.items (origin_in flows.now.origin.now) (under_in copies.now)
+        → OnOk result (Checks lost.old lost.new (tell.IsUnlostBy method.now flows.now.after.now handing.now (origin_in flows.now.origin.now) is_throw)) }
+{
+    let values = leaving(alloc, method, handing, is_throw)?;
+    put_used_behind(alloc, flows, method.body, is_throw, &values, copies, lost)
+}
+
+/// Puts the edges by which a value that a local gets in the method reaches an exit of it, and from there a use of another copy of the local, which does not
+/// have that value. Parameters have no value of their own, and what is handed back is another definition.
 pub(crate) fn put_lost_values(
     alloc: Global,
     flows: &Flows,
+    method: &Graph,
     handing: &Handing,
-    method: u32,
     lost: &mut Firsts,
 ) -> Result<(), OutOfMemory>
-    ensures { OnOk result (OnlyAdds lost.old lost.new) }
+    ensures { AreWithin (length method.now.points.items) (steps_of method.now) → tell.HasExits method.now.points.items method.now.body → AreWithin (length flows.now.after.now.points.items) (steps_of flows.now.after.now)
+        → OnOk result (Checks lost.old lost.new (tell.IsUnlost method.now flows.now.after.now handing.now (origin_in flows.now.origin.now))) }
 {
-    let carrying = Carrying::of(flows, method)?;
-    let graph = carrying.graph(alloc)?;
-    for (definition, used) in &reaching(alloc, &graph)? {
-        carrying.put(*definition, *used, handing, lost);
-    }
-    Ok(())
+    let copies = copies_used(alloc, flows.after.points.as_slice(), flows.origin)?;
+    put_lost_by(alloc, flows, method, handing, &copies, false, lost)?;
+    put_lost_by(alloc, flows, method, handing, &copies, true, lost)
 }

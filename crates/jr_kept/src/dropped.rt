@@ -161,8 +161,8 @@ fn above(bound: usize, local: Option<u32>) -> usize
     }
 }
 
-// Above the locals of all points.
-fn local_bound(points: &[Point]) -> usize
+/// Above the locals of all points.
+pub(crate) fn local_bound(points: &[Point]) -> usize
     ensures { tell.AreLocalsBelow points.now (length points.now) result }
 {
     let mut bound = 0;

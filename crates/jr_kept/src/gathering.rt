@@ -27,7 +27,8 @@ fn row_of(points: &[Point], number: u32) -> Option<u32>
     }
 }
 
-fn push_pair(
+/// Puts a pair, if there are both of it.
+pub(crate) fn push_pair(
     pairs: &mut Vec<(u32, u32)>,
     to: Option<u32>,
     from: Option<u32>,
@@ -146,7 +147,8 @@ pub(crate) struct Originals {
 }
 
 impl Originals {
-    fn new(alloc: Global, bound: usize) -> Result<Originals, OutOfMemory>
+    /// None, so far.
+    pub(crate) fn new(alloc: Global, bound: usize) -> Result<Originals, OutOfMemory>
         ensures { IfOk result (λ originals. tell.AreOriginals originals bound) }
     {
         let met = Stamps::new(alloc, bound)?;
@@ -179,7 +181,8 @@ impl Originals {
         Ok(())
     }
 
-    fn add(&mut self, row: u32) -> Result<(), OutOfMemory>
+    /// Puts the row, if it is not there.
+    pub(crate) fn add(&mut self, row: u32) -> Result<(), OutOfMemory>
         ensures { (bound : ℕ) → tell.AreOriginals self.old bound → OnOk result (tell.AreOriginals self.new bound × tell.AddsRow self.old.all.items self.new.all.items (Some row)) }
     {
         if self.met.has(row) {

@@ -1,12 +1,13 @@
 // What a change loses.
-ghost use Rattle.std.specs.Prelude.{◌≡◌, ◌+◌, ◌<◌, ◌^◌, None, IfOk, IfSome, length, true};
+ghost use Rattle.std.specs.Prelude.{◌≡◌, ◌+◌, ◌<◌, ◌^◌, ℕ, None, IfOk, IfSome, length, true};
+ghost use Rattle.jr_tree.specs.Rows as tree;
 ghost use Rattle.jr_locks.specs.Origins.{origin_of, row_by};
 ghost use Rattle.jr_flow_defs.specs.Meaning.{Meaning};
 ghost use Rattle.jr_flow_defs.specs.Edges.{IsGraph, body_flow};
 ghost use Rattle.jr_flow_defs.specs.Kept.{IsDisturbed, joined_flow, statement_round};
 ghost use Rattle.jr_flow.specs.Reached.{steps_of, IsGraphOf};
 ghost use Rattle.jr_kept.specs.Ordered.{AreNone};
-ghost use Rattle.jr_kept.specs.Compared.{KeepsBodies, KeepsWholeBodies, KeepsJoined, KeepsJoinedUses, IsJoinedGraph};
+ghost use Rattle.jr_kept.specs.Compared.{KeepsBodies, KeepsWholeBodies, KeepsJoined, KeepsJoinedUses, KeepsJoinedValues, IsJoinedGraph, IsMethodGraph};
 ghost use Rattle.jr_kept.specs.Courses as tell;
 
 use crate::arriving::put_lost_definitions;
@@ -21,10 +22,11 @@ use crate::joined::joined;
 use crate::names::Names;
 use crate::returning::put_held_returns;
 use crate::starting::lost_initialization;
-use jr_base::Place;
+use jr_base::{OutOfMemory, Place};
 use jr_change::{Change, Course, Locks, Project, Raised, RowRange};
 use jr_flow::{FlowFault, Graph, graph};
 use jr_locks::row_for;
+use jr_places::parent_at;
 use jr_tree::Row;
 use std::alloc::Global;
 
@@ -158,6 +160,28 @@ fn dropped(copy: &[u32], statement: u32) -> Option<u32>
     }
 }
 
+// The statement is the declaration in which the local stands (JLS 14.4).
+fn is_declaration(rows: &[Row], local: u32, statement: u32) -> bool
+    ensures { result ≡ true → tree.parent rows.now local ≡ statement }
+{
+    parent_at(rows, local) == statement
+}
+
+// The body in which a local stands, if the statement is its declaration.
+fn declared_body(
+    alloc: Global,
+    rows: &[Row],
+    local: u32,
+    statement: u32,
+) -> Result<Option<u32>, OutOfMemory>
+    ensures { length rows.now < 2 ^ 32 → IfOk result (λ found. IfSome found (λ body. tell.IsBodyRound rows.now local body × (tree.parent rows.now local ≡ statement))) }
+{
+    if !is_declaration(rows, local, statement) {
+        return Ok(None);
+    }
+    body_round(alloc, rows, local)
+}
+
 fn lost_by_inlining(
     alloc: Global,
     old: &Project,
@@ -171,7 +195,7 @@ fn lost_by_inlining(
     ensures uses { (m w : Meaning) → tell.IsSeen old.now m → tell.IsSeen locked.now w
         → IfOk result (λ lost. lost.control ≡ None → lost.def_use ≡ None → tell.KeepsInlinedFlow old.now.marks.rows.now locked.now.marks.rows.now m w locks.now.origin.items locks.now.copy.items local statement) }
 {
-    let Some(body) = body_round(alloc, old.marks.rows, local)? else {
+    let Some(body) = declared_body(alloc, old.marks.rows, local, statement)? else {
         return Ok(lost_at(old, local));
     };
     let Some(copy) = row_among(&locks.copy, locked.marks.rows, body) else {
@@ -199,19 +223,20 @@ fn lost_in_extracted(
     alloc: Global,
     old: &Project,
     flows: &Flows,
+    inner: &Graph,
     call: u32,
     method: u32,
 ) -> Result<LostFlow, FlowFault>
     ensures control { (m w : Meaning) → IsGraphOf flows.now.names.rows.now m flows.now.before.now → IsJoinedGraph flows.now w call method → IfOk result (λ lost. lost.control ≡ None → KeepsJoined flows.now m w call method) }
-    ensures uses { (m w : Meaning) → IsGraphOf flows.now.names.rows.now m flows.now.before.now → IsJoinedGraph flows.now w call method → call + 1 < 2 ^ 32 → method + 1 < 2 ^ 32 → statement_round flows.now.rows.now call call + 1 < 2 ^ 32
-        → IfOk result (λ lost. lost.control ≡ None → lost.def_use ≡ None → KeepsJoined flows.now m w call method × KeepsJoinedUses flows.now m w call method) }
+    ensures uses { (m w : Meaning) → IsGraphOf flows.now.names.rows.now m flows.now.before.now → IsJoinedGraph flows.now w call method → IsMethodGraph flows.now.rows.now w inner.now method → call + 1 < 2 ^ 32 → method + 1 < 2 ^ 32 → statement_round flows.now.rows.now call call + 1 < 2 ^ 32
+        → IfOk result (λ lost. lost.control ≡ None → lost.def_use ≡ None → KeepsJoined flows.now m w call method × KeepsJoinedUses flows.now m w call method × KeepsJoinedValues flows.now w call method) }
 {
     let mut control = lost_control(alloc, flows)?;
     put_held_returns(alloc, flows, method, &mut control)?;
     let mut lost = Firsts::none();
     let handing = Handing::of(alloc, flows, call, method, &mut lost)?;
     put_lost_definitions(alloc, flows, &handing, &mut lost)?;
-    put_lost_values(alloc, flows, &handing, method, &mut lost)?;
+    put_lost_values(alloc, flows, inner, &handing, &mut lost)?;
     Ok(LostFlow {
         control: first_of(old, control),
         def_use: first_of(old, lost),
@@ -232,14 +257,13 @@ fn joined_graph(
     locked: &Project,
     body: u32,
     call: u32,
-    method: u32,
+    inner: &Graph,
 ) -> Result<Graph, FlowFault>
-    ensures { (w : Meaning) → tell.IsSeen locked.now w → body < length locked.now.marks.rows.now → method < length locked.now.marks.rows.now → (body ≡ method → ⊥)
+    ensures { (w : Meaning) (method : ℕ) → tell.IsSeen locked.now w → body < length locked.now.marks.rows.now → IsMethodGraph locked.now.marks.rows.now w inner.now method → (body ≡ method → ⊥)
         → IfOk result (λ made. (made.body ≡ body) × IsGraph (joined_flow locked.now.marks.rows.now w body call method) body made.points.items (steps_of made)) }
 {
     let outer = graph_of(alloc, locked, body)?;
-    let inner = graph_of(alloc, locked, method)?;
-    let joined = joined(alloc, &outer, &inner, call)?;
+    let joined = joined(alloc, &outer, inner, call)?;
     Ok(joined)
 }
 
@@ -275,7 +299,8 @@ fn lost_by_extracting(
         return Ok(lost_at(old, 0));
     }
     let before = graph_of(alloc, old, body)?;
-    let after = joined_graph(alloc, locked, copy, call, method)?;
+    let inner = graph_of(alloc, locked, method)?;
+    let after = joined_graph(alloc, locked, copy, call, &inner)?;
     let flows = Flows {
         names: Names {
             rows: old.marks.rows,
@@ -288,7 +313,7 @@ fn lost_by_extracting(
         span: both(rows_of(rows, copy), rows_of(rows, method)),
         origin: locks.origin.as_slice(),
     };
-    lost_in_extracted(alloc, old, &flows, call, method)
+    lost_in_extracted(alloc, old, &flows, &inner, call, method)
 }
 
 /// The first edge of control and the first edge from a definition to a use that the change loses, where `locked` is the changed program under its locks,

@@ -1,5 +1,6 @@
 // Lists of numbers by number.
-ghost use Rattle.std.specs.Prelude.{◌≡◌, ◌∷◌, ◌++◌, [], ℕ, List, IfOk, OnOk, map, replicate};
+ghost use Rattle.std.specs.Prelude.{◌≡◌, ◌<◌, ◌≤◌, ◌∷◌, ◌++◌, [], ℕ, List, IfOk, OnOk, map, replicate};
+ghost use Rattle.std.specs.List.{Contains};
 ghost use Rattle.jr_kept.specs.Listed.{put_at, under_in, IsListing};
 
 use jr_base::OutOfMemory;
@@ -31,6 +32,43 @@ fn put(lists: &mut Vec<Vec<u32>>, place: usize, item: u32) -> Result<(), OutOfMe
         list.push(item)?;
     }
     Ok(())
+}
+
+fn lesser(least: u32, number: u32) -> u32
+    ensures kept { result ≤ least }
+    ensures here { result ≤ number }
+{
+    least.min(number)
+}
+
+// The bound, or what is just above the number.
+fn above(bound: usize, number: u32) -> usize
+    ensures kept { bound ≤ result }
+    ensures here { number < result }
+{
+    bound.max((number as usize).saturating_add(1))
+}
+
+// The least first number of the pairs.
+fn least_first(pairs: &[(u32, u32)]) -> u32
+    ensures { (x : ℕ × ℕ) → Contains pairs.now x → result ≤ x.0 }
+{
+    let mut least = u32::MAX;
+    for (number, _) in pairs {
+        least = lesser(least, *number);
+    }
+    least
+}
+
+// Above the first numbers of the pairs.
+fn first_bound(pairs: &[(u32, u32)]) -> usize
+    ensures { (x : ℕ × ℕ) → Contains pairs.now x → x.0 < result }
+{
+    let mut bound = 0;
+    for (number, _) in pairs {
+        bound = above(bound, *number);
+    }
+    bound
 }
 
 impl Lists {
@@ -66,6 +104,15 @@ impl Lists {
         let mut all = Lists { first, lists };
         all.add_all(pairs)?;
         Ok(all)
+    }
+
+    /// The second numbers of all pairs, each under its first one.
+    pub(crate) fn of_all(alloc: Global, pairs: &[(u32, u32)]) -> Result<Lists, OutOfMemory>
+        ensures { IfOk result (λ lists. (k j : ℕ) → Contains pairs.now (k, j) → Contains (under_in lists k) j) }
+    {
+        let first = least_first(pairs);
+        let bound = first_bound(pairs);
+        Lists::of(alloc, first, bound.saturating_sub(first as usize), pairs)
     }
 
     /// The list under a number; an empty one, where there is none.

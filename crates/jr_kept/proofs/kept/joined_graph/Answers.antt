@@ -5,9 +5,9 @@ use Rattle.jr_flow.specs.Reached.{steps_of}
 use Rattle.jr_kept.proofs.kept.joined_graph.Goals as goal
 
 pub returns : goal.returns
-returns c = λ w seen few less other. let p = c.args.locked.now.marks.rows.now in let body = c.args.body in let call = c.args.call in let method = c.args.method in
-    let outer = c.in_ok-outer.ensures w seen few in let inner = c.in_ok-inner.ensures w seen less in let made = c.in_ok-joined.joined in
+returns c = λ w method seen few inner other. let p = c.args.locked.now.marks.rows.now in let body = c.args.body in let call = c.args.call in
+    let outer = c.in_ok-outer.ensures w seen few in let made = c.in_ok-joined.joined in
     let is = c.in_ok-joined.ensures p w outer.1 inner.1 (λ e. other (sym outer.0 ∙ e ∙ inner.0)) in (
       is.0 ∙ outer.0,
-      subst (λ n. IsGraph (joined_flow p w body call n) body made.points.items (steps_of made)) inner.0 (subst (λ n. IsGraph (joined_flow p w n call c.in_ok-inner.inner.body) n made.points.items (steps_of made)) outer.0 is.1),
+      subst (λ n. IsGraph (joined_flow p w body call n) body made.points.items (steps_of made)) inner.0 (subst (λ n. IsGraph (joined_flow p w n call c.args.inner.now.body) n made.points.items (steps_of made)) outer.0 is.1),
     )

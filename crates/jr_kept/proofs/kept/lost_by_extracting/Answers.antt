@@ -1,7 +1,7 @@
 use Rattle.std.proofs.Common.{◌≡◌, ◌<◌, ◌≤◌, arith, sym, subst, length, Some, IfSome, None}
 use Rattle.std.proofs.lemmas.Result.{IfOk-weaker}
 use Rattle.jr_flow_defs.specs.Edges.{body_flow, IsGraph}
-use Rattle.jr_flow_defs.specs.Kept.{KeepsControl, KeepsDefinitions, Hands, IsHanding, joined_flow, statement_round}
+use Rattle.jr_flow_defs.specs.Kept.{KeepsControl, KeepsDefinitions, Hands, IsHanding, IsLost, joined_flow, statement_round}
 use Rattle.jr_flow.specs.Reached.{steps_of}
 use Rattle.jr_locks.specs.Origins.{origin_of, row_by}
 use Rattle.jr_kept.specs.Named.{origin_in}
@@ -28,7 +28,7 @@ returns-clause-control c = λ m w seen other. let p = c.args.old.now.marks.rows.
     let round : IsBodyRound q call after = subst (λ o. IfSome o (λ k. IsBodyRound q call k)) c.in-Some.is (c.in_ok-copy.ensures (rows_few c.args.locked.now w other)) in
     let copy : (row_by (origin_of origin after) ≡ Some body) × (body < length p) = subst (λ o. IfSome o (λ k. (row_by (origin_of origin after) ≡ Some k) × (k < length p))) c.in-Some-row_among.is (subst (λ xs. IfSome c.row_among.result (λ k. (row_by (origin_of xs after) ≡ Some k) × (k < length p))) c.deref.ensures.value c.row_among.ensures) in
     let before_graph = c.in_ok-before.ensures m seen copy.1 in
-    let after_graph = c.in_ok-after.ensures w other round.is.few (c.is_apart.ensures.row c.if-not-is_apart.false) (c.is_apart.ensures.apart c.if-not-is_apart.false) in
+    let after_graph = c.in_ok-after.ensures w method other round.is.few (c.in_ok-inner.ensures w other (c.is_apart.ensures.row c.if-not-is_apart.false)) (c.is_apart.ensures.apart c.if-not-is_apart.false) in
     IfOk-weaker c.lost_in_extracted.result _ _ (λ lost keeps none. record {
       body = body;
       after = after;
@@ -47,7 +47,7 @@ returns-clause-uses c = λ m w seen other. let p = c.args.old.now.marks.rows.now
     let round : IsBodyRound q call after = subst (λ o. IfSome o (λ k. IsBodyRound q call k)) c.in-Some.is (c.in_ok-copy.ensures (rows_few c.args.locked.now w other)) in
     let copy : (row_by (origin_of origin after) ≡ Some body) × (body < length p) = subst (λ o. IfSome o (λ k. (row_by (origin_of origin after) ≡ Some k) × (k < length p))) c.in-Some-row_among.is (subst (λ xs. IfSome c.row_among.result (λ k. (row_by (origin_of xs after) ≡ Some k) × (k < length p))) c.deref.ensures.value c.row_among.ensures) in
     let before_graph = c.in_ok-before.ensures m seen copy.1 in let is_row = c.is_apart.ensures.row c.if-not-is_apart.false in
-    let after_graph = c.in_ok-after.ensures w other round.is.few is_row (c.is_apart.ensures.apart c.if-not-is_apart.false) in
+    let alone = c.in_ok-inner.ensures w other is_row in let after_graph = c.in_ok-after.ensures w method other round.is.few alone (c.is_apart.ensures.apart c.if-not-is_apart.false) in
     let few = rows_few c.args.locked.now w other in let last = other.tree.last after round.is.few in let to = round.to in
     let up : statement_round q call call ≤ call = statement_before q (parent_before q other.tree) call call in
     IfOk-weaker c.lost_in_extracted.result _ _ (λ lost keeps none no_use.
@@ -64,6 +64,8 @@ returns-clause-uses c = λ m w seen other. let p = c.args.old.now.marks.rows.now
       definitions = subst (λ os. KeepsDefinitions (body_flow p m body) (joined_flow q w after call method) (IsHanding q (joined_flow q w after call method) call method) (Hands q (joined_flow q w after call method) call method (origin_in os)) (origin_in os)) c.as_slice.ensures.value
           (subst (λ n. KeepsDefinitions (body_flow p m body) (joined_flow q w n call method) (IsHanding q (joined_flow q w n call method) call method) (Hands q (joined_flow q w n call method) call method (origin_in c.as_slice.result.now)) (origin_in c.as_slice.result.now)) after_graph.0
           (subst (λ n. KeepsDefinitions (body_flow p m n) (joined_flow q w joined.body call method) (IsHanding q (joined_flow q w joined.body call method) call method) (Hands q (joined_flow q w joined.body call method) call method (origin_in c.as_slice.result.now)) (origin_in c.as_slice.result.now)) before_graph.0 both.1));
+      unlost = subst (λ os. IsLost q w (joined_flow q w after call method) call method (origin_in os) → ⊥) c.as_slice.ensures.value
+          (subst (λ n. IsLost q w (joined_flow q w n call method) call method (origin_in c.as_slice.result.now) → ⊥) after_graph.0 both.2);
     }) (c.lost_in_extracted.ensures.uses m w before_graph.1
-    (subst (λ n. IsGraph (joined_flow q w n call method) n joined.points.items (steps_of joined)) (sym after_graph.0) after_graph.1)
+    (subst (λ n. IsGraph (joined_flow q w n call method) n joined.points.items (steps_of joined)) (sym after_graph.0) after_graph.1) alone
     (omega (arith, few, last, to)) (omega (arith, few, is_row)) (omega (arith, few, last, to, up)))

@@ -1,5 +1,6 @@
 use Rattle.std.proofs.Common.{◌≡◌, arith, ◌∙◌, ◌<◌, ap, subst, length, Some, IfSome}
 use Rattle.std.proofs.lemmas.Result.{IfOk-weaker}
+use Rattle.jr_tree.specs.Rows.{parent}
 use Rattle.jr_flow_defs.specs.Edges.{body_flow}
 use Rattle.jr_flow_defs.specs.Kept.{KeepsControl, KeepsBody, IsDisturbed}
 use Rattle.jr_locks.specs.Origins.{origin_of, row_by}
@@ -17,7 +18,7 @@ returns-in_default-clause-uses c = λ m w seen other none no_use. absurd (c.lost
 pub returns-clause-control : goal.returns-clause-control
 returns-clause-control c = λ m w seen other. let p = c.args.old.now.marks.rows.now in let q = c.args.locked.now.marks.rows.now in let origin = c.args.locks.now.origin.items in let copies = c.args.locks.now.copy.items in
     let local = c.args.local in let statement = c.args.statement in let body = c.in-Some.body in let after = c.in-Some-row_among.copy in
-    let round : IsBodyRound p local body = subst (λ o. IfSome o (λ k. IsBodyRound p local k)) c.in-Some.is (c.in_ok-body.ensures (rows_few c.args.old.now m seen)) in
+    let found : IsBodyRound p local body × (parent p local ≡ statement) = subst (λ o. IfSome o (λ k. IsBodyRound p local k × (parent p local ≡ statement))) c.in-Some.is (c.in_ok-body.ensures (rows_few c.args.old.now m seen)) in let round = found.0 in
     let copy : (row_by (origin_of copies body) ≡ Some after) × (after < length q) = subst (λ o. IfSome o (λ k. (row_by (origin_of copies body) ≡ Some k) × (k < length q))) c.in-Some-row_among.is (subst (λ xs. IfSome c.row_among.result (λ k. (row_by (origin_of xs body) ≡ Some k) × (k < length q))) c.deref.ensures.value c.row_among.ensures) in
     let before_graph = c.in_ok-before.ensures m seen round.is.few in let after_graph = c.in_ok-after.ensures w other copy.1 in
     IfOk-weaker c.lost_in_inlined.result _ _ (λ lost keeps none. record {
@@ -35,7 +36,7 @@ returns-clause-control c = λ m w seen other. let p = c.args.old.now.marks.rows.
 pub returns-clause-uses : goal.returns-clause-uses
 returns-clause-uses c = λ m w seen other. let p = c.args.old.now.marks.rows.now in let q = c.args.locked.now.marks.rows.now in let origin = c.args.locks.now.origin.items in let copies = c.args.locks.now.copy.items in
     let local = c.args.local in let statement = c.args.statement in let body = c.in-Some.body in let after = c.in-Some-row_among.copy in
-    let round : IsBodyRound p local body = subst (λ o. IfSome o (λ k. IsBodyRound p local k)) c.in-Some.is (c.in_ok-body.ensures (rows_few c.args.old.now m seen)) in
+    let found : IsBodyRound p local body × (parent p local ≡ statement) = subst (λ o. IfSome o (λ k. IsBodyRound p local k × (parent p local ≡ statement))) c.in-Some.is (c.in_ok-body.ensures (rows_few c.args.old.now m seen)) in let round = found.0 in
     let copy : (row_by (origin_of copies body) ≡ Some after) × (after < length q) = subst (λ o. IfSome o (λ k. (row_by (origin_of copies body) ≡ Some k) × (k < length q))) c.in-Some-row_among.is (subst (λ xs. IfSome c.row_among.result (λ k. (row_by (origin_of xs body) ≡ Some k) × (k < length q))) c.deref.ensures.value c.row_among.ensures) in
     let before_graph = c.in_ok-before.ensures m seen round.is.few in let after_graph = c.in_ok-after.ensures w other copy.1 in
     let few = rows_few c.args.old.now m seen in let last = seen.tree.last body round.is.few in let to = round.to in
@@ -53,5 +54,6 @@ returns-clause-uses c = λ m w seen other. let p = c.args.old.now.marks.rows.now
       round = round;
       is_copy = copy.0;
       few = copy.1;
+      declared = found.1;
       inlined = record { kept = kept; undisturbed = calm };
     }) (c.lost_in_inlined.ensures.uses m w before_graph.1 after_graph.1)
