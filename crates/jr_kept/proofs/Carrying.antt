@@ -1,11 +1,10 @@
 -- Values that locals of a method have where it is left, by graphs with more points and steps.
-use Rattle.std.proofs.Common.{◌≡◌, ◌⊎◌, inl, inr, ⊎_elim, refl, sym, ◌∙◌, ap, subst, arith, ℕ, zero, suc, ◌+◌, ◌<◌, ◌≤◌, Bool, true, false, not, ◌&&◌, if◌then◌else◌, List, [], ◌∷◌, ◌++◌, length, map, take, Option, Some, None, is_some, nat_eq, nat_lt, slice_get}
+use Rattle.std.proofs.Common.{◌≡◌, ◌⊎◌, ⊎_elim, refl, sym, ◌∙◌, ap, subst, arith, ℕ, ◌+◌, ◌<◌, ◌≤◌, Bool, true, false, not, ◌&&◌, List, [], ◌∷◌, ◌++◌, length, map, Option, Some, None, is_some, nat_eq, nat_lt, slice_get}
 use Rattle.std.specs.List.{Contains}
 use Rattle.std.proofs.lemmas.Bool.{false≢true, cases_lt}
-use Rattle.std.proofs.lemmas.Bool.Decides.{Decides-eqb, Decides-ltb}
-use Rattle.std.proofs.lemmas.Option.{none-some, same_Some}
+use Rattle.std.proofs.lemmas.Option.{same_Some}
 use Rattle.std.proofs.lemmas.List.{map-append, length-append}
-use Rattle.std.proofs.lemmas.List.Elements.{Contains-append_left, Contains-append_right, Contains-push, Contains-push_cases}
+use Rattle.std.proofs.lemmas.List.Elements.{Contains-append_left, Contains-append_right, Contains-push}
 use Rattle.jr_flow_defs.specs.declared.point.Point.{Point}
 use Rattle.jr_flow_defs.specs.declared.point.PointKind.{PointKind}
 use Rattle.jr_flow_defs.specs.declared.point.PointKind.TheVariants as kind
@@ -22,7 +21,7 @@ use Rattle.jr_kept.specs.declared.handing.Handing.{Handing}
 use Rattle.jr_kept.specs.Gathered.{use_in, pair_of, AddsRow}
 use Rattle.jr_kept.specs.Searched.{AreWithin}
 use Rattle.jr_kept.specs.Spliced.{exit_number}
-use Rattle.jr_kept.specs.Carried.{local_if, HasLocals, is_exit_kind, is_exit_at, Includes, Grows, IsUsedAfter, IsDefinedBefore, value_if, value_at, item_of, values_by, Leaves, AreLeaving, pairs_by, AreCopies, IsUsedBehind, HasHub, HasExits, IsOtherCopy, NoneBehind, AreDefined, IsUnlostBy, IsUnlost}
+use Rattle.jr_kept.specs.Carried.{local_if, HasLocals, is_exit_kind, is_exit_at, Includes, Grows, IsUsedAfter, IsDefinedBefore, value_if, value_at, item_of, values_by, AreLeaving, pairs_by, AreCopies, HasHub, HasExits, NoneBehind, AreDefined, IsUnlostBy, IsUnlost}
 use Rattle.jr_kept.proofs.Naming.{get_inside}
 
 -- ---- locals

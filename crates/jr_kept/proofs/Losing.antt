@@ -1,5 +1,5 @@
 -- Values of locals of a method that are lost, in a flow.
-use Rattle.std.proofs.Common.{◌≡◌, refl, sym, ◌∙◌, ap, subst, arith, ℕ, ◌<◌, Bool, true, false, not, ◌&&◌, List, Option, Some, None, nat_eq, slice_get}
+use Rattle.std.proofs.Common.{◌≡◌, refl, ◌∙◌, ap, subst, arith, ℕ, Bool, true, false, ◌&&◌, List, Option, Some, None, slice_get}
 use Rattle.std.proofs.lemmas.Bool.Decides.{Decides-eqb}
 use Rattle.std.proofs.lemmas.Option.{none-some, same_Some}
 use Rattle.jr_tree.specs.Rows.{Rows}
@@ -11,7 +11,7 @@ use Rattle.jr_flow_defs.specs.States.{State}
 use Rattle.jr_flow_defs.specs.Paths.{IsReached, Path, Goes, IsPoint}
 use Rattle.jr_flow_defs.specs.Edges.{point, body_flow, own_number, IsGraph}
 use Rattle.jr_flow_defs.specs.Graphs.{StepList, StepPath, PassesAt, is_definition_of}
-use Rattle.jr_flow_defs.specs.Kept.{Origin, Within, outside, inside, is_exit, joined_flow, IsHanding, IsLost}
+use Rattle.jr_flow_defs.specs.Kept.{Origin, inside, is_exit, joined_flow, IsHanding, IsLost}
 use Rattle.jr_kept.specs.declared.handing.Handing.{Handing}
 use Rattle.jr_kept.specs.Gathered.{use_in}
 use Rattle.jr_kept.specs.Spliced.{exit_number}

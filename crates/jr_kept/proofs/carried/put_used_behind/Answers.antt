@@ -1,4 +1,4 @@
-use Rattle.std.proofs.Common.{◌≡◌, ◌<◌, sym, ◌∙◌, ap, subst, arith, ℕ, length}
+use Rattle.std.proofs.Common.{◌≡◌, ◌<◌, subst, arith, ℕ, length}
 use Rattle.std.specs.List.{Contains}
 use Rattle.jr_flow.specs.Reached.{steps_of}
 use Rattle.jr_kept.specs.Listed.{under_in}

@@ -2,7 +2,6 @@ use Rattle.std.proofs.Common.{◌≡◌, ℕ, ◌+◌, arith, length, subst, tak
 use Rattle.std.specs.List.{Contains}
 use Rattle.std.proofs.lemmas.Grind.{take_at_read}
 use Rattle.std.proofs.lemmas.List.{take_all}
-use Rattle.jr_flow.specs.declared.point.Graph as code
 use Rattle.jr_kept.specs.declared.carried.Value.{Value}
 use Rattle.jr_kept.specs.Listed.{under_in}
 use Rattle.jr_kept.specs.Named.{origin_in}
