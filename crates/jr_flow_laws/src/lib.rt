@@ -1,0 +1,9 @@
+//! Laws of the flow of bodies that are copied, as by renames, moves and pull ups.
+#![tactic(auto)]
+
+mod law;
+
+pub use law::{
+    copied_bodies_are_copies, copied_bodies_keep_control, copied_bodies_keep_definitions,
+    parents_follow_from_ends,
+};
