@@ -106,7 +106,7 @@ module _ (p q : Rows) (m w : Meaning) (body s : ℕ) (outside : ℕ → ℕ) (wh
       if_over s In (nat_lt (third p n) (end p n)) (nat_lt (third q (n + s)) (end q (n + s)))
       (ap₂ nat_lt (third_at n one two) (rows.ends n i) ∙ same_less s (third p n) (end p n))
       (λ t. let up = whole.tree.nested (n + 1) in let over = whole.tree.nested (end p (n + 1)) in
-        two_ways_over n one two (below_in p m body whole n (third p n) i (omega (arith, up, over)) ((Decides-ltb (third p n) (end p n)).0 t)))
+      two_ways_over n one two (below_in p m body whole n (third p n) i (omega (arith, up, over)) ((Decides-ltb (third p n) (end p n)).0 t)))
       (λ f. guarded_over n one two)
 
   plain_binary : (n : ℕ) (op : Symbol) → In n → In (n + 1) → In (end p (n + 1))

@@ -1,5 +1,5 @@
 -- A jump has the same target in the copy.
-use Rattle.std.proofs.Common.{◌≡◌, ◌⊎◌, refl, sym, ◌∙◌, ap, subst, ⊎_elim, arith, ℕ, zero, suc, ◌+◌, ◌<◌, ◌≤◌, Bool, true, false, if◌then◌else◌, Option, Some, None}
+use Rattle.std.proofs.Common.{◌≡◌, refl, sym, ◌∙◌, ap, subst, ⊎_elim, arith, ℕ, zero, suc, ◌+◌, ◌<◌, ◌≤◌, Bool, true, false, if◌then◌else◌, Option, Some, None}
 use Rattle.std.proofs.lemmas.Bool.{false≢true}
 use Rattle.std.proofs.lemmas.Option.{none-some, same_Some}
 use Rattle.jr_tree.specs.declared.label.Label.{Label}
@@ -9,6 +9,7 @@ use Rattle.jr_defs.specs.declared.referent.Referent.{Referent}
 use Rattle.jr_flow_defs.specs.Meaning.{Meaning, declared}
 use Rattle.jr_flow_defs.specs.Acts.{is_loop, is_loop_or_switch, around, break_target, labeled_loop, continue_target, breaks, continues}
 use Rattle.jr_flow_laws.specs.Shifted.{moved_completion, IsIn, declares_code, IsWholeBody, moved_row, IsMovedReferent, AreShiftedRows}
+use Rattle.jr_flow_laws.proofs.Moving.{at_or_below}
 use Rattle.jr_flow_laws.proofs.Standing.{stands_below, parent_in, parent_less, label_over, next_over}
 use Rattle.jr_flow_laws.proofs.Meant.{moved_inside, declared_over, parent_label_over}
 
@@ -24,9 +25,6 @@ code_is_no_target is.While e = absurd (false≢true e)
 code_is_no_target is.Do e = absurd (false≢true e)
 code_is_no_target (is.For f c) e = absurd (false≢true e)
 code_is_no_target _ e = refl
-
-at_or_below : (a b : ℕ) → a ≤ b → (a < b) ⊎ (a ≡ b)
-at_or_below a b h = grind (arith, h)
 
 module _ (p : Rows) (m : Meaning) (body : ℕ) (whole : IsWholeBody p m body) (test : Label → Bool) (none : test (label p body) ≡ false) where
   parent_low : (n : ℕ) → n ≤ body → parent p n ≤ n

@@ -41,8 +41,8 @@ module _ (p q : Rows) (m w : Meaning) (body s : ℕ) (outside : ℕ → ℕ) (wh
   reached_in b (IsReached.on {a = a} r g) =
       hop_in In (hops p m body a) (record { to = b; is_throw = g.is_throw }) (hops_over p q m w body s outside whole rows a (reached_in a r)).inside g.hop
 
-  pub copied : IsCopied Old New (moved_state s) (λ n. n + s)
-  copied = record {
+  pub body_is_copied : IsCopied Old New (moved_state s) (λ n. n + s)
+  body_is_copied = record {
     start = refl;
     hops = λ a r. (hops_over p q m w body s outside whole rows a (reached_in a r)).moved;
     points = λ a r. point_over p q m w body s outside whole rows a.moment a.row (reached_in a r);
@@ -50,7 +50,7 @@ module _ (p q : Rows) (m w : Meaning) (body s : ℕ) (outside : ℕ → ℕ) (wh
   }
 
   edges : CopiesKeepEdges Old New (λ n. n + s)
-  edges = copies.copies_keep_edges Old New (moved_state s) (λ n. n + s) copied
+  edges = copies.copies_keep_edges Old New (moved_state s) (λ n. n + s) body_is_copied
 
   point_row_in : (a : State) (x : Point) → IsReached Old a → Old.point a ≡ Some x → In x.row
   point_row_in a x r e = point_is_in In (Old.point a) x e (point_in p q m w body s outside whole rows a.moment a.row (reached_in a r))

@@ -17,7 +17,7 @@ use Rattle.jr_flow_defs.specs.Edges.{point, act_point, exit_kind, point_by}
 use Rattle.jr_flow_defs.specs.Kept.{each_hop}
 use Rattle.jr_flow_defs.specs.Copied.{moved_point}
 use Rattle.jr_flow_laws.specs.Shifted.{moved_completion, moved_moment, moved_state, IsIn, IsWholeBody, AreShiftedRows}
-use Rattle.jr_flow_laws.proofs.Moving.{same_number, chosen, moved_act, IfAct, act_at, all_append, HopIn, later, act_hops_over, act_point_over, act_hops_in, IfPoint, act_point_in}
+use Rattle.jr_flow_laws.proofs.Moving.{same_number, choice_over, moved_act, IfAct, act_at, all_append, HopIn, later, act_hops_over, act_point_over, act_hops_in, IfPoint, act_point_in}
 use Rattle.jr_flow_laws.proofs.Standing.{filter_over, filter_in, parent_in, children_in, last_row_in, next_over, children_over, last_row_over}
 use Rattle.jr_flow_laws.proofs.Meant.{parent_label_over}
 use Rattle.jr_flow_laws.proofs.Acting.{acts_over}
@@ -70,8 +70,8 @@ behind_over s k (a ∷ all) = ap₂ (λ t n. if t then 1 else n + 1) (part_over 
 
 part_left_over : (s : ℕ) (all : Acts) (l : Label) (n k : ℕ) (c : Completion) (w : Pending) → part_left (map (moved_act s) all) l (n + s) (k + s) (moved_completion s c) (later s w) ≡ moved_state s (part_left all l n k c w)
 part_left_over s all l n k normally w = ap (λ i. at (n + s) i (later s w)) (behind_over s k all)
-part_left_over s all l n k (by_break x) w = chosen (moved_state s) (nat_eq x n) (nat_eq (x + s) (n + s)) (left n normally w) (left n (by_break x) w) (left (n + s) normally (later s w)) (left (n + s) (by_break (x + s)) (later s w)) (same_number s x n) refl refl
-part_left_over s all l n k (by_continue x) w = chosen (moved_state s) (nat_eq x n) (nat_eq (x + s) (n + s)) (at n (next_turn l) w) (left n (by_continue x) w) (at (n + s) (next_turn l) (later s w)) (left (n + s) (by_continue (x + s)) (later s w)) (same_number s x n) refl refl
+part_left_over s all l n k (by_break x) w = choice_over (moved_state s) (nat_eq x n) (nat_eq (x + s) (n + s)) (left n normally w) (left n (by_break x) w) (left (n + s) normally (later s w)) (left (n + s) (by_break (x + s)) (later s w)) (same_number s x n) refl refl
+part_left_over s all l n k (by_continue x) w = choice_over (moved_state s) (nat_eq x n) (nat_eq (x + s) (n + s)) (at n (next_turn l) w) (left n (by_continue x) w) (at (n + s) (next_turn l) (later s w)) (left (n + s) (by_continue (x + s)) (later s w)) (same_number s x n) refl refl
 part_left_over s all l n k by_return w = refl
 part_left_over s all l n k by_throw w = refl
 
@@ -111,7 +111,7 @@ as_left_over s (completed by_return) = refl
 as_left_over s (completed by_throw) = refl
 
 ending_over : (s body : ℕ) (a : State) → ending (body + s) (moved_state s a) ≡ moved_state s (ending body a)
-ending_over s body a = chosen (moved_state s) (nat_eq a.row body) (nat_eq (a.row + s) (body + s)) (record { row = a.row; moment = as_left a.moment; pending = a.pending }) a
+ending_over s body a = choice_over (moved_state s) (nat_eq a.row body) (nat_eq (a.row + s) (body + s)) (record { row = a.row; moment = as_left a.moment; pending = a.pending }) a
     (record { row = a.row + s; moment = as_left (moved_moment s a.moment); pending = later s a.pending }) (moved_state s a) (same_number s a.row body)
     (ap (λ o. record { row = a.row + s; moment = o; pending = later s a.pending }) (as_left_over s a.moment)) refl
 
@@ -122,13 +122,6 @@ all_ending s body (a ∷ all) = ap₂ (λ x y. plainly x ∷ y) (ending_over s b
 ending_in : (P : ℕ → Type 0) (body : ℕ) (all : List State) → AllByRecursion (StateIn P) all → AllByRecursion (HopIn P) (map (λ a. plainly (ending body a)) all)
 ending_in P body [] h = tt
 ending_in P body (a ∷ all) h = (either_row P (nat_eq a.row body) (record { row = a.row; moment = as_left a.moment; pending = a.pending }) a h.0 h.0, ending_in P body all h.1)
-
-exit_over : (s : ℕ) (c : Completion) → exit_kind (moved_completion s c) ≡ exit_kind c
-exit_over s normally = refl
-exit_over s (by_break x) = refl
-exit_over s (by_continue x) = refl
-exit_over s by_return = refl
-exit_over s by_throw = refl
 
 module _ (p q : Rows) (m w : Meaning) (body s : ℕ) (outside : ℕ → ℕ) (whole : IsWholeBody p m body) (rows : AreShiftedRows p q m w body s outside) where
   abbrev In : ℕ → Type 0
@@ -225,7 +218,7 @@ module _ (p q : Rows) (m w : Meaning) (body s : ℕ) (outside : ℕ → ℕ) (wh
   hops_by_over : (o : Moment) (n : ℕ) (z : Pending) → In n → HopsGoOver (hops_by o p m body n z) (hops_by (moved_moment s o) q w (body + s) (n + s) (later s z))
   hops_by_over (before i) n z h = record {
     moved = ap₂ (λ a c. act_hops a (n + s) i c (later s z)) (acts_at n i h) (ap length (acts_over p q m w body s outside whole rows n h).moved ∙ length-map (acts p m n) (moved_act s))
-      ∙ act_hops_over s (slice_get (acts p m n) i) n i (length (acts p m n)) z;
+        ∙ act_hops_over s (slice_get (acts p m n) i) n i (length (acts p m n)) z;
     inside = act_hops_in In (slice_get (acts p m n) i) n i (length (acts p m n)) z h (act_inside n i h);
   }
   hops_by_over (completed c) n z h = completed_over (nat_eq n body) (nat_eq (n + s) (body + s)) (left_by (label p (parent p n)) p m (parent p n) n c z)
@@ -240,17 +233,17 @@ module _ (p q : Rows) (m w : Meaning) (body s : ℕ) (outside : ℕ → ℕ) (wh
   act_point_at n i h = ap (act_point (n + s)) (acts_at n i h) ∙ act_point_over s (slice_get (acts p m n) i) n
 
   pub point_over : (o : Moment) (n : ℕ) → In n → point_by (moved_moment s o) q w (body + s) (n + s) ≡ option_map (moved_point (λ k. k + s)) (point_by o p m body n)
-  point_over (before zero) n h = chosen (option_map (moved_point (λ k. k + s))) (nat_eq n body) (nat_eq (n + s) (body + s)) (point n kind.Entry) (act_point n (slice_get (acts p m n) 0)) (point (n + s) kind.Entry) (act_point (n + s) (slice_get (acts q w (n + s)) 0))
+  point_over (before zero) n h = choice_over (option_map (moved_point (λ k. k + s))) (nat_eq n body) (nat_eq (n + s) (body + s)) (point n kind.Entry) (act_point n (slice_get (acts p m n) 0)) (point (n + s) kind.Entry) (act_point (n + s) (slice_get (acts q w (n + s)) 0))
       (same_number s n body) refl (act_point_at n 0 h)
   point_over (before (suc i)) n h = act_point_at n (suc i) h
-  point_over (completed c) n h = chosen (option_map (moved_point (λ k. k + s))) (nat_eq n body) (nat_eq (n + s) (body + s)) (point n (exit_kind c)) None (point (n + s) (exit_kind (moved_completion s c))) None
+  point_over (completed c) n h = choice_over (option_map (moved_point (λ k. k + s))) (nat_eq n body) (nat_eq (n + s) (body + s)) (point n (exit_kind c)) None (point (n + s) (exit_kind (moved_completion s c))) None
       (same_number s n body) (exit_point c) refl where
-    exit_point : (c : Completion) → point (n + s) (exit_kind (moved_completion s c)) ≡ option_map (moved_point (λ k. k + s)) (point n (exit_kind c))
-    exit_point normally = refl
-    exit_point (by_break x) = refl
-    exit_point (by_continue x) = refl
-    exit_point by_return = refl
-    exit_point by_throw = refl
+        exit_point : (c : Completion) → point (n + s) (exit_kind (moved_completion s c)) ≡ option_map (moved_point (λ k. k + s)) (point n (exit_kind c))
+        exit_point normally = refl
+        exit_point (by_break x) = refl
+        exit_point (by_continue x) = refl
+        exit_point by_return = refl
+        exit_point by_throw = refl
 
   either_point : (b : Bool) (x y : Option Point) → IfPoint In x → IfPoint In y → IfPoint In (if b then x else y)
   either_point true x y h k = h

@@ -1,5 +1,5 @@
 -- What goes over where rows do: acts, hops and points.
-use Rattle.std.proofs.Common.{◌≡◌, refl, sym, ◌∙◌, ap, ap₂, subst, arith, ℕ, zero, suc, ◌+◌, ◌-◌, Bool, true, false, if◌then◌else◌, List, [], ◌∷◌, ◌++◌, map, flat_map, Option, Some, None, option_map, nat_eq, nat_lt, slice_get, Decides}
+use Rattle.std.proofs.Common.{◌≡◌, ◌⊎◌, refl, sym, ◌∙◌, ap, ap₂, subst, arith, ℕ, zero, suc, ◌+◌, ◌-◌, ◌<◌, ◌≤◌, Bool, true, false, if◌then◌else◌, List, [], ◌∷◌, ◌++◌, map, flat_map, Option, Some, None, option_map, nat_eq, nat_lt, slice_get, Decides}
 use Rattle.std.specs.List.{AllByRecursion}
 use Rattle.std.proofs.lemmas.Bool.{false≢true}
 use Rattle.std.proofs.lemmas.List.{map-append}
@@ -27,12 +27,15 @@ same_number s m n = same_test (nat_eq (m + s) (n + s)) (nat_eq m n) (Decides-eqb
 pub same_less : (s m n : ℕ) → nat_lt (m + s) (n + s) ≡ nat_lt m n
 same_less s m n = same_test (nat_lt (m + s) (n + s)) (nat_lt m n) (Decides-ltb (m + s) (n + s)) (Decides-ltb m n) (λ e. omega (arith, e)) (λ e. omega (arith, e))
 
+pub at_or_below : (a b : ℕ) → a ≤ b → (a < b) ⊎ (a ≡ b)
+at_or_below a b h = grind (arith, h)
+
 -- a choice that goes over
-pub chosen : {A B : Type 0} (f : A → B) (b c : Bool) (x y : A) (u v : B) → c ≡ b → u ≡ f x → v ≡ f y → (if c then u else v) ≡ f (if b then x else y)
-chosen f true true x y u v e h k = h
-chosen f false false x y u v e h k = k
-chosen f true false x y u v e h k = absurd (false≢true e)
-chosen f false true x y u v e h k = absurd (false≢true (sym e))
+pub choice_over : {A B : Type 0} (f : A → B) (b c : Bool) (x y : A) (u v : B) → c ≡ b → u ≡ f x → v ≡ f y → (if c then u else v) ≡ f (if b then x else y)
+choice_over f true true x y u v e h k = h
+choice_over f false false x y u v e h k = k
+choice_over f true false x y u v e h k = absurd (false≢true e)
+choice_over f false true x y u v e h k = absurd (false≢true (sym e))
 
 -- ---- acts
 

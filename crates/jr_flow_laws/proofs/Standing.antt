@@ -1,5 +1,5 @@
 -- Which rows stand in a body, and where those below a row stand in the copy.
-use Rattle.std.proofs.Common.{◌≡◌, ◌⊎◌, refl, sym, ◌∙◌, ap, ap₂, subst, ⊎_elim, arith, ℕ, zero, suc, ◌+◌, ◌-◌, ◌<◌, ◌≤◌, Bool, true, false, ◌||◌, cond, if◌then◌else◌, List, [], ◌∷◌, map, length, filter, nat_lt, Decides}
+use Rattle.std.proofs.Common.{◌≡◌, refl, sym, ◌∙◌, ap, ap₂, subst, ⊎_elim, arith, ℕ, zero, suc, ◌+◌, ◌-◌, ◌<◌, ◌≤◌, Bool, true, false, ◌||◌, cond, if◌then◌else◌, List, [], ◌∷◌, map, length, filter, nat_lt, Decides}
 use Rattle.std.specs.List.{AllByRecursion, list_any}
 use Rattle.std.proofs.lemmas.Bool.{false≢true}
 use Rattle.std.proofs.lemmas.Bool.Decides.{Decides-ltb}
@@ -7,7 +7,7 @@ use Rattle.jr_tree.specs.Rows.{Rows, label, parent, end}
 use Rattle.jr_flow_defs.specs.Meaning.{Meaning}
 use Rattle.jr_flow_defs.specs.Acts.{siblings, children, second, third, last_or, last}
 use Rattle.jr_flow_laws.specs.Shifted.{IsIn, declares_code, least_parts, IsWholeBody, AreShiftedRows}
-use Rattle.jr_flow_laws.proofs.Moving.{same_less}
+use Rattle.jr_flow_laws.proofs.Moving.{same_less, at_or_below}
 
 -- ---- how many siblings there are
 
@@ -74,18 +74,14 @@ module _ (p : Rows) (m : Meaning) (body : ℕ) (whole : IsWholeBody p m body) wh
 
   -- it ends where the body does, or before
   pub ends_in : (n : ℕ) → In n → end p n ≤ end p body
-  ends_in n i = ⊎_elim (λ less. whole.tree.apart body n less i.to) (λ e. subst (λ k. end p k ≤ end p body) e (omega arith)) (which i.from) where
-    which : body ≤ n → (body < n) ⊎ (body ≡ n)
-    which h = grind (arith, h)
+  ends_in n i = ⊎_elim (λ less. whole.tree.apart body n less i.to) (λ e. subst (λ k. end p k ≤ end p body) e (omega arith)) (at_or_below body n i.from)
 
   pub below_in : (n k : ℕ) → In n → n ≤ k → k < end p n → In k
   below_in n k i low high = let e = ends_in n i in let f = i.from in record { from = omega (arith, f, low); to = omega (arith, e, high) }
 
   -- what is no declaration with code stands below that of the body
   pub stands_below : (n : ℕ) → In n → declares_code (label p n) ≡ false → body < n
-  stands_below n i none = ⊎_elim (λ less. less) (λ e. absurd (false≢true (sym none ∙ subst (λ k. declares_code (label p k) ≡ true) e whole.declares))) (which i.from) where
-    which : body ≤ n → (body < n) ⊎ (body ≡ n)
-    which h = grind (arith, h)
+  stands_below n i none = ⊎_elim (λ less. less) (λ e. absurd (false≢true (sym none ∙ subst (λ k. declares_code (label p k) ≡ true) e whole.declares))) (at_or_below body n i.from)
 
   pub few_rows : (n : ℕ) → In n → n < length p
   few_rows n i = let l = whole.tree.last body whole.few in let t = i.to in omega (arith, l, t)
@@ -122,9 +118,9 @@ module _ (p : Rows) (m : Meaning) (body : ℕ) (whole : IsWholeBody p m body) wh
   siblings_in zero k stop low high = tt
   siblings_in (suc room) k stop low high = by_test (nat_lt k stop) (Decides-ltb k stop)
       (λ less. let up = whole.tree.nested k in siblings_in room (end p k) stop (omega (arith, up, low)) high) where
-    by_test : (b : Bool) → Decides b (k < stop) → (k < stop → AllByRecursion In (siblings p room (end p k) stop)) → AllByRecursion In (if b then k ∷ siblings p room (end p k) stop else [])
-    by_test true d rest = let less = d.0 refl in (record { from = low; to = omega (arith, less, high) }, rest less)
-    by_test false d rest = tt
+        by_test : (b : Bool) → Decides b (k < stop) → (k < stop → AllByRecursion In (siblings p room (end p k) stop)) → AllByRecursion In (if b then k ∷ siblings p room (end p k) stop else [])
+        by_test true d rest = let less = d.0 refl in (record { from = low; to = omega (arith, less, high) }, rest less)
+        by_test false d rest = tt
 
   pub children_in : (n : ℕ) → In n → AllByRecursion In (children p n)
   children_in n i = let f = i.from in siblings_in (end p n - n) (n + 1) (end p n) (omega (arith, f)) (ends_in n i)
