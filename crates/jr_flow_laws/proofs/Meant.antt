@@ -1,5 +1,5 @@
 -- What a flow reads of names, types and constants is in the copy as it was.
-use Rattle.std.proofs.Common.{◌≡◌, refl, sym, ◌∙◌, ap, ap₂, subst, arith, ℕ, zero, suc, ◌+◌, ◌<◌, ◌≤◌, Bool, true, false, not, ◌&&◌, ◌||◌, if◌then◌else◌, length, Option, Some, None, option_map, nat_eq}
+use Rattle.std.proofs.Common.{◌≡◌, ◌⊎◌, refl, sym, ◌∙◌, ap, ap₂, subst, inl, inr, ⊎_elim, arith, ℕ, zero, suc, ◌+◌, ◌<◌, ◌≤◌, Bool, true, false, not, ◌&&◌, ◌||◌, if◌then◌else◌, length, Option, Some, None, option_map, nat_eq, nat_le, nat_lt}
 use Rattle.std.proofs.lemmas.Bool.{false≢true}
 use Rattle.std.proofs.lemmas.Option.{none-some, same_Some}
 use Rattle.std.proofs.lemmas.Bool.Decides.{Decides-ltb}
@@ -7,6 +7,7 @@ use Rattle.jr_base.specs.declared.kind.Symbol.{Symbol}
 use Rattle.jr_tree.specs.declared.label.Label.{Label}
 use Rattle.jr_tree.specs.declared.label.Label.TheVariants as is
 use Rattle.jr_tree.specs.Rows.{Rows, label, parent, end, role_at}
+use Rattle.jr_tree.specs.Labels.{role_of}
 use Rattle.jr_defs.specs.declared.referent.Element.{Element}
 use Rattle.jr_defs.specs.declared.referent.Element.TheVariants as element
 use Rattle.jr_defs.specs.declared.referent.RowType.{RowType}
@@ -15,7 +16,7 @@ use Rattle.jr_defs.specs.declared.referent.Referent.TheVariants.{Declared}
 use Rattle.jr_defs.specs.Correspondence.{moved_element, moved_type}
 use Rattle.jr_plain.specs.Supertypes.{is_reference, is_subtype}
 use Rattle.jr_plain.specs.Typing.{is_string_type, is_plus}
-use Rattle.jr_plain.proofs.Tests.{both}
+use Rattle.jr_plain.proofs.Tests.{both, decide}
 use Rattle.jr_plain.proofs.Enclosed.{most}
 use Rattle.jr_flow_defs.specs.Meaning.{Meaning, declared, is_local_role, is_field_role, local_among, local_at, is_read, reads_field, is_plain_assignment, is_only_written, is_paren, unwrapped, operand, divides, adds, is_text, makes, is_shown, shows_left, is_checked_cast, narrows}
 use Rattle.jr_flow_laws.specs.Shifted.{IsIn, least_parts, IsWholeBody, moved_row, IsMovedReferent, AreShiftedRows}
@@ -44,6 +45,22 @@ module _ (p q : Rows) (m w : Meaning) (body s : ℕ) (outside : ℕ → ℕ) (wh
   pub moved_inside : (d : ℕ) → In d → move d ≡ d + s
   moved_inside d i = ap (λ t. if t then d + s else outside d) ((both (most body d) (Decides-ltb d (end p body))).1 (i.from, i.to))
 
+  moved_outside : (d : ℕ) → (In d → ⊥) → move d ≡ outside d
+  moved_outside d none = ap (λ t. if t then d + s else outside d) (false_from (nat_le body d && nat_lt d (end p body)) (λ h. none (in_from h))) where
+    in_from : (nat_le body d && nat_lt d (end p body)) ≡ true → In d
+    in_from h = let parts = (both (most body d) (Decides-ltb d (end p body))).0 h in record { from = parts.0; to = parts.1 }
+
+    false_from : (b : Bool) → (b ≡ true → ⊥) → b ≡ false
+    false_from true h = absurd (h refl)
+    false_from false h = refl
+
+  in_or_not : (d : ℕ) → In d ⊎ (In d → ⊥)
+  in_or_not d = ⊎_elim (λ h. inl (record { from = h.0; to = h.1 })) (λ h. inr (λ i. h (i.from, i.to))) (decide (both (most body d) (Decides-ltb d (end p body))))
+
+  -- a declaration has the role that it had
+  role_over : (n d : ℕ) (level : Option ℕ) → In n → m.targets n ≡ Declared d level → role_at q (move d) ≡ role_at p d
+  role_over n d level i e = ⊎_elim (λ j. ap (role_at q) (moved_inside d j) ∙ ap role_of (rows.labels d j)) (λ none. ap (role_at q) (moved_outside d none) ∙ rows.roles n d level i e none) (in_or_not d)
+
   -- ---- names
 
   local_told : (t : Bool) (d : ℕ) → ((e : ℕ) → (if t then Some d else None) ≡ Some e → In e) → (if t then Some (move d) else None) ≡ option_map (λ k. k + s) (if t then Some d else None)
@@ -60,7 +77,7 @@ module _ (p q : Rows) (m w : Meaning) (body s : ℕ) (outside : ℕ → ℕ) (wh
       ap (λ r. if is_local_role r then Some (move d) else None) (roles d level refl) ∙ local_told (is_local_role (role_at p d)) d own
 
   pub local_at_over : (n : ℕ) → In n → local_at q w (n + s) ≡ option_map (λ k. k + s) (local_at p m n)
-  local_at_over n i = local_over (m.targets n) (w.targets (n + s)) (rows.referents n i) (λ d level e. rows.roles n d level i e) (λ d e. whole.locals n d i e)
+  local_at_over n i = local_over (m.targets n) (w.targets (n + s)) (rows.referents n i) (λ d level e. role_over n d level i e) (λ d e. whole.locals n d i e)
 
   read_over : (n : ℕ) → In n → (a b : Referent) → IsMovedReferent move a b → ((d : ℕ) (level : Option ℕ) → a ≡ Declared d level → role_at q (move d) ≡ role_at p d)
       → is_read q w (n + s) b ≡ is_read p m n a
@@ -71,7 +88,7 @@ module _ (p q : Rows) (m w : Meaning) (body s : ℕ) (outside : ℕ → ℕ) (wh
   read_over n i _ _ (IsMovedReferent.declared {d} {level} {over}) roles = ap₂ (λ r c. is_field_role r && not c) (roles d level refl) (rows.constants n i)
 
   pub reads_over : (n : ℕ) → In n → reads_field q w (n + s) ≡ reads_field p m n
-  reads_over n i = read_over n i (m.targets n) (w.targets (n + s)) (rows.referents n i) (λ d level e. rows.roles n d level i e)
+  reads_over n i = read_over n i (m.targets n) (w.targets (n + s)) (rows.referents n i) (λ d level e. role_over n d level i e)
 
   -- what is declared in the body
   pub declared_over : (a b : Referent) (d : ℕ) → IsMovedReferent move a b → declared a ≡ Some d → In d → declared b ≡ Some (d + s)

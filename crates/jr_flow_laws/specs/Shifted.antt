@@ -109,7 +109,7 @@ pub record AreShiftedRows (p q : Rows) (m w : Meaning) (body shift : ℕ) (outsi
   pub ends : (n : ℕ) → IsIn p body n → end q (n + shift) ≡ end p n + shift
   pub parents : (n : ℕ) → IsIn p body n → body < n → parent q (n + shift) ≡ parent p n + shift
   pub referents : (n : ℕ) → IsIn p body n → IsMovedReferent (moved_row p body shift outside) (m.targets n) (w.targets (n + shift))
-  pub roles : (n d : ℕ) (level : Option ℕ) → IsIn p body n → m.targets n ≡ Declared d level → role_at q (moved_row p body shift outside d) ≡ role_at p d
+  pub roles : (n d : ℕ) (level : Option ℕ) → IsIn p body n → m.targets n ≡ Declared d level → (IsIn p body d → ⊥) → role_at q (outside d) ≡ role_at p d
   pub constants : (n : ℕ) → IsIn p body n → is_constant w (n + shift) ≡ is_constant m n
   pub types : (n : ℕ) → IsIn p body n → w.types (n + shift) ≡ option_map (moved_type (moved_row p body shift outside)) (m.types n)
   pub strings : (n : ℕ) (a : RowType) → IsIn p body n → m.types n ≡ Some a → is_string_type q (moved_type (moved_row p body shift outside) a) ≡ is_string_type p a

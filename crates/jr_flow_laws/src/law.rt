@@ -4,9 +4,12 @@ ghost use Rattle.jr_tree.specs.Rows.{Rows, parent, end};
 ghost use Rattle.jr_tree.specs.Tree.{IsTree};
 ghost use Rattle.jr_flow_defs.specs.Meaning.{Meaning};
 ghost use Rattle.jr_flow_defs.specs.Edges.{body_flow, Naming, ControlEdge, DefUse};
+ghost use Rattle.jr_flow_defs.specs.Worked.{HasEdges};
 ghost use Rattle.jr_flow_defs.specs.Copied.{IsCopied, HasOriginal};
 ghost use Rattle.jr_flow_defs.specs.Kept.{Same, Origin, KeepsControl, KeepsDefinitions, KeepsBody, Never, NoHanding};
 ghost use Rattle.jr_flow_laws.specs.Shifted.{moved_state, IsIn, IsWholeBody, AreShiftedRows, AreOrigins};
+ghost use Rattle.jr_flow_laws.specs.Nested as nested;
+ghost use Rattle.jr_flow_laws.specs.Nested.{labels};
 
 /// A body whose rows stand in another program so many rows on has a flow there that is a copy, place by place.
 pub fn copied_bodies_are_copies()
@@ -39,4 +42,12 @@ pub fn copied_bodies_keep_definitions()
 pub fn parents_follow_from_ends()
     ensures { (p q : Rows) (body shift : ℕ) → IsTree p → IsTree q → body < length p → end p body + shift ≤ length q → ((n : ℕ) → IsIn p body n → end q (n + shift) ≡ end p n + shift)
         → (n : ℕ) → IsIn p body n → body < n → parent q (n + shift) ≡ parent p n + shift }
+{}
+
+/// Labels and referents alone do not tell the edges: of two bodies with the same ones in the same order, one has a call behind its loop, and the other has it inside.
+pub fn labels_do_not_tell_edges()
+    ensures labels { labels nested.behind_the_loop.rows ≡ labels nested.in_the_loop.rows }
+    ensures referents { nested.behind_the_loop.targets ≡ nested.in_the_loop.targets }
+    ensures behind { HasEdges nested.behind_the_loop }
+    ensures inside { HasEdges nested.in_the_loop }
 {}

@@ -5,5 +5,5 @@ mod law;
 
 pub use law::{
     copied_bodies_are_copies, copied_bodies_keep_control, copied_bodies_keep_definitions,
-    parents_follow_from_ends,
+    labels_do_not_tell_edges, parents_follow_from_ends,
 };
