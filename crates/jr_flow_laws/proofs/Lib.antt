@@ -6,3 +6,4 @@ pub mod Acting
 pub mod Leaving
 pub mod Keeping
 pub mod Parents
+pub mod Staying

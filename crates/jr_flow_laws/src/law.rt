@@ -51,3 +51,8 @@ pub fn labels_do_not_tell_edges()
     ensures behind { HasEdges nested.behind_the_loop }
     ensures inside { HasEdges nested.in_the_loop }
 {}
+
+/// A body by itself stands in its own program as it stands.
+pub fn bodies_stand_where_they_are()
+    ensures { (p : Rows) (m : Meaning) (body : ℕ) → IsWholeBody p m body → AreShiftedRows p p m m body 0 (λ n. n) }
+{}
