@@ -265,6 +265,9 @@ module _ (p : Rows) (t : Table) (given : Option (List RowType)) (n : ℕ) where
   pub old_by_names : (type_of : Types) → candidate.is_by_names p t n ≡ true → kept_by_names p t given n ≡ candidate.old p t type_of given n
   old_by_names type_of e = sym (ap (λ b. cond b (kept_by_names p t given n) (candidate.as_it_stands p t type_of given n ∷ [])) e)
 
+  pub old_standing : (type_of : Types) → candidate.is_by_names p t n ≡ false → candidate.as_it_stands p t type_of given n ∷ [] ≡ candidate.old p t type_of given n
+  old_standing type_of e = sym (ap (λ b. cond b (kept_by_names p t given n) (candidate.as_it_stands p t type_of given n ∷ [])) e)
+
   pub others_gone : (first : ℕ) → nat_lt n first ≡ true → [] ≡ others_from p t given n first
   others_gone first e = sym (ap (λ b. cond b [] (candidate.others p t given n)) e)
 

@@ -9,6 +9,7 @@ ghost use Rattle.jr_spell.specs.Forming as forming;
 ghost use Rattle.jr_spell.specs.Objects as object;
 ghost use Rattle.jr_spell.specs.Shaping as shaping;
 ghost use Rattle.jr_spell.specs.Spellers as tell;
+ghost use Rattle.jr_spell.specs.Spelling as spelled;
 
 use crate::added::Added;
 use crate::fitting::{Fit, Looked};
@@ -219,7 +220,7 @@ impl<'a> Speller<'a> {
         reference: &Reference,
         arguments: &[RowType],
     ) -> Result<Option<Fit>, OutOfMemory>
-        ensures { (given : Option (List Ty)) → tell.IsWholeSpeller self.now → tell.IsSought self.now reference.now → forming.is_named (tell.rows_of self.now) (tell.table_of self.now) reference.now.row ≡ true → IfOk result (λ o. shaping.IsFirstOf self.now reference.now.row (candidate.candidates (tell.rows_of self.now) (tell.table_of self.now) (tell.types_of self.now) given reference.now.row self.now.written) o) }
+        ensures { (given : Option (List Ty)) → tell.IsWholeSpeller self.now → tell.IsSought self.now reference.now → spelled.IsExactAt (tell.rows_of self.now) (tell.table_of self.now) (tell.types_of self.now) reference.now.row → IfOk result (λ o. shaping.IsFirstOf self.now reference.now.row (candidate.candidates (tell.rows_of self.now) (tell.table_of self.now) (tell.types_of self.now) given reference.now.row self.now.written) o) }
     {
         let kept = self.kept(alloc, reference, arguments)?;
         match kept {
