@@ -18,6 +18,7 @@ use Rattle.jr_shapes.specs.declared.spelling.Shape.TheVariants as shape
 use Rattle.jr_shapes.specs.Parts.{end_of, is_qualifier, before_dot, parts_from, parts_by, parts, receiver_of}
 use Rattle.jr_spelling_rules.specs.Candidates as candidate
 use Rattle.jr_spell.specs.declared.reference.Dot.{Dot}
+use Rattle.jr_spell.specs.declared.reference.Form.{Form}
 use Rattle.jr_spell.specs.declared.reference.Form.TheVariants as form
 use Rattle.jr_spell.specs.Forming.{has_name_before, has_parts, is_names, is_static_by, member_form, role_form, name_form, form_by, form_at, by_form}
 
@@ -134,3 +135,28 @@ module _ (p : Rows) (t : Table) (given : Option (List RowType)) (n : ℕ) where
 
   pub bare_there : has_parts p t n ≡ true → candidate.behind_names p t given n shape.Bare [] ≡ candidate.bare p t given n
   bare_there e = sym (ap bare_by (false_by (candidate.is_empty (parts p t n)) (sym (has_parts_is p t n) ∙ e)))
+
+-- ---- ways that no call has
+
+abbrev pub is_uncalled : Form → Bool
+is_uncalled form.OfType = true
+is_uncalled form.Import = true
+is_uncalled form.Super = true
+is_uncalled _ = false
+
+module _ (p : Rows) (t : Table) (n : ℕ) where
+  member_called : (value static : Bool) → is_uncalled (cond value form.Behind (cond static form.Static form.Instance)) ≡ false
+  member_called true static = refl
+  member_called false true = refl
+  member_called false false = refl
+
+  method_called : is_uncalled (member_form p t n) ≡ false
+  method_called = member_called (is_some (receiver_of p t n)) (is_static_by p (candidate.target (t n)))
+
+  pub uncalled_form : (target : Option ℕ) (s : Sought) (f : Form) → f ≡ form_by p t n target s → is_uncalled f ≡ true → candidate.is_call s ≡ false
+  uncalled_form target sought.Method f e is = absurd (false≢true (sym (ap is_uncalled e ∙ method_called) ∙ is))
+  uncalled_form target sought.MethodOf f e is = absurd (false≢true (sym (ap is_uncalled e ∙ method_called) ∙ is))
+  uncalled_form target sought.SuperMethod f e is = absurd (false≢true (sym (ap is_uncalled e) ∙ is))
+  uncalled_form target sought.Creation f e is = absurd (false≢true (sym (ap is_uncalled e) ∙ is))
+  uncalled_form target (sought.ConstructorCall w) f e is = absurd (false≢true (sym (ap is_uncalled e) ∙ is))
+  uncalled_form target _ f e is = refl

@@ -11,3 +11,4 @@ pub mod Spelled
 pub mod ByObject
 pub mod BySuper
 pub mod AsItStands
+pub mod Called

@@ -157,7 +157,7 @@ impl<'a> Speller<'a> {
         arguments: &[RowType],
         before: Before,
     ) -> Result<Referent, OutOfMemory>
-        ensures { (b : naming.Before) (given : Option (List Ty)) (shape : Written) (trace : List Found) → tell.IsWholeSpeller self.now → tell.IsSought self.now reference.now → candidate.is_call reference.now.sought ≡ false → standing.StandsFor self.now before b → IfOk result (λ a. a ≡ fitting.found (tell.rows_of self.now) (tell.table_of self.now) reference.now.row (candidate.behind (tell.rows_of self.now) (tell.table_of self.now) given reference.now.row shape trace b)) }
+        ensures { (b : naming.Before) (given : Option (List Ty)) (shape : Written) (trace : List Found) → tell.IsWholeSpeller self.now → tell.IsSought self.now reference.now → shaping.IsGiven reference.now given arguments.now → standing.StandsFor self.now before b → IfOk result (λ a. a ≡ fitting.found (tell.rows_of self.now) (tell.table_of self.now) reference.now.row (candidate.behind (tell.rows_of self.now) (tell.table_of self.now) given reference.now.row shape trace b)) }
     {
         if reference.is_call() {
             self.named_method(alloc, reference, arguments, before)
@@ -180,7 +180,7 @@ impl<'a> Speller<'a> {
         arguments: &[RowType],
         names: &[u32],
     ) -> Result<Option<Looked>, OutOfMemory>
-        ensures { (given : Option (List Ty)) (shape : Written) → tell.IsWholeSpeller self.now → tell.IsSought self.now reference.now → candidate.is_call reference.now.sought ≡ false → packaging.AreNumbers (tell.rows_of self.now) names.now → IfOk result (λ o. shaping.AreLooked self.now reference.now.row shape o (candidate.behind_names (tell.rows_of self.now) (tell.table_of self.now) given reference.now.row shape (standing.texts_of (tell.rows_of self.now) names.now))) }
+        ensures { (given : Option (List Ty)) (shape : Written) → tell.IsWholeSpeller self.now → tell.IsSought self.now reference.now → shaping.IsGiven reference.now given arguments.now → packaging.AreNumbers (tell.rows_of self.now) names.now → IfOk result (λ o. shaping.AreLooked self.now reference.now.row shape o (candidate.behind_names (tell.rows_of self.now) (tell.table_of self.now) given reference.now.row shape (standing.texts_of (tell.rows_of self.now) names.now))) }
     {
         let led = self.qualifiers(alloc, reference.row, reference.kind_before(), names)?;
         match led {
@@ -234,11 +234,7 @@ impl<'a> Speller<'a> {
     }
 
     // What the old shape of what is no call finds there.
-    fn look_as_it_stands(
-        &self,
-        alloc: Global,
-        reference: &Reference,
-    ) -> Result<Looked, OutOfMemory>
+    fn look_as_it_stands(&self, alloc: Global, reference: &Reference) -> Result<Looked, OutOfMemory>
         ensures { (given : Option (List Ty)) → tell.IsWholeSpeller self.now → tell.IsSought self.now reference.now → candidate.is_call reference.now.sought ≡ false → spelled.HasTypes (tell.rows_of self.now) (tell.table_of self.now) (tell.types_of self.now) → IfOk result (λ looked. shaping.IsLookedAs self.now reference.now.row looked (shaping.as_it_stands self.now given reference.now.row)) }
     {
         let found = self.find_as_it_stands(alloc, reference)?;
@@ -322,7 +318,7 @@ impl<'a> Speller<'a> {
         reference: &Reference,
         arguments: &[RowType],
     ) -> Result<Option<Looked>, OutOfMemory>
-        ensures { (given : Option (List Ty)) → tell.IsWholeSpeller self.now → tell.IsSought self.now reference.now → candidate.is_call reference.now.sought ≡ false → IfOk result (λ o. shaping.AreLooked self.now reference.now.row shapes.Kept o (shaping.kept_by_names (tell.rows_of self.now) (tell.table_of self.now) given reference.now.row)) }
+        ensures { (given : Option (List Ty)) → tell.IsWholeSpeller self.now → tell.IsSought self.now reference.now → shaping.IsGiven reference.now given arguments.now → IfOk result (λ o. shaping.AreLooked self.now reference.now.row shapes.Kept o (shaping.kept_by_names (tell.rows_of self.now) (tell.table_of self.now) given reference.now.row)) }
     {
         let kept = self.kept_names(alloc, reference)?;
         match kept {
@@ -338,7 +334,7 @@ impl<'a> Speller<'a> {
         reference: &Reference,
         arguments: &[RowType],
     ) -> Result<Option<Looked>, OutOfMemory>
-        ensures { (given : Option (List Ty)) → tell.IsWholeSpeller self.now → tell.IsSought self.now reference.now → candidate.is_call reference.now.sought ≡ false → (candidate.is_by_names (tell.rows_of self.now) (tell.table_of self.now) reference.now.row ≡ false → spelled.HasTypes (tell.rows_of self.now) (tell.table_of self.now) (tell.types_of self.now)) → IfOk result (λ o. shaping.AreLooked self.now reference.now.row shapes.Kept o (candidate.old (tell.rows_of self.now) (tell.table_of self.now) (tell.types_of self.now) given reference.now.row)) }
+        ensures { (given : Option (List Ty)) → tell.IsWholeSpeller self.now → tell.IsSought self.now reference.now → shaping.IsGiven reference.now given arguments.now → (candidate.is_by_names (tell.rows_of self.now) (tell.table_of self.now) reference.now.row ≡ false → spelled.IsExactAt (tell.rows_of self.now) (tell.table_of self.now) (tell.types_of self.now) reference.now.row) → IfOk result (λ o. shaping.AreLooked self.now reference.now.row shapes.Kept o (candidate.old (tell.rows_of self.now) (tell.table_of self.now) (tell.types_of self.now) given reference.now.row)) }
     {
         if reference.is_by_names() {
             return self.look_kept_names(alloc, reference, arguments);
@@ -354,7 +350,7 @@ impl<'a> Speller<'a> {
         reference: &Reference,
         arguments: &[RowType],
     ) -> Result<Option<Fit>, OutOfMemory>
-        ensures { (given : Option (List Ty)) → tell.IsWholeSpeller self.now → tell.IsSought self.now reference.now → candidate.is_call reference.now.sought ≡ false → (candidate.is_by_names (tell.rows_of self.now) (tell.table_of self.now) reference.now.row ≡ false → spelled.HasTypes (tell.rows_of self.now) (tell.table_of self.now) (tell.types_of self.now)) → IfOk result (λ o. shaping.IsFirstOf self.now reference.now.row (candidate.old (tell.rows_of self.now) (tell.table_of self.now) (tell.types_of self.now) given reference.now.row) o) }
+        ensures { (given : Option (List Ty)) → tell.IsWholeSpeller self.now → tell.IsSought self.now reference.now → shaping.IsGiven reference.now given arguments.now → (candidate.is_by_names (tell.rows_of self.now) (tell.table_of self.now) reference.now.row ≡ false → spelled.IsExactAt (tell.rows_of self.now) (tell.table_of self.now) (tell.types_of self.now) reference.now.row) → IfOk result (λ o. shaping.IsFirstOf self.now reference.now.row (candidate.old (tell.rows_of self.now) (tell.table_of self.now) (tell.types_of self.now) given reference.now.row) o) }
     {
         let looked = self.look_kept(alloc, reference, arguments)?;
         Ok(self.fit_found(reference, Shape::Kept, looked))

@@ -53,7 +53,7 @@ impl<'a> Speller<'a> {
         arguments: &[RowType],
     ) -> Result<Option<Spelling>, OutOfMemory>
         ensures row { IfOk result (λ o. IfSome o (λ a. a.row ≡ reference.now.row)) }
-        ensures first { (given : Option (List Ty)) → tell.IsWholeSpeller self.now → tell.IsSought self.now reference.now → spelled.IsExactAt (tell.rows_of self.now) (tell.table_of self.now) (tell.types_of self.now) reference.now.row → IfOk result (λ o. spelled.IsWritten reference.now.row o (shaping.plainly self.now reference.now.row given)) }
+        ensures first { (given : Option (List Ty)) → tell.IsWholeSpeller self.now → tell.IsSought self.now reference.now → shaping.IsGiven reference.now given arguments.now → (candidate.is_by_names (tell.rows_of self.now) (tell.table_of self.now) reference.now.row ≡ false → spelled.IsExactAt (tell.rows_of self.now) (tell.table_of self.now) (tell.types_of self.now) reference.now.row) → IfOk result (λ o. spelled.IsWritten reference.now.row o (shaping.plainly self.now reference.now.row given)) }
     {
         let fit = self.first_fit(alloc, reference, arguments)?;
         Ok(spelling_of(alloc, reference.row, fit))
