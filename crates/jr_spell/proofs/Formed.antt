@@ -1,7 +1,7 @@
 -- What code tells of a reference is what the definitions say: whether packages or types stand before its dot, and which other ways there are.
 use Rattle.std.proofs.Common.{◌≡◌, refl, sym, ◌∙◌, ap, ap₂, arith, ℕ, zero, suc, ◌+◌, ◌-◌, ◌<◌, Bool, true, false, not, ◌&&◌, ◌||◌, cond, List, [], ◌∷◌, Option, Some, None, nat_lt}
 use Rattle.std.specs.Option.{is_some}
-use Rattle.std.proofs.lemmas.Bool.{and_parts, false≢true}
+use Rattle.std.proofs.lemmas.Bool.{false≢true}
 use Rattle.std.proofs.lemmas.Bool.Decides.{Decides-ltb}
 use Rattle.jr_tree.specs.declared.label.Label.{Label}
 use Rattle.jr_tree.specs.declared.label.Label.TheVariants as is
@@ -18,8 +18,9 @@ use Rattle.jr_shapes.specs.declared.spelling.Shape.TheVariants as shape
 use Rattle.jr_shapes.specs.Parts.{end_of, is_qualifier, before_dot, parts_from, parts_by, parts, receiver_of}
 use Rattle.jr_spelling_rules.specs.Candidates as candidate
 use Rattle.jr_spell.specs.declared.reference.Dot.{Dot}
+use Rattle.jr_spell.specs.declared.reference.Form.{Form}
 use Rattle.jr_spell.specs.declared.reference.Form.TheVariants as form
-use Rattle.jr_spell.specs.Forming.{has_name_before, has_parts, is_names, is_static_by, member_form, role_form, name_form, form_by, form_at, by_form, is_named}
+use Rattle.jr_spell.specs.Forming.{has_name_before, has_parts, is_names, is_static_by, member_form, role_form, name_form, form_by, form_at, by_form}
 
 false_by : (b : Bool) → not b ≡ true → b ≡ false
 false_by true e = absurd (false≢true e)
@@ -135,7 +136,27 @@ module _ (p : Rows) (t : Table) (given : Option (List RowType)) (n : ℕ) where
   pub bare_there : has_parts p t n ≡ true → candidate.behind_names p t given n shape.Bare [] ≡ candidate.bare p t given n
   bare_there e = sym (ap bare_by (false_by (candidate.is_empty (parts p t n)) (sym (has_parts_is p t n) ∙ e)))
 
--- ---- a name that is no call
+-- ---- ways that no call has
 
-pub named_parts : (p : Rows) (t : Table) (n : ℕ) → is_named p t n ≡ true → (candidate.is_call (sought_at p n) ≡ false) × (candidate.is_by_names p t n ≡ true)
-named_parts p t n e = let parts = and_parts (not (candidate.is_call (sought_at p n))) (candidate.is_by_names p t n) e in (false_by (candidate.is_call (sought_at p n)) parts.0, parts.1)
+abbrev pub is_uncalled : Form → Bool
+is_uncalled form.OfType = true
+is_uncalled form.Import = true
+is_uncalled form.Super = true
+is_uncalled _ = false
+
+module _ (p : Rows) (t : Table) (n : ℕ) where
+  member_called : (value static : Bool) → is_uncalled (cond value form.Behind (cond static form.Static form.Instance)) ≡ false
+  member_called true static = refl
+  member_called false true = refl
+  member_called false false = refl
+
+  method_called : is_uncalled (member_form p t n) ≡ false
+  method_called = member_called (is_some (receiver_of p t n)) (is_static_by p (candidate.target (t n)))
+
+  pub uncalled_form : (target : Option ℕ) (s : Sought) (f : Form) → f ≡ form_by p t n target s → is_uncalled f ≡ true → candidate.is_call s ≡ false
+  uncalled_form target sought.Method f e is = absurd (false≢true (sym (ap is_uncalled e ∙ method_called) ∙ is))
+  uncalled_form target sought.MethodOf f e is = absurd (false≢true (sym (ap is_uncalled e ∙ method_called) ∙ is))
+  uncalled_form target sought.SuperMethod f e is = absurd (false≢true (sym (ap is_uncalled e) ∙ is))
+  uncalled_form target sought.Creation f e is = absurd (false≢true (sym (ap is_uncalled e) ∙ is))
+  uncalled_form target (sought.ConstructorCall w) f e is = absurd (false≢true (sym (ap is_uncalled e) ∙ is))
+  uncalled_form target _ f e is = refl

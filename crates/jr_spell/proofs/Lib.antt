@@ -10,3 +10,5 @@ pub mod Tracing
 pub mod Spelled
 pub mod ByObject
 pub mod BySuper
+pub mod AsItStands
+pub mod Called

@@ -1,5 +1,6 @@
 -- What a shape finds is what its candidate finds, and the first that fits is the first of the candidates.
 use Rattle.std.proofs.Common.{◌≡◌, refl, sym, ◌∙◌, ap, ap₂, subst, arith, ℕ, zero, suc, ◌+◌, ◌-◌, ◌<◌, ◌≤◌, Bool, true, false, cond, List, [], ◌∷◌, ◌++◌, length, Option, Some, None, nat_lt}
+use Rattle.std.proofs.lemmas.Bool.{false≢true}
 use Rattle.std.proofs.lemmas.Option.{none-some, same_Some}
 use Rattle.jr_base.specs.declared.text.Text.{Text}
 use Rattle.jr_tree.specs.declared.label.NameKind.{NameKind}
@@ -18,6 +19,7 @@ use Rattle.jr_shapes.specs.Names.{has_own_identifier, named_by, suffix, target_o
 use Rattle.jr_plain.specs.Overloads.{Types}
 use Rattle.jr_with.specs.World.{world_of}
 use Rattle.jr_with.specs.With.{look_with}
+use Rattle.jr_lookup.specs.Outward.{IsNumberOf}
 use Rattle.jr_lookup.proofs.Looking.{named_first}
 use Rattle.jr_spelling_rules.specs.Candidates as candidate
 use Rattle.jr_spelling_rules.specs.Candidates.{Candidate}
@@ -31,8 +33,10 @@ use Rattle.jr_spell.specs.declared.speller.Speller.{Speller}
 use Rattle.jr_spell.specs.Packaging.{IsNumber}
 use Rattle.jr_spell.specs.Adding.{AreNumbersOf}
 use Rattle.jr_spell.specs.Standing.{texts_of}
-use Rattle.jr_spell.specs.Shaping.{IsLookedAs, AreLooked, way_of, fits_at, IsFitOf, IsFirstOf, kept_by_names, others_from}
-use Rattle.jr_spell.specs.Spellers.{rows_of, table_of, is_constant_variable, was_constant, HasTarget, number_by, fits_looked, fit_by}
+use Rattle.jr_spell.specs.Forming.{form_by}
+use Rattle.jr_spell.specs.Shaping.{IsGiven, IsLookedAs, AreLooked, way_of, fits_at, IsFitOf, IsFirstOf, kept_by_names, others_from}
+use Rattle.jr_spell.specs.Spellers.{rows_of, table_of, is_constant_variable, was_constant, HasTarget, IsSought, number_by, fits_looked, fit_by}
+use Rattle.jr_spell.proofs.Named.{number_is}
 use Rattle.jr_spell.proofs.Packed.{is_number}
 
 -- ---- the name that a reference gets
@@ -57,6 +61,18 @@ module _ (p : Rows) (n : ℕ) (lock : Referent) (there : n < length p) (target :
 
   pub number_found : (at r : ℕ) → at ≡ named_by p n lock → (at < length p → r ≡ name_row p at) → r ≡ number_by p n lock
   number_found at r e h = h (subst (λ k. k < length p) (sym e) named_within) ∙ ap (name_row p) e
+
+-- ---- what is known of a reference
+
+pub is_name_number : (s : Speller) (r : Reference) → IsSought s r → IsNumberOf (rows_of s) r.name (name (rows_of s) r.name)
+is_name_number s r sought = number_is (rows_of s) r.name (subst (IsNumber (rows_of s)) (sym sought.name_is) (is_number_by (rows_of s) r.row r.lock sought.there sought.target_there))
+
+pub form_of : (s : Speller) (r : Reference) → IsSought s r → r.form ≡ form_by (rows_of s) (table_of s) r.row (candidate.target (table_of s r.row)) r.sought
+form_of s r sought = sought.form_is ∙ ap (form_by (rows_of s) (table_of s) r.row (candidate.target (table_of s r.row))) (sym sought.at_row.sought_is)
+
+-- of what is no call no arguments are said
+pub given_of : (r : Reference) (given : Option (List RowType)) {all : List RowType} → candidate.is_call r.sought ≡ false → IsGiven r given all
+given_of r given uncalled called = absurd (false≢true (sym uncalled ∙ called))
 
 -- ---- behind packages and types
 
@@ -264,6 +280,9 @@ module _ (p : Rows) (t : Table) (given : Option (List RowType)) (n : ℕ) where
 
   pub old_by_names : (type_of : Types) → candidate.is_by_names p t n ≡ true → kept_by_names p t given n ≡ candidate.old p t type_of given n
   old_by_names type_of e = sym (ap (λ b. cond b (kept_by_names p t given n) (candidate.as_it_stands p t type_of given n ∷ [])) e)
+
+  pub old_standing : (type_of : Types) → candidate.is_by_names p t n ≡ false → candidate.as_it_stands p t type_of given n ∷ [] ≡ candidate.old p t type_of given n
+  old_standing type_of e = sym (ap (λ b. cond b (kept_by_names p t given n) (candidate.as_it_stands p t type_of given n ∷ [])) e)
 
   pub others_gone : (first : ℕ) → nat_lt n first ≡ true → [] ≡ others_from p t given n first
   others_gone first e = sym (ap (λ b. cond b [] (candidate.others p t given n)) e)

@@ -13,10 +13,9 @@ use Rattle.jr_spell.specs.declared.fitting.Fit.{Fit}
 use Rattle.jr_spell.specs.declared.speller.Speller.{Speller}
 use Rattle.jr_spell.specs.declared.fault.SpellFault.{SpellFault}
 use Rattle.jr_spell.specs.declared.fault.SpellFault.TheVariants as fault
-use Rattle.jr_spell.specs.Forming.{is_named}
 use Rattle.jr_spell.specs.Shaping.{IsFitOf, written_plain, plainly, spelling_at, IsSpelled, AreSpelled, HasNone}
 use Rattle.jr_spell.specs.Spellers.{rows_of, table_of, types_of, is_constant_variable, was_constant}
-use Rattle.jr_spell.specs.Spelling.{IsWritten, IsFaultAt}
+use Rattle.jr_spell.specs.Spelling.{IsWritten, IsFaultAt, IsExactAt}
 
 -- ---- of one reference
 
@@ -71,9 +70,12 @@ module _ (s : Speller) where
   pub no_memory : {f : SpellFault} → f ≡ fault.OutOfMemory → HasNone s f
   no_memory e = subst (HasNone s) (sym e) tt
 
-  pub one_spelled : (n : ℕ) (a : Spelling) {o : Option Spelling} → o ≡ Some a → a.row ≡ n → (is_named (rows_of s) (table_of s) n ≡ true → IsWritten n o (spelling_at s n)) → IsSpelled s a
-  one_spelled n a e row h = λ named. subst (λ k. IsWritten k (Some a) (spelling_at s k)) (sym row) (subst (λ q. IsWritten n q (spelling_at s n)) e (h (ap (is_named (rows_of s) (table_of s)) (sym row) ∙ named)))
+  abbrev Exact : ℕ → Type 0
+  Exact n = IsExactAt (rows_of s) (table_of s) (types_of s) n
 
-  pub none_refused : (n : ℕ) (f : SpellFault) → IsFaultAt n f → {o : Option Spelling} → o ≡ None → (is_named (rows_of s) (table_of s) n ≡ true → IsWritten n o (spelling_at s n)) → HasNone s f
-  none_refused n (fault.NoSpelling row found) at e h = λ named. ap (spelling_at s) at ∙ not_written (h (ap (is_named (rows_of s) (table_of s)) (sym at) ∙ named)) e
+  pub one_spelled : (n : ℕ) (a : Spelling) {o : Option Spelling} → o ≡ Some a → a.row ≡ n → (Exact n → IsWritten n o (spelling_at s n)) → IsSpelled s a
+  one_spelled n a e row h = λ exact. subst (λ k. IsWritten k (Some a) (spelling_at s k)) (sym row) (subst (λ q. IsWritten n q (spelling_at s n)) e (h (subst Exact row exact)))
+
+  pub none_refused : (n : ℕ) (f : SpellFault) → IsFaultAt n f → {o : Option Spelling} → o ≡ None → (Exact n → IsWritten n o (spelling_at s n)) → HasNone s f
+  none_refused n (fault.NoSpelling row found) at e h = λ exact. ap (spelling_at s) at ∙ not_written (h (subst Exact at exact)) e
   none_refused n fault.OutOfMemory at e h = tt

@@ -1,5 +1,5 @@
 -- What stands before the dot of a reference, and which ways to write it there are besides the old one, as code tells them apart.
-use Rattle.std.specs.Prelude.{ℕ, ◌+◌, ◌-◌, Bool, true, false, not, ◌&&◌, if◌then◌else◌, List, [], Option, Some, None, is_some, nat_lt}
+use Rattle.std.specs.Prelude.{ℕ, ◌+◌, ◌-◌, Bool, true, false, ◌&&◌, if◌then◌else◌, List, [], Option, Some, None, is_some, nat_lt}
 use Rattle.jr_tree.specs.declared.label.Label.{Label}
 use Rattle.jr_tree.specs.declared.label.Label.TheVariants as is
 use Rattle.jr_tree.specs.declared.label.ReceiverKind.{ReceiverKind}
@@ -70,10 +70,6 @@ form_by p t n target _ = form.Fixed
 
 abbrev pub form_at : Rows → Table → ℕ → Form
 form_at p t n = form_by p t n (candidate.target (t n)) (sought_at p n)
-
--- it is written by identifiers alone, and no call
-abbrev pub is_named : Rows → Table → ℕ → Bool
-is_named p t n = not (candidate.is_call (sought_at p n)) && candidate.is_by_names p t n
 
 module _ (p : Rows) (t : Table) (given : Option (List RowType)) (n : ℕ) where
   abbrev pub by_target : (ℕ → List candidate.Candidate) → List candidate.Candidate

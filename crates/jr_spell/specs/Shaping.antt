@@ -1,23 +1,33 @@
 -- What a shape of spelling finds is what the candidates of the definition find.
-use Rattle.std.specs.Prelude.{◌≡◌, ℕ, Bool, if◌then◌else◌, List, [], ◌∷◌, Option, Some, None, nat_lt, false, is_some, slice_index_or}
-use Rattle.jr_tree.specs.Rows.{Rows}
+use Rattle.std.specs.Prelude.{◌≡◌, ℕ, ◌+◌, Bool, if◌then◌else◌, List, [], ◌∷◌, Option, Some, None, nat_eq, nat_lt, true, false, is_some, slice_index_or}
+use Rattle.jr_base.specs.declared.text.Text.{Text}
+use Rattle.jr_tree.specs.Rows.{Rows, parent}
+use Rattle.jr_defs.specs.declared.referent.Element.{Element}
+use Rattle.jr_defs.specs.declared.referent.Element.TheVariants as element
 use Rattle.jr_defs.specs.declared.referent.Referent.{Referent}
 use Rattle.jr_defs.specs.declared.referent.RowType.{RowType}
 use Rattle.jr_defs.specs.Referents.{Table, entries}
+use Rattle.jr_defs.specs.Types.{class_type}
+use Rattle.jr_plain.specs.Overloads.{Types}
 use Rattle.jr_lookup.specs.Answers.{CanChoose}
 use Rattle.jr_lookup.specs.Locals.{AreLocalsPlaced}
 use Rattle.jr_lookup.specs.Sights.{IsSight}
 use Rattle.jr_view.specs.declared.View.{View}
+use Rattle.jr_with.specs.World.{world_of}
+use Rattle.jr_with.specs.With.{look_with}
 use Rattle.jr_shapes.specs.declared.spelling.Shape.{Shape}
 use Rattle.jr_shapes.specs.declared.spelling.Shape.TheVariants as shape
 use Rattle.jr_shapes.specs.declared.spelling.Spelling.{Spelling}
-use Rattle.jr_spelling_rules.specs.Candidates.{Candidate, level_of, kept_names, behind_names, others, candidates}
+use Rattle.jr_spelling_rules.specs.Candidates.{Candidate, level_of, kept_names, behind_names, others, candidates, as_it_stands as candidate_as_it_stands, is_call, method_behind}
+use Rattle.jr_spelling_rules.specs.Behind.{with_types}
+use Rattle.jr_spelling_rules.specs.Naming.{Before, left_behind}
 use Rattle.jr_spelling_rules.specs.Spelling.{Written, as_written, spelling}
 use Rattle.jr_spelling_rules.specs.Fitting.{fits, first_such, found, receiver_type, through}
 use Rattle.jr_spell.specs.declared.fitting.Fit.{Fit}
 use Rattle.jr_spell.specs.declared.fitting.Looked.{Looked}
 use Rattle.jr_spell.specs.declared.fitting.Way.{Way}
 use Rattle.jr_spell.specs.declared.fault.SpellFault.{SpellFault}
+use Rattle.jr_spell.specs.declared.reference.Reference.{Reference}
 use Rattle.jr_spell.specs.declared.speller.Speller.{Speller}
 use Rattle.jr_spell.specs.Spellers.{rows_of, table_of, types_of, is_constant_variable, was_constant}
 use Rattle.jr_spell.specs.Spelling as spelled
@@ -38,6 +48,36 @@ pub data AreLooked (s : Speller) (n : ℕ) (shape : Shape) : Option Looked → L
 -- the way of a name alone, or of `super` and a name
 abbrev pub way_of : Referent → Bool → Way
 way_of found form = record { receiver = None; level = level_of found; is_constant_form = form }
+
+-- of a call these are the types of the arguments
+abbrev pub IsGiven : Reference → Option (List RowType) → List RowType → Type 0
+IsGiven r given all = is_call r.sought ≡ true → given ≡ Some all
+
+-- what a method with this name and such arguments refers to behind a package or a type, or without one
+abbrev pub method_found : Rows → Table → ℕ → Before → List RowType → Text → Referent
+method_found p t n b all x = look_with p (world_of p t) (with_types (left_behind b) all) n x (method_behind b)
+
+-- the type of the expression behind the row, right below it, if there is one
+abbrev pub type_behind : Rows → Types → ℕ → Option RowType
+type_behind p type_of n = if nat_eq (parent p (n + 1)) n then type_of (n + 1) else None
+
+-- the type through which its members are reached, where this is Object (JLS 10.7)
+abbrev pub class_type_in : Element → Option RowType
+class_type_in (element.Class c) = Some (class_type c)
+class_type_in _ = None
+
+abbrev pub object_type : Option ℕ → Option RowType
+object_type object = elim object [ Some c ↦ Some (class_type c) | None ↦ None ]
+
+abbrev pub receiver_by : Option ℕ → RowType → Option RowType
+receiver_by object a = if nat_lt 0 a.dims then object_type object else class_type_in a.element
+
+-- the way of what stands behind such an expression, or behind none
+abbrev pub standing_way : Option RowType → Referent → Way
+standing_way receiver found = record { receiver = receiver; level = level_of found; is_constant_form = false }
+
+abbrev pub as_it_stands : Speller → Option (List RowType) → ℕ → Candidate
+as_it_stands s given n = candidate_as_it_stands (rows_of s) (table_of s) (types_of s) given n
 
 -- the old shape of a reference that is written by identifiers alone
 abbrev pub kept_by_names : Rows → Table → Option (List RowType) → ℕ → List Candidate

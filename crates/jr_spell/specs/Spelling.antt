@@ -1,14 +1,18 @@
--- What spellings are given to references that are written by names.
-use Rattle.std.specs.Prelude.{◌≡◌, ℕ, ◌-◌, ◌^◌, Bool, true, List, Option, Some, None, slice_index_or, ⊤}
+-- What spellings are given to references that are no calls.
+use Rattle.std.specs.Prelude.{◌≡◌, ℕ, ◌+◌, ◌-◌, ◌<◌, ◌^◌, Bool, false, List, length, Option, Some, None, slice_index_or, ⊤}
 use Rattle.std.specs.List.{AllByRecursion}
-use Rattle.jr_tree.specs.Rows.{Rows}
+use Rattle.jr_tree.specs.Rows.{Rows, sought_at}
+use Rattle.jr_defs.specs.Constants.{HasConstantForm}
 use Rattle.jr_defs.specs.Referents.{Table}
+use Rattle.jr_defs.specs.Typing.{TypeOf}
 use Rattle.jr_plain.specs.Overloads.{Types}
+use Rattle.jr_plain.specs.Search.{Finds}
+use Rattle.jr_lookup.specs.Behind.{RefersByNames}
 use Rattle.jr_shapes.specs.declared.spelling.Spelling.{Spelling}
+use Rattle.jr_spelling_rules.specs.Candidates.{is_by_names, is_call}
 use Rattle.jr_spelling_rules.specs.Spelling.{Written, spelling}
 use Rattle.jr_spell.specs.declared.fault.SpellFault.{SpellFault}
 use Rattle.jr_spell.specs.declared.fault.SpellFault.TheVariants as fault
-use Rattle.jr_spell.specs.Forming.{is_named}
 
 -- the same spelling, of the reference at the row
 pub data IsWritten (n : ℕ) : Option Spelling → Option Written → Type 0 where
@@ -24,15 +28,28 @@ IsFaultAt n _ = ⊤
 abbrev pub first_written : List ℕ → ℕ
 first_written starts = slice_index_or starts 2 (2 ^ 32 - 1)
 
+-- ---- of which references it is told
+
+-- the types of expressions are those of the rows
+pub record HasTypes (p : Rows) (t : Table) (type_of : Types) : Type 0 where
+  pub refers : RefersByNames p t
+  pub few : length p + 3 < 2 ^ 32
+  pub typed : (n : ℕ) → Finds (type_of n) (λ a. TypeOf p t (HasConstantForm p t) n a)
+
+-- no call, and where it is not written by identifiers alone the types of expressions are known
+pub record IsExactAt (p : Rows) (t : Table) (type_of : Types) (n : ℕ) : Type 0 where
+  pub uncalled : is_call (sought_at p n) ≡ false
+  pub typed : is_by_names p t n ≡ false → HasTypes p t type_of
+
 module _ (p : Rows) (t : Table) (type_of : Types) (was_constant : ℕ → Bool) (first : ℕ) (variable : ℕ → Bool) where
-  -- the spelling of a name is the first that fits
+  -- its spelling is the first that fits
   abbrev pub IsSpelled : Spelling → Type 0
-  IsSpelled a = is_named p t a.row ≡ true → IsWritten a.row (Some a) (spelling p t type_of was_constant first a.row variable)
+  IsSpelled a = IsExactAt p t type_of a.row → IsWritten a.row (Some a) (spelling p t type_of was_constant first a.row variable)
 
   abbrev pub AreSpelled : List Spelling → Type 0
   AreSpelled all = AllByRecursion (λ a. IsSpelled a) all
 
-  -- where the fault says that a name has no spelling, it has none
+  -- where the fault says that it has no spelling, it has none
   abbrev pub HasNone : SpellFault → Type 0
-  HasNone (fault.NoSpelling n found) = is_named p t n ≡ true → spelling p t type_of was_constant first n variable ≡ None
+  HasNone (fault.NoSpelling n found) = IsExactAt p t type_of n → spelling p t type_of was_constant first n variable ≡ None
   HasNone _ = ⊤

@@ -1,4 +1,16 @@
 // Arguments of calls, and what calls without names before them refer to.
+ghost use Rattle.std.specs.Prelude.{◌≡◌, Some, IfOk};
+ghost use Rattle.jr_tree.specs.Rows.{name as name_of};
+ghost use Rattle.jr_defs.specs.declared.referent.Referent.TheVariants as referring;
+ghost use Rattle.jr_defs.specs.declared.referent.Space.TheVariants as space;
+ghost use Rattle.jr_defs.specs.Members.{MemberNamed};
+ghost use Rattle.jr_defs.specs.Overloads.{Choice};
+ghost use Rattle.jr_defs.specs.Types.{class_type as type_of_class};
+ghost use Rattle.jr_lookup.specs.Answers as answers;
+ghost use Rattle.jr_spelling_rules.specs.Naming as naming;
+ghost use Rattle.jr_spell.specs.Shaping as shaping;
+ghost use Rattle.jr_spell.specs.Spellers as tell;
+ghost use Rattle.jr_spell.specs.Standing as standing;
 
 use crate::reference::Reference;
 use crate::resolving::Before;
@@ -91,17 +103,41 @@ impl<'a> Speller<'a> {
         reference: &Reference,
         arguments: &[RowType],
         before: Before,
-    ) -> Result<Referent, OutOfMemory> {
+    ) -> Result<Referent, OutOfMemory>
+        ensures { (b : naming.Before) → tell.IsWholeSpeller self.now → tell.IsSought self.now reference.now → standing.StandsFor self.now before b → IfOk result (λ a. a ≡ shaping.method_found (tell.rows_of self.now) (tell.table_of self.now) reference.now.row b arguments.now (name_of (tell.rows_of self.now) reference.now.name)) }
+    {
         match before {
-            Before::Nothing => {
-                self.sight()
-                    .method(alloc, reference.row, reference.name, arguments)
-            }
-            Before::OfType(class) => {
-                self.method_of(alloc, reference, arguments, Receiver { class, ty: None })
-            }
+            Before::Nothing => self.method_alone(alloc, reference, arguments),
+            Before::OfType(class) => self.method_of_type(alloc, reference, arguments, class),
             Before::Package(_) => Ok(Referent::Unbound),
         }
+    }
+
+    // What a method with nothing before it refers to.
+    fn method_alone(
+        &self,
+        alloc: Global,
+        reference: &Reference,
+        arguments: &[RowType],
+    ) -> Result<Referent, OutOfMemory>
+        ensures { tell.IsWholeSpeller self.now → tell.IsSought self.now reference.now → IfOk result (λ a. a ≡ shaping.method_found (tell.rows_of self.now) (tell.table_of self.now) reference.now.row naming.at_start arguments.now (name_of (tell.rows_of self.now) reference.now.name)) }
+    {
+        let view = self.view;
+        view.sight
+            .method(alloc, reference.row, reference.name, arguments)
+    }
+
+    // What a method behind the name of a type refers to.
+    fn method_of_type(
+        &self,
+        alloc: Global,
+        reference: &Reference,
+        arguments: &[RowType],
+        class: u32,
+    ) -> Result<Referent, OutOfMemory>
+        ensures { tell.IsWholeSpeller self.now → tell.IsSought self.now reference.now → IfOk result (λ a. a ≡ shaping.method_found (tell.rows_of self.now) (tell.table_of self.now) reference.now.row (naming.in_type class) arguments.now (name_of (tell.rows_of self.now) reference.now.name)) }
+    {
+        self.method_of(alloc, reference, arguments, Receiver { class, ty: None })
     }
 
     /// What a method of a receiver refers to.
@@ -111,8 +147,11 @@ impl<'a> Speller<'a> {
         reference: &Reference,
         arguments: &[RowType],
         receiver: Receiver,
-    ) -> Result<Referent, OutOfMemory> {
-        self.sight()
+    ) -> Result<Referent, OutOfMemory>
+        ensures { tell.IsWholeSpeller self.now → tell.IsSought self.now reference.now → IfOk result (λ a. answers.IsAnswerOr (answers.IsFree (Choice (tell.rows_of self.now) (tell.table_of self.now) receiver.class reference.now.row receiver.ty arguments.now (MemberNamed (tell.rows_of self.now) (tell.table_of self.now) space.Method (name_of (tell.rows_of self.now) reference.now.name) receiver.class))) referring.Unbound a) }
+    {
+        let view = self.view;
+        view.sight
             .method_of(alloc, reference.row, receiver, reference.name, arguments)
     }
 
@@ -123,12 +162,19 @@ impl<'a> Speller<'a> {
         reference: &Reference,
         arguments: &[RowType],
         class: u32,
-    ) -> Result<Referent, OutOfMemory> {
-        let receiver = Receiver {
-            class,
-            ty: Some(class_type(class)),
-        };
-        self.method_of(alloc, reference, arguments, receiver)
+    ) -> Result<Referent, OutOfMemory>
+        ensures { tell.IsWholeSpeller self.now → tell.IsSought self.now reference.now → IfOk result (λ a. answers.IsAnswerOr (answers.IsFree (Choice (tell.rows_of self.now) (tell.table_of self.now) class reference.now.row (Some (type_of_class class)) arguments.now (MemberNamed (tell.rows_of self.now) (tell.table_of self.now) space.Method (name_of (tell.rows_of self.now) reference.now.name) class))) referring.Unbound a) }
+    {
+        let ty = class_type(class);
+        self.method_of(
+            alloc,
+            reference,
+            arguments,
+            Receiver {
+                class,
+                ty: Some(ty),
+            },
+        )
     }
 
     // What a method through `super` refers to (JLS 15.12.1).

@@ -1,5 +1,5 @@
 // The old shape of a reference with the new names.
-ghost use Rattle.std.specs.Prelude.{◌≡◌, ◌∷◌, ℕ, true, false, IfOk, List, Option, option_map};
+ghost use Rattle.std.specs.Prelude.{◌≡◌, ◌∷◌, ℕ, false, IfOk, List, Option, option_map};
 ghost use Rattle.jr_defs.specs.declared.referent.Referent.{Referent as Found};
 ghost use Rattle.jr_defs.specs.declared.referent.RowType.{RowType as Ty};
 ghost use Rattle.jr_defs.specs.Referents.{entries};
@@ -14,6 +14,7 @@ ghost use Rattle.jr_spell.specs.Adding as adding;
 ghost use Rattle.jr_spell.specs.Packaging as packaging;
 ghost use Rattle.jr_spell.specs.Shaping as shaping;
 ghost use Rattle.jr_spell.specs.Spellers as tell;
+ghost use Rattle.jr_spell.specs.Spelling as spelled;
 ghost use Rattle.jr_spell.specs.Standing as standing;
 
 use crate::fitting::{Fit, Looked, Way, level_of};
@@ -21,9 +22,10 @@ use crate::reference::{Dot, Reference};
 use crate::resolving::{Before, Qualifiers};
 use crate::speller::Speller;
 use jr_base::OutOfMemory;
-use jr_defs::{Referent, RowType};
+use jr_defs::{Element, Referent, RowType};
 use jr_shapes::{Shape, kept_rows, parts_of, push_package, referent_at, type_of};
-use jr_tree::{Row, Sought};
+use jr_supers::class_type;
+use jr_tree::Row;
 use std::alloc::Global;
 
 /// The way of a name alone, or of `super` and a name.
@@ -34,6 +36,48 @@ pub fn way_of(found: Referent, is_constant_form: bool) -> Way
         receiver: None,
         level: level_of(found),
         is_constant_form,
+    }
+}
+
+/// The way of what stands behind an expression of this type, or behind none.
+pub fn standing_way(receiver: Option<RowType>, found: Referent) -> Way
+    ensures { result ≡ shaping.standing_way receiver found }
+{
+    Way {
+        receiver,
+        level: level_of(found),
+        is_constant_form: false,
+    }
+}
+
+// The type of an object of the class.
+fn object_type(class: Option<u32>) -> Option<RowType>
+    ensures { result ≡ shaping.object_type class }
+{
+    match class {
+        Some(found) => Some(class_type(found)),
+        None => None,
+    }
+}
+
+// The type of an object of the class that the element of a type is.
+fn class_type_in(element: Element) -> Option<RowType>
+    ensures { result ≡ shaping.class_type_in element }
+{
+    match element {
+        Element::Class(class) => Some(class_type(class)),
+        _ => None,
+    }
+}
+
+// The type through which a member of an expression of this type is reached, where this is Object (JLS 10.7).
+fn receiver_by(object: Option<u32>, ty: RowType) -> Option<RowType>
+    ensures { result ≡ shaping.receiver_by object ty }
+{
+    if ty.dims > 0 {
+        object_type(object)
+    } else {
+        class_type_in(ty.element)
     }
 }
 
@@ -113,7 +157,7 @@ impl<'a> Speller<'a> {
         arguments: &[RowType],
         before: Before,
     ) -> Result<Referent, OutOfMemory>
-        ensures { (b : naming.Before) (given : Option (List Ty)) (shape : Written) (trace : List Found) → tell.IsWholeSpeller self.now → tell.IsSought self.now reference.now → candidate.is_call reference.now.sought ≡ false → standing.StandsFor self.now before b → IfOk result (λ a. a ≡ fitting.found (tell.rows_of self.now) (tell.table_of self.now) reference.now.row (candidate.behind (tell.rows_of self.now) (tell.table_of self.now) given reference.now.row shape trace b)) }
+        ensures { (b : naming.Before) (given : Option (List Ty)) (shape : Written) (trace : List Found) → tell.IsWholeSpeller self.now → tell.IsSought self.now reference.now → shaping.IsGiven reference.now given arguments.now → standing.StandsFor self.now before b → IfOk result (λ a. a ≡ fitting.found (tell.rows_of self.now) (tell.table_of self.now) reference.now.row (candidate.behind (tell.rows_of self.now) (tell.table_of self.now) given reference.now.row shape trace b)) }
     {
         if reference.is_call() {
             self.named_method(alloc, reference, arguments, before)
@@ -136,7 +180,7 @@ impl<'a> Speller<'a> {
         arguments: &[RowType],
         names: &[u32],
     ) -> Result<Option<Looked>, OutOfMemory>
-        ensures { (given : Option (List Ty)) (shape : Written) → tell.IsWholeSpeller self.now → tell.IsSought self.now reference.now → candidate.is_call reference.now.sought ≡ false → packaging.AreNumbers (tell.rows_of self.now) names.now → IfOk result (λ o. shaping.AreLooked self.now reference.now.row shape o (candidate.behind_names (tell.rows_of self.now) (tell.table_of self.now) given reference.now.row shape (standing.texts_of (tell.rows_of self.now) names.now))) }
+        ensures { (given : Option (List Ty)) (shape : Written) → tell.IsWholeSpeller self.now → tell.IsSought self.now reference.now → shaping.IsGiven reference.now given arguments.now → packaging.AreNumbers (tell.rows_of self.now) names.now → IfOk result (λ o. shaping.AreLooked self.now reference.now.row shape o (candidate.behind_names (tell.rows_of self.now) (tell.table_of self.now) given reference.now.row shape (standing.texts_of (tell.rows_of self.now) names.now))) }
     {
         let led = self.qualifiers(alloc, reference.row, reference.kind_before(), names)?;
         match led {
@@ -149,32 +193,67 @@ impl<'a> Speller<'a> {
         }
     }
 
-    // What a member of the expression before the dot is.
-    fn member_of_value(
+    // The type of the expression that stands first below a row, if one does.
+    fn type_behind(&self, row: u32) -> Option<RowType>
+        ensures { tell.IsSeenSpeller self.now → result ≡ shaping.type_behind (tell.rows_of self.now) (tell.types_of self.now) row }
+    {
+        let view = self.view;
+        match view.sight.world.under.first_child(row) {
+            Some(child) => self.type_at(child),
+            None => None,
+        }
+    }
+
+    // The type through which a member of the expression before the dot is reached.
+    fn receiver_behind(&self, row: u32) -> Option<RowType>
+        ensures { (given : Option (List Ty)) → tell.IsSeenSpeller self.now → result ≡ fitting.receiver_type (tell.rows_of self.now) (shaping.as_it_stands self.now given row).left }
+    {
+        let view = self.view;
+        match self.type_behind(row) {
+            Some(ty) => receiver_by(view.sight.world.supers.object(), ty),
+            None => None,
+        }
+    }
+
+    // What the name of a reference that is no call is behind the expression, `super` or nothing that stands there.
+    fn find_as_it_stands(
+        &self,
+        alloc: Global,
+        reference: &Reference,
+    ) -> Result<Referent, OutOfMemory>
+        ensures { (given : Option (List Ty)) → tell.IsWholeSpeller self.now → tell.IsSought self.now reference.now → candidate.is_call reference.now.sought ≡ false → spelled.HasTypes (tell.rows_of self.now) (tell.table_of self.now) (tell.types_of self.now) → IfOk result (λ a. a ≡ fitting.found (tell.rows_of self.now) (tell.table_of self.now) reference.now.row (shaping.as_it_stands self.now given reference.now.row)) }
+    {
+        let view = self.view;
+        view.sight.look_for(
+            alloc,
+            view.types,
+            reference.row,
+            reference.name,
+            reference.sought,
+        )
+    }
+
+    // What the old shape of what is no call finds there.
+    fn look_as_it_stands(&self, alloc: Global, reference: &Reference) -> Result<Looked, OutOfMemory>
+        ensures { (given : Option (List Ty)) → tell.IsWholeSpeller self.now → tell.IsSought self.now reference.now → candidate.is_call reference.now.sought ≡ false → spelled.HasTypes (tell.rows_of self.now) (tell.table_of self.now) (tell.types_of self.now) → IfOk result (λ looked. shaping.IsLookedAs self.now reference.now.row looked (shaping.as_it_stands self.now given reference.now.row)) }
+    {
+        let found = self.find_as_it_stands(alloc, reference)?;
+        let way = standing_way(self.receiver_behind(reference.row), found);
+        let trace = Vec::new(alloc);
+        Ok(Looked { found, trace, way })
+    }
+
+    // What a method of the expression before the dot is.
+    fn method_of_value(
         &self,
         alloc: Global,
         reference: &Reference,
         arguments: &[RowType],
     ) -> Result<Referent, OutOfMemory> {
         let left = self.sight().left_of(self.types(), reference.row);
-        match reference.sought {
-            Sought::MethodOf => match self.sight().receiver(left) {
-                Some(receiver) => self.method_of(alloc, reference, arguments, receiver),
-                None => Ok(Referent::Unbound),
-            },
-            Sought::FieldOf => self.sight().field(alloc, left, reference.name),
-            _ => self
-                .sight()
-                .qualified(alloc, left, reference.kind(), reference.name),
-        }
-    }
-
-    // The type through which a member of the expression before the dot is reached.
-    fn receiver_type(&self, reference: &Reference) -> Option<RowType> {
-        let left = self.sight().left_of(self.types(), reference.row);
         match self.sight().receiver(left) {
-            Some(receiver) => receiver.ty,
-            None => None,
+            Some(receiver) => self.method_of(alloc, reference, arguments, receiver),
+            None => Ok(Referent::Unbound),
         }
     }
 
@@ -184,45 +263,27 @@ impl<'a> Speller<'a> {
         reference: &Reference,
         arguments: &[RowType],
     ) -> Result<Looked, OutOfMemory> {
-        let way = Way {
-            receiver: self.receiver_type(reference),
-            level: None,
-            is_constant_form: false,
-        };
-        Ok(Looked {
-            found: self.member_of_value(alloc, reference, arguments)?,
-            trace: Vec::new(alloc),
-            way,
-        })
+        let found = self.method_of_value(alloc, reference, arguments)?;
+        let way = standing_way(self.receiver_behind(reference.row), found);
+        let trace = Vec::new(alloc);
+        Ok(Looked { found, trace, way })
     }
 
-    // What a reference finds that has nothing before its dot but `super`, and is no name or method.
+    // What a call finds that has nothing before its dot but `super`, and is no method.
     fn look_fixed(
         &self,
         alloc: Global,
         reference: &Reference,
         arguments: &[RowType],
     ) -> Result<Looked, OutOfMemory> {
-        let found = if reference.is_call() {
-            self.fixed_call(alloc, reference, arguments)?
-        } else {
-            self.sight().look_for(
-                alloc,
-                self.types(),
-                reference.row,
-                reference.name,
-                reference.sought,
-            )?
-        };
-        Ok(Looked {
-            found,
-            trace: Vec::new(alloc),
-            way: way_of(found, false),
-        })
+        let found = self.fixed_call(alloc, reference, arguments)?;
+        let way = way_of(found, false);
+        let trace = Vec::new(alloc);
+        Ok(Looked { found, trace, way })
     }
 
-    // What the old shape finds behind the expression, `super`, `new` or nothing that stands there.
-    fn look_as_it_stands(
+    // What the old shape of a call finds behind the expression, `super`, `new` or nothing that stands there.
+    fn look_call(
         &self,
         alloc: Global,
         reference: &Reference,
@@ -234,6 +295,22 @@ impl<'a> Speller<'a> {
         }
     }
 
+    // What the old shape finds that is not written by identifiers alone.
+    fn look_standing(
+        &self,
+        alloc: Global,
+        reference: &Reference,
+        arguments: &[RowType],
+    ) -> Result<Looked, OutOfMemory>
+        ensures { (given : Option (List Ty)) → tell.IsWholeSpeller self.now → tell.IsSought self.now reference.now → candidate.is_call reference.now.sought ≡ false → spelled.HasTypes (tell.rows_of self.now) (tell.table_of self.now) (tell.types_of self.now) → IfOk result (λ looked. shaping.IsLookedAs self.now reference.now.row looked (shaping.as_it_stands self.now given reference.now.row)) }
+    {
+        if reference.is_call() {
+            self.look_call(alloc, reference, arguments)
+        } else {
+            self.look_as_it_stands(alloc, reference)
+        }
+    }
+
     // What the old shape finds behind its packages and types.
     fn look_kept_names(
         &self,
@@ -241,7 +318,7 @@ impl<'a> Speller<'a> {
         reference: &Reference,
         arguments: &[RowType],
     ) -> Result<Option<Looked>, OutOfMemory>
-        ensures { (given : Option (List Ty)) → tell.IsWholeSpeller self.now → tell.IsSought self.now reference.now → candidate.is_call reference.now.sought ≡ false → IfOk result (λ o. shaping.AreLooked self.now reference.now.row shapes.Kept o (shaping.kept_by_names (tell.rows_of self.now) (tell.table_of self.now) given reference.now.row)) }
+        ensures { (given : Option (List Ty)) → tell.IsWholeSpeller self.now → tell.IsSought self.now reference.now → shaping.IsGiven reference.now given arguments.now → IfOk result (λ o. shaping.AreLooked self.now reference.now.row shapes.Kept o (shaping.kept_by_names (tell.rows_of self.now) (tell.table_of self.now) given reference.now.row)) }
     {
         let kept = self.kept_names(alloc, reference)?;
         match kept {
@@ -257,12 +334,12 @@ impl<'a> Speller<'a> {
         reference: &Reference,
         arguments: &[RowType],
     ) -> Result<Option<Looked>, OutOfMemory>
-        ensures { (given : Option (List Ty)) → tell.IsWholeSpeller self.now → tell.IsSought self.now reference.now → candidate.is_call reference.now.sought ≡ false → candidate.is_by_names (tell.rows_of self.now) (tell.table_of self.now) reference.now.row ≡ true → IfOk result (λ o. shaping.AreLooked self.now reference.now.row shapes.Kept o (candidate.old (tell.rows_of self.now) (tell.table_of self.now) (tell.types_of self.now) given reference.now.row)) }
+        ensures { (given : Option (List Ty)) → tell.IsWholeSpeller self.now → tell.IsSought self.now reference.now → shaping.IsGiven reference.now given arguments.now → (candidate.is_by_names (tell.rows_of self.now) (tell.table_of self.now) reference.now.row ≡ false → spelled.IsExactAt (tell.rows_of self.now) (tell.table_of self.now) (tell.types_of self.now) reference.now.row) → IfOk result (λ o. shaping.AreLooked self.now reference.now.row shapes.Kept o (candidate.old (tell.rows_of self.now) (tell.table_of self.now) (tell.types_of self.now) given reference.now.row)) }
     {
         if reference.is_by_names() {
             return self.look_kept_names(alloc, reference, arguments);
         }
-        let looked = self.look_as_it_stands(alloc, reference, arguments)?;
+        let looked = self.look_standing(alloc, reference, arguments)?;
         Ok(Some(looked))
     }
 
@@ -273,7 +350,7 @@ impl<'a> Speller<'a> {
         reference: &Reference,
         arguments: &[RowType],
     ) -> Result<Option<Fit>, OutOfMemory>
-        ensures { (given : Option (List Ty)) → tell.IsWholeSpeller self.now → tell.IsSought self.now reference.now → candidate.is_call reference.now.sought ≡ false → candidate.is_by_names (tell.rows_of self.now) (tell.table_of self.now) reference.now.row ≡ true → IfOk result (λ o. shaping.IsFirstOf self.now reference.now.row (candidate.old (tell.rows_of self.now) (tell.table_of self.now) (tell.types_of self.now) given reference.now.row) o) }
+        ensures { (given : Option (List Ty)) → tell.IsWholeSpeller self.now → tell.IsSought self.now reference.now → shaping.IsGiven reference.now given arguments.now → (candidate.is_by_names (tell.rows_of self.now) (tell.table_of self.now) reference.now.row ≡ false → spelled.IsExactAt (tell.rows_of self.now) (tell.table_of self.now) (tell.types_of self.now) reference.now.row) → IfOk result (λ o. shaping.IsFirstOf self.now reference.now.row (candidate.old (tell.rows_of self.now) (tell.table_of self.now) (tell.types_of self.now) given reference.now.row) o) }
     {
         let looked = self.look_kept(alloc, reference, arguments)?;
         Ok(self.fit_found(reference, Shape::Kept, looked))

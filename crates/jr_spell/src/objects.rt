@@ -143,7 +143,7 @@ impl<'a> Speller<'a> {
         arguments: &[RowType],
         class: u32,
     ) -> Result<Referent, OutOfMemory>
-        ensures { (given : Option (List Ty)) (shape : Written) (trace : List Found) → tell.IsWholeSpeller self.now → tell.IsSought self.now reference.now → candidate.is_call reference.now.sought ≡ false → IfOk result (λ a. a ≡ fitting.found (tell.rows_of self.now) (tell.table_of self.now) reference.now.row (candidate.on_object (tell.rows_of self.now) (tell.table_of self.now) given reference.now.row shape trace class)) }
+        ensures { (given : Option (List Ty)) (shape : Written) (trace : List Found) → tell.IsWholeSpeller self.now → tell.IsSought self.now reference.now → shaping.IsGiven reference.now given arguments.now → IfOk result (λ a. a ≡ fitting.found (tell.rows_of self.now) (tell.table_of self.now) reference.now.row (candidate.on_object (tell.rows_of self.now) (tell.table_of self.now) given reference.now.row shape trace class)) }
     {
         if reference.is_call() {
             self.method_of_class(alloc, reference, arguments, class)
@@ -168,7 +168,7 @@ impl<'a> Speller<'a> {
         shape: Shape,
         trace: Vec<Referent>,
     ) -> Result<Option<Fit>, OutOfMemory>
-        ensures { (given : Option (List Ty)) → tell.IsWholeSpeller self.now → tell.IsSought self.now reference.now → candidate.is_call reference.now.sought ≡ false → IfOk result (λ o. shaping.IsFirstOf self.now reference.now.row (candidate.on_object (tell.rows_of self.now) (tell.table_of self.now) given reference.now.row shape trace.items class ∷ []) o) }
+        ensures { (given : Option (List Ty)) → tell.IsWholeSpeller self.now → tell.IsSought self.now reference.now → shaping.IsGiven reference.now given arguments.now → IfOk result (λ o. shaping.IsFirstOf self.now reference.now.row (candidate.on_object (tell.rows_of self.now) (tell.table_of self.now) given reference.now.row shape trace.items class ∷ []) o) }
     {
         let found = self.member_of_class(alloc, reference, arguments, class)?;
         let way = object_way(class, reference.level());
@@ -184,7 +184,7 @@ impl<'a> Speller<'a> {
         addition: Addition,
         class: u32,
     ) -> Result<Option<Fit>, OutOfMemory>
-        ensures { (given : Option (List Ty)) → tell.IsWholeSpeller self.now → tell.IsSought self.now reference.now → candidate.is_call reference.now.sought ≡ false → class < length (tell.rows_of self.now) → IfOk result (λ o. shaping.IsFirstOf self.now reference.now.row (object.by_added (tell.rows_of self.now) (tell.table_of self.now) given reference.now.row addition class) o) }
+        ensures { (given : Option (List Ty)) → tell.IsWholeSpeller self.now → tell.IsSought self.now reference.now → shaping.IsGiven reference.now given arguments.now → class < length (tell.rows_of self.now) → IfOk result (λ o. shaping.IsFirstOf self.now reference.now.row (object.by_added (tell.rows_of self.now) (tell.table_of self.now) given reference.now.row addition class) o) }
     {
         let added = self.added_type(alloc, reference.row, class)?;
         match added {
@@ -203,7 +203,7 @@ impl<'a> Speller<'a> {
         reference: &Reference,
         arguments: &[RowType],
     ) -> Result<Option<Fit>, OutOfMemory>
-        ensures { (given : Option (List Ty)) → tell.IsWholeSpeller self.now → tell.IsSought self.now reference.now → candidate.is_call reference.now.sought ≡ false → IfOk result (λ o. shaping.IsFirstOf self.now reference.now.row (candidate.on_this (tell.rows_of self.now) (tell.table_of self.now) given reference.now.row) o) }
+        ensures { (given : Option (List Ty)) → tell.IsWholeSpeller self.now → tell.IsSought self.now reference.now → shaping.IsGiven reference.now given arguments.now → IfOk result (λ o. shaping.IsFirstOf self.now reference.now.row (candidate.on_this (tell.rows_of self.now) (tell.table_of self.now) given reference.now.row) o) }
     {
         match self.innermost_level(reference) {
             Some(level) => {
@@ -221,7 +221,7 @@ impl<'a> Speller<'a> {
         reference: &Reference,
         arguments: &[RowType],
     ) -> Result<Option<Fit>, OutOfMemory>
-        ensures { (given : Option (List Ty)) → tell.IsWholeSpeller self.now → tell.IsSought self.now reference.now → candidate.is_call reference.now.sought ≡ false → IfOk result (λ o. shaping.IsFirstOf self.now reference.now.row (candidate.on_outer (tell.rows_of self.now) (tell.table_of self.now) given reference.now.row) o) }
+        ensures { (given : Option (List Ty)) → tell.IsWholeSpeller self.now → tell.IsSought self.now reference.now → shaping.IsGiven reference.now given arguments.now → IfOk result (λ o. shaping.IsFirstOf self.now reference.now.row (candidate.on_outer (tell.rows_of self.now) (tell.table_of self.now) given reference.now.row) o) }
     {
         match self.instance_level(reference) {
             Some(level) => self.by_added(alloc, reference, arguments, Addition::Outer, level),
@@ -259,7 +259,7 @@ impl<'a> Speller<'a> {
 
     // `super.x`, a field
     fn on_super(&self, alloc: Global, reference: &Reference) -> Result<Option<Fit>, OutOfMemory>
-        ensures { (given : Option (List Ty)) → tell.IsWholeSpeller self.now → tell.IsSought self.now reference.now → candidate.is_call reference.now.sought ≡ false → IfOk result (λ o. shaping.IsFirstOf self.now reference.now.row (candidate.on_super (tell.rows_of self.now) (tell.table_of self.now) given reference.now.row) o) }
+        ensures { (given : Option (List Ty)) → tell.IsWholeSpeller self.now → tell.IsSought self.now reference.now → IfOk result (λ o. shaping.IsFirstOf self.now reference.now.row (candidate.on_super (tell.rows_of self.now) (tell.table_of self.now) given reference.now.row) o) }
     {
         if reference.is_call() {
             return Ok(None);
@@ -277,7 +277,7 @@ impl<'a> Speller<'a> {
         reference: &Reference,
         arguments: &[RowType],
     ) -> Result<Option<Fit>, OutOfMemory>
-        ensures { (given : Option (List Ty)) → tell.IsWholeSpeller self.now → tell.IsSought self.now reference.now → candidate.is_call reference.now.sought ≡ false → IfOk result (λ o. shaping.IsFirstOf self.now reference.now.row (candidate.on_cast_this (tell.rows_of self.now) (tell.table_of self.now) given reference.now.row) o) }
+        ensures { (given : Option (List Ty)) → tell.IsWholeSpeller self.now → tell.IsSought self.now reference.now → shaping.IsGiven reference.now given arguments.now → IfOk result (λ o. shaping.IsFirstOf self.now reference.now.row (candidate.on_cast_this (tell.rows_of self.now) (tell.table_of self.now) given reference.now.row) o) }
     {
         match self.declaring(reference) {
             Some(class) => self.by_added(alloc, reference, arguments, Addition::CastThis, class),
@@ -292,7 +292,7 @@ impl<'a> Speller<'a> {
         reference: &Reference,
         arguments: &[RowType],
     ) -> Result<Option<Fit>, OutOfMemory>
-        ensures { (given : Option (List Ty)) → tell.IsWholeSpeller self.now → tell.IsSought self.now reference.now → candidate.is_call reference.now.sought ≡ false → IfOk result (λ o. shaping.IsFirstOf self.now reference.now.row (candidate.on_cast (tell.rows_of self.now) (tell.table_of self.now) given reference.now.row) o) }
+        ensures { (given : Option (List Ty)) → tell.IsWholeSpeller self.now → tell.IsSought self.now reference.now → shaping.IsGiven reference.now given arguments.now → IfOk result (λ o. shaping.IsFirstOf self.now reference.now.row (candidate.on_cast (tell.rows_of self.now) (tell.table_of self.now) given reference.now.row) o) }
     {
         match self.declaring(reference) {
             Some(class) => self.by_added(alloc, reference, arguments, Addition::Cast, class),
@@ -310,7 +310,7 @@ impl<'a> Speller<'a> {
         cast: Added,
         outer: Added,
     ) -> Result<Option<Fit>, OutOfMemory>
-        ensures { (given : Option (List Ty)) (a b : candidate.Added) → object.IsSame cast a → object.IsSame outer b → tell.IsWholeSpeller self.now → tell.IsSought self.now reference.now → candidate.is_call reference.now.sought ≡ false → IfOk result (λ o. shaping.IsFirstOf self.now reference.now.row (candidate.cast_outer (tell.rows_of self.now) (tell.table_of self.now) given reference.now.row class a b ∷ []) o) }
+        ensures { (given : Option (List Ty)) (a b : candidate.Added) → object.IsSame cast a → object.IsSame outer b → tell.IsWholeSpeller self.now → tell.IsSought self.now reference.now → shaping.IsGiven reference.now given arguments.now → IfOk result (λ o. shaping.IsFirstOf self.now reference.now.row (candidate.cast_outer (tell.rows_of self.now) (tell.table_of self.now) given reference.now.row class a b ∷ []) o) }
     {
         let shape = Shape::CastOuter(cast.suffix, outer.suffix);
         let trace = joined(cast.trace, &outer.trace)?;
@@ -327,7 +327,7 @@ impl<'a> Speller<'a> {
         level: u32,
         cast: Added,
     ) -> Result<Option<Fit>, OutOfMemory>
-        ensures { (given : Option (List Ty)) (a : candidate.Added) → object.IsSame cast a → tell.IsWholeSpeller self.now → tell.IsSought self.now reference.now → candidate.is_call reference.now.sought ≡ false → level < length (tell.rows_of self.now) → IfOk result (λ o. shaping.IsFirstOf self.now reference.now.row (object.by_level (tell.rows_of self.now) (tell.table_of self.now) given reference.now.row class level a) o) }
+        ensures { (given : Option (List Ty)) (a : candidate.Added) → object.IsSame cast a → tell.IsWholeSpeller self.now → tell.IsSought self.now reference.now → shaping.IsGiven reference.now given arguments.now → level < length (tell.rows_of self.now) → IfOk result (λ o. shaping.IsFirstOf self.now reference.now.row (object.by_level (tell.rows_of self.now) (tell.table_of self.now) given reference.now.row class level a) o) }
     {
         let added = self.added_type(alloc, reference.row, level)?;
         match added {
@@ -345,7 +345,7 @@ impl<'a> Speller<'a> {
         class: u32,
         level: u32,
     ) -> Result<Option<Fit>, OutOfMemory>
-        ensures { (given : Option (List Ty)) → tell.IsWholeSpeller self.now → tell.IsSought self.now reference.now → candidate.is_call reference.now.sought ≡ false → class < length (tell.rows_of self.now) → level < length (tell.rows_of self.now) → IfOk result (λ o. shaping.IsFirstOf self.now reference.now.row (object.by_class (tell.rows_of self.now) (tell.table_of self.now) given reference.now.row class level) o) }
+        ensures { (given : Option (List Ty)) → tell.IsWholeSpeller self.now → tell.IsSought self.now reference.now → shaping.IsGiven reference.now given arguments.now → class < length (tell.rows_of self.now) → level < length (tell.rows_of self.now) → IfOk result (λ o. shaping.IsFirstOf self.now reference.now.row (object.by_class (tell.rows_of self.now) (tell.table_of self.now) given reference.now.row class level) o) }
     {
         let added = self.added_type(alloc, reference.row, class)?;
         match added {
@@ -361,7 +361,7 @@ impl<'a> Speller<'a> {
         reference: &Reference,
         arguments: &[RowType],
     ) -> Result<Option<Fit>, OutOfMemory>
-        ensures { (given : Option (List Ty)) → tell.IsWholeSpeller self.now → tell.IsSought self.now reference.now → candidate.is_call reference.now.sought ≡ false → IfOk result (λ o. shaping.IsFirstOf self.now reference.now.row (candidate.on_cast_outer (tell.rows_of self.now) (tell.table_of self.now) given reference.now.row) o) }
+        ensures { (given : Option (List Ty)) → tell.IsWholeSpeller self.now → tell.IsSought self.now reference.now → shaping.IsGiven reference.now given arguments.now → IfOk result (λ o. shaping.IsFirstOf self.now reference.now.row (candidate.on_cast_outer (tell.rows_of self.now) (tell.table_of self.now) given reference.now.row) o) }
     {
         match self.declaring(reference) {
             Some(class) => match self.instance_level(reference) {
@@ -379,7 +379,7 @@ impl<'a> Speller<'a> {
         reference: &Reference,
         arguments: &[RowType],
     ) -> Result<Option<Fit>, OutOfMemory>
-        ensures { (given : Option (List Ty)) → tell.IsWholeSpeller self.now → tell.IsSought self.now reference.now → candidate.is_call reference.now.sought ≡ false → IfOk result (λ o. shaping.IsFirstOf self.now reference.now.row (object.on_cast_object (tell.rows_of self.now) (tell.table_of self.now) given reference.now.row) o) }
+        ensures { (given : Option (List Ty)) → tell.IsWholeSpeller self.now → tell.IsSought self.now reference.now → shaping.IsGiven reference.now given arguments.now → IfOk result (λ o. shaping.IsFirstOf self.now reference.now.row (object.on_cast_object (tell.rows_of self.now) (tell.table_of self.now) given reference.now.row) o) }
     {
         match self.innermost_level(reference) {
             Some(_) => self.on_cast_this(alloc, reference, arguments),
@@ -394,7 +394,7 @@ impl<'a> Speller<'a> {
         reference: &Reference,
         arguments: &[RowType],
     ) -> Result<Option<Fit>, OutOfMemory>
-        ensures { (given : Option (List Ty)) → tell.IsWholeSpeller self.now → tell.IsSought self.now reference.now → candidate.is_call reference.now.sought ≡ false → IfOk result (λ o. shaping.IsFirstOf self.now reference.now.row (object.on_super_or_cast (tell.rows_of self.now) (tell.table_of self.now) given reference.now.row) o) }
+        ensures { (given : Option (List Ty)) → tell.IsWholeSpeller self.now → tell.IsSought self.now reference.now → shaping.IsGiven reference.now given arguments.now → IfOk result (λ o. shaping.IsFirstOf self.now reference.now.row (object.on_super_or_cast (tell.rows_of self.now) (tell.table_of self.now) given reference.now.row) o) }
     {
         let fit = self.on_super(alloc, reference)?;
         match fit {
@@ -410,7 +410,7 @@ impl<'a> Speller<'a> {
         reference: &Reference,
         arguments: &[RowType],
     ) -> Result<Option<Fit>, OutOfMemory>
-        ensures { (given : Option (List Ty)) → tell.IsWholeSpeller self.now → tell.IsSought self.now reference.now → candidate.is_call reference.now.sought ≡ false → IfOk result (λ o. shaping.IsFirstOf self.now reference.now.row (object.on_outer_or_cast (tell.rows_of self.now) (tell.table_of self.now) given reference.now.row) o) }
+        ensures { (given : Option (List Ty)) → tell.IsWholeSpeller self.now → tell.IsSought self.now reference.now → shaping.IsGiven reference.now given arguments.now → IfOk result (λ o. shaping.IsFirstOf self.now reference.now.row (object.on_outer_or_cast (tell.rows_of self.now) (tell.table_of self.now) given reference.now.row) o) }
     {
         let fit = self.on_outer(alloc, reference, arguments)?;
         match fit {
@@ -426,7 +426,7 @@ impl<'a> Speller<'a> {
         reference: &Reference,
         arguments: &[RowType],
     ) -> Result<Option<Fit>, OutOfMemory>
-        ensures { (given : Option (List Ty)) → tell.IsWholeSpeller self.now → tell.IsSought self.now reference.now → candidate.is_call reference.now.sought ≡ false → IfOk result (λ o. shaping.IsFirstOf self.now reference.now.row (candidate.on_instance (tell.rows_of self.now) (tell.table_of self.now) given reference.now.row) o) }
+        ensures { (given : Option (List Ty)) → tell.IsWholeSpeller self.now → tell.IsSought self.now reference.now → shaping.IsGiven reference.now given arguments.now → IfOk result (λ o. shaping.IsFirstOf self.now reference.now.row (candidate.on_instance (tell.rows_of self.now) (tell.table_of self.now) given reference.now.row) o) }
     {
         let fit = self.on_this(alloc, reference, arguments)?;
         match fit {

@@ -9,6 +9,7 @@ ghost use Rattle.jr_spell.specs.Forming as forming;
 ghost use Rattle.jr_spell.specs.Objects as object;
 ghost use Rattle.jr_spell.specs.Shaping as shaping;
 ghost use Rattle.jr_spell.specs.Spellers as tell;
+ghost use Rattle.jr_spell.specs.Spelling as spelled;
 
 use crate::added::Added;
 use crate::fitting::{Fit, Looked};
@@ -29,7 +30,7 @@ impl<'a> Speller<'a> {
         reference: &Reference,
         arguments: &[RowType],
     ) -> Result<Option<Fit>, OutOfMemory>
-        ensures { (given : Option (List Ty)) → tell.IsWholeSpeller self.now → tell.IsSought self.now reference.now → candidate.is_call reference.now.sought ≡ false → IfOk result (λ o. shaping.IsFirstOf self.now reference.now.row (candidate.bare (tell.rows_of self.now) (tell.table_of self.now) given reference.now.row) o) }
+        ensures { (given : Option (List Ty)) → tell.IsWholeSpeller self.now → tell.IsSought self.now reference.now → shaping.IsGiven reference.now given arguments.now → IfOk result (λ o. shaping.IsFirstOf self.now reference.now.row (candidate.bare (tell.rows_of self.now) (tell.table_of self.now) given reference.now.row) o) }
     {
         if !is_names(reference.dot) {
             return Ok(None);
@@ -48,7 +49,7 @@ impl<'a> Speller<'a> {
         suffix: Suffix,
         trace: Vec<Referent>,
     ) -> Result<Option<Fit>, OutOfMemory>
-        ensures { (given : Option (List Ty)) → tell.IsWholeSpeller self.now → tell.IsSought self.now reference.now → candidate.is_call reference.now.sought ≡ false → IfOk result (λ o. shaping.IsFirstOf self.now reference.now.row (candidate.behind (tell.rows_of self.now) (tell.table_of self.now) given reference.now.row (shapes.Type suffix) trace.items (naming.in_type class) ∷ []) o) }
+        ensures { (given : Option (List Ty)) → tell.IsWholeSpeller self.now → tell.IsSought self.now reference.now → shaping.IsGiven reference.now given arguments.now → IfOk result (λ o. shaping.IsFirstOf self.now reference.now.row (candidate.behind (tell.rows_of self.now) (tell.table_of self.now) given reference.now.row (shapes.Type suffix) trace.items (naming.in_type class) ∷ []) o) }
     {
         let found = self.look_behind(alloc, reference, arguments, Before::OfType(class))?;
         let way = way_of(found, reference.is_variable());
@@ -64,7 +65,7 @@ impl<'a> Speller<'a> {
         arguments: &[RowType],
         class: u32,
     ) -> Result<Option<Fit>, OutOfMemory>
-        ensures { (given : Option (List Ty)) → tell.IsWholeSpeller self.now → tell.IsSought self.now reference.now → candidate.is_call reference.now.sought ≡ false → class < length (tell.rows_of self.now) → IfOk result (λ o. shaping.IsFirstOf self.now reference.now.row (object.by_type (tell.rows_of self.now) (tell.table_of self.now) given reference.now.row class) o) }
+        ensures { (given : Option (List Ty)) → tell.IsWholeSpeller self.now → tell.IsSought self.now reference.now → shaping.IsGiven reference.now given arguments.now → class < length (tell.rows_of self.now) → IfOk result (λ o. shaping.IsFirstOf self.now reference.now.row (object.by_type (tell.rows_of self.now) (tell.table_of self.now) given reference.now.row class) o) }
     {
         let added = self.added_before_dot(alloc, reference.row, class)?;
         match added {
@@ -82,7 +83,7 @@ impl<'a> Speller<'a> {
         reference: &Reference,
         arguments: &[RowType],
     ) -> Result<Option<Fit>, OutOfMemory>
-        ensures { (given : Option (List Ty)) → tell.IsWholeSpeller self.now → tell.IsSought self.now reference.now → candidate.is_call reference.now.sought ≡ false → IfOk result (λ o. shaping.IsFirstOf self.now reference.now.row (candidate.on_type (tell.rows_of self.now) (tell.table_of self.now) given reference.now.row) o) }
+        ensures { (given : Option (List Ty)) → tell.IsWholeSpeller self.now → tell.IsSought self.now reference.now → shaping.IsGiven reference.now given arguments.now → IfOk result (λ o. shaping.IsFirstOf self.now reference.now.row (candidate.on_type (tell.rows_of self.now) (tell.table_of self.now) given reference.now.row) o) }
     {
         match self.declaring(reference) {
             Some(class) => self.by_type(alloc, reference, arguments, class),
@@ -97,7 +98,7 @@ impl<'a> Speller<'a> {
         reference: &Reference,
         arguments: &[RowType],
     ) -> Result<Option<Fit>, OutOfMemory>
-        ensures { (given : Option (List Ty)) → tell.IsWholeSpeller self.now → tell.IsSought self.now reference.now → candidate.is_call reference.now.sought ≡ false → IfOk result (λ o. shaping.IsFirstOf self.now reference.now.row (candidate.on_static (tell.rows_of self.now) (tell.table_of self.now) given reference.now.row) o) }
+        ensures { (given : Option (List Ty)) → tell.IsWholeSpeller self.now → tell.IsSought self.now reference.now → shaping.IsGiven reference.now given arguments.now → IfOk result (λ o. shaping.IsFirstOf self.now reference.now.row (candidate.on_static (tell.rows_of self.now) (tell.table_of self.now) given reference.now.row) o) }
     {
         let fit = self.bare(alloc, reference, arguments)?;
         match fit {
@@ -184,7 +185,7 @@ impl<'a> Speller<'a> {
         reference: &Reference,
         arguments: &[RowType],
     ) -> Result<Option<Fit>, OutOfMemory>
-        ensures { (given : Option (List Ty)) → tell.IsWholeSpeller self.now → tell.IsSought self.now reference.now → candidate.is_call reference.now.sought ≡ false → IfOk result (λ o. shaping.IsFirstOf self.now reference.now.row (forming.by_form (tell.rows_of self.now) (tell.table_of self.now) given reference.now.row reference.now.form) o) }
+        ensures { (given : Option (List Ty)) → tell.IsWholeSpeller self.now → tell.IsSought self.now reference.now → shaping.IsGiven reference.now given arguments.now → IfOk result (λ o. shaping.IsFirstOf self.now reference.now.row (forming.by_form (tell.rows_of self.now) (tell.table_of self.now) given reference.now.row reference.now.form) o) }
     {
         match reference.form {
             Form::Fixed => Ok(None),
@@ -204,7 +205,7 @@ impl<'a> Speller<'a> {
         reference: &Reference,
         arguments: &[RowType],
     ) -> Result<Option<Fit>, OutOfMemory>
-        ensures { (given : Option (List Ty)) → tell.IsWholeSpeller self.now → tell.IsSought self.now reference.now → candidate.is_call reference.now.sought ≡ false → IfOk result (λ o. shaping.IsFirstOf self.now reference.now.row (shaping.others_from (tell.rows_of self.now) (tell.table_of self.now) given reference.now.row self.now.written) o) }
+        ensures { (given : Option (List Ty)) → tell.IsWholeSpeller self.now → tell.IsSought self.now reference.now → shaping.IsGiven reference.now given arguments.now → IfOk result (λ o. shaping.IsFirstOf self.now reference.now.row (shaping.others_from (tell.rows_of self.now) (tell.table_of self.now) given reference.now.row self.now.written) o) }
     {
         if self.is_prelude(reference.row) {
             return Ok(None);
@@ -219,7 +220,7 @@ impl<'a> Speller<'a> {
         reference: &Reference,
         arguments: &[RowType],
     ) -> Result<Option<Fit>, OutOfMemory>
-        ensures { (given : Option (List Ty)) → tell.IsWholeSpeller self.now → tell.IsSought self.now reference.now → forming.is_named (tell.rows_of self.now) (tell.table_of self.now) reference.now.row ≡ true → IfOk result (λ o. shaping.IsFirstOf self.now reference.now.row (candidate.candidates (tell.rows_of self.now) (tell.table_of self.now) (tell.types_of self.now) given reference.now.row self.now.written) o) }
+        ensures { (given : Option (List Ty)) → tell.IsWholeSpeller self.now → tell.IsSought self.now reference.now → shaping.IsGiven reference.now given arguments.now → (candidate.is_by_names (tell.rows_of self.now) (tell.table_of self.now) reference.now.row ≡ false → spelled.IsExactAt (tell.rows_of self.now) (tell.table_of self.now) (tell.types_of self.now) reference.now.row) → IfOk result (λ o. shaping.IsFirstOf self.now reference.now.row (candidate.candidates (tell.rows_of self.now) (tell.table_of self.now) (tell.types_of self.now) given reference.now.row self.now.written) o) }
     {
         let kept = self.kept(alloc, reference, arguments)?;
         match kept {

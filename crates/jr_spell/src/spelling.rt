@@ -5,7 +5,6 @@ ghost use Rattle.jr_spelling_rules.specs.Candidates as candidate;
 ghost use Rattle.jr_spelling_rules.specs.Spelling as rule;
 ghost use Rattle.jr_spell.specs.declared.fault.SpellFault.TheVariants as faults;
 ghost use Rattle.jr_spell.specs.declared.speller.Speller.{Speller as Reader};
-ghost use Rattle.jr_spell.specs.Forming as forming;
 ghost use Rattle.jr_spell.specs.Shaping as shaping;
 ghost use Rattle.jr_spell.specs.Spellers as tell;
 ghost use Rattle.jr_spell.specs.Spelling as spelled;
@@ -54,7 +53,7 @@ impl<'a> Speller<'a> {
         arguments: &[RowType],
     ) -> Result<Option<Spelling>, OutOfMemory>
         ensures row { IfOk result (λ o. IfSome o (λ a. a.row ≡ reference.now.row)) }
-        ensures first { (given : Option (List Ty)) → tell.IsWholeSpeller self.now → tell.IsSought self.now reference.now → forming.is_named (tell.rows_of self.now) (tell.table_of self.now) reference.now.row ≡ true → IfOk result (λ o. spelled.IsWritten reference.now.row o (shaping.plainly self.now reference.now.row given)) }
+        ensures first { (given : Option (List Ty)) → tell.IsWholeSpeller self.now → tell.IsSought self.now reference.now → shaping.IsGiven reference.now given arguments.now → (candidate.is_by_names (tell.rows_of self.now) (tell.table_of self.now) reference.now.row ≡ false → spelled.IsExactAt (tell.rows_of self.now) (tell.table_of self.now) (tell.types_of self.now) reference.now.row) → IfOk result (λ o. spelled.IsWritten reference.now.row o (shaping.plainly self.now reference.now.row given)) }
     {
         let fit = self.first_fit(alloc, reference, arguments)?;
         Ok(spelling_of(alloc, reference.row, fit))
@@ -125,7 +124,7 @@ impl<'a> Speller<'a> {
         reference: &Reference,
     ) -> Result<Option<Spelling>, OutOfMemory>
         ensures row { IfOk result (λ o. IfSome o (λ a. a.row ≡ reference.now.row)) }
-        ensures first { tell.IsWholeSpeller self.now → tell.IsSought self.now reference.now → forming.is_named (tell.rows_of self.now) (tell.table_of self.now) reference.now.row ≡ true → IfOk result (λ o. spelled.IsWritten reference.now.row o (shaping.spelling_at self.now reference.now.row)) }
+        ensures first { tell.IsWholeSpeller self.now → tell.IsSought self.now reference.now → spelled.IsExactAt (tell.rows_of self.now) (tell.table_of self.now) (tell.types_of self.now) reference.now.row → IfOk result (λ o. spelled.IsWritten reference.now.row o (shaping.spelling_at self.now reference.now.row)) }
     {
         if reference.is_call() {
             self.call_spelling(alloc, reference)

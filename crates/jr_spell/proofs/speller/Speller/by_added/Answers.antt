@@ -5,10 +5,10 @@ use Rattle.jr_spell.proofs.ByObject.{added_some, added_none, by_added_some, by_a
 use Rattle.jr_spell.proofs.speller.Speller.by_added.Goals as goal
 
 pub returns-in-Some : goal.returns-in-Some
-returns-in-Some c = λ given whole sought uncalled lt. let s = c.args.self.now in let r = c.args.reference.now in let q = added_some (c.in_ok-added.ensures whole lt sought.there) _ c.in-Some.is in
+returns-in-Some c = λ given whole sought gives lt. let s = c.args.self.now in let r = c.args.reference.now in let q = added_some (c.in_ok-added.ensures whole lt sought.there) _ c.in-Some.is in
     subst (λ all. IfOk c.through.result (λ o. IsFirstOf s r.row all o)) (by_added_some (rows_of s) (table_of s) given r.row c.args.addition c.args.class _ q.0 q.1 q.2 c.shape_by-shape.result c.shape_by-shape.ensures)
-    (c.through.ensures given whole sought uncalled)
+    (c.through.ensures given whole sought gives)
 
 pub returns-in-None : goal.returns-in-None
-returns-in-None c = λ given whole sought uncalled lt. let s = c.args.self.now in let r = c.args.reference.now in
+returns-in-None c = λ given whole sought gives lt. let s = c.args.self.now in let r = c.args.reference.now in
     subst (λ all. IsFirstOf s r.row all None) (by_added_none (rows_of s) (table_of s) given r.row c.args.addition c.args.class (added_none (c.in_ok-added.ensures whole lt sought.there) c.in-None.is)) IsFitOf.none

@@ -8,9 +8,9 @@ use Rattle.jr_spell.proofs.Shaped.{fit_front, fit_behind}
 use Rattle.jr_spell.proofs.speller.Speller.on_super_or_cast.Goals as goal
 
 pub returns-in-Some : goal.returns-in-Some
-returns-in-Some c = λ given whole sought uncalled. let s = c.args.self.now in let p = rows_of s in let t = table_of s in let r = c.args.reference.now in
-    fit_front s r.row (candidate.on_super p t given r.row) (object.on_cast_object p t given r.row) c.in-Some.found (subst (IsFirstOf s r.row (candidate.on_super p t given r.row)) c.in-Some.is (c.in_ok-fit.ensures given whole sought uncalled))
+returns-in-Some c = λ given whole sought gives. let s = c.args.self.now in let p = rows_of s in let t = table_of s in let r = c.args.reference.now in
+    fit_front s r.row (candidate.on_super p t given r.row) (object.on_cast_object p t given r.row) c.in-Some.found (subst (IsFirstOf s r.row (candidate.on_super p t given r.row)) c.in-Some.is (c.in_ok-fit.ensures given whole sought))
 
 pub returns-in-None : goal.returns-in-None
-returns-in-None c = λ given whole sought uncalled. let s = c.args.self.now in let p = rows_of s in let t = table_of s in let r = c.args.reference.now in
-    IfOk-weaker c.on_cast_object.result _ _ (λ o h. fit_behind s r.row (candidate.on_super p t given r.row) (object.on_cast_object p t given r.row) o (c.in_ok-fit.ensures given whole sought uncalled) c.in-None.is h) (c.on_cast_object.ensures given whole sought uncalled)
+returns-in-None c = λ given whole sought gives. let s = c.args.self.now in let p = rows_of s in let t = table_of s in let r = c.args.reference.now in
+    IfOk-weaker c.on_cast_object.result _ _ (λ o h. fit_behind s r.row (candidate.on_super p t given r.row) (object.on_cast_object p t given r.row) o (c.in_ok-fit.ensures given whole sought) c.in-None.is h) (c.on_cast_object.ensures given whole sought gives)
