@@ -118,28 +118,33 @@ class Trial:
             self.judge(files, block, answer)
 
 
+# The marks of programs of the file: what is refused, and by whom.
+MARKS = {'': '', '~': ' that are refused by a choice', '!': ' that both refuse'}
+
+
 def cases(path):
-    """The programs of the file: name, whether the check refuses it, files."""
+    """The programs of the file: name, mark, files."""
     with open(path) as file:
         parts = re.split(r'^==== ', file.read(), flags=re.M)[1:]
     for part in parts:
         head, _, rest = part.partition('\n')
         texts = re.split(r'^--- (\S+)\n', rest, flags=re.M)[1:]
-        yield head.removeprefix('~ ').strip(), head.startswith('~'), sorted(zip(texts[::2], texts[1::2]))
+        mark = head[0] if head[0] in MARKS else ''
+        yield head.removeprefix(mark).strip(), mark, sorted(zip(texts[::2], texts[1::2]))
 
 
 def try_cases(trial, javac, path):
     """Those of the file, each as its mark says."""
-    for name, is_refused, files in cases(path):
+    for name, mark, files in cases(path):
         block = javac.ask(files, 'names')
         answer = many.answers(trial.args.many, [files], 0)[0]
         errors = [line for line in block if line.startswith('E ')]
-        if errors or is_refused != bool(answer.fault):
+        if bool(errors) != (mark == '!') or bool(answer.fault) != bool(mark):
             trial.wrong += 1
             trial.show('case %s: ours %s, javac %s' % (name, answer.fault or 'ok', errors or 'ok'), files)
-        elif not is_refused:
+        elif not mark:
             trial.judge(files, block, answer)
-        trial.counts['cases' + (' that are refused by a choice' if is_refused else '')] += 1
+        trial.counts['cases' + MARKS[mark]] += 1
 
 
 def programs(args, javac, counts):

@@ -191,8 +191,7 @@ same_imports p t u h names o = record { single = singles; static = statics; dema
 
     demanded_of : (v d : ℕ) → OnDemandOf p t v d → OnDemandOf p u v d
     demanded_of v d (OnDemandOf.of_package {i = i} k e w) = OnDemandOf.of_package k (sym (names.at i importing.OnDemand k.import) ∙ e) w
-    demanded_of v d (OnDemandOf.of_type {i = i} {c = c} k n m ty) = OnDemandOf.of_type k (import_names p t u names i c importing.OnDemand k.import n)
-        (member_over p t p u same same (IsType p) (IsType p) (carries p t u h) (carries p u t (turned_headers p t u h)) c d n.type (λ e. absurd (let x = sym ty ∙ e in cc)) m) ty
+    demanded_of v d (OnDemandOf.of_type {i = i} {c = c} k n m ty) = OnDemandOf.of_type k (import_names p t u names i c importing.OnDemand k.import n) m ty
     demanded_of v d (OnDemandOf.lang w) = OnDemandOf.lang w
 
     demandeds : (d : ℕ) → Imported p (OnDemandImport p t) o d → Imported p (OnDemandImport p u) o d

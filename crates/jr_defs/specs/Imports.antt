@@ -8,7 +8,7 @@ use Rattle.jr_tree.specs.Rows.{Rows, label, name, parent, end, role_at}
 use Rattle.jr_defs.specs.declared.referent.Referent.TheVariants.{Package, Declared}
 use Rattle.jr_defs.specs.Referents.{Table}
 use Rattle.jr_defs.specs.Declarations.{IsType}
-use Rattle.jr_defs.specs.Enclosing.{IsMemberRole, InTopLevel}
+use Rattle.jr_defs.specs.Enclosing.{DeclaredIn, InTopLevel}
 use Rattle.jr_defs.specs.Modifiers.{IsPublic, IsPrivate, IsStatic}
 use Rattle.jr_defs.specs.Packages.{InUnit, SamePackage, TypeOfPackage, spelled}
 use Rattle.jr_defs.specs.Members.{MemberOf}
@@ -53,10 +53,10 @@ pub record StaticImport (p : Rows) (t : Table) (u d : ℕ) : Type 0 where
 abbrev pub java_lang : List Text
 java_lang = codes "java" ∷ codes "lang" ∷ []
 
--- the types of a package or of a type, by an import on demand; each unit imports java.lang so (JLS 7.5.2, 7.5.5)
+-- the types of a package, or those that are declared in a type, and not those that it inherits, by an import on demand; each unit imports java.lang so (JLS 7.5.2, 7.5.5)
 pub data OnDemandOf (p : Rows) (t : Table) (u : ℕ) : ℕ → Type 0 where
   of_package : {i d : ℕ} → ImportOf p u importing.OnDemand i → t (i + 1) ≡ Package → TypeOfPackage p (spelled p (i + 1)) d → OnDemandOf p t u d
-  of_type : {i c d : ℕ} → ImportOf p u importing.OnDemand i → ImportNames p t i c → MemberOf p t c d → IsType p d → OnDemandOf p t u d
+  of_type : {i c d : ℕ} → ImportOf p u importing.OnDemand i → ImportNames p t i c → DeclaredIn p c d → IsType p d → OnDemandOf p t u d
   lang : {d : ℕ} → TypeOfPackage p java_lang d → OnDemandOf p t u d
 
 pub record OnDemandImport (p : Rows) (t : Table) (u d : ℕ) : Type 0 where

@@ -33,12 +33,11 @@ use Rattle.jr_places.specs.Places.{package_number}
 use Rattle.jr_places.proofs.Packing.{same_is, in_spelled}
 use Rattle.jr_supers.specs.Tabled.{first_child}
 use Rattle.jr_members.specs.declared.declared.MemberKind.TheVariants as kind
-use Rattle.jr_members.specs.Each.{ListsEach}
-use Rattle.jr_members.specs.Keys.{falling}
-use Rattle.jr_members.specs.Held.{IsMemberAs}
+use Rattle.jr_members.specs.Keys.{falling, is_declared_as}
+use Rattle.jr_members.specs.Held.{IsDeclaredAs}
 use Rattle.jr_members.specs.Sources.{ArePlaced}
 use Rattle.jr_members.proofs.Each.{front_has}
-use Rattle.jr_members.proofs.Declaring.{falling_lists}
+use Rattle.jr_members.proofs.Declaring.{falling_lists, own_listed}
 use Rattle.jr_lookup.specs.Scopes.{is_top_of}
 use Rattle.jr_lookup.specs.Imports.{IsBrought}
 use Rattle.jr_lookup.specs.Sights as tell
@@ -139,22 +138,23 @@ module _ (p : Rows) (places : Places) (placed : ArePlaced p places) where
 
 -- ---- types that a name has
 
-module _ (p : Rows) (t : Table) (x : ℕ) where
-  pub members_some : (a : Referent) (found : Option ℕ) (c : ℕ) → found ≡ referred_type p a → found ≡ Some c → (all : List ℕ) → ListsEach all (IsMemberAs p t kind.Type c x) → Lists all (tell.IsMemberNamed p t a x)
-  members_some a found c f e all each = let names = (referred_finds p a c).0 (sym f ∙ e) in lists_by all all refl each.lists
-      (λ d m. record { class = c; level = names.0; refers = names.1; type = names.2; member = m })
-      (λ d m. let same = same_Some m.class c (sym ((referred_finds p a m.class).1 (m.level, m.refers, m.type)) ∙ sym f ∙ e) in subst (λ c. IsMemberAs p t kind.Type c x d) same m.member)
+module _ (p : Rows) (x : ℕ) where
+  pub declared_some : (a : Referent) (found : Option ℕ) (c : ℕ) → found ≡ referred_type p a → found ≡ Some c → (all : List ℕ) → all ≡ falling (length p) (is_declared_as p kind.Type c x)
+      → Lists all (tell.IsDeclaredNamed p a x)
+  declared_some a found c f e all is = let names = (referred_finds p a c).0 (sym f ∙ e) in lists_by all (falling (length p) (is_declared_as p kind.Type c x)) is (own_listed p kind.Type c x)
+      (λ d m. record { class = c; level = names.0; refers = names.1; type = names.2; declares = m })
+      (λ d m. let same = same_Some m.class c (sym ((referred_finds p a m.class).1 (m.level, m.refers, m.type)) ∙ sym f ∙ e) in subst (λ c. IsDeclaredAs p kind.Type c x d) same m.declares)
 
-  pub members_none : (a : Referent) (found : Option ℕ) → found ≡ referred_type p a → found ≡ None → (all : List ℕ) → all ≡ [] → Lists all (tell.IsMemberNamed p t a x)
-  members_none a found f e all is = lists_none all is (λ d m. none-some m.class (sym e ∙ f ∙ (referred_finds p a m.class).1 (m.level, m.refers, m.type)))
+  pub declared_none : (a : Referent) (found : Option ℕ) → found ≡ referred_type p a → found ≡ None → (all : List ℕ) → all ≡ [] → Lists all (tell.IsDeclaredNamed p a x)
+  declared_none a found f e all is = lists_none all is (λ d m. none-some m.class (sym e ∙ f ∙ (referred_finds p a m.class).1 (m.level, m.refers, m.type)))
 
   no_package : (a : Referent) (c : ℕ) (level : Option ℕ) → a ≡ Package → a ≡ Declared c level → ⊥
   no_package a c level e f = cc
 
-  pub types_of_package : (a : Referent) (n : ℕ) → a ≡ Package → (all : List ℕ) → Lists all (tell.IsTopNamed p (spelled p n) x) → Lists all (tell.IsTypeIn p t a n x)
+  pub types_of_package : (a : Referent) (n : ℕ) → a ≡ Package → (all : List ℕ) → Lists all (tell.IsTopNamed p (spelled p n) x) → Lists all (tell.IsTypeIn p a n x)
   types_of_package a n e all h = lists_by all all refl h (λ d k. inl (e, k)) (λ d. ⊎_elim (λ k. k.1) (λ m. absurd (no_package a m.class m.level e m.refers)))
 
-  pub types_of_type : (a : Referent) (n : ℕ) → (a ≡ Package → ⊥) → (all : List ℕ) → Lists all (tell.IsMemberNamed p t a x) → Lists all (tell.IsTypeIn p t a n x)
+  pub types_of_type : (a : Referent) (n : ℕ) → (a ≡ Package → ⊥) → (all : List ℕ) → Lists all (tell.IsDeclaredNamed p a x) → Lists all (tell.IsTypeIn p a n x)
   types_of_type a n out all h = lists_by all all refl h (λ d m. inr m) (λ d. ⊎_elim (λ k. absurd (out k.0)) (λ m. m))
 
 module _ (p : Rows) (local : IsLocal p) (t : Table) where
@@ -167,8 +167,8 @@ module _ (p : Rows) (local : IsLocal p) (t : Table) where
   pub no_child : (i : ℕ) (found : Option ℕ) → IsImport p i → found ≡ first_child p i → found ≡ None → ⊥
   no_child i found import f e = none-some (i + 1) (sym e ∙ f ∙ child_is i import)
 
-  pub demanded_lists : (seen : Table) → SeesImports p seen t → (x i target : ℕ) → IsImport p i → target ≡ i + 1 → (all : List ℕ) → Lists all (tell.IsTypeIn p t (seen target) target x) → Lists all (tell.IsDemandedAs p t x i)
-  demanded_lists seen sees x i target import e all h = subst (λ a. Lists all (tell.IsTypeIn p t a (i + 1) x)) (sees.same i import) (subst (λ n. Lists all (tell.IsTypeIn p t (seen n) n x)) e h)
+  pub demanded_lists : (seen : Table) → SeesImports p seen t → (x i target : ℕ) → IsImport p i → target ≡ i + 1 → (all : List ℕ) → Lists all (tell.IsTypeIn p (seen target) target x) → Lists all (tell.IsDemandedAs p t x i)
+  demanded_lists seen sees x i target import e all h = subst (λ a. Lists all (tell.IsTypeIn p a (i + 1) x)) (sees.same i import) (subst (λ n. Lists all (tell.IsTypeIn p (seen n) n x)) e h)
 
   module _ (u x : ℕ) where
     pub adds_demanded : (i : ℕ) (old new types : List ℕ) → new ≡ old ++ filter (can_import p u) types → Lists types (tell.IsDemandedAs p t x i) → AddsSuch (tell.IsDemanded p t u x i) old new
@@ -184,11 +184,11 @@ module _ (p : Rows) (local : IsLocal p) (t : Table) where
         → Lists new (tell.IsOnDemand p t u x)
     demand_lists imports old new is h a = added_lists old new a h out into
       where
-        by_type : (i d : ℕ) → ImportOf p u importing.OnDemand i → CanImport p u d → tell.IsTypeIn p t (t (i + 1)) (i + 1) x d → tell.IsOnDemand p t u x d
+        by_type : (i d : ℕ) → ImportOf p u importing.OnDemand i → CanImport p u d → tell.IsTypeIn p (t (i + 1)) (i + 1) x d → tell.IsOnDemand p t u x d
         by_type i d import reached (inl k) = record { brings = record { brings = OnDemandOf.of_package import k.0 k.1.of; reached = reached }; named = k.1.named }
         by_type i d import reached (inr m) = record {
-          brings = record { brings = OnDemandOf.of_type import (record { level = m.level; refers = m.refers; type = m.type }) m.member.member m.member.of.role_is; reached = reached };
-          named = m.member.of.named;
+          brings = record { brings = OnDemandOf.of_type import (record { level = m.level; refers = m.refers; type = m.type }) m.declares.declared m.declares.of.role_is; reached = reached };
+          named = m.declares.of.named;
         }
 
         out : (d : ℕ) → IsBroughtBy (tell.IsDemanded p t u x) imports d ⊎ tell.IsLang p u x d → tell.IsOnDemand p t u x d
@@ -204,7 +204,7 @@ module _ (p : Rows) (local : IsLocal p) (t : Table) where
           import = i;
           among = among i import;
           brings = record {
-            has_type = inr (record { class = c; level = names.level; refers = names.refers; type = names.type; member = record { of = record { role_is = type; named = named }; member = m } });
+            has_type = inr (record { class = c; level = names.level; refers = names.refers; type = names.type; declares = record { of = record { role_is = type; named = named }; declared = m } });
             reached = reached;
           };
         })

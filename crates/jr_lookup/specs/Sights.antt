@@ -20,7 +20,7 @@ use Rattle.jr_places.specs.Names.{name_row}
 use Rattle.jr_places.specs.Packages.{same_some}
 use Rattle.jr_members.specs.declared.declared.MemberKind.{MemberKind}
 use Rattle.jr_members.specs.declared.declared.MemberKind.TheVariants as kind
-use Rattle.jr_members.specs.Held.{IsOf, IsMemberAs}
+use Rattle.jr_members.specs.Held.{IsOf, IsDeclaredAs, IsMemberAs}
 use Rattle.jr_members.specs.Worlds.{IsWorld}
 use Rattle.jr_lookup.specs.declared.simple.Sight as code
 use Rattle.jr_lookup.specs.Scopes.{AreScopes, AreTops}
@@ -104,21 +104,21 @@ pub record IsTopNamed (p : Rows) (path : List (List ℕ)) (x d : ℕ) : Type 0 w
   pub of : TypeOfPackage p path d
   pub named : name_row p d ≡ x
 
--- a member type of the name, of the type to which the referent refers
-pub record IsMemberNamed (p : Rows) (t : Table) (a : Referent) (x d : ℕ) : Type 0 where
+-- a type of the name that is declared in the type to which the referent refers
+pub record IsDeclaredNamed (p : Rows) (a : Referent) (x d : ℕ) : Type 0 where
   pub class : ℕ
   pub level : Option ℕ
   pub refers : a ≡ Declared class level
   pub type : IsType p class
-  pub member : IsMemberAs p t kind.Type class x d
+  pub declares : IsDeclaredAs p kind.Type class x d
 
--- a type of the name, of the package or the type that the name at the row n refers to
-abbrev pub IsTypeIn : Rows → Table → Referent → ℕ → ℕ → ℕ → Type 0
-IsTypeIn p t a n x d = ((a ≡ Package) × IsTopNamed p (spelled p n) x d) ⊎ IsMemberNamed p t a x d
+-- a type of the name, in the package or the type that the name at the row n refers to
+abbrev pub IsTypeIn : Rows → Referent → ℕ → ℕ → ℕ → Type 0
+IsTypeIn p a n x d = ((a ≡ Package) × IsTopNamed p (spelled p n) x d) ⊎ IsDeclaredNamed p a x d
 
--- a type of the name that an import on demand has (JLS 7.5.2)
+-- a type of the name that an import on demand has: of the package, or declared in the type, and not inherited by it (JLS 7.5.2)
 abbrev pub IsDemandedAs : Rows → Table → ℕ → ℕ → ℕ → Type 0
-IsDemandedAs p t x i d = IsTypeIn p t (t (i + 1)) (i + 1) x d
+IsDemandedAs p t x i d = IsTypeIn p (t (i + 1)) (i + 1) x d
 
 -- and that the unit may import
 pub record IsDemanded (p : Rows) (t : Table) (u x i d : ℕ) : Type 0 where

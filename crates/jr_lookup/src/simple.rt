@@ -443,19 +443,22 @@ impl<'a> Sight<'a> {
         }
     }
 
-    // The member types of the name, of the type to which the name at a row refers.
+    // The types of the name that are declared in the type to which the name at a row refers.
     fn types_of_type(&self, alloc: Global, target: u32, name: u32) -> Result<Vec<u32>, OutOfMemory>
-        ensures { (t : Table) → IsWorld t self.now.world → IfOk result (λ found. Lists found.items (sights.IsMemberNamed self.now.world.under.rows.now t (entries self.now.world.under.table.now target) name)) }
+        ensures { (t : Table) → IsWorld t self.now.world → IfOk result (λ found. Lists found.items (sights.IsDeclaredNamed self.now.world.under.rows.now (entries self.now.world.under.table.now target) name)) }
     {
         match self.world.under.referred_type(target) {
-            Some(over) => self.world.named(alloc, MemberKind::Type, over, name),
+            Some(over) => {
+                let types = self.world.members.kind(MemberKind::Type);
+                types.own(alloc, over, name)
+            }
             None => Ok(Vec::new(alloc)),
         }
     }
 
-    // The types of the name that the package has, or the type, to which the name at a row refers.
+    // The types of the name that the package has, or that the type declares, to which the name at a row refers.
     fn types_in(&self, alloc: Global, target: u32, name: u32) -> Result<Vec<u32>, OutOfMemory>
-        ensures { (t : Table) → sights.IsSight t self.now → target < length self.now.world.under.rows.now → IfOk result (λ found. Lists found.items (sights.IsTypeIn self.now.world.under.rows.now t (entries self.now.world.under.table.now target) target name)) }
+        ensures { (t : Table) → sights.IsSight t self.now → target < length self.now.world.under.rows.now → IfOk result (λ found. Lists found.items (sights.IsTypeIn self.now.world.under.rows.now (entries self.now.world.under.table.now target) target name)) }
     {
         match self.world.under.referent(target) {
             Referent::Package => self.types_of_path(alloc, target, name),

@@ -12,13 +12,13 @@ use Rattle.jr_defs.specs.declared.referent.Referent.{Referent}
 use Rattle.jr_defs.specs.declared.referent.Referent.TheVariants.{Package, Declared}
 use Rattle.jr_defs.specs.Referents.{Table}
 use Rattle.jr_defs.specs.Declarations.{IsType}
-use Rattle.jr_defs.specs.Enclosing.{InTopLevel}
+use Rattle.jr_defs.specs.Enclosing.{DeclaredIn, InTopLevel}
 use Rattle.jr_defs.specs.Packages.{spelled, TypeOfPackage}
 use Rattle.jr_defs.specs.Members.{MemberOf}
 use Rattle.jr_defs.specs.Imports.{java_lang, ImportOf, ImportNames, CanImport, SingleImport, ImportedBy, StaticImport, OnDemandOf, OnDemandImport, ImportsHold}
 use Rattle.jr_plain.specs.Headed.{IsHeaded}
 use Rattle.jr_plain.specs.Declarations.{is_type}
-use Rattle.jr_plain.specs.Enclosing.{is_in_top_level}
+use Rattle.jr_plain.specs.Enclosing.{is_declared_in, is_in_top_level}
 use Rattle.jr_plain.specs.Supertypes.{declaration}
 use Rattle.jr_plain.specs.Members.{is_member}
 use Rattle.jr_plain.specs.Imports as plain
@@ -26,7 +26,7 @@ use Rattle.jr_plain.proofs.Tests.{both, either, opposite, like}
 use Rattle.jr_plain.proofs.Searches.{some, some_of}
 use Rattle.jr_plain.proofs.Bounds.{bounded, type_below}
 use Rattle.jr_plain.proofs.Declared.{type_tells}
-use Rattle.jr_plain.proofs.Enclosed.{in_top_level_tells}
+use Rattle.jr_plain.proofs.Enclosed.{declared_in_tells, in_top_level_tells}
 use Rattle.jr_plain.proofs.Modified.{public_tells, private_tells, static_tells}
 use Rattle.jr_plain.proofs.Packaged.{in_unit_tells, same_package_tells, type_of_package_tells}
 use Rattle.jr_plain.proofs.Supertyped.{declaration_lists}
@@ -88,12 +88,20 @@ module _ (p : Rows) (t : Table) (headed : IsHeaded p) where
       (some (λ i. plain.is_imported_by p t u i d) (λ i. ImportedBy p t u i d) (λ i. imported_by_tells u i d) (length p) (λ i h. import_below p u importing.StaticSingle i h.is_import))
       (λ h. record { import = h.0; imports = h.1 }) (λ h. (h.import, h.imports))
 
+  -- d is declared in the type that the import names
+  abbrev DeclaredInImport : ℕ → ℕ → Type 0
+  DeclaredInImport i d = (c : ℕ) × ((level : Option ℕ) × (t (i + 1) ≡ Declared c level)) × (IsType p c × DeclaredIn p c d)
+
+  declared_in_import_tells : (i d : ℕ) → Decides (plain.is_declared_in_import p t i d) (DeclaredInImport i d)
+  declared_in_import_tells i d = some_of (λ c. is_type p c && is_declared_in p c d) (λ c. IsType p c × DeclaredIn p c d) (λ c. both (type_tells p c) (declared_in_tells p c d))
+      (declaration (t (i + 1))) (declaration_lists (t (i + 1)))
+
   abbrev DemandedBy : ℕ → ℕ → ℕ → Type 0
-  DemandedBy u i d = ImportOf p u importing.OnDemand i × (((t (i + 1) ≡ Package) × TypeOfPackage p (spelled p (i + 1)) d) ⊎ (IsType p d × MemberOfImport i d))
+  DemandedBy u i d = ImportOf p u importing.OnDemand i × (((t (i + 1) ≡ Package) × TypeOfPackage p (spelled p (i + 1)) d) ⊎ (IsType p d × DeclaredInImport i d))
 
   demanded_by_tells : (u i d : ℕ) → Decides (plain.is_demanded_by p t u i d) (DemandedBy u i d)
   demanded_by_tells u i d = both (import_of_tells p u importing.OnDemand i)
-      (either (both (refers_to_package_tells t (i + 1)) (type_of_package_tells p (spelled p (i + 1)) d)) (both (type_tells p d) (member_of_import_tells i d)))
+      (either (both (refers_to_package_tells t (i + 1)) (type_of_package_tells p (spelled p (i + 1)) d)) (both (type_tells p d) (declared_in_import_tells i d)))
 
   pub on_demand_of_tells : (u d : ℕ) → Decides (plain.is_on_demand_of p t u d) (OnDemandOf p t u d)
   on_demand_of_tells u d = like

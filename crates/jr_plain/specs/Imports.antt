@@ -13,7 +13,7 @@ use Rattle.jr_defs.specs.Packages.{spelled}
 use Rattle.jr_defs.specs.Imports.{java_lang}
 use Rattle.jr_plain.specs.Search.{any_below, has}
 use Rattle.jr_plain.specs.Declarations.{is_type}
-use Rattle.jr_plain.specs.Enclosing.{is_in_top_level}
+use Rattle.jr_plain.specs.Enclosing.{is_declared_in, is_in_top_level}
 use Rattle.jr_plain.specs.Modifiers.{is_public, is_private, is_static}
 use Rattle.jr_plain.specs.Packages.{is_in_unit, is_same_package, is_type_of_package}
 use Rattle.jr_plain.specs.Supertypes.{declaration}
@@ -58,10 +58,14 @@ abbrev pub is_package : Referent → Bool
 is_package Package = true
 is_package _ = false
 
--- an import on demand of a package that has the type d, or of a type that has it as member
+-- d is declared in the type that the import names
+abbrev pub is_declared_in_import : Rows → Table → ℕ → ℕ → Bool
+is_declared_in_import p t i d = list_any (λ c. is_type p c && is_declared_in p c d) (declaration (t (i + 1)))
+
+-- an import on demand of a package that has the type d, or of a type in which it is declared
 abbrev pub is_demanded_by : Rows → Table → ℕ → ℕ → ℕ → Bool
 is_demanded_by p t u i d = is_import_of p u importing.OnDemand i
-    && ((is_package (t (i + 1)) && is_type_of_package p (spelled p (i + 1)) d) || (is_type p d && is_member_of_import p t i d))
+    && ((is_package (t (i + 1)) && is_type_of_package p (spelled p (i + 1)) d) || (is_type p d && is_declared_in_import p t i d))
 
 -- each unit imports java.lang on demand (JLS 7.5.2, 7.5.5)
 abbrev pub is_on_demand_of : Rows → Table → ℕ → ℕ → Bool

@@ -330,3 +330,30 @@ two_types_of_one_package = record {
       r 28 30 28 (is.Name kind.Type place.Other false) (codes "A") ∷ r 27 31 28 (is.Field bare 0) (codes "b") ∷ [];
   targets = (15, Declared 7 None) ∷ (18, Ambiguous) ∷ (26, Declared 7 None) ∷ (29, Ambiguous) ∷ [];
 }
+
+-- 68
+-- p/A.java: package p; import q.D.*; class A { C c; E e; }
+-- q/B.java: package q; public class B { public static class C { } }
+-- q/D.java: package q; public class D extends B { public static class /*1*/E { } }
+abbrev pub an_import_on_demand_brings_no_inherited_type : Worked
+an_import_on_demand_brings_no_inherited_type = record {
+  rows =
+      r 0 50 0 is.Program [] ∷ r 0 9 0 is.Unit [] ∷ r 1 5 1 is.Package [] ∷ r 2 5 2 (is.Name kind.Package place.Other true) (codes "lang") ∷
+      r 3 5 3 (is.Name kind.Package place.Qualifier false) (codes "java") ∷
+      r 1 9 2 (is.Class (modifiers_of (modifier.Public ∷ [])) false) (codes "Object") ∷ r 5 9 5 is.Body [] ∷ r 6 9 6 is.DefaultConstructor [] ∷
+      r 7 9 7 is.ImplicitCall [] ∷ r 0 27 1 is.Unit [] ∷ r 9 12 9 is.Package [] ∷ r 10 12 10 (is.Name kind.Package place.Other false) (codes "p") ∷
+      r 9 15 10 (is.Import importing.OnDemand) [] ∷ r 12 15 12 (is.Name kind.PackageOrType place.Other true) (codes "D") ∷
+      r 13 15 13 (is.Name kind.PackageOrType place.Qualifier false) (codes "q") ∷ r 9 27 12 (is.Class bare false) (codes "A") ∷ r 15 27 15 is.Body [] ∷
+      r 16 19 16 is.DefaultConstructor [] ∷ r 17 19 17 is.ImplicitCall [] ∷ r 16 23 17 (is.Fields bare) [] ∷ r 19 22 19 (is.TypeUse None 0) [] ∷
+      r 20 22 20 (is.Name kind.Type place.Other false) (codes "C") ∷ r 19 23 20 (is.Field bare 0) (codes "c") ∷ r 16 27 19 (is.Fields bare) [] ∷
+      r 23 26 23 (is.TypeUse None 0) [] ∷ r 24 26 24 (is.Name kind.Type place.Other false) (codes "E") ∷ r 23 27 24 (is.Field bare 0) (codes "e") ∷
+      r 0 38 9 is.Unit [] ∷ r 27 30 27 is.Package [] ∷ r 28 30 28 (is.Name kind.Package place.Other false) (codes "q") ∷
+      r 27 38 28 (is.Class (modifiers_of (modifier.Public ∷ [])) false) (codes "B") ∷ r 30 38 30 is.Body [] ∷ r 31 34 31 is.DefaultConstructor [] ∷
+      r 32 34 32 is.ImplicitCall [] ∷ r 31 38 32 (is.Class (modifiers_of (modifier.Public ∷ modifier.Static ∷ [])) true) (codes "C") ∷
+      r 34 38 34 is.Body [] ∷ r 35 38 35 is.DefaultConstructor [] ∷ r 36 38 36 is.ImplicitCall [] ∷ r 0 50 27 is.Unit [] ∷ r 38 41 38 is.Package [] ∷
+      r 39 41 39 (is.Name kind.Package place.Other false) (codes "q") ∷ r 38 50 39 (is.Class (modifiers_of (modifier.Public ∷ [])) false) (codes "D") ∷
+      r 41 43 41 (is.Name kind.Type place.Superclass false) (codes "B") ∷ r 41 50 42 is.Body [] ∷ r 43 46 43 is.DefaultConstructor [] ∷
+      r 44 46 44 is.ImplicitCall [] ∷ r 43 50 44 (is.Class (modifiers_of (modifier.Public ∷ modifier.Static ∷ [])) true) (codes "E") ∷
+      r 46 50 46 is.Body [] ∷ r 47 50 47 is.DefaultConstructor [] ∷ r 48 50 48 is.ImplicitCall [] ∷ [];
+  targets = (13, Declared 41 None) ∷ (14, Package) ∷ (18, Declared 7 None) ∷ (21, Unbound) ∷ (25, Declared 46 None) ∷ (33, Declared 7 None) ∷ (37, Declared 7 None) ∷ (42, Declared 30 None) ∷ (45, Declared 32 None) ∷ (49, Declared 7 None) ∷ [];
+}

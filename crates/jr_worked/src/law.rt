@@ -81,6 +81,7 @@ pub fn worked_imports()
     ensures an_import_of_the_own_type { IsLookedUp imports.an_import_of_the_own_type }
     ensures an_import_of_the_own_type_the_import_is_ignored { SingleImport (rows_of imports.an_import_of_the_own_type) (table_of imports.an_import_of_the_own_type) 9 15 → ⊥ }
     ensures two_types_of_one_package { IsLookedUp imports.two_types_of_one_package }
+    ensures an_import_on_demand_brings_no_inherited_type { IsLookedUp imports.an_import_on_demand_brings_no_inherited_type }
 {}
 
 /// Calls of methods (JLS 15.12, 8.4.8).

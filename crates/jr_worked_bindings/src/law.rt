@@ -63,6 +63,7 @@ pub fn bindings_of_imports()
     ensures a_protected_field_is_reached_through_the_subclass { IsBinding (rows_of imports.a_protected_field_is_reached_through_the_subclass) (table_of imports.a_protected_field_is_reached_through_the_subclass) }
     ensures an_import_of_the_own_type { IsBinding (rows_of imports.an_import_of_the_own_type) (table_of imports.an_import_of_the_own_type) }
     ensures two_types_of_one_package { IsBinding (rows_of imports.two_types_of_one_package) (table_of imports.two_types_of_one_package) }
+    ensures an_import_on_demand_brings_no_inherited_type { IsBinding (rows_of imports.an_import_on_demand_brings_no_inherited_type) (table_of imports.an_import_on_demand_brings_no_inherited_type) }
 {}
 
 /// Calls of methods (JLS 15.12, 8.4.8).

@@ -31,4 +31,5 @@ returns c = record {
   an_import_of_the_own_type = looked_up imports.an_import_of_the_own_type refl;
   an_import_of_the_own_type_the_import_is_ignored = no (single_import_tells (rows_of imports.an_import_of_the_own_type) (table_of imports.an_import_of_the_own_type) 9 15) refl;
   two_types_of_one_package = looked_up imports.two_types_of_one_package refl;
+  an_import_on_demand_brings_no_inherited_type = looked_up imports.an_import_on_demand_brings_no_inherited_type refl;
 }

@@ -20,4 +20,5 @@ returns c = record {
   a_protected_field_is_reached_through_the_subclass = bound_and_settled imports.a_protected_field_is_reached_through_the_subclass refl refl;
   an_import_of_the_own_type = bound_and_settled imports.an_import_of_the_own_type refl refl;
   two_types_of_one_package = bound_and_settled imports.two_types_of_one_package refl refl;
+  an_import_on_demand_brings_no_inherited_type = bound_and_settled imports.an_import_on_demand_brings_no_inherited_type refl refl;
 }
