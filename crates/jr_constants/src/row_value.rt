@@ -372,7 +372,7 @@ pub fn value_of(
 {
     match under.rows.get(at as usize) {
         Some(row) => match &row.label {
-            Label::Literal { kind } => literal(alloc, kind, texts),
+            Label::Literal { kind } => literal(alloc, kind.get(), texts),
             Label::Binary { op } => binary(alloc, under.rows, values, at, *op, texts),
             _ => Ok(plain_row(under, constant, variables, values, at, &row.label)),
         },

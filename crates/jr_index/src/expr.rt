@@ -1,5 +1,5 @@
 // The labels of expressions (JLS 15).
-ghost use Rattle.std.specs.Prelude.{◌≡◌};
+ghost use Rattle.std.specs.Prelude.{◌≡◌, IfOk};
 ghost use Rattle.std.specs.Option.{option_map};
 ghost use Rattle.jr_tree.specs.Mirror.Exprs as m;
 ghost use Rattle.jr_index.specs.Events as e;
@@ -9,10 +9,11 @@ ghost use Rattle.jr_tree.specs.declared.label.Label.TheVariants as is;
 
 use crate::words::{add_base, add_name, add_type, add_type_name, primitive_of};
 use crate::writer::RowWriter;
-use jr_base::Kind;
+use jr_base::{Boxed, Kind, OutOfMemory};
 use jr_tree::{
     Base, Expr, Init, InitList, Label, Name, NameKind, NamePlace, Receiver, ReceiverKind,
 };
+use std::alloc::Global;
 
 #[cycle(add_expr)]
 pub fn add_expr(out: &mut RowWriter, expr: &Expr)
@@ -142,10 +143,17 @@ pub fn add_expr(out: &mut RowWriter, expr: &Expr)
     }
 }
 
+// The token of a literal, in a box of its own.
+fn boxed(alloc: Global, kind: &Kind) -> Result<Boxed<Kind>, OutOfMemory>
+    ensures { IfOk result (λ own. own ≡ kind.now) }
+{
+    Ok(Boxed::new(alloc, kind.copy(alloc)?)?)
+}
+
 fn add_literal(out: &mut RowWriter, kind: &Kind)
     ensures { Adds out.old out.new (e.leaf (is.Literal kind.now) 1) }
 {
-    match kind.copy(out.alloc) {
+    match boxed(out.alloc, kind) {
         Ok(kind) => out.leaf(Label::Literal { kind }, 1),
         Err(_) => out.fail(),
     }

@@ -423,7 +423,7 @@ fn is_literal(label: &Label, kind: &Kind) -> bool
     ensures { IsTrue result ↔ (label.now ≡ is.Literal kind.now) }
 {
     match label {
-        Label::Literal { kind: again } => same_kind(again, kind),
+        Label::Literal { kind: again } => same_kind(again.get(), kind),
         _ => false,
     }
 }
@@ -472,7 +472,7 @@ fn same_operand(one: &Label, other: &Label) -> bool
             is_qualified,
         } => is_name(other, *kind, *place, *is_qualified),
         Label::TypeUse { primitive, dims } => is_type_use(other, *primitive, *dims),
-        Label::Literal { kind } => is_literal(other, kind),
+        Label::Literal { kind } => is_literal(other, kind.get()),
         Label::This { is_qualified } => is_this(other, *is_qualified),
         Label::Call { receiver } => is_call(other, *receiver),
         Label::NewArray {

@@ -3,7 +3,7 @@ ghost use Rattle.std.specs.Prelude.{◌≡◌};
 ghost use Rattle.jr_tree.specs.Labels.{role_of, sought_by, name_sought, call_sought};
 
 use crate::{Primitive, ThisOrSuper};
-use jr_base::{Kind, Symbol};
+use jr_base::{Boxed, Kind, Symbol};
 
 /// The modifiers that are written at a declaration (JLS 8.1.1, 8.3.1, 8.4.3, 8.8.3). What an interface's member has besides is not among them.
 #[derive(Clone, Copy, Debug, PartialEq, Eq)]
@@ -228,7 +228,7 @@ pub enum Label {
     },
     /// JLS 15.8.1
     Literal {
-        kind: Kind,
+        kind: Boxed<Kind>,
     },
     /// JLS 15.8.3, 15.8.4; below it stands the class that is named.
     This {

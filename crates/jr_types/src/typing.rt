@@ -549,7 +549,7 @@ impl<'a> Typing<'a> {
         ensures { (constant : Constants) → IsTyping constant self.entry → dims_made label.now < 2 ^ 64 → result ≡ plain.typed_by (tell.rows_of self.entry) (tell.table_of self.entry) constant (tell.types_of self.entry) at label.now }
     {
         match label {
-            Label::Literal { kind } => literal_type(kind, self.string),
+            Label::Literal { kind } => literal_type(kind.get(), self.string),
             Label::Name { .. } => self.variable_type(at),
             Label::Select => self.variable_type(at),
             Label::SuperSelect => self.variable_type(at),
