@@ -18,15 +18,17 @@ import time
 sys.path.insert(0, os.path.dirname(os.path.abspath(__file__)))
 from generated import write_files
 
+# What the script `refactor` runs the program with.
+OURS = {**os.environ, 'GLIBC_TUNABLES': 'glibc.malloc.hugetlb=1'}
 TOKEN = re.compile(r'//.*|"[^"]*"|\w+|[^\s\w]')
 
 
-def spent(words, runs, folder=None):
+def spent(words, runs, environment=None):
     """The least wall time and processor time of some runs, and the most memory in MB."""
     best, busy, most = float('inf'), float('inf'), 0
     for _ in range(runs):
         start = time.perf_counter()
-        process = subprocess.Popen(words, cwd=folder, stdout=subprocess.PIPE, stderr=subprocess.STDOUT)
+        process = subprocess.Popen(words, env=environment, stdout=subprocess.PIPE, stderr=subprocess.STDOUT)
         said = process.stdout.read()
         _, status, usage = os.wait4(process.pid, 0)
         process.returncode = os.waitstatus_to_exitcode(status)
@@ -58,7 +60,7 @@ def main():
     with tempfile.TemporaryDirectory() as folder:
         src = os.path.join(folder, 'src')
         total = write_files(src, args.files)
-        ours, busy, memory = spent([args.bin, src, 'check'], args.runs)
+        ours, busy, memory = spent([args.bin, src, 'check'], args.runs, OURS)
         print(f'{args.files} files, {total} bytes: check {ours:.3f} s, processor {busy:.3f} s, {memory:.0f} MB', flush=True)
         for name, words in peers(folder, args.ecj):
             theirs, its, used = spent(words, args.runs)
@@ -68,7 +70,7 @@ def main():
             total = write_files(os.path.join(folder, 'src'), megabytes * 64, 113)
             texts = [open(p).read() for p in glob.glob(os.path.join(folder, 'src', 'g', '*'))]
             tokens = sum(not token.startswith('//') for t in texts for token in TOKEN.findall(t))
-            ours, busy, memory = spent([args.bin, os.path.join(folder, 'src'), 'check'], args.runs)
+            ours, busy, memory = spent([args.bin, os.path.join(folder, 'src'), 'check'], args.runs, OURS)
             print(f'{total:9} bytes, {tokens:8} tokens: {ours:7.3f} s, processor {busy:7.3f} s, {memory:5.0f} MB, {busy / tokens * 1e9:6.0f} ns a token', flush=True)
 
 
