@@ -1,5 +1,5 @@
 -- What the files that piled up say of the image.
-use Rattle.std.proofs.Common.{◌≡◌, ℕ, zero, suc, ◌+◌, ◌-◌, ◌<◌, ◌≤◌, nat_lt, Bool, true, false, cond, List, [], ◌∷◌, ◌++◌, length, take, Some, None, Option, option_map, IsSome, IsTrue, refl, sym, ap, subst, ◌∙◌, arith, ⊎_elim, length-take}
+use Rattle.std.proofs.Common.{◌≡◌, ℕ, zero, suc, ◌+◌, ◌-◌, ◌<◌, ◌≤◌, nat_lt, Bool, true, false, cond, ◌||◌, List, [], ◌∷◌, ◌++◌, length, take, Some, None, Option, option_map, IsSome, IsTrue, refl, sym, ap, subst, ◌∙◌, arith, ⊎_elim, length-take}
 use Rattle.std.specs.Prelude.{Contains, bytes_eq, is_some, if◌then◌else◌}
 use Rattle.std.specs.FinMap.{get, insert, empty, get-insert, get-empty}
 use Rattle.std.proofs.lemmas.Bool.{false≢true, ltb-true, ltb-false, lt-ltb}
@@ -14,9 +14,13 @@ use Rattle.jr_base.specs.Paths.{is_java}
 use Rattle.jr_base.specs.declared.limits.TheConstants.Limits as limits
 use Rattle.jr_store.specs.Image.{Image, AreJava, Lists, Reads}
 use Rattle.jr_gather.specs.Piles.{PlainPile, start, next, with_side, pile_of, outcome_of}
+use Rattle.jr_base.specs.declared.limits.Size.{Size}
 use Rattle.jr_base.specs.declared.limits.Size.TheVariants as size
-use Rattle.std.specs.List.{IsDistinct}
-use Rattle.jr_gather.specs.Gathering.{HoldsFiles, AreFiles, IsTooLarge, many_files, long_path, large_file, much_in_all, IsGathered, size_of, sizes}
+use Rattle.std.specs.List.{IsDistinct, list_any}
+use Rattle.std.proofs.lemmas.Map.Made.{length-le_from_is_member}
+use Rattle.std.proofs.lemmas.Map.Views.{Contains-from_any, list_any-from_Contains}
+use Rattle.std.specs.Cmp.Lexicographic.{nat_list_eq_equiv}
+use Rattle.jr_gather.specs.Gathering.{HoldsFiles, AreFiles, IsTooLarge, many_files, long_path, large_file, much_in_all, IsFirstTooLarge, IsGathered, rank, size_of, sizes}
 
 -- what is read of a file, up to one byte past the limit, piles up as the file does
 take_few : {A : Type 0} (n : ℕ) (xs : List A) → length xs ≤ n → take n xs ≡ xs
@@ -37,6 +41,7 @@ read_piles pile path whole = decided (nat_lt limits.FILE (length whole)) refl
 -- what the pile says once the files at these paths are on it
 pub record Piles (f : Image) (done : List (List ℕ)) (pile : PlainPile) : Type 0 where
   pub large : pile.is_large ≡ true → (path : List ℕ) × (bytes : List ℕ) × Contains done path × (f path ≡ Some bytes) × (limits.FILE < length bytes)
+  pub small : pile.is_large ≡ false → (path bytes : List ℕ) → Contains done path → f path ≡ Some bytes → length bytes ≤ limits.FILE
   pub past : pile.is_large ≡ false → pile.is_past ≡ true → limits.TOTAL < sizes f done
   pub left : pile.is_large ≡ false → pile.is_past ≡ false → pile.left + sizes f done ≡ limits.TOTAL
   pub inside : pile.is_large ≡ false → pile.is_past ≡ false → (q : List ℕ) → Contains done q → get pile.files q ≡ f q
@@ -69,6 +74,9 @@ module _ (f : Image) (done : List (List ℕ)) (pile : PlainPile) (path : List �
   new_there : Contains more path
   new_there = Contains-append_right done (path ∷ []) path (is_there path)
 
+  still_small : pile.is_large ≡ false → ((bytes : List ℕ) → f path ≡ Some bytes → length bytes ≤ limits.FILE) → (at bytes : List ℕ) → Contains more at → f at ≡ Some bytes → length bytes ≤ limits.FILE
+  still_small small here at bytes there is = ⊎_elim (λ old. piles.small small at bytes old is) (λ last. here bytes (ap f (sym (just_there path at last)) ∙ is)) (Contains-append_cases done (path ∷ []) at there)
+
   with_large : pile.is_large ≡ true → (at : List ℕ) × (bytes : List ℕ) × Contains more at × (f at ≡ Some bytes) × (limits.FILE < length bytes)
   with_large large = let it = piles.large large in (it.0, it.1, old_there it.0 it.2, it.3, it.4)
 
@@ -78,9 +86,13 @@ module _ (f : Image) (done : List (List ℕ)) (pile : PlainPile) (path : List �
   same_here : (q : List ℕ) → q ≡ path → get pile.files path ≡ f path → get pile.files q ≡ f q
   same_here q is same = ap (get pile.files) is ∙ same ∙ ap f (sym is)
 
+  not_there : (bytes : List ℕ) → None ≡ Some bytes → ⊥
+  not_there bytes e = cc
+
   absent : f path ≡ None → Piles f more pile
   absent none = record {
     large = with_large;
+    small = λ small. still_small small (λ bytes there. absurd (not_there bytes (sym none ∙ there)));
     past = λ small past. omega (arith, piles.past small past, sizes_more f done path);
     left = λ small here. omega (arith, piles.left small here, sizes_more f done path, ap size_of none);
     inside = λ small here q there. ⊎_elim (piles.inside small here q) (λ last. same_here q (just_there path q last) (none_here small here (get pile.files path) refl)) (Contains-append_cases done (path ∷ []) q there);
@@ -98,15 +110,23 @@ module _ (f : Image) (done : List (List ℕ)) (pile : PlainPile) (path : List �
     too_large : limits.FILE < length bytes → Piles f more (record { files = pile.files; left = pile.left; is_large = true; is_past = pile.is_past })
     too_large size = record {
       large = λ large. (path, bytes, new_there, is, size);
+      small = λ small. absurd (false≢true (sym small));
       past = λ small past. absurd (false≢true (sym small));
       left = λ small here. absurd (false≢true (sym small));
       inside = λ small here q there. absurd (false≢true (sym small));
       outside = λ q there. old_there q (piles.outside q there);
     }
 
-    too_many : pile.left < length bytes → Piles f more (record { files = pile.files; left = pile.left; is_large = pile.is_large; is_past = true })
-    too_many size = record {
+    same_bytes : (other : List ℕ) → Some bytes ≡ Some other → bytes ≡ other
+    same_bytes other e = cc
+
+    here_small : length bytes ≤ limits.FILE → (other : List ℕ) → f path ≡ Some other → length other ≤ limits.FILE
+    here_small few other there = subst (λ (b : List ℕ). length b ≤ limits.FILE) (same_bytes other (sym is ∙ there)) few
+
+    too_many : length bytes ≤ limits.FILE → pile.left < length bytes → Piles f more (record { files = pile.files; left = pile.left; is_large = pile.is_large; is_past = true })
+    too_many few size = record {
       large = with_large;
+      small = λ small. still_small small (here_small few);
       past = λ small past. by_past small pile.is_past refl;
       left = λ small here. absurd (false≢true (sym here));
       inside = λ small here q there. absurd (false≢true (sym here));
@@ -137,9 +157,10 @@ module _ (f : Image) (done : List (List ℕ)) (pile : PlainPile) (path : List �
         decided true same = subst (Contains more) (sym ((bytes_eq-Decides q path).0 same)) new_there
         decided false other = old_there q (piles.outside q (subst IsSome (got pile.files path bytes q ∙ ap (λ b. cond b (Some bytes) (get pile.files q)) other) there))
 
-    one_more : length bytes ≤ pile.left → Piles f more (record { files = files_more; left = pile.left - length bytes; is_large = pile.is_large; is_past = pile.is_past })
-    one_more size = record {
+    one_more : length bytes ≤ limits.FILE → length bytes ≤ pile.left → Piles f more (record { files = files_more; left = pile.left - length bytes; is_large = pile.is_large; is_past = pile.is_past })
+    one_more few size = record {
       large = with_large;
+      small = λ small. still_small small (here_small few);
       past = λ small past. omega (arith, piles.past small past, sized);
       left = λ small here. omega (arith, piles.left small here, sized, size);
       inside = λ small here q there. ⊎_elim (λ old. got_old q (piles.inside small here q old)) (λ last. got_here q (just_there path q last)) (Contains-append_cases done (path ∷ []) q there);
@@ -153,11 +174,11 @@ module _ (f : Image) (done : List (List ℕ)) (pile : PlainPile) (path : List �
     by_size false true large_is past_is =
         subst (λ (b : Bool). Piles f more (if b then record { files = pile.files; left = pile.left; is_large = true; is_past = pile.is_past } else (if nat_lt pile.left (length bytes) then record { files = pile.files; left = pile.left; is_large = pile.is_large; is_past = true } else record { files = files_more; left = pile.left - length bytes; is_large = pile.is_large; is_past = pile.is_past })))
         (sym large_is) (subst (λ (b : Bool). Piles f more (if b then record { files = pile.files; left = pile.left; is_large = pile.is_large; is_past = true } else record { files = files_more; left = pile.left - length bytes; is_large = pile.is_large; is_past = pile.is_past }))
-        (sym past_is) (too_many (ltb-true pile.left (length bytes) past_is)))
+        (sym past_is) (too_many (ltb-false limits.FILE (length bytes) large_is) (ltb-true pile.left (length bytes) past_is)))
     by_size false false large_is past_is =
         subst (λ (b : Bool). Piles f more (if b then record { files = pile.files; left = pile.left; is_large = true; is_past = pile.is_past } else (if nat_lt pile.left (length bytes) then record { files = pile.files; left = pile.left; is_large = pile.is_large; is_past = true } else record { files = files_more; left = pile.left - length bytes; is_large = pile.is_large; is_past = pile.is_past })))
         (sym large_is) (subst (λ (b : Bool). Piles f more (if b then record { files = pile.files; left = pile.left; is_large = pile.is_large; is_past = true } else record { files = files_more; left = pile.left - length bytes; is_large = pile.is_large; is_past = pile.is_past }))
-        (sym past_is) (one_more (ltb-false pile.left (length bytes) past_is)))
+        (sym past_is) (one_more (ltb-false limits.FILE (length bytes) large_is) (ltb-false pile.left (length bytes) past_is)))
 
   stepped : (o : Option (List ℕ)) → f path ≡ o → Piles f more (with_side pile path o)
   stepped None is = absent is
@@ -180,6 +201,7 @@ all_piled f done (path ∷ rest) pile piles =
 nothing_piled : (f : Image) → Piles f [] start
 nothing_piled f = record {
   large = λ large. absurd (false≢true large);
+  small = λ small path bytes there is. absurd (no_there path there);
   past = λ small past. absurd (false≢true past);
   left = λ small here. omega arith;
   inside = λ small here q there. absurd (no_there q there);
@@ -232,15 +254,68 @@ java_at [] java path (k, below, is) = absurd (omega arith)
 java_at (p ∷ paths) java path (zero, below, is) = subst (λ (q : List ℕ). IsTrue (is_java q)) is java.0
 java_at (p ∷ paths) java path (suc k, below, is) = java_at paths java.1 path (k, omega arith, is)
 
+abbrev is_long : List ℕ → Bool
+is_long path = nat_lt limits.PATH (length path)
+
+any_long : (paths : List (List ℕ)) → list_any is_long paths ≡ true → (path : List ℕ) × Contains paths path × (limits.PATH < length path)
+any_long [] some = absurd (false≢true some)
+any_long (path ∷ paths) some = by_long (is_long path) refl some (any_long paths)
+  where
+    by_long : (b : Bool) → is_long path ≡ b → (b || list_any is_long paths) ≡ true → (list_any is_long paths ≡ true → (at : List ℕ) × Contains paths at × (limits.PATH < length at)) → (at : List ℕ) × Contains (path ∷ paths) at × (limits.PATH < length at)
+    by_long true long more rest = (path, (0, omega arith, refl), ltb-true limits.PATH (length path) long)
+    by_long false short more rest = let it = rest more in (it.0, (suc it.1.0, omega (arith, it.1.1), it.1.2), it.2)
+
+all_short : (paths : List (List ℕ)) → list_any is_long paths ≡ false → (path : List ℕ) → Contains paths path → length path ≤ limits.PATH
+all_short [] none path there = absurd (no_path path there)
+  where
+    no_path : (q : List ℕ) → Contains [] q → ⊥
+    no_path q (k, below, is) = omega arith
+all_short (p ∷ paths) none path there = by_long (is_long p) refl none there (λ rest. all_short paths rest path)
+  where
+    by_long : (b : Bool) → is_long p ≡ b → (b || list_any is_long paths) ≡ false → Contains (p ∷ paths) path → (list_any is_long paths ≡ false → Contains paths path → length path ≤ limits.PATH) → length path ≤ limits.PATH
+    by_long true long none it rest = absurd (false≢true (sym none))
+    by_long false short none (zero, below, is) rest = subst (λ (q : List ℕ). length q ≤ limits.PATH) is (ltb-false limits.PATH (length p) short)
+    by_long false short none (suc k, below, is) rest = rest none (k, omega arith, is)
+
 module _ (f : Image) (paths : List (List ℕ)) (distinct : IsDistinct bytes_eq paths) (java : AreJava paths) (lists : Lists (Some f) 4097 paths) where
   are : AreFiles f paths
   are = record { distinct = distinct; java = java; there = lists.0 }
 
-  pub too_many_files : limits.FILES < length paths → IsTooLarge f size.Files
-  too_many_files many = many_files paths are many
+  pub too_many_files : limits.FILES < length paths → IsFirstTooLarge f size.Files
+  too_many_files many = record { passes = many_files paths are many; first = λ other it. omega arith }
 
-  pub too_long_path : (at : List ℕ) → Contains paths at → limits.PATH < length at → IsTooLarge f size.Path
-  too_long_path at there long = long_path at (java_at paths java at there) (lists.0 at there) long
+  -- each file is among the paths, where these are not too many
+  all_there : length paths ≤ limits.FILES → (path : List ℕ) → IsTrue (is_java path) → IsSome (f path) → Contains paths path
+  all_there few path is_java_path there = lists.1 (omega arith) path is_java_path there
+
+  no_more_files : length paths ≤ limits.FILES → (others : List (List ℕ)) → AreFiles f others → length others ≤ length paths
+  no_more_files few others them = length-le_from_is_member nat_list_eq_equiv others paths them.distinct
+      (λ q among. let there = Contains-from_any (λ a b same. (bytes_eq-Decides a b).0 same) q others among in
+          list_any-from_Contains nat_list_eq_equiv q paths (all_there few q (java_at others them.java q there) (them.there q there)))
+
+  -- a size that passes its limit comes no earlier than a place, where those before it tell so
+  above : (least : ℕ) → least ≤ 3 → ((others : List (List ℕ)) → AreFiles f others → limits.FILES < length others → least ≤ 0)
+      → ((path : List ℕ) → IsTrue (is_java path) → IsSome (f path) → limits.PATH < length path → least ≤ 1)
+      → ((path bytes : List ℕ) → IsTrue (is_java path) → f path ≡ Some bytes → limits.FILE < length bytes → least ≤ 2)
+      → (other : Size) → IsTooLarge f other → least ≤ rank other
+  above least three files path file size.Files (many_files others them many) = files others them many
+  above least three files path file size.Path (long_path at is_java_at there long) = path at is_java_at there long
+  above least three files path file size.File (large_file at bytes is_java_at is large) = file at bytes is_java_at is large
+  above least three files path file size.Total it = three
+  above least three files path file size.Tokens it = three
+  above least three files path file size.Nesting it = three
+  above least three files path file size.Flow it = three
+  above least three files path file size.Input it = three
+  above least three files path file size.Requests it = three
+
+  few_files : length paths ≤ limits.FILES → {n : ℕ} (others : List (List ℕ)) → AreFiles f others → limits.FILES < length others → n ≤ 0
+  few_files few others them many = absurd (omega (arith, no_more_files few others them, many))
+
+  pub too_long_path : length paths ≤ limits.FILES → list_any is_long paths ≡ true → IsFirstTooLarge f size.Path
+  too_long_path few some = let it = any_long paths some in record {
+    passes = long_path it.0 (java_at paths java it.0 it.1) (lists.0 it.0 it.1) it.2;
+    first = above 1 (omega arith) (few_files few) (λ path is_java_path there long. omega arith) (λ path bytes is_java_path is large. omega arith);
+  }
 
   holds : length paths ≤ limits.FILES → (pile : PlainPile) → Piles f paths pile → pile.is_large ≡ false → pile.is_past ≡ false → HoldsFiles f pile.files
   holds few pile piles small here = record {
@@ -260,13 +335,26 @@ module _ (f : Image) (paths : List (List ℕ)) (distinct : IsDistinct bytes_eq p
           by_get (Some x) is = sym (piles.inside small here at (piles.outside at (subst IsSome (sym is) refl)))
       by_side at java_at_it (Some bytes) there = sym (piles.inside small here at (lists.1 (omega arith) at java_at_it (subst IsSome (sym there) refl)))
 
-  large_of : (path : List ℕ) × (bytes : List ℕ) × Contains paths path × (f path ≡ Some bytes) × (limits.FILE < length bytes) → IsTooLarge f size.File
-  large_of it = large_file it.0 it.1 (java_at paths java it.0 it.2) it.3 it.4
+  short_paths : length paths ≤ limits.FILES → list_any is_long paths ≡ false → {n : ℕ} (path : List ℕ) → IsTrue (is_java path) → IsSome (f path) → limits.PATH < length path → n ≤ 1
+  short_paths few none path is_java_path there long = absurd (omega (arith, all_short paths none path (all_there few path is_java_path there), long))
 
-  by_large : length paths ≤ limits.FILES → (pile : PlainPile) → Piles f paths pile → (large past : Bool) → pile.is_large ≡ large → pile.is_past ≡ past → IsGathered f (outcome_of pile)
-  by_large few pile piles true past large_is past_is = rw large_is (large_of (piles.large large_is))
-  by_large few pile piles false true large_is past_is = rw large_is (rw past_is (much_in_all paths are (piles.past large_is past_is)))
-  by_large few pile piles false false large_is past_is = rw large_is (rw past_is (holds few pile piles large_is past_is))
+  large_of : length paths ≤ limits.FILES → list_any is_long paths ≡ false → (path : List ℕ) × (bytes : List ℕ) × Contains paths path × (f path ≡ Some bytes) × (limits.FILE < length bytes) → IsFirstTooLarge f size.File
+  large_of few none it = record {
+    passes = large_file it.0 it.1 (java_at paths java it.0 it.2) it.3 it.4;
+    first = above 2 (omega arith) (few_files few) (short_paths few none) (λ path bytes is_java_path is large. omega arith);
+  }
 
-  pub gathered_so : length paths ≤ limits.FILES → IsGathered f (outcome_of (pile_of f start paths))
-  gathered_so few = by_large few (pile_of f start paths) (piled f paths) (pile_of f start paths).is_large (pile_of f start paths).is_past refl refl
+  much_of : length paths ≤ limits.FILES → list_any is_long paths ≡ false → (pile : PlainPile) → Piles f paths pile → pile.is_large ≡ false → pile.is_past ≡ true → IsFirstTooLarge f size.Total
+  much_of few none pile piles small past = record {
+    passes = much_in_all paths are (piles.past small past);
+    first = above 3 (omega arith) (few_files few) (short_paths few none)
+        (λ path bytes is_java_path is large. absurd (omega (arith, piles.small small path bytes (all_there few path is_java_path (subst IsSome (sym is) refl)) is, large)));
+  }
+
+  by_large : length paths ≤ limits.FILES → list_any is_long paths ≡ false → (pile : PlainPile) → Piles f paths pile → (large past : Bool) → pile.is_large ≡ large → pile.is_past ≡ past → IsGathered f (outcome_of pile)
+  by_large few none pile piles true past large_is past_is = rw large_is (large_of few none (piles.large large_is))
+  by_large few none pile piles false true large_is past_is = rw large_is (rw past_is (much_of few none pile piles large_is past_is))
+  by_large few none pile piles false false large_is past_is = rw large_is (rw past_is (holds few pile piles large_is past_is))
+
+  pub gathered_so : length paths ≤ limits.FILES → list_any is_long paths ≡ false → IsGathered f (outcome_of (pile_of f start paths))
+  gathered_so few none = by_large few none (pile_of f start paths) (piled f paths) (pile_of f start paths).is_large (pile_of f start paths).is_past refl refl

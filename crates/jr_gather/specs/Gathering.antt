@@ -1,5 +1,5 @@
 -- All `.java` files of a store.
-use Rattle.std.specs.Prelude.{◌≡◌, ℕ, ◌+◌, ◌<◌, List, [], ◌∷◌, length, Contains, Option, Some, None, IsSome, IsTrue, bytes_eq}
+use Rattle.std.specs.Prelude.{◌≡◌, ℕ, ◌+◌, ◌<◌, ◌≤◌, List, [], ◌∷◌, length, Contains, Option, Some, None, IsSome, IsTrue, bytes_eq}
 use Rattle.std.specs.List.{IsDistinct}
 use Rattle.std.specs.FinMap as map
 use Rattle.jr_base.specs.Files.{FileMap}
@@ -38,7 +38,19 @@ pub data IsTooLarge (f : Image) : Size → Type 0 where
   large_file : (path bytes : List ℕ) → IsTrue (is_java path) → f path ≡ Some bytes → limits.FILE < length bytes → IsTooLarge f size.File
   much_in_all : (paths : List (List ℕ)) → AreFiles f paths → limits.TOTAL < sizes f paths → IsTooLarge f size.Total
 
+-- sizes in the order in which they are tested
+abbrev pub rank : Size → ℕ
+rank size.Files = 0
+rank size.Path = 1
+rank size.File = 2
+rank other = 3
+
+-- a size of the `.java` files of the image passes its limit, and none before it does
+pub record IsFirstTooLarge (f : Image) (what : Size) : Type 0 where
+  pub passes : IsTooLarge f what
+  pub first : (other : Size) → IsTooLarge f other → rank what ≤ rank other
+
 -- what the files of an image come to
 abbrev pub IsGathered : Image → Gathered → Type 0
 IsGathered f (gathered.Files found) = HoldsFiles f found
-IsGathered f (gathered.TooLarge what) = IsTooLarge f what
+IsGathered f (gathered.TooLarge what) = IsFirstTooLarge f what

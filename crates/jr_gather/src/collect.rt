@@ -1,7 +1,6 @@
 // All files of a store.
-ghost use Rattle.std.specs.Prelude.{◌≡◌, IfOk, IsSome, ◌<◌, ◌≤◌, length, Some, None, IfNone, IfSome, MatchOption, Contains, ℕ, List, IsTrue};
-ghost use Rattle.std.specs.List.{IsDistinct};
-ghost use Rattle.std.specs.Prelude.{bytes_eq};
+ghost use Rattle.std.specs.Prelude.{◌≡◌, IfOk, ◌≤◌, length, nat_lt, Some};
+ghost use Rattle.std.specs.List.{list_any};
 ghost use Rattle.jr_store.specs.Image.{Image, AreJava, Lists, LeavesOnly, HasStoreCause};
 ghost use Rattle.jr_gather.specs.Gathering.{IsGathered};
 ghost use Rattle.jr_gather.specs.Piles.{plain_pile, start, with_side, pile_of, outcome_of};
@@ -54,16 +53,13 @@ fn pile_up<S: Store>(alloc: Global, store: &mut S, paths: &[Path]) -> Result<Pil
     Ok(pile)
 }
 
-// The first path that is too long.
-fn find_long(paths: &[Path]) -> Option<&Path>
-    ensures { IfSome result (λ path. Contains paths.now path.now × (Limits.PATH < length path.now)) }
+// Whether a path is too long.
+fn has_long(paths: &[Path]) -> bool
+    ensures { result ≡ list_any (λ path. nat_lt Limits.PATH (length path)) paths.now }
 {
-    for path in paths {
-        if path.bytes().len() > Limits::PATH as usize {
-            return Some(path);
-        }
-    }
-    None
+    paths
+        .iter()
+        .any(|path| path.bytes().len() > Limits::PATH as usize)
 }
 
 // What the pile comes to: a file that is too large first, and then all together.
@@ -91,7 +87,7 @@ pub fn gather<S: Store>(alloc: Global, store: &mut S) -> Result<Gathered, StoreE
     if paths.len() > Limits::FILES as usize {
         return Ok(Gathered::TooLarge(Size::Files));
     }
-    if let Some(_path) = find_long(&paths) {
+    if has_long(&paths) {
         return Ok(Gathered::TooLarge(Size::Path));
     }
     Ok(outcome(pile_up(alloc, store, &paths)?))

@@ -11,7 +11,7 @@ use Rattle.jr_parse.specs.declared.fault.ParseFault.TheVariants as parsing
 use Rattle.jr_front.specs.Checking.{CheckedAs}
 use Rattle.jr_front.specs.declared.fault.FrontFault.{FrontFault}
 use Rattle.jr_front.specs.declared.fault.FrontFault.TheVariants as front
-use Rattle.jr_gather.specs.Gathering.{HoldsFiles, AreFiles, IsTooLarge, many_files, long_path, large_file, much_in_all, size_of, sizes}
+use Rattle.jr_gather.specs.Gathering.{HoldsFiles, AreFiles, IsTooLarge, IsFirstTooLarge, many_files, long_path, large_file, much_in_all, size_of, sizes}
 use Rattle.std.proofs.lemmas.Option.{same_Some}
 use Rattle.jr_commit.specs.Restoring.{Restored, RestoresTo, SameFiles, StartsRecover}
 use Rattle.jr_request.specs.Words.{command_of}
@@ -53,7 +53,7 @@ reading_plain words (command, is, reads) paths = record { recovery = (command, i
 -- ---- what is said of the files
 
 module _ (told : Option Image) (before after : ℕ) where
-  pub oversized_said : (what : Size) → ((f : Image) → told ≡ Some f → IsTooLarge f what) → Checks (Some Check) told [] before after (TooLarge what 0)
+  pub oversized_said : (what : Size) → ((f : Image) → told ≡ Some f → IsFirstTooLarge f what) → Checks (Some Check) told [] before after (TooLarge what 0)
   oversized_said what large = for_told told (λ f. IsVerdict f [] (TooLarge what 0)) (λ f is. oversized (large f is) refl)
 
   module _ (found : FileMap) (holds : (f : Image) → told ≡ Some f → HoldsFiles f found) (paths : List (List ℕ)) where
@@ -97,7 +97,7 @@ module _ (asked : Option Command) (no_check : asked ≡ Some Check → ⊥) (tol
   told_shown : (paths : List (List ℕ)) (status : Status) → ((f : Image) → told ≡ Some f → IsShown asked f paths status) → ForTold told (λ f. IsSaid asked f paths status)
   told_shown paths status each = for_told told (λ f. IsSaid asked f paths status) (λ f is. to_asked asked f paths status no_check (each f is))
 
-  pub shown_size : (what : Size) → ((f : Image) → told ≡ Some f → IsTooLarge f what) → Checks asked told [] before after (TooLarge what 0)
+  pub shown_size : (what : Size) → ((f : Image) → told ≡ Some f → IsFirstTooLarge f what) → Checks asked told [] before after (TooLarge what 0)
   shown_size what large = told_shown [] (TooLarge what 0) (λ f is. shows_size (large f is) refl)
 
   module _ (found : FileMap) (holds : (f : Image) → told ≡ Some f → HoldsFiles f found) (paths : List (List ℕ)) where
@@ -158,16 +158,20 @@ module _ (f g : Image) (same : SameFiles f g) where
   large_same (large_file path bytes java there long) = large_file path bytes java (sym (same path java) ∙ there) long
   large_same (much_in_all paths are many) = much_in_all paths (are_same paths are) (subst (λ (n : ℕ). limits.TOTAL < n) (sym (sizes_same paths are.java)) many)
 
+module _ (f g : Image) (same : SameFiles f g) where
+  first_same : {what : Size} → IsFirstTooLarge f what → IsFirstTooLarge g what
+  first_same it = record { passes = large_same f g same it.passes; first = λ other large. it.first other (large_same g f (λ path java. sym (same path java)) large) }
+
   verdict_same : (paths : List (List ℕ)) (status : Status) → IsVerdict f paths status → IsVerdict g paths status
-  verdict_same paths status (accepted {found} holds checked is) = accepted (files_same found holds) checked is
-  verdict_same paths status (refused {found} holds checked keys is) = refused (files_same found holds) checked keys is
-  verdict_same paths status (oversized {what} large is) = oversized (large_same large) is
+  verdict_same paths status (accepted {found} holds checked is) = accepted (files_same f g same found holds) checked is
+  verdict_same paths status (refused {found} holds checked keys is) = refused (files_same f g same found holds) checked keys is
+  verdict_same paths status (oversized {what} large is) = oversized (first_same large) is
 
   shown_same : (asked : Option Command) (paths : List (List ℕ)) (status : Status) → IsShown asked f paths status → IsShown asked g paths status
-  shown_same asked paths status (shows {found} holds checked answers is) = shows (files_same found holds) checked answers is
-  shown_same asked paths status (shows_none {found} reason holds checked answers is) = shows_none reason (files_same found holds) checked answers is
-  shown_same asked paths status (shows_refusal {found} holds checked keys is) = shows_refusal (files_same found holds) checked keys is
-  shown_same asked paths status (shows_size large is) = shows_size (large_same large) is
+  shown_same asked paths status (shows {found} holds checked answers is) = shows (files_same f g same found holds) checked answers is
+  shown_same asked paths status (shows_none {found} reason holds checked answers is) = shows_none reason (files_same f g same found holds) checked answers is
+  shown_same asked paths status (shows_refusal {found} holds checked keys is) = shows_refusal (files_same f g same found holds) checked keys is
+  shown_same asked paths status (shows_size large is) = shows_size (first_same large) is
 
   said_same : (asked : Option Command) (paths : List (List ℕ)) (status : Status) → IsSaid asked f paths status → IsSaid asked g paths status
   said_same (Some Check) paths status said = verdict_same paths status said

@@ -8,7 +8,7 @@ use Rattle.jr_batch.specs.declared.fault.BatchFault.{BatchFault}
 use Rattle.jr_batch.proofs.OneAnswer.{one_answer}
 use Rattle.jr_commit.specs.Planned.{Planned}
 use Rattle.jr_commit.specs.Restoring.{Restored}
-use Rattle.jr_gather.specs.Gathering.{HoldsFiles, IsTooLarge}
+use Rattle.jr_gather.specs.Gathering.{HoldsFiles, IsFirstTooLarge}
 use Rattle.jr_request.specs.Words.{command_of}
 use Rattle.jr_request.specs.declared.command.Command.{Command}
 use Rattle.jr_request.specs.declared.command.Command.TheVariants.{One, Batch, Check, Undo, Run, Refs, Subtypes, Callers, Demo}
@@ -28,7 +28,7 @@ use Rattle.jr_top.proofs.Settled.{holds_back}
 -- what is decided on later files, which are the same, is decided on the files
 pub earlier_all : (requests : List Request) (told mid : Option Image) (before middle after : ℕ) (decision : Decision) → mid ≡ told → before ≤ middle → DecidesAll requests mid middle after decision → DecidesAll requests told before after decision
 earlier_all requests told mid before middle after decision same later (on_files {found = found} holds decides) = on_files (subst (λ (t : Option Image). ForTold t (λ files. HoldsFiles files found)) same holds) decides
-earlier_all requests told mid before middle after decision same later (is_too_large {what = what} is large) = is_too_large is (subst (λ (t : Option Image). ForTold t (λ files. IsTooLarge files what)) same large)
+earlier_all requests told mid before middle after decision same later (is_too_large {what = what} is large) = is_too_large is (subst (λ (t : Option Image). ForTold t (λ files. IsFirstTooLarge files what)) same large)
 earlier_all requests told mid before middle after decision same later (is_not_read is rose) = is_not_read is (rose_earlier before middle after later rose)
 earlier_all requests told mid before middle after decision same later (is_short is) = is_short is
 

@@ -8,7 +8,7 @@ use Rattle.jr_parse.specs.declared.fault.ParseFault.TheVariants as parsing
 use Rattle.jr_front.specs.Checking.{CheckedAs}
 use Rattle.jr_front.specs.declared.fault.FrontFault.{FrontFault}
 use Rattle.jr_front.specs.declared.fault.FrontFault.TheVariants as front
-use Rattle.jr_gather.specs.Gathering.{HoldsFiles, IsTooLarge}
+use Rattle.jr_gather.specs.Gathering.{HoldsFiles, IsFirstTooLarge}
 use Rattle.jr_change.specs.declared.reason.Reason.{Reason}
 use Rattle.jr_commit.specs.Restoring.{SameFiles}
 use Rattle.jr_request.specs.Words.{command_of}
@@ -63,7 +63,7 @@ status_of front.OutOfMemory = OutOfMemory
 pub data IsVerdict (f : Image) (paths : List (List ℕ)) (status : Status) : Type 0 where
   accepted : {found : FileMap} → HoldsFiles f found → CheckedAs found (Ok tt) → status ≡ Done (Checked (map.len found)) → IsVerdict f paths status
   refused : {found : FileMap} {why : FrontFault} → HoldsFiles f found → CheckedAs found (Err why) → paths ≡ map.keys found → status ≡ status_of why → IsVerdict f paths status
-  oversized : {what : Size} → IsTooLarge f what → status ≡ TooLarge what 0 → IsVerdict f paths status
+  oversized : {what : Size} → IsFirstTooLarge f what → status ≡ TooLarge what 0 → IsVerdict f paths status
 
 -- what the front says of the files that were read
 pub data Fronted (found : FileMap) (paths : List (List ℕ)) (status : Status) : Type 0 where
@@ -77,7 +77,7 @@ pub data IsShown (asked : Option Command) (f : Image) (paths : List (List ℕ)) 
   shows : {found : FileMap} {text : List ℕ} → HoldsFiles f found → CheckedAs found (Ok tt) → IsAnswerTo asked found (Ok text) → status ≡ Done (Printed text) → IsShown asked f paths status
   shows_none : {found : FileMap} (reason : Reason) → HoldsFiles f found → CheckedAs found (Ok tt) → IsAnswerTo asked found (Err (run.Bad reason)) → status ≡ BadRequest 0 (reason_number reason) None → IsShown asked f paths status
   shows_refusal : {found : FileMap} {why : FrontFault} → HoldsFiles f found → CheckedAs found (Err why) → paths ≡ map.keys found → status ≡ status_of why → IsShown asked f paths status
-  shows_size : {what : Size} → IsTooLarge f what → status ≡ TooLarge what 0 → IsShown asked f paths status
+  shows_size : {what : Size} → IsFirstTooLarge f what → status ≡ TooLarge what 0 → IsShown asked f paths status
 
 -- what is shown of the files that were read
 pub data Showed (asked : Option Command) (found : FileMap) (paths : List (List ℕ)) (status : Status) : Type 0 where

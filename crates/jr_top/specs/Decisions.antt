@@ -16,7 +16,7 @@ use Rattle.jr_commit.specs.SidesAt.{SideAt, with_sides}
 use Rattle.jr_commit.specs.declared.entry.Version.TheVariants.{Two}
 use Rattle.jr_engine.specs.Planning.{PlannedAs}
 use Rattle.jr_engine.specs.declared.fault.Refused.{Refused}
-use Rattle.jr_gather.specs.Gathering.{HoldsFiles, IsTooLarge}
+use Rattle.jr_gather.specs.Gathering.{HoldsFiles, IsFirstTooLarge}
 use Rattle.jr_request.specs.declared.command.Command.{Command}
 use Rattle.jr_request.specs.declared.command.Command.TheVariants as command
 use Rattle.jr_rule.specs.declared.Rule.TheVariants.{LocalNames}
@@ -126,7 +126,7 @@ pub data DecidesFiles (found : FileMap) (requests : List Request) (decision : De
 -- when each decision on requests comes that the engine serves
 pub data DecidesAll (requests : List Request) (told : Option Image) (before after : ℕ) (decision : Decision) : Type 0 where
   on_files : {found : FileMap} → ForTold told (λ files. HoldsFiles files found) → DecidesFiles found requests decision → DecidesAll requests told before after decision
-  is_too_large : {what : Size} → decision ≡ Answer (TooLarge what 0) → ForTold told (λ files. IsTooLarge files what) → DecidesAll requests told before after decision
+  is_too_large : {what : Size} → decision ≡ Answer (TooLarge what 0) → ForTold told (λ files. IsFirstTooLarge files what) → DecidesAll requests told before after decision
   is_not_read : decision ≡ Answer (StoreFault Reading) → Rose before after → DecidesAll requests told before after decision
   is_short : decision ≡ Answer OutOfMemory → DecidesAll requests told before after decision
 

@@ -20,7 +20,7 @@ use Rattle.jr_engine.specs.declared.fault.LostKind.TheVariants as lost
 use Rattle.jr_engine.specs.declared.fault.Refused.{Refused}
 use Rattle.jr_engine.specs.declared.fault.StepFault.{StepFault}
 use Rattle.jr_engine.specs.declared.fault.StepFault.TheVariants as step
-use Rattle.jr_gather.specs.Gathering.{HoldsFiles, IsTooLarge}
+use Rattle.jr_gather.specs.Gathering.{HoldsFiles, IsFirstTooLarge}
 use Rattle.jr_request.specs.Words.{command_of}
 use Rattle.jr_request.specs.declared.command.Command.{Command}
 use Rattle.jr_request.specs.declared.command.Command.TheVariants.{One, Batch}
@@ -123,7 +123,7 @@ pub data Plans (requests : List Request) (paths : List (List ℕ)) (found left :
   unchanged : said ≡ status.Done (Changed 0) → left ≡ found → ForTold found (IsUnchanged requests) → Plans requests paths found left outcomes before after said
   refused : (why : Refused) → said ≡ answer_to why.request why.fault → paths ≡ why.paths.items → left ≡ found → ForTold found (IsRefusedAs requests why) → Plans requests paths found left outcomes before after said
   -- a size of the files found passes its limit
-  oversized : {what : Size} → said ≡ status.TooLarge what 0 → left ≡ found → ForTold found (λ files. IsTooLarge files what) → Plans requests paths found left outcomes before after said
+  oversized : {what : Size} → said ≡ status.TooLarge what 0 → left ≡ found → ForTold found (λ files. IsFirstTooLarge files what) → Plans requests paths found left outcomes before after said
   not_read : said ≡ status.StoreFault Reading → left ≡ found → Rose before after → Plans requests paths found left outcomes before after said
   not_written : said ≡ status.StoreFault Writing → Tells found left (IsPartlyReplaced requests) → Rose before after → Plans requests paths found left outcomes before after said
   no_memory : said ≡ status.OutOfMemory → left ≡ found → Plans requests paths found left outcomes before after said

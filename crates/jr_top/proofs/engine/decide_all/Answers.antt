@@ -1,5 +1,5 @@
 use Rattle.std.proofs.Common.{refl}
-use Rattle.jr_gather.specs.Gathering.{HoldsFiles, IsTooLarge}
+use Rattle.jr_gather.specs.Gathering.{HoldsFiles, IsFirstTooLarge}
 use Rattle.jr_top.specs.Decisions.{on_files, is_too_large}
 use Rattle.jr_top.proofs.Outcomes.{for_told}
 use Rattle.jr_top.proofs.engine.decide_all.Goals as goal
@@ -12,4 +12,4 @@ returns-in-Ok-Files-clause-decision g c =
 pub returns-in-Ok-TooLarge-clause-decision : goal.returns-in-Ok-TooLarge-clause-decision
 returns-in-Ok-TooLarge-clause-decision g c =
     let what = c.in-Ok-TooLarge.what in
-    is_too_large {what = what} refl (for_told (g.S.Store.files c.args.store.now) (λ files. IsTooLarge files what) (λ f is. rw c.in-Ok-TooLarge.field-0-is at (c.in-Ok-TooLarge.ensures.found f is)))
+    is_too_large {what = what} refl (for_told (g.S.Store.files c.args.store.now) (λ files. IsFirstTooLarge files what) (λ f is. rw c.in-Ok-TooLarge.field-0-is at (c.in-Ok-TooLarge.ensures.found f is)))
