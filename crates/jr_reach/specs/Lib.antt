@@ -1,4 +1,5 @@
 pub mod Courses
+pub mod Plain
 pub mod Statements
 pub mod Reached
 pub mod Faults

@@ -1,8 +1,9 @@
 // The course of one row, by those of the rows behind it.
-ghost use Rattle.std.specs.Prelude.{◌≡◌, ◌<◌, ◌^◌, IfOk, Some, length};
+ghost use Rattle.std.specs.Prelude.{◌≡◌, ◌<◌, ◌^◌, IfOk, Some, false, length};
 ghost use Rattle.jr_tree.specs.Rows.{label};
 ghost use Rattle.jr_reach.specs.Courses.{looped, looped_once, switched, labeled};
-ghost use Rattle.jr_reach.specs.Statements.{nothing, later, if_course, tried, try_course, course_at, rest_by, entry_at};
+ghost use Rattle.jr_reach.specs.Plain.{has_course};
+ghost use Rattle.jr_reach.specs.Statements.{nothing, later, if_course, tried, try_course, course_at, rest_by, entry_at, Facts};
 
 use crate::course::{
     copied, either, group, has, jump_course, passed, past, past_loop, start, turn,
@@ -254,7 +255,59 @@ fn rest_course(
     }
 }
 
-pub(crate) fn entry_of(
+// A statement, a body, or a part of a statement that may end otherwise than it began.
+fn has_course(label: &Label) -> bool
+    ensures { result ≡ has_course label.now }
+{
+    match label {
+        Label::Block => true,
+        Label::Nest => true,
+        Label::Group => true,
+        Label::Catch => true,
+        Label::Method { .. } => true,
+        Label::Initializer { .. } => true,
+        Label::Labeled => true,
+        Label::If => true,
+        Label::While => true,
+        Label::For { .. } => true,
+        Label::Do => true,
+        Label::Switch => true,
+        Label::Break { .. } => true,
+        Label::Continue { .. } => true,
+        Label::Return => true,
+        Label::Throw => true,
+        Label::Try { .. } => true,
+        _ => false,
+    }
+}
+
+// What is known of any other row: it does nothing itself.
+fn plain_entry(
+    alloc: Global,
+    rows: &[Row],
+    all: &[Entry],
+    none: &Entry,
+    n: usize,
+) -> Result<Entry, OutOfMemory>
+    requires there { n < length rows.now }
+    requires few { length rows.now < 2 ^ 32 }
+    requires none { none.now ≡ nothing }
+    ensures { has_course (label rows.now n) ≡ false → IfOk result (λ made. (facts : Facts) → made ≡ entry_at rows.now facts (later (length rows.now) all.now) n) }
+{
+    let own = start(alloc);
+    if !is_followed(rows, n) {
+        return Ok(Entry {
+            own,
+            rest: start(alloc),
+        });
+    }
+    let more = &known(all, rows.len(), none, end_of(rows, n)).rest;
+    let rest = turn(alloc, &own, more)?;
+    Ok(Entry { own, rest })
+}
+
+// What is known of a row that has a course of its own.
+fn full_entry(
     alloc: Global,
     rows: &[Row],
     facts: &[Fact],
@@ -270,4 +323,23 @@ pub(crate) fn entry_of(
     let own = own_course(alloc, rows, facts, all, none, n)?;
     let rest = rest_course(alloc, rows, all, none, n, &own)?;
     Ok(Entry { own, rest })
+}
+
+pub(crate) fn entry_of(
+    alloc: Global,
+    rows: &[Row],
+    facts: &[Fact],
+    all: &[Entry],
+    none: &Entry,
+    n: usize,
+) -> Result<Entry, OutOfMemory>
+    requires there { n < length rows.now }
+    requires few { length rows.now < 2 ^ 32 }
+    requires none { none.now ≡ nothing }
+    ensures { IfOk result (λ made. made ≡ entry_at rows.now facts.now (later (length rows.now) all.now) n) }
+{
+    if has_course(&rows[n].label) {
+        return full_entry(alloc, rows, facts, all, none, n);
+    }
+    plain_entry(alloc, rows, all, none, n)
 }
