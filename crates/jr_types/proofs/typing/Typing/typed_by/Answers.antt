@@ -7,6 +7,7 @@ use Rattle.jr_types.proofs.typing.Typing.typed_by.Goals as goal
 
 pub returns-in-Literal : goal.returns-in-Literal
 returns-in-Literal c = λ constant h few. c.literal_type.ensures (rows_of c.args.self) h.string_is
+    ∙ ap (plain.literal_type (rows_of c.args.self)) c.get.ensures
     ∙ ap (plain.typed_by (rows_of c.args.self) (table_of c.args.self) constant (types_of c.args.self) c.args.at) (sym c.in-Literal.is)
 
 pub returns-in-Name : goal.returns-in-Name
