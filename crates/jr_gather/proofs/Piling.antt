@@ -291,7 +291,7 @@ module _ (f : Image) (paths : List (List ℕ)) (distinct : IsDistinct bytes_eq p
   no_more_files : length paths ≤ limits.FILES → (others : List (List ℕ)) → AreFiles f others → length others ≤ length paths
   no_more_files few others them = length-le_from_is_member nat_list_eq_equiv others paths them.distinct
       (λ q among. let there = Contains-from_any (λ a b same. (bytes_eq-Decides a b).0 same) q others among in
-          list_any-from_Contains nat_list_eq_equiv q paths (all_there few q (java_at others them.java q there) (them.there q there)))
+      list_any-from_Contains nat_list_eq_equiv q paths (all_there few q (java_at others them.java q there) (them.there q there)))
 
   -- a size that passes its limit comes no earlier than a place, where those before it tell so
   above : (least : ℕ) → least ≤ 3 → ((others : List (List ℕ)) → AreFiles f others → limits.FILES < length others → least ≤ 0)
