@@ -5,3 +5,5 @@ pub mod Choosing
 pub mod Denoting
 pub mod Needing
 pub mod Told
+pub mod Sparing
+pub mod Passing

@@ -3,6 +3,7 @@ ghost use Rattle.std.specs.Prelude.{◌≡◌, ◌++◌, ◌+◌, ◌<◌, ◌^�
 ghost use Rattle.jr_type_faults.specs.Faults as tell;
 
 use crate::creations::abstract_is_used;
+use crate::groups::{may_break_contexts, may_break_uses, may_break_values};
 use crate::initializing::is_used_too_early;
 use crate::objects::lacks_object;
 use crate::operands::{
@@ -82,14 +83,48 @@ fn push_uses(facts: &Facts, at: u32, out: &mut Vec<Fault>) -> Result<(), OutOfMe
     Ok(())
 }
 
+// The same, of any row.
+fn push_any_contexts(facts: &Facts, at: u32, out: &mut Vec<Fault>) -> Result<(), OutOfMemory>
+    ensures exact { tell.CanTell facts.now → OnOk result (tell.AddsRules facts.now.view tell.contexts at out.old.items out.new.items) }
+    ensures only { OnOk result (tell.AreOnlyOf tell.contexts out.old.items out.new.items) }
+{
+    if !may_break_contexts(facts, at) {
+        return Ok(());
+    }
+    push_contexts(facts, at, out)?;
+    Ok(())
+}
+
+fn push_any_values(facts: &Facts, at: u32, out: &mut Vec<Fault>) -> Result<(), OutOfMemory>
+    ensures exact { tell.CanTell facts.now → OnOk result (tell.AddsRules facts.now.view tell.values at out.old.items out.new.items) }
+    ensures only { OnOk result (tell.AreOnlyOf tell.values out.old.items out.new.items) }
+{
+    if !may_break_values(facts.rows(), at) {
+        return Ok(());
+    }
+    push_values(facts, at, out)?;
+    Ok(())
+}
+
+fn push_any_uses(facts: &Facts, at: u32, out: &mut Vec<Fault>) -> Result<(), OutOfMemory>
+    ensures exact { tell.CanTell facts.now → at + 1 < 2 ^ 32 → OnOk result (tell.AddsRules facts.now.view tell.uses at out.old.items out.new.items) }
+    ensures only { OnOk result (tell.AreOnlyOf tell.uses out.old.items out.new.items) }
+{
+    if !may_break_uses(facts.rows(), at) {
+        return Ok(());
+    }
+    push_uses(facts, at, out)?;
+    Ok(())
+}
+
 // The faults at a row.
 fn push_row(facts: &Facts, at: u32, out: &mut Vec<Fault>) -> Result<(), OutOfMemory>
     ensures exact { tell.CanTell facts.now → at + 1 < 2 ^ 32 → OnOk result (tell.AddsRow facts.now.view at out.old.items out.new.items) }
     ensures only { OnOk result (tell.AreOnlyOf tell.type_rules out.old.items out.new.items) }
 {
-    push_contexts(facts, at, out)?;
-    push_values(facts, at, out)?;
-    push_uses(facts, at, out)?;
+    push_any_contexts(facts, at, out)?;
+    push_any_values(facts, at, out)?;
+    push_any_uses(facts, at, out)?;
     Ok(())
 }
 

@@ -3,6 +3,7 @@
 
 mod creations;
 mod faults;
+mod groups;
 mod initializing;
 mod objects;
 mod operands;

@@ -69,8 +69,8 @@ fn refers_to_other(facts: &Facts, at: u32) -> bool
     }
 }
 
-// The row names a class that a method or constructor declares.
-fn is_declared_class(rows: &[Row], at: u32) -> bool
+/// The row names a class that a method or constructor declares.
+pub fn is_declared_class(rows: &[Row], at: u32) -> bool
     ensures { result ≡ (statements.is_method_or_constructor (all_rows.role_at rows.now (all_rows.parent rows.now at)) && statements.is_other_name (all_rows.label rows.now at)) }
 {
     is_method_or_constructor(role_at(rows, parent_at(rows, at))) && is_other_name(rows, at)
