@@ -12,7 +12,7 @@ use Rattle.jr_locks.specs.Origins.{no_row, origin_of}
 use Rattle.jr_locks.specs.Locked.{every, AllLocked}
 use Rattle.jr_locks.specs.Copies.{AreTold, AreAllTold, old_count}
 use Rattle.jr_locks.specs.Copying.{AllCopies, AreNumbered, name_by, name_in}
-use Rattle.jr_locks.specs.Changed.{IsChanged, AreCopies, origins_by, turned_by, first_copy, copies_by}
+use Rattle.jr_locks.specs.Changed.{IsChanged, AreCopies, origins_by, turned_by, rests_by, first_copy, copies_by}
 use Rattle.jr_locks.specs.declared.moving.Copies.{Copies}
 use Rattle.jr_locks.proofs.Told.{is_row}
 
@@ -46,22 +46,24 @@ copies_by_told origin c old fits size h = copies_are origin c.first.items old fi
 
 -- ---- the change
 
-copies_so : (old : Rows) (change : Change) (rows : Rows) (origin numbers : List ℕ) (is_turned : List Bool) → origin ≡ origins_by change → is_turned ≡ turned_by change
-    → AreNumbered change.namings.items (length old) numbers → AllCopies old (name_in change.namings.items numbers) origin is_turned rows (length rows) → AreCopies old change rows
-copies_so old change rows origin numbers is_turned is also named h =
-    subst (λ from. AllCopies old (name_by change.namings.items) from (turned_by change) rows (length rows)) is
-    (subst (λ flags. AllCopies old (name_by change.namings.items) origin flags rows (length rows)) also
+copies_so : (old : Rows) (change : Change) (rows : Rows) (origin numbers : List ℕ) (is_turned : List Bool) (behind : List ℕ) → origin ≡ origins_by change → is_turned ≡ turned_by change
+    → behind ≡ rests_by change → AreNumbered change.namings.items (length old) numbers → AllCopies old (name_in change.namings.items numbers) origin is_turned behind rows (length rows)
+    → AreCopies old change rows
+copies_so old change rows origin numbers is_turned behind is also too named h =
+    subst (λ from. AllCopies old (name_by change.namings.items) from (turned_by change) (rests_by change) rows (length rows)) is
+    (subst (λ flags. AllCopies old (name_by change.namings.items) origin flags (rests_by change) rows (length rows)) also
+    (subst (λ left. AllCopies old (name_by change.namings.items) origin is_turned left rows (length rows)) too
     (record {
-      each = λ n lt real. let c = h.each n lt real in record { stood = c.stood; label_is = c.label_is; name_is = c.name_is ∙ named.each (origin_of origin n) _ c.stood };
-    }))
+      each = λ n lt real. let c = h.each n lt real in record { stood = c.stood; label_is = c.label_is; name_is = c.name_is ∙ named.each (origin_of origin n) _ c.stood; ended = c.ended };
+    })))
 
-pub changed_by : (old : Rows) (t : Table) (change : Change) (rows : Rows) (origin numbers : List ℕ) (is_turned : List Bool) (locks : List Referent) (count : ℕ) → count ≡ length old
-    → origin ≡ origins_by change → is_turned ≡ turned_by change → length origin ≡ length rows → AreNumbered change.namings.items (length old) numbers
-    → AllCopies old (name_in change.namings.items numbers) origin is_turned rows (length rows)
+pub changed_by : (old : Rows) (t : Table) (change : Change) (rows : Rows) (origin numbers : List ℕ) (is_turned : List Bool) (behind : List ℕ) (locks : List Referent) (count : ℕ)
+    → count ≡ length old → origin ≡ origins_by change → is_turned ≡ turned_by change → behind ≡ rests_by change → length origin ≡ length rows
+    → AreNumbered change.namings.items (length old) numbers → AllCopies old (name_in change.namings.items numbers) origin is_turned behind rows (length rows)
     → AllLocked change.inner origin count t change.raised change.added.items (entries locks) (length origin) → IsChanged old t change rows (entries locks)
-changed_by old t change rows origin numbers is_turned locks count size is also long named copied h = record {
+changed_by old t change rows origin numbers is_turned behind locks count size is also too long named copied h = record {
   count = ap length (sym is) ∙ long;
-  copied = copies_so old change rows origin numbers is_turned is also named copied;
+  copied = copies_so old change rows origin numbers is_turned behind is also too named copied;
   locked = subst (λ n. AllLocked change.inner (origins_by change) n t change.raised change.added.items (entries locks) (length rows)) size
       (subst (λ n. AllLocked change.inner (origins_by change) count t change.raised change.added.items (entries locks) n) long
       (subst (λ from. AllLocked change.inner from count t change.raised change.added.items (entries locks) (length origin)) is h));

@@ -3,3 +3,4 @@ pub mod Locked
 pub mod Changing
 pub mod Numbers
 pub mod Adding
+pub mod Standing

@@ -1,5 +1,5 @@
 -- Namings of old rows by numbers, and copies by them.
-use Rattle.std.proofs.Common.{◌≡◌, ◌≢◌, refl, sym, ◌∙◌, ap, subst, ⊎_elim, arith, ℕ, ◌+◌, ◌<◌, ◌≤◌, Bool, true, false, ◌||◌, List, [], ◌∷◌, length, nat_eq, drop}
+use Rattle.std.proofs.Common.{◌≡◌, ◌≢◌, refl, sym, ◌∙◌, ap, subst, ⊎_elim, arith, ℕ, ◌+◌, ◌-◌, ◌<◌, ◌≤◌, Bool, true, false, ◌||◌, List, [], ◌∷◌, length, nat_eq, drop}
 use Rattle.std.specs.Prelude.{Option, Some, if◌then◌else◌, replicate, slice_set, slice_index_or}
 use Rattle.std.proofs.lemmas.Bool.{cases_lt}
 use Rattle.std.proofs.lemmas.Bool.Decides.{Decides-eqb}
@@ -10,6 +10,7 @@ use Rattle.jr_tree.specs.declared.row.Row.{Row}
 use Rattle.jr_tree.specs.Rows.{Rows, row}
 use Rattle.jr_change.specs.declared.change.Naming.{Naming}
 use Rattle.jr_locks.specs.Origins.{no_row, origin_of}
+use Rattle.jr_locks.specs.Ending.{rest_at, takes_declarations, IsAsLong}
 use Rattle.jr_locks.specs.Copying.{has_row, name_by, turned_at, IsCopy, AllCopies, name_or, name_at, name_of, name_in, with_number, AreNumbered, AreNumberedTo}
 
 -- ---- numbers
@@ -83,28 +84,30 @@ numbered_all namings old numbers at past h = record {
 
 -- ---- copies
 
-pub copy_by : (old : Rows) (named : ℕ → Text → Text) (d : ℕ) (is_turned : Bool) (one new : Row) → d < length old → one ≡ slice_index_or old d one → (is_turned ≡ false → new.label ≡ one.label)
-    → new.name ≡ named d one.name → IsCopy old named d is_turned new
-copy_by old named d is_turned one new lt is label_is name_is = record {
+pub copy_by : (old : Rows) (named : ℕ → Text → Text) (d : ℕ) (is_turned : Bool) (rest at : ℕ) (one new : Row) → d < length old → one ≡ slice_index_or old d one
+    → (is_turned ≡ false → new.label ≡ one.label) → new.name ≡ named d one.name → IsAsLong (takes_declarations one.label) rest (one.end - d) (new.end - at)
+    → IsCopy old named d is_turned rest at new
+copy_by old named d is_turned rest at one new lt is label_is name_is ended = record {
   stood = lt;
   label_is = λ kept. label_is kept ∙ ap (λ (r : Row). r.label) same;
   name_is = name_is ∙ ap (λ (r : Row). named d r.name) same;
+  ended = subst (λ (r : Row). IsAsLong (takes_declarations r.label) rest (r.end - d) (new.end - at)) same ended;
 }
   where
     same : one ≡ row old d
     same = is ∙ get_or_default old d one _ lt
 
-pub no_copies : (old : Rows) (named : ℕ → Text → Text) (origin : List ℕ) (is_turned : List Bool) (rows : Rows) → AllCopies old named origin is_turned rows 0
-no_copies old named origin is_turned rows = record { each = λ n lt real. absurd (omega (arith, lt)) }
+pub no_copies : (old : Rows) (named : ℕ → Text → Text) (origin : List ℕ) (is_turned : List Bool) (rests : List ℕ) (rows : Rows) → AllCopies old named origin is_turned rests rows 0
+no_copies old named origin is_turned rests rows = record { each = λ n lt real. absurd (omega (arith, lt)) }
 
-pub copies_more : (old : Rows) (named : ℕ → Text → Text) (origin : List ℕ) (is_turned : List Bool) (rows : Rows) (at : ℕ) (one : Row) → at < length rows → one ≡ slice_index_or rows at one
-    → (origin_of origin at ≢ no_row → IsCopy old named (origin_of origin at) (turned_at is_turned at) one) → AllCopies old named origin is_turned rows at
-    → AllCopies old named origin is_turned rows (at + 1)
-copies_more old named origin is_turned rows at one inside is now h = record {
+pub copies_more : (old : Rows) (named : ℕ → Text → Text) (origin : List ℕ) (is_turned : List Bool) (rests : List ℕ) (rows : Rows) (at : ℕ) (one : Row) → at < length rows
+    → one ≡ slice_index_or rows at one → (origin_of origin at ≢ no_row → IsCopy old named (origin_of origin at) (turned_at is_turned at) (rest_at rests at) at one)
+    → AllCopies old named origin is_turned rests rows at → AllCopies old named origin is_turned rests rows (at + 1)
+copies_more old named origin is_turned rests rows at one inside is now h = record {
   each = λ n lt real. ⊎_elim
       (λ less. h.each n less real)
       (λ here. let e : n ≡ at = omega (arith, here, lt) in
-      subst (λ k. IsCopy old named (origin_of origin k) (turned_at is_turned k) (row rows k)) (sym e)
-      (subst (λ (r : Row). IsCopy old named (origin_of origin at) (turned_at is_turned at) r) (is ∙ get_or_default rows at one _ inside) (now (λ none. real (ap (origin_of origin) e ∙ none)))))
+      subst (λ k. IsCopy old named (origin_of origin k) (turned_at is_turned k) (rest_at rests k) k (row rows k)) (sym e)
+      (subst (λ (r : Row). IsCopy old named (origin_of origin at) (turned_at is_turned at) (rest_at rests at) at r) (is ∙ get_or_default rows at one _ inside) (now (λ none. real (ap (origin_of origin) e ∙ none)))))
       (cases_lt n at);
 }

@@ -1,10 +1,11 @@
 -- What a copy of an old row is.
-use Rattle.std.specs.Prelude.{◌≡◌, ◌≢◌, ℕ, ◌<◌, Bool, false, ◌||◌, List, [], ◌∷◌, length, Option, Some, None, if◌then◌else◌, nat_eq, slice_get, slice_index_or, slice_set, drop}
+use Rattle.std.specs.Prelude.{◌≡◌, ◌≢◌, ℕ, ◌-◌, ◌<◌, Bool, false, ◌||◌, List, [], ◌∷◌, length, Option, Some, None, if◌then◌else◌, nat_eq, slice_get, slice_index_or, slice_set, drop}
 use Rattle.jr_base.specs.declared.text.Text.{Text}
 use Rattle.jr_tree.specs.declared.row.Row.{Row}
 use Rattle.jr_tree.specs.Rows.{Rows, row, label, name}
 use Rattle.jr_change.specs.declared.change.Naming.{Naming}
 use Rattle.jr_locks.specs.Origins.{no_row, origin_of}
+use Rattle.jr_locks.specs.Ending.{size_at, rest_at, takes_declarations, IsAsLong}
 
 abbrev pub has_row : List ℕ → ℕ → Bool
 has_row [] d = false
@@ -19,15 +20,17 @@ name_by (naming ∷ rest) d own = name_by rest d (if has_row naming.rows.items d
 abbrev pub turned_at : List Bool → ℕ → Bool
 turned_at is_turned n = slice_index_or is_turned n false
 
--- the row is a copy of the old row d, where copies of rows have these identifiers: it has the label of that, unless it is turned
-pub record IsCopy (old : Rows) (named : ℕ → Text → Text) (d : ℕ) (is_turned : Bool) (new : Row) : Type 0 where
+-- The row of number n is a copy of the old row d, where copies of rows have these identifiers, and so many rows of its run stand from it on: it has the label of that, unless
+-- it is turned, and ends where that does.
+pub record IsCopy (old : Rows) (named : ℕ → Text → Text) (d : ℕ) (is_turned : Bool) (rest n : ℕ) (new : Row) : Type 0 where
   pub stood : d < length old
   pub label_is : is_turned ≡ false → new.label ≡ label old d
   pub name_is : new.name ≡ named d (name old d)
+  pub ended : IsAsLong (takes_declarations (label old d)) rest (size_at old d) (new.end - n)
 
 -- each of the first so many rows that comes from an old row is a copy of it
-pub record AllCopies (old : Rows) (named : ℕ → Text → Text) (origin : List ℕ) (is_turned : List Bool) (rows : Rows) (count : ℕ) : Type 0 where
-  pub each : (n : ℕ) → n < count → origin_of origin n ≢ no_row → IsCopy old named (origin_of origin n) (turned_at is_turned n) (row rows n)
+pub record AllCopies (old : Rows) (named : ℕ → Text → Text) (origin : List ℕ) (is_turned : List Bool) (rests : List ℕ) (rows : Rows) (count : ℕ) : Type 0 where
+  pub each : (n : ℕ) → n < count → origin_of origin n ≢ no_row → IsCopy old named (origin_of origin n) (turned_at is_turned n) (rest_at rests n) n (row rows n)
 
 -- ---- as the code finds identifiers
 

@@ -1,5 +1,6 @@
 pub mod Origins
 pub mod Locked
+pub mod Ending
 pub mod Copying
 pub mod Changed
 pub mod Copies

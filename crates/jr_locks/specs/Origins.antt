@@ -41,6 +41,21 @@ abbrev pub turned : List Segment → List Bool
 turned [] = []
 turned (s ∷ rest) = turned_in s ++ turned rest
 
+-- so many numbers, from one on down
+abbrev pub down : ℕ → ℕ → List ℕ
+down from zero = []
+down from (suc k) = down from k ++ (from - k) ∷ []
+
+-- how many rows of the segment stand from each of its rows on; 0 where it copies no run of rows
+abbrev pub rest_in : Segment → List ℕ
+rest_in (segment.Copy first end) = down (end - first) (end - first)
+rest_in (segment.Turned row) = 0 ∷ []
+rest_in (segment.Glue count) = replicate count 0
+
+abbrev pub rests : List Segment → List ℕ
+rests [] = []
+rests (s ∷ more) = rest_in s ++ rests more
+
 -- the rows that a segment copies are rows from one on
 abbrev pub IsRun : Segment → Type 0
 IsRun (segment.Copy first end) = first ≤ end

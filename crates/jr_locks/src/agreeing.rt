@@ -1,10 +1,12 @@
 // Whether copies are copies.
 
-ghost use Rattle.std.specs.Prelude.{◌≡◌, ◌≢◌, ◌↔◌, IsTrue, IfOk, false, length, slice_set};
+ghost use Rattle.std.specs.Prelude.{◌≡◌, ◌≢◌, ◌↔◌, ◌-◌, IsTrue, IfOk, false, length, slice_set};
 ghost use Rattle.jr_locks.specs.Origins.{no_row};
 ghost use Rattle.jr_locks.specs.Copying as spec;
+ghost use Rattle.jr_locks.specs.Ending as ending;
 
 use crate::moving::origin_at;
+use crate::origins::Origins;
 use jr_base::OutOfMemory;
 use jr_change::{NO_ROW, Naming};
 use jr_runs::same_label;
@@ -82,6 +84,59 @@ fn has_label(old: &Label, is_turned: bool, new: &Label) -> bool
     is_turned || same_label(new, old)
 }
 
+// Below such a row a declaration can be added as the last one.
+fn takes_declarations(label: &Label) -> bool
+    ensures { result ≡ ending.takes_declarations label.now }
+{
+    match label {
+        Label::Program => true,
+        Label::Unit => true,
+        Label::Class { .. } => true,
+        Label::Interface { .. } => true,
+        Label::Body => true,
+        _ => false,
+    }
+}
+
+// How many rows a row of this number makes with all below it.
+fn size_of(row: &Row, at: usize) -> usize
+    ensures { result ≡ row.now.end - at }
+{
+    (row.end as usize).saturating_sub(at)
+}
+
+// A row has a copy of this size, where so many rows of its run stand from it on.
+fn is_as_long(is_open: bool, rest: usize, old: usize, new: usize) -> bool
+    ensures { IsTrue result → ending.IsAsLong is_open rest old new }
+{
+    if old < rest || (old == rest && !is_open) {
+        new == old
+    } else {
+        rest <= new
+    }
+}
+
+// The copy of a row of this number ends where that does, if so many rows of its run stand from it on.
+fn ends_alike(old: &Row, from: u32, rest: u32, new: &Row, at: usize) -> bool
+    ensures { IsTrue result → ending.IsAsLong (ending.takes_declarations old.now.label) rest (old.now.end - from) (new.now.end - at) }
+{
+    is_as_long(
+        takes_declarations(&old.label),
+        rest as usize,
+        size_of(old, from as usize),
+        size_of(new, at),
+    )
+}
+
+fn rest_at(rests: &[u32], at: usize) -> u32
+    ensures { result ≡ ending.rest_at rests.now at }
+{
+    match rests.get(at) {
+        Some(rest) => *rest,
+        None => 0,
+    }
+}
+
 fn turned_at(is_turned: &[bool], at: usize) -> bool
     ensures { result ≡ spec.turned_at is_turned.now at }
 {
@@ -109,10 +164,10 @@ impl<'a> Copying<'a> {
         name == self.name_in(from, own)
     }
 
-    // The row is a copy of the old one of this number, or of none.
+    // The row of a number is a copy of the old one of this number, or of none.
     #[tactic(auto, using(crate::proofs::Numbers::copy_by))]
-    fn is_copy(&self, from: u32, is_turned: bool, new: &Row) -> bool
-        ensures { IsTrue result → from ≢ no_row → spec.IsCopy self.now.old.now (spec.name_in self.now.namings.now self.now.numbers.now) from is_turned new.now }
+    fn is_copy(&self, from: u32, is_turned: bool, rest: u32, at: usize, new: &Row) -> bool
+        ensures { IsTrue result → from ≢ no_row → spec.IsCopy self.now.old.now (spec.name_in self.now.namings.now self.now.numbers.now) from is_turned rest at new.now }
     {
         if from == NO_ROW {
             return true;
@@ -121,19 +176,21 @@ impl<'a> Copying<'a> {
             Some(old) => {
                 has_label(&old.label, is_turned, &new.label)
                     && self.has_name(from, old.name.bytes(), new.name.bytes())
+                    && ends_alike(old, from, rest, new, at)
             }
             None => false,
         }
     }
 
-    /// Each row has the label of its origin, unless it is turned, and the identifier that copies of it have.
+    /// Each row has the label of its origin, unless it is turned, and the identifier that copies of it have, and ends where its origin does.
     #[tactic(auto, using(crate::proofs::Numbers::no_copies, crate::proofs::Numbers::copies_more))]
-    pub fn are_copies(&self, origin: &[u32], is_turned: &[bool], new: &[Row]) -> bool
-        ensures { IsTrue result → spec.AllCopies self.now.old.now (spec.name_in self.now.namings.now self.now.numbers.now) origin.now is_turned.now new.now (length new.now) }
+    pub fn are_copies(&self, all: &Origins, new: &[Row]) -> bool
+        ensures { IsTrue result → spec.AllCopies self.now.old.now (spec.name_in self.now.namings.now self.now.numbers.now) all.now.origin.items all.now.is_turned.items all.now.rest.items new.now (length new.now) }
     {
         for at in 0..new.len() {
-            let turned = turned_at(is_turned, at);
-            if !self.is_copy(origin_at(origin, at), turned, &new[at]) {
+            let turned = turned_at(&all.is_turned, at);
+            let rest = rest_at(&all.rest, at);
+            if !self.is_copy(origin_at(&all.origin, at), turned, rest, at, &new[at]) {
                 return false;
             }
         }

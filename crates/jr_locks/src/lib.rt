@@ -2,9 +2,11 @@
 #![tactic(auto)]
 
 mod agreeing;
+mod law;
 mod locking;
 mod moving;
 mod origins;
 
+pub use law::runs_stand_again;
 pub use locking::locks;
 pub use moving::row_for;

@@ -39,7 +39,7 @@ fn locks_by(
 
 /// How the rows of the changed program stand to the old ones, and what they must refer to: `table` is what the old rows refer to. None where the
 /// rows are not those that the change says: each copy has the label of its origin, unless it is turned, and its identifier or the one that the change
-/// gives it.
+/// gives it, and ends where its origin does.
 #[tactic(auto, using(crate::proofs::Changing::changed_by))]
 pub fn locks(
     alloc: Global,
@@ -64,7 +64,7 @@ pub fn locks(
         namings: &change.namings,
         numbers: &numbers,
     };
-    if !copying.are_copies(&origins.origin, &origins.is_turned, new) {
+    if !copying.are_copies(&origins, new) {
         return Ok(None);
     }
     let locks = locks_by(alloc, count, table, change, origins.origin)?;

@@ -15,35 +15,38 @@ pub struct Origins {
     pub origin: Vec<u32>,
     /// Which rows have another label than the old one.
     pub is_turned: Vec<bool>,
+    /// How many rows of its run of copies stand from each row on; 0 for a row that stands in none.
+    pub rest: Vec<u32>,
 }
 
 impl Origins {
-    fn push(&mut self, from: u32, is_turned: bool) -> Result<(), OutOfMemory>
-        ensures { OnOk result (Adds self.old self.new (from ∷ []) (is_turned ∷ [])) }
+    fn push(&mut self, from: u32, is_turned: bool, rest: u32) -> Result<(), OutOfMemory>
+        ensures { OnOk result (Adds self.old self.new (from ∷ []) (is_turned ∷ []) (rest ∷ [])) }
     {
         self.origin.push(from)?;
         self.is_turned.push(is_turned)?;
+        self.rest.push(rest)?;
         Ok(())
     }
 
     #[tactic(auto, using(crate::proofs::Adding::adds_none, crate::proofs::Adding::adds_copy))]
     fn push_copies(&mut self, first: u32, end: u32) -> Result<(), OutOfMemory>
         requires { first ≤ end }
-        ensures { OnOk result (Adds self.old self.new (spec.run first (end - first)) (replicate (end - first) false)) }
+        ensures { OnOk result (Adds self.old self.new (spec.run first (end - first)) (replicate (end - first) false) (spec.down (end - first) (end - first))) }
     {
         for at in first..end {
-            self.push(at, false)?;
+            self.push(at, false, end - at)?;
         }
         Ok(())
     }
 
     #[tactic(auto, using(crate::proofs::Adding::adds_none, crate::proofs::Adding::adds_glue))]
     fn push_glue(&mut self, count: u32) -> Result<(), OutOfMemory>
-        ensures { OnOk result (Adds self.old self.new (replicate count spec.no_row) (replicate count false)) }
+        ensures { OnOk result (Adds self.old self.new (replicate count spec.no_row) (replicate count false) (replicate count 0)) }
     {
         for turn in 0..count {
             let _ = turn;
-            self.push(NO_ROW, false)?;
+            self.push(NO_ROW, false, 0)?;
         }
         Ok(())
     }
@@ -51,11 +54,11 @@ impl Origins {
     // Pushes the rows of a segment whose rows are there.
     fn push_rows(&mut self, segment: Segment) -> Result<(), OutOfMemory>
         requires { spec.IsRun segment }
-        ensures { OnOk result (Adds self.old self.new (spec.of_segment segment) (spec.turned_in segment)) }
+        ensures { OnOk result (Adds self.old self.new (spec.of_segment segment) (spec.turned_in segment) (spec.rest_in segment)) }
     {
         match segment {
             Segment::Copy { first, end } => self.push_copies(first, end),
-            Segment::Turned { row } => self.push(row, true),
+            Segment::Turned { row } => self.push(row, true, 0),
             Segment::Glue { count } => self.push_glue(count),
         }
     }
@@ -67,7 +70,7 @@ impl Origins {
         old: usize,
         most: usize,
     ) -> Result<bool, OutOfMemory>
-        ensures { IfOk result (λ can. IsTrue can → Adds self.old self.new (spec.of_segment segment) (spec.turned_in segment)) }
+        ensures { IfOk result (λ can. IsTrue can → Adds self.old self.new (spec.of_segment segment) (spec.turned_in segment) (spec.rest_in segment)) }
     {
         let Some(length) = length_of(segment, old) else {
             return Ok(false);
@@ -98,7 +101,7 @@ fn length_of(segment: Segment, old: usize) -> Option<usize>
 }
 
 /// The old row of which each row is a copy, where the segments are of so many old rows and make so many rows.
-#[tactic(auto, using(crate::proofs::Adding::begun, crate::proofs::Adding::begun_more, crate::proofs::Adding::ended_origin, crate::proofs::Adding::ended_turned))]
+#[tactic(auto, using(crate::proofs::Adding::begun, crate::proofs::Adding::begun_more, crate::proofs::Adding::ended_origin, crate::proofs::Adding::ended_turned, crate::proofs::Adding::ended_rest))]
 pub fn origins_of(
     alloc: Global,
     segments: &[Segment],
@@ -107,11 +110,13 @@ pub fn origins_of(
 ) -> Result<Option<Origins>, OutOfMemory>
     ensures origin { IfOk result (λ found. IfSome found (λ all. all.origin.items ≡ spec.origins segments.now)) }
     ensures turned { IfOk result (λ found. IfSome found (λ all. all.is_turned.items ≡ spec.turned segments.now)) }
+    ensures rest { IfOk result (λ found. IfSome found (λ all. all.rest.items ≡ spec.rests segments.now)) }
     ensures count { IfOk result (λ found. IfSome found (λ all. length all.origin.items ≡ new)) }
 {
     let mut all = Origins {
         origin: Vec::new(alloc),
         is_turned: Vec::new(alloc),
+        rest: Vec::new(alloc),
     };
     for segment in segments {
         if !all.push_segment(*segment, old, new)? {

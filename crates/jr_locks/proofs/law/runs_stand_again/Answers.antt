@@ -1,0 +1,5 @@
+use Rattle.jr_locks.proofs.Standing.{stands_again}
+use Rattle.jr_locks.proofs.law.runs_stand_again.Goals as goal
+
+pub returns : goal.returns
+returns c = λ old t change rows locks is here there fits d n stood closed one. stands_again old t change rows locks is here there fits d n stood closed one
