@@ -54,7 +54,7 @@ copies_so old change rows origin numbers is_turned behind is also too named h =
     (subst (λ flags. AllCopies old (name_by change.namings.items) origin flags (rests_by change) rows (length rows)) also
     (subst (λ left. AllCopies old (name_by change.namings.items) origin is_turned left rows (length rows)) too
     (record {
-      each = λ n lt real. let c = h.each n lt real in record { stood = c.stood; label_is = c.label_is; name_is = c.name_is ∙ named.each (origin_of origin n) _ c.stood; ended = c.ended };
+      each = λ n lt real. let c = h.each n lt real in record { stood = c.stood; label_is = c.label_is; name_is = c.name_is ∙ named.each (origin_of origin n) _ c.stood; end_is = c.end_is };
     })))
 
 pub changed_by : (old : Rows) (t : Table) (change : Change) (rows : Rows) (origin numbers : List ℕ) (is_turned : List Bool) (behind : List ℕ) (locks : List Referent) (count : ℕ)

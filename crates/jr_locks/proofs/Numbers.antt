@@ -87,11 +87,11 @@ numbered_all namings old numbers at past h = record {
 pub copy_by : (old : Rows) (named : ℕ → Text → Text) (d : ℕ) (is_turned : Bool) (rest at : ℕ) (one new : Row) → d < length old → one ≡ slice_index_or old d one
     → (is_turned ≡ false → new.label ≡ one.label) → new.name ≡ named d one.name → IsAsLong (takes_declarations one.label) rest (one.end - d) (new.end - at)
     → IsCopy old named d is_turned rest at new
-copy_by old named d is_turned rest at one new lt is label_is name_is ended = record {
+copy_by old named d is_turned rest at one new lt is label_is name_is end_is = record {
   stood = lt;
   label_is = λ kept. label_is kept ∙ ap (λ (r : Row). r.label) same;
   name_is = name_is ∙ ap (λ (r : Row). named d r.name) same;
-  ended = subst (λ (r : Row). IsAsLong (takes_declarations r.label) rest (r.end - d) (new.end - at)) same ended;
+  end_is = subst (λ (r : Row). IsAsLong (takes_declarations r.label) rest (r.end - d) (new.end - at)) same end_is;
 }
   where
     same : one ≡ row old d

@@ -115,6 +115,9 @@ goes_on (s ∷ more) n i less = ⊎_elim
 
 -- ---- a row with all below it
 
+pub each_origin : (old : Rows) (change : Change) (d n : ℕ) → StandsInOne old (origins_by change) (rests_by change) d n → (i : ℕ) → i < size_at old d → origin_of (origins_by change) (n + i) ≡ d + i
+each_origin old change d n one i lt = let a = one.all in (goes_on change.segments.items n i (omega (arith, a, lt))).from ∙ ap (λ x. x + i) one.first
+
 module _ (old : Rows) (t : Table) (change : Change) (rows : Rows) (locks : Table) (h : IsChanged old t change rows locks) (here : IsTree old) (there : IsTree rows) (fits : length old ≤ no_row)
     (d at : ℕ) (stood : d < length old) (closed : takes_declarations (label old d) ≡ false) (one : StandsInOne old (origins_by change) (rests_by change) d at) where
   goes : (m i : ℕ) → m ≡ d + i → m < end old d → GoesOn (origins_by change) (rests_by change) (turned_by change) at i
@@ -123,8 +126,8 @@ module _ (old : Rows) (t : Table) (change : Change) (rows : Rows) (locks : Table
   inside : (m i : ℕ) → m ≡ d + i → m < end old d → at + i < length rows
   inside m i is lt = let g = (goes m i is lt).inside in let c = h.count in omega (arith, g, c)
 
-  copied : (m i : ℕ) → m ≡ d + i → m < end old d → IsCopy old (name_by change.namings.items) m false (rest_at (rests_by change) (at + i)) (at + i) (row rows (at + i))
-  copied m i is lt =
+  copy_of : (m i : ℕ) → m ≡ d + i → m < end old d → IsCopy old (name_by change.namings.items) m false (rest_at (rests_by change) (at + i)) (at + i) (row rows (at + i))
+  copy_of m i is lt =
       let g = goes m i is lt in
       let from : origin_of (origins_by change) (at + i) ≡ m = g.from ∙ ap (λ x. x + i) one.first ∙ sym is in
       let last = here.last d stood in
@@ -135,28 +138,28 @@ module _ (old : Rows) (t : Table) (change : Change) (rows : Rows) (locks : Table
   root : end rows at + d ≡ end old d + at
   root = let e : at + 0 ≡ at = omega arith in let n = here.nested d in let m = there.nested at in
       let s : size_at rows at ≡ size_at old d = subst (λ x. size_at rows x ≡ size_at old d) e
-      ((copied d 0 (omega arith) n).ended.closed closed (let a = one.all in let r = (goes d 0 (omega arith) n).rest in omega (arith, a, r))) in
+      ((copy_of d 0 (omega arith) n).end_is.at_end closed (let a = one.all in let r = (goes d 0 (omega arith) n).rest in omega (arith, a, r))) in
       omega (arith, s, n, m)
 
   -- what ends before the run, and what ends with it
-  ended : (m i : ℕ) → m ≡ d + i → m < end old d → end old m ≤ end old d → end rows (at + i) ≤ end rows at → end rows (at + i) + d ≡ end old m + at
-  ended m i is lt low high =
-      let c = (copied m i is lt).ended in let r = (goes m i is lt).rest in let a = one.all in let n = here.nested m in let o = there.nested (at + i) in let whole = root in ⊎_elim
+  end_by : (m i : ℕ) → m ≡ d + i → m < end old d → end old m ≤ end old d → end rows (at + i) ≤ end rows at → end rows (at + i) + d ≡ end old m + at
+  end_by m i is lt low high =
+      let c = (copy_of m i is lt).end_is in let r = (goes m i is lt).rest in let a = one.all in let n = here.nested m in let o = there.nested (at + i) in let whole = root in ⊎_elim
       (λ less. let s = c.before less in omega (arith, s, n, o, is))
-      (λ past. let s = c.reached past in omega (arith, s, n, o, is, past, low, high, r, a, whole))
+      (λ past. let s = c.beyond past in omega (arith, s, n, o, is, past, low, high, r, a, whole))
       (cases_lt (size_at old m) (rest_at (rests_by change) (at + i)))
 
   each_end : (m i : ℕ) → m ≡ d + i → m < end old d → end rows (at + i) + d ≡ end old m + at
   each_end m zero is lt = let e : at + 0 ≡ at = omega arith in let f : d ≡ m = omega (arith, is) in
       subst (λ x. end rows x + d ≡ end old m + at) (sym e) (subst (λ x. end rows at + d ≡ end old x + at) f root)
   each_end m (suc i) is lt = let whole = root in
-      ended m (suc i) is lt (here.apart d m (omega (arith, is)) lt) (there.apart at (at + suc i) (omega arith) (omega (arith, whole, is, lt)))
+      end_by m (suc i) is lt (here.apart d m (omega (arith, is)) lt) (there.apart at (at + suc i) (omega arith) (omega (arith, whole, is, lt)))
 
   pub stands_again : StandsAgain old rows d at
   stands_again = record {
     few = let n = here.nested d in let e : at + 0 ≡ at = omega arith in let whole = root in
         let l = there.last at (let b = inside d 0 (omega arith) n in omega (arith, b)) in omega (arith, l, n, whole);
-    labels = λ i lt. (copied (d + i) i refl (omega (arith, lt))).label_is refl;
+    labels = λ i lt. (copy_of (d + i) i refl (omega (arith, lt))).label_is refl;
     ends = λ i lt. each_end (d + i) i refl (omega (arith, lt));
   }
 

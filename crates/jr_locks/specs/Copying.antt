@@ -26,7 +26,7 @@ pub record IsCopy (old : Rows) (named : ℕ → Text → Text) (d : ℕ) (is_tur
   pub stood : d < length old
   pub label_is : is_turned ≡ false → new.label ≡ label old d
   pub name_is : new.name ≡ named d (name old d)
-  pub ended : IsAsLong (takes_declarations (label old d)) rest (size_at old d) (new.end - n)
+  pub end_is : IsAsLong (takes_declarations (label old d)) rest (size_at old d) (new.end - n)
 
 -- each of the first so many rows that comes from an old row is a copy of it
 pub record AllCopies (old : Rows) (named : ℕ → Text → Text) (origin : List ℕ) (is_turned : List Bool) (rests : List ℕ) (rows : Rows) (count : ℕ) : Type 0 where

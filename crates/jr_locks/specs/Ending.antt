@@ -26,8 +26,8 @@ takes_declarations _ = false
 -- it and takes no declarations; and what reaches the end of the run has a copy that reaches it.
 pub record IsAsLong (is_open : Bool) (rest old new : ℕ) : Type 0 where
   pub before : old < rest → new ≡ old
-  pub closed : is_open ≡ false → old ≤ rest → new ≡ old
-  pub reached : rest ≤ old → rest ≤ new
+  pub at_end : is_open ≡ false → old ≤ rest → new ≡ old
+  pub beyond : rest ≤ old → rest ≤ new
 
 -- the row d stands in one run with all below it, and its copy is the row n
 pub record StandsInOne (p : Rows) (origin rests : List ℕ) (d n : ℕ) : Type 0 where
