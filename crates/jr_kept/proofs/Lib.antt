@@ -19,3 +19,7 @@ pub mod Crossing
 pub mod Each
 pub mod Carrying
 pub mod Losing
+pub mod Below
+pub mod Going
+pub mod Waited
+pub mod AtOnce

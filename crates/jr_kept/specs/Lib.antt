@@ -13,3 +13,5 @@ pub mod Spread
 pub mod Disturbed
 pub mod Handed
 pub mod Carried
+pub mod Waiting
+pub mod Returned
