@@ -1,8 +1,8 @@
 -- A `return` that is found to leave the body at once does so by the definition.
-use Rattle.std.proofs.Common.{◌≡◌, inl, inr, refl, sym, ◌∙◌, ap, ap₂, subst, ⊎_elim, arith, ℕ, zero, suc, ◌+◌, ◌-◌, ◌<◌, ◌≤◌, Bool, true, false, ◌&&◌, if◌then◌else◌, List, [], ◌∷◌, length, Option, Some, None, nat_eq, slice_get}
+use Rattle.std.proofs.Common.{◌≡◌, inl, inr, refl, sym, ◌∙◌, ap, ap₂, subst, ⊎_elim, arith, ℕ, zero, suc, ◌+◌, ◌-◌, ◌<◌, ◌≤◌, Bool, true, false, ◌&&◌, if◌then◌else◌, List, [], ◌∷◌, length, leb, Option, Some, None, nat_eq, slice_get}
 use Rattle.std.specs.List.{Contains}
 use Rattle.std.proofs.lemmas.Bool.{false≢true}
-use Rattle.std.proofs.lemmas.Bool.Decides.{Decides-eqb, Decides-and}
+use Rattle.std.proofs.lemmas.Bool.Decides.{leb_tells, Decides-eqb, Decides-and}
 use Rattle.jr_tree.specs.declared.label.Label.TheVariants as is
 use Rattle.jr_tree.specs.Rows.{Rows, label, parent, end}
 use Rattle.jr_tree.specs.Tree.{IsTree}
@@ -83,11 +83,17 @@ waits_from p body k w (Waits.none e f) = omega (arith, e)
 waits_from p body k w (Waits.plainly {n = n} b is h) = let low = waits_from p body n w h in let behind = b.behind in omega (arith, low, behind)
 waits_from p body k w (Waits.pushed {n = n} {u = u} b is e h) = let low = waits_from p body n u h in let behind = b.behind in omega (arith, low, behind)
 
+at_most : (a b : ℕ) → leb a b ≡ true → a ≤ b
+at_most a b e = ⊎_elim (λ h. h.1) (λ h. absurd (false≢true (sym h.0 ∙ e))) (leb_tells a b)
+
 -- at the row of the body nothing is pending
 pub body_free : (p : Rows) (body k : ℕ) → k ≤ body → IsFree p body k
 body_free p body k le w (Waits.none e f) = f
 body_free p body k le w (Waits.plainly {n = n} b is h) = let low = waits_from p body n w h in let behind = b.behind in absurd (omega (arith, le, low, behind))
 body_free p body k le w (Waits.pushed {n = n} {u = u} b is e h) = let low = waits_from p body n u h in let behind = b.behind in absurd (omega (arith, le, low, behind))
+
+pub found_free : (p : Rows) (body k : ℕ) → leb k body ≡ true → IsFree p body k
+found_free p body k e = body_free p body k (at_most k body e)
 
 -- nor is it at a row, where it never is right below
 above_free : (p : Rows) (body n k : ℕ) → IsBelow p n k → IsFree p body k → IsFree p body n

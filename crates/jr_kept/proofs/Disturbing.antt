@@ -141,13 +141,13 @@ throw_more first end points steps n told one both is either h none k lt = let ne
     ⊎_elim (λ early. h neither.0 k early) (λ past. let same : n ≡ k = omega (arith, lt, past) in ap (λ m. throws first end points (slice_get steps m)) (sym same) ∙ sym is ∙ neither.1) (cases_lt k n)
 
 -- a step of the list
-record Stepping (all : List Step) (x : ℕ × ℕ × Bool) : Type 0 where
-  place : ℕ
-  step : Step
-  stands : slice_get all place ≡ Some step
-  seen : step_seen step ≡ x
+pub record Stepping (all : List Step) (x : ℕ × ℕ × Bool) : Type 0 where
+  pub place : ℕ
+  pub step : Step
+  pub stands : slice_get all place ≡ Some step
+  pub seen : step_seen step ≡ x
 
-step_got : (all : List Step) (x : ℕ × ℕ × Bool) → Contains (map step_seen all) x → Stepping all x
+pub step_got : (all : List Step) (x : ℕ × ℕ × Bool) → Contains (map step_seen all) x → Stepping all x
 step_got [] x c = absurd (none_in x c)
 step_got (s ∷ all) x c = ⊎_elim (λ same. record { place = 0; step = s; stands = refl; seen = same })
     (λ more. let o = step_got all x more in record { place = suc o.place; step = o.step; stands = o.stands; seen = o.seen }) (contains_out (step_seen s) (map step_seen all) x c)

@@ -23,3 +23,4 @@ pub mod Below
 pub mod Going
 pub mod Waited
 pub mod AtOnce
+pub mod Moved

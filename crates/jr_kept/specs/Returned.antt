@@ -1,5 +1,5 @@
 -- `return` statements that have a copy in an added method, and the points at which they stand.
-use Rattle.std.specs.Prelude.{◌≡◌, ℕ, ◌+◌, ◌-◌, ◌<◌, ◌≤◌, Bool, true, false, List, length, Option, Some, None, slice_get}
+use Rattle.std.specs.Prelude.{◌≡◌, ⊤, ℕ, ◌+◌, ◌-◌, ◌<◌, ◌≤◌, Bool, true, false, List, length, Option, Some, None, slice_get}
 use Rattle.std.specs.List.{Contains}
 use Rattle.jr_tree.specs.declared.label.Label.{Label}
 use Rattle.jr_tree.specs.declared.label.Label.TheVariants as is
@@ -11,6 +11,7 @@ use Rattle.jr_flow_defs.specs.declared.point.PointKind.{PointKind}
 use Rattle.jr_flow_defs.specs.declared.point.PointKind.TheVariants as kind
 use Rattle.jr_flow_defs.specs.Graphs.{StepList}
 use Rattle.jr_flow_defs.specs.Kept.{Origin}
+use Rattle.jr_flow.specs.declared.point.Step.{Step}
 use Rattle.jr_kept.specs.Carried.{is_exit_at}
 use Rattle.jr_kept.specs.Disturbed.{some_if}
 use Rattle.jr_kept.specs.Waiting.{AreShaped, IsFree}
@@ -52,6 +53,18 @@ moved_by _ row is_moved = None
 abbrev pub moved_at : ℕ → Stamps → Option Point → Option ℕ
 moved_at body moved None = None
 moved_at body moved (Some x) = moved_by x.kind x.row (is_stamped moved (x.row - body))
+
+-- nothing is pending at those of the first points
+abbrev pub AreFreeTo : Rows → ℕ → Stamps → List Point → ℕ → Type 0
+AreFreeTo p body moved points n = (k row : ℕ) → k < n → moved_at body moved (slice_get points k) ≡ Some row → IsFree p body row
+
+-- the step leads to the exit, if it begins at one of them
+abbrev pub LeadsOut : ℕ → Stamps → List Point → Option Step → Type 0
+LeadsOut body moved points None = ⊤
+LeadsOut body moved points (Some s) = (row : ℕ) → moved_at body moved (slice_get points s.from) ≡ Some row → is_exit_at body false (slice_get points s.to) ≡ true
+
+abbrev pub LeadOutTo : ℕ → Stamps → List Point → List Step → ℕ → Type 0
+LeadOutTo body moved points steps n = (k : ℕ) → k < n → LeadsOut body moved points (slice_get steps k)
 
 -- by numbers: nothing is pending where such a `return` stands, and each step from there leads to the exit
 pub record LeavesByNumbers (p q : Rows) (body method : ℕ) (origin : Origin) (points : List Point) (steps : StepList) : Type 0 where

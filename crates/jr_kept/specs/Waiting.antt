@@ -58,8 +58,12 @@ pub record IsShaped (p : Rows) (n : ℕ) : Type 0 where
   pub parts : HasRows p (n + 1) (end p n) (parts_by (label p n))
   pub apart : is_catch (label p n) ≡ true → is_finally p n ≡ false
 
+abbrev pub AreShapedTo : Rows → ℕ → ℕ → Type 0
+AreShapedTo p first stop = (n : ℕ) → first ≤ n → n < stop → IsShaped p n
+
+-- each row of the body has
 abbrev pub AreShaped : Rows → ℕ → Type 0
-AreShaped p body = (n : ℕ) → body ≤ n → n < end p body → IsShaped p n
+AreShaped p body = AreShapedTo p body (end p body)
 
 -- ---- what waits
 

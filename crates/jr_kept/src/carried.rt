@@ -248,8 +248,8 @@ fn is_exit_kind(kind: PointKind, is_throw: bool) -> bool
     }
 }
 
-// The point is the exit of the method, by a throw or not.
-fn is_exit(point: Option<Point>, method: u32, is_throw: bool) -> bool
+/// The point is the exit of the method, by a throw or not.
+pub(crate) fn is_exit(point: Option<Point>, method: u32, is_throw: bool) -> bool
     ensures { result ≡ tell.is_exit_at method is_throw point }
 {
     match point {

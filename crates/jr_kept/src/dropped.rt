@@ -95,7 +95,8 @@ fn points_between(alloc: Global, graph: &Graph, local: u32) -> Result<Between, O
 
 // ---- the locals that are to keep their values
 
-fn step_at(steps: &[Step], number: usize) -> Option<Step>
+/// The step of the number.
+pub(crate) fn step_at(steps: &[Step], number: usize) -> Option<Step>
     ensures { result ≡ slice_get steps.now number }
 {
     steps.get(number).copied()

@@ -16,6 +16,7 @@ mod joined;
 mod kept;
 mod lists;
 mod names;
+mod parts;
 mod reached;
 mod returning;
 mod search;

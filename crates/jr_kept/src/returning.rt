@@ -1,132 +1,168 @@
 // The `return` statements of an added method, which complete the method in place of the body.
-ghost use Rattle.std.specs.Prelude.{OnOk};
-ghost use Rattle.jr_kept.specs.Ordered.{OnlyAdds};
+ghost use Rattle.std.specs.Prelude.{◌≡◌, ◌+◌, ◌-◌, ◌^◌, ◌<◌, ℕ, Some, false, true, IfOk, OnOk, length, slice_get};
+ghost use Rattle.jr_tree.specs.Rows.{label, end};
+ghost use Rattle.jr_places.specs.Stamps.{IsStamping, IsEmptied};
+ghost use Rattle.jr_flow.specs.Reached.{steps_of};
+ghost use Rattle.jr_kept.specs.Carried.{is_exit_at};
+ghost use Rattle.jr_kept.specs.Named.{origin_in};
+ghost use Rattle.jr_kept.specs.Ordered.{Checks};
+ghost use Rattle.jr_kept.specs.Waiting.{AreShaped, IsFree};
+ghost use Rattle.jr_kept.specs.Returned as tell;
 
+use crate::carried::is_exit;
+use crate::dropped::{some_if, step_at};
 use crate::edges::{Edge, Firsts};
 use crate::flows::{Flows, count_rows, rows_of};
+use crate::gathering::point_at;
+use crate::names::Names;
+use crate::parts::{have_parts, is_free};
 use jr_base::OutOfMemory;
-use jr_flow::PointKind;
+use jr_flow::{Point, PointKind, Step};
 use jr_locks::row_for;
-use jr_places::{Stamps, end_at, parent_at};
+use jr_places::Stamps;
 use jr_tree::{Label, Row};
 use std::alloc::Global;
 
-fn is_return(rows: &[Row], at: u32) -> bool {
-    match rows.get(at as usize) {
-        Some(row) => matches!(row.label, Label::Return),
-        None => false,
-    }
-}
+// ---- which rows are moved
 
-// The row below a `try` is its block of `finally`, which is the last (JLS 14.20.2).
-fn is_finally(rows: &[Row], over: u32, at: u32) -> bool {
-    match rows.get(over as usize) {
+fn is_return(rows: &[Row], at: u32) -> bool
+    ensures { result ≡ tell.is_return (label rows.now at) }
+{
+    match rows.get(at as usize) {
         Some(row) => match row.label {
-            Label::Try { has_finally } => has_finally && end_at(rows, at) == end_at(rows, over),
+            Label::Return => true,
             _ => false,
         },
         None => false,
     }
 }
 
-// A row of the body stands in a block of `finally`.
-fn is_in_finally(rows: &[Row], body: u32, row: u32) -> bool {
-    let mut at = row;
-    for _turn in 0..row {
-        if at <= body {
-            return false;
-        }
-        let over = parent_at(rows, at);
-        if is_finally(rows, over, at) {
-            return true;
-        }
-        at = over;
-    }
-    false
-}
-
-/// The old body with its `return` statements that have a copy in the method.
-#[derive(Drop)]
-struct Returns<'a> {
-    flows: &'a Flows<'a>,
-    moved: Stamps,
-}
-
-impl<'a> Returns<'a> {
-    fn of(alloc: Global, flows: &'a Flows<'a>, method: u32) -> Result<Returns<'a>, OutOfMemory> {
-        let names = &flows.names;
-        let range = rows_of(flows.rows, method);
-        let mut moved = Stamps::new(alloc, count_rows(rows_of(names.rows, names.body)))?;
-        for copy in range.first..range.end {
-            if let Some(old) = row_for(flows.origin, copy) {
-                if is_return(names.rows, old) {
-                    let _ = moved.add(old.saturating_sub(names.body));
-                }
-            }
-        }
-        Ok(Returns { flows, moved })
-    }
-
-    // The row of the point, if it is that of a moved `return`.
-    fn row(&self, number: u32) -> Option<u32> {
-        let names = &self.flows.names;
-        let graph = self.flows.before;
-        let point = graph.points.get(number as usize)?;
-        let is_moved = self.moved.has(point.row.saturating_sub(names.body));
-        if point.kind == PointKind::Node && is_moved {
-            Some(point.row)
-        } else {
-            None
-        }
-    }
-
-    fn is_exit(&self, number: u32) -> bool {
-        let graph = self.flows.before;
-        match graph.points.get(number as usize) {
-            Some(point) => point.kind == PointKind::Exit,
-            None => false,
-        }
-    }
-
-    // The row from which a step leads, if it is that of a moved `return` that does not complete the body, or that discards what is pending.
-    fn held(&self, from: u32, to: u32) -> Option<u32> {
-        let names = &self.flows.names;
-        let row = self.row(from)?;
-        if !self.is_exit(to) || is_in_finally(names.rows, names.body, row) {
-            Some(row)
-        } else {
-            None
-        }
-    }
-}
-
-// Puts an edge from a row to itself, if it is one.
-fn put_held(held: Option<u32>, lost: &mut Firsts)
-    ensures { OnlyAdds lost.old lost.new }
+// Puts the row into the set, if it is one of a `return`.
+fn note(moved: &mut Stamps, names: &Names, row: Option<u32>)
+    ensures { (bound : ℕ) → IsStamping moved.old bound → tell.NotesReturn names.now.rows.now names.now.body bound moved.old moved.new row }
 {
-    match held {
-        Some(row) => lost.put_old(Edge {
+    if let Some(row) = row {
+        if is_return(names.rows, row) {
+            let _ = moved.add(row.saturating_sub(names.body));
+        }
+    }
+}
+
+// Puts those in of which rows of the method are copies.
+fn note_all(moved: &mut Stamps, names: &Names, origin: &[u32], first: u32, end: u32)
+    ensures { (bound : ℕ) → IsStamping moved.old bound → tell.NotesTo names.now.rows.now names.now.body bound (origin_in origin.now) first end moved.new }
+{
+    for copy in first..end {
+        note(moved, names, row_for(origin, copy));
+    }
+}
+
+// The rows of the old body, from its own on, at which a `return` stands that has a copy in the method.
+fn moved_returns(alloc: Global, flows: &Flows, method: u32) -> Result<Stamps, OutOfMemory>
+    ensures { flows.now.names.body + 1 < 2 ^ 32 → method + 1 < 2 ^ 32 → IfOk result (λ moved. tell.AreMoved flows.now.names.rows.now flows.now.rows.now flows.now.names.body method (origin_in flows.now.origin.now) moved) }
+{
+    let names = &flows.names;
+    let whole = rows_of(names.rows, names.body);
+    let range = rows_of(flows.rows, method);
+    let mut moved = Stamps::new(alloc, count_rows(whole))?;
+    note_all(&mut moved, names, flows.origin, range.first, range.end);
+    Ok(moved)
+}
+
+// The row of the point, if it is that of a moved `return`.
+fn moved_at(body: u32, moved: &Stamps, point: Option<Point>) -> Option<u32>
+    ensures { result ≡ tell.moved_at body moved.now point }
+{
+    match point {
+        Some(point) => match point.kind {
+            PointKind::Node => some_if(point.row, moved.has(point.row.saturating_sub(body))),
+            _ => None,
+        },
+        None => None,
+    }
+}
+
+// ---- what is put
+
+// Puts an edge from the row to itself, unless it is such.
+fn put_unless(row: u32, is_such: bool, lost: &mut Firsts)
+    ensures { Checks lost.old lost.new (is_such ≡ true) }
+{
+    if !is_such {
+        lost.put_old(Edge {
             first: row,
             second: row,
-        }),
-        None => {}
+        });
+    }
+}
+
+// Puts the row of a moved `return`, if it is one, where something is pending.
+fn put_pending(rows: &[Row], body: u32, row: Option<u32>, lost: &mut Firsts)
+    ensures { Checks lost.old lost.new ((n : ℕ) → row ≡ Some n → IsFree rows.now body n) }
+{
+    if let Some(row) = row {
+        put_unless(row, is_free(rows, body, row), lost);
+    }
+}
+
+fn put_all_pending(names: &Names, moved: &Stamps, points: &[Point], lost: &mut Firsts)
+    ensures { Checks lost.old lost.new (tell.AreFreeTo names.now.rows.now names.now.body moved.now points.now (length points.now)) }
+{
+    for number in 0..points.len() {
+        let row = moved_at(names.body, moved, point_at(points, number));
+        put_pending(names.rows, names.body, row, lost);
+    }
+}
+
+// Puts the row of a moved `return`, if one stands where the step begins and the step does not lead to the exit.
+fn put_step(body: u32, moved: &Stamps, points: &[Point], step: Option<Step>, lost: &mut Firsts)
+    ensures { Checks lost.old lost.new (tell.LeadsOut body moved.now points.now step) }
+{
+    if let Some(step) = step {
+        if let Some(row) = moved_at(body, moved, point_at(points, step.from as usize)) {
+            put_unless(
+                row,
+                is_exit(point_at(points, step.to as usize), body, false),
+                lost,
+            );
+        }
+    }
+}
+
+fn put_all_steps(body: u32, moved: &Stamps, points: &[Point], steps: &[Step], lost: &mut Firsts)
+    ensures { Checks lost.old lost.new (tell.LeadOutTo body moved.now points.now steps.now (length steps.now)) }
+{
+    for number in 0..steps.len() {
+        put_step(body, moved, points, step_at(steps, number), lost);
     }
 }
 
 /// Puts an edge from each `return` to itself that has a copy in the method and does not complete the body at once, with nothing pending: a block of
 /// `finally` comes before the exit, or is left by it (JLS 14.17, 14.20.2).
+///
+/// What is pending is told by the rows round a row, if each row of the body has its parts: of any other body nothing is told, as where memory is refused.
 pub(crate) fn put_held_returns(
     alloc: Global,
     flows: &Flows,
     method: u32,
     lost: &mut Firsts,
 ) -> Result<(), OutOfMemory>
-    ensures { OnOk result (OnlyAdds lost.old lost.new) }
+    ensures { flows.now.names.body + 1 < 2 ^ 32 → method + 1 < 2 ^ 32
+        → OnOk result (Checks lost.old lost.new (tell.LeavesByNumbers flows.now.names.rows.now flows.now.rows.now flows.now.names.body method (origin_in flows.now.origin.now) flows.now.before.now.points.items (steps_of flows.now.before.now))) }
 {
-    let returns = Returns::of(alloc, &*flows, method)?;
+    let names = &flows.names;
     let graph = flows.before;
-    for step in &graph.steps {
-        put_held(returns.held(step.from, step.to), lost);
+    if !have_parts(names.rows, names.body) {
+        return Err(OutOfMemory);
     }
+    let moved = moved_returns(alloc, flows, method)?;
+    put_all_pending(names, &moved, graph.points.as_slice(), lost);
+    put_all_steps(
+        names.body,
+        &moved,
+        graph.points.as_slice(),
+        graph.steps.as_slice(),
+        lost,
+    );
     Ok(())
 }
