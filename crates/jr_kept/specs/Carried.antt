@@ -7,6 +7,7 @@ use Rattle.jr_flow_defs.specs.declared.point.PointKind.TheVariants as kind
 use Rattle.jr_flow_defs.specs.Edges.{point}
 use Rattle.jr_flow_defs.specs.Graphs.{StepList, StepPath, PassesAt, is_definition_of}
 use Rattle.jr_flow.specs.declared.point.Graph as code
+use Rattle.jr_flow.specs.declared.point.Step.{Step}
 use Rattle.jr_flow.specs.Reached.{steps_of}
 use Rattle.jr_kept.specs.declared.carried.Value.{Value}
 use Rattle.jr_kept.specs.declared.handing.Handing.{Handing}
@@ -53,6 +54,9 @@ pub record Includes (points : List Point) (steps : StepList) (more : List Point)
 
 abbrev pub Grows : code.Graph → code.Graph → Type 0
 Grows old new = Includes old.points.items (steps_of old) new.points.items (steps_of new)
+
+abbrev pub plain_step : ℕ → ℕ → Step
+plain_step from to = record { from = from; to = to; is_throw = false }
 
 -- behind the point stands a use of the local that is none of the first points
 pub record IsUsedAfter (made : code.Graph) (count from local : ℕ) : Type 0 where

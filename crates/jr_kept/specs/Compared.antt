@@ -1,11 +1,12 @@
 -- Edges of control that stand on both sides of a change, by numbers.
-use Rattle.std.specs.Prelude.{◌≡◌, ℕ, ◌<◌}
+use Rattle.std.specs.Prelude.{◌≡◌, ℕ, ◌<◌, ◌^◌, length}
 use Rattle.jr_flow_defs.specs.Meaning.{Meaning}
 use Rattle.jr_flow_defs.specs.Paths.{Flow}
 use Rattle.jr_flow_defs.specs.Edges.{FlowNode, IsGraph, body_flow}
 use Rattle.jr_flow_defs.specs.Graphs.{StepList, EdgeByNumbers}
 use Rattle.jr_flow_defs.specs.Kept.{Same, KeepsControl, KeepsDefinitions, KeepsBody, Hands, IsHanding, IsLost, joined_flow}
 use Rattle.jr_tree.specs.Rows.{Rows}
+use Rattle.jr_tree.specs.Tree.{IsTree}
 use Rattle.jr_flow.specs.declared.point.Graph as code
 use Rattle.jr_flow.specs.Reached.{steps_of, IsGraphOf}
 use Rattle.jr_kept.specs.declared.flows.Flows.{Flows}
@@ -13,6 +14,7 @@ use Rattle.jr_kept.specs.declared.control.Searches.{Searches}
 use Rattle.jr_kept.specs.declared.search.Side.{Side}
 use Rattle.jr_kept.specs.Named.{origin_in, old_naming, new_naming}
 use Rattle.jr_kept.specs.Copied.{HasEventsOnce}
+use Rattle.jr_kept.specs.Returned.{ReturnAtOnce}
 use Rattle.jr_kept.specs.Searched.{SideEdge, IsReady}
 
 -- edges lead from the name to the same names on both sides
@@ -70,3 +72,14 @@ IsMethodGraph q w inner method = (inner.body ≡ method) × IsGraphOf q w inner
 -- and no value that a local gets in the method is lost
 abbrev pub KeepsJoinedValues : Flows → Meaning → ℕ → ℕ → Type 0
 KeepsJoinedValues flows w call method = IsLost flows.rows.now w (joined_flow flows.rows.now w flows.after.now.body call method) call method (origin_in flows.origin.now) → ⊥
+
+-- the old graph is that of a body in the rows of a tree
+pub record IsOldBody (flows : Flows) : Type 0 where
+  pub tree : IsTree flows.names.rows.now
+  pub few : length flows.names.rows.now < 2 ^ 32
+  pub row : flows.names.body < length flows.names.rows.now
+  pub same : flows.before.now.body ≡ flows.names.body
+
+-- and each `return` that has a copy in the method leaves the old body at once
+abbrev pub KeepsJoinedReturns : Flows → Meaning → ℕ → Type 0
+KeepsJoinedReturns flows m method = ReturnAtOnce flows.names.rows.now flows.rows.now m flows.names.body method (origin_in flows.origin.now)

@@ -10,7 +10,8 @@ use Rattle.jr_flow_defs.specs.declared.point.Point.{Point}
 use Rattle.jr_flow_defs.specs.declared.point.PointKind.{PointKind}
 use Rattle.jr_flow_defs.specs.declared.point.PointKind.TheVariants as kind
 use Rattle.jr_flow_defs.specs.Graphs.{StepList}
-use Rattle.jr_flow_defs.specs.Kept.{Origin}
+use Rattle.jr_flow_defs.specs.Meaning.{Meaning}
+use Rattle.jr_flow_defs.specs.Kept.{Origin, LeavesAtOnce}
 use Rattle.jr_flow.specs.declared.point.Step.{Step}
 use Rattle.jr_kept.specs.Carried.{is_exit_at}
 use Rattle.jr_kept.specs.Disturbed.{some_if}
@@ -72,3 +73,7 @@ pub record LeavesByNumbers (p q : Rows) (body method : ℕ) (origin : Origin) (p
   pub free : (i : ℕ) (x : Point) → slice_get points i ≡ Some x → x.kind ≡ kind.Node → IsMoved p q body method origin x.row → IsFree p body x.row
   pub exits : (i j : ℕ) (t : Bool) (x : Point) → Contains steps (i, j, t) → slice_get points i ≡ Some x → x.kind ≡ kind.Node → IsMoved p q body method origin x.row
       → is_exit_at body false (slice_get points j) ≡ true
+
+-- each `return` of which a row of the method is a copy leaves the body at once
+abbrev pub ReturnAtOnce : Rows → Rows → Meaning → ℕ → ℕ → Origin → Type 0
+ReturnAtOnce p q m body method origin = (n k : ℕ) → label p n ≡ is.Return → origin k ≡ Some n → method < k → k < end q method → LeavesAtOnce p m body n

@@ -1,5 +1,5 @@
 // Values of locals that an added method does not hand back.
-ghost use Rattle.std.specs.Prelude.{◌≡◌, ◌<◌, ◌≤◌, ◌++◌, ℕ, Bool, Some, None, true, false, IfOk, OnOk, length, not, nat_lt, slice_get};
+ghost use Rattle.std.specs.Prelude.{◌≡◌, ◌<◌, ◌≤◌, ◌++◌, ◌∷◌, [], ℕ, Bool, Some, None, true, false, IfOk, OnOk, length, not, nat_lt, slice_get};
 ghost use Rattle.std.specs.List.{Contains};
 ghost use Rattle.jr_flow_defs.specs.declared.point.PointKind.TheVariants as kind;
 ghost use Rattle.jr_flow_defs.specs.Edges.{point};
@@ -94,20 +94,40 @@ fn copy_of(alloc: Global, graph: &Graph) -> Result<Graph, OutOfMemory>
     })
 }
 
-// Puts a use of the local behind a point.
-fn put_use(made: &mut Graph, from: u32, local: u32) -> Result<(), OutOfMemory>
-    ensures { OnOk result (tell.Grows made.old made.new × tell.IsUsedAfter made.new (length made.old.points.items) from local) }
+// Puts a point behind the others, and tells its number.
+fn put_point(made: &mut Graph, point: Point) -> Result<u32, OutOfMemory>
+    ensures number { IfOk result (λ number. number ≡ length made.old.points.items) }
+    ensures points { OnOk result (made.new.points.items ≡ made.old.points.items ++ point ∷ []) }
+    ensures steps { OnOk result (made.new.steps.items ≡ made.old.steps.items) }
 {
-    let to = count_of(made.points.len())?;
-    made.points.push(Point {
-        row: 0,
-        kind: PointKind::Use { local },
-    })?;
+    let number = count_of(made.points.len())?;
+    made.points.push(point)?;
+    Ok(number)
+}
+
+// Puts a step that is no throw.
+fn put_step(made: &mut Graph, from: u32, to: u32) -> Result<(), OutOfMemory>
+    ensures points { OnOk result (made.new.points.items ≡ made.old.points.items) }
+    ensures steps { OnOk result (made.new.steps.items ≡ made.old.steps.items ++ tell.plain_step from to ∷ []) }
+{
     made.steps.push(Step {
         from,
         to,
         is_throw: false,
     })?;
+    Ok(())
+}
+
+// Puts a use of the local behind a point.
+fn put_use(made: &mut Graph, from: u32, local: u32) -> Result<(), OutOfMemory>
+    ensures { OnOk result (tell.Grows made.old made.new × tell.IsUsedAfter made.new (length made.old.points.items) from local) }
+{
+    let point = Point {
+        row: 0,
+        kind: PointKind::Use { local },
+    };
+    let to = put_point(made, point)?;
+    put_step(made, from, to)?;
     Ok(())
 }
 
@@ -125,16 +145,12 @@ fn put_uses(made: &mut Graph, from: u32, locals: &[u32]) -> Result<(), OutOfMemo
 fn put_definition(made: &mut Graph, to: u32, row: u32, local: u32) -> Result<(), OutOfMemory>
     ensures { OnOk result (tell.Grows made.old made.new × tell.IsDefinedBefore made.new (length made.old.points.items) to row local) }
 {
-    let from = count_of(made.points.len())?;
-    made.points.push(Point {
+    let point = Point {
         row,
         kind: PointKind::Definition { local },
-    })?;
-    made.steps.push(Step {
-        from,
-        to,
-        is_throw: false,
-    })?;
+    };
+    let from = put_point(made, point)?;
+    put_step(made, from, to)?;
     Ok(())
 }
 
@@ -265,11 +281,7 @@ fn put_step_if(made: &mut Graph, from: u32, to: u32, is_such: bool) -> Result<()
     ensures here { OnOk result (is_such ≡ true → Contains (steps_of made.new) (from, to, false)) }
 {
     if is_such {
-        made.steps.push(Step {
-            from,
-            to,
-            is_throw: false,
-        })?;
+        put_step(made, from, to)?;
     }
     Ok(())
 }

@@ -7,7 +7,7 @@ ghost use Rattle.jr_flow_defs.specs.Edges.{IsGraph, body_flow};
 ghost use Rattle.jr_flow_defs.specs.Kept.{IsDisturbed, joined_flow, statement_round};
 ghost use Rattle.jr_flow.specs.Reached.{steps_of, IsGraphOf};
 ghost use Rattle.jr_kept.specs.Ordered.{AreNone};
-ghost use Rattle.jr_kept.specs.Compared.{KeepsBodies, KeepsWholeBodies, KeepsJoined, KeepsJoinedUses, KeepsJoinedValues, IsJoinedGraph, IsMethodGraph};
+ghost use Rattle.jr_kept.specs.Compared.{KeepsBodies, KeepsWholeBodies, KeepsJoined, KeepsJoinedUses, KeepsJoinedValues, KeepsJoinedReturns, IsOldBody, IsJoinedGraph, IsMethodGraph};
 ghost use Rattle.jr_kept.specs.Courses as tell;
 
 use crate::arriving::put_lost_definitions;
@@ -228,8 +228,8 @@ fn lost_in_extracted(
     method: u32,
 ) -> Result<LostFlow, FlowFault>
     ensures control { (m w : Meaning) → IsGraphOf flows.now.names.rows.now m flows.now.before.now → IsJoinedGraph flows.now w call method → IfOk result (λ lost. lost.control ≡ None → KeepsJoined flows.now m w call method) }
-    ensures uses { (m w : Meaning) → IsGraphOf flows.now.names.rows.now m flows.now.before.now → IsJoinedGraph flows.now w call method → IsMethodGraph flows.now.rows.now w inner.now method → call + 1 < 2 ^ 32 → method + 1 < 2 ^ 32 → statement_round flows.now.rows.now call call + 1 < 2 ^ 32
-        → IfOk result (λ lost. lost.control ≡ None → lost.def_use ≡ None → KeepsJoined flows.now m w call method × KeepsJoinedUses flows.now m w call method × KeepsJoinedValues flows.now w call method) }
+    ensures uses { (m w : Meaning) → IsGraphOf flows.now.names.rows.now m flows.now.before.now → IsJoinedGraph flows.now w call method → IsMethodGraph flows.now.rows.now w inner.now method → IsOldBody flows.now → call + 1 < 2 ^ 32 → method + 1 < 2 ^ 32 → statement_round flows.now.rows.now call call + 1 < 2 ^ 32
+        → IfOk result (λ lost. lost.control ≡ None → lost.def_use ≡ None → KeepsJoined flows.now m w call method × KeepsJoinedUses flows.now m w call method × KeepsJoinedValues flows.now w call method × KeepsJoinedReturns flows.now m method) }
 {
     let mut control = lost_control(alloc, flows)?;
     put_held_returns(alloc, flows, method, &mut control)?;

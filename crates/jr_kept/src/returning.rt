@@ -5,7 +5,7 @@ ghost use Rattle.jr_places.specs.Stamps.{IsStamping, IsEmptied};
 ghost use Rattle.jr_flow.specs.Reached.{steps_of};
 ghost use Rattle.jr_kept.specs.Carried.{is_exit_at};
 ghost use Rattle.jr_kept.specs.Named.{origin_in};
-ghost use Rattle.jr_kept.specs.Ordered.{Checks};
+ghost use Rattle.jr_kept.specs.Ordered.{AreNone, Checks, OnlyAdds};
 ghost use Rattle.jr_kept.specs.Waiting.{AreShaped, IsFree};
 ghost use Rattle.jr_kept.specs.Returned as tell;
 
@@ -147,8 +147,9 @@ pub(crate) fn put_held_returns(
     method: u32,
     lost: &mut Firsts,
 ) -> Result<(), OutOfMemory>
-    ensures { flows.now.names.body + 1 < 2 ^ 32 → method + 1 < 2 ^ 32
-        → OnOk result (Checks lost.old lost.new (tell.LeavesByNumbers flows.now.names.rows.now flows.now.rows.now flows.now.names.body method (origin_in flows.now.origin.now) flows.now.before.now.points.items (steps_of flows.now.before.now))) }
+    ensures adds { OnOk result (OnlyAdds lost.old lost.new) }
+    ensures leaves { flows.now.names.body + 1 < 2 ^ 32 → method + 1 < 2 ^ 32
+        → OnOk result (AreNone lost.new → tell.LeavesByNumbers flows.now.names.rows.now flows.now.rows.now flows.now.names.body method (origin_in flows.now.origin.now) flows.now.before.now.points.items (steps_of flows.now.before.now)) }
 {
     let names = &flows.names;
     let graph = flows.before;

@@ -1,8 +1,8 @@
-use Rattle.std.proofs.Common.{◌≡◌, arith, length}
+use Rattle.std.proofs.Common.{◌∙◌, ap, ◌++◌, ◌∷◌, []}
+use Rattle.jr_kept.specs.Carried.{plain_step}
 use Rattle.jr_kept.proofs.Carrying.{used_after}
 use Rattle.jr_kept.proofs.carried.put_use.Goals as goal
 
 pub returns : goal.returns
-returns c = let made = c.args.made.now in let size = c.len.ensures in let ok = made.points.ok.0 in let same = c.in_ok-to.ensures in
-    let number : c.in_ok-to.to ≡ length made.points.items = omega (arith, size, ok, same) in
-    used_after made _ c.args.from c.in_ok-to.to c.args.local c.in_ok-push.ensures.items c.in_ok-push-2.ensures.items number
+returns c = let made = c.args.made.now in let from = c.args.from in let to = c.in_ok-to.to in
+    used_after made _ from to c.args.local (c.in_ok-put_step.ensures.points ∙ c.in_ok-to.ensures.points) (c.in_ok-put_step.ensures.steps ∙ ap (λ ss. ss ++ plain_step from to ∷ []) c.in_ok-to.ensures.steps) c.in_ok-to.ensures.number

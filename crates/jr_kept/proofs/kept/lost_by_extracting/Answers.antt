@@ -6,6 +6,7 @@ use Rattle.jr_flow.specs.Reached.{steps_of}
 use Rattle.jr_locks.specs.Origins.{origin_of, row_by}
 use Rattle.jr_kept.specs.Named.{origin_in}
 use Rattle.jr_kept.specs.Courses.{IsBodyRound}
+use Rattle.jr_kept.specs.Returned.{ReturnAtOnce}
 use Rattle.jr_kept.proofs.Crossing.{statement_before}
 use Rattle.jr_kept.proofs.Rounding.{rows_few, parent_before}
 use Rattle.jr_kept.proofs.kept.lost_by_extracting.Goals as goal
@@ -66,6 +67,8 @@ returns-clause-uses c = λ m w seen other. let p = c.args.old.now.marks.rows.now
           (subst (λ n. KeepsDefinitions (body_flow p m n) (joined_flow q w joined.body call method) (IsHanding q (joined_flow q w joined.body call method) call method) (Hands q (joined_flow q w joined.body call method) call method (origin_in c.as_slice.result.now)) (origin_in c.as_slice.result.now)) before_graph.0 both.1));
       unlost = subst (λ os. IsLost q w (joined_flow q w after call method) call method (origin_in os) → ⊥) c.as_slice.ensures.value
           (subst (λ n. IsLost q w (joined_flow q w n call method) call method (origin_in c.as_slice.result.now) → ⊥) after_graph.0 both.2);
+      at_once = subst (λ os. ReturnAtOnce p q m body method (origin_in os)) c.as_slice.ensures.value both.3;
     }) (c.lost_in_extracted.ensures.uses m w before_graph.1
     (subst (λ n. IsGraph (joined_flow q w n call method) n joined.points.items (steps_of joined)) (sym after_graph.0) after_graph.1) alone
+    (record { tree = seen.tree; few = rows_few c.args.old.now m seen; row = copy.1; same = before_graph.0 })
     (omega (arith, few, last, to)) (omega (arith, few, is_row)) (omega (arith, few, last, to, up)))
