@@ -8,11 +8,10 @@ use Rattle.jr_change.specs.declared.project.Project.{Project}
 use Rattle.jr_locks.specs.Origins.{origin_of, row_by}
 use Rattle.jr_flow_defs.specs.Meaning.{Meaning}
 use Rattle.jr_flow_defs.specs.Edges.{body_flow}
-use Rattle.jr_flow_defs.specs.Kept.{KeepsControl, KeepsDefinitions, KeepsInlined, Hands, IsHanding, IsLost, joined_flow}
+use Rattle.jr_flow_defs.specs.Kept.{KeepsControl, KeepsInlined, KeepsExtracted, joined_flow}
 use Rattle.jr_flow.specs.Bodies.{has_code}
 use Rattle.jr_flow.specs.Views.{rows_in, IsViewOf}
 use Rattle.jr_kept.specs.Named.{origin_in}
-use Rattle.jr_kept.specs.Returned.{ReturnAtOnce}
 
 -- the project has the rows of a tree, and its view is of the meaning
 pub record IsSeen (project : Project) (m : Meaning) : Type 0 where
@@ -71,18 +70,14 @@ pub record KeepsInlinedFlow (p q : Rows) (m w : Meaning) (origin copy : List ℕ
   pub declared : parent p local ≡ statement
   pub inlined : KeepsInlined p q m w body after local (dropped_by (row_by (origin_of copy statement)) statement) (origin_in origin)
 
--- the body round the call, with the method in place of the call, has the same edges as the body of which it is a copy, where parameters and what the call is assigned to
--- hand on what reaches arguments and what is returned, no value that a local gets in the method is lost, and each `return` in it left the body at once
+-- the body round the call is a copy of one of which it keeps, with the method in place of the call, what is to be kept of statements that go into a method
 pub record KeepsExtractedFlow (p q : Rows) (m w : Meaning) (origin : List ℕ) (call method : ℕ) : Type 0 where
   pub body : ℕ
   pub after : ℕ
   pub round : IsBodyRound q call after
   pub is_copy : row_by (origin_of origin after) ≡ Some body
   pub few : body < length p
-  pub control : KeepsControl p q (body_flow p m body) (joined_flow q w after call method) body after None (origin_in origin)
-  pub definitions : KeepsDefinitions (body_flow p m body) (joined_flow q w after call method) (IsHanding q (joined_flow q w after call method) call method) (Hands q (joined_flow q w after call method) call method (origin_in origin)) (origin_in origin)
-  pub unlost : IsLost q w (joined_flow q w after call method) call method (origin_in origin) → ⊥
-  pub at_once : ReturnAtOnce p q m body method (origin_in origin)
+  pub extracted : KeepsExtracted p q m w body after call method (origin_in origin)
 
 -- what is kept where no edge from a definition to a use is lost either; of other changes nothing is told
 abbrev pub KeepsUsesOf : Course → Rows → Rows → Meaning → Meaning → List ℕ → List ℕ → Type 0

@@ -59,15 +59,17 @@ returns-clause-uses c = λ m w seen other. let p = c.args.old.now.marks.rows.now
       round = round;
       is_copy = copy.0;
       few = copy.1;
-      control = subst (λ os. KeepsControl p q (body_flow p m body) (joined_flow q w after call method) body after None (origin_in os)) c.as_slice.ensures.value
-          (subst (λ n. KeepsControl p q (body_flow p m body) (joined_flow q w n call method) body n None (origin_in c.as_slice.result.now)) after_graph.0
-          (subst (λ n. KeepsControl p q (body_flow p m n) (joined_flow q w joined.body call method) n joined.body None (origin_in c.as_slice.result.now)) before_graph.0 both.0));
-      definitions = subst (λ os. KeepsDefinitions (body_flow p m body) (joined_flow q w after call method) (IsHanding q (joined_flow q w after call method) call method) (Hands q (joined_flow q w after call method) call method (origin_in os)) (origin_in os)) c.as_slice.ensures.value
-          (subst (λ n. KeepsDefinitions (body_flow p m body) (joined_flow q w n call method) (IsHanding q (joined_flow q w n call method) call method) (Hands q (joined_flow q w n call method) call method (origin_in c.as_slice.result.now)) (origin_in c.as_slice.result.now)) after_graph.0
-          (subst (λ n. KeepsDefinitions (body_flow p m n) (joined_flow q w joined.body call method) (IsHanding q (joined_flow q w joined.body call method) call method) (Hands q (joined_flow q w joined.body call method) call method (origin_in c.as_slice.result.now)) (origin_in c.as_slice.result.now)) before_graph.0 both.1));
-      unlost = subst (λ os. IsLost q w (joined_flow q w after call method) call method (origin_in os) → ⊥) c.as_slice.ensures.value
-          (subst (λ n. IsLost q w (joined_flow q w n call method) call method (origin_in c.as_slice.result.now) → ⊥) after_graph.0 both.2);
-      at_once = subst (λ os. ReturnAtOnce p q m body method (origin_in os)) c.as_slice.ensures.value both.3;
+      extracted = record {
+        control = subst (λ os. KeepsControl p q (body_flow p m body) (joined_flow q w after call method) body after None (origin_in os)) c.as_slice.ensures.value
+            (subst (λ n. KeepsControl p q (body_flow p m body) (joined_flow q w n call method) body n None (origin_in c.as_slice.result.now)) after_graph.0
+            (subst (λ n. KeepsControl p q (body_flow p m n) (joined_flow q w joined.body call method) n joined.body None (origin_in c.as_slice.result.now)) before_graph.0 both.0));
+        definitions = subst (λ os. KeepsDefinitions (body_flow p m body) (joined_flow q w after call method) (IsHanding q (joined_flow q w after call method) call method) (Hands q (joined_flow q w after call method) call method (origin_in os)) (origin_in os)) c.as_slice.ensures.value
+            (subst (λ n. KeepsDefinitions (body_flow p m body) (joined_flow q w n call method) (IsHanding q (joined_flow q w n call method) call method) (Hands q (joined_flow q w n call method) call method (origin_in c.as_slice.result.now)) (origin_in c.as_slice.result.now)) after_graph.0
+            (subst (λ n. KeepsDefinitions (body_flow p m n) (joined_flow q w joined.body call method) (IsHanding q (joined_flow q w joined.body call method) call method) (Hands q (joined_flow q w joined.body call method) call method (origin_in c.as_slice.result.now)) (origin_in c.as_slice.result.now)) before_graph.0 both.1));
+        unlost = subst (λ os. IsLost q w (joined_flow q w after call method) call method (origin_in os) → ⊥) c.as_slice.ensures.value
+            (subst (λ n. IsLost q w (joined_flow q w n call method) call method (origin_in c.as_slice.result.now) → ⊥) after_graph.0 both.2);
+        returns = subst (λ os. ReturnAtOnce p q m body method (origin_in os)) c.as_slice.ensures.value both.3;
+      };
     }) (c.lost_in_extracted.ensures.uses m w before_graph.1
     (subst (λ n. IsGraph (joined_flow q w n call method) n joined.points.items (steps_of joined)) (sym after_graph.0) after_graph.1) alone
     (record { tree = seen.tree; few = rows_few c.args.old.now m seen; row = copy.1; same = before_graph.0 })
