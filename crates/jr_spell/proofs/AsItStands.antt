@@ -1,4 +1,4 @@
--- What the old shape of a reference that is no call finds where it is not written by identifiers alone.
+-- What the old shape of a reference finds where it is not written by identifiers alone: what is no call, and through what.
 use Rattle.std.proofs.Common.{◌≡◌, refl, sym, ◌∙◌, ap, arith, ℕ, zero, suc, ◌+◌, ◌<◌, Bool, true, false, cond, List, [], Option, Some, None, nat_eq, nat_lt}
 use Rattle.std.proofs.lemmas.Bool.{false≢true}
 use Rattle.std.proofs.lemmas.Bool.Decides.{Decides-ltb}
@@ -34,7 +34,7 @@ use Rattle.jr_spell.specs.declared.fitting.Looked.{Looked}
 use Rattle.jr_spell.specs.declared.fitting.Way.{Way}
 use Rattle.jr_spell.specs.declared.speller.Speller.{Speller}
 use Rattle.jr_spell.specs.Shaping.{IsLookedAs, as_it_stands, class_type_in, object_type, receiver_by, standing_way, type_behind}
-use Rattle.jr_spell.specs.Spellers.{rows_of, table_of, number_by}
+use Rattle.jr_spell.specs.Spellers.{rows_of, table_of, types_of, number_by}
 use Rattle.jr_spell.specs.Spelling.{HasTypes}
 
 -- ---- what is found
@@ -46,8 +46,11 @@ module _ (p : Rows) (t : Table) (type_of : Types) (given : Option (List RowType)
   abbrev seen : Left → Text → Sought → Referent
   seen l x s = look_with p (world_of p t) l n x s
 
+  abbrev left_for : Sought → Left
+  left_for s = candidate.left_standing s given (left_of p t type_of n)
+
   -- arguments are read of calls alone
-  arguments_away : (x : Text) (s : Sought) → candidate.is_call s ≡ false → seen (left_of p t type_of n) x s ≡ seen standing.left x s
+  arguments_away : (x : Text) (s : Sought) → candidate.is_call s ≡ false → seen (left_of p t type_of n) x s ≡ seen (left_for s) x s
   arguments_away x (sought.Simple kind.Variable) e = refl
   arguments_away x (sought.Simple kind.Type) e = refl
   arguments_away x (sought.Simple kind.PackageOrType) e = refl
@@ -74,8 +77,8 @@ module _ (p : Rows) (t : Table) (type_of : Types) (given : Option (List RowType)
   standing_found headed types number s a seeks uncalled is h = look_for_finds p t headed (HasConstantForm p t) type_of types.typed n (name p number) s a h
       ∙ sym (look_for_same p t type_of n (name p number) s)
       ∙ arguments_away (name p number) s uncalled
-      ∙ ap (λ x. seen standing.left x s) (ap (name p) is ∙ named_first p (named_by p n (t n)))
-      ∙ ap (seen standing.left (name p (named_by p n (t n)))) seeks
+      ∙ ap (λ x. seen (left_for s) x s) (ap (name p) is ∙ named_first p (named_by p n (t n)))
+      ∙ ap (λ r. seen (left_for r) (name p (named_by p n (t n))) r) seeks
 
 -- ---- through what
 
@@ -102,6 +105,15 @@ receiver_is p (suc dims) e = let lt : 0 < suc dims = omega arith in ap (λ b. co
 module _ (s : Speller) (given : Option (List RowType)) (n : ℕ) where
   abbrev p : Rows
   p = rows_of s
+
+  abbrev value_by : Bool → Option RowType
+  value_by has = cond has (type_behind p (types_of s) n) None
+
+  pub value_there : (seeks : Sought) → seeks ≡ sought_at p n → (has : Bool) → has ≡ candidate.has_left seeks → has ≡ true → type_behind p (types_of s) n ≡ (as_it_stands s given n).left.value
+  value_there seeks at has is e = ap value_by (sym e ∙ is ∙ ap candidate.has_left at)
+
+  pub value_away : (seeks : Sought) → seeks ≡ sought_at p n → (has : Bool) → has ≡ candidate.has_left seeks → has ≡ false → None ≡ (as_it_stands s given n).left.value
+  value_away seeks at has is e = ap value_by (sym e ∙ is ∙ ap candidate.has_left at)
 
   abbrev through_by : Option RowType → Option RowType
   through_by o = elim o as (λ _. Option RowType) [ Some a ↦ fitting.receiver_by p a.dims a.element | None ↦ None ]

@@ -11,4 +11,6 @@ pub mod Spelled
 pub mod ByObject
 pub mod BySuper
 pub mod AsItStands
+pub mod Chosen
+pub mod Casting
 pub mod Called

@@ -2,6 +2,7 @@ pub mod Packaging
 pub mod Forming
 pub mod Spellers
 pub mod Standing
+pub mod Calling
 pub mod Adding
 pub mod Shaping
 pub mod Objects

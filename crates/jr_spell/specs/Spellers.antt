@@ -1,5 +1,5 @@
 -- What a speller reads, and what is known of it: the program under its locks, with supertypes, members and imports as the locks say.
-use Rattle.std.specs.Prelude.{◌≡◌, ℕ, ◌<◌, ◌^◌, Bool, false, if◌then◌else◌, Option, Some, None, is_some, length, slice_index_or}
+use Rattle.std.specs.Prelude.{◌≡◌, ℕ, ◌+◌, ◌<◌, ◌^◌, Bool, false, if◌then◌else◌, Option, Some, None, is_some, length, slice_index_or}
 use Rattle.jr_tree.specs.Rows.{Rows, sought_at}
 use Rattle.jr_defs.specs.declared.referent.Referent.{Referent}
 use Rattle.jr_defs.specs.Referents.{Table, entries}
@@ -48,6 +48,7 @@ pub record IsWholeSpeller (s : Speller) : Type 0 where
   pub placed : AreLocalsPlaced (rows_of s)
   pub can : CanChoose (table_of s) s.view.now.sight.world
   pub paths : ArePaths (rows_of s) s.paths.now
+  pub few : length (rows_of s) + 3 < 2 ^ 32
 
 -- the reference has the lock of its row, and what is sought there
 pub record IsAtRow (s : Speller) (r : Reference) : Type 0 where

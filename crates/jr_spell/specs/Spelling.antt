@@ -1,7 +1,7 @@
--- What spellings are given to references that are no calls.
+-- What spellings are given to references.
 use Rattle.std.specs.Prelude.{◌≡◌, ℕ, ◌+◌, ◌-◌, ◌<◌, ◌^◌, Bool, false, List, length, Option, Some, None, slice_index_or, ⊤}
 use Rattle.std.specs.List.{AllByRecursion}
-use Rattle.jr_tree.specs.Rows.{Rows, sought_at}
+use Rattle.jr_tree.specs.Rows.{Rows}
 use Rattle.jr_defs.specs.Constants.{HasConstantForm}
 use Rattle.jr_defs.specs.Referents.{Table}
 use Rattle.jr_defs.specs.Typing.{TypeOf}
@@ -9,7 +9,7 @@ use Rattle.jr_plain.specs.Overloads.{Types}
 use Rattle.jr_plain.specs.Search.{Finds}
 use Rattle.jr_lookup.specs.Behind.{RefersByNames}
 use Rattle.jr_shapes.specs.declared.spelling.Spelling.{Spelling}
-use Rattle.jr_spelling_rules.specs.Candidates.{is_by_names, is_call}
+use Rattle.jr_spelling_rules.specs.Candidates.{is_by_names}
 use Rattle.jr_spelling_rules.specs.Spelling.{Written, spelling}
 use Rattle.jr_spell.specs.declared.fault.SpellFault.{SpellFault}
 use Rattle.jr_spell.specs.declared.fault.SpellFault.TheVariants as fault
@@ -36,9 +36,8 @@ pub record HasTypes (p : Rows) (t : Table) (type_of : Types) : Type 0 where
   pub few : length p + 3 < 2 ^ 32
   pub typed : (n : ℕ) → Finds (type_of n) (λ a. TypeOf p t (HasConstantForm p t) n a)
 
--- no call, and where it is not written by identifiers alone the types of expressions are known
+-- where it is not written by identifiers alone the types of expressions are known
 pub record IsExactAt (p : Rows) (t : Table) (type_of : Types) (n : ℕ) : Type 0 where
-  pub uncalled : is_call (sought_at p n) ≡ false
   pub typed : is_by_names p t n ≡ false → HasTypes p t type_of
 
 module _ (p : Rows) (t : Table) (type_of : Types) (was_constant : ℕ → Bool) (first : ℕ) (variable : ℕ → Bool) where

@@ -1,10 +1,13 @@
 // Names of types that a spelling adds.
 ghost use Rattle.std.specs.Prelude.{◌≡◌, ◌<◌, ◌++◌, ℕ, IfOk, length, map, reverse, suc, option_map};
 ghost use Rattle.jr_tree.specs.declared.label.NameKind.TheVariants as names;
+ghost use Rattle.jr_defs.specs.declared.referent.Element.TheVariants as elements;
 ghost use Rattle.jr_places.specs.Names.{name_row};
 ghost use Rattle.jr_shapes.specs.Names.{suffix as suffix_of};
 ghost use Rattle.jr_spelling_rules.specs.Candidates as candidate;
+ghost use Rattle.jr_spelling_rules.specs.Spelling as rule;
 ghost use Rattle.jr_spell.specs.Adding as adding;
+ghost use Rattle.jr_spell.specs.Calling as calling;
 ghost use Rattle.jr_spell.specs.Spellers as tell;
 
 use crate::fitting::target_of;
@@ -204,18 +207,38 @@ impl<'a> Speller<'a> {
         self.added(alloc, place, NameKind::Ambiguous, class)
     }
 
+    // How a type of the class is written in a cast. A class that is no row of the program is answered by want of memory.
+    fn written_class(
+        &self,
+        alloc: Global,
+        place: u32,
+        ty: RowType,
+        class: u32,
+    ) -> Result<Option<TypeName>, OutOfMemory>
+        ensures { tell.IsWholeSpeller self.now → place < length (tell.rows_of self.now) → IfOk result (λ o. o ≡ rule.written_by (tell.rows_of self.now) (tell.table_of self.now) place ty (elements.Class class)) }
+    {
+        let view = self.view;
+        if (class as usize) >= view.sight.world.under.rows.len() {
+            return Err(OutOfMemory);
+        }
+        let added = self.added_type(alloc, place, class)?;
+        match added {
+            Some(found) => Ok(Some(type_name(ty, found.suffix.count))),
+            None => Ok(None),
+        }
+    }
+
     /// How the type is written in a cast of an argument.
     pub fn written_type(
         &self,
         alloc: Global,
         place: u32,
         ty: RowType,
-    ) -> Result<Option<TypeName>, OutOfMemory> {
+    ) -> Result<Option<TypeName>, OutOfMemory>
+        ensures { tell.IsWholeSpeller self.now → place < length (tell.rows_of self.now) → IfOk result (λ o. o ≡ rule.written_type (tell.rows_of self.now) (tell.table_of self.now) place ty) }
+    {
         match ty.element {
-            Element::Class(class) => match self.added_type(alloc, place, class)? {
-                Some(added) => Ok(Some(type_name(ty, added.suffix.count))),
-                None => Ok(None),
-            },
+            Element::Class(class) => self.written_class(alloc, place, ty, class),
             Element::Null => Ok(None),
             Element::Void => Ok(None),
             _ => Ok(Some(type_name(ty, 0))),
@@ -223,7 +246,9 @@ impl<'a> Speller<'a> {
     }
 }
 
-fn type_name(ty: RowType, count: u32) -> TypeName {
+fn type_name(ty: RowType, count: u32) -> TypeName
+    ensures { result ≡ calling.type_name ty count }
+{
     TypeName {
         element: ty.element,
         count,

@@ -18,14 +18,14 @@ ghost use Rattle.jr_spell.specs.Spelling as spelled;
 ghost use Rattle.jr_spell.specs.Standing as standing;
 
 use crate::fitting::{Fit, Looked, Way, level_of};
-use crate::reference::{Dot, Reference};
+use crate::reference::Reference;
 use crate::resolving::{Before, Qualifiers};
 use crate::speller::Speller;
 use jr_base::OutOfMemory;
 use jr_defs::{Element, Referent, RowType};
 use jr_shapes::{Shape, kept_rows, parts_of, push_package, referent_at, type_of};
 use jr_supers::class_type;
-use jr_tree::Row;
+use jr_tree::{Row, Sought};
 use std::alloc::Global;
 
 /// The way of a name alone, or of `super` and a name.
@@ -78,6 +78,18 @@ fn receiver_by(object: Option<u32>, ty: RowType) -> Option<RowType>
         object_type(object)
     } else {
         class_type_in(ty.element)
+    }
+}
+
+// A member of what stands in the first child is sought.
+fn has_left(sought: Sought) -> bool
+    ensures { result ≡ candidate.has_left sought }
+{
+    match sought {
+        Sought::Qualified { .. } => true,
+        Sought::FieldOf => true,
+        Sought::MethodOf => true,
+        _ => false,
     }
 }
 
@@ -204,12 +216,15 @@ impl<'a> Speller<'a> {
         }
     }
 
-    // The type through which a member of the expression before the dot is reached.
-    fn receiver_behind(&self, row: u32) -> Option<RowType>
-        ensures { (given : Option (List Ty)) → tell.IsSeenSpeller self.now → result ≡ fitting.receiver_type (tell.rows_of self.now) (shaping.as_it_stands self.now given row).left }
+    // The type through which a member of the expression before the dot is reached, where one is sought.
+    fn receiver_behind(&self, reference: &Reference) -> Option<RowType>
+        ensures { (given : Option (List Ty)) → tell.IsSeenSpeller self.now → tell.IsAtRow self.now reference.now → result ≡ fitting.receiver_type (tell.rows_of self.now) (shaping.as_it_stands self.now given reference.now.row).left }
     {
+        if !has_left(reference.sought) {
+            return None;
+        }
         let view = self.view;
-        match self.type_behind(row) {
+        match self.type_behind(reference.row) {
             Some(ty) => receiver_by(view.sight.world.supers.object(), ty),
             None => None,
         }
@@ -233,65 +248,19 @@ impl<'a> Speller<'a> {
         )
     }
 
-    // What the old shape of what is no call finds there.
-    fn look_as_it_stands(&self, alloc: Global, reference: &Reference) -> Result<Looked, OutOfMemory>
-        ensures { (given : Option (List Ty)) → tell.IsWholeSpeller self.now → tell.IsSought self.now reference.now → candidate.is_call reference.now.sought ≡ false → spelled.HasTypes (tell.rows_of self.now) (tell.table_of self.now) (tell.types_of self.now) → IfOk result (λ looked. shaping.IsLookedAs self.now reference.now.row looked (shaping.as_it_stands self.now given reference.now.row)) }
+    // What a reference finds behind the expression, `super`, `new` or nothing that stands there.
+    fn found_standing(
+        &self,
+        alloc: Global,
+        reference: &Reference,
+        arguments: &[RowType],
+    ) -> Result<Referent, OutOfMemory>
+        ensures { (given : Option (List Ty)) → tell.IsWholeSpeller self.now → tell.IsSought self.now reference.now → shaping.IsGiven reference.now given arguments.now → spelled.HasTypes (tell.rows_of self.now) (tell.table_of self.now) (tell.types_of self.now) → IfOk result (λ a. a ≡ fitting.found (tell.rows_of self.now) (tell.table_of self.now) reference.now.row (shaping.as_it_stands self.now given reference.now.row)) }
     {
-        let found = self.find_as_it_stands(alloc, reference)?;
-        let way = standing_way(self.receiver_behind(reference.row), found);
-        let trace = Vec::new(alloc);
-        Ok(Looked { found, trace, way })
-    }
-
-    // What a method of the expression before the dot is.
-    fn method_of_value(
-        &self,
-        alloc: Global,
-        reference: &Reference,
-        arguments: &[RowType],
-    ) -> Result<Referent, OutOfMemory> {
-        let left = self.sight().left_of(self.types(), reference.row);
-        match self.sight().receiver(left) {
-            Some(receiver) => self.method_of(alloc, reference, arguments, receiver),
-            None => Ok(Referent::Unbound),
-        }
-    }
-
-    fn look_behind_value(
-        &self,
-        alloc: Global,
-        reference: &Reference,
-        arguments: &[RowType],
-    ) -> Result<Looked, OutOfMemory> {
-        let found = self.method_of_value(alloc, reference, arguments)?;
-        let way = standing_way(self.receiver_behind(reference.row), found);
-        let trace = Vec::new(alloc);
-        Ok(Looked { found, trace, way })
-    }
-
-    // What a call finds that has nothing before its dot but `super`, and is no method.
-    fn look_fixed(
-        &self,
-        alloc: Global,
-        reference: &Reference,
-        arguments: &[RowType],
-    ) -> Result<Looked, OutOfMemory> {
-        let found = self.fixed_call(alloc, reference, arguments)?;
-        let way = way_of(found, false);
-        let trace = Vec::new(alloc);
-        Ok(Looked { found, trace, way })
-    }
-
-    // What the old shape of a call finds behind the expression, `super`, `new` or nothing that stands there.
-    fn look_call(
-        &self,
-        alloc: Global,
-        reference: &Reference,
-        arguments: &[RowType],
-    ) -> Result<Looked, OutOfMemory> {
-        match reference.dot {
-            Dot::Value => self.look_behind_value(alloc, reference, arguments),
-            _ => self.look_fixed(alloc, reference, arguments),
+        if reference.is_call() {
+            self.called(alloc, reference, arguments)
+        } else {
+            self.find_as_it_stands(alloc, reference)
         }
     }
 
@@ -302,13 +271,12 @@ impl<'a> Speller<'a> {
         reference: &Reference,
         arguments: &[RowType],
     ) -> Result<Looked, OutOfMemory>
-        ensures { (given : Option (List Ty)) → tell.IsWholeSpeller self.now → tell.IsSought self.now reference.now → candidate.is_call reference.now.sought ≡ false → spelled.HasTypes (tell.rows_of self.now) (tell.table_of self.now) (tell.types_of self.now) → IfOk result (λ looked. shaping.IsLookedAs self.now reference.now.row looked (shaping.as_it_stands self.now given reference.now.row)) }
+        ensures { (given : Option (List Ty)) → tell.IsWholeSpeller self.now → tell.IsSought self.now reference.now → shaping.IsGiven reference.now given arguments.now → spelled.HasTypes (tell.rows_of self.now) (tell.table_of self.now) (tell.types_of self.now) → IfOk result (λ looked. shaping.IsLookedAs self.now reference.now.row looked (shaping.as_it_stands self.now given reference.now.row)) }
     {
-        if reference.is_call() {
-            self.look_call(alloc, reference, arguments)
-        } else {
-            self.look_as_it_stands(alloc, reference)
-        }
+        let found = self.found_standing(alloc, reference, arguments)?;
+        let way = standing_way(self.receiver_behind(reference), found);
+        let trace = Vec::new(alloc);
+        Ok(Looked { found, trace, way })
     }
 
     // What the old shape finds behind its packages and types.
@@ -334,7 +302,7 @@ impl<'a> Speller<'a> {
         reference: &Reference,
         arguments: &[RowType],
     ) -> Result<Option<Looked>, OutOfMemory>
-        ensures { (given : Option (List Ty)) → tell.IsWholeSpeller self.now → tell.IsSought self.now reference.now → shaping.IsGiven reference.now given arguments.now → (candidate.is_by_names (tell.rows_of self.now) (tell.table_of self.now) reference.now.row ≡ false → spelled.IsExactAt (tell.rows_of self.now) (tell.table_of self.now) (tell.types_of self.now) reference.now.row) → IfOk result (λ o. shaping.AreLooked self.now reference.now.row shapes.Kept o (candidate.old (tell.rows_of self.now) (tell.table_of self.now) (tell.types_of self.now) given reference.now.row)) }
+        ensures { (given : Option (List Ty)) → tell.IsWholeSpeller self.now → tell.IsSought self.now reference.now → shaping.IsGiven reference.now given arguments.now → spelled.IsExactAt (tell.rows_of self.now) (tell.table_of self.now) (tell.types_of self.now) reference.now.row → IfOk result (λ o. shaping.AreLooked self.now reference.now.row shapes.Kept o (candidate.old (tell.rows_of self.now) (tell.table_of self.now) (tell.types_of self.now) given reference.now.row)) }
     {
         if reference.is_by_names() {
             return self.look_kept_names(alloc, reference, arguments);
@@ -350,7 +318,7 @@ impl<'a> Speller<'a> {
         reference: &Reference,
         arguments: &[RowType],
     ) -> Result<Option<Fit>, OutOfMemory>
-        ensures { (given : Option (List Ty)) → tell.IsWholeSpeller self.now → tell.IsSought self.now reference.now → shaping.IsGiven reference.now given arguments.now → (candidate.is_by_names (tell.rows_of self.now) (tell.table_of self.now) reference.now.row ≡ false → spelled.IsExactAt (tell.rows_of self.now) (tell.table_of self.now) (tell.types_of self.now) reference.now.row) → IfOk result (λ o. shaping.IsFirstOf self.now reference.now.row (candidate.old (tell.rows_of self.now) (tell.table_of self.now) (tell.types_of self.now) given reference.now.row) o) }
+        ensures { (given : Option (List Ty)) → tell.IsWholeSpeller self.now → tell.IsSought self.now reference.now → shaping.IsGiven reference.now given arguments.now → spelled.IsExactAt (tell.rows_of self.now) (tell.table_of self.now) (tell.types_of self.now) reference.now.row → IfOk result (λ o. shaping.IsFirstOf self.now reference.now.row (candidate.old (tell.rows_of self.now) (tell.table_of self.now) (tell.types_of self.now) given reference.now.row) o) }
     {
         let looked = self.look_kept(alloc, reference, arguments)?;
         Ok(self.fit_found(reference, Shape::Kept, looked))

@@ -149,7 +149,8 @@ impl Paths {
 
     /// The packages of the units of a program. A package declaration that holds no name is answered by want of memory.
     pub fn of(alloc: Global, rows: &[Row], places: &Places) -> Result<Paths, OutOfMemory>
-        ensures { ArePlaced rows.now places.now → IfOk result (λ paths. packaging.ArePaths rows.now paths) }
+        ensures paths { ArePlaced rows.now places.now → IfOk result (λ paths. packaging.ArePaths rows.now paths) }
+        ensures few { IfOk result (λ paths. length rows.now + 3 < 2 ^ 32) }
     {
         if rows.len() >= u32::MAX as usize - 2 {
             return Err(OutOfMemory);

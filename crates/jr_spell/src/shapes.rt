@@ -220,7 +220,7 @@ impl<'a> Speller<'a> {
         reference: &Reference,
         arguments: &[RowType],
     ) -> Result<Option<Fit>, OutOfMemory>
-        ensures { (given : Option (List Ty)) → tell.IsWholeSpeller self.now → tell.IsSought self.now reference.now → shaping.IsGiven reference.now given arguments.now → (candidate.is_by_names (tell.rows_of self.now) (tell.table_of self.now) reference.now.row ≡ false → spelled.IsExactAt (tell.rows_of self.now) (tell.table_of self.now) (tell.types_of self.now) reference.now.row) → IfOk result (λ o. shaping.IsFirstOf self.now reference.now.row (candidate.candidates (tell.rows_of self.now) (tell.table_of self.now) (tell.types_of self.now) given reference.now.row self.now.written) o) }
+        ensures { (given : Option (List Ty)) → tell.IsWholeSpeller self.now → tell.IsSought self.now reference.now → shaping.IsGiven reference.now given arguments.now → spelled.IsExactAt (tell.rows_of self.now) (tell.table_of self.now) (tell.types_of self.now) reference.now.row → IfOk result (λ o. shaping.IsFirstOf self.now reference.now.row (candidate.candidates (tell.rows_of self.now) (tell.table_of self.now) (tell.types_of self.now) given reference.now.row self.now.written) o) }
     {
         let kept = self.kept(alloc, reference, arguments)?;
         match kept {

@@ -1,10 +1,12 @@
 // The spellings of all references.
-ghost use Rattle.std.specs.Prelude.{◌≡◌, ◌<◌, ◌++◌, ◌∷◌, [], true, false, IfOk, IfErr, IfSome, OnOk, List, Option, length};
+ghost use Rattle.std.specs.Prelude.{◌≡◌, ◌<◌, ◌++◌, ◌∷◌, [], true, IfOk, IfErr, IfSome, OnOk, List, Option, Some, length, option_map};
 ghost use Rattle.jr_defs.specs.declared.referent.RowType.{RowType as Ty};
 ghost use Rattle.jr_spelling_rules.specs.Candidates as candidate;
 ghost use Rattle.jr_spelling_rules.specs.Spelling as rule;
+ghost use Rattle.jr_shapes.specs.declared.spelling.TypeName.{TypeName as Names};
 ghost use Rattle.jr_spell.specs.declared.fault.SpellFault.TheVariants as faults;
 ghost use Rattle.jr_spell.specs.declared.speller.Speller.{Speller as Reader};
+ghost use Rattle.jr_spell.specs.Calling as calling;
 ghost use Rattle.jr_spell.specs.Shaping as shaping;
 ghost use Rattle.jr_spell.specs.Spellers as tell;
 ghost use Rattle.jr_spell.specs.Spelling as spelled;
@@ -15,7 +17,7 @@ use crate::paths::Paths;
 use crate::reference::{Dot, Reference};
 use crate::speller::Speller;
 use jr_base::OutOfMemory;
-use jr_change::{Project, Shape, Spelling};
+use jr_change::{Project, Shape, Spelling, TypeName};
 use jr_defs::{Referent, RowType};
 use jr_marks::order_of_occurrences;
 use jr_tree::Row;
@@ -53,7 +55,7 @@ impl<'a> Speller<'a> {
         arguments: &[RowType],
     ) -> Result<Option<Spelling>, OutOfMemory>
         ensures row { IfOk result (λ o. IfSome o (λ a. a.row ≡ reference.now.row)) }
-        ensures first { (given : Option (List Ty)) → tell.IsWholeSpeller self.now → tell.IsSought self.now reference.now → shaping.IsGiven reference.now given arguments.now → (candidate.is_by_names (tell.rows_of self.now) (tell.table_of self.now) reference.now.row ≡ false → spelled.IsExactAt (tell.rows_of self.now) (tell.table_of self.now) (tell.types_of self.now) reference.now.row) → IfOk result (λ o. spelled.IsWritten reference.now.row o (shaping.plainly self.now reference.now.row given)) }
+        ensures first { (given : Option (List Ty)) → tell.IsWholeSpeller self.now → tell.IsSought self.now reference.now → shaping.IsGiven reference.now given arguments.now → spelled.IsExactAt (tell.rows_of self.now) (tell.table_of self.now) (tell.types_of self.now) reference.now.row → IfOk result (λ o. spelled.IsWritten reference.now.row o (shaping.plainly self.now reference.now.row given)) }
     {
         let fit = self.first_fit(alloc, reference, arguments)?;
         Ok(spelling_of(alloc, reference.row, fit))
@@ -62,6 +64,7 @@ impl<'a> Speller<'a> {
     // The spelling of a call without casts of arguments.
     fn uncast(&self, alloc: Global, reference: &Reference) -> Result<Option<Spelling>, OutOfMemory>
         ensures row { IfOk result (λ o. IfSome o (λ a. a.row ≡ reference.now.row)) }
+        ensures first { tell.IsWholeSpeller self.now → tell.IsSought self.now reference.now → candidate.is_call reference.now.sought ≡ true → spelled.IsExactAt (tell.rows_of self.now) (tell.table_of self.now) (tell.types_of self.now) reference.now.row → IfOk result (λ o. spelled.IsWritten reference.now.row o (calling.uncast_at self.now reference.now.row)) }
     {
         match self.argument_types(alloc, reference)? {
             Some(arguments) => self.spelling_with(alloc, reference, &arguments),
@@ -69,37 +72,78 @@ impl<'a> Speller<'a> {
         }
     }
 
-    // The spelling with each argument cast to the type of its parameter.
-    fn cast(&self, alloc: Global, reference: &Reference) -> Result<Option<Spelling>, OutOfMemory>
+    // This spelling of a call, with each argument cast to the type of its parameter.
+    fn cast_fit(
+        &self,
+        alloc: Global,
+        reference: &Reference,
+        parameters: &[RowType],
+        fit: Fit,
+    ) -> Result<Option<Spelling>, OutOfMemory>
         ensures row { IfOk result (λ o. IfSome o (λ a. a.row ≡ reference.now.row)) }
+        ensures first { (c : candidate.Candidate) → tell.IsWholeSpeller self.now → tell.IsSought self.now reference.now → calling.IsFit self.now reference.now.row fit c → IfOk result (λ o. spelled.IsWritten reference.now.row o (calling.written_with self.now reference.now.row c parameters.now)) }
     {
-        let Some(parameters) = self.parameter_types(alloc, reference)? else {
-            return Ok(None);
-        };
+        let casts = self.casts(alloc, reference.row, parameters)?;
+        Ok(cast_spelling(reference.row, fit, casts))
+    }
+
+    // The spelling with each argument cast to one of these types.
+    fn with_casts(
+        &self,
+        alloc: Global,
+        reference: &Reference,
+        parameters: &[RowType],
+    ) -> Result<Option<Spelling>, OutOfMemory>
+        ensures row { IfOk result (λ o. IfSome o (λ a. a.row ≡ reference.now.row)) }
+        ensures first { tell.IsWholeSpeller self.now → tell.IsSought self.now reference.now → spelled.IsExactAt (tell.rows_of self.now) (tell.table_of self.now) (tell.types_of self.now) reference.now.row → IfOk result (λ o. spelled.IsWritten reference.now.row o (calling.with_casts_at self.now reference.now.row parameters.now)) }
+    {
+        let fit = self.first_fit(alloc, reference, parameters)?;
+        match fit {
+            Some(found) => self.cast_fit(alloc, reference, parameters, found),
+            None => Ok(None),
+        }
+    }
+
+    // The spelling with each argument cast to one of these types, if there are any.
+    fn cast_to(
+        &self,
+        alloc: Global,
+        reference: &Reference,
+        parameters: &[RowType],
+    ) -> Result<Option<Spelling>, OutOfMemory>
+        ensures row { IfOk result (λ o. IfSome o (λ a. a.row ≡ reference.now.row)) }
+        ensures first { tell.IsWholeSpeller self.now → tell.IsSought self.now reference.now → spelled.IsExactAt (tell.rows_of self.now) (tell.table_of self.now) (tell.types_of self.now) reference.now.row → IfOk result (λ o. spelled.IsWritten reference.now.row o (calling.cast_to_at self.now reference.now.row (rule.some_types (Some parameters.now)))) }
+    {
         if parameters.is_empty() {
             return Ok(None);
         }
-        let fit = self.first_fit(alloc, reference, &parameters)?;
-        let Some(
-            Fit {
-                shape,
-                found,
-                trace,
-            },
-        ) = fit
-        else {
-            return Ok(None);
-        };
-        match self.casts(alloc, reference.row, &parameters)? {
-            Some(casts) => Ok(Some(Spelling {
-                row: reference.row,
-                shape,
-                casts,
-                found,
-                trace,
-            })),
+        self.with_casts(alloc, reference, parameters)
+    }
+
+    // The spelling with each argument cast to the type of its parameter.
+    fn cast(&self, alloc: Global, reference: &Reference) -> Result<Option<Spelling>, OutOfMemory>
+        ensures row { IfOk result (λ o. IfSome o (λ a. a.row ≡ reference.now.row)) }
+        ensures first { tell.IsWholeSpeller self.now → tell.IsSought self.now reference.now → spelled.IsExactAt (tell.rows_of self.now) (tell.table_of self.now) (tell.types_of self.now) reference.now.row → IfOk result (λ o. spelled.IsWritten reference.now.row o (calling.cast_at self.now reference.now.row)) }
+    {
+        match self.parameter_types(alloc, reference)? {
+            Some(parameters) => self.cast_to(alloc, reference, &parameters),
             None => Ok(None),
         }
+    }
+
+    // The spelling with casts of arguments, where the row has a text to change.
+    fn cast_here(
+        &self,
+        alloc: Global,
+        reference: &Reference,
+    ) -> Result<Option<Spelling>, OutOfMemory>
+        ensures row { IfOk result (λ o. IfSome o (λ a. a.row ≡ reference.now.row)) }
+        ensures first { tell.IsWholeSpeller self.now → tell.IsSought self.now reference.now → spelled.IsExactAt (tell.rows_of self.now) (tell.table_of self.now) (tell.types_of self.now) reference.now.row → IfOk result (λ o. spelled.IsWritten reference.now.row o (calling.cast_here_at self.now reference.now.row)) }
+    {
+        if self.is_prelude(reference.row) {
+            return Ok(None);
+        }
+        self.cast(alloc, reference)
     }
 
     // The first spelling of a call that fits.
@@ -109,12 +153,13 @@ impl<'a> Speller<'a> {
         reference: &Reference,
     ) -> Result<Option<Spelling>, OutOfMemory>
         ensures row { IfOk result (λ o. IfSome o (λ a. a.row ≡ reference.now.row)) }
+        ensures first { tell.IsWholeSpeller self.now → tell.IsSought self.now reference.now → candidate.is_call reference.now.sought ≡ true → spelled.IsExactAt (tell.rows_of self.now) (tell.table_of self.now) (tell.types_of self.now) reference.now.row → IfOk result (λ o. spelled.IsWritten reference.now.row o (shaping.spelling_at self.now reference.now.row)) }
     {
-        let spelling = self.uncast(alloc, reference)?;
-        if spelling.is_some() || self.is_prelude(reference.row) {
-            return Ok(spelling);
+        let uncast = self.uncast(alloc, reference)?;
+        match uncast {
+            Some(spelling) => Ok(Some(spelling)),
+            None => self.cast_here(alloc, reference),
         }
-        self.cast(alloc, reference)
     }
 
     // The first spelling that fits.
@@ -347,6 +392,28 @@ fn spelling_of(alloc: Global, row: u32, fit: Option<Fit>) -> Option<Spelling>
             row,
             shape,
             casts: Vec::new(alloc),
+            found,
+            trace,
+        }),
+        None => None,
+    }
+}
+
+/// A spelling with casts, where all types can be written.
+fn cast_spelling(row: u32, fit: Fit, casts: Option<Vec<TypeName>>) -> Option<Spelling>
+    ensures row { IfSome result (λ a. a.row ≡ row) }
+    ensures first { (c : candidate.Candidate) (s : Reader) (names : Option (List Names)) → calling.IsFit s row fit c → option_map (λ all. all.items) casts ≡ names → spelled.IsWritten row result (calling.written_by s row c names) }
+{
+    let Fit {
+        shape,
+        found,
+        trace,
+    } = fit;
+    match casts {
+        Some(casts) => Some(Spelling {
+            row,
+            shape,
+            casts,
             found,
             trace,
         }),

@@ -95,6 +95,17 @@ sought_behind s b = if is_call s then method_behind b else name_behind b (kind_o
 abbrev pub sought_of_object : Sought → Sought
 sought_of_object s = if is_call s then sought.MethodOf else sought.FieldOf
 
+-- a member of what stands in its first child is sought; of every other call that child is an argument, and of a creation the class
+abbrev pub has_left : Sought → Bool
+has_left (sought.Qualified k) = true
+has_left sought.FieldOf = true
+has_left sought.MethodOf = true
+has_left _ = false
+
+-- what stands before its dot, where so is sought and the arguments have these types
+abbrev pub left_standing : Sought → Option (List RowType) → Left → Left
+left_standing s arguments l = record { named = l.named; value = if has_left s then l.value else None; path = l.path; arguments = arguments }
+
 -- ---- names of types that are added
 
 -- the identifiers, from the first one on
@@ -326,7 +337,7 @@ is_by_names p t n = stands_alone (sought_at p n) || not (is_empty (parts p t n))
 module _ (p : Rows) (t : Table) (type_of : Types) (arguments : Option (List RowType)) (n : ℕ) where
   -- behind the expression, `super`, `new` or nothing that stands there
   abbrev pub as_it_stands : Candidate
-  as_it_stands = record { shape = shape.Kept; left = with_arguments p t arguments n (left_of p t type_of n); seeks = sought_at p n; trace = []; by_object = false; is_constant_form = false }
+  as_it_stands = record { shape = shape.Kept; left = left_standing (sought_at p n) arguments (left_of p t type_of n); seeks = sought_at p n; trace = []; by_object = false; is_constant_form = false }
 
   abbrev pub old : List Candidate
   old = if is_by_names p t n then elim (kept_names p t n) [ Some names ↦ behind_names p t arguments n shape.Kept names | None ↦ [] ] else as_it_stands ∷ []

@@ -6,8 +6,8 @@ use Rattle.jr_spell.proofs.spelling.spell.Goals as goal
 
 pub returns-clause-spelled : goal.returns-clause-spelled
 returns-clause-spelled c = λ view. subst (λ first. IfOk c.spell_all.result (λ all. AreSpelledIn c.args.locked.now.view c.args.constant.now first all.items)) c.first_written.ensures
-    (IfOk-weaker c.spell_all.result _ _ (λ all h. h.each) (c.spell_all.ensures.spelled (record { sight_is = view.sight_is; placed = view.placed; can = view.can; paths = c.in-Ok.ensures view.sight_is.world.seen.placed })))
+    (IfOk-weaker c.spell_all.result _ _ (λ all h. h.each) (c.spell_all.ensures.spelled (record { sight_is = view.sight_is; placed = view.placed; can = view.can; paths = c.in-Ok.ensures.paths view.sight_is.world.seen.placed; few = c.in-Ok.ensures.few })))
 
 pub returns-clause-fault : goal.returns-clause-fault
 returns-clause-fault c = λ view. subst (λ first. IfErr c.spell_all.result (λ fault. HasNoneIn c.args.locked.now.view c.args.constant.now first fault)) c.first_written.ensures
-    (c.spell_all.ensures.fault (record { sight_is = view.sight_is; placed = view.placed; can = view.can; paths = c.in-Ok.ensures view.sight_is.world.seen.placed }))
+    (c.spell_all.ensures.fault (record { sight_is = view.sight_is; placed = view.placed; can = view.can; paths = c.in-Ok.ensures.paths view.sight_is.world.seen.placed; few = c.in-Ok.ensures.few }))

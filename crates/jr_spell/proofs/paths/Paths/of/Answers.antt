@@ -8,5 +8,8 @@ loop-at-init c = λ placed. none_added c.args.rows.now _ c.new-paths.ensures
 pub loop-at-preserved : goal.loop-at-preserved
 loop-at-preserved c = λ placed. c.in_ok-add_at.ensures placed (omega arith) (c.loop-at.invariant placed)
 
-pub returns : goal.returns
-returns c = λ placed. all_added c.args.rows.now _ c.loop-at.at (omega arith) (c.loop-at.invariant placed)
+pub returns-clause-paths : goal.returns-clause-paths
+returns-clause-paths c = λ placed. all_added c.args.rows.now _ c.loop-at.at (omega arith) (c.loop-at.invariant placed)
+
+pub returns-clause-few : goal.returns-clause-few
+returns-clause-few c = omega arith

@@ -1,7 +1,0 @@
-use Rattle.jr_spell.proofs.AsItStands.{standing_looked}
-use Rattle.jr_spell.proofs.Tracing.{seen_of}
-use Rattle.jr_spell.proofs.speller.Speller.look_as_it_stands.Goals as goal
-
-pub returns : goal.returns
-returns c = λ given whole sought uncalled types. let s = c.args.self.now in let r = c.args.reference.now in
-    standing_looked s given r.row c.receiver_behind.result _ (c.in_ok-found.ensures given whole sought uncalled types) c.new-trace.ensures.items (c.receiver_behind.ensures given (seen_of whole)) c.standing_way-way.ensures
