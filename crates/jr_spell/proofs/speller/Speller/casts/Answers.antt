@@ -1,4 +1,4 @@
-use Rattle.std.proofs.Common.{arith, get_or, drop, ◌+◌}
+use Rattle.std.proofs.Common.{arith}
 use Rattle.std.proofs.lemmas.List.{drop_more, drop_all}
 use Rattle.jr_spell.specs.Spellers.{rows_of, table_of}
 use Rattle.jr_spell.proofs.Casting.{written_start, written_next, written_lost, written_end}
