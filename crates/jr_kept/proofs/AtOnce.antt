@@ -1,6 +1,5 @@
 -- A `return` that is found to leave the body at once does so by the definition.
-use Rattle.std.proofs.Common.{◌≡◌, inl, inr, refl, sym, ◌∙◌, ap, ap₂, subst, ⊎_elim, arith, ℕ, zero, suc, ◌+◌, ◌-◌, ◌<◌, ◌≤◌, Bool, true, false, ◌&&◌, if◌then◌else◌, List, [], ◌∷◌, length, leb, Option, Some, None, nat_eq, slice_get}
-use Rattle.std.specs.List.{Contains}
+use Rattle.std.proofs.Common.{◌≡◌, inl, refl, sym, ◌∙◌, ap, ap₂, subst, ⊎_elim, arith, ℕ, zero, suc, ◌<◌, ◌≤◌, Bool, true, false, if◌then◌else◌, List, [], ◌∷◌, length, leb, Option, Some, None, nat_eq, slice_get}
 use Rattle.std.proofs.lemmas.Bool.{false≢true}
 use Rattle.std.proofs.lemmas.Bool.Decides.{leb_tells, Decides-eqb, Decides-and}
 use Rattle.jr_tree.specs.declared.label.Label.TheVariants as is
@@ -18,7 +17,7 @@ use Rattle.jr_flow_defs.specs.Graphs.{StepList}
 use Rattle.jr_flow_defs.specs.Kept.{Origin, LeavesAtOnce}
 use Rattle.jr_flow_defs.proofs.Numbered.{reached_along, step_path, onward_point}
 use Rattle.jr_kept.specs.Carried.{is_exit_kind, is_exit_at}
-use Rattle.jr_kept.specs.Waiting.{is_finally, IsBelow, AreShaped, Waits, IsFree}
+use Rattle.jr_kept.specs.Waiting.{is_finally, IsBelow, Waits, IsFree}
 use Rattle.jr_kept.specs.Returned.{is_return, IsMoved, LeavesByNumbers}
 use Rattle.jr_kept.proofs.Below.{not_true}
 use Rattle.jr_kept.proofs.Going.{IsAt, IfAct, IsPart}

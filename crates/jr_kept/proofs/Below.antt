@@ -1,5 +1,5 @@
 -- Rows right below a row, and blocks of `finally`.
-use Rattle.std.proofs.Common.{◌≡◌, refl, sym, ◌∙◌, ap, subst, ⊎_elim, arith, ℕ, zero, suc, ◌+◌, ◌-◌, ◌<◌, ◌≤◌, Bool, true, false, cond, if◌then◌else◌, List, [], ◌∷◌, filter, length, Option, Some, None, nat_eq, nat_lt, Decides}
+use Rattle.std.proofs.Common.{◌≡◌, refl, sym, ◌∙◌, subst, ⊎_elim, arith, ℕ, zero, suc, ◌+◌, ◌-◌, ◌<◌, ◌≤◌, Bool, true, false, cond, if◌then◌else◌, List, [], ◌∷◌, filter, length, Option, Some, None, nat_lt, Decides}
 use Rattle.std.specs.List.{AllByRecursion}
 use Rattle.std.proofs.lemmas.Bool.{false≢true, cases_lt}
 use Rattle.std.proofs.lemmas.Bool.Decides.{Decides-eqb, Decides-ltb}
@@ -9,7 +9,7 @@ use Rattle.jr_tree.specs.declared.label.Label.TheVariants as is
 use Rattle.jr_tree.specs.Rows.{Rows, label, parent, end}
 use Rattle.jr_tree.specs.Tree.{IsTree}
 use Rattle.jr_flow_defs.specs.Acts.{siblings, children, last_or, last}
-use Rattle.jr_kept.specs.Waiting.{try_end_by, try_end, ends_at, is_finally, HasRows, IsBelow}
+use Rattle.jr_kept.specs.Waiting.{try_end_by, try_end, ends_at, is_finally, IsBelow}
 
 -- ---- blocks of `finally`
 

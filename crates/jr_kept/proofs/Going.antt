@@ -1,6 +1,6 @@
 -- The acts of a row go to rows right below it, and act at these or at the row.
-use Rattle.std.proofs.Common.{◌≡◌, ◌⊎◌, inl, inr, refl, sym, subst, arith, ℕ, zero, suc, ◌+◌, ◌-◌, ◌<◌, ◌≤◌, Bool, true, false, not, if◌then◌else◌, List, [], ◌∷◌, ◌++◌, map, flat_map, filter, length, Option, Some, None, nat_lt, slice_get, Decides}
-use Rattle.std.specs.List.{AllByRecursion, list_any}
+use Rattle.std.proofs.Common.{◌≡◌, ◌⊎◌, inl, inr, refl, sym, subst, arith, ℕ, zero, suc, ◌+◌, ◌-◌, ◌<◌, Bool, true, false, not, if◌then◌else◌, List, [], ◌∷◌, ◌++◌, map, flat_map, filter, length, Option, Some, None, nat_lt, slice_get}
+use Rattle.std.specs.List.{AllByRecursion}
 use Rattle.std.proofs.lemmas.Bool.{false≢true}
 use Rattle.std.proofs.lemmas.Bool.Decides.{Decides-ltb}
 use Rattle.jr_base.specs.declared.kind.Symbol.{Symbol}
@@ -10,9 +10,9 @@ use Rattle.jr_tree.specs.declared.label.Label.TheVariants as is
 use Rattle.jr_tree.specs.Rows.{Rows, label, parent, end}
 use Rattle.jr_tree.specs.Tree.{IsTree}
 use Rattle.jr_flow_defs.specs.Meaning.{Meaning, local_at, reads_field, is_only_written, operand, makes, shows_left, narrows}
-use Rattle.jr_flow_defs.specs.Acts.{Act, part, event, node, define, use_of, quit, fork, choose, go, jump, Acts, siblings, children, children_from, first, second, third, last, parts, event_if, fetched, name_acts, index_acts, written, assignment_acts, step_acts, guarded, two_ways, if_acts, binary_acts, for_first, for_start, for_condition, for_updates, for_test, for_acts, is_default_group, switch_acts, by_return, by_throw, break_target, continue_target, breaks, continues, is_parameter, is_catch, callable_acts, parameter_acts, local_acts, list_acts, acts_by, acts}
+use Rattle.jr_flow_defs.specs.Acts.{Act, part, event, node, define, go, jump, Acts, siblings, children, children_from, first, second, third, last, parts, event_if, fetched, name_acts, index_acts, written, assignment_acts, step_acts, guarded, two_ways, if_acts, binary_acts, for_first, for_start, for_condition, for_updates, for_test, for_acts, switch_acts, by_return, by_throw, break_target, continue_target, breaks, continues, is_parameter, is_catch, callable_acts, parameter_acts, local_acts, acts_by, acts}
 use Rattle.jr_kept.specs.Waiting.{is_finally, HasRows, for_parts, parts_by, IsBelow, IsShaped}
-use Rattle.jr_kept.proofs.Below.{all_filter, none_finally, first_free, IsLast, Place, at_place, first_place, next_place, siblings_below, children_below, last_below}
+use Rattle.jr_kept.proofs.Below.{all_filter, none_finally, first_free, Place, at_place, first_place, next_place, siblings_below, children_below, last_below}
 
 -- the row n, or one right below it
 abbrev pub IsAt : Rows → ℕ → ℕ → Type 0

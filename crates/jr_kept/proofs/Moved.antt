@@ -1,5 +1,5 @@
 -- Moved `return` statements, by what is found of points and steps.
-use Rattle.std.proofs.Common.{◌≡◌, ◌∙◌, ap, subst, ℕ, ◌-◌, ◌<◌, Bool, true, false, List, length, map, Option, Some, slice_get}
+use Rattle.std.proofs.Common.{◌≡◌, ◌∙◌, ap, subst, ℕ, ◌-◌, Bool, true, false, List, length, map, Some, slice_get}
 use Rattle.std.specs.List.{Contains}
 use Rattle.jr_tree.specs.Rows.{Rows}
 use Rattle.jr_places.specs.declared.stamps.Stamps.{Stamps}

@@ -1,5 +1,5 @@
 -- What is pending where control comes to is what waits by the rows round it.
-use Rattle.std.proofs.Common.{◌≡◌, inl, inr, refl, sym, ◌∙◌, ap, subst, ⊎_elim, arith, ℕ, zero, suc, ◌+◌, ◌-◌, ◌<◌, ◌≤◌, Bool, true, false, ◌&&◌, cond, if◌then◌else◌, List, [], ◌∷◌, ◌++◌, map, filter, length, Option, Some, None, nat_eq, slice_get}
+use Rattle.std.proofs.Common.{◌≡◌, refl, sym, ◌∙◌, subst, ⊎_elim, arith, ℕ, zero, suc, ◌+◌, ◌-◌, ◌<◌, ◌≤◌, Bool, true, false, cond, if◌then◌else◌, List, [], ◌∷◌, map, filter, length, Option, Some, None, nat_eq, slice_get}
 use Rattle.std.specs.List.{AllByRecursion, Contains}
 use Rattle.std.proofs.lemmas.Bool.{false≢true, cases_lt}
 use Rattle.std.proofs.lemmas.Bool.Decides.{Decides-eqb}
@@ -9,13 +9,13 @@ use Rattle.jr_tree.specs.Rows.{Rows, label, parent, end}
 use Rattle.jr_tree.specs.Tree.{IsTree}
 use Rattle.jr_flow_defs.specs.Meaning.{Meaning}
 use Rattle.jr_flow_defs.specs.Acts.{Completion, normally, by_break, by_continue, by_return, by_throw, Act, part, event, node, define, use_of, quit, fork, choose, go, jump, Acts, children, last, is_catch, next_turn, acts}
-use Rattle.jr_flow_defs.specs.States.{Moment, before, completed, Pending, State, Hop, at, left, plainly, completing, all_at, act_hops, behind, part_left, catches, into_finally, body_left, finally_left, try_left, left_by, as_left, ending, hops_by, hops}
-use Rattle.jr_flow_defs.specs.Paths.{IsReached, Goes}
+use Rattle.jr_flow_defs.specs.States.{Moment, before, completed, Pending, State, Hop, at, left, plainly, all_at, act_hops, part_left, catches, into_finally, body_left, finally_left, try_left, left_by, as_left, ending, hops_by, hops}
+use Rattle.jr_flow_defs.specs.Paths.{IsReached}
 use Rattle.jr_flow_defs.specs.Edges.{body_flow}
 use Rattle.jr_flow_defs.proofs.Searched.{contains_out}
-use Rattle.jr_kept.specs.Waiting.{is_finally, IsBelow, IsShaped, AreShaped, Waits}
-use Rattle.jr_kept.proofs.Below.{finally_tells, finally_is, not_true, none_finally, first_free, all_filter, IsLast, at_place, first_place, children_below, last_below, one_last}
-use Rattle.jr_kept.proofs.Going.{ActAt, IfAct, act_at, all_append, all_either, IsPart, is_try, try_is, rows_of, no_try, acts_down}
+use Rattle.jr_kept.specs.Waiting.{is_finally, IsBelow, AreShaped, Waits}
+use Rattle.jr_kept.proofs.Below.{finally_tells, finally_is, not_true, none_finally, first_free, IsLast, children_below, last_below, one_last}
+use Rattle.jr_kept.proofs.Going.{IfAct, act_at, all_append, all_either, IsPart, is_try, try_is, rows_of, no_try, acts_down}
 
 contained : {A : Type 0} (P : A → Type 0) (all : List A) (x : A) → AllByRecursion P all → Contains all x → P x
 contained P [] x h c = absurd (omega (arith, c.1))

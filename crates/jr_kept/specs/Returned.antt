@@ -1,5 +1,5 @@
 -- `return` statements that have a copy in an added method, and the points at which they stand.
-use Rattle.std.specs.Prelude.{◌≡◌, ⊤, ℕ, ◌+◌, ◌-◌, ◌<◌, ◌≤◌, Bool, true, false, List, length, Option, Some, None, slice_get}
+use Rattle.std.specs.Prelude.{◌≡◌, ⊤, ℕ, ◌-◌, ◌<◌, ◌≤◌, Bool, true, false, List, Option, Some, None, slice_get}
 use Rattle.std.specs.List.{Contains}
 use Rattle.jr_tree.specs.declared.label.Label.{Label}
 use Rattle.jr_tree.specs.declared.label.Label.TheVariants as is

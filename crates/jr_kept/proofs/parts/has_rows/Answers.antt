@@ -1,5 +1,4 @@
 use Rattle.std.proofs.Common.{◌≡◌, sym, subst, arith, suc, ◌+◌, ◌-◌}
-use Rattle.jr_tree.specs.Rows.{end}
 use Rattle.jr_kept.specs.Waiting.{HasRows}
 use Rattle.jr_kept.proofs.parts.has_rows.Goals as goal
 
