@@ -32,10 +32,13 @@ use Rattle.jr_supers.specs.Supers.{IsWellHeaded, HasNoCycle}
 use Rattle.jr_members.specs.declared.members.World.{World}
 use Rattle.jr_members.specs.Held.{ObjectIsBare}
 use Rattle.jr_members.specs.Sources.{ArePlaced}
+use Rattle.jr_lookup.specs.Imports.{AreImports}
+use Rattle.jr_lookup.specs.Scopes.{AreScopes, AreTops}
 use Rattle.jr_dispatch.specs.declared.dispatch.Methods.{Methods}
 use Rattle.jr_dispatch.specs.Methods.{AreMethods, IsWholeWorld}
 use Rattle.jr_headed.specs.Founded.{IsProgram, AreWell}
 use Rattle.jr_headed.proofs.Founding.{program_headed, program_local}
+use Rattle.jr_prelude.specs.Begins.{BeginsWithLang}
 use Rattle.jr_bind.specs.declared.binder.Bound.{Bound}
 use Rattle.jr_bind.specs.Exact.{IsExact, IsBoundBy, IsProgramIn}
 use Rattle.jr_bind.proofs.Confirmed.{program_in}
@@ -52,13 +55,14 @@ use Rattle.jr_supers.specs.Supers.{AreSupersOf}
 use Rattle.jr_flow_defs.specs.Meaning.{Meaning}
 use Rattle.jr_kept.specs.Courses.{IsSeen, KeepsCourse, KeepsUsesOf}
 use Rattle.jr_kept.specs.declared.kept.LostEdge.{LostEdge}
+use Rattle.jr_shapes.specs.declared.spelling.Spelling.{Spelling}
 use Rattle.jr_view.specs.declared.View.{View}
 use Rattle.jr_draft.specs.Asking.{table_of}
 use Rattle.jr_engine.specs.Requested.{IsAskedBy, keeps_all}
 use Rattle.jr_locks.specs.Changed.{IsChanged, origins_by, copies_by}
 use Rattle.jr_edges.specs.Dispatched.{KeepsDispatch, IsTold}
 use Rattle.jr_edges.specs.declared.dispatched.Lost.{Lost}
-use Rattle.jr_engine.specs.Written.{IsSpelledIn, IsLeftOf, IsAskedFor, IsLockedBy, IsBoundByLocks, KeepsCallsIn, KeepsFlowIn, rows_of as rows_under, locks_of}
+use Rattle.jr_engine.specs.Written.{AreFirstIn, IsSpelledIn, IsLeftOf, IsAskedFor, IsLockedBy, IsBoundByLocks, KeepsCallsIn, KeepsFlowIn, rows_of as rows_under, locks_of}
 use Rattle.jr_engine.specs.declared.asked.Asked.{Asked}
 use Rattle.jr_engine.specs.declared.fault.StepFault.{StepFault}
 use Rattle.jr_engine.specs.declared.left.Left.{Left}
@@ -85,8 +89,8 @@ held_bound left is = is.read.bound
 pub accepted_so : (o : Opened) → IsOpened o → IsAccepted o.files
 accepted_so o is = record { checked = accepted is.reads is.compiles; java = is.java }
 
-pub written_so : (s : Spelled) (left : Left) (w : Workspace) → left.program ≡ w → IsHeld left → IsSpelledIn s w → IsLeftOf s.locked.now left
-written_so s left w same is spelled = (record { opened = held_opened left is; spellings = s.spellings.now; respelled = subst (λ (v : Workspace). IsSpelledIn s v) (sym same) spelled }, is)
+pub written_so : (s : Spelled) (left : Left) (w : Workspace) → left.program ≡ w → IsHeld left → IsSpelledIn s w → IsLeftOf s.locked.now s.spellings.now left
+written_so s left w same is spelled = (subst (λ (v : Workspace). IsSpelledIn s v) (sym same) spelled, is)
 
 -- ---- the change of a request
 
@@ -107,14 +111,18 @@ pub stays_so : (w : Workspace) (request : Request) (change : Change) → IsAsked
 unfolding requested
 stays_so w request change a keeps = λ found is. stays (requested found w request change is a) keeps
 
-followed : (asked : Asked) (locked : Locked) (left : Left) → IsAskedFor asked → IsLockedBy asked locked → KeepsCallsIn asked locked → KeepsFlowIn asked locked → IsLeftOf locked left
+followed : (asked : Asked) (locked : Locked) (all : List Spelling) (left : Left) → IsAskedFor asked → IsLockedBy asked locked → AreFirstIn asked locked all → KeepsCallsIn asked locked → KeepsFlowIn asked locked → IsLeftOf locked all left
     → IsFollowed asked.old.now asked.request.now left
-followed asked locked left a by kept flow is = record { ends = is.1; step = λ found read. leaves asked.change.now (requested found asked.old.now asked.request.now asked.change.now read a) by.changed kept flow is.0 }
+followed asked locked all left a by first kept flow is = record {
+  ends = is.1;
+  step = λ found read. leaves asked.change.now (requested found asked.old.now asked.request.now asked.change.now read a) by.changed kept flow
+      (record { opened = held_opened left is.1; spellings = all; first = first; respelled = is.0 });
+}
 
-pub followed_so : (asked : Asked) (locked : Locked) (result : Result Left StepFault) → IsAskedFor asked → IsLockedBy asked locked → KeepsCallsIn asked locked → KeepsFlowIn asked locked
-    → IfOk result (λ left. IsLeftOf locked left) → IfOk result (λ left. IsFollowed asked.old.now asked.request.now left)
-followed_so asked locked (Ok left) a by kept flow is = followed asked locked left a by kept flow is
-followed_so asked locked (Err why) a by kept flow is = tt
+pub followed_so : (asked : Asked) (locked : Locked) (all : List Spelling) (result : Result Left StepFault) → IsAskedFor asked → IsLockedBy asked locked → AreFirstIn asked locked all → KeepsCallsIn asked locked → KeepsFlowIn asked locked
+    → IfOk result (λ left. IsLeftOf locked all left) → IfOk result (λ left. IsFollowed asked.old.now asked.request.now left)
+followed_so asked locked all (Ok left) a by first kept flow is = followed asked locked all left a by first kept flow is
+followed_so asked locked all (Err why) a by first kept flow is = tt
 
 locked_so : (asked : Asked) (locked : Locked) (rows : Rows) (locks : Locks) → IsChanged (rows_in asked.old.now) (table_in asked.old.now) asked.change.now rows (entries locks.table.items)
     → locks.origin.items ≡ origins_by asked.change.now → locks.copy.items ≡ copies_by (origins_by asked.change.now) (length (rows_in asked.old.now)) → rows_under locked ≡ rows → locked.locks ≡ locks → IsLockedBy asked locked
@@ -136,6 +144,11 @@ pub locked_shaped : (program : Program) (rows : Rows) (result : Result Locked St
 locked_shaped program rows (Ok locked) shaped are same = record { units = map (λ u. u.unit) program.units; shaped = shaped; rows_are = same ∙ are }
 locked_shaped program rows (Err why) shaped are same = tt
 
+pub locked_begins : (program : Program) (rows : Rows) (result : Result Locked StepFault) → BeginsWithLang (rows_of program) → rows ≡ rows_of program
+    → IfOk result (λ locked. locked.program.index.value.rows ≡ rows) → IfOk result (λ locked. BeginsWithLang (rows_under locked))
+locked_begins program rows (Ok locked) begins are same = subst (λ (r : Rows). BeginsWithLang r) (sym (same ∙ are)) begins
+locked_begins program rows (Err why) begins are same = tt
+
 -- ---- what calls find
 
 -- what calls read is right in a world whose supertypes and members are
@@ -143,7 +156,7 @@ read_methods : (world : World) (t : Table) (all : Methods) → all.under ≡ wor
 read_methods world t all same read whole = subst (λ (u : Tabled). AreMethods u.rows.now t all) (sym same) (read t whole)
 
 -- a changed program whose rows are as in all programs has the tables under its locks
-locked_under : (locked : Locked) → IsProgram (rows_under locked) → AreWell (rows_under locked) → IsBoundByLocks locked → IsBoundBy (rows_under locked) locked.program.places.value locked.program.bound.value
+pub locked_under : (locked : Locked) → IsProgram (rows_under locked) → AreWell (rows_under locked) → IsBoundByLocks locked → IsBoundBy (rows_under locked) locked.program.places.value locked.program.bound.value
 locked_under locked program well is =
     let headed = program_headed (rows_under locked) program well in
     let placed : ArePlaced (rows_under locked) locked.program.places.value = record { local = program_local (rows_under locked) program; packages = well.packages; are = is.places } in
@@ -151,7 +164,7 @@ locked_under locked program well is =
     is.exact among (is.acyclic headed well.object.bare)
 
 -- and so a whole world
-locked_world : (locked : Locked) (view : View) → IsProgram (rows_under locked) → AreWell (rows_under locked) → IsBoundByLocks locked
+pub locked_world : (locked : Locked) (view : View) → IsProgram (rows_under locked) → AreWell (rows_under locked) → IsBoundByLocks locked
     → IsViewOf (rows_under locked) locked.program.places.value locked.program.scopes.value locked.program.bound.value view → IsWholeWorld (entries view.sight.world.under.table.now) view.sight.world
 locked_world locked view program well is of = whole_world locked.program view (locked_under locked program well is) of well.object.bare
 
@@ -249,11 +262,19 @@ flow_kept asked locked old new control uses bound program well is by few_old few
 
 -- ---- the changed program under its locks
 
-pub bound_so : (locked : Locked) (rows : Rows) (places : Places) (bound : Bound) → rows ≡ rows_under locked → places ≡ locked.program.places.value → locked.program.bound.value ≡ bound
-    → bound.table.items ≡ locked.locks.table.items → ArePlaces rows locked.program.places.value → IsExact rows places bound → (IsWellHeaded rows → ObjectIsBare rows → HasNoCycle rows (entries bound.table.items)) → IsBoundByLocks locked
-bound_so locked rows places bound rows_are places_are bound_is table placed exact acyclic = record {
+pub bound_so : (locked : Locked) (rows : Rows) (these places : Places) (bound : Bound) → rows ≡ rows_under locked → these ≡ locked.program.places.value → places ≡ locked.program.places.value → locked.program.bound.value ≡ bound
+    → bound.table.items ≡ locked.locks.table.items → ArePlaces rows locked.program.places.value → (ArePlaced rows these → AreScopes rows locked.program.scopes.value) → (ArePlaced rows these → AreTops rows these locked.program.scopes.value)
+    → (ArePlaced rows places → AreImports rows (entries bound.table.items) bound.imports.value) → IsExact rows places bound → (IsWellHeaded rows → ObjectIsBare rows → HasNoCycle rows (entries bound.table.items)) → IsBoundByLocks locked
+bound_so locked rows these places bound rows_are these_are places_are bound_is table placed scoped topped brought exact acyclic = record {
   table = ap (λ (b : Bound). entries b.table.items) bound_is ∙ ap entries table;
   places = subst (λ (r : Rows). ArePlaces r locked.program.places.value) rows_are placed;
+  scopes = subst (λ (r : Rows). ArePlaced r locked.program.places.value → AreScopes r locked.program.scopes.value) rows_are
+      (subst (λ (x : Places). ArePlaced rows x → AreScopes rows locked.program.scopes.value) these_are scoped);
+  tops = subst (λ (r : Rows). ArePlaced r locked.program.places.value → AreTops r locked.program.places.value locked.program.scopes.value) rows_are
+      (subst (λ (x : Places). ArePlaced rows x → AreTops rows x locked.program.scopes.value) these_are topped);
+  imports = subst (λ (b : Bound). ArePlaced (rows_under locked) locked.program.places.value → AreImports (rows_under locked) (entries b.table.items) b.imports.value) (sym bound_is)
+      (subst (λ (x : Places). ArePlaced (rows_under locked) x → AreImports (rows_under locked) (entries bound.table.items) bound.imports.value) places_are
+      (subst (λ (r : Rows). ArePlaced r places → AreImports r (entries bound.table.items) bound.imports.value) rows_are brought));
   exact = subst (λ (b : Bound). IsExact (rows_under locked) locked.program.places.value b) (sym bound_is)
       (subst (λ (x : Places). IsExact (rows_under locked) x bound) places_are (subst (λ (r : Rows). IsExact r places bound) rows_are exact));
   acyclic = subst (λ (b : Bound). IsWellHeaded (rows_under locked) → ObjectIsBare (rows_under locked) → HasNoCycle (rows_under locked) (entries b.table.items)) (sym bound_is)

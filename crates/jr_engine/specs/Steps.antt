@@ -1,7 +1,8 @@
 -- What one request after another leaves of files.
-use Rattle.std.specs.Prelude.{◌≡◌, ℕ, List, [], ◌∷◌, true, Option, Some, None, Ok, IsTrue, length}
+use Rattle.std.specs.Prelude.{◌≡◌, ℕ, Bool, List, [], ◌∷◌, true, Option, Some, None, Ok, IsTrue, is_some, length}
 use Rattle.std.specs.FinMap as files
 use Rattle.std.specs.List.{AllByRecursion}
+use Rattle.std.specs.Option.{option_map_or}
 use Rattle.jr_base.specs.Files.{FileMap}
 use Rattle.jr_base.specs.Paths.{is_java}
 use Rattle.jr_base.specs.declared.request.Request.{Request}
@@ -12,10 +13,14 @@ use Rattle.jr_defs.specs.declared.program.Program.{Program}
 use Rattle.jr_ty.specs.declared.constant.Const.{Const}
 use Rattle.jr_defs.specs.Constants.{Constant}
 use Rattle.jr_plain.specs.Constants.{constants, has_constant_form}
+use Rattle.jr_plain.specs.Conversions.{Constants}
+use Rattle.jr_plain.specs.Overloads.{Types}
 use Rattle.jr_plain.specs.Typing.{IsTypable, expression_types}
 use Rattle.jr_flow_defs.specs.Meaning.{Meaning}
 use Rattle.jr_kept.specs.Courses.{KeepsCourse, KeepsUsesOf}
 use Rattle.jr_shapes.specs.declared.spelling.Spelling.{Spelling}
+use Rattle.jr_spell.specs.Spelling.{IsWritten as Says, first_written}
+use Rattle.jr_spelling_rules.specs.Spelling.{IsSpelling, Written}
 use Rattle.jr_index.specs.NodeRows.{unit_rows}
 use Rattle.jr_marks.specs.Places.{IsOrdered}
 use Rattle.jr_change.specs.declared.change.Change.{Change}
@@ -23,6 +28,7 @@ use Rattle.jr_change.specs.declared.project.Project.{Project}
 use Rattle.jr_draft.specs.Asking.{table_of}
 use Rattle.jr_engine.specs.Requested.{IsAskedBy, keeps_all}
 use Rattle.jr_locks.specs.Changed.{IsChanged, origins_by, copies_by}
+use Rattle.jr_locks.specs.Origins.{origin_of, row_by}
 use Rattle.jr_edges.specs.Dispatched.{KeepsDispatch}
 use Rattle.jr_runs.specs.Respelled.{IsRespelled}
 use Rattle.jr_read.specs.Reading.{ReadsAs}
@@ -47,11 +53,35 @@ pub record IsOpened (o : Opened) : Type 0 where
   pub compiles : Compiles o.files program o.table
   pub java : AllByRecursion (λ path. IsTrue (is_java path)) (files.keys o.files)
 
--- The files left are a changed program that is written with some spellings: each of its rows stands there, and by the binding of the rows of the files
+-- ---- spellings
+
+-- the values of the constant expressions of a program, and the types of its expressions (JLS 15, 15.28)
+abbrev pub values : Rows → Table → Constants
+values p t = constants p t (has_constant_form p t)
+
+abbrev pub types : Rows → Table → Types
+types p t = expression_types p t (values p t)
+
+-- a reference of the changed program is to be a constant expression: one that comes from an old row as that was one, and an added one by the locks
+abbrev pub is_constant : Rows → Table → Change → Rows → Table → ℕ → Bool
+is_constant p t change q l n = option_map_or (λ from. is_some (values p t from)) (row_by (origin_of (origins_by change) n)) (is_some (values q l n))
+
+-- of all ways to write the reference in the changed program the spelling is the first that fits (JLS 6.5, 6.6, 15.28)
+pub record IsFirst (p : Rows) (t : Table) (change : Change) (q : Rows) (l : Table) (a : Spelling) : Type 0 where
+  pub written : Written
+  pub first : IsSpelling q l (types q l) (is_constant p t change q l) (first_written (unit_rows q (length q))) a.row written
+  pub says : Says a.row (Some a) (Some written)
+
+-- so is each spelling
+pub record AreFirst (p : Rows) (t : Table) (change : Change) (q : Rows) (l : Table) (all : List Spelling) : Type 0 where
+  pub each : AllByRecursion (λ a. IsFirst p t change q l a) all
+
+-- The files left are a changed program that is written with the first spellings that fit: each of its rows stands there, and by the binding of the rows of the files
 -- left each reference refers to its lock.
-pub record IsWritten (rows : Rows) (locks : Table) (left : Opened) : Type 0 where
+pub record IsWritten (old : Opened) (change : Change) (rows : Rows) (locks : Table) (left : Opened) : Type 0 where
   pub opened : IsOpened left
   pub spellings : List Spelling
+  pub first : AreFirst old.rows old.table change rows locks spellings
   pub respelled : IsRespelled rows locks spellings left.rows left.table
 
 -- the program of the files with its tables, as changes read it: its supertypes and members are those under the binding
@@ -97,7 +127,7 @@ pub record KeepsFlow (p : Rows) (t : Table) (change : Change) (q : Rows) (l : Ta
 -- an old one must refer to what that referred to, where it stands now, calls find what they found, and control goes as it went.
 pub data IsStep (old : Opened) (request : Request) : Opened → Type 0 where
   stays : {change : Change} (asked : IsRequested old request change) → keeps_all asked.project.program.units change.units.items ≡ true → IsStep old request old
-  leaves : {rows : Rows} {locks : Table} {left : Opened} (change : Change) → IsRequested old request change → IsChanged old.rows old.table change rows locks → KeepsCalls old change rows locks → KeepsFlow old.rows old.table change rows locks → IsWritten rows locks left
+  leaves : {rows : Rows} {locks : Table} {left : Opened} (change : Change) → IsRequested old request change → IsChanged old.rows old.table change rows locks → KeepsCalls old change rows locks → KeepsFlow old.rows old.table change rows locks → IsWritten old change rows locks left
       → IsStep old request left
 
 -- a step a request, each from what the one before has left

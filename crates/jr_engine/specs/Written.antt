@@ -1,17 +1,26 @@
 -- A changed program under its locks with its spellings, as the code holds it.
-use Rattle.std.specs.Prelude.{◌≡◌, length}
+use Rattle.std.specs.Prelude.{◌≡◌, ℕ, ◌+◌, ◌<◌, ◌^◌, Bool, List, Some, is_some, length}
+use Rattle.std.specs.Option.{option_map_or}
 use Rattle.jr_front.specs.Bound.{rows_in, table_in}
 use Rattle.jr_front.specs.declared.workspace.Workspace.{Workspace}
 use Rattle.jr_tree.specs.Rows.{Rows}
+use Rattle.jr_headed.specs.Founded.{AreWell}
 use Rattle.jr_defs.specs.Referents.{Table, entries}
 use Rattle.jr_places.specs.Places.{ArePlaces}
 use Rattle.jr_supers.specs.Supers.{IsWellHeaded, HasNoCycle}
 use Rattle.jr_members.specs.Held.{ObjectIsBare}
+use Rattle.jr_members.specs.Sources.{ArePlaced}
 use Rattle.jr_bind.specs.Exact.{IsExact}
+use Rattle.jr_bind.specs.Rebound.{AreLocks}
+use Rattle.jr_constants.specs.Tables.{item}
+use Rattle.jr_lookup.specs.Imports.{AreImports}
+use Rattle.jr_lookup.specs.Scopes.{AreScopes, AreTops}
 use Rattle.jr_runs.specs.Respelled.{IsRespelled}
 use Rattle.jr_locks.specs.Changed.{IsChanged, origins_by, copies_by}
+use Rattle.jr_locks.specs.Origins.{origin_of, row_by}
+use Rattle.jr_shapes.specs.declared.spelling.Spelling.{Spelling}
 use Rattle.jr_edges.specs.Dispatched.{KeepsDispatch}
-use Rattle.jr_engine.specs.Steps.{IsWritten, IsHeld, KeepsFlow, IsAskedOf, opened_by}
+use Rattle.jr_engine.specs.Steps.{AreFirst, IsHeld, KeepsFlow, IsAskedOf}
 use Rattle.jr_engine.specs.declared.asked.Asked.{Asked}
 use Rattle.jr_engine.specs.declared.left.Left.{Left}
 use Rattle.jr_engine.specs.declared.locked.Locked.{Locked}
@@ -27,9 +36,9 @@ locks_of locked = entries locked.locks.table.items
 abbrev pub IsSpelledIn : Spelled → Workspace → Type 0
 IsSpelledIn s new = IsRespelled (rows_of s.locked.now) (locks_of s.locked.now) s.spellings.now (rows_in new) (table_in new)
 
--- the files left are the changed program
-abbrev pub IsLeftOf : Locked → Left → Type 0
-IsLeftOf locked left = IsWritten (rows_of locked) (locks_of locked) (opened_by left) × IsHeld left
+-- the files left are the changed program, written so
+abbrev pub IsLeftOf : Locked → List Spelling → Left → Type 0
+IsLeftOf locked all left = IsRespelled (rows_of locked) (locks_of locked) all (rows_in left.program) (table_in left.program) × IsHeld left
 
 -- the change is that for which the request asks
 abbrev pub IsAskedFor : Asked → Type 0
@@ -41,12 +50,31 @@ pub record IsLockedBy (a : Asked) (locked : Locked) : Type 0 where
   pub origin : locked.locks.origin.items ≡ origins_by a.change.now
   pub copies : locked.locks.copy.items ≡ copies_by (origins_by a.change.now) (length (rows_in a.old.now))
 
--- the table of the changed program is that of its locks, and its supertypes and members are those under them, where no type is above itself
+-- the table of the changed program is that of its locks, and its supertypes, members and imports are those under them, where no type is above itself
 pub record IsBoundByLocks (locked : Locked) : Type 0 where
   pub table : table_in locked.program ≡ locks_of locked
   pub places : ArePlaces (rows_of locked) locked.program.places.value
+  pub scopes : ArePlaced (rows_of locked) locked.program.places.value → AreScopes (rows_of locked) locked.program.scopes.value
+  pub tops : ArePlaced (rows_of locked) locked.program.places.value → AreTops (rows_of locked) locked.program.places.value locked.program.scopes.value
+  pub imports : ArePlaced (rows_of locked) locked.program.places.value → AreImports (rows_of locked) (table_in locked.program) locked.program.bound.value.imports.value
   pub exact : IsExact (rows_of locked) locked.program.places.value locked.program.bound.value
   pub acyclic : IsWellHeaded (rows_of locked) → ObjectIsBare (rows_of locked) → HasNoCycle (rows_of locked) (table_in locked.program)
+
+-- the rows of both programs can be counted, with room for three more; the changed one has one bare Object, and each of its locks may stand at its row
+pub record IsSound (a : Asked) (locked : Locked) : Type 0 where
+  pub few : length (rows_in a.old.now) + 3 < 2 ^ 32
+  pub few_new : length (rows_of locked) + 3 < 2 ^ 32
+  pub well : AreWell (rows_of locked)
+  pub locks : AreLocks (rows_of locked) locked.program.bound.value.table.items
+
+-- the row is to be a constant expression: as the old one was, or by the locks
+abbrev pub is_constant_by : Asked → Locked → ℕ → Bool
+is_constant_by a locked n = option_map_or (λ from. is_some (item a.old.now.bound.value.constants.value.values.items from)) (row_by (origin_of locked.locks.origin.items n))
+    (is_some (item locked.program.bound.value.constants.value.values.items n))
+
+-- these are the first spellings that fit
+abbrev pub AreFirstIn : Asked → Locked → List Spelling → Type 0
+AreFirstIn a locked all = AreFirst (rows_in a.old.now) (table_in a.old.now) a.change.now (rows_of locked) (locks_of locked) all
 
 -- control goes in the changed program as it went in the old one
 abbrev pub KeepsFlowIn : Asked → Locked → Type 0

@@ -1,9 +1,9 @@
 // Whether edges of flow are kept, and whether there are too many points of flow.
 
-ghost use Rattle.std.specs.Prelude.{◌≡◌, ◌+◌, ◌<◌, ◌^◌, None, true, length, Decides, IfOk};
-ghost use Rattle.jr_headed.specs.Founded.{AreWell, IsProgram};
-ghost use Rattle.jr_front.specs.Bound.{IsBoundIn, rows_in};
-ghost use Rattle.jr_engine.specs.Written.{IsBoundByLocks, IsLockedBy, KeepsCallsIn, KeepsFlowIn, rows_of};
+ghost use Rattle.std.specs.Prelude.{◌≡◌, None, IfOk};
+ghost use Rattle.jr_headed.specs.Founded.{IsProgram};
+ghost use Rattle.jr_front.specs.Bound.{IsBoundIn};
+ghost use Rattle.jr_engine.specs.Written.{IsBoundByLocks, IsLockedBy, IsSound, KeepsCallsIn, KeepsFlowIn, rows_of};
 
 use crate::asked::{Asked, project_of};
 use crate::fault::{LostKind, StepFault};
@@ -14,9 +14,7 @@ use jr_dispatch::Methods;
 use jr_edges::{Lost, lost_dispatch};
 use jr_flow::has_too_many_points;
 use jr_front::Workspace;
-use jr_headed::are_well;
 use jr_kept::{LostEdge, lost_flow};
-use jr_tree::Row;
 use std::alloc::Global;
 
 // The answer where an edge is lost.
@@ -61,7 +59,7 @@ fn lost_call(asked: Asked, lost: Lost) -> StepFault {
 fn keeps_calls(alloc: Global, asked: Asked, locked: &Locked) -> Result<(), StepFault>
     requires old { IsBoundIn asked.old.now }
     requires new { IsProgram (rows_of locked.now) }
-    requires well { AreWell (rows_of locked.now) }
+    requires sound { IsSound asked locked.now }
     requires locked { IsLockedBy asked locked.now }
     requires bound { IsBoundByLocks locked.now }
     ensures { IfOk result (λ _. KeepsCallsIn asked.entry locked.now) }
@@ -76,23 +74,6 @@ fn keeps_calls(alloc: Global, asked: Asked, locked: &Locked) -> Result<(), StepF
     }
 }
 
-// The rows can be counted, with room for three more.
-fn are_few(rows: &[Row]) -> bool
-    ensures { Decides result (length rows.now + 3 < 2 ^ 32) }
-{
-    rows.len() < u32::MAX as usize - 2
-}
-
-// The rows of both programs can be counted, and supertypes and members of the changed ones under a table are exact, as in all programs.
-fn are_as_in_programs(asked: Asked, locked: &Locked) -> bool
-    ensures few { result ≡ true → length (rows_in asked.entry.old.now) + 3 < 2 ^ 32 }
-    ensures few_new { result ≡ true → length (rows_of locked.now) + 3 < 2 ^ 32 }
-    ensures well { result ≡ true → AreWell (rows_of locked.now) }
-{
-    let rows = locked.program.index.rows();
-    are_few(asked.old.index.rows()) && are_few(rows) && are_well(rows)
-}
-
 // Control goes as before, and where no edge from a definition to a use is lost, uses have the values that they had. It gives the first that is lost.
 fn keeps_control(
     alloc: Global,
@@ -101,9 +82,7 @@ fn keeps_control(
 ) -> Result<Option<LostEdge>, StepFault>
     requires old { IsBoundIn asked.old.now }
     requires new { IsProgram (rows_of locked.now) }
-    requires well { AreWell (rows_of locked.now) }
-    requires few { length (rows_in asked.old.now) + 3 < 2 ^ 32 }
-    requires few_new { length (rows_of locked.now) + 3 < 2 ^ 32 }
+    requires sound { IsSound asked locked.now }
     requires locked { IsLockedBy asked locked.now }
     requires bound { IsBoundByLocks locked.now }
     ensures { IfOk result (λ def_use. def_use ≡ None → KeepsFlowIn asked.entry locked.now) }
@@ -117,20 +96,17 @@ fn keeps_control(
     }
 }
 
-/// Control goes as before, calls find in each class the methods that they found there, and uses of locals the values that they had. Rows that are as in no program, which were
-/// not to be written, are refused.
+/// Control goes as before, calls find in each class the methods that they found there, and uses of locals the values that they had.
 pub fn keeps_edges(alloc: Global, asked: Asked, locked: &Locked) -> Result<(), StepFault>
     requires old { IsBoundIn asked.old.now }
     requires new { IsProgram (rows_of locked.now) }
+    requires sound { IsSound asked locked.now }
     requires locked { IsLockedBy asked locked.now }
     requires bound { IsBoundByLocks locked.now }
     ensures calls { IfOk result (λ _. KeepsCallsIn asked.entry locked.now) }
     ensures flow { IfOk result (λ _. KeepsFlowIn asked.entry locked.now) }
 {
     is_changed_within_flow(alloc, asked, locked)?;
-    if !are_as_in_programs(asked, locked) {
-        return Err(asked.differs());
-    }
     let def_use = keeps_control(alloc, asked, locked)?;
     keeps_calls(alloc, asked, locked)?;
     match def_use {

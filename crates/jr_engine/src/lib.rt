@@ -9,6 +9,7 @@ mod left;
 mod locked;
 mod planning;
 mod requests;
+mod sound;
 mod step;
 mod texts;
 mod tried;

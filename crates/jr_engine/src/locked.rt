@@ -1,11 +1,14 @@
 // The changed program under its locks.
 
-ghost use Rattle.std.specs.Prelude.{◌≡◌, map, Ok, IfOk};
+ghost use Rattle.std.specs.Prelude.{◌≡◌, map, length, Ok, IfOk};
 ghost use Rattle.std.specs.List.{AllByRecursion};
 ghost use Rattle.jr_tree.specs.Shape.{IsShaped};
 ghost use Rattle.jr_tree.specs.Rows.{program_rows};
 ghost use Rattle.jr_headed.specs.Founded.{IsProgram};
-ghost use Rattle.jr_engine.specs.Written.{IsBoundByLocks, IsLockedBy, rows_of};
+ghost use Rattle.jr_places.specs.Tabulated.{tabulated};
+ghost use Rattle.jr_prelude.specs.Begins.{BeginsWithLang};
+ghost use Rattle.jr_front.specs.Bound.{IsBoundIn};
+ghost use Rattle.jr_engine.specs.Written.{AreFirstIn, IsBoundByLocks, IsLockedBy, IsSound, is_constant_by, rows_of};
 
 use crate::asked::{Asked, project_of};
 use crate::fault::StepFault;
@@ -13,11 +16,11 @@ use crate::texts::changed_texts;
 use crate::verdicts::unread;
 use jr_base::{DeclId, NodeAt, NodeId, OccId, OutOfMemory};
 use jr_bind::bind_under;
-use jr_change::{Locks, NO_ROW, Spelling};
+use jr_change::{Locks, Spelling};
 use jr_defs::{Program, Referent};
 use jr_front::Workspace;
 use jr_index::Index;
-use jr_locks::locks;
+use jr_locks::{locks, row_for};
 use jr_lookup::Scopes;
 use jr_places::Places;
 use jr_read::read_units;
@@ -87,6 +90,7 @@ fn locked_program(alloc: Global, asked: Asked, program: Program) -> Result<Locke
     requires { AllByRecursion IsShaped (map (λ u. u.unit) program.units) }
     ensures locked { IfOk result (IsLockedBy asked.entry) }
     ensures shaped { IfOk result (λ locked. IsProgram (rows_of locked)) }
+    ensures begins { BeginsWithLang (program_rows (map (λ u. u.unit) program.units)) → IfOk result (λ locked. BeginsWithLang (rows_of locked)) }
     ensures bound { IfOk result IsBoundByLocks }
 {
     let index = index_of(alloc, &program)?;
@@ -102,6 +106,7 @@ fn locked_program(alloc: Global, asked: Asked, program: Program) -> Result<Locke
 pub fn lock(alloc: Global, asked: Asked) -> Result<Locked, StepFault>
     ensures locked { IfOk result (IsLockedBy asked.entry) }
     ensures shaped { IfOk result (λ locked. IsProgram (rows_of locked)) }
+    ensures begins { IfOk result (λ locked. BeginsWithLang (rows_of locked)) }
     ensures bound { IfOk result IsBoundByLocks }
 {
     let units = asked.old.program.units.as_slice();
@@ -112,19 +117,28 @@ pub fn lock(alloc: Global, asked: Asked) -> Result<Locked, StepFault>
     }
 }
 
-// Which rows come from constant expressions; of added ones, which are constant under the locks.
-fn constant_of(alloc: Global, asked: Asked, locked: &Locked) -> Result<Vec<bool>, OutOfMemory> {
+// The row comes from a constant expression; an added one is constant under the locks.
+fn is_constant(asked: Asked, locked: &Locked, row: u32) -> bool
+    ensures { result ≡ is_constant_by asked.entry locked.now row }
+{
     let old = &asked.old.bound.constants;
     let new = &locked.program.bound.constants;
+    match row_for(&locked.locks.origin, row) {
+        Some(from) => old.value(from).is_some(),
+        None => new.value(row).is_some(),
+    }
+}
+
+// Which rows are so.
+fn constant_of(alloc: Global, asked: Asked, locked: &Locked) -> Result<Vec<bool>, OutOfMemory>
+    ensures { IfOk result (λ all. all.items ≡ tabulated (is_constant_by asked.entry locked.now) (length locked.now.locks.origin.items)) }
+{
+    let Ok(end) = u32::try_from(locked.locks.origin.len()) else {
+        return Err(OutOfMemory);
+    };
     let mut all = Vec::new(alloc);
-    let mut row = 0u32;
-    for from in &locked.locks.origin {
-        if *from == NO_ROW {
-            all.push(new.value(row).is_some())?;
-        } else {
-            all.push(old.value(*from).is_some())?;
-        }
-        row = row.saturating_add(1);
+    for row in 0..end {
+        all.push(is_constant(asked, locked, row))?;
     }
     Ok(all)
 }
@@ -156,7 +170,15 @@ fn no_spelling(asked: Asked, locked: &Locked, row: u32) -> StepFault {
 }
 
 /// How each reference of the changed program is to be written.
-pub fn spellings(alloc: Global, asked: Asked, locked: &Locked) -> Result<Vec<Spelling>, StepFault> {
+pub fn spellings(alloc: Global, asked: Asked, locked: &Locked) -> Result<Vec<Spelling>, StepFault>
+    requires old { IsBoundIn asked.old.now }
+    requires new { IsProgram (rows_of locked.now) }
+    requires begins { BeginsWithLang (rows_of locked.now) }
+    requires sound { IsSound asked locked.now }
+    requires locked { IsLockedBy asked locked.now }
+    requires bound { IsBoundByLocks locked.now }
+    ensures { IfOk result (λ all. AreFirstIn asked.entry locked.now all.items) }
+{
     let constant = constant_of(alloc, asked, locked)?;
     match spell(alloc, &project_of(&locked.program), &constant) {
         Ok(all) => Ok(all),

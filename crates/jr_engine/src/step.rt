@@ -15,6 +15,7 @@ use crate::kept::changes_nothing;
 use crate::left::Left;
 use crate::locked::{lock, spellings};
 use crate::requests::change_of;
+use crate::sound::is_sound;
 use crate::tried::Spelled;
 use crate::verdicts::no_change;
 use crate::writing::left_of;
@@ -32,6 +33,7 @@ fn followed(alloc: Global, asked: Asked) -> Result<Left, StepFault>
     ensures { IfOk result (λ left. IsFollowed asked.entry.old.now asked.entry.request.now left) }
 {
     let locked = lock(alloc, asked)?;
+    is_sound(asked, &locked)?;
     let spellings = spellings(alloc, asked, &locked)?;
     keeps_edges(alloc, asked, &locked)?;
     let spelled = Spelled {

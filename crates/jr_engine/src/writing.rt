@@ -136,7 +136,7 @@ fn left_as(
     edits: &[Option<Edits>],
     files: Files,
 ) -> Result<Left, StepFault>
-    ensures { IfOk result (λ left. IsLeftOf spelled.entry.locked.now left) }
+    ensures { IfOk result (λ left. IsLeftOf spelled.entry.locked.now spelled.entry.spellings.now left) }
 {
     match open_files(alloc, &files) {
         Ok(program) => {
@@ -154,7 +154,7 @@ fn left_as(
 
 /// The files that are left where references are written so, if they may be left.
 pub fn left_of(alloc: Global, spelled: Spelled) -> Result<Left, StepFault>
-    ensures { IfOk result (λ left. IsLeftOf spelled.entry.locked.now left) }
+    ensures { IfOk result (λ left. IsLeftOf spelled.entry.locked.now spelled.entry.spellings.now left) }
 {
     let locked = &spelled.locked.program;
     let edits = respelled(alloc, &project_of(locked), spelled.spellings)?;
