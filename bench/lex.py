@@ -18,7 +18,8 @@ HERE = os.path.dirname(os.path.abspath(__file__))
 
 
 def lexed(command, text, times):
-    return subprocess.run(command, input=b'%d\n' % times + text, capture_output=True, check=True)
+    # as the script `refactor` runs the program
+    return subprocess.run(command, input=b'%d\n' % times + text, capture_output=True, check=True, env={**os.environ, 'GLIBC_TUNABLES': 'glibc.malloc.hugetlb=1'})
 
 
 def instructions(binary, text):
