@@ -53,6 +53,16 @@ completes_wrongly (is.Method modifiers false true) completes = completes
 completes_wrongly (is.Initializer is_static) completes = not completes
 completes_wrongly _ completes = false
 
+-- a member whose end is tested
+abbrev pub has_tested_end : Label → Bool
+has_tested_end (is.Method modifiers is_void has_body) = true
+has_tested_end (is.Initializer is_static) = true
+has_tested_end _ = false
+
+-- at any other row no rule is broken
+abbrev pub may_break : Label → Bool
+may_break l = is_statement l || has_tested_end l
+
 -- ---- the faults
 
 abbrev pub fault_if : Bool → ℕ → Rule → List Fault

@@ -3,7 +3,7 @@ ghost use Rattle.std.specs.Prelude.{◌≡◌, ◌++◌, ◌<◌, ◌^◌, OnOk,
 ghost use Rattle.jr_tree.specs.Rows.{label};
 ghost use Rattle.jr_reach.specs.Statements.{later};
 ghost use Rattle.jr_reach.specs.Reached.{earlier};
-ghost use Rattle.jr_reach.specs.Faults.{is_lost, is_statement, is_unreached, completes_wrongly, fault_if, faults_at, faults_below};
+ghost use Rattle.jr_reach.specs.Faults.{is_lost, is_statement, is_unreached, completes_wrongly, has_tested_end, may_break, fault_if, faults_at, faults_below};
 
 use crate::fact::fact_of;
 use crate::parts::parent_of;
@@ -85,6 +85,23 @@ fn is_completed_wrongly(label: &Label, completes: bool) -> bool
     }
 }
 
+fn has_tested_end(label: &Label) -> bool
+    ensures { result ≡ has_tested_end label.now }
+{
+    match label {
+        Label::Method { .. } => true,
+        Label::Initializer { .. } => true,
+        _ => false,
+    }
+}
+
+// At any other row no rule is broken.
+fn may_break(label: &Label) -> bool
+    ensures { result ≡ may_break label.now }
+{
+    is_stated(label) || has_tested_end(label)
+}
+
 fn note(out: &mut Vec<Fault>, is_broken: bool, n: usize, rule: Rule) -> Result<(), OutOfMemory>
     requires { n < 2 ^ 32 }
     ensures { OnOk result (out.new.items ≡ out.old.items ++ fault_if is_broken n rule) }
@@ -98,8 +115,8 @@ fn note(out: &mut Vec<Fault>, is_broken: bool, n: usize, rule: Rule) -> Result<(
     Ok(())
 }
 
-// The faults of a row.
-fn note_row(
+// The faults of a row at which a rule may be broken.
+fn note_tested(
     rows: &[Row],
     facts: &[Fact],
     all: &[Entry],
@@ -126,6 +143,25 @@ fn note_row(
         n,
         Rule::Completion,
     )
+}
+
+// The faults of a row.
+fn note_row(
+    rows: &[Row],
+    facts: &[Fact],
+    all: &[Entry],
+    found: &[bool],
+    n: usize,
+    out: &mut Vec<Fault>,
+) -> Result<(), OutOfMemory>
+    requires there { n < length rows.now }
+    requires few { length rows.now < 2 ^ 32 }
+    ensures { OnOk result (out.new.items ≡ out.old.items ++ faults_at rows.now facts.now (later (length rows.now) all.now) (earlier found.now) n) }
+{
+    if !may_break(&rows[n].label) {
+        return Ok(());
+    }
+    note_tested(rows, facts, all, found, n, out)
 }
 
 /// Adds the jumps without target, the first of statements that cannot be reached, and the bodies that complete otherwise than they may, by the
