@@ -17,3 +17,4 @@ mod Choosing
 mod Returns
 mod InTurn
 mod Shown
+mod Commands

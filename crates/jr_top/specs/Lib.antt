@@ -1,5 +1,6 @@
 pub mod Answers
 pub mod Batches
+pub mod Calls
 pub mod Changing
 pub mod Checking
 pub mod Crash

@@ -11,6 +11,7 @@ ghost use Rattle.jr_thin.specs.Renaming.{Serves, IsRenaming};
 ghost use Rattle.jr_thin.specs.declared.answers.Renaming.{Renaming};
 ghost use Rattle.jr_top.specs.Answers.{AnswersFound, Answers, Reports, IsReported, reported, Outcome, OutcomeOf, IsFailure, IsDemonstrated, IsServedAnswer};
 ghost use Rattle.jr_top.specs.Batches.{AsksBatch, Hears, IsHeard, AnswersBatch, status_of, IsBatchFailure};
+ghost use Rattle.jr_top.specs.Calls.{Comes, IsTheAnswer};
 ghost use Rattle.jr_top.specs.Checking.{IsReading, AsksReading, Checks, AnswersReading, IsCheckedSo};
 ghost use Rattle.jr_top.specs.Crash.{StandsForEither, Survives, IsSettled, SurvivesSettled, LeavesStart};
 ghost use Rattle.jr_top.specs.Decisions.{IsChanging};
@@ -298,11 +299,8 @@ fn perform<S: Store, I: Source, O: Sink>(
     recover_first(alloc, &command, store, input, out)
 }
 
-/// Does what the words ask for, and writes one line.
-///
-/// The first word is the folder, which is not read here. Every command but `demo` begins with recovery. The input of a batch is read after recovery, before the files. Want of
-/// memory may be answered at any time before the first write of the commit, unless recovery has begun to write and not ended.
-pub fn refactor<S: Store, I: Source, O: Sink>(
+// Does what the words ask for, told by what they ask for.
+fn answered<S: Store, I: Source, O: Sink>(
     alloc: Global,
     words: &[Text],
     store: &mut S,
@@ -387,4 +385,54 @@ pub fn refactor<S: Store, I: Source, O: Sink>(
     ensures taken { (bytes : List ℕ) → I.left input.old ≡ Some bytes → LeavesSome bytes (I.left input.new) }
 {
     perform(alloc, words, store, input, out)
+}
+
+/// Does what the words ask for, and writes one line.
+///
+/// The first word is the folder, which is not read here. Every command but `demo` begins with recovery. The input of a batch is read after recovery, before the files. Want of
+/// memory may be answered at any time before the first write of the commit, unless recovery has begun to write and not ended.
+pub fn refactor<S: Store, I: Source, O: Sink>(
+    alloc: Global,
+    words: &[Text],
+    store: &mut S,
+    input: &mut I,
+    out: &mut O,
+) -> Status
+    // The answer comes by the equation of the command: it has its cause, the files left are those that it says, and a crash leaves such files.
+    ensures answer { Comes (record {
+      words = words.now;
+      store = record { told = S.files store.old; left = S.files store.new; kept = S.may_leave store.old; outcomes = S.may_leave store.new; before = S.faults store.old; after = S.faults store.new };
+      input = record { heard = I.left input.old; before = I.faults input.old; after = I.faults input.new };
+      output = record { old = O.contents out.old; new = O.contents out.new; before = O.faults out.old; after = O.faults out.new };
+    }) result }
+
+    // It is the one answer that the files found, the journal and the input have, unless memory runs out or a fault is counted.
+    ensures exact { IsTheAnswer (record {
+      words = words.now;
+      store = record { told = S.files store.old; left = S.files store.new; kept = S.may_leave store.old; outcomes = S.may_leave store.new; before = S.faults store.old; after = S.faults store.new };
+      input = record { heard = I.left input.old; before = I.faults input.old; after = I.faults input.new };
+      output = record { old = O.contents out.old; new = O.contents out.new; before = O.faults out.old; after = O.faults out.new };
+    }) result }
+
+    // A crash at any moment of the call leaves an image of the files found or of those of the change.
+    ensures any_moment { (f r : Image) → S.files store.old ≡ Some f → Restored f r → StartsRecover f (S.may_leave store.old) →
+        LeavesOnly S.moment S.left_since store.old store.new (StandsForEither words.now r) }
+
+    // After any answer but a fault the next call may begin: nothing is pending at the gate, and a crash leaves what recovery
+    // can begin with.
+    ensures next { MayBegin (S.files store.old) (S.may_leave store.old) → LeavesStart (S.faults store.old) (S.faults store.new) (MayBegin (S.files store.new) (S.may_leave store.new)) result }
+
+    // Without a crash, so do reads, after a fault too.
+    ensures read_back { (f r g : Image) → S.files store.old ≡ Some f → Restored f r → StartsRecover f (S.may_leave store.old) → S.files store.new ≡ Some g → StandsForEither words.now r g }
+
+    // Where the words ask for nothing that needs the files, the store is not called.
+    ensures untouched { (AsksRecovery words.now → ⊥) → store.new ≡ store.old }
+
+    // The input is read for a batch alone.
+    ensures unread { (AsksBatch words.now → ⊥) → input.new ≡ input.old }
+
+    // At most its first 1,048,577 bytes are.
+    ensures taken { (bytes : List ℕ) → I.left input.old ≡ Some bytes → LeavesSome bytes (I.left input.new) }
+{
+    answered(alloc, words, store, input, out)
 }
