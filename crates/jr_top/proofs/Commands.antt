@@ -14,7 +14,7 @@ use Rattle.jr_thin.specs.Renaming.{Serves, IsRenaming}
 use Rattle.jr_thin.specs.declared.answers.Renaming.{Renaming}
 use Rattle.jr_top.specs.Answers.{OutcomeOf, IsDemonstrated, IsServedAnswer}
 use Rattle.jr_top.specs.Batches.{AsksBatch, status_of, IsBatchFailure}
-use Rattle.jr_top.specs.Calls.{Call, IsTold, IsOwn, IsPlannedFor, IsInputRefused, IsReadBy, IsUndone, Obeys, Fails, Finds, ObeysAlone}
+use Rattle.jr_top.specs.Calls.{Call, IsTold, IsOwn, IsPlannedFor, IsInputRefused, IsReadBy, IsUndone, Obeys, Comes, Fails, Finds, ObeysAlone, IsTheAnswer}
 use Rattle.jr_top.specs.Checking.{IsReading, AsksReading, IsCheckedSo}
 use Rattle.jr_top.specs.Crash.{Survives}
 use Rattle.jr_top.specs.Engine.{AsksOne, AsksAll, AnswersPlanned}
@@ -138,3 +138,42 @@ module _ (c : Call) (said : Status) (told : TellsAlone c said) where
   alone (Some (Refs file at)) is = read_alone (Refs file at) is tt
   alone (Some (Subtypes file at)) is = read_alone (Subtypes file at) is tt
   alone (Some (Callers file at)) is = read_alone (Callers file at) is tt
+
+-- ---- from the equation of the command, to what is asked for
+
+module _ (c : Call) (said : Status) where
+  own_by : (command : Option Command) → command_of c.words ≡ command → Obeys command c said → (AsksBatch c.words → ⊥) → (AsksReading c.words → ⊥) → (AsksUndo c.words → ⊥) → IsOwn c said ⊎ IsPlannedFor c (AsksOne c.words) said
+  own_by None is obeys no_batch no_reading no_undo = inl obeys
+  own_by (Some (Demo count)) is obeys no_batch no_reading no_undo = inl obeys
+  own_by (Some (One request)) is obeys no_batch no_reading no_undo = obeys
+  own_by (Some Batch) is obeys no_batch no_reading no_undo = absurd (no_batch is)
+  own_by (Some Undo) is obeys no_batch no_reading no_undo = absurd (no_undo is)
+  own_by (Some Check) is obeys no_batch no_reading no_undo = absurd (no_reading (Check, is, tt))
+  own_by (Some (Run class steps)) is obeys no_batch no_reading no_undo = absurd (no_reading (Run class steps, is, tt))
+  own_by (Some (Refs file at)) is obeys no_batch no_reading no_undo = absurd (no_reading (Refs file at, is, tt))
+  own_by (Some (Subtypes file at)) is obeys no_batch no_reading no_undo = absurd (no_reading (Subtypes file at, is, tt))
+  own_by (Some (Callers file at)) is obeys no_batch no_reading no_undo = absurd (no_reading (Callers file at, is, tt))
+
+  pub own_told : Comes c said → (AsksBatch c.words → ⊥) → (AsksReading c.words → ⊥) → (AsksUndo c.words → ⊥) → IsOwn c said ⊎ IsPlannedFor c (AsksOne c.words) said
+  own_told = own_by (command_of c.words) refl
+
+  pub batch_told : Comes c said → AsksBatch c.words → IsInputRefused c said ⊎ IsPlannedFor c (AsksAll c.words c.input.heard) said
+  batch_told obeys asks = subst (λ command. Obeys command c said) asks obeys
+
+  pub undo_told : Comes c said → AsksUndo c.words → IsUndone c said
+  undo_told obeys asks = subst (λ command. Obeys command c said) asks obeys
+
+  read_by : (command : Command) → IsReading command → Obeys (Some command) c said → IsReadBy (Some command) c said
+  read_by Check reads obeys = obeys
+  read_by (Run class steps) reads obeys = obeys
+  read_by (Refs file at) reads obeys = obeys
+  read_by (Subtypes file at) reads obeys = obeys
+  read_by (Callers file at) reads obeys = obeys
+  read_by other reads obeys = absurd reads
+
+  pub reading_told : Comes c said → AsksReading c.words → IsReadBy (command_of c.words) c said
+  reading_told obeys (command, is, reads) = subst (λ asked. IsReadBy asked c said) (sym is) (read_by command reads (subst (λ asked. Obeys asked c said) is obeys))
+
+  -- an undo gets the one answer that it has
+  pub undo_alone : IsTheAnswer c said → AsksUndo c.words → (files found : Image) → c.store.told ≡ Some files → Restored files found → IsUndoAnswer found c.store.left said ⊎ Fails c said
+  undo_alone one asks files found told restored = subst (λ command. ObeysAlone command c said) asks one.answer found (record { files = files; told = told; restored = restored })
