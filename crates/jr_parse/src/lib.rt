@@ -12,4 +12,4 @@ mod parser;
 mod unit;
 
 pub use fault::ParseFault;
-pub use parser::parse;
+pub use parser::{parse, parse_within};
