@@ -13,13 +13,13 @@ use Rattle.jr_flow_laws.proofs.Moving.{at_or_below}
 use Rattle.jr_flow_laws.proofs.Standing.{stands_below, parent_in, parent_less, label_over, next_over}
 use Rattle.jr_flow_laws.proofs.Meant.{moved_inside, declared_over, parent_label_over}
 
-code_is_no_loop : (l : Label) → declares_code l ≡ true → is_loop l ≡ false
+pub code_is_no_loop : (l : Label) → declares_code l ≡ true → is_loop l ≡ false
 code_is_no_loop is.While e = absurd (false≢true e)
 code_is_no_loop is.Do e = absurd (false≢true e)
 code_is_no_loop (is.For f c) e = absurd (false≢true e)
 code_is_no_loop _ e = refl
 
-code_is_no_target : (l : Label) → declares_code l ≡ true → is_loop_or_switch l ≡ false
+pub code_is_no_target : (l : Label) → declares_code l ≡ true → is_loop_or_switch l ≡ false
 code_is_no_target is.Switch e = absurd (false≢true e)
 code_is_no_target is.While e = absurd (false≢true e)
 code_is_no_target is.Do e = absurd (false≢true e)
@@ -32,7 +32,7 @@ module _ (p : Rows) (m : Meaning) (body : ℕ) (whole : IsWholeBody p m body) (t
   parent_low (suc n) h = let f = whole.few in let u = whole.tree.up (suc n) (omega (arith, f, h)) (omega arith) in omega (arith, u)
 
   -- what is found from the body's declaration on stands before it
-  outside_of : (room n x : ℕ) → n ≤ body → around p test room n ≡ Some x → x < body
+  pub outside_of : (room n x : ℕ) → n ≤ body → around p test room n ≡ Some x → x < body
   outside_of zero n x low e = absurd (none-some x e)
   outside_of (suc room) n x low e = by_test (test (label p (parent p n))) refl e (λ f. let l = parent_low n low in outside_of room (parent p n) x (omega (arith, l, low)) f) where
     by_test : (b : Bool) → test (label p (parent p n)) ≡ b → (if b then Some (parent p n) else around p test room (parent p n)) ≡ Some x → (around p test room (parent p n) ≡ Some x → x < body) → x < body

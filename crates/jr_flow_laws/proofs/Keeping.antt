@@ -52,7 +52,7 @@ module _ (p q : Rows) (m w : Meaning) (body s : ℕ) (outside : ℕ → ℕ) (wh
   edges : CopiesKeepEdges Old New (λ n. n + s)
   edges = copies.copies_keep_edges Old New (moved_state s) (λ n. n + s) body_is_copied
 
-  point_row_in : (a : State) (x : Point) → IsReached Old a → Old.point a ≡ Some x → In x.row
+  pub point_row_in : (a : State) (x : Point) → IsReached Old a → Old.point a ≡ Some x → In x.row
   point_row_in a x r e = point_is_in In (Old.point a) x e (point_in p q m w body s outside whole rows a.moment a.row (reached_in a r))
 
   -- ---- edges of control
@@ -85,7 +85,7 @@ module _ (p q : Rows) (m w : Meaning) (body s : ℕ) (outside : ℕ → ℕ) (wh
   along S a b r (Path.on {r = c} path apart g) = IsReached.on (along S a c r path) g
 
   -- both ends of an edge stand in the body
-  ends_in : (i j : ℕ) → DefUse Old i j → In i × In j
+  pub ends_in : (i j : ℕ) → DefUse Old i j → In i × In j
   ends_in i j u = (
     point_row_in u.from (record { row = i; kind = kind.Definition u.local }) u.reached u.defines,
     point_row_in u.to (record { row = j; kind = kind.Use u.local }) (along (Defines Old u.local) u.from u.to u.reached u.path) u.uses,
