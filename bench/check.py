@@ -16,10 +16,8 @@ import tempfile
 import time
 
 sys.path.insert(0, os.path.dirname(os.path.abspath(__file__)))
-from generated import write_files
+from generated import OURS, write_files
 
-# What the script `refactor` runs the program with.
-OURS = {**os.environ, 'GLIBC_TUNABLES': 'glibc.malloc.hugetlb=1'}
 TOKEN = re.compile(r'//.*|"[^"]*"|\w+|[^\s\w]')
 
 

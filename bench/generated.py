@@ -1,5 +1,10 @@
 """The workspace that `demo` generates, as files, and larger ones of the same kind."""
 import os
+import re
+
+# What the script `refactor` runs the program with.
+with open(os.path.join(os.path.dirname(os.path.abspath(__file__)), '..', 'refactor')) as script:
+    OURS = {**os.environ, 'GLIBC_TUNABLES': re.search(r'GLIBC_TUNABLES:-([^}]*)', script.read()).group(1)}
 
 
 def class_text(i, methods=1):

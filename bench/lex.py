@@ -15,13 +15,15 @@ import sys
 import tempfile
 
 HERE = os.path.dirname(os.path.abspath(__file__))
+sys.path.insert(0, HERE)
+from generated import OURS
 # A method of a class that is a unit by itself.
 METHODS = (b'int f(int a, long b) { if (a < 12) { return g(a + 1, b * 2)[a].c; } else { x = (int) b; } for (int i = 0; i < 9; i++) { y[i] += a; } }\n')
 
 
 def lexed(command, text, times):
     # as the script `refactor` runs the program
-    return subprocess.run(command, input=b'%d\n' % times + text, capture_output=True, check=True, env={**os.environ, 'GLIBC_TUNABLES': 'glibc.malloc.hugetlb=1'})
+    return subprocess.run(command, input=b'%d\n' % times + text, capture_output=True, check=True, env=OURS)
 
 
 def instructions(binary, text):

@@ -19,7 +19,7 @@ import tempfile
 import time
 
 sys.path.insert(0, os.path.dirname(os.path.abspath(__file__)))
-from generated import class_text, write_files
+from generated import OURS, class_text, write_files
 
 REQUESTS = 1024
 SIZES = [1, 2, 4, 8, 16, 32, 64]
@@ -52,7 +52,7 @@ def many_locals(size):
 def run(words, said=b''):
     start = time.perf_counter()
     # as the script `refactor` runs it
-    done = subprocess.run(words, input=said, stdout=subprocess.PIPE, env={**os.environ, 'GLIBC_TUNABLES': 'glibc.malloc.hugetlb=1'})
+    done = subprocess.run(words, input=said, stdout=subprocess.PIPE, env=OURS)
     return time.perf_counter() - start, done
 
 
