@@ -60,15 +60,15 @@ pub fn changed_texts(
     Ok(texts)
 }
 
-// The text of a unit with its edits, if it has some.
+// The text of a unit with its edits.
 fn written(
     alloc: Global,
     unit: &UnitAt,
-    edits: Option<&Option<Edits>>,
+    edits: Option<&Edits>,
 ) -> Result<Vec<u8>, OutOfMemory> {
     match edits {
-        Some(Some(edits)) => edited(alloc, unit.bytes.bytes(), edits),
-        _ => Ok(unit.bytes.bytes().to_vec(alloc)?),
+        Some(edits) => edited(alloc, unit.bytes.bytes(), edits),
+        None => Ok(unit.bytes.bytes().to_vec(alloc)?),
     }
 }
 
@@ -76,7 +76,7 @@ fn written(
 pub fn written_texts(
     alloc: Global,
     units: &[UnitAt],
-    edits: &[Option<Edits>],
+    edits: &[Edits],
 ) -> Result<Texts, OutOfMemory> {
     let mut texts = Vec::new(alloc);
     let mut left = MOST;
