@@ -61,11 +61,7 @@ pub fn changed_texts(
 }
 
 // The text of a unit with its edits.
-fn written(
-    alloc: Global,
-    unit: &UnitAt,
-    edits: Option<&Edits>,
-) -> Result<Vec<u8>, OutOfMemory> {
+fn written(alloc: Global, unit: &UnitAt, edits: Option<&Edits>) -> Result<Vec<u8>, OutOfMemory> {
     match edits {
         Some(edits) => edited(alloc, unit.bytes.bytes(), edits),
         None => Ok(unit.bytes.bytes().to_vec(alloc)?),

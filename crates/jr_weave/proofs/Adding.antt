@@ -1,5 +1,5 @@
 -- Parts that are added to a list one behind the other.
-use Rattle.std.proofs.Common.{◌≡◌, sym, ◌∙◌, ap, ℕ, List, [], ◌++◌, Option, Some, append_assoc, append-nil}
+use Rattle.std.proofs.Common.{◌≡◌, sym, ◌∙◌, ap, ℕ, List, [], ◌++◌, Some, append_assoc, append-nil}
 use Rattle.jr_defs.specs.declared.referent.Referent.{Referent}
 use Rattle.jr_defs.specs.Referents.{Table}
 use Rattle.jr_marks.specs.declared.marks.Marks.{Marks}

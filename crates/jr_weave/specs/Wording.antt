@@ -1,5 +1,5 @@
 -- What is written at a place of a text.
-use Rattle.std.specs.Prelude.{ℕ, zero, suc, Bool, true, false, if◌then◌else◌, List, [], ◌∷◌, ◌++◌, codes}
+use Rattle.std.specs.Prelude.{ℕ, zero, suc, Bool, if◌then◌else◌, List, [], ◌∷◌, ◌++◌, codes}
 use Rattle.jr_tree.specs.Rows.{Rows, name}
 use Rattle.jr_defs.specs.declared.referent.Element.{Element}
 use Rattle.jr_defs.specs.declared.referent.Element.TheVariants as element
