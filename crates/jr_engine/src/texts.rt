@@ -1,4 +1,9 @@
 // The texts of a changed program.
+ghost use Rattle.std.specs.Prelude.{◌≡◌, IfOk, slice_get};
+ghost use Rattle.jr_base.specs.Files.{plain};
+ghost use Rattle.jr_edits.specs.Place as place;
+ghost use Rattle.jr_text.specs.Spans.{bytes_by};
+ghost use Rattle.jr_engine.specs.Texts as spec;
 
 use crate::asked::PRELUDE;
 use jr_base::{OutOfMemory, Path};
@@ -14,21 +19,27 @@ const MOST: usize = 67_108_864;
 pub type Texts = Vec<(Path, Vec<u8>)>;
 
 // The text with its edits. Edits of a text of another length are answered for want of memory.
-fn edited(alloc: Global, bytes: &[u8], edits: &Edits) -> Result<Vec<u8>, OutOfMemory> {
+fn edited(alloc: Global, bytes: &[u8], edits: &Edits) -> Result<Vec<u8>, OutOfMemory>
+    ensures { IfOk result (λ text. text.items ≡ place.edited bytes.now 0 edits.now.edits) }
+{
     if bytes.len() != edits.text_len() as usize {
         return Err(OutOfMemory);
     }
     apply(alloc, bytes, edits)
 }
 
-fn bytes_of(units: &[UnitAt], unit: u32) -> &[u8] {
+fn bytes_of(units: &[UnitAt], unit: u32) -> &[u8]
+    ensures { result.now ≡ bytes_by (slice_get units.now unit) }
+{
     match units.get(unit as usize) {
         Some(unit) => unit.bytes.bytes(),
         None => &[],
     }
 }
 
-fn text_from(alloc: Global, units: &[UnitAt], source: &UnitSource) -> Result<Vec<u8>, OutOfMemory> {
+fn text_from(alloc: Global, units: &[UnitAt], source: &UnitSource) -> Result<Vec<u8>, OutOfMemory>
+    ensures { IfOk result (λ text. text.items ≡ spec.changed_text units.now source.now) }
+{
     match source {
         UnitSource::Kept(unit) => Ok(bytes_of(units, *unit).to_vec(alloc)?),
         UnitSource::Edited { unit, edits } => edited(alloc, bytes_of(units, *unit), edits),
@@ -45,11 +56,9 @@ fn left_after(left: usize, text: &[u8]) -> Result<usize, OutOfMemory> {
 }
 
 /// The texts of a changed program in its order, without the prelude.
-pub fn changed_texts(
-    alloc: Global,
-    units: &[UnitAt],
-    change: &Change,
-) -> Result<Texts, OutOfMemory> {
+pub fn changed_texts(alloc: Global, units: &[UnitAt], change: &Change) -> Result<Texts, OutOfMemory>
+    ensures { IfOk result (λ texts. plain texts.items ≡ spec.changed_files units.now change.now.units.items) }
+{
     let mut texts = Vec::new(alloc);
     let mut left = MOST;
     for changed in &change.units {
@@ -60,35 +69,36 @@ pub fn changed_texts(
     Ok(texts)
 }
 
-// The text of a unit with its edits, if it has some.
-fn written(
-    alloc: Global,
-    unit: &UnitAt,
-    edits: Option<&Option<Edits>>,
-) -> Result<Vec<u8>, OutOfMemory> {
-    match edits {
-        Some(Some(edits)) => edited(alloc, unit.bytes.bytes(), edits),
-        _ => Ok(unit.bytes.bytes().to_vec(alloc)?),
+// The texts of units with their edits, of which each has some or none.
+fn edited_texts(alloc: Global, units: &[UnitAt], edits: &[Edits]) -> Result<Texts, OutOfMemory>
+    ensures { IfOk result (λ texts. plain texts.items ≡ spec.edited_files units.now edits.now) }
+{
+    let mut texts = Vec::new(alloc);
+    let mut left = MOST;
+    let mut rest = edits;
+    for unit in units {
+        let Some((own, after)) = rest.split_first() else {
+            return Err(OutOfMemory);
+        };
+        let text = edited(alloc, unit.bytes.bytes(), own)?;
+        left = left_after(left, &text)?;
+        texts.push((unit.path.copy(alloc)?, text))?;
+        rest = after;
     }
+    Ok(texts)
 }
 
 /// The texts of a program with the edits of its units, without the prelude.
-pub fn written_texts(
-    alloc: Global,
-    units: &[UnitAt],
-    edits: &[Option<Edits>],
-) -> Result<Texts, OutOfMemory> {
-    let mut texts = Vec::new(alloc);
-    let mut left = MOST;
-    for at in PRELUDE..units.len() {
-        let Some(unit) = units.get(at) else {
-            break;
-        };
-        let text = written(alloc, unit, edits.get(at))?;
-        left = left_after(left, &text)?;
-        texts.push((unit.path.copy(alloc)?, text))?;
-    }
-    Ok(texts)
+pub fn written_texts(alloc: Global, units: &[UnitAt], edits: &[Edits]) -> Result<Texts, OutOfMemory>
+    ensures { IfOk result (λ texts. plain texts.items ≡ spec.written_files units.now edits.now) }
+{
+    let [_, _, found @ ..] = units else {
+        return Err(OutOfMemory);
+    };
+    let [_, _, own @ ..] = edits else {
+        return Err(OutOfMemory);
+    };
+    edited_texts(alloc, found, own)
 }
 
 /// The number in its program of the first unit whose path the next one has too.

@@ -94,18 +94,18 @@ fn too_large(alloc: Global, spelled: Spelled, files: &Files, size: Size) -> Step
 }
 
 // Where what stands at a place before names are spelled stands behind that.
-fn moved(edits: &[Option<Edits>], place: Place) -> Place {
+fn moved(edits: &[Edits], place: Place) -> Place {
     match edits.get(place.cu.0 as usize) {
-        Some(Some(edits)) => Place {
+        Some(edits) => Place {
             cu: place.cu,
             at: edits.moved(place.at),
         },
-        _ => place,
+        None => place,
     }
 }
 
 // After an inlining each expression that stays has the type that it had.
-fn keeps_types(spelled: Spelled, edits: &[Option<Edits>]) -> Result<(), StepFault> {
+fn keeps_types(spelled: Spelled, edits: &[Edits]) -> Result<(), StepFault> {
     let asked = spelled.asked;
     let locked = spelled.locked;
     let Course::Inlined { .. } = asked.change.course else {
@@ -133,7 +133,7 @@ fn keeps_types(spelled: Spelled, edits: &[Option<Edits>]) -> Result<(), StepFaul
 fn left_as(
     alloc: Global,
     spelled: Spelled,
-    edits: &[Option<Edits>],
+    edits: &[Edits],
     files: Files,
 ) -> Result<Left, StepFault>
     ensures { IfOk result (λ left. IsLeftOf spelled.entry.locked.now spelled.entry.spellings.now left) }
@@ -157,7 +157,12 @@ pub fn left_of(alloc: Global, spelled: Spelled) -> Result<Left, StepFault>
     ensures { IfOk result (λ left. IsLeftOf spelled.entry.locked.now spelled.entry.spellings.now left) }
 {
     let locked = &spelled.locked.program;
-    let edits = respelled(alloc, &project_of(locked), spelled.spellings)?;
+    let edits = respelled(
+        alloc,
+        &locked.marks(),
+        &locked.bound.table,
+        spelled.spellings,
+    )?;
     let texts = written_texts(alloc, locked.program.units.as_slice(), &edits)?;
     match first_twice(&texts) {
         Some(unit) => Err(twice(alloc, spelled, &texts, unit)),

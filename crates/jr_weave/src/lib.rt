@@ -1,9 +1,9 @@
 //! How references are written: the texts of their spellings as edits.
 #![tactic(auto)]
 
-mod forms;
 mod pen;
-mod pieces;
+mod piece;
+mod site;
 mod weave;
 
 pub use jr_shapes::is_atom;

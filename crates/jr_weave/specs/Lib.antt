@@ -1,0 +1,3 @@
+pub mod Wording
+pub mod Pieces
+pub mod Weaving
