@@ -1,6 +1,7 @@
 pub mod Spelled
 pub mod Opening
 pub mod Scoped
+pub mod Passing
 pub mod Twinned
 pub mod Importing
 pub mod Bringing

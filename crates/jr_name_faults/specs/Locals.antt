@@ -1,5 +1,5 @@
 -- The scopes of locals, parameters and labels that the first rows open (JLS 8.4.1, 14.4.2, 14.7, 14.20).
-use Rattle.std.specs.Prelude.{◌≡◌, ◌⊎◌, ℕ, ◌+◌, ◌<◌, ◌^◌, Bool, ◌&&◌, ◌||◌, if◌then◌else◌, List, is_some, length, nat_lt}
+use Rattle.std.specs.Prelude.{◌≡◌, ◌⊎◌, ℕ, ◌+◌, ◌<◌, ◌^◌, Bool, true, false, ◌&&◌, ◌||◌, if◌then◌else◌, List, is_some, length, nat_lt}
 use Rattle.jr_tree.specs.declared.label.Label.TheVariants as is
 use Rattle.jr_tree.specs.declared.label.Role.{Role}
 use Rattle.jr_tree.specs.declared.label.Role.TheVariants as role
@@ -13,6 +13,13 @@ use Rattle.jr_members.specs.Sources.{ArePlaced}
 use Rattle.jr_lookup.specs.Scopes.{parameter_entry}
 use Rattle.jr_name_faults.specs.declared.locals.Locals as code
 use Rattle.jr_name_faults.specs.Ends.{end_in, opened, AreEndsOf}
+
+-- what declares a name that is in scope up to an end: a local, a parameter or a label
+abbrev pub has_scope : Role → Bool
+has_scope role.Local = true
+has_scope role.Parameter = true
+has_scope role.Label = true
+has_scope _ = false
 
 -- a row of this role among the first n, which opens a scope to the end that it is given
 pub record OpensAs (p : Rows) (kind : Role) (end_of : ℕ → ℕ) (n d e : ℕ) : Type 0 where

@@ -47,12 +47,18 @@ fn is_nothing(sought: Sought) -> bool
     }
 }
 
-// The row refers to something: it looks for it, and is not the call of super() that Object does without.
-fn is_occurrence(all: &[Row], at: u32) -> bool
+// The class of the constructor in which the row stands is Object.
+fn is_in_object(all: &[Row], at: u32) -> bool
+    ensures { result ≡ declared.is_object all.now (rows.parent all.now (rows.parent all.now (rows.parent all.now at))) }
+{
+    is_object(all, parent_at(all, parent_at(all, parent_at(all, at))))
+}
+
+/// The row refers to something: it looks for it, and is not the call of super() that Object does without.
+pub fn is_occurrence(all: &[Row], at: u32) -> bool
     ensures { result ≡ declared.is_occurrence all.now at }
 {
-    let over = parent_at(all, parent_at(all, parent_at(all, at)));
-    !is_nothing(sought_at(all, at)) && !(is_implicit_call(all, at) && is_object(all, over))
+    !is_nothing(sought_at(all, at)) && !(is_implicit_call(all, at) && is_in_object(all, at))
 }
 
 // The type of the expression at a row.

@@ -16,7 +16,7 @@ ghost use Rattle.jr_name_faults.specs.Locals.{AreLocalsTo, IsBefore, IsEntered};
 ghost use Rattle.jr_name_faults.specs.Statics.{AreStatics, AreStaticsTo};
 ghost use Rattle.jr_name_faults.specs.Views as views;
 
-use crate::access::is_not_accessible;
+use crate::access::{is_not_accessible, is_occurrence};
 use crate::imports::Imports;
 use crate::locals::Locals;
 use crate::statics::Statics;
@@ -47,6 +47,43 @@ fn label_fault(locals: &Locals, at: u32, out: &mut Vec<Fault>) -> Result<(), Out
     Ok(())
 }
 
+// The rules on locals and labels that are broken at a local, parameter or label, whose scope is opened then.
+fn scope_faults(
+    alloc: Global,
+    locals: &mut Locals,
+    at: u32,
+    out: &mut Vec<Fault>,
+) -> Result<(), OutOfMemory>
+    ensures open { (p : Rows) → at < length p → IsEntered p at locals.old → OnOk result (IsBefore p (at + 1) locals.new) }
+    ensures names { (p : Rows) → at < length p → IsEntered p at locals.old → OnOk result (AreFaultsOf rules.LocalNames (row_if (plain.is_second_local p at) at) out.old.items out.new.items) }
+    ensures labels { (p : Rows) → at < length p → IsEntered p at locals.old → OnOk result (AreFaultsOf rules.Labels (row_if (plain.is_second_label p at) at) out.old.items out.new.items) }
+    ensures others { OnOk result (AreOnly tell.is_of_locals out.old.items out.new.items) }
+{
+    name_fault(locals, at, out)?;
+    label_fault(locals, at, out)?;
+    locals.declare(alloc, at)?;
+    Ok(())
+}
+
+// The same, of any row.
+fn any_scope_faults(
+    alloc: Global,
+    locals: &mut Locals,
+    at: u32,
+    out: &mut Vec<Fault>,
+) -> Result<(), OutOfMemory>
+    ensures open { (p : Rows) → at < length p → IsEntered p at locals.old → OnOk result (IsBefore p (at + 1) locals.new) }
+    ensures names { (p : Rows) → at < length p → IsEntered p at locals.old → OnOk result (AreFaultsOf rules.LocalNames (row_if (plain.is_second_local p at) at) out.old.items out.new.items) }
+    ensures labels { (p : Rows) → at < length p → IsEntered p at locals.old → OnOk result (AreFaultsOf rules.Labels (row_if (plain.is_second_label p at) at) out.old.items out.new.items) }
+    ensures others { OnOk result (AreOnly tell.is_of_locals out.old.items out.new.items) }
+{
+    if !locals.declares(at) {
+        return Ok(());
+    }
+    scope_faults(alloc, locals, at, out)?;
+    Ok(())
+}
+
 // The rules on locals and labels that are broken at a row.
 fn local_faults(
     alloc: Global,
@@ -60,9 +97,7 @@ fn local_faults(
     ensures others { OnOk result (AreOnly tell.is_of_locals out.old.items out.new.items) }
 {
     locals.enter(alloc, at)?;
-    name_fault(locals, at, out)?;
-    label_fault(locals, at, out)?;
-    locals.declare(alloc, at)?;
+    any_scope_faults(alloc, locals, at, out)?;
     Ok(())
 }
 
@@ -111,6 +146,9 @@ fn import_faults(
     let Some(import) = at.checked_sub(1) else {
         return Ok(());
     };
+    if !imports.has_import(import) {
+        return Ok(());
+    }
     clash_fault(imports, import, at, out)?;
     canonical_fault(imports, import, at, out)?;
     imports.pass(alloc, import)?;
@@ -127,6 +165,9 @@ fn static_fault(
     ensures found { (world : worlds.World) → AreStatics world statics.now → OnOk result (AreFaultsOf rules.StaticImports (row_if (has_static_import_fault (rows_of world) (table_of world) at) at) out.old.items out.new.items) }
     ensures others { OnOk result (AreOnly (is_rule rules.StaticImports) out.old.items out.new.items) }
 {
+    if !statics.has_static_import(at) {
+        return Ok(());
+    }
     let is_broken = statics.has_fault(alloc, at)?;
     rule_if(out, is_broken, at, Rule::StaticImports)?;
     Ok(())
@@ -137,6 +178,9 @@ fn access_fault(view: &View, at: u32, out: &mut Vec<Fault>) -> Result<(), OutOfM
     ensures found { views.IsSeenView view.now → OnOk result (AreFaultsOf rules.Access (row_if (access.is_not_accessible (views.rows_in view.now) (views.table_in view.now) (views.types_in view.now) at) at) out.old.items out.new.items) }
     ensures others { OnOk result (AreOnly (is_rule rules.Access) out.old.items out.new.items) }
 {
+    if !is_occurrence(view.sight.world.under.rows, at) {
+        return Ok(());
+    }
     let is_broken = is_not_accessible(view, at);
     rule_if(out, is_broken, at, Rule::Access)?;
     Ok(())

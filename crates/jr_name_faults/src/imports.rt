@@ -100,6 +100,14 @@ impl<'a> Imports<'a> {
         Ok(())
     }
 
+    /// The row is an import.
+    pub fn has_import(&self, at: u32) -> bool
+        ensures { result ≡ plain.is_import (label (tell.rows_of self.now.world.now) at) }
+    {
+        let world = self.world;
+        is_import(world.under.rows, at)
+    }
+
     // The type that an import names.
     fn imported_type(&self, at: u32) -> Option<u32>
         ensures { at + 1 < 2 ^ 32 → result ≡ found.imported_type (tell.rows_of self.now.world.now) (tell.table_of self.now.world.now) at }

@@ -71,6 +71,18 @@ fn is_label(all: &[Row], at: u32) -> bool
     }
 }
 
+// A local, a parameter or a label has a scope.
+fn has_scope(role: Role) -> bool
+    ensures { result ≡ tell.has_scope role }
+{
+    match role {
+        Role::Local => true,
+        Role::Parameter => true,
+        Role::Label => true,
+        _ => false,
+    }
+}
+
 // Where the block of a declaration of locals ends, whose parent is the row: all groups of a switch are one block (JLS 14.11).
 fn block_end(all: &[Row], block: u32) -> u32
     ensures { length all.now < 2 ^ 32 → block < length all.now → rows.parent all.now block < length all.now → result ≡ scope.block_end all.now block }
@@ -181,6 +193,13 @@ impl<'a> Locals<'a> {
         let beside = self.parameters.rows(alloc, over, 0)?;
         self.variables.open_all(self.places, &beside, end);
         Ok(())
+    }
+
+    /// The row declares a local, a parameter or a label.
+    pub fn declares(&self, at: u32) -> bool
+        ensures { result ≡ tell.has_scope (rows.role_at self.now.rows.now at) }
+    {
+        has_scope(role_at(self.rows, at))
     }
 
     // A parameter stands behind another of the name in one list.

@@ -313,6 +313,14 @@ impl<'a> Statics<'a> {
         Ok(is_fault)
     }
 
+    /// The row is a single static import.
+    pub fn has_static_import(&self, at: u32) -> bool
+        ensures { result ≡ is_import_label importing.StaticSingle (label (rows_of self.now.world.now) at) }
+    {
+        let world = self.world;
+        is_static_single(world.under.rows, at)
+    }
+
     /// A single static import brings nothing, or a type of a name that another type has.
     pub fn has_fault(&self, alloc: Global, at: u32) -> Result<bool, OutOfMemory>
         ensures { (world : worlds.World) → tell.AreStatics world self.now → IfOk result (λ is. is ≡ has_static_import_fault (rows_of world) (table_of world) at) }
