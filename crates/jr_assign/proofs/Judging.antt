@@ -17,7 +17,7 @@ use Rattle.jr_assign.specs.Assigned.{Gain, AreAssigned, before_at, gain_at, met_
 use Rattle.jr_assign.specs.Words.{mask_of, mask, words, has_bit, bits_of, IsTold, HasBit, seen_by, sets_by, met_by}
 use Rattle.jr_assign.specs.Confirmed.{is_gain, before_of, is_right_at}
 use Rattle.jr_assign.specs.Judged.{IsJudged, AreJudged, Verdicts, verdict, number, is_owner, is_owned, is_owned_if, is_declared_owned, is_owned_at, are_owned, is_asked, judged_by, judged_at, IsConfirmed}
-use Rattle.jr_assign.proofs.Inside.{both_true, not_true}
+use Rattle.jr_assign.proofs.Inside.{both_true, not_true, eq_true, eq_false}
 use Rattle.jr_assign.proofs.Bits.{each_word}
 
 pub each_below : (n : ℕ) (test : ℕ → Bool) → all_below n test ≡ true → (i : ℕ) → i < n → test i ≡ true
@@ -26,12 +26,6 @@ each_below (suc n) test e i lt = let parts = both_true _ _ e in ⊎_elim (λ sam
 
 same : (x y : ℕ) → nat_eq x y ≡ true → x ≡ y
 same x y e = (Decides-eqb x y).0 e
-
-eq_true : (m n : ℕ) → m ≡ n → nat_eq m n ≡ true
-eq_true m n e = (Decides-eqb m n).1 e
-
-eq_false : (m n : ℕ) → m ≢ n → nat_eq m n ≡ false
-eq_false m n apart = ⊎_elim (λ t. absurd (apart ((Decides-eqb m n).0 t))) (λ f. f) (cases_Bool (nat_eq m n))
 
 -- ---- a variable with a bit
 

@@ -20,7 +20,7 @@ use Rattle.jr_assign.specs.Confirmed.{are_last}
 use Rattle.jr_assign.specs.Judged.{ReadsUnassigned, Verdicts, verdict, AreJudged, is_lost, lost_rows, is_settled, are_settled, AreUnassignedReads}
 use Rattle.jr_assign.specs.Made.{AreLeftBlank}
 use Rattle.jr_assign.proofs.Inside.{both_true}
-use Rattle.jr_assign.proofs.Once.{each_member_once}
+use Rattle.jr_assign.proofs.Following.{each_member_once}
 use Rattle.jr_assign.proofs.Judging.{each_below}
 
 abbrev no_fact : Fact
