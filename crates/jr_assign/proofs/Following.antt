@@ -1,5 +1,5 @@
 -- Where two tables follow the equations round by round, from the same on, they have the same once each row has waited for those before it. So the equations of a member have one solution.
-use Rattle.std.proofs.Common.{◌≡◌, refl, sym, ◌∙◌, ap, ap₂, subst, ⊎_elim, arith, ℕ, zero, suc, ◌+◌, ◌-◌, ◌*◌, ◌<◌, ◌≤◌, Bool, true, false, if◌then◌else◌, length, Some, nat_eq}
+use Rattle.std.proofs.Common.{◌≡◌, refl, sym, ◌∙◌, ap, ap₂, subst, ⊎_elim, arith, ℕ, zero, suc, ◌+◌, ◌-◌, ◌*◌, ◌<◌, ◌≤◌, Bool, true, false, if◌then◌else◌, length, Some}
 use Rattle.std.proofs.lemmas.Bool.{cases_eq, cases_lt, cases_Bool}
 use Rattle.jr_tree.specs.declared.label.Label.TheVariants as is
 use Rattle.jr_tree.specs.Rows.{Rows, label, end}
@@ -131,11 +131,11 @@ module _ {A : Type 0} (s : Sets A) (p : Rows) (tree : IsTree p) (f : Facts) (las
         own zero le = let nested = tree.nested n in absurd (omega arith)
         own (suc k) le = let nested = tree.nested n in
             let same = behind_same s p tree f lasts root there (a k) (b k) n (in_rows n high) (inside k (omega arith)) (e k (omega arith)) (parts n low high) in record {
-          before = e (suc k) (omega arith);
-          done = ha.done k n low high ∙ ap (λ (g : Gain A). g.done) same ∙ sym (hb.done k n low high);
-          yes = ha.yes k n low high ∙ ap (λ (g : Gain A). g.yes) same ∙ sym (hb.yes k n low high);
-          no = ha.no k n low high ∙ ap (λ (g : Gain A). g.no) same ∙ sym (hb.no k n low high);
-        }
+              before = e (suc k) (omega arith);
+              done = ha.done k n low high ∙ ap (λ (g : Gain A). g.done) same ∙ sym (hb.done k n low high);
+              yes = ha.yes k n low high ∙ ap (λ (g : Gain A). g.yes) same ∙ sym (hb.yes k n low high);
+              no = ha.no k n low high ∙ ap (λ (g : Gain A). g.no) same ∙ sym (hb.no k n low high);
+            }
 
         pub whole_row : From (r + 2 * (end p n - n) - 1) n (end p n)
         whole_row k le m from to = let nested = tree.nested n in ⊎_elim (λ at. subst (IsSame (a k) (b k)) at (own k le)) (λ apart. inside k (omega arith) m (omega arith) to) (cases_eq n m)

@@ -2,7 +2,10 @@
 use Rattle.std.proofs.Common.{◌≡◌, ◌≢◌, refl, sym, ◌∙◌, ap, subst, ⊎_elim, arith, ℕ, zero, suc, ◌+◌, ◌<◌, ◌≤◌, Bool, true, false, not, ◌&&◌, length, Some, nat_eq}
 use Rattle.std.proofs.lemmas.Bool.{false≢true, cases_eq, cases_lt, cases_Bool, ltb-true, ltb-false}
 use Rattle.std.proofs.lemmas.Bool.Decides.{Decides-eqb}
-use Rattle.jr_tree.specs.Rows.{Rows, parent, end}
+use Rattle.std.proofs.lemmas.List.{get_or_past}
+use Rattle.jr_tree.specs.declared.label.Label.TheVariants as is
+use Rattle.jr_tree.specs.declared.row.Row.{Row}
+use Rattle.jr_tree.specs.Rows.{Rows, label, parent, end}
 use Rattle.jr_tree.specs.Tree.{IsTree}
 use Rattle.jr_plain.proofs.Children.{IsChild, child_below}
 use Rattle.jr_assign.specs.Changes.{Facts}
@@ -22,6 +25,10 @@ eq_true m n e = (Decides-eqb m n).1 e
 
 pub eq_false : (m n : ℕ) → m ≢ n → nat_eq m n ≡ false
 eq_false m n apart = ⊎_elim (λ t. absurd (apart ((Decides-eqb m n).0 t))) (λ f. f) (cases_Bool (nat_eq m n))
+
+-- past the end nothing stands
+pub past_label : (p : Rows) (n : ℕ) → length p ≤ n → label p n ≡ is.Skip
+past_label p n past = ap (λ (x : Row). x.label) (get_or_past p n _ past)
 
 -- a child of n that holds the row m
 pub record HoldsIn (p : Rows) (n m : ℕ) : Type 0 where

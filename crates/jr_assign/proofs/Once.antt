@@ -11,7 +11,7 @@ use Rattle.jr_plain.proofs.Children.{IsChild}
 use Rattle.jr_assign.specs.declared.fact.Way.{Way}
 use Rattle.jr_assign.specs.declared.fact.Way.TheVariants as way
 use Rattle.jr_assign.specs.Changes.{Facts, fact}
-use Rattle.jr_assign.specs.Sets.{Sets, only, both_of}
+use Rattle.jr_assign.specs.Sets.{Sets, both_of}
 use Rattle.jr_assign.specs.Assigned as tell
 use Rattle.jr_assign.specs.Assigned.{Seen, Gain, first, second, third, last_part, AreAssigned}
 use Rattle.jr_assign.proofs.Inside.{both_true, not_true, eq_true, next_child, first_child, first_starts, next_starts, IsStart, IsLastChild, child_ends, last_tells, before_last}
