@@ -9,7 +9,7 @@ use Rattle.jr_assign.specs.Sets.{only, both_of}
 use Rattle.jr_assign.specs.Assigned.{Seen, AreAssigned, has_last, has_parts, last_part, behind_part, behind_last, is_guarded, passes, passed, arrives, guarded_from, guarded_in}
 use Rattle.jr_assign.specs.Blank.{is_part, is_return, ends_with, EndsSo, IsBefore, HaveParts, EachMakingIsOne}
 use Rattle.jr_assign.proofs.Inside.{child_ends, last_tells, next_child}
-use Rattle.jr_assign.proofs.Once.{each_member_once}
+use Rattle.jr_assign.proofs.Following.{each_member_once}
 
 -- ---- where a member ends
 

@@ -1,8 +1,11 @@
 -- Where the rows inside a row stand.
-use Rattle.std.proofs.Common.{◌≡◌, refl, sym, ◌∙◌, ap, subst, ⊎_elim, arith, ℕ, zero, suc, ◌<◌, ◌≤◌, Bool, true, false, not, ◌&&◌, length, Some}
-use Rattle.std.proofs.lemmas.Bool.{false≢true, cases_eq, cases_lt, ltb-true, ltb-false}
+use Rattle.std.proofs.Common.{◌≡◌, ◌≢◌, refl, sym, ◌∙◌, ap, subst, ⊎_elim, arith, ℕ, zero, suc, ◌+◌, ◌<◌, ◌≤◌, Bool, true, false, not, ◌&&◌, length, Some, nat_eq}
+use Rattle.std.proofs.lemmas.Bool.{false≢true, cases_eq, cases_lt, cases_Bool, ltb-true, ltb-false}
 use Rattle.std.proofs.lemmas.Bool.Decides.{Decides-eqb}
-use Rattle.jr_tree.specs.Rows.{Rows, parent, end}
+use Rattle.std.proofs.lemmas.List.{get_or_past}
+use Rattle.jr_tree.specs.declared.label.Label.TheVariants as is
+use Rattle.jr_tree.specs.declared.row.Row.{Row}
+use Rattle.jr_tree.specs.Rows.{Rows, label, parent, end}
 use Rattle.jr_tree.specs.Tree.{IsTree}
 use Rattle.jr_plain.proofs.Children.{IsChild, child_below}
 use Rattle.jr_assign.specs.Changes.{Facts}
@@ -17,6 +20,16 @@ pub not_true : (a : Bool) → not a ≡ true → a ≡ false
 not_true true e = absurd (false≢true e)
 not_true false e = refl
 
+pub eq_true : (m n : ℕ) → m ≡ n → nat_eq m n ≡ true
+eq_true m n e = (Decides-eqb m n).1 e
+
+pub eq_false : (m n : ℕ) → m ≢ n → nat_eq m n ≡ false
+eq_false m n apart = ⊎_elim (λ t. absurd (apart ((Decides-eqb m n).0 t))) (λ f. f) (cases_Bool (nat_eq m n))
+
+-- past the end nothing stands
+pub past_label : (p : Rows) (n : ℕ) → length p ≤ n → label p n ≡ is.Skip
+past_label p n past = ap (λ (x : Row). x.label) (get_or_past p n _ past)
+
 -- a child of n that holds the row m
 pub record HoldsIn (p : Rows) (n m : ℕ) : Type 0 where
   pub at : ℕ
@@ -28,6 +41,10 @@ pub record HoldsIn (p : Rows) (n m : ℕ) : Type 0 where
 pub record IsLastChild (p : Rows) (n c : ℕ) : Type 0 where
   pub child : IsChild p n c
   pub last : (m : ℕ) → IsChild p n m → m ≤ c
+
+-- a row stands there that is a child of n, or n has ended
+abbrev pub IsStart : Rows → ℕ → ℕ → Type 0
+IsStart p n m = m < end p n → IsChild p n m
 
 module _ (p : Rows) (tree : IsTree p) where
   pub inside_ends : (n m : ℕ) → n < length p → m < end p n → m < length p
@@ -89,3 +106,27 @@ module _ (p : Rows) (tree : IsTree p) where
       let low = h.low in let high = h.high in
       let next = next_child n h.at c h.child (omega arith) last.child in
       ⊎_elim (λ e. subst (λ x. end p x ≤ c) e next) (λ apart. let ends = tree.apart h.at m (omega arith) high in omega arith) (cases_eq h.at m)
+
+  -- ---- where a child of a row may begin
+
+  pub first_child : (n : ℕ) → n < length p → n + 1 < end p n → IsChild p n (n + 1)
+  first_child n there inside = let most = tree.last n there in let over = tree.inner n (n + 1) (omega arith) inside in let up = tree.up (n + 1) (omega arith) (omega arith) in (omega arith, omega arith)
+
+  pub first_starts : (n : ℕ) → n < length p → IsStart p n (n + 1)
+  first_starts n there inside = first_child n there inside
+
+  pub next_starts : (n k : ℕ) → n < length p → IsChild p n k → IsStart p n (end p k)
+  next_starts n k there child inside =
+      let after = child.0 in let nested = tree.nested k in
+      let h = holds_in (end p k) n (end p k) (omega arith) there (omega arith) inside in
+      let low = h.low in let high = h.high in
+      ⊎_elim (λ at. subst (IsChild p n) at h.child)
+      (λ apart. ⊎_elim
+      (λ lt. let next = next_child n k h.at child lt h.child in absurd (omega arith))
+      (λ le. ⊎_elim (λ same. let ends = ap (end p) same in absurd (omega arith)) (λ less. let next = next_child n h.at k h.child (omega arith) child in absurd (omega arith)) (cases_eq h.at k))
+      (cases_lt k h.at))
+      (cases_eq h.at (end p k))
+
+  -- no child goes past it
+  pub ends_before : (n k m : ℕ) → m ≤ end p n → IsStart p n m → IsChild p n k → k < m → end p k ≤ m
+  ends_before n k m within starts child lt = let ends = (child_ends n k child).1 in ⊎_elim (λ inside. next_child n k m child lt (starts inside)) (λ le. omega arith) (cases_lt m (end p n))

@@ -1,23 +1,26 @@
--- What a confirmed table says of the rows of a member.
+-- What the table of a member says of its rows.
 use Rattle.std.proofs.Common.{◌≡◌, ◌≢◌, refl, sym, ◌∙◌, ap, subst, ⊎_elim, arith, ℕ, zero, suc, ◌+◌, ◌-◌, ◌*◌, ◌%◌, ◌^◌, ◌<◌, ◌≤◌, Bool, true, false, not, ◌&&◌, if◌then◌else◌, List, [], ◌∷◌, length, Option, Some, None, nat_eq, nat_lt, bit_and, slice_index_or, slice_set}
 use Rattle.std.specs.Int.{bit_at}
-use Rattle.std.proofs.lemmas.Bool.{false≢true, cases_eq, cases_lt, cases_Bool, ltb-true, ltb-false}
+use Rattle.std.proofs.lemmas.Bool.{false≢true, cases_eq, cases_lt, ltb-true, ltb-false, le-ltb}
 use Rattle.std.proofs.lemmas.Bool.Decides.{Decides-eqb}
-use Rattle.std.proofs.lemmas.List.{get_or-set_same, get_or-set_other}
+use Rattle.std.proofs.lemmas.List.{get_or_past, get_or-set_same, get_or-set_other}
 use Rattle.std.proofs.lemmas.Nat.{one_shl, pow_pos}
 use Rattle.std.proofs.lemmas.Nat.Bits.{and_pow, bit_at-zero, bit_at-lt, bit_at-pow_same, bit_at-pow_other}
 use Rattle.jr_tree.specs.declared.label.Label.{Label}
 use Rattle.jr_tree.specs.declared.label.Label.TheVariants as is
-use Rattle.jr_tree.specs.Rows.{label, end}
+use Rattle.jr_tree.specs.declared.row.Row.{Row}
+use Rattle.jr_tree.specs.Rows.{Rows, label, end}
+use Rattle.jr_assign.specs.declared.fact.Fact.{Fact}
 use Rattle.jr_plain.specs.Search.{all_below}
 use Rattle.jr_assign.specs.declared.course.Course.{Course}
-use Rattle.jr_assign.specs.Changes.{fact, member_in}
+use Rattle.jr_assign.specs.Changes.{Facts, fact, member_in}
 use Rattle.jr_assign.specs.Sets.{only}
-use Rattle.jr_assign.specs.Assigned.{Gain, AreAssigned, before_at, gain_at, met_at, guarded_in, is_row}
-use Rattle.jr_assign.specs.Words.{mask_of, mask, words, has_bit, bits_of, IsTold, HasBit, seen_by, sets_by, met_by}
-use Rattle.jr_assign.specs.Confirmed.{is_gain, before_of, is_right_at}
+use Rattle.jr_assign.specs.Assigned.{Seen, AreAssigned, has_last, has_parts, is_last, is_row, solved}
+use Rattle.jr_assign.specs.Words.{mask_of, mask, has_bit, bits_of, IsTold, HasBit, seen_by, sets_by}
+use Rattle.jr_assign.specs.Confirmed.{are_last, IsWhole}
 use Rattle.jr_assign.specs.Judged.{IsJudged, AreJudged, Verdicts, verdict, number, is_owner, is_owned, is_owned_if, is_declared_owned, is_owned_at, are_owned, is_asked, judged_by, judged_at, IsConfirmed}
-use Rattle.jr_assign.proofs.Inside.{both_true, not_true}
+use Rattle.jr_assign.proofs.Inside.{both_true, not_true, eq_true, eq_false}
+use Rattle.jr_assign.proofs.Following.{solves}
 use Rattle.jr_assign.proofs.Bits.{each_word}
 
 pub each_below : (n : ℕ) (test : ℕ → Bool) → all_below n test ≡ true → (i : ℕ) → i < n → test i ≡ true
@@ -26,12 +29,6 @@ each_below (suc n) test e i lt = let parts = both_true _ _ e in ⊎_elim (λ sam
 
 same : (x y : ℕ) → nat_eq x y ≡ true → x ≡ y
 same x y e = (Decides-eqb x y).0 e
-
-eq_true : (m n : ℕ) → m ≡ n → nat_eq m n ≡ true
-eq_true m n e = (Decides-eqb m n).1 e
-
-eq_false : (m n : ℕ) → m ≢ n → nat_eq m n ≡ false
-eq_false m n apart = ⊎_elim (λ t. absurd (apart ((Decides-eqb m n).0 t))) (λ f. f) (cases_Bool (nat_eq m n))
 
 -- ---- a variable with a bit
 
@@ -129,35 +126,54 @@ bit_tested x m k e = ap (λ m. not (nat_eq (bit_and x m) 0)) e ∙ ap (λ b. not
     by (suc zero) lt = ap not (eq_false (1 * 2 ^ k) 0 (λ e. let some = pow_pos k in absurd (omega arith)))
     by (suc (suc b)) lt = absurd (omega arith)
 
--- ---- a table that is confirmed
+-- ---- rows that are a tree, with parts that are known
+
+abbrev no_fact : Fact
+no_fact = record { truth = None; way = None; last = None; has_default = false; read = None; assigned = None }
+
+pub none_some : {A : Type 0} {x : A} → None ≡ Some x → ⊥
+none_some e = cc
+
+module _ (p : Rows) (f : Facts) (lasts : are_last p f ≡ true) where
+  as_long : length f ≡ length p
+  as_long = (Decides-eqb (length f) (length p)).0 (both_true _ _ lasts).0
+
+  pub has_each_last : (n : ℕ) → has_last p f n ≡ true
+  has_each_last n = ⊎_elim (λ lt. each_below (length p) (has_last p f) (both_true _ _ lasts).1 n lt) (λ past. by past) (cases_lt n (length p))
+    where
+      past_end : (e : ℕ) → e ≡ n + 1 → not (nat_lt (n + 1) e) ≡ true
+      past_end e is = ap not (le-ltb (n + 1) e (omega arith))
+
+      by : length p ≤ n → has_last p f n ≡ true
+      by past = let long = as_long in ap (λ o. is_last o p n) (ap (λ (x : Fact). x.last) (get_or_past f n no_fact (omega arith))) ∙ past_end (end p n) (ap (λ (x : Row). x.end) (get_or_past p n _ past))
+
+  pub read_within : (n : ℕ) {v : ℕ} → (fact f n).read ≡ Some v → n < length p
+  read_within n e = ⊎_elim (λ lt. lt) (λ past. let long = as_long in absurd (none_some (sym (ap (λ (x : Fact). x.read) (get_or_past f n no_fact (omega arith))) ∙ e))) (cases_lt n (length p))
+
+-- ---- the table of a member
+
+module _ (c : Course) (start : ℕ) (owners : List (Option ℕ)) (sure : IsConfirmed c start owners) (whole : IsWhole c.rows.now c.facts.now) (there : c.root < length c.rows.now) where
+  pub parts_in : (n : ℕ) → c.root ≤ n → n < end c.rows.now c.root → has_parts c.rows.now c.facts.now n ≡ true
+  parts_in n low high = let most = whole.tree.last c.root there in each_below (length c.rows.now) (has_parts c.rows.now c.facts.now) whole.parts n (omega arith)
+
+  abbrev pub solution : ℕ → Seen ℕ
+  solution = solved (sets_by c) c.rows.now c.facts.now c.root start
+
+  pub is_solution : AreAssigned (sets_by c) c.rows.now c.facts.now c.root start solution
+  is_solution = solves (sets_by c) c.rows.now whole.tree c.facts.now (has_each_last c.rows.now c.facts.now whole.lasts) c.root there parts_in start
+
+  -- it is what the code has found
+  pub found : (n : ℕ) → c.root ≤ n → n < end c.rows.now c.root → seen_by c n ≡ solution n
+  found = sure.table.each solution (record {
+    tree = whole.tree;
+    there = there;
+    lasts = has_each_last c.rows.now c.facts.now whole.lasts;
+    parts = parts_in;
+    guarded = sure.guarded;
+    assigned = is_solution;
+  })
 
 module _ (c : Course) (start : ℕ) (owners : List (Option ℕ)) (sure : IsConfirmed c start owners) where
-  right_at : (n : ℕ) → c.root ≤ n → n < end c.rows.now c.root → is_right_at c start n ≡ true
-  right_at n low high = let back : c.root + (n - c.root) ≡ n = omega arith in subst (λ n. is_right_at c start n ≡ true) back
-      (each_below (end c.rows.now c.root - c.root) (λ i. is_right_at c start (c.root + i)) sure.right (n - c.root) (omega arith))
-
-  before_is : (n : ℕ) → c.root ≤ n → n < end c.rows.now c.root → (seen_by c n).before ≡ before_of c start n
-  before_is n low high = same _ _ (both_true _ _ (both_true _ _ (right_at n low high)).1).0
-
-  abbrev gain : ℕ → Gain ℕ
-  gain n = gain_at (sets_by c) c.rows.now c.facts.now (seen_by c) (met_by c) n
-
-  gain_is : (n : ℕ) → c.root ≤ n → n < end c.rows.now c.root → is_gain (gain n) (seen_by c n) ≡ true
-  gain_is n low high = (both_true _ _ (both_true _ _ (right_at n low high)).1).1
-
-  of_guarded : (n : ℕ) → gain n ≡ gain_at (sets_by c) c.rows.now c.facts.now (seen_by c) (met_at (sets_by c) c.rows.now c.facts.now (guarded_in c.rows.now c.root) (seen_by c)) n
-  of_guarded n = ap (λ ts. gain_at (sets_by c) c.rows.now c.facts.now (seen_by c) (met_at (sets_by c) c.rows.now c.facts.now ts (seen_by c)) n) sure.guarded
-
-  pub are_assigned : c.root < end c.rows.now c.root → AreAssigned (words c.numbers.now c.from) c.rows.now c.facts.now c.root start (seen_by c)
-  are_assigned some = record {
-    begins = before_is c.root (omega arith) some ∙ ap (λ b. if b then start else before_at (sets_by c) c.rows.now c.facts.now (seen_by c) (met_by c) c.root) (eq_true c.root c.root refl);
-    before = λ n low high. before_is n (omega arith) high ∙ ap (λ b. if b then start else before_at (sets_by c) c.rows.now c.facts.now (seen_by c) (met_by c) n) (eq_false n c.root (λ e. absurd (omega arith)))
-        ∙ ap (λ ts. before_at (sets_by c) c.rows.now c.facts.now (seen_by c) (met_at (sets_by c) c.rows.now c.facts.now ts (seen_by c)) n) sure.guarded;
-    done = λ n low high. same _ _ (both_true _ _ (gain_is n low high)).0 ∙ ap (λ (g : Gain ℕ). g.done) (of_guarded n);
-    yes = λ n low high. same _ _ (both_true _ _ (both_true _ _ (gain_is n low high)).1).0 ∙ ap (λ (g : Gain ℕ). g.yes) (of_guarded n);
-    no = λ n low high. same _ _ (both_true _ _ (both_true _ _ (gain_is n low high)).1).1 ∙ ap (λ (g : Gain ℕ). g.no) (of_guarded n);
-  }
-
   module _ (held : List ℕ) (v n : ℕ) (read : (fact c.facts.now n).read ≡ Some v) (asked : is_asked c start owners held v n ≡ true) (low : c.root ≤ n) (high : n < end c.rows.now c.root) where
     asks : (not (nat_eq (mask c.numbers.now c.from v) 0) ≡ true) × ((nat_eq (bit_and start (mask c.numbers.now c.from v)) 0 && (is_owned c owners v && nat_eq (member_in held n) c.root)) ≡ true)
     asks = both_true _ _ asked
@@ -174,18 +190,24 @@ module _ (c : Course) (start : ℕ) (owners : List (Option ℕ)) (sure : IsConfi
     unset : has_bit (bit.number - c.from) start ≡ false
     unset = sym (bit_tested start (mask c.numbers.now c.from v) (bit.number - c.from) bit.mask) ∙ ap not (both_true _ _ asks.1).0
 
-    judged : IsJudged c.rows.now c.facts.now (member_in held n) n (not (nat_eq (bit_and (seen_by c n).before (mask c.numbers.now c.from v)) 0))
-    judged = subst (λ root. IsJudged c.rows.now c.facts.now root n (not (nat_eq (bit_and (seen_by c n).before (mask c.numbers.now c.from v)) 0))) (sym holder) (record {
-      variable = v;
-      read = read;
-      table = bits_of (bit.number - c.from) (seen_by c);
-      assigned = subst (λ b. AreAssigned (only v) c.rows.now c.facts.now c.root b (bits_of (bit.number - c.from) (seen_by c))) unset
-          (each_word c.numbers.now c.from v (bit.number - c.from) c.rows.now c.facts.now c.root start (seen_by c) (has_bit_of c owners v bit owned sure.owned) (are_assigned (omega arith)));
-      parts = λ m from to. (both_true _ _ (right_at m from to)).0;
-      low = low;
-      high = high;
-      is = sym (bit_tested (seen_by c n).before (mask c.numbers.now c.from v) (bit.number - c.from) bit.mask);
-    })
+    module _ (whole : IsWhole c.rows.now c.facts.now) where
+      there : c.root < length c.rows.now
+      there = let lt = read_within c.rows.now c.facts.now whole.lasts n read in omega arith
+
+      judged : IsJudged c.rows.now c.facts.now (member_in held n) n (not (nat_eq (bit_and (seen_by c n).before (mask c.numbers.now c.from v)) 0))
+      judged = subst (λ root. IsJudged c.rows.now c.facts.now root n (not (nat_eq (bit_and (seen_by c n).before (mask c.numbers.now c.from v)) 0))) (sym holder) (record {
+        variable = v;
+        read = read;
+        table = bits_of (bit.number - c.from) (solution c start owners sure whole there);
+        assigned = subst (λ b. AreAssigned (only v) c.rows.now c.facts.now c.root b (bits_of (bit.number - c.from) (solution c start owners sure whole there))) unset
+            (each_word c.numbers.now c.from v (bit.number - c.from) c.rows.now c.facts.now c.root start (solution c start owners sure whole there) (has_bit_of c owners v bit owned sure.owned)
+            (is_solution c start owners sure whole there));
+        parts = parts_in c start owners sure whole there;
+        low = low;
+        high = high;
+        is = ap (λ (x : Seen ℕ). has_bit (bit.number - c.from) x.before) (sym (found c start owners sure whole there n low high))
+            ∙ sym (bit_tested (seen_by c n).before (mask c.numbers.now c.from v) (bit.number - c.from) bit.mask);
+      })
 
 -- a verdict more
 pub verdict_more : (P : ℕ → Bool → Type 0) (old : Verdicts) (n : ℕ) (x : Bool) → ((m : ℕ) (b : Bool) → verdict old m ≡ Some b → P m b) → P n x → (m : ℕ) (b : Bool) → verdict (slice_set old n (Some x)) m ≡ Some b → P m b
@@ -210,8 +232,8 @@ pub judged_more : (c : Course) (start : ℕ) (owners : List (Option ℕ)) (held 
     → AreJudged c.rows.now c.facts.now held old → new ≡ judged_at c start owners held n old → AreJudged c.rows.now c.facts.now held new
 judged_more c start owners held sure n low high old new are is = subst (AreJudged c.rows.now c.facts.now held) (sym is) (by (fact c.facts.now n).read refl)
   where
-    put : (x : Bool) → IsJudged c.rows.now c.facts.now (member_in held n) n x → AreJudged c.rows.now c.facts.now held (slice_set old n (Some x))
-    put x judged = record { each = verdict_more (λ m b. IsJudged c.rows.now c.facts.now (member_in held m) m b) old n x are.each judged }
+    put : (x : Bool) → (IsWhole c.rows.now c.facts.now → IsJudged c.rows.now c.facts.now (member_in held n) n x) → AreJudged c.rows.now c.facts.now held (slice_set old n (Some x))
+    put x judged = record { each = λ whole. verdict_more (λ m b. IsJudged c.rows.now c.facts.now (member_in held m) m b) old n x (are.each whole) (judged whole) }
 
     choose : (v : ℕ) → (fact c.facts.now n).read ≡ Some v → (b : Bool) → is_asked c start owners held v n ≡ b
         → AreJudged c.rows.now c.facts.now held (if b then slice_set old n (Some (not (nat_eq (bit_and (seen_by c n).before (mask c.numbers.now c.from v)) 0))) else old)

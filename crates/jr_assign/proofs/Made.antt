@@ -2,10 +2,7 @@
 use Rattle.std.proofs.Common.{◌≡◌, refl, sym, ◌∙◌, ap, subst, ⊎_elim, arith, ℕ, ◌+◌, ◌-◌, ◌<◌, ◌≤◌, Bool, true, false, if◌then◌else◌, List, length, Option, Some, None, replicate}
 use Rattle.std.proofs.lemmas.Bool.{false≢true, cases_eq, cases_lt}
 use Rattle.std.proofs.lemmas.Bool.Decides.{Decides-eqb}
-use Rattle.std.proofs.lemmas.List.{get_or_past}
-use Rattle.jr_tree.specs.declared.label.Label.TheVariants as is
-use Rattle.jr_tree.specs.declared.row.Row.{Row}
-use Rattle.jr_tree.specs.Rows.{Rows, label, parent, end}
+use Rattle.jr_tree.specs.Rows.{Rows, parent, end}
 use Rattle.jr_tree.specs.Tree.{IsTree}
 use Rattle.jr_plain.proofs.Children.{child_below}
 use Rattle.jr_plain.proofs.Searches.{lists}
@@ -14,26 +11,33 @@ use Rattle.jr_rule.specs.declared.Rule.TheVariants as rule
 use Rattle.jr_rule.specs.Faults.{AreFaultsOf}
 use Rattle.jr_assign.specs.Changes.{Facts, field_body}
 use Rattle.jr_assign.specs.Assigned.{has_last, has_parts}
-use Rattle.jr_assign.specs.Confirmed.{are_last}
+use Rattle.jr_assign.specs.Confirmed.{IsWhole}
 use Rattle.jr_assign.specs.Judged.{Verdicts, verdict, is_lost, is_settled}
-use Rattle.jr_assign.specs.Blank.{is_constructor, is_first, is_blank_in, is_blank, IsBefore, IsLeftBlank, HaveParts}
-use Rattle.jr_assign.specs.Made.{IsBuilt, IsMade, AreFieldsJudged, blank_field, left_rows, are_fields_settled, have_parts, AreLeftBlank}
-use Rattle.jr_assign.proofs.Inside.{both_true, inside_ends}
-use Rattle.jr_assign.proofs.Judging.{each_below}
+use Rattle.jr_assign.specs.Blank.{is_first, is_blank_in, is_blank, IsBefore, IsLeftBlank, HaveParts}
+use Rattle.jr_assign.specs.Made.{IsBuilt, IsMade, AreFieldsJudged, blank_field, left_rows, are_fields_settled, AreLeftBlank}
+use Rattle.jr_assign.proofs.Inside.{both_true, inside_ends, past_label}
+use Rattle.jr_assign.proofs.Judging.{each_below, has_each_last}
+use Rattle.jr_assign.proofs.Ended.{first_within}
 use Rattle.jr_assign.proofs.Blank.{ends_once, before_once}
-use Rattle.jr_assign.proofs.Unassigned.{has_each_last, no_verdict}
+use Rattle.jr_assign.proofs.Unassigned.{no_verdict}
 
 -- ---- rows past the end
-
-past_label : (p : Rows) (n : ℕ) → length p ≤ n → label p n ≡ is.Skip
-past_label p n past = ap (λ (x : Row). x.label) (get_or_past p n _ past)
 
 blank_within : (p : Rows) (v : ℕ) → is_blank p v ≡ true → v < length p
 blank_within p v e = ⊎_elim (λ lt. lt) (λ past. absurd (false≢true (sym (ap (λ l. is_blank_in l p v) (past_label p v past)) ∙ e))) (cases_lt v (length p))
 
 -- ---- what is found of a field, and the rule
 
-module _ (p : Rows) (f : Facts) (tree : IsTree p) (lasts : (n : ℕ) → has_last p f n ≡ true) (parts : (n : ℕ) → n < length p → has_parts p f n ≡ true) where
+module _ (p : Rows) (f : Facts) (whole : IsWhole p f) where
+  abbrev tree : IsTree p
+  tree = whole.tree
+
+  lasts : (n : ℕ) → has_last p f n ≡ true
+  lasts = has_each_last p f whole.lasts
+
+  parts : (n : ℕ) → n < length p → has_parts p f n ≡ true
+  parts = each_below (length p) (has_parts p f) whole.parts
+
   body_parts : (body : ℕ) → HaveParts p f body
   body_parts body k up low = let inside = child_below p tree body k (low, up) in (inside, λ n from to. parts n (inside_ends p tree k n inside to))
 
@@ -44,8 +48,8 @@ module _ (p : Rows) (f : Facts) (tree : IsTree p) (lasts : (n : ℕ) → has_las
     high : c < body + (end p body - body)
 
   stands_in : (body c : ℕ) → is_first p body c ≡ true → StandsIn body c
-  stands_in body c first = let tests = both_true _ _ first in let up = (Decides-eqb (parent p c) body).0 (both_true _ _ tests.1).0 in
-      let there = ⊎_elim (λ lt. lt) (λ past. absurd (false≢true (sym (ap is_constructor (past_label p c past)) ∙ tests.0))) (cases_lt c (length p)) in
+  stands_in body c first = let up : parent p c ≡ body = (Decides-eqb (parent p c) body).0 (both_true _ _ (both_true _ _ first).1).0 in
+      let there = first_within p body c first in
       ⊎_elim (λ at. first_row there at up) (λ apart. inside there (omega arith) up) (cases_eq c 0)
     where
       first_row : c < length p → c ≡ 0 → parent p c ≡ body → StandsIn body c
@@ -74,7 +78,7 @@ module _ (p : Rows) (f : Facts) (tree : IsTree p) (lasts : (n : ℕ) → has_las
     lost_left v false w e k h = absurd (false≢true h)
     lost_left v true None e k h = absurd (false≢true h)
     lost_left v true (Some true) e k h = absurd (false≢true h)
-    lost_left v true (Some false) e k h = made_left v e false refl (judged.each v false k)
+    lost_left v true (Some false) e k h = made_left v e false refl (judged.each whole v false k)
 
     is_blank_of : (v : ℕ) → IsLeftBlank p f v → is_blank p v ≡ true
     is_blank_of v (IsLeftBlank.of_class blank static before) = blank
@@ -84,7 +88,7 @@ module _ (p : Rows) (f : Facts) (tree : IsTree p) (lasts : (n : ℕ) → has_las
     left_lost v left false w e k s = absurd (false≢true (sym e ∙ is_blank_of v left))
     left_lost v left true None e k s = absurd (false≢true s)
     left_lost v left true (Some false) e k s = refl
-    left_lost v left true (Some true) e k s = absurd (made_not v true refl (judged.each v true k) left)
+    left_lost v left true (Some true) e k s = absurd (made_not v true refl (judged.each whole v true k) left)
 
     within : (v : ℕ) → IsLeftBlank p f v → v < length p
     within v left = blank_within p v (is_blank_of v left)
@@ -100,9 +104,9 @@ module _ (p : Rows) (f : Facts) (tree : IsTree p) (lasts : (n : ℕ) → has_las
     }
 
 pub blanks_told : (p : Rows) (f : Facts) (all : Verdicts) → are_fields_settled p all ≡ true → (old new : List Fault) → AreFaultsOf rule.UnassignedFinal (left_rows p all) old new
-    → IsTree p → are_last p f ≡ true → have_parts p f ≡ true → AreFieldsJudged p f all → AreLeftBlank p f old new
-blanks_told p f all settled old new are tree lasts parts judged = blanks_by p f tree (has_each_last p f tree lasts) (each_below (length p) (has_parts p f) parts) all judged settled old new are
+    → IsWhole p f → AreFieldsJudged p f all → AreLeftBlank p f old new
+blanks_told p f all settled old new are whole judged = blanks_by p f whole all judged settled old new are
 
 -- what is judged of all fields, from nothing on
 pub fields_judged : (p : Rows) (f : Facts) (none found seen : Verdicts) → none ≡ replicate (length p) None → (AreFieldsJudged p f none → AreFieldsJudged p f found) → seen ≡ found → AreFieldsJudged p f seen
-fields_judged p f none found seen n more s = subst (AreFieldsJudged p f) (sym s) (more (record { each = λ v b e. absurd (no_verdict (length p) none v n e) }))
+fields_judged p f none found seen n more s = subst (AreFieldsJudged p f) (sym s) (more (record { each = λ whole v b e. absurd (no_verdict (length p) none v n e) }))

@@ -1,4 +1,4 @@
--- What is assigned before and behind a row depends on what is so before it alone, so the equations of a member have one solution.
+-- What is assigned before and behind a row depends on what is so before it alone.
 use Rattle.std.proofs.Common.{◌≡◌, refl, sym, ◌∙◌, ap, ap₂, subst, ⊎_elim, arith, ℕ, zero, suc, ◌+◌, ◌-◌, ◌<◌, ◌≤◌, Bool, true, false, not, ◌&&◌, if◌then◌else◌, List, [], ◌∷◌, length, Option, Some, None, nat_eq, nat_lt}
 use Rattle.std.proofs.lemmas.Bool.{false≢true, cases_eq, cases_lt, cases_Bool, ltb-true, lt-ltb, ltb-false}
 use Rattle.std.proofs.lemmas.Bool.Decides.{Decides-eqb}
@@ -11,13 +11,10 @@ use Rattle.jr_plain.proofs.Children.{IsChild}
 use Rattle.jr_assign.specs.declared.fact.Way.{Way}
 use Rattle.jr_assign.specs.declared.fact.Way.TheVariants as way
 use Rattle.jr_assign.specs.Changes.{Facts, fact}
-use Rattle.jr_assign.specs.Sets.{Sets, only, both_of}
+use Rattle.jr_assign.specs.Sets.{Sets, both_of}
 use Rattle.jr_assign.specs.Assigned as tell
 use Rattle.jr_assign.specs.Assigned.{Seen, Gain, first, second, third, last_part, AreAssigned}
-use Rattle.jr_assign.proofs.Inside.{next_child, both_true, not_true, IsLastChild, child_ends, holds_in, last_tells, in_last, before_last}
-
-eq_true : (m n : ℕ) → m ≡ n → nat_eq m n ≡ true
-eq_true m n e = (Decides-eqb m n).1 e
+use Rattle.jr_assign.proofs.Inside.{both_true, not_true, eq_true, next_child, first_child, first_starts, next_starts, IsStart, IsLastChild, child_ends, last_tells, before_last}
 
 if_same : {A : Type 0} {x x' y y' : A} (b : Bool) → (b ≡ true → x ≡ x') → (b ≡ false → y ≡ y') → (if b then x else y) ≡ (if b then x' else y')
 if_same true h k = h refl
@@ -29,6 +26,24 @@ module _ {A : Type 0} (s : Sets A) where
   both_of_same test v w (suc k) h = let more = both_of_same test v w k (λ i lt t. h i (omega arith) t) in
       if_same (test k) (λ t. ap₂ s.both more (h k (omega arith) t)) (λ f. more)
 
+-- two tables have the same at a row, and at all rows of an interval
+pub record IsSame {A : Type 0} (a b : ℕ → Seen A) (n : ℕ) : Type 0 where
+  pub before : (a n).before ≡ (b n).before
+  pub done : (a n).done ≡ (b n).done
+  pub yes : (a n).yes ≡ (b n).yes
+  pub no : (a n).no ≡ (b n).no
+
+abbrev pub AreSame : {A : Type 0} → (ℕ → Seen A) → (ℕ → Seen A) → ℕ → ℕ → Type 0
+AreSame a b low high = (m : ℕ) → low ≤ m → m < high → IsSame a b m
+
+abbrev pub is_for : Label → Bool
+is_for (is.For has_first has_condition) = true
+is_for _ = false
+
+pub for_tells : (l : Label) → is_for l ≡ true → (has_first : Bool) × (has_condition : Bool) × (l ≡ is.For has_first has_condition)
+for_tells (is.For has_first has_condition) h = (has_first, has_condition, refl)
+for_tells _ h = absurd (false≢true h)
+
 module _ {A : Type 0} (s : Sets A) (p : Rows) (tree : IsTree p) (f : Facts) (lasts : (n : ℕ) → tell.has_last p f n ≡ true) (root : ℕ) (there : root < length p) (a b : ℕ → Seen A) where
   abbrev ma : ℕ → tell.Met A
   ma = tell.met_at s p f (tell.guarded_in p root) a
@@ -36,15 +51,11 @@ module _ {A : Type 0} (s : Sets A) (p : Rows) (tree : IsTree p) (f : Facts) (las
   abbrev mb : ℕ → tell.Met A
   mb = tell.met_at s p f (tell.guarded_in p root) b
 
-  pub record Same (n : ℕ) : Type 0 where
-    pub before : (a n).before ≡ (b n).before
-    pub done : (a n).done ≡ (b n).done
-    pub yes : (a n).yes ≡ (b n).yes
-    pub no : (a n).no ≡ (b n).no
+  abbrev Same : ℕ → Type 0
+  Same n = IsSame a b n
 
-  -- all rows of an interval
   abbrev AllSame : ℕ → ℕ → Type 0
-  AllSame low high = (m : ℕ) → low ≤ m → m < high → Same m
+  AllSame low high = AreSame a b low high
 
   last_same : (n low high : ℕ) → AllSame low high → low ≤ n → n < high → end p n ≤ high → tell.behind_last f a n ≡ tell.behind_last f b n
   last_same n low high all le lt ends = by (last_part f n) refl
@@ -221,9 +232,6 @@ module _ {A : Type 0} (s : Sets A) (p : Rows) (tree : IsTree p) (f : Facts) (las
 
   -- ---- before a row that stands right in another
 
-  first_child : (n : ℕ) → n < length p → n + 1 < end p n → IsChild p n (n + 1)
-  first_child n in_p inside = let most = tree.last n in_p in let over = tree.inner n (n + 1) (omega arith) inside in let up = tree.up (n + 1) (omega arith) (omega arith) in (omega arith, omega arith)
-
   module _ (n : ℕ) (in_p : n < length p) (start : (a n).before ≡ (b n).before) (c : ℕ) (child : IsChild p n c) (so_far : AllSame (n + 1) c) where
     in_end : c < end p n
     in_end = (child_ends p tree n c child).0
@@ -246,7 +254,7 @@ module _ {A : Type 0} (s : Sets A) (p : Rows) (tree : IsTree p) (f : Facts) (las
     do_same : label p n ≡ is.Do → tell.in_do s p f a ma n c ≡ tell.in_do s p f b mb n c
     do_same is_do = if_same (nat_eq c (first n)) (λ t. start) (λ e. let after = child.0 in ⊎_elim
         (λ same. absurd (false≢true (sym e ∙ eq_true c (n + 1) same)))
-        (λ apart. let here = in_end in let one = first_child n in_p (omega arith) in let next = next_child p tree n (n + 1) c one (omega arith) child in
+        (λ apart. let here = in_end in let one = first_child p tree n in_p (omega arith) in let next = next_child p tree n (n + 1) c one (omega arith) child in
         ap₂ s.both (continued_in_first n in_p is_do one (λ m le lt. so_far m le (omega arith))) (behind_first e).done)
         (cases_eq c (n + 1)))
 
@@ -283,34 +291,15 @@ module _ {A : Type 0} (s : Sets A) (p : Rows) (tree : IsTree p) (f : Facts) (las
     before_same fors = ap (λ x. tell.declared s (label p c) c x)
         (subst (λ q. tell.before_in s p f a ma (label p q) q c ≡ tell.before_in s p f b mb (label p q) q c) (sym child.1) (in_same fors (label p n) refl))
 
-  -- ---- all rows
+  -- ---- a child of a row, by what stands before it
 
-  -- from child to child, up to a limit
-  fill : (n limit : ℕ) → n < length p → limit ≤ end p n → ((c : ℕ) → IsChild p n c → c < limit → AllSame (n + 1) c → AllSame c (end p c)) → (k : ℕ) → k ≤ limit → AllSame (n + 1) k
-  fill n limit in_p most step zero le m low high = absurd (omega arith)
-  fill n limit in_p most step (suc k) le m low high = let before = fill n limit in_p most step k (omega arith) in ⊎_elim
-      (λ lt. before m low lt)
-      (λ last. let h = holds_in p tree m n m (omega arith) in_p (omega arith) (omega arith) in let under = h.low in
-      step h.at h.child (omega arith) (λ i from less. before i from (omega arith)) m under h.high)
-      (cases_lt m k)
+  module _ (n : ℕ) (in_p : n < length p) (e : (a n).before ≡ (b n).before) where
+    pub in_turn : is_for (label p n) ≡ false → (c : ℕ) → IsChild p n c → AllSame (n + 1) c → tell.before_at s p f a ma c ≡ tell.before_at s p f b mb c
+    in_turn no_for c child so_far = before_same n in_p e c child so_far (λ h k is_for_so. absurd (false≢true (sym no_for ∙ ap is_for is_for_so)))
 
-  abbrev is_for : Label → Bool
-  is_for (is.For has_first has_condition) = true
-  is_for _ = false
-
-  for_tells : (l : Label) → is_for l ≡ true → (has_first : Bool) × (has_condition : Bool) × (l ≡ is.For has_first has_condition)
-  for_tells (is.For has_first has_condition) h = (has_first, has_condition, refl)
-  for_tells _ h = absurd (false≢true h)
-
-  -- all rows inside a row, where each child whose equation gives the same is the same
-  module _ (n : ℕ) (in_p : n < length p) (e : (a n).before ≡ (b n).before) (parts_n : tell.has_parts p f n ≡ true)
-      (child_same : (c : ℕ) → IsChild p n c → tell.before_at s p f a ma c ≡ tell.before_at s p f b mb c → AllSame c (end p c)) where
-    in_turn : is_for (label p n) ≡ false → AllSame (n + 1) (end p n)
-    in_turn no_for = fill n (end p n) in_p (omega arith) (λ c child lt so_far. child_same c child (before_same n in_p e c child so_far (λ h k is_for_so. absurd (false≢true (sym no_for ∙ ap is_for is_for_so))))) (end p n) (omega arith)
-
-    module _ (has_first has_condition : Bool) (is_for_so : label p n ≡ is.For has_first has_condition) (last : ℕ) (is_last : last_part f n ≡ Some last) where
-      ends : tell.for_update p n has_first has_condition ≤ last
-      ends = ltb-false last _ (not_true _ (sym (ap (λ o. tell.ends_by o (tell.for_update p n has_first has_condition)) is_last) ∙ sym (ap (λ l. tell.has_parts_in l p f n) is_for_so) ∙ parts_n))
+    module _ (has_first has_condition : Bool) (is_for_so : label p n ≡ is.For has_first has_condition) (last : ℕ) (is_last : last_part f n ≡ Some last) (ends : tell.for_update p n has_first has_condition ≤ last) where
+      abbrev update : ℕ
+      update = tell.for_update p n has_first has_condition
 
       body : IsLastChild p n last
       body = last_tells p tree f lasts n last is_last
@@ -321,89 +310,80 @@ module _ {A : Type 0} (s : Sets A) (p : Rows) (tree : IsTree p) (f : Facts) (las
       same_for : (h k : Bool) → label p n ≡ is.For h k → (h ≡ has_first) × (k ≡ has_condition)
       same_for h k e = let both = sym e ∙ is_for_so in (cc, cc)
 
-      header : AllSame (n + 1) (tell.for_update p n has_first has_condition)
-      header = let in_last_child = (child_ends p tree n last body.child).0 in let le = ends in
-          fill n (tell.for_update p n has_first has_condition) in_p (omega arith) (λ c child lt so_far. child_same c child (before_same n in_p e c child so_far
+      -- the header
+      pub in_header : (c : ℕ) → IsChild p n c → c < update → AllSame (n + 1) c → tell.before_at s p f a ma c ≡ tell.before_at s p f b mb c
+      in_header c child lt so_far = before_same n in_p e c child so_far
           (λ h k so. let same = same_for h k so in for_same n in_p e c child so_far h k (apart_from c (omega arith))
-          (λ at. let is_h = ap₂ (tell.for_update p n) same.0 same.1 in absurd (omega arith))))) (tell.for_update p n has_first has_condition) (omega arith)
+          (λ at. let is_h = ap₂ (tell.for_update p n) same.0 same.1 in absurd (omega arith)))
 
-      turns : (h k : Bool) → h ≡ has_first → k ≡ has_condition → tell.for_turn s p f a ma n h k ≡ tell.for_turn s p f b mb n h k
-      turns h true is_h is_k = let at = ap₂ (tell.for_update p n) is_h is_k in let up = tree.nested (tell.for_test p n h) in (header (tell.for_test p n h) (low_test h) (omega arith)).yes
+      turns : AllSame (n + 1) update → (h k : Bool) → h ≡ has_first → k ≡ has_condition → tell.for_turn s p f a ma n h k ≡ tell.for_turn s p f b mb n h k
+      turns header h true is_h is_k = let at = ap₂ (tell.for_update p n) is_h is_k in let up = tree.nested (tell.for_test p n h) in (header (tell.for_test p n h) (low_test h) (omega arith)).yes
         where
           low_test : (h : Bool) → n + 1 ≤ tell.for_test p n h
           low_test true = let up = tree.nested (n + 1) in omega arith
           low_test false = omega arith
-      turns true false is_h is_k = let at = ap₂ (tell.for_update p n) is_h is_k in let up = tree.nested (n + 1) in (header (n + 1) (omega arith) (omega arith)).done
-      turns false false is_h is_k = e
+      turns header true false is_h is_k = let at = ap₂ (tell.for_update p n) is_h is_k in let up = tree.nested (n + 1) in (header (n + 1) (omega arith) (omega arith)).done
+      turns header false false is_h is_k = e
 
-      body_same : AllSame last (end p n)
-      body_same m from to = child_same last body.child (before_last_same) m from (in_last p tree n last m in_p body from to)
+      -- the body, behind the header
+      pub at_body : AllSame (n + 1) update → tell.before_at s p f a ma last ≡ tell.before_at s p f b mb last
+      at_body header = ap (λ x. tell.declared s (label p last) last x)
+          (subst (λ q. tell.before_in s p f a ma (label p q) q last ≡ tell.before_in s p f b mb (label p q) q last) (sym body.child.1)
+          (subst (λ l. tell.before_in s p f a ma l n last ≡ tell.before_in s p f b mb l n last) (sym is_for_so) (in_it has_first has_condition is_for_so)))
         where
           is_it : tell.is_row (last_part f n) last ≡ true
           is_it = ap (λ o. tell.is_row o last) is_last ∙ eq_true last last refl
 
           in_it : (h k : Bool) → label p n ≡ is.For h k → tell.in_for s p f a ma n h k last ≡ tell.in_for s p f b mb n h k last
-          in_it h k so = let same = same_for h k so in if_same (tell.is_row (last_part f n) last) (λ t. turns h k same.0 same.1) (λ no. absurd (false≢true (sym no ∙ is_it)))
-
-          before_last_same : tell.before_at s p f a ma last ≡ tell.before_at s p f b mb last
-          before_last_same = ap (λ x. tell.declared s (label p last) last x)
-              (subst (λ q. tell.before_in s p f a ma (label p q) q last ≡ tell.before_in s p f b mb (label p q) q last) (sym body.child.1)
-              (subst (λ l. tell.before_in s p f a ma l n last ≡ tell.before_in s p f b mb l n last) (sym is_for_so) (in_it has_first has_condition is_for_so)))
+          in_it h k so = let same = same_for h k so in if_same (tell.is_row (last_part f n) last) (λ t. turns header h k same.0 same.1) (λ no. absurd (false≢true (sym no ∙ is_it)))
 
       in_body_of : tell.is_in_body (label p n) p f n ≡ tell.is_in_last p f n
       in_body_of = ap (λ l. tell.is_in_body l p f n) is_for_so
 
-      updates_same : s.both ((ma n).continued) (tell.behind_last f a n) ≡ s.both ((mb n).continued) (tell.behind_last f b n)
-      updates_same = let lt = (child_ends p tree n last body.child).0 in ap₂ s.both (continued_in_last n last in_p in_body_of is_last body_same)
-          (subst (λ o. tell.behind_part f a o n ≡ tell.behind_part f b o n) (sym is_last) (body_same last (omega arith) lt).done)
+      -- the updates, behind the body
+      pub in_updates : (c : ℕ) → IsChild p n c → c < last → AllSame (n + 1) c → AllSame last (end p n) → tell.before_at s p f a ma c ≡ tell.before_at s p f b mb c
+      in_updates c child lt so_far body_same = before_same n in_p e c child so_far
+          (λ h k so. let same = same_for h k so in for_same n in_p e c child so_far h k (apart_from c lt) (λ at. updates_same))
+        where
+          updates_same : s.both ((ma n).continued) (tell.behind_last f a n) ≡ s.both ((mb n).continued) (tell.behind_last f b n)
+          updates_same = let lt = (child_ends p tree n last body.child).0 in ap₂ s.both (continued_in_last n last in_p in_body_of is_last body_same)
+              (subst (λ o. tell.behind_part f a o n ≡ tell.behind_part f b o n) (sym is_last) (body_same last (omega arith) lt).done)
 
-      updates : AllSame (n + 1) last
-      updates = let lt = (child_ends p tree n last body.child).0 in
-          fill n last in_p (omega arith) (λ c child lt so_far. child_same c child (before_same n in_p e c child so_far
-          (λ h k so. let same = same_for h k so in for_same n in_p e c child so_far h k (apart_from c lt) (λ at. updates_same)))) last (omega arith)
+-- ---- the parts of a `for`
 
-      for_rows : AllSame (n + 1) (end p n)
-      for_rows m from to = ⊎_elim (λ lt. updates m from lt) (λ le. body_same m le to) (cases_lt m last)
+module _ (p : Rows) (tree : IsTree p) (f : Facts) (n : ℕ) (in_p : n < length p) (has_first has_condition : Bool) where
+  pub low_update : n + 1 ≤ tell.for_update p n has_first has_condition
+  low_update = by has_first has_condition
+    where
+      by : (h k : Bool) → n + 1 ≤ tell.for_update p n h k
+      by true true = let up = tree.nested (n + 1) in let further = tree.nested (end p (n + 1)) in omega arith
+      by true false = let up = tree.nested (n + 1) in omega arith
+      by false true = let up = tree.nested (n + 1) in omega arith
+      by false false = omega arith
 
-    with_last : (has_first has_condition : Bool) → label p n ≡ is.For has_first has_condition → (o : Option ℕ) → last_part f n ≡ o → AllSame (n + 1) (end p n)
-    with_last h k so None none = absurd (false≢true (sym (ap (λ o. tell.ends_by o (tell.for_update p n h k)) none) ∙ sym (ap (λ l. tell.has_parts_in l p f n) so) ∙ parts_n))
-    with_last h k so (Some last) is_last = for_rows h k so last is_last
+  -- its updates begin where a child ends
+  pub update_starts : (last : ℕ) → IsChild p n last → tell.for_update p n has_first has_condition ≤ last → IsStart p n (tell.for_update p n has_first has_condition)
+  update_starts last child = by has_first has_condition
+    where
+      inside : last < end p n
+      inside = (child_ends p tree n last child).0
 
-    inside : AllSame (n + 1) (end p n)
-    inside = ⊎_elim (λ t. let so = for_tells (label p n) t in with_last so.0 so.1 so.2 (last_part f n) refl) in_turn (cases_Bool (is_for (label p n)))
+      one : IsChild p n (n + 1)
+      one = let after = child.0 in let lt = inside in first_child p tree n in_p (omega arith)
 
-  module _ (start : A) (ha : AreAssigned s p f root start a) (hb : AreAssigned s p f root start b) (parts : (n : ℕ) → root ≤ n → n < end p root → tell.has_parts p f n ≡ true) where
-    one_row : (n : ℕ) → root ≤ n → n < end p root → (a n).before ≡ (b n).before → AllSame (n + 1) (end p n) → Same n
-    one_row n low high e all = let most = tree.last root there in let same = behind_same n (omega arith) all e (parts n low high) in record {
-      before = e;
-      done = ha.done n low high ∙ ap (λ (g : Gain A). g.done) same ∙ sym (hb.done n low high);
-      yes = ha.yes n low high ∙ ap (λ (g : Gain A). g.yes) same ∙ sym (hb.yes n low high);
-      no = ha.no n low high ∙ ap (λ (g : Gain A). g.no) same ∙ sym (hb.no n low high);
-    }
+      by : (h k : Bool) → tell.for_update p n h k ≤ last → IsStart p n (tell.for_update p n h k)
+      by true true le = let lt = inside in let further = tree.nested (end p (n + 1)) in next_starts p tree n (end p (n + 1)) in_p (next_starts p tree n (n + 1) in_p one (omega arith))
+      by true false le = next_starts p tree n (n + 1) in_p one
+      by false true le = next_starts p tree n (n + 1) in_p one
+      by false false le = first_starts p tree n in_p
 
-    whole : (room n : ℕ) → length p ≤ n + room → root ≤ n → n < end p root → (a n).before ≡ (b n).before → AllSame n (end p n)
-    whole zero n far low high e m from to = let most = tree.last root there in absurd (omega arith)
-    whole (suc room) n far low high e m from to =
-        let all = inside n in_p e (parts n low high) (λ c child same. let after = child.0 in let lt = below c child in
-        whole room c (omega arith) (omega arith) lt (ha.before c (omega arith) lt ∙ same ∙ sym (hb.before c (omega arith) lt))) in ⊎_elim
-        (λ at. subst Same at (one_row n low high e all))
-        (λ apart. all m (omega arith) to)
-        (cases_eq n m)
-      where
-        in_p : n < length p
-        in_p = let most = tree.last root there in omega arith
+  -- it has a body, behind its updates
+  pub for_ends : label p n ≡ is.For has_first has_condition → tell.has_parts p f n ≡ true → (last : ℕ) × (last_part f n ≡ Some last) × (tell.for_update p n has_first has_condition ≤ last)
+  for_ends is_for_so parts = by (last_part f n) refl
+    where
+      test : (o : Option ℕ) → last_part f n ≡ o → tell.ends_by o (tell.for_update p n has_first has_condition) ≡ true
+      test o e = sym (ap (λ o. tell.ends_by o (tell.for_update p n has_first has_condition)) e) ∙ sym (ap (λ l. tell.has_parts_in l p f n) is_for_so) ∙ parts
 
-        within : end p n ≤ end p root
-        within = ⊎_elim (λ same. subst (λ r. end p n ≤ end p r) (sym same) (omega arith)) (λ apart. tree.apart root n (omega arith) high) (cases_eq root n)
-
-        below : (c : ℕ) → IsChild p n c → c < end p root
-        below c child = let ends = (child_ends p tree n c child).0 in let most = within in omega arith
-
-    pub rows_same : (n : ℕ) → root ≤ n → n < end p root → Same n
-    rows_same n low high = let up = tree.nested root in whole (length p) root (omega arith) (omega arith) (omega arith) (ha.begins ∙ sym hb.begins) n low high
-
-seen_same : {A : Type 0} (x y : Seen A) → x.before ≡ y.before → x.done ≡ y.done → x.yes ≡ y.yes → x.no ≡ y.no → x ≡ y
-seen_same {A} x y e g h k = ap₂ (λ (before : A) (done : A). record { before = before; done = done; yes = x.yes; no = x.no }) e g ∙ ap₂ (λ (yes : A) (no : A). record { before = y.before; done = y.done; yes = yes; no = no }) h k
-
-pub each_member_once : tell.EachMemberIsAssignedOnce
-each_member_once v p f root start tree there lasts parts = λ a b ha hb n low high. let same = rows_same (only v) p tree f lasts root there a b start ha hb parts n low high in seen_same (a n) (b n) same.before same.done same.yes same.no
+      by : (o : Option ℕ) → last_part f n ≡ o → (last : ℕ) × (last_part f n ≡ Some last) × (tell.for_update p n has_first has_condition ≤ last)
+      by None e = absurd (false≢true (test None e))
+      by (Some last) e = (last, e, ltb-false last _ (not_true _ (test (Some last) e)))

@@ -1,71 +1,47 @@
 -- The faults that are found are those of the rule on locals that are read.
-use Rattle.std.proofs.Common.{◌≡◌, refl, sym, ◌∙◌, ap, subst, ⊎_elim, arith, ℕ, zero, suc, ◌+◌, ◌<◌, ◌≤◌, Bool, true, false, not, List, length, Option, Some, None, nat_lt, replicate}
-use Rattle.std.proofs.lemmas.Bool.{false≢true, cases_lt, le-ltb}
-use Rattle.std.proofs.lemmas.Bool.Decides.{Decides-eqb}
-use Rattle.std.proofs.lemmas.List.{get_or_past}
-use Rattle.jr_tree.specs.Rows.{Rows, end}
-use Rattle.jr_tree.specs.Tree.{IsTree}
+use Rattle.std.proofs.Common.{◌≡◌, refl, sym, ◌∙◌, ap, subst, arith, ℕ, zero, suc, ◌<◌, Bool, true, false, List, length, Option, Some, None, replicate}
+use Rattle.std.proofs.lemmas.Bool.{false≢true}
+use Rattle.jr_tree.specs.Rows.{Rows}
 use Rattle.jr_plain.proofs.Searches.{lists}
 use Rattle.jr_rule.specs.declared.Fault.{Fault}
 use Rattle.jr_rule.specs.declared.Rule.TheVariants as rule
 use Rattle.jr_rule.specs.Faults.{AreFaultsOf}
 use Rattle.jr_faults.specs.Added.{is_rule, AreOnly}
 use Rattle.jr_faults.proofs.Told.{then_none, none_then}
-use Rattle.jr_assign.specs.declared.fact.Fact.{Fact}
-use Rattle.jr_tree.specs.declared.row.Row.{Row}
 use Rattle.jr_assign.specs.Changes.{Facts, fact, members, member_in}
 use Rattle.jr_assign.specs.Sets.{only}
-use Rattle.jr_assign.specs.Assigned.{Seen, AreAssigned, has_last, is_last}
-use Rattle.jr_assign.specs.Confirmed.{are_last}
+use Rattle.jr_assign.specs.Assigned.{Seen, AreAssigned}
+use Rattle.jr_assign.specs.Confirmed.{IsWhole}
 use Rattle.jr_assign.specs.Judged.{ReadsUnassigned, Verdicts, verdict, AreJudged, is_lost, lost_rows, is_settled, are_settled, AreUnassignedReads}
 use Rattle.jr_assign.specs.Made.{AreLeftBlank}
-use Rattle.jr_assign.proofs.Inside.{both_true}
-use Rattle.jr_assign.proofs.Once.{each_member_once}
-use Rattle.jr_assign.proofs.Judging.{each_below}
-
-abbrev no_fact : Fact
-no_fact = record { truth = None; way = None; last = None; has_default = false; read = None; assigned = None }
-
-none_some : {A : Type 0} {x : A} → None ≡ Some x → ⊥
-none_some e = cc
+use Rattle.jr_assign.proofs.Following.{each_member_once}
+use Rattle.jr_assign.proofs.Judging.{none_some, each_below, has_each_last, read_within}
 
 some_same : {A : Type 0} {x y : A} → Some x ≡ Some y → x ≡ y
 some_same e = cc
 
-module _ (p : Rows) (f : Facts) (tree : IsTree p) (lasts : are_last p f ≡ true) where
-  as_long : length f ≡ length p
-  as_long = (Decides-eqb (length f) (length p)).0 (both_true _ _ lasts).0
-
-  pub has_each_last : (n : ℕ) → has_last p f n ≡ true
-  has_each_last n = ⊎_elim (λ lt. each_below (length p) (has_last p f) (both_true _ _ lasts).1 n lt) (λ past. by past) (cases_lt n (length p))
-    where
-      past_end : (e : ℕ) → e ≡ n + 1 → not (nat_lt (n + 1) e) ≡ true
-      past_end e is = ap not (le-ltb (n + 1) e (omega arith))
-
-      by : length p ≤ n → has_last p f n ≡ true
-      by past = let long = as_long in ap (λ o. is_last o p n) (ap (λ (x : Fact). x.last) (get_or_past f n no_fact (omega arith))) ∙ past_end (end p n) (ap (λ (x : Row). x.end) (get_or_past p n _ past))
-
+module _ (p : Rows) (f : Facts) (whole : IsWhole p f) where
   module _ (all : Verdicts) (judged : AreJudged p f (members p (length p)) all) (settled : are_settled p f all ≡ true) where
     lost_reads : (n : ℕ) → (o : Option ℕ) (w : Option Bool) → (fact f n).read ≡ o → verdict all n ≡ w → is_lost o w ≡ true → ReadsUnassigned p f n
     lost_reads n None w e k h = absurd (false≢true h)
     lost_reads n (Some v) None e k h = absurd (false≢true h)
     lost_reads n (Some v) (Some true) e k h = absurd (false≢true h)
-    lost_reads n (Some v) (Some false) e k h = let j = judged.each n false k in record { variable = j.variable; read = j.read; table = j.table; assigned = j.assigned; unassigned = j.is }
+    lost_reads n (Some v) (Some false) e k h = let j = judged.each whole n false k in record { variable = j.variable; read = j.read; table = j.table; assigned = j.assigned; unassigned = j.is }
 
     reads_lost : (n : ℕ) → ReadsUnassigned p f n → n < length p → (o : Option ℕ) (w : Option Bool) → (fact f n).read ≡ o → verdict all n ≡ w → is_settled o w ≡ true → is_lost o w ≡ true
     reads_lost n r lt None w e k s = absurd (none_some (sym e ∙ r.read))
     reads_lost n r lt (Some v) None e k s = absurd (false≢true s)
     reads_lost n r lt (Some v) (Some false) e k s = refl
     reads_lost n r lt (Some v) (Some true) e k s =
-        let j = judged.each n true k in
+        let j = judged.each whole n true k in
         let one : j.variable ≡ r.variable = some_same (sym j.read ∙ r.read) in
         let low = j.low in
-        let same = each_member_once r.variable p f (member_in (members p (length p)) n) false tree (omega arith) has_each_last j.parts j.table r.table
+        let same = each_member_once r.variable p f (member_in (members p (length p)) n) false whole.tree (omega arith) (has_each_last p f whole.lasts) j.parts j.table r.table
         (subst (λ v. AreAssigned (only v) p f (member_in (members p (length p)) n) false j.table) one j.assigned) r.assigned n j.low j.high in
         absurd (false≢true (sym r.unassigned ∙ sym (ap (λ (x : Seen Bool). x.before) same) ∙ j.is))
 
     within : (n : ℕ) → ReadsUnassigned p f n → n < length p
-    within n r = ⊎_elim (λ lt. lt) (λ past. let long = as_long in absurd (none_some (sym (ap (λ (x : Fact). x.read) (get_or_past f n no_fact (omega arith))) ∙ r.read))) (cases_lt n (length p))
+    within n r = read_within p f whole.lasts n r.read
 
     pub reads_told : (old new : List Fault) → AreFaultsOf rule.UnassignedLocal (lost_rows p f all) old new → AreUnassignedReads p f old new
     reads_told old new are = record {
@@ -87,7 +63,7 @@ no_verdict n all m is e = none_some (sym (ap (λ all. verdict all m) is ∙ none
     none_at (suc n) (suc m) = none_at n m
 
 pub none_judged : (p : Rows) (f : Facts) (held : List ℕ) (n : ℕ) (all : Verdicts) → all ≡ replicate n None → AreJudged p f held all
-none_judged p f held n all is = record { each = λ m b e. absurd (no_verdict n all m is e) }
+none_judged p f held n all is = record { each = λ whole m b e. absurd (no_verdict n all m is e) }
 
 -- what is judged of all members, from nothing on
 pub all_judged : (p : Rows) (f : Facts) (held : List ℕ) (none found seen : Verdicts) → held ≡ members p (length p) → none ≡ replicate (length p) None

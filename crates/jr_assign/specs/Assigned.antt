@@ -1,5 +1,5 @@
 -- What is definitely assigned before and behind the rows of one member: equations, row by row, by the label of the row (JLS 16).
-use Rattle.std.specs.Prelude.{◌≡◌, ◌<◌, ◌≤◌, ℕ, zero, suc, ◌+◌, ◌-◌, Bool, true, false, not, ◌&&◌, if◌then◌else◌, List, [], ◌∷◌, ◌++◌, length, Option, Some, None, nat_eq, nat_lt}
+use Rattle.std.specs.Prelude.{◌≡◌, ◌<◌, ◌≤◌, ℕ, zero, suc, ◌+◌, ◌-◌, ◌*◌, Bool, true, false, not, ◌&&◌, if◌then◌else◌, List, [], ◌∷◌, ◌++◌, length, Option, Some, None, nat_eq, nat_lt}
 use Rattle.jr_base.specs.declared.kind.Symbol.TheVariants as y
 use Rattle.jr_tree.specs.declared.label.Label.{Label}
 use Rattle.jr_tree.specs.declared.label.Label.TheVariants as is
@@ -352,3 +352,24 @@ IsAssignedOnce v p f root start = (a b : ℕ → Seen Bool) → AreAssigned (onl
 abbrev pub EachMemberIsAssignedOnce : Type 0
 EachMemberIsAssignedOnce = (v : ℕ) (p : Rows) (f : Facts) (root : ℕ) (start : Bool) → IsTree p → root < length p
     → ((n : ℕ) → has_last p f n ≡ true) → ((n : ℕ) → root ≤ n → n < end p root → has_parts p f n ≡ true) → IsAssignedOnce v p f root start
+
+-- ---- the same as a plain function: the equations, followed so often that each row has what it says
+
+module _ {A : Type 0} (s : Sets A) (p : Rows) (f : Facts) (root : ℕ) (start : A) where
+  abbrev pub followed : ℕ → ℕ → Seen A
+  followed zero n = record { before = start; done = start; yes = start; no = start }
+  followed (suc rounds) n = let a = followed rounds in let m = met_at s p f (guarded_in p root) a in let gain = gain_at s p f a m n in record {
+    before = if nat_eq n root then start else before_at s p f a m n;
+    done = gain.done;
+    yes = gain.yes;
+    no = gain.no;
+  }
+
+  -- each row waits for those that are evaluated before it, when it begins and when it ends
+  abbrev pub solved : ℕ → Seen A
+  solved = followed (2 * (end p root - root))
+
+-- the law: it is the table
+abbrev pub EachMemberIsAssigned : Type 0
+EachMemberIsAssigned = (v : ℕ) (p : Rows) (f : Facts) (root : ℕ) (start : Bool) → IsTree p → root < length p → ((n : ℕ) → has_last p f n ≡ true)
+    → ((n : ℕ) → root ≤ n → n < end p root → has_parts p f n ≡ true) → AreAssigned (only v) p f root start (solved (only v) p f root start)

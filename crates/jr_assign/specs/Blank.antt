@@ -1,5 +1,5 @@
 -- Blank final fields that are not definitely assigned once what they belong to is made (JLS 4.12.4, 8.3.1.2, 8.6, 8.7, 8.8.7.1, 12.4.2, 12.5, 16.8, 16.9).
-use Rattle.std.specs.Prelude.{◌≡◌, ◌<◌, ◌≤◌, ℕ, zero, suc, ◌+◌, ◌-◌, ◌*◌, Bool, true, false, not, ◌&&◌, if◌then◌else◌, length, Option, Some, nat_eq, nat_lt}
+use Rattle.std.specs.Prelude.{◌≡◌, ◌<◌, ◌≤◌, ℕ, zero, suc, ◌+◌, ◌-◌, Bool, true, false, not, ◌&&◌, if◌then◌else◌, length, Option, Some, nat_eq, nat_lt}
 use Rattle.jr_tree.specs.declared.label.Label.{Label}
 use Rattle.jr_tree.specs.declared.label.Label.TheVariants as is
 use Rattle.jr_tree.specs.declared.tree.ThisOrSuper.TheVariants as which
@@ -10,7 +10,7 @@ use Rattle.jr_assign.specs.declared.fact.Way.{Way}
 use Rattle.jr_assign.specs.declared.fact.Way.TheVariants as way
 use Rattle.jr_assign.specs.Changes.{Facts, fact, has_value, field_body}
 use Rattle.jr_assign.specs.Sets.{only, both_of}
-use Rattle.jr_assign.specs.Assigned.{Seen, AreAssigned, has_last, has_parts, arrives, before_at, gain_at, met_at, guarded_in}
+use Rattle.jr_assign.specs.Assigned.{Seen, AreAssigned, has_last, has_parts, arrives, guarded_in, solved}
 
 -- ---- fields and members
 
@@ -96,24 +96,11 @@ abbrev pub EachMakingIsOne : Type 0
 EachMakingIsOne = (v : ℕ) (p : Rows) (f : Facts) (body : ℕ) (is_static : Bool) → IsTree p → ((n : ℕ) → has_last p f n ≡ true) → HaveParts p f body
     → (k : ℕ) (x y : Bool) → IsBefore v p f body is_static k x → IsBefore v p f body is_static k y → x ≡ y
 
--- ---- the same as a plain function: the equations, followed so often that each row has what it says
+-- ---- the same as plain functions
 
 module _ (v : ℕ) (p : Rows) (f : Facts) (root : ℕ) (start : Bool) where
-  abbrev pub followed : ℕ → ℕ → Seen Bool
-  followed zero n = record { before = start; done = start; yes = start; no = start }
-  followed (suc rounds) n = let a = followed rounds in let m = met_at (only v) p f (guarded_in p root) a in let gain = gain_at (only v) p f a m n in record {
-    before = if nat_eq n root then start else before_at (only v) p f a m n;
-    done = gain.done;
-    yes = gain.yes;
-    no = gain.no;
-  }
-
-  -- each row waits for those that are evaluated before it, when it begins and when it ends
-  abbrev pub solved : ℕ → Seen Bool
-  solved = followed (2 * (end p root - root))
-
   abbrev pub ended : Bool
-  ended = ends_with v p f root solved
+  ended = ends_with v p f root (solved (only v) p f root start)
 
 -- from the member k on, of so many
 abbrev pub made_from : ℕ → Rows → Facts → ℕ → Bool → ℕ → ℕ → Bool → Bool

@@ -12,7 +12,8 @@ use Rattle.jr_assign.specs.Sets.{only}
 use Rattle.jr_assign.specs.Changes.{Facts, fact, members, member_in}
 use Rattle.jr_assign.specs.Assigned.{Seen, AreAssigned, guarded_in, has_parts, is_row}
 use Rattle.jr_assign.specs.Words.{mask, seen_by}
-use Rattle.jr_assign.specs.Confirmed.{is_right}
+use Rattle.jr_assign.specs.Confirmed.{IsWhole}
+use Rattle.jr_assign.specs.Walked.{frame_of, IsTableOf}
 
 -- ---- the rule (16)
 
@@ -44,7 +45,7 @@ abbrev pub verdict : Verdicts → ℕ → Option Bool
 verdict all n = slice_index_or all n None
 
 pub record AreJudged (p : Rows) (f : Facts) (held : List ℕ) (all : Verdicts) : Type 0 where
-  pub each : (n : ℕ) (b : Bool) → verdict all n ≡ Some b → IsJudged p f (member_in held n) n b
+  pub each : IsWhole p f → (n : ℕ) (b : Bool) → verdict all n ≡ Some b → IsJudged p f (member_in held n) n b
 
 -- ---- in code
 
@@ -84,9 +85,9 @@ judged_by c start owners held (Some v) n all = if is_asked c start owners held v
 abbrev pub judged_at : Course → ℕ → List (Option ℕ) → List ℕ → ℕ → Verdicts → Verdicts
 judged_at c start owners held n all = judged_by c start owners held (fact c.facts.now n).read n all
 
--- the table is confirmed
+-- the table is that of the member, and its variables have numbers of their own
 pub record IsConfirmed (c : Course) (start : ℕ) (owners : List (Option ℕ)) : Type 0 where
-  pub right : is_right c start ≡ true
+  pub table : IsTableOf (frame_of c) start c.seen.now
   pub owned : are_owned c owners ≡ true
   pub guarded : c.guarded.now ≡ guarded_in c.rows.now c.root
 

@@ -6,3 +6,4 @@ pub mod Confirmed
 pub mod Judged
 pub mod Blank
 pub mod Made
+pub mod Walked

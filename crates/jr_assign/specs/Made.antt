@@ -9,7 +9,8 @@ use Rattle.jr_assign.specs.declared.course.Course.{Course}
 use Rattle.jr_assign.specs.declared.fields.Group.{Group}
 use Rattle.jr_assign.specs.Sets.{both_of}
 use Rattle.jr_assign.specs.Changes.{Facts, fact, field_body}
-use Rattle.jr_assign.specs.Assigned.{arrives, has_parts}
+use Rattle.jr_assign.specs.Assigned.{arrives}
+use Rattle.jr_assign.specs.Confirmed.{IsWhole}
 use Rattle.jr_assign.specs.Words.{mask, sets_by, seen_by}
 use Rattle.jr_assign.specs.Judged.{Verdicts, verdict, is_owner, is_lost, is_settled}
 use Rattle.jr_assign.specs.Blank.{is_return, is_this_call, is_first, is_static_field, is_blank, EndsSo, IsBefore, IsLeftBlank}
@@ -39,11 +40,11 @@ ended_by c = bit_and (seen_by c c.root).done (returned_by c)
 
 -- wherever the member at the root has ended, from the word that is so before it on
 pub record AreEnded (p : Rows) (f : Facts) (numbers owners : List (Option ℕ)) (from root start out : ℕ) : Type 0 where
-  pub each : (v : ℕ) → is_followed numbers owners from v ≡ true → EndsSo v p f root (is_in numbers from v start) (is_in numbers from v out)
+  pub each : IsWhole p f → root < length p → (v : ℕ) → is_followed numbers owners from v ≡ true → EndsSo v p f root (is_in numbers from v start) (is_in numbers from v out)
 
 -- before the member k of the body
 pub record AreBefore (g : Group) (body : ℕ) (is_static : Bool) (k word : ℕ) : Type 0 where
-  pub each : (v : ℕ) → is_followed g.numbers.now g.owners.now g.from v ≡ true → IsBefore v g.rows.now g.facts.now body is_static k (is_in g.numbers.now g.from v word)
+  pub each : IsWhole g.rows.now g.facts.now → (v : ℕ) → is_followed g.numbers.now g.owners.now g.from v ≡ true → IsBefore v g.rows.now g.facts.now body is_static k (is_in g.numbers.now g.from v word)
 
 -- where the constructors of the body that hand on to no other end, of its first k rows
 pub data IsBuilt (v : ℕ) (p : Rows) (f : Facts) (body k : ℕ) (start : Bool) : Bool → Type 0 where
@@ -51,7 +52,7 @@ pub data IsBuilt (v : ℕ) (p : Rows) (f : Facts) (body k : ℕ) (start : Bool) 
   always : ((c : ℕ) → body ≤ c → c < body + k → is_first p body c ≡ true → EndsSo v p f c start true) → IsBuilt v p f body k start true
 
 pub record AreBuilt (g : Group) (body k start word : ℕ) : Type 0 where
-  pub each : (v : ℕ) → is_followed g.numbers.now g.owners.now g.from v ≡ true → IsBuilt v g.rows.now g.facts.now body k (is_in g.numbers.now g.from v start) (is_in g.numbers.now g.from v word)
+  pub each : IsWhole g.rows.now g.facts.now → (v : ℕ) → is_followed g.numbers.now g.owners.now g.from v ≡ true → IsBuilt v g.rows.now g.facts.now body k (is_in g.numbers.now g.from v start) (is_in g.numbers.now g.from v word)
 
 -- the whole body: the words of the class and of its instances
 pub record AreMade (g : Group) (body statics built : ℕ) : Type 0 where
@@ -69,7 +70,7 @@ pub data IsMade (p : Rows) (f : Facts) (v : ℕ) (is_assigned : Bool) : Type 0 w
       → IsBuilt v p f (field_body p v) (end p (field_body p v) - field_body p v) start is_assigned → IsMade p f v is_assigned
 
 pub record AreFieldsJudged (p : Rows) (f : Facts) (all : Verdicts) : Type 0 where
-  pub each : (v : ℕ) (b : Bool) → verdict all v ≡ Some b → IsMade p f v b
+  pub each : IsWhole p f → (v : ℕ) (b : Bool) → verdict all v ≡ Some b → IsMade p f v b
 
 abbrev pub is_asked_field : Group → ℕ → ℕ → Bool
 is_asked_field g body v = is_followed g.numbers.now g.owners.now g.from v && nat_eq (field_body g.rows.now v) body
@@ -88,10 +89,6 @@ left_rows p all = all_such (length p) (λ v. is_lost (blank_field p v) (verdict 
 -- each blank final field is judged
 abbrev pub are_fields_settled : Rows → Verdicts → Bool
 are_fields_settled p all = all_below (length p) (λ v. is_settled (blank_field p v) (verdict all v))
-
--- all rows have the parts that are read
-abbrev pub have_parts : Rows → Facts → Bool
-have_parts p f = all_below (length p) (has_parts p f)
 
 -- the faults that are added are those of the rule
 pub record AreLeftBlank (p : Rows) (f : Facts) (old new : List Fault) : Type 0 where

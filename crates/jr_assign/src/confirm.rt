@@ -1,30 +1,14 @@
-// The table of a member is what the equations say (JLS 16): each row is asked once more.
-ghost use Rattle.std.specs.Prelude.{◌≡◌, ◌&&◌, ◌<◌, ◌^◌, IfOk, length};
+// The last part of each row is known, and each row has the parts that are read.
+ghost use Rattle.std.specs.Prelude.{◌≡◌, ◌<◌, ◌^◌, IfOk, length};
 ghost use Rattle.jr_tree.specs.Rows.{label};
 ghost use Rattle.jr_assign.specs.Assigned as tell;
 ghost use Rattle.jr_assign.specs.Confirmed as sure;
-ghost use Rattle.jr_assign.specs.Made as made;
-ghost use Rattle.jr_assign.specs.Words.{gain_of, seen_of};
 
-use crate::course::{
-    Course, Gain, Seen, end_of, is_guarded, parent_of, second_of, third_of, update_of,
-};
+use crate::course::{end_of, is_guarded, parent_of, second_of, third_of, update_of};
 use crate::fact::{Fact, fact_of};
 use jr_base::OutOfMemory;
 use jr_tree::{Label, Row};
 use std::alloc::Global;
-
-fn both(first: bool, second: bool) -> bool
-    ensures { result ≡ (first && second) }
-{
-    first && second
-}
-
-fn is_gain(gain: Gain, seen: Seen) -> bool
-    ensures { result ≡ sure.is_gain (gain_of gain) (seen_of seen) }
-{
-    seen.done == gain.done && seen.yes == gain.yes && seen.no == gain.no
-}
 
 fn ends_by(part: Option<u32>, at: usize) -> bool
     ensures { result ≡ tell.ends_by part at }
@@ -120,7 +104,7 @@ pub(crate) fn are_last(rows: &[Row], facts: &[Fact]) -> bool
 /// All rows have the parts that are read.
 pub(crate) fn have_parts(rows: &[Row], facts: &[Fact]) -> bool
     requires { length rows.now < 2 ^ 32 }
-    ensures { result ≡ made.have_parts rows.now facts.now }
+    ensures { result ≡ sure.have_parts rows.now facts.now }
 {
     let mut have = true;
     for at in 0..rows.len() {
@@ -145,40 +129,4 @@ pub(crate) fn guarded_in(alloc: Global, rows: &[Row], root: u32) -> Result<Vec<u
         }
     }
     Ok(all)
-}
-
-impl<'a> Course<'a> {
-    /// Before a row of the member.
-    pub(crate) fn before_of(self, start: u64, at: usize) -> u64
-        requires { at < 2 ^ 58 }
-        ensures { result ≡ sure.before_of self.entry start at }
-    {
-        if at == self.root {
-            start
-        } else {
-            self.before(at)
-        }
-    }
-
-    fn is_right_at(self, start: u64, at: usize) -> bool
-        requires { at < 2 ^ 58 }
-        ensures { result ≡ sure.is_right_at self.entry start at }
-    {
-        has_parts(self.rows, self.facts, at)
-            && self.seen(at).before == self.before_of(start, at)
-            && is_gain(self.gain(at), self.seen(at))
-    }
-
-    /// The table is what the equations say, from what is assigned before the member on.
-    pub(crate) fn is_right(self, start: u64) -> bool
-        requires { self.root < 2 ^ 32 }
-        ensures { result ≡ sure.is_right self.entry start }
-    {
-        let mut is_right = true;
-        for inside in 0..self.size() {
-            let is_here = self.is_right_at(start, self.root + inside);
-            is_right = both(is_right, is_here);
-        }
-        is_right
-    }
 }

@@ -67,6 +67,7 @@ pub(crate) fn end_of(rows: &[Row], at: usize) -> usize
     requires { at < 2 ^ 62 }
     ensures is { result ≡ end rows.now at }
     ensures most { result ≤ at + 2 ^ 32 }
+    ensures within { at < 2 ^ 32 → result ≤ 2 ^ 32 }
 {
     match rows.get(at) {
         Some(row) => row.end as usize,

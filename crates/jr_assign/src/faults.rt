@@ -5,7 +5,7 @@ ghost use Rattle.jr_rule.specs.declared.Rule.TheVariants as rule;
 ghost use Rattle.jr_rule.specs.Faults.{AreFaultsOf};
 ghost use Rattle.jr_faults.specs.Added.{is_rule, AreOnly};
 ghost use Rattle.jr_assign.specs.Changes.{Facts, is_of_courses, members};
-ghost use Rattle.jr_assign.specs.Confirmed.{are_last};
+ghost use Rattle.jr_assign.specs.Confirmed.{are_last, have_parts};
 ghost use Rattle.jr_assign.specs.Judged as tell;
 ghost use Rattle.jr_assign.specs.Made as made;
 
@@ -137,7 +137,7 @@ fn note_lost(
     out: &mut Vec<Fault>,
 ) -> Result<(), OutOfMemory>
     requires { length rows.now < 2 ^ 32 }
-    ensures exact { IsTree rows.now → are_last rows.now facts.now ≡ true → tell.AreJudged rows.now facts.now (members rows.now (length rows.now)) verdicts.now → OnOk result (tell.AreUnassignedReads rows.now facts.now out.old.items out.new.items) }
+    ensures exact { IsTree rows.now → are_last rows.now facts.now ≡ true → have_parts rows.now facts.now ≡ true → tell.AreJudged rows.now facts.now (members rows.now (length rows.now)) verdicts.now → OnOk result (tell.AreUnassignedReads rows.now facts.now out.old.items out.new.items) }
     ensures others { OnOk result (AreOnly (is_rule rule.UnassignedLocal) out.old.items out.new.items) }
 {
     if !are_settled(rows, facts, verdicts) {
@@ -154,7 +154,7 @@ fn note_left(
     out: &mut Vec<Fault>,
 ) -> Result<(), OutOfMemory>
     requires { length rows.now < 2 ^ 32 }
-    ensures exact { (f : Facts) → IsTree rows.now → are_last rows.now f ≡ true → made.have_parts rows.now f ≡ true → made.AreFieldsJudged rows.now f verdicts.now → OnOk result (made.AreLeftBlank rows.now f out.old.items out.new.items) }
+    ensures exact { (f : Facts) → IsTree rows.now → are_last rows.now f ≡ true → have_parts rows.now f ≡ true → made.AreFieldsJudged rows.now f verdicts.now → OnOk result (made.AreLeftBlank rows.now f out.old.items out.new.items) }
     ensures others { OnOk result (AreOnly (is_rule rule.UnassignedFinal) out.old.items out.new.items) }
 {
     if !are_fields_settled(rows, verdicts) {
@@ -173,7 +173,7 @@ fn read_faults(
     out: &mut Vec<Fault>,
 ) -> Result<(), OutOfMemory>
     requires { length rows.now < 2 ^ 32 }
-    ensures exact { IsTree rows.now → are_last rows.now facts.now ≡ true → OnOk result (tell.AreUnassignedReads rows.now facts.now out.old.items out.new.items) }
+    ensures exact { IsTree rows.now → are_last rows.now facts.now ≡ true → have_parts rows.now facts.now ≡ true → OnOk result (tell.AreUnassignedReads rows.now facts.now out.old.items out.new.items) }
     ensures others { OnOk result (AreOnly (is_rule rule.UnassignedLocal) out.old.items out.new.items) }
 {
     let members = members_of(alloc, rows)?;
@@ -191,7 +191,7 @@ fn blank_faults(
     out: &mut Vec<Fault>,
 ) -> Result<(), OutOfMemory>
     requires { length rows.now < 2 ^ 32 }
-    ensures exact { IsTree rows.now → are_last rows.now facts.now ≡ true → made.have_parts rows.now facts.now ≡ true → OnOk result (made.AreLeftBlank rows.now facts.now out.old.items out.new.items) }
+    ensures exact { IsTree rows.now → are_last rows.now facts.now ≡ true → have_parts rows.now facts.now ≡ true → OnOk result (made.AreLeftBlank rows.now facts.now out.old.items out.new.items) }
     ensures others { OnOk result (AreOnly (is_rule rule.UnassignedFinal) out.old.items out.new.items) }
 {
     let mut verdicts = no_verdicts(alloc, rows)?;
@@ -208,8 +208,8 @@ fn all_faults(
     out: &mut Vec<Fault>,
 ) -> Result<(), OutOfMemory>
     requires { length rows.now < 2 ^ 32 }
-    ensures exact { IsTree rows.now → are_last rows.now facts.now ≡ true → OnOk result (tell.AreUnassignedReads rows.now facts.now out.old.items out.new.items) }
-    ensures blank { IsTree rows.now → are_last rows.now facts.now ≡ true → made.have_parts rows.now facts.now ≡ true → OnOk result (made.AreLeftBlank rows.now facts.now out.old.items out.new.items) }
+    ensures exact { IsTree rows.now → are_last rows.now facts.now ≡ true → have_parts rows.now facts.now ≡ true → OnOk result (tell.AreUnassignedReads rows.now facts.now out.old.items out.new.items) }
+    ensures blank { IsTree rows.now → are_last rows.now facts.now ≡ true → have_parts rows.now facts.now ≡ true → OnOk result (made.AreLeftBlank rows.now facts.now out.old.items out.new.items) }
     ensures only { OnOk result (AreOnly is_of_courses out.old.items out.new.items) }
 {
     let size = rows.len() as u32;

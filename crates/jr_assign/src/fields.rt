@@ -3,6 +3,7 @@ ghost use Rattle.std.specs.Prelude.{◌≡◌, ℕ, ◌+◌, ◌-◌, ◌<◌, �
 ghost use Rattle.jr_tree.specs.Rows.{end};
 ghost use Rattle.jr_assign.specs.Assigned.{guarded_in};
 ghost use Rattle.jr_assign.specs.Made as tell;
+ghost use Rattle.jr_assign.specs.Walked.{frame_of, IsTableOf};
 ghost use Rattle.jr_assign.specs.Words.{mask};
 
 use crate::confirm::guarded_in;
@@ -29,19 +30,12 @@ pub(crate) struct Group<'a> {
 
 // ---- members
 
-// What is assigned wherever the member ends, if its table is confirmed.
-#[tactic(auto, using(crate::proofs::Ended::ended_if_told))]
-fn ended_if(course: Course, start: u64, owners: &[Option<u32>]) -> Result<u64, OutOfMemory>
+// What is assigned wherever the member ends, by its table.
+fn ended_by(course: Course, start: u64, owners: &[Option<u32>]) -> Result<u64, OutOfMemory>
     requires guarded { course.guarded.now ≡ guarded_in course.rows.now course.root }
     requires few { course.root < 2 ^ 32 }
-    ensures { IfOk result (λ word. tell.AreEnded course.entry.rows.now course.entry.facts.now course.entry.numbers.now owners.now course.entry.from course.entry.root start word) }
+    ensures { IsTableOf (frame_of course.entry) start course.entry.seen.now → IfOk result (λ word. tell.AreEnded course.entry.rows.now course.entry.facts.now course.entry.numbers.now owners.now course.entry.from course.entry.root start word) }
 {
-    if course.size() == 0 {
-        return Err(OutOfMemory);
-    }
-    if !course.is_right(start) {
-        return Err(OutOfMemory);
-    }
     if !course.are_owned(owners) {
         return Err(OutOfMemory);
     }
@@ -62,15 +56,15 @@ fn ended(alloc: Global, group: Group, root: u32, start: u64) -> Result<u64, OutO
     };
     let table = table_of(alloc, frame, start)?;
     let course = Course {
-        rows: group.rows,
-        facts: group.facts,
-        numbers: group.numbers,
-        from: group.from,
-        root: root as usize,
+        rows: frame.rows,
+        facts: frame.facts,
+        numbers: frame.numbers,
+        from: frame.from,
+        root: frame.root as usize,
         seen: &table,
-        guarded: &guarded,
+        guarded: frame.guarded,
     };
-    ended_if(course, start, group.owners)
+    ended_by(course, start, group.owners)
 }
 
 // ---- the parts of a body

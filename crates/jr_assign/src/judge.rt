@@ -1,9 +1,10 @@
-// Whether the locals that the rows of a member read are assigned there, by the confirmed table of the member.
+// Whether the locals that the rows of a member read are assigned there, by the table of the member.
 ghost use Rattle.std.specs.Prelude.{◌≡◌, ◌<◌, ◌^◌, None, OnOk, Some, slice_index_or, slice_set};
 ghost use Rattle.jr_tree.specs.Rows.{label};
 ghost use Rattle.jr_assign.specs.Assigned.{guarded_in, is_row};
 ghost use Rattle.jr_assign.specs.Changes.{member_in};
 ghost use Rattle.jr_assign.specs.Judged as tell;
+ghost use Rattle.jr_assign.specs.Walked.{frame_of, IsTableOf};
 
 use crate::course::Course;
 use jr_base::OutOfMemory;
@@ -153,7 +154,7 @@ impl<'a> Course<'a> {
         }
     }
 
-    /// Judges the rows of the member, if its table is confirmed.
+    /// Judges the rows of the member, by its table.
     pub(crate) fn judge(
         self,
         start: u64,
@@ -162,10 +163,9 @@ impl<'a> Course<'a> {
     ) -> Result<(), OutOfMemory>
         requires guarded { self.guarded.now ≡ guarded_in self.rows.now self.root }
         requires few { self.root < 2 ^ 32 }
-        ensures { OnOk result (tell.AreJudged self.entry.rows.now self.entry.facts.now round.entry.members.now verdicts.old.items → tell.AreJudged self.entry.rows.now self.entry.facts.now round.entry.members.now verdicts.new.items) }
+        ensures { IsTableOf (frame_of self.entry) start self.entry.seen.now → OnOk result (tell.AreJudged self.entry.rows.now self.entry.facts.now round.entry.members.now verdicts.old.items → tell.AreJudged self.entry.rows.now self.entry.facts.now round.entry.members.now verdicts.new.items) }
     {
-        let is_sure = self.is_right(start) && self.are_owned(round.owners);
-        if !is_sure {
+        if !self.are_owned(round.owners) {
             return Err(OutOfMemory);
         }
         self.judge_all(start, round, verdicts);

@@ -1,7 +1,12 @@
 // The laws of definite assignment.
-ghost use Rattle.jr_assign.specs.Assigned.{EachMemberIsAssignedOnce};
+ghost use Rattle.jr_assign.specs.Assigned.{EachMemberIsAssigned, EachMemberIsAssignedOnce};
 ghost use Rattle.jr_assign.specs.Blank.{EachMakingIsOne};
 ghost use Rattle.jr_assign.specs.Words.{EachWordIsOfVariables};
+
+/// What the equations of a member say, followed so often that each row has it, is a solution of them.
+pub fn each_member_is_assigned()
+    ensures { EachMemberIsAssigned }
+{}
 
 /// The equations of a member have one solution.
 pub fn each_member_is_assigned_once()

@@ -14,7 +14,6 @@ mod member;
 mod numbers;
 mod parts;
 mod run;
-mod turns;
 
 pub use builders::change_faults;
 pub use fact::{Fact, Way, no_fact};

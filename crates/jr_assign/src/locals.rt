@@ -46,13 +46,13 @@ fn judge_word(
     };
     let table = table_of(alloc, frame, 0)?;
     let course = Course {
-        rows: known.rows,
-        facts: known.facts,
-        numbers: known.numbers.all(),
-        from,
-        root: root as usize,
+        rows: frame.rows,
+        facts: frame.facts,
+        numbers: frame.numbers,
+        from: frame.from,
+        root: frame.root as usize,
         seen: &table,
-        guarded,
+        guarded: frame.guarded,
     };
     let round = Owners {
         owners,

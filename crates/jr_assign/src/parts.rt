@@ -6,9 +6,8 @@ ghost use Rattle.jr_assign.specs.Blank as blank;
 ghost use Rattle.jr_assign.specs.Changes as changes;
 ghost use Rattle.jr_assign.specs.Made as made;
 
-use crate::fact::{Fact, fact_of};
 use jr_base::OutOfMemory;
-use jr_places::{end_at, parent_at};
+use jr_places::parent_at;
 use jr_tree::{Label, Row, ThisOrSuper};
 
 fn is_same(first: bool, second: bool) -> bool
@@ -186,44 +185,4 @@ pub(crate) fn is_first(rows: &[Row], body: u32, at: u32) -> bool
     ensures { result ≡ blank.is_first rows.now body at }
 {
     is_constructor(rows, at) && parent_at(rows, at) == body && !hands_on(rows, at)
-}
-
-/// The parts of a `for` (JLS 14.14.1). Its updates stand between its header and its body.
-#[derive(Clone, Copy)]
-pub(crate) struct ForParts {
-    pub(crate) first: Option<u32>,
-    pub(crate) condition: Option<u32>,
-    pub(crate) body: u32,
-    /// The first update, or the body.
-    pub(crate) update: u32,
-}
-
-/// The parts of the `for` at a row.
-pub(crate) fn for_parts(
-    rows: &[Row],
-    facts: &[Fact],
-    at: u32,
-    has_first: bool,
-    has_condition: bool,
-) -> ForParts {
-    let start = at.saturating_add(1);
-    let test = if has_first {
-        end_at(rows, start)
-    } else {
-        start
-    };
-    let update = if has_condition {
-        end_at(rows, test)
-    } else {
-        test
-    };
-    ForParts {
-        first: if has_first { Some(start) } else { None },
-        condition: if has_condition { Some(test) } else { None },
-        body: match fact_of(facts, at as usize).last {
-            Some(body) => body,
-            None => update,
-        },
-        update,
-    }
 }

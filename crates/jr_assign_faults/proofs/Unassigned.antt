@@ -15,7 +15,7 @@ use Rattle.jr_assign.specs.Confirmed.{are_last}
 use Rattle.jr_assign.specs.Judged.{ReadsUnassigned, AreUnassignedReads}
 use Rattle.jr_assign.specs.Blank.{IsLeftBlank}
 use Rattle.jr_assign.specs.Made.{AreLeftBlank}
-use Rattle.jr_assign.proofs.Unassigned.{has_each_last}
+use Rattle.jr_assign.proofs.Judging.{has_each_last}
 use Rattle.jr_assign_faults.specs.Changed.{rows_in, table_in}
 use Rattle.jr_assign_faults.specs.Faults.{AreExactFaults}
 use Rattle.jr_assign_faults.specs.Finals.{BreaksAssignment}
@@ -29,7 +29,7 @@ read_so view same h = subst (λ (all : Facts). AreRead (rows_in view) (table_in 
 module _ (view : View) (local : IsLocal (rows_in view)) (known : of_flow.AreKnown (rows_in view) (table_in view) (facts_in view)) (facts : Facts)
     (read : AreRead (rows_in view) (table_in view) (facts_in view) facts) (lasts : are_last (rows_in view) facts ≡ true) where
   mine : AreKnown (rows_in view) (table_in view) (facts_in view) facts
-  mine = record { read = read; lasts = has_each_last (rows_in view) facts local.tree lasts }
+  mine = record { read = read; lasts = has_each_last (rows_in view) facts lasts }
 
   same_facts : (f : flow.Facts) (other : Facts) → of_flow.AreKnown (rows_in view) (table_in view) f → AreKnown (rows_in view) (table_in view) f other → other ≡ facts
   same_facts f other a b = known_once (rows_in view) local.tree (table_in view) (facts_in view) other facts

@@ -1,4 +1,4 @@
-use Rattle.jr_assign.proofs.Once.{each_member_once}
+use Rattle.jr_assign.proofs.Following.{each_member_once}
 use Rattle.jr_assign.proofs.law.each_member_is_assigned_once.Goals as goal
 
 pub returns : goal.returns
