@@ -1,4 +1,5 @@
 pub mod Requested
 pub mod Steps
 pub mod Written
+pub mod Refusing
 pub mod Planning

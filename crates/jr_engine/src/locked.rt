@@ -1,6 +1,6 @@
 // The changed program under its locks.
 
-ghost use Rattle.std.specs.Prelude.{◌≡◌, map, length, Ok, IfOk};
+ghost use Rattle.std.specs.Prelude.{◌≡◌, map, length, Ok, IfOk, IfErr};
 ghost use Rattle.std.specs.List.{AllByRecursion};
 ghost use Rattle.jr_tree.specs.Shape.{IsShaped};
 ghost use Rattle.jr_tree.specs.Rows.{program_rows};
@@ -8,6 +8,7 @@ ghost use Rattle.jr_headed.specs.Founded.{IsProgram};
 ghost use Rattle.jr_places.specs.Tabulated.{tabulated};
 ghost use Rattle.jr_prelude.specs.Begins.{BeginsWithLang};
 ghost use Rattle.jr_front.specs.Bound.{IsBoundIn};
+ghost use Rattle.jr_engine.specs.Refusing.{IsHinderedIn};
 ghost use Rattle.jr_engine.specs.Written.{AreFirstIn, IsBoundByLocks, IsLockedBy, IsSound, is_constant_by, rows_of};
 
 use crate::asked::{Asked, project_of};
@@ -63,6 +64,7 @@ fn locked_rows(
     ensures rows { IfOk result (λ locked. locked.program.index.value.rows ≡ index.value.rows) }
     ensures locks { IfOk result (λ locked. locked.locks ≡ locks) }
     ensures bound { IfOk result IsBoundByLocks }
+    ensures err { IfErr result (IsHinderedIn asked.entry) }
 {
     let rows = index.rows();
     let places = boxed(alloc, Places::of(alloc, rows))?;
@@ -92,6 +94,7 @@ fn locked_program(alloc: Global, asked: Asked, program: Program) -> Result<Locke
     ensures shaped { IfOk result (λ locked. IsProgram (rows_of locked)) }
     ensures begins { BeginsWithLang (program_rows (map (λ u. u.unit) program.units)) → IfOk result (λ locked. BeginsWithLang (rows_of locked)) }
     ensures bound { IfOk result IsBoundByLocks }
+    ensures err { IfErr result (IsHinderedIn asked.entry) }
 {
     let index = index_of(alloc, &program)?;
     let old = asked.old.index.rows();
@@ -108,6 +111,7 @@ pub fn lock(alloc: Global, asked: Asked) -> Result<Locked, StepFault>
     ensures shaped { IfOk result (λ locked. IsProgram (rows_of locked)) }
     ensures begins { IfOk result (λ locked. BeginsWithLang (rows_of locked)) }
     ensures bound { IfOk result IsBoundByLocks }
+    ensures err { IfErr result (IsHinderedIn asked.entry) }
 {
     let units = asked.old.program.units.as_slice();
     let texts = changed_texts(alloc, units, asked.change)?;
@@ -144,7 +148,9 @@ fn constant_of(alloc: Global, asked: Asked, locked: &Locked) -> Result<Vec<bool>
 }
 
 // The row cannot be written so that it refers to its lock. Of the occurrence and the declaration the units are told, but not the nodes.
-fn no_spelling(asked: Asked, locked: &Locked, row: u32) -> StepFault {
+fn no_spelling(asked: Asked, locked: &Locked, row: u32) -> StepFault
+    ensures { IsHinderedIn asked.entry result }
+{
     let place = asked.place_of(&locked.locks.origin, row);
     let mut lock = place.cu;
     if let Some(Referent::Declared { row, .. }) = locked.locks.table.get(row as usize) {
@@ -177,7 +183,8 @@ pub fn spellings(alloc: Global, asked: Asked, locked: &Locked) -> Result<Vec<Spe
     requires sound { IsSound asked locked.now }
     requires locked { IsLockedBy asked locked.now }
     requires bound { IsBoundByLocks locked.now }
-    ensures { IfOk result (λ all. AreFirstIn asked.entry locked.now all.items) }
+    ensures ok { IfOk result (λ all. AreFirstIn asked.entry locked.now all.items) }
+    ensures err { IfErr result (IsHinderedIn asked.entry) }
 {
     let constant = constant_of(alloc, asked, locked)?;
     match spell(alloc, &project_of(&locked.program), &constant) {
