@@ -1,6 +1,7 @@
 -- What is known of a step by its parts, and of steps one after another.
 use Rattle.std.proofs.Common.{◌≡◌, ◌∙◌, ◌+◌, ◌<◌, ◌^◌, ap, refl, true, Bool, Option, Some, None, is_some, List, append_assoc, [], ◌∷◌, ◌++◌, ℕ, Result, Ok, Err, IfErr, IfOk, IsTrue, length, map, arith, sym, subst}
 use Rattle.std.proofs.lemmas.List.{append-nil}
+use Rattle.std.proofs.lemmas.Option.{none-some, same_Some}
 use Rattle.std.specs.FinMap as files
 use Rattle.std.specs.List.{AllByRecursion}
 use Rattle.jr_base.specs.Files.{FileMap}
@@ -20,11 +21,13 @@ use Rattle.jr_front.specs.Viewed.{IsViewOf}
 use Rattle.jr_front.specs.declared.fault.FrontFault.{FrontFault}
 use Rattle.jr_front.specs.declared.workspace.Workspace.{Workspace}
 use Rattle.jr_engine.specs.Planning.{IsAccepted, PlannedAs, RefusedAs}
-use Rattle.jr_engine.specs.Refusing.{HasCause, IsCausedBy, IsHinderedIn, IsOfFlow, IsRefusedFrom, IsToldAs, fault_of}
+use Rattle.jr_engine.specs.Refusing.{HasCause, IsCausedBy, IsHinderedIn, IsOfFlow, IsRefusedFrom, IsShownAt, IsToldAs, fault_of}
 use Rattle.jr_engine.specs.Steps.{Opened, IsOpened, IsRead, IsHeld, IsMeaningOf, KeepsFlow, IsAskedOf, IsRequested, LeftBy, IsStep, stays, leaves, AreSteps, none, more, IsFollowed, opened, opened_by}
 use Rattle.jr_tree.specs.Rows.{Rows}
 use Rattle.jr_defs.specs.Referents.{Table, entries}
 use Rattle.jr_defs.specs.declared.referent.Referent.{Referent}
+use Rattle.jr_marks.specs.Places.{place_of_name}
+use Rattle.jr_marks.specs.declared.marks.Marks.{Marks}
 use Rattle.jr_change.specs.declared.change.Change.{Change}
 use Rattle.jr_change.specs.declared.project.Locks.{Locks}
 use Rattle.jr_change.specs.declared.project.Project.{Project}
@@ -63,7 +66,8 @@ use Rattle.jr_shapes.specs.declared.spelling.Spelling.{Spelling}
 use Rattle.jr_view.specs.declared.View.{View}
 use Rattle.jr_engine.specs.Requested.{keeps_all}
 use Rattle.jr_locks.specs.Changed.{IsChanged, origins_by, copies_by}
-use Rattle.jr_edges.specs.Dispatched.{KeepsDispatch, IsTold}
+use Rattle.jr_locks.specs.Origins.{origin_of, row_by}
+use Rattle.jr_edges.specs.Dispatched.{IsTold}
 use Rattle.jr_edges.specs.declared.dispatched.Lost.{Lost}
 use Rattle.jr_engine.specs.Written.{AreFirstIn, IsSpelledIn, IsLeftOf, IsAskedFor, IsLockedBy, IsBoundByLocks, KeepsCallsIn, KeepsFlowIn, rows_of as rows_under, locks_of}
 use Rattle.jr_engine.specs.declared.asked.Asked.{Asked}
@@ -170,6 +174,14 @@ control_hinders a first second is_old told e = told_hinders a _ told e tt
 pub memory_hinders : (a : Asked) (told : StepFault) → told ≡ step.OutOfMemory → IsHinderedIn a told
 memory_hinders a told e = told_hinders a _ told e tt
 
+-- ---- places in the old files
+
+pub shown_so : (m : Marks) (origin : List ℕ) (row : ℕ) (o : Option ℕ) (from : ℕ) (place : Place) → o ≡ row_by (origin_of origin row) → o ≡ Some from → place ≡ place_of_name m from → IsShownAt m origin row place
+shown_so m origin row o from place is some at = λ n e. at ∙ ap (place_of_name m) (same_Some from n (sym some ∙ is ∙ e))
+
+pub unshown_so : (m : Marks) (origin : List ℕ) (row : ℕ) (o : Option ℕ) (place : Place) → o ≡ row_by (origin_of origin row) → o ≡ None → IsShownAt m origin row place
+unshown_so m origin row o place is none = λ n e. absurd (none-some n (sym none ∙ is ∙ e))
+
 pub err_is : {A : Type 0} {E : Type 0} (P : E → Type 0) (result : Result A E) (why : E) → result ≡ Err why → P why → IfErr result P
 err_is {A} {E} P result why e h = subst (λ (r : Result A E). IfErr r P) (sym e) h
 
@@ -231,32 +243,43 @@ pub locked_world : (locked : Locked) (view : View) → IsProgram (rows_under loc
 locked_world locked view program well is of = whole_world locked.program view (locked_under locked program well is) of well.object.bare
 
 -- what is told of the calls of two views is told of the old and the changed program
-told_between : (asked : Asked) (locked : Locked) (p q : Rows) (t l : List Referent) (copy : List ℕ) → p ≡ rows_in asked.old.now → t ≡ asked.old.now.bound.value.table.items → q ≡ rows_under locked
-    → entries l ≡ locks_of locked → copy ≡ copies_by (origins_by asked.change.now) (length (rows_in asked.old.now)) → KeepsDispatch p (entries t) q (entries l) copy → KeepsCallsIn asked locked
-told_between asked locked p q t l copy rows table new locks copies kept =
-    let copied : List ℕ = copies_by (origins_by asked.change.now) (length (rows_in asked.old.now)) in
-    let first : KeepsDispatch p (entries t) q (entries l) copied = subst (λ (c : List ℕ). KeepsDispatch p (entries t) q (entries l) c) copies kept in
-    let second : KeepsDispatch p (entries t) q (locks_of locked) copied = subst (λ (s : Table). KeepsDispatch p (entries t) q s copied) locks first in
-    let third : KeepsDispatch p (entries t) (rows_under locked) (locks_of locked) copied = subst (λ (r : Rows). KeepsDispatch p (entries t) r (locks_of locked) copied) new second in
-    let fourth : KeepsDispatch p (table_in asked.old.now) (rows_under locked) (locks_of locked) copied =
-    subst (λ (s : List Referent). KeepsDispatch p (entries s) (rows_under locked) (locks_of locked) copied) table third in
-    subst (λ (r : Rows). KeepsDispatch r (table_in asked.old.now) (rows_under locked) (locks_of locked) copied) rows fourth
+abbrev pub IsToldOf : Asked → Locked → Option Lost → Type 0
+IsToldOf asked locked found = IsTold (rows_in asked.old.now) (table_in asked.old.now) (rows_under locked) (locks_of locked) (copies_by (origins_by asked.change.now) (length (rows_in asked.old.now))) found
 
--- where no call is lost between two views, calls find what they found
-pub calls_kept : (asked : Asked) (locked : Locked) (old new : View) (before after : Methods) (copy : List ℕ) (found : Option Lost)
+told_between : (asked : Asked) (locked : Locked) (p q : Rows) (t l : List Referent) (copy : List ℕ) (found : Option Lost) → p ≡ rows_in asked.old.now → t ≡ asked.old.now.bound.value.table.items → q ≡ rows_under locked
+    → entries l ≡ locks_of locked → copy ≡ copies_by (origins_by asked.change.now) (length (rows_in asked.old.now)) → IsTold p (entries t) q (entries l) copy found → IsToldOf asked locked found
+told_between asked locked p q t l copy found rows table new locks copies kept =
+    let copied : List ℕ = copies_by (origins_by asked.change.now) (length (rows_in asked.old.now)) in
+    let first : IsTold p (entries t) q (entries l) copied found = subst (λ (c : List ℕ). IsTold p (entries t) q (entries l) c found) copies kept in
+    let second : IsTold p (entries t) q (locks_of locked) copied found = subst (λ (s : Table). IsTold p (entries t) q s copied found) locks first in
+    let third : IsTold p (entries t) (rows_under locked) (locks_of locked) copied found = subst (λ (r : Rows). IsTold p (entries t) r (locks_of locked) copied found) new second in
+    let fourth : IsTold p (table_in asked.old.now) (rows_under locked) (locks_of locked) copied found =
+    subst (λ (s : List Referent). IsTold p (entries s) (rows_under locked) (locks_of locked) copied found) table third in
+    subst (λ (r : Rows). IsTold r (table_in asked.old.now) (rows_under locked) (locks_of locked) copied found) rows fourth
+
+pub calls_told : (asked : Asked) (locked : Locked) (old new : View) (before after : Methods) (copy : List ℕ) (found : Option Lost)
     → IsViewOf (rows_in asked.old.now) asked.old.now.places.value asked.old.now.scopes.value asked.old.now.bound.value old
     → IsViewOf (rows_under locked) locked.program.places.value locked.program.scopes.value locked.program.bound.value new → before.under ≡ old.sight.world.under → after.under ≡ new.sight.world.under
     → ((t : Table) → IsWholeWorld t old.sight.world → AreMethods old.sight.world.under.rows.now t before) → ((t : Table) → IsWholeWorld t new.sight.world → AreMethods new.sight.world.under.rows.now t after)
     → copy ≡ locked.locks.copy.items → IsBoundIn asked.old.now → IsProgram (rows_under locked) → AreWell (rows_under locked) → IsBoundByLocks locked → IsLockedBy asked locked
-    → ((t l : Table) → AreMethods before.under.rows.now t before → AreMethods after.under.rows.now l after → IsTold before.under.rows.now t after.under.rows.now l copy found) → found ≡ None → KeepsCallsIn asked locked
-calls_kept asked locked old new before after copy found old_of new_of before_is after_is old_read new_read copies bound program well is by told nothing =
+    → ((t l : Table) → AreMethods before.under.rows.now t before → AreMethods after.under.rows.now l after → IsTold before.under.rows.now t after.under.rows.now l copy found) → IsToldOf asked locked found
+calls_told asked locked old new before after copy found old_of new_of before_is after_is old_read new_read copies bound program well is by told =
     let t : Table = entries old.sight.world.under.table.now in
     let l : Table = entries new.sight.world.under.table.now in
     let first : IsTold before.under.rows.now t after.under.rows.now l copy found = told t l (read_methods old.sight.world t before before_is old_read (whole_view asked.old.now old bound old_of))
     (read_methods new.sight.world l after after_is new_read (locked_world locked new program well is new_of)) in
-    let second : KeepsDispatch before.under.rows.now t after.under.rows.now l copy = subst (λ (f : Option Lost). IsTold before.under.rows.now t after.under.rows.now l copy f) nothing first in
-    told_between asked locked before.under.rows.now after.under.rows.now old.sight.world.under.table.now new.sight.world.under.table.now copy (ap (λ (u : Tabled). u.rows.now) before_is ∙ old_of.rows_are) old_of.table_is
-    (ap (λ (u : Tabled). u.rows.now) after_is ∙ new_of.rows_are) (ap entries new_of.table_is ∙ is.table) (copies ∙ by.copies) second
+    told_between asked locked before.under.rows.now after.under.rows.now old.sight.world.under.table.now new.sight.world.under.table.now copy found (ap (λ (u : Tabled). u.rows.now) before_is ∙ old_of.rows_are) old_of.table_is
+    (ap (λ (u : Tabled). u.rows.now) after_is ∙ new_of.rows_are) (ap entries new_of.table_is ∙ is.table) (copies ∙ by.copies) first
+
+-- where no call is lost, calls find what they found
+pub calls_kept : (asked : Asked) (locked : Locked) (found : Option Lost) → IsToldOf asked locked found → found ≡ None → KeepsCallsIn asked locked
+calls_kept asked locked found told nothing = subst (λ (f : Option Lost). IsToldOf asked locked f) nothing told
+
+-- where a call is lost, this is told
+pub call_hinders : (a : Asked) (locked : Locked) (found : Option Lost) (lost : Lost) (told : StepFault) → IsLockedBy a locked → IsToldOf a locked found → found ≡ Some lost
+    → told ≡ step.LostEdge kind.Dispatch (place_of_name a.project.now.marks lost.class) (place_of_name a.project.now.marks lost.method) true → IsHinderedIn a told
+call_hinders a locked found lost told by is some e = told_hinders a (step.LostEdge kind.Dispatch (place_of_name a.project.now.marks lost.class) (place_of_name a.project.now.marks lost.method) true) told e
+    (record { rows = rows_under locked; locks = locks_of locked; changed = by.changed; lost = lost; is = subst (λ (f : Option Lost). IsToldOf a locked f) some is; class_at = refl; method_at = refl }, refl)
 
 -- ---- where control goes
 

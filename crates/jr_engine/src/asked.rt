@@ -4,7 +4,8 @@ ghost use Rattle.std.specs.Prelude.{◌≡◌, length};
 ghost use Rattle.jr_index.specs.NodeRows.{unit_rows};
 ghost use Rattle.jr_front.specs.Bound.{rows_in};
 ghost use Rattle.jr_front.specs.Viewed.{IsViewOf};
-ghost use Rattle.jr_engine.specs.Refusing.{IsHinderedIn};
+ghost use Rattle.jr_marks.specs.Places.{IsOrdered};
+ghost use Rattle.jr_engine.specs.Refusing.{IsHinderedIn, IsShownAt};
 ghost use Rattle.jr_engine.specs.Steps.{IsProjectIn};
 
 use crate::fault::StepFault;
@@ -100,7 +101,9 @@ impl<'a> Asked<'a> {
     }
 
     /// The place in the old files of the name of a row of the changed program; that of what is asked for where the row comes from no old one.
-    pub fn place_of(self, origin: &[u32], row: u32) -> Place {
+    pub fn place_of(self, origin: &[u32], row: u32) -> Place
+        ensures { IsOrdered self.entry.project.now.marks → IsShownAt self.entry.project.now.marks origin.now row result }
+    {
         match row_for(origin, row) {
             Some(from) => self.project.marks.name_place(from),
             None => self.place(),

@@ -1,10 +1,12 @@
 // Whether edges of flow are kept, and whether there are too many points of flow.
 
-ghost use Rattle.std.specs.Prelude.{◌≡◌, None, IfOk, IfErr};
+ghost use Rattle.std.specs.Prelude.{◌≡◌, true, None, IfOk, IfErr};
 ghost use Rattle.jr_headed.specs.Founded.{IsProgram};
+ghost use Rattle.jr_marks.specs.Places.{IsOrdered, place_of_name};
 ghost use Rattle.jr_front.specs.Bound.{IsBoundIn};
 ghost use Rattle.jr_engine.specs.Refusing.{IsHinderedIn, IsOfFlow};
-ghost use Rattle.jr_engine.specs.Written.{IsBoundByLocks, IsLockedBy, IsSound, KeepsCallsIn, KeepsFlowIn, rows_of};
+ghost use Rattle.jr_engine.specs.Written.{IsAskedFor, IsBoundByLocks, IsLockedBy, IsSound, KeepsCallsIn, KeepsFlowIn, rows_of};
+ghost use Rattle.jr_engine.specs.declared.fault.LostKind.TheVariants as kind;
 ghost use Rattle.jr_engine.specs.declared.fault.StepFault.TheVariants as step;
 
 use crate::asked::{Asked, project_of};
@@ -54,7 +56,7 @@ fn is_changed_within_flow(alloc: Global, asked: Asked, locked: &Locked) -> Resul
 
 // The edge that is lost where a call finds another method than before.
 fn lost_call(asked: Asked, lost: Lost) -> StepFault
-    ensures { IsHinderedIn asked.entry result }
+    ensures { IsOrdered asked.entry.project.now.marks → result ≡ step.LostEdge kind.Dispatch (place_of_name asked.entry.project.now.marks lost.class) (place_of_name asked.entry.project.now.marks lost.method) true }
 {
     let marks = &asked.project.marks;
     StepFault::LostEdge {
@@ -67,6 +69,7 @@ fn lost_call(asked: Asked, lost: Lost) -> StepFault
 
 // Calls find in each class the methods that they found there.
 fn keeps_calls(alloc: Global, asked: Asked, locked: &Locked) -> Result<(), StepFault>
+    requires asked { IsAskedFor asked }
     requires old { IsBoundIn asked.old.now }
     requires new { IsProgram (rows_of locked.now) }
     requires sound { IsSound asked locked.now }
@@ -110,6 +113,7 @@ fn keeps_control(
 
 /// Control goes as before, calls find in each class the methods that they found there, and uses of locals the values that they had.
 pub fn keeps_edges(alloc: Global, asked: Asked, locked: &Locked) -> Result<(), StepFault>
+    requires asked { IsAskedFor asked }
     requires old { IsBoundIn asked.old.now }
     requires new { IsProgram (rows_of locked.now) }
     requires sound { IsSound asked locked.now }

@@ -7,9 +7,10 @@ ghost use Rattle.jr_tree.specs.Rows.{program_rows};
 ghost use Rattle.jr_headed.specs.Founded.{IsProgram};
 ghost use Rattle.jr_places.specs.Tabulated.{tabulated};
 ghost use Rattle.jr_prelude.specs.Begins.{BeginsWithLang};
+ghost use Rattle.jr_marks.specs.Places.{IsOrdered};
 ghost use Rattle.jr_front.specs.Bound.{IsBoundIn};
-ghost use Rattle.jr_engine.specs.Refusing.{IsHinderedIn};
-ghost use Rattle.jr_engine.specs.Written.{AreFirstIn, IsBoundByLocks, IsLockedBy, IsSound, is_constant_by, rows_of};
+ghost use Rattle.jr_engine.specs.Refusing.{IsHinderedIn, IsUnspelled};
+ghost use Rattle.jr_engine.specs.Written.{AreFirstIn, IsAskedFor, IsBoundByLocks, IsLockedBy, IsSound, is_constant_by, rows_of};
 
 use crate::asked::{Asked, project_of};
 use crate::fault::StepFault;
@@ -149,7 +150,7 @@ fn constant_of(alloc: Global, asked: Asked, locked: &Locked) -> Result<Vec<bool>
 
 // The row cannot be written so that it refers to its lock. Of the occurrence and the declaration the units are told, but not the nodes.
 fn no_spelling(asked: Asked, locked: &Locked, row: u32) -> StepFault
-    ensures { IsHinderedIn asked.entry result }
+    ensures { IsOrdered asked.entry.project.now.marks → IsUnspelled asked.entry.project.now.marks locked.now.locks.origin.items row result }
 {
     let place = asked.place_of(&locked.locks.origin, row);
     let mut lock = place.cu;
@@ -177,6 +178,7 @@ fn no_spelling(asked: Asked, locked: &Locked, row: u32) -> StepFault
 
 /// How each reference of the changed program is to be written.
 pub fn spellings(alloc: Global, asked: Asked, locked: &Locked) -> Result<Vec<Spelling>, StepFault>
+    requires asked { IsAskedFor asked }
     requires old { IsBoundIn asked.old.now }
     requires new { IsProgram (rows_of locked.now) }
     requires begins { BeginsWithLang (rows_of locked.now) }
