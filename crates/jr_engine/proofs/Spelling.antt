@@ -61,14 +61,15 @@ use Rattle.jr_bind.proofs.Confirmed.{locals_placed, program_in, unbound_past}
 use Rattle.jr_prelude.specs.Begins.{BeginsWithLang}
 use Rattle.jr_index.specs.NodeRows.{unit_rows}
 use Rattle.jr_change.specs.declared.project.Project.{Project}
-use Rattle.jr_locks.specs.Changed.{origins_by}
+use Rattle.jr_locks.specs.Changed.{IsChanged, origins_by}
 use Rattle.jr_locks.specs.Origins.{no_row, origin_of, row_by}
 use Rattle.jr_shapes.specs.declared.spelling.Spelling.{Spelling}
 use Rattle.jr_spelling_rules.specs.Fitting.{TellsConstants}
-use Rattle.jr_spelling_rules.specs.Spelling.{Written, spelling}
-use Rattle.jr_spelling_rules.proofs.Spelled.{spelling_is}
-use Rattle.jr_spell.specs.Shaping.{IsWholeView, AreSpelledIn}
-use Rattle.jr_spell.specs.Spelling.{HasTypes, IsSpelled, IsWritten as Says, first_written}
+use Rattle.jr_spelling_rules.specs.Spelling.{HasNoSpelling, Written, spelling}
+use Rattle.jr_spelling_rules.proofs.Spelled.{no_spelling, spelling_is}
+use Rattle.jr_spell.specs.Shaping.{IsWholeView, AreSpelledIn, HasNoneIn}
+use Rattle.jr_spell.specs.declared.fault.SpellFault.TheVariants as spell_fault
+use Rattle.jr_spell.specs.Spelling.{HasTypes, IsExactAt, IsSpelled, IsWritten as Says, first_written}
 use Rattle.jr_view.specs.declared.View.{View}
 use Rattle.jr_front.specs.Bound.{IsBoundIn, rows_in, table_in}
 use Rattle.jr_front.specs.Viewed.{IsViewOf}
@@ -76,7 +77,10 @@ use Rattle.jr_front.specs.declared.workspace.Workspace.{Workspace}
 use Rattle.jr_front.proofs.Bound.{program_of}
 use Rattle.jr_member_rules.proofs.Inner.{variable_finds}
 use Rattle.jr_engine.specs.Steps.{AreFirst, IsFirst, is_constant, types, values}
-use Rattle.jr_engine.specs.Written.{AreFirstIn, IsBoundByLocks, IsLockedBy, IsSound, is_constant_by, rows_of}
+use Rattle.jr_engine.specs.Refusing.{IsHinderedIn, IsShownAt, IsUnspelled}
+use Rattle.jr_engine.specs.Written.{AreFirstIn, IsAskedFor, IsBoundByLocks, IsLockedBy, IsSound, is_constant_by, locks_of, rows_of}
+use Rattle.jr_engine.specs.declared.fault.StepFault.{StepFault}
+use Rattle.jr_engine.specs.declared.fault.StepFault.TheVariants as step
 use Rattle.jr_engine.specs.declared.asked.Asked.{Asked}
 use Rattle.jr_engine.specs.declared.locked.Locked.{Locked}
 use Rattle.jr_engine.proofs.Stepping.{locked_under, locked_world}
@@ -354,6 +358,27 @@ module _ (asked : Asked) (locked : Locked) (bound : IsBoundIn asked.old.now) (pr
         subst (λ (f : Types). AreSpelledBy q l f constant start (variable_in_code view.constants.now) all) (ap (λ (x : List (Option RowType)). type_in_code x) of.types_are ∙ types_are asked locked program begins sound is) table in
         subst (λ (c : code.Constants). AreSpelledBy q l (types q l) constant start (variable_in_code c) all) of.constants_are typed
 
+  -- and of a reference that has none
+  abbrev LacksBy : Rows → Table → Types → (ℕ → Bool) → ℕ → (ℕ → Bool) → ℕ → Type 0
+  LacksBy r x type_of was first variable n = IsExactAt r x type_of n → spelling r x type_of was first n variable ≡ None
+
+  lacks_so : (n : ℕ) → LacksBy q l (types q l) constant start variable n → HasNoSpelling q l (types q l) constant start n
+  lacks_so n told = no_spelling q l (types q l) constant start n variable (typable asked locked program begins sound is).headed (tells asked locked program begins sound is)
+      (told (record { typed = λ e. has_types asked locked program begins sound is }))
+
+  lacks_seen : (view : View) → IsViewOf q locked.program.places.value locked.program.scopes.value locked.program.bound.value view → (n : ℕ)
+      → LacksBy view.sight.world.under.rows.now (entries view.sight.world.under.table.now) (λ m. slice_index_or view.types.now m None) constant start (λ d. is_some (slice_index_or view.constants.now.variables.items d None)) n
+      → LacksBy q l (types q l) constant start variable n
+  lacks_seen view of n h =
+      let rows : LacksBy q (entries view.sight.world.under.table.now) (λ m. slice_index_or view.types.now m None) constant start (λ d. is_some (slice_index_or view.constants.now.variables.items d None)) n =
+      subst (λ (r : Rows). LacksBy r (entries view.sight.world.under.table.now) (λ m. slice_index_or view.types.now m None) constant start (λ d. is_some (slice_index_or view.constants.now.variables.items d None)) n) of.rows_are h in
+      let table : LacksBy q l (λ m. slice_index_or view.types.now m None) constant start (λ d. is_some (slice_index_or view.constants.now.variables.items d None)) n =
+      subst (λ (x : List Referent). LacksBy q (entries x) (λ m. slice_index_or view.types.now m None) constant start (λ d. is_some (slice_index_or view.constants.now.variables.items d None)) n) of.table_is rows in
+      let typed : LacksBy q l (types q l) constant start (λ d. is_some (slice_index_or view.constants.now.variables.items d None)) n =
+      subst (λ (f : Types). LacksBy q l f constant start (λ d. is_some (slice_index_or view.constants.now.variables.items d None)) n)
+      (ap (λ (x : List (Option RowType)) (m : ℕ). slice_index_or x m None) of.types_are ∙ types_are asked locked program begins sound is) table in
+      subst (λ (c : code.Constants). LacksBy q l (types q l) constant start (λ d. is_some (slice_index_or c.variables.items d None)) n) of.constants_are typed
+
 -- what is told of the view of the program under its locks is told of the change
 pub first_in : (asked : Asked) (locked : Locked) (project : Project) (constant : List Bool) (all : List Spelling) → IsBoundIn asked.old.now → IsProgram (rows_of locked) → BeginsWithLang (rows_of locked) → IsSound asked locked
     → IsLockedBy asked locked → IsBoundByLocks locked → project.marks.starts.now ≡ unit_rows (rows_of locked) (length (rows_of locked))
@@ -370,3 +395,31 @@ first_in asked locked project constant all bound program begins sound by is star
     (first_written (unit_rows p (length p))) (λ d. is_some (slice_index_or project.view.constants.now.variables.items d None)) a) all) same began in
     subst (λ (x : Table). AreFirst (rows_in asked.old.now) (table_in asked.old.now) asked.change.now p x all) is.table
     (are_first asked locked bound program begins sound by is all (seen_so asked locked bound program begins sound by is project.view of all meant))
+
+unspelled_so : (a : Asked) (rows : Rows) (locks : Table) (origin : List ℕ) (row : ℕ) (told : StepFault) → IsChanged (rows_in a.old.now) (table_in a.old.now) a.change.now rows locks → origin ≡ origins_by a.change.now
+    → HasNoSpelling rows locks (types rows locks) (is_constant (rows_in a.old.now) (table_in a.old.now) a.change.now rows locks) (first_written (unit_rows rows (length rows))) row
+    → IsUnspelled a.project.now.marks origin row told → IsHinderedIn a told
+unspelled_so a rows locks origin row (step.NoSpelling occ place lock) changed same none at =
+    record { rows = rows; locks = locks; changed = changed; row = row; at = subst (λ (all : List ℕ). IsShownAt a.project.now.marks all row place) same at; none = none }
+unspelled_so a rows locks origin row _ changed same none at = absurd at
+
+-- where the view of the program tells that a reference has no spelling, the change is hindered
+pub none_in : (asked : Asked) (locked : Locked) (project : Project) (constant : List Bool) (row : ℕ) (found : Referent) (why : StepFault) → IsAskedFor asked → IsBoundIn asked.old.now → IsProgram (rows_of locked)
+    → BeginsWithLang (rows_of locked) → IsSound asked locked → IsLockedBy asked locked → IsBoundByLocks locked → project.marks.starts.now ≡ unit_rows (rows_of locked) (length (rows_of locked))
+    → IsViewOf (rows_of locked) locked.program.places.value locked.program.scopes.value locked.program.bound.value project.view
+    → constant ≡ tabulated (is_constant_by asked locked) (length locked.locks.origin.items)
+    → (IsWholeView project.view → HasNoneIn project.view constant (first_written project.marks.starts.now) (spell_fault.NoSpelling row found)) → IsUnspelled asked.project.now.marks locked.locks.origin.items row why
+    → IsHinderedIn asked why
+none_in asked locked project constant row found why of_request bound program begins sound by is starts of made told at =
+    let p : Rows = rows_of locked in
+    let t : Table = table_in locked.program in
+    let wanted : ℕ → Bool = is_constant (rows_in asked.old.now) (table_in asked.old.now) asked.change.now p t in
+    let same : (λ n. slice_index_or constant n false) ≡ wanted = fun_ext (constant_at asked locked bound program begins sound by is constant made) in
+    let in_view = told (whole asked locked program begins sound is project.view of) in
+    let began = subst (λ (n : ℕ). HasNoneIn project.view constant n (spell_fault.NoSpelling row found)) (ap first_written starts) in_view in
+    let meant = subst (λ (f : ℕ → Bool). IsExactAt project.view.sight.world.under.rows.now (entries project.view.sight.world.under.table.now) (λ n. slice_index_or project.view.types.now n None) row
+    → spelling project.view.sight.world.under.rows.now (entries project.view.sight.world.under.table.now) (λ n. slice_index_or project.view.types.now n None) f (first_written (unit_rows p (length p))) row
+    (λ d. is_some (slice_index_or project.view.constants.now.variables.items d None)) ≡ None) same began in
+    let none = lacks_so asked locked bound program begins sound by is row (lacks_seen asked locked bound program begins sound by is project.view of row meant) in
+    let under = subst (λ (x : Table). HasNoSpelling p x (types p x) (is_constant (rows_in asked.old.now) (table_in asked.old.now) asked.change.now p x) (first_written (unit_rows p (length p))) row) is.table none in
+    unspelled_so asked p (locks_of locked) locked.locks.origin.items row why by.changed by.origin under at

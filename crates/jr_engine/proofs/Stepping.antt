@@ -1,30 +1,37 @@
 -- What is known of a step by its parts, and of steps one after another.
-use Rattle.std.proofs.Common.{◌≡◌, ◌∙◌, ◌+◌, ◌<◌, ◌^◌, ap, refl, true, Option, Some, None, is_some, List, [], ◌∷◌, ℕ, Result, Ok, Err, IfOk, IsTrue, length, map, arith, sym, subst}
+use Rattle.std.proofs.Common.{◌≡◌, ◌∙◌, ◌+◌, ◌<◌, ◌^◌, ap, refl, true, Bool, Option, Some, None, is_some, List, append_assoc, [], ◌∷◌, ◌++◌, ℕ, Result, Ok, Err, IfErr, IfOk, IsTrue, length, map, arith, sym, subst}
+use Rattle.std.proofs.lemmas.List.{append-nil}
+use Rattle.std.proofs.lemmas.Option.{none-some, same_Some}
 use Rattle.std.specs.FinMap as files
 use Rattle.std.specs.List.{AllByRecursion}
 use Rattle.jr_base.specs.Files.{FileMap}
 use Rattle.jr_base.specs.Paths.{is_java}
+use Rattle.jr_base.specs.declared.limits.Size.TheVariants as size
 use Rattle.jr_base.specs.declared.request.Request.{Request}
+use Rattle.jr_base.specs.declared.token.Place.{Place}
 use Rattle.jr_tree.specs.Shape.{IsShaped}
 use Rattle.jr_defs.specs.Program.{rows_of}
 use Rattle.jr_defs.specs.declared.program.Program.{Program}
 use Rattle.jr_read.specs.Reading.{ReadsAs}
 use Rattle.jr_front.specs.Bound.{IsBoundIn, rows_in, table_in}
-use Rattle.jr_front.specs.Checking.{accepted}
+use Rattle.jr_front.specs.Checking.{CheckedAs, accepted}
 use Rattle.jr_front.specs.Compiling.{Compiles}
 use Rattle.jr_front.proofs.Viewed.{whole_view, whole_world}
 use Rattle.jr_front.specs.Viewed.{IsViewOf}
+use Rattle.jr_front.specs.declared.fault.FrontFault.{FrontFault}
 use Rattle.jr_front.specs.declared.workspace.Workspace.{Workspace}
-use Rattle.jr_engine.specs.Planning.{IsAccepted, PlannedAs}
+use Rattle.jr_engine.specs.Planning.{IsAccepted, PlannedAs, RefusedAs}
+use Rattle.jr_engine.specs.Refusing.{HasCause, IsCausedBy, IsHinderedIn, IsOfFlow, IsRefusedFrom, IsShownAt, IsToldAs, fault_of}
 use Rattle.jr_engine.specs.Steps.{Opened, IsOpened, IsRead, IsHeld, IsMeaningOf, KeepsFlow, IsAskedOf, IsRequested, LeftBy, IsStep, stays, leaves, AreSteps, none, more, IsFollowed, opened, opened_by}
 use Rattle.jr_tree.specs.Rows.{Rows}
 use Rattle.jr_defs.specs.Referents.{Table, entries}
 use Rattle.jr_defs.specs.declared.referent.Referent.{Referent}
-use Rattle.jr_index.specs.NodeRows.{unit_rows}
-use Rattle.jr_marks.specs.Places.{IsOrdered}
+use Rattle.jr_marks.specs.Places.{place_of_name}
+use Rattle.jr_marks.specs.declared.marks.Marks.{Marks}
 use Rattle.jr_change.specs.declared.change.Change.{Change}
 use Rattle.jr_change.specs.declared.project.Locks.{Locks}
 use Rattle.jr_change.specs.declared.project.Project.{Project}
+use Rattle.jr_change.specs.declared.reason.ChangeFault.{ChangeFault}
 use Rattle.jr_places.specs.declared.places.Places.{Places}
 use Rattle.jr_places.specs.Places.{ArePlaces}
 use Rattle.jr_supers.specs.declared.tabled.Tabled.{Tabled}
@@ -57,14 +64,18 @@ use Rattle.jr_kept.specs.Courses.{IsSeen, KeepsCourse, KeepsUsesOf}
 use Rattle.jr_kept.specs.declared.kept.LostEdge.{LostEdge}
 use Rattle.jr_shapes.specs.declared.spelling.Spelling.{Spelling}
 use Rattle.jr_view.specs.declared.View.{View}
-use Rattle.jr_draft.specs.Asking.{table_of}
-use Rattle.jr_engine.specs.Requested.{IsAskedBy, keeps_all}
+use Rattle.jr_engine.specs.Requested.{keeps_all}
 use Rattle.jr_locks.specs.Changed.{IsChanged, origins_by, copies_by}
-use Rattle.jr_edges.specs.Dispatched.{KeepsDispatch, IsTold}
+use Rattle.jr_locks.specs.Origins.{origin_of, row_by}
+use Rattle.jr_edges.specs.Dispatched.{IsTold}
 use Rattle.jr_edges.specs.declared.dispatched.Lost.{Lost}
 use Rattle.jr_engine.specs.Written.{AreFirstIn, IsSpelledIn, IsLeftOf, IsAskedFor, IsLockedBy, IsBoundByLocks, KeepsCallsIn, KeepsFlowIn, rows_of as rows_under, locks_of}
 use Rattle.jr_engine.specs.declared.asked.Asked.{Asked}
+use Rattle.jr_engine.specs.declared.fault.EngineFault.{EngineFault}
+use Rattle.jr_engine.specs.declared.fault.EngineFault.TheVariants as fault
+use Rattle.jr_engine.specs.declared.fault.LostKind.TheVariants as kind
 use Rattle.jr_engine.specs.declared.fault.StepFault.{StepFault}
+use Rattle.jr_engine.specs.declared.fault.StepFault.TheVariants as step
 use Rattle.jr_engine.specs.declared.left.Left.{Left}
 use Rattle.jr_engine.specs.declared.locked.Locked.{Locked}
 use Rattle.jr_engine.specs.declared.tried.Spelled.{Spelled}
@@ -94,28 +105,91 @@ written_so s left w same is spelled = (subst (λ (v : Workspace). IsSpelledIn s 
 
 -- ---- the change of a request
 
-pub asked_so : (w : Workspace) (old : Project) (request : Request) (change : Change) → old.marks.units.now ≡ w.program.units → old.marks.rows.now ≡ rows_in w
-    → old.marks.starts.now ≡ unit_rows (rows_in w) (length (rows_in w)) → table_of old ≡ w.bound.value.table.items → IsViewOf (rows_in w) w.places.value w.scopes.value w.bound.value old.view → IsOrdered old.marks → IsAskedBy old request (Ok change)
-    → IsAskedOf w request change
-asked_so w old request change units rows starts table view ordered asked = record { old = old; units = units; rows = rows; starts = starts; table = table; view = view; ordered = ordered; asked = asked }
-
-requested : (found : FileMap) (w : Workspace) (request : Request) (change : Change) → IsRead found w → IsAskedOf w request change → IsRequested (opened found w) request change
-requested found w request change is a = record {
-  old = a.old;
-  project = record { program = w.program; reads = is.reads; units = a.units; rows = a.rows; starts = a.starts; table = ap entries a.table; ordered = a.ordered; whole = whole_view w a.old.view is.bound a.view; view_rows = a.view.rows_are ∙ sym a.rows };
+requested : (found : FileMap) (w : Workspace) (old : Project) (request : Request) (answer : Result Change ChangeFault) → IsRead found w → IsAskedOf w old request answer → IsRequested (opened found w) request answer
+requested found w old request answer is a = record {
+  old = old;
+  project = record {
+    program = w.program;
+    reads = is.reads;
+    units = a.of.units;
+    rows = a.of.rows;
+    starts = a.of.starts;
+    table = ap entries a.of.table;
+    ordered = a.ordered;
+    whole = whole_view w old.view is.bound a.of.view;
+    view_rows = a.of.view.rows_are ∙ sym a.of.rows;
+  };
   asked = a.asked;
 }
 
 -- a change that keeps all units leaves the files as they are
-pub stays_so : (w : Workspace) (request : Request) (change : Change) → IsAskedOf w request change → keeps_all w.program.units change.units.items ≡ true → LeftBy w request None
+pub stays_so : (w : Workspace) (old : Project) (request : Request) (change : Change) → IsAskedOf w old request (Ok change) → keeps_all w.program.units change.units.items ≡ true → LeftBy w request None
 unfolding requested
-stays_so w request change a keeps = λ found is. stays (requested found w request change is a) keeps
+stays_so w old request change a keeps = λ found is. stays (requested found w old request (Ok change) is a) keeps
+
+-- why there is no change is a cause, and so is why a change is hindered
+pub no_change_caused : (w : Workspace) (old : Project) (request : Request) (why : ChangeFault) → IsAskedOf w old request (Err why) → IsCausedBy w request (fault.Step (fault_of why))
+no_change_caused w old request why a = λ found is. HasCause.no_change (requested found w old request (Err why) is a)
+
+pub hindered_caused : (a : Asked) (why : StepFault) → IsAskedFor a → IsHinderedIn a why → IsCausedBy a.old.now a.request.now (fault.Step why)
+unfolding requested
+hindered_caused a why asked is = λ found read. HasCause.hindered (requested found a.old.now a.project.now a.request.now (Ok a.change.now) read asked) is
+
+pub flow_caused : (w : Workspace) (request : Request) (why : StepFault) → IsOfFlow why → IsCausedBy w request (fault.Step why)
+flow_caused w request (step.TooLarge size.Flow) is = λ found read. HasCause.large
+flow_caused w request step.OutOfMemory is = λ found read. HasCause.memory
+flow_caused w request _ is = absurd is
+
+-- so of the fault that is told
+pub told_caused : (w : Workspace) (request : Request) (why told : EngineFault) → IsToldAs why told → IsCausedBy w request why → IsCausedBy w request told
+told_caused w request why _ IsToldAs.told h = h
+told_caused w request why _ IsToldAs.no_room h = λ found read. HasCause.memory
+
+pub told_memory : (why told : EngineFault) → told ≡ fault.Step step.OutOfMemory → IsToldAs why told
+told_memory why told e = subst (λ (f : EngineFault). IsToldAs why f) (sym e) IsToldAs.no_room
+
+pub no_change_caused_as : (w : Workspace) (old : Project) (request : Request) (why : ChangeFault) (told : StepFault) → told ≡ fault_of why → IsAskedOf w old request (Err why) → IsCausedBy w request (fault.Step told)
+no_change_caused_as w old request why told e a = subst (λ (f : StepFault). IsCausedBy w request (fault.Step f)) (sym e) (no_change_caused w old request why a)
+
+-- ---- what hinders a change
+
+told_hinders : (a : Asked) (why told : StepFault) → told ≡ why → IsHinderedIn a why → IsHinderedIn a told
+told_hinders a why told e h = subst (λ (f : StepFault). IsHinderedIn a f) (sym e) h
+
+flow_hinders : (a : Asked) (told : StepFault) → IsOfFlow told → IsHinderedIn a told
+flow_hinders a (step.TooLarge size.Flow) is = tt
+flow_hinders a step.OutOfMemory is = tt
+flow_hinders a _ is = absurd is
+
+pub flow_hinders_if : (a : Asked) (result : Result (Unit {0}) StepFault) → IfErr result IsOfFlow → IfErr result (IsHinderedIn a)
+flow_hinders_if a (Ok _) is = tt
+flow_hinders_if a (Err why) is = flow_hinders a why is
+
+pub lost_hinders : (a : Asked) (first second : Place) (is_old : Bool) (told : StepFault) → told ≡ step.LostEdge kind.DefUse first second is_old → IsHinderedIn a told
+lost_hinders a first second is_old told e = told_hinders a _ told e tt
+
+pub control_hinders : (a : Asked) (first second : Place) (is_old : Bool) (told : StepFault) → told ≡ step.LostEdge kind.Control first second is_old → IsHinderedIn a told
+control_hinders a first second is_old told e = told_hinders a _ told e tt
+
+pub memory_hinders : (a : Asked) (told : StepFault) → told ≡ step.OutOfMemory → IsHinderedIn a told
+memory_hinders a told e = told_hinders a _ told e tt
+
+-- ---- places in the old files
+
+pub shown_so : (m : Marks) (origin : List ℕ) (row : ℕ) (o : Option ℕ) (from : ℕ) (place : Place) → o ≡ row_by (origin_of origin row) → o ≡ Some from → place ≡ place_of_name m from → IsShownAt m origin row place
+shown_so m origin row o from place is some at = λ n e. at ∙ ap (place_of_name m) (same_Some from n (sym some ∙ is ∙ e))
+
+pub unshown_so : (m : Marks) (origin : List ℕ) (row : ℕ) (o : Option ℕ) (place : Place) → o ≡ row_by (origin_of origin row) → o ≡ None → IsShownAt m origin row place
+unshown_so m origin row o place is none = λ n e. absurd (none-some n (sym none ∙ is ∙ e))
+
+pub err_is : {A : Type 0} {E : Type 0} (P : E → Type 0) (result : Result A E) (why : E) → result ≡ Err why → P why → IfErr result P
+err_is {A} {E} P result why e h = subst (λ (r : Result A E). IfErr r P) (sym e) h
 
 followed : (asked : Asked) (locked : Locked) (all : List Spelling) (left : Left) → IsAskedFor asked → IsLockedBy asked locked → AreFirstIn asked locked all → KeepsCallsIn asked locked → KeepsFlowIn asked locked → IsLeftOf locked all left
     → IsFollowed asked.old.now asked.request.now left
 followed asked locked all left a by first kept flow is = record {
   ends = is.1;
-  step = λ found read. leaves asked.change.now (requested found asked.old.now asked.request.now asked.change.now read a) by.changed kept flow
+  step = λ found read. leaves asked.change.now (requested found asked.old.now asked.project.now asked.request.now (Ok asked.change.now) read a) by.changed kept flow
       (record { opened = held_opened left is.1; spellings = all; first = first; respelled = is.0 });
 }
 
@@ -169,32 +243,43 @@ pub locked_world : (locked : Locked) (view : View) → IsProgram (rows_under loc
 locked_world locked view program well is of = whole_world locked.program view (locked_under locked program well is) of well.object.bare
 
 -- what is told of the calls of two views is told of the old and the changed program
-told_between : (asked : Asked) (locked : Locked) (p q : Rows) (t l : List Referent) (copy : List ℕ) → p ≡ rows_in asked.old.now → t ≡ asked.old.now.bound.value.table.items → q ≡ rows_under locked
-    → entries l ≡ locks_of locked → copy ≡ copies_by (origins_by asked.change.now) (length (rows_in asked.old.now)) → KeepsDispatch p (entries t) q (entries l) copy → KeepsCallsIn asked locked
-told_between asked locked p q t l copy rows table new locks copies kept =
-    let copied : List ℕ = copies_by (origins_by asked.change.now) (length (rows_in asked.old.now)) in
-    let first : KeepsDispatch p (entries t) q (entries l) copied = subst (λ (c : List ℕ). KeepsDispatch p (entries t) q (entries l) c) copies kept in
-    let second : KeepsDispatch p (entries t) q (locks_of locked) copied = subst (λ (s : Table). KeepsDispatch p (entries t) q s copied) locks first in
-    let third : KeepsDispatch p (entries t) (rows_under locked) (locks_of locked) copied = subst (λ (r : Rows). KeepsDispatch p (entries t) r (locks_of locked) copied) new second in
-    let fourth : KeepsDispatch p (table_in asked.old.now) (rows_under locked) (locks_of locked) copied =
-    subst (λ (s : List Referent). KeepsDispatch p (entries s) (rows_under locked) (locks_of locked) copied) table third in
-    subst (λ (r : Rows). KeepsDispatch r (table_in asked.old.now) (rows_under locked) (locks_of locked) copied) rows fourth
+abbrev pub IsToldOf : Asked → Locked → Option Lost → Type 0
+IsToldOf asked locked found = IsTold (rows_in asked.old.now) (table_in asked.old.now) (rows_under locked) (locks_of locked) (copies_by (origins_by asked.change.now) (length (rows_in asked.old.now))) found
 
--- where no call is lost between two views, calls find what they found
-pub calls_kept : (asked : Asked) (locked : Locked) (old new : View) (before after : Methods) (copy : List ℕ) (found : Option Lost)
+told_between : (asked : Asked) (locked : Locked) (p q : Rows) (t l : List Referent) (copy : List ℕ) (found : Option Lost) → p ≡ rows_in asked.old.now → t ≡ asked.old.now.bound.value.table.items → q ≡ rows_under locked
+    → entries l ≡ locks_of locked → copy ≡ copies_by (origins_by asked.change.now) (length (rows_in asked.old.now)) → IsTold p (entries t) q (entries l) copy found → IsToldOf asked locked found
+told_between asked locked p q t l copy found rows table new locks copies kept =
+    let copied : List ℕ = copies_by (origins_by asked.change.now) (length (rows_in asked.old.now)) in
+    let first : IsTold p (entries t) q (entries l) copied found = subst (λ (c : List ℕ). IsTold p (entries t) q (entries l) c found) copies kept in
+    let second : IsTold p (entries t) q (locks_of locked) copied found = subst (λ (s : Table). IsTold p (entries t) q s copied found) locks first in
+    let third : IsTold p (entries t) (rows_under locked) (locks_of locked) copied found = subst (λ (r : Rows). IsTold p (entries t) r (locks_of locked) copied found) new second in
+    let fourth : IsTold p (table_in asked.old.now) (rows_under locked) (locks_of locked) copied found =
+    subst (λ (s : List Referent). IsTold p (entries s) (rows_under locked) (locks_of locked) copied found) table third in
+    subst (λ (r : Rows). IsTold r (table_in asked.old.now) (rows_under locked) (locks_of locked) copied found) rows fourth
+
+pub calls_told : (asked : Asked) (locked : Locked) (old new : View) (before after : Methods) (copy : List ℕ) (found : Option Lost)
     → IsViewOf (rows_in asked.old.now) asked.old.now.places.value asked.old.now.scopes.value asked.old.now.bound.value old
     → IsViewOf (rows_under locked) locked.program.places.value locked.program.scopes.value locked.program.bound.value new → before.under ≡ old.sight.world.under → after.under ≡ new.sight.world.under
     → ((t : Table) → IsWholeWorld t old.sight.world → AreMethods old.sight.world.under.rows.now t before) → ((t : Table) → IsWholeWorld t new.sight.world → AreMethods new.sight.world.under.rows.now t after)
     → copy ≡ locked.locks.copy.items → IsBoundIn asked.old.now → IsProgram (rows_under locked) → AreWell (rows_under locked) → IsBoundByLocks locked → IsLockedBy asked locked
-    → ((t l : Table) → AreMethods before.under.rows.now t before → AreMethods after.under.rows.now l after → IsTold before.under.rows.now t after.under.rows.now l copy found) → found ≡ None → KeepsCallsIn asked locked
-calls_kept asked locked old new before after copy found old_of new_of before_is after_is old_read new_read copies bound program well is by told nothing =
+    → ((t l : Table) → AreMethods before.under.rows.now t before → AreMethods after.under.rows.now l after → IsTold before.under.rows.now t after.under.rows.now l copy found) → IsToldOf asked locked found
+calls_told asked locked old new before after copy found old_of new_of before_is after_is old_read new_read copies bound program well is by told =
     let t : Table = entries old.sight.world.under.table.now in
     let l : Table = entries new.sight.world.under.table.now in
     let first : IsTold before.under.rows.now t after.under.rows.now l copy found = told t l (read_methods old.sight.world t before before_is old_read (whole_view asked.old.now old bound old_of))
     (read_methods new.sight.world l after after_is new_read (locked_world locked new program well is new_of)) in
-    let second : KeepsDispatch before.under.rows.now t after.under.rows.now l copy = subst (λ (f : Option Lost). IsTold before.under.rows.now t after.under.rows.now l copy f) nothing first in
-    told_between asked locked before.under.rows.now after.under.rows.now old.sight.world.under.table.now new.sight.world.under.table.now copy (ap (λ (u : Tabled). u.rows.now) before_is ∙ old_of.rows_are) old_of.table_is
-    (ap (λ (u : Tabled). u.rows.now) after_is ∙ new_of.rows_are) (ap entries new_of.table_is ∙ is.table) (copies ∙ by.copies) second
+    told_between asked locked before.under.rows.now after.under.rows.now old.sight.world.under.table.now new.sight.world.under.table.now copy found (ap (λ (u : Tabled). u.rows.now) before_is ∙ old_of.rows_are) old_of.table_is
+    (ap (λ (u : Tabled). u.rows.now) after_is ∙ new_of.rows_are) (ap entries new_of.table_is ∙ is.table) (copies ∙ by.copies) first
+
+-- where no call is lost, calls find what they found
+pub calls_kept : (asked : Asked) (locked : Locked) (found : Option Lost) → IsToldOf asked locked found → found ≡ None → KeepsCallsIn asked locked
+calls_kept asked locked found told nothing = subst (λ (f : Option Lost). IsToldOf asked locked f) nothing told
+
+-- where a call is lost, this is told
+pub call_hinders : (a : Asked) (locked : Locked) (found : Option Lost) (lost : Lost) (told : StepFault) → IsLockedBy a locked → IsToldOf a locked found → found ≡ Some lost
+    → told ≡ step.LostEdge kind.Dispatch (place_of_name a.project.now.marks lost.class) (place_of_name a.project.now.marks lost.method) true → IsHinderedIn a told
+call_hinders a locked found lost told by is some e = told_hinders a (step.LostEdge kind.Dispatch (place_of_name a.project.now.marks lost.class) (place_of_name a.project.now.marks lost.method) true) told e
+    (record { rows = rows_under locked; locks = locks_of locked; changed = by.changed; lost = lost; is = subst (λ (f : Option Lost). IsToldOf a locked f) some is; class_at = refl; method_at = refl }, refl)
 
 -- ---- where control goes
 
@@ -283,22 +368,58 @@ bound_so locked rows these places bound rows_are these_are places_are bound_is t
 
 -- ---- steps one after another
 
--- the steps of the requests lead from the first files to these, and on by what is left of the requests
+steps_then : {first now next : Opened} {before : List Request} {request : Request} → AreSteps first before now → IsStep now request next → AreSteps first (before ++ request ∷ []) next
+steps_then none step = more step none
+steps_then (more one rest) step = more one (steps_then rest step)
+
+-- the steps of the requests before those that are left lead from the first files to these
 pub record AreStepsTo (first : Opened) (requests : List Request) (now : Left) (rest : List Request) : Type 0 where
   pub held : IsHeld now
-  pub on : (last : Opened) → AreSteps (opened_by now) rest last → AreSteps first requests last
+  pub before : List Request
+  pub split : requests ≡ before ++ rest
+  pub steps : AreSteps first before (opened_by now)
 
 pub at_first : (first : Left) (requests : List Request) → IsHeld first → AreStepsTo (opened_by first) requests first requests
-at_first first requests is = record { held = is; on = λ last steps. steps }
+at_first first requests is = record { held = is; before = []; split = refl; steps = none }
 
 pub at_next : (first : Opened) (requests : List Request) (now next : Left) (request : Request) (rest after : List Request) → AreStepsTo first requests now rest → rest ≡ request ∷ after
     → IsStep (opened_by now) request (opened_by next) → IsHeld next → AreStepsTo first requests next after
-at_next first requests now next request rest after is split step held =
-    record { held = held; on = λ last steps. is.on last (subst (λ (r : List Request). AreSteps (opened_by now) r last) (sym split) (more step steps)) }
+at_next first requests now next request rest after is split step held = record {
+  held = held;
+  before = is.before ++ request ∷ [];
+  split = is.split ∙ ap (λ (r : List Request). is.before ++ r) split ∙ sym (append_assoc is.before (request ∷ []) after);
+  steps = steps_then is.steps step;
+}
 
 pub at_last : (first : Opened) (requests : List Request) (now : Left) (rest : List Request) → AreStepsTo first requests now rest → length rest ≡ 0 → AreSteps first requests (opened_by now)
-at_last first requests now [] is ends = is.on (opened_by now) none
+at_last first requests now [] is ends = subst (λ (all : List Request). AreSteps first all (opened_by now)) (sym (is.split ∙ append-nil is.before)) is.steps
 at_last first requests now (request ∷ rest) is ends = absurd (omega (arith, ends))
+
+-- where the next request is refused
+pub refused_at : (first : Opened) (requests : List Request) (now : Left) (request : Request) (rest after : List Request) (why : EngineFault) → AreStepsTo first requests now rest → rest ≡ request ∷ after
+    → IsCausedBy now.program request why → IsRefusedFrom first requests why
+refused_at first requests now request rest after why is split caused = record {
+  before = is.before;
+  request = request;
+  after = after;
+  split = is.split ∙ ap (λ (r : List Request). is.before ++ r) split;
+  now = opened_by now;
+  steps = is.steps;
+  cause = caused now.files is.held.read;
+}
+
+pub one_refused : (first : Left) (request : Request) (why : EngineFault) → IsHeld first → IsCausedBy first.program request why → IsRefusedFrom (opened_by first) (request ∷ []) why
+one_refused first request why is caused = refused_at (opened_by first) (request ∷ []) first request (request ∷ []) [] why (at_first first (request ∷ []) is) refl caused
+
+pub refused_so : (found : FileMap) (first : Left) (requests : List Request) (why : EngineFault) → first.files ≡ found → IsHeld first → IsRefusedFrom (opened_by first) requests why → RefusedAs found requests why
+refused_so found first requests why same is from = RefusedAs.refused same (held_opened first is) from
+
+pub front_so : (found : FileMap) (requests : List Request) (why : FrontFault) (told : EngineFault) → CheckedAs found (Err why) → IsToldAs (fault.Front why) told → RefusedAs found requests told
+front_so found requests why _ checked IsToldAs.told = RefusedAs.not_compiling checked
+front_so found requests why _ checked IsToldAs.no_room = RefusedAs.memory
+
+pub no_memory_so : (found : FileMap) (requests : List Request) (why : EngineFault) → why ≡ fault.Step step.OutOfMemory → RefusedAs found requests why
+no_memory_so found requests why e = subst (λ (w : EngineFault). RefusedAs found requests w) (sym e) RefusedAs.memory
 
 pub one_step : (first last : Opened) (request : Request) → IsStep first request last → AreSteps first (request ∷ []) last
 one_step first last request step = more step none

@@ -2,4 +2,5 @@ pub mod Requested
 pub mod Steps
 pub mod Texts
 pub mod Written
+pub mod Refusing
 pub mod Planning

@@ -1,5 +1,5 @@
 -- What one request after another leaves of files.
-use Rattle.std.specs.Prelude.{◌≡◌, ℕ, Bool, List, [], ◌∷◌, true, Option, Some, None, Ok, IsTrue, is_some, length}
+use Rattle.std.specs.Prelude.{◌≡◌, ℕ, Bool, List, [], ◌∷◌, true, Option, Some, None, Result, Ok, IsTrue, is_some, length}
 use Rattle.std.specs.FinMap as files
 use Rattle.std.specs.List.{AllByRecursion}
 use Rattle.std.specs.Option.{option_map_or}
@@ -25,6 +25,7 @@ use Rattle.jr_index.specs.NodeRows.{unit_rows}
 use Rattle.jr_marks.specs.Places.{IsOrdered}
 use Rattle.jr_change.specs.declared.change.Change.{Change}
 use Rattle.jr_change.specs.declared.project.Project.{Project}
+use Rattle.jr_change.specs.declared.reason.ChangeFault.{ChangeFault}
 use Rattle.jr_draft.specs.Asking.{table_of}
 use Rattle.jr_engine.specs.Requested.{IsAskedBy, keeps_all}
 use Rattle.jr_locks.specs.Changed.{IsChanged, origins_by, copies_by}
@@ -96,11 +97,11 @@ pub record IsProjectOf (o : Opened) (old : Project) : Type 0 where
   pub whole : IsWholeWorld (entries (table_of old)) old.view.sight.world
   pub view_rows : old.view.sight.world.under.rows.now ≡ old.marks.rows.now
 
--- the change is that for which the request asks
-pub record IsRequested (o : Opened) (request : Request) (change : Change) : Type 0 where
+-- the answer is the change for which the request asks, or why there is none
+pub record IsRequested (o : Opened) (request : Request) (answer : Result Change ChangeFault) : Type 0 where
   pub old : Project
   pub project : IsProjectOf o old
-  pub asked : IsAskedBy old request (Ok change)
+  pub asked : IsAskedBy old request answer
 
 -- a call finds in each class, where it still stands, the method that it found there (JLS 15.12.4.4)
 abbrev pub KeepsCalls : Opened → Change → Rows → Table → Type 0
@@ -126,8 +127,8 @@ pub record KeepsFlow (p : Rows) (t : Table) (change : Change) (q : Rows) (l : Ta
 -- What a request leaves: the files as they are, where the change for which it asks keeps all units, or those of a changed program in which each row that comes from
 -- an old one must refer to what that referred to, where it stands now, calls find what they found, and control goes as it went.
 pub data IsStep (old : Opened) (request : Request) : Opened → Type 0 where
-  stays : {change : Change} (asked : IsRequested old request change) → keeps_all asked.project.program.units change.units.items ≡ true → IsStep old request old
-  leaves : {rows : Rows} {locks : Table} {left : Opened} (change : Change) → IsRequested old request change → IsChanged old.rows old.table change rows locks → KeepsCalls old change rows locks → KeepsFlow old.rows old.table change rows locks → IsWritten old change rows locks left
+  stays : {change : Change} (asked : IsRequested old request (Ok change)) → keeps_all asked.project.program.units change.units.items ≡ true → IsStep old request old
+  leaves : {rows : Rows} {locks : Table} {left : Opened} (change : Change) → IsRequested old request (Ok change) → IsChanged old.rows old.table change rows locks → KeepsCalls old change rows locks → KeepsFlow old.rows old.table change rows locks → IsWritten old change rows locks left
       → IsStep old request left
 
 -- a step a request, each from what the one before has left
@@ -166,13 +167,16 @@ abbrev pub LeftBy : Workspace → Request → Option Left → Type 0
 LeftBy old request None = (found : FileMap) → IsRead found old → IsStep (opened found old) request (opened found old)
 LeftBy old request (Some left) = IsFollowed old request left
 
--- the project is that of the program, and the change that for which the request asks
-pub record IsAskedOf (w : Workspace) (request : Request) (change : Change) : Type 0 where
-  pub old : Project
+-- the project is that of the program
+pub record IsProjectIn (w : Workspace) (old : Project) : Type 0 where
   pub units : old.marks.units.now ≡ w.program.units
   pub rows : old.marks.rows.now ≡ rows_in w
   pub starts : old.marks.starts.now ≡ unit_rows (rows_in w) (length (rows_in w))
   pub table : table_of old ≡ w.bound.value.table.items
   pub view : IsViewOf (rows_in w) w.places.value w.scopes.value w.bound.value old.view
+
+-- and the answer is the change for which the request asks of it, or why there is none
+pub record IsAskedOf (w : Workspace) (old : Project) (request : Request) (answer : Result Change ChangeFault) : Type 0 where
+  pub of : IsProjectIn w old
   pub ordered : IsOrdered old.marks
-  pub asked : IsAskedBy old request (Ok change)
+  pub asked : IsAskedBy old request answer

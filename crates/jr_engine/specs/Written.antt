@@ -1,5 +1,5 @@
 -- A changed program under its locks with its spellings, as the code holds it.
-use Rattle.std.specs.Prelude.{◌≡◌, ℕ, ◌+◌, ◌<◌, ◌^◌, Bool, List, Some, is_some, length}
+use Rattle.std.specs.Prelude.{◌≡◌, ℕ, ◌+◌, ◌<◌, ◌^◌, Bool, List, Some, Ok, is_some, length}
 use Rattle.std.specs.Option.{option_map_or}
 use Rattle.jr_front.specs.Bound.{rows_in, table_in}
 use Rattle.jr_front.specs.declared.workspace.Workspace.{Workspace}
@@ -42,7 +42,7 @@ IsLeftOf locked all left = IsRespelled (rows_of locked) (locks_of locked) all (r
 
 -- the change is that for which the request asks
 abbrev pub IsAskedFor : Asked → Type 0
-IsAskedFor a = IsAskedOf a.old.now a.request.now a.change.now
+IsAskedFor a = IsAskedOf a.old.now a.project.now a.request.now (Ok a.change.now)
 
 -- the changed program comes from the old one by the change, with the locks that follow and the first copies of old rows
 pub record IsLockedBy (a : Asked) (locked : Locked) : Type 0 where

@@ -2,9 +2,11 @@
 
 ghost use Rattle.std.specs.Prelude.{◌≡◌, length};
 ghost use Rattle.jr_index.specs.NodeRows.{unit_rows};
-ghost use Rattle.jr_draft.specs.Asking.{table_of};
 ghost use Rattle.jr_front.specs.Bound.{rows_in};
 ghost use Rattle.jr_front.specs.Viewed.{IsViewOf};
+ghost use Rattle.jr_marks.specs.Places.{IsOrdered};
+ghost use Rattle.jr_engine.specs.Refusing.{IsHinderedIn, IsShownAt};
+ghost use Rattle.jr_engine.specs.Steps.{IsProjectIn};
 
 use crate::fault::StepFault;
 use jr_base::{CuId, Place, Request, Text};
@@ -16,21 +18,21 @@ use jr_locks::row_for;
 /// How many units the prelude has. They come first.
 pub const PRELUDE: usize = 2;
 
-/// A program that compiles, what is asked of it, and the change that this is.
+/// A program that compiles, with its tables and texts, what is asked of it, and the change that this is.
 #[derive(Clone, Copy)]
 pub struct Asked<'a> {
     pub old: &'a Workspace,
+    pub project: &'a Project<'a>,
     pub request: &'a Request,
     pub change: &'a Change,
 }
 
 /// The program with its tables and texts.
 pub fn project_of(workspace: &Workspace) -> Project<'_>
-    ensures units { result.marks.units.now ≡ workspace.now.program.units }
     ensures rows { result.marks.rows.now ≡ rows_in workspace.now }
     ensures starts { result.marks.starts.now ≡ unit_rows (rows_in workspace.now) (length (rows_in workspace.now)) }
-    ensures table { table_of result ≡ workspace.now.bound.value.table.items }
     ensures view { IsViewOf (rows_in workspace.now) workspace.now.places.value workspace.now.scopes.value workspace.now.bound.value result.view }
+    ensures all { IsProjectIn workspace.now result }
 {
     Project {
         marks: workspace.marks(),
@@ -99,15 +101,19 @@ impl<'a> Asked<'a> {
     }
 
     /// The place in the old files of the name of a row of the changed program; that of what is asked for where the row comes from no old one.
-    pub fn place_of(self, origin: &[u32], row: u32) -> Place {
+    pub fn place_of(self, origin: &[u32], row: u32) -> Place
+        ensures { IsOrdered self.entry.project.now.marks → IsShownAt self.entry.project.now.marks origin.now row result }
+    {
         match row_for(origin, row) {
-            Some(from) => self.old.marks().name_place(from),
+            Some(from) => self.project.marks.name_place(from),
             None => self.place(),
         }
     }
 
     /// What was read is not what was to be written.
-    pub fn differs(self) -> StepFault {
+    pub fn differs(self) -> StepFault
+        ensures { IsHinderedIn self.entry result }
+    {
         StepFault::Differs {
             place: self.place(),
         }

@@ -1,9 +1,13 @@
 // Whether edges of flow are kept, and whether there are too many points of flow.
 
-ghost use Rattle.std.specs.Prelude.{◌≡◌, None, IfOk};
+ghost use Rattle.std.specs.Prelude.{◌≡◌, true, None, IfOk, IfErr};
 ghost use Rattle.jr_headed.specs.Founded.{IsProgram};
+ghost use Rattle.jr_marks.specs.Places.{IsOrdered, place_of_name};
 ghost use Rattle.jr_front.specs.Bound.{IsBoundIn};
-ghost use Rattle.jr_engine.specs.Written.{IsBoundByLocks, IsLockedBy, IsSound, KeepsCallsIn, KeepsFlowIn, rows_of};
+ghost use Rattle.jr_engine.specs.Refusing.{IsHinderedIn, IsOfFlow};
+ghost use Rattle.jr_engine.specs.Written.{IsAskedFor, IsBoundByLocks, IsLockedBy, IsSound, KeepsCallsIn, KeepsFlowIn, rows_of};
+ghost use Rattle.jr_engine.specs.declared.fault.LostKind.TheVariants as kind;
+ghost use Rattle.jr_engine.specs.declared.fault.StepFault.TheVariants as step;
 
 use crate::asked::{Asked, project_of};
 use crate::fault::{LostKind, StepFault};
@@ -18,7 +22,9 @@ use jr_kept::{LostEdge, lost_flow};
 use std::alloc::Global;
 
 // The answer where an edge is lost.
-fn lost(kind: LostKind, edge: LostEdge) -> StepFault {
+fn lost(kind: LostKind, edge: LostEdge) -> StepFault
+    ensures { result ≡ step.LostEdge kind edge.first edge.second edge.is_old }
+{
     StepFault::LostEdge {
         kind,
         first: edge.first,
@@ -28,7 +34,9 @@ fn lost(kind: LostKind, edge: LostEdge) -> StepFault {
 }
 
 /// No body has too many points of flow.
-pub fn is_within_flow(alloc: Global, workspace: &Workspace) -> Result<(), StepFault> {
+pub fn is_within_flow(alloc: Global, workspace: &Workspace) -> Result<(), StepFault>
+    ensures { IfErr result IsOfFlow }
+{
     if has_too_many_points(alloc, &workspace.view())? {
         return Err(StepFault::TooLarge(Size::Flow));
     }
@@ -36,7 +44,9 @@ pub fn is_within_flow(alloc: Global, workspace: &Workspace) -> Result<(), StepFa
 }
 
 // No body of the changed program has too many points of flow. Bodies that stay as they are have no more than before.
-fn is_changed_within_flow(alloc: Global, asked: Asked, locked: &Locked) -> Result<(), StepFault> {
+fn is_changed_within_flow(alloc: Global, asked: Asked, locked: &Locked) -> Result<(), StepFault>
+    ensures { IfErr result (IsHinderedIn asked.entry) }
+{
     match asked.change.course {
         Course::Same => Ok(()),
         Course::Removed(_) => Ok(()),
@@ -45,8 +55,10 @@ fn is_changed_within_flow(alloc: Global, asked: Asked, locked: &Locked) -> Resul
 }
 
 // The edge that is lost where a call finds another method than before.
-fn lost_call(asked: Asked, lost: Lost) -> StepFault {
-    let marks = asked.old.marks();
+fn lost_call(asked: Asked, lost: Lost) -> StepFault
+    ensures { IsOrdered asked.entry.project.now.marks → result ≡ step.LostEdge kind.Dispatch (place_of_name asked.entry.project.now.marks lost.class) (place_of_name asked.entry.project.now.marks lost.method) true }
+{
+    let marks = &asked.project.marks;
     StepFault::LostEdge {
         kind: LostKind::Dispatch,
         first: marks.name_place(lost.class),
@@ -57,12 +69,14 @@ fn lost_call(asked: Asked, lost: Lost) -> StepFault {
 
 // Calls find in each class the methods that they found there.
 fn keeps_calls(alloc: Global, asked: Asked, locked: &Locked) -> Result<(), StepFault>
+    requires asked { IsAskedFor asked }
     requires old { IsBoundIn asked.old.now }
     requires new { IsProgram (rows_of locked.now) }
     requires sound { IsSound asked locked.now }
     requires locked { IsLockedBy asked locked.now }
     requires bound { IsBoundByLocks locked.now }
-    ensures { IfOk result (λ _. KeepsCallsIn asked.entry locked.now) }
+    ensures ok { IfOk result (λ _. KeepsCallsIn asked.entry locked.now) }
+    ensures err { IfErr result (IsHinderedIn asked.entry) }
 {
     let old = asked.old.view();
     let new = locked.program.view();
@@ -85,7 +99,8 @@ fn keeps_control(
     requires sound { IsSound asked locked.now }
     requires locked { IsLockedBy asked locked.now }
     requires bound { IsBoundByLocks locked.now }
-    ensures { IfOk result (λ def_use. def_use ≡ None → KeepsFlowIn asked.entry locked.now) }
+    ensures ok { IfOk result (λ def_use. def_use ≡ None → KeepsFlowIn asked.entry locked.now) }
+    ensures err { IfErr result (IsHinderedIn asked.entry) }
 {
     let old = project_of(asked.old);
     let new = project_of(&locked.program);
@@ -98,6 +113,7 @@ fn keeps_control(
 
 /// Control goes as before, calls find in each class the methods that they found there, and uses of locals the values that they had.
 pub fn keeps_edges(alloc: Global, asked: Asked, locked: &Locked) -> Result<(), StepFault>
+    requires asked { IsAskedFor asked }
     requires old { IsBoundIn asked.old.now }
     requires new { IsProgram (rows_of locked.now) }
     requires sound { IsSound asked locked.now }
@@ -105,6 +121,7 @@ pub fn keeps_edges(alloc: Global, asked: Asked, locked: &Locked) -> Result<(), S
     requires bound { IsBoundByLocks locked.now }
     ensures calls { IfOk result (λ _. KeepsCallsIn asked.entry locked.now) }
     ensures flow { IfOk result (λ _. KeepsFlowIn asked.entry locked.now) }
+    ensures err { IfErr result (IsHinderedIn asked.entry) }
 {
     is_changed_within_flow(alloc, asked, locked)?;
     let def_use = keeps_control(alloc, asked, locked)?;

@@ -74,24 +74,43 @@ pub struct Refused {
 }
 
 impl From<OutOfMemory> for StepFault {
+    ghost use Rattle.std.specs.Prelude.{◌≡◌};
+    ghost use Rattle.jr_engine.specs.declared.fault.StepFault.TheVariants.{OutOfMemory};
+
+    ghost from_gives = { λ _ fault. fault ≡ OutOfMemory };
+
     fn from(_: OutOfMemory) -> Self {
         StepFault::OutOfMemory
     }
 }
 
 impl From<AllocError> for StepFault {
+    ghost use Rattle.std.specs.Prelude.{◌≡◌};
+    ghost use Rattle.jr_engine.specs.declared.fault.StepFault.TheVariants.{OutOfMemory};
+
+    ghost from_gives = { λ _ fault. fault ≡ OutOfMemory };
+
     fn from(_: AllocError) -> Self {
         StepFault::OutOfMemory
     }
 }
 
 impl<T: Drop> From<AllocFailed<T>> for StepFault {
+    ghost use Rattle.std.specs.Prelude.{◌≡◌};
+    ghost use Rattle.jr_engine.specs.declared.fault.StepFault.TheVariants.{OutOfMemory};
+
+    ghost from_gives = { λ _ fault. fault ≡ OutOfMemory };
+
     fn from(_: AllocFailed<T>) -> Self {
         StepFault::OutOfMemory
     }
 }
 
 impl From<FlowFault> for StepFault {
+    ghost use Rattle.jr_engine.specs.Refusing.{IsOfFlow};
+
+    ghost from_gives = { λ _ fault. IsOfFlow fault };
+
     fn from(fault: FlowFault) -> Self {
         match fault {
             FlowFault::TooManyPoints => StepFault::TooLarge(Size::Flow),

@@ -1,14 +1,16 @@
 // The changed program under its locks.
 
-ghost use Rattle.std.specs.Prelude.{◌≡◌, map, length, Ok, IfOk};
+ghost use Rattle.std.specs.Prelude.{◌≡◌, map, length, Ok, IfOk, IfErr};
 ghost use Rattle.std.specs.List.{AllByRecursion};
 ghost use Rattle.jr_tree.specs.Shape.{IsShaped};
 ghost use Rattle.jr_tree.specs.Rows.{program_rows};
 ghost use Rattle.jr_headed.specs.Founded.{IsProgram};
 ghost use Rattle.jr_places.specs.Tabulated.{tabulated};
 ghost use Rattle.jr_prelude.specs.Begins.{BeginsWithLang};
+ghost use Rattle.jr_marks.specs.Places.{IsOrdered};
 ghost use Rattle.jr_front.specs.Bound.{IsBoundIn};
-ghost use Rattle.jr_engine.specs.Written.{AreFirstIn, IsBoundByLocks, IsLockedBy, IsSound, is_constant_by, rows_of};
+ghost use Rattle.jr_engine.specs.Refusing.{IsHinderedIn, IsUnspelled};
+ghost use Rattle.jr_engine.specs.Written.{AreFirstIn, IsAskedFor, IsBoundByLocks, IsLockedBy, IsSound, is_constant_by, rows_of};
 
 use crate::asked::{Asked, project_of};
 use crate::fault::StepFault;
@@ -63,6 +65,7 @@ fn locked_rows(
     ensures rows { IfOk result (λ locked. locked.program.index.value.rows ≡ index.value.rows) }
     ensures locks { IfOk result (λ locked. locked.locks ≡ locks) }
     ensures bound { IfOk result IsBoundByLocks }
+    ensures err { IfErr result (IsHinderedIn asked.entry) }
 {
     let rows = index.rows();
     let places = boxed(alloc, Places::of(alloc, rows))?;
@@ -92,6 +95,7 @@ fn locked_program(alloc: Global, asked: Asked, program: Program) -> Result<Locke
     ensures shaped { IfOk result (λ locked. IsProgram (rows_of locked)) }
     ensures begins { BeginsWithLang (program_rows (map (λ u. u.unit) program.units)) → IfOk result (λ locked. BeginsWithLang (rows_of locked)) }
     ensures bound { IfOk result IsBoundByLocks }
+    ensures err { IfErr result (IsHinderedIn asked.entry) }
 {
     let index = index_of(alloc, &program)?;
     let old = asked.old.index.rows();
@@ -108,6 +112,7 @@ pub fn lock(alloc: Global, asked: Asked) -> Result<Locked, StepFault>
     ensures shaped { IfOk result (λ locked. IsProgram (rows_of locked)) }
     ensures begins { IfOk result (λ locked. BeginsWithLang (rows_of locked)) }
     ensures bound { IfOk result IsBoundByLocks }
+    ensures err { IfErr result (IsHinderedIn asked.entry) }
 {
     let units = asked.old.program.units.as_slice();
     let texts = changed_texts(alloc, units, asked.change)?;
@@ -144,7 +149,9 @@ fn constant_of(alloc: Global, asked: Asked, locked: &Locked) -> Result<Vec<bool>
 }
 
 // The row cannot be written so that it refers to its lock. Of the occurrence and the declaration the units are told, but not the nodes.
-fn no_spelling(asked: Asked, locked: &Locked, row: u32) -> StepFault {
+fn no_spelling(asked: Asked, locked: &Locked, row: u32) -> StepFault
+    ensures { IsOrdered asked.entry.project.now.marks → IsUnspelled asked.entry.project.now.marks locked.now.locks.origin.items row result }
+{
     let place = asked.place_of(&locked.locks.origin, row);
     let mut lock = place.cu;
     if let Some(Referent::Declared { row, .. }) = locked.locks.table.get(row as usize) {
@@ -171,13 +178,15 @@ fn no_spelling(asked: Asked, locked: &Locked, row: u32) -> StepFault {
 
 /// How each reference of the changed program is to be written.
 pub fn spellings(alloc: Global, asked: Asked, locked: &Locked) -> Result<Vec<Spelling>, StepFault>
+    requires asked { IsAskedFor asked }
     requires old { IsBoundIn asked.old.now }
     requires new { IsProgram (rows_of locked.now) }
     requires begins { BeginsWithLang (rows_of locked.now) }
     requires sound { IsSound asked locked.now }
     requires locked { IsLockedBy asked locked.now }
     requires bound { IsBoundByLocks locked.now }
-    ensures { IfOk result (λ all. AreFirstIn asked.entry locked.now all.items) }
+    ensures ok { IfOk result (λ all. AreFirstIn asked.entry locked.now all.items) }
+    ensures err { IfErr result (IsHinderedIn asked.entry) }
 {
     let constant = constant_of(alloc, asked, locked)?;
     match spell(alloc, &project_of(&locked.program), &constant) {

@@ -1,8 +1,9 @@
 // What requests leave of files.
 
-ghost use Rattle.std.specs.Prelude.{◌≡◌, IfOk, IfErr, Ok, [], ◌∷◌};
-ghost use Rattle.jr_base.specs.Files.{FileMap};
+ghost use Rattle.std.specs.Prelude.{◌≡◌, List, IfOk, IfErr, Ok, [], ◌∷◌};
+ghost use Rattle.jr_base.specs.declared.request.Request.{Request};
 ghost use Rattle.jr_engine.specs.Planning.{PlannedAs, RefusedAs};
+ghost use Rattle.jr_engine.specs.Refusing.{IsCausedBy, IsRefusedFrom};
 ghost use Rattle.jr_engine.specs.Steps.{IsHeld, IsStep, AreSteps, opened_by};
 
 use crate::fault::Refused;
@@ -15,7 +16,7 @@ use std::alloc::Global;
 // Equal files of their own.
 fn copied(alloc: Global, files: &Files) -> Result<Files, Refused>
     ensures ok { IfOk result (λ copy. copy ≡ files.now) }
-    ensures err { IfErr result (λ refused. RefusedAs files.now refused.fault) }
+    ensures err { (requests : List Request) → IfErr result (λ refused. RefusedAs files.now requests refused.fault) }
 {
     match files.copy(alloc) {
         Ok(files) => Ok(files),
@@ -28,7 +29,7 @@ fn copied(alloc: Global, files: &Files) -> Result<Files, Refused>
 fn opened(alloc: Global, files: &Files) -> Result<Left, Refused>
     ensures same { IfOk result (λ found. found.files ≡ files.now) }
     ensures held { IfOk result IsHeld }
-    ensures err { IfErr result (λ refused. RefusedAs files.now refused.fault) }
+    ensures err { (requests : List Request) → IfErr result (λ refused. RefusedAs files.now requests refused.fault) }
 {
     let copy = copied(alloc, files)?;
     match open_files(alloc, files) {
@@ -46,7 +47,7 @@ fn next(alloc: Global, now: Left, request: &Request, number: u32) -> Result<Left
     requires { IsHeld now }
     ensures held { IfOk result IsHeld }
     ensures step { IfOk result (λ left. IsStep (opened_by now) request.now (opened_by left)) }
-    ensures err { IfErr result (λ refused. (found : FileMap) → RefusedAs found refused.fault) }
+    ensures err { IfErr result (λ refused. IsCausedBy now.program request.now refused.fault) }
 {
     match left_behind(alloc, &now.program, request, number)? {
         Some(left) => Ok(left),
@@ -60,7 +61,7 @@ fn left_by_all(alloc: Global, found: Left, requests: &[Request]) -> Result<Left,
     requires { IsHeld found }
     ensures held { IfOk result IsHeld }
     ensures steps { IfOk result (λ left. AreSteps (opened_by found) requests.now (opened_by left)) }
-    ensures err { IfErr result (λ refused. (found : FileMap) → RefusedAs found refused.fault) }
+    ensures err { IfErr result (λ refused. IsRefusedFrom (opened_by found) requests.now refused.fault) }
 {
     let mut now = found;
     let mut rest = requests;

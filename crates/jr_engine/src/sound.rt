@@ -1,6 +1,6 @@
 // Whether the rows of a changed program and their locks are as in all programs.
 
-ghost use Rattle.std.specs.Prelude.{◌≡◌, ◌+◌, ◌<◌, ◌^◌, true, length, Decides, IfOk};
+ghost use Rattle.std.specs.Prelude.{◌≡◌, ◌+◌, ◌<◌, ◌^◌, true, length, Decides, IfOk, IfErr};
 ghost use Rattle.jr_tree.specs.Rows.{label};
 ghost use Rattle.jr_defs.specs.Referents.{entries};
 ghost use Rattle.jr_plain.specs.Declarations as plain;
@@ -9,6 +9,7 @@ ghost use Rattle.jr_bind.specs.Confirmed as told;
 ghost use Rattle.jr_bind.specs.Rebound.{AreLocks};
 ghost use Rattle.jr_headed.specs.Founded.{AreWell};
 ghost use Rattle.jr_front.specs.Bound.{rows_in};
+ghost use Rattle.jr_engine.specs.Refusing.{IsHinderedIn};
 ghost use Rattle.jr_engine.specs.Written.{IsSound, rows_of};
 
 use crate::asked::Asked;
@@ -134,7 +135,8 @@ fn are_as_in_programs(asked: Asked, locked: &Locked) -> bool
 
 /// The changed rows and their locks are as in all programs, so that the tables under these are exact. Others were not to be written.
 pub fn is_sound(asked: Asked, locked: &Locked) -> Result<(), StepFault>
-    ensures { IfOk result (λ _. IsSound asked.entry locked.now) }
+    ensures ok { IfOk result (λ _. IsSound asked.entry locked.now) }
+    ensures err { IfErr result (IsHinderedIn asked.entry) }
 {
     if are_as_in_programs(asked, locked) {
         Ok(())

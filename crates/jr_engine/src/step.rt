@@ -1,12 +1,15 @@
 // One request of a program.
 
-ghost use Rattle.std.specs.Prelude.{IfOk, IfErr, Err};
-ghost use Rattle.jr_base.specs.Files.{FileMap};
+ghost use Rattle.std.specs.Prelude.{◌≡◌, List, IfOk, IfErr, Ok, Err};
+ghost use Rattle.jr_base.specs.declared.request.Request.{Request};
 ghost use Rattle.jr_front.specs.Checking.{CheckedAs};
-ghost use Rattle.jr_engine.specs.Planning.{RefusedAs};
 ghost use Rattle.jr_front.specs.Bound.{IsBoundIn};
-ghost use Rattle.jr_engine.specs.Steps.{LeftBy, IsFollowed, IsAskedOf};
+ghost use Rattle.jr_engine.specs.Planning.{RefusedAs};
+ghost use Rattle.jr_engine.specs.Refusing.{IsCausedBy, IsHinderedIn, IsToldAs};
+ghost use Rattle.jr_engine.specs.Steps.{LeftBy, IsFollowed, IsAskedOf, IsProjectIn};
 ghost use Rattle.jr_engine.specs.Written.{IsAskedFor};
+ghost use Rattle.jr_engine.specs.declared.fault.EngineFault.TheVariants as engine;
+ghost use Rattle.jr_engine.specs.declared.fault.StepFault.TheVariants as step;
 
 use crate::asked::{Asked, project_of};
 use crate::edges::{is_within_flow, keeps_edges};
@@ -20,7 +23,7 @@ use crate::tried::Spelled;
 use crate::verdicts::no_change;
 use crate::writing::left_of;
 use jr_base::{Files, OutOfMemory, Path, Request};
-use jr_change::{Change, ChangedUnit};
+use jr_change::{Change, ChangedUnit, Project};
 use jr_defs::UnitAt;
 use jr_front::{FrontFault, Workspace};
 use jr_ordered::is_ordered;
@@ -30,7 +33,8 @@ use std::alloc::Global;
 fn followed(alloc: Global, asked: Asked) -> Result<Left, StepFault>
     requires bound { IsBoundIn asked.old.now }
     requires asked { IsAskedFor asked }
-    ensures { IfOk result (λ left. IsFollowed asked.entry.old.now asked.entry.request.now left) }
+    ensures ok { IfOk result (λ left. IsFollowed asked.entry.old.now asked.entry.request.now left) }
+    ensures err { IfErr result (IsHinderedIn asked.entry) }
 {
     let locked = lock(alloc, asked)?;
     is_sound(asked, &locked)?;
@@ -78,7 +82,7 @@ fn refused(
     fault: EngineFault,
     paths: Result<Vec<Path>, OutOfMemory>,
 ) -> Refused
-    ensures { (found : FileMap) → RefusedAs found fault → RefusedAs found result.fault }
+    ensures { IsToldAs fault result.fault }
 {
     match paths {
         Ok(paths) => Refused {
@@ -92,7 +96,7 @@ fn refused(
 
 /// Refused for want of memory.
 pub fn no_memory(alloc: Global, request: u32) -> Refused
-    ensures { (found : FileMap) → RefusedAs found result.fault }
+    ensures { result.fault ≡ engine.Step step.OutOfMemory }
 {
     Refused {
         request,
@@ -104,7 +108,7 @@ pub fn no_memory(alloc: Global, request: u32) -> Refused
 /// The files found do not compile, or memory has failed.
 pub fn refused_found(alloc: Global, files: &Files, fault: FrontFault) -> Refused
     requires { CheckedAs files.now (Err fault) }
-    ensures { RefusedAs files.now result.fault }
+    ensures { (requests : List Request) → RefusedAs files.now requests result.fault }
 {
     match fault {
         FrontFault::OutOfMemory => no_memory(alloc, 0),
@@ -117,7 +121,7 @@ pub fn refused_found(alloc: Global, files: &Files, fault: FrontFault) -> Refused
 
 // Refused with places in the old files.
 fn refused_old(alloc: Global, old: &Workspace, request: u32, fault: StepFault) -> Refused
-    ensures { (found : FileMap) → RefusedAs found result.fault }
+    ensures { IsToldAs (engine.Step fault) result.fault }
 {
     refused(
         alloc,
@@ -129,7 +133,7 @@ fn refused_old(alloc: Global, old: &Workspace, request: u32, fault: StepFault) -
 
 // Refused with places in the files that were to be left, where a rule is broken in them, else in the old files.
 fn refused_change(alloc: Global, asked: Asked, request: u32, fault: StepFault) -> Refused
-    ensures { (found : FileMap) → RefusedAs found result.fault }
+    ensures { IsToldAs (engine.Step fault) result.fault }
 {
     match fault {
         StepFault::Broken { .. } => refused(
@@ -143,26 +147,15 @@ fn refused_change(alloc: Global, asked: Asked, request: u32, fault: StepFault) -
 }
 
 // What is left by a change; None where it changes nothing.
-fn left_by(
-    alloc: Global,
-    old: &Workspace,
-    asked: &Request,
-    change: &Change,
-    request: u32,
-) -> Result<Option<Left>, Refused>
-    requires bound { IsBoundIn old.now }
-    requires asked { IsAskedOf old.now asked.now change.now }
-    ensures ok { IfOk result (LeftBy old.now asked.now) }
-    ensures err { IfErr result (λ refused. (found : FileMap) → RefusedAs found refused.fault) }
+fn left_by(alloc: Global, asked: Asked, request: u32) -> Result<Option<Left>, Refused>
+    requires bound { IsBoundIn asked.old.now }
+    requires asked { IsAskedFor asked }
+    ensures ok { IfOk result (LeftBy asked.entry.old.now asked.entry.request.now) }
+    ensures err { IfErr result (λ refused. IsCausedBy asked.entry.old.now asked.entry.request.now refused.fault) }
 {
-    if changes_nothing(old.program.units.as_slice(), &change.units) {
+    if changes_nothing(asked.old.program.units.as_slice(), &asked.change.units) {
         return Ok(None);
     }
-    let asked = Asked {
-        old,
-        request: asked,
-        change,
-    };
     match followed(alloc, asked) {
         Ok(left) => Ok(Some(left)),
         Err(fault) => Err(refused_change(alloc, asked, request, fault)),
@@ -170,14 +163,20 @@ fn left_by(
 }
 
 // The change for which a request asks of a program. Marks of a program are in order; others are answered for want of memory.
-fn asked_of(alloc: Global, old: &Workspace, request: &Request) -> Result<Change, StepFault>
-    ensures { IfOk result (IsAskedOf old.now request.now) }
+fn asked_of(
+    alloc: Global,
+    old: &Workspace,
+    project: &Project,
+    request: &Request,
+) -> Result<Change, StepFault>
+    requires { IsProjectIn old.now project.now }
+    ensures ok { IfOk result (λ change. IsAskedOf old.now project.now request.now (Ok change)) }
+    ensures err { IfErr result (λ fault. IsCausedBy old.now request.now (engine.Step fault)) }
 {
-    let project = project_of(old);
     if !is_ordered(&project.marks) {
         return Err(StepFault::OutOfMemory);
     }
-    match change_of(alloc, &project, request) {
+    match change_of(alloc, project, request) {
         Ok(change) => Ok(change),
         Err(fault) => Err(no_change(fault)),
     }
@@ -186,6 +185,32 @@ fn asked_of(alloc: Global, old: &Workspace, request: &Request) -> Result<Change,
 // The number with which a size of the program found is answered: none before the first request of a list.
 fn first_zero(request: u32) -> u32 {
     if request == 1 { 0 } else { request }
+}
+
+// What the request of this number leaves of a program without too many points of flow.
+fn left_within(
+    alloc: Global,
+    old: &Workspace,
+    asked: &Request,
+    request: u32,
+) -> Result<Option<Left>, Refused>
+    requires { IsBoundIn old.now }
+    ensures ok { IfOk result (LeftBy old.now asked.now) }
+    ensures err { IfErr result (λ refused. IsCausedBy old.now asked.now refused.fault) }
+{
+    let project = project_of(old);
+    match asked_of(alloc, old, &project, asked) {
+        Ok(change) => {
+            let asked = Asked {
+                old,
+                project: &project,
+                request: asked,
+                change: &change,
+            };
+            left_by(alloc, asked, request)
+        }
+        Err(fault) => Err(refused_old(alloc, old, request, fault)),
+    }
 }
 
 /// What the request of this number leaves of a program; None where it changes nothing.
@@ -197,13 +222,10 @@ pub fn left_behind(
 ) -> Result<Option<Left>, Refused>
     requires { IsBoundIn old.now }
     ensures ok { IfOk result (LeftBy old.now asked.now) }
-    ensures err { IfErr result (λ refused. (found : FileMap) → RefusedAs found refused.fault) }
+    ensures err { IfErr result (λ refused. IsCausedBy old.now asked.now refused.fault) }
 {
-    if let Err(fault) = is_within_flow(alloc, old) {
-        return Err(refused_old(alloc, old, first_zero(request), fault));
-    }
-    match asked_of(alloc, old, asked) {
-        Ok(change) => left_by(alloc, old, asked, &change, request),
-        Err(fault) => Err(refused_old(alloc, old, request, fault)),
+    match is_within_flow(alloc, old) {
+        Ok(()) => left_within(alloc, old, asked, request),
+        Err(fault) => Err(refused_old(alloc, old, first_zero(request), fault)),
     }
 }

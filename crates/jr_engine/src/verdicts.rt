@@ -1,5 +1,9 @@
 // What is wrong with written texts, as an answer.
 
+ghost use Rattle.std.specs.Prelude.{◌≡◌};
+ghost use Rattle.jr_engine.specs.Refusing.{IsHinderedIn, fault_of};
+ghost use Rattle.jr_engine.specs.declared.asked.Asked.{Asked};
+
 use crate::asked::Asked;
 use crate::fault::StepFault;
 use jr_base::{Place, Size};
@@ -10,7 +14,9 @@ use jr_read::ReadFault;
 use jr_rule::Rule;
 
 /// Why there is no change.
-pub fn no_change(fault: ChangeFault) -> StepFault {
+pub fn no_change(fault: ChangeFault) -> StepFault
+    ensures { result ≡ fault_of fault }
+{
     match fault {
         ChangeFault::Bad(reason) => StepFault::BadRequest(reason),
         ChangeFault::StillUsed(place) => StepFault::StillUsed { place },
@@ -20,12 +26,16 @@ pub fn no_change(fault: ChangeFault) -> StepFault {
 }
 
 /// The rule is broken there in the written texts.
-pub fn broken(rule: Rule, place: Place) -> StepFault {
+pub fn broken(rule: Rule, place: Place) -> StepFault
+    ensures { (a : Asked) → IsHinderedIn a result }
+{
     StepFault::Broken { rule, place }
 }
 
 // The tokens are no unit: they are nested too deep, or not those that were to be written.
-fn unparsed(asked: Asked, fault: ParseFault) -> StepFault {
+fn unparsed(asked: Asked, fault: ParseFault) -> StepFault
+    ensures { IsHinderedIn asked.entry result }
+{
     match fault {
         ParseFault::TooDeep(_) => StepFault::TooLarge(Size::Nesting),
         ParseFault::NoTree(_) => asked.differs(),
@@ -34,7 +44,9 @@ fn unparsed(asked: Asked, fault: ParseFault) -> StepFault {
 }
 
 /// The texts are no program.
-pub fn unread(asked: Asked, fault: ReadFault) -> StepFault {
+pub fn unread(asked: Asked, fault: ReadFault) -> StepFault
+    ensures { IsHinderedIn asked.entry result }
+{
     match fault {
         ReadFault::TooLarge(size) => StepFault::TooLarge(size),
         ReadFault::Lex { .. } => asked.differs(),
@@ -44,7 +56,9 @@ pub fn unread(asked: Asked, fault: ReadFault) -> StepFault {
 }
 
 /// The written texts are no program that compiles. What lookup does not find in them was not to be written so.
-pub fn not_compiling(asked: Asked, fault: FrontFault) -> StepFault {
+pub fn not_compiling(asked: Asked, fault: FrontFault) -> StepFault
+    ensures { IsHinderedIn asked.entry result }
+{
     match fault {
         FrontFault::TooLarge(size) => StepFault::TooLarge(size),
         FrontFault::Lex { .. } => asked.differs(),

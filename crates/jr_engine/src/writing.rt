@@ -1,8 +1,9 @@
 // The files that are written, and whether they may be.
 
-ghost use Rattle.std.specs.Prelude.{map, IfOk};
+ghost use Rattle.std.specs.Prelude.{map, IfOk, IfErr};
 ghost use Rattle.std.specs.List.{AllByRecursion};
 ghost use Rattle.jr_tree.specs.Shape.{IsShaped};
+ghost use Rattle.jr_engine.specs.Refusing.{IsHinderedIn};
 ghost use Rattle.jr_engine.specs.Written.{IsLeftOf};
 
 use crate::asked::project_of;
@@ -36,7 +37,9 @@ fn opened(
     alloc: Global,
     spelled: Spelled,
     texts: &[(Path, Vec<u8>)],
-) -> Result<Workspace, StepFault> {
+) -> Result<Workspace, StepFault>
+    ensures { IfErr result (IsHinderedIn spelled.entry.asked) }
+{
     match read_units(alloc, texts) {
         Ok(program) => match open_program(alloc, program) {
             Ok(new) => Ok(new),
@@ -59,6 +62,7 @@ fn before_paths(fault: FrontFault) -> bool {
 // The program has two units of one path, of which the first has this number.
 fn twice_in(alloc: Global, spelled: Spelled, program: Program, unit: u32) -> StepFault
     requires { AllByRecursion IsShaped (map (λ u. u.unit) program.units) }
+    ensures { IsHinderedIn spelled.entry.asked result }
 {
     let place = Place {
         cu: CuId(unit),
@@ -71,7 +75,9 @@ fn twice_in(alloc: Global, spelled: Spelled, program: Program, unit: u32) -> Ste
 }
 
 // Two texts have one path, of which the first is that of the unit of this number.
-fn twice(alloc: Global, spelled: Spelled, texts: &[(Path, Vec<u8>)], unit: u32) -> StepFault {
+fn twice(alloc: Global, spelled: Spelled, texts: &[(Path, Vec<u8>)], unit: u32) -> StepFault
+    ensures { IsHinderedIn spelled.entry.asked result }
+{
     match read_units(alloc, texts) {
         Ok(program) => twice_in(alloc, spelled, program, unit),
         Err(fault) => unread(spelled.asked, fault),
@@ -79,13 +85,17 @@ fn twice(alloc: Global, spelled: Spelled, texts: &[(Path, Vec<u8>)], unit: u32) 
 }
 
 // The texts compile and are as they were to be written.
-fn is_right(alloc: Global, spelled: Spelled, texts: &[(Path, Vec<u8>)]) -> Result<(), StepFault> {
+fn is_right(alloc: Global, spelled: Spelled, texts: &[(Path, Vec<u8>)]) -> Result<(), StepFault>
+    ensures { IfErr result (IsHinderedIn spelled.entry.asked) }
+{
     let new = opened(alloc, spelled, texts)?;
     is_as_spelled(alloc, spelled, &new)
 }
 
 // A size passes its limit, unless there is something else to be told before.
-fn too_large(alloc: Global, spelled: Spelled, files: &Files, size: Size) -> StepFault {
+fn too_large(alloc: Global, spelled: Spelled, files: &Files, size: Size) -> StepFault
+    ensures { IsHinderedIn spelled.entry.asked result }
+{
     match is_right(alloc, spelled, files.entries()) {
         Ok(()) => StepFault::TooLarge(size),
         Err(StepFault::TooLarge(_)) => StepFault::TooLarge(size),
@@ -105,7 +115,9 @@ fn moved(edits: &[Edits], place: Place) -> Place {
 }
 
 // After an inlining each expression that stays has the type that it had.
-fn keeps_types(spelled: Spelled, edits: &[Edits]) -> Result<(), StepFault> {
+fn keeps_types(spelled: Spelled, edits: &[Edits]) -> Result<(), StepFault>
+    ensures { IfErr result (IsHinderedIn spelled.entry.asked) }
+{
     let asked = spelled.asked;
     let locked = spelled.locked;
     let Course::Inlined { .. } = asked.change.course else {
@@ -136,7 +148,8 @@ fn left_as(
     edits: &[Edits],
     files: Files,
 ) -> Result<Left, StepFault>
-    ensures { IfOk result (λ left. IsLeftOf spelled.entry.locked.now spelled.entry.spellings.now left) }
+    ensures ok { IfOk result (λ left. IsLeftOf spelled.entry.locked.now spelled.entry.spellings.now left) }
+    ensures err { IfErr result (IsHinderedIn spelled.entry.asked) }
 {
     match open_files(alloc, &files) {
         Ok(program) => {
@@ -154,7 +167,8 @@ fn left_as(
 
 /// The files that are left where references are written so, if they may be left.
 pub fn left_of(alloc: Global, spelled: Spelled) -> Result<Left, StepFault>
-    ensures { IfOk result (λ left. IsLeftOf spelled.entry.locked.now spelled.entry.spellings.now left) }
+    ensures ok { IfOk result (λ left. IsLeftOf spelled.entry.locked.now spelled.entry.spellings.now left) }
+    ensures err { IfErr result (IsHinderedIn spelled.entry.asked) }
 {
     let locked = &spelled.locked.program;
     let edits = respelled(

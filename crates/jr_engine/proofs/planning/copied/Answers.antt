@@ -1,4 +1,5 @@
+use Rattle.jr_engine.proofs.Stepping.{no_memory_so}
 use Rattle.jr_engine.proofs.planning.copied.Goals as goal
 
 pub returns-in-Err-clause-err : goal.returns-in-Err-clause-err
-returns-in-Err-clause-err c = c.no_memory.ensures c.args.files.now
+returns-in-Err-clause-err c = λ requests. no_memory_so c.args.files.now requests c.no_memory.result.fault c.no_memory.ensures

@@ -1,6 +1,9 @@
-use Rattle.jr_engine.proofs.Stepping.{asked_so}
+use Rattle.jr_engine.proofs.Stepping.{no_change_caused_as}
 use Rattle.jr_engine.proofs.step.asked_of.Goals as goal
 
-pub returns-in-Ok : goal.returns-in-Ok
-returns-in-Ok c = let is = c.project_of-project.ensures in let ordered = c.is_ordered.ensures.0 c.if-not-is_ordered.false in
-    asked_so c.args.old.now c.project_of-project.result c.args.request.now c.in-Ok.change is.units is.rows is.starts is.table is.view ordered (c.in-Ok.ensures ordered)
+pub returns-in-Ok-clause-ok : goal.returns-in-Ok-clause-ok
+returns-in-Ok-clause-ok c = let ordered = c.is_ordered.ensures.0 c.if-not-is_ordered.false in record { of = c.requires; ordered = ordered; asked = c.in-Ok.ensures ordered }
+
+pub returns-in-Err-clause-err : goal.returns-in-Err-clause-err
+returns-in-Err-clause-err c = let ordered = c.is_ordered.ensures.0 c.if-not-is_ordered.false in
+    no_change_caused_as c.args.old.now c.args.project.now c.args.request.now c.in-Err.fault c.no_change.result c.no_change.ensures (record { of = c.requires; ordered = ordered; asked = c.in-Err.ensures ordered })

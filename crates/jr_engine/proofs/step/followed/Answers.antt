@@ -3,6 +3,6 @@ use Rattle.jr_engine.specs.Written.{AreFirstIn}
 use Rattle.jr_engine.proofs.Stepping.{followed_so}
 use Rattle.jr_engine.proofs.step.followed.Goals as goal
 
-pub returns : goal.returns
-returns c = followed_so c.args.asked c.in_ok-locked.locked c.deref.result.now c.left_of.result c.requires.asked c.in_ok-locked.ensures.locked
-    (subst (λ all. AreFirstIn c.args.asked c.in_ok-locked.locked all) (sym c.deref.ensures.value) c.in_ok-spellings.ensures) c.in_ok-keeps_edges.ensures.calls c.in_ok-keeps_edges.ensures.flow c.left_of.ensures
+pub returns-clause-ok : goal.returns-clause-ok
+returns-clause-ok c = followed_so c.args.asked c.in_ok-locked.locked c.deref.result.now c.left_of.result c.requires.asked c.in_ok-locked.ensures.locked
+    (subst (λ all. AreFirstIn c.args.asked c.in_ok-locked.locked all) (sym c.deref.ensures.value) c.in_ok-spellings.ensures.ok) c.in_ok-keeps_edges.ensures.calls c.in_ok-keeps_edges.ensures.flow c.left_of.ensures.ok

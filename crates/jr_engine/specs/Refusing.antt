@@ -1,0 +1,110 @@
+-- Why a request leaves nothing of files that compile: the cause of each fault.
+use Rattle.std.specs.Prelude.{◌≡◌, ℕ, true, List, ◌∷◌, ◌++◌, length, Some, Ok, Err, ⊤}
+use Rattle.jr_base.specs.Files.{FileMap}
+use Rattle.jr_base.specs.declared.limits.Size.TheVariants as size
+use Rattle.jr_base.specs.declared.request.Request.{Request}
+use Rattle.jr_base.specs.declared.token.Place.{Place}
+use Rattle.jr_tree.specs.Rows.{Rows}
+use Rattle.jr_defs.specs.Referents.{Table}
+use Rattle.jr_spelling_rules.specs.Spelling.{HasNoSpelling}
+use Rattle.jr_spell.specs.Spelling.{first_written}
+use Rattle.jr_index.specs.NodeRows.{unit_rows}
+use Rattle.jr_edges.specs.Dispatched.{IsLost}
+use Rattle.jr_edges.specs.declared.dispatched.Lost.{Lost}
+use Rattle.jr_locks.specs.Changed.{IsChanged, copies_by, origins_by}
+use Rattle.jr_locks.specs.Origins.{origin_of, row_by}
+use Rattle.jr_marks.specs.Places.{place_of_name}
+use Rattle.jr_marks.specs.declared.marks.Marks.{Marks}
+use Rattle.jr_change.specs.declared.change.Change.{Change}
+use Rattle.jr_change.specs.declared.reason.ChangeFault.{ChangeFault}
+use Rattle.jr_change.specs.declared.reason.ChangeFault.TheVariants as change
+use Rattle.jr_front.specs.Bound.{rows_in, table_in}
+use Rattle.jr_front.specs.declared.workspace.Workspace.{Workspace}
+use Rattle.jr_engine.specs.Steps.{Opened, IsRequested, AreSteps, IsRead, is_constant, opened, types}
+use Rattle.jr_engine.specs.declared.asked.Asked.{Asked}
+use Rattle.jr_engine.specs.declared.fault.EngineFault.{EngineFault}
+use Rattle.jr_engine.specs.declared.fault.EngineFault.TheVariants as fault
+use Rattle.jr_engine.specs.declared.fault.LostKind.TheVariants as kind
+use Rattle.jr_engine.specs.declared.fault.StepFault.{StepFault}
+use Rattle.jr_engine.specs.declared.fault.StepFault.TheVariants as step
+
+-- why there is no change, as a fault of a step
+abbrev pub fault_of : ChangeFault → StepFault
+fault_of (change.Bad reason) = step.BadRequest reason
+fault_of (change.StillUsed place) = step.StillUsed place
+fault_of change.TooManyPoints = step.TooLarge size.Flow
+fault_of change.OutOfMemory = step.OutOfMemory
+
+-- the place is that of the name of the old row from which the row comes, if it comes from one
+abbrev pub IsShownAt : Marks → List ℕ → ℕ → Place → Type 0
+IsShownAt m origin row place = (n : ℕ) → row_by (origin_of origin row) ≡ Some n → place ≡ place_of_name m n
+
+-- a reference of the changed program, whose place is told, can be written in no way so that it refers to its lock
+pub record LacksSpelling (p : Rows) (t : Table) (m : Marks) (change : Change) (place : Place) : Type 0 where
+  pub rows : Rows
+  pub locks : Table
+  pub changed : IsChanged p t change rows locks
+  pub row : ℕ
+  pub at : IsShownAt m (origins_by change) row place
+  pub none : HasNoSpelling rows locks (types rows locks) (is_constant p t change rows locks) (first_written (unit_rows rows (length rows))) row
+
+-- an object of the first class that has the place, in a call of a method that has the other one, found a method whose copy its copy does not find (JLS 15.12.4.4); no such class stands before it, and in it no such method
+pub record LosesCall (p : Rows) (t : Table) (m : Marks) (change : Change) (class method : Place) : Type 0 where
+  pub rows : Rows
+  pub locks : Table
+  pub changed : IsChanged p t change rows locks
+  pub lost : Lost
+  pub is : IsLost rows locks (copies_by (origins_by change) (length p)) p t lost
+  pub class_at : class ≡ place_of_name m lost.class
+  pub method_at : method ≡ place_of_name m lost.method
+
+-- Why what a change is to leave of a program cannot be left. Where there is a change, the request is no bad one; of other faults nothing is said.
+abbrev pub IsHindered : Rows → Table → Marks → Change → StepFault → Type 0
+IsHindered p t m change (step.BadRequest reason) = ⊥
+IsHindered p t m change (step.StillUsed place) = ⊥
+IsHindered p t m change (step.NoSpelling occ place lock) = LacksSpelling p t m change place
+IsHindered p t m change (step.LostEdge kind.Dispatch class method is_old) = LosesCall p t m change class method × (is_old ≡ true)
+IsHindered p t m change other = ⊤
+
+-- The cause of a fault: the request asks for no change, and this is why, or the change for which it asks is hindered. Of want of memory, and of a program found with too many points of flow, nothing is said.
+pub data HasCause (old : Opened) (request : Request) : EngineFault → Type 0 where
+  no_change : {why : ChangeFault} → IsRequested old request (Err why) → HasCause old request (fault.Step (fault_of why))
+  hindered : {change : Change} {why : StepFault} (asked : IsRequested old request (Ok change)) → IsHindered old.rows old.table asked.old.marks change why → HasCause old request (fault.Step why)
+  large : HasCause old request (fault.Step (step.TooLarge size.Flow))
+  memory : HasCause old request (fault.Step step.OutOfMemory)
+
+-- the first requests lead from the first files to others, and of these the next request leaves nothing, for a cause that holds there
+pub record IsRefusedFrom (first : Opened) (requests : List Request) (why : EngineFault) : Type 0 where
+  pub before : List Request
+  pub request : Request
+  pub after : List Request
+  pub split : requests ≡ before ++ request ∷ after
+  pub now : Opened
+  pub steps : AreSteps first before now
+  pub cause : HasCause now request why
+
+-- ---- what the code holds of it
+
+-- whatever the files of the program, the fault has its cause
+abbrev pub IsCausedBy : Workspace → Request → EngineFault → Type 0
+IsCausedBy old request why = (found : FileMap) → IsRead found old → HasCause (opened found old) request why
+
+-- the change that is asked for is hindered
+abbrev pub IsHinderedIn : Asked → StepFault → Type 0
+IsHinderedIn a why = IsHindered (rows_in a.old.now) (table_in a.old.now) a.project.now.marks a.change.now why
+
+-- the reference at the row of a changed program cannot be written
+abbrev pub IsUnspelled : Marks → List ℕ → ℕ → StepFault → Type 0
+IsUnspelled m origin row (step.NoSpelling occ place lock) = IsShownAt m origin row place
+IsUnspelled m origin row other = ⊥
+
+-- the fault that is told is this one, or want of memory
+pub data IsToldAs (why : EngineFault) : EngineFault → Type 0 where
+  told : IsToldAs why why
+  no_room : IsToldAs why (fault.Step step.OutOfMemory)
+
+-- a program has too many points of flow, or memory is wanting
+abbrev pub IsOfFlow : StepFault → Type 0
+IsOfFlow (step.TooLarge size.Flow) = ⊤
+IsOfFlow step.OutOfMemory = ⊤
+IsOfFlow other = ⊥
