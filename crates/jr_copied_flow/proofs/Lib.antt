@@ -1,0 +1,6 @@
+mod Seen
+mod Alone
+mod Whole
+mod Above
+mod Kept
+mod Segments
