@@ -2,11 +2,10 @@
 
 ghost use Rattle.std.specs.Prelude.{◌≡◌};
 ghost use Rattle.jr_engine.specs.Refusing.{IsHinderedIn, fault_of};
-ghost use Rattle.jr_engine.specs.declared.asked.Asked.{Asked};
 
 use crate::asked::Asked;
 use crate::fault::StepFault;
-use jr_base::{Place, Size};
+use jr_base::Size;
 use jr_change::ChangeFault;
 use jr_front::FrontFault;
 use jr_parse::ParseFault;
@@ -23,13 +22,6 @@ pub fn no_change(fault: ChangeFault) -> StepFault
         ChangeFault::TooManyPoints => StepFault::TooLarge(Size::Flow),
         ChangeFault::OutOfMemory => StepFault::OutOfMemory,
     }
-}
-
-/// The rule is broken there in the written texts.
-pub fn broken(rule: Rule, place: Place) -> StepFault
-    ensures { (a : Asked) → IsHinderedIn a result }
-{
-    StepFault::Broken { rule, place }
 }
 
 // The tokens are no unit: they are nested too deep, or not those that were to be written.
@@ -64,10 +56,16 @@ pub fn not_compiling(asked: Asked, fault: FrontFault) -> StepFault
         FrontFault::Lex { .. } => asked.differs(),
         FrontFault::Parse { fault, .. } => unparsed(asked, fault),
         FrontFault::PathMismatch(_) => asked.differs(),
-        FrontFault::Duplicate(place) => broken(Rule::TypeNames, place),
-        FrontFault::Cycle(place) => broken(Rule::HeaderCycle, place),
+        FrontFault::Duplicate(place) => StepFault::Broken {
+            rule: Rule::TypeNames,
+            place,
+        },
+        FrontFault::Cycle(place) => StepFault::Broken {
+            rule: Rule::HeaderCycle,
+            place,
+        },
         FrontFault::Unbound(_) => asked.differs(),
-        FrontFault::Broken(rule, place) => broken(rule, place),
+        FrontFault::Broken(rule, place) => StepFault::Broken { rule, place },
         FrontFault::OutOfMemory => StepFault::OutOfMemory,
     }
 }

@@ -11,7 +11,7 @@ use crate::fault::StepFault;
 use crate::left::Left;
 use crate::texts::{Texts, first_twice, written_texts};
 use crate::tried::{Spelled, is_as_spelled};
-use crate::verdicts::{broken, not_compiling, unread};
+use crate::verdicts::{not_compiling, unread};
 use jr_base::{CuId, Files, OutOfMemory, Path, Place, Size};
 use jr_change::Course;
 use jr_defs::Program;
@@ -70,7 +70,10 @@ fn twice_in(alloc: Global, spelled: Spelled, program: Program, unit: u32) -> Ste
     };
     match open_program(alloc, program) {
         Err(fault) if before_paths(fault) => not_compiling(spelled.asked, fault),
-        _ => broken(Rule::PathTwice, place),
+        _ => StepFault::Broken {
+            rule: Rule::PathTwice,
+            place,
+        },
     }
 }
 
@@ -126,16 +129,16 @@ fn keeps_types(spelled: Spelled, edits: &[Edits]) -> Result<(), StepFault>
     let old = project_of(asked.old);
     let new = project_of(&locked.program);
     match first_retyped(&old, &new, &locked.locks, asked.change) {
-        Some(row) => Err(broken(
-            Rule::TypeChange,
-            moved(
-                edits,
-                new.marks.fault_place(Fault {
-                    row,
-                    rule: Rule::TypeChange,
-                }),
-            ),
-        )),
+        Some(row) => {
+            let place = new.marks.fault_place(Fault {
+                row,
+                rule: Rule::TypeChange,
+            });
+            Err(StepFault::Broken {
+                rule: Rule::TypeChange,
+                place: moved(edits, place),
+            })
+        }
         None => Ok(()),
     }
 }
