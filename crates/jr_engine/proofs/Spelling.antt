@@ -376,7 +376,7 @@ module _ (asked : Asked) (locked : Locked) (bound : IsBoundIn asked.old.now) (pr
       subst (λ (x : List Referent). LacksBy q (entries x) (λ m. slice_index_or view.types.now m None) constant start (λ d. is_some (slice_index_or view.constants.now.variables.items d None)) n) of.table_is rows in
       let typed : LacksBy q l (types q l) constant start (λ d. is_some (slice_index_or view.constants.now.variables.items d None)) n =
       subst (λ (f : Types). LacksBy q l f constant start (λ d. is_some (slice_index_or view.constants.now.variables.items d None)) n)
-      (ap (λ (x : List (Option RowType)) (m : ℕ). slice_index_or x m None) of.types_are ∙ types_are asked locked program begins sound is) table in
+      (ap {B = ℕ → Option RowType} (λ (x : List (Option RowType)) (m : ℕ). slice_index_or x m None) of.types_are ∙ types_are asked locked program begins sound is) table in
       subst (λ (c : code.Constants). LacksBy q l (types q l) constant start (λ d. is_some (slice_index_or c.variables.items d None)) n) of.constants_are typed
 
 -- what is told of the view of the program under its locks is told of the change

@@ -180,7 +180,7 @@ pub shown_so : (m : Marks) (origin : List ℕ) (row : ℕ) (o : Option ℕ) (fro
 shown_so m origin row o from place is some at = λ n e. at ∙ ap (place_of_name m) (same_Some from n (sym some ∙ is ∙ e))
 
 pub unshown_so : (m : Marks) (origin : List ℕ) (row : ℕ) (o : Option ℕ) (place : Place) → o ≡ row_by (origin_of origin row) → o ≡ None → IsShownAt m origin row place
-unshown_so m origin row o place is none = λ n e. absurd (none-some n (sym none ∙ is ∙ e))
+unshown_so m origin row o place is free = λ n e. absurd (none-some n (sym free ∙ is ∙ e))
 
 pub err_is : {A : Type 0} {E : Type 0} (P : E → Type 0) (result : Result A E) (why : E) → result ≡ Err why → P why → IfErr result P
 err_is {A} {E} P result why e h = subst (λ (r : Result A E). IfErr r P) (sym e) h
