@@ -7,5 +7,5 @@ returns-in-Ok-clause-ok c = first_in c.args.asked c.args.locked.now c.project_of
     c.project_of.ensures.starts c.project_of.ensures.view (c.deref.ensures.value ∙ c.in_ok-constant.ensures) c.in-Ok.ensures.spelled
 
 pub returns-in-Err-NoSpelling-clause-err : goal.returns-in-Err-NoSpelling-clause-err
-returns-in-Err-NoSpelling-clause-err c = none_in c.args.asked c.args.locked.now c.project_of.result c.deref.result.now c.in-Err-NoSpelling.row c.in-Err-NoSpelling.field-1 c.no_spelling.result c.requires.asked c.requires.old c.requires.new c.requires.begins
-    c.requires.sound c.requires.locked c.requires.bound c.project_of.ensures.starts c.project_of.ensures.view (c.deref.ensures.value ∙ c.in_ok-constant.ensures) c.in-Err-NoSpelling.ensures.fault (c.no_spelling.ensures c.requires.asked.ordered)
+returns-in-Err-NoSpelling-clause-err c = none_in c.args.asked c.args.locked.now c.project_of.result c.deref.result.now c.in-Err-NoSpelling.row c.in-Err-NoSpelling.field-0-1 c.no_spelling.result c.requires.asked c.requires.old c.requires.new c.requires.begins
+    c.requires.sound c.requires.locked c.requires.bound c.project_of.ensures.starts c.project_of.ensures.view (c.deref.ensures.value ∙ c.in_ok-constant.ensures) (rw c.in-Err-NoSpelling.field-0-is at c.in-Err-NoSpelling.ensures.fault) (c.no_spelling.ensures c.requires.asked.ordered)
