@@ -148,7 +148,7 @@ before_by : (b : Bool) (e : ℕ) (zs ws : Below) → AreBefore e zs → AreBefor
 before_by true e zs ws one other = one
 before_by false e zs ws one other = other
 
-behind_before : (stop e : ℕ) (parts : Below) → AreBefore e parts → AreBefore e (behind stop parts)
+pub behind_before : (stop e : ℕ) (parts : Below) → AreBefore e parts → AreBefore e (behind stop parts)
 behind_before stop e [] h = tt
 behind_before stop e (p ∷ ps) h = before_by (nat_lt p.0 stop) e (behind stop ps) (p ∷ ps) (behind_before stop e ps h.1) h
 

@@ -1,5 +1,5 @@
 -- A row comes to one code, and a row declares one body: what is made of rows is found by their order alone.
-use Rattle.std.proofs.Common.{◌≡◌, refl, sym, ◌∙◌, ap, subst, ℕ, ◌<◌, ◌≤◌, Bool, true, false, [], ◌∷◌, ◌++◌, map, Option, Some, None, arith}
+use Rattle.std.proofs.Common.{◌≡◌, refl, sym, ◌∙◌, ap, subst, ℕ, ◌<◌, ◌≤◌, Bool, true, false, ◌∷◌, ◌++◌, Option, Some, arith}
 use Rattle.std.proofs.lemmas.Bool.{false≢true}
 use Rattle.std.proofs.lemmas.Option.{same_Some}
 use Rattle.jr_core.specs.declared.bodies.Body.{Body}
@@ -9,14 +9,12 @@ use Rattle.jr_tree.specs.declared.label.Label.TheVariants as is
 use Rattle.jr_tree.specs.Rows.{label}
 use Rattle.jr_defs.specs.declared.referent.Element.TheVariants as element
 use Rattle.jr_defs.specs.declared.referent.RowType.{RowType}
-use Rattle.jr_defs.specs.Modifiers.{written}
 use Rattle.jr_defs.specs.Types.{plain}
 use Rattle.jr_plain.specs.Modifiers.{is_static}
 use Rattle.jr_plain.specs.Types.{type_of_declared}
-use Rattle.jr_codes.specs.Facts.{Facts, type_in}
-use Rattle.jr_expressions.specs.Bodies.{BodyAt, IsCallable, IsFieldBody, field as field_at, method as method_at, constructor as constructor_at, default as default_at, initializer as initializer_at, field_place, initialization, parameters_of}
-use Rattle.jr_expressions.specs.Expressions.{codes_of}
-use Rattle.jr_expressions.specs.Statements.{Part, code_part, Parts, Comes, part, through, codes, made_at, PartsAt, none, one, pass, CoreAt}
+use Rattle.jr_codes.specs.Facts.{Facts}
+use Rattle.jr_expressions.specs.Bodies.{BodyAt, IsCallable, IsFieldBody, field as field_at, method as method_at, constructor as constructor_at, default as default_at, initializer as initializer_at, callable_with, field_with}
+use Rattle.jr_expressions.specs.Statements.{Part, code_part, Parts, Comes, part, through, made_at, PartsAt, none, one, pass, CoreAt}
 use Rattle.jr_elab.specs.Cores.{IsMethodBy}
 
 past_stop : (n stop : ℕ) → n < stop → stop ≤ n → ⊥
@@ -73,35 +71,10 @@ class_once f n c d first second = same_Some c d (sym first ∙ second)
 type_once : (f : Facts) (n : ℕ) (a b : RowType) → type_of_declared f.rows f.refers n ≡ Some a → type_of_declared f.rows f.refers n ≡ Some b → a ≡ b
 type_once f n a b first second = same_Some a b (sym first ∙ second)
 
--- a callable of this class with these parts below it
-abbrev callable_with : Facts → ℕ → Bool → RowType → ℕ → Parts → Body
-callable_with f n static outcome class below = record {
-  decl = f.decl n;
-  class = record { 0 = f.decl class };
-  is_static = static;
-  is_native = (written (label f.rows n)).is_native;
-  ty = type_in f outcome;
-  constant = None;
-  params = map f.decl (parameters_of f n);
-  code = codes_of (codes below);
-}
-
 callable_once : (f : Facts) (n : ℕ) (static : Bool) (outcome : RowType) (x y : Body) → IsCallable f n static outcome x → IsCallable f n static outcome y → x ≡ y
 callable_once f n static outcome x y a b =
     a.is ∙ ap (λ c. callable_with f n static outcome c a.below) (class_once f n a.class b.class a.stands b.stands)
     ∙ ap (λ p. callable_with f n static outcome b.class p) (parts_once a.parts b.parts) ∙ sym b.is
-
-abbrev field_with : Facts → ℕ → RowType → ℕ → Parts → Body
-field_with f n ty class below = record {
-  decl = f.decl n;
-  class = record { 0 = f.decl class };
-  is_static = is_static f.rows n;
-  is_native = false;
-  ty = type_in f ty;
-  constant = f.variable n;
-  params = [];
-  code = initialization (field_place f class n) (codes below);
-}
 
 field_once : (f : Facts) (n : ℕ) (x y : Body) → IsFieldBody f n x → IsFieldBody f n y → x ≡ y
 field_once f n x y a b =

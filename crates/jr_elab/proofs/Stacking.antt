@@ -30,6 +30,7 @@ use Rattle.jr_expressions.proofs.Standing.{first_or, others, left_count}
 use Rattle.jr_expressions.proofs.Operated.{one_counted, two_counted}
 use Rattle.jr_elab.specs.Stacked.{stacks, Does, case_label, caught_class, caught, TakesLast}
 use Rattle.jr_elab.proofs.Left.{none_added, parts_taken, row_on_top, none_inside, none_under, not_none, only_codes, only_in_group, only_in_try, only_groups, no_parts}
+use Rattle.jr_elab.proofs.Looped.{behind_before}
 
 -- what waits of a kind, where none of it stands inside
 pub outside : {T : Type 0} {was : List (ℕ × T)} (kind : Part → Option T) (inner outer : Parts) → was ≡ those kind (inner ++ outer) → those kind inner ≡ [] → was ≡ those kind outer
@@ -255,14 +256,6 @@ try_last true e body catches None mid left over rest h took same = absurd took
 try_last false e body catches (Some all) mid left over rest h took same = absurd took
 try_last false e body catches None mid left over rest h took same =
     let none : over ≡ [] = none_added over rest (sym (ap length (took ∙ h.is)) ∙ same) in (ap (try_by body catches false) none, took ∙ h.is ∙ ap (λ xs. xs ++ rest) none)
-
-before_by : (b : Bool) (e : ℕ) (zs ws : Below) → AreBefore e zs → AreBefore e ws → AreBefore e (cond b zs ws)
-before_by true e zs ws one other = one
-before_by false e zs ws one other = other
-
-behind_before : (stop e : ℕ) (parts : Below) → AreBefore e parts → AreBefore e (behind stop parts)
-behind_before stop e [] h = tt
-behind_before stop e (p ∷ ps) h = before_by (nat_lt p.0 stop) e (behind stop ps) (p ∷ ps) (behind_before stop e ps h.1) h
 
 -- what is left behind the first block
 left_parted : (stop e : ℕ) (old mid parts rest : Below) (all : List Code) → stop ≤ e → Parted e old parts rest → TakesFront stop old mid all → Parted e mid (behind stop parts) rest

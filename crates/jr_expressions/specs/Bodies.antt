@@ -34,22 +34,39 @@ abbrev pub initialization : Code → Below → List Code
 initialization place [] = []
 initialization place ((m, value) ∷ all) = c.Eval (c.Assign place None value) ∷ []
 
+-- a callable of this class with these parts below it
+abbrev pub callable_with : Facts → ℕ → Bool → RowType → ℕ → Parts → Body
+callable_with f n static outcome class below = record {
+  decl = f.decl n;
+  class = record { 0 = f.decl class };
+  is_static = static;
+  is_native = (written (label f.rows n)).is_native;
+  ty = type_in f outcome;
+  constant = None;
+  params = map f.decl (parameters_of f n);
+  code = codes_of (codes below);
+}
+
 -- a method, constructor or initializer with a result of this type, static or not
 pub record IsCallable (f : Facts) (n : ℕ) (static : Bool) (outcome : RowType) (b : Body) : Type 0 where
   pub class : ℕ
   pub stands : f.around n ≡ Some class
   pub below : Parts
   pub parts : PartsAt f (Some outcome) (n + 1) (end f.rows n) below
-  pub is : b ≡ record {
-    decl = f.decl n;
-    class = record { 0 = f.decl class };
-    is_static = static;
-    is_native = (written (label f.rows n)).is_native;
-    ty = type_in f outcome;
-    constant = None;
-    params = map f.decl (parameters_of f n);
-    code = codes_of (codes below);
-  }
+  pub is : b ≡ callable_with f n static outcome class below
+
+-- a field of this class with this type and these parts below it
+abbrev pub field_with : Facts → ℕ → RowType → ℕ → Parts → Body
+field_with f n ty class below = record {
+  decl = f.decl n;
+  class = record { 0 = f.decl class };
+  is_static = is_static f.rows n;
+  is_native = false;
+  ty = type_in f ty;
+  constant = f.variable n;
+  params = [];
+  code = initialization (field_place f class n) (codes below);
+}
 
 -- a field, with the value that it has where it is a constant variable
 pub record IsFieldBody (f : Facts) (n : ℕ) (b : Body) : Type 0 where
@@ -59,16 +76,7 @@ pub record IsFieldBody (f : Facts) (n : ℕ) (b : Body) : Type 0 where
   pub has : type_of_declared f.rows f.refers n ≡ Some ty
   pub below : Parts
   pub parts : PartsAt f None (n + 1) (end f.rows n) below
-  pub is : b ≡ record {
-    decl = f.decl n;
-    class = record { 0 = f.decl class };
-    is_static = is_static f.rows n;
-    is_native = false;
-    ty = type_in f ty;
-    constant = f.variable n;
-    params = [];
-    code = initialization (field_place f class n) (codes below);
-  }
+  pub is : b ≡ field_with f n ty class below
 
 -- the body that a row declares
 pub data BodyAt (f : Facts) (n : ℕ) : Body → Type 0 where

@@ -9,8 +9,7 @@ ghost use Rattle.jr_codes.specs.Reads.{texts_of, facts, Becomes};
 
 use crate::arrays::{index, list, new_array, value};
 use crate::calls::{call, constructor_call, creation, implicit_call};
-use crate::conversions::literal;
-use crate::names::{name, select, super_select, this};
+use crate::names::{constant, name, select, super_select, this};
 use crate::operators::{
     assign, binary, cast, conditional, instance_test, step_after, step_before, unary,
 };
@@ -19,19 +18,6 @@ use jr_codes::{Parts, Source};
 use jr_constants::Value;
 use jr_core::Code;
 use jr_tree::Label;
-
-// A constant expression that stands in no other one.
-fn whole_constant(
-    source: &Source,
-    codes: &mut Parts<Code>,
-    at: u32,
-    value: Value,
-) -> Result<(), OutOfMemory>
-    ensures { OnOk result (Becomes source.now at (λ parts. of_none parts (code (c.Lit (Some (value_in (texts_of source.now) value))))) (waiting codes.old) (waiting codes.new)) }
-{
-    let made = literal(source, value)?;
-    codes.push_boxed(at, made)
-}
 
 /// Makes a constant expression, unless it stands in another one.
 pub fn add_constant(
@@ -45,7 +31,7 @@ pub fn add_constant(
     if source.value(source.parent(at)).is_some() {
         return Ok(());
     }
-    whole_constant(source, codes, at, value)
+    constant(source, codes, at, value)
 }
 
 // `(e)`

@@ -104,8 +104,8 @@ fn constant_name(source: &Source, at: u32, row: u32) -> Option<Value>
     }
 }
 
-// A constant variable by its name.
-fn constant(
+/// A constant expression that stands in no other one, as a constant variable by its name.
+pub fn constant(
     source: &Source,
     codes: &mut Parts<Code>,
     at: u32,

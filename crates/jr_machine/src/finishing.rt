@@ -317,19 +317,26 @@ fn finish_unary<'a>(state: &mut State<'a>, alloc: Global, op: UnaryOp) -> Result
     settle(state, alloc, outcome)
 }
 
+/// A type of a program.
+#[derive(Clone, Copy)]
+struct TypeIn<'p, 'a> {
+    program: &'p Program<'a>,
+    ty: &'p Ty,
+}
+
 fn test_of<'a>(
     state: &mut State<'a>,
     alloc: Global,
-    program: &Program<'a>,
-    ty: &Ty,
+    of: &TypeIn<'_, 'a>,
     value: Value<'a>,
 ) -> Result<bool, OutOfMemory>
-    ensures { IfOk result (λ went. Follows (tests program.now (plain_ty ty.now) value.entry state.old) went state.old state.new) }
+    ensures { IfOk result (λ went. Follows (tests of.now.program.now (plain_ty of.now.ty.now) value.entry state.old) went state.old state.new) }
 {
     match value {
         Value::Null => push(state, Value::Bool(false)),
         value => {
-            let answer = program.is_instance(alloc, state.heap.as_slice(), &value, ty)?;
+            let program = of.program;
+            let answer = program.is_instance(alloc, state.heap.as_slice(), &value, of.ty)?;
             push(state, Value::Bool(answer))
         }
     }
@@ -346,7 +353,7 @@ fn test<'a>(
 {
     match state.frame.values.pop() {
         None => Ok(false),
-        Some(value) => test_of(state, alloc, program, ty, value),
+        Some(value) => test_of(state, alloc, &TypeIn { program, ty }, value),
     }
 }
 
@@ -354,16 +361,16 @@ fn test<'a>(
 fn cast_object<'a>(
     state: &mut State<'a>,
     alloc: Global,
-    program: &Program<'a>,
-    ty: &Ty,
+    of: &TypeIn<'_, 'a>,
     value: Value<'a>,
 ) -> Result<bool, OutOfMemory>
-    ensures { IfOk result (λ went. Follows (casts_object program.now (plain_ty ty.now) value.entry state.old) went state.old state.new) }
+    ensures { IfOk result (λ went. Follows (casts_object of.now.program.now (plain_ty of.now.ty.now) value.entry state.old) went state.old state.new) }
 {
     match value {
         Value::Null => push(state, Value::Null),
         value => {
-            if program.is_instance(alloc, state.heap.as_slice(), &value, ty)? {
+            let program = of.program;
+            if program.is_instance(alloc, state.heap.as_slice(), &value, of.ty)? {
                 push(state, value)
             } else {
                 raise(state, alloc, Fault::ClassCast)
@@ -375,17 +382,16 @@ fn cast_object<'a>(
 fn cast_value<'a>(
     state: &mut State<'a>,
     alloc: Global,
-    program: &Program<'a>,
-    ty: &Ty,
+    of: &TypeIn<'_, 'a>,
     value: Value<'a>,
 ) -> Result<bool, OutOfMemory>
-    ensures { IfOk result (λ went. Follows (casts program.now (plain_ty ty.now) value.entry state.old) went state.old state.new) }
+    ensures { IfOk result (λ went. Follows (casts of.now.program.now (plain_ty of.now.ty.now) value.entry state.old) went state.old state.new) }
 {
-    match ty {
-        Ty::Class(_) | Ty::Array(_) => cast_object(state, alloc, program, ty, value),
+    match of.ty {
+        Ty::Class(_) | Ty::Array(_) => cast_object(state, alloc, of, value),
         Ty::Boolean | Ty::Byte | Ty::Short | Ty::Char | Ty::Int | Ty::Long | Ty::Null | Ty::Void =>
             {
-                let outcome = converted_to(ty, &value);
+                let outcome = converted_to(of.ty, &value);
                 settle(state, alloc, outcome)
             }
     }
@@ -401,7 +407,7 @@ fn cast<'a>(
 {
     match state.frame.values.pop() {
         None => Ok(false),
-        Some(value) => cast_value(state, alloc, program, ty, value),
+        Some(value) => cast_value(state, alloc, &TypeIn { program, ty }, value),
     }
 }
 

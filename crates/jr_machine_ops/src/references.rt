@@ -34,20 +34,26 @@ fn compared(is_equal: bool, same: Option<bool>) -> Outcome<'static>
     }
 }
 
+/// An operator and its operands.
+#[derive(Clone, Copy)]
+struct Operation<'v, 'a> {
+    op: BinaryOp,
+    left: &'v Value<'a>,
+    right: &'v Value<'a>,
+}
+
 /// An operator on two references.
 fn on_references<'a>(
     alloc: Global,
     heap: &[Cell<'a>],
-    op: BinaryOp,
-    left: &Value<'a>,
-    right: &Value<'a>,
+    of: Operation<'_, 'a>,
 ) -> Result<Outcome<'a>, OutOfMemory>
-    ensures { IfOk result (λ outcome. outcome ≡ on_references heap.now op left.now right.now) }
+    ensures { IfOk result (λ outcome. outcome ≡ on_references heap.now of.entry.op of.entry.left.now of.entry.right.now) }
 {
-    match op {
-        BinaryOp::Equal => Ok(compared(true, same_object(left, right))),
-        BinaryOp::NotEqual => Ok(compared(false, same_object(left, right))),
-        BinaryOp::Add => joined(alloc, shown(heap, left), shown(heap, right)),
+    match of.op {
+        BinaryOp::Equal => Ok(compared(true, same_object(of.left, of.right))),
+        BinaryOp::NotEqual => Ok(compared(false, same_object(of.left, of.right))),
+        BinaryOp::Add => joined(alloc, shown(heap, of.left), shown(heap, of.right)),
         _ => Ok(Outcome::Unfit),
     }
 }
@@ -56,15 +62,13 @@ fn on_references<'a>(
 fn on_others<'a>(
     alloc: Global,
     heap: &[Cell<'a>],
-    op: BinaryOp,
-    left: &Value<'a>,
-    right: &Value<'a>,
+    of: Operation<'_, 'a>,
 ) -> Result<Outcome<'a>, OutOfMemory>
-    ensures { IfOk result (λ outcome. outcome ≡ on_others heap.now op left.now right.now) }
+    ensures { IfOk result (λ outcome. outcome ≡ on_others heap.now of.entry.op of.entry.left.now of.entry.right.now) }
 {
-    match (left, right) {
-        (Value::Bool(left), Value::Bool(right)) => Ok(on_bools(op, *left, *right)),
-        (left, right) => on_references(alloc, heap, op, left, right),
+    match (of.left, of.right) {
+        (Value::Bool(left), Value::Bool(right)) => Ok(on_bools(of.op, *left, *right)),
+        _ => on_references(alloc, heap, of),
     }
 }
 
@@ -80,7 +84,7 @@ pub fn binary<'a>(
 {
     match (number_of(left), number_of(right)) {
         (Some(left), Some(right)) => Ok(on_numbers(op, left, right)),
-        _ => on_others(alloc, heap, op, left, right),
+        _ => on_others(alloc, heap, Operation { op, left, right }),
     }
 }
 

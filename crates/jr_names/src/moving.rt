@@ -93,6 +93,14 @@ fn top_level(rows: &[Row], declared: Option<u32>) -> Option<u32>
     }
 }
 
+// A top-level type that goes to a package, with what stands before the types of its unit.
+#[derive(Clone, Copy)]
+struct TypeMove<'a> {
+    row: u32,
+    head: Head,
+    named: &'a [u8],
+}
+
 // The change in which a top-level type is of a package.
 fn moved(alloc: Global, marks: &Marks, row: u32, named: &[u8]) -> Result<Change, ChangeFault>
     ensures ok { IfOk result (λ change. IsOrdered marks.now → row + 1 < 2 ^ 32 → spec.IsMoved marks.now row named.now change) }
@@ -103,7 +111,7 @@ fn moved(alloc: Global, marks: &Marks, row: u32, named: &[u8]) -> Result<Change,
     if is_there {
         unchanged_all(alloc, marks)
     } else {
-        moved_away(alloc, marks, row, head, named)
+        moved_away(alloc, marks, &TypeMove { row, head, named })
     }
 }
 
@@ -133,21 +141,15 @@ fn unchanged_all(alloc: Global, marks: &Marks) -> Result<Change, ChangeFault>
 }
 
 // The change in which a top-level type is of another package than before.
-fn moved_away(
-    alloc: Global,
-    marks: &Marks,
-    row: u32,
-    head: Head,
-    named: &[u8],
-) -> Result<Change, ChangeFault>
-    ensures ok { IfOk result (λ change. IsOrdered marks.now → row + 1 < 2 ^ 32 → head.unit + 1 < 2 ^ 32 → head ≡ spec.head_over marks.now row
-        → spec.IsMovedAway marks.now row named.now change) }
+fn moved_away(alloc: Global, marks: &Marks, of: &TypeMove) -> Result<Change, ChangeFault>
+    ensures ok { IfOk result (λ change. IsOrdered marks.now → of.now.row + 1 < 2 ^ 32 → of.now.head.unit + 1 < 2 ^ 32 → of.now.head ≡ spec.head_over marks.now of.now.row
+        → spec.IsMovedAway marks.now of.now.row of.now.named.now change) }
     ensures fault { IfErr result (λ fault. fault ≡ ChangeFault.OutOfMemory) }
 {
-    if has_others(marks.rows, row, head.unit) {
-        moved_apart(alloc, marks, row, head, named)
+    if has_others(marks.rows, of.row, of.head.unit) {
+        moved_apart(alloc, marks, of)
     } else {
-        moved_whole(alloc, marks, row, head, named)
+        moved_whole(alloc, marks, of)
     }
 }
 
@@ -170,48 +172,37 @@ fn has_others(rows: &[Row], moved: u32, unit: u32) -> bool
 }
 
 // The change in which the unit of a type goes with it.
-fn moved_whole(
-    alloc: Global,
-    marks: &Marks,
-    row: u32,
-    head: Head,
-    named: &[u8],
-) -> Result<Change, ChangeFault>
-    ensures ok { IfOk result (λ change. IsOrdered marks.now → head.unit + 1 < 2 ^ 32
-        → drafting.IsFinished (spec.moved_whole marks.now head row named.now) course.Same change) }
+fn moved_whole(alloc: Global, marks: &Marks, of: &TypeMove) -> Result<Change, ChangeFault>
+    ensures ok { IfOk result (λ change. IsOrdered marks.now → of.now.head.unit + 1 < 2 ^ 32
+        → drafting.IsFinished (spec.moved_whole marks.now of.now.head of.now.row of.now.named.now) course.Same change) }
     ensures fault { IfErr result (λ fault. fault ≡ ChangeFault.OutOfMemory) }
 {
-    let path = path_of_type(alloc, named, name_at(marks.rows, row))?;
+    let path = path_of_type(alloc, of.named, name_at(marks.rows, of.row))?;
     let mut draft = Draft::new(alloc, marks)?;
     let unit_move = UnitMove {
-        head,
-        row,
-        named,
+        marks,
+        head: of.head,
+        row: of.row,
+        named: of.named,
         path: &path,
     };
-    unit_move.add_all(alloc, &mut draft, marks)?;
+    unit_move.add_all(alloc, &mut draft)?;
     Ok(draft.finish())
 }
 
 // The change in which a type leaves its unit, where there are others.
-fn moved_apart(
-    alloc: Global,
-    marks: &Marks,
-    row: u32,
-    head: Head,
-    named: &[u8],
-) -> Result<Change, ChangeFault>
-    ensures ok { IfOk result (λ change. IsOrdered marks.now → row + 1 < 2 ^ 32 → head ≡ spec.head_over marks.now row
-        → spec.IsMovedApart marks.now row named.now change) }
+fn moved_apart(alloc: Global, marks: &Marks, of: &TypeMove) -> Result<Change, ChangeFault>
+    ensures ok { IfOk result (λ change. IsOrdered marks.now → of.now.row + 1 < 2 ^ 32 → of.now.head ≡ spec.head_over marks.now of.now.row
+        → spec.IsMovedApart marks.now of.now.row of.now.named.now change) }
     ensures fault { IfErr result (λ fault. fault ≡ ChangeFault.OutOfMemory) }
 {
-    let span = extent(marks, row);
-    let declaration = part(unit_bytes(marks, row), span);
+    let span = extent(marks, of.row);
+    let declaration = part(unit_bytes(marks, of.row), span);
     let leaving = Leaving {
-        head,
-        row,
+        head: of.head,
+        row: of.row,
         is_turned: false,
-        named,
+        named: of.named,
         declaration,
         span,
     };

@@ -71,6 +71,7 @@ fn redeclare(
 /// A unit that goes to another package with its only type. Contracts see what it holds.
 #[derive(Clone, Copy)]
 pub struct UnitMove<'a> {
+    pub marks: &'a Marks<'a>,
     /// What stands before the type.
     pub head: Head,
     /// The type.
@@ -83,55 +84,57 @@ pub struct UnitMove<'a> {
 
 impl<'a> UnitMove<'a> {
     // The edits of the unit.
-    fn edits(&self, alloc: Global, marks: &Marks) -> Result<Edits, ChangeFault>
-        ensures ok { IfOk result (λ edits. IsOrdered marks.now → edits ≡ spec.edits_of_move marks.now self.now.head self.now.row self.now.named.now) }
+    fn edits(&self, alloc: Global) -> Result<Edits, ChangeFault>
+        ensures ok { IfOk result (λ edits. IsOrdered self.now.marks.now → edits ≡ spec.edits_of_move self.now.marks.now self.now.head self.now.row self.now.named.now) }
         ensures fault { IfErr result (λ fault. fault ≡ ChangeFault.OutOfMemory) }
     {
-        let mut edits = edits_of(alloc, marks, self.row)?;
-        redeclare(alloc, &mut edits, marks, self.named, self.head.declared)?;
+        let mut edits = edits_of(alloc, self.marks, self.row)?;
+        redeclare(
+            alloc,
+            &mut edits,
+            self.marks,
+            self.named,
+            self.head.declared,
+        )?;
         Ok(edits)
     }
 
     // Adds the unit, but not its rows.
-    fn add_text(&self, alloc: Global, draft: &mut Draft, marks: &Marks) -> Result<(), ChangeFault>
-        ensures ok { OnOk result (IsOrdered marks.now
-            → draft.new ≡ drafting.with_unit draft.old (spec.moved_unit marks.now self.now.head self.now.row self.now.named.now self.now.path.now)) }
+    fn add_text(&self, alloc: Global, draft: &mut Draft) -> Result<(), ChangeFault>
+        ensures ok { OnOk result (IsOrdered self.now.marks.now
+            → draft.new ≡ drafting.with_unit draft.old (spec.moved_unit self.now.marks.now self.now.head self.now.row self.now.named.now self.now.path.now)) }
         ensures fault { IfErr result (λ fault. fault ≡ ChangeFault.OutOfMemory) }
     {
+        let marks = self.marks;
         let unit = marks.unit_of(self.row);
-        let edits = self.edits(alloc, marks)?;
+        let edits = self.edits(alloc)?;
         draft.add(self.path.copy(alloc)?, UnitSource::Edited { unit, edits })?;
         Ok(())
     }
 
     // Adds the unit.
-    fn add_moved(&self, alloc: Global, draft: &mut Draft, marks: &Marks) -> Result<(), ChangeFault>
-        ensures ok { OnOk result (IsOrdered marks.now → self.now.head.unit + 1 < 2 ^ 32
-            → draft.new ≡ spec.with_moved marks.now self.now.head self.now.row self.now.named.now self.now.path.now draft.old) }
+    fn add_moved(&self, alloc: Global, draft: &mut Draft) -> Result<(), ChangeFault>
+        ensures ok { OnOk result (IsOrdered self.now.marks.now → self.now.head.unit + 1 < 2 ^ 32
+            → draft.new ≡ spec.with_moved self.now.marks.now self.now.head self.now.row self.now.named.now self.now.path.now draft.old) }
         ensures fault { IfErr result (λ fault. fault ≡ ChangeFault.OutOfMemory) }
     {
         let head = self.head;
-        self.add_text(alloc, draft, marks)?;
+        self.add_text(alloc, draft)?;
         draft.copy(head.unit, head.unit.saturating_add(1))?;
         add_package_rows(draft, self.named, head.declared)?;
-        draft.copy(head.imports, end_at(marks.rows, head.unit))?;
+        draft.copy(head.imports, end_at(self.marks.rows, head.unit))?;
         Ok(())
     }
 
     // Adds a unit: that of the type, or one that stays.
-    fn add_one(
-        &self,
-        alloc: Global,
-        draft: &mut Draft,
-        marks: &Marks,
-        unit: u32,
-    ) -> Result<(), ChangeFault>
-        ensures ok { OnOk result (IsOrdered marks.now → self.now.head.unit + 1 < 2 ^ 32
-            → draft.new ≡ spec.with_one marks.now self.now.head self.now.row self.now.named.now self.now.path.now draft.old unit) }
+    fn add_one(&self, alloc: Global, draft: &mut Draft, unit: u32) -> Result<(), ChangeFault>
+        ensures ok { OnOk result (IsOrdered self.now.marks.now → self.now.head.unit + 1 < 2 ^ 32
+            → draft.new ≡ spec.with_one self.now.marks.now self.now.head self.now.row self.now.named.now self.now.path.now draft.old unit) }
         ensures fault { IfErr result (λ fault. fault ≡ ChangeFault.OutOfMemory) }
     {
+        let marks = self.marks;
         if unit == marks.unit_of(self.row) {
-            self.add_moved(alloc, draft, marks)
+            self.add_moved(alloc, draft)
         } else {
             draft.keep(alloc, marks, unit)?;
             Ok(())
@@ -139,36 +142,26 @@ impl<'a> UnitMove<'a> {
     }
 
     // Adds these units.
-    fn add_these(
-        &self,
-        alloc: Global,
-        draft: &mut Draft,
-        marks: &Marks,
-        units: &[u32],
-    ) -> Result<(), ChangeFault>
-        ensures ok { OnOk result (IsOrdered marks.now → self.now.head.unit + 1 < 2 ^ 32
-            → draft.new ≡ spec.with_all marks.now self.now.head self.now.row self.now.named.now self.now.path.now units.now draft.old) }
+    fn add_these(&self, alloc: Global, draft: &mut Draft, units: &[u32]) -> Result<(), ChangeFault>
+        ensures ok { OnOk result (IsOrdered self.now.marks.now → self.now.head.unit + 1 < 2 ^ 32
+            → draft.new ≡ spec.with_all self.now.marks.now self.now.head self.now.row self.now.named.now self.now.path.now units.now draft.old) }
         ensures fault { IfErr result (λ fault. fault ≡ ChangeFault.OutOfMemory) }
     {
         for unit in units {
-            self.add_one(alloc, draft, marks, *unit)?;
+            self.add_one(alloc, draft, *unit)?;
         }
         Ok(())
     }
 
     /// Adds all units in the order of their new paths.
-    pub fn add_all(
-        &self,
-        alloc: Global,
-        draft: &mut Draft,
-        marks: &Marks,
-    ) -> Result<(), ChangeFault>
-        ensures ok { OnOk result (IsOrdered marks.now → self.now.head.unit + 1 < 2 ^ 32 → draft.old ≡ drafting.begun marks.now
-            → draft.new ≡ spec.with_path marks.now self.now.head self.now.row self.now.named.now self.now.path.now) }
+    pub fn add_all(&self, alloc: Global, draft: &mut Draft) -> Result<(), ChangeFault>
+        ensures ok { OnOk result (IsOrdered self.now.marks.now → self.now.head.unit + 1 < 2 ^ 32 → draft.old ≡ drafting.begun self.now.marks.now
+            → draft.new ≡ spec.with_path self.now.marks.now self.now.head self.now.row self.now.named.now self.now.path.now) }
         ensures fault { IfErr result (λ fault. fault ≡ ChangeFault.OutOfMemory) }
     {
+        let marks = self.marks;
         let order = order_with(alloc, marks, marks.unit_of(self.row), self.path.bytes())?;
-        self.add_these(alloc, draft, marks, &order)?;
+        self.add_these(alloc, draft, &order)?;
         Ok(())
     }
 }

@@ -28,6 +28,14 @@ pub struct Moving<'a> {
     pub to: &'a [u8],
 }
 
+// What is known of a unit: its head, and the imports of the package in it.
+#[derive(Clone, Copy)]
+struct Known<'a> {
+    unit: u32,
+    head: Head,
+    imports: &'a [u32],
+}
+
 // In the unit of these edits the name below a row becomes another one.
 fn replace(
     alloc: Global,
@@ -224,26 +232,20 @@ impl<'a> Moving<'a> {
     }
 
     // Adds a unit that goes to the folder, but not its rows.
-    fn add_moved_text(
-        &self,
-        alloc: Global,
-        draft: &mut Draft,
-        unit: u32,
-        head: Head,
-        imports: &[u32],
-    ) -> Result<(), ChangeFault>
+    fn add_moved_text(&self, alloc: Global, draft: &mut Draft, of: Known) -> Result<(), ChangeFault>
         ensures ok { OnOk result (IsOrdered self.now.named.now.marks.now
-            → draft.new ≡ with_unit draft.old (spec.moved_unit self.now.named.now.marks.now self.now.folder.now self.now.to.now unit head imports.now)) }
+            → draft.new ≡ with_unit draft.old (spec.moved_unit self.now.named.now.marks.now self.now.folder.now self.now.to.now of.entry.unit of.entry.head of.entry.imports.now)) }
         ensures fault { IfErr result (λ fault. fault ≡ ChangeFault.OutOfMemory) }
     {
         let named = self.named;
+        let unit = of.unit;
         let edits = edits_in(
             alloc,
             named.marks,
             self.to,
-            head.unit,
-            head.declared,
-            imports,
+            of.head.unit,
+            of.head.declared,
+            of.imports,
         )?;
         draft.add(
             self.new_path(alloc, unit)?,
@@ -253,20 +255,14 @@ impl<'a> Moving<'a> {
     }
 
     // Adds a unit that goes to the folder.
-    fn add_moved(
-        &self,
-        alloc: Global,
-        draft: &mut Draft,
-        unit: u32,
-        head: Head,
-        imports: &[u32],
-    ) -> Result<(), ChangeFault>
-        ensures ok { OnOk result (IsOrdered self.now.named.now.marks.now → head.unit + 1 < 2 ^ 32 → All (λ at. at + 1 < 2 ^ 32) imports.now
-            → draft.new ≡ spec.with_moved self.now.named.now.marks.now self.now.folder.now self.now.to.now unit head imports.now draft.old) }
+    fn add_moved(&self, alloc: Global, draft: &mut Draft, of: Known) -> Result<(), ChangeFault>
+        ensures ok { OnOk result (IsOrdered self.now.named.now.marks.now → of.entry.head.unit + 1 < 2 ^ 32 → All (λ at. at + 1 < 2 ^ 32) of.entry.imports.now
+            → draft.new ≡ spec.with_moved self.now.named.now.marks.now self.now.folder.now self.now.to.now of.entry.unit of.entry.head of.entry.imports.now draft.old) }
         ensures fault { IfErr result (λ fault. fault ≡ ChangeFault.OutOfMemory) }
     {
         let named = self.named;
-        self.add_moved_text(alloc, draft, unit, head, imports)?;
+        let head = of.head;
+        self.add_moved_text(alloc, draft, of)?;
         draft.copy(head.unit, head.unit.saturating_add(1))?;
         add_package_rows(draft, self.to, head.declared)?;
         add_rows(
@@ -275,77 +271,58 @@ impl<'a> Moving<'a> {
             self.to,
             head.unit,
             head.imports,
-            imports,
+            of.imports,
         )?;
         Ok(())
     }
 
     // Adds a unit that stays, and in which imports name the package.
-    fn add_importing(
-        &self,
-        alloc: Global,
-        draft: &mut Draft,
-        unit: u32,
-        head: Head,
-        imports: &[u32],
-    ) -> Result<(), ChangeFault>
-        ensures ok { OnOk result (IsOrdered self.now.named.now.marks.now → head.unit + 1 < 2 ^ 32 → All (λ at. at + 1 < 2 ^ 32) imports.now
-            → draft.new ≡ spec.with_importing self.now.named.now.marks.now self.now.to.now unit head imports.now draft.old) }
+    fn add_importing(&self, alloc: Global, draft: &mut Draft, of: Known) -> Result<(), ChangeFault>
+        ensures ok { OnOk result (IsOrdered self.now.named.now.marks.now → of.entry.head.unit + 1 < 2 ^ 32 → All (λ at. at + 1 < 2 ^ 32) of.entry.imports.now
+            → draft.new ≡ spec.with_importing self.now.named.now.marks.now self.now.to.now of.entry.unit of.entry.head of.entry.imports.now draft.old) }
         ensures fault { IfErr result (λ fault. fault ≡ ChangeFault.OutOfMemory) }
     {
         let named = self.named;
-        let edits = edits_in(alloc, named.marks, self.to, head.unit, None, imports)?;
+        let unit = of.unit;
+        let row = of.head.unit;
+        let edits = edits_in(alloc, named.marks, self.to, row, None, of.imports)?;
         draft.add(
             path_of(alloc, named.marks, unit)?,
             UnitSource::Edited { unit, edits },
         )?;
-        add_rows(draft, named.marks, self.to, head.unit, head.unit, imports)?;
+        add_rows(draft, named.marks, self.to, row, row, of.imports)?;
         Ok(())
     }
 
     // Adds a unit that stays.
-    fn add_stayed(
-        &self,
-        alloc: Global,
-        draft: &mut Draft,
-        unit: u32,
-        head: Head,
-        imports: &[u32],
-    ) -> Result<(), ChangeFault>
-        ensures ok { OnOk result (IsOrdered self.now.named.now.marks.now → head.unit + 1 < 2 ^ 32 → All (λ at. at + 1 < 2 ^ 32) imports.now
-            → draft.new ≡ spec.with_stayed self.now.named.now.marks.now self.now.to.now unit head imports.now draft.old) }
+    fn add_stayed(&self, alloc: Global, draft: &mut Draft, of: Known) -> Result<(), ChangeFault>
+        ensures ok { OnOk result (IsOrdered self.now.named.now.marks.now → of.entry.head.unit + 1 < 2 ^ 32 → All (λ at. at + 1 < 2 ^ 32) of.entry.imports.now
+            → draft.new ≡ spec.with_stayed self.now.named.now.marks.now self.now.to.now of.entry.unit of.entry.head of.entry.imports.now draft.old) }
         ensures fault { IfErr result (λ fault. fault ≡ ChangeFault.OutOfMemory) }
     {
         let named = self.named;
-        if imports.is_empty() {
-            draft.keep(alloc, named.marks, unit)?;
+        if of.imports.is_empty() {
+            draft.keep(alloc, named.marks, of.unit)?;
             return Ok(());
         }
-        self.add_importing(alloc, draft, unit, head, imports)?;
+        self.add_importing(alloc, draft, of)?;
         Ok(())
     }
 
     // Adds a unit, which has these imports of the package.
-    fn add_either(
-        &self,
-        alloc: Global,
-        draft: &mut Draft,
-        unit: u32,
-        head: Head,
-        imports: &[u32],
-    ) -> Result<(), ChangeFault>
-        ensures ok { OnOk result (IsOrdered self.now.named.now.marks.now → unit < length self.now.named.now.marks.now.units.now
-            → head.unit + 1 < 2 ^ 32 → All (λ at. at + 1 < 2 ^ 32) imports.now
-            → draft.new ≡ spec.with_either self.now.named.now.marks.now self.now.folder.now self.now.named.now.from.now self.now.to.now unit head imports.now draft.old) }
+    fn add_either(&self, alloc: Global, draft: &mut Draft, of: Known) -> Result<(), ChangeFault>
+        ensures ok { OnOk result (IsOrdered self.now.named.now.marks.now → of.entry.unit < length self.now.named.now.marks.now.units.now
+            → of.entry.head.unit + 1 < 2 ^ 32 → All (λ at. at + 1 < 2 ^ 32) of.entry.imports.now
+            → draft.new ≡ spec.with_either self.now.named.now.marks.now self.now.folder.now self.now.named.now.from.now self.now.to.now of.entry.unit of.entry.head of.entry.imports.now draft.old) }
         ensures fault { IfErr result (λ fault. fault ≡ ChangeFault.OutOfMemory) }
     {
         let named = self.named;
-        let has = named.has(alloc, unit)?;
+        let has = named.has(alloc, of.unit)?;
         if has {
-            self.add_moved(alloc, draft, unit, head, imports)?;
+            self.add_moved(alloc, draft, of)?;
             return Ok(());
         }
-        self.add_stayed(alloc, draft, unit, head, imports)?;
+        self.add_stayed(alloc, draft, of)?;
         Ok(())
     }
 
@@ -362,7 +339,12 @@ impl<'a> Moving<'a> {
         let head = head_at(named.marks, unit);
         let imports = named.imports(alloc, head)?;
         let these = imports.as_slice();
-        self.add_either(alloc, draft, unit, head, these)?;
+        let of = Known {
+            unit,
+            head,
+            imports: these,
+        };
+        self.add_either(alloc, draft, of)?;
         Ok(())
     }
 

@@ -9,8 +9,8 @@ ghost use Rattle.jr_runs.specs.Plans as spec;
 
 use crate::item::{Front, Item, Meaning};
 use crate::writing::{
-    ahead, before_call, left, push_cast, push_cast_this, push_enclosed_cast, push_name,
-    push_parens, push_this,
+    NO_NAME, WrittenName, ahead, before_call, left, push_cast, push_cast_this, push_enclosed_cast,
+    push_name, push_parens, push_this,
 };
 use jr_base::OutOfMemory;
 use jr_defs::{Element, Referent};
@@ -74,7 +74,12 @@ fn push_receiver(
     ensures { OnOk result (items.new.items ≡ items.old.items ++ enclosed_cast row found.now (Some suffix.of) (spec.names rows.now suffix) None None (length items.old.items)) }
 {
     let names = suffix_rows(alloc, rows, suffix)?;
-    push_enclosed_cast(items, row, found, Some(suffix.of), &names, None, None)
+    let name = WrittenName {
+        found,
+        class: Some(suffix.of),
+        names: &names,
+    };
+    push_enclosed_cast(items, row, &name, None, None)
 }
 
 fn push_argument(
@@ -88,18 +93,12 @@ fn push_argument(
 {
     let names = type_names(alloc, rows, ty)?;
     let primitive = primitive_of(ty.element);
-    let class = class_of(ty.element);
-    push_cast(
-        items,
-        row,
-        primitive,
-        ty.dims,
-        &[],
-        class,
-        &names,
-        None,
-        None,
-    )
+    let name = WrittenName {
+        found: &[],
+        class: class_of(ty.element),
+        names: &names,
+    };
+    push_cast(items, row, primitive, ty.dims, &name, None, None)
 }
 
 /// What is written before the row. It gives the number of what the row stands in.
@@ -151,129 +150,105 @@ fn left_meaning(rows: &[Row], row: u32) -> Meaning
     }
 }
 
-/// Where names are written behind a row.
-fn push_left(
-    items: &mut Vec<Item>,
-    rows: &[Row],
-    spelling: &Spelling,
+/// A row with its spelling, behind which more is written.
+#[derive(Clone, Copy)]
+struct Spelled<'a> {
+    rows: &'a [Row],
+    spelling: &'a Spelling,
     row: u32,
-    names: &[u32],
+    /// The number that it itself is written under.
     own: usize,
-) -> Result<(), OutOfMemory>
-    requires { length items.old.items ≡ own + 1 }
-    ensures { OnOk result (items.new.items ≡ items.old.items ++ spec.left_items rows.now spelling.now row names.now own) }
+}
+
+/// Where names are written behind a row.
+fn push_left(items: &mut Vec<Item>, of: &Spelled, names: &[u32]) -> Result<(), OutOfMemory>
+    requires { length items.old.items ≡ of.now.own + 1 }
+    ensures { OnOk result (items.new.items ≡ items.old.items ++ spec.left_items of.now.rows.now of.now.spelling.now of.now.row names.now of.now.own) }
 {
-    let meaning = left_meaning(rows, row);
-    push_name(items, row, meaning, &spelling.trace, None, names, Some(own))
+    let meaning = left_meaning(of.rows, of.row);
+    let name = WrittenName {
+        found: &of.spelling.trace,
+        class: None,
+        names,
+    };
+    push_name(items, of.row, meaning, &name, Some(of.own))
 }
 
 fn push_kept(
     items: &mut Vec<Item>,
     alloc: Global,
-    rows: &[Row],
     table: &[Referent],
-    spelling: &Spelling,
-    row: u32,
-    own: usize,
+    of: &Spelled,
 ) -> Result<(), OutOfMemory>
-    requires there { row + 1 < 2 ^ 32 }
-    requires place { length items.old.items ≡ own + 1 }
-    ensures { OnOk result (items.new.items ≡ items.old.items ++ spec.left_items rows.now spelling.now row (spec.kept_names rows.now (entries table.now) row spelling.now.found) own) }
+    requires there { of.now.row + 1 < 2 ^ 32 }
+    requires place { length items.old.items ≡ of.now.own + 1 }
+    ensures { OnOk result (items.new.items ≡ items.old.items ++ spec.left_items of.now.rows.now of.now.spelling.now of.now.row (spec.kept_names of.now.rows.now (entries table.now) of.now.row of.now.spelling.now.found) of.now.own) }
 {
-    let parts = parts_of(alloc, rows, table, row)?;
-    let names = kept_rows(alloc, rows, table, spelling.found, &parts)?;
-    push_left(items, rows, spelling, row, &names, own)
+    let rows = of.rows;
+    let parts = parts_of(alloc, rows, table, of.row)?;
+    let names = kept_rows(alloc, rows, table, of.spelling.found, &parts)?;
+    push_left(items, of, &names)
 }
 
-fn push_type_left(
-    items: &mut Vec<Item>,
-    alloc: Global,
-    rows: &[Row],
-    spelling: &Spelling,
-    row: u32,
-    of: Suffix,
-    own: usize,
-) -> Result<(), OutOfMemory>
-    requires { length items.old.items ≡ own + 1 }
-    ensures { OnOk result (items.new.items ≡ items.old.items ++ spec.left_items rows.now spelling.now row (spec.names rows.now of) own) }
+// The names without so many of the first ones.
+fn behind(names: &[u32], count: usize) -> &[u32]
+    ensures { result.now ≡ drop count names.now }
 {
-    let names = suffix_rows(alloc, rows, of)?;
-    push_left(items, rows, spelling, row, &names, own)
-}
-
-fn behind_first(names: &[u32]) -> &[u32]
-    ensures { result.now ≡ drop 1 names.now }
-{
-    match names.split_first() {
+    match names.split_at_checked(count) {
         Some((_, rest)) => rest,
-        None => names,
+        None => &[],
     }
 }
 
-fn push_shorter(
+// Where the last identifiers of a name are written behind a row, without so many of the first ones.
+fn push_suffix(
     items: &mut Vec<Item>,
     alloc: Global,
-    rows: &[Row],
-    spelling: &Spelling,
-    row: u32,
-    of: Suffix,
-    own: usize,
+    of: &Spelled,
+    suffix: Suffix,
+    skipped: usize,
 ) -> Result<(), OutOfMemory>
-    requires { length items.old.items ≡ own + 1 }
-    ensures { OnOk result (items.new.items ≡ items.old.items ++ spec.left_items rows.now spelling.now row (drop 1 (spec.names rows.now of)) own) }
+    requires { length items.old.items ≡ of.now.own + 1 }
+    ensures { OnOk result (items.new.items ≡ items.old.items ++ spec.left_items of.now.rows.now of.now.spelling.now of.now.row (drop skipped (spec.names of.now.rows.now suffix)) of.now.own) }
 {
-    let names = suffix_rows(alloc, rows, of)?;
-    push_left(items, rows, spelling, row, behind_first(&names), own)
+    let names = suffix_rows(alloc, of.rows, suffix)?;
+    push_left(items, of, behind(&names, skipped))
 }
 
 fn push_outer(
     items: &mut Vec<Item>,
     alloc: Global,
-    rows: &[Row],
-    spelling: &Spelling,
-    row: u32,
+    of: &Spelled,
     outer: Suffix,
-    own: usize,
 ) -> Result<(), OutOfMemory>
-    requires { length items.old.items ≡ own + 1 }
-    ensures { OnOk result (items.new.items ≡ items.old.items ++ spec.back_items rows.now (entries []) spelling.now row (shape_is.Outer outer) own) }
+    requires { length items.old.items ≡ of.now.own + 1 }
+    ensures { OnOk result (items.new.items ≡ items.old.items ++ spec.back_items of.now.rows.now (entries []) of.now.spelling.now of.now.row (shape_is.Outer outer) of.now.own) }
 {
-    let names = suffix_rows(alloc, rows, outer)?;
-    push_this(
-        items,
-        row,
-        &spelling.trace,
-        Some(outer.of),
-        &names,
-        Some(own),
-    )
+    let names = suffix_rows(alloc, of.rows, outer)?;
+    let name = WrittenName {
+        found: &of.spelling.trace,
+        class: Some(outer.of),
+        names: &names,
+    };
+    push_this(items, of.row, &name, Some(of.own))
 }
 
 fn push_this_cast(
     items: &mut Vec<Item>,
     alloc: Global,
-    rows: &[Row],
-    spelling: &Spelling,
-    row: u32,
+    of: &Spelled,
     suffix: Suffix,
-    own: usize,
 ) -> Result<(), OutOfMemory>
-    requires { length items.old.items ≡ own + 1 }
-    ensures { OnOk result (items.new.items ≡ items.old.items ++ spec.back_items rows.now (entries []) spelling.now row (shape_is.CastThis suffix) own) }
+    requires { length items.old.items ≡ of.now.own + 1 }
+    ensures { OnOk result (items.new.items ≡ items.old.items ++ spec.back_items of.now.rows.now (entries []) of.now.spelling.now of.now.row (shape_is.CastThis suffix) of.now.own) }
 {
-    let names = suffix_rows(alloc, rows, suffix)?;
-    let class = Some(suffix.of);
-    push_cast_this(
-        items,
-        row,
-        &spelling.trace,
-        class,
-        &names,
-        &[],
-        None,
-        &[],
-        Some(own),
-    )
+    let names = suffix_rows(alloc, of.rows, suffix)?;
+    let name = WrittenName {
+        found: &of.spelling.trace,
+        class: Some(suffix.of),
+        names: &names,
+    };
+    push_cast_this(items, of.row, &name, &NO_NAME, Some(of.own))
 }
 
 fn first_of(found: &[Referent], count: usize) -> &[Referent]
@@ -297,31 +272,27 @@ fn rest_of(found: &[Referent], count: usize) -> &[Referent]
 fn push_outer_cast(
     items: &mut Vec<Item>,
     alloc: Global,
-    rows: &[Row],
-    spelling: &Spelling,
-    row: u32,
+    of: &Spelled,
     suffix: Suffix,
     outer: Suffix,
-    own: usize,
 ) -> Result<(), OutOfMemory>
-    requires { length items.old.items ≡ own + 1 }
-    ensures { OnOk result (items.new.items ≡ items.old.items ++ spec.back_items rows.now (entries []) spelling.now row (shape_is.CastOuter suffix outer) own) }
+    requires { length items.old.items ≡ of.now.own + 1 }
+    ensures { OnOk result (items.new.items ≡ items.old.items ++ spec.back_items of.now.rows.now (entries []) of.now.spelling.now of.now.row (shape_is.CastOuter suffix outer) of.now.own) }
 {
-    let names = suffix_rows(alloc, rows, suffix)?;
-    let outers = suffix_rows(alloc, rows, outer)?;
-    let found = first_of(&spelling.trace, names.len());
-    let outer_found = rest_of(&spelling.trace, names.len());
-    push_cast_this(
-        items,
-        row,
-        found,
-        Some(suffix.of),
-        &names,
-        outer_found,
-        Some(outer.of),
-        &outers,
-        Some(own),
-    )
+    let names = suffix_rows(alloc, of.rows, suffix)?;
+    let outers = suffix_rows(alloc, of.rows, outer)?;
+    let trace = of.spelling.trace.as_slice();
+    let name = WrittenName {
+        found: first_of(trace, names.len()),
+        class: Some(suffix.of),
+        names: &names,
+    };
+    let outer_name = WrittenName {
+        found: rest_of(trace, names.len()),
+        class: Some(outer.of),
+        names: &outers,
+    };
+    push_cast_this(items, of.row, &name, &outer_name, Some(of.own))
 }
 
 /// What is written behind the row by its own shape. The row itself has this number, and is the last one so far.
@@ -338,16 +309,20 @@ pub fn push_back(
     requires place { length items.old.items ≡ own + 1 }
     ensures { OnOk result (items.new.items ≡ items.old.items ++ spec.back_items rows.now (entries table.now) spelling.now row spelling.now.shape own) }
 {
+    let of = Spelled {
+        rows,
+        spelling,
+        row,
+        own,
+    };
     match spelling.shape {
-        Shape::Kept => push_kept(items, alloc, rows, table, spelling, row, own),
-        Shape::This => push_this(items, row, &[], None, &[], Some(own)),
-        Shape::Outer(outer) => push_outer(items, alloc, rows, spelling, row, outer, own),
-        Shape::CastThis(suffix) => push_this_cast(items, alloc, rows, spelling, row, suffix, own),
-        Shape::CastOuter(suffix, outer) => {
-            push_outer_cast(items, alloc, rows, spelling, row, suffix, outer, own)
-        }
-        Shape::Type(of) => push_type_left(items, alloc, rows, spelling, row, of, own),
-        Shape::Named(of) => push_shorter(items, alloc, rows, spelling, row, of, own),
+        Shape::Kept => push_kept(items, alloc, table, &of),
+        Shape::This => push_this(items, row, &NO_NAME, Some(own)),
+        Shape::Outer(outer) => push_outer(items, alloc, &of, outer),
+        Shape::CastThis(suffix) => push_this_cast(items, alloc, &of, suffix),
+        Shape::CastOuter(suffix, outer) => push_outer_cast(items, alloc, &of, suffix, outer),
+        Shape::Type(suffix) => push_suffix(items, alloc, &of, suffix, 0),
+        Shape::Named(suffix) => push_suffix(items, alloc, &of, suffix, 1),
         _ => Ok(()),
     }
 }

@@ -27,23 +27,25 @@ pub struct Plan {
     pub copies: Vec<usize>,
 }
 
-fn own_item(
-    rows: &[Row],
-    table: &[Referent],
-    spellings: &[Spelling],
-    marks: &Marking,
-    back: &[bool],
-    row: u32,
-    over: Option<usize>,
-) -> Item
-    ensures { result ≡ spec.own_item rows.now (entries table.now) spellings.now (seen marks.now) back.now row over }
+/// What is written: the rows of a program, what they refer to, their spellings, and which of them are turned.
+#[derive(Clone, Copy)]
+struct Source<'a> {
+    rows: &'a [Row],
+    table: &'a [Referent],
+    spellings: &'a [Spelling],
+    marks: &'a Marking,
+    back: &'a [bool],
+}
+
+fn own_item(from: &Source, row: u32, over: Option<usize>) -> Item
+    ensures { result ≡ spec.own_item from.now.rows.now (entries from.now.table.now) from.now.spellings.now (seen from.now.marks.now) from.now.back.now row over }
 {
-    let form = form_of(rows, spellings, marks, back, row);
-    match spelling_of(marks, spellings, row) {
+    let form = form_of(from.rows, from.spellings, from.marks, from.back, row);
+    match spelling_of(from.marks, from.spellings, row) {
         Some(spelling) => Item {
             of: row,
             form,
-            name: Some(named_by(rows, row, spelling.found)),
+            name: Some(named_by(from.rows, row, spelling.found)),
             over,
             end: None,
             refers: Refers::To(spelling.found),
@@ -54,7 +56,7 @@ fn own_item(
             name: Some(row),
             over,
             end: None,
-            refers: Refers::To(referent_at(table, row)),
+            refers: Refers::To(referent_at(from.table, row)),
         },
     }
 }
@@ -62,19 +64,16 @@ fn own_item(
 fn push_behind(
     items: &mut Vec<Item>,
     alloc: Global,
-    rows: &[Row],
-    table: &[Referent],
-    spellings: &[Spelling],
-    marks: &Marking,
+    from: &Source,
     row: u32,
     own: usize,
 ) -> Result<(), OutOfMemory>
     requires there { row + 1 < 2 ^ 32 }
     requires place { length items.old.items ≡ own + 1 }
-    ensures { OnOk result (items.new.items ≡ items.old.items ++ spec.back_by rows.now (entries table.now) row (spelling_at spellings.now (seen marks.now) row) own) }
+    ensures { OnOk result (items.new.items ≡ items.old.items ++ spec.back_by from.now.rows.now (entries from.now.table.now) row (spelling_at from.now.spellings.now (seen from.now.marks.now) row) own) }
 {
-    match spelling_of(marks, spellings, row) {
-        Some(spelling) => push_back(items, alloc, rows, table, spelling, row, own),
+    match spelling_of(from.marks, from.spellings, row) {
+        Some(spelling) => push_back(items, alloc, from.rows, from.table, spelling, row, own),
         None => Ok(()),
     }
 }
@@ -84,46 +83,34 @@ fn push_behind(
 fn push_run(
     items: &mut Vec<Item>,
     alloc: Global,
-    rows: &[Row],
-    table: &[Referent],
-    spellings: &[Spelling],
-    marks: &Marking,
-    back: &[bool],
+    from: &Source,
     row: u32,
 ) -> Result<usize, OutOfMemory>
     requires { row + 1 < 2 ^ 32 }
-    ensures items { OnOk result (items.new.items ≡ items.old.items ++ spec.kept_run rows.now (entries table.now) spellings.now (seen marks.now) back.now row (length items.old.items)) }
-    ensures own { IfOk result (λ own. own ≡ length items.old.items + length (spec.before_own rows.now spellings.now (seen marks.now) row (length items.old.items))) }
+    ensures items { OnOk result (items.new.items ≡ items.old.items ++ spec.kept_run from.now.rows.now (entries from.now.table.now) from.now.spellings.now (seen from.now.marks.now) from.now.back.now row (length items.old.items)) }
+    ensures own { IfOk result (λ own. own ≡ length items.old.items + length (spec.before_own from.now.rows.now from.now.spellings.now (seen from.now.marks.now) row (length items.old.items))) }
 {
-    let over = push_front(items, alloc, rows, spellings, row, marks.front(row))?;
+    let front = from.marks.front(row);
+    let over = push_front(items, alloc, from.rows, from.spellings, row, front)?;
     let own = items.len();
-    items.push(own_item(rows, table, spellings, marks, back, row, over))?;
-    push_behind(items, alloc, rows, table, spellings, marks, row, own)?;
+    items.push(own_item(from, row, over))?;
+    push_behind(items, alloc, from, row, own)?;
     Ok(own)
 }
 
 impl Plan {
-    fn push_row(
-        &mut self,
-        alloc: Global,
-        rows: &[Row],
-        table: &[Referent],
-        spellings: &[Spelling],
-        marks: &Marking,
-        back: &[bool],
-        row: u32,
-    ) -> Result<(), OutOfMemory>
+    fn push_row(&mut self, alloc: Global, from: &Source, row: u32) -> Result<(), OutOfMemory>
         requires { row + 1 < 2 ^ 32 }
-        ensures { OnOk result (planned.seen_plan self.new ≡ spec.with_run rows.now (entries table.now) spellings.now (seen marks.now) back.now row (planned.seen_plan self.old)) }
+        ensures { OnOk result (planned.seen_plan self.new ≡ spec.with_run from.now.rows.now (entries from.now.table.now) from.now.spellings.now (seen from.now.marks.now) from.now.back.now row (planned.seen_plan self.old)) }
     {
         let at = self.items.len();
         self.starts.push(at)?;
-        if marks.is_dropped(row) {
+        if from.marks.is_dropped(row) {
             self.copies.push(at)?;
             return Ok(());
         }
         let items = &mut self.items;
-        let own = push_run(items, alloc, rows, table, spellings, marks, back, row)?;
+        let own = push_run(items, alloc, from, row)?;
         self.copies.push(own)?;
         Ok(())
     }
@@ -147,7 +134,14 @@ impl Plan {
             copies: Vec::new(alloc),
         };
         for row in 0..rows.len() {
-            plan.push_row(alloc, rows, table, spellings, marks, &back, row as u32)?;
+            let from = Source {
+                rows,
+                table,
+                spellings,
+                marks,
+                back: &back,
+            };
+            plan.push_row(alloc, &from, row as u32)?;
         }
         let end = plan.items.len();
         plan.starts.push(end)?;

@@ -160,19 +160,35 @@ fn push_chain(
     Ok(())
 }
 
+/// A name that is written: the rows whose identifiers it has, from the last one back.
+#[derive(Clone, Copy)]
+pub struct WrittenName<'a> {
+    /// What the identifiers refer to, as far as that is known.
+    pub found: &'a [Referent],
+    /// The class that the name stands for; without it the last identifier is a part like the others.
+    pub class: Option<u32>,
+    pub names: &'a [u32],
+}
+
+/// No name.
+pub const NO_NAME: WrittenName<'static> = WrittenName {
+    found: &[],
+    class: None,
+    names: &[],
+};
+
 /// A name as a whole.
 pub fn push_name(
     items: &mut Vec<Item>,
     of: u32,
     meaning: Meaning,
-    found: &[Referent],
-    class: Option<u32>,
-    names: &[u32],
+    name: &WrittenName,
     over: Option<usize>,
 ) -> Result<(), OutOfMemory>
-    ensures { OnOk result (items.new.items ≡ items.old.items ++ spec.name_items of meaning found.now class names.now over (length items.old.items)) }
+    ensures { OnOk result (items.new.items ≡ items.old.items ++ spec.name_items of meaning name.now.found.now name.now.class name.now.names.now over (length items.old.items)) }
 {
-    let stop = ahead(items.len(), names.len())?;
+    let stop = ahead(items.len(), name.names.len())?;
+    let (found, class, names) = (name.found, name.class, name.names);
     push_chain(items, of, meaning, found, class, names, over, stop)
 }
 
@@ -182,17 +198,15 @@ fn push_named(
     items: &mut Vec<Item>,
     of: u32,
     form: Form,
-    found: &[Referent],
-    class: Option<u32>,
-    names: &[u32],
+    name: &WrittenName,
     over: Option<usize>,
 ) -> Result<(), OutOfMemory>
-    ensures { OnOk result (items.new.items ≡ items.old.items ++ spec.named_items of form found.now class names.now over (length items.old.items)) }
+    ensures { OnOk result (items.new.items ≡ items.old.items ++ spec.named_items of form name.now.found.now name.now.class name.now.names.now over (length items.old.items)) }
 {
     let at = items.len();
-    let end = ahead(ahead(at, 1)?, names.len())?;
+    let end = ahead(ahead(at, 1)?, name.names.len())?;
     items.push(bare(of, form, over, Some(end)))?;
-    push_name(items, of, of_type(), found, class, names, Some(at))
+    push_name(items, of, of_type(), name, Some(at))
 }
 
 /// A cast, up to what is cast. What is cast ends at `stop`, or where its old row does.
@@ -202,18 +216,16 @@ pub fn push_cast(
     of: u32,
     primitive: Option<Primitive>,
     dims: usize,
-    found: &[Referent],
-    class: Option<u32>,
-    names: &[u32],
+    name: &WrittenName,
     over: Option<usize>,
     stop: Option<usize>,
 ) -> Result<(), OutOfMemory>
-    ensures { OnOk result (items.new.items ≡ items.old.items ++ spec.cast_items of primitive dims found.now class names.now over stop (length items.old.items)) }
+    ensures { OnOk result (items.new.items ≡ items.old.items ++ spec.cast_items of primitive dims name.now.found.now name.now.class name.now.names.now over stop (length items.old.items)) }
 {
     let at = items.len();
     items.push(bare(of, Form::Cast, over, stop))?;
     let form = Form::TypeUse { primitive, dims };
-    push_named(items, of, form, found, class, names, Some(at))
+    push_named(items, of, form, name, Some(at))
 }
 
 /// Parentheses, and a cast to a class in them.
@@ -221,34 +233,30 @@ pub fn push_cast(
 pub fn push_enclosed_cast(
     items: &mut Vec<Item>,
     of: u32,
-    found: &[Referent],
-    class: Option<u32>,
-    names: &[u32],
+    name: &WrittenName,
     over: Option<usize>,
     stop: Option<usize>,
 ) -> Result<(), OutOfMemory>
-    ensures { OnOk result (items.new.items ≡ items.old.items ++ spec.enclosed_cast of found.now class names.now over stop (length items.old.items)) }
+    ensures { OnOk result (items.new.items ≡ items.old.items ++ spec.enclosed_cast of name.now.found.now name.now.class name.now.names.now over stop (length items.old.items)) }
 {
     let at = items.len();
     items.push(bare(of, Form::Paren, over, stop))?;
-    push_cast(items, of, None, 0, found, class, names, Some(at), stop)
+    push_cast(items, of, None, 0, name, Some(at), stop)
 }
 
 /// `this`, or `T.this` by the names of T.
 pub fn push_this(
     items: &mut Vec<Item>,
     of: u32,
-    found: &[Referent],
-    class: Option<u32>,
-    names: &[u32],
+    name: &WrittenName,
     over: Option<usize>,
 ) -> Result<(), OutOfMemory>
-    ensures { OnOk result (items.new.items ≡ items.old.items ++ spec.this_items of found.now class names.now over (length items.old.items)) }
+    ensures { OnOk result (items.new.items ≡ items.old.items ++ spec.this_items of name.now.found.now name.now.class name.now.names.now over (length items.old.items)) }
 {
     let form = Form::This {
-        is_qualified: is_more(names),
+        is_qualified: is_more(name.names),
     };
-    push_named(items, of, form, found, class, names, over)
+    push_named(items, of, form, name, over)
 }
 
 /// `((S)this)` or `((S)T.this)`.
@@ -256,21 +264,17 @@ pub fn push_this(
 pub fn push_cast_this(
     items: &mut Vec<Item>,
     of: u32,
-    found: &[Referent],
-    class: Option<u32>,
-    names: &[u32],
-    outer_found: &[Referent],
-    outer: Option<u32>,
-    outers: &[u32],
+    name: &WrittenName,
+    outer: &WrittenName,
     over: Option<usize>,
 ) -> Result<(), OutOfMemory>
-    ensures { OnOk result (items.new.items ≡ items.old.items ++ spec.cast_this of found.now class names.now outer_found.now outer outers.now over (length items.old.items)) }
+    ensures { OnOk result (items.new.items ≡ items.old.items ++ spec.cast_this of name.now.found.now name.now.class name.now.names.now outer.now.found.now outer.now.class outer.now.names.now over (length items.old.items)) }
 {
     let at = items.len();
-    let stop = ahead(ahead(ahead(at, 4)?, names.len())?, outers.len())?;
-    push_enclosed_cast(items, of, found, class, names, over, Some(stop))?;
+    let stop = ahead(ahead(ahead(at, 4)?, name.names.len())?, outer.names.len())?;
+    push_enclosed_cast(items, of, name, over, Some(stop))?;
     let cast = ahead(at, 1)?;
-    push_this(items, of, outer_found, outer, outers, Some(cast))
+    push_this(items, of, outer, Some(cast))
 }
 
 /// The parentheses round a row that is no atom, in a cast. It gives the number of what the row then stands in.

@@ -12,4 +12,4 @@ pub returns-then-is_some : goal.returns-then-is_some
 returns-then-is_some c = along (λ b parts. cond b nothing (of_none parts (code (v.Lit (Some (value_in (texts_of c.args.source.now) c.args.value)))))) (some_in (texts_of c.args.source.now) _ ∙ ap (λ k. is_some (value_at c.args.source.now k)) (sym c.parent.ensures) ∙ ap is_some (sym c.value.ensures) ∙ sym c.is_some.ensures ∙ c.if-is_some.true) (nothing_becomes (λ parts. refl))
 
 pub returns : goal.returns
-returns c = on_ok_weaker c.whole_constant.result (along (λ b parts. cond b nothing (of_none parts (code (v.Lit (Some (value_in (texts_of c.args.source.now) c.args.value)))))) (some_in (texts_of c.args.source.now) _ ∙ ap (λ k. is_some (value_at c.args.source.now k)) (sym c.parent.ensures) ∙ ap is_some (sym c.value.ensures) ∙ sym c.is_some.ensures ∙ c.if-is_some.false)) c.whole_constant.ensures
+returns c = on_ok_weaker c.constant.result (along (λ b parts. cond b nothing (of_none parts (code (v.Lit (Some (value_in (texts_of c.args.source.now) c.args.value)))))) (some_in (texts_of c.args.source.now) _ ∙ ap (λ k. is_some (value_at c.args.source.now k)) (sym c.parent.ensures) ∙ ap is_some (sym c.value.ensures) ∙ sym c.is_some.ensures ∙ c.if-is_some.false)) c.constant.ensures
