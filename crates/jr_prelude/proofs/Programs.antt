@@ -52,7 +52,8 @@ unit_alone : (u : d.CompilationUnit) (rest : Forest) (n : ℕ) → 0 < n → n <
 unit_alone (d.UnitOf package_decl imports types) rest =
     alone (if_some package_labels package_decl (each import_labels imports (each (decl_labels false) types none))) rest
 
-begins_with : (unit : declared_unit.Unit) (others : List declared_unit.Unit) → d.plain_unit unit ≡ lang_unit → BeginsWithLang (program_rows (unit ∷ others))
+-- rows of a program whose first unit is that of java.lang
+pub begins_with : (unit : declared_unit.Unit) (others : List declared_unit.Unit) → d.plain_unit unit ≡ lang_unit → BeginsWithLang (program_rows (unit ∷ others))
 begins_with unit others e = record {
   tree = each_program_is_tree (unit ∷ others);
   rows = λ n some low. subst (λ u. row (rows_from 0 0 0 (node is.Program (unit_labels u (each (λ v. unit_labels (d.plain_unit v)) others none)) none)) n ≡ row lang_rows n) (sym e)
@@ -61,13 +62,13 @@ begins_with unit others e = record {
 
 -- ---- programs of files
 
-record FirstUnit (path bytes : List ℕ) (units : List UnitAt) : Type 0 where
+pub record FirstUnit (path bytes : List ℕ) (units : List UnitAt) : Type 0 where
   pub unit : UnitAt
   pub others : List UnitAt
   pub are : units ≡ unit ∷ others
   pub is : IsUnitOf path bytes unit
 
-first_of : {path bytes : List ℕ} {found : List (List ℕ × List ℕ)} {units : List UnitAt} → AreUnitsOf ((path, bytes) ∷ found) units → FirstUnit path bytes units
+pub first_of : {path bytes : List ℕ} {found : List (List ℕ × List ℕ)} {units : List UnitAt} → AreUnitsOf ((path, bytes) ∷ found) units → FirstUnit path bytes units
 first_of (more_units {u = u} {units = units} h all) = record { unit = u; others = units; are = refl; is = h }
 
 record FirstUnits (path bytes next_path next_bytes : List ℕ) (units : List UnitAt) : Type 0 where
