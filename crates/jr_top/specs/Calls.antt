@@ -143,3 +143,8 @@ IsUnreadable c = (files : Image) × (c.store.told ≡ Some files) × ((restored 
 pub record IsTheAnswer (c : Call) (said : Status) : Type 0 where
   pub answer : ObeysAlone (command_of c.words) c said
   pub journal : IsUnreadable c → AsksRecovery c.words → (said ≡ BadJournal) ⊎ Fails c said
+
+-- the answer comes by the equation of its command, and is the one that comes
+pub record IsAnswerTo (c : Call) (said : Status) : Type 0 where
+  pub comes : Comes c said
+  pub alone : IsTheAnswer c said

@@ -11,7 +11,7 @@ ghost use Rattle.jr_thin.specs.Renaming.{Serves, IsRenaming};
 ghost use Rattle.jr_thin.specs.declared.answers.Renaming.{Renaming};
 ghost use Rattle.jr_top.specs.Answers.{AnswersFound, Answers, Reports, IsReported, reported, Outcome, OutcomeOf, IsFailure, IsDemonstrated, IsServedAnswer};
 ghost use Rattle.jr_top.specs.Batches.{AsksBatch, Hears, IsHeard, AnswersBatch, status_of, IsBatchFailure};
-ghost use Rattle.jr_top.specs.Calls.{Comes, IsTheAnswer};
+ghost use Rattle.jr_top.specs.Calls.{IsAnswerTo};
 ghost use Rattle.jr_top.specs.Checking.{IsReading, AsksReading, Checks, AnswersReading, IsCheckedSo};
 ghost use Rattle.jr_top.specs.Crash.{StandsForEither, Survives, IsSettled, SurvivesSettled, LeavesStart};
 ghost use Rattle.jr_top.specs.Decisions.{IsChanging};
@@ -398,16 +398,9 @@ pub fn refactor<S: Store, I: Source, O: Sink>(
     input: &mut I,
     out: &mut O,
 ) -> Status
-    // The answer comes by the equation of the command: it has its cause, the files left are those that it says, and a crash leaves such files.
-    ensures answer { Comes (record {
-      words = words.now;
-      store = record { told = S.files store.old; left = S.files store.new; kept = S.may_leave store.old; outcomes = S.may_leave store.new; before = S.faults store.old; after = S.faults store.new };
-      input = record { heard = I.left input.old; before = I.faults input.old; after = I.faults input.new };
-      output = record { old = O.contents out.old; new = O.contents out.new; before = O.faults out.old; after = O.faults out.new };
-    }) result }
-
-    // It is the one answer that the files found, the journal and the input have, unless memory runs out or a fault is counted.
-    ensures exact { IsTheAnswer (record {
+    // The answer comes by the equation of the command: it has its cause, the files left are those that it says, and a crash leaves such files. It is the one answer
+    // that the files found, the journal and the input have, unless memory runs out or a fault is counted.
+    ensures answer { IsAnswerTo (record {
       words = words.now;
       store = record { told = S.files store.old; left = S.files store.new; kept = S.may_leave store.old; outcomes = S.may_leave store.new; before = S.faults store.old; after = S.faults store.new };
       input = record { heard = I.left input.old; before = I.faults input.old; after = I.faults input.new };
