@@ -24,9 +24,11 @@ use Rattle.jr_supers.proofs.Telling.{reaches_then, reaches_source, pair_reaches,
 -- ---- one number more
 
 pub found_more : {seen more : List Entry} {all out : List ℕ} (x : ℕ) → IsFound seen all → more ≡ seen ++ record { first = 0; second = x; row = x } ∷ [] → out ≡ all ++ x ∷ [] → IsFound more out
-found_more {seen} {more} {all} {out} x h pushed put = record { same = λ y. ap (λ es. has_pair es 0 y) pushed ∙ pair_pushed seen (record { first = 0; second = x; row = x }) 0 y
-    ∙ swapped (nat_eq 0 0) (nat_eq x y) (has_pair seen 0 y) ((Decides-eqb 0 0).1 refl) ∙ ap (λ b. b || (nat_eq x y || false)) (h.same y)
-    ∙ sym (list_any-append (λ k. nat_eq k y) all (x ∷ [])) ∙ ap (λ xs. has xs y) (sym put) }
+found_more {seen} {more} {all} {out} x h pushed put = record {
+  same = λ y. ap (λ es. has_pair es 0 y) pushed ∙ pair_pushed seen (record { first = 0; second = x; row = x }) 0 y
+      ∙ swapped (nat_eq 0 0) (nat_eq x y) (has_pair seen 0 y) ((Decides-eqb 0 0).1 refl) ∙ ap (λ b. b || (nat_eq x y || false)) (h.same y)
+      ∙ sym (list_any-append (λ k. nat_eq k y) all (x ∷ [])) ∙ ap (λ xs. has xs y) (sym put);
+}
   where
     swapped : (a b c : Bool) → a ≡ true → ((a && b) || c) ≡ (c || (b || false))
     swapped true true true e = refl

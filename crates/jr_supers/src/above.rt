@@ -216,13 +216,7 @@ fn open_up(links: &[Option<Link>], pairs: &Pairs, low: u32, at: u32) -> Option<u
     ensures { result ≡ tell.open_up links.now pairs.now low at }
 {
     match up_at(links, at) {
-        Some(up) => {
-            if pairs.has(low, up) {
-                None
-            } else {
-                Some(up)
-            }
-        }
+        Some(up) => { if pairs.has(low, up) { None } else { Some(up) } }
         None => None,
     }
 }
