@@ -7,10 +7,10 @@ use Rattle.std.proofs.lemmas.Option.{none-some, same_Some}
 use Rattle.jr_tree.specs.Rows.{Rows}
 use Rattle.jr_defs.specs.Referents.{Table}
 use Rattle.jr_defs.specs.Supertypes.{Super}
-use Rattle.jr_plain.specs.Search.{has, Reaches}
+use Rattle.jr_plain.specs.Search.{Reaches}
 use Rattle.jr_supers.specs.declared.above.Link.{Link}
 use Rattle.jr_supers.specs.Pairs.{uppers}
-use Rattle.jr_supers.specs.Above.{Tables, link_at, up_of, depth_of, branching_of, up_at, branching_from, branching_above, walk, chain, jump_up, step_by, go_up, climb, at_depth, is_linked_to, is_linked, is_some_item, IsKnown, OnChain, AreAbove}
+use Rattle.jr_supers.specs.Above.{Tables, link_at, up_of, depth_of, branching_of, up_at, branching_from, branching_above, walk, jump_up, step_by, go_up, climb, at_depth, is_linked_to, is_linked, is_some_item, IsKnown, OnChain, AreAbove}
 
 le_tells : (a b : ℕ) → Decides (nat_le a b) (a ≤ b)
 le_tells a b = (leb-true a b, le-leb a b)
@@ -199,24 +199,3 @@ module _ (p : Rows) (t : Table) (T : Tables) (A : AreAbove p t T) where
   branched_into test some c y n l (OnChain.over {u = u} e on) is le h =
       let up : l.up ≡ Some u = ap up_of (sym is) ∙ e in let f = ((A.each c l is).first u up).1 in
       branched_over test n c u l f.over is up f.known f.deeper (λ m le. branched_into test some u y m f.over on f.known le h) le (is_some_item (uppers T.pairs c)) refl
-
-  -- ---- the way up as a list
-
-  pub walk_out : (turns c y : ℕ) → has (walk (up_at T.links) turns (Some c)) y ≡ true → OnChain T.links c y
-  walk_out zero c y h = absurd (false≢true h)
-  walk_out (suc turns) c y h = ⊎_elim (λ e. subst (λ z. OnChain T.links c z) ((Decides-eqb c y).0 e) OnChain.here) (λ k. by turns (up_at T.links c) refl k (λ u. walk_out turns u y))
-      (or_cases (nat_eq c y) (has (walk (up_at T.links) turns (up_at T.links c)) y) h)
-    where
-      by : (turns : ℕ) (o : Option ℕ) → up_at T.links c ≡ o → has (walk (up_at T.links) turns o) y ≡ true → ((u : ℕ) → has (walk (up_at T.links) turns (Some u)) y ≡ true → OnChain T.links u y) → OnChain T.links c y
-      by zero None e h more = absurd (false≢true h)
-      by (suc turns) None e h more = absurd (false≢true h)
-      by turns (Some u) e h more = OnChain.over e (more u h)
-
-  pub walk_into : (n c y : ℕ) → OnChain T.links c y → depth c ≤ n → has (walk (up_at T.links) (suc n) (Some c)) y ≡ true
-  walk_into n c _ OnChain.here le = or_left (nat_eq c c) _ ((Decides-eqb c c).1 refl)
-  walk_into zero c y (OnChain.over {u = u} e on) le = let r = rises c u e in let d = r.5 in absurd (omega arith)
-  walk_into (suc n) c y (OnChain.over {u = u} e on) le = let r = rises c u e in let d = r.5 in
-      or_right (nat_eq c y) _ (ap (λ o. has (walk (up_at T.links) (suc n) o) y) e ∙ walk_into n u y on (omega arith))
-
-  pub chain_tells : (c y : ℕ) → Decides (has (chain T.links c) y) (OnChain T.links c y)
-  chain_tells c y = (walk_out (suc (depth c)) c y, λ on. walk_into (depth c) c y on (omega arith))

@@ -51,7 +51,7 @@ module _ (all : List Entry) (e : Entry) where
   some_of true n before = refl
   some_of false n before = refl
 
-  pair_pushed : (c x : ℕ) → has_pair (all ++ e ∷ []) c x ≡ ((nat_eq e.first c && nat_eq e.second x) || has_pair all c x)
+  pub pair_pushed : (c x : ℕ) → has_pair (all ++ e ∷ []) c x ≡ ((nat_eq e.first c && nat_eq e.second x) || has_pair all c x)
   pair_pushed c x = ap (λ n. is_some (last_under (all ++ e ∷ []) c x n)) one_more
       ∙ ap₂ (λ b before. is_some (cond b (Some (length all)) before)) (ap (λ e. nat_eq e.first c && nat_eq e.second x) new)
       (last_same _ _ (length all) (λ k lt. ap (λ e. nat_eq e.first c && nat_eq e.second x) (kept k lt)))

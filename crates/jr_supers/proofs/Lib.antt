@@ -2,6 +2,7 @@ pub mod Walking
 pub mod Keys
 pub mod Chained
 pub mod Telling
+pub mod Collecting
 pub mod Stepping
 pub mod Directs
 pub mod Firsts

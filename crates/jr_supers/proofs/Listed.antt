@@ -17,7 +17,8 @@ use Rattle.jr_plain.proofs.Declared.{object_tells}
 use Rattle.jr_supers.specs.declared.subtypes.Supers as code
 use Rattle.jr_supers.specs.Above.{at_or_above, is_above_in, tables}
 use Rattle.jr_supers.specs.Supers.{AreSupersOf, object_if, once, SortsOnce, ListsOnce}
-use Rattle.jr_supers.proofs.Telling.{reaches_above, above_splits, above_tells, rests}
+use Rattle.jr_supers.proofs.Telling.{reaches_above, above_splits, above_tells}
+use Rattle.jr_supers.proofs.Collecting.{rests}
 use Rattle.jr_supers.proofs.Listing.{once_has, once_is, once_increases}
 
 module _ (p : Rows) (t : Table) (S : code.Supers) (h : AreSupersOf p t S) where

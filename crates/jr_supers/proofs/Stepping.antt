@@ -1,5 +1,5 @@
 -- One type more, behind its supertypes.
-use Rattle.std.proofs.Common.{◌≡◌, ◌≢◌, ◌⊎◌, refl, sym, ◌∙◌, ap, ap₂, subst, inl, inr, ⊎_elim, ℕ, ◌-◌, ◌<◌, Bool, true, false, cond, ◌||◌, List, [], ◌∷◌, length, flat_map, Option, Some, None, nat_eq, Decides, slice_set}
+use Rattle.std.proofs.Common.{◌≡◌, ◌≢◌, ◌⊎◌, refl, sym, ◌∙◌, ap, ap₂, subst, inl, inr, ⊎_elim, ℕ, ◌-◌, ◌<◌, Bool, true, false, cond, ◌||◌, List, [], ◌∷◌, length, Option, Some, None, nat_eq, Decides, slice_set}
 use Rattle.std.proofs.lemmas.Bool.{false≢true, cases_eq, or_left, or_right, or_cases}
 use Rattle.std.proofs.lemmas.Bool.Decides.{Decides-eqb}
 use Rattle.std.proofs.lemmas.List.{get_or-set_same, get_or-set_other}
@@ -13,15 +13,16 @@ use Rattle.jr_plain.specs.Search.{has, Lists, Reaches}
 use Rattle.jr_plain.specs.Headed.{IsHeaded}
 use Rattle.jr_plain.specs.Declarations.{is_object, is_interface}
 use Rattle.jr_plain.proofs.Tests.{itself, either, like}
-use Rattle.jr_plain.proofs.Searches.{flat_of, some_of}
+use Rattle.jr_plain.proofs.Searches.{some_of}
 use Rattle.jr_plain.proofs.Declared.{object_tells, interface_tells}
 use Rattle.jr_places.specs.declared.chains.Entry.{Entry}
 use Rattle.jr_supers.specs.declared.above.Link.{Link}
 use Rattle.jr_supers.specs.Pairs.{has_pair, uppers, with_pairs}
-use Rattle.jr_supers.specs.Above.{Tables, link_at, up_of, up_at, branching_of, branching_from, at_or_above, is_some_item, far_jump, jump_by, jump_over, top_link, link_below, new_link, is_known, last_from, known_only, known_first, item_list, unknown_list, further_from, further, object_of, reach_object, with_new, IsKnown, OnChain, IsUnder, IsLinked, AreAbove, HasNoOtherObject}
+use Rattle.jr_supers.specs.Above.{Tables, link_at, up_of, up_at, branching_of, branching_from, with_all_above, is_some_item, far_jump, jump_by, jump_over, top_link, link_below, new_link, is_known, last_from, known_only, known_first, item_list, unknown_list, further_from, further, object_of, reach_object, with_new, IsKnown, OnChain, IsUnder, IsLinked, AreAbove, HasNoOtherObject}
 use Rattle.jr_supers.proofs.Keys.{uppers_tell, with_pairs_tell, HasOr, items_same}
 use Rattle.jr_supers.proofs.Chained.{up_known, chain_then}
-use Rattle.jr_supers.proofs.Telling.{above_source, reaches_then, Rests, rests}
+use Rattle.jr_supers.proofs.Telling.{above_source, reaches_then}
+use Rattle.jr_supers.proofs.Collecting.{Rests, highs as highs_tell}
 
 -- ---- the first of the supertypes, and the others
 
@@ -90,7 +91,7 @@ module _ (p : Rows) (t : Table) (T : Tables) (A : AreAbove p t T) (headed : IsHe
   others = further T.links supers
 
   highs : List ℕ
-  highs = flat_map (at_or_above T.links T.pairs) (further T.links supers)
+  highs = with_all_above T.links T.pairs [] (further T.links supers)
 
   first : Option ℕ
   first = known_first T.links supers
@@ -113,11 +114,7 @@ module _ (p : Rows) (t : Table) (T : Tables) (A : AreAbove p t T) (headed : IsHe
   -- what stands above others
   high_tells : (s : ℕ) → Decides (has highs s) ((o : ℕ) × (has others o ≡ true) × Rests p t T A o s)
   unfolding highs others
-  high_tells s = like (flat_of nat_eq (at_or_above T.links T.pairs) others (λ o. itself (has others o)) s)
-      (λ h. (h.0, h.1, (all_rests h.0 h.1 s).0 h.2)) (λ h. (h.0, h.1, (all_rests h.0 h.1 s).1 h.2))
-    where
-      all_rests : (o : ℕ) → has (further T.links supers) o ≡ true → Lists (at_or_above T.links T.pairs o) (Rests p t T A o)
-      all_rests o h = rests p t T A headed o (behind o ((listed o).0 (other_is T.links supers o h)))
+  high_tells s = highs_tell p t T A headed (further T.links supers) (λ o h. behind o ((listed o).0 (other_is T.links supers o h))) s
 
   other_super : (o : ℕ) → has others o ≡ true → Super p t c o
   unfolding others

@@ -1,25 +1,23 @@
 -- What tables tell of the types above.
-use Rattle.std.proofs.Common.{◌≡◌, ◌⊎◌, refl, sym, ◌∙◌, ap, subst, inl, inr, ⊎_elim, arith, ℕ, suc, true, false, Option, Some, None, nat_eq, Decides}
+use Rattle.std.proofs.Common.{◌≡◌, ◌⊎◌, refl, sym, ◌∙◌, ap, inl, inr, ⊎_elim, arith, ℕ, suc, true, false, Option, Some, None, Decides}
 use Rattle.std.proofs.lemmas.Bool.{false≢true}
-use Rattle.std.proofs.lemmas.Bool.Decides.{Decides-eqb}
 use Rattle.std.proofs.lemmas.Option.{none-some}
 use Rattle.jr_tree.specs.Rows.{Rows}
 use Rattle.jr_defs.specs.Referents.{Table}
 use Rattle.jr_defs.specs.Declarations.{IsType, IsObject}
 use Rattle.jr_defs.specs.Supertypes.{Super, Above}
-use Rattle.jr_plain.specs.Search.{has, Lists, Reaches}
+use Rattle.jr_plain.specs.Search.{has, Reaches}
 use Rattle.jr_plain.specs.Headed.{IsHeaded}
 use Rattle.jr_plain.proofs.Tests.{itself, both, either, like}
-use Rattle.jr_plain.proofs.Searches.{flat_of}
 use Rattle.jr_plain.proofs.Declared.{object_tells}
 use Rattle.jr_plain.proofs.OfTypes.{interface_type}
 use Rattle.jr_plain.proofs.Supertyped.{super_source}
 use Rattle.jr_tree.specs.Rows.{label}
 use Rattle.jr_supers.specs.declared.above.Link.{Link}
 use Rattle.jr_supers.specs.Pairs.{has_pair, uppers}
-use Rattle.jr_supers.specs.Above.{Tables, link_at, up_of, up_at, chain, with_uppers, at_or_above, is_branched, is_above_by, is_above_in, is_some_item, IsKnown, OnChain, AreAbove, HasNoOtherObject}
+use Rattle.jr_supers.specs.Above.{Tables, link_at, up_of, up_at, is_branched, is_above_by, is_above_in, is_some_item, IsKnown, OnChain, AreAbove, HasNoOtherObject}
 use Rattle.jr_supers.proofs.Keys.{uppers_tell, item_in}
-use Rattle.jr_supers.proofs.Chained.{rises, Strictly, strictly_reaches, linked_tells, SomeOn, branched_out, branched_into, chain_tells}
+use Rattle.jr_supers.proofs.Chained.{rises, Strictly, strictly_reaches, linked_tells, SomeOn, branched_out, branched_into}
 
 -- what has something above it is a type
 pub above_source : (p : Rows) (t : Table) → IsHeaded p → (c s : ℕ) → Above p t c s → IsType p c
@@ -45,7 +43,7 @@ reaches_then (Reaches.further e h) k = Reaches.further e (reaches_then h k)
 
 module _ (p : Rows) (t : Table) (T : Tables) (A : AreAbove p t T) where
   -- what stands above what a type has a pair with, it has a pair with too
-  pair_reaches : (c r s : ℕ) → has_pair T.pairs c r ≡ true → Reaches (Super p t) r s → has_pair T.pairs c s ≡ true
+  pub pair_reaches : (c r s : ℕ) → has_pair T.pairs c r ≡ true → Reaches (Super p t) r s → has_pair T.pairs c s ≡ true
   pair_reaches c r s h (Reaches.direct e) = A.closed c r s h e
   pair_reaches c r s h (Reaches.further {r = q} e more) = pair_reaches c q s (A.closed c r q h e) more
 
@@ -91,29 +89,3 @@ module _ (p : Rows) (t : Table) (T : Tables) (A : AreAbove p t T) where
         by : (o : Option Link) → link_at T.links c ≡ o → Decides (is_above_by p T c s o) (Above p t c s)
         by None is = above_unknown c s all headed is
         by (Some l) is = above_known c s l is
-
-  -- ---- lists
-
-  abbrev pub Rests : ℕ → ℕ → Type 0
-  Rests c s = (c ≡ s) ⊎ Reaches (Super p t) c s
-
-  uppers_of : (c s : ℕ) → Decides (has (at_or_above T.links T.pairs c) s) ((y : ℕ) × OnChain T.links c y × (has (with_uppers T.pairs y) s ≡ true))
-  uppers_of c s = flat_of nat_eq (with_uppers T.pairs) (chain T.links c) (chain_tells p t T A c) s
-
-  item_tells : (y s : ℕ) → Decides (has (with_uppers T.pairs y) s) ((y ≡ s) ⊎ (has_pair T.pairs y s ≡ true))
-  item_tells y s = like (either (Decides-eqb y s) (itself (has (uppers T.pairs y) s))) (⊎_elim (λ e. inl e) (λ h. inr (sym (uppers_tell T.pairs y s) ∙ h))) (⊎_elim (λ e. inl e) (λ h. inr (uppers_tell T.pairs y s ∙ h)))
-
-  on_rests : (c y : ℕ) → OnChain T.links c y → Rests c y
-  on_rests c _ OnChain.here = inl refl
-  on_rests c y (OnChain.over {u = u} e on) = inr (strictly_reaches p t T A c y (u, e, on))
-
-  pub rests : IsHeaded p → (c : ℕ) → (IsType p c → IsKnown T.links c) → Lists (at_or_above T.links T.pairs c) (Rests c)
-  rests headed c all s = like (uppers_of c s) out into
-    where
-      out : (y : ℕ) × OnChain T.links c y × (has (with_uppers T.pairs y) s ≡ true) → Rests c s
-      out h = ⊎_elim (λ e. subst (λ z. Rests c z) e (on_rests c h.0 h.1)) (λ k. inr (on_reaches c h.0 s h.1 (A.sound h.0 s k))) ((item_tells h.0 s).0 h.2)
-
-      into : Rests c s → (y : ℕ) × OnChain T.links c y × (has (with_uppers T.pairs y) s ≡ true)
-      into (inl e) = (c, OnChain.here, (item_tells c s).1 (inl e))
-      into (inr h) = let k = all (reaches_source p t headed c s h) in
-          ⊎_elim (λ x. (s, OnChain.over x.1 x.2, (item_tells s s).1 (inl refl))) (λ x. (x.0, x.1, (item_tells x.0 s).1 (inr x.2))) (reaches_found c s k.0 k.1 h)

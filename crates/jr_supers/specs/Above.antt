@@ -5,12 +5,13 @@ use Rattle.jr_tree.specs.Rows.{Rows}
 use Rattle.jr_defs.specs.Referents.{Table}
 use Rattle.jr_defs.specs.Declarations.{IsType, IsObject}
 use Rattle.jr_defs.specs.Supertypes.{Super, Above}
-use Rattle.jr_plain.specs.Search.{Reaches}
+use Rattle.jr_plain.specs.Search.{has, Reaches}
 use Rattle.jr_plain.specs.Declarations.{is_interface, is_object}
 use Rattle.jr_places.specs.declared.chains.Entry.{Entry}
 use Rattle.jr_supers.specs.declared.above.Link.{Link}
 use Rattle.jr_supers.specs.declared.above.Above as code
 use Rattle.jr_supers.specs.Pairs.{has_pair, uppers, with_pairs}
+use Rattle.jr_supers.specs.Found.{with_items}
 use Rattle.jr_supers.specs.Direct.{supers_in}
 
 -- the link of each type, and the pairs of a type and what stands above it by its further supertypes
@@ -51,17 +52,41 @@ walk next zero at = []
 walk next (suc turns) None = []
 walk next (suc turns) (Some n) = n ∷ walk next turns (next n)
 
--- a type and those above it by first supertypes
-abbrev pub chain : List (Option Link) → ℕ → List ℕ
-chain links c = walk (up_at links) (suc (depth_of (link_at links c))) (Some c)
-
 -- a type, and what stands above it by its further supertypes
 abbrev pub with_uppers : List Entry → ℕ → List ℕ
 with_uppers pairs n = n ∷ uppers pairs n
 
+-- types with those on the way up from one, and what stands above these by further supertypes, up to one that is there: with it all above it is there
+abbrev pub climbed : List (Option Link) → List Entry → ℕ → Option ℕ → List ℕ → List ℕ
+climbed links pairs zero at all = all
+climbed links pairs (suc turns) None all = all
+climbed links pairs (suc turns) (Some n) all = if has all n then all else climbed links pairs turns (up_at links n) (with_items all (with_uppers pairs n))
+
+-- types with one and what stands above it, but for Object above interfaces
+abbrev pub with_above : List (Option Link) → List Entry → List ℕ → ℕ → List ℕ
+with_above links pairs all c = climbed links pairs (suc (depth_of (link_at links c))) (Some c) all
+
+-- the same with each of a list
+abbrev pub with_all_above : List (Option Link) → List Entry → List ℕ → List ℕ → List ℕ
+with_all_above links pairs all [] = all
+with_all_above links pairs all (c ∷ more) = with_all_above links pairs (with_above links pairs all c) more
+
+-- a number that has no pair with c
+abbrev pub unless_above : List Entry → ℕ → Option ℕ → Option ℕ
+unless_above pairs c None = None
+unless_above pairs c (Some u) = if has_pair pairs c u then None else Some u
+
+-- the first supertype of n, unless it stands above c by further ones
+abbrev pub open_up : List (Option Link) → List Entry → ℕ → ℕ → Option ℕ
+open_up links pairs c n = unless_above pairs c (up_at links n)
+
+-- a type and those above it by first supertypes, below the first that stands above it by further ones
+abbrev pub open_chain : List (Option Link) → List Entry → ℕ → List ℕ
+open_chain links pairs c = walk (open_up links pairs c) (suc (depth_of (link_at links c))) (Some c)
+
 -- a type and what stands above it, but for Object above interfaces
 abbrev pub at_or_above : List (Option Link) → List Entry → ℕ → List ℕ
-at_or_above links pairs c = flat_map (with_uppers pairs) (chain links c)
+at_or_above links pairs c = flat_map (with_uppers pairs) (open_chain links pairs c)
 
 -- ---- queries
 
@@ -180,7 +205,7 @@ is_some_item (x ∷ xs) = true
 
 -- what stands above others
 abbrev pub highs_of : List (Option Link) → List Entry → List ℕ → List ℕ
-highs_of links pairs supers = flat_map (at_or_above links pairs) (further links supers)
+highs_of links pairs supers = with_all_above links pairs [] (further links supers)
 
 -- Object stands above the type
 abbrev pub is_under_object : Rows → List (Option Link) → ℕ → List ℕ → Bool
@@ -226,9 +251,13 @@ pub record ClimbsTo (links : List (Option Link)) (c depth room here : ℕ) : Typ
 pub record BranchesTo (links : List (Option Link)) (pairs : List Entry) (low : Link) (over room : ℕ) (here : Option ℕ) : Type 0 where
   pub rest : list_any (λ n. has_pair pairs n over) (walk (branching_above links) room here) ≡ is_branched links pairs low over
 
--- these are what was there and the first of what stands at or above c, and the next ones are those from here on
+-- these with those from here on are what was there with what stands at or above c
 pub record AddsTo (links : List (Option Link)) (pairs : List Entry) (c : ℕ) (before : List ℕ) (room : ℕ) (here : Option ℕ) (done : List ℕ) : Type 0 where
-  pub rest : done ++ flat_map (with_uppers pairs) (walk (up_at links) room here) ≡ before ++ at_or_above links pairs c
+  pub rest : climbed links pairs room here done ≡ with_above links pairs before c
+
+-- these and what stands at or above those from here on are what was there and what stands at or above c
+pub record ListsTo (links : List (Option Link)) (pairs : List Entry) (c : ℕ) (before : List ℕ) (room : ℕ) (here : Option ℕ) (done : List ℕ) : Type 0 where
+  pub rest : done ++ flat_map (with_uppers pairs) (walk (open_up links pairs c) room here) ≡ before ++ at_or_above links pairs c
 
 -- ---- what tables are to have
 

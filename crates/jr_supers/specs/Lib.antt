@@ -1,4 +1,5 @@
 pub mod Pairs
+pub mod Found
 pub mod Above
 pub mod Direct
 pub mod Order

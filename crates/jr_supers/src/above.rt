@@ -1,11 +1,13 @@
 // Which types stand above which (JLS 4.10.2).
-ghost use Rattle.std.specs.Prelude.{◌≡◌, ◌++◌, suc, flat_map, slice_set, IfOk, OnOk, Some, None, Decides};
+ghost use Rattle.std.specs.Prelude.{◌≡◌, ◌++◌, [], suc, slice_set, IfOk, OnOk, Some, None, Decides};
 ghost use Rattle.jr_defs.specs.Referents.{Table};
 ghost use Rattle.jr_defs.specs.Supertypes.{Above as AboveIn};
 ghost use Rattle.jr_plain.specs.Headed.{IsHeaded};
 ghost use Rattle.jr_supers.specs.Above as tell;
 ghost use Rattle.jr_supers.specs.Direct.{supers_in};
+ghost use Rattle.jr_supers.specs.Found.{with_items};
 
+use crate::found::Found;
 use crate::pairs::Pairs;
 use crate::supers::{Direct, entry_before};
 use jr_base::OutOfMemory;
@@ -154,8 +156,73 @@ fn is_branched(links: &[Option<Link>], pairs: &Pairs, low: Link, over: u32) -> b
     false
 }
 
+// Collects a type, and what stands above it through its further supertypes.
+fn add_uppers(alloc: Global, pairs: &Pairs, all: &mut Found, at: u32) -> Result<(), OutOfMemory>
+    ensures { OnOk result (all.new ≡ with_items all.old (tell.with_uppers pairs.now at)) }
+{
+    all.add(alloc, at)?;
+    for over in &pairs.uppers(alloc, at)? {
+        all.add(alloc, *over)?;
+    }
+    Ok(())
+}
+
+// Collects a type and the types above it, but for Object above interfaces. What stands above a type that is there is there too.
+#[tactic(auto, using(crate::proofs::Walking::added_there, crate::proofs::Walking::added_none, crate::proofs::Walking::added_last))]
+fn add_above(
+    alloc: Global,
+    links: &[Option<Link>],
+    pairs: &Pairs,
+    all: &mut Found,
+    at: u32,
+) -> Result<(), OutOfMemory>
+    ensures { OnOk result (all.new ≡ tell.with_above links.now pairs.now all.old at) }
+{
+    let turns = turns_from(links, at);
+    let mut up = Some(at);
+    for _turn in 0..turns {
+        match up {
+            Some(here) => {
+                if all.has(here) {
+                    return Ok(());
+                }
+                add_uppers(alloc, pairs, all, here)?;
+                up = up_at(links, here);
+            }
+            None => return Ok(()),
+        }
+    }
+    Ok(())
+}
+
+// The types in a list and those above them, each once.
+fn all_above(
+    alloc: Global,
+    links: &[Option<Link>],
+    pairs: &Pairs,
+    lows: &[u32],
+) -> Result<Vec<u32>, OutOfMemory>
+    ensures { IfOk result (λ all. all.items ≡ tell.with_all_above links.now pairs.now [] lows.now) }
+{
+    let mut all = Found::new(alloc);
+    for low in lows {
+        add_above(alloc, links, pairs, &mut all, *low)?;
+    }
+    Ok(all.into_items())
+}
+
+// The first supertype, unless it stands above a lower type through further supertypes, as all above it do then.
+fn open_up(links: &[Option<Link>], pairs: &Pairs, low: u32, at: u32) -> Option<u32>
+    ensures { result ≡ tell.open_up links.now pairs.now low at }
+{
+    match up_at(links, at) {
+        Some(up) => { if pairs.has(low, up) { None } else { Some(up) } }
+        None => None,
+    }
+}
+
 // Adds a type, and what stands above it through its further supertypes.
-fn add_uppers(alloc: Global, pairs: &Pairs, all: &mut Vec<u32>, at: u32) -> Result<(), OutOfMemory>
+fn push_uppers(alloc: Global, pairs: &Pairs, all: &mut Vec<u32>, at: u32) -> Result<(), OutOfMemory>
     ensures { OnOk result (all.new.items ≡ all.old.items ++ tell.with_uppers pairs.now at) }
 {
     all.push(at)?;
@@ -166,8 +233,8 @@ fn add_uppers(alloc: Global, pairs: &Pairs, all: &mut Vec<u32>, at: u32) -> Resu
 }
 
 // Adds a type and the types above it, but for Object above interfaces.
-#[tactic(auto, using(crate::proofs::Walking::added_none, crate::proofs::Walking::added_last))]
-fn add_above(
+#[tactic(auto, using(crate::proofs::Walking::listed_none, crate::proofs::Walking::listed_last))]
+fn push_above(
     alloc: Global,
     links: &[Option<Link>],
     pairs: &Pairs,
@@ -181,29 +248,13 @@ fn add_above(
     for _turn in 0..turns {
         match up {
             Some(here) => {
-                add_uppers(alloc, pairs, all, here)?;
-                up = up_at(links, here);
+                push_uppers(alloc, pairs, all, here)?;
+                up = open_up(links, pairs, at, here);
             }
             None => return Ok(()),
         }
     }
     Ok(())
-}
-
-// The types in a list and those above them.
-fn all_above(
-    alloc: Global,
-    links: &[Option<Link>],
-    pairs: &Pairs,
-    lows: &[u32],
-) -> Result<Vec<u32>, OutOfMemory>
-    ensures { IfOk result (λ all. all.items ≡ flat_map (tell.at_or_above links.now pairs.now) lows.now) }
-{
-    let mut all = Vec::new(alloc);
-    for low in lows {
-        add_above(alloc, links, pairs, &mut all, *low)?;
-    }
-    Ok(all)
 }
 
 // Where the jump of a type ends that stands right below one with this link: as far as two equal jumps above that, or at that.
@@ -528,7 +579,7 @@ impl Above {
         ensures { IfOk result (λ all. all.items ≡ tell.at_or_above self.now.links.items self.now.pairs at) }
     {
         let mut all = Vec::new(alloc);
-        add_above(alloc, &self.links, &self.pairs, &mut all, at)?;
+        push_above(alloc, &self.links, &self.pairs, &mut all, at)?;
         Ok(all)
     }
 }

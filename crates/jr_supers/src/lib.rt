@@ -2,6 +2,7 @@
 #![tactic(auto)]
 
 mod above;
+mod found;
 mod ordering;
 mod pairs;
 mod signatures;
