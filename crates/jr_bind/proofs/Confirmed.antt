@@ -44,12 +44,12 @@ use Rattle.jr_bind.specs.Exact.{IsProgramIn, AreUnder}
 
 -- ---- labels
 
-type_label_tells : (l : Label) → Decides (is_type_label l) (IsTypeLabel l)
+pub type_label_tells : (l : Label) → Decides (is_type_label l) (IsTypeLabel l)
 type_label_tells (is.Name kind place is_qualified) = (λ e. tt, λ h. refl)
 type_label_tells (is.Constructor modifiers) = (λ e. tt, λ h. refl)
 type_label_tells _ = (λ e. absurd (false≢true e), λ h. absurd h)
 
-variable_label_tells : (l : Label) → Decides (is_variable_label l) (IsVariableLabel l)
+pub variable_label_tells : (l : Label) → Decides (is_variable_label l) (IsVariableLabel l)
 variable_label_tells (is.Name kind place is_qualified) = (λ e. tt, λ h. refl)
 variable_label_tells is.Select = (λ e. tt, λ h. refl)
 variable_label_tells is.SuperSelect = (λ e. tt, λ h. refl)
@@ -67,10 +67,10 @@ module _ (p : Rows) (table : List Referent) (size : length table ≡ length p) (
   pub unbound_past : (n : ℕ) → length p ≤ n → t n ≡ Unbound
   unbound_past n le = get_or_past table n Unbound (subst (λ m. m ≤ n) (sym size) le)
 
-  inside : (n : ℕ) (a : Referent) → t n ≡ a → (Unbound ≡ a → ⊥) → n < length p
+  pub inside : (n : ℕ) (a : Referent) → t n ≡ a → (Unbound ≡ a → ⊥) → n < length p
   inside n a e apart = ⊎_elim (λ lt. lt) (λ le. absurd (apart (sym (unbound_past n le) ∙ e))) (cases_lt n (length p))
 
-  may_at : (n : ℕ) (a : Referent) → t n ≡ a → (Unbound ≡ a → ⊥) → may_refer p (label p n) a ≡ true
+  pub may_at : (n : ℕ) (a : Referent) → t n ≡ a → (Unbound ≡ a → ⊥) → may_refer p (label p n) a ≡ true
   may_at n a e apart = subst (λ x. may_refer p (label p n) x ≡ true) e
       ((all (may_refer_at p t) (λ k. may_refer_at p t k ≡ true) (λ k. itself (may_refer_at p t k)) (length p)).0 may n (inside n a e apart))
 

@@ -11,8 +11,9 @@ use Rattle.jr_places.specs.Stamps.{is_stamped, IsEmptied}
 use Rattle.jr_places.specs.Chains.{entry_at, is_under, rows_under}
 use Rattle.jr_members.specs.Each.{StandOnce}
 use Rattle.jr_members.proofs.Each.{has_push, has_front}
+use Rattle.jr_dispatch.proofs.Spreading.{stamped_below}
 use Rattle.jr_bind.specs.Rounds.{next_of, IsEdgeIn, IsOnRound, IsFirstOnRound, AreEdges, PutsOne, count_at, counted_by, edges_to, occurrences, AreEnough, IsTaking, IsLeaving, AreCounts}
-use Rattle.jr_bind.proofs.Reached.{stamped_below, not_stamped}
+use Rattle.jr_bind.proofs.Reached.{not_stamped}
 
 -- ---- entries
 

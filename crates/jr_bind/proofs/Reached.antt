@@ -1,65 +1,16 @@
 -- What is reached from a number by edges that are data, a turn at a time.
-use Rattle.std.proofs.Common.{◌≡◌, ◌⊎◌, refl, sym, ◌∙◌, ap, subst, inl, inr, ⊎_elim, arith, ℕ, zero, suc, ◌+◌, ◌<◌, ◌≤◌, Bool, true, false, cond, List, [], ◌∷◌, ◌++◌, length, length-append, get_or, Option, Some, None, Decides}
-use Rattle.std.specs.Option.{MatchOption}
-use Rattle.std.proofs.lemmas.Bool.{false≢true, cases_eq, cases_lt, false_from_ne_true}
-use Rattle.std.proofs.lemmas.Option.{none-some, slice_get_past}
+use Rattle.std.proofs.Common.{◌≡◌, ◌⊎◌, refl, sym, ◌∙◌, ap, subst, inl, inr, ⊎_elim, arith, ℕ, zero, suc, ◌+◌, ◌<◌, Bool, true, false, List, [], ◌∷◌, ◌++◌, length, get_or, Decides}
+use Rattle.std.proofs.lemmas.Bool.{false≢true, false_from_ne_true}
 use Rattle.jr_plain.specs.Search.{has, Reaches}
 use Rattle.jr_places.specs.declared.chains.Entry.{Entry}
 use Rattle.jr_places.specs.declared.stamps.Stamps.{Stamps}
-use Rattle.jr_places.specs.Stamps.{is_now, is_stamped, IsStamping, IsEmptied, AddsStamp}
+use Rattle.jr_places.specs.Stamps.{is_stamped, IsStamping, IsEmptied, AddsStamp}
 use Rattle.jr_members.proofs.Each.{has_push, has_front, front_has, rest_has, stand_push}
-use Rattle.jr_bind.specs.Rounds.{next_of, IsEdgeIn, IsOnRound, AreEdges, with_if, unmet, turns_left, PutsOne, IsPutting, IsReaching}
-
--- ---- lists
-
-pub no_numbers : (xs : List ℕ) → length xs ≡ 0 → xs ≡ []
-no_numbers [] e = refl
-no_numbers (x ∷ xs) e = absurd (omega arith)
-
-pub nothing_left : {A : Type 0} (o : Option A) (P Q : Type 0) (R : A → Type 0) → o ≡ None → MatchOption o (P × Q) R → P
-nothing_left None P Q R e h = h.0
-nothing_left (Some x) P Q R e h = absurd (none-some x (sym e))
-
-longer : (xs : List ℕ) (y : ℕ) → length (xs ++ y ∷ []) ≡ suc (length xs)
-longer xs y = let s = length-append xs (y ∷ []) in omega arith
-
--- ---- how many are not met
-
-cell_le : (a b : Bool) (m n : ℕ) → (a ≡ true → b ≡ true) → m ≤ n → cond b 0 1 + m ≤ cond a 0 1 + n
-cell_le true true m n h le = omega arith
-cell_le true false m n h le = absurd (false≢true (h refl))
-cell_le false true m n h le = omega arith
-cell_le false false m n h le = omega arith
-
-cell_lt : (a b : Bool) (m n : ℕ) → (a ≡ true → b ≡ true) → m < n → cond b 0 1 + m < cond a 0 1 + n
-cell_lt true true m n h lt = omega arith
-cell_lt true false m n h lt = absurd (false≢true (h refl))
-cell_lt false true m n h lt = omega arith
-cell_lt false false m n h lt = omega arith
-
-cell_met : (a b : Bool) (m n : ℕ) → a ≡ false → b ≡ true → m ≤ n → cond b 0 1 + m < cond a 0 1 + n
-cell_met true b m n e h le = absurd (false≢true (sym e))
-cell_met false true m n e h le = omega arith
-cell_met false false m n e h le = absurd (false≢true h)
-
-module _ (old new : Stamps) (kept : (x : ℕ) → is_stamped old x ≡ true → is_stamped new x ≡ true) where
-  pub unmet_kept : (n : ℕ) → unmet new n ≤ unmet old n
-  unmet_kept zero = omega arith
-  unmet_kept (suc n) = cell_le (is_stamped old n) (is_stamped new n) (unmet new n) (unmet old n) (kept n) (unmet_kept n)
-
-  pub unmet_less : (n at : ℕ) → at < n → is_stamped old at ≡ false → is_stamped new at ≡ true → unmet new n < unmet old n
-  unmet_less zero at lt was is = absurd (omega arith)
-  unmet_less (suc n) at lt was is = ⊎_elim
-      (λ same. cell_met (is_stamped old n) (is_stamped new n) (unmet new n) (unmet old n) (subst (λ z. is_stamped old z ≡ false) same was) (subst (λ z. is_stamped new z ≡ true) same is) (unmet_kept n))
-      (λ apart. cell_lt (is_stamped old n) (is_stamped new n) (unmet new n) (unmet old n) (kept n) (unmet_less n at (omega arith) was is)) (cases_eq at n)
+use Rattle.jr_dispatch.specs.Families.{with_if, turns_left}
+use Rattle.jr_dispatch.proofs.Spreading.{longer, unmet_kept, unmet_less, stamped_below}
+use Rattle.jr_bind.specs.Rounds.{next_of, IsEdgeIn, IsOnRound, AreEdges, PutsOne, IsPutting, IsReaching}
 
 -- ---- one number
-
-none_now : (stamps : Stamps) (n : ℕ) → length stamps.stamps.items ≤ n → is_stamped stamps n ≡ false
-none_now stamps n past = ap (is_now stamps.round) (slice_get_past stamps.stamps.items n past)
-
-pub stamped_below : (stamps : Stamps) (bound n : ℕ) → IsStamping stamps bound → is_stamped stamps n ≡ true → n < bound
-stamped_below stamps bound n h is = ⊎_elim (λ lt. lt) (λ past. absurd (false≢true (sym (none_now stamps n (let size = h.size in omega arith)) ∙ is))) (cases_lt n bound)
 
 pub not_stamped : (stamps : Stamps) (x : ℕ) → is_stamped stamps x ≡ false → is_stamped stamps x ≡ true → ⊥
 not_stamped stamps x no' is = false≢true (sym no' ∙ is)

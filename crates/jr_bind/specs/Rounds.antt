@@ -1,11 +1,12 @@
 -- Which numbers lead back to themselves by edges that are data, and how they are found: those with no edge from one that may are left out first.
-use Rattle.std.specs.Prelude.{◌≡◌, ◌⊎◌, ℕ, zero, suc, ◌+◌, ◌<◌, ◌≤◌, Bool, true, false, not, ◌&&◌, if◌then◌else◌, List, [], ◌∷◌, ◌++◌, length, nat_eq, slice_index_or}
+use Rattle.std.specs.Prelude.{◌≡◌, ◌⊎◌, ℕ, zero, suc, ◌+◌, ◌<◌, ◌≤◌, true, false, not, ◌&&◌, if◌then◌else◌, List, [], ◌∷◌, length, nat_eq, slice_index_or}
 use Rattle.jr_plain.specs.Search.{has, Reaches}
 use Rattle.jr_places.specs.declared.chains.Entry.{Entry}
 use Rattle.jr_places.specs.declared.stamps.Stamps.{Stamps}
 use Rattle.jr_places.specs.Stamps.{is_stamped, IsStamping}
 use Rattle.jr_places.specs.Chains.{entry_at, rows_under}
 use Rattle.jr_members.specs.Each.{StandOnce}
+use Rattle.jr_dispatch.specs.Families.{turns_left}
 
 -- ---- edges
 
@@ -30,18 +31,6 @@ pub record AreEdges (edges : List Entry) (bound : ℕ) : Type 0 where
   pub rise : (j k : ℕ) → j ≤ k → k < length edges → (entry_at edges j).first ≤ (entry_at edges k).first
 
 -- ---- what is reached
-
--- how many numbers below n are not stamped
-abbrev pub unmet : Stamps → ℕ → ℕ
-unmet met zero = 0
-unmet met (suc n) = (if is_stamped met n then 0 else 1) + unmet met n
-
--- the turns that are left: one for each number that waits, and for each that is not met
-abbrev pub turns_left : Stamps → ℕ → List ℕ → ℕ
-turns_left met bound waiting = length waiting + unmet met bound
-
-abbrev pub with_if : Bool → List ℕ → ℕ → List ℕ
-with_if is all x = if is then all ++ x ∷ [] else all
 
 -- a number is met now; it waits, unless it was met before
 pub record PutsOne (bound at : ℕ) (old new : Stamps) (before after : List ℕ) : Type 0 where

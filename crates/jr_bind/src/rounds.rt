@@ -4,6 +4,7 @@ ghost use Rattle.jr_plain.specs.Search.{Finds};
 ghost use Rattle.jr_places.specs.declared.chains.Entry.{Entry as EdgeOf};
 ghost use Rattle.jr_places.specs.Chains.{entry_at};
 ghost use Rattle.jr_places.specs.Stamps.{IsStamping};
+ghost use Rattle.jr_dispatch.specs.Families.{with_if};
 ghost use Rattle.jr_bind.specs.Rounds as tell;
 
 use jr_base::OutOfMemory;
@@ -11,7 +12,7 @@ use jr_places::{Chains, Stamps};
 use std::alloc::Global;
 
 fn push_if(all: &mut Vec<u32>, is: bool, at: u32) -> Result<(), OutOfMemory>
-    ensures { OnOk result (all.new.items ≡ tell.with_if is all.old.items at) }
+    ensures { OnOk result (all.new.items ≡ with_if is all.old.items at) }
 {
     if is {
         all.push(at)?;

@@ -10,4 +10,4 @@ mod Descending
 mod Ascending
 mod Edging
 mod Linking
-mod Spreading
+pub mod Spreading

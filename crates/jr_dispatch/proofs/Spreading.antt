@@ -29,7 +29,7 @@ pub nothing_left : {A : Type 0} (o : Option A) (P Q : Type 0) (R : A → Type 0)
 nothing_left None P Q R e h = h.0
 nothing_left (Some x) P Q R e h = absurd (none-some x (sym e))
 
-longer : (xs : List ℕ) (y : ℕ) → length (xs ++ y ∷ []) ≡ suc (length xs)
+pub longer : (xs : List ℕ) (y : ℕ) → length (xs ++ y ∷ []) ≡ suc (length xs)
 longer xs y = let s = length-append xs (y ∷ []) in omega arith
 
 -- ---- how many are not met
@@ -52,11 +52,11 @@ cell_met false true m n e h le = omega arith
 cell_met false false m n e h le = absurd (false≢true h)
 
 module _ (old new : Stamps) (kept : (x : ℕ) → is_stamped old x ≡ true → is_stamped new x ≡ true) where
-  unmet_kept : (n : ℕ) → unmet new n ≤ unmet old n
+  pub unmet_kept : (n : ℕ) → unmet new n ≤ unmet old n
   unmet_kept zero = omega arith
   unmet_kept (suc n) = cell_le (is_stamped old n) (is_stamped new n) (unmet new n) (unmet old n) (kept n) (unmet_kept n)
 
-  unmet_less : (n at : ℕ) → at < n → is_stamped old at ≡ false → is_stamped new at ≡ true → unmet new n < unmet old n
+  pub unmet_less : (n at : ℕ) → at < n → is_stamped old at ≡ false → is_stamped new at ≡ true → unmet new n < unmet old n
   unmet_less zero at lt was is = absurd (omega arith)
   unmet_less (suc n) at lt was is = ⊎_elim
       (λ same. cell_met (is_stamped old n) (is_stamped new n) (unmet new n) (unmet old n) (subst (λ z. is_stamped old z ≡ false) same was) (subst (λ z. is_stamped new z ≡ true) same is) (unmet_kept n))
@@ -67,7 +67,7 @@ module _ (old new : Stamps) (kept : (x : ℕ) → is_stamped old x ≡ true → 
 none_now : (stamps : Stamps) (n : ℕ) → length stamps.stamps.items ≤ n → is_stamped stamps n ≡ false
 none_now stamps n past = ap (is_now stamps.round) (slice_get_past stamps.stamps.items n past)
 
-stamped_below : (stamps : Stamps) (bound n : ℕ) → IsStamping stamps bound → is_stamped stamps n ≡ true → n < bound
+pub stamped_below : (stamps : Stamps) (bound n : ℕ) → IsStamping stamps bound → is_stamped stamps n ≡ true → n < bound
 stamped_below stamps bound n h is = ⊎_elim (λ lt. lt) (λ past. absurd (false≢true (sym (none_now stamps n (let size = h.size in omega arith)) ∙ is))) (split n bound)
   where
     split : (a b : ℕ) → (a < b) ⊎ (b ≤ a)

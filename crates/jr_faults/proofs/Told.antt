@@ -9,7 +9,7 @@ use Rattle.jr_rule.specs.Numbers.{number_of}
 use Rattle.jr_rule.specs.Faults.{is_of, rows_of, AreFaultsOf}
 use Rattle.jr_faults.specs.Added.{row_if, is_rule, AreOnly}
 
-rows_append : (r : Rule) (xs ys : List Fault) → rows_of r (xs ++ ys) ≡ rows_of r xs ++ rows_of r ys
+pub rows_append : (r : Rule) (xs ys : List Fault) → rows_of r (xs ++ ys) ≡ rows_of r xs ++ rows_of r ys
 rows_append r [] ys = refl
 rows_append r (x ∷ xs) ys = by (is_of r x) (rows_append r xs ys)
   where

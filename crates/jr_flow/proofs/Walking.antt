@@ -19,6 +19,10 @@ use Rattle.jr_flow.specs.Walked.{number_in, IsFlowOf, OnwardIn, NoLonger, LeadsT
 use Rattle.jr_flow.proofs.Exploring.{here}
 use Rattle.jr_flow.proofs.Shortening.{counted, end_leads, end_inside, opened_has, opened_from}
 
+-- where a number was met before it is added, all that is met then was met before
+pub met_before : (met added : Stamps) (count to : ℕ) → AddsStamp met added count to false → to < count → (k : ℕ) → is_stamped added k ≡ true → is_stamped met k ≡ true
+met_before met added count to adds lt k e = ⊎_elim (λ early. early) (λ same. subst (λ x. is_stamped met x ≡ true) same (adds.was lt refl)) (adds.out k e)
+
 module _ (states : States) (g : Flow ℕ) (ends : List ℕ) (flow : IsFlowOf states g) (are : AreEnds states g ends) (i m : ℕ) (t : Bool) (inside : i < length (states_in states.locations)) (at_i : number_in states i ≡ Some m) (old : StepList) where
   abbrev bound : ℕ
   bound = length (states_in states.locations)
@@ -70,14 +74,11 @@ module _ (states : States) (g : Flow ℕ) (ends : List ℕ) (flow : IsFlowOf sta
       sound = h.sound;
     }
       where
-        before : is_stamped met to ≡ true
-        before = adds.was to_inside refl
-
         now : is_stamped added to ≡ true
-        now = adds.kept to before
+        now = adds.kept to (adds.was to_inside refl)
 
         was : (k : ℕ) → is_stamped added k ≡ true → is_stamped met k ≡ true
-        was k e = ⊎_elim (λ a. a) (λ same. subst (λ x. is_stamped met x ≡ true) same before) (adds.out k e)
+        was k e = met_before met added bound to adds to_inside k e
 
     -- it is a point
     pub walk_point : (j : ℕ) → AddsStamp met added bound to true → number_in states to ≡ Some j → IsWalking states g ends i m t old added rest (steps ++ (m, j, t) ∷ [])

@@ -7,15 +7,8 @@ use Rattle.jr_rule.specs.declared.Fault.{Fault}
 use Rattle.jr_rule.specs.declared.Rule.{Rule}
 use Rattle.jr_rule.specs.Numbers.{number_of}
 use Rattle.jr_rule.specs.Faults.{is_of, rows_of, AreFaultsOf}
+use Rattle.jr_faults.proofs.Told.{rows_append}
 use Rattle.jr_front.specs.Tested.{is_between, AreTakenOver}
-
-rows_append : (r : Rule) (xs ys : List Fault) → rows_of r (xs ++ ys) ≡ rows_of r xs ++ rows_of r ys
-rows_append r [] ys = refl
-rows_append r (x ∷ xs) ys = by (is_of r x) (rows_append r xs ys)
-  where
-    by : {more : List ℕ} (b : Bool) → more ≡ rows_of r xs ++ rows_of r ys → cond b (x.row ∷ more) more ≡ cond b (x.row ∷ rows_of r xs) (rows_of r xs) ++ rows_of r ys
-    by true e = ap (λ l. x.row ∷ l) e
-    by false e = e
 
 -- a fault of a rule that is let through, or not, has none of the rows of one of the others
 other_row : (first last : ℕ) (one : Rule) (fault : Fault) → is_between first last one ≡ false → is_between first last fault.rule ≡ true → rows_of one (fault ∷ []) ≡ []

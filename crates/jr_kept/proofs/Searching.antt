@@ -12,6 +12,7 @@ use Rattle.jr_flow_defs.specs.Graphs.{StepList, StepPath}
 use Rattle.jr_flow_defs.proofs.Searched.{contains_out, contains_first, contains_more}
 use Rattle.jr_flow.specs.declared.point.Step.{Step}
 use Rattle.jr_flow.specs.Reached.{step_seen}
+use Rattle.jr_flow.proofs.Walking.{met_before}
 use Rattle.jr_kept.specs.declared.lists.Lists.{Lists}
 use Rattle.jr_kept.specs.declared.search.Targets.{Targets}
 use Rattle.jr_kept.specs.declared.search.Side.{Side}
@@ -76,14 +77,11 @@ module _ (p : Rows) (points : List Point) (names : List ℕ) (steps : StepList) 
       kept = h.kept;
     }
       where
-        before : is_stamped met to ≡ true
-        before = adds.was to_inside refl
-
         now : is_stamped added to ≡ true
-        now = adds.kept to before
+        now = adds.kept to (adds.was to_inside refl)
 
         was : (k : ℕ) → is_stamped added k ≡ true → is_stamped met k ≡ true
-        was k e = ⊎_elim (λ a. a) (λ same. subst (λ x. is_stamped met x ≡ true) same before) (adds.out k e)
+        was k e = met_before met added (length points) to adds to_inside k e
 
     -- it has no name, and what comes behind it waits
     pub search_unnamed : (ways : List ℕ) → AddsStamp met added (length points) to true → (IsNamed names to → ⊥) → ((r : ℕ) → HasStepTo steps to r → Contains ways r) → ((r : ℕ) → Contains ways r → HasStepTo steps to r)
@@ -199,7 +197,7 @@ target_known old new count name h adds lt is = (
     before = adds.was lt refl
 
     was : (y : ℕ) → is_stamped new.met y ≡ true → is_stamped old.met y ≡ true
-    was y e = ⊎_elim (λ a. a) (λ same. subst (λ x. is_stamped old.met x ≡ true) same before) (adds.out y e)
+    was y e = met_before old.met new.met count name adds lt y e
 
 pub least_none : (there : Stamps) (all : List ℕ) → IsLeast there all [] None
 least_none there all = record { none = λ y c. absurd (none_in y c); some = tt }

@@ -21,6 +21,7 @@ use Rattle.jr_defs.specs.Members.{MemberNamed}
 use Rattle.jr_defs.specs.Overloads.{Choice}
 use Rattle.jr_defs.specs.Lookup.{SimpleCandidate, SuperOf, Arguments, MethodCandidate, MayBePackage, MayBeLength, Candidate, IsPackageName, Otherwise, LookFor}
 use Rattle.jr_defs.specs.Lookup.{Receiver as ReceiverOf}
+use Rattle.jr_defs.specs.Correspondence.{IsCall}
 use Rattle.jr_plain.specs.Search.{first_below, Finds}
 use Rattle.jr_plain.specs.Types.{referred_type, named_type}
 use Rattle.jr_plain.proofs.Searches.{finds_first}
@@ -32,7 +33,7 @@ use Rattle.jr_lookup.specs.declared.simple.Sight.{Sight}
 use Rattle.jr_lookup.specs.Answers.{simple_otherwise, IsOwnClass, IsLabelAt, IsSuperField, IsFree, IsCreated, IsCalled}
 use Rattle.jr_lookup.specs.Outward.{IsNumberOf}
 use Rattle.jr_lookup.specs.Behind.{receiver_with, CanLook}
-use Rattle.jr_lookup.specs.Calls.{IsCall, CanSee, NeedsTypes}
+use Rattle.jr_lookup.specs.Calls.{CanSee, NeedsTypes}
 use Rattle.jr_lookup.proofs.Calling.{answer_same}
 
 -- ---- the name of a row, and what the row right behind a place refers to

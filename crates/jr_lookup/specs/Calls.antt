@@ -23,15 +23,6 @@ LookedFor p t o x s a = LookFor p t (HasConstantForm p t) o x s a
 abbrev pub AreArguments : Rows → Table → ℕ → List RowType → Type 0
 AreArguments p t o all = Finds (Some all) (λ all. Arguments p t (HasConstantForm p t) o all)
 
--- what is sought is what a call refers to
-abbrev pub IsCall : Sought → Type 0
-IsCall sought.Method = Unit {0}
-IsCall sought.MethodOf = Unit {0}
-IsCall sought.SuperMethod = Unit {0}
-IsCall sought.Creation = Unit {0}
-IsCall (sought.ConstructorCall w) = Unit {0}
-IsCall _ = ⊥
-
 -- ---- what is known at a place
 
 -- what lookup reads at a place is as the table says, but for the types of what stands behind it

@@ -15,6 +15,7 @@ ghost use Rattle.jr_defs.specs.Members.{MemberNamed, MemberOf};
 ghost use Rattle.jr_defs.specs.Overloads.{Choice, ImportedChoice};
 ghost use Rattle.jr_defs.specs.Referents.{Table, entries};
 ghost use Rattle.jr_defs.specs.Typing.{TypeOf};
+ghost use Rattle.jr_defs.specs.Correspondence.{IsCall};
 ghost use Rattle.jr_plain.specs.Overloads.{argument_types};
 ghost use Rattle.jr_plain.specs.Search.{Finds, Lists};
 ghost use Rattle.jr_members.specs.Worlds.{IsWorld};
@@ -479,7 +480,7 @@ impl<'a> Sight<'a> {
         sought: Sought,
         arguments: &[RowType],
     ) -> Result<Referent, OutOfMemory>
-        ensures { (t : Table) (x : Text) → behind.CanLook t self.now types.now place → IsNumberOf self.now.world.under.rows.now name x → calls.AreArguments self.now.world.under.rows.now t place arguments.now → calls.IsCall sought → IfOk result (λ a. calls.LookedFor self.now.world.under.rows.now t place x sought a) }
+        ensures { (t : Table) (x : Text) → behind.CanLook t self.now types.now place → IsNumberOf self.now.world.under.rows.now name x → calls.AreArguments self.now.world.under.rows.now t place arguments.now → IsCall sought → IfOk result (λ a. calls.LookedFor self.now.world.under.rows.now t place x sought a) }
     {
         match sought {
             Sought::Method => self.method(alloc, place, name, arguments),
@@ -500,7 +501,7 @@ impl<'a> Sight<'a> {
         name: u32,
         sought: Sought,
     ) -> Result<Referent, OutOfMemory>
-        ensures { (t : Table) (x : Text) → behind.CanLook t self.now types.now place → IsNumberOf self.now.world.under.rows.now name x → calls.IsCall sought → IfOk result (λ a. calls.LookedFor self.now.world.under.rows.now t place x sought a) }
+        ensures { (t : Table) (x : Text) → behind.CanLook t self.now types.now place → IsNumberOf self.now.world.under.rows.now name x → IsCall sought → IfOk result (λ a. calls.LookedFor self.now.world.under.rows.now t place x sought a) }
     {
         match self.arguments(alloc, types, place)? {
             Some(arguments) => self.called(alloc, types, place, name, sought, &arguments),

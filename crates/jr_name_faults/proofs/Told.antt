@@ -1,5 +1,5 @@
 -- The faults of the rules on names that are added, row by row, and these rules in the list of the definition.
-use Rattle.std.proofs.Common.{◌≡◌, refl, sym, ◌∙◌, ap, subst, arith, add-one, ℕ, ◌+◌, ◌-◌, Bool, true, false, cond, ◌||◌, List, [], ◌∷◌, ◌++◌, append_assoc, length, nat_eq}
+use Rattle.std.proofs.Common.{◌≡◌, refl, sym, ◌∙◌, ap, subst, arith, add-one, ℕ, ◌+◌, ◌-◌, Bool, true, false, ◌||◌, List, ◌++◌, length, nat_eq}
 use Rattle.jr_tree.specs.Rows.{Rows}
 use Rattle.jr_defs.specs.Referents.{Table}
 use Rattle.jr_plain.specs.Search.{has, all_such}
@@ -7,8 +7,7 @@ use Rattle.jr_plain.specs.Overloads.{Types}
 use Rattle.jr_rule.specs.declared.Fault.{Fault}
 use Rattle.jr_rule.specs.declared.Rule.{Rule}
 use Rattle.jr_rule.specs.declared.Rule.TheVariants as rule
-use Rattle.jr_rule.specs.Numbers.{number_of}
-use Rattle.jr_rule.specs.Faults.{is_of, rows_of, AreFaultsOf}
+use Rattle.jr_rule.specs.Faults.{AreFaultsOf}
 use Rattle.jr_faults.specs.Added.{row_if}
 use Rattle.jr_faults.proofs.Told.{none_added, only_kept, only_more, row_more, rows_told}
 use Rattle.jr_name_rules.specs.AccessTests.{is_not_accessible}
@@ -22,7 +21,7 @@ use Rattle.jr_name_faults.specs.declared.locals.Locals as code
 use Rattle.jr_name_faults.specs.declared.imports.Imports.{Imports}
 use Rattle.jr_name_faults.specs.Imports.{AreImportsTo}
 use Rattle.jr_name_faults.specs.Locals.{IsBefore}
-use Rattle.jr_name_faults.specs.Faults.{is_broken, is_of_names, AreOfNames, AreExactFaults, fault_if}
+use Rattle.jr_name_faults.specs.Faults.{is_broken, is_of_names, AreOfNames, AreExactFaults}
 use Rattle.jr_name_faults.specs.Views.{rows_in, table_in, types_in}
 
 -- ---- what an import names stands behind it
@@ -212,26 +211,3 @@ told_types {view} {n} {old} {now} whole h = told view n old now whole rule.Impor
 pub told_statics : {view : View} {n : ℕ} {old now : List Fault} → n ≡ length (rows_in view) → AreStaticFaultsTo view n old now → AreExactFaults view rule.StaticImports old now
 told_statics {view} {n} {old} {now} whole h = told view n old now whole rule.StaticImports (has_static_import_fault (rows_in view) (table_in view))
     (static_imports_at (rows_in view) (table_in view) (types_in view)) h.static_imports
-
--- ---- faults of rules on types
-
-rows_append : (r : Rule) (xs ys : List Fault) → rows_of r (xs ++ ys) ≡ rows_of r xs ++ rows_of r ys
-rows_append r [] ys = refl
-rows_append r (x ∷ xs) ys = by (is_of r x) (rows_append r xs ys)
-  where
-    by : {more : List ℕ} (b : Bool) → more ≡ rows_of r xs ++ rows_of r ys → cond b (x.row ∷ more) more ≡ cond b (x.row ∷ rows_of r xs) (rows_of r xs) ++ rows_of r ys
-    by true e = ap (λ l. x.row ∷ l) e
-    by false e = e
-
-other_rows : (r other : Rule) (b : Bool) (n : ℕ) → nat_eq (number_of other) (number_of r) ≡ false → rows_of r (fault_if b n other) ≡ []
-other_rows r other false n apart = refl
-other_rows r other true n apart = ap (λ b. cond b (n ∷ []) []) apart
-
-pub other_added : {old new : List Fault} (r other : Rule) (b : Bool) (n : ℕ) → nat_eq (number_of other) (number_of r) ≡ false → new ≡ old ++ fault_if b n other → AreFaultsOf r [] old new
-other_added {old} r other b n apart is = record { are = ap (rows_of r) is ∙ rows_append r old (fault_if b n other) ∙ ap (λ l. rows_of r old ++ l) (other_rows r other b n apart) }
-
-pub added_then : {old mid new : List Fault} {xs ys : List ℕ} (r : Rule) → AreFaultsOf r xs old mid → AreFaultsOf r ys mid new → AreFaultsOf r (xs ++ ys) old new
-added_then {old} {mid} {new} {xs} {ys} r h k = record { are = k.are ∙ ap (λ l. l ++ ys) h.are ∙ append_assoc (rows_of r old) xs ys }
-
-pub none_then : {old mid new : List Fault} {ys : List ℕ} (r : Rule) → AreFaultsOf r [] old mid → AreFaultsOf r ys mid new → AreFaultsOf r ys old new
-none_then {ys = ys} r h k = added_then {xs = []} {ys = ys} r h k

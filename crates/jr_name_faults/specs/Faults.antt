@@ -1,5 +1,5 @@
 -- The faults that the rules on names find, and the rows at which the definition breaks them.
-use Rattle.std.specs.Prelude.{ℕ, Bool, ◌||◌, if◌then◌else◌, List, [], ◌∷◌, length}
+use Rattle.std.specs.Prelude.{ℕ, Bool, ◌||◌, List, length}
 use Rattle.jr_plain.specs.Search.{has, all_such}
 use Rattle.jr_rule.specs.declared.Fault.{Fault}
 use Rattle.jr_rule.specs.declared.Rule.{Rule}
@@ -38,13 +38,3 @@ is_of_names one = ((is_of_locals one || is_of_imports one) || is_rule rule.Acces
 -- no faults were added but of these rules
 abbrev pub AreOfNames : List Fault → List Fault → Type 0
 AreOfNames old new = AreOnly is_of_names old new
-
--- ---- of rules on types
-
--- the fault, where the rule is broken
-abbrev pub fault_if : Bool → ℕ → Rule → List Fault
-fault_if is_broken n rule = if is_broken then record { row = n; rule = rule } ∷ [] else []
-
--- the row, where the rule is broken
-abbrev pub row_if : Bool → ℕ → List ℕ
-row_if is_broken n = if is_broken then n ∷ [] else []

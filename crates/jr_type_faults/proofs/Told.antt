@@ -11,7 +11,7 @@ use Rattle.jr_rule.specs.declared.Fault.{Fault}
 use Rattle.jr_rule.specs.declared.Rule.{Rule}
 use Rattle.jr_rule.specs.declared.Rule.TheVariants as rule
 use Rattle.jr_rule.specs.Numbers.{number_of}
-use Rattle.jr_rule.specs.Faults.{is_of, rows_of, AreFaultsOf}
+use Rattle.jr_rule.specs.Faults.{rows_of, AreFaultsOf}
 use Rattle.jr_rules.specs.ObjectTests.{lacks_object}
 use Rattle.jr_rules.specs.InitializingTests.{is_used_too_early}
 use Rattle.jr_rules.specs.CreationTests.{calls_itself_round, abstract_is_used}
@@ -21,7 +21,7 @@ use Rattle.jr_rules.specs.PlaceTests.{value_does_not_fit, void_is_used, array_do
 use Rattle.jr_rules.specs.Computed.{rule_if, broken_at}
 use Rattle.jr_view.specs.declared.View.{View}
 use Rattle.jr_faults.specs.Added.{row_if}
-use Rattle.jr_faults.proofs.Told.{none_added, added_then, none_then}
+use Rattle.jr_faults.proofs.Told.{rows_append, none_added, added_then, none_then}
 use Rattle.jr_type_facts.specs.Views.{rows_in}
 use Rattle.jr_type_faults.specs.Faults.{is_broken, is_same, is_among, is_exact, exact_rules, type_rules, rows_by, AddsRules, AddsRow, AreExactTypeFaults, AreOnlyOf, fault_if}
 
@@ -34,14 +34,6 @@ either_way false rows = refl
 rows_fault : (one other : Rule) (b : Bool) (n : ℕ) → rows_of one (fault_if b n other) ≡ cond (is_same other one) (row_if b n) []
 rows_fault one other true n = refl
 rows_fault one other false n = either_way (is_same other one) []
-
-rows_append : (one : Rule) (xs ys : List Fault) → rows_of one (xs ++ ys) ≡ rows_of one xs ++ rows_of one ys
-rows_append one [] ys = refl
-rows_append one (x ∷ xs) ys = by (is_of one x) (rows_append one xs ys)
-  where
-    by : {more : List ℕ} (b : Bool) → more ≡ rows_of one xs ++ rows_of one ys → cond b (x.row ∷ more) more ≡ cond b (x.row ∷ rows_of one xs) (rows_of one xs) ++ rows_of one ys
-    by true e = ap (λ l. x.row ∷ l) e
-    by false e = e
 
 -- a rule is among others by its number
 abbrev is_among_numbers : List Rule → ℕ → Bool

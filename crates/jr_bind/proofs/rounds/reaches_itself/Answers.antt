@@ -1,6 +1,7 @@
 use Rattle.std.proofs.Common.{◌≡◌, ◌∙◌, arith, ap, ◌++◌, length, None}
 use Rattle.std.specs.Option.{option_to_list}
-use Rattle.jr_bind.proofs.Reached.{no_numbers, nothing_left, reaching_start, reaching_next, reaching_end, turn_less}
+use Rattle.jr_dispatch.proofs.Spreading.{no_numbers, nothing_left}
+use Rattle.jr_bind.proofs.Reached.{reaching_start, reaching_next, reaching_end, turn_less}
 use Rattle.jr_bind.proofs.rounds.reaches_itself.Goals as goal
 
 pub loop-next-init : goal.loop-next-init

@@ -1,5 +1,6 @@
 use Rattle.std.proofs.Common.{length}
-use Rattle.jr_bind.specs.Rounds.{turns_left, IsReaching}
+use Rattle.jr_dispatch.specs.Families.{turns_left}
+use Rattle.jr_bind.specs.Rounds.{IsReaching}
 use Rattle.jr_bind.proofs.rounds.reaches_itself.Given as goal
 
 abbrev pub decreases-loop-next : goal.decreases-loop-next
