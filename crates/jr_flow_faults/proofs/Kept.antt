@@ -39,7 +39,7 @@ module _ (p : Rows) (t : Table) (local : IsLocal p) (f : Facts) (known : AreKnow
       (λ le. let long = known.count in absurd (none-some last (ap (λ x. x.last) (sym (get_or_past f n _ (omega arith))) ∙ e)))
       (cases_lt n (length p))
 
-  reads_later : ReadsLater p f
+  pub reads_later : ReadsLater p f
   reads_later = record { nested = local.tree.nested; behind = behind }
 
   one_courses : CoursesAreOne p f

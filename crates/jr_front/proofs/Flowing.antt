@@ -2,7 +2,6 @@
 use Rattle.std.proofs.Common.{◌≡◌, refl, sym, ◌∙◌, ap, subst, ⊎_elim, arith, ℕ, zero, suc, ◌+◌, ◌<◌, ◌≤◌, Bool, true, false, not, ◌&&◌, ◌||◌, length, Option, Some, None}
 use Rattle.std.proofs.Math.Path.{fun_ext}
 use Rattle.std.proofs.lemmas.Bool.{false≢true, cases_lt}
-use Rattle.std.proofs.lemmas.List.{get_or_past}
 use Rattle.std.proofs.lemmas.Option.{none-some}
 use Rattle.jr_tree.specs.declared.label.Label.{Label}
 use Rattle.jr_tree.specs.declared.label.Label.TheVariants as is
@@ -23,7 +22,7 @@ use Rattle.jr_plain.proofs.Bounds.{bounded}
 use Rattle.jr_rules.specs.Statements.{IsRound, IsLoop, IsLoopOrSwitch, LabelsLoop, HasNoTarget}
 use Rattle.jr_reach.specs.declared.fact.Exit.{Exit}
 use Rattle.jr_reach.specs.declared.fact.Exit.TheVariants as exit
-use Rattle.jr_reach.specs.Statements.{Facts, Entries, fact, courses, AreCourses, ReadsLater, CoursesAreOne}
+use Rattle.jr_reach.specs.Statements.{Facts, Entries, fact, courses, AreCourses, CoursesAreOne}
 use Rattle.jr_reach.specs.Reached.{Reached, AreReached, reached, ReadsEarlier, ReachedIsOne}
 use Rattle.jr_reach.specs.Faults.{is_nowhere, is_lost, is_statement, is_unreached, completes_wrongly}
 use Rattle.jr_reach.proofs.One.{each_has_courses}
@@ -31,24 +30,16 @@ use Rattle.jr_reach.proofs.OneReached.{each_is_reached}
 use Rattle.jr_flow_faults.specs.Known.{IsInnermost, IsTargetOf, AreKnown}
 use Rattle.jr_flow_faults.specs.Faults.{BreaksFlow}
 use Rattle.jr_flow_faults.proofs.Known.{known_once}
+use Rattle.jr_flow_faults.proofs.Kept.{reads_later}
 
 module _ (p : Rows) (t : Table) (local : IsLocal p) (f : Facts) (known : AreKnown p t f) where
   -- ---- the tables are read in order
-
-  behind : (n last : ℕ) → (fact f n).last ≡ Some last → n < last
-  behind n last e = ⊎_elim
-      (λ lt. let h = ((known.each n lt).last last).0 e in let far = h.block.behind in omega arith)
-      (λ le. let long = known.count in absurd (none-some last (ap (λ x. x.last) (sym (get_or_past f n _ (omega arith))) ∙ e)))
-      (cases_lt n (length p))
-
-  reads_later : ReadsLater p f
-  reads_later = record { nested = local.tree.nested; behind = behind }
 
   reads_earlier : ReadsEarlier p
   reads_earlier = record { program = local.program; root = local.tree.root; below = λ n positive lt. local.tree.up n lt positive; beside = λ n positive lt. local.tree.before n lt positive }
 
   one_courses : CoursesAreOne p f
-  one_courses = each_has_courses p f reads_later
+  one_courses = each_has_courses p f (reads_later p t local f known)
 
   one_reached : ReachedIsOne p f
   one_reached = each_is_reached p f reads_earlier
