@@ -1,47 +1,13 @@
 -- The rows under a key, of entries that a function gives for the first rows.
-use Rattle.std.proofs.Common.{◌≡◌, refl, sym, ◌∙◌, ap, ap₂, subst, ⊎_elim, arith, ℕ, zero, suc, ◌<◌, Bool, true, false, cond, ◌&&◌, List, [], ◌∷◌, ◌++◌, append-nil, length, Option, Some, None, nat_eq, Decides}
+use Rattle.std.proofs.Common.{◌≡◌, refl, sym, ◌∙◌, ap, subst, ⊎_elim, arith, ℕ, zero, suc, ◌<◌, Bool, true, false, cond, ◌&&◌, ◌∷◌, ◌++◌, append-nil, Option, Some, None, nat_eq, Decides}
 use Rattle.std.proofs.lemmas.Bool.{false≢true, or_left, or_right, or_cases, cases_eq, and_parts, and_from}
 use Rattle.std.proofs.lemmas.Bool.Decides.{Decides-eqb}
 use Rattle.std.proofs.lemmas.Option.{none-some, same_Some}
 use Rattle.jr_plain.specs.Search.{has}
 use Rattle.jr_places.specs.declared.chains.Entry.{Entry}
-use Rattle.jr_places.specs.Chains.{entry_at, is_under, last_under, last_like, rows_under}
 use Rattle.jr_members.specs.Keys.{entry_list, entries_of}
 use Rattle.jr_members.specs.Named.{under}
 use Rattle.jr_members.proofs.Keyed.{under_pushed}
-
--- ---- the last row under a key, and the only one
-
-module _ (all : List Entry) (first second : ℕ) where
-  abbrev IsLastThen : ℕ → ℕ → Type 0
-  IsLastThen n q = (rows_under all first second n ≡ (entry_at all q).row ∷ rows_under all first second q) × (is_under all first second q ≡ true)
-
-  last_by : (n q : ℕ) (b : Bool) → is_under all first second n ≡ b → last_under all first second (suc n) ≡ Some q → (last_under all first second n ≡ Some q → IsLastThen n q) → IsLastThen (suc n) q
-  last_by n q true u e more = let same : n ≡ q = same_Some n q (sym (ap (λ b. cond b (Some n) (last_under all first second n)) u) ∙ e) in
-      subst (λ k. IsLastThen (suc n) k) same (ap (λ b. cond b ((entry_at all n).row ∷ rows_under all first second n) (rows_under all first second n)) u, u)
-  last_by n q false u e more = let h = more (sym (ap (λ b. cond b (Some n) (last_under all first second n)) u) ∙ e) in
-      (ap (λ b. cond b ((entry_at all n).row ∷ rows_under all first second n) (rows_under all first second n)) u ∙ h.0, h.1)
-
-  last_then : (n q : ℕ) → last_under all first second n ≡ Some q → IsLastThen n q
-  last_then zero q e = absurd (none-some q e)
-  last_then (suc n) q e = last_by n q (is_under all first second n) refl e (last_then n q)
-
-  none_by : (n : ℕ) (b : Bool) → is_under all first second n ≡ b → last_under all first second (suc n) ≡ None → (last_under all first second n ≡ None → rows_under all first second n ≡ []) → rows_under all first second (suc n) ≡ []
-  none_by n true u e more = absurd (none-some n (sym e ∙ ap (λ b. cond b (Some n) (last_under all first second n)) u))
-  none_by n false u e more = ap (λ b. cond b ((entry_at all n).row ∷ rows_under all first second n) (rows_under all first second n)) u ∙ more (sym (ap (λ b. cond b (Some n) (last_under all first second n)) u) ∙ e)
-
-  none_then : (n : ℕ) → last_under all first second n ≡ None → rows_under all first second n ≡ []
-  none_then zero e = refl
-  none_then (suc n) e = none_by n (is_under all first second n) refl e (none_then n)
-
-  key_is : (q : ℕ) → is_under all first second q ≡ true → last_like all q ≡ last_under all first second q
-  key_is q h = let k = and_parts (nat_eq (entry_at all q).first first) (nat_eq (entry_at all q).second second) h in
-      ap₂ (λ a b. last_under all a b q) ((Decides-eqb (entry_at all q).first first).0 k.0) ((Decides-eqb (entry_at all q).second second).0 k.1)
-
-  -- where nothing stands before the last row under a key, it is the only one
-  pub only_row : (q : ℕ) → last_under all first second (length all) ≡ Some q → last_like all q ≡ None → (row : ℕ) × (under all first second ≡ row ∷ [])
-  only_row q last none = let h = last_then (length all) q last in
-      ((entry_at all q).row, h.0 ∙ ap (λ xs. (entry_at all q).row ∷ xs) (none_then q (sym (key_is q h.1) ∙ none)))
 
 -- ---- entries of a function
 

@@ -1,13 +1,11 @@
 -- What the members of one name break, beside each other, and names at which nothing is broken.
-use Rattle.std.proofs.Common.{◌≡◌, ◌⊎◌, refl, sym, ◌∙◌, ap, ap₂, subst, inl, inr, ⊎_elim, ℕ, Bool, true, false, not, ◌&&◌, ◌||◌, List, Some, None, nat_eq, Decides}
+use Rattle.std.proofs.Common.{◌≡◌, ◌⊎◌, refl, sym, ◌∙◌, ap, ap₂, subst, inl, inr, ⊎_elim, ℕ, Bool, true, false, not, ◌&&◌, ◌||◌, List, nat_eq, Decides}
 use Rattle.std.specs.List.{list_any, list_all}
-use Rattle.std.proofs.lemmas.Bool.{false≢true, false_from_ne_true, or_parts}
+use Rattle.std.proofs.lemmas.Bool.{false≢true, false_from_ne_true, not-false, not-true, or_parts}
 use Rattle.std.proofs.lemmas.Bool.Decides.{Decides-eqb}
-use Rattle.std.proofs.lemmas.Option.{none-some, same_Some}
 use Rattle.jr_tree.specs.declared.label.Role.TheVariants as role
 use Rattle.jr_tree.specs.Rows.{Rows, role_at}
 use Rattle.jr_defs.specs.Referents.{Table}
-use Rattle.jr_defs.specs.Enclosing.{DeclaredIn}
 use Rattle.jr_defs.specs.Modifiers.{IsPublic, IsStatic, IsAbstract}
 use Rattle.jr_defs.specs.Members.{SameMethods, MemberOf}
 use Rattle.jr_defs.specs.Overloads.{ResultFits}
@@ -16,14 +14,13 @@ use Rattle.jr_plain.specs.Search.{has, Lists}
 use Rattle.jr_plain.specs.Same.{same_role}
 use Rattle.jr_plain.specs.Types.{is_same_signature}
 use Rattle.jr_plain.specs.Headed.{IsHeaded}
-use Rattle.jr_plain.specs.Enclosing.{declaring_type}
 use Rattle.jr_plain.specs.Modifiers.{is_public, is_static, is_abstract}
 use Rattle.jr_plain.specs.Members.{are_same_methods}
 use Rattle.jr_plain.specs.Overloads.{is_result_fit}
 use Rattle.jr_plain.proofs.Tests.{itself, both, either, opposite, implies, like}
 use Rattle.jr_plain.proofs.Searches.{some_of, every_of, some_item}
 use Rattle.jr_plain.proofs.Same.{role_tells}
-use Rattle.jr_plain.proofs.Enclosed.{declared_in_tells, declaring_finds}
+use Rattle.jr_plain.proofs.Enclosed.{declared_in_tells}
 use Rattle.jr_plain.proofs.Modified.{public_tells, static_tells, abstract_tells}
 use Rattle.jr_plain.proofs.Membership.{same_methods_tells}
 use Rattle.jr_plain.proofs.Overloaded.{result_tells}
@@ -56,22 +53,6 @@ every_listed test xs listed tells = like (every_of test (λ k. test k ≡ true) 
 -- where no item passes, the one does not
 none_passes : (test : ℕ → Bool) (xs : List ℕ) (k : ℕ) → list_any test xs ≡ false → has xs k ≡ true → test k ≡ false
 none_passes test xs k none at = false_from_ne_true (test k) (λ e. false≢true (sym none ∙ (some_item nat_eq Decides-eqb test xs).1 (k, at, e)))
-
-not_false : (b : Bool) → not b ≡ false → b ≡ true
-not_false true e = refl
-not_false false e = sym e
-
-not_true : (b : Bool) → not b ≡ true → b ≡ true → ⊥
-not_true true e h = false≢true e
-not_true false e h = false≢true h
-
--- the type that declares a method, where it is told which is found
-module _ (p : Rows) (c d : ℕ) where
-  pub declarer_some : (e : ℕ) → declaring_type p d ≡ Some e → Decides (nat_eq e c) (DeclaredIn p c d)
-  declarer_some e found = like (Decides-eqb e c) (λ same. (declaring_finds p d c).0 (found ∙ ap Some same)) (λ h. same_Some e c (sym found ∙ (declaring_finds p d c).1 h))
-
-  pub declarer_none : declaring_type p d ≡ None → Decides false (DeclaredIn p c d)
-  declarer_none none = (λ h. absurd (false≢true h), λ h. absurd (none-some c (sym none ∙ (declaring_finds p d c).1 h)))
 
 -- two rows of methods and their signatures
 pub same_told : (p : Rows) (t : Table) (m k : ℕ) (one other same : Bool) → one ≡ same_role (role_at p m) role.Method → other ≡ same_role (role_at p k) role.Method
@@ -171,9 +152,9 @@ module _ (p : Rows) (t : Table) where
         let first = or_parts (not (are_same_methods p t m m)) (is_abstract p m || (not (is_result_fit p t m m) || is_narrower p m m)) parts.0 in
         let second = or_parts (is_abstract p m) (not (is_result_fit p t m m) || is_narrower p m m) first.1 in
         let third = or_parts (not (is_result_fit p t m m)) (is_narrower p m m) second.1 in record {
-          same = (same_methods_tells p t headed m m).0 (not_false (are_same_methods p t m m) first.0);
+          same = (same_methods_tells p t headed m m).0 (not-false (are_same_methods p t m m) first.0);
           concrete = λ a. false≢true (sym second.0 ∙ (abstract_tells p m).1 a);
-          fits = not_false (is_result_fit p t m m) third.0;
+          fits = not-false (is_result_fit p t m m) third.0;
           open_alike = third.1;
           alone = λ k ak same. (Decides-eqb m k).0 (twin k (none_passes (λ k. not (nat_eq m k) && are_same_methods p t m k) all k parts.1 ((listed k).1 ak)) ((same_methods_tells p t headed m k).1 same));
         }
@@ -194,9 +175,9 @@ module _ (p : Rows) (t : Table) where
         more.1.1.2.1 (record { row = more.0; class = more.1.1.0; declares = record { inside = more.1.0.0; named = more.1.0.1; level = more.1.1.1.0; refers = more.1.1.1.1 }; above = inl refl })
 
     no_clash : (kind : Clash) (m : ℕ) → is_first_in p kind m ≡ true → is_result_fit p t m m ≡ true → is_narrower p m m ≡ false → do_clash p t kind m m ≡ true → ⊥
-    no_clash clash.Results m first fits alike h = not_true (is_result_fit p t m m) h fits
+    no_clash clash.Results m first fits alike h = false≢true (sym (not-true (is_result_fit p t m m) h) ∙ fits)
     no_clash clash.Access m first fits alike h = false≢true (sym alike ∙ h)
-    no_clash clash.Statics m first fits alike h = not_true (is_static p m) h first
+    no_clash clash.Statics m first fits alike h = false≢true (sym (not-true (is_static p m) h) ∙ first)
     no_clash clash.Throws m first fits alike h = allows_own m h
 
     module _ (c x : ℕ) (plain : IsPlainAt p t c x) (m : ℕ) (am : IsMemberAs p t kinds.Method c x m) where

@@ -1,6 +1,6 @@
 -- Methods by their signatures, and what a method overrides and hides among those of its own.
-use Rattle.std.proofs.Common.{◌≡◌, refl, sym, ◌∙◌, ap, ap₂, subst, inr, ⊎_elim, ℕ, Bool, true, false, cond, ◌&&◌, List, [], ◌∷◌, filter, flat_map, length, Option, Some, None, option_map, nat_eq, Decides}
-use Rattle.std.proofs.lemmas.Bool.{false≢true, or_left, or_cases}
+use Rattle.std.proofs.Common.{◌≡◌, refl, sym, ◌∙◌, ap, ap₂, subst, inr, ℕ, Bool, true, false, cond, ◌&&◌, List, [], filter, flat_map, length, Option, Some, None, option_map, nat_eq, Decides}
+use Rattle.std.proofs.lemmas.Bool.{false≢true}
 use Rattle.std.proofs.lemmas.Bool.Decides.{Decides-eqb}
 use Rattle.std.proofs.lemmas.Option.{none-some, same_Some}
 use Rattle.jr_tree.specs.declared.label.Role.{Role}
@@ -44,6 +44,7 @@ use Rattle.jr_dispatch.proofs.Overriding.{overrides_above}
 use Rattle.jr_member_rules.specs.Redefining as plain
 use Rattle.jr_member_rules.proofs.Redefined.{method_row, hiding_tells, redefines_tells}
 use Rattle.jr_member_faults.proofs.Entries.{entries_tell}
+use Rattle.jr_member_faults.proofs.Lefts.{same_back}
 use Rattle.jr_member_faults.specs.Redefined.{number_entry, AreLike, is_reached}
 
 -- ---- methods by their signatures
@@ -60,8 +61,17 @@ module _ (p : Rows) (s : Signatures) where
       by true None h = absurd (none-some e h)
       by true (Some n) h = ap (λ x. x.row) (sym (same_Some (entry_for n 0 d) e h))
 
-  number_listed : (x d : ℕ) → role_at p d ≡ role.Method → signature_number s d ≡ Some x → has (under (entries_of (number_entry p s) (length p)) x 0) d ≡ true
-  number_listed x d method e = (entries_tell (number_entry p s) numbered_row x 0 (length p) d).1 (method_row p d method, (entry_for x 0 d, numbered d x method e, (refl, refl)))
+  numbered_tells : (d x : ℕ) (e : Entry) → number_entry p s d ≡ Some e → e.first ≡ x → (role_at p d ≡ role.Method) × (signature_number s d ≡ Some x)
+  numbered_tells d x e h first = by (same_role (role_at p d) role.Method) (signature_number s d) refl refl h
+    where
+      by : (b : Bool) (o : Option ℕ) → same_role (role_at p d) role.Method ≡ b → signature_number s d ≡ o → cond b (option_map (λ n. entry_for n 0 d) o) None ≡ Some e → (role_at p d ≡ role.Method) × (signature_number s d ≡ Some x)
+      by false o is number h = absurd (none-some e h)
+      by true None is number h = absurd (none-some e h)
+      by true (Some n) is number h = ((role_tells (role_at p d) role.Method).0 is, number ∙ ap Some (ap (λ k. k.first) (same_Some (entry_for n 0 d) e h) ∙ first))
+
+  numbers_tell : (x d : ℕ) → Decides (has (under (entries_of (number_entry p s) (length p)) x 0) d) ((role_at p d ≡ role.Method) × (signature_number s d ≡ Some x))
+  numbers_tell x d = like (entries_tell (number_entry p s) numbered_row x 0 (length p) d)
+      (λ h. numbered_tells d x h.1.0 h.1.1 h.1.2.0) (λ h. (method_row p d h.0, (entry_for x 0 d, numbered d x h.0 h.1, (refl, refl))))
 
 -- ---- methods of one signature
 
@@ -74,18 +84,12 @@ numbers_none : (n r : Option ℕ) → n ≡ None → same_numbers n r ≡ true �
 numbers_none None r e h = false≢true h
 numbers_none (Some n) r e h = none-some n (sym e)
 
-numbers_same : (n : Option ℕ) (x : ℕ) → n ≡ Some x → same_numbers n n ≡ true
-numbers_same None x e = absurd (none-some x e)
-numbers_same (Some n) x e = (Decides-eqb n n).1 refl
+numbers_same : (n r : Option ℕ) (x : ℕ) → n ≡ Some x → r ≡ Some x → same_numbers n r ≡ true
+numbers_same None r x e f = absurd (none-some x e)
+numbers_same (Some n) None x e f = absurd (none-some x f)
+numbers_same (Some n) (Some r) x e f = (Decides-eqb n r).1 (same_Some n x e ∙ sym (same_Some r x f))
 
 module _ (p : Rows) (t : Table) (headed : IsHeaded p) where
-  same_back : (a b : ℕ) → SameMethods p t a b → SameMethods p t b a
-  same_back a b h = record {
-    first = h.second;
-    second = h.first;
-    signature = record { named = sym h.signature.named; types = h.signature.types; first = h.signature.second; second = h.signature.first };
-  }
-
   pub redefined_same : (m k : ℕ) → RedefinesMethod p t m k → SameMethods p t m k
   redefined_same m k (RedefinesMethod.overriding h) = let a = overrides_above p t m k h in a.signatures
   redefined_same m k (RedefinesMethod.hiding h) = h.signatures
@@ -112,18 +116,18 @@ module _ (p : Rows) (t : Table) (headed : IsHeaded p) where
     over = a.upper;
     above = inr (subst (λ z. Above p t z a.upper) (one_type p a.type c m a.declared declared) a.above);
     declared = a.declares;
-    same = same_back m k a.signatures;
+    same = same_back p t m k a.signatures;
   }
   of_upper c m k declared (RedefinesMethod.hiding h) = record {
     over = h.upper;
     above = inr (subst (λ z. Above p t z h.upper) (one_type p h.type c m h.declared declared) h.above);
     declared = h.declares;
-    same = same_back m k h.signatures;
+    same = same_back p t m k h.signatures;
   }
 
   pub like_told : (c m : ℕ) (overs given all : List ℕ) → role_at p m ≡ role.Method → DeclaredIn p c m → given ≡ overs → Lists overs (AtOrAbove p t c) → all ≡ flat_map (declared_like p t m) given → AreLike p t m all
   like_told c m overs given all method declared same lists is = let listed = above_listed c m overs given all method same lists is in record {
-    same = λ k h. same_back k m ((listed k).0 h).same;
+    same = λ k h. same_back p t k m ((listed k).0 h).same;
     whole = λ k h. (listed k).1 (of_upper c m k declared h);
   }
 
@@ -150,25 +154,23 @@ module _ (p : Rows) (t : Table) (headed : IsHeaded p) where
       whole = λ k h. absurd (numbers_none (signature_number s m) (signature_number s k) none (same_numbered k (redefined_same m k h)));
     }
 
-    module _ (x : ℕ) (is : signature_number s m ≡ Some x) (all : List Entry) (all_is : all ≡ entries_of (number_entry p s) (length p)) (row : ℕ) (alone : under all x 0 ≡ row ∷ []) where
-      one_row : (k : ℕ) → role_at p k ≡ role.Method → signature_number s k ≡ Some x → row ≡ k
-      one_row k of e = ⊎_elim (λ h. (Decides-eqb row k).0 h) (λ h. absurd (false≢true h))
-          (or_cases (nat_eq row k) false (subst (λ xs. has xs k ≡ true) alone (subst (λ l. has (under l x 0) k ≡ true) (sym all_is) (number_listed p s x k of e))))
-
-      itself_same : SameMethods p t m m
-      itself_same = record {
+    module _ (x : ℕ) (is : signature_number s m ≡ Some x) where
+      one_signature : (k : ℕ) → role_at p k ≡ role.Method → signature_number s k ≡ Some x → SameMethods p t m k
+      one_signature k of e = record {
         first = method;
-        second = method;
-        signature = (signature_tells p t m m headed.tree).0 (sym (same_signatures p t s m m signed (ap is_callable method) (ap is_callable method)) ∙ numbers_same (signature_number s m) x is);
+        second = of;
+        signature = (signature_tells p t m k headed.tree).0 (sym (same_signatures p t s m k signed (ap is_callable method) (ap is_callable of)) ∙ numbers_same (signature_number s m) (signature_number s k) x is e);
       }
 
-      pub like_alone : (given : List ℕ) → given ≡ m ∷ [] → AreLike p t m given
-      like_alone given same = record {
-        same = λ k h. ⊎_elim (λ e. subst (λ k. SameMethods p t m k) ((Decides-eqb m k).0 e) itself_same) (λ e. absurd (false≢true e)) (or_cases (nat_eq m k) false (subst (λ xs. has xs k ≡ true) same h));
-        whole = λ k h. let k_same = redefined_same m k h in
-            let k_is : row ≡ k = one_row k k_same.second (numbers_then (signature_number s m) (signature_number s k) x is (same_numbered k k_same)) in
-            subst (λ xs. has xs k ≡ true) (sym same) (or_left (nat_eq m k) false ((Decides-eqb m k).1 (sym (one_row m method is) ∙ k_is)));
+      all_numbered : AreLike p t m (under (entries_of (number_entry p s) (length p)) x 0)
+      all_numbered = record {
+        same = λ k h. let one = (numbers_tell p s x k).0 h in one_signature k one.0 one.1;
+        whole = λ k h. let k_same = redefined_same m k h in (numbers_tell p s x k).1 (k_same.second, numbers_then (signature_number s m) (signature_number s k) x is (same_numbered k k_same));
       }
+
+      -- all methods of the signature
+      pub like_numbered : (all : List Entry) (given : List ℕ) → all ≡ entries_of (number_entry p s) (length p) → given ≡ under all x 0 → AreLike p t m given
+      like_numbered all given all_is same = subst (λ xs. AreLike p t m xs) (sym (same ∙ ap (λ l. under l x 0) all_is)) all_numbered
 
   -- ---- of two methods of one signature
 

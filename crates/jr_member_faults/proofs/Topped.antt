@@ -2,6 +2,7 @@
 use Rattle.std.proofs.Common.{◌≡◌, refl, sym, ◌∙◌, ap, ap₂, subst, inl, inr, ⊎_elim, arith, ℕ, zero, suc, ◌+◌, ◌-◌, ◌<◌, Bool, true, false, cond, ◌&&◌, ◌||◌, List, [], ◌∷◌, ◌++◌, append-nil, length, length-append, Option, Some, None, option_map, nat_eq, Decides}
 use Rattle.std.proofs.lemmas.Bool.{false≢true, cases_eq, cases_lt, and_from}
 use Rattle.std.proofs.lemmas.Bool.Decides.{Decides-eqb, Decides-ltb}
+use Rattle.std.proofs.lemmas.List.{same_from_push}
 use Rattle.std.proofs.lemmas.Option.{none-some, same_Some}
 use Rattle.jr_base.specs.declared.text.Text.{Text}
 use Rattle.jr_tree.specs.declared.label.Label.{Label}
@@ -65,24 +66,6 @@ keys_more IsUnder n all new entry keyed keys is = subst (AreKeysTo IsUnder (n + 
     (λ h. let lt = h.1 in ⊎_elim (λ same. inl (subst (IsUnder c x) same h.2)) (λ apart. inr (h.0, omega arith, h.2)) (cases_eq h.0 n))))
 
 -- ---- names of packages
-
-last_same : (xs ys : List Text) (x y : Text) → xs ++ x ∷ [] ≡ ys ++ y ∷ [] → (xs ≡ ys) × (x ≡ y)
-last_same [] [] x y e = (refl, ap (λ l. first x l) e)
-  where
-    first : Text → List Text → Text
-    first z [] = z
-    first z (a ∷ l) = a
-last_same [] (b ∷ ys) x y e = let size = ap length e in let sum = length-append ys (y ∷ []) in absurd (omega arith)
-last_same (a ∷ xs) [] x y e = let size = ap length e in let sum = length-append xs (x ∷ []) in absurd (omega arith)
-last_same (a ∷ xs) (b ∷ ys) x y e = let more = last_same xs ys x y (ap rest e) in (ap₂ (λ z zs. z ∷ zs) (ap (λ l. first a l) e) more.0, more.1)
-  where
-    first : Text → List Text → Text
-    first z [] = z
-    first z (c ∷ l) = c
-
-    rest : List Text → List Text
-    rest [] = []
-    rest (c ∷ l) = l
 
 not_empty : (xs : List Text) (x : Text) → xs ++ x ∷ [] ≡ [] → ⊥
 not_empty xs x e = let size = ap length e in let sum = length-append xs (x ∷ []) in omega arith
@@ -266,14 +249,14 @@ module _ (p : Rows) where
 
           more : k.unit + 2 + 1 < end p (k.unit + 2)
           more = ⊎_elim (λ lt. lt)
-              (λ le. absurd (k.named (last_same k.path [] (name p n) (name p (k.unit + 2)) (sym stands ∙ spelled_alone (k.unit + 2) (placed.local.tree.nested (k.unit + 2)) (λ lt. omega arith))).0))
+              (λ le. absurd (k.named (same_from_push k.path [] (name p n) (name p (k.unit + 2)) (sym stands ∙ spelled_alone (k.unit + 2) (placed.local.tree.nested (k.unit + 2)) (λ lt. omega arith))).0))
               (cases_lt (k.unit + 2 + 1) (end p (k.unit + 2)))
 
           found : (above : Option ℕ) × FindsAbove p places (k.unit + 2) above
           found = are.each k.unit (k.unit + 2) (unit_below p k.unit k.is_unit) named_so
 
           parts : (spelled p (k.unit + 2 + 1) ≡ k.path) × (name p (k.unit + 2) ≡ name p n)
-          parts = last_same (spelled p (k.unit + 2 + 1)) k.path (name p (k.unit + 2)) (name p n) (sym (spelled_on (k.unit + 2) more (found.1.ended more)) ∙ stands)
+          parts = same_from_push (spelled p (k.unit + 2 + 1)) k.path (name p (k.unit + 2)) (name p n) (sym (spelled_on (k.unit + 2) more (found.1.ended more)) ∙ stands)
 
           finds : Finds found.0 (IsSpelled p places.packages (k.unit + 2 + 1))
           finds m = (λ is. ((found.1.finds m).0 is).spelled, λ h. (found.1.finds m).1 (record { more = more; spelled = h }))

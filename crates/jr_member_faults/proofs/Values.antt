@@ -3,27 +3,22 @@ use Rattle.std.proofs.Common.{◌≡◌, refl, sym, ap, ◌∙◌, ℕ, ◌+◌,
 use Rattle.std.proofs.lemmas.Option.{none-some}
 use Rattle.jr_ty.specs.declared.constant.Const.{Const}
 use Rattle.jr_tree.specs.Rows.{Rows}
-use Rattle.jr_defs.specs.Constants.{ConstantVariable, HasConstantForm}
+use Rattle.jr_defs.specs.Constants.{ConstantOf, ConstantVariable, HasConstantForm}
 use Rattle.jr_defs.specs.Laws.{Picked}
 use Rattle.jr_defs.specs.Operators.{assigned_to}
 use Rattle.jr_defs.specs.Referents.{Table}
-use Rattle.jr_plain.specs.Search.{Finds}
 use Rattle.jr_plain.specs.Constants.{constants, converted_as, has_constant_form, is_initialized, variable_value}
 use Rattle.jr_plain.specs.Conversions.{of_two}
 use Rattle.jr_plain.specs.Types.{type_of_declared}
 use Rattle.jr_plain.specs.Typing.{IsTypable}
 use Rattle.jr_plain.proofs.Valued.{constants_find, constant_form_tells, constant_more}
+use Rattle.jr_places.proofs.Rounding.{one_found}
 use Rattle.jr_constants.specs.declared.constants.Constants as code
 use Rattle.jr_constants.specs.Resting.{values_of, variables_of, IsAtRest}
 use Rattle.jr_constants.proofs.Completing.{values_whole}
 use Rattle.jr_constants.proofs.Knowing.{value_out}
 use Rattle.jr_member_rules.specs.Computed.{values}
 use Rattle.jr_member_rules.proofs.Inner.{values_find, variable_finds}
-
-finds_same : {A : Type 0} {P : A → Type 0} (a b : Option A) → Finds a P → Finds b P → a ≡ b
-finds_same (Some x) b f g = sym ((g x).1 ((f x).0 refl))
-finds_same None None f g = refl
-finds_same None (Some y) f g = (f y).1 ((g y).0 refl)
 
 module _ (p : Rows) (t : Table) (k : ℕ → Bool) (same : (n : ℕ) → k n ≡ has_constant_form p t n) (typable : IsTypable p t) (found : code.Constants) (h : IsAtRest p t k found) where
   out : (n : ℕ) → Picked k n → HasConstantForm p t n
@@ -34,7 +29,7 @@ module _ (p : Rows) (t : Table) (k : ℕ → Bool) (same : (n : ℕ) → k n ≡
 
   values_same : (n : ℕ) → values_of found n ≡ values p t n
   values_same n = values_whole p t k typable found h.known h.stable h.resting n
-      ∙ finds_same (constants p t k n) (values p t n) (constants_find p t k typable n)
+      ∙ one_found (λ v. ConstantOf p t (Picked k) n v) (constants p t k n) (values p t n) (constants_find p t k typable n)
       (λ v. (λ e. constant_more p t (HasConstantForm p t) (Picked k) into n v ((values_find p t typable n v).0 e), λ c. (values_find p t typable n v).1 (constant_more p t (Picked k) (HasConstantForm p t) out n v c)))
 
   variable_to : (d : ℕ) (w : Const) → ConstantVariable p t (Picked k) d w → ConstantVariable p t (HasConstantForm p t) d w

@@ -11,10 +11,10 @@ ghost use Rattle.jr_member_faults.specs.Views as views;
 
 use crate::access::is_narrower;
 use crate::throwing::Thrown;
-use crate::together::{is_either, is_method, is_result_fit};
+use crate::together::{is_either, is_result_fit};
 use jr_base::OutOfMemory;
 use jr_members::{MemberKind, World};
-use jr_places::{declaring_type, is_abstract, is_public, is_static};
+use jr_places::{declaring_type, is_abstract, is_method, is_public, is_static};
 use std::alloc::Global;
 
 /// The rules that a type breaks by what it inherits.

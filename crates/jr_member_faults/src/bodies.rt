@@ -6,10 +6,9 @@ ghost use Rattle.jr_plain.specs.Same as same;
 ghost use Rattle.jr_defs.specs.MemberRules as defined;
 ghost use Rattle.jr_member_rules.specs.Bodies as plain;
 
-use crate::together::is_method;
 use jr_places::{
     constructed_class, declaring_type, is_abstract, is_body_of, is_class, is_in_interface,
-    is_interface, name_at, parent_at, role_at, written_at,
+    is_interface, is_method, name_at, parent_at, role_at, written_at,
 };
 use jr_tree::{Label, Role, Row};
 

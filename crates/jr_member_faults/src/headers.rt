@@ -1,10 +1,10 @@
 // What headers name as supertypes (JLS 8.1.4, 8.1.5, 9.1.3).
-ghost use Rattle.std.specs.Prelude.{◌≡◌, ◌++◌, ◌+◌, ◌<◌, [], OnOk, length};
+ghost use Rattle.std.specs.Prelude.{◌≡◌, ◌+◌, ◌<◌, [], OnOk, length};
 ghost use Rattle.jr_defs.specs.Referents.{entries};
-ghost use Rattle.jr_members.specs.Keys.{entry_list};
 ghost use Rattle.jr_name_rules.specs.HeaderTests as plain;
 ghost use Rattle.jr_member_faults.specs.Headers as tell;
 
+use crate::listing::add_entry;
 use jr_base::OutOfMemory;
 use jr_places::{Chains, Entry, is_class, is_final, is_inner, is_interface, parent_at};
 use jr_supers::{HeaderPlace, Tabled, header_place};
@@ -36,16 +36,6 @@ fn superinterface_entry(
             None => None,
         },
         _ => None,
-    }
-}
-
-/// Adds an entry, if there is one.
-pub fn add_entry(alloc: Global, all: &mut Chains, entry: Option<Entry>) -> Result<(), OutOfMemory>
-    ensures { OnOk result (all.new ≡ all.old ++ entry_list entry) }
-{
-    match entry {
-        Some(entry) => all.add(alloc, entry),
-        None => Ok(()),
     }
 }
 

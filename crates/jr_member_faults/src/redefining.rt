@@ -1,5 +1,5 @@
 // What a method overrides or hides, and how it differs from that (JLS 8.4.3.3, 8.4.5, 8.4.8.1 to 8.4.8.3).
-ghost use Rattle.std.specs.Prelude.{◌≡◌, ◌++◌, ◌∷◌, [], ℕ, true, not, None, Some, IfOk, OnOk, Decides, filter, length};
+ghost use Rattle.std.specs.Prelude.{◌≡◌, ◌++◌, not, Some, IfOk, IfSome, OnOk, Decides, filter, length};
 ghost use Rattle.std.specs.List.{flat_map, list_any};
 ghost use Rattle.jr_tree.specs.declared.label.Role.TheVariants as roles;
 ghost use Rattle.jr_tree.specs.Rows.{role_at as role_of_row, label as label_of_row};
@@ -10,7 +10,6 @@ ghost use Rattle.jr_defs.specs.Modifiers.{written};
 ghost use Rattle.jr_plain.specs.Overloads.{is_result_fit as is_fit};
 ghost use Rattle.jr_plain.specs.Overriding.{overriding};
 ghost use Rattle.jr_plain.specs.Search.{Lists};
-ghost use Rattle.jr_places.specs.Chains.{last_like};
 ghost use Rattle.jr_members.specs.Keys.{entries_of, signature_number};
 ghost use Rattle.jr_members.specs.Named.{under};
 ghost use Rattle.jr_dispatch.specs.Families.{declared_like};
@@ -23,11 +22,11 @@ ghost use Rattle.jr_member_faults.specs.Views as views;
 use crate::access::is_narrower;
 use crate::listing::{add_entry, push_if};
 use crate::throwing::Thrown;
-use crate::together::{is_method, is_result_fit};
+use crate::together::is_result_fit;
 use jr_base::OutOfMemory;
 use jr_dispatch::Methods;
 use jr_members::{World, can_inherit};
-use jr_places::{Chains, Entry, declaring_type, is_static, written_at};
+use jr_places::{Chains, Entry, declaring_type, is_method, is_static, written_at};
 use jr_tree::Row;
 use std::alloc::Global;
 
@@ -67,25 +66,6 @@ fn signed_methods(alloc: Global, world: &World) -> Result<Chains, OutOfMemory>
         add_entry(alloc, &mut signed, signed_entry(world, row))?;
     }
     Ok(signed)
-}
-
-// No entry stands before this one under its key.
-fn is_first(all: &Chains, place: u32) -> bool
-    ensures { result ≡ true → last_like all.now place ≡ None }
-{
-    if (place as usize) < all.len() {
-        all.before(place).is_none()
-    } else {
-        false
-    }
-}
-
-fn list_of(alloc: Global, at: u32) -> Result<Vec<u32>, OutOfMemory>
-    ensures { IfOk result (λ all. all.items ≡ at ∷ []) }
-{
-    let mut all = Vec::new(alloc);
-    all.push(at)?;
-    Ok(all)
 }
 
 // Adds the methods of the signature that a type declares.
@@ -186,6 +166,9 @@ fn redefined_among(
     Ok(all)
 }
 
+// So many methods of one signature are tested each. A class has a few types above it, so to test more would cost more than to list those.
+const FEW: usize = 8;
+
 impl Uppers {
     /// The methods by their signatures.
     pub fn new(alloc: Global, world: &World) -> Result<Uppers, OutOfMemory>
@@ -195,14 +178,21 @@ impl Uppers {
         Ok(Uppers { signed })
     }
 
-    // There is one method of the signature.
-    fn is_alone(&self, number: u32) -> bool
-        ensures { result ≡ true → (row : ℕ) × (under self.now.signed number 0 ≡ row ∷ []) }
+    // The methods of the signature, where they are few.
+    #[tactic(auto, using(jr_places::proofs::Tables::walked_done))]
+    fn few(&self, alloc: Global, number: u32) -> Result<Option<Vec<u32>>, OutOfMemory>
+        ensures { IfOk result (λ found. IfSome found (λ all. all.items ≡ under self.now.signed number 0)) }
     {
-        match self.signed.last(number, 0) {
-            Some(place) => is_first(&self.signed, place),
-            None => false,
+        let mut all = Vec::new(alloc);
+        let mut at = self.signed.last(number, 0);
+        while let Some(place) = at {
+            if all.len() == FEW {
+                return Ok(None);
+            }
+            all.push(self.signed.row(place))?;
+            at = self.signed.before(place);
         }
+        Ok(Some(all))
     }
 
     // Methods of the signature of a method, with all that it overrides or hides among them.
@@ -225,10 +215,10 @@ impl Uppers {
     ) -> Result<Vec<u32>, OutOfMemory>
         ensures { views.IsRightWorld world.now → tell.AreUppers world.now self.now → role_of_row (views.rows_of world.now) method ≡ roles.Method → signature_number world.now.members.now.callables.signatures method ≡ Some number → IfOk result (λ all. tell.AreLike (views.rows_of world.now) (views.table_of world.now) method all.items) }
     {
-        if self.is_alone(number) {
-            return list_of(alloc, method);
+        match self.few(alloc, number)? {
+            Some(all) => Ok(all),
+            None => like_above(alloc, world, method),
         }
-        like_above(alloc, world, method)
     }
 
     /// The methods that a method overrides or hides.

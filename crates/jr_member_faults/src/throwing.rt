@@ -4,7 +4,6 @@ ghost use Rattle.std.specs.List.{list_any};
 ghost use Rattle.jr_tree.specs.declared.label.Role.TheVariants as roles;
 ghost use Rattle.jr_tree.specs.Rows.{label, role_at as role_of_row};
 ghost use Rattle.jr_plain.specs.Declarations.{is_prelude};
-ghost use Rattle.jr_plain.specs.Same.{same_role};
 ghost use Rattle.jr_plain.specs.Search.{all_such};
 ghost use Rattle.jr_plain.specs.Supertypes.{declaration, is_at_or_above};
 ghost use Rattle.jr_members.specs.Keys.{entries_of};
@@ -15,8 +14,8 @@ ghost use Rattle.jr_member_faults.specs.Views as views;
 use crate::listing::{add_entry, push_if};
 use jr_base::OutOfMemory;
 use jr_members::World;
-use jr_places::{Chains, Entry, is_type, name_at, parent_at, role_at};
-use jr_tree::{Label, NamePlace, Role, Row};
+use jr_places::{Chains, Entry, is_method, is_type, name_at, parent_at};
+use jr_tree::{Label, NamePlace, Row};
 use std::alloc::Global;
 
 /// The classes that methods declare as thrown.
@@ -45,20 +44,11 @@ fn is_other_name(rows: &[Row], at: u32) -> bool
     }
 }
 
-fn is_method_role(role: Role) -> bool
-    ensures { result ≡ same_role role roles.Method }
-{
-    match role {
-        Role::Method => true,
-        _ => false,
-    }
-}
-
 // Where a name stands that stands for a class right below a method.
 fn thrown_entry(rows: &[Row], at: u32) -> Option<Entry>
     ensures { result ≡ tell.thrown_entry rows.now at }
 {
-    if is_other_name(rows, at) && is_method_role(role_at(rows, parent_at(rows, at))) {
+    if is_other_name(rows, at) && is_method(rows, parent_at(rows, at)) {
         Some(Entry {
             first: parent_at(rows, at),
             second: 0,
@@ -73,7 +63,7 @@ fn thrown_entry(rows: &[Row], at: u32) -> Option<Entry>
 fn is_of_prelude(rows: &[Row], at: u32, name: &[u8]) -> bool
     ensures { result ≡ is_prelude rows.now name.now at }
 {
-    is_type(rows, at) && parent_at(rows, at) == 1 && name_at(rows, at) == name
+    parent_at(rows, at) == 1 && is_type(rows, at) && name_at(rows, at) == name
 }
 
 // All such types.

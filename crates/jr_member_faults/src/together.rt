@@ -1,25 +1,12 @@
 // Methods of one signature beside each other (JLS 8.4.2, 8.4.5).
 ghost use Rattle.std.specs.Prelude.{◌≡◌, ◌||◌};
 ghost use Rattle.jr_plain.specs.Overloads as overloads;
-ghost use Rattle.jr_plain.specs.Overriding as plain;
 ghost use Rattle.jr_plain.specs.Same.{same_type};
 ghost use Rattle.jr_member_faults.specs.Views as views;
 
 use jr_defs::RowType;
 use jr_members::World;
-use jr_places::role_at;
 use jr_supers::is_reference;
-use jr_tree::{Role, Row};
-
-/// The row is a method.
-pub fn is_method(all: &[Row], at: u32) -> bool
-    ensures { result ≡ plain.is_method all.now at }
-{
-    match role_at(all, at) {
-        Role::Method => true,
-        _ => false,
-    }
-}
 
 /// One of both.
 pub fn is_either(one: bool, other: bool) -> bool

@@ -13,7 +13,7 @@ ghost use Rattle.jr_lookup.specs.Scopes as scoped;
 ghost use Rattle.jr_member_faults.specs.Tops as tell;
 ghost use Rattle.jr_member_faults.specs.Twice as twice;
 
-use crate::headers::add_entry;
+use crate::listing::add_entry;
 use crate::twice::is_listed;
 use jr_base::OutOfMemory;
 use jr_faults::rule_if;

@@ -16,11 +16,11 @@ ghost use Rattle.jr_member_faults.specs.Headers as keyed;
 ghost use Rattle.jr_member_faults.specs.Twice as tell;
 ghost use Rattle.jr_member_faults.specs.Views as views;
 
-use crate::together::is_method;
 use jr_base::OutOfMemory;
 use jr_members::World;
 use jr_places::{
-    Chains, Entry, Numbering, Places, constructed_class, declaring_type, is_type, role_at,
+    Chains, Entry, Numbering, Places, constructed_class, declaring_type, is_method, is_type,
+    role_at,
 };
 use jr_supers::{Signatures, with_type};
 use jr_tree::{Role, Row};

@@ -11,11 +11,12 @@ ghost use Rattle.jr_member_faults.specs.Unfound as tell;
 ghost use Rattle.jr_member_faults.specs.Views as views;
 
 use crate::listing::add_entry;
-use crate::together::is_method;
 use jr_base::OutOfMemory;
 use jr_dispatch::Methods;
 use jr_members::World;
-use jr_places::{Chains, Entry, Stamps, declaring_type, is_abstract, is_class, is_interface};
+use jr_places::{
+    Chains, Entry, Stamps, declaring_type, is_abstract, is_class, is_interface, is_method,
+};
 use jr_tree::Row;
 use std::alloc::Global;
 

@@ -2,7 +2,7 @@ use Rattle.std.proofs.Common.{sym, ◌∙◌}
 use Rattle.jr_defs.specs.Enclosing.{DeclaredIn}
 use Rattle.jr_plain.proofs.Enclosed.{declared_in_tells}
 use Rattle.jr_supers.proofs.Subtyped.{one_test}
-use Rattle.jr_member_faults.proofs.Lefts.{declarer_some, declarer_none}
+use Rattle.jr_members.proofs.Objects.{declarer_some, declarer_none}
 use Rattle.jr_member_faults.specs.Views.{rows_of}
 use Rattle.jr_member_faults.proofs.beside.is_declared_in.Goals as goal
 
