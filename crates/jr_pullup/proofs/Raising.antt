@@ -1,0 +1,87 @@
+-- Where a method goes, units one by one, and the answers.
+use Rattle.std.proofs.Common.{◌≡◌, refl, sym, ◌∙◌, ap, subst, arith, ℕ, suc, ◌+◌, ◌<◌, ◌≤◌, Bool, true, false, cond, List, length, Option, Some, None, Result, Ok, Err, nat_lt, Decides, add-one}
+use Rattle.std.proofs.lemmas.Bool.Decides.{Decides-ltb}
+use Rattle.std.specs.Prelude.{IfOk, IfErr}
+use Rattle.jr_base.specs.declared.token.Span.{Span}
+use Rattle.jr_tree.specs.Rows.{Rows}
+use Rattle.jr_defs.specs.Referents.{Table}
+use Rattle.jr_defs.specs.Supertypes.{Superclass}
+use Rattle.jr_plain.specs.Search.{Finds}
+use Rattle.jr_supers.specs.Supers.{AreSupersOf}
+use Rattle.jr_marks.specs.declared.marks.Marks.{Marks}
+use Rattle.jr_marks.specs.Places.{IsOrdered}
+use Rattle.jr_change.specs.declared.change.Change.{Change}
+use Rattle.jr_change.specs.declared.project.Project.{Project}
+use Rattle.jr_change.specs.declared.reason.ChangeFault.{ChangeFault}
+use Rattle.jr_change.specs.declared.reason.ChangeFault.TheVariants as fault
+use Rattle.jr_change.specs.declared.reason.Reason.{Reason}
+use Rattle.jr_change.specs.declared.reason.Reason.TheVariants as reason
+use Rattle.jr_draft.specs.Asking.{rows_of, asked}
+use Rattle.jr_draft.specs.Drafting.{Drafted}
+use Rattle.jr_pullup.specs.declared.pulled.Pulled.{Pulled}
+use Rattle.jr_pullup.specs.Pulling.{class_of_method, into_superclass, into_body, takes, body_of, IsPulled, IsPulledFor, IsPulledUp, IsPullUpAnswer, IsRaised, IsWithin, raised_below, with_one}
+use Rattle.jr_pullup.proofs.Finding.{class_within, found_within}
+
+-- ---- what goes where
+
+pub other_kind_so : (old : Project) (d : ℕ) → None ≡ class_of_method (rows_of old) d → IsPulled old d (Err reason.WrongKind)
+other_kind_so old d none = IsPulled.other_kind (sym none)
+
+pub upwards_so : (old : Project) (d c : ℕ) (above : Option ℕ) (to : Result Pulled Reason) → IsOrdered old.marks → Some c ≡ class_of_method (rows_of old) d
+    → ((p : Rows) (t : Table) → AreSupersOf p t old.view.sight.world.supers.now → Finds above (Superclass p t c)) → (IsOrdered old.marks → to ≡ into_superclass old.marks d c above) → IsPulled old d to
+upwards_so old d c above to ordered some super is = IsPulled.upwards (sym some) (λ t. super (rows_of old) t) (is ordered)
+
+-- what goes is written
+into_within : (m : Marks) (d c : ℕ) (above : Option ℕ) → d < length m.rows.now → IfOk (into_superclass m d c above) (λ pulled. IsWithin m.rows.now pulled)
+into_within m d c None lt = tt
+into_within m d c (Some s) lt = by (takes m c s) (body_of m.rows.now s) refl
+  where
+    by : (b : Bool) (body : Option ℕ) → body_of m.rows.now s ≡ body → IfOk (cond b (into_body d c s body) (Err reason.BadSuperclass)) (λ pulled. IsWithin m.rows.now pulled)
+    by false body is = tt
+    by true None is = tt
+    by true (Some b) is = record { method = lt; body = found_within m.rows.now s b is }
+
+within_by : (old : Project) (d : ℕ) (to : Result Pulled Reason) → IsPulled old d to → IfOk to (λ pulled. IsWithin (rows_of old) pulled)
+within_by old d to (IsPulled.other_kind none) = tt
+within_by old d to (IsPulled.upwards {c = c} {above = above} some super is) =
+    subst (λ to. IfOk to (λ pulled. IsWithin (rows_of old) pulled)) (sym is) (into_within old.marks d c above (class_within (rows_of old) d c some))
+
+ok_not_err : {A B : Type 0} (x : A) (y : B) → Ok x ≡ Err y → ⊥
+ok_not_err x y e = cc
+
+pub pulled_within : (old : Project) (found : Option ℕ) (pulled : Pulled) → IsPulledFor old found (Ok pulled) → IsWithin (rows_of old) pulled
+pulled_within old None pulled h = absurd (ok_not_err pulled reason.WrongKind h)
+pulled_within old (Some d) pulled h = within_by old d (Ok pulled) h
+
+-- ---- units
+
+-- one unit more
+pub raised_more : (m : Marks) (pulled : Pulled) (span : Span) (unit : ℕ) (before more : Drafted) → 2 ≤ unit → before ≡ raised_below m pulled span unit → more ≡ with_one m pulled span unit before
+    → more ≡ raised_below m pulled span (unit + 1)
+raised_more m pulled span unit before more behind h made = rw add-one (made ∙ ap (with_one m pulled span unit) h ∙ by (nat_lt unit 2) (Decides-ltb unit 2))
+  where
+    by : (b : Bool) → Decides b (unit < 2) → with_one m pulled span unit (raised_below m pulled span unit) ≡ cond b (raised_below m pulled span unit) (with_one m pulled span unit (raised_below m pulled span unit))
+    by true d = let lt = d.0 refl in absurd (omega arith)
+    by false d = refl
+
+-- ---- the answers to a request
+
+pub refused_so : (old : Project) (file : List ℕ) (at : ℕ) (why : ChangeFault) → Err why ≡ asked old file at → IsPullUpAnswer old file at (Err why)
+refused_so old file at why h = IsPullUpAnswer.refused (sym h)
+
+pub stays_so : (old : Project) (file : List ℕ) (at : ℕ) (found : Option ℕ) (why : Reason) → Ok found ≡ asked old file at → IsPulledFor old found (Err why) → IsPullUpAnswer old file at (Err (fault.Bad why))
+stays_so old file at found why h stays = IsPullUpAnswer.stays (sym h) stays
+
+pulled_up : (m : Marks) (pulled : Pulled) (answer : Result Change ChangeFault) → IfOk answer (λ change. IsRaised m pulled change) → IfErr answer (λ why. why ≡ fault.OutOfMemory) → IsPulledUp m pulled answer
+pulled_up m pulled (Ok change) made failed = IsPulledUp.raised made
+pulled_up m pulled (Err why) made failed = subst (λ why. IsPulledUp m pulled (Err why)) (sym failed) IsPulledUp.memory
+
+bare : (m : Marks) (pulled : Pulled) (answer : Result Change ChangeFault) → IsOrdered m → IsWithin m.rows.now pulled → IfOk answer (λ change. IsOrdered m → IsWithin m.rows.now pulled → IsRaised m pulled change)
+    → IfOk answer (λ change. IsRaised m pulled change)
+bare m pulled (Ok change) ordered within made = made ordered within
+bare m pulled (Err why) ordered within made = tt
+
+pub goes_so : (old : Project) (file : List ℕ) (at : ℕ) (found : Option ℕ) (pulled : Pulled) (answer : Result Change ChangeFault) → IsOrdered old.marks → Ok found ≡ asked old file at → IsPulledFor old found (Ok pulled)
+    → IfOk answer (λ change. IsOrdered old.marks → IsWithin (rows_of old) pulled → IsRaised old.marks pulled change) → IfErr answer (λ why. why ≡ fault.OutOfMemory) → IsPullUpAnswer old file at answer
+goes_so old file at found pulled answer ordered h is made failed =
+    IsPullUpAnswer.goes (sym h) is (pulled_up old.marks pulled answer (bare old.marks pulled answer ordered (pulled_within old found pulled is) made) failed)
