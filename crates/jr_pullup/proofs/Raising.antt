@@ -1,5 +1,5 @@
 -- Where a method goes, units one by one, and the answers.
-use Rattle.std.proofs.Common.{◌≡◌, refl, sym, ◌∙◌, ap, subst, arith, ℕ, suc, ◌+◌, ◌<◌, ◌≤◌, Bool, true, false, cond, List, length, Option, Some, None, Result, Ok, Err, nat_lt, Decides, add-one}
+use Rattle.std.proofs.Common.{◌≡◌, refl, sym, ◌∙◌, ap, subst, arith, ℕ, ◌+◌, ◌<◌, ◌≤◌, Bool, true, false, cond, List, length, Option, Some, None, Result, Ok, Err, nat_lt, Decides, add-one}
 use Rattle.std.proofs.lemmas.Bool.Decides.{Decides-ltb}
 use Rattle.std.specs.Prelude.{IfOk, IfErr}
 use Rattle.jr_base.specs.declared.token.Span.{Span}
@@ -10,7 +10,9 @@ use Rattle.jr_plain.specs.Search.{Finds}
 use Rattle.jr_supers.specs.Supers.{AreSupersOf}
 use Rattle.jr_marks.specs.declared.marks.Marks.{Marks}
 use Rattle.jr_marks.specs.Places.{IsOrdered}
+use Rattle.jr_text.specs.Spans.{IsExtent}
 use Rattle.jr_change.specs.declared.change.Change.{Change}
+use Rattle.jr_change.specs.declared.change.Raised.{Raised}
 use Rattle.jr_change.specs.declared.project.Project.{Project}
 use Rattle.jr_change.specs.declared.reason.ChangeFault.{ChangeFault}
 use Rattle.jr_change.specs.declared.reason.ChangeFault.TheVariants as fault
@@ -19,7 +21,7 @@ use Rattle.jr_change.specs.declared.reason.Reason.TheVariants as reason
 use Rattle.jr_draft.specs.Asking.{rows_of, asked}
 use Rattle.jr_draft.specs.Drafting.{Drafted}
 use Rattle.jr_pullup.specs.declared.pulled.Pulled.{Pulled}
-use Rattle.jr_pullup.specs.Pulling.{class_of_method, into_superclass, into_body, takes, body_of, IsPulled, IsPulledFor, IsPulledUp, IsPullUpAnswer, IsRaised, IsWithin, raised_below, with_one}
+use Rattle.jr_pullup.specs.Pulling.{class_of_method, into_superclass, into_body, takes, body_of, IsPulled, IsPulledFor, IsPulledUp, IsAskedFor, IsPullUpAnswer, IsFinishedWith, IsRaised, IsWithin, raised_below, raised_by, with_one}
 use Rattle.jr_pullup.proofs.Finding.{class_within, found_within}
 
 -- ---- what goes where
@@ -29,7 +31,7 @@ other_kind_so old d none = IsPulled.other_kind (sym none)
 
 pub upwards_so : (old : Project) (d c : ℕ) (above : Option ℕ) (to : Result Pulled Reason) → IsOrdered old.marks → Some c ≡ class_of_method (rows_of old) d
     → ((p : Rows) (t : Table) → AreSupersOf p t old.view.sight.world.supers.now → Finds above (Superclass p t c)) → (IsOrdered old.marks → to ≡ into_superclass old.marks d c above) → IsPulled old d to
-upwards_so old d c above to ordered some super is = IsPulled.upwards (sym some) (λ t. super (rows_of old) t) (is ordered)
+upwards_so old d c above to ordered some told is = IsPulled.upwards (sym some) (λ t. told (rows_of old) t) (is ordered)
 
 -- what goes is written
 into_within : (m : Marks) (d c : ℕ) (above : Option ℕ) → d < length m.rows.now → IfOk (into_superclass m d c above) (λ pulled. IsWithin m.rows.now pulled)
@@ -64,13 +66,29 @@ raised_more m pulled span unit before more behind h made = rw add-one (made ∙ 
     by true d = let lt = d.0 refl in absurd (omega arith)
     by false d = refl
 
+-- all units
+pub raised_all : (m : Marks) (pulled : Pulled) (span : Span) (unit count : ℕ) (draft : Drafted) → unit ≡ count → draft ≡ raised_below m pulled span unit → draft ≡ raised_below m pulled span count
+raised_all m pulled span unit count draft same h = h ∙ ap (raised_below m pulled span) same
+
+-- the change, from its parts
+pub raised_as : (m : Marks) (pulled : Pulled) (span : Span) (draft : Drafted) (raised : Raised) (change : Change) → IsExtent m pulled.method span → draft ≡ raised_below m pulled span (length m.units.now)
+    → raised ≡ raised_by m.rows.now pulled → IsFinishedWith draft raised change → IsRaised m pulled change
+raised_as m pulled span draft raised change bytes drafted by finished = record {
+  span = span;
+  bytes = bytes;
+  finished = subst (λ raised. IsFinishedWith (raised_below m pulled span (length m.units.now)) raised change) by (subst (λ draft. IsFinishedWith draft raised change) drafted finished);
+}
+
 -- ---- the answers to a request
 
 pub refused_so : (old : Project) (file : List ℕ) (at : ℕ) (why : ChangeFault) → Err why ≡ asked old file at → IsPullUpAnswer old file at (Err why)
 refused_so old file at why h = IsPullUpAnswer.refused (sym h)
 
-pub stays_so : (old : Project) (file : List ℕ) (at : ℕ) (found : Option ℕ) (why : Reason) → Ok found ≡ asked old file at → IsPulledFor old found (Err why) → IsPullUpAnswer old file at (Err (fault.Bad why))
-stays_so old file at found why h stays = IsPullUpAnswer.stays (sym h) stays
+pub answered_so : (old : Project) (file : List ℕ) (at : ℕ) (found : Option ℕ) (answer : Result Change ChangeFault) → Ok found ≡ asked old file at → IsAskedFor old found answer → IsPullUpAnswer old file at answer
+answered_so old file at found answer h made = IsPullUpAnswer.answered (sym h) made
+
+pub stays_so : (old : Project) (found : Option ℕ) (why : Reason) → IsPulledFor old found (Err why) → IsAskedFor old found (Err (fault.Bad why))
+stays_so old found why stays = IsAskedFor.stays stays
 
 pulled_up : (m : Marks) (pulled : Pulled) (answer : Result Change ChangeFault) → IfOk answer (λ change. IsRaised m pulled change) → IfErr answer (λ why. why ≡ fault.OutOfMemory) → IsPulledUp m pulled answer
 pulled_up m pulled (Ok change) made failed = IsPulledUp.raised made
@@ -81,7 +99,6 @@ bare : (m : Marks) (pulled : Pulled) (answer : Result Change ChangeFault) → Is
 bare m pulled (Ok change) ordered within made = made ordered within
 bare m pulled (Err why) ordered within made = tt
 
-pub goes_so : (old : Project) (file : List ℕ) (at : ℕ) (found : Option ℕ) (pulled : Pulled) (answer : Result Change ChangeFault) → IsOrdered old.marks → Ok found ≡ asked old file at → IsPulledFor old found (Ok pulled)
-    → IfOk answer (λ change. IsOrdered old.marks → IsWithin (rows_of old) pulled → IsRaised old.marks pulled change) → IfErr answer (λ why. why ≡ fault.OutOfMemory) → IsPullUpAnswer old file at answer
-goes_so old file at found pulled answer ordered h is made failed =
-    IsPullUpAnswer.goes (sym h) is (pulled_up old.marks pulled answer (bare old.marks pulled answer ordered (pulled_within old found pulled is) made) failed)
+pub goes_so : (old : Project) (found : Option ℕ) (pulled : Pulled) (answer : Result Change ChangeFault) → IsOrdered old.marks → IsPulledFor old found (Ok pulled)
+    → IfOk answer (λ change. IsOrdered old.marks → IsWithin (rows_of old) pulled → IsRaised old.marks pulled change) → IfErr answer (λ why. why ≡ fault.OutOfMemory) → IsAskedFor old found answer
+goes_so old found pulled answer ordered is made failed = IsAskedFor.goes is (pulled_up old.marks pulled answer (bare old.marks pulled answer ordered (pulled_within old found pulled is) made) failed)

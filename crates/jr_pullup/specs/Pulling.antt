@@ -1,7 +1,6 @@
 -- What a request to pull a method up comes to (JLS 6.1, 8.1.3, 8.1.4, 8.4).
 use Rattle.std.specs.Prelude.{◌≡◌, ℕ, zero, suc, ◌-◌, ◌<◌, Bool, not, ◌&&◌, ◌||◌, if◌then◌else◌, List, [], ◌∷◌, ◌++◌, length, min, max, Option, Some, None, Result, Ok, Err, nat_eq, nat_le, nat_lt}
 use Rattle.jr_base.specs.declared.token.Span.{Span}
-use Rattle.jr_tree.specs.declared.label.Role.{Role}
 use Rattle.jr_tree.specs.declared.label.Role.TheVariants as role
 use Rattle.jr_tree.specs.Rows.{Rows, end, role_at}
 use Rattle.jr_defs.specs.Referents.{Table}
@@ -170,12 +169,15 @@ pub data IsPulledUp (m : Marks) (pulled : Pulled) : Result Change ChangeFault �
   raised : {change : Change} → IsRaised m pulled change → IsPulledUp m pulled (Ok change)
   memory : IsPulledUp m pulled (Err fault.OutOfMemory)
 
--- the answer: why there is no such declaration, why it cannot go up, or what comes of it
+-- what comes of what is asked for: why it cannot go up, or what comes of it
+pub data IsAskedFor (old : Project) (found : Option ℕ) : Result Change ChangeFault → Type 0 where
+  stays : {why : Reason} → IsPulledFor old found (Err why) → IsAskedFor old found (Err (fault.Bad why))
+  goes : {pulled : Pulled} {answer : Result Change ChangeFault} → IsPulledFor old found (Ok pulled) → IsPulledUp old.marks pulled answer → IsAskedFor old found answer
+
+-- the answer: why there is no such declaration, or what comes of it
 pub data IsPullUpAnswer (old : Project) (file : List ℕ) (at : ℕ) : Result Change ChangeFault → Type 0 where
   refused : {why : ChangeFault} → asked old file at ≡ Err why → IsPullUpAnswer old file at (Err why)
-  stays : {found : Option ℕ} {why : Reason} → asked old file at ≡ Ok found → IsPulledFor old found (Err why) → IsPullUpAnswer old file at (Err (fault.Bad why))
-  goes : {found : Option ℕ} {pulled : Pulled} {answer : Result Change ChangeFault} → asked old file at ≡ Ok found → IsPulledFor old found (Ok pulled) → IsPulledUp old.marks pulled answer
-      → IsPullUpAnswer old file at answer
+  answered : {found : Option ℕ} {answer : Result Change ChangeFault} → asked old file at ≡ Ok found → IsAskedFor old found answer → IsPullUpAnswer old file at answer
 
 -- ---- what the code holds of it
 

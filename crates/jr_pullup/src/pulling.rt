@@ -16,17 +16,24 @@ use std::alloc::Global;
 
 /// What takes the method whose name, or a call of which, holds an offset to the superclass of its class, or the first reason why that cannot be. It is to
 /// be a method of a class whose superclass is declared in the workspace; an inner class may not stand inside its superclass (JLS 8.1.3, 8.1.4, 8.4).
-#[tactic(auto, using(crate::proofs::Raising::refused_so, crate::proofs::Raising::stays_so, crate::proofs::Raising::goes_so))]
+#[tactic(auto, using(crate::proofs::Raising::refused_so, crate::proofs::Raising::answered_so))]
 pub fn pull_up(alloc: Global, old: &Project, file: &[u8], at: u32) -> Result<Change, ChangeFault>
     ensures { IsOrdered old.now.marks → spec.IsPullUpAnswer old.now file.now at result }
 {
-    let found = match asked(old, file, at) {
-        Ok(found) => found,
-        Err(fault) => return Err(fault),
-    };
+    match asked(old, file, at) {
+        Ok(found) => asked_for(alloc, old, found),
+        Err(why) => Err(why),
+    }
+}
+
+// What comes of the declaration that is asked for.
+#[tactic(auto, using(crate::proofs::Raising::stays_so, crate::proofs::Raising::goes_so))]
+fn asked_for(alloc: Global, old: &Project, found: Option<u32>) -> Result<Change, ChangeFault>
+    ensures { IsOrdered old.now.marks → spec.IsAskedFor old.now found result }
+{
     match Pulled::of(old, found) {
         Ok(pulled) => raised(alloc, &old.marks, pulled),
-        Err(reason) => Err(ChangeFault::Bad(reason)),
+        Err(why) => Err(ChangeFault::Bad(why)),
     }
 }
 
