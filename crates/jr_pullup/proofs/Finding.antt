@@ -21,12 +21,12 @@ both false b h = absurd (false≢true h)
 -- what is found passes
 found_passes : (test : ℕ → Bool) (n k : ℕ) → first_below n test ≡ Some k → test k ≡ true
 found_passes test zero k h = absurd (none-some k h)
-found_passes test (suc n) k h = by (first_below n test) (test n) refl refl h
+found_passes test (suc n) k h = by (first_below n test) (test n) refl refl (λ f. found_passes test n k f) h
   where
-    by : (found : Option ℕ) (b : Bool) → first_below n test ≡ found → test n ≡ b → option_or found (cond b (Some n) None) ≡ Some k → test k ≡ true
-    by (Some j) b f t h = found_passes test n k (f ∙ h)
-    by None true f t h = ap test (sym (same_Some n k h)) ∙ t
-    by None false f t h = absurd (none-some k h)
+    by : (found : Option ℕ) (b : Bool) → first_below n test ≡ found → test n ≡ b → (first_below n test ≡ Some k → test k ≡ true) → option_or found (cond b (Some n) None) ≡ Some k → test k ≡ true
+    by (Some j) b f t before h = before (f ∙ h)
+    by None true f t before h = ap test (sym (same_Some n k h)) ∙ t
+    by None false f t before h = absurd (none-some k h)
 
 -- ---- bodies
 

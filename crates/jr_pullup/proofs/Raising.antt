@@ -1,7 +1,8 @@
 -- Where a method goes, units one by one, and the answers.
 use Rattle.std.proofs.Common.{◌≡◌, refl, sym, ◌∙◌, ap, subst, arith, ℕ, ◌+◌, ◌<◌, ◌≤◌, Bool, true, false, cond, List, length, Option, Some, None, Result, Ok, Err, nat_lt, Decides, add-one}
+use Rattle.std.proofs.lemmas.Bool.{false≢true}
 use Rattle.std.proofs.lemmas.Bool.Decides.{Decides-ltb}
-use Rattle.std.specs.Prelude.{IfOk, IfErr}
+use Rattle.std.specs.Prelude.{IfOk, IfErr, OnOk}
 use Rattle.jr_base.specs.declared.token.Span.{Span}
 use Rattle.jr_tree.specs.Rows.{Rows}
 use Rattle.jr_defs.specs.Referents.{Table}
@@ -10,7 +11,8 @@ use Rattle.jr_plain.specs.Search.{Finds}
 use Rattle.jr_supers.specs.Supers.{AreSupersOf}
 use Rattle.jr_marks.specs.declared.marks.Marks.{Marks}
 use Rattle.jr_marks.specs.Places.{IsOrdered}
-use Rattle.jr_text.specs.Spans.{IsExtent}
+use Rattle.jr_edits.specs.Place.{EditList}
+use Rattle.jr_text.specs.Spans.{IsExtent, unit_bytes}
 use Rattle.jr_change.specs.declared.change.Change.{Change}
 use Rattle.jr_change.specs.declared.change.Raised.{Raised}
 use Rattle.jr_change.specs.declared.project.Project.{Project}
@@ -19,9 +21,9 @@ use Rattle.jr_change.specs.declared.reason.ChangeFault.TheVariants as fault
 use Rattle.jr_change.specs.declared.reason.Reason.{Reason}
 use Rattle.jr_change.specs.declared.reason.Reason.TheVariants as reason
 use Rattle.jr_draft.specs.Asking.{rows_of, asked}
-use Rattle.jr_draft.specs.Drafting.{Drafted}
+use Rattle.jr_draft.specs.Drafting.{Drafted, kept, no_edits, unit_row}
 use Rattle.jr_pullup.specs.declared.pulled.Pulled.{Pulled}
-use Rattle.jr_pullup.specs.Pulling.{class_of_method, into_superclass, into_body, takes, body_of, IsPulled, IsPulledFor, IsPulledUp, IsAskedFor, IsPullUpAnswer, IsFinishedWith, IsRaised, IsWithin, raised_below, raised_by, with_one}
+use Rattle.jr_pullup.specs.Pulling.{class_of_method, into_superclass, into_body, takes, body_of, IsPulled, IsPulledFor, IsPulledUp, IsAskedFor, IsPullUpAnswer, IsFinishedWith, IsRaised, IsWithin, edited, is_edited, raised_below, raised_by, with_edited, with_one, with_rows, with_text, without_text}
 use Rattle.jr_pullup.proofs.Finding.{class_within, found_within}
 
 -- ---- what goes where
@@ -55,7 +57,27 @@ pub pulled_within : (old : Project) (found : Option ℕ) (pulled : Pulled) → I
 pulled_within old None pulled h = absurd (ok_not_err pulled reason.WrongKind h)
 pulled_within old (Some d) pulled h = within_by old d (Ok pulled) h
 
+-- ---- texts
+
+pub edited_by : (m : Marks) (pulled : Pulled) (span : Span) (unit row : ℕ) (none put taken : EditList) → row ≡ unit_row m unit → none ≡ no_edits (length (unit_bytes m row)) → put ≡ with_text m pulled span unit none
+    → taken ≡ without_text m pulled span unit put → taken ≡ edited m pulled span unit
+edited_by m pulled span unit row none put taken at start comes goes =
+    goes ∙ ap (without_text m pulled span unit) (comes ∙ ap (with_text m pulled span unit) (start ∙ ap (λ row. no_edits (length (unit_bytes m row))) at))
+
 -- ---- units
+
+-- a unit that is edited
+edited_is : (m : Marks) (pulled : Pulled) (span : Span) (unit : ℕ) (d : Drafted) → is_edited m pulled unit ≡ true → with_rows m pulled unit (with_edited m pulled span unit d) ≡ with_one m pulled span unit d
+edited_is m pulled span unit d h = by (is_edited m pulled unit) h
+  where
+    by : (b : Bool) → b ≡ true → with_rows m pulled unit (with_edited m pulled span unit d) ≡ cond b (with_rows m pulled unit (with_edited m pulled span unit d)) (kept m unit d)
+    by true e = refl
+    by false e = absurd (false≢true e)
+
+pub one_edited : {A B : Type 0} (m : Marks) (pulled : Pulled) (span : Span) (unit : ℕ) (d new : Drafted) (answer : Result A B) (b : Bool) → (IsOrdered m → b ≡ is_edited m pulled unit) → b ≡ true
+    → OnOk answer (IsOrdered m → IsWithin m.rows.now pulled → new ≡ with_rows m pulled unit (with_edited m pulled span unit d)) → OnOk answer (IsOrdered m → IsWithin m.rows.now pulled → new ≡ with_one m pulled span unit d)
+one_edited m pulled span unit d new (Ok x) b tells is made = λ ordered within. made ordered within ∙ edited_is m pulled span unit d (sym (tells ordered) ∙ is)
+one_edited m pulled span unit d new (Err why) b tells is made = made
 
 -- one unit more
 pub raised_more : (m : Marks) (pulled : Pulled) (span : Span) (unit : ℕ) (before more : Drafted) → 2 ≤ unit → before ≡ raised_below m pulled span unit → more ≡ with_one m pulled span unit before
