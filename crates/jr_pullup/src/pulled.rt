@@ -74,12 +74,7 @@ fn body_of(rows: &[Row], over: u32) -> Option<u32>
 }
 
 // What goes to the body of a superclass, if that has one.
-fn into_body(
-    method: u32,
-    class: u32,
-    superclass: u32,
-    body: Option<u32>,
-) -> Result<Pulled, Reason>
+fn into_body(method: u32, class: u32, superclass: u32, body: Option<u32>) -> Result<Pulled, Reason>
     ensures { result ≡ spec.into_body method class superclass body }
 {
     match body {

@@ -49,12 +49,7 @@ fn before_brace(marks: &Marks, body: u32) -> Span
 }
 
 // The bytes that the method takes along, and LF.
-fn moved_text(
-    alloc: Global,
-    marks: &Marks,
-    pulled: Pulled,
-    span: Span,
-) -> Result<Text, OutOfMemory>
+fn moved_text(alloc: Global, marks: &Marks, pulled: Pulled, span: Span) -> Result<Text, OutOfMemory>
     ensures { IfOk result (λ text. IsOrdered marks.now → text ≡ spec.moved_text marks.now pulled span) }
 {
     let mut out = Vec::new(alloc);
@@ -150,12 +145,7 @@ fn add_reached(
 }
 
 // Adds the rows of a unit that the method leaves or to which it comes.
-fn add_rows(
-    draft: &mut Draft,
-    marks: &Marks,
-    pulled: Pulled,
-    unit: u32,
-) -> Result<(), OutOfMemory>
+fn add_rows(draft: &mut Draft, marks: &Marks, pulled: Pulled, unit: u32) -> Result<(), OutOfMemory>
     ensures { OnOk result (IsOrdered marks.now → spec.IsWithin marks.now.rows.now pulled → unit < length marks.now.units.now
         → draft.new ≡ spec.with_rows marks.now pulled unit draft.old) }
 {
@@ -163,7 +153,13 @@ fn add_rows(
         add_reached(draft, marks, pulled, unit)
     } else {
         let row = unit_row(marks, unit);
-        copy_but(draft, marks.rows, pulled.method, row, end_at(marks.rows, row))
+        copy_but(
+            draft,
+            marks.rows,
+            pulled.method,
+            row,
+            end_at(marks.rows, row),
+        )
     }
 }
 
