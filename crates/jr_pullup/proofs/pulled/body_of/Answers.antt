@@ -1,4 +1,4 @@
-use Rattle.std.proofs.Common.{◌≡◌, ◌∙◌, sym, arith, nat_le, ◌&&◌}
+use Rattle.std.proofs.Common.{◌∙◌, sym, arith, nat_le, ◌&&◌}
 use Rattle.jr_tree.specs.Rows.{end}
 use Rattle.jr_plain.specs.Enclosing.{is_body_of}
 use Rattle.jr_marks.proofs.Firsts.{first_some}
