@@ -69,7 +69,8 @@ use Rattle.jr_locks.specs.Changed.{IsChanged, origins_by, copies_by}
 use Rattle.jr_locks.specs.Origins.{origin_of, row_by}
 use Rattle.jr_edges.specs.Dispatched.{IsTold}
 use Rattle.jr_edges.specs.declared.dispatched.Lost.{Lost}
-use Rattle.jr_engine.specs.Written.{AreFirstIn, IsSpelledIn, IsLeftOf, IsAskedFor, IsLockedBy, IsBoundByLocks, KeepsCallsIn, KeepsFlowIn, rows_of as rows_under, locks_of}
+use Rattle.jr_engine.proofs.Reading.{texts_left}
+use Rattle.jr_engine.specs.Written.{AreFirstIn, HasTextsOf, IsSpelledIn, IsLeftOf, IsAskedFor, IsLockedBy, IsBoundByLocks, IsReadBy, KeepsCallsIn, KeepsFlowIn, rows_of as rows_under, locks_of}
 use Rattle.jr_engine.specs.declared.asked.Asked.{Asked}
 use Rattle.jr_engine.specs.declared.fault.EngineFault.{EngineFault}
 use Rattle.jr_engine.specs.declared.fault.EngineFault.TheVariants as fault
@@ -186,17 +187,17 @@ pub err_is : {A : Type 0} {E : Type 0} (P : E → Type 0) (result : Result A E) 
 err_is {A} {E} P result why e h = subst (λ (r : Result A E). IfErr r P) (sym e) h
 
 followed : (asked : Asked) (locked : Locked) (all : List Spelling) (left : Left) → IsAskedFor asked → IsLockedBy asked locked → AreFirstIn asked locked all → KeepsCallsIn asked locked → KeepsFlowIn asked locked → IsLeftOf locked all left
-    → IsFollowed asked.old.now asked.request.now left
-followed asked locked all left a by first kept flow is = record {
+    → IsReadBy asked locked → HasTextsOf locked all left → IsFollowed asked.old.now asked.request.now left
+followed asked locked all left a by first kept flow is whole texts = record {
   ends = is.1;
   step = λ found read. leaves asked.change.now (requested found asked.old.now asked.project.now asked.request.now (Ok asked.change.now) read a) by.changed kept flow
-      (record { opened = held_opened left is.1; spellings = all; first = first; respelled = is.0 });
+      (record { opened = held_opened left is.1; spellings = all; first = first; texts = texts_left found asked locked all left read whole texts; respelled = is.0 });
 }
 
 pub followed_so : (asked : Asked) (locked : Locked) (all : List Spelling) (result : Result Left StepFault) → IsAskedFor asked → IsLockedBy asked locked → AreFirstIn asked locked all → KeepsCallsIn asked locked → KeepsFlowIn asked locked
-    → IfOk result (λ left. IsLeftOf locked all left) → IfOk result (λ left. IsFollowed asked.old.now asked.request.now left)
-followed_so asked locked all (Ok left) a by first kept flow is = followed asked locked all left a by first kept flow is
-followed_so asked locked all (Err why) a by first kept flow is = tt
+    → IfOk result (λ left. IsLeftOf locked all left) → IsReadBy asked locked → IfOk result (HasTextsOf locked all) → IfOk result (λ left. IsFollowed asked.old.now asked.request.now left)
+followed_so asked locked all (Ok left) a by first kept flow is whole texts = followed asked locked all left a by first kept flow is whole texts
+followed_so asked locked all (Err why) a by first kept flow is whole texts = tt
 
 locked_so : (asked : Asked) (locked : Locked) (rows : Rows) (locks : Locks) → IsChanged (rows_in asked.old.now) (table_in asked.old.now) asked.change.now rows (entries locks.table.items)
     → locks.origin.items ≡ origins_by asked.change.now → locks.copy.items ≡ copies_by (origins_by asked.change.now) (length (rows_in asked.old.now)) → rows_under locked ≡ rows → locked.locks ≡ locks → IsLockedBy asked locked

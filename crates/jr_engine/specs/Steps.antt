@@ -28,6 +28,7 @@ use Rattle.jr_change.specs.declared.project.Project.{Project}
 use Rattle.jr_change.specs.declared.reason.ChangeFault.{ChangeFault}
 use Rattle.jr_draft.specs.Asking.{table_of}
 use Rattle.jr_engine.specs.Requested.{IsAskedBy, keeps_all}
+use Rattle.jr_engine.specs.Texts.{HaveTexts}
 use Rattle.jr_locks.specs.Changed.{IsChanged, origins_by, copies_by}
 use Rattle.jr_locks.specs.Origins.{origin_of, row_by}
 use Rattle.jr_edges.specs.Dispatched.{KeepsDispatch}
@@ -77,12 +78,13 @@ pub record IsFirst (p : Rows) (t : Table) (change : Change) (q : Rows) (l : Tabl
 pub record AreFirst (p : Rows) (t : Table) (change : Change) (q : Rows) (l : Table) (all : List Spelling) : Type 0 where
   pub each : AllByRecursion (λ a. IsFirst p t change q l a) all
 
--- The files left are a changed program that is written with the first spellings that fit: each of its rows stands there, and by the binding of the rows of the files
--- left each reference refers to its lock.
+-- The files left are a changed program that is written with the first spellings that fit: they have its texts, with each reference as it is spelled, each of its rows stands there, and by the
+-- binding of the rows of the files left each reference refers to its lock.
 pub record IsWritten (old : Opened) (change : Change) (rows : Rows) (locks : Table) (left : Opened) : Type 0 where
   pub opened : IsOpened left
   pub spellings : List Spelling
   pub first : AreFirst old.rows old.table change rows locks spellings
+  pub texts : HaveTexts old.files change rows locks spellings left.files
   pub respelled : IsRespelled rows locks spellings left.rows left.table
 
 -- the program of the files with its tables, as changes read it: its supertypes and members are those under the binding

@@ -1,11 +1,18 @@
 -- A changed program under its locks with its spellings, as the code holds it.
-use Rattle.std.specs.Prelude.{◌≡◌, ℕ, ◌+◌, ◌<◌, ◌^◌, Bool, List, Some, Ok, is_some, length}
+use Rattle.std.specs.Prelude.{◌≡◌, ℕ, ◌+◌, ◌<◌, ◌^◌, ◌++◌, Bool, List, Some, Ok, is_some, length}
+use Rattle.std.specs.FinMap as files
 use Rattle.std.specs.Option.{option_map_or}
-use Rattle.jr_front.specs.Bound.{rows_in, table_in}
+use Rattle.jr_front.specs.Bound.{IsIndexed, rows_in, table_in}
 use Rattle.jr_front.specs.declared.workspace.Workspace.{Workspace}
 use Rattle.jr_tree.specs.Rows.{Rows}
 use Rattle.jr_headed.specs.Founded.{AreWell}
+use Rattle.jr_defs.specs.Program.{AreUnitsOf, prelude_files}
 use Rattle.jr_defs.specs.Referents.{Table, entries}
+use Rattle.jr_defs.specs.declared.program.Program.{Program}
+use Rattle.jr_marks.specs.Made.{AreMade}
+use Rattle.jr_marks.specs.declared.marks.Marks.{Marks}
+use Rattle.jr_edits.specs.Place.{EditList}
+use Rattle.jr_weave.specs.Weaving.{AreRespelled}
 use Rattle.jr_places.specs.Places.{ArePlaces}
 use Rattle.jr_supers.specs.Supers.{IsWellHeaded, HasNoCycle}
 use Rattle.jr_members.specs.Held.{ObjectIsBare}
@@ -21,6 +28,7 @@ use Rattle.jr_locks.specs.Origins.{origin_of, row_by}
 use Rattle.jr_shapes.specs.declared.spelling.Spelling.{Spelling}
 use Rattle.jr_edges.specs.Dispatched.{KeepsDispatch}
 use Rattle.jr_engine.specs.Steps.{AreFirst, IsHeld, KeepsFlow, IsAskedOf}
+use Rattle.jr_engine.specs.Texts.{changed_files, written_files}
 use Rattle.jr_engine.specs.declared.asked.Asked.{Asked}
 use Rattle.jr_engine.specs.declared.left.Left.{Left}
 use Rattle.jr_engine.specs.declared.locked.Locked.{Locked}
@@ -39,6 +47,24 @@ IsSpelledIn s new = IsRespelled (rows_of s.locked.now) (locks_of s.locked.now) s
 -- the files left are the changed program, written so
 abbrev pub IsLeftOf : Locked → List Spelling → Left → Type 0
 IsLeftOf locked all left = IsRespelled (rows_of locked) (locks_of locked) all (rows_in left.program) (table_in left.program) × IsHeld left
+
+-- the program is this one, and its index tells where its rows stand
+pub record IsIndexedAs (program : Program) (locked : Locked) : Type 0 where
+  pub same : locked.program.program ≡ program
+  pub indexed : IsIndexed program locked.program.index.value
+
+-- the changed program is what the texts of the change read as, behind the prelude, and its index tells where its rows stand in them
+pub record IsReadBy (a : Asked) (locked : Locked) : Type 0 where
+  pub units : AreUnitsOf (prelude_files ++ changed_files a.old.now.program.units a.change.now.units.items) locked.program.program.units
+  pub indexed : IsIndexed locked.program.program locked.program.index.value
+
+-- the files left are the texts of the changed program with the edits of the spellings
+pub record HasTextsOf (locked : Locked) (all : List Spelling) (left : Left) : Type 0 where
+  pub marks : Marks
+  pub made : AreMade locked.program.program marks
+  pub edits : List EditList
+  pub respelled : AreRespelled marks (locks_of locked) all edits
+  pub written : files.entries left.files ≡ written_files locked.program.program.units edits
 
 -- the change is that for which the request asks
 abbrev pub IsAskedFor : Asked → Type 0

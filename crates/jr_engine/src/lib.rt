@@ -4,6 +4,7 @@
 mod asked;
 mod edges;
 mod fault;
+mod filing;
 mod kept;
 mod left;
 mod locked;

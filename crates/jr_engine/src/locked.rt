@@ -7,10 +7,12 @@ ghost use Rattle.jr_tree.specs.Rows.{program_rows};
 ghost use Rattle.jr_headed.specs.Founded.{IsProgram};
 ghost use Rattle.jr_places.specs.Tabulated.{tabulated};
 ghost use Rattle.jr_prelude.specs.Begins.{BeginsWithLang};
+ghost use Rattle.jr_index.specs.Marking.{program_marks};
+ghost use Rattle.jr_marks.specs.Made.{HaveTokensApart};
 ghost use Rattle.jr_marks.specs.Places.{IsOrdered};
 ghost use Rattle.jr_front.specs.Bound.{IsBoundIn};
 ghost use Rattle.jr_engine.specs.Refusing.{IsHinderedIn, IsUnspelled};
-ghost use Rattle.jr_engine.specs.Written.{AreFirstIn, IsAskedFor, IsBoundByLocks, IsLockedBy, IsSound, is_constant_by, rows_of};
+ghost use Rattle.jr_engine.specs.Written.{AreFirstIn, IsAskedFor, IsBoundByLocks, IsIndexedAs, IsLockedBy, IsReadBy, IsSound, is_constant_by, rows_of};
 
 use crate::asked::{Asked, project_of};
 use crate::fault::StepFault;
@@ -49,7 +51,8 @@ fn boxed<T: Drop>(alloc: Global, made: Result<T, OutOfMemory>) -> Result<Box<T>,
 // The rows of a program whose units are shaped.
 fn index_of(alloc: Global, program: &Program) -> Result<Box<Index>, OutOfMemory>
     requires { AllByRecursion IsShaped (map (λ u. u.unit) program.now.units) }
-    ensures { IfOk result (λ index. index.value.rows ≡ program_rows (map (λ u. u.unit) program.now.units)) }
+    ensures rows { IfOk result (λ index. index.value.rows ≡ program_rows (map (λ u. u.unit) program.now.units)) }
+    ensures marks { IfOk result (λ index. index.value.marks ≡ program_marks (map (λ u. u.unit) program.now.units)) }
 {
     boxed(alloc, Index::build(alloc, program))
 }
@@ -62,7 +65,9 @@ fn locked_rows(
     index: Box<Index>,
     locks: Locks,
 ) -> Result<Locked, StepFault>
+    ensures program { IfOk result (λ locked. locked.program.program ≡ program) }
     ensures rows { IfOk result (λ locked. locked.program.index.value.rows ≡ index.value.rows) }
+    ensures marks { IfOk result (λ locked. locked.program.index.value.marks ≡ index.value.marks) }
     ensures locks { IfOk result (λ locked. locked.locks ≡ locks) }
     ensures bound { IfOk result IsBoundByLocks }
     ensures err { IfErr result (IsHinderedIn asked.entry) }
@@ -91,6 +96,7 @@ fn locked_rows(
 #[tactic(auto, using(crate::proofs::Stepping::locked_result))]
 fn locked_program(alloc: Global, asked: Asked, program: Program) -> Result<Locked, StepFault>
     requires { AllByRecursion IsShaped (map (λ u. u.unit) program.units) }
+    ensures read { IfOk result (λ locked. HaveTokensApart program.units → IsIndexedAs program locked) }
     ensures locked { IfOk result (IsLockedBy asked.entry) }
     ensures shaped { IfOk result (λ locked. IsProgram (rows_of locked)) }
     ensures begins { BeginsWithLang (program_rows (map (λ u. u.unit) program.units)) → IfOk result (λ locked. BeginsWithLang (rows_of locked)) }
@@ -108,6 +114,7 @@ fn locked_program(alloc: Global, asked: Asked, program: Program) -> Result<Locke
 
 /// The changed program under its locks.
 pub fn lock(alloc: Global, asked: Asked) -> Result<Locked, StepFault>
+    ensures read { IfOk result (IsReadBy asked.entry) }
     ensures locked { IfOk result (IsLockedBy asked.entry) }
     ensures shaped { IfOk result (λ locked. IsProgram (rows_of locked)) }
     ensures begins { IfOk result (λ locked. BeginsWithLang (rows_of locked)) }

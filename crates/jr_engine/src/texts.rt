@@ -1,5 +1,6 @@
 // The texts of a changed program.
-ghost use Rattle.std.specs.Prelude.{◌≡◌, IfOk, slice_get};
+ghost use Rattle.std.specs.Prelude.{◌≡◌, ◌+◌, ◌<◌, ◌^◌, IfOk, length, slice_get};
+ghost use Rattle.std.specs.List.{AllByRecursion};
 ghost use Rattle.jr_base.specs.Files.{plain};
 ghost use Rattle.jr_edits.specs.Place as place;
 ghost use Rattle.jr_text.specs.Spans.{bytes_by};
@@ -48,7 +49,9 @@ fn text_from(alloc: Global, units: &[UnitAt], source: &UnitSource) -> Result<Vec
 }
 
 // What is left of so many bytes behind a text.
-fn left_after(left: usize, text: &[u8]) -> Result<usize, OutOfMemory> {
+fn left_after(left: usize, text: &[u8]) -> Result<usize, OutOfMemory>
+    ensures { IfOk result (λ rest. rest + length text.now ≡ left) }
+{
     match left.checked_sub(text.len()) {
         Some(rest) => Ok(rest),
         None => Err(OutOfMemory),
@@ -56,8 +59,10 @@ fn left_after(left: usize, text: &[u8]) -> Result<usize, OutOfMemory> {
 }
 
 /// The texts of a changed program in its order, without the prelude.
+#[tactic(auto, using(crate::proofs::Small::one_more))]
 pub fn changed_texts(alloc: Global, units: &[UnitAt], change: &Change) -> Result<Texts, OutOfMemory>
-    ensures { IfOk result (λ texts. plain texts.items ≡ spec.changed_files units.now change.now.units.items) }
+    ensures files { IfOk result (λ texts. plain texts.items ≡ spec.changed_files units.now change.now.units.items) }
+    ensures small { IfOk result (λ texts. AllByRecursion (λ file. length file.1 < 2 ^ 32) (plain texts.items)) }
 {
     let mut texts = Vec::new(alloc);
     let mut left = MOST;

@@ -1,13 +1,16 @@
 // The files that are written, and whether they may be.
 
-ghost use Rattle.std.specs.Prelude.{map, IfOk, IfErr};
+ghost use Rattle.std.specs.Prelude.{◌≡◌, map, IfOk, IfErr};
+ghost use Rattle.std.specs.FinMap as finite;
 ghost use Rattle.std.specs.List.{AllByRecursion};
+ghost use Rattle.jr_base.specs.Files.{plain};
 ghost use Rattle.jr_tree.specs.Shape.{IsShaped};
 ghost use Rattle.jr_engine.specs.Refusing.{IsHinderedIn};
-ghost use Rattle.jr_engine.specs.Written.{IsLeftOf};
+ghost use Rattle.jr_engine.specs.Written.{HasTextsOf, IsBoundByLocks, IsLeftOf, IsReadBy};
 
 use crate::asked::project_of;
 use crate::fault::StepFault;
+use crate::filing::{files_of, rise};
 use crate::left::Left;
 use crate::texts::{Texts, first_twice, written_texts};
 use crate::tried::{Spelled, is_as_spelled};
@@ -22,15 +25,6 @@ use jr_read::read_units;
 use jr_rule::{Fault, Rule};
 use jr_weave::respelled;
 use std::alloc::Global;
-
-// The texts as files.
-fn files_of(alloc: Global, texts: Texts) -> Result<Files, OutOfMemory> {
-    let mut files = Files::new(alloc);
-    for (path, bytes) in texts {
-        files.insert(path, bytes)?;
-    }
-    Ok(files)
-}
 
 // The program of texts whose sizes are not tested and of which two may have one path.
 fn opened(
@@ -152,6 +146,7 @@ fn left_as(
     files: Files,
 ) -> Result<Left, StepFault>
     ensures ok { IfOk result (λ left. IsLeftOf spelled.entry.locked.now spelled.entry.spellings.now left) }
+    ensures files { IfOk result (λ left. left.files ≡ files) }
     ensures err { IfErr result (IsHinderedIn spelled.entry.asked) }
 {
     match open_files(alloc, &files) {
@@ -168,21 +163,35 @@ fn left_as(
     }
 }
 
+// The files that these texts are, if they are a program as it was to be written. Paths that do not rise are not as they were to be.
+fn left_with(
+    alloc: Global,
+    spelled: Spelled,
+    edits: &[Edits],
+    texts: Texts,
+) -> Result<Left, StepFault>
+    ensures ok { IfOk result (λ left. IsLeftOf spelled.entry.locked.now spelled.entry.spellings.now left) }
+    ensures files { IfOk result (λ left. finite.entries left.files ≡ plain texts.items) }
+    ensures err { IfErr result (IsHinderedIn spelled.entry.asked) }
+{
+    if !rise(&texts) {
+        return Err(spelled.asked.differs());
+    }
+    left_as(alloc, spelled, edits, files_of(alloc, texts)?)
+}
+
 /// The files that are left where references are written so, if they may be left.
 pub fn left_of(alloc: Global, spelled: Spelled) -> Result<Left, StepFault>
     ensures ok { IfOk result (λ left. IsLeftOf spelled.entry.locked.now spelled.entry.spellings.now left) }
+    ensures texts { IsReadBy spelled.entry.asked spelled.entry.locked.now → IsBoundByLocks spelled.entry.locked.now → IfOk result (HasTextsOf spelled.entry.locked.now spelled.entry.spellings.now) }
     ensures err { IfErr result (IsHinderedIn spelled.entry.asked) }
 {
     let locked = &spelled.locked.program;
-    let edits = respelled(
-        alloc,
-        &locked.marks(),
-        &locked.bound.table,
-        spelled.spellings,
-    )?;
+    let marks = locked.marks();
+    let edits = respelled(alloc, &marks, &locked.bound.table, spelled.spellings)?;
     let texts = written_texts(alloc, locked.program.units.as_slice(), &edits)?;
     match first_twice(&texts) {
         Some(unit) => Err(twice(alloc, spelled, &texts, unit)),
-        None => left_as(alloc, spelled, &edits, files_of(alloc, texts)?),
+        None => left_with(alloc, spelled, &edits, texts),
     }
 }
