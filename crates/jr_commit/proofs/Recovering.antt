@@ -1,5 +1,5 @@
 -- What a recovery's reads say of the files.
-use Rattle.std.proofs.Common.{◌≡◌, ℕ, List, [], ◌∷◌, true, false, length, ⊎_elim, refl, sym, ◌∙◌, ap, subst}
+use Rattle.std.proofs.Common.{◌≡◌, ℕ, Bool, List, [], ◌∷◌, true, false, length, ⊎_elim, refl, sym, ◌∙◌, ap, subst}
 use Rattle.std.specs.Prelude.{Option, Some, None, IsTrue}
 use Rattle.std.proofs.lemmas.Option.{same_Some, none-some}
 use Rattle.jr_store.specs.Image.{Image, Tells, Puts, ChangesOnly}
@@ -8,6 +8,8 @@ use Rattle.jr_base.specs.Paths.{is_java}
 use Rattle.jr_store.specs.Sides.{IsNoneOf}
 use Rattle.jr_commit.specs.SidesAt.{SideAt, HasSides, ChangesOnlyOn, paths_of}
 use Rattle.jr_commit.proofs.Told.{tells_same}
+use Rattle.jr_commit.specs.Steps.{sides_of}
+use Rattle.jr_commit.specs.declared.actions.Step.{Step}
 use Rattle.jr_commit.specs.Restoring.{journal_path, gate_path, IsOpen, Restored, SameFiles, KeepsOthers, FindsOlds, HasNoJournal, SaysOpen}
 use Rattle.jr_commit.specs.Recovered.{Answers}
 use Rattle.jr_commit.specs.declared.recovery.Recovered.TheVariants.{Clean, RolledBack}
@@ -18,6 +20,10 @@ use Rattle.jr_commit.proofs.Back.{IsFound, restored_is}
 pub opened_on : (files : Option Image) (path : List ℕ) (f : Image) → files ≡ Some f → path ≡ gate_path → SaysOpen true files path → IsOpen f
 opened_on None path f is gate says = absurd (none-some f is)
 opened_on (Some d) path f is gate says = ap (λ (h : Image). h gate_path) (sym (same_Some d f is)) ∙ ap d (sym gate) ∙ says.0 refl
+
+-- the same, by what was read of the gate
+pub opened_by : (files : Option Image) (path : List ℕ) (is_open : Bool) (f : Image) → files ≡ Some f → path ≡ gate_path → is_open ≡ true → SaysOpen is_open files path → IsOpen f
+opened_by files path is_open f is gate truth says = opened_on files path f is gate (subst (λ b. SaysOpen b files path) truth says)
 
 pub shut_on : (files : Option Image) (path : List ℕ) (f : Image) → files ≡ Some f → path ≡ gate_path → SaysOpen false files path → IsOpen f → ⊥
 shut_on None path f is gate says is_open = absurd (none-some f is)
@@ -32,6 +38,17 @@ clean_answer (Some f) path gate says = shut_on (Some f) path f refl gate says
 pub rolled_answer : (files : Option Image) (gp jp : List ℕ) (es : List SideAt) (n : ℕ) → gp ≡ gate_path → jp ≡ journal_path → SaysOpen true files gp → FindsOlds files jp es → n ≡ length es → Answers (RolledBack n) files
 rolled_answer None gp jp es n gate journal says finds count = tt
 rolled_answer (Some f) gp jp es n gate journal says finds count = (opened_on (Some f) gp f refl gate says, finds.0, finds.2.version, finds.2.entries, sym (ap f journal) ∙ finds.1, finds.2.journal, count ∙ ap length finds.2.sides ∙ length_olds finds.2.version finds.2.entries finds.2.journal.shaped)
+
+-- what was read as steps is what they are taken as
+pub found_as : (files : Option Image) (path : List ℕ) (read taken : List Step) → taken ≡ read → FindsOlds files path (sides_of read) → FindsOlds files path (sides_of taken)
+found_as files path read taken same found = subst (λ (l : List Step). FindsOlds files path (sides_of l)) (sym same) found
+
+pub found_at_journal : (files : Option Image) (path : List ℕ) (read taken : List Step) → path ≡ journal_path → taken ≡ read → FindsOlds files path (sides_of read) → FindsOlds files journal_path (sides_of taken)
+found_at_journal files path read taken journal same found = subst (λ p. FindsOlds files p (sides_of taken)) journal (found_as files path read taken same found)
+
+-- the same of the files that the first read found
+pub found_first : (first files : Option Image) (path : List ℕ) (read taken : List Step) → files ≡ first → taken ≡ read → FindsOlds files path (sides_of read) → FindsOlds first path (sides_of taken)
+found_first first files path read taken told same found = subst (λ o. FindsOlds o path (sides_of taken)) told (found_as files path read taken same found)
 
 pub none_restored : (files : Option Image) (jp : List ℕ) (f r : Image) → files ≡ Some f → jp ≡ journal_path → HasNoJournal files jp → IsOpen f → Restored f r → ⊥
 none_restored None jp f r is journal none is_open restored = none-some f is

@@ -125,8 +125,8 @@ fn read_steps<S: Store>(
     }
 }
 
-// The actions of a recovery.
-fn put_back<S: Store>(alloc: Global, store: &mut S) -> Result<Recovered, RecoverFault>
+/// Puts the old files back where a crash left the gate open. A crash within it is recovered from too.
+pub fn recover<S: Store>(alloc: Global, store: &mut S) -> Result<Recovered, RecoverFault>
     // The files are those that the image stood for, and the gate is closed.
     ensures done { OnOk result (Tells (S.files store.old) (S.files store.new) (λ f g. (IsOpen g → ⊥) × ((r : Image) → Restored f r → SameFiles g r))) }
     ensures answer { IfOk result (λ answer. Answers answer (S.files store.old)) }
@@ -137,6 +137,9 @@ fn put_back<S: Store>(alloc: Global, store: &mut S) -> Result<Recovered, Recover
     // A crash at any moment leaves an image of the same files.
     ensures any_moment { (f r : Image) → S.files store.old ≡ Some f → Restored f r → StartsRecover f (S.may_leave store.old) →
         LeavesOnly S.moment S.left_since store.old store.new (λ c. RestoresTo c r) }
+
+    // Without a crash, so do reads, after a fault too.
+    ensures read_back { (f r g : Image) → S.files store.old ≡ Some f → Restored f r → StartsRecover f (S.may_leave store.old) → S.files store.new ≡ Some g → RestoresTo g r }
 
     // At `Ok` a crash leaves the files and a closed gate.
     ensures after { OnOk result ((f r : Image) → S.files store.old ≡ Some f → Restored f r → StartsRecover f (S.may_leave store.old) →
@@ -170,38 +173,4 @@ fn put_back<S: Store>(alloc: Global, store: &mut S) -> Result<Recovered, Recover
     take_steps_synced(store, &steps)?;
     remove_synced(store, &gate)?;
     Ok(Recovered::RolledBack(steps.len() as u32))
-}
-
-/// Puts the old files back where a crash left the gate open. A crash within it is recovered from too.
-pub fn recover<S: Store>(alloc: Global, store: &mut S) -> Result<Recovered, RecoverFault>
-    // The files are those that the image stood for, and the gate is closed.
-    ensures done { OnOk result (Tells (S.files store.old) (S.files store.new) (λ f g. (IsOpen g → ⊥) × ((r : Image) → Restored f r → SameFiles g r))) }
-    ensures answer { IfOk result (λ answer. Answers answer (S.files store.old)) }
-
-    // Only Java files and the gate change.
-    ensures others { Tells (S.files store.old) (S.files store.new) KeepsOthers }
-
-    // A crash at any moment leaves an image of the same files.
-    ensures any_moment { (f r : Image) → S.files store.old ≡ Some f → Restored f r → StartsRecover f (S.may_leave store.old) →
-        LeavesOnly S.moment S.left_since store.old store.new (λ c. RestoresTo c r) }
-
-    // Without a crash, so do reads, after a fault too.
-    ensures read_back { (f r g : Image) → S.files store.old ≡ Some f → Restored f r → StartsRecover f (S.may_leave store.old) → S.files store.new ≡ Some g → RestoresTo g r }
-
-    // At `Ok` a crash leaves the files and a closed gate.
-    ensures after { OnOk result ((f r : Image) → S.files store.old ≡ Some f → Restored f r → StartsRecover f (S.may_leave store.old) →
-        (c : Image) → S.may_leave store.new c → (IsOpen c → ⊥) × SameFiles c r) }
-
-    // After any end but a fault of the store the next call may begin.
-    ensures next { (IsErrOf result faults.Failed → ⊥) → MayBegin (S.files store.old) (S.may_leave store.old) → MayBegin (S.files store.new) (S.may_leave store.new) }
-
-    // Where the journal is bad or memory is short, nothing has changed.
-    ensures bad { IsErrOf result faults.BadJournal → (f : Image) → S.files store.old ≡ Some f → (r : Image) → Restored f r → ⊥ }
-    ensures unchanged { IsErrOf result faults.BadJournal → (S.files store.new ≡ S.files store.old) × ((c : Image) → S.may_leave store.new c → S.may_leave store.old c) }
-    ensures unchanged_memory { IsErrOf result faults.OutOfMemory → (S.files store.new ≡ S.files store.old) × ((c : Image) → S.may_leave store.new c → S.may_leave store.old c) }
-
-    ensures later { S.faults store.old ≤ S.faults store.new }
-    ensures failed { IsErrOf result faults.Failed → Rose (S.faults store.old) (S.faults store.new) }
-{
-    put_back(alloc, store)
 }

@@ -2,52 +2,21 @@
 use Rattle.std.proofs.Common.{◌≡◌, refl, sym, ◌∙◌, ap, ⊎_elim, arith, ℕ, zero, suc, ◌+◌, ◌-◌, ◌<◌, ◌≤◌, Bool, true, false, List, [], ◌∷◌, ◌++◌, length, Option, None}
 use Rattle.std.specs.List.{AllByRecursion}
 use Rattle.std.proofs.lemmas.Bool.{cases_lt}
-use Rattle.std.proofs.lemmas.List.{length-append, length-replicate, length_push, get_or-replicate, get_or_append_left, get_or-append_right, get_or_past, get_or_push}
+use Rattle.std.proofs.lemmas.List.{length-append, length-replicate, get_or-replicate, get_or_append_left, get_or-append_right, get_or_past}
 use Rattle.jr_tree.specs.Rows.{Rows, end}
 use Rattle.jr_tree.specs.Tree.{IsTree}
 use Rattle.jr_change.specs.declared.change.Change.{Change}
 use Rattle.jr_change.specs.declared.change.RowRange.{RowRange}
 use Rattle.jr_change.specs.declared.change.Segment.{Segment}
 use Rattle.jr_change.specs.declared.change.Segment.TheVariants as segment
-use Rattle.jr_locks.specs.Origins.{no_row, origin_of, run, down, of_segment, rest_in, origins, rests}
+use Rattle.jr_locks.specs.Origins.{no_row, origin_of, run, of_segment, rest_in, origins, rests}
 use Rattle.jr_locks.specs.Ending.{rest_at, StandsInOne}
 use Rattle.jr_locks.specs.Locked.{is_in, is_added}
 use Rattle.jr_locks.specs.Changed.{origins_by, rests_by}
-use Rattle.jr_locks.proofs.Standing.{each_origin}
+use Rattle.jr_locks.proofs.Standing.{run_long, run_at, down_at, rest_long, each_origin}
 use Rattle.jr_flow_laws.specs.Shifted.{IsIn}
 use Rattle.jr_copied_flow.specs.Alone.{copy_in, IsLeftAlone}
 use Rattle.jr_copied_flow.specs.Segments.{HasNoneOf, AreInOne, place_of, SaysOfNew}
-
--- ---- a run
-
-run_long : (first k : ℕ) → length (run first k) ≡ k
-run_long first zero = refl
-run_long first (suc k) = let l = length_push (run first k) (first + k) in let m = run_long first k in omega (arith, l, m)
-
-down_long : (from k : ℕ) → length (down from k) ≡ k
-down_long from zero = refl
-down_long from (suc k) = let l = length_push (down from k) (from - k) in let m = down_long from k in omega (arith, l, m)
-
-run_at : (first k j : ℕ) → j < k → origin_of (run first k) j ≡ first + j
-run_at first zero j less = absurd (omega (arith, less))
-run_at first (suc k) j less = ⊎_elim
-    (λ before. get_or_append_left (run first k) ((first + k) ∷ []) no_row j (let l = run_long first k in omega (arith, before, l)) ∙ run_at first k j before)
-    (λ here. let e : j ≡ k = omega (arith, here, less) in
-    ap (λ i. origin_of (run first k ++ (first + k) ∷ []) i) e ∙ get_or_push (run first k) (first + k) no_row k (run_long first k) ∙ ap (λ i. first + i) (sym e))
-    (cases_lt j k)
-
-down_at : (from k j : ℕ) → j < k → rest_at (down from k) j ≡ from - j
-down_at from zero j less = absurd (omega (arith, less))
-down_at from (suc k) j less = ⊎_elim
-    (λ before. get_or_append_left (down from k) ((from - k) ∷ []) 0 j (let l = down_long from k in omega (arith, before, l)) ∙ down_at from k j before)
-    (λ here. let e : j ≡ k = omega (arith, here, less) in
-    ap (λ i. rest_at (down from k ++ (from - k) ∷ []) i) e ∙ get_or_push (down from k) (from - k) 0 k (down_long from k) ∙ ap (λ i. from - i) (sym e))
-    (cases_lt j k)
-
-rest_long : (s : Segment) → length (rest_in s) ≡ length (of_segment s)
-rest_long (segment.Copy a b) = down_long (b - a) (b - a) ∙ sym (run_long a (b - a))
-rest_long (segment.Turned a) = refl
-rest_long (segment.Glue k) = length-replicate k 0 ∙ sym (length-replicate k no_row)
 
 -- ---- behind other segments
 

@@ -16,15 +16,15 @@ use Rattle.jr_locks.specs.Changed.{IsChanged, origins_by, turned_by, rests_by}
 
 -- ---- a run
 
-run_long : (first k : ℕ) → length (run first k) ≡ k
+pub run_long : (first k : ℕ) → length (run first k) ≡ k
 run_long first zero = refl
 run_long first (suc k) = let l = length_push (run first k) (first + k) in let m = run_long first k in omega (arith, l, m)
 
-down_long : (from k : ℕ) → length (down from k) ≡ k
+pub down_long : (from k : ℕ) → length (down from k) ≡ k
 down_long from zero = refl
 down_long from (suc k) = let l = length_push (down from k) (from - k) in let m = down_long from k in omega (arith, l, m)
 
-run_at : (first k j : ℕ) → j < k → origin_of (run first k) j ≡ first + j
+pub run_at : (first k j : ℕ) → j < k → origin_of (run first k) j ≡ first + j
 run_at first zero j lt = absurd (omega (arith, lt))
 run_at first (suc k) j lt = ⊎_elim
     (λ less. get_or_append_left (run first k) ((first + k) ∷ []) no_row j (let l = run_long first k in omega (arith, less, l)) ∙ run_at first k j less)
@@ -32,7 +32,7 @@ run_at first (suc k) j lt = ⊎_elim
     ap (λ i. origin_of (run first k ++ (first + k) ∷ []) i) e ∙ get_or_push (run first k) (first + k) no_row k (run_long first k) ∙ ap (λ i. first + i) (sym e))
     (cases_lt j k)
 
-down_at : (from k j : ℕ) → j < k → rest_at (down from k) j ≡ from - j
+pub down_at : (from k j : ℕ) → j < k → rest_at (down from k) j ≡ from - j
 down_at from zero j lt = absurd (omega (arith, lt))
 down_at from (suc k) j lt = ⊎_elim
     (λ less. get_or_append_left (down from k) ((from - k) ∷ []) 0 j (let l = down_long from k in omega (arith, less, l)) ∙ down_at from k j less)
@@ -42,7 +42,7 @@ down_at from (suc k) j lt = ⊎_elim
 
 -- ---- a segment
 
-rest_long : (s : Segment) → length (rest_in s) ≡ length (of_segment s)
+pub rest_long : (s : Segment) → length (rest_in s) ≡ length (of_segment s)
 rest_long (segment.Copy a b) = down_long (b - a) (b - a) ∙ sym (run_long a (b - a))
 rest_long (segment.Turned a) = refl
 rest_long (segment.Glue k) = length-replicate k 0 ∙ sym (length-replicate k no_row)

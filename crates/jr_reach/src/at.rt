@@ -9,10 +9,10 @@ use crate::course::{
     copied, either, group, has, jump_course, passed, past, past_loop, start, turn,
 };
 use crate::fact::fact_of;
-use crate::parts::{below, catches, condition_of, end_of, is_followed, known};
-use crate::{Course, Entry, Exit, Fact};
+use crate::parts::{Known, below, catches, condition_of, end_of, is_followed};
+use crate::{Course, Entry, Exit};
 use jr_base::{Items, OutOfMemory};
-use jr_tree::{Label, Row};
+use jr_tree::Label;
 use std::alloc::Global;
 
 fn loop_course(
@@ -78,23 +78,17 @@ fn labeled_course(alloc: Global, n: u32, body: &Course) -> Result<Course, OutOfM
     })
 }
 
-fn branch_course(
-    alloc: Global,
-    rows: &[Row],
-    all: &[Entry],
-    none: &Entry,
-    n: usize,
-) -> Result<Course, OutOfMemory>
-    requires there { n < length rows.now }
-    requires few { length rows.now < 2 ^ 32 }
-    requires none { none.now ≡ nothing }
-    ensures { IfOk result (λ course. course ≡ if_course rows.now (later (length rows.now) all.now) n) }
+fn branch_course(alloc: Global, known: Known, n: usize) -> Result<Course, OutOfMemory>
+    requires there { n < length known.rows.now }
+    requires few { length known.rows.now < 2 ^ 32 }
+    requires none { known.none.now ≡ nothing }
+    ensures { IfOk result (λ course. course ≡ if_course known.entry.rows.now (later (length known.entry.rows.now) known.entry.all.now) n) }
 {
-    let yes = end_of(rows, n + 1);
-    let no = end_of(rows, yes);
-    let first = &known(all, rows.len(), none, yes).own;
-    if no < end_of(rows, n) {
-        return either(alloc, first, &known(all, rows.len(), none, no).own);
+    let yes = end_of(known.rows, n + 1);
+    let no = end_of(known.rows, yes);
+    let first = &known.entry(yes).own;
+    if no < end_of(known.rows, n) {
+        return either(alloc, first, &known.entry(no).own);
     }
     Ok(Course {
         completes: true,
@@ -103,22 +97,16 @@ fn branch_course(
 }
 
 // The body of a `try`, or one of its catches.
-fn tried_course(
-    alloc: Global,
-    rows: &[Row],
-    all: &[Entry],
-    none: &Entry,
-    n: usize,
-) -> Result<Course, OutOfMemory>
-    requires there { n < length rows.now }
-    requires few { length rows.now < 2 ^ 32 }
-    requires none { none.now ≡ nothing }
-    ensures { IfOk result (λ course. course ≡ tried rows.now (later (length rows.now) all.now) n) }
+fn tried_course(alloc: Global, known: Known, n: usize) -> Result<Course, OutOfMemory>
+    requires there { n < length known.rows.now }
+    requires few { length known.rows.now < 2 ^ 32 }
+    requires none { known.none.now ≡ nothing }
+    ensures { IfOk result (λ course. course ≡ tried known.entry.rows.now (later (length known.entry.rows.now) known.entry.all.now) n) }
 {
-    let next = end_of(rows, n + 1);
-    let body = &known(all, rows.len(), none, n + 1).own;
-    if catches(rows, next) && next < end_of(rows, n) {
-        return either(alloc, body, &known(all, rows.len(), none, next).rest);
+    let next = end_of(known.rows, n + 1);
+    let body = &known.entry(n + 1).own;
+    if catches(known.rows, next) && next < end_of(known.rows, n) {
+        return either(alloc, body, &known.entry(next).rest);
     }
     copied(alloc, body)
 }
@@ -126,116 +114,91 @@ fn tried_course(
 // And then its `finally`.
 fn guarded_course(
     alloc: Global,
-    rows: &[Row],
-    all: &[Entry],
-    none: &Entry,
+    known: Known,
     n: usize,
     last: Option<u32>,
 ) -> Result<Course, OutOfMemory>
-    requires there { n < length rows.now }
-    requires few { length rows.now < 2 ^ 32 }
-    requires none { none.now ≡ nothing }
-    ensures { IfOk result (λ course. course ≡ try_course rows.now (later (length rows.now) all.now) n last) }
+    requires there { n < length known.rows.now }
+    requires few { length known.rows.now < 2 ^ 32 }
+    requires none { known.none.now ≡ nothing }
+    ensures { IfOk result (λ course. course ≡ try_course known.entry.rows.now (later (length known.entry.rows.now) known.entry.all.now) n last) }
 {
-    let course = tried_course(alloc, rows, all, none, n)?;
+    let course = tried_course(alloc, known, n)?;
     match last {
         None => Ok(course),
-        Some(row) => passed(
-            alloc,
-            &course,
-            &known(all, rows.len(), none, row as usize).own,
-        ),
+        Some(row) => passed(alloc, &course, &known.entry(row as usize).own),
     }
 }
 
 // The course of a row.
-fn own_course(
-    alloc: Global,
-    rows: &[Row],
-    facts: &[Fact],
-    all: &[Entry],
-    none: &Entry,
-    n: usize,
-) -> Result<Course, OutOfMemory>
-    requires there { n < length rows.now }
-    requires few { length rows.now < 2 ^ 32 }
-    requires none { none.now ≡ nothing }
-    ensures { IfOk result (λ course. course ≡ course_at rows.now facts.now (later (length rows.now) all.now) n) }
+fn own_course(alloc: Global, known: Known, n: usize) -> Result<Course, OutOfMemory>
+    requires there { n < length known.rows.now }
+    requires few { length known.rows.now < 2 ^ 32 }
+    requires none { known.none.now ≡ nothing }
+    ensures { IfOk result (λ course. course ≡ course_at known.entry.rows.now known.entry.facts.now (later (length known.entry.rows.now) known.entry.all.now) n) }
 {
-    match &rows[n].label {
-        Label::Block => below(alloc, rows, all, none, n),
-        Label::Nest => below(alloc, rows, all, none, n),
-        Label::Group => below(alloc, rows, all, none, n),
-        Label::Catch => below(alloc, rows, all, none, n),
-        Label::Method { .. } => below(alloc, rows, all, none, n),
-        Label::Initializer { .. } => below(alloc, rows, all, none, n),
-        Label::Labeled => labeled_course(alloc, n as u32, &below(alloc, rows, all, none, n)?),
-        Label::If => branch_course(alloc, rows, all, none, n),
+    match &known.rows[n].label {
+        Label::Block => below(alloc, known, n),
+        Label::Nest => below(alloc, known, n),
+        Label::Group => below(alloc, known, n),
+        Label::Catch => below(alloc, known, n),
+        Label::Method { .. } => below(alloc, known, n),
+        Label::Initializer { .. } => below(alloc, known, n),
+        Label::Labeled => labeled_course(alloc, n as u32, &below(alloc, known, n)?),
+        Label::If => branch_course(alloc, known, n),
         Label::While => loop_course(
             alloc,
-            fact_of(facts, n + 1).truth,
+            fact_of(known.facts, n + 1).truth,
             n as u32,
-            &below(alloc, rows, all, none, n)?,
+            &below(alloc, known, n)?,
         ),
         Label::For {
             has_first,
             has_condition: true,
         } => loop_course(
             alloc,
-            fact_of(facts, condition_of(rows, n, *has_first)).truth,
+            fact_of(known.facts, condition_of(known.rows, n, *has_first)).truth,
             n as u32,
-            &below(alloc, rows, all, none, n)?,
+            &below(alloc, known, n)?,
         ),
         Label::For {
             has_condition: false,
             ..
-        } => loop_course(
-            alloc,
-            Some(true),
-            n as u32,
-            &below(alloc, rows, all, none, n)?,
-        ),
+        } => loop_course(alloc, Some(true), n as u32, &below(alloc, known, n)?),
         Label::Do => do_course(
             alloc,
-            fact_of(facts, end_of(rows, n + 1)).truth,
+            fact_of(known.facts, end_of(known.rows, n + 1)).truth,
             n as u32,
-            &below(alloc, rows, all, none, n)?,
+            &below(alloc, known, n)?,
         ),
         Label::Switch => switch_course(
             alloc,
-            fact_of(facts, n).has_default,
+            fact_of(known.facts, n).has_default,
             n as u32,
-            &below(alloc, rows, all, none, n)?,
+            &below(alloc, known, n)?,
         ),
-        Label::Break { .. } => jump_course(alloc, fact_of(facts, n).exit),
-        Label::Continue { .. } => jump_course(alloc, fact_of(facts, n).exit),
+        Label::Break { .. } => jump_course(alloc, fact_of(known.facts, n).exit),
+        Label::Continue { .. } => jump_course(alloc, fact_of(known.facts, n).exit),
         Label::Return => jump_course(alloc, None),
         Label::Throw => jump_course(alloc, None),
-        Label::Try { .. } => guarded_course(alloc, rows, all, none, n, fact_of(facts, n).last),
+        Label::Try { .. } => guarded_course(alloc, known, n, fact_of(known.facts, n).last),
         _ => Ok(start(alloc)),
     }
 }
 
 // That of the row and its later siblings.
-fn rest_course(
-    alloc: Global,
-    rows: &[Row],
-    all: &[Entry],
-    none: &Entry,
-    n: usize,
-    own: &Course,
-) -> Result<Course, OutOfMemory>
-    requires there { n < length rows.now }
-    requires few { length rows.now < 2 ^ 32 }
-    requires none { none.now ≡ nothing }
-    ensures { IfOk result (λ course. course ≡ rest_by (label rows.now n) rows.now (later (length rows.now) all.now) n own.now) }
+fn rest_course(alloc: Global, known: Known, n: usize, own: &Course) -> Result<Course, OutOfMemory>
+    requires there { n < length known.rows.now }
+    requires few { length known.rows.now < 2 ^ 32 }
+    requires none { known.none.now ≡ nothing }
+    ensures { IfOk result (λ course. course ≡ rest_by (label known.entry.rows.now n) known.entry.rows.now (later (length known.entry.rows.now) known.entry.all.now) n own.now) }
 {
-    let next = end_of(rows, n);
-    let follows = is_followed(rows, n);
-    let more = &known(all, rows.len(), none, next).rest;
-    match &rows[n].label {
+    let next = end_of(known.rows, n);
+    let follows = is_followed(known.rows, n);
+    let more = &known.entry(next).rest;
+    match &known.rows[n].label {
         Label::Catch => {
-            if follows && catches(rows, next) {
+            if follows && catches(known.rows, next) {
                 return either(alloc, own, more);
             }
             copied(alloc, own)
@@ -282,64 +245,44 @@ fn has_course(label: &Label) -> bool
 }
 
 // What is known of any other row: it does nothing itself.
-fn plain_entry(
-    alloc: Global,
-    rows: &[Row],
-    all: &[Entry],
-    none: &Entry,
-    n: usize,
-) -> Result<Entry, OutOfMemory>
-    requires there { n < length rows.now }
-    requires few { length rows.now < 2 ^ 32 }
-    requires none { none.now ≡ nothing }
-    ensures { has_course (label rows.now n) ≡ false → IfOk result (λ made. (facts : Facts) → made ≡ entry_at rows.now facts (later (length rows.now) all.now) n) }
+fn plain_entry(alloc: Global, known: Known, n: usize) -> Result<Entry, OutOfMemory>
+    requires there { n < length known.rows.now }
+    requires few { length known.rows.now < 2 ^ 32 }
+    requires none { known.none.now ≡ nothing }
+    ensures { has_course (label known.entry.rows.now n) ≡ false → IfOk result (λ made. (facts : Facts) → made ≡ entry_at known.entry.rows.now facts (later (length known.entry.rows.now) known.entry.all.now) n) }
 {
     let own = start(alloc);
-    if !is_followed(rows, n) {
+    if !is_followed(known.rows, n) {
         return Ok(Entry {
             own,
             rest: start(alloc),
         });
     }
-    let more = &known(all, rows.len(), none, end_of(rows, n)).rest;
+    let more = &known.entry(end_of(known.rows, n)).rest;
     let rest = turn(alloc, &own, more)?;
     Ok(Entry { own, rest })
 }
 
 // What is known of a row that has a course of its own.
-fn full_entry(
-    alloc: Global,
-    rows: &[Row],
-    facts: &[Fact],
-    all: &[Entry],
-    none: &Entry,
-    n: usize,
-) -> Result<Entry, OutOfMemory>
-    requires there { n < length rows.now }
-    requires few { length rows.now < 2 ^ 32 }
-    requires none { none.now ≡ nothing }
-    ensures { IfOk result (λ made. made ≡ entry_at rows.now facts.now (later (length rows.now) all.now) n) }
+fn full_entry(alloc: Global, known: Known, n: usize) -> Result<Entry, OutOfMemory>
+    requires there { n < length known.rows.now }
+    requires few { length known.rows.now < 2 ^ 32 }
+    requires none { known.none.now ≡ nothing }
+    ensures { IfOk result (λ made. made ≡ entry_at known.entry.rows.now known.entry.facts.now (later (length known.entry.rows.now) known.entry.all.now) n) }
 {
-    let own = own_course(alloc, rows, facts, all, none, n)?;
-    let rest = rest_course(alloc, rows, all, none, n, &own)?;
+    let own = own_course(alloc, known, n)?;
+    let rest = rest_course(alloc, known, n, &own)?;
     Ok(Entry { own, rest })
 }
 
-pub(crate) fn entry_of(
-    alloc: Global,
-    rows: &[Row],
-    facts: &[Fact],
-    all: &[Entry],
-    none: &Entry,
-    n: usize,
-) -> Result<Entry, OutOfMemory>
-    requires there { n < length rows.now }
-    requires few { length rows.now < 2 ^ 32 }
-    requires none { none.now ≡ nothing }
-    ensures { IfOk result (λ made. made ≡ entry_at rows.now facts.now (later (length rows.now) all.now) n) }
+pub(crate) fn entry_of(alloc: Global, known: Known, n: usize) -> Result<Entry, OutOfMemory>
+    requires there { n < length known.rows.now }
+    requires few { length known.rows.now < 2 ^ 32 }
+    requires none { known.none.now ≡ nothing }
+    ensures { IfOk result (λ made. made ≡ entry_at known.entry.rows.now known.entry.facts.now (later (length known.entry.rows.now) known.entry.all.now) n) }
 {
-    if has_course(&rows[n].label) {
-        return full_entry(alloc, rows, facts, all, none, n);
+    if has_course(&known.rows[n].label) {
+        return full_entry(alloc, known, n);
     }
-    plain_entry(alloc, rows, all, none, n)
+    plain_entry(alloc, known, n)
 }

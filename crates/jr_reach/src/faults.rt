@@ -115,28 +115,30 @@ fn note(out: &mut Vec<Fault>, is_broken: bool, n: usize, rule: Rule) -> Result<(
     Ok(())
 }
 
+// What the rules read: rows, what is known of them, their courses, and which can be reached.
+#[derive(Clone, Copy)]
+struct Reading<'a> {
+    rows: &'a [Row],
+    facts: &'a [Fact],
+    all: &'a [Entry],
+    found: &'a [bool],
+}
+
 // The faults of a row at which a rule may be broken.
-fn note_tested(
-    rows: &[Row],
-    facts: &[Fact],
-    all: &[Entry],
-    found: &[bool],
-    n: usize,
-    out: &mut Vec<Fault>,
-) -> Result<(), OutOfMemory>
-    requires there { n < length rows.now }
-    requires few { length rows.now < 2 ^ 32 }
-    ensures { OnOk result (out.new.items ≡ out.old.items ++ faults_at rows.now facts.now (later (length rows.now) all.now) (earlier found.now) n) }
+fn note_tested(reading: Reading, n: usize, out: &mut Vec<Fault>) -> Result<(), OutOfMemory>
+    requires there { n < length reading.rows.now }
+    requires few { length reading.rows.now < 2 ^ 32 }
+    ensures { OnOk result (out.new.items ≡ out.old.items ++ faults_at reading.entry.rows.now reading.entry.facts.now (later (length reading.entry.rows.now) reading.entry.all.now) (earlier reading.entry.found.now) n) }
 {
-    let label = &rows[n].label;
-    note(out, is_jump_lost(label, facts, n), n, Rule::Jump)?;
+    let label = &reading.rows[n].label;
+    note(out, is_jump_lost(label, reading.facts, n), n, Rule::Jump)?;
     note(
         out,
-        is_first_unreached(rows, found, n),
+        is_first_unreached(reading.rows, reading.found, n),
         n,
         Rule::Unreachable,
     )?;
-    let completes = completes_at(all, rows.len(), n);
+    let completes = completes_at(reading.all, reading.rows.len(), n);
     note(
         out,
         is_completed_wrongly(label, completes),
@@ -146,22 +148,15 @@ fn note_tested(
 }
 
 // The faults of a row.
-fn note_row(
-    rows: &[Row],
-    facts: &[Fact],
-    all: &[Entry],
-    found: &[bool],
-    n: usize,
-    out: &mut Vec<Fault>,
-) -> Result<(), OutOfMemory>
-    requires there { n < length rows.now }
-    requires few { length rows.now < 2 ^ 32 }
-    ensures { OnOk result (out.new.items ≡ out.old.items ++ faults_at rows.now facts.now (later (length rows.now) all.now) (earlier found.now) n) }
+fn note_row(reading: Reading, n: usize, out: &mut Vec<Fault>) -> Result<(), OutOfMemory>
+    requires there { n < length reading.rows.now }
+    requires few { length reading.rows.now < 2 ^ 32 }
+    ensures { OnOk result (out.new.items ≡ out.old.items ++ faults_at reading.entry.rows.now reading.entry.facts.now (later (length reading.entry.rows.now) reading.entry.all.now) (earlier reading.entry.found.now) n) }
 {
-    if !may_break(&rows[n].label) {
+    if !may_break(&reading.rows[n].label) {
         return Ok(());
     }
-    note_tested(rows, facts, all, found, n, out)
+    note_tested(reading, n, out)
 }
 
 /// Adds the jumps without target, the first of statements that cannot be reached, and the bodies that complete otherwise than they may, by the
@@ -176,8 +171,14 @@ pub fn reach_faults(
     requires { length rows.now < 2 ^ 32 }
     ensures { OnOk result (out.new.items ≡ out.old.items ++ faults_below rows.now facts.now (later (length rows.now) all.now) (earlier found.now) (length rows.now)) }
 {
+    let reading = Reading {
+        rows,
+        facts,
+        all,
+        found,
+    };
     for n in 0..rows.len() {
-        note_row(rows, facts, all, found, n, out)?;
+        note_row(reading, n, out)?;
     }
     Ok(())
 }

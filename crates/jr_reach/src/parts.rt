@@ -5,10 +5,38 @@ ghost use Rattle.jr_reach.specs.Courses.{begun};
 ghost use Rattle.jr_reach.specs.Statements.{nothing, later, is_catch, has_next, kids, for_condition};
 
 use crate::course::{copied, start};
-use crate::{Course, Entry};
+use crate::{Course, Entry, Fact};
 use jr_base::OutOfMemory;
 use jr_tree::{Label, Row};
 use std::alloc::Global;
+
+// What is known where a row gets its course.
+#[derive(Clone, Copy)]
+pub(crate) struct Known<'a> {
+    pub(crate) rows: &'a [Row],
+    pub(crate) facts: &'a [Fact],
+    // The entries of the last rows, the last one first.
+    pub(crate) all: &'a [Entry],
+    // That of no row.
+    pub(crate) none: &'a Entry,
+}
+
+impl<'a> Known<'a> {
+    // The entry of a row.
+    pub(crate) fn entry(self, n: usize) -> &'a Entry
+        requires none { self.none.now ≡ nothing }
+        ensures { result.now ≡ later (length self.entry.rows.now) self.entry.all.now n }
+    {
+        let total = self.rows.len();
+        if n >= total {
+            return self.none;
+        }
+        match self.all.get(total - 1 - n) {
+            Some(entry) => entry,
+            None => self.none,
+        }
+    }
+}
 
 // The number after what stands below a row; past the end, that of a row alone.
 pub(crate) fn end_of(rows: &[Row], n: usize) -> usize
@@ -40,20 +68,6 @@ pub(crate) fn no_entry(alloc: Global) -> Entry
     }
 }
 
-// What is known of a row, by the entries of the last rows.
-pub(crate) fn known<'a>(all: &'a [Entry], total: usize, none: &'a Entry, n: usize) -> &'a Entry
-    requires none { none.now ≡ nothing }
-    ensures { result.now ≡ later total all.now n }
-{
-    if n >= total {
-        return none;
-    }
-    match all.get(total - 1 - n) {
-        Some(entry) => entry,
-        None => none,
-    }
-}
-
 pub(crate) fn catches(rows: &[Row], n: usize) -> bool
     ensures { result ≡ is_catch (label rows.now n) }
 {
@@ -76,20 +90,14 @@ pub(crate) fn is_followed(rows: &[Row], n: usize) -> bool
 }
 
 // All that stands right below the row, one after the other.
-pub(crate) fn below(
-    alloc: Global,
-    rows: &[Row],
-    all: &[Entry],
-    none: &Entry,
-    n: usize,
-) -> Result<Course, OutOfMemory>
-    requires there { n < length rows.now }
-    requires few { length rows.now < 2 ^ 32 }
-    requires none { none.now ≡ nothing }
-    ensures { IfOk result (λ course. course ≡ kids rows.now (later (length rows.now) all.now) n) }
+pub(crate) fn below(alloc: Global, known: Known, n: usize) -> Result<Course, OutOfMemory>
+    requires there { n < length known.rows.now }
+    requires few { length known.rows.now < 2 ^ 32 }
+    requires none { known.none.now ≡ nothing }
+    ensures { IfOk result (λ course. course ≡ kids known.entry.rows.now (later (length known.entry.rows.now) known.entry.all.now) n) }
 {
-    if n + 1 < end_of(rows, n) {
-        return copied(alloc, &known(all, rows.len(), none, n + 1).rest);
+    if n + 1 < end_of(known.rows, n) {
+        return copied(alloc, &known.entry(n + 1).rest);
     }
     Ok(start(alloc))
 }

@@ -3,7 +3,7 @@ ghost use Rattle.std.specs.Prelude.{◌≡◌, ◌<◌, ◌^◌, IfOk, length};
 ghost use Rattle.jr_reach.specs.Statements.{later, entries};
 
 use crate::at::entry_of;
-use crate::parts::no_entry;
+use crate::parts::{Known, no_entry};
 use crate::{Entry, Fact};
 use jr_base::OutOfMemory;
 use jr_tree::Row;
@@ -17,7 +17,13 @@ pub fn courses_of(alloc: Global, rows: &[Row], facts: &[Fact]) -> Result<Vec<Ent
     let none = no_entry(alloc);
     let mut all = Vec::new(alloc);
     for done in 0..rows.len() {
-        let made = entry_of(alloc, rows, facts, &all, &none, rows.len() - 1 - done)?;
+        let known = Known {
+            rows,
+            facts,
+            all: &all,
+            none: &none,
+        };
+        let made = entry_of(alloc, known, rows.len() - 1 - done)?;
         all.push(made)?;
     }
     Ok(all)

@@ -145,12 +145,12 @@ abbrev pub spelled : Marks → Table → Spelling → List Piece
 spelled m t s = spelled_in m t (unit_of m s.row) s
 
 -- the number of the spelling of each row, the last one that it has
-abbrev pub chosen_from : ℕ → List Spelling → List (Option ℕ) → List (Option ℕ)
-chosen_from i [] all = all
-chosen_from i (s ∷ rest) all = chosen_from (i + 1) rest (slice_set all s.row (Some i))
+abbrev pub choices_from : ℕ → List Spelling → List (Option ℕ) → List (Option ℕ)
+choices_from i [] all = all
+choices_from i (s ∷ rest) all = choices_from (i + 1) rest (slice_set all s.row (Some i))
 
-abbrev pub chosen : Rows → List Spelling → List (Option ℕ)
-chosen p c = chosen_from 0 c (replicate (length p) None)
+abbrev pub choices : Rows → List Spelling → List (Option ℕ)
+choices p c = choices_from 0 c (replicate (length p) None)
 
 abbrev pub spelling_in : List Spelling → Option ℕ → Option Spelling
 spelling_in c None = None
@@ -166,4 +166,4 @@ pieces_from m t c (i ∷ rest) = spelled_by m t (spelling_in c i) ++ pieces_from
 
 -- what the spellings change, row by row
 abbrev pub pieces : Marks → Table → List Spelling → List Piece
-pieces m t c = pieces_from m t c (chosen m.rows.now c)
+pieces m t c = pieces_from m t c (choices m.rows.now c)

@@ -68,7 +68,7 @@ fn put_named(
     rows: &[Row],
     suffix: Suffix,
 ) -> Result<(), OutOfMemory>
-    ensures { OnOk result (text.new.items ≡ text.old.items ++ spec.named rows.now suffix) }
+    ensures { OnOk result (text.new.items ≡ text.old.items ++ spec.suffix_text rows.now suffix) }
 {
     let names = suffix_rows(alloc, rows, suffix)?;
     put_dotted(text, rows, &names)
@@ -180,7 +180,7 @@ fn put_shaped(
     shape: Shape,
     name: u32,
 ) -> Result<(), OutOfMemory>
-    ensures { OnOk result (text.new.items ≡ text.old.items ++ spec.shaped rows.now shape name) }
+    ensures { OnOk result (text.new.items ≡ text.old.items ++ spec.shape_text rows.now shape name) }
 {
     match shape {
         Shape::Named(suffix) => put_named(alloc, text, rows, suffix),
@@ -235,7 +235,7 @@ fn put_typed(
     rows: &[Row],
     ty: TypeName,
 ) -> Result<(), OutOfMemory>
-    ensures { OnOk result (text.new.items ≡ text.old.items ++ spec.typed rows.now ty) }
+    ensures { OnOk result (text.new.items ≡ text.old.items ++ spec.type_text rows.now ty) }
 {
     put_element(alloc, text, rows, ty.count, ty.element)?;
     put_brackets(text, ty.dims)

@@ -35,7 +35,7 @@ fn chosen_of(
     rows: &[Row],
     spellings: &[Spelling],
 ) -> Result<Vec<Option<usize>>, OutOfMemory>
-    ensures { IfOk result (λ all. all.items ≡ spec.chosen rows.now spellings.now) }
+    ensures { IfOk result (λ all. all.items ≡ spec.choices rows.now spellings.now) }
 {
     let mut all = vec![in alloc; None; rows.len()]?;
     for (number, spelling) in spellings.iter().enumerate() {
