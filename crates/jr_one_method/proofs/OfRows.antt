@@ -14,45 +14,12 @@ use Rattle.jr_tree.specs.declared.row.Row.{Row}
 use Rattle.jr_tree.specs.Forest.{Forest, none, more, size}
 use Rattle.jr_tree.specs.Rows.{Rows, rows_from, row, label, parent, program_rows}
 use Rattle.jr_tree.specs.Below.{IsTypeLabel, Under, Fits}
-use Rattle.jr_tree.proofs.Trees.{at_index, nothing, past, length_rows, units_forest}
+use Rattle.jr_tree.proofs.Trees.{past, length_rows, units_forest}
+use Rattle.jr_tree.proofs.Locals.{HasRows, which, program_has_rows}
 use Rattle.jr_tree.proofs.FittingStmts.{units_fit}
 use Rattle.jr_defs.specs.Supertypes.{IsSuperclassLabel}
 use Rattle.jr_one_method.specs.OneMethod.{TypesNameOneSuperclass}
 use Rattle.jr_one_method.proofs.Ordered.{NamesNone, NamesFirst, Ordered, units_ordered}
-
--- ---- the rows of a forest
-
--- from the number on the rows are those of the forest, whose roots are below the row over
-abbrev HasRows : Rows → ℕ → ℕ → Forest → Type 0
-HasRows p over at none = ⊤
-HasRows p over at (more l x kids rest) = (label p at ≡ l) × (parent p at ≡ over) × HasRows p at (at + 1) kids × HasRows p over (at + 1 + size kids) rest
-
--- from the number on the rows are these
-abbrev Holds : Rows → ℕ → Rows → Type 0
-Holds p at rs = (i : ℕ) → i < length rs → row p (at + i) ≡ at_index rs i
-
-holds_first : (p : Rows) (at : ℕ) (h : Row) (ks rs : Rows) → Holds p at (h ∷ ks ++ rs) → row p at ≡ h
-holds_first p at h ks rs w = let z : at ≡ at + 0 = omega arith in ap (row p) z ∙ w 0 (omega arith)
-
-holds_left : (p : Rows) (at : ℕ) (h : Row) (ks rs : Rows) → Holds p at (h ∷ ks ++ rs) → Holds p (at + 1) ks
-holds_left p at h ks rs w i l = let s = length-append ks rs in let z : at + 1 + i ≡ at + suc i = omega arith in
-    ap (row p) z ∙ w (suc i) (omega arith) ∙ get_or-append ks rs nothing i l
-
-holds_right : (p : Rows) (at : ℕ) (h : Row) (ks rs : Rows) → Holds p at (h ∷ ks ++ rs) → Holds p (at + 1 + length ks) rs
-holds_right p at h ks rs w i l = let s = length-append ks rs in let z : at + 1 + length ks + i ≡ at + suc (length ks + i) = omega arith in
-    ap (row p) z ∙ w (suc (length ks + i)) (omega arith) ∙ get_or-append-add ks rs i nothing
-
-has_rows : (p : Rows) (over before at : ℕ) (f : Forest) → Holds p at (rows_from over before at f) → HasRows p over at f
-has_rows p over before at none w = tt
-has_rows p over before at (more l x kids rest) w =
-    let below = rows_from at at (at + 1) kids in let behind = rows_from over at (at + 1 + size kids) rest in
-    let head : Row = record { label = l; name = x; parent = over; end = at + 1 + size kids; previous = before } in
-    let e = holds_first p at head below behind w in (
-      ap (λ r. r.label) e,
-      ap (λ r. r.parent) e,
-      has_rows p at at (at + 1) kids (holds_left p at head below behind w),
-      has_rows p over at (at + 1 + size kids) rest (subst (λ n. Holds p (at + 1 + n) behind) (length_rows at at (at + 1) kids) (holds_right p at head below behind w)),
-    )
 
 -- ---- the name of a superclass stands first
 
@@ -88,15 +55,6 @@ module _ (p : Rows) where
   abbrev IsBehind : ℕ → Type 0
   IsBehind n = IsSuperclassLabel (label p n) → n ≡ parent p n + 1
 
-  which : (n at mid : ℕ) → at ≤ n → (n ≡ at) ⊎ ((at + 1 ≤ n) × (n < mid)) ⊎ (mid ≤ n)
-  which n at mid ge = elim (split n at) [ inl q ↦ inl (omega arith) | inr q ↦ elim (below n mid) [ inl r ↦ inr (inl (omega arith, r)) | inr r ↦ inr (inr r) ] ]
-    where
-      split : (n at : ℕ) → (n ≤ at) ⊎ (at + 1 ≤ n)
-      split n at = grind arith
-
-      below : (n mid : ℕ) → (n < mid) ⊎ (mid ≤ n)
-      below n mid = grind arith
-
   by_place : (at size_of_kids size_of_rest n : ℕ) → at ≤ n → n < at + (1 + size_of_kids + size_of_rest) → IsBehind at → ((n : ℕ) → at + 1 ≤ n → n < at + 1 + size_of_kids → IsBehind n)
       → ((n : ℕ) → at + 1 + size_of_kids ≤ n → n < at + 1 + size_of_kids + size_of_rest → IsBehind n) → IsBehind n
   by_place at k r n ge lt own inside behind = elim (which n at (at + 1 + k) ge) [
@@ -109,13 +67,13 @@ module _ (p : Rows) where
     kids_behind : (f : Forest) (over : ℕ) (lo : Label) → HasRows p over (over + 1) f → Fits lo f → Ordered f → NamesFirst f → (n : ℕ) → over + 1 ≤ n → n < over + 1 + size f → IsBehind n
     kids_behind none over lo w fits o first n ge lt = absurd (omega arith)
     kids_behind (more l x kids rest) over lo w fits o first n ge lt = by_place (over + 1) (size kids) (size rest) n ge lt (λ s. ap (λ m. m + 1) (sym w.1))
-        (λ n. kids_behind kids (over + 1) l w.2 fits.2 o.1 (names_first l kids fits.2 o.0) n) (λ n. rest_behind rest over (over + 1 + 1 + size kids) lo w.3 fits.3 o.2 first n)
+        (λ n. kids_behind kids (over + 1) l w.3 fits.2 o.1 (names_first l kids fits.2 o.0) n) (λ n. rest_behind rest over (over + 1 + 1 + size kids) lo w.4 fits.3 o.2 first n)
 
     -- behind such rows
     rest_behind : (f : Forest) (over at : ℕ) (lo : Label) → HasRows p over at f → Fits lo f → Ordered f → NamesNone f → (n : ℕ) → at ≤ n → n < at + size f → IsBehind n
     rest_behind none over at lo w fits o no' n ge lt = absurd (omega arith)
     rest_behind (more l x kids rest) over at lo w fits o no' n ge lt = by_place at (size kids) (size rest) n ge lt (λ s. absurd (no'.0 (subst IsSuperclassLabel w.0 s)))
-        (λ n. kids_behind kids at l w.2 fits.2 o.1 (names_first l kids fits.2 o.0) n) (λ n. rest_behind rest over (at + 1 + size kids) lo w.3 fits.3 o.2 no'.1 n)
+        (λ n. kids_behind kids at l w.3 fits.2 o.1 (names_first l kids fits.2 o.0) n) (λ n. rest_behind rest over (at + 1 + size kids) lo w.4 fits.3 o.2 no'.1 n)
 
 -- ---- programs
 
@@ -126,11 +84,11 @@ within p n s = elim (cases_lt n (length p)) [ inl lt ↦ lt | inr le ↦ absurd 
 pub is_behind : (units : List declared_unit.Unit) → AllByRecursion IsShaped units → (n : ℕ) → IsSuperclassLabel (label (program_rows units) n) → n ≡ parent (program_rows units) n + 1
 is_behind units shaped n s =
     let p = program_rows units in let all = units_forest units in
-    let w = has_rows p 0 0 0 (more is.Program [] all none) (λ i l. let z : 0 + i ≡ i = omega arith in ap (row p) z ∙ get_or_default p i (past i) nothing l) in
+    let w = program_has_rows units in
     let long = length_rows 0 0 0 (more is.Program [] all none) in let lt = within p n s in
     elim (first_or n) [
       | inl e ↦ absurd (subst IsSuperclassLabel (ap (label p) e ∙ w.0) s)
-      | inr le ↦ rest_behind p all 0 1 is.Program w.2 (units_fit units shaped) (units_ordered units shaped) (none_below is.Program all (λ h. h) (units_fit units shaped)) n le (omega arith) s
+      | inr le ↦ rest_behind p all 0 1 is.Program w.3 (units_fit units shaped) (units_ordered units shaped) (none_below is.Program all (λ h. h) (units_fit units shaped)) n le (omega arith) s
     ]
   where
     first_or : (n : ℕ) → (n ≡ 0) ⊎ (1 ≤ n)

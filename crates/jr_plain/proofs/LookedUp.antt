@@ -141,7 +141,7 @@ module _ (p : Rows) (t : Table) (headed : IsHeaded p) where
   visible_at_has k x o d r = if_has same_candidate candidate_tells (is_visible p t k x o d r) (visible_tells p t headed k x o d r) ((d, level_of (role_at p d) r) ∷ [])
       (one_has same_candidate candidate_tells (d, level_of (role_at p d) r))
 
-  visible_through_has : (k : Space) (x : Text) (o : ℕ) → Has same_candidate (plain.visible_through p t k x o) (λ c. VisibleThrough p t k x o c.0 c.1)
+  pub visible_through_has : (k : Space) (x : Text) (o : ℕ) → Has same_candidate (plain.visible_through p t k x o) (λ c. VisibleThrough p t k x o c.0 c.1)
   visible_through_has k x o c = like
       (gathered_has same_candidate candidate_tells (λ d c. Declares p k x d × ((r : Depth) × VisibleAt k x o d r c))
       (λ d. if declares p k x d then gathered (depths p) (λ r. plain.visible_at p t k x o d (depth_at r)) else [])
@@ -152,7 +152,7 @@ module _ (p : Rows) (t : Table) (headed : IsHeaded p) where
       (λ h. subst (λ e. VisibleThrough p t k x o e.0 e.1) h.1.1.1.1 (record { depth = h.1.1.0; visible = h.1.1.1.0; through = refl }))
       (λ h. (c.0, (h.visible.in_scope.declares, (h.depth, (h.visible, λ i. (c.0, h.through i))))))
 
-  none_tells : (k : Space) (x : Text) (o : ℕ) → Decides (plain.none_in_scope p t k x o) (NoneInScope p t k x o)
+  pub none_tells : (k : Space) (x : Text) (o : ℕ) → Decides (plain.none_in_scope p t k x o) (NoneInScope p t k x o)
   none_tells k x o = like
       (opposite (some (λ d. is_somewhere_in_scope p t k x o d) (λ d. (r : Depth) × InScope p t k x o d r) (λ d. somewhere_tells p t headed k x o d) (length p)
       (λ d h. in_scope_below p t headed k x o d h.0 h.1)))

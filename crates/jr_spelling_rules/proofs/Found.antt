@@ -31,6 +31,7 @@ use Rattle.jr_plain.proofs.Same.{candidate_tells}
 use Rattle.jr_plain.proofs.Listed.{or_else_has, append_has, one_has, if_has, gathered_has, at_level_has}
 use Rattle.jr_plain.proofs.Answered.{answer_is}
 use Rattle.jr_plain.proofs.Declared.{declares_tells}
+use Rattle.jr_plain.proofs.LookedUp.{visible_through_has, none_tells}
 use Rattle.jr_plain.proofs.Membership.{members_named_list}
 use Rattle.jr_plain.proofs.Packaged.{type_of_package_tells}
 use Rattle.jr_plain.proofs.Scoped.{each_depth_has, declares_below, in_scope_below, depth_below, somewhere_tells, visible_tells}
@@ -54,38 +55,14 @@ answer_by_list C all other tells = answer_is C (λ r. r ≡ other) all tells oth
 module _ (p : Rows) (t : Table) (headed : IsHeaded p) where
   -- ---- names without a dot
 
-  abbrev VisibleAt : Space → Text → ℕ → ℕ → Depth → ℕ × Option ℕ → Type 0
-  VisibleAt k x o d r c = Visible p t k x o d r × ((d, level_of (role_at p d) r) ≡ c)
-
-  visible_at_has : (k : Space) (x : Text) (o d : ℕ) (r : Depth) → Has same_candidate (plain.visible_at p t k x o d r) (VisibleAt k x o d r)
-  visible_at_has k x o d r = if_has same_candidate candidate_tells (is_visible p t k x o d r) (visible_tells p t headed k x o d r) ((d, level_of (role_at p d) r) ∷ [])
-      (one_has same_candidate candidate_tells (d, level_of (role_at p d) r))
-
-  visible_through_has : (k : Space) (x : Text) (o : ℕ) → Has same_candidate (plain.visible_through p t k x o) (λ c. VisibleThrough p t k x o c.0 c.1)
-  visible_through_has k x o c = like
-      (gathered_has same_candidate candidate_tells (λ d c. Declares p k x d × ((r : Depth) × VisibleAt k x o d r c))
-      (λ d. if declares p k x d then gathered (depths p) (λ r. plain.visible_at p t k x o d (depth_at r)) else [])
-      (λ d. if_has same_candidate candidate_tells (declares p k x d) (declares_tells p k x d) (gathered (depths p) (λ r. plain.visible_at p t k x o d (depth_at r)))
-      (each_depth_has same_candidate candidate_tells p (VisibleAt k x o d) (λ r. plain.visible_at p t k x o d r) (visible_at_has k x o d)
-      (λ s c h. depth_below p t headed k x o d s h.0.in_scope)))
-      (length p) (λ d c h. declares_below p k x d h.0) c)
-      (λ h. subst (λ e. VisibleThrough p t k x o e.0 e.1) h.1.1.1.1 (record { depth = h.1.1.0; visible = h.1.1.1.0; through = refl }))
-      (λ h. (c.0, (h.visible.in_scope.declares, (h.depth, (h.visible, λ i. (c.0, h.through i))))))
-
-  none_tells : (k : Space) (x : Text) (o : ℕ) → Decides (plain.none_in_scope p t k x o) (NoneInScope p t k x o)
-  none_tells k x o = like
-      (opposite (some (λ d. is_somewhere_in_scope p t k x o d) (λ d. (r : Depth) × InScope p t k x o d r) (λ d. somewhere_tells p t headed k x o d) (length p)
-      (λ d h. in_scope_below p t headed k x o d h.0 h.1)))
-      (λ h d r k. h (d, (r, k))) (λ h k. h k.0 k.1.0 k.1.1)
-
   simple_has : (x : Text) (o : ℕ) (k : NameKind) → Has same_candidate (plain.simple_candidates p t x o k) (λ c. SimpleCandidate p t x o k c.0 c.1)
-  simple_has x o kind.Variable c = like (visible_through_has space.Variable x o c) (λ h. SimpleCandidate.variable h) (λ h. elim h [ SimpleCandidate.variable v ↦ v ])
-  simple_has x o kind.Type c = like (visible_through_has space.Type x o c) (λ h. SimpleCandidate.type h) (λ h. elim h [ SimpleCandidate.type v ↦ v ])
-  simple_has x o kind.PackageOrType c = like (visible_through_has space.Type x o c) (λ h. SimpleCandidate.package_or_type h) (λ h. elim h [ SimpleCandidate.package_or_type v ↦ v ])
+  simple_has x o kind.Variable c = like (visible_through_has p t headed space.Variable x o c) (λ h. SimpleCandidate.variable h) (λ h. elim h [ SimpleCandidate.variable v ↦ v ])
+  simple_has x o kind.Type c = like (visible_through_has p t headed space.Type x o c) (λ h. SimpleCandidate.type h) (λ h. elim h [ SimpleCandidate.type v ↦ v ])
+  simple_has x o kind.PackageOrType c = like (visible_through_has p t headed space.Type x o c) (λ h. SimpleCandidate.package_or_type h) (λ h. elim h [ SimpleCandidate.package_or_type v ↦ v ])
   simple_has x o kind.Ambiguous c = like
       (append_has same_candidate candidate_tells (plain.visible_through p t space.Variable x o) (if plain.none_in_scope p t space.Variable x o then plain.visible_through p t space.Type x o else [])
-      (visible_through_has space.Variable x o)
-      (if_has same_candidate candidate_tells (plain.none_in_scope p t space.Variable x o) (none_tells space.Variable x o) (plain.visible_through p t space.Type x o) (visible_through_has space.Type x o)) c)
+      (visible_through_has p t headed space.Variable x o)
+      (if_has same_candidate candidate_tells (plain.none_in_scope p t space.Variable x o) (none_tells p t headed space.Variable x o) (plain.visible_through p t space.Type x o) (visible_through_has p t headed space.Type x o)) c)
       (⊎_elim (λ h. SimpleCandidate.first_variable h) (λ h. SimpleCandidate.then_type h.0 h.1))
       (λ h. elim h [ SimpleCandidate.first_variable v ↦ inl v | SimpleCandidate.then_type n v ↦ inr (n, v) ])
   simple_has x o kind.Package c = like never (λ h. absurd h) (λ h. elim h [ ])

@@ -89,6 +89,16 @@ starts_at p at (is.This false) kids h w e = tt
 starts_at p at (is.Import form) kids h w e = first_type p at kids h w
 starts_at p at _ kids h w e = tt
 
+pub side : (n mid : ℕ) → (n < mid) ⊎ (mid ≤ n)
+side n mid = grind arith
+
+-- a row of a forest is its first, or below that, or behind
+pub which : (n at mid : ℕ) → at ≤ n → (n ≡ at) ⊎ ((at + 1 ≤ n) × (n < mid)) ⊎ (mid ≤ n)
+which n at mid ge = elim (split n at) [ inl q ↦ inl (omega arith) | inr q ↦ elim (side n mid) [ inl r ↦ inr (inl (omega arith, r)) | inr r ↦ inr (inr r) ] ]
+  where
+    split : (n at : ℕ) → (n ≤ at) ⊎ (at + 1 ≤ n)
+    split n at = grind arith
+
 record RowFits (p : Rows) (n : ℕ) : Type 0 where
   under : Under (label p (parent p n)) (label p n)
   starts : StartsAt p n (label p n)
@@ -99,15 +109,6 @@ each_row p (more l x kids rest) over at lo e w h n ge lt = by_place (n - at) (wh
     (λ lo' hi. each_row p kids at (at + 1) l w.0 w.3 h.2 n lo' hi)
     (λ lo' hi. each_row p rest over (at + 1 + size kids) lo e w.4 h.3 n lo' hi)
   where
-    which : (n at mid : ℕ) → at ≤ n → (n ≡ at) ⊎ ((at + 1 ≤ n) × (n < mid)) ⊎ (mid ≤ n)
-    which n at mid ge = elim (split n at) [ inl q ↦ inl (omega arith) | inr q ↦ elim (split' n mid) [ inl r ↦ inr (inl (omega arith, r)) | inr r ↦ inr (inr r) ] ]
-      where
-        split : (n at : ℕ) → (n ≤ at) ⊎ (at + 1 ≤ n)
-        split n at = grind arith
-
-        split' : (n mid : ℕ) → (n < mid) ⊎ (mid ≤ n)
-        split' n mid = grind arith
-
     here : RowFits p at
     here = record {
       under = subst (λ m. Under m (label p at)) (sym (ap (label p) w.1 ∙ e)) (subst (λ m. Under lo m) (sym w.0) h.0);
@@ -123,10 +124,14 @@ each_row p (more l x kids rest) over at lo e w h n ge lt = by_place (n - at) (wh
 holds_itself : (p : Rows) → Holds p 0 p
 holds_itself p = record { each_is = λ i l. let z : 0 + i ≡ i = omega arith in ap (row p) z ∙ get_or_default p i (past i) nothing l }
 
+-- the rows of a program are those of its forest
+pub program_has_rows : (units : List declared_unit.Unit) → HasRows (program_rows units) 0 0 (more is.Program [] (units_forest units) none)
+program_has_rows units = has_rows (program_rows units) 0 0 0 (more is.Program [] (units_forest units) none) (holds_itself (program_rows units))
+
 pub each_program_is_local : EachProgramIsLocal
 each_program_is_local units shaped =
     let p = program_rows units in
-    let w = has_rows (program_rows units) 0 0 0 (more is.Program [] (units_forest units) none) (holds_itself (program_rows units)) in
+    let w = program_has_rows units in
     let s = length_rows 0 0 0 (more is.Program [] (units_forest units) none) in record {
       tree = each_program_is_tree units;
       program = w.0;

@@ -13,50 +13,10 @@ use Rattle.jr_tree.specs.Forest.{Forest, none, more, size}
 use Rattle.jr_tree.specs.Rows.{Rows, rows_from, row, label, parent, end, program_rows}
 use Rattle.jr_tree.specs.Tree.{IsTree}
 use Rattle.jr_tree.proofs.Trees.{at_index, nothing, past, length_rows, each_program_is_tree, units_forest}
-use Rattle.jr_tree.proofs.Locals.{HasRows}
+use Rattle.jr_tree.proofs.Locals.{HasRows, side, which, program_has_rows}
 use Rattle.jr_rules.specs.CreationTests.{is_this_call}
 use Rattle.jr_type_facts.specs.Rounds.{HaveOneCall}
 use Rattle.jr_type_facts.proofs.CallTrees.{IsNoCall, HasNoCall, CallsFirst, CallsInLast, CallsInBodies, units_call}
-
--- ---- the rows of a forest
-
--- from the number on the rows are these
-abbrev Holds : Rows → ℕ → Rows → Type 0
-Holds p at rs = (i : ℕ) → i < length rs → row p (at + i) ≡ at_index rs i
-
-holds_first : (p : Rows) (at : ℕ) (h : Row) (ks rs : Rows) → Holds p at (h ∷ ks ++ rs) → row p at ≡ h
-holds_first p at h ks rs w = let z : at ≡ at + 0 = omega arith in ap (row p) z ∙ w 0 (omega arith)
-
-holds_left : (p : Rows) (at : ℕ) (h : Row) (ks rs : Rows) → Holds p at (h ∷ ks ++ rs) → Holds p (at + 1) ks
-holds_left p at h ks rs w i l = let s = length-append ks rs in let z : at + 1 + i ≡ at + suc i = omega arith in
-    ap (row p) z ∙ w (suc i) (omega arith) ∙ get_or-append ks rs nothing i l
-
-holds_right : (p : Rows) (at : ℕ) (h : Row) (ks rs : Rows) → Holds p at (h ∷ ks ++ rs) → Holds p (at + 1 + length ks) rs
-holds_right p at h ks rs w i l = let s = length-append ks rs in let z : at + 1 + length ks + i ≡ at + suc (length ks + i) = omega arith in
-    ap (row p) z ∙ w (suc (length ks + i)) (omega arith) ∙ get_or-append-add ks rs i nothing
-
-has_rows : (p : Rows) (over before at : ℕ) (f : Forest) → Holds p at (rows_from over before at f) → HasRows p over at f
-has_rows p over before at none w = tt
-has_rows p over before at (more l x kids rest) w =
-    let below = rows_from at at (at + 1) kids in let after = rows_from over at (at + 1 + size kids) rest in
-    let head : Row = record { label = l; name = x; parent = over; end = at + 1 + size kids; previous = before } in
-    let e = holds_first p at head below after w in (
-      ap (λ r. r.label) e,
-      ap (λ r. r.parent) e,
-      ap (λ r. r.end) e,
-      has_rows p at at (at + 1) kids (holds_left p at head below after w),
-      has_rows p over at (at + 1 + size kids) rest (subst (λ n. Holds p (at + 1 + n) after) (length_rows at at (at + 1) kids) (holds_right p at head below after w)),
-    )
-
-side : (n mid : ℕ) → (n < mid) ⊎ (mid ≤ n)
-side n mid = grind arith
-
--- a row of a forest is its first, or below that, or behind
-which : (n at mid : ℕ) → at ≤ n → (n ≡ at) ⊎ ((at + 1 ≤ n) × (n < mid)) ⊎ (mid ≤ n)
-which n at mid ge = elim (split n at) [ inl q ↦ inl (omega arith) | inr q ↦ elim (side n mid) [ inl r ↦ inr (inl (omega arith, r)) | inr r ↦ inr (inr r) ] ]
-  where
-    split : (n at : ℕ) → (n ≤ at) ⊎ (at + 1 ≤ n)
-    split n at = grind arith
 
 -- ---- where calls stand
 
@@ -150,7 +110,7 @@ module _ (units : List declared_unit.Unit) (shaped : AllByRecursion IsShaped uni
   all = units_forest units
 
   rows : HasRows p 0 0 (more is.Program [] all none)
-  rows = has_rows p 0 0 0 (more is.Program [] all none) (λ i l. let z : 0 + i ≡ i = omega arith in ap (row p) z ∙ get_or_default p i (past i) nothing l)
+  rows = program_has_rows units
 
   past_end : (n : ℕ) → length p ≤ n → label p n ≡ is.Skip
   past_end n le = ap (λ r. r.label) (get_or_past p n (past n) le)
