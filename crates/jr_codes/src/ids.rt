@@ -2,48 +2,19 @@
 ghost use Rattle.std.specs.Prelude.{◌≡◌, IfOk, length};
 ghost use Rattle.jr_tree.specs.Rows as rows_of;
 ghost use Rattle.jr_plain.specs.Modifiers as modifiers;
-ghost use Rattle.jr_tree.specs.Labels.{nodes_of};
 ghost use Rattle.jr_codes.specs.Reads.{node_at, decl_at};
 ghost use Rattle.jr_codes.specs.Numbered as numbered;
 
 use jr_base::{CuId, DeclId, NodeAt, NodeId, OutOfMemory};
+use jr_index::node_count;
 use jr_places::{parent_at, role_at};
-use jr_tree::{Label, NamePlace, ReceiverKind, Role, Row};
+use jr_tree::{Label, Role, Row};
 use std::alloc::Global;
 
 /// The nodes of the rows of a program, by which a core knows its declarations.
 #[derive(Drop)]
 pub struct Ids {
     nodes: Vec<NodeAt>,
-}
-
-/// How many nodes of its tree a row stands for.
-fn node_count(label: &Label) -> u32
-    ensures { result ≡ nodes_of label.now }
-{
-    match label {
-        Label::Program => 0,
-        Label::Name { place, .. } => match place {
-            NamePlace::Qualifier => 0,
-            NamePlace::Expression => 2,
-            NamePlace::Receiver => 2,
-            _ => 1,
-        },
-        Label::Class { is_member, .. } => 1 + *is_member as u32,
-        Label::Interface { is_member, .. } => 1 + *is_member as u32,
-        Label::EmptyDecl { is_member } => 1 + *is_member as u32,
-        Label::Body => 0,
-        Label::DefaultConstructor => 0,
-        Label::ImplicitCall => 0,
-        Label::Case => 0,
-        Label::Default => 0,
-        Label::Call { receiver } => match receiver {
-            ReceiverKind::Expression => 2,
-            ReceiverKind::Super => 2,
-            _ => 1,
-        },
-        _ => 1,
-    }
 }
 
 /// Which of its nodes declares what the row declares: the type itself, not the member that holds it.

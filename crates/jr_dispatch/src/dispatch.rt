@@ -11,7 +11,7 @@ ghost use Rattle.jr_defs.specs.Overriding.{Has, Overrides, Implements, Serves, F
 ghost use Rattle.jr_plain.specs.Search.{Reaches};
 ghost use Rattle.jr_plain.specs.Overriding as plain;
 ghost use Rattle.jr_supers.specs.Signatures.{AreSignatures};
-ghost use Rattle.jr_supers.specs.Supers.{AreSupersOf, ListsOnce, SortsOnce, once, is_last as is_last_of};
+ghost use Rattle.jr_supers.specs.Supers.{AreSupersOf, ListsOnce};
 ghost use Rattle.jr_places.specs.Stamps.{IsStamping};
 ghost use Rattle.jr_members.specs.Held.{ObjectIsBare};
 ghost use Rattle.jr_dispatch.specs.Methods.{AreMethods, IsWholeWorld};
@@ -24,7 +24,7 @@ use jr_places::{
     Stamps, declaring_type, is_class, is_in_interface, is_interface, is_method, is_private,
     is_protected, is_public, is_static, passes,
 };
-use jr_supers::{Supers, Tabled};
+use jr_supers::{Supers, Tabled, sorted_once};
 use jr_tree::Row;
 use std::alloc::Global;
 
@@ -113,39 +113,6 @@ fn one_more(all: &[u32]) -> usize
     ensures { result ≡ suc (length all.now) }
 {
     all.len() + 1
-}
-
-fn is_last(last: Option<u32>, at: u32) -> bool
-    ensures { result ≡ is_last_of last at }
-{
-    match last {
-        Some(before) => before == at,
-        None => false,
-    }
-}
-
-// A list that rises, with each item once.
-fn without_repeats(alloc: Global, all: &[u32]) -> Result<Vec<u32>, OutOfMemory>
-    ensures { IfOk result (λ out. out.items ≡ once None all.now) }
-{
-    let mut out = Vec::new(alloc);
-    let mut last = None;
-    for at in all {
-        if !is_last(last, *at) {
-            out.push(*at)?;
-        }
-        last = Some(*at);
-    }
-    Ok(out)
-}
-
-// The items in order, each once.
-pub fn sorted_once(alloc: Global, all: &mut [u32]) -> Result<Vec<u32>, OutOfMemory>
-    ensures { IfOk result (λ out. SortsOnce all.old out.items) }
-{
-    all.sort_unstable();
-    let out = without_repeats(alloc, all)?;
-    Ok(out)
 }
 
 // Puts what a call finds behind a list, if it finds a method.

@@ -13,11 +13,11 @@ ghost use Rattle.jr_dispatch.specs.Dispatching.{AreMethodRows};
 ghost use Rattle.jr_dispatch.specs.Families as tell;
 ghost use Rattle.jr_dispatch.specs.Methods.{AreMethods, IsWholeWorld};
 
-use crate::dispatch::{Methods, item_at, sorted_once};
+use crate::dispatch::{Methods, item_at};
 use jr_base::OutOfMemory;
 use jr_members::{MemberKind, World};
 use jr_places::{Chains, Entry, Stamps, declaring_type};
-use jr_supers::Signatures;
+use jr_supers::{Signatures, sorted_once};
 use std::alloc::Global;
 
 // One link between two methods, both ways.

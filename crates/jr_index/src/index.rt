@@ -163,8 +163,8 @@ fn row_at(rows: &[Row], at: u32) -> &Row
     &rows[at as usize]
 }
 
-// How many nodes of the tree a row stands for.
-fn node_count(label: &Label) -> u32
+/// How many nodes of its tree a row stands for.
+pub fn node_count(label: &Label) -> u32
     ensures { result ≡ nodes_of label.now }
 {
     match label {

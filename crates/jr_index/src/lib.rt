@@ -21,7 +21,7 @@ mod writer;
 use crate::decl::add_unit;
 pub use crate::writer::MarkedRows;
 use crate::writer::RowWriter;
-pub use index::{Index, NodeOfRow};
+pub use index::{Index, NodeOfRow, node_count};
 use jr_base::OutOfMemory;
 use jr_defs::{Program, UnitAt};
 use jr_tree::{Label, Row};

@@ -11,10 +11,10 @@ ghost use Rattle.jr_members.specs.Sources.{links_of};
 ghost use Rattle.jr_member_faults.specs.Names as tell;
 ghost use Rattle.jr_member_faults.specs.Views as views;
 
-use crate::listing::sorted_once;
 use jr_base::OutOfMemory;
 use jr_members::{MemberKind, World};
 use jr_places::is_interface;
+use jr_supers::sorted_once;
 use std::alloc::Global;
 
 fn is_the(linked: Option<u32>, at: u32) -> bool

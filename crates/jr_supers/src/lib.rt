@@ -11,7 +11,7 @@ mod supers;
 mod tabled;
 
 pub use signatures::{Signatures, with_type};
-pub use subtypes::{Supers, is_object_element, is_reference, widens};
+pub use subtypes::{Supers, is_object_element, is_reference, sorted_once, widens};
 pub use supers::{
     HeaderPlace, entry_before, find_object, has_implied_superclass, header_place, names_superclass,
 };

@@ -190,8 +190,8 @@ impl Supers {
     }
 }
 
-// The items in order, each once.
-fn sorted_once(alloc: Global, all: &mut [u32]) -> Result<Vec<u32>, OutOfMemory>
+/// The items in order, each once.
+pub fn sorted_once(alloc: Global, all: &mut [u32]) -> Result<Vec<u32>, OutOfMemory>
     ensures { IfOk result (λ out. tell.SortsOnce all.old out.items) }
 {
     all.sort_unstable();
