@@ -26,3 +26,4 @@ pub mod Woven
 pub mod Followed
 pub mod Limiting
 pub mod Few
+pub mod Declaring
