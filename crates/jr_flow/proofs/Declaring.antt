@@ -4,10 +4,9 @@ use Rattle.std.specs.List.{Contains}
 use Rattle.std.proofs.lemmas.Bool.{cases_lt}
 use Rattle.std.proofs.lemmas.List.Elements.{Contains-append_cases, Contains-append_left, Contains-append_right}
 use Rattle.std.proofs.lemmas.Option.{slice_get_within, get_or_from_slice_get}
-use Rattle.jr_tree.specs.Rows.{Rows, label}
+use Rattle.jr_tree.specs.Rows.{Rows}
 use Rattle.jr_flow_defs.proofs.Searched.{contains_out, contains_first}
 use Rattle.jr_flow.specs.Bodies.{has_code, bodies_below}
-use Rattle.jr_flow.specs.Sizes.{is_try_with_finally}
 use Rattle.jr_flow.proofs.Linking.{get_of}
 
 pub body_below : (p : Rows) (n k : ℕ) → Contains (bodies_below p n) k → (k < n) × (has_code p k ≡ true)
@@ -39,7 +38,3 @@ one_more P all i one h k lt = ⊎_elim (λ less. h k less) (λ past. let same : 
 pub of_each : (P : ℕ → Type 0) (p : Rows) (all : List ℕ) (n : ℕ) → all ≡ bodies_below p (length p) → length all ≤ n → ((k : ℕ) → k < n → P (get_or all k 0)) → (body : ℕ) → body < length p → has_code p body ≡ true → P body
 of_each P p all n is le h body lt has = let one = get_of all body (subst (λ xs. Contains xs body) (sym is) (below_body p (length p) body lt has)) in let within = slice_get_within all one.0 body one.1 in
     subst P (get_or_from_slice_get all one.0 body 0 one.1) (h one.0 (omega (arith, le, within)))
-
--- no row of the body is a `try` with `finally`, as far as they were looked at
-pub next_plain : (p : Rows) (body at : ℕ) → is_try_with_finally (label p at) ≡ false → ((n : ℕ) → body ≤ n → n < at → is_try_with_finally (label p n) ≡ false) → (n : ℕ) → body ≤ n → n < at + 1 → is_try_with_finally (label p n) ≡ false
-next_plain p body at e h n from to = ⊎_elim (λ less. h n from less) (λ past. let same : at ≡ n = omega (arith, past, to) in subst (λ z. is_try_with_finally (label p z) ≡ false) same e) (cases_lt n at)

@@ -27,3 +27,5 @@ pub mod Followed
 pub mod Limiting
 pub mod Few
 pub mod Declaring
+pub mod Staying
+pub mod Bounding
