@@ -47,7 +47,7 @@ rank_once (Some z ∷ rest) (suc i) zero x y e f g = absurd (omega (arith, g))
 rank_once (Some z ∷ rest) (suc i) (suc j) x y e f g = let less : rank rest i ≡ rank rest j = omega (arith, g) in ap suc (rank_once rest i j x y e f less)
 
 -- a point stands at the place
-abbrev IsAt : List (Option Point) → ℕ → Type 0
+abbrev pub IsAt : List (Option Point) → ℕ → Type 0
 IsAt found k = (x : Point) × (slice_get found k ≡ Some (Some x))
 
 unequal : (a b : ℕ) → (a ≡ b → ⊥) → eqb a b ≡ false
@@ -59,7 +59,7 @@ unequal a b apart = by (eqb a b) refl
 
 module _ {A : Type 0} (found : List (Option Point)) (Q : A → ℕ → Type 0) where
   -- for each item of a list a place at which a point stands, and by which the item is told
-  abbrev HavePlaces : List A → Type 0
+  abbrev pub HavePlaces : List A → Type 0
   HavePlaces all = (i : ℕ) (a : A) → slice_get all i ≡ Some a → (k : ℕ) × IsAt found k × Q a k
 
   abbrev ranks : (all : List A) → HavePlaces all → List ℕ
@@ -94,7 +94,7 @@ module _ {A : Type 0} (found : List (Option Point)) (Q : A → ℕ → Type 0) w
       ranks_apart all (λ i c e. h (suc i) c e) (λ i j b e f. let more = apart (suc i) (suc j) b e f in omega (arith, more)),
     )
 
-    few : (all : List A) (h : HavePlaces all) → ((i j : ℕ) (a : A) → slice_get all i ≡ Some a → slice_get all j ≡ Some a → i ≡ j) → length all ≤ count_points found
+    pub few : (all : List A) (h : HavePlaces all) → ((i j : ℕ) (a : A) → slice_get all i ≡ Some a → slice_get all j ≡ Some a → i ≡ j) → length all ≤ count_points found
     few all h apart = let le = length-le_from_distinct_below (ranks all h) (count_points found) (ranks_apart all h apart) (ranks_below all h) in let same = ranks_length all h in omega (arith, le, same)
 
 -- ---- what was explored

@@ -26,3 +26,6 @@ pub mod Woven
 pub mod Followed
 pub mod Limiting
 pub mod Few
+pub mod Declaring
+pub mod Staying
+pub mod Bounding

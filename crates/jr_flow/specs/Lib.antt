@@ -15,3 +15,4 @@ pub mod Walked
 pub mod Linked
 pub mod Spread
 pub mod Woven
+pub mod Sizes
