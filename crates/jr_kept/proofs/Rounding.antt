@@ -1,14 +1,10 @@
 -- Bodies round rows.
-use Rattle.std.proofs.Common.{◌≡◌, ⊎_elim, refl, sym, ap, subst, arith, ℕ, zero, suc, ◌+◌, ◌<◌, ◌≤◌, ◌^◌, Bool, true, false, not, ◌&&◌, if◌then◌else◌, [], ◌∷◌, length, Option, Some, None, IfSome, nat_lt, Decides}
-use Rattle.std.specs.List.{Contains}
+use Rattle.std.proofs.Common.{◌≡◌, ⊎_elim, refl, sym, ap, subst, arith, ℕ, zero, suc, ◌+◌, ◌<◌, ◌≤◌, ◌^◌, Bool, true, false, not, ◌&&◌, if◌then◌else◌, length, Option, Some, None, IfSome, nat_lt, Decides}
 use Rattle.std.proofs.lemmas.Bool.{false≢true, cases_lt}
 use Rattle.std.proofs.lemmas.List.{get_or_past}
 use Rattle.std.proofs.lemmas.Bool.Decides.{Decides-ltb, Decides-and}
-use Rattle.std.proofs.lemmas.List.Elements.{Contains-append_cases}
 use Rattle.jr_tree.specs.Rows.{Rows, parent}
 use Rattle.jr_tree.specs.Tree.{IsTree}
-use Rattle.jr_flow_defs.proofs.Searched.{contains_out}
-use Rattle.jr_flow.specs.Bodies.{has_code, bodies_below}
 use Rattle.jr_change.specs.declared.project.Project.{Project}
 use Rattle.jr_flow_defs.specs.Meaning.{Meaning}
 use Rattle.jr_kept.specs.Courses.{IsSeen, IsBodyRound}
@@ -22,17 +18,6 @@ not_below a b = by (nat_lt b a) (Decides-ltb b a)
 
 pub within_tells : (first end row : ℕ) → Decides (not (nat_lt row first) && nat_lt row end) ((first ≤ row) × (row < end))
 within_tells first end row = Decides-and (not (nat_lt row first)) (nat_lt row end) (not_below first row) (Decides-ltb row end)
-
-pub body_below : (p : Rows) (n k : ℕ) → Contains (bodies_below p n) k → (k < n) × (has_code p k ≡ true)
-body_below p zero k c = absurd (omega (arith, c.1))
-body_below p (suc n) k c = ⊎_elim
-    (λ early. let one = body_below p n k early in let lt = one.0 in (omega (arith, lt), one.1))
-    (λ last. by (has_code p n) refl last)
-    (Contains-append_cases (bodies_below p n) (if has_code p n then n ∷ [] else []) k c)
-  where
-    by : (b : Bool) → has_code p n ≡ b → Contains (if b then n ∷ [] else []) k → (k < suc n) × (has_code p k ≡ true)
-    by false is d = absurd (omega (arith, d.1))
-    by true is d = ⊎_elim (λ same. (omega (arith, same), subst (λ z. has_code p z ≡ true) same is)) (λ more. absurd (omega (arith, more.1))) (contains_out n [] k d)
 
 pub round_next : (p : Rows) (row body : ℕ) (found : Option ℕ) (b : Bool) → (b ≡ true → IsBodyRound p row body) → IfSome found (λ k. IsBodyRound p row k) → IfSome (if b then Some body else found) (λ k. IsBodyRound p row k)
 round_next p row body found true tells before = tells refl

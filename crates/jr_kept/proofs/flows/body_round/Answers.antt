@@ -1,6 +1,6 @@
 use Rattle.std.proofs.Common.{◌∙◌, subst, length}
 use Rattle.std.specs.List.{Contains}
-use Rattle.jr_kept.proofs.Rounding.{body_below}
+use Rattle.jr_flow.proofs.Declaring.{body_below}
 use Rattle.jr_kept.proofs.flows.body_round.Goals as goal
 
 pub returns : goal.returns
