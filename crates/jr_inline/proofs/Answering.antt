@@ -7,7 +7,6 @@ use Rattle.jr_edits.specs.Place.{EditList}
 use Rattle.jr_text.specs.Spans.{unit_bytes}
 use Rattle.jr_change.specs.declared.change.Change.{Change}
 use Rattle.jr_change.specs.declared.change.Course.{Course}
-use Rattle.jr_change.specs.declared.change.RowRange.{RowRange}
 use Rattle.jr_change.specs.declared.project.Project.{Project}
 use Rattle.jr_change.specs.declared.reason.ChangeFault.{ChangeFault}
 use Rattle.jr_change.specs.declared.reason.ChangeFault.TheVariants as fault

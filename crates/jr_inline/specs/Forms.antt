@@ -3,7 +3,7 @@ use Rattle.std.specs.Prelude.{◌≡◌, ℕ, Bool, true, false, not, ◌&&◌, 
 use Rattle.jr_tree.specs.declared.label.Label.{Label}
 use Rattle.jr_tree.specs.declared.label.Label.TheVariants as is
 use Rattle.jr_tree.specs.declared.label.NamePlace.{NamePlace}
-use Rattle.jr_tree.specs.declared.label.NamePlace.TheVariants as place
+use Rattle.jr_tree.specs.declared.label.NamePlace.TheVariants as stands
 use Rattle.jr_tree.specs.Rows.{Rows, label, name}
 use Rattle.jr_defs.specs.declared.referent.Element.{Element}
 use Rattle.jr_defs.specs.declared.referent.Element.TheVariants as element
@@ -54,10 +54,14 @@ name_place p n = name_place_by (label p n)
 abbrev pub is_name : Rows → ℕ → Bool
 is_name p n = is_some (name_place p n)
 
+abbrev pub is_dotted : NamePlace → Bool
+is_dotted stands.Qualifier = true
+is_dotted stands.Receiver = true
+is_dotted _ = false
+
 abbrev pub is_before_dot_by : Option NamePlace → Bool
-is_before_dot_by (Some place.Qualifier) = true
-is_before_dot_by (Some place.Receiver) = true
-is_before_dot_by _ = false
+is_before_dot_by None = false
+is_before_dot_by (Some place) = is_dotted place
 
 -- an identifier of a name with a dot behind it
 abbrev pub is_before_dot : Rows → ℕ → Bool

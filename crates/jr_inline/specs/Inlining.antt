@@ -3,7 +3,7 @@ use Rattle.std.specs.Prelude.{◌≡◌, ℕ, zero, suc, ◌-◌, Bool, true, fa
 use Rattle.jr_tree.specs.declared.label.Label.{Label}
 use Rattle.jr_tree.specs.declared.label.Label.TheVariants as is
 use Rattle.jr_tree.specs.declared.label.ReceiverKind.{ReceiverKind}
-use Rattle.jr_tree.specs.declared.label.ReceiverKind.TheVariants as receiver
+use Rattle.jr_tree.specs.declared.label.ReceiverKind.TheVariants as on
 use Rattle.jr_tree.specs.Rows.{Rows, label, parent}
 use Rattle.jr_defs.specs.declared.referent.RowType.{RowType}
 use Rattle.jr_shapes.specs.Parts.{end_of}
@@ -67,8 +67,12 @@ rows_in plan = rows_of plan.old
 
 -- ---- what becomes of a row
 
+abbrev pub is_name_receiver : ReceiverKind → Bool
+is_name_receiver on.Name = true
+is_name_receiver _ = false
+
 abbrev pub is_call_of_name_by : Label → Bool
-is_call_of_name_by (is.Call receiver.Name) = true
+is_call_of_name_by (is.Call receiver) = is_name_receiver receiver
 is_call_of_name_by _ = false
 
 abbrev pub is_for_by : Label → Bool
@@ -103,9 +107,12 @@ abbrev pub is_turned : Plan → ℕ → Bool
 is_turned plan n = if is_call_of_name (rows_in plan) n then begins_with_local plan (plus n 1) else (begins_with_local plan n || loses_first_part plan n)
 
 -- of two groups that become one the copy of the second stands in place of the first
+abbrev pub fate_in : Joined → ℕ → Fate
+fate_in joined n = if nat_eq n joined.first then fate.Instead joined.next else (if nat_eq n joined.next then fate.Gone else fate.Kept)
+
 abbrev pub joined_fate : Option Joined → ℕ → Fate
 joined_fate None n = fate.Kept
-joined_fate (Some joined) n = if nat_eq n joined.first then fate.Instead joined.next else (if nat_eq n joined.next then fate.Gone else fate.Kept)
+joined_fate (Some joined) n = fate_in joined n
 
 abbrev pub fate_of : Plan → ℕ → Fate
 fate_of plan n = if is_gone plan.removal.rows n then fate.Gone else (if is_use plan n then fate.Replaced else (if is_turned plan n then fate.Turned else joined_fate plan.joined n))

@@ -40,15 +40,19 @@ pub struct Inlining<'a> {
     pub cast: Option<RowType>,
 }
 
+fn is_name_receiver(receiver: ReceiverKind) -> bool
+    ensures { result ≡ spec.is_name_receiver receiver }
+{
+    matches!(receiver, ReceiverKind::Name)
+}
+
 // The row is a call with a name before its dot.
 fn is_call_of_name(rows: &[Row], at: u32) -> bool
     ensures { result ≡ spec.is_call_of_name rows.now at }
 {
     match rows.get(at as usize) {
         Some(row) => match row.label {
-            Label::Call {
-                receiver: ReceiverKind::Name,
-            } => true,
+            Label::Call { receiver } => is_name_receiver(receiver),
             _ => false,
         },
         None => false,
@@ -72,18 +76,25 @@ fn begins_with(rows: &[Row], gone: RowRange, at: u32) -> bool
 }
 
 // What becomes of a row of two groups that become one: the copy of the second stands in place of the first.
-fn joined_fate(joined: Option<Joined>, at: u32) -> Fate
-    ensures { result ≡ spec.joined_fate joined at }
+fn fate_in(joined: Joined, at: u32) -> Fate
+    ensures { result ≡ spec.fate_in joined at }
 {
-    let Some(joined) = joined else {
-        return Fate::Kept;
-    };
     if at == joined.first {
         Fate::Instead(joined.next)
     } else if at == joined.next {
         Fate::Gone
     } else {
         Fate::Kept
+    }
+}
+
+// The same, where there may be no such groups.
+fn joined_fate(joined: Option<Joined>, at: u32) -> Fate
+    ensures { result ≡ spec.joined_fate joined at }
+{
+    match joined {
+        Some(joined) => fate_in(joined, at),
+        None => Fate::Kept,
     }
 }
 
@@ -102,19 +113,20 @@ pub fn is_replaced(fate: Fate) -> bool
 
 impl<'a> Inlining<'a> {
     /// The inlining of a local.
-    #[tactic(auto, using(crate::proofs::Answering::plan_so))]
     pub fn of(old: &'a Project<'a>, local: Local) -> Inlining<'a>
         ensures old_is { result.old.now ≡ old.now }
         ensures local_is { result.local ≡ local }
         ensures plan { IsOrdered old.now.marks → spec.IsPlanOf old.now local (spec.plan_by result) }
     {
         let removal = Removal::of(&old.marks, local);
+        let joined = joined_by(old.marks.rows, removal.rows);
+        let cast = cast_of(old, local);
         Inlining {
             old,
             local,
             removal,
-            joined: joined_by(old.marks.rows, removal.rows),
-            cast: cast_of(old, local),
+            joined,
+            cast,
         }
     }
 

@@ -1,5 +1,5 @@
 // The form in which an initializer stands in place of a use.
-ghost use Rattle.std.specs.Prelude.{◌≡◌, ◌++◌, IfOk, OnOk};
+ghost use Rattle.std.specs.Prelude.{◌≡◌, ◌++◌, IfOk, OnOk, Some};
 ghost use Rattle.jr_marks.specs.Places.{IsOrdered};
 ghost use Rattle.jr_weave.specs.Wording.{brackets};
 ghost use Rattle.jr_inline.specs.Forms as spec;
@@ -58,14 +58,24 @@ pub fn is_name(rows: &[Row], at: u32) -> bool
     name_place(rows, at).is_some()
 }
 
+// A dot stands behind such an identifier.
+fn is_dotted(place: NamePlace) -> bool
+    ensures { result ≡ spec.is_dotted place }
+{
+    match place {
+        NamePlace::Qualifier => true,
+        NamePlace::Receiver => true,
+        _ => false,
+    }
+}
+
 // The row is an identifier with a dot behind it.
 fn is_before_dot(rows: &[Row], at: u32) -> bool
     ensures { result ≡ spec.is_before_dot rows.now at }
 {
     match name_place(rows, at) {
-        Some(NamePlace::Qualifier) => true,
-        Some(NamePlace::Receiver) => true,
-        _ => false,
+        Some(place) => is_dotted(place),
+        None => false,
     }
 }
 
@@ -175,6 +185,14 @@ fn add_close(out: &mut Vec<u8>, is_open: bool) -> Result<(), OutOfMemory>
     if is_open { add(out, b")") } else { Ok(()) }
 }
 
+// The bytes of an expression.
+fn add_value(out: &mut Vec<u8>, marks: &Marks, value: u32) -> Result<(), OutOfMemory>
+    ensures { OnOk result (IsOrdered marks.now → out.new.items ≡ out.old.items ++ spec.value_text marks.now value) }
+{
+    out.extend_from_slice(part(unit_bytes(marks, value), tokens_span(marks, value)))?;
+    Ok(())
+}
+
 // The name of a class refers to that.
 fn add_element_rows(draft: &mut Draft, element: Element) -> Result<(), OutOfMemory>
     ensures { OnOk result (draft.new ≡ spec.element_rows element draft.old) }
@@ -186,14 +204,21 @@ fn add_element_rows(draft: &mut Draft, element: Element) -> Result<(), OutOfMemo
 }
 
 // Adds the rows of parentheses, a cast and its type.
+fn add_type_rows(draft: &mut Draft, ty: RowType) -> Result<(), OutOfMemory>
+    ensures { OnOk result (draft.new ≡ spec.cast_rows (Some ty) draft.old) }
+{
+    draft.glue(3)?;
+    add_element_rows(draft, ty.element)
+}
+
+// The same, if there is a cast.
 fn add_cast_rows(draft: &mut Draft, cast: Option<RowType>) -> Result<(), OutOfMemory>
     ensures { OnOk result (draft.new ≡ spec.cast_rows cast draft.old) }
 {
-    if let Some(ty) = cast {
-        draft.glue(3)?;
-        add_element_rows(draft, ty.element)?;
+    match cast {
+        Some(ty) => add_type_rows(draft, ty),
+        None => Ok(()),
     }
-    Ok(())
 }
 
 // Adds the row of parentheses, if there are any.
@@ -233,13 +258,13 @@ impl Form {
     }
 
     // The initializer in this form.
-    #[tactic(auto, using(jr_weave::proofs::Adding::adds_three))]
     fn add_all(self, out: &mut Vec<u8>, marks: &Marks, value: u32) -> Result<(), OutOfMemory>
         ensures { OnOk result (IsOrdered marks.now → out.new.items ≡ out.old.items ++ spec.form_text marks.now value self) }
     {
         self.add_front(out, marks.rows)?;
-        add(out, part(unit_bytes(marks, value), tokens_span(marks, value)))?;
-        self.add_back(out)
+        add_value(out, marks, value)?;
+        self.add_back(out)?;
+        Ok(())
     }
 
     /// The text of the initializer at a row in this form.

@@ -1,5 +1,5 @@
 // The inline of a local.
-ghost use Rattle.std.specs.Prelude.{◌≡◌, IfErr, IfOk, OnOk, length};
+ghost use Rattle.std.specs.Prelude.{◌≡◌, IfErr, IfOk, OnOk};
 ghost use Rattle.jr_marks.specs.Places.{IsOrdered};
 ghost use Rattle.jr_draft.specs.Drafting.{IsFinished};
 ghost use Rattle.jr_inline.specs.Inlining as spec;
@@ -50,16 +50,16 @@ fn replace_use(
     alloc: Global,
     edits: &mut Edits,
     inlining: &Inlining,
-    at: u32,
     left: usize,
+    at: u32,
 ) -> Result<usize, ChangeFault>
     ensures ok { OnOk result (IsOrdered inlining.now.old.now.marks → edits.new ≡ spec.with_initializer (spec.plan_by inlining.now) at edits.old) }
     ensures fault { IfErr result (λ fault. fault ≡ ChangeFault.OutOfMemory) }
 {
-    let marks = &inlining.old.marks;
-    let text = inlining
-        .form(at)
-        .text(alloc, marks, inlining.local.value)?;
+    let old = inlining.old;
+    let marks = &old.marks;
+    let form = inlining.form(at);
+    let text = form.text(alloc, marks, inlining.local.value)?;
     let rest = left_after(left, text.bytes())?;
     edits.push(own_span(marks, at), text)?;
     Ok(rest)
@@ -77,7 +77,7 @@ fn push_use(
     ensures fault { IfErr result (λ fault. fault ≡ ChangeFault.OutOfMemory) }
 {
     if is_replaced(inlining.fate(at)) {
-        replace_use(alloc, edits, inlining, at, left)
+        replace_use(alloc, edits, inlining, left, at)
     } else {
         Ok(left)
     }
@@ -106,8 +106,9 @@ fn push_uses(alloc: Global, edits: &mut Edits, inlining: &Inlining) -> Result<()
     ensures ok { OnOk result (IsOrdered inlining.now.old.now.marks → edits.new ≡ spec.with_uses (spec.plan_by inlining.now) edits.old) }
     ensures fault { IfErr result (λ fault. fault ≡ ChangeFault.OutOfMemory) }
 {
+    let old = inlining.old;
     let local = inlining.local;
-    let behind = local.scope_end(inlining.old.marks.rows);
+    let behind = local.scope_end(old.marks.rows);
     push_between(alloc, edits, inlining, local.declarator, behind)
 }
 
@@ -129,7 +130,8 @@ fn edited(alloc: Global, inlining: &Inlining) -> Result<Edits, ChangeFault>
     ensures ok { IfOk result (λ edits. IsOrdered inlining.now.old.now.marks → edits ≡ spec.edits_in (spec.plan_by inlining.now)) }
     ensures fault { IfErr result (λ fault. fault ≡ ChangeFault.OutOfMemory) }
 {
-    let mut edits = edits_of(alloc, &inlining.old.marks, inlining.local.declarator)?;
+    let old = inlining.old;
+    let mut edits = edits_of(alloc, &old.marks, inlining.local.declarator)?;
     push_removal(alloc, &mut edits, inlining)?;
     push_uses(alloc, &mut edits, inlining)?;
     Ok(edits)
@@ -145,7 +147,8 @@ fn add_edited(
     ensures ok { OnOk result (IsOrdered inlining.now.old.now.marks → draft.new ≡ spec.with_edited (spec.plan_by inlining.now) unit draft.old) }
     ensures fault { IfErr result (λ fault. fault ≡ ChangeFault.OutOfMemory) }
 {
-    let marks = &inlining.old.marks;
+    let old = inlining.old;
+    let marks = &old.marks;
     let edits = edited(alloc, inlining)?;
     draft.add(
         path_of(alloc, marks, unit)?,
@@ -165,7 +168,8 @@ fn add_one(
     ensures ok { OnOk result (IsOrdered inlining.now.old.now.marks → draft.new ≡ spec.with_one (spec.plan_by inlining.now) unit draft.old) }
     ensures fault { IfErr result (λ fault. fault ≡ ChangeFault.OutOfMemory) }
 {
-    let marks = &inlining.old.marks;
+    let old = inlining.old;
+    let marks = &old.marks;
     if unit == marks.unit_of(inlining.local.declarator) {
         add_edited(alloc, draft, inlining, unit)
     } else {
@@ -179,7 +183,8 @@ fn draft_inlined(alloc: Global, inlining: &Inlining) -> Result<Draft, ChangeFaul
     ensures ok { IfOk result (λ draft. IsOrdered inlining.now.old.now.marks → draft ≡ spec.draft_of (spec.plan_by inlining.now)) }
     ensures fault { IfErr result (λ fault. fault ≡ ChangeFault.OutOfMemory) }
 {
-    let marks = &inlining.old.marks;
+    let old = inlining.old;
+    let marks = &old.marks;
     let mut draft = Draft::new(alloc, marks)?;
     for unit in PRELUDE..count_units(marks) {
         add_one(alloc, &mut draft, inlining, unit)?;

@@ -52,9 +52,9 @@ fn is_assignment(rows: &[Row], at: u32) -> bool
 {
     match rows.get(at as usize) {
         Some(row) => match row.label {
-            Label::Assign { .. } => true,
-            Label::PreStep { .. } => true,
             Label::PostStep { .. } => true,
+            Label::PreStep { .. } => true,
+            Label::Assign { .. } => true,
             _ => false,
         },
         None => false,
