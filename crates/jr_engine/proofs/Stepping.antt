@@ -16,7 +16,8 @@ use Rattle.jr_read.specs.Reading.{ReadsAs}
 use Rattle.jr_front.specs.Bound.{IsBoundIn, rows_in, table_in}
 use Rattle.jr_front.specs.Checking.{CheckedAs, accepted}
 use Rattle.jr_front.specs.Compiling.{Compiles}
-use Rattle.jr_front.proofs.Viewed.{whole_view, whole_world}
+use Rattle.jr_front.proofs.Testable.{tables_view}
+use Rattle.jr_front.proofs.Viewed.{seen_view, whole_view, whole_world}
 use Rattle.jr_front.specs.Viewed.{IsViewOf}
 use Rattle.jr_front.specs.declared.fault.FrontFault.{FrontFault}
 use Rattle.jr_front.specs.declared.workspace.Workspace.{Workspace}
@@ -59,6 +60,7 @@ use Rattle.jr_defs.specs.declared.referent.RowType.{RowType}
 use Rattle.jr_tree.specs.Tree.{IsTree}
 use Rattle.jr_tree.proofs.Trees.{each_program_is_tree}
 use Rattle.jr_supers.specs.Supers.{AreSupersOf}
+use Rattle.jr_supers.specs.Tabled.{IsSized}
 use Rattle.jr_flow_defs.specs.Meaning.{Meaning}
 use Rattle.jr_kept.specs.Courses.{IsSeen, KeepsCourse, KeepsUsesOf}
 use Rattle.jr_kept.specs.declared.kept.LostEdge.{LostEdge}
@@ -119,6 +121,8 @@ requested found w old request answer is a = record {
     ordered = a.ordered;
     whole = whole_view w old.view is.bound a.of.view;
     view_rows = a.of.view.rows_are ∙ sym a.of.rows;
+    sized = subst IsSized (a.of.view.rows_are ∙ sym a.of.rows) (seen_view w old.view is.bound a.of.view).sized;
+    tables = tables_view w old.view is.bound a.of.view;
   };
   asked = a.asked;
 }

@@ -34,10 +34,11 @@ use Rattle.jr_locks.specs.Origins.{origin_of, row_by}
 use Rattle.jr_edges.specs.Dispatched.{KeepsDispatch}
 use Rattle.jr_runs.specs.Respelled.{IsRespelled}
 use Rattle.jr_read.specs.Reading.{ReadsAs}
+use Rattle.jr_supers.specs.Tabled.{IsSized}
 use Rattle.jr_dispatch.specs.Methods.{IsWholeWorld}
 use Rattle.jr_front.specs.Bound.{rows_in, table_in, IsBoundIn}
 use Rattle.jr_front.specs.Compiling.{Compiles}
-use Rattle.jr_front.specs.Viewed.{IsViewOf}
+use Rattle.jr_front.specs.Viewed.{HasTablesOfRows, IsViewOf}
 use Rattle.jr_front.specs.declared.workspace.Workspace.{Workspace}
 use Rattle.jr_engine.specs.declared.left.Left.{Left}
 
@@ -87,7 +88,7 @@ pub record IsWritten (old : Opened) (change : Change) (rows : Rows) (locks : Tab
   pub texts : HaveTexts old.files change rows locks spellings left.files
   pub respelled : IsRespelled rows locks spellings left.rows left.table
 
--- the program of the files with its tables, as changes read it: its supertypes and members are those under the binding
+-- the program of the files with its tables, as changes read it: its supertypes and members are those under the binding, and of each row the type and the value are those of the definitions
 pub record IsProjectOf (o : Opened) (old : Project) : Type 0 where
   pub program : Program
   pub reads : ReadsAs o.files (Ok program)
@@ -98,6 +99,8 @@ pub record IsProjectOf (o : Opened) (old : Project) : Type 0 where
   pub ordered : IsOrdered old.marks
   pub whole : IsWholeWorld (entries (table_of old)) old.view.sight.world
   pub view_rows : old.view.sight.world.under.rows.now ≡ old.marks.rows.now
+  pub sized : IsSized old.marks.rows.now
+  pub tables : HasTablesOfRows old.view
 
 -- the answer is the change for which the request asks, or why there is none
 pub record IsRequested (o : Opened) (request : Request) (answer : Result Change ChangeFault) : Type 0 where

@@ -1,31 +1,39 @@
 // The inline of a local.
+ghost use Rattle.std.specs.Prelude.{◌≡◌, IfErr, IfOk, OnOk};
+ghost use Rattle.jr_marks.specs.Places.{IsOrdered};
+ghost use Rattle.jr_draft.specs.Drafting.{IsFinished};
+ghost use Rattle.jr_inline.specs.Inlining as spec;
 
-use crate::course::{Fate, Inlining};
-use crate::local::Local;
-use jr_base::OutOfMemory;
-use jr_change::{Change, ChangeFault, Course, Project, Reason};
-use jr_draft::{Draft, PRELUDE, asked, count_units, path_of, unit_row};
+use crate::course::{Inlining, is_replaced};
+use crate::local::{Local, inlinable};
+use jr_base::{OutOfMemory, Text};
+use jr_change::{Change, ChangeFault, Course, Project, Reason, UnitSource};
+use jr_draft::{Draft, PRELUDE, asked, count_units, edits_of, path_of, unit_row};
+use jr_edits::Edits;
 use jr_text::own_span;
 use jr_weave::MOST_BYTES;
 use std::alloc::Global;
 
 /// What replaces each use of the local whose name, or a use of which, holds an offset by its initializer, and takes its declarator away. It is to be a
-/// local with an expression as initializer that is never assigned again.
-pub fn inline(alloc: Global, old: &Project, file: &[u8], at: u32) -> Result<Change, ChangeFault> {
-    let declared = asked(old, file, at)?;
-    match inlined_local(old, declared) {
-        Some(local) => inlined(alloc, &Inlining::of(old, local)),
-        None => Err(ChangeFault::Bad(Reason::WrongKind)),
+/// local with an expression as initializer that is never assigned again (JLS 14.4).
+#[tactic(auto, using(crate::proofs::Answering::refused_so, crate::proofs::Answering::answered_so))]
+pub fn inline(alloc: Global, old: &Project, file: &[u8], at: u32) -> Result<Change, ChangeFault>
+    ensures { IsOrdered old.now.marks → spec.IsInlineAnswer old.now file.now at result }
+{
+    match asked(old, file, at) {
+        Ok(found) => asked_for(alloc, old, found),
+        Err(why) => Err(why),
     }
 }
 
-// The declaration, if it is a local that can be inlined.
-fn inlined_local(old: &Project, declared: Option<u32>) -> Option<Local> {
-    let local = Local::of(old.marks.rows, declared?)?;
-    if local.is_assigned(&old.view.sight.world.under) {
-        None
-    } else {
-        Some(local)
+// What comes of the declaration that is asked for.
+#[tactic(auto, using(crate::proofs::Answering::stays_so, crate::proofs::Answering::goes_so))]
+fn asked_for(alloc: Global, old: &Project, found: Option<u32>) -> Result<Change, ChangeFault>
+    ensures { IsOrdered old.now.marks → spec.IsAskedFor old.now found result }
+{
+    match inlinable(old, found) {
+        Some(local) => inlined_local(alloc, old, local),
+        None => Err(ChangeFault::Bad(Reason::WrongKind)),
     }
 }
 
@@ -40,66 +48,167 @@ fn left_after(left: usize, text: &[u8]) -> Result<usize, OutOfMemory> {
 // Replaces a use, where so many bytes of copies are left. It gives how many are left then.
 fn replace_use(
     alloc: Global,
-    draft: &mut Draft,
+    edits: &mut Edits,
     inlining: &Inlining,
-    at: u32,
     left: usize,
-) -> Result<usize, ChangeFault> {
+    at: u32,
+) -> Result<usize, ChangeFault>
+    ensures ok { OnOk result (IsOrdered inlining.now.old.now.marks → edits.new ≡ spec.with_initializer (spec.plan_by inlining.now) at edits.old) }
+    ensures fault { IfErr result (λ fault. fault ≡ ChangeFault.OutOfMemory) }
+{
     let old = inlining.old;
-    let text = inlining.form(at).text(alloc, old, inlining.local.value)?;
-    let rest = left_after(left, &text)?;
-    draft.replace(alloc, own_span(&old.marks, at), &text)?;
+    let marks = &old.marks;
+    let form = inlining.form(at);
+    let text = form.text(alloc, marks, inlining.local.value)?;
+    let rest = left_after(left, text.bytes())?;
+    edits.push(own_span(marks, at), text)?;
     Ok(rest)
 }
 
-// Replaces the uses in the unit that was added last. Copies of more bytes than all texts may have are answered for want of memory.
-fn replace_uses(alloc: Global, draft: &mut Draft, inlining: &Inlining) -> Result<(), ChangeFault> {
-    let old = inlining.old;
-    let local = inlining.local;
+// Replaces a row if it is a use.
+fn push_use(
+    alloc: Global,
+    edits: &mut Edits,
+    inlining: &Inlining,
+    at: u32,
+    left: usize,
+) -> Result<usize, ChangeFault>
+    ensures ok { OnOk result (IsOrdered inlining.now.old.now.marks → edits.new ≡ spec.with_use (spec.plan_by inlining.now) at edits.old) }
+    ensures fault { IfErr result (λ fault. fault ≡ ChangeFault.OutOfMemory) }
+{
+    if is_replaced(inlining.fate(at)) {
+        replace_use(alloc, edits, inlining, left, at)
+    } else {
+        Ok(left)
+    }
+}
+
+// Replaces the uses from the first row up to before the last one. Copies of more bytes than all texts may have are answered for want of memory.
+fn push_between(
+    alloc: Global,
+    edits: &mut Edits,
+    inlining: &Inlining,
+    first: u32,
+    behind: u32,
+) -> Result<(), ChangeFault>
+    ensures ok { OnOk result (IsOrdered inlining.now.old.now.marks → edits.new ≡ spec.uses_between (spec.plan_by inlining.now) first edits.old behind) }
+    ensures fault { IfErr result (λ fault. fault ≡ ChangeFault.OutOfMemory) }
+{
     let mut left = MOST_BYTES;
-    for at in local.declarator..local.scope_end(old.marks.rows) {
-        if inlining.fate(at) == Fate::Replaced {
-            left = replace_use(alloc, draft, inlining, at, left)?;
-        }
+    for at in first..behind {
+        left = push_use(alloc, edits, inlining, at, left)?;
     }
     Ok(())
 }
 
+// Replaces the uses.
+fn push_uses(alloc: Global, edits: &mut Edits, inlining: &Inlining) -> Result<(), ChangeFault>
+    ensures ok { OnOk result (IsOrdered inlining.now.old.now.marks → edits.new ≡ spec.with_uses (spec.plan_by inlining.now) edits.old) }
+    ensures fault { IfErr result (λ fault. fault ≡ ChangeFault.OutOfMemory) }
+{
+    let old = inlining.old;
+    let local = inlining.local;
+    let behind = local.scope_end(old.marks.rows);
+    push_between(alloc, edits, inlining, local.declarator, behind)
+}
+
+// Takes the declaration away.
+fn push_removal(
+    alloc: Global,
+    edits: &mut Edits,
+    inlining: &Inlining,
+) -> Result<(), ChangeFault>
+    ensures ok { OnOk result (edits.new ≡ spec.without_local (spec.plan_by inlining.now) edits.old) }
+    ensures fault { IfErr result (λ fault. fault ≡ ChangeFault.OutOfMemory) }
+{
+    edits.push(inlining.removal.span, Text::of(alloc, &[])?)?;
+    Ok(())
+}
+
+// The edits of the unit of the local.
+fn edited(alloc: Global, inlining: &Inlining) -> Result<Edits, ChangeFault>
+    ensures ok { IfOk result (λ edits. IsOrdered inlining.now.old.now.marks → edits ≡ spec.edits_in (spec.plan_by inlining.now)) }
+    ensures fault { IfErr result (λ fault. fault ≡ ChangeFault.OutOfMemory) }
+{
+    let old = inlining.old;
+    let mut edits = edits_of(alloc, &old.marks, inlining.local.declarator)?;
+    push_removal(alloc, &mut edits, inlining)?;
+    push_uses(alloc, &mut edits, inlining)?;
+    Ok(edits)
+}
+
 // Adds the unit of the local without it.
-fn add_changed(
+fn add_edited(
     alloc: Global,
     draft: &mut Draft,
     inlining: &Inlining,
     unit: u32,
-) -> Result<(), ChangeFault> {
+) -> Result<(), ChangeFault>
+    ensures ok { OnOk result (IsOrdered inlining.now.old.now.marks → draft.new ≡ spec.with_edited (spec.plan_by inlining.now) unit draft.old) }
+    ensures fault { IfErr result (λ fault. fault ≡ ChangeFault.OutOfMemory) }
+{
     let old = inlining.old;
     let marks = &old.marks;
-    draft.open(alloc, marks, unit, path_of(alloc, marks, unit)?)?;
-    draft.replace(alloc, inlining.removal.span, &[])?;
-    replace_uses(alloc, draft, inlining)?;
+    let edits = edited(alloc, inlining)?;
+    draft.add(
+        path_of(alloc, marks, unit)?,
+        UnitSource::Edited { unit, edits },
+    )?;
     inlining.add_rows(draft, unit_row(marks, unit))?;
     Ok(())
 }
 
-// Adds all units, of which that of the local is changed.
-fn add_units(alloc: Global, draft: &mut Draft, inlining: &Inlining) -> Result<(), ChangeFault> {
+// Adds a unit.
+fn add_one(
+    alloc: Global,
+    draft: &mut Draft,
+    inlining: &Inlining,
+    unit: u32,
+) -> Result<(), ChangeFault>
+    ensures ok { OnOk result (IsOrdered inlining.now.old.now.marks → draft.new ≡ spec.with_one (spec.plan_by inlining.now) unit draft.old) }
+    ensures fault { IfErr result (λ fault. fault ≡ ChangeFault.OutOfMemory) }
+{
     let old = inlining.old;
     let marks = &old.marks;
-    let changed = marks.unit_of(inlining.local.declarator);
-    draft.keep_all(alloc, marks, PRELUDE, changed)?;
-    add_changed(alloc, draft, inlining, changed)?;
-    draft.keep_all(alloc, marks, changed.saturating_add(1), count_units(marks))?;
-    Ok(())
+    if unit == marks.unit_of(inlining.local.declarator) {
+        add_edited(alloc, draft, inlining, unit)
+    } else {
+        draft.keep(alloc, marks, unit)?;
+        Ok(())
+    }
+}
+
+// All units, of which that of the local is changed.
+fn draft_inlined(alloc: Global, inlining: &Inlining) -> Result<Draft, ChangeFault>
+    ensures ok { IfOk result (λ draft. IsOrdered inlining.now.old.now.marks → draft ≡ spec.draft_of (spec.plan_by inlining.now)) }
+    ensures fault { IfErr result (λ fault. fault ≡ ChangeFault.OutOfMemory) }
+{
+    let old = inlining.old;
+    let marks = &old.marks;
+    let mut draft = Draft::new(alloc, marks)?;
+    for unit in PRELUDE..count_units(marks) {
+        add_one(alloc, &mut draft, inlining, unit)?;
+    }
+    Ok(draft)
+}
+
+// The change that the inlining makes.
+fn inlined(alloc: Global, inlining: &Inlining) -> Result<Change, ChangeFault>
+    ensures ok { IfOk result (λ change. IsOrdered inlining.now.old.now.marks → IsFinished (spec.draft_of (spec.plan_by inlining.now)) (spec.course_of inlining.now.local) change) }
+    ensures fault { IfErr result (λ fault. fault ≡ ChangeFault.OutOfMemory) }
+{
+    let draft = draft_inlined(alloc, inlining)?;
+    Ok(draft.finish_as(Course::Inlined {
+        local: inlining.local.declarator,
+        statement: inlining.local.statement,
+    }))
 }
 
 // The change in which the local is inlined.
-fn inlined(alloc: Global, inlining: &Inlining) -> Result<Change, ChangeFault> {
-    let old = inlining.old;
-    let local = inlining.local;
-    let mut draft = Draft::new(alloc, &old.marks)?;
-    add_units(alloc, &mut draft, inlining)?;
-    Ok(draft.finish_as(Course::Inlined {
-        local: local.declarator,
-        statement: local.statement,
-    }))
+fn inlined_local(alloc: Global, old: &Project, local: Local) -> Result<Change, ChangeFault>
+    ensures ok { IfOk result (λ change. IsOrdered old.now.marks → spec.IsInlined old.now local change) }
+    ensures fault { IfErr result (λ fault. fault ≡ ChangeFault.OutOfMemory) }
+{
+    let inlining = Inlining::of(old, local);
+    inlined(alloc, &inlining)
 }

@@ -1,7 +1,11 @@
 // The local that is inlined.
+ghost use Rattle.std.specs.Prelude.{◌≡◌};
+ghost use Rattle.jr_inline.specs.Inlinable as spec;
 
-use jr_places::{end_at, parent_at, role_at};
-use jr_supers::Tabled;
+use jr_change::Project;
+use jr_draft::refers_to;
+use jr_places::{parent_at, role_at};
+use jr_shapes::end_of;
 use jr_tree::{Label, Role, Row};
 
 /// A local with an expression as initializer, by rows (JLS 14.4).
@@ -14,14 +18,18 @@ pub struct Local {
     pub value: u32,
 }
 
-fn is_value(rows: &[Row], at: u32) -> bool {
+fn is_value(rows: &[Row], at: u32) -> bool
+    ensures { result ≡ spec.is_value rows.now at }
+{
     match rows.get(at as usize) {
         Some(row) => matches!(row.label, Label::Value),
         None => false,
     }
 }
 
-fn is_paren(rows: &[Row], at: u32) -> bool {
+fn is_paren(rows: &[Row], at: u32) -> bool
+    ensures { result ≡ spec.is_paren rows.now at }
+{
     match rows.get(at as usize) {
         Some(row) => matches!(row.label, Label::Paren),
         None => false,
@@ -29,7 +37,9 @@ fn is_paren(rows: &[Row], at: u32) -> bool {
 }
 
 /// The row is a group of a switch (JLS 14.11).
-pub fn is_group(rows: &[Row], at: u32) -> bool {
+pub fn is_group(rows: &[Row], at: u32) -> bool
+    ensures { result ≡ spec.is_group rows.now at }
+{
     match rows.get(at as usize) {
         Some(row) => matches!(row.label, Label::Group),
         None => false,
@@ -37,41 +47,118 @@ pub fn is_group(rows: &[Row], at: u32) -> bool {
 }
 
 // The row assigns to its first operand (JLS 15.14, 15.15, 15.26).
-fn assigns(rows: &[Row], at: u32) -> bool {
+fn is_assignment(rows: &[Row], at: u32) -> bool
+    ensures { result ≡ spec.is_assignment rows.now at }
+{
     match rows.get(at as usize) {
         Some(row) => match row.label {
-            Label::Assign { .. } => true,
-            Label::PreStep { .. } => true,
             Label::PostStep { .. } => true,
+            Label::PreStep { .. } => true,
+            Label::Assign { .. } => true,
             _ => false,
         },
         None => false,
     }
 }
 
-// What the row assigns to, if it assigns: its first operand without the parentheses round it.
-fn assigned_by(rows: &[Row], at: u32) -> Option<u32> {
-    if !assigns(rows, at) {
-        return None;
+/// The row declares a local variable.
+pub fn is_local(rows: &[Row], at: u32) -> bool
+    ensures { result ≡ spec.is_local rows.now at }
+{
+    match role_at(rows, at) {
+        Role::Local => true,
+        _ => false,
     }
-    for operand in at.saturating_add(1)..end_at(rows, at) {
-        if !is_paren(rows, operand) {
-            return Some(operand);
+}
+
+// The initializer of a local is an expression.
+fn has_value(rows: &[Row], declared: u32) -> bool
+    ensures { result ≡ spec.has_value rows.now declared }
+{
+    let value = declared.saturating_add(1);
+    parent_at(rows, value) == declared && is_value(rows, value)
+}
+
+// The row is no pair of parentheses.
+fn is_bare(rows: &[Row], at: u32) -> bool
+    ensures { result ≡ spec.is_bare rows.now at }
+{
+    !is_paren(rows, at)
+}
+
+// The first of these rows that is no pair of parentheses.
+fn first_bare(rows: &[Row], first: u32, behind: u32) -> Option<u32>
+    ensures { result ≡ spec.first_bare rows.now first behind }
+{
+    for at in first..behind {
+        if is_bare(rows, at) {
+            return Some(at);
         }
     }
     None
 }
 
+// What the row assigns to, if it assigns: its first operand without the parentheses round it.
+fn assigned_by(rows: &[Row], at: u32) -> Option<u32>
+    ensures { result ≡ spec.assigned_by rows.now at }
+{
+    if is_assignment(rows, at) {
+        first_bare(rows, at.saturating_add(1), end_of(rows, at))
+    } else {
+        None
+    }
+}
+
+/// What is found is this row.
+pub fn is_row(found: Option<u32>, row: u32) -> bool
+    ensures { result ≡ spec.is_row found row }
+{
+    match found {
+        Some(found) => found == row,
+        None => false,
+    }
+}
+
+// The row assigns to the variable.
+fn assigns_to(old: &Project, declared: u32, at: u32) -> bool
+    ensures { result ≡ spec.assigns_to old.now declared at }
+{
+    match assigned_by(old.marks.rows, at) {
+        Some(operand) => is_row(refers_to(old, operand), declared),
+        None => false,
+    }
+}
+
+// The first of these rows that assigns to the variable.
+fn first_assignment(old: &Project, declared: u32, first: u32, behind: u32) -> Option<u32>
+    ensures { result ≡ spec.first_assignment old.now declared first behind }
+{
+    for at in first..behind {
+        if assigns_to(old, declared, at) {
+            return Some(at);
+        }
+    }
+    None
+}
+
+// Some assignment or step changes the local.
+fn is_assigned(old: &Project, local: Local) -> bool
+    ensures { result ≡ spec.is_assigned old.now local }
+{
+    let behind = local.scope_end(old.marks.rows);
+    first_assignment(old, local.declarator, local.declarator, behind).is_some()
+}
+
 impl Local {
     /// The declaration, if it is a local with an expression as initializer.
-    pub fn of(rows: &[Row], declared: u32) -> Option<Local> {
-        let value = declared.saturating_add(1);
-        let is_local = role_at(rows, declared) == Role::Local;
-        if is_local && parent_at(rows, value) == declared && is_value(rows, value) {
+    fn of(rows: &[Row], declared: u32) -> Option<Local>
+        ensures { result ≡ spec.local_of rows.now declared }
+    {
+        if is_local(rows, declared) && has_value(rows, declared) {
             Some(Local {
                 declarator: declared,
                 statement: parent_at(rows, declared),
-                value: value.saturating_add(1),
+                value: declared.saturating_add(1).saturating_add(1),
             })
         } else {
             None
@@ -79,25 +166,40 @@ impl Local {
     }
 
     /// The number behind the last row in which the local is in scope (JLS 6.3): its block, its `for`, or the switch of its group.
-    pub fn scope_end(&self, rows: &[Row]) -> u32 {
-        let over = parent_at(rows, self.statement);
-        if is_group(rows, over) {
-            end_at(rows, parent_at(rows, over))
-        } else {
-            end_at(rows, over)
-        }
+    pub fn scope_end(&self, rows: &[Row]) -> u32
+        ensures { result ≡ spec.scope_end rows.now self.now }
+    {
+        end_of(rows, scope_over(rows, parent_at(rows, self.statement)))
     }
+}
 
-    /// Some assignment or step changes the local.
-    pub fn is_assigned(&self, under: &Tabled) -> bool {
-        let rows = under.rows;
-        for at in self.declarator..self.scope_end(rows) {
-            if let Some(target) = assigned_by(rows, at) {
-                if under.declared(target) == Some(self.declarator) {
-                    return true;
-                }
-            }
-        }
-        false
+// What holds the scope of a declaration that stands right below a row.
+fn scope_over(rows: &[Row], over: u32) -> u32
+    ensures { result ≡ spec.scope_over rows.now over }
+{
+    if is_group(rows, over) {
+        parent_at(rows, over)
+    } else {
+        over
     }
+}
+
+// The local, if it is never assigned again.
+fn if_never_assigned(old: &Project, local: Option<Local>) -> Option<Local>
+    ensures { result ≡ spec.if_never_assigned old.now local }
+{
+    let local = local?;
+    if is_assigned(old, local) {
+        None
+    } else {
+        Some(local)
+    }
+}
+
+/// The declaration, if it is a local that can be inlined: with an expression as initializer, and never assigned again.
+pub fn inlinable(old: &Project, declared: Option<u32>) -> Option<Local>
+    ensures { result ≡ spec.inlinable old.now declared }
+{
+    let declared = declared?;
+    if_never_assigned(old, Local::of(old.marks.rows, declared))
 }

@@ -1,0 +1,4 @@
+pub mod Inlinable
+pub mod Removing
+pub mod Forms
+pub mod Inlining
