@@ -1,7 +1,7 @@
 -- The change for which a request asks of a program.
-use Rattle.std.specs.Prelude.{ℕ, suc, Bool, true, false, ◌&&◌, List, [], ◌∷◌, Result, nat_eq, bytes_eq, ⊤}
+use Rattle.std.specs.Prelude.{ℕ, suc, Bool, true, false, ◌&&◌, List, [], ◌∷◌, Result, nat_eq, bytes_eq}
 use Rattle.jr_base.specs.declared.request.Request.{Request}
-use Rattle.jr_base.specs.declared.request.Request.TheVariants.{Delete, Inline, Lift, Move, PullUp, Rename, Repackage}
+use Rattle.jr_base.specs.declared.request.Request.TheVariants.{Delete, Extract, Inline, Lift, Move, PullUp, Rename, Repackage}
 use Rattle.jr_defs.specs.declared.program.UnitAt.{UnitAt}
 use Rattle.jr_change.specs.declared.change.Change.{Change}
 use Rattle.jr_change.specs.declared.change.ChangedUnit.{ChangedUnit}
@@ -9,6 +9,7 @@ use Rattle.jr_change.specs.declared.change.UnitSource.{UnitSource}
 use Rattle.jr_change.specs.declared.change.UnitSource.TheVariants.{Kept}
 use Rattle.jr_change.specs.declared.project.Project.{Project}
 use Rattle.jr_change.specs.declared.reason.ChangeFault.{ChangeFault}
+use Rattle.jr_extract.specs.Extracting.{IsExtractAnswer}
 use Rattle.jr_names.specs.Moving.{IsMoveAnswer}
 use Rattle.jr_names.specs.Renaming.{IsRenameAnswer}
 use Rattle.jr_inline.specs.Inlining.{IsInlineAnswer}
@@ -17,16 +18,16 @@ use Rattle.jr_package.specs.Lifting.{IsLiftAnswer}
 use Rattle.jr_package.specs.Repackaging.{IsRepackageAnswer}
 use Rattle.jr_pullup.specs.Pulling.{IsPullUpAnswer}
 
--- What a request comes to: of a rename, a move, an inlining, a pull up, a delete, a lift and the rename of a package the change, or why there is none. Of an extraction nothing is said.
+-- What a request comes to: the change, or why there is none.
 abbrev pub IsAskedBy : Project → Request → Result Change ChangeFault → Type 0
 IsAskedBy old (Rename file at name) answer = IsRenameAnswer old file at name answer
 IsAskedBy old (Move file at word) answer = IsMoveAnswer old file at word answer
 IsAskedBy old (Inline file at) answer = IsInlineAnswer old file at answer
+IsAskedBy old (Extract file start end name) answer = IsExtractAnswer old file start end name answer
 IsAskedBy old (PullUp file at) answer = IsPullUpAnswer old file at answer
 IsAskedBy old (Delete file at) answer = IsDeleteAnswer old file at answer
 IsAskedBy old (Lift file at) answer = IsLiftAnswer old file at answer
 IsAskedBy old (Repackage from to) answer = IsRepackageAnswer old from to answer
-IsAskedBy old _ answer = ⊤
 
 -- ---- changes that change nothing
 

@@ -2,9 +2,12 @@
 #![tactic(auto)]
 
 mod extracting;
+mod extraction;
+mod flow;
 mod locals;
-mod pen;
+mod rows;
 mod run;
+mod texts;
 mod thrown;
 
 pub use extracting::extract;
