@@ -199,9 +199,7 @@ impl<'a> Inlining<'a> {
             Fate::Kept => draft.copy(at, at.saturating_add(1)),
             Fate::Turned => draft.turned(at),
             Fate::Gone => Ok(()),
-            Fate::Replaced => self
-                .form(at)
-                .add_rows(draft, self.rows(), self.local.value),
+            Fate::Replaced => self.form(at).add_rows(draft, self.rows(), self.local.value),
             Fate::Instead(row) => draft.copy(row, row.saturating_add(1)),
         }
     }

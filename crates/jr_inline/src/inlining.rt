@@ -113,11 +113,7 @@ fn push_uses(alloc: Global, edits: &mut Edits, inlining: &Inlining) -> Result<()
 }
 
 // Takes the declaration away.
-fn push_removal(
-    alloc: Global,
-    edits: &mut Edits,
-    inlining: &Inlining,
-) -> Result<(), ChangeFault>
+fn push_removal(alloc: Global, edits: &mut Edits, inlining: &Inlining) -> Result<(), ChangeFault>
     ensures ok { OnOk result (edits.new ≡ spec.without_local (spec.plan_by inlining.now) edits.old) }
     ensures fault { IfErr result (λ fault. fault ≡ ChangeFault.OutOfMemory) }
 {
