@@ -120,7 +120,7 @@ module _ (old : Project) (run : Run) (within : IsWithin old.marks run) where
     locals = locals;
     handed = record {
       graph = graph;
-      flow = λ meaning seen. let g = made meaning seen.view seen.tree (inside meaning seen) in record { body = g.body_is; graph = g.graph_is; small = g.small };
+      flow = λ meaning seen. let g = made meaning seen.view seen.tree (inside meaning seen) in record { of_member = g.body_is; is_graph = g.graph_is; small = g.small };
       handed = handed;
     };
     made = method;

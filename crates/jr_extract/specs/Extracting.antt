@@ -165,8 +165,8 @@ HasTooManyPoints old run = (meaning : Meaning) → IsSeenAs old meaning → IsTo
 
 -- the graph is that of the member, which has not too many points
 pub record IsGraphIn (old : Project) (run : Run) (graph : Graph) (meaning : Meaning) : Type 0 where
-  pub body : graph.body ≡ run.member
-  pub graph : IsGraphOf (rows_in old.view) meaning graph
+  pub of_member : graph.body ≡ run.member
+  pub is_graph : IsGraphOf (rows_in old.view) meaning graph
   pub small : IsTooLarge (rows_in old.view) meaning run.member → ⊥
 
 -- the locals of the method, by the graph of the member

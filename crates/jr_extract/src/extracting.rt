@@ -1,5 +1,5 @@
 // An extraction of a method.
-ghost use Rattle.std.specs.Prelude.{◌≡◌, ◌<◌, ◌^◌, IfErr, IfOk, OnOk, length};
+ghost use Rattle.std.specs.Prelude.{◌≡◌, ◌<◌, IfErr, IfOk, OnOk, length};
 ghost use Rattle.jr_marks.specs.Places.{IsOrdered};
 ghost use Rattle.jr_draft.specs.Drafting.{begun};
 ghost use Rattle.jr_extract.specs.Extracting as spec;
@@ -180,12 +180,7 @@ fn edit_member(
 }
 
 // The edits of the unit in which the run stands.
-fn edited(
-    alloc: Global,
-    marks: &Marks,
-    added: &Extraction,
-    unit: u32,
-) -> Result<Edits, ChangeFault>
+fn edited(alloc: Global, marks: &Marks, added: &Extraction, unit: u32) -> Result<Edits, ChangeFault>
     ensures ok { IfOk result (λ edits. IsOrdered marks.now → edits ≡ spec.edited marks.now (writing.extracted added.now) unit) }
     ensures fault { IfErr result (λ fault. fault ≡ ChangeFault.OutOfMemory) }
 {
