@@ -199,8 +199,15 @@ fn put_call(text: &mut Vec<u8>, rows: &[Row], added: &Extraction) -> Result<(), 
     put(text, b");")
 }
 
+#[tactic(auto, using(jr_weave::proofs::Adding::adds_two))]
+fn put_statement(text: &mut Vec<u8>, rows: &[Row], added: &Extraction) -> Result<(), OutOfMemory>
+    ensures { OnOk result (text.new.items ≡ text.old.items ++ spec.statement_text rows.now (spec.extracted added.now)) }
+{
+    put_target(text, rows, added.run, added.locals.result)?;
+    put_call(text, rows, added)
+}
+
 /// The statement in place of the run.
-#[tactic(auto, using(crate::proofs::Adding::adds_first))]
 pub(crate) fn statement_text(
     alloc: Global,
     rows: &[Row],
@@ -209,8 +216,7 @@ pub(crate) fn statement_text(
     ensures { IfOk result (λ text. text ≡ spec.statement_text rows.now (spec.extracted added.now)) }
 {
     let mut text = Vec::new(alloc);
-    put_target(&mut text, rows, added.run, added.locals.result)?;
-    put_call(&mut text, rows, added)?;
+    put_statement(&mut text, rows, added)?;
     Ok(Text::new(text))
 }
 
