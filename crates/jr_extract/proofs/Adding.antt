@@ -7,10 +7,6 @@ pub adds_five : (old a b c d e one two three four five : List ℕ) → one ≡ o
 adds_five old a b c d e one two three four five first second third fourth fifth =
     adds_two old a (b ++ (c ++ (d ++ e))) one five first (adds_four one b c d e two three four five second third fourth fifth)
 
--- on what is empty at first
-pub adds_first : (old a b one two : List ℕ) → old ≡ [] → one ≡ old ++ a → two ≡ one ++ b → two ≡ a ++ b
-adds_first old a b one two none first second = second ∙ ap (λ xs. xs ++ b) (first ∙ ap (λ xs. xs ++ a) none)
-
 -- ---- lists with what stands between
 
 pub separated_next : {A : Type 0} (of : A → List ℕ) (lead all done new : List ℕ) (left more : List A) (x : A) → left ≡ x ∷ more → new ≡ done ++ (lead ++ of x) → done ++ separated lead of left ≡ all

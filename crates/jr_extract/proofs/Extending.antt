@@ -5,11 +5,12 @@ use Rattle.std.proofs.lemmas.Bool.Decides.{Decides-ltb}
 use Rattle.std.specs.Prelude.{IfOk, IfErr, OnOk}
 use Rattle.jr_base.specs.declared.token.Span.{Span}
 use Rattle.jr_base.specs.Identifiers.{IsIdentifier}
+use Rattle.jr_plain.specs.Modifiers.{is_static}
 use Rattle.jr_supers.specs.Tabled.{IsSized}
 use Rattle.jr_marks.specs.declared.marks.Marks.{Marks}
 use Rattle.jr_marks.specs.Places.{IsOrdered, unit_of}
 use Rattle.jr_edits.specs.Place.{EditList, pushed}
-use Rattle.jr_text.specs.Spans.{unit_bytes}
+use Rattle.jr_text.specs.Spans.{part, unit_bytes}
 use Rattle.jr_view.specs.declared.View.{View}
 use Rattle.jr_flow_defs.specs.Meaning.{Meaning}
 use Rattle.jr_flow.specs.declared.point.Graph.{Graph}
@@ -36,8 +37,8 @@ use Rattle.jr_extract.specs.declared.locals.Locals.{Locals}
 use Rattle.jr_extract.specs.declared.run.Run.{Run}
 use Rattle.jr_extract.specs.Handing.{AreHanded}
 use Rattle.jr_extract.specs.Running.{run_at}
-use Rattle.jr_extract.specs.Writing.{Extracted, with_method}
-use Rattle.jr_extract.specs.Extracting.{AreLocals, Extending, IsFinishedWith, IsExtractAnswer, IsExtracted, IsGraphFault, IsGraphFor, IsGraphIn, IsGraphMade, IsMethodOf, IsNamedAnswer, IsRangeAnswer, IsRunAnswer, IsRunFault, IsRunMethod, IsSeenAs, IsWithin, all_extended, edited, extended, extended_below, extraction, fault_of, is_extended, nowhere, rows_added, rows_before, rows_called, with_method_text, with_one, with_rows_placed, with_statement}
+use Rattle.jr_extract.specs.Writing.{Extracted, with_call, with_method}
+use Rattle.jr_extract.specs.Extracting.{AreLocals, Extending, IsFinishedWith, IsExtractAnswer, IsExtracted, IsGraphFault, IsGraphFor, IsGraphIn, IsGraphMade, IsMethodOf, IsNamedAnswer, IsRangeAnswer, IsRunAnswer, IsRunFault, IsRunMethod, IsSeenAs, IsWithin, all_extended, class_of, edited, extended, extended_below, extraction, fault_of, is_extended, nowhere, rows_added, rows_before, rows_between, rows_called, span_of, with_method_text, with_one, with_rows_placed, with_statement}
 use Rattle.jr_extract.proofs.Counting.{run_within, unit_within}
 
 -- ---- units
@@ -54,6 +55,32 @@ method_between before after = record { first = before.count; end = after.count }
 pub edited_by : (m : Marks) (e : Extracted) (unit row : ℕ) (none put made : EditList) → row ≡ unit_row m unit → none ≡ no_edits (length (unit_bytes m row)) → put ≡ with_statement m e none → made ≡ with_method_text m e put
     → made ≡ edited m e unit
 edited_by m e unit row none put made at is first second = second ∙ ap (with_method_text m e) (first ∙ ap (with_statement m e) (is ∙ ap (λ row. no_edits (length (unit_bytes m row))) at))
+
+pub count_of : Drafted → ℕ
+count_of d = d.count
+
+pub called_so : (m : Marks) (e : Extracted) (unit behind between : ℕ) (d before called all : Drafted) → before ≡ rows_before m e unit d → between ≡ rows_between m.rows.now e.run → called ≡ with_call e between before
+    → all ≡ copied called e.run.rows.end behind → behind ≡ end m.rows.now e.run.member → all ≡ rows_called m e unit d
+called_so m e unit behind between d before called all first of second third b = third ∙ ap₂ (λ x k. copied x e.run.rows.end k) (second ∙ ap₂ (with_call e) of first) b
+
+-- what the run becomes
+built : Run → List ℕ → Locals → List ℕ → List ℕ → ℕ → Bool → Extracted
+built run name locals thrown text class static = record {
+  run = run;
+  text = text;
+  identifier = name;
+  class = class;
+  is_static = static;
+  parameters = locals.parameters.items;
+  fresh = locals.fresh.items;
+  result = locals.result;
+  thrown = thrown;
+}
+
+pub extraction_so : (m : Marks) (run : Run) (name : List ℕ) (locals : Locals) (thrown text bytes : List ℕ) (span : Span) (class : ℕ) (static : Bool) → text ≡ part bytes span → bytes ≡ unit_bytes m run.member → span ≡ span_of m run
+    → class ≡ class_of m.rows.now run.member → static ≡ is_static m.rows.now run.member → built run name locals thrown text class static ≡ extraction m run name locals thrown
+extraction_so m run name locals thrown text bytes span class static is of at c s = ap (λ text. built run name locals thrown text class static) (is ∙ ap₂ part of at)
+    ∙ ap₂ (built run name locals thrown (part (unit_bytes m run.member) (span_of m run))) c s
 
 -- the rows of the unit, and where the call and the method stand
 pub placed_so : (m : Marks) (e : Extracted) (unit call behind last : ℕ) (d called added all : Drafted) (method : RowRange) → called ≡ rows_called m e unit d → call ≡ (rows_before m e unit d).count
@@ -120,7 +147,7 @@ module _ (old : Project) (run : Run) (within : IsWithin old.marks run) where
     locals = locals;
     handed = record {
       graph = graph;
-      flow = λ meaning seen. let g = made meaning seen.view seen.tree (inside meaning seen) in record { body = g.body_is; graph = g.graph_is; small = g.small };
+      flow = λ meaning seen. let g = made meaning seen.view seen.tree (inside meaning seen) in record { of_member = g.body_is; is_graph = g.graph_is; small = g.small };
       handed = handed;
     };
     made = method;

@@ -7,6 +7,7 @@ use Rattle.std.proofs.lemmas.List.Folds.{list_any-append}
 use Rattle.std.proofs.lemmas.List.Sorted.{list_any-IsPermutation}
 use Rattle.std.proofs.lemmas.Option.{none-some, same_Some}
 use Rattle.jr_tree.specs.Rows.{Rows}
+use Rattle.jr_defs.specs.declared.referent.RowType.{RowType}
 use Rattle.jr_defs.specs.Referents.{Table}
 use Rattle.jr_plain.specs.Search.{gathered, has, Lists}
 use Rattle.jr_plain.proofs.Searches.{gathered_tells}
@@ -25,7 +26,7 @@ use Rattle.jr_extract.specs.declared.locals.Locals.{Locals}
 use Rattle.jr_extract.specs.declared.locals.Variable.{Variable}
 use Rattle.jr_extract.specs.declared.run.Run.{Run}
 use Rattle.jr_extract.specs.Running.{holds}
-use Rattle.jr_extract.specs.Handing.{AreFresh, AreHanded, AreLocalsBy, Brings, Enters, IsLowest, IsNamedIn, Leaves, entering_by, enters, flow_between, flow_of, given, given_at, given_from, leaving_by, leaves, listed, listed_by, local_if, lower, lowest, outer_local, variables_of, without}
+use Rattle.jr_extract.specs.Handing.{AreFresh, AreHanded, AreLocalsBy, Brings, Enters, IsLowest, IsNamedIn, Leaves, entering_by, enters, flow_between, flow_of, given, given_at, given_from, leaving_by, leaves, listed, listed_by, local_if, lower, lowest, outer_local, variable_by, variable_list, variables_of, without}
 
 -- ---- numbers that items give
 
@@ -222,6 +223,14 @@ module _ (graph : Graph) (run : Run) (pairs : List (ℕ × ℕ)) (reaching : Are
   pub handed_so : (p : Rows) (t : Table) (entering : List ℕ) (leaving : Option ℕ) (locals : Locals) → ListsOnce entering (Enters graph run) → leaving ≡ lowest (leaving_by graph.points.items run) None pairs
       → AreLocalsBy p t run entering leaving locals → AreHanded p t graph run locals
   handed_so p t entering leaving locals enter is by = record { entering = entering; leaving = leaving; enter = enter; leave = leaving_is leaving is; handed = by }
+
+-- ---- variables
+
+pub typed_so : (d : ℕ) (ty : RowType) (found : Option RowType) → Some ty ≡ found → Some (record { row = d; ty = ty }) ≡ variable_by d found
+typed_so d ty found is = ap (variable_by d) is
+
+pub pushed_so : (old new : List Variable) (v : Variable) (found : Option Variable) → new ≡ old ++ v ∷ [] → Some v ≡ found → new ≡ old ++ variable_list found
+pushed_so old new v found made is = made ∙ ap (λ found. old ++ variable_list found) is
 
 -- ---- locals that are named
 

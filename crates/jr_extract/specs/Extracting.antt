@@ -130,13 +130,17 @@ pub record IsFinishedWith (d : Drafted) (placed : Placed) (change : Change) : Ty
   pub raises : change.raised ≡ None
   pub does : change.course ≡ course.Extracted placed.call placed.method.first
 
+-- the class in whose body a member stands
+abbrev pub class_of : Rows → ℕ → ℕ
+class_of p member = parent p (parent p member)
+
 -- the method stands in the class of the member, and is static where that is
 abbrev pub extraction : Marks → Run → List ℕ → Locals → List ℕ → Extracted
 extraction m run name locals thrown = record {
   run = run;
   text = part (unit_bytes m run.member) (span_of m run);
   identifier = name;
-  class = parent m.rows.now (parent m.rows.now run.member);
+  class = class_of m.rows.now run.member;
   is_static = is_static m.rows.now run.member;
   parameters = locals.parameters.items;
   fresh = locals.fresh.items;
@@ -165,8 +169,8 @@ HasTooManyPoints old run = (meaning : Meaning) → IsSeenAs old meaning → IsTo
 
 -- the graph is that of the member, which has not too many points
 pub record IsGraphIn (old : Project) (run : Run) (graph : Graph) (meaning : Meaning) : Type 0 where
-  pub body : graph.body ≡ run.member
-  pub graph : IsGraphOf (rows_in old.view) meaning graph
+  pub of_member : graph.body ≡ run.member
+  pub is_graph : IsGraphOf (rows_in old.view) meaning graph
   pub small : IsTooLarge (rows_in old.view) meaning run.member → ⊥
 
 -- the locals of the method, by the graph of the member

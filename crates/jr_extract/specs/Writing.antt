@@ -1,5 +1,5 @@
 -- The statement and the method that an extraction adds: their texts, and their rows (JLS 8.4, 10.2, 14.4, 14.17).
-use Rattle.std.specs.Prelude.{ℕ, Bool, if◌then◌else◌, List, [], ◌∷◌, ◌++◌, codes, flat_map, Option, Some, None}
+use Rattle.std.specs.Prelude.{ℕ, zero, suc, Bool, if◌then◌else◌, List, [], ◌∷◌, ◌++◌, codes, flat_map, length, Option, Some, None}
 use Rattle.jr_tree.specs.Rows.{Rows, name}
 use Rattle.jr_defs.specs.declared.referent.Element.{Element}
 use Rattle.jr_defs.specs.declared.referent.Element.TheVariants as element
@@ -152,14 +152,14 @@ abbrev pub with_arguments : List Variable → Drafted → Drafted
 with_arguments [] d = d
 with_arguments (v ∷ rest) d = with_arguments rest (with_name v.row d)
 
--- the number behind so many more as there are items
-abbrev pub behind_each : {A : Type 0} → ℕ → List A → ℕ
-behind_each n [] = n
-behind_each n (x ∷ rest) = behind_each (plus n 1) rest
+-- the number behind so many more
+abbrev pub behind_many : ℕ → ℕ → ℕ
+behind_many n zero = n
+behind_many n (suc count) = plus (behind_many n count) 1
 
 -- the row of the method: behind those of the call and its arguments, and so many others
 abbrev pub method_row : List Variable → ℕ → ℕ → ℕ
-method_row arguments call between = behind_each (plus (plus call 1) between) arguments
+method_row arguments call between = behind_many (plus (plus call 1) between) (length arguments)
 
 -- the call refers to the method, and finds it through the class
 abbrev pub with_call : Extracted → ℕ → Drafted → Drafted

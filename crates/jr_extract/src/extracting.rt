@@ -19,6 +19,7 @@ use jr_edits::Edits;
 use jr_marks::Marks;
 use jr_places::{end_at, is_static, parent_at};
 use jr_text::{part, token_span, tokens_span, unit_bytes};
+use jr_tree::Row;
 use std::alloc::Global;
 
 /// Where the added call and the rows of the added method stand in the changed program.
@@ -117,6 +118,13 @@ fn span_of(marks: &Marks, run: Run) -> Span
     }
 }
 
+// The class in whose body a member stands.
+fn class_of(rows: &[Row], member: u32) -> u32
+    ensures { result ≡ spec.class_of rows.now member }
+{
+    parent_at(rows, parent_at(rows, member))
+}
+
 // What the run becomes.
 fn extraction<'a>(
     marks: &Marks<'a>,
@@ -131,7 +139,7 @@ fn extraction<'a>(
         run,
         text: part(unit_bytes(marks, run.member), span_of(marks, run)),
         name,
-        class: parent_at(marks.rows, parent_at(marks.rows, run.member)),
+        class: class_of(marks.rows, run.member),
         is_static: is_static(marks.rows, run.member),
         locals,
         thrown,
@@ -180,12 +188,7 @@ fn edit_member(
 }
 
 // The edits of the unit in which the run stands.
-fn edited(
-    alloc: Global,
-    marks: &Marks,
-    added: &Extraction,
-    unit: u32,
-) -> Result<Edits, ChangeFault>
+fn edited(alloc: Global, marks: &Marks, added: &Extraction, unit: u32) -> Result<Edits, ChangeFault>
     ensures ok { IfOk result (λ edits. IsOrdered marks.now → edits ≡ spec.edited marks.now (writing.extracted added.now) unit) }
     ensures fault { IfErr result (λ fault. fault ≡ ChangeFault.OutOfMemory) }
 {
@@ -195,24 +198,41 @@ fn edited(
     Ok(edits)
 }
 
-// Adds the rows up to the call and it, and gives the row of the call.
+// How many rows stand between those of the run and the end of the member.
+fn rows_between(rows: &[Row], run: Run) -> u32
+    ensures { length rows.now < 2 ^ 32 → run.member < length rows.now → result ≡ spec.rows_between rows.now run }
+{
+    end_at(rows, run.member).saturating_sub(run.rows.end)
+}
+
+// Adds the rows of the unit up to the run, and those of the statement up to the call.
+fn add_before(
+    draft: &mut Draft,
+    marks: &Marks,
+    added: &Extraction,
+    unit: u32,
+) -> Result<(), OutOfMemory>
+    ensures { OnOk result (draft.new ≡ spec.rows_before marks.now (writing.extracted added.now) unit draft.old) }
+{
+    draft.copy(unit_row(marks, unit), added.run.rows.first)?;
+    add_target(draft, added.run, added.locals.result)
+}
+
+// Adds the rows of the unit up to the method, and gives the row of the call.
 fn add_called(
     draft: &mut Draft,
     marks: &Marks,
     added: &Extraction,
     unit: u32,
 ) -> Result<u32, OutOfMemory>
-    ensures rows { OnOk result (IsOrdered marks.now → spec.IsWithin marks.now added.now.run → unit < length marks.now.units.now
-        → draft.new ≡ spec.rows_called marks.now (writing.extracted added.now) unit draft.old) }
+    ensures rows { OnOk result (IsOrdered marks.now → spec.IsWithin marks.now added.now.run → draft.new ≡ spec.rows_called marks.now (writing.extracted added.now) unit draft.old) }
     ensures call { IfOk result (λ call. call ≡ (spec.rows_before marks.now (writing.extracted added.now) unit draft.old).count) }
 {
-    let run = added.run;
-    let behind = end_at(marks.rows, run.member);
-    draft.copy(unit_row(marks, unit), run.rows.first)?;
-    add_target(draft, run, added.locals.result)?;
+    add_before(draft, marks, added, unit)?;
     let call = draft.rows();
-    add_call(draft, added, behind.saturating_sub(run.rows.end))?;
-    draft.copy(run.rows.end, behind)?;
+    add_call(draft, added, rows_between(marks.rows, added.run))?;
+    let behind = end_at(marks.rows, added.run.member);
+    draft.copy(added.run.rows.end, behind)?;
     Ok(call)
 }
 

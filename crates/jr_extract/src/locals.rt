@@ -284,7 +284,8 @@ fn push_typed(all: &mut Vec<Variable>, under: &Tabled, row: u32) -> Result<(), O
     ensures { OnOk result (IsSized under.now.rows.now
         → all.new.items ≡ all.old.items ++ spec.typed under.now.rows.now (entries under.now.table.now) row) }
 {
-    all.push(typed(under, row)?)?;
+    let variable = typed(under, row)?;
+    all.push(variable)?;
     Ok(())
 }
 

@@ -95,12 +95,12 @@ fn add_arguments(draft: &mut Draft, variables: &[Variable]) -> Result<(), OutOfM
     Ok(())
 }
 
-// The number behind so many more as there are variables.
-fn behind_each(number: u32, variables: &[Variable]) -> u32
-    ensures { result ≡ spec.behind_each number variables.now }
+// The number behind so many more.
+fn behind_many(number: u32, count: usize) -> u32
+    ensures { result ≡ spec.behind_many number count }
 {
     let mut behind = number;
-    for _variable in variables {
+    for _one in 0..count {
         behind = behind.saturating_add(1);
     }
     behind
@@ -110,7 +110,10 @@ fn behind_each(number: u32, variables: &[Variable]) -> u32
 fn method_row(call: u32, arguments: &[Variable], between: u32) -> u32
     ensures { result ≡ spec.method_row arguments.now call between }
 {
-    behind_each(call.saturating_add(1).saturating_add(between), arguments)
+    behind_many(
+        call.saturating_add(1).saturating_add(between),
+        arguments.len(),
+    )
 }
 
 /// The call of the method, whose row stands behind so many others that follow the call.

@@ -60,11 +60,7 @@ fn put_variable(text: &mut Vec<u8>, rows: &[Row], variable: Variable) -> Result<
 
 // `T x;` and LF.
 #[tactic(auto, using(jr_weave::proofs::Adding::adds_two))]
-fn put_declaration(
-    text: &mut Vec<u8>,
-    rows: &[Row],
-    variable: Variable,
-) -> Result<(), OutOfMemory>
+fn put_declaration(text: &mut Vec<u8>, rows: &[Row], variable: Variable) -> Result<(), OutOfMemory>
     ensures { OnOk result (text.new.items ≡ text.old.items ++ spec.declaration_text rows.now variable) }
 {
     put_variable(text, rows, variable)?;
@@ -131,12 +127,7 @@ fn put_target(
 
 // Bytes, and the identifier of a row.
 #[tactic(auto, using(jr_weave::proofs::Adding::adds_two))]
-fn put_name(
-    text: &mut Vec<u8>,
-    rows: &[Row],
-    lead: &[u8],
-    row: u32,
-) -> Result<(), OutOfMemory>
+fn put_name(text: &mut Vec<u8>, rows: &[Row], lead: &[u8], row: u32) -> Result<(), OutOfMemory>
     ensures { OnOk result (text.new.items ≡ text.old.items ++ (lead.now ++ name rows.now row)) }
 {
     put(text, lead)?;
@@ -208,8 +199,15 @@ fn put_call(text: &mut Vec<u8>, rows: &[Row], added: &Extraction) -> Result<(), 
     put(text, b");")
 }
 
+#[tactic(auto, using(jr_weave::proofs::Adding::adds_two))]
+fn put_statement(text: &mut Vec<u8>, rows: &[Row], added: &Extraction) -> Result<(), OutOfMemory>
+    ensures { OnOk result (text.new.items ≡ text.old.items ++ spec.statement_text rows.now (spec.extracted added.now)) }
+{
+    put_target(text, rows, added.run, added.locals.result)?;
+    put_call(text, rows, added)
+}
+
 /// The statement in place of the run.
-#[tactic(auto, using(crate::proofs::Adding::adds_first))]
 pub(crate) fn statement_text(
     alloc: Global,
     rows: &[Row],
@@ -218,8 +216,7 @@ pub(crate) fn statement_text(
     ensures { IfOk result (λ text. text ≡ spec.statement_text rows.now (spec.extracted added.now)) }
 {
     let mut text = Vec::new(alloc);
-    put_target(&mut text, rows, added.run, added.locals.result)?;
-    put_call(&mut text, rows, added)?;
+    put_statement(&mut text, rows, added)?;
     Ok(Text::new(text))
 }
 
@@ -234,11 +231,7 @@ fn put_static(text: &mut Vec<u8>, is_static: bool) -> Result<(), OutOfMemory>
     }
 }
 
-fn put_result(
-    text: &mut Vec<u8>,
-    rows: &[Row],
-    given: Option<Variable>,
-) -> Result<(), OutOfMemory>
+fn put_result(text: &mut Vec<u8>, rows: &[Row], given: Option<Variable>) -> Result<(), OutOfMemory>
     ensures { OnOk result (text.new.items ≡ text.old.items ++ spec.result_text rows.now given) }
 {
     match given {
@@ -279,11 +272,7 @@ fn put_given(text: &mut Vec<u8>, rows: &[Row], variable: Variable) -> Result<(),
 }
 
 #[tactic(auto, using(jr_weave::proofs::Adding::adds_none))]
-fn put_return(
-    text: &mut Vec<u8>,
-    rows: &[Row],
-    given: Option<Variable>,
-) -> Result<(), OutOfMemory>
+fn put_return(text: &mut Vec<u8>, rows: &[Row], given: Option<Variable>) -> Result<(), OutOfMemory>
     ensures { OnOk result (text.new.items ≡ text.old.items ++ spec.return_text rows.now given) }
 {
     match given {
