@@ -103,8 +103,8 @@ module _ {A : Type 0} (of : A → Option ℕ) where
   lowest_is first (x ∷ rest) = lowest_like (λ d. (lower first (of x) ≡ Some d) ⊎ Gives rest d) (λ d. (first ≡ Some d) ⊎ Gives (x ∷ rest) d) (lowest of (lower first (of x)) rest) (lowest_is (lower first (of x)) rest)
       (λ d h. ⊎_elim (λ l. ⊎_elim (λ e. inl e) (λ e. inr (x, contains_first x rest, e)) (lower_out first (of x) d l)) (λ g. inr (g.0, contains_more x rest g.0 g.1, g.2)) h)
       (λ e h. ⊎_elim
-        (λ f. let l = lower_first first (of x) e f in (l.0, inl l.1, l.2))
-        (λ g. ⊎_elim (λ same. let l = lower_second first (of x) e (ap of same ∙ g.2) in (l.0, inl l.1, l.2)) (λ others. (e, inr (g.0, others, g.2), omega arith)) (contains_out x rest g.0 g.1)) h)
+      (λ f. let l = lower_first first (of x) e f in (l.0, inl l.1, l.2))
+      (λ g. ⊎_elim (λ same. let l = lower_second first (of x) e (ap of same ∙ g.2) in (l.0, inl l.1, l.2)) (λ others. (e, inr (g.0, others, g.2), omega arith)) (contains_out x rest g.0 g.1)) h)
 
 -- ---- what rows give, from one on
 
@@ -237,8 +237,11 @@ pushed_so old new v found made is = made ∙ ap (λ found. old ++ variable_list 
 module _ (p : Rows) (t : Table) (run : Run) where
   named_out : (d : ℕ) → (k : ℕ) × (k < run.rows.end) × (has (given_at (outer_local p t run) run.rows.first k) d ≡ true) → IsNamedIn p t run d
   named_out d h = ⊎_elim
-      (λ le. record { row = h.0; inside = passes (nat_le run.rows.first h.0) (nat_lt h.0 run.rows.end) le.0 ((Decides-ltb h.0 run.rows.end).1 h.1);
-        names = listed_out (outer_local p t run h.0) d (ap (λ xs. has xs d) (sym (from_first (outer_local p t run) run.rows.first h.0 le.1)) ∙ h.2) })
+      (λ le. record {
+        row = h.0;
+        inside = passes (nat_le run.rows.first h.0) (nat_lt h.0 run.rows.end) le.0 ((Decides-ltb h.0 run.rows.end).1 h.1);
+        names = listed_out (outer_local p t run h.0) d (ap (λ xs. has xs d) (sym (from_first (outer_local p t run) run.rows.first h.0 le.1)) ∙ h.2);
+      })
       (λ lt. absurd (false≢true (sym (ap (λ xs. has xs d) (before_first (outer_local p t run) run.rows.first h.0 lt.1)) ∙ h.2)))
       (leb_tells run.rows.first h.0)
 

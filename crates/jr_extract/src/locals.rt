@@ -198,13 +198,7 @@ fn lower(first: Option<u32>, found: Option<u32>) -> Option<u32>
 {
     match first {
         Some(row) => match found {
-            Some(other) => {
-                if other < row {
-                    Some(other)
-                } else {
-                    Some(row)
-                }
-            }
+            Some(other) => { if other < row { Some(other) } else { Some(row) } }
             None => Some(row),
         },
         None => found,
