@@ -125,7 +125,7 @@ pub fn lock(alloc: Global, asked: Asked) -> Result<Locked, StepFault>
     let texts = changed_texts(alloc, units, asked.change)?;
     match read_units(alloc, &texts) {
         Ok(program) => locked_program(alloc, asked, program),
-        Err(fault) => Err(unread(asked, fault)),
+        Err(fault) => Err(unread(alloc, asked, &texts, fault)),
     }
 }
 

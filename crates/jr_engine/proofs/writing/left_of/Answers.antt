@@ -1,10 +1,12 @@
-use Rattle.std.proofs.Common.{◌∙◌, ap}
 use Rattle.jr_base.specs.Files.{plain}
-use Rattle.jr_bind.specs.declared.binder.Bound.{Bound}
-use Rattle.jr_engine.proofs.Reading.{texts_so}
+use Rattle.jr_engine.proofs.Reading.{not_left, not_left_if, texts_so}
 use Rattle.jr_engine.proofs.writing.left_of.Goals as goal
 
 pub returns-clause-texts : goal.returns-clause-texts
-returns-clause-texts c = texts_so c.args.spelled.locked.now c.args.spelled.spellings.now c.marks-marks.result c.deref-2.result.now c.in_ok-edits.edits.items c.deref-3.result.now c.as_slice.result.now
-    (plain c.in_ok-texts.texts.items) c.left_with.result c.marks-marks.ensures.made c.in_ok-edits.ensures (c.deref-2.ensures.value ∙ ap (λ (b : Bound). b.table.items) c.deref.ensures) c.deref-3.ensures.value c.as_slice.ensures
-    c.in_ok-texts.ensures c.left_with.ensures.files c.args.spelled.asked
+returns-clause-texts c = texts_so c.args.spelled.locked.now c.args.spelled.spellings.now c.args.spelled.asked (plain c.in_ok-written_of.texts.items) c.left_with.result c.in_ok-written_of.ensures.are c.left_with.ensures.files
+
+pub returns-clause-err : goal.returns-clause-err
+returns-clause-err c = λ read bound. not_left_if c.args.spelled.asked.change.now c.args.spelled.locked.now c.args.spelled.spellings.now (plain c.in_ok-written_of.texts.items) c.left_with.result (c.in_ok-written_of.ensures.are read bound) c.left_with.ensures.err
+
+pub returns-in-Some-clause-err : goal.returns-in-Some-clause-err
+returns-in-Some-clause-err c = λ read bound. not_left c.args.spelled.asked.change.now c.args.spelled.locked.now c.args.spelled.spellings.now (plain c.in_ok-written_of.texts.items) c.twice.result (c.in_ok-written_of.ensures.are read bound) c.twice.ensures
