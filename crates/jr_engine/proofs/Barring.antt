@@ -39,6 +39,7 @@ use Rattle.jr_engine.specs.Texts.{AreSmall, changed_files, first_twice}
 use Rattle.jr_engine.specs.declared.asked.Asked.{Asked}
 use Rattle.jr_engine.specs.declared.fault.StepFault.{StepFault}
 use Rattle.jr_engine.specs.declared.fault.StepFault.TheVariants as step
+use Rattle.jr_engine.specs.declared.left.Left.{Left}
 use Rattle.jr_engine.proofs.Beginning.{units_begin}
 use Rattle.jr_engine.proofs.Reading.{tokens_apart}
 
@@ -156,6 +157,11 @@ difference_bars change texts (step.Differs place) h = tt
 difference_bars change texts step.OutOfMemory h = tt
 difference_bars change texts _ h = absurd h
 
+pub difference_unread : (texts : List (List ℕ × List ℕ)) (told : StepFault) → IsDifference told → IsUnread texts told
+difference_unread texts (step.Differs place) h = tt
+difference_unread texts step.OutOfMemory h = tt
+difference_unread texts _ h = absurd h
+
 told_bars : (change : Change) (texts : List (List ℕ × List ℕ)) (why : FrontFault) (told : StepFault) → IsToldFor why told → AreRefusedFor texts why → Bars change texts told
 told_bars change texts (front.TooLarge what) told e h = told_as change texts (step.TooLarge what) told e h
 told_bars change texts (front.Parse (parsing.TooDeep number) place) told e h = told_as change texts (step.TooLarge size.Nesting) told e (AreTooLarge.by_levels h)
@@ -180,6 +186,9 @@ files_large found texts why what are e is = subst (λ (all : List (List ℕ × L
 
 pub entries_bar : (change : Change) (texts all : List (List ℕ × List ℕ)) (told : StepFault) → texts ≡ all → Bars change texts told → Bars change all told
 entries_bar change texts all told are h = subst (λ (e : List (List ℕ × List ℕ)). Bars change e told) are h
+
+pub bars_if : (change : Change) (texts all : List (List ℕ × List ℕ)) (result : Result Left StepFault) → texts ≡ all → IfErr result (Bars change texts) → IfErr result (Bars change all)
+bars_if change texts all result are h = subst (λ (e : List (List ℕ × List ℕ)). IfErr result (Bars change e)) are h
 
 pub twice_bars : (change : Change) (texts : List (List ℕ × List ℕ)) (unit : ℕ) (told : StepFault) → told ≡ step.Broken PathTwice (record { cu = record { 0 = unit }; at = 0 }) → first_twice texts ≡ Some unit → Bars change texts told
 twice_bars change texts unit told e is = told_as change texts _ told e (BreakRule.by_paths is)

@@ -2,13 +2,14 @@
 
 ghost use Rattle.std.specs.Prelude.{◌≡◌};
 ghost use Rattle.jr_base.specs.Files.{plain};
+ghost use Rattle.jr_front.specs.declared.fault.FrontFault.TheVariants as front;
 ghost use Rattle.jr_engine.specs.Barring.{IsToldFor, IsUnread};
 ghost use Rattle.jr_engine.specs.Refusing.{fault_of};
 
 use crate::asked::Asked;
 use crate::deep::is_deep_unit;
 use crate::fault::StepFault;
-use jr_base::{CuId, Path, Size};
+use jr_base::{CuId, Path, Place, Size};
 use jr_change::ChangeFault;
 use jr_front::FrontFault;
 use jr_parse::ParseFault;
@@ -32,9 +33,13 @@ pub fn no_change(fault: ChangeFault) -> StepFault
 fn too_deep(alloc: Global, texts: &[(Path, Vec<u8>)], unit: CuId) -> StepFault
     ensures { IsUnread (plain texts.now) result }
 {
-    match is_deep_unit(alloc, texts, unit) {
-        Ok(true) => StepFault::TooLarge(Size::Nesting),
-        _ => StepFault::OutOfMemory,
+    let Ok(is_deep) = is_deep_unit(alloc, texts, unit) else {
+        return StepFault::OutOfMemory;
+    };
+    if is_deep {
+        StepFault::TooLarge(Size::Nesting)
+    } else {
+        StepFault::OutOfMemory
     }
 }
 
@@ -67,6 +72,18 @@ pub fn unread(alloc: Global, asked: Asked, texts: &[(Path, Vec<u8>)], fault: Rea
     }
 }
 
+// The tokens of a written unit are none of the grammar, which shows at the place.
+fn not_parsed(asked: Asked, fault: ParseFault, place: Place) -> StepFault
+    ensures { IsToldFor (front.Parse fault place) result }
+{
+    let _ = place;
+    match fault {
+        ParseFault::TooDeep(_) => StepFault::TooLarge(Size::Nesting),
+        ParseFault::NoTree(_) => asked.differs(),
+        ParseFault::OutOfMemory => StepFault::OutOfMemory,
+    }
+}
+
 /// The written texts are no program that compiles. What lookup does not find in them was not to be written so.
 pub fn not_compiling(asked: Asked, fault: FrontFault) -> StepFault
     ensures { IsToldFor fault result }
@@ -74,11 +91,7 @@ pub fn not_compiling(asked: Asked, fault: FrontFault) -> StepFault
     match fault {
         FrontFault::TooLarge(size) => StepFault::TooLarge(size),
         FrontFault::Lex { .. } => asked.differs(),
-        FrontFault::Parse { fault, .. } => match fault {
-            ParseFault::TooDeep(_) => StepFault::TooLarge(Size::Nesting),
-            ParseFault::NoTree(_) => asked.differs(),
-            ParseFault::OutOfMemory => StepFault::OutOfMemory,
-        },
+        FrontFault::Parse { fault, place } => not_parsed(asked, fault, place),
         FrontFault::PathMismatch(_) => asked.differs(),
         FrontFault::Duplicate(place) => StepFault::Broken {
             rule: Rule::TypeNames,

@@ -1,6 +1,6 @@
 // The files that are written, and whether they may be.
 
-ghost use Rattle.std.specs.Prelude.{◌≡◌, ◌⊎◌, ◌++◌, ℕ, List, map, Some, Err, IfOk, IfErr};
+ghost use Rattle.std.specs.Prelude.{◌≡◌, ◌⊎◌, ◌++◌, ℕ, List, map, Some, Err, IfOk, IfErr, IfSome};
 ghost use Rattle.std.specs.FinMap as finite;
 ghost use Rattle.std.specs.List.{AllByRecursion};
 ghost use Rattle.jr_base.specs.Files.{plain};
@@ -11,7 +11,7 @@ ghost use Rattle.jr_front.specs.Checking.{CheckedAs};
 ghost use Rattle.jr_change.specs.declared.change.Change.{Change};
 ghost use Rattle.jr_engine.specs.Barring as barring;
 ghost use Rattle.jr_engine.specs.Barring.{AreTooLarge, Bars, IsToldFor};
-ghost use Rattle.jr_engine.specs.Texts as written;
+ghost use Rattle.jr_engine.specs.Texts as spec;
 ghost use Rattle.jr_engine.specs.Written.{AreTextsOf, HasTextsOf, IsBoundByLocks, IsLeftOf, IsNotLeft, IsReadBy};
 ghost use Rattle.jr_engine.specs.declared.fault.StepFault.TheVariants as step;
 
@@ -34,9 +34,9 @@ use jr_weave::respelled;
 use std::alloc::Global;
 
 // The program of units that were read, of which two may have one path.
-fn opened_units(alloc: Global, spelled: Spelled, program: Program) -> Result<Workspace, StepFault>
+fn open_units(alloc: Global, spelled: Spelled, program: Program) -> Result<Workspace, StepFault>
     requires { AllByRecursion IsShaped (map (λ u. u.unit) program.units) }
-    ensures { (texts : List (List ℕ × List ℕ)) → AreUnitsOf (prelude_files ++ texts) program.units → written.AreSmall texts → IfErr result (Bars spelled.entry.asked.change.now texts) }
+    ensures { (texts : List (List ℕ × List ℕ)) → AreUnitsOf (prelude_files ++ texts) program.units → spec.AreSmall texts → IfErr result (Bars spelled.entry.asked.change.now texts) }
 {
     match open_program(alloc, program) {
         Ok(new) => Ok(new),
@@ -50,11 +50,11 @@ fn opened(
     spelled: Spelled,
     texts: &[(Path, Vec<u8>)],
 ) -> Result<Workspace, StepFault>
-    requires { written.AreSmall (plain texts.now) }
+    requires { spec.AreSmall (plain texts.now) }
     ensures { IfErr result (Bars spelled.entry.asked.change.now (plain texts.now)) }
 {
     match read_units(alloc, texts) {
-        Ok(program) => opened_units(alloc, spelled, program),
+        Ok(program) => open_units(alloc, spelled, program),
         Err(fault) => Err(unread(alloc, spelled.asked, texts, fault)),
     }
 }
@@ -96,7 +96,7 @@ fn twice_or(asked: Asked, fault: FrontFault, unit: u32) -> StepFault
 // The program has two units of one path, of which the first has this number.
 fn twice_in(alloc: Global, spelled: Spelled, program: Program, unit: u32) -> StepFault
     requires { AllByRecursion IsShaped (map (λ u. u.unit) program.units) }
-    ensures { (texts : List (List ℕ × List ℕ)) → AreUnitsOf (prelude_files ++ texts) program.units → written.AreSmall texts → written.first_twice texts ≡ Some unit → Bars spelled.entry.asked.change.now texts result }
+    ensures { (texts : List (List ℕ × List ℕ)) → AreUnitsOf (prelude_files ++ texts) program.units → spec.AreSmall texts → spec.first_twice texts ≡ Some unit → Bars spelled.entry.asked.change.now texts result }
 {
     match open_program(alloc, program) {
         Ok(_) => path_twice(unit),
@@ -106,8 +106,8 @@ fn twice_in(alloc: Global, spelled: Spelled, program: Program, unit: u32) -> Ste
 
 // Two texts have one path, of which the first is that of the unit of this number.
 fn twice(alloc: Global, spelled: Spelled, texts: &[(Path, Vec<u8>)], unit: u32) -> StepFault
-    requires small { written.AreSmall (plain texts.now) }
-    requires twice { written.first_twice (plain texts.now) ≡ Some unit }
+    requires small { spec.AreSmall (plain texts.now) }
+    requires twice { spec.first_twice (plain texts.now) ≡ Some unit }
     ensures { Bars spelled.entry.asked.change.now (plain texts.now) result }
 {
     match read_units(alloc, texts) {
@@ -116,9 +116,20 @@ fn twice(alloc: Global, spelled: Spelled, texts: &[(Path, Vec<u8>)], unit: u32) 
     }
 }
 
+// What is told where two texts have one path.
+fn path_fault(alloc: Global, spelled: Spelled, texts: &[(Path, Vec<u8>)]) -> Option<StepFault>
+    requires { spec.AreSmall (plain texts.now) }
+    ensures { IfSome result (Bars spelled.entry.asked.change.now (plain texts.now)) }
+{
+    match first_twice(texts) {
+        Some(unit) => Some(twice(alloc, spelled, texts, unit)),
+        None => None,
+    }
+}
+
 // The texts compile and are as they were to be written.
 fn is_right(alloc: Global, spelled: Spelled, texts: &[(Path, Vec<u8>)]) -> Result<(), StepFault>
-    requires { written.AreSmall (plain texts.now) }
+    requires { spec.AreSmall (plain texts.now) }
     ensures { IfErr result (Bars spelled.entry.asked.change.now (plain texts.now)) }
 {
     let new = opened(alloc, spelled, texts)?;
@@ -137,7 +148,7 @@ fn size_or(found: StepFault, size: Size) -> StepFault
 
 // A size of the texts passes its limit, unless there is something else to be told before.
 fn too_large(alloc: Global, spelled: Spelled, texts: &[(Path, Vec<u8>)], size: Size) -> StepFault
-    requires small { written.AreSmall (plain texts.now) }
+    requires small { spec.AreSmall (plain texts.now) }
     requires large { AreTooLarge (plain texts.now) size }
     ensures { Bars spelled.entry.asked.change.now (plain texts.now) result }
 {
@@ -148,8 +159,8 @@ fn too_large(alloc: Global, spelled: Spelled, texts: &[(Path, Vec<u8>)], size: S
 }
 
 // Why the files may not be left, which the front refuses.
-fn barred(alloc: Global, spelled: Spelled, files: &Files, fault: FrontFault) -> StepFault
-    requires small { written.AreSmall (finite.entries files.now) }
+fn fault_of_files(alloc: Global, spelled: Spelled, files: &Files, fault: FrontFault) -> StepFault
+    requires small { spec.AreSmall (finite.entries files.now) }
     requires checked { CheckedAs files.now (Err fault) }
     ensures { Bars spelled.entry.asked.change.now (finite.entries files.now) result }
 {
@@ -221,7 +232,7 @@ fn left_as(
     edits: &[Edits],
     files: Files,
 ) -> Result<Left, StepFault>
-    requires { written.AreSmall (finite.entries files) }
+    requires { spec.AreSmall (finite.entries files) }
     ensures ok { IfOk result (λ left. IsLeftOf spelled.entry.locked.now spelled.entry.spellings.now left) }
     ensures files { IfOk result (λ left. left.files ≡ files) }
     ensures err { IfErr result (Bars spelled.entry.asked.change.now (finite.entries files)) }
@@ -235,46 +246,41 @@ fn left_as(
                 None => Err(spelled.asked.differs()),
             }
         }
-        Err(fault) => Err(barred(alloc, spelled, &files, fault)),
+        Err(fault) => Err(fault_of_files(alloc, spelled, &files, fault)),
     }
-}
-
-// The files that these texts are, if they are a program as it was to be written. Paths that do not rise are not as they were to be.
-fn left_with(
-    alloc: Global,
-    spelled: Spelled,
-    edits: &[Edits],
-    texts: Texts,
-) -> Result<Left, StepFault>
-    requires { written.AreSmall (plain texts.items) }
-    ensures ok { IfOk result (λ left. IsLeftOf spelled.entry.locked.now spelled.entry.spellings.now left) }
-    ensures files { IfOk result (λ left. finite.entries left.files ≡ plain texts.items) }
-    ensures err { IfErr result (Bars spelled.entry.asked.change.now (plain texts.items)) }
-{
-    if !rise(&texts) {
-        return Err(spelled.asked.differs());
-    }
-    let files = files_of(alloc, texts)?;
-    left_as(alloc, spelled, edits, files)
 }
 
 // The texts of the changed program with its spellings, and their edits.
 #[derive(Drop)]
-struct Written {
+struct NewTexts {
     edits: Vec<Edits>,
     texts: Texts,
 }
 
 // The changed program with the edits of the spellings.
-fn written_of(alloc: Global, spelled: Spelled) -> Result<Written, OutOfMemory>
+fn new_texts(alloc: Global, spelled: Spelled) -> Result<NewTexts, OutOfMemory>
     ensures are { IsReadBy spelled.entry.asked spelled.entry.locked.now → IsBoundByLocks spelled.entry.locked.now → IfOk result (λ all. AreTextsOf spelled.entry.locked.now spelled.entry.spellings.now (plain all.texts.items)) }
-    ensures small { IfOk result (λ all. written.AreSmall (plain all.texts.items)) }
+    ensures small { IfOk result (λ all. spec.AreSmall (plain all.texts.items)) }
 {
     let locked = &spelled.locked.program;
     let marks = locked.marks();
     let edits = respelled(alloc, &marks, &locked.bound.table, spelled.spellings)?;
     let texts = written_texts(alloc, locked.program.units.as_slice(), &edits)?;
-    Ok(Written { edits, texts })
+    Ok(NewTexts { edits, texts })
+}
+
+// The files that these texts are, if they are a program as it was to be written. Paths that do not rise are not as they were to be.
+fn left_with(alloc: Global, spelled: Spelled, new: NewTexts) -> Result<Left, StepFault>
+    requires { spec.AreSmall (plain new.texts.items) }
+    ensures ok { IfOk result (λ left. IsLeftOf spelled.entry.locked.now spelled.entry.spellings.now left) }
+    ensures files { IfOk result (λ left. finite.entries left.files ≡ plain new.texts.items) }
+    ensures err { IfErr result (Bars spelled.entry.asked.change.now (plain new.texts.items)) }
+{
+    if !rise(&new.texts) {
+        return Err(spelled.asked.differs());
+    }
+    let files = files_of(alloc, new.texts)?;
+    left_as(alloc, spelled, &new.edits, files)
 }
 
 /// The files that are left where references are written so, if they may be left; else why those that were to be left may not be.
@@ -283,9 +289,9 @@ pub fn left_of(alloc: Global, spelled: Spelled) -> Result<Left, StepFault>
     ensures texts { IsReadBy spelled.entry.asked spelled.entry.locked.now → IsBoundByLocks spelled.entry.locked.now → IfOk result (HasTextsOf spelled.entry.locked.now spelled.entry.spellings.now) }
     ensures err { IsReadBy spelled.entry.asked spelled.entry.locked.now → IsBoundByLocks spelled.entry.locked.now → IfErr result (IsNotLeft spelled.entry.asked.change.now spelled.entry.locked.now spelled.entry.spellings.now) }
 {
-    let Written { edits, texts } = written_of(alloc, spelled)?;
-    match first_twice(&texts) {
-        Some(unit) => Err(twice(alloc, spelled, &texts, unit)),
-        None => left_with(alloc, spelled, &edits, texts),
+    let new = new_texts(alloc, spelled)?;
+    match path_fault(alloc, spelled, &new.texts) {
+        Some(fault) => Err(fault),
+        None => left_with(alloc, spelled, new),
     }
 }

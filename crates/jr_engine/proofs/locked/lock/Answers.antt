@@ -11,8 +11,8 @@ pub returns-in-Ok-clause-begins : goal.returns-in-Ok-clause-begins
 returns-in-Ok-clause-begins c = c.locked_program.ensures.begins (units_begin _ c.in-Ok.program.units c.in-Ok.ensures.ok)
 
 pub returns-in-Ok-clause-read : goal.returns-in-Ok-clause-read
-returns-in-Ok-clause-read c = read_by c.args.asked c.as_slice-units.result.now _ _ c.in-Ok.program c.locked_program.result c.as_slice-units.ensures (ap plain c.deref.ensures.value) c.in_ok-texts.ensures.files c.in_ok-texts.ensures.small c.in-Ok.ensures.ok c.locked_program.ensures.read
+returns-in-Ok-clause-read c = read_by c.args.asked c.as_slice-units.result.now _ _ c.in-Ok.program c.locked_program.result c.as_slice-units.ensures (ap plain c.as_slice-texts.ensures.value) c.in_ok-changed.ensures.files c.in_ok-changed.ensures.small c.in-Ok.ensures.ok c.locked_program.ensures.read
 
 pub returns-in-Err-clause-err : goal.returns-in-Err-clause-err
-returns-in-Err-clause-err c = unread_hinders c.args.asked (plain c.deref-2.result.now) c.unread.result
-    (ap plain c.deref-2.ensures.value ∙ c.in_ok-texts.ensures.files ∙ ap (λ (u : List UnitAt). changed_files u c.args.asked.change.now.units.items) c.as_slice-units.ensures) c.unread.ensures
+returns-in-Err-clause-err c = unread_hinders c.args.asked (plain c.as_slice-texts.result.now) c.unread.result
+    (ap plain c.as_slice-texts.ensures.value ∙ c.in_ok-changed.ensures.files ∙ ap (λ (u : List UnitAt). changed_files u c.args.asked.change.now.units.items) c.as_slice-units.ensures) c.unread.ensures

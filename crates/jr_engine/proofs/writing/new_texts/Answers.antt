@@ -2,7 +2,7 @@ use Rattle.std.proofs.Common.{◌∙◌, ap}
 use Rattle.jr_base.specs.Files.{plain}
 use Rattle.jr_bind.specs.declared.binder.Bound.{Bound}
 use Rattle.jr_engine.proofs.Reading.{texts_by}
-use Rattle.jr_engine.proofs.writing.written_of.Goals as goal
+use Rattle.jr_engine.proofs.writing.new_texts.Goals as goal
 
 pub returns-clause-are : goal.returns-clause-are
 returns-clause-are c = texts_by c.args.spelled.locked.now c.args.spelled.spellings.now c.marks-marks.result c.deref-2.result.now c.in_ok-edits.edits.items c.deref-3.result.now c.as_slice.result.now

@@ -1,7 +1,7 @@
 use Rattle.std.specs.FinMap as finite
 use Rattle.jr_base.specs.Files.{plain}
 use Rattle.jr_engine.proofs.Barring.{entries_bar, files_bar, files_large}
-use Rattle.jr_engine.proofs.writing.barred.Goals as goal
+use Rattle.jr_engine.proofs.writing.fault_of_files.Goals as goal
 
 pub too_large-requires-clause-large : goal.too_large-requires-clause-large
 too_large-requires-clause-large c = files_large c.args.files.now (plain c.entries.result.now) c.args.fault c.in-TooLarge.size c.entries.ensures c.in-TooLarge.is c.requires.checked
