@@ -50,6 +50,10 @@ module _ (old new : List Entry) (x r : ℕ) (is : new ≡ old ++ entry_for x 0 r
   pub put_under : IsUnder new x
   put_under = (r, subst (λ l. has (under l x 0) r ≡ true) (sym is) ((one_added old x 0 r x 0 r).1 (inr (refl, refl, refl))))
 
+-- the direct supertypes of a type
+pub direct_listed : (world : World) → IsRightWorld world → (c : ℕ) (all : List Entry) (rows : List ℕ) → all ≡ world.supers.now.direct.supers → rows ≡ under all c 0 → Lists rows (Super (rows_of world) (table_of world) c)
+direct_listed world right c all rows same is = subst (λ xs. Lists xs (Super (rows_of world) (table_of world) c)) (sym (is ∙ ap (λ l. under l c 0) same)) (right.whole.world_is.seen.above.direct.each c)
+
 -- ---- interfaces
 
 module _ (p : Rows) (t : Table) (c : ℕ) where

@@ -25,7 +25,7 @@ use Rattle.jr_plain.proofs.Supertyped.{at_or_above_tells}
 use Rattle.jr_plain.proofs.Typed.{signature_tells}
 use Rattle.jr_places.specs.Names.{name_row}
 use Rattle.jr_places.specs.declared.chains.Entry.{Entry}
-use Rattle.jr_places.proofs.Naming.{name_tells}
+use Rattle.jr_places.proofs.Packing.{name_tells}
 use Rattle.jr_members.specs.declared.declared.MemberKind.TheVariants as kinds
 use Rattle.jr_members.specs.declared.members.World.{World}
 use Rattle.jr_members.specs.Held.{IsHeldAs}

@@ -73,9 +73,10 @@ impl<'a> Redefining<'a> {
     fn breaks_at(&self, alloc: Global, over: u32, method: u32) -> Result<bool, OutOfMemory>
         ensures { views.IsRightWorld self.now.world.now → AreThrown (views.rows_of self.now.world.now) self.now.thrown.now → role_of_row (views.rows_of self.now.world.now) method ≡ roles.Method → IfOk result (λ is. is ≡ false → tell.KeepsAt (views.rows_of self.now.world.now) (views.table_of self.now.world.now) method over) }
     {
-        let name = self.world.under.places.name(method);
-        let methods = self.world.members.kind(MemberKind::Method);
-        let held = methods.of_name(alloc, self.world.under, self.world.supers, over, name)?;
+        let world = self.world;
+        let name = world.under.places.name(method);
+        let methods = world.members.kind(MemberKind::Method);
+        let held = methods.of_name(alloc, world.under, world.supers, over, name)?;
         let is = self.breaks_some(alloc, &held, method)?;
         Ok(is)
     }
@@ -156,7 +157,8 @@ impl<'a> Redefining<'a> {
     fn keeps_right_above(&self, alloc: Global, method: u32) -> Result<bool, OutOfMemory>
         ensures { views.IsRightWorld self.now.world.now → AreThrown (views.rows_of self.now.world.now) self.now.thrown.now → role_of_row (views.rows_of self.now.world.now) method ≡ roles.Method → IfOk result (λ is. is ≡ true → tell.KeepsAbove (views.rows_of self.now.world.now) (views.table_of self.now.world.now) method) }
     {
-        match declaring_type(self.world.under.rows, method) {
+        let world = self.world;
+        match declaring_type(world.under.rows, method) {
             Some(at) => self.keeps_in(alloc, at, method),
             None => Ok(false),
         }

@@ -191,8 +191,9 @@ impl Uppers {
         ensures signed { OnOk result (self.new.signed ≡ self.old.signed) }
         ensures kept { views.IsRightWorld redefining.entry.world.now → AreThrown (views.rows_of redefining.entry.world.now) redefining.entry.thrown.now → OnOk result (near.AreKept redefining.entry.world.now self.new.apart) }
     {
-        let descent = Descent::of(alloc, redefining.world)?;
-        let Ok(count) = u32::try_from(redefining.world.under.rows.len()) else {
+        let world = redefining.world;
+        let descent = Descent::of(alloc, world)?;
+        let Ok(count) = u32::try_from(world.under.rows.len()) else {
             return Err(OutOfMemory);
         };
         for row in 0..count {
@@ -212,10 +213,11 @@ impl Uppers {
         ensures signed { OnOk result (self.new.signed ≡ self.old.signed) }
         ensures kept { views.IsRightWorld redefining.entry.world.now → AreThrown (views.rows_of redefining.entry.world.now) redefining.entry.thrown.now → IsDescent redefining.entry.world.now descent.now → OnOk result (near.SetsApart redefining.entry.world.now row self.old.apart self.new.apart) }
     {
-        if !is_method(redefining.world.under.rows, row) {
+        let world = redefining.world;
+        if !is_method(world.under.rows, row) {
             return Ok(());
         }
-        match redefining.world.members.signatures().number(row) {
+        match world.members.signatures().number(row) {
             Some(number) => self.set_number_apart(alloc, redefining, descent, number, row),
             None => Ok(()),
         }
@@ -266,10 +268,12 @@ impl Uppers {
     ) -> Result<bool, OutOfMemory>
         ensures { views.IsRightWorld redefining.entry.world.now → AreThrown (views.rows_of redefining.entry.world.now) redefining.entry.thrown.now → IsDescent redefining.entry.world.now descent.now → role_of_row (views.rows_of redefining.entry.world.now) method ≡ roles.Method → IfOk result (λ is. is ≡ true → near.KeepsNear (views.rows_of redefining.entry.world.now) (views.table_of redefining.entry.world.now) method) }
     {
-        match self.few(alloc, number)? {
-            Some(_) => Ok(false),
-            None => redefining.keeps_near(alloc, descent, method),
+        let few = self.few(alloc, number)?;
+        if few.is_some() {
+            return Ok(false);
         }
+        let keeps = redefining.keeps_near(alloc, descent, method)?;
+        Ok(keeps)
     }
 
     // All methods of the signature are known to keep the rules.

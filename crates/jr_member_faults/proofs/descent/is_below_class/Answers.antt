@@ -1,6 +1,5 @@
 use Rattle.std.proofs.Common.{sym, ◌∙◌}
-use Rattle.jr_dispatch.proofs.Inheriting.{supers_listed}
-use Rattle.jr_member_faults.proofs.Descending.{above_class, above_interface}
+use Rattle.jr_member_faults.proofs.Descending.{direct_listed, above_class, above_interface}
 use Rattle.jr_member_faults.specs.Views.{rows_of, table_of}
 use Rattle.jr_member_faults.proofs.descent.is_below_class.Goals as goal
 
@@ -9,4 +8,4 @@ returns-then-not-is_interface c = λ h e. above_class (rows_of c.args.world.now)
 
 pub returns : goal.returns
 returns c = λ h e. let w = c.args.world.now in above_interface (rows_of w) (table_of w) c.args.at _ _
-    (supers_listed (rows_of w) (table_of w) _ _ _ c.args.at h.whole.world_is.seen.above.direct c.direct.ensures (c.deref.ensures.value ∙ c.in_ok-direct.ensures)) c.has_class-is.ensures e
+    (direct_listed w h c.args.at _ _ c.direct.ensures (c.deref.ensures.value ∙ c.in_ok-direct.ensures)) c.has_class-is.ensures e

@@ -12,7 +12,7 @@ pub returns-then-not-is_method : goal.returns-then-not-is_method
 returns-then-not-is_method c = λ h up kept. listed_telling (rows_of c.args.world.now) (table_of c.args.world.now) c.args.method _ (none_redefined (rows_of c.args.world.now) (table_of c.args.world.now) h.whole.world_is.seen.above.well.headed c.args.method _ (sym c.is_method.ensures ∙ c.if-not-is_method.true) c.new.ensures.items)
 
 pub returns-then-is_kept : goal.returns-then-is_kept
-returns-then-is_kept c = λ h up kept. kept_telling c.args.world.now h c.args.self.now.apart kept c.args.method _ (c.is_kept.ensures c.if-is_kept.true) c.new-2.ensures.items
+returns-then-is_kept c = λ h up kept. kept_telling c.args.world.now h c.args.self.now.apart kept c.args.method _ (c.is_kept.ensures c.if-is_kept.true) c.new-then-is_kept.ensures.items
 
 pub returns : goal.returns
 returns c = λ h up kept. let w = c.args.world.now in let m = (role_tells (role_at (rows_of w) c.args.method) role.Method).0 (sym c.is_method.ensures ∙ c.if-not-is_method.false) in let like = c.in_ok-like.ensures h up m in
