@@ -28,7 +28,7 @@ use Rattle.jr_members.specs.Keys.{entry_for, entries_of}
 use Rattle.jr_members.specs.Named.{under}
 use Rattle.jr_member_rules.specs.Throwing as plain
 use Rattle.jr_member_faults.specs.declared.throwing.Thrown as code
-use Rattle.jr_member_faults.specs.Thrown.{is_thrown_row, thrown_entry, AreThrown, is_name_not_allowed}
+use Rattle.jr_member_faults.specs.Thrown.{is_thrown_row, thrown_entry, AreThrown, is_name_not_allowed, is_other_class, throws_others}
 use Rattle.jr_member_faults.proofs.Entries.{entries_tell}
 
 -- ---- lists of the same
@@ -105,7 +105,10 @@ module _ (p : Rows) where
     pub declares_is : (m k : ℕ) (is : Bool) (given : List ℕ) → role_at p m ≡ role.Method → given ≡ under thrown.names m 0 → is ≡ list_any (is_name_not_allowed p t k) given → is ≡ plain.declares_more p t m k
     declares_is m k is given method same e = e ∙ below_is (plain.is_thrown_name p m) (is_name_not_allowed p t k) (length p) given (names_listed m given method same)
 
-    below_by : (x : Text) (c : ℕ) (xs : List ℕ) → xs ≡ all_such (length p) (is_prelude p x) → list_any (λ s. is_at_or_above p t c s) xs ≡ plain.is_below p t x c
+    pub others_is : (m : ℕ) (is : Bool) (given : List ℕ) → role_at p m ≡ role.Method → given ≡ under thrown.names m 0 → is ≡ list_any (is_other_class p t) given → is ≡ throws_others p t m
+    others_is m is given method same e = e ∙ below_is (plain.is_thrown_name p m) (is_other_class p t) (length p) given (names_listed m given method same)
+
+    pub below_by : (x : Text) (c : ℕ) (xs : List ℕ) → xs ≡ all_such (length p) (is_prelude p x) → list_any (λ s. is_at_or_above p t c s) xs ≡ plain.is_below p t x c
     below_by x c xs is = ap (list_any (λ s. is_at_or_above p t c s)) is ∙ below_is (is_prelude p x) (λ s. is_at_or_above p t c s) (length p) (all_such (length p) (is_prelude p x)) (such (is_prelude p x) (length p))
 
     pub checked_is : (c : ℕ) (a b d : Bool) → a ≡ list_any (λ s. is_at_or_above p t c s) thrown.throwables.items → b ≡ list_any (λ s. is_at_or_above p t c s) thrown.errors.items

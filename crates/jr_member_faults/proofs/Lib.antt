@@ -11,6 +11,10 @@ mod Topped
 mod Looped
 mod Entries
 mod Overridden
+mod Chained
+mod Reached
+mod Descending
+mod Nearing
 mod Checked
 mod Opened
 mod Lefts

@@ -1,5 +1,5 @@
 -- The faults of the rules on methods beside and above others, at one row.
-use Rattle.std.proofs.Common.{◌≡◌, ◌⊎◌, refl, sym, ◌∙◌, ap, ap₂, subst, inl, inr, ℕ, Bool, true, false, cond, not, ◌||◌, List, []}
+use Rattle.std.proofs.Common.{◌≡◌, ◌⊎◌, refl, sym, ◌∙◌, ap, ap₂, subst, inl, inr, ⊎_elim, ℕ, Bool, true, false, cond, not, ◌||◌, List, [], Decides}
 use Rattle.std.specs.List.{list_any}
 use Rattle.std.proofs.lemmas.Bool.{false≢true, or_parts}
 use Rattle.jr_tree.specs.Rows.{Rows, label, role_at}
@@ -8,7 +8,7 @@ use Rattle.jr_defs.specs.Declarations.{IsType}
 use Rattle.jr_defs.specs.Modifiers.{written, IsStatic}
 use Rattle.jr_defs.specs.Overriding.{Overrides}
 use Rattle.jr_defs.specs.MemberRules.{Hides, RedefinesMethod}
-use Rattle.jr_plain.specs.Search.{Lists}
+use Rattle.jr_plain.specs.Search.{has, Lists}
 use Rattle.jr_plain.specs.Headed.{IsHeaded}
 use Rattle.jr_plain.specs.Modifiers.{is_static}
 use Rattle.jr_plain.specs.Overriding.{overriding}
@@ -34,9 +34,11 @@ use Rattle.jr_member_faults.specs.declared.beside.Left.{Left}
 use Rattle.jr_member_faults.specs.Faults.{declares, is_of_members}
 use Rattle.jr_member_faults.specs.Inherited.{nothing}
 use Rattle.jr_member_faults.specs.Methods.{AreFaultsOn, IsLeftAtRow}
+use Rattle.jr_member_faults.specs.Nearest.{Keeps, AreTelling}
 use Rattle.jr_member_faults.specs.Redefined.{AreSame, are_mixed}
 use Rattle.jr_member_faults.specs.Views.{rows_of, table_of, IsRightWorld}
-use Rattle.jr_member_faults.proofs.Checked.{same_lists}
+use Rattle.jr_member_faults.proofs.Chained.{keeps_result, keeps_access, keeps_kind, keeps_final, keeps_throws}
+use Rattle.jr_member_faults.proofs.Nearing.{listed_telling}
 use Rattle.jr_member_faults.proofs.Overridden.{redefined_same, none_redefined}
 use Rattle.jr_member_faults.proofs.Passed.{no_method, no_type}
 use Rattle.jr_member_faults.proofs.Placed.{left_other}
@@ -46,12 +48,18 @@ module _ (p : Rows) (t : Table) (headed : IsHeaded p) (n : ℕ) where
   plain_lists = redefined_list p t headed (overriding p t) (overrides_tells p t headed) n
 
   -- the tests over what a method overrides or hides
-  module _ (over : List ℕ) (are : Lists over (RedefinesMethod p t n)) where
+  module _ (over : List ℕ) (are : AreTelling p t n over) where
     pub over_same : AreSame p t n over
-    over_same k at = redefined_same p t headed n k ((are k).0 at)
+    over_same k at = redefined_same p t headed n k (are.part k at)
 
-    over_is : (test : ℕ → Bool) → list_any test over ≡ list_any test (plain.redefined p t (overriding p t) n)
-    over_is test = same_lists (RedefinesMethod p t n) over (plain.redefined p t (overriding p t) n) are plain_lists test
+    -- a test that passes only where a rule is broken
+    over_tells : (test : ℕ → Bool) → ((k : ℕ) → Keeps p t n k → test k ≡ false) → Decides (list_any test over) ((k : ℕ) × RedefinesMethod p t n k × (test k ≡ true))
+    over_tells test kept = like (some_of test (λ k. test k ≡ true) (λ k. itself (test k)) over (λ k. itself (has over k))) (λ h. (h.0, are.part h.0 h.1, h.2))
+        (λ h. ⊎_elim (λ at. (h.0, at, h.2)) (λ keeps. absurd (false≢true (sym (kept h.0 keeps) ∙ h.2))) (are.rest h.0 h.1))
+
+    over_is : (test : ℕ → Bool) → ((k : ℕ) → Keeps p t n k → test k ≡ false) → list_any test over ≡ list_any test (plain.redefined p t (overriding p t) n)
+    over_is test kept = one_test (list_any test over) (list_any test (plain.redefined p t (overriding p t) n)) ((k : ℕ) × RedefinesMethod p t n k × (test k ≡ true))
+        (over_tells test kept) (some_of test (λ k. test k ≡ true) (λ k. itself (test k)) (plain.redefined p t (overriding p t) n) plain_lists)
 
     -- one of them is of the other kind
     abbrev IsMixed : ℕ → Type 0
@@ -76,24 +84,24 @@ module _ (p : Rows) (t : Table) (headed : IsHeaded p) (n : ℕ) where
 
     mixed_is : list_any (are_mixed p n) over ≡ plain.is_mixed p t (overriding p t) n
     mixed_is = one_test (list_any (are_mixed p n) over) (plain.is_mixed p t (overriding p t) n) ((k : ℕ) × RedefinesMethod p t n k × IsMixed k)
-        (some_of (are_mixed p n) IsMixed (λ k. itself (are_mixed p n k)) over are)
+        (over_tells (are_mixed p n) (λ k. keeps_kind p t n k))
         (like (mixed_tells p t headed (overriding p t) (overrides_tells p t headed) n) mixed_in (mixed_out (is_static p n) refl))
 
     module _ (left : Left) (left_is : IsLeftAtRow p t n left) where
       pub results_is : (is : Bool) → is ≡ list_any (λ k. not (is_result_fit p t n k)) over → (is || left.results) ≡ results_do_not_fit p t (overriding p t) n
-      results_is is e = ap₂ (λ a b. a || b) (e ∙ over_is (λ k. not (is_result_fit p t n k))) left_is.results
+      results_is is e = ap₂ (λ a b. a || b) (e ∙ over_is (λ k. not (is_result_fit p t n k)) (λ k. keeps_result p t n k)) left_is.results
 
       pub access_is : (is : Bool) → is ≡ list_any (λ k. plain.is_narrower p n k) over → (is || left.access) ≡ access_is_narrowed p t (overriding p t) n
-      access_is is e = ap₂ (λ a b. a || b) (e ∙ over_is (λ k. plain.is_narrower p n k)) left_is.access
+      access_is is e = ap₂ (λ a b. a || b) (e ∙ over_is (λ k. plain.is_narrower p n k) (λ k. keeps_access p t n k)) left_is.access
 
       pub statics_is : (is : Bool) → is ≡ list_any (are_mixed p n) over → (is || left.statics) ≡ methods_are_mixed p t (overriding p t) n
       statics_is is e = ap₂ (λ a b. a || b) (e ∙ mixed_is) left_is.statics
 
       pub throws_is : (is : Bool) → is ≡ list_any (λ k. declares_more p t n k) over → (is || left.throws) ≡ more_is_thrown p t (overriding p t) n
-      throws_is is e = ap₂ (λ a b. a || b) (e ∙ over_is (λ k. declares_more p t n k)) left_is.throws
+      throws_is is e = ap₂ (λ a b. a || b) (e ∙ over_is (λ k. declares_more p t n k) (λ k. keeps_throws p t n k)) left_is.throws
 
     pub finals_is : (is : Bool) → is ≡ list_any (λ k. (written (label p k)).is_final) over → is ≡ plain.is_over_final p t (overriding p t) n
-    finals_is is e = e ∙ over_is (λ k. (written (label p k)).is_final)
+    finals_is is e = e ∙ over_is (λ k. (written (label p k)).is_final) (λ k. keeps_final p t n k)
 
 -- ---- a row that is not looked at
 
@@ -111,7 +119,7 @@ methods_past world right n none =
     let p = rows_of world in let t = table_of world in let headed = right.whole.world_is.seen.above.well.headed in
     let other = or_parts (declares (role_at p n)) _ none in
     let apart : (IsType p n → ⊥) = λ h. absurd (false≢true (sym (no_type (role_at p n) other.0) ∙ (type_tells p n).1 h)) in
-    let over : Lists [] (RedefinesMethod p t n) = none_redefined p t headed n [] (no_method (role_at p n) other.0) refl in
+    let over : AreTelling p t n [] = listed_telling p t n [] (none_redefined p t headed n [] (no_method (role_at p n) other.0) refl) in
     let left_is : IsLeftAtRow p t n nothing = left_other world right n apart in record {
       abstracts = sym left_is.abstracts;
       results = sym (results_is p t headed n [] over nothing left_is false refl);

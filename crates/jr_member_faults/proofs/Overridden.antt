@@ -75,7 +75,7 @@ module _ (p : Rows) (s : Signatures) where
 
 -- ---- methods of one signature
 
-numbers_then : (n r : Option ℕ) (x : ℕ) → n ≡ Some x → same_numbers n r ≡ true → r ≡ Some x
+pub numbers_then : (n r : Option ℕ) (x : ℕ) → n ≡ Some x → same_numbers n r ≡ true → r ≡ Some x
 numbers_then None r x e h = absurd (none-some x e)
 numbers_then (Some n) None x e h = absurd (false≢true h)
 numbers_then (Some n) (Some r) x e h = ap Some (sym ((Decides-eqb n r).0 h)) ∙ e
@@ -99,7 +99,7 @@ module _ (p : Rows) (t : Table) (headed : IsHeaded p) where
 
   -- ---- the declared ones of types above
 
-  like_listed : (c m : ℕ) → role_at p m ≡ role.Method → Lists (falling (length p) (is_declared_like p t c m)) (λ e. DeclaredIn p c e × SameMethods p t e m)
+  pub like_listed : (c m : ℕ) → role_at p m ≡ role.Method → Lists (falling (length p) (is_declared_like p t c m)) (λ e. DeclaredIn p c e × SameMethods p t e m)
   like_listed c m method = falling_lists (is_declared_like p t c m) (λ e. DeclaredIn p c e × SameMethods p t e m) (length p)
       (λ e. like (both (role_tells (role_at p e) role.Method) (both (declared_in_tells p c e) (signature_tells p t e m headed.tree)))
       (λ h. (h.1.0, record { first = h.0; second = method; signature = h.1.1 })) (λ k. (k.1.first, (k.0, k.1.signature))))
@@ -145,7 +145,7 @@ module _ (p : Rows) (t : Table) (headed : IsHeaded p) where
   -- ---- by the number of the signature
 
   module _ (s : Signatures) (signed : AreSignatures p t s) (m : ℕ) (method : role_at p m ≡ role.Method) where
-    same_numbered : (k : ℕ) → SameMethods p t m k → same_numbers (signature_number s m) (signature_number s k) ≡ true
+    pub same_numbered : (k : ℕ) → SameMethods p t m k → same_numbers (signature_number s m) (signature_number s k) ≡ true
     same_numbered k h = same_signatures p t s m k signed (ap is_callable h.first) (ap is_callable h.second) ∙ (signature_tells p t m k headed.tree).1 h.signature
 
     pub like_unsigned : (all : List ℕ) → signature_number s m ≡ None → all ≡ [] → AreLike p t m all

@@ -3,6 +3,8 @@ pub mod Headers
 pub mod Twice
 pub mod Redefined
 pub mod Thrown
+pub mod Descent
+pub mod Nearest
 pub mod Beside
 pub mod Unfound
 pub mod Lefts

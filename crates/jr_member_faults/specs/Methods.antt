@@ -2,8 +2,6 @@
 use Rattle.std.specs.Prelude.{◌≡◌, ℕ, Bool, ◌||◌, List}
 use Rattle.jr_tree.specs.Rows.{Rows}
 use Rattle.jr_defs.specs.Referents.{Table}
-use Rattle.jr_defs.specs.MemberRules.{RedefinesMethod}
-use Rattle.jr_plain.specs.Search.{Lists}
 use Rattle.jr_plain.specs.Overriding.{overriding}
 use Rattle.jr_members.specs.declared.members.World.{World}
 use Rattle.jr_rule.specs.declared.Fault.{Fault}
@@ -17,6 +15,7 @@ use Rattle.jr_member_faults.specs.declared.beside.Left.{Left}
 use Rattle.jr_member_faults.specs.declared.redefining.Redefining.{Redefining}
 use Rattle.jr_member_faults.specs.declared.faults.Methods.{Methods}
 use Rattle.jr_member_faults.specs.Inherited.{AreLefts}
+use Rattle.jr_member_faults.specs.Nearest.{AreKept, AreTelling}
 use Rattle.jr_member_faults.specs.Redefined.{AreUppers}
 use Rattle.jr_member_faults.specs.Thrown.{AreThrown}
 use Rattle.jr_member_faults.specs.Views.{rows_of, table_of, IsRightWorld}
@@ -43,15 +42,16 @@ pub record IsLeftAtRow (p : Rows) (t : Table) (n : ℕ) (left : Left) : Type 0 w
   pub statics : left.statics ≡ inherits_static p t n
   pub throws : left.throws ≡ inherits_throwing p t n
 
--- the same, and the methods that it overrides or hides
+-- the same, and what it overrides or hides, but for some over which it breaks no rule
 pub record IsTold (world : World) (n : ℕ) (over : List ℕ) (left : Left) : Type 0 where
-  pub over_are : Lists over (RedefinesMethod (rows_of world) (table_of world) n)
+  pub over_are : AreTelling (rows_of world) (table_of world) n over
   pub left_is : IsLeftAtRow (rows_of world) (table_of world) n left
 
 -- what the rules read is right
 pub record AreRight (methods : Methods) : Type 0 where
   pub can : CanTell methods.redefining
   pub uppers_are : AreUppers methods.redefining.world.now methods.uppers
+  pub kept_are : AreKept methods.redefining.world.now methods.uppers.apart
   pub lefts_are : AreLefts methods.redefining.world.now methods.lefts.items
 
 -- it is that of the view, where its world is right

@@ -4,13 +4,13 @@ use Rattle.std.specs.List.{list_any}
 use Rattle.jr_tree.specs.declared.label.Role.TheVariants as role
 use Rattle.jr_tree.specs.Rows.{Rows, label, parent, role_at}
 use Rattle.jr_defs.specs.Referents.{Table}
-use Rattle.jr_plain.specs.Search.{all_such}
+use Rattle.jr_plain.specs.Search.{all_such, any_below}
 use Rattle.jr_plain.specs.Same.{same_role}
 use Rattle.jr_plain.specs.Declarations.{is_prelude}
 use Rattle.jr_plain.specs.Supertypes.{declaration}
 use Rattle.jr_places.specs.declared.chains.Entry.{Entry}
 use Rattle.jr_members.specs.Keys.{entry_for, entries_of}
-use Rattle.jr_member_rules.specs.Throwing.{is_other_name, is_checked, allows}
+use Rattle.jr_member_rules.specs.Throwing.{is_other_name, is_thrown_name, is_below, is_checked, allows}
 use Rattle.jr_member_faults.specs.declared.throwing.Thrown.{Thrown}
 
 -- a name that stands for a class right below a method
@@ -31,3 +31,11 @@ pub record AreThrown (p : Rows) (thrown : Thrown) : Type 0 where
 -- the name is that of a checked class that k does not allow
 abbrev pub is_name_not_allowed : Rows → Table → ℕ → ℕ → Bool
 is_name_not_allowed p t k n = list_any (λ c. is_checked p t c && not (allows p t k c)) (declaration (t n))
+
+-- the name is that of a class that is neither Throwable nor below it
+abbrev pub is_other_class : Rows → Table → ℕ → Bool
+is_other_class p t n = list_any (λ c. not (is_below p t (codes "Throwable") c)) (declaration (t n))
+
+-- m declares such a class
+abbrev pub throws_others : Rows → Table → ℕ → Bool
+throws_others p t m = any_below (length p) (λ n. is_thrown_name p m n && is_other_class p t n)

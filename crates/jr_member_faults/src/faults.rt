@@ -342,13 +342,14 @@ fn faults_with(
     ensures only { OnOk result (AreOnly tell.is_on_members out.old.items out.new.items) }
 {
     let world = &view.sight.world;
+    let redefining = Redefining {
+        world,
+        thrown: &*thrown,
+    };
     let lefts = lefts_of(alloc, world, thrown)?;
-    let uppers = Uppers::new(alloc, world)?;
+    let uppers = Uppers::new(alloc, redefining)?;
     let methods = Methods {
-        redefining: Redefining {
-            world,
-            thrown: &*thrown,
-        },
+        redefining,
         uppers,
         lefts,
     };

@@ -4,6 +4,7 @@
 mod access;
 mod beside;
 mod bodies;
+mod descent;
 mod faults;
 mod headers;
 mod inheriting;
@@ -11,6 +12,7 @@ mod inner;
 mod law;
 mod listing;
 mod names;
+mod nearest;
 mod redefining;
 mod throwing;
 mod together;

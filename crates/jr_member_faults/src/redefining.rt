@@ -1,5 +1,5 @@
 // What a method overrides or hides, and how it differs from that (JLS 8.4.3.3, 8.4.5, 8.4.8.1 to 8.4.8.3).
-ghost use Rattle.std.specs.Prelude.{◌≡◌, ◌++◌, not, Some, IfOk, IfSome, OnOk, Decides, filter, length};
+ghost use Rattle.std.specs.Prelude.{◌≡◌, ◌++◌, true, not, Some, IfOk, IfSome, OnOk, Decides, filter, length};
 ghost use Rattle.std.specs.List.{flat_map, list_any};
 ghost use Rattle.jr_tree.specs.declared.label.Role.TheVariants as roles;
 ghost use Rattle.jr_tree.specs.Rows.{role_at as role_of_row, label as label_of_row};
@@ -9,17 +9,19 @@ ghost use Rattle.jr_defs.specs.MemberRules.{RedefinesMethod};
 ghost use Rattle.jr_defs.specs.Modifiers.{written};
 ghost use Rattle.jr_plain.specs.Overloads.{is_result_fit as is_fit};
 ghost use Rattle.jr_plain.specs.Overriding.{overriding};
-ghost use Rattle.jr_plain.specs.Search.{Lists};
 ghost use Rattle.jr_members.specs.Keys.{entries_of, signature_number};
-ghost use Rattle.jr_members.specs.Named.{under};
+ghost use Rattle.jr_members.specs.Named.{has_list, under};
 ghost use Rattle.jr_dispatch.specs.Families.{declared_like};
 ghost use Rattle.jr_member_rules.specs.Redefining as plain;
 ghost use Rattle.jr_member_rules.specs.Throwing as throwing;
+ghost use Rattle.jr_member_faults.specs.Descent.{IsDescent};
+ghost use Rattle.jr_member_faults.specs.Nearest as near;
 ghost use Rattle.jr_member_faults.specs.Redefined as tell;
 ghost use Rattle.jr_member_faults.specs.Thrown.{AreThrown};
 ghost use Rattle.jr_member_faults.specs.Views as views;
 
 use crate::access::is_narrower;
+use crate::descent::Descent;
 use crate::listing::{add_entry, push_if};
 use crate::throwing::Thrown;
 use crate::together::is_result_fit;
@@ -35,6 +37,8 @@ use std::alloc::Global;
 pub struct Uppers {
     /// Under the numbers of their signatures and 0.
     signed: Chains,
+    /// Under such a number and 0, a method where not all methods of the signature are known to keep the rules over those right above.
+    apart: Chains,
 }
 
 // Where a method stands that has a signature.
@@ -171,11 +175,115 @@ const FEW: usize = 8;
 
 impl Uppers {
     /// The methods by their signatures.
-    pub fn new(alloc: Global, world: &World) -> Result<Uppers, OutOfMemory>
-        ensures { IfOk result (λ uppers. tell.AreUppers world.now uppers) }
+    pub fn new(alloc: Global, redefining: Redefining) -> Result<Uppers, OutOfMemory>
+        ensures signed { IfOk result (λ uppers. tell.AreUppers redefining.entry.world.now uppers) }
+        ensures kept { views.IsRightWorld redefining.entry.world.now → AreThrown (views.rows_of redefining.entry.world.now) redefining.entry.thrown.now → IfOk result (λ uppers. near.AreKept redefining.entry.world.now uppers.apart) }
     {
-        let signed = signed_methods(alloc, world)?;
-        Ok(Uppers { signed })
+        let signed = signed_methods(alloc, redefining.world)?;
+        let apart = Chains::new(alloc);
+        let mut uppers = Uppers { signed, apart };
+        uppers.set_all_apart(alloc, redefining)?;
+        Ok(uppers)
+    }
+
+    // Sets apart the signatures of which not all methods are known to keep the rules.
+    fn set_all_apart(&mut self, alloc: Global, redefining: Redefining) -> Result<(), OutOfMemory>
+        ensures signed { OnOk result (self.new.signed ≡ self.old.signed) }
+        ensures kept { views.IsRightWorld redefining.entry.world.now → AreThrown (views.rows_of redefining.entry.world.now) redefining.entry.thrown.now → OnOk result (near.AreKept redefining.entry.world.now self.new.apart) }
+    {
+        let world = redefining.world;
+        let descent = Descent::of(alloc, world)?;
+        let Ok(count) = u32::try_from(world.under.rows.len()) else {
+            return Err(OutOfMemory);
+        };
+        for row in 0..count {
+            self.set_apart(alloc, redefining, &descent, row)?;
+        }
+        Ok(())
+    }
+
+    // Sets the signature of a row apart, if the row is a method that is not known to keep them.
+    fn set_apart(
+        &mut self,
+        alloc: Global,
+        redefining: Redefining,
+        descent: &Descent,
+        row: u32,
+    ) -> Result<(), OutOfMemory>
+        ensures signed { OnOk result (self.new.signed ≡ self.old.signed) }
+        ensures kept { views.IsRightWorld redefining.entry.world.now → AreThrown (views.rows_of redefining.entry.world.now) redefining.entry.thrown.now → IsDescent redefining.entry.world.now descent.now → OnOk result (near.SetsApart redefining.entry.world.now row self.old.apart self.new.apart) }
+    {
+        let world = redefining.world;
+        if !is_method(world.under.rows, row) {
+            return Ok(());
+        }
+        match world.members.signatures().number(row) {
+            Some(number) => self.set_number_apart(alloc, redefining, descent, number, row),
+            None => Ok(()),
+        }
+    }
+
+    // The same, of a method whose signature has this number.
+    fn set_number_apart(
+        &mut self,
+        alloc: Global,
+        redefining: Redefining,
+        descent: &Descent,
+        number: u32,
+        row: u32,
+    ) -> Result<(), OutOfMemory>
+        ensures signed { OnOk result (self.new.signed ≡ self.old.signed) }
+        ensures kept { views.IsRightWorld redefining.entry.world.now → AreThrown (views.rows_of redefining.entry.world.now) redefining.entry.thrown.now → IsDescent redefining.entry.world.now descent.now → role_of_row (views.rows_of redefining.entry.world.now) row ≡ roles.Method → OnOk result (near.SetsNumberApart redefining.entry.world.now number row self.old.apart self.new.apart) }
+    {
+        if self.is_apart(number) {
+            return Ok(());
+        }
+        let keeps = self.is_known(alloc, redefining, descent, number, row)?;
+        if keeps {
+            return Ok(());
+        }
+        let entry = Entry {
+            first: number,
+            second: 0,
+            row,
+        };
+        self.apart.add(alloc, entry)?;
+        Ok(())
+    }
+
+    fn is_apart(&self, number: u32) -> bool
+        ensures { result ≡ has_list self.now.apart number 0 }
+    {
+        self.apart.last(number, 0).is_some()
+    }
+
+    // The method is known to keep the rules. Where there are few of its signature this is not looked for.
+    fn is_known(
+        &self,
+        alloc: Global,
+        redefining: Redefining,
+        descent: &Descent,
+        number: u32,
+        method: u32,
+    ) -> Result<bool, OutOfMemory>
+        ensures { views.IsRightWorld redefining.entry.world.now → AreThrown (views.rows_of redefining.entry.world.now) redefining.entry.thrown.now → IsDescent redefining.entry.world.now descent.now → role_of_row (views.rows_of redefining.entry.world.now) method ≡ roles.Method → IfOk result (λ is. is ≡ true → near.KeepsNear (views.rows_of redefining.entry.world.now) (views.table_of redefining.entry.world.now) method) }
+    {
+        let few = self.few(alloc, number)?;
+        if few.is_some() {
+            return Ok(false);
+        }
+        let keeps = redefining.keeps_near(alloc, descent, method)?;
+        Ok(keeps)
+    }
+
+    // All methods of the signature are known to keep the rules.
+    fn is_kept(&self, world: &World, method: u32) -> bool
+        ensures { result ≡ true → near.IsKept world.now self.now.apart method }
+    {
+        match world.members.signatures().number(method) {
+            Some(number) => !self.is_apart(number),
+            None => false,
+        }
     }
 
     // The methods of the signature, where they are few.
@@ -221,16 +329,19 @@ impl Uppers {
         }
     }
 
-    /// The methods that a method overrides or hides.
+    /// The methods that a method overrides or hides, but for some over which it breaks no rule.
     pub fn redefined(
         &self,
         alloc: Global,
         world: &World,
         method: u32,
     ) -> Result<Vec<u32>, OutOfMemory>
-        ensures { views.IsRightWorld world.now → tell.AreUppers world.now self.now → IfOk result (λ all. Lists all.items (RedefinesMethod (views.rows_of world.now) (views.table_of world.now) method)) }
+        ensures { views.IsRightWorld world.now → tell.AreUppers world.now self.now → near.AreKept world.now self.now.apart → IfOk result (λ all. near.AreTelling (views.rows_of world.now) (views.table_of world.now) method all.items) }
     {
         if !is_method(world.under.rows, method) {
+            return Ok(Vec::new(alloc));
+        }
+        if self.is_kept(world, method) {
             return Ok(Vec::new(alloc));
         }
         let like = self.like(alloc, world, method)?;
@@ -246,8 +357,8 @@ pub struct Redefining<'a> {
     pub thrown: &'a Thrown,
 }
 
-// A static method and an instance method.
-fn are_mixed(rows: &[Row], method: u32, other: u32) -> bool
+/// A static method and an instance method.
+pub fn are_mixed(rows: &[Row], method: u32, other: u32) -> bool
     ensures { result ≡ tell.are_mixed rows.now method other }
 {
     if is_static(rows, method) {
@@ -257,7 +368,8 @@ fn are_mixed(rows: &[Row], method: u32, other: u32) -> bool
     }
 }
 
-fn is_final(rows: &[Row], at: u32) -> bool
+/// It is written final.
+pub fn is_final(rows: &[Row], at: u32) -> bool
     ensures { result ≡ (written (label_of_row rows.now at)).is_final }
 {
     written_at(rows, at).is_final

@@ -227,6 +227,42 @@ impl Thrown {
         Ok(false)
     }
 
+    // The name is that of a class that is neither Throwable nor below it.
+    fn is_other_class(&self, world: &World, name: u32) -> bool
+        ensures { views.IsRightWorld world.now → tell.AreThrown (views.rows_of world.now) self.now → result ≡ tell.is_other_class (views.rows_of world.now) (views.table_of world.now) name }
+    {
+        match world.under.declared(name) {
+            Some(class) => !is_below(world, &self.throwables, class),
+            None => false,
+        }
+    }
+
+    // One of the names is that of such a class.
+    fn has_other_class(&self, world: &World, names: &[u32]) -> bool
+        ensures { views.IsRightWorld world.now → tell.AreThrown (views.rows_of world.now) self.now → result ≡ list_any (tell.is_other_class (views.rows_of world.now) (views.table_of world.now)) names.now }
+    {
+        for name in names {
+            if self.is_other_class(world, *name) {
+                return true;
+            }
+        }
+        false
+    }
+
+    /// The method declares a class that is neither Throwable nor below it.
+    pub fn throws_others(
+        &self,
+        alloc: Global,
+        world: &World,
+        method: u32,
+    ) -> Result<bool, OutOfMemory>
+        ensures { views.IsRightWorld world.now → tell.AreThrown (views.rows_of world.now) self.now → role_of_row (views.rows_of world.now) method ≡ roles.Method → IfOk result (λ is. is ≡ tell.throws_others (views.rows_of world.now) (views.table_of world.now) method) }
+    {
+        let names = self.names.rows(alloc, method, 0)?;
+        let is = self.has_other_class(world, &names);
+        Ok(is)
+    }
+
     /// The first method declares a checked class that the second does not allow.
     pub fn declares_more(
         &self,
