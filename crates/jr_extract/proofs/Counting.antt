@@ -12,7 +12,7 @@ use Rattle.jr_plain.specs.Declarations.{is_type}
 use Rattle.jr_plain.specs.Search.{first_below}
 use Rattle.jr_supers.specs.Tabled.{is_callable}
 use Rattle.jr_marks.specs.declared.marks.Marks.{Marks}
-use Rattle.jr_marks.specs.Places.{IsOrdered}
+use Rattle.jr_marks.specs.Places.{tokens_of}
 use Rattle.jr_marks.proofs.Firsts.{label_past}
 use Rattle.jr_base.specs.declared.token.Span.{Span}
 use Rattle.jr_change.specs.declared.change.RowRange.{RowRange}
@@ -131,4 +131,4 @@ module _ (m : Marks) (found : Run) where
   of_within unit (Some tokens) h = from_within tokens (statement_at m unit tokens.first) h
 
 pub run_within : (m : Marks) (unit : ℕ) (range : Span) (found : Run) → run_at m unit range ≡ Some found → found.member < length m.rows.now
-run_within m unit range found h = of_within m found unit (tokens_in _ range) h
+run_within m unit range found h = of_within m found unit (tokens_in (tokens_of m unit) range) h

@@ -43,20 +43,20 @@ use Rattle.jr_extract.proofs.Counting.{run_within, unit_within}
 
 -- ---- units
 
-extending : Drafted → Placed → Extending
+abbrev pub extending : Drafted → Placed → Extending
 extending drafted placed = record { drafted = drafted; placed = placed }
 
-placing : ℕ → RowRange → Placed
+abbrev pub placing : ℕ → RowRange → Placed
 placing call method = record { call = call; method = method }
 
-method_between : Drafted → Drafted → RowRange
+abbrev pub method_between : Drafted → Drafted → RowRange
 method_between before after = record { first = before.count; end = after.count }
 
 pub edited_by : (m : Marks) (e : Extracted) (unit row : ℕ) (none put made : EditList) → row ≡ unit_row m unit → none ≡ no_edits (length (unit_bytes m row)) → put ≡ with_statement m e none → made ≡ with_method_text m e put
     → made ≡ edited m e unit
 edited_by m e unit row none put made at is first second = second ∙ ap (with_method_text m e) (first ∙ ap (with_statement m e) (is ∙ ap (λ row. no_edits (length (unit_bytes m row))) at))
 
-pub count_of : Drafted → ℕ
+abbrev pub count_of : Drafted → ℕ
 count_of d = d.count
 
 pub called_so : (m : Marks) (e : Extracted) (unit behind between : ℕ) (d before called all : Drafted) → before ≡ rows_before m e unit d → between ≡ rows_between m.rows.now e.run → called ≡ with_call e between before
@@ -64,7 +64,7 @@ pub called_so : (m : Marks) (e : Extracted) (unit behind between : ℕ) (d befor
 called_so m e unit behind between d before called all first of second third b = third ∙ ap₂ (λ x k. copied x e.run.rows.end k) (second ∙ ap₂ (with_call e) of first) b
 
 -- what the run becomes
-built : Run → List ℕ → Locals → List ℕ → List ℕ → ℕ → Bool → Extracted
+abbrev pub built : Run → List ℕ → Locals → List ℕ → List ℕ → ℕ → Bool → Extracted
 built run name locals thrown text class static = record {
   run = run;
   text = text;
@@ -186,11 +186,11 @@ pub answer_no_file : (old : Project) (file : List ℕ) (start end : ℕ) (name :
 answer_no_file old file start end name is = IsExtractAnswer.no_file (sym is)
 
 pub named_none : (old : Project) (range : Span) (name : List ℕ) (unit : ℕ) (is : Bool) → (is ≡ true → IsIdentifier name) × (IsIdentifier name → is ≡ true) → is ≡ false → IsNamedAnswer old range name unit (Err (fault.Bad reason.BadName))
-named_none old range name unit is tells no = IsNamedAnswer.no_name (λ h. false≢true (sym no ∙ tells.1 h))
+named_none old range name unit is tells bad = IsNamedAnswer.no_name (λ h. false≢true (sym bad ∙ tells.1 h))
 
 pub named_range : (old : Project) (range : Span) (name : List ℕ) (unit : ℕ) (is : Bool) (answer : Result Change ChangeFault) → (is ≡ true → IsIdentifier name) × (IsIdentifier name → is ≡ true) → is ≡ true
     → IsRangeAnswer old range name unit answer → IsNamedAnswer old range name unit answer
-named_range old range name unit is answer tells yes made = IsNamedAnswer.of_range (tells.0 yes) made
+named_range old range name unit is answer tells good made = IsNamedAnswer.of_range (tells.0 good) made
 
 pub answer_of_file : (old : Project) (file : List ℕ) (start end : ℕ) (name : List ℕ) (unit : ℕ) (answer : Result Change ChangeFault) → Some unit ≡ unit_of_file old.marks file
     → (unit < length old.marks.units.now → IsNamedAnswer old (record { start = start; end = end }) name unit answer) → IsExtractAnswer old file start end name answer

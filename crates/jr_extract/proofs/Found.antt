@@ -91,7 +91,7 @@ lowest_like P Q None h to back = λ d q. let b = back d q in h b.0 b.1
 lowest_like P Q (Some d) h to back = (to d h.0, λ e q. let b = back e q in let le = h.1 b.0 b.1 in let other = b.2 in omega arith)
 
 module _ {A : Type 0} (of : A → Option ℕ) where
-  Gives : List A → ℕ → Type 0
+  abbrev pub Gives : List A → ℕ → Type 0
   Gives items d = (x : A) × Contains items x × (of x ≡ Some d)
 
   lowest_none : (first : Option ℕ) → IsLowest (λ d. (first ≡ Some d) ⊎ Gives [] d) first

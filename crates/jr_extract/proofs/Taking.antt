@@ -21,7 +21,7 @@ pub top_fits : (m : Marks) (unit : ℕ) → IsOrdered m → unit < length m.unit
 top_fits m unit ordered lt = let few = ordered.few in let same = ordered.begins in let within = ordered.within unit (end m.rows.now 0) (omega arith) in omega arith
 
 module _ (m : Marks) (unit token top last : ℕ) (ordered : IsOrdered m) (lt : unit < length m.units.now) (same : top ≡ unit_row m unit) (is : top + 1 < 2 ^ 32 → last ≡ end m.rows.now top) where
-  in_unit : Option ℕ
+  abbrev in_unit : Option ℕ
   in_unit = first_below (end m.rows.now top) (λ n. nat_le top n && begins_statement m token n)
 
   told : in_unit ≡ statement_at m unit token
