@@ -80,9 +80,10 @@ module _ (p : Rows) (t : Table) (headed : IsHeaded p) (m : ℕ) where
   throws_told none n c h = let parts = and_parts (is_thrown_name p m n) (has (declaration (t n)) c) ((throws_tells p t m n c).1 h) in
       let lt : n < length p = bounded IsOtherName (λ h. h) p n h.named in
       let others = false_from_ne_true (is_other_class p t n) (λ e. refutes (any (λ n. is_thrown_name p m n && is_other_class p t n) (λ n. (is_thrown_name p m n && is_other_class p t n) ≡ true) (λ n. itself (is_thrown_name p m n && is_other_class p t n)) (length p)) none
-          (n, lt, and_from (is_thrown_name p m n) (is_other_class p t n) parts.0 e)) in
+      (n, lt, and_from (is_thrown_name p m n) (is_other_class p t n) parts.0 e)) in
       let found = (below_found c).0 (unless (is_below p t (codes "Throwable") c) (none_passes (λ c. not (is_below p t (codes "Throwable") c)) (declaration (t n)) c others parts.1)) in
       (found.0, found.1.0, found.1.1)
+
 -- the members of a type under a name are methods
 pub held_methods : (p : Rows) (t : Table) (s x : ℕ) (all : List ℕ) → Lists all (IsHeldAs p t kinds.Method s x) → AreOfKind p kinds.Method all
 held_methods p t s x all listed = record { each = λ d at. let h = (listed d).0 at in h.of.role_is }

@@ -11,9 +11,7 @@ ghost use Rattle.jr_member_faults.specs.Views as views;
 use crate::listing::add_entry;
 use jr_base::OutOfMemory;
 use jr_members::World;
-use jr_places::{
-    Chains, Entry, declaring_type, is_interface, is_private, is_protected, is_public,
-};
+use jr_places::{Chains, Entry, declaring_type, is_interface, is_private, is_protected, is_public};
 use jr_tree::Row;
 use std::alloc::Global;
 

@@ -39,9 +39,7 @@ impl<'a> Redefining<'a> {
         if breaks_form(self.world, method, other) {
             return Ok(true);
         }
-        let is = self
-            .thrown
-            .declares_more(alloc, self.world, method, other)?;
+        let is = self.thrown.declares_more(alloc, self.world, method, other)?;
         Ok(is)
     }
 
@@ -95,12 +93,7 @@ impl<'a> Redefining<'a> {
     }
 
     // It breaks one over a member of a direct supertype of its type, which this is.
-    fn breaks_right_above(
-        &self,
-        alloc: Global,
-        at: u32,
-        method: u32,
-    ) -> Result<bool, OutOfMemory>
+    fn breaks_right_above(&self, alloc: Global, at: u32, method: u32) -> Result<bool, OutOfMemory>
         ensures { views.IsRightWorld self.now.world.now → AreThrown (views.rows_of self.now.world.now) self.now.thrown.now → role_of_row (views.rows_of self.now.world.now) method ≡ roles.Method → IfOk result (λ is. is ≡ false → tell.KeepsRightAbove (views.rows_of self.now.world.now) (views.table_of self.now.world.now) method at) }
     {
         let direct = self.world.supers.direct().rows(alloc, at, 0)?;
@@ -127,12 +120,7 @@ impl<'a> Redefining<'a> {
     }
 
     // The same, if there is an Object.
-    fn breaks_over_object(
-        &self,
-        alloc: Global,
-        at: u32,
-        method: u32,
-    ) -> Result<bool, OutOfMemory>
+    fn breaks_over_object(&self, alloc: Global, at: u32, method: u32) -> Result<bool, OutOfMemory>
         ensures { views.IsRightWorld self.now.world.now → AreThrown (views.rows_of self.now.world.now) self.now.thrown.now → role_of_row (views.rows_of self.now.world.now) method ≡ roles.Method → IfOk result (λ is. is ≡ false → tell.KeepsOverObject (views.rows_of self.now.world.now) (views.table_of self.now.world.now) method at) }
     {
         match self.world.supers.object() {
