@@ -100,8 +100,8 @@ one_edited m e unit d new placed (Ok more) b tells is made = λ ordered within. 
 one_edited m e unit d new placed (Err why) b tells is made = made
 
 pub one_kept : (m : Marks) (e : Extracted) (unit : ℕ) (d new : Drafted) (placed : Placed) (b : Bool) → (IsOrdered m → b ≡ is_extended m e unit) → b ≡ false → (IsOrdered m → new ≡ kept m unit d)
-    → IsOrdered m → record { drafted = new; placed = placed } ≡ with_one m e unit (record { drafted = d; placed = placed })
-one_kept m e unit d new placed b tells is made ordered = ap (λ d. extending d placed) (made ordered) ∙ sym (ap (λ b. cond b (extended m e unit d) (extending (kept m unit d) placed)) (sym (tells ordered) ∙ is))
+    → IsOrdered m → IsWithin m e.run → record { drafted = new; placed = placed } ≡ with_one m e unit (record { drafted = d; placed = placed })
+one_kept m e unit d new placed b tells is made ordered within = ap (λ d. extending d placed) (made ordered) ∙ sym (ap (λ b. cond b (extended m e unit d) (extending (kept m unit d) placed)) (sym (tells ordered) ∙ is))
 
 -- one unit more
 pub extended_more : (m : Marks) (e : Extracted) (unit : ℕ) (before more : Extending) → 2 ≤ unit → before ≡ extended_below m e unit → more ≡ with_one m e unit before → more ≡ extended_below m e (unit + 1)

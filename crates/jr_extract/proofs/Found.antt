@@ -135,14 +135,17 @@ lowest_end of first all left none before = sym (ap (lowest of first) none) ∙ b
 
 -- ---- in order, each once
 
-pub sorted_lists : (P : ℕ → Type 0) (all out : List ℕ) → Lists all P → SortsOnce all out → ListsOnce out P
-sorted_lists P all out lists s = subst (λ xs. ListsOnce xs P) (sym s.is) (record {
+ordered_lists : (P : ℕ → Type 0) (all out : List ℕ) → Lists all P → SortsOnce all out → ListsOnce out P
+ordered_lists P all out lists s = subst (λ xs. ListsOnce xs P) (sym s.is) (record {
   rises = once_increases s.sorted s.rising;
   has = λ m. (
     (λ at. (lists m).0 (list_any-IsPermutation (λ k. nat_eq k m) all s.sorted s.moved ∙ once_is s.sorted m at)),
     (λ h. once_has s.sorted m (sym (list_any-IsPermutation (λ k. nat_eq k m) all s.sorted s.moved) ∙ (lists m).1 h)),
   );
 })
+
+pub sorted_lists : (P : ℕ → Type 0) (all passed out : List ℕ) → Lists all P → passed ≡ all → SortsOnce passed out → ListsOnce out P
+sorted_lists P all passed out lists same s = ordered_lists P all out lists (subst (λ xs. SortsOnce xs out) same s)
 
 -- ---- flows
 

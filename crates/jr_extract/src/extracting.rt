@@ -294,6 +294,7 @@ fn is_extended(marks: &Marks, added: &Extraction, unit: u32) -> bool
 }
 
 // Adds a unit: that of the run, or one that stays.
+#[tactic(auto, using(crate::proofs::Extending::one_kept))]
 fn add_one(
     alloc: Global,
     draft: &mut Draft,

@@ -4,4 +4,4 @@ use Rattle.jr_extract.specs.Running.{calls_constructor}
 use Rattle.jr_extract.proofs.run.constructor_call.Given as goal
 
 abbrev pub invariant-loop-at : goal.invariant-loop-at
-invariant-loop-at l = (k : ℕ) → k < l.at → (nat_le l.range.first k && calls_constructor (label l.rows k)) ≡ false
+invariant-loop-at l = (k : ℕ) → k < l.at → (nat_le l.fn.range.first k && calls_constructor (label l.rows k)) ≡ false
