@@ -162,7 +162,7 @@ no_change_caused_as w old request why told e a = subst (λ (f : StepFault). IsCa
 told_hinders : (a : Asked) (why told : StepFault) → told ≡ why → IsHinderedIn a why → IsHinderedIn a told
 told_hinders a why told e h = subst (λ (f : StepFault). IsHinderedIn a f) (sym e) h
 
-flow_hinders : (a : Asked) (told : StepFault) → IsOfFlow told → IsHinderedIn a told
+pub flow_hinders : (a : Asked) (told : StepFault) → IsOfFlow told → IsHinderedIn a told
 flow_hinders a (step.TooLarge size.Flow) is = IsTooLarge.by_flow
 flow_hinders a step.OutOfMemory is = tt
 flow_hinders a _ is = absurd is

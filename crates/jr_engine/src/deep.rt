@@ -28,7 +28,10 @@ fn are_too_deep(alloc: Global, tokens: &[Token]) -> Result<bool, OutOfMemory>
         return Err(OutOfMemory);
     }
     match parse(alloc, tokens) {
-        Ok(_) => Ok(false),
+        Ok(unit) => {
+            drop(unit);
+            Ok(false)
+        }
         Err(fault) => Ok(is_depth(fault)),
     }
 }

@@ -99,7 +99,10 @@ fn twice_in(alloc: Global, spelled: Spelled, program: Program, unit: u32) -> Ste
     ensures { (texts : List (List ℕ × List ℕ)) → AreUnitsOf (prelude_files ++ texts) program.units → spec.AreSmall texts → spec.first_twice texts ≡ Some unit → Bars spelled.entry.asked.change.now texts result }
 {
     match open_program(alloc, program) {
-        Ok(_) => path_twice(unit),
+        Ok(new) => {
+            drop(new);
+            path_twice(unit)
+        }
         Err(fault) => twice_or(spelled.asked, fault, unit),
     }
 }
