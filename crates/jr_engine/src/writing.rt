@@ -12,7 +12,7 @@ ghost use Rattle.jr_change.specs.declared.change.Change.{Change};
 ghost use Rattle.jr_engine.specs.Barring as barring;
 ghost use Rattle.jr_engine.specs.Barring.{AreTooLarge, Bars, IsToldFor};
 ghost use Rattle.jr_engine.specs.Texts as spec;
-ghost use Rattle.jr_engine.specs.Written.{AreTextsOf, HasTextsOf, IsBoundByLocks, IsLeftOf, IsNotLeft, IsReadBy};
+ghost use Rattle.jr_engine.specs.Written.{AreTextsOf, HasTextsOf, IsBoundByLocks, IsLeftOf, IsNotLeft, IsReadBy, IsSpelledIn};
 ghost use Rattle.jr_engine.specs.declared.fault.StepFault.TheVariants as step;
 
 use crate::asked::{Asked, project_of};
@@ -227,6 +227,23 @@ fn keeps_types(spelled: Spelled, edits: &[Edits]) -> Result<(), StepFault>
     }
 }
 
+// The program of these files is as it was to be written.
+fn is_left_as(
+    alloc: Global,
+    spelled: Spelled,
+    edits: &[Edits],
+    files: &Files,
+    program: &Workspace,
+) -> Result<(), StepFault>
+    ensures ok { IfOk result (λ _. IsSpelledIn spelled.entry program.now) }
+    ensures err { IfErr result (Bars spelled.entry.asked.change.now (finite.entries files.now)) }
+{
+    match is_as_spelled(alloc, spelled, program) {
+        Ok(()) => keeps_types(spelled, edits),
+        Err(fault) => Err(fault),
+    }
+}
+
 // The files, if they are a program as it was to be written.
 #[tactic(auto, using(crate::proofs::Stepping::read_so, crate::proofs::Stepping::written_so))]
 fn left_as(
@@ -242,8 +259,7 @@ fn left_as(
 {
     match open_files(alloc, &files) {
         Ok(program) => {
-            is_as_spelled(alloc, spelled, &program)?;
-            keeps_types(spelled, edits)?;
+            is_left_as(alloc, spelled, edits, &files, &program)?;
             match Left::of(files, program) {
                 Some(left) => Ok(left),
                 None => Err(spelled.asked.differs()),

@@ -13,6 +13,6 @@ returns-in-Ok-clause-begins c = c.locked_program.ensures.begins (units_begin _ c
 pub returns-in-Ok-clause-read : goal.returns-in-Ok-clause-read
 returns-in-Ok-clause-read c = read_by c.args.asked c.as_slice-units.result.now _ _ c.in-Ok.program c.locked_program.result c.as_slice-units.ensures (ap plain c.as_slice-texts.ensures.value) c.in_ok-changed.ensures.files c.in_ok-changed.ensures.small c.in-Ok.ensures.ok c.locked_program.ensures.read
 
-pub returns-clause-err : goal.returns-in-Err-clause-err
+pub returns-clause-err : goal.returns-clause-err
 returns-clause-err c = unread_hinders c.args.asked (plain c.as_slice-texts.result.now) c.unread.result
     (ap plain c.as_slice-texts.ensures.value ∙ c.in_ok-changed.ensures.files ∙ ap (λ (u : List UnitAt). changed_files u c.args.asked.change.now.units.items) c.as_slice-units.ensures) c.unread.ensures

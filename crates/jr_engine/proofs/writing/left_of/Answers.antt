@@ -8,11 +8,11 @@ use Rattle.jr_engine.proofs.writing.left_of.Goals as goal
 pub path_fault-requires : goal.path_fault-requires
 path_fault-requires c = subst (λ all. AreSmall (plain all)) (sym c.deref.ensures.value) c.in_ok-new.ensures.small
 
-pub returns-clause-texts : goal.returns-clause-texts
-returns-clause-texts c = texts_so c.args.spelled.locked.now c.args.spelled.spellings.now c.args.spelled.asked (plain c.in_ok-new.new.texts.items) c.left_with.result c.in_ok-new.ensures.are c.left_with.ensures.files
+pub returns-in-None-clause-texts : goal.returns-in-None-clause-texts
+returns-in-None-clause-texts c = texts_so c.args.spelled.locked.now c.args.spelled.spellings.now c.args.spelled.asked (plain c.in_ok-new.new.texts.items) c.left_with.result c.in_ok-new.ensures.are c.left_with.ensures.files
 
-pub returns-clause-err : goal.returns-clause-err
-returns-clause-err c = λ read bound. not_left_if c.args.spelled.asked.change.now c.args.spelled.locked.now c.args.spelled.spellings.now (plain c.in_ok-new.new.texts.items) c.left_with.result (c.in_ok-new.ensures.are read bound) c.left_with.ensures.err
+pub returns-in-None-clause-err : goal.returns-in-None-clause-err
+returns-in-None-clause-err c = λ read bound. not_left_if c.args.spelled.asked.change.now c.args.spelled.locked.now c.args.spelled.spellings.now (plain c.in_ok-new.new.texts.items) c.left_with.result (c.in_ok-new.ensures.are read bound) c.left_with.ensures.err
 
 pub returns-in-Some-clause-err : goal.returns-in-Some-clause-err
 returns-in-Some-clause-err c = λ read bound. not_left c.args.spelled.asked.change.now c.args.spelled.locked.now c.args.spelled.spellings.now (plain c.in_ok-new.new.texts.items) c.in-Some.fault (c.in_ok-new.ensures.are read bound)
