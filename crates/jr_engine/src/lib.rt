@@ -2,7 +2,6 @@
 #![tactic(auto)]
 
 mod asked;
-mod deep;
 mod edges;
 mod fault;
 mod filing;
