@@ -1,5 +1,5 @@
 -- How what is thrown goes from a row to the one round it, by the tests of the code.
-use Rattle.std.proofs.Common.{◌≡◌, refl, sym, ◌∙◌, ap₂, subst, ℕ, ◌+◌, Bool, true, false, not, List, length, nat_eq, Decides}
+use Rattle.std.proofs.Common.{◌≡◌, refl, sym, ap₂, subst, ℕ, ◌+◌, Bool, true, false, not, List, length, Decides}
 use Rattle.std.proofs.lemmas.Bool.{false≢true}
 use Rattle.std.proofs.lemmas.Bool.Decides.{Decides-eqb, Decides-at, not_from_Decides}
 use Rattle.jr_tree.specs.declared.label.Label.TheVariants as is

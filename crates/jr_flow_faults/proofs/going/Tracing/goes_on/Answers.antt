@@ -1,4 +1,4 @@
-use Rattle.std.proofs.Common.{sym, ◌∙◌, ap}
+use Rattle.std.proofs.Common.{◌∙◌, ap}
 use Rattle.jr_tree.specs.Rows.{label}
 use Rattle.jr_flow_faults.specs.Computed.{rows_in}
 use Rattle.jr_flow_faults.specs.Outwards.{is_try}
