@@ -62,7 +62,7 @@ use Rattle.jr_tree.proofs.Trees.{each_program_is_tree}
 use Rattle.jr_supers.specs.Supers.{AreSupersOf}
 use Rattle.jr_supers.specs.Tabled.{IsSized}
 use Rattle.jr_flow_defs.specs.Meaning.{Meaning}
-use Rattle.jr_kept.specs.Courses.{IsSeen, KeepsCourse, KeepsUsesOf}
+use Rattle.jr_kept.specs.Courses.{IsSeen, KeepsCourse, KeepsRaisedFlow, KeepsUsesOf}
 use Rattle.jr_kept.specs.declared.kept.LostEdge.{LostEdge}
 use Rattle.jr_shapes.specs.declared.spelling.Spelling.{Spelling}
 use Rattle.jr_view.specs.declared.View.{View}
@@ -317,7 +317,7 @@ seen_project w project under bare program few rows of = record {
 }
 
 abbrev IsCourseKept : Asked → Meaning → Meaning → Rows → Rows → List ℕ → List ℕ → Type 0
-IsCourseKept asked m w p q origin copy = KeepsCourse asked.change.now.course p q m w origin copy × KeepsUsesOf asked.change.now.course p q m w origin copy
+IsCourseKept asked m w p q origin copy = KeepsCourse asked.change.now.course p q m w origin copy × KeepsUsesOf asked.change.now.course p q m w origin copy × KeepsRaisedFlow asked.change.now.raised p q m w origin copy
 
 -- where no edge of control and none from a definition to a use is lost between the two, control goes as it went, and uses have the values that they had
 pub flow_kept : (asked : Asked) (locked : Locked) (old new : Project) (control uses : Option LostEdge) → IsBoundIn asked.old.now → IsProgram (rows_under locked) → AreWell (rows_under locked) → IsBoundByLocks locked
@@ -326,8 +326,9 @@ pub flow_kept : (asked : Asked) (locked : Locked) (old new : Project) (control u
     → IsViewOf (rows_under locked) locked.program.places.value locked.program.scopes.value locked.program.bound.value new.view
     → ((m w : Meaning) → IsSeen old m → IsSeen new w → control ≡ None → KeepsCourse asked.change.now.course old.marks.rows.now new.marks.rows.now m w locked.locks.origin.items locked.locks.copy.items)
     → ((m w : Meaning) → IsSeen old m → IsSeen new w → control ≡ None → uses ≡ None → KeepsUsesOf asked.change.now.course old.marks.rows.now new.marks.rows.now m w locked.locks.origin.items locked.locks.copy.items)
+    → ((m w : Meaning) → IsSeen old m → IsSeen new w → control ≡ None → uses ≡ None → KeepsRaisedFlow asked.change.now.raised old.marks.rows.now new.marks.rows.now m w locked.locks.origin.items locked.locks.copy.items)
     → control ≡ None → uses ≡ None → KeepsFlowIn asked locked
-flow_kept asked locked old new control uses bound program well is by few_old few_new old_rows new_rows old_of new_of told uses_told nothing no_use =
+flow_kept asked locked old new control uses bound program well is by few_old few_new old_rows new_rows old_of new_of told uses_told raised_told nothing no_use =
     let bare = program_in (rows_in asked.old.now) asked.old.now.places.value asked.old.now.scopes.value bound.of bound.binding.binding.well in
     let under = bound.binding.binding.under in
     let later = locked_under locked program well is in
@@ -335,7 +336,11 @@ flow_kept asked locked old new control uses bound program well is by few_old few
     let w = meaning_in locked.program in
     let old_seen = seen_project asked.old.now old under bare.bare bound.of.program few_old old_rows old_of in
     let new_seen = seen_project locked.program new later well.object.bare program few_new new_rows new_of in
-    let first : IsCourseKept asked m w old.marks.rows.now new.marks.rows.now locked.locks.origin.items locked.locks.copy.items = (told m w old_seen new_seen nothing, uses_told m w old_seen new_seen nothing no_use) in
+    let first : IsCourseKept asked m w old.marks.rows.now new.marks.rows.now locked.locks.origin.items locked.locks.copy.items = (
+      told m w old_seen new_seen nothing,
+      uses_told m w old_seen new_seen nothing no_use,
+      raised_told m w old_seen new_seen nothing no_use,
+    ) in
     let second : IsCourseKept asked m w (rows_in asked.old.now) (rows_under locked) locked.locks.origin.items locked.locks.copy.items =
     subst (λ (p : Rows). IsCourseKept asked m w p (rows_under locked) locked.locks.origin.items locked.locks.copy.items) old_rows (subst (λ (q : Rows). IsCourseKept asked m w old.marks.rows.now q locked.locks.origin.items locked.locks.copy.items) new_rows first) in
     let third : IsCourseKept asked m w (rows_in asked.old.now) (rows_under locked) (origins_by asked.change.now) (copies_by (origins_by asked.change.now) (length (rows_in asked.old.now))) =
@@ -348,6 +353,7 @@ flow_kept asked locked old new control uses bound program well is by few_old few
       after_is = subst (λ (l : Table). IsMeaningOf (rows_under locked) l w) is.table (meaning_is locked.program later);
       kept = third.0;
       uses = third.1;
+      raised = third.2;
     }
 
 -- ---- the changed program under its locks

@@ -17,7 +17,7 @@ use Rattle.jr_plain.specs.Conversions.{Constants}
 use Rattle.jr_plain.specs.Overloads.{Types}
 use Rattle.jr_plain.specs.Typing.{IsTypable, expression_types}
 use Rattle.jr_flow_defs.specs.Meaning.{Meaning}
-use Rattle.jr_kept.specs.Courses.{KeepsCourse, KeepsUsesOf}
+use Rattle.jr_kept.specs.Courses.{KeepsCourse, KeepsRaisedFlow, KeepsUsesOf}
 use Rattle.jr_shapes.specs.declared.spelling.Spelling.{Spelling}
 use Rattle.jr_spell.specs.Spelling.{IsWritten as Says, first_written}
 use Rattle.jr_spelling_rules.specs.Spelling.{IsSpelling, Written}
@@ -120,7 +120,7 @@ pub record IsMeaningOf (p : Rows) (t : Table) (m : Meaning) : Type 0 where
   pub whole : IsTypable p t → (n : ℕ) → m.values n ≡ constants p t (has_constant_form p t) n
 
 -- after an inlining and an extraction control goes from statement to statement as it went (`KeepsControl`), and the same definitions reach each use
--- (`KeepsInlinedFlow`, `KeepsExtractedFlow`); of other changes nothing is told
+-- (`KeepsInlinedFlow`, `KeepsExtractedFlow`), and so it is in a method that is pulled up (`KeepsRaisedFlow`); of other bodies nothing is told
 pub record KeepsFlow (p : Rows) (t : Table) (change : Change) (q : Rows) (l : Table) : Type 0 where
   pub before : Meaning
   pub after : Meaning
@@ -128,6 +128,7 @@ pub record KeepsFlow (p : Rows) (t : Table) (change : Change) (q : Rows) (l : Ta
   pub after_is : IsMeaningOf q l after
   pub kept : KeepsCourse change.course p q before after (origins_by change) (copies_by (origins_by change) (length p))
   pub uses : KeepsUsesOf change.course p q before after (origins_by change) (copies_by (origins_by change) (length p))
+  pub raised : KeepsRaisedFlow change.raised p q before after (origins_by change) (copies_by (origins_by change) (length p))
 
 -- What a request leaves: the files as they are, where the change for which it asks keeps all units, or those of a changed program in which each row that comes from
 -- an old one must refer to what that referred to, where it stands now, calls find what they found, and control goes as it went.
