@@ -1,6 +1,6 @@
 -- What is known of a step by its parts, and of steps one after another.
-use Rattle.std.proofs.Common.{◌≡◌, ◌∙◌, ◌+◌, ◌<◌, ◌^◌, ap, refl, true, Bool, Option, Some, None, is_some, List, append_assoc, [], ◌∷◌, ◌++◌, ℕ, Result, Ok, Err, IfErr, IfOk, IsTrue, length, map, arith, sym, subst}
-use Rattle.std.proofs.lemmas.List.{append-nil}
+use Rattle.std.proofs.Common.{◌≡◌, ◌∙◌, ◌⊎◌, inl, inr, ◌+◌, ◌-◌, min, ◌<◌, ◌^◌, ap, refl, true, Bool, Option, Some, None, is_some, List, append_assoc, [], ◌∷◌, ◌++◌, ℕ, suc, Result, Ok, Err, IfErr, IfOk, IsTrue, length, map, arith, sym, subst}
+use Rattle.std.proofs.lemmas.List.{append-nil, length_push}
 use Rattle.std.proofs.lemmas.Option.{none-some, same_Some}
 use Rattle.std.specs.FinMap as files
 use Rattle.std.specs.List.{AllByRecursion}
@@ -22,7 +22,7 @@ use Rattle.jr_front.specs.Viewed.{IsViewOf}
 use Rattle.jr_front.specs.declared.fault.FrontFault.{FrontFault}
 use Rattle.jr_front.specs.declared.workspace.Workspace.{Workspace}
 use Rattle.jr_engine.specs.Planning.{IsAccepted, PlannedAs, RefusedAs}
-use Rattle.jr_engine.specs.Refusing.{HasCause, IsCausedBy, IsHinderedIn, IsOfFlow, IsRefusedFrom, IsShownAt, IsToldAs, fault_of}
+use Rattle.jr_engine.specs.Refusing.{HasCause, IsBarred, IsCausedBy, IsHinderedIn, IsNumber, IsOfFiles, IsOfFlow, IsRefusedFrom, IsShownAt, IsToldAs, IsToldNumber, IsTooLarge, fault_of}
 use Rattle.jr_engine.specs.Steps.{Opened, IsOpened, IsRead, IsHeld, IsMeaningOf, KeepsFlow, IsAskedOf, IsRequested, LeftBy, IsStep, stays, leaves, AreSteps, none, more, IsFollowed, opened, opened_by}
 use Rattle.jr_tree.specs.Rows.{Rows}
 use Rattle.jr_defs.specs.Referents.{Table, entries}
@@ -71,12 +71,13 @@ use Rattle.jr_locks.specs.Changed.{IsChanged, origins_by, copies_by}
 use Rattle.jr_locks.specs.Origins.{origin_of, row_by}
 use Rattle.jr_edges.specs.Dispatched.{IsTold}
 use Rattle.jr_edges.specs.declared.dispatched.Lost.{Lost}
-use Rattle.jr_engine.proofs.Reading.{texts_left}
-use Rattle.jr_engine.specs.Written.{AreFirstIn, HasTextsOf, IsSpelledIn, IsLeftOf, IsAskedFor, IsLockedBy, IsBoundByLocks, IsReadBy, KeepsCallsIn, KeepsFlowIn, rows_of as rows_under, locks_of}
+use Rattle.jr_engine.proofs.Reading.{texts_left, texts_under}
+use Rattle.jr_engine.specs.Written.{AreFirstIn, HasBarredTexts, HasTextsOf, IsSpelledIn, IsLeftOf, IsAskedFor, IsLockedBy, IsBoundByLocks, IsNotLeft, IsReadBy, KeepsCallsIn, KeepsFlowIn, rows_of as rows_under, locks_of}
 use Rattle.jr_engine.specs.declared.asked.Asked.{Asked}
 use Rattle.jr_engine.specs.declared.fault.EngineFault.{EngineFault}
 use Rattle.jr_engine.specs.declared.fault.EngineFault.TheVariants as fault
 use Rattle.jr_engine.specs.declared.fault.LostKind.TheVariants as kind
+use Rattle.jr_engine.specs.declared.fault.Refused.{Refused}
 use Rattle.jr_engine.specs.declared.fault.StepFault.{StepFault}
 use Rattle.jr_engine.specs.declared.fault.StepFault.TheVariants as step
 use Rattle.jr_engine.specs.declared.left.Left.{Left}
@@ -161,8 +162,8 @@ no_change_caused_as w old request why told e a = subst (λ (f : StepFault). IsCa
 told_hinders : (a : Asked) (why told : StepFault) → told ≡ why → IsHinderedIn a why → IsHinderedIn a told
 told_hinders a why told e h = subst (λ (f : StepFault). IsHinderedIn a f) (sym e) h
 
-flow_hinders : (a : Asked) (told : StepFault) → IsOfFlow told → IsHinderedIn a told
-flow_hinders a (step.TooLarge size.Flow) is = tt
+pub flow_hinders : (a : Asked) (told : StepFault) → IsOfFlow told → IsHinderedIn a told
+flow_hinders a (step.TooLarge size.Flow) is = IsTooLarge.by_flow
 flow_hinders a step.OutOfMemory is = tt
 flow_hinders a _ is = absurd is
 
@@ -178,6 +179,27 @@ control_hinders a first second is_old told e = told_hinders a _ told e tt
 
 pub memory_hinders : (a : Asked) (told : StepFault) → told ≡ step.OutOfMemory → IsHinderedIn a told
 memory_hinders a told e = told_hinders a _ told e tt
+
+-- the files that were to be left are the texts of the changed program with the first spellings
+to_be_left : (a : Asked) (locked : Locked) (all : List Spelling) (why : StepFault) → IsLockedBy a locked → AreFirstIn a locked all → IsReadBy a locked → HasBarredTexts a.change.now locked all why
+    → IsBarred a.old.now.program.units (rows_in a.old.now) (table_in a.old.now) a.change.now why
+to_be_left a locked all why by first read h = record {
+  texts = h.texts;
+  are = record { rows = rows_under locked; locks = locks_of locked; changed = by.changed; spellings = all; first = first; texts_are = texts_under a locked all h.texts read h.are };
+  bars = h.bars;
+}
+
+not_left_hinders : (a : Asked) (locked : Locked) (all : List Spelling) (why : StepFault) → IsLockedBy a locked → AreFirstIn a locked all → IsReadBy a locked → IsNotLeft a.change.now locked all why → IsHinderedIn a why
+not_left_hinders a locked all (step.Broken rule place) by first read h = to_be_left a locked all (step.Broken rule place) by first read h
+not_left_hinders a locked all (step.TooLarge what) by first read h = IsTooLarge.by_files (to_be_left a locked all (step.TooLarge what) by first read h)
+not_left_hinders a locked all (step.Differs place) by first read h = tt
+not_left_hinders a locked all step.OutOfMemory by first read h = tt
+not_left_hinders a locked all _ by first read h = absurd h.bars
+
+pub not_left_hinders_if : (a : Asked) (locked : Locked) (all : List Spelling) (result : Result Left StepFault) → IsLockedBy a locked → AreFirstIn a locked all → IsReadBy a locked
+    → IfErr result (IsNotLeft a.change.now locked all) → IfErr result (IsHinderedIn a)
+not_left_hinders_if a locked all (Ok left) by first read h = tt
+not_left_hinders_if a locked all (Err why) by first read h = not_left_hinders a locked all why by first read h
 
 -- ---- places in the old files
 
@@ -377,54 +399,109 @@ steps_then : {first now next : Opened} {before : List Request} {request : Reques
 steps_then none step = more step none
 steps_then (more one rest) step = more one (steps_then rest step)
 
--- the steps of the requests before those that are left lead from the first files to these
-pub record AreStepsTo (first : Opened) (requests : List Request) (now : Left) (rest : List Request) : Type 0 where
+-- the steps of the requests before those that are left lead from the first files to these, and so many they are; a number past 2 ^ 32 cannot be told
+pub record AreStepsTo (first : Opened) (requests : List Request) (now : Left) (rest : List Request) (number : ℕ) : Type 0 where
   pub held : IsHeld now
   pub before : List Request
   pub split : requests ≡ before ++ rest
   pub steps : AreSteps first before (opened_by now)
+  pub counted : length before < 2 ^ 32 → number ≡ length before
 
-pub at_first : (first : Left) (requests : List Request) → IsHeld first → AreStepsTo (opened_by first) requests first requests
-at_first first requests is = record { held = is; before = []; split = refl; steps = none }
+pub at_first : (first : Left) (requests : List Request) → IsHeld first → AreStepsTo (opened_by first) requests first requests 0
+at_first first requests is = record { held = is; before = []; split = refl; steps = none; counted = λ few. refl }
 
-pub at_next : (first : Opened) (requests : List Request) (now next : Left) (request : Request) (rest after : List Request) → AreStepsTo first requests now rest → rest ≡ request ∷ after
-    → IsStep (opened_by now) request (opened_by next) → IsHeld next → AreStepsTo first requests next after
-at_next first requests now next request rest after is split step held = record {
+pub at_next : (first : Opened) (requests : List Request) (now next : Left) (request : Request) (rest after : List Request) (number behind : ℕ) → AreStepsTo first requests now rest number → rest ≡ request ∷ after
+    → behind ≡ min (number + 1) (2 ^ 32 - 1) → IsStep (opened_by now) request (opened_by next) → IsHeld next → AreStepsTo first requests next after behind
+at_next first requests now next request rest after number behind is split adds step held = record {
   held = held;
   before = is.before ++ request ∷ [];
   split = is.split ∙ ap (λ (r : List Request). is.before ++ r) split ∙ sym (append_assoc is.before (request ∷ []) after);
   steps = steps_then is.steps step;
+  counted = λ few. let long = length_push is.before request in let so_far : number ≡ length is.before = is.counted (omega (arith, few, long)) in omega (arith, few, long, so_far, adds);
 }
 
-pub at_last : (first : Opened) (requests : List Request) (now : Left) (rest : List Request) → AreStepsTo first requests now rest → length rest ≡ 0 → AreSteps first requests (opened_by now)
-at_last first requests now [] is ends = subst (λ (all : List Request). AreSteps first all (opened_by now)) (sym (is.split ∙ append-nil is.before)) is.steps
-at_last first requests now (request ∷ rest) is ends = absurd (omega (arith, ends))
+pub at_last : (first : Opened) (requests : List Request) (now : Left) (rest : List Request) (number : ℕ) → AreStepsTo first requests now rest number → length rest ≡ 0 → AreSteps first requests (opened_by now)
+at_last first requests now [] number is ends = subst (λ (all : List Request). AreSteps first all (opened_by now)) (sym (is.split ∙ append-nil is.before)) is.steps
+at_last first requests now (request ∷ rest) number is ends = absurd (omega (arith, ends))
+
+-- the number of the next request, which is told
+next_number : (before after : List Request) (why : EngineFault) (number behind told : ℕ) → (length before < 2 ^ 32 → number ≡ length before) → behind ≡ min (number + 1) (2 ^ 32 - 1) → IsToldNumber behind why told
+    → IsNumber before after why told
+next_number before after why number behind told counted adds (inl same) = IsNumber.counted (λ few. let so_far : number ≡ length before = counted (omega (arith, few)) in omega (arith, few, so_far, adds, same))
+next_number [] after why number behind told counted adds (inr h) = IsNumber.of_files refl h.1 h.2
+next_number (request ∷ before) after why number behind told counted adds (inr h) =
+    IsNumber.counted (λ few. let so_far : number ≡ length (request ∷ before) = counted (omega (arith, few)) in let first = h.0 in absurd (omega (arith, few, so_far, adds, first)))
 
 -- where the next request is refused
-pub refused_at : (first : Opened) (requests : List Request) (now : Left) (request : Request) (rest after : List Request) (why : EngineFault) → AreStepsTo first requests now rest → rest ≡ request ∷ after
-    → IsCausedBy now.program request why → IsRefusedFrom first requests why
-refused_at first requests now request rest after why is split caused = record {
+pub refused_at : (first : Opened) (requests : List Request) (now : Left) (request : Request) (rest after : List Request) (number behind told : ℕ) (why : EngineFault) → AreStepsTo first requests now rest number
+    → rest ≡ request ∷ after → behind ≡ min (number + 1) (2 ^ 32 - 1) → IsCausedBy now.program request why → IsToldNumber behind why told → IsRefusedFrom first requests told why
+refused_at first requests now request rest after number behind told why is split adds caused numbered = record {
   before = is.before;
   request = request;
   after = after;
   split = is.split ∙ ap (λ (r : List Request). is.before ++ r) split;
+  numbered = next_number is.before after why number behind told is.counted adds numbered;
   now = opened_by now;
   steps = is.steps;
   cause = caused now.files is.held.read;
 }
 
-pub one_refused : (first : Left) (request : Request) (why : EngineFault) → IsHeld first → IsCausedBy first.program request why → IsRefusedFrom (opened_by first) (request ∷ []) why
-one_refused first request why is caused = refused_at (opened_by first) (request ∷ []) first request (request ∷ []) [] why (at_first first (request ∷ []) is) refl caused
+-- the number of a request of a list is 0 where the fault is one of the files found alone
+pub zero_of_files : (number behind told : ℕ) (why : EngineFault) → behind ≡ min (number + 1) (2 ^ 32 - 1) → IsToldNumber behind why told → told ≡ 0 → IsOfFiles why
+zero_of_files number behind told why adds (inl same) zero = absurd (omega (arith, adds, same, zero))
+zero_of_files number behind told why adds (inr h) zero = h.2
 
-pub refused_so : (found : FileMap) (first : Left) (requests : List Request) (why : EngineFault) → first.files ≡ found → IsHeld first → IsRefusedFrom (opened_by first) requests why → RefusedAs found requests why
-refused_so found first requests why same is from = RefusedAs.refused same (held_opened first is) from
+-- the number of a request alone is 0
+pub alone_zero : (why : EngineFault) (told : ℕ) → IsToldNumber 0 why told → told ≡ 0
+alone_zero why told (inl same) = same
+alone_zero why told (inr h) = h.1
 
-pub front_so : (found : FileMap) (requests : List Request) (why : FrontFault) (told : EngineFault) → CheckedAs found (Err why) → IsToldAs (fault.Front why) told → RefusedAs found requests told
-front_so found requests why _ checked IsToldAs.told = RefusedAs.not_compiling checked
-front_so found requests why _ checked IsToldAs.no_room = RefusedAs.memory
+pub one_refused : (first : Left) (request : Request) (told : ℕ) (why : EngineFault) → IsHeld first → IsCausedBy first.program request why → IsToldNumber 0 why told → IsRefusedFrom (opened_by first) (request ∷ []) told why
+one_refused first request told why is caused numbered = record {
+  before = [];
+  request = request;
+  after = [];
+  split = refl;
+  numbered = IsNumber.alone refl refl (alone_zero why told numbered);
+  now = opened_by first;
+  steps = none;
+  cause = caused first.files is.read;
+}
 
-pub no_memory_so : (found : FileMap) (requests : List Request) (why : EngineFault) → why ≡ fault.Step step.OutOfMemory → RefusedAs found requests why
-no_memory_so found requests why e = subst (λ (w : EngineFault). RefusedAs found requests w) (sym e) RefusedAs.memory
+pub refused_so : (found : FileMap) (first : Left) (requests : List Request) (number : ℕ) (why : EngineFault) → first.files ≡ found → IsHeld first → IsRefusedFrom (opened_by first) requests number why
+    → RefusedAs found requests number why
+refused_so found first requests number why same is from = RefusedAs.refused same (held_opened first is) from
+
+pub front_so : (found : FileMap) (requests : List Request) (why : FrontFault) (number : ℕ) (told : EngineFault) → CheckedAs found (Err why) → number ≡ 0 → IsToldAs (fault.Front why) told → RefusedAs found requests number told
+front_so found requests why number _ checked zero IsToldAs.told = subst (λ (n : ℕ). RefusedAs found requests n (fault.Front why)) (sym zero) (RefusedAs.not_compiling checked)
+front_so found requests why number _ checked zero IsToldAs.no_room = RefusedAs.memory
+
+pub no_memory_so : (found : FileMap) (requests : List Request) (number : ℕ) (why : EngineFault) → why ≡ fault.Step step.OutOfMemory → RefusedAs found requests number why
+no_memory_so found requests number why e = subst (λ (w : EngineFault). RefusedAs found requests number w) (sym e) RefusedAs.memory
+
+-- ---- faults of the files found
+
+pub front_of_files : (why : FrontFault) (told : EngineFault) → IsToldAs (fault.Front why) told → IsOfFiles told
+front_of_files why _ IsToldAs.told = tt
+front_of_files why _ IsToldAs.no_room = tt
+
+pub memory_of_files : (told : EngineFault) → told ≡ fault.Step step.OutOfMemory → IsOfFiles told
+memory_of_files told e = subst (λ (w : EngineFault). IsOfFiles w) (sym e) tt
+
+flow_of_files : (why : StepFault) → IsOfFlow why → IsOfFiles (fault.Step why)
+flow_of_files (step.TooLarge size.Flow) is = tt
+flow_of_files step.OutOfMemory is = tt
+flow_of_files _ is = absurd is
+
+pub number_told_if : (request : ℕ) (result : Result (Option Left) Refused) → IfErr result (λ refused. refused.request ≡ request) → IfErr result (λ refused. IsToldNumber request refused.fault refused.request)
+number_told_if request (Ok left) same = tt
+number_told_if request (Err refused) same = inl same
+
+-- a program with too many points of flow is told by 0 before the first request of a list
+pub flow_number : (why : StepFault) (told : EngineFault) (request number : ℕ) → IsOfFlow why → IsToldAs (fault.Step why) told → (number ≡ request) ⊎ ((request ≡ 1) × (number ≡ 0)) → IsToldNumber request told number
+flow_number why told request number is shown (inl same) = inl same
+flow_number why _ request number is IsToldAs.told (inr h) = inr (h.0, h.1, flow_of_files why is)
+flow_number why _ request number is IsToldAs.no_room (inr h) = inr (h.0, h.1, tt)
 
 pub one_step : (first last : Opened) (request : Request) → IsStep first request last → AreSteps first (request ∷ []) last
 one_step first last request step = more step none

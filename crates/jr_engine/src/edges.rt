@@ -89,6 +89,7 @@ fn keeps_calls(alloc: Global, asked: Asked, locked: &Locked) -> Result<(), StepF
 }
 
 // Control goes as before, and where no edge from a definition to a use is lost, uses have the values that they had. It gives the first that is lost.
+#[tactic(auto, using(crate::proofs::Stepping::flow_hinders))]
 fn keeps_control(
     alloc: Global,
     asked: Asked,
