@@ -1,5 +1,5 @@
 -- What is known of a step by its parts, and of steps one after another.
-use Rattle.std.proofs.Common.{◌≡◌, ◌∙◌, ◌⊎◌, inl, inr, ◌+◌, ◌-◌, min, ◌<◌, ◌^◌, ap, refl, true, Bool, Option, Some, None, is_some, List, append_assoc, [], ◌∷◌, ◌++◌, ℕ, suc, Result, Ok, Err, IfErr, IfOk, IsTrue, length, map, arith, sym, subst}
+use Rattle.std.proofs.Common.{◌≡◌, ◌∙◌, ◌⊎◌, inl, inr, Decides, ◌+◌, ◌-◌, min, ◌<◌, ◌^◌, ap, refl, true, Bool, Option, Some, None, is_some, List, append_assoc, [], ◌∷◌, ◌++◌, ℕ, suc, Result, Ok, Err, IfErr, IfOk, IsTrue, length, map, arith, sym, subst}
 use Rattle.std.proofs.lemmas.List.{append-nil, length_push}
 use Rattle.std.proofs.lemmas.Option.{none-some, same_Some}
 use Rattle.std.specs.FinMap as files
@@ -22,7 +22,7 @@ use Rattle.jr_front.specs.Viewed.{IsViewOf}
 use Rattle.jr_front.specs.declared.fault.FrontFault.{FrontFault}
 use Rattle.jr_front.specs.declared.workspace.Workspace.{Workspace}
 use Rattle.jr_engine.specs.Planning.{IsAccepted, PlannedAs, RefusedAs}
-use Rattle.jr_engine.specs.Refusing.{HasCause, IsBarred, IsCausedBy, IsHinderedIn, IsNumber, IsOfFiles, IsOfFlow, IsRefusedFrom, IsShownAt, IsToldAs, IsToldNumber, IsTooLarge, fault_of}
+use Rattle.jr_engine.specs.Refusing.{HasCause, HasLargeBody, IsBarred, IsCausedBy, IsHinderedIn, IsNumber, IsLargeIn, IsOfFiles, IsRefusedFrom, IsShownAt, IsToldAs, IsToldNumber, IsTooLarge, fault_of}
 use Rattle.jr_engine.specs.Steps.{Opened, IsOpened, IsRead, IsHeld, IsMeaningOf, KeepsFlow, IsAskedOf, IsRequested, LeftBy, IsStep, stays, leaves, AreSteps, none, more, IsFollowed, opened, opened_by}
 use Rattle.jr_tree.specs.Rows.{Rows}
 use Rattle.jr_defs.specs.Referents.{Table, entries}
@@ -62,6 +62,8 @@ use Rattle.jr_tree.proofs.Trees.{each_program_is_tree}
 use Rattle.jr_supers.specs.Supers.{AreSupersOf}
 use Rattle.jr_supers.specs.Tabled.{IsSized}
 use Rattle.jr_flow_defs.specs.Meaning.{Meaning}
+use Rattle.jr_flow.specs.Sizes.{HasTooLarge}
+use Rattle.jr_flow.specs.Views as flow
 use Rattle.jr_kept.specs.Courses.{IsSeen, KeepsCourse, KeepsUsesOf}
 use Rattle.jr_kept.specs.declared.kept.LostEdge.{LostEdge}
 use Rattle.jr_shapes.specs.declared.spelling.Spelling.{Spelling}
@@ -72,7 +74,7 @@ use Rattle.jr_locks.specs.Origins.{origin_of, row_by}
 use Rattle.jr_edges.specs.Dispatched.{IsTold}
 use Rattle.jr_edges.specs.declared.dispatched.Lost.{Lost}
 use Rattle.jr_engine.proofs.Reading.{texts_left, texts_under}
-use Rattle.jr_engine.specs.Written.{AreFirstIn, HasBarredTexts, HasTextsOf, IsSpelledIn, IsLeftOf, IsAskedFor, IsLockedBy, IsBoundByLocks, IsNotLeft, IsReadBy, KeepsCallsIn, KeepsFlowIn, rows_of as rows_under, locks_of}
+use Rattle.jr_engine.specs.Written.{AreFirstIn, HasBarredTexts, HasTextsOf, IsSpelledIn, IsLeftOf, IsAskedFor, IsLockedBy, IsBoundByLocks, HasTables, IsNotLeft, IsReadBy, KeepsCallsIn, KeepsFlowIn, rows_of as rows_under, locks_of}
 use Rattle.jr_engine.specs.declared.asked.Asked.{Asked}
 use Rattle.jr_engine.specs.declared.fault.EngineFault.{EngineFault}
 use Rattle.jr_engine.specs.declared.fault.EngineFault.TheVariants as fault
@@ -141,8 +143,8 @@ pub hindered_caused : (a : Asked) (why : StepFault) → IsAskedFor a → IsHinde
 unfolding requested
 hindered_caused a why asked is = λ found read. HasCause.hindered (requested found a.old.now a.project.now a.request.now (Ok a.change.now) read asked) is
 
-pub flow_caused : (w : Workspace) (request : Request) (why : StepFault) → IsOfFlow why → IsCausedBy w request (fault.Step why)
-flow_caused w request (step.TooLarge size.Flow) is = λ found read. HasCause.large
+pub flow_caused : (w : Workspace) (request : Request) (why : StepFault) → IsLargeIn w why → IsCausedBy w request (fault.Step why)
+flow_caused w request (step.TooLarge size.Flow) is = λ found read. HasCause.large is
 flow_caused w request step.OutOfMemory is = λ found read. HasCause.memory
 flow_caused w request _ is = absurd is
 
@@ -162,14 +164,17 @@ no_change_caused_as w old request why told e a = subst (λ (f : StepFault). IsCa
 told_hinders : (a : Asked) (why told : StepFault) → told ≡ why → IsHinderedIn a why → IsHinderedIn a told
 told_hinders a why told e h = subst (λ (f : StepFault). IsHinderedIn a f) (sym e) h
 
-pub flow_hinders : (a : Asked) (told : StepFault) → IsOfFlow told → IsHinderedIn a told
-flow_hinders a (step.TooLarge size.Flow) is = IsTooLarge.by_flow
-flow_hinders a step.OutOfMemory is = tt
-flow_hinders a _ is = absurd is
+-- a body of the changed program is too large
+flow_hinders : (a : Asked) (locked : Locked) (told : StepFault) → IsLockedBy a locked → table_in locked.program ≡ locks_of locked → IsLargeIn locked.program told → IsHinderedIn a told
+flow_hinders a locked (step.TooLarge size.Flow) by table is =
+    IsTooLarge.by_flow (record { rows = rows_under locked; locks = locks_of locked; changed = by.changed; large = subst (λ (l : Table). HasLargeBody (rows_under locked) l) table is })
+flow_hinders a locked step.OutOfMemory by table is = tt
+flow_hinders a locked _ by table is = absurd is
 
-pub flow_hinders_if : (a : Asked) (result : Result (Unit {0}) StepFault) → IfErr result IsOfFlow → IfErr result (IsHinderedIn a)
-flow_hinders_if a (Ok _) is = tt
-flow_hinders_if a (Err why) is = flow_hinders a why is
+pub flow_hinders_if : (a : Asked) (locked : Locked) (result : Result (Unit {0}) StepFault) → IsLockedBy a locked → table_in locked.program ≡ locks_of locked → IfErr result (IsLargeIn locked.program)
+    → IfErr result (IsHinderedIn a)
+flow_hinders_if a locked (Ok _) by table is = tt
+flow_hinders_if a locked (Err why) by table is = flow_hinders a locked why by table is
 
 pub lost_hinders : (a : Asked) (first second : Place) (is_old : Bool) (told : StepFault) → told ≡ step.LostEdge kind.DefUse first second is_old → IsHinderedIn a told
 lost_hinders a first second is_old told e = told_hinders a _ told e tt
@@ -322,20 +327,39 @@ some_value : (texts : List (List ℕ)) (value : Option Value) → is_some value 
 some_value texts None = refl
 some_value texts (Some value) = refl
 
--- a project with the rows and tables of a program is seen by flow as it is
-seen_project : (w : Workspace) (project : Project) → IsBoundBy (rows_in w) w.places.value w.bound.value → ObjectIsBare (rows_in w) → IsProgram (rows_in w) → length (rows_in w) + 3 < 2 ^ 32
-    → project.marks.rows.now ≡ rows_in w → IsViewOf (rows_in w) w.places.value w.scopes.value w.bound.value project.view → IsSeen project (meaning_in w)
+-- the tables of a bound program, and those of a changed one under its locks
+pub bound_tables : (w : Workspace) → IsBoundIn w → HasTables w
+bound_tables w bound = record { program = bound.of.program; bare = (program_in (rows_in w) w.places.value w.scopes.value bound.of bound.binding.binding.well).bare; under = bound.binding.binding.under }
+
+pub locked_tables : (locked : Locked) → IsProgram (rows_under locked) → AreWell (rows_under locked) → IsBoundByLocks locked → HasTables locked.program
+locked_tables locked program well is = record { program = program; bare = well.object.bare; under = locked_under locked program well is }
+
+-- a view of them is seen by flow as it is
+flow_view : (w : Workspace) (view : View) → HasTables w → length (rows_in w) + 3 < 2 ^ 32 → IsViewOf (rows_in w) w.places.value w.scopes.value w.bound.value view → flow.IsViewOf view (meaning_in w)
 unfolding meaning_in
-seen_project w project under bare program few rows of = record {
-  rows = of.rows_are ∙ sym rows;
-  view = record {
-    few = subst (λ (r : Rows). length r + 3 < 2 ^ 32) (sym of.rows_are) few;
-    targets = ap entries of.table_is;
-    supers = subst (λ (t : Table). AreSupersOf project.view.sight.world.under.rows.now t project.view.sight.world.supers.now) (ap entries of.table_is) (whole_world w project.view under of bare).world_is.seen.above;
-    types = λ n. ap (λ (all : List (Option RowType)). types_in all n) of.types_are;
-    constants = λ n. ap (λ (found : Constants). is_some (item found.values.items n)) of.constants_are ∙ some_value w.bound.value.constants.value.texts (item w.bound.value.constants.value.values.items n);
-  };
-  tree = subst (λ (r : Rows). IsTree r) (sym (rows ∙ program.rows_are)) (each_program_is_tree program.units);
+flow_view w view is few of = record {
+  few = subst (λ (r : Rows). length r + 3 < 2 ^ 32) (sym of.rows_are) few;
+  targets = ap entries of.table_is;
+  supers = subst (λ (t : Table). AreSupersOf view.sight.world.under.rows.now t view.sight.world.supers.now) (ap entries of.table_is) (whole_world w view is.under of is.bare).world_is.seen.above;
+  types = λ n. ap (λ (all : List (Option RowType)). types_in all n) of.types_are;
+  constants = λ n. ap (λ (found : Constants). is_some (item found.values.items n)) of.constants_are ∙ some_value w.bound.value.constants.value.texts (item w.bound.value.constants.value.values.items n);
+}
+
+tree_of : (w : Workspace) → HasTables w → IsTree (rows_in w)
+tree_of w is = subst (λ (r : Rows). IsTree r) (sym is.program.rows_are) (each_program_is_tree is.program.units)
+
+-- and so is a project
+seen_project : (w : Workspace) (project : Project) → HasTables w → length (rows_in w) + 3 < 2 ^ 32 → project.marks.rows.now ≡ rows_in w → IsViewOf (rows_in w) w.places.value w.scopes.value w.bound.value project.view
+    → IsSeen project (meaning_in w)
+seen_project w project is few rows of = record { rows = of.rows_are ∙ sym rows; view = flow_view w project.view is few of; tree = subst (λ (r : Rows). IsTree r) (sym rows) (tree_of w is) }
+
+-- where a body of the view is told to be too large, one of the program is
+pub large_body : (w : Workspace) (view : View) (is_large : Bool) → HasTables w → length (rows_in w) + 3 < 2 ^ 32 → IsViewOf (rows_in w) w.places.value w.scopes.value w.bound.value view
+    → ((m : Meaning) → flow.IsViewOf view m → IsTree (flow.rows_in view) → Decides is_large (HasTooLarge (flow.rows_in view) m)) → is_large ≡ true → HasLargeBody (rows_in w) (table_in w)
+large_body w view is_large is few of told e = record {
+  meaning = meaning_in w;
+  is = meaning_is w is.under;
+  large = subst (λ (r : Rows). HasTooLarge r (meaning_in w)) of.rows_are ((told (meaning_in w) (flow_view w view is few of) (subst (λ (r : Rows). IsTree r) (sym of.rows_are) (tree_of w is))).0 e);
 }
 
 abbrev IsCourseKept : Asked → Meaning → Meaning → Rows → Rows → List ℕ → List ℕ → Type 0
@@ -350,13 +374,12 @@ pub flow_kept : (asked : Asked) (locked : Locked) (old new : Project) (control u
     → ((m w : Meaning) → IsSeen old m → IsSeen new w → control ≡ None → uses ≡ None → KeepsUsesOf asked.change.now.course old.marks.rows.now new.marks.rows.now m w locked.locks.origin.items locked.locks.copy.items)
     → control ≡ None → uses ≡ None → KeepsFlowIn asked locked
 flow_kept asked locked old new control uses bound program well is by few_old few_new old_rows new_rows old_of new_of told uses_told nothing no_use =
-    let bare = program_in (rows_in asked.old.now) asked.old.now.places.value asked.old.now.scopes.value bound.of bound.binding.binding.well in
-    let under = bound.binding.binding.under in
-    let later = locked_under locked program well is in
+    let before = bound_tables asked.old.now bound in
+    let after = locked_tables locked program well is in
     let m = meaning_in asked.old.now in
     let w = meaning_in locked.program in
-    let old_seen = seen_project asked.old.now old under bare.bare bound.of.program few_old old_rows old_of in
-    let new_seen = seen_project locked.program new later well.object.bare program few_new new_rows new_of in
+    let old_seen = seen_project asked.old.now old before few_old old_rows old_of in
+    let new_seen = seen_project locked.program new after few_new new_rows new_of in
     let first : IsCourseKept asked m w old.marks.rows.now new.marks.rows.now locked.locks.origin.items locked.locks.copy.items = (told m w old_seen new_seen nothing, uses_told m w old_seen new_seen nothing no_use) in
     let second : IsCourseKept asked m w (rows_in asked.old.now) (rows_under locked) locked.locks.origin.items locked.locks.copy.items =
     subst (λ (p : Rows). IsCourseKept asked m w p (rows_under locked) locked.locks.origin.items locked.locks.copy.items) old_rows (subst (λ (q : Rows). IsCourseKept asked m w old.marks.rows.now q locked.locks.origin.items locked.locks.copy.items) new_rows first) in
@@ -366,8 +389,8 @@ flow_kept asked locked old new control uses bound program well is by few_old few
     record {
       before = m;
       after = w;
-      before_is = meaning_is asked.old.now under;
-      after_is = subst (λ (l : Table). IsMeaningOf (rows_under locked) l w) is.table (meaning_is locked.program later);
+      before_is = meaning_is asked.old.now before.under;
+      after_is = subst (λ (l : Table). IsMeaningOf (rows_under locked) l w) is.table (meaning_is locked.program after.under);
       kept = third.0;
       uses = third.1;
     }
@@ -488,20 +511,20 @@ front_of_files why _ IsToldAs.no_room = tt
 pub memory_of_files : (told : EngineFault) → told ≡ fault.Step step.OutOfMemory → IsOfFiles told
 memory_of_files told e = subst (λ (w : EngineFault). IsOfFiles w) (sym e) tt
 
-flow_of_files : (why : StepFault) → IsOfFlow why → IsOfFiles (fault.Step why)
-flow_of_files (step.TooLarge size.Flow) is = tt
-flow_of_files step.OutOfMemory is = tt
-flow_of_files _ is = absurd is
+flow_of_files : (w : Workspace) (why : StepFault) → IsLargeIn w why → IsOfFiles (fault.Step why)
+flow_of_files w (step.TooLarge size.Flow) is = tt
+flow_of_files w step.OutOfMemory is = tt
+flow_of_files w _ is = absurd is
 
 pub number_told_if : (request : ℕ) (result : Result (Option Left) Refused) → IfErr result (λ refused. refused.request ≡ request) → IfErr result (λ refused. IsToldNumber request refused.fault refused.request)
 number_told_if request (Ok left) same = tt
 number_told_if request (Err refused) same = inl same
 
 -- a program with too many points of flow is told by 0 before the first request of a list
-pub flow_number : (why : StepFault) (told : EngineFault) (request number : ℕ) → IsOfFlow why → IsToldAs (fault.Step why) told → (number ≡ request) ⊎ ((request ≡ 1) × (number ≡ 0)) → IsToldNumber request told number
-flow_number why told request number is shown (inl same) = inl same
-flow_number why _ request number is IsToldAs.told (inr h) = inr (h.0, h.1, flow_of_files why is)
-flow_number why _ request number is IsToldAs.no_room (inr h) = inr (h.0, h.1, tt)
+pub flow_number : (w : Workspace) (why : StepFault) (told : EngineFault) (request number : ℕ) → IsLargeIn w why → IsToldAs (fault.Step why) told → (number ≡ request) ⊎ ((request ≡ 1) × (number ≡ 0)) → IsToldNumber request told number
+flow_number w why told request number is shown (inl same) = inl same
+flow_number w why _ request number is IsToldAs.told (inr h) = inr (h.0, h.1, flow_of_files w why is)
+flow_number w why _ request number is IsToldAs.no_room (inr h) = inr (h.0, h.1, tt)
 
 pub one_step : (first last : Opened) (request : Request) → IsStep first request last → AreSteps first (request ∷ []) last
 one_step first last request step = more step none

@@ -1,5 +1,5 @@
 -- Why a request leaves nothing of files that compile: the cause of each fault.
-use Rattle.std.specs.Prelude.{◌≡◌, ◌⊎◌, ℕ, suc, ◌<◌, ◌^◌, true, List, [], ◌∷◌, ◌++◌, length, Some, Ok, Err, ⊤}
+use Rattle.std.specs.Prelude.{◌≡◌, ◌⊎◌, ℕ, suc, ◌<◌, ◌^◌, Bool, true, false, List, [], ◌∷◌, ◌++◌, length, Some, Ok, Err, ⊤}
 use Rattle.jr_base.specs.Files.{FileMap}
 use Rattle.jr_base.specs.declared.limits.Size.{Size}
 use Rattle.jr_base.specs.declared.limits.Size.TheVariants as size
@@ -19,12 +19,16 @@ use Rattle.jr_locks.specs.Origins.{origin_of, row_by}
 use Rattle.jr_marks.specs.Places.{place_of_name}
 use Rattle.jr_marks.specs.declared.marks.Marks.{Marks}
 use Rattle.jr_change.specs.declared.change.Change.{Change}
+use Rattle.jr_change.specs.declared.change.Course.{Course}
+use Rattle.jr_change.specs.declared.change.Course.TheVariants as course
 use Rattle.jr_change.specs.declared.reason.ChangeFault.{ChangeFault}
 use Rattle.jr_change.specs.declared.reason.ChangeFault.TheVariants as change
+use Rattle.jr_flow_defs.specs.Meaning.{Meaning}
+use Rattle.jr_flow.specs.Sizes.{HasTooLarge}
 use Rattle.jr_front.specs.Bound.{rows_in, table_in}
 use Rattle.jr_front.specs.declared.workspace.Workspace.{Workspace}
 use Rattle.jr_engine.specs.Barring.{HasDeepText, Bars}
-use Rattle.jr_engine.specs.Steps.{Opened, IsRequested, AreFirst, AreSteps, IsRead, is_constant, opened, types}
+use Rattle.jr_engine.specs.Steps.{Opened, IsMeaningOf, IsRequested, AreFirst, AreSteps, IsRead, is_constant, opened, types}
 use Rattle.jr_engine.specs.Texts.{AreTexts, changed_files}
 use Rattle.jr_engine.specs.declared.asked.Asked.{Asked}
 use Rattle.jr_engine.specs.declared.fault.EngineFault.{EngineFault}
@@ -81,11 +85,34 @@ pub record IsBarred (units : List UnitAt) (p : Rows) (t : Table) (change : Chang
   pub are : AreToBeLeft units p t change texts
   pub bars : Bars change texts why
 
--- a size passes its limit: of the files that were to be left, or the levels of a text of the change, before its references are spelled; of points of flow nothing is said
+-- ---- points of flow
+
+-- a body has more points of flow than there may be, by what names refer to, the types of expressions and the values of constants
+pub record HasLargeBody (p : Rows) (t : Table) : Type 0 where
+  pub meaning : Meaning
+  pub is : IsMeaningOf p t meaning
+  pub large : HasTooLarge p meaning
+
+-- so it is in a changed program under its locks
+pub record LeavesLargeBody (p : Rows) (t : Table) (change : Change) : Type 0 where
+  pub rows : Rows
+  pub locks : Table
+  pub changed : IsChanged p t change rows locks
+  pub large : HasLargeBody rows locks
+
+-- the flow of a body is compared with that of another: of its copy, or of one with a call and the method that is called
+abbrev pub has_compared_flow : Course → Bool
+has_compared_flow (course.Inlined local statement) = true
+has_compared_flow (course.Extracted call method) = true
+has_compared_flow other = false
+
+-- A size passes its limit: of the files that were to be left, the levels of a text of the change, before its references are spelled, or the points of flow of a body of the changed program. After an inlining
+-- and an extraction flow that is compared may have too many points too, of which no more is said.
 pub data IsTooLarge (units : List UnitAt) (p : Rows) (t : Table) (change : Change) : Size → Type 0 where
   by_files : {what : Size} → IsBarred units p t change (step.TooLarge what) → IsTooLarge units p t change what
   by_change : HasDeepText (changed_files units change.units.items) → IsTooLarge units p t change size.Nesting
-  by_flow : IsTooLarge units p t change size.Flow
+  by_flow : LeavesLargeBody p t change → IsTooLarge units p t change size.Flow
+  by_compared_flow : has_compared_flow change.course ≡ true → IsTooLarge units p t change size.Flow
 
 -- ---- the causes
 
@@ -100,11 +127,11 @@ IsHindered units p t m change (step.Broken rule place) = IsBarred units p t chan
 IsHindered units p t m change (step.TooLarge what) = IsTooLarge units p t change what
 IsHindered units p t m change other = ⊤
 
--- The cause of a fault: the request asks for no change, and this is why, or the change for which it asks is hindered. Of want of memory, and of a program found with too many points of flow, nothing is said.
+-- The cause of a fault: the request asks for no change, and this is why; the change for which it asks is hindered; or a body of the program has too many points of flow. Of want of memory nothing is said.
 pub data HasCause (old : Opened) (request : Request) : EngineFault → Type 0 where
   no_change : {why : ChangeFault} → IsRequested old request (Err why) → HasCause old request (fault.Step (fault_of why))
   hindered : {change : Change} {why : StepFault} (asked : IsRequested old request (Ok change)) → IsHindered asked.project.program.units old.rows old.table asked.old.marks change why → HasCause old request (fault.Step why)
-  large : HasCause old request (fault.Step (step.TooLarge size.Flow))
+  large : HasLargeBody old.rows old.table → HasCause old request (fault.Step (step.TooLarge size.Flow))
   memory : HasCause old request (fault.Step step.OutOfMemory)
 
 -- ---- the number of a request
@@ -153,11 +180,11 @@ pub data IsToldAs (why : EngineFault) : EngineFault → Type 0 where
   told : IsToldAs why why
   no_room : IsToldAs why (fault.Step step.OutOfMemory)
 
--- a program has too many points of flow, or memory is wanting
-abbrev pub IsOfFlow : StepFault → Type 0
-IsOfFlow (step.TooLarge size.Flow) = ⊤
-IsOfFlow step.OutOfMemory = ⊤
-IsOfFlow other = ⊥
+-- a body of the program has too many points of flow, or memory is wanting
+abbrev pub IsLargeIn : Workspace → StepFault → Type 0
+IsLargeIn w (step.TooLarge size.Flow) = HasLargeBody (rows_in w) (table_in w)
+IsLargeIn w step.OutOfMemory = ⊤
+IsLargeIn w other = ⊥
 
 -- 0 is told with a fault alone that may be one of the files found
 abbrev pub IsZeroOfFiles : Refused → Type 0

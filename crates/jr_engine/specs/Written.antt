@@ -5,7 +5,7 @@ use Rattle.std.specs.Option.{option_map_or}
 use Rattle.jr_front.specs.Bound.{IsIndexed, rows_in, table_in}
 use Rattle.jr_front.specs.declared.workspace.Workspace.{Workspace}
 use Rattle.jr_tree.specs.Rows.{Rows}
-use Rattle.jr_headed.specs.Founded.{AreWell}
+use Rattle.jr_headed.specs.Founded.{IsProgram, AreWell}
 use Rattle.jr_defs.specs.Program.{AreUnitsOf, prelude_files}
 use Rattle.jr_defs.specs.Referents.{Table, entries}
 use Rattle.jr_defs.specs.declared.program.Program.{Program}
@@ -17,7 +17,7 @@ use Rattle.jr_places.specs.Places.{ArePlaces}
 use Rattle.jr_supers.specs.Supers.{IsWellHeaded, HasNoCycle}
 use Rattle.jr_members.specs.Held.{ObjectIsBare}
 use Rattle.jr_members.specs.Sources.{ArePlaced}
-use Rattle.jr_bind.specs.Exact.{IsExact}
+use Rattle.jr_bind.specs.Exact.{IsExact, IsBoundBy}
 use Rattle.jr_bind.specs.Rebound.{AreLocks}
 use Rattle.jr_constants.specs.Tables.{item}
 use Rattle.jr_lookup.specs.Imports.{AreImports}
@@ -116,6 +116,12 @@ pub record IsSound (a : Asked) (locked : Locked) : Type 0 where
 abbrev pub is_constant_by : Asked → Locked → ℕ → Bool
 is_constant_by a locked n = option_map_or (λ from. is_some (item a.old.now.bound.value.constants.value.values.items from)) (row_by (origin_of locked.locks.origin.items n))
     (is_some (item locked.program.bound.value.constants.value.values.items n))
+
+-- the rows are those of a program with one bare Object, and the tables are those under its own table
+pub record HasTables (w : Workspace) : Type 0 where
+  pub program : IsProgram (rows_in w)
+  pub bare : ObjectIsBare (rows_in w)
+  pub under : IsBoundBy (rows_in w) w.places.value w.bound.value
 
 -- these are the first spellings that fit
 abbrev pub AreFirstIn : Asked → Locked → List Spelling → Type 0

@@ -5,7 +5,7 @@ ghost use Rattle.jr_base.specs.declared.request.Request.{Request};
 ghost use Rattle.jr_front.specs.Checking.{CheckedAs};
 ghost use Rattle.jr_front.specs.Bound.{IsBoundIn};
 ghost use Rattle.jr_engine.specs.Planning.{RefusedAs};
-ghost use Rattle.jr_engine.specs.Refusing.{IsCausedBy, IsHinderedIn, IsOfFlow, IsToldAs, IsToldNumber, IsZeroOfFiles};
+ghost use Rattle.jr_engine.specs.Refusing.{IsCausedBy, IsHinderedIn, IsLargeIn, IsToldAs, IsToldNumber, IsZeroOfFiles};
 ghost use Rattle.jr_engine.specs.Steps.{LeftBy, IsFollowed, IsAskedOf, IsProjectIn};
 ghost use Rattle.jr_engine.specs.Written.{IsAskedFor};
 ghost use Rattle.jr_engine.specs.declared.fault.EngineFault.TheVariants as engine;
@@ -225,7 +225,7 @@ fn left_within(
 
 // The program has too many points of flow, before the request of this number.
 fn refused_large(alloc: Global, old: &Workspace, request: u32, fault: StepFault) -> Refused
-    requires { IsOfFlow fault }
+    requires { IsLargeIn old.now fault }
     ensures told { IsToldAs (engine.Step fault) result.fault }
     ensures number { IsToldNumber request result.fault result.request }
 {
