@@ -53,6 +53,8 @@ def main():
             missing.append(it.name)
     if missing and not is_building:
         sys.exit(f'over.py: not proved in {base} as they are here: {" ".join(missing)}')
+    if words[0] == 'check' and '--jobs' not in words:
+        words += ['--jobs', '1']
     return rt.main(words)
 
 
