@@ -16,7 +16,8 @@ use Rattle.jr_read.specs.Reading.{ReadsAs}
 use Rattle.jr_front.specs.Bound.{IsBoundIn, rows_in, table_in}
 use Rattle.jr_front.specs.Checking.{CheckedAs, accepted}
 use Rattle.jr_front.specs.Compiling.{Compiles}
-use Rattle.jr_front.proofs.Testable.{tables_view}
+use Rattle.jr_front.proofs.Reading.{read_begins}
+use Rattle.jr_front.proofs.Testable.{tables_view, testable_view}
 use Rattle.jr_front.proofs.Viewed.{seen_view, whole_view, whole_world}
 use Rattle.jr_front.specs.Viewed.{IsViewOf}
 use Rattle.jr_front.specs.declared.fault.FrontFault.{FrontFault}
@@ -123,6 +124,7 @@ requested found w old request answer is a = record {
     view_rows = a.of.view.rows_are ∙ sym a.of.rows;
     sized = subst IsSized (a.of.view.rows_are ∙ sym a.of.rows) (seen_view w old.view is.bound a.of.view).sized;
     tables = tables_view w old.view is.bound a.of.view;
+    throwing = (testable_view w old.view is.bound a.of.view (subst BeginsWithLang (sym is.are) (read_begins found w.program is.reads))).throwing;
   };
   asked = a.asked;
 }

@@ -36,6 +36,7 @@ use Rattle.jr_runs.specs.Respelled.{IsRespelled}
 use Rattle.jr_read.specs.Reading.{ReadsAs}
 use Rattle.jr_supers.specs.Tabled.{IsSized}
 use Rattle.jr_dispatch.specs.Methods.{IsWholeWorld}
+use Rattle.jr_flow_faults.specs.Reading.{IsThrowingView}
 use Rattle.jr_front.specs.Bound.{rows_in, table_in, IsBoundIn}
 use Rattle.jr_front.specs.Compiling.{Compiles}
 use Rattle.jr_front.specs.Viewed.{HasTablesOfRows, IsViewOf}
@@ -88,7 +89,8 @@ pub record IsWritten (old : Opened) (change : Change) (rows : Rows) (locks : Tab
   pub texts : HaveTexts old.files change rows locks spellings left.files
   pub respelled : IsRespelled rows locks spellings left.rows left.table
 
--- the program of the files with its tables, as changes read it: its supertypes and members are those under the binding, and of each row the type and the value are those of the definitions
+-- the program of the files with its tables, as changes read it: its supertypes and members are those under the binding, of each row the type and the value are those of the definitions, and java.lang has
+-- one class of each name by which what is thrown is checked
 pub record IsProjectOf (o : Opened) (old : Project) : Type 0 where
   pub program : Program
   pub reads : ReadsAs o.files (Ok program)
@@ -101,6 +103,7 @@ pub record IsProjectOf (o : Opened) (old : Project) : Type 0 where
   pub view_rows : old.view.sight.world.under.rows.now ≡ old.marks.rows.now
   pub sized : IsSized old.marks.rows.now
   pub tables : HasTablesOfRows old.view
+  pub throwing : IsThrowingView old.view
 
 -- the answer is the change for which the request asks, or why there is none
 pub record IsRequested (o : Opened) (request : Request) (answer : Result Change ChangeFault) : Type 0 where
