@@ -16,7 +16,8 @@ use Rattle.jr_read.specs.Reading.{ReadsAs}
 use Rattle.jr_front.specs.Bound.{IsBoundIn, rows_in, table_in}
 use Rattle.jr_front.specs.Checking.{CheckedAs, accepted}
 use Rattle.jr_front.specs.Compiling.{Compiles}
-use Rattle.jr_front.proofs.Testable.{tables_view}
+use Rattle.jr_front.proofs.Reading.{read_begins}
+use Rattle.jr_front.proofs.Testable.{tables_view, testable_view}
 use Rattle.jr_front.proofs.Viewed.{seen_view, whole_view, whole_world}
 use Rattle.jr_front.specs.Viewed.{IsViewOf}
 use Rattle.jr_front.specs.declared.fault.FrontFault.{FrontFault}
@@ -64,6 +65,7 @@ use Rattle.jr_supers.specs.Tabled.{IsSized}
 use Rattle.jr_flow_defs.specs.Meaning.{Meaning}
 use Rattle.jr_kept.specs.Courses.{IsSeen, KeepsCourse, KeepsRaisedFlow, KeepsUsesOf}
 use Rattle.jr_kept.specs.declared.kept.LostEdge.{LostEdge}
+use Rattle.jr_extract.specs.Extracting.{IsSeenAs}
 use Rattle.jr_shapes.specs.declared.spelling.Spelling.{Spelling}
 use Rattle.jr_view.specs.declared.View.{View}
 use Rattle.jr_engine.specs.Requested.{keeps_all}
@@ -106,6 +108,39 @@ accepted_so o is = record { checked = accepted is.reads is.compiles; java = is.j
 pub written_so : (s : Spelled) (left : Left) (w : Workspace) → left.program ≡ w → IsHeld left → IsSpelledIn s w → IsLeftOf s.locked.now s.spellings.now left
 written_so s left w same is spelled = (subst (λ (v : Workspace). IsSpelledIn s v) (sym same) spelled, is)
 
+-- ---- a project as flow reads it
+
+-- what names, types and constants mean by the tables of a program
+meaning_in : Workspace → Meaning
+meaning_in w = record { targets = table_in w; values = values_of w.bound.value.constants.value; types = types_in w.bound.value.types.items }
+
+meaning_is : (w : Workspace) → IsBoundBy (rows_in w) w.places.value w.bound.value → IsMeaningOf (rows_in w) (table_in w) (meaning_in w)
+unfolding meaning_in
+meaning_is w under = record { targets = refl; types = under.types_are; sound = under.constants_are.sound; whole = under.constants_are.whole }
+
+some_value : (texts : List (List ℕ)) (value : Option Value) → is_some value ≡ is_some (value_in_if texts value)
+some_value texts None = refl
+some_value texts (Some value) = refl
+
+-- a project with the rows and tables of a program is seen by flow as it is
+seen_project : (w : Workspace) (project : Project) → IsBoundBy (rows_in w) w.places.value w.bound.value → ObjectIsBare (rows_in w) → IsProgram (rows_in w) → length (rows_in w) + 3 < 2 ^ 32
+    → project.marks.rows.now ≡ rows_in w → IsViewOf (rows_in w) w.places.value w.scopes.value w.bound.value project.view → IsSeen project (meaning_in w)
+unfolding meaning_in
+seen_project w project under bare program few rows of = record {
+  rows = of.rows_are ∙ sym rows;
+  view = record {
+    few = subst (λ (r : Rows). length r + 3 < 2 ^ 32) (sym of.rows_are) few;
+    targets = ap entries of.table_is;
+    supers = subst (λ (t : Table). AreSupersOf project.view.sight.world.under.rows.now t project.view.sight.world.supers.now) (ap entries of.table_is) (whole_world w project.view under of bare).world_is.seen.above;
+    types = λ n. ap (λ (all : List (Option RowType)). types_in all n) of.types_are;
+    constants = λ n. ap (λ (found : Constants). is_some (item found.values.items n)) of.constants_are ∙ some_value w.bound.value.constants.value.texts (item w.bound.value.constants.value.values.items n);
+  };
+  tree = subst (λ (r : Rows). IsTree r) (sym (rows ∙ program.rows_are)) (each_program_is_tree program.units);
+}
+
+seen_as : (old : Project) (m : Meaning) → IsSeen old m → IsSeenAs old m
+seen_as old m seen = record { rows = seen.rows; tree = subst (λ (r : Rows). IsTree r) (sym seen.rows) seen.tree; view = seen.view }
+
 -- ---- the change of a request
 
 requested : (found : FileMap) (w : Workspace) (old : Project) (request : Request) (answer : Result Change ChangeFault) → IsRead found w → IsAskedOf w old request answer → IsRequested (opened found w) request answer
@@ -123,6 +158,13 @@ requested found w old request answer is a = record {
     view_rows = a.of.view.rows_are ∙ sym a.of.rows;
     sized = subst IsSized (a.of.view.rows_are ∙ sym a.of.rows) (seen_view w old.view is.bound a.of.view).sized;
     tables = tables_view w old.view is.bound a.of.view;
+    throwing = (testable_view w old.view is.bound a.of.view (subst BeginsWithLang (sym is.are) (read_begins found w.program is.reads))).throwing;
+    flow = λ few. (
+      meaning_in w,
+      meaning_is w is.bound.binding.binding.under,
+      seen_as old (meaning_in w) (seen_project w old is.bound.binding.binding.under
+          (program_in (rows_in w) w.places.value w.scopes.value is.bound.of is.bound.binding.binding.well).bare is.bound.of.program few a.of.rows a.of.view),
+    );
   };
   asked = a.asked;
 }
@@ -287,34 +329,6 @@ call_hinders a locked found lost told by is some e = told_hinders a (step.LostEd
     (record { rows = rows_under locked; locks = locks_of locked; changed = by.changed; lost = lost; is = subst (λ (f : Option Lost). IsToldOf a locked f) some is; class_at = refl; method_at = refl }, refl)
 
 -- ---- where control goes
-
--- what names, types and constants mean by the tables of a program
-meaning_in : Workspace → Meaning
-meaning_in w = record { targets = table_in w; values = values_of w.bound.value.constants.value; types = types_in w.bound.value.types.items }
-
-meaning_is : (w : Workspace) → IsBoundBy (rows_in w) w.places.value w.bound.value → IsMeaningOf (rows_in w) (table_in w) (meaning_in w)
-unfolding meaning_in
-meaning_is w under = record { targets = refl; types = under.types_are; sound = under.constants_are.sound; whole = under.constants_are.whole }
-
-some_value : (texts : List (List ℕ)) (value : Option Value) → is_some value ≡ is_some (value_in_if texts value)
-some_value texts None = refl
-some_value texts (Some value) = refl
-
--- a project with the rows and tables of a program is seen by flow as it is
-seen_project : (w : Workspace) (project : Project) → IsBoundBy (rows_in w) w.places.value w.bound.value → ObjectIsBare (rows_in w) → IsProgram (rows_in w) → length (rows_in w) + 3 < 2 ^ 32
-    → project.marks.rows.now ≡ rows_in w → IsViewOf (rows_in w) w.places.value w.scopes.value w.bound.value project.view → IsSeen project (meaning_in w)
-unfolding meaning_in
-seen_project w project under bare program few rows of = record {
-  rows = of.rows_are ∙ sym rows;
-  view = record {
-    few = subst (λ (r : Rows). length r + 3 < 2 ^ 32) (sym of.rows_are) few;
-    targets = ap entries of.table_is;
-    supers = subst (λ (t : Table). AreSupersOf project.view.sight.world.under.rows.now t project.view.sight.world.supers.now) (ap entries of.table_is) (whole_world w project.view under of bare).world_is.seen.above;
-    types = λ n. ap (λ (all : List (Option RowType)). types_in all n) of.types_are;
-    constants = λ n. ap (λ (found : Constants). is_some (item found.values.items n)) of.constants_are ∙ some_value w.bound.value.constants.value.texts (item w.bound.value.constants.value.values.items n);
-  };
-  tree = subst (λ (r : Rows). IsTree r) (sym (rows ∙ program.rows_are)) (each_program_is_tree program.units);
-}
 
 abbrev IsCourseKept : Asked → Meaning → Meaning → Rows → Rows → List ℕ → List ℕ → Type 0
 IsCourseKept asked m w p q origin copy = KeepsCourse asked.change.now.course p q m w origin copy × KeepsUsesOf asked.change.now.course p q m w origin copy × KeepsRaisedFlow asked.change.now.raised p q m w origin copy
