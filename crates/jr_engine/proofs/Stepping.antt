@@ -16,7 +16,8 @@ use Rattle.jr_read.specs.Reading.{ReadsAs}
 use Rattle.jr_front.specs.Bound.{IsBoundIn, rows_in, table_in}
 use Rattle.jr_front.specs.Checking.{CheckedAs, accepted}
 use Rattle.jr_front.specs.Compiling.{Compiles}
-use Rattle.jr_front.proofs.Testable.{tables_view}
+use Rattle.jr_front.proofs.Reading.{read_begins}
+use Rattle.jr_front.proofs.Testable.{tables_view, testable_view}
 use Rattle.jr_front.proofs.Viewed.{seen_view, whole_view, whole_world}
 use Rattle.jr_front.specs.Viewed.{IsViewOf}
 use Rattle.jr_front.specs.declared.fault.FrontFault.{FrontFault}
@@ -66,6 +67,7 @@ use Rattle.jr_flow.specs.Sizes.{HasTooLarge}
 use Rattle.jr_flow.specs.Views as flow
 use Rattle.jr_kept.specs.Courses.{IsSeen, KeepsCourse, KeepsRaisedFlow, KeepsUsesOf}
 use Rattle.jr_kept.specs.declared.kept.LostEdge.{LostEdge}
+use Rattle.jr_extract.specs.Extracting.{IsSeenAs}
 use Rattle.jr_shapes.specs.declared.spelling.Spelling.{Spelling}
 use Rattle.jr_view.specs.declared.View.{View}
 use Rattle.jr_engine.specs.Requested.{keeps_all}
@@ -109,6 +111,46 @@ accepted_so o is = record { checked = accepted is.reads is.compiles; java = is.j
 pub written_so : (s : Spelled) (left : Left) (w : Workspace) → left.program ≡ w → IsHeld left → IsSpelledIn s w → IsLeftOf s.locked.now s.spellings.now left
 written_so s left w same is spelled = (subst (λ (v : Workspace). IsSpelledIn s v) (sym same) spelled, is)
 
+-- ---- a project as flow reads it
+
+-- what names, types and constants mean by the tables of a program
+meaning_in : Workspace → Meaning
+meaning_in w = record { targets = table_in w; values = values_of w.bound.value.constants.value; types = types_in w.bound.value.types.items }
+
+meaning_is : (w : Workspace) → IsBoundBy (rows_in w) w.places.value w.bound.value → IsMeaningOf (rows_in w) (table_in w) (meaning_in w)
+unfolding meaning_in
+meaning_is w under = record { targets = refl; types = under.types_are; sound = under.constants_are.sound; whole = under.constants_are.whole }
+
+some_value : (texts : List (List ℕ)) (value : Option Value) → is_some value ≡ is_some (value_in_if texts value)
+some_value texts None = refl
+some_value texts (Some value) = refl
+
+-- the tables of a bound program
+pub bound_tables : (w : Workspace) → IsBoundIn w → HasTables w
+bound_tables w bound = record { program = bound.of.program; bare = (program_in (rows_in w) w.places.value w.scopes.value bound.of bound.binding.binding.well).bare; under = bound.binding.binding.under }
+
+-- a view of them is seen by flow as it is
+flow_view : (w : Workspace) (view : View) → HasTables w → length (rows_in w) + 3 < 2 ^ 32 → IsViewOf (rows_in w) w.places.value w.scopes.value w.bound.value view → flow.IsViewOf view (meaning_in w)
+unfolding meaning_in
+flow_view w view is few of = record {
+  few = subst (λ (r : Rows). length r + 3 < 2 ^ 32) (sym of.rows_are) few;
+  targets = ap entries of.table_is;
+  supers = subst (λ (t : Table). AreSupersOf view.sight.world.under.rows.now t view.sight.world.supers.now) (ap entries of.table_is) (whole_world w view is.under of is.bare).world_is.seen.above;
+  types = λ n. ap (λ (all : List (Option RowType)). types_in all n) of.types_are;
+  constants = λ n. ap (λ (found : Constants). is_some (item found.values.items n)) of.constants_are ∙ some_value w.bound.value.constants.value.texts (item w.bound.value.constants.value.values.items n);
+}
+
+tree_of : (w : Workspace) → HasTables w → IsTree (rows_in w)
+tree_of w is = subst (λ (r : Rows). IsTree r) (sym is.program.rows_are) (each_program_is_tree is.program.units)
+
+-- and so is a project
+seen_project : (w : Workspace) (project : Project) → HasTables w → length (rows_in w) + 3 < 2 ^ 32 → project.marks.rows.now ≡ rows_in w → IsViewOf (rows_in w) w.places.value w.scopes.value w.bound.value project.view
+    → IsSeen project (meaning_in w)
+seen_project w project is few rows of = record { rows = of.rows_are ∙ sym rows; view = flow_view w project.view is few of; tree = subst (λ (r : Rows). IsTree r) (sym rows) (tree_of w is) }
+
+seen_as : (old : Project) (m : Meaning) → IsSeen old m → IsSeenAs old m
+seen_as old m seen = record { rows = seen.rows; tree = subst (λ (r : Rows). IsTree r) (sym seen.rows) seen.tree; view = seen.view }
+
 -- ---- the change of a request
 
 requested : (found : FileMap) (w : Workspace) (old : Project) (request : Request) (answer : Result Change ChangeFault) → IsRead found w → IsAskedOf w old request answer → IsRequested (opened found w) request answer
@@ -126,6 +168,12 @@ requested found w old request answer is a = record {
     view_rows = a.of.view.rows_are ∙ sym a.of.rows;
     sized = subst IsSized (a.of.view.rows_are ∙ sym a.of.rows) (seen_view w old.view is.bound a.of.view).sized;
     tables = tables_view w old.view is.bound a.of.view;
+    throwing = (testable_view w old.view is.bound a.of.view (subst BeginsWithLang (sym is.are) (read_begins found w.program is.reads))).throwing;
+    flow = λ few. (
+      meaning_in w,
+      meaning_is w is.bound.binding.binding.under,
+      seen_as old (meaning_in w) (seen_project w old (bound_tables w is.bound) few a.of.rows a.of.view),
+    );
   };
   asked = a.asked;
 }
@@ -315,43 +363,9 @@ call_hinders a locked found lost told by is some e = told_hinders a (step.LostEd
 
 -- ---- where control goes
 
--- what names, types and constants mean by the tables of a program
-meaning_in : Workspace → Meaning
-meaning_in w = record { targets = table_in w; values = values_of w.bound.value.constants.value; types = types_in w.bound.value.types.items }
-
-meaning_is : (w : Workspace) → IsBoundBy (rows_in w) w.places.value w.bound.value → IsMeaningOf (rows_in w) (table_in w) (meaning_in w)
-unfolding meaning_in
-meaning_is w under = record { targets = refl; types = under.types_are; sound = under.constants_are.sound; whole = under.constants_are.whole }
-
-some_value : (texts : List (List ℕ)) (value : Option Value) → is_some value ≡ is_some (value_in_if texts value)
-some_value texts None = refl
-some_value texts (Some value) = refl
-
--- the tables of a bound program, and those of a changed one under its locks
-pub bound_tables : (w : Workspace) → IsBoundIn w → HasTables w
-bound_tables w bound = record { program = bound.of.program; bare = (program_in (rows_in w) w.places.value w.scopes.value bound.of bound.binding.binding.well).bare; under = bound.binding.binding.under }
-
+-- those of a changed program under its locks
 pub locked_tables : (locked : Locked) → IsProgram (rows_under locked) → AreWell (rows_under locked) → IsBoundByLocks locked → HasTables locked.program
 locked_tables locked program well is = record { program = program; bare = well.object.bare; under = locked_under locked program well is }
-
--- a view of them is seen by flow as it is
-flow_view : (w : Workspace) (view : View) → HasTables w → length (rows_in w) + 3 < 2 ^ 32 → IsViewOf (rows_in w) w.places.value w.scopes.value w.bound.value view → flow.IsViewOf view (meaning_in w)
-unfolding meaning_in
-flow_view w view is few of = record {
-  few = subst (λ (r : Rows). length r + 3 < 2 ^ 32) (sym of.rows_are) few;
-  targets = ap entries of.table_is;
-  supers = subst (λ (t : Table). AreSupersOf view.sight.world.under.rows.now t view.sight.world.supers.now) (ap entries of.table_is) (whole_world w view is.under of is.bare).world_is.seen.above;
-  types = λ n. ap (λ (all : List (Option RowType)). types_in all n) of.types_are;
-  constants = λ n. ap (λ (found : Constants). is_some (item found.values.items n)) of.constants_are ∙ some_value w.bound.value.constants.value.texts (item w.bound.value.constants.value.values.items n);
-}
-
-tree_of : (w : Workspace) → HasTables w → IsTree (rows_in w)
-tree_of w is = subst (λ (r : Rows). IsTree r) (sym is.program.rows_are) (each_program_is_tree is.program.units)
-
--- and so is a project
-seen_project : (w : Workspace) (project : Project) → HasTables w → length (rows_in w) + 3 < 2 ^ 32 → project.marks.rows.now ≡ rows_in w → IsViewOf (rows_in w) w.places.value w.scopes.value w.bound.value project.view
-    → IsSeen project (meaning_in w)
-seen_project w project is few rows of = record { rows = of.rows_are ∙ sym rows; view = flow_view w project.view is few of; tree = subst (λ (r : Rows). IsTree r) (sym rows) (tree_of w is) }
 
 -- where a body of the view is told to be too large, one of the program is
 pub large_body : (w : Workspace) (view : View) (is_large : Bool) → HasTables w → length (rows_in w) + 3 < 2 ^ 32 → IsViewOf (rows_in w) w.places.value w.scopes.value w.bound.value view

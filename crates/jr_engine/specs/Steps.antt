@@ -1,5 +1,5 @@
 -- What one request after another leaves of files.
-use Rattle.std.specs.Prelude.{◌≡◌, ℕ, Bool, List, [], ◌∷◌, true, Option, Some, None, Result, Ok, IsTrue, is_some, length}
+use Rattle.std.specs.Prelude.{◌≡◌, ℕ, ◌^◌, ◌<◌, ◌+◌, Bool, List, [], ◌∷◌, true, Option, Some, None, Result, Ok, IsTrue, is_some, length}
 use Rattle.std.specs.FinMap as files
 use Rattle.std.specs.List.{AllByRecursion}
 use Rattle.std.specs.Option.{option_map_or}
@@ -27,6 +27,7 @@ use Rattle.jr_change.specs.declared.change.Change.{Change}
 use Rattle.jr_change.specs.declared.project.Project.{Project}
 use Rattle.jr_change.specs.declared.reason.ChangeFault.{ChangeFault}
 use Rattle.jr_draft.specs.Asking.{table_of}
+use Rattle.jr_extract.specs.Extracting.{IsSeenAs}
 use Rattle.jr_engine.specs.Requested.{IsAskedBy, keeps_all}
 use Rattle.jr_engine.specs.Texts.{HaveTexts}
 use Rattle.jr_locks.specs.Changed.{IsChanged, origins_by, copies_by}
@@ -36,6 +37,7 @@ use Rattle.jr_runs.specs.Respelled.{IsRespelled}
 use Rattle.jr_read.specs.Reading.{ReadsAs}
 use Rattle.jr_supers.specs.Tabled.{IsSized}
 use Rattle.jr_dispatch.specs.Methods.{IsWholeWorld}
+use Rattle.jr_flow_faults.specs.Reading.{IsThrowingView}
 use Rattle.jr_front.specs.Bound.{rows_in, table_in, IsBoundIn}
 use Rattle.jr_front.specs.Compiling.{Compiles}
 use Rattle.jr_front.specs.Viewed.{HasTablesOfRows, IsViewOf}
@@ -88,7 +90,15 @@ pub record IsWritten (old : Opened) (change : Change) (rows : Rows) (locks : Tab
   pub texts : HaveTexts old.files change rows locks spellings left.files
   pub respelled : IsRespelled rows locks spellings left.rows left.table
 
--- the program of the files with its tables, as changes read it: its supertypes and members are those under the binding, and of each row the type and the value are those of the definitions
+-- what names refer to by the table, with types of expressions by values, and the values of constants, all of them where each expression has one type (JLS 15, 15.28)
+pub record IsMeaningOf (p : Rows) (t : Table) (m : Meaning) : Type 0 where
+  pub targets : m.targets ≡ t
+  pub types : (n : ℕ) → m.types n ≡ expression_types p t m.values n
+  pub sound : (n : ℕ) (v : Const) → m.values n ≡ Some v → Constant p t n v
+  pub whole : IsTypable p t → (n : ℕ) → m.values n ≡ constants p t (has_constant_form p t) n
+
+-- the program of the files with its tables, as changes read it: its supertypes and members are those under the binding, of each row the type and the value are those of the definitions, and java.lang has
+-- one class of each name by which what is thrown is checked
 pub record IsProjectOf (o : Opened) (old : Project) : Type 0 where
   pub program : Program
   pub reads : ReadsAs o.files (Ok program)
@@ -101,6 +111,9 @@ pub record IsProjectOf (o : Opened) (old : Project) : Type 0 where
   pub view_rows : old.view.sight.world.under.rows.now ≡ old.marks.rows.now
   pub sized : IsSized old.marks.rows.now
   pub tables : HasTablesOfRows old.view
+  pub throwing : IsThrowingView old.view
+  -- where there are not too many rows, it is as flow reads it by the meaning of names, types and constants
+  pub flow : length o.rows + 3 < 2 ^ 32 → (m : Meaning) × IsMeaningOf o.rows o.table m × IsSeenAs old m
 
 -- the answer is the change for which the request asks, or why there is none
 pub record IsRequested (o : Opened) (request : Request) (answer : Result Change ChangeFault) : Type 0 where
@@ -111,13 +124,6 @@ pub record IsRequested (o : Opened) (request : Request) (answer : Result Change 
 -- a call finds in each class, where it still stands, the method that it found there (JLS 15.12.4.4)
 abbrev pub KeepsCalls : Opened → Change → Rows → Table → Type 0
 KeepsCalls old change rows locks = KeepsDispatch old.rows old.table rows locks (copies_by (origins_by change) (length old.rows))
-
--- what names refer to by the table, with types of expressions by values, and the values of constants, all of them where each expression has one type (JLS 15, 15.28)
-pub record IsMeaningOf (p : Rows) (t : Table) (m : Meaning) : Type 0 where
-  pub targets : m.targets ≡ t
-  pub types : (n : ℕ) → m.types n ≡ expression_types p t m.values n
-  pub sound : (n : ℕ) (v : Const) → m.values n ≡ Some v → Constant p t n v
-  pub whole : IsTypable p t → (n : ℕ) → m.values n ≡ constants p t (has_constant_form p t) n
 
 -- after an inlining and an extraction control goes from statement to statement as it went (`KeepsControl`), and the same definitions reach each use
 -- (`KeepsInlinedFlow`, `KeepsExtractedFlow`), and so it is in a method that is pulled up (`KeepsRaisedFlow`); of other bodies nothing is told
