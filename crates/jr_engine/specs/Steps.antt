@@ -1,5 +1,5 @@
 -- What one request after another leaves of files.
-use Rattle.std.specs.Prelude.{◌≡◌, ℕ, ◌^◌, ◌<◌, ◌+◌, Bool, List, [], ◌∷◌, true, Option, Some, None, Result, Ok, IsTrue, is_some, length}
+use Rattle.std.specs.Prelude.{◌≡◌, ◌⊎◌, ℕ, ◌^◌, ◌<◌, ◌+◌, Bool, List, [], ◌∷◌, true, Option, Some, None, Result, Ok, IsTrue, is_some, length}
 use Rattle.std.specs.FinMap as files
 use Rattle.std.specs.List.{AllByRecursion}
 use Rattle.std.specs.Option.{option_map_or}
@@ -19,7 +19,7 @@ use Rattle.jr_plain.specs.Typing.{IsTypable, expression_types}
 use Rattle.jr_flow_defs.specs.Meaning.{Meaning}
 use Rattle.jr_kept.specs.Courses.{KeepsCourse, KeepsRaisedFlow, KeepsUsesOf}
 use Rattle.jr_shapes.specs.declared.spelling.Spelling.{Spelling}
-use Rattle.jr_spell.specs.Spelling.{IsWritten as Says, first_written}
+use Rattle.jr_spell.specs.Spelling.{HasLock, HasSpelling, IsAsItStands, IsWritten as Says, first_written}
 use Rattle.jr_spelling_rules.specs.Spelling.{IsSpelling, Written}
 use Rattle.jr_index.specs.NodeRows.{unit_rows}
 use Rattle.jr_marks.specs.Places.{IsOrdered}
@@ -77,12 +77,19 @@ pub record IsFirst (p : Rows) (t : Table) (change : Change) (q : Rows) (l : Tabl
   pub first : IsSpelling q l (types q l) (is_constant p t change q l) (first_written (unit_rows q (length q))) a.row written
   pub says : Says a.row (Some a) (Some written)
 
--- so is each spelling
+-- of all ways to write the reference the first that fits is how it stands in the changed program
+pub record StaysFirst (p : Rows) (t : Table) (change : Change) (q : Rows) (l : Table) (n : ℕ) : Type 0 where
+  pub written : Written
+  pub first : IsSpelling q l (types q l) (is_constant p t change q l) (first_written (unit_rows q (length q))) n written
+  pub stands : IsAsItStands q l n written
+
+-- so is each spelling, and each reference with a lock that has none stays as it stands
 pub record AreFirst (p : Rows) (t : Table) (change : Change) (q : Rows) (l : Table) (all : List Spelling) : Type 0 where
   pub each : AllByRecursion (λ a. IsFirst p t change q l a) all
+  pub others : (n : ℕ) → HasLock q l n → HasSpelling all n ⊎ StaysFirst p t change q l n
 
--- The files left are a changed program that is written with the first spellings that fit: they have its texts, with each reference as it is spelled, each of its rows stands there, and by the
--- binding of the rows of the files left each reference refers to its lock.
+-- The files left are a changed program in which the first spelling that fits stands at each reference: they have its texts, with each reference as it is spelled or as it stands, each of its rows
+-- stands there, and by the binding of the rows of the files left each reference refers to its lock.
 pub record IsWritten (old : Opened) (change : Change) (rows : Rows) (locks : Table) (left : Opened) : Type 0 where
   pub opened : IsOpened left
   pub spellings : List Spelling
