@@ -38,7 +38,7 @@ module _ (m : Marks) where
     where
       by : (a b : Bool) → ends_within m block token n ≡ a → ends_at m token n ≡ b → (end_from m block token more (end m.rows.now n) ≡ Some behind → (last : ℕ) × IsLast block token behind last)
           → cond a (cond b (Some (end m.rows.now n)) (end_from m block token more (end m.rows.now n))) None ≡ Some behind → (last : ℕ) × IsLast block token behind last
-      by true true x y rest h = (n, (Decides-eqb (parent m.rows.now n) block).0 (parts _ _ (parts _ _ x).0).1, (Decides-eqb (mark_of m n).after token).0 y, same_Some (end m.rows.now n) behind h)
+      by true true x y rest h = (n, ((Decides-eqb (parent m.rows.now n) block).0 (parts _ _ (parts _ _ x).0).1, (Decides-eqb (mark_of m n).after token).0 y, same_Some (end m.rows.now n) behind h))
       by true false x y rest h = rest h
       by false b x y rest h = absurd (none-some behind h)
 
@@ -55,9 +55,9 @@ module _ (m : Marks) where
           block = (parts _ _ begins).1;
           begins = (Decides-eqb (mark_of m first).first tokens.first).0 (parts _ _ begins).0;
           last = last.0;
-          beside = last.1;
-          ends = last.2;
-          behind = last.3;
+          beside = last.1.0;
+          ends = last.1.1;
+          behind = last.1.2;
         })
 
     to_statements : (tokens : TokenRange) (first : ℕ) (behind : Option ℕ) → begins_statement m tokens.first first ≡ true → end_of_statements m first tokens.after ≡ behind → run_to m tokens first behind ≡ Some found → IsOfStatements m found
