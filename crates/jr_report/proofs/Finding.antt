@@ -1,15 +1,18 @@
 -- A call that finds a method in some class finds it in the class that declares it, or below.
-use Rattle.std.proofs.Common.{◌≡◌, ◌⊎◌, refl, sym, ◌∙◌, ap, subst, ⊎_elim, inl, inr, ℕ, ◌+◌, ◌≤◌, Bool, true, false, not, ◌&&◌, List, [], ◌∷◌, Option, Some, None, Decides}
+use Rattle.std.proofs.Common.{◌≡◌, ◌⊎◌, refl, sym, ◌∙◌, ap, subst, ⊎_elim, inl, inr, ℕ, ◌+◌, Bool, true, false, not, ◌&&◌, List, [], ◌∷◌, Option, Some, None, Decides}
 use Rattle.std.proofs.lemmas.Bool.{false≢true}
 use Rattle.std.proofs.lemmas.Option.{none-some, same_Some}
 use Rattle.jr_tree.specs.declared.label.Role.TheVariants as role
-use Rattle.jr_tree.specs.Rows.{Rows, role_at}
+use Rattle.jr_tree.specs.Labels.{role_of}
+use Rattle.jr_tree.specs.declared.label.Label.{Label}
+use Rattle.jr_tree.specs.declared.label.Label.TheVariants as is
+use Rattle.jr_tree.specs.Rows.{Rows, label, role_at}
 use Rattle.jr_tree.specs.Tree.{IsTree}
-use Rattle.jr_defs.specs.Declarations.{IsClass, IsInterface, IsType}
+use Rattle.jr_defs.specs.Declarations.{IsClass, IsClassLabel, IsInterface, IsType}
 use Rattle.jr_defs.specs.Enclosing.{DeclaredIn}
 use Rattle.jr_defs.specs.Members.{MemberOf, SameMethods}
 use Rattle.jr_defs.specs.Modifiers.{IsPrivate, IsStatic}
-use Rattle.jr_defs.specs.Overriding.{Dispatches, Found, FoundFrom, HasOneSuperclass, Implements, IsAboveMethod, Overrides, Serves, ServesFirst}
+use Rattle.jr_defs.specs.Overriding.{Dispatches, Found, FoundFrom, HasOneSuperclass, IsAboveMethod, Overrides, Serves, ServesFirst}
 use Rattle.jr_defs.specs.Referents.{Table}
 use Rattle.jr_defs.specs.Supertypes.{Above, AtOrAbove, Super, SuperAt, Superclass}
 use Rattle.jr_defs.proofs.OneMethod.{one_method}
@@ -27,6 +30,13 @@ use Rattle.jr_dispatch.specs.Dispatching.{IsFoundAs}
 use Rattle.jr_report.specs.Called.{IsFound, IsFoundAmong, TellsFound, is_by_class}
 use Rattle.jr_report.specs.Listed.{IsSubtypeOf, is_this}
 use Rattle.jr_report.proofs.Referring.{this_tells}
+
+class_type : (p : Rows) (c : ℕ) → IsClass p c → IsType p c
+class_type p c h = by (label p c) h
+  where
+    by : (l : Label) → IsClassLabel l → role_of l ≡ role.Type
+    by (is.Class modifiers is_member) h = refl
+    by _ h = absurd h
 
 -- ---- one look
 
@@ -162,10 +172,10 @@ module _ (p : Rows) (t : Table) where
     among_below c below is not_here d lists type finds (inl e) = absurd (false≢true (sym not_here ∙ d.1 (subst (λ x. Dispatches p t x k m) e finds)))
     among_below c below is not_here d lists type finds (inr above) = record { class = c; among = (lists.has c).1 (record { type = type; below = above }); finds = finds }
 
-    pub tells_below : (below : List ℕ) (is r : Bool) → is ≡ false → Decides is (Dispatches p t b k m) → ListsOnce below (IsSubtypeOf p t b) → ((c : ℕ) → IsClass p c → IsType p c) → Decides r (IsFoundAmong p t below k m) → TellsFound p t k m r
-    tells_below below is r not_here d lists typed decides = record {
+    pub tells_below : (below : List ℕ) (is r : Bool) → is ≡ false → Decides is (Dispatches p t b k m) → ListsOnce below (IsSubtypeOf p t b) → Decides r (IsFoundAmong p t below k m) → TellsFound p t k m r
+    tells_below below is r not_here d lists decides = record {
       sound = λ h. let w = decides.0 h in record { class = w.class; finds = w.finds };
-      told = λ f. ⊎_elim (λ h. inr h) (λ s. inl (decides.1 (among_below f.class below is not_here d lists (typed f.class f.finds.class) f.finds s.upper))) (served_by f.class k b m here f.finds.found);
+      told = λ f. ⊎_elim (λ h. inr h) (λ s. inl (decides.1 (among_below f.class below is not_here d lists (class_type p f.class f.finds.class) f.finds s.upper))) (served_by f.class k b m here f.finds.found);
     }
 
 -- ---- a search in classes
@@ -181,13 +191,13 @@ module _ (p : Rows) (t : Table) (k m : ℕ) (all : List ℕ) where
 
   module _ (c : ℕ) (more rest : List ℕ) (is : Bool) (front : more ≡ c ∷ rest) where
     pub search_next : is ≡ false → Decides is (Dispatches p t c k m) → IsSearched p t k m all more → IsSearched p t k m all rest
-    search_next no d s = record {
+    search_next fails d s = record {
       each = λ x h. s.each x (rest_in c x rest more front h);
-      told = λ x h finds. ⊎_elim (λ e. absurd (false≢true (sym no ∙ d.1 (subst (λ y. Dispatches p t y k m) (sym e) finds)))) (λ left. left) (front_in c x rest more front (s.told x h finds));
+      told = λ x h finds. ⊎_elim (λ e. absurd (false≢true (sym fails ∙ d.1 (subst (λ y. Dispatches p t y k m) (sym e) finds)))) (λ left. left) (front_in c x rest more front (s.told x h finds));
     }
 
     pub search_now : is ≡ true → Decides is (Dispatches p t c k m) → IsSearched p t k m all more → Decides true (IsFoundAmong p t all k m)
-    search_now yes d s = (λ e. record { class = c; among = s.each c (first_in c rest more front); finds = d.0 yes }, λ w. refl)
+    search_now passes d s = (λ e. record { class = c; among = s.each c (first_in c rest more front); finds = d.0 passes }, λ w. refl)
 
   pub search_end : (rest : List ℕ) → rest ≡ [] → IsSearched p t k m all rest → Decides false (IsFoundAmong p t all k m)
   search_end rest none s = (λ e. absurd (false≢true e), λ w. absurd (none_in w.class rest none (s.told w.class w.among w.finds)))

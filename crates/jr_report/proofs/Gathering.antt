@@ -1,9 +1,9 @@
 -- The methods whose calls may run a method, one after another.
-use Rattle.std.proofs.Common.{◌≡◌, ◌⊎◌, refl, sym, ◌∙◌, ap, subst, ⊎_elim, inl, inr, ℕ, ◌<◌, Bool, true, false, List, [], ◌∷◌, length, Option, Some, None, Decides, bytes_eq, codes}
+use Rattle.std.proofs.Common.{◌≡◌, ◌⊎◌, refl, sym, ◌∙◌, subst, ⊎_elim, inl, inr, ℕ, ◌<◌, Bool, true, false, List, [], ◌∷◌, length, Option, Some, None, Decides, bytes_eq, codes, is_some}
 use Rattle.std.proofs.lemmas.Bool.{false≢true}
 use Rattle.std.proofs.lemmas.Bool.Decides.{Decides-eqb}
 use Rattle.std.proofs.lemmas.Slice.Eq.{bytes_eq-Decides}
-use Rattle.std.proofs.lemmas.Option.{none-some, same_Some}
+use Rattle.std.proofs.lemmas.Option.{none-some}
 use Rattle.jr_tree.specs.Labels.{role_of}
 use Rattle.jr_tree.specs.declared.label.Role.TheVariants as role
 use Rattle.jr_tree.specs.Rows.{Rows, name, role_at}
@@ -12,11 +12,13 @@ use Rattle.jr_defs.specs.Enclosing.{DeclaredIn}
 use Rattle.jr_defs.specs.Members.{MemberOf}
 use Rattle.jr_defs.specs.Referents.{Table}
 use Rattle.jr_plain.specs.Enclosing.{declaring_type}
-use Rattle.jr_plain.specs.Search.{has, Lists}
+use Rattle.jr_plain.specs.Search.{has, Finds, Lists}
 use Rattle.jr_plain.specs.Declarations.{is_object}
 use Rattle.jr_plain.proofs.Bounds.{bounded, type_below}
 use Rattle.jr_plain.proofs.Declared.{object_tells}
+use Rattle.jr_plain.proofs.Same.{role_tells}
 use Rattle.jr_plain.proofs.Searches.{finds}
+use Rattle.jr_plain.proofs.Tests.{both}
 use Rattle.jr_plain.proofs.Enclosed.{declaring_finds}
 use Rattle.jr_places.specs.Names.{name_row}
 use Rattle.jr_places.specs.declared.stamps.Stamps.{Stamps}
@@ -26,11 +28,10 @@ use Rattle.jr_supers.specs.Direct.{object_row}
 use Rattle.jr_supers.specs.Supers.{IsWellHeaded}
 use Rattle.jr_members.specs.declared.declared.MemberKind.TheVariants as kind
 use Rattle.jr_members.specs.Keys.{falling, is_declared_by, is_named}
-use Rattle.jr_members.proofs.Declaring.{type_listed}
+use Rattle.jr_members.proofs.Declaring.{falling_lists, type_listed}
 use Rattle.jr_members.proofs.Each.{first_in, front_in, none_in, rest_in}
-use Rattle.jr_dispatch.proofs.Searching.{named_listed}
 use Rattle.jr_report.specs.Called.{AreCalledAs, AreDeclaredBy, AreOfName, HasNamedStamp, IsFound, IsGathering, IsNamedStamp, IsShowing, IsStampedAlone, StampsIf, TellsFound}
-use Rattle.jr_report.specs.Calls.{IsToString, MayRun}
+use Rattle.jr_report.specs.Calls.{MayRun}
 use Rattle.jr_report.proofs.Finding.{like_found, unserved}
 
 pub method_below : (p : Rows) (m : ℕ) → role_at p m ≡ role.Method → m < length p
@@ -39,7 +40,7 @@ method_below p m h = bounded (λ l. role_of l ≡ role.Method) (λ e. cc) p m h
 -- ---- stamps
 
 pub stamps_no : (bound at : ℕ) (is : Bool) (old : Stamps) → is ≡ false → IsStamping old bound → StampsIf bound at is old old
-stamps_no bound at is old no counted = record { counted = counted; out = λ k h. inl h; kept = λ k h. h; added = λ lt e. absurd (false≢true (sym no ∙ e)) }
+stamps_no bound at is old fails counted = record { counted = counted; out = λ k h. inl h; kept = λ k h. h; added = λ lt e. absurd (false≢true (sym fails ∙ e)) }
 
 stamped_now : (bound at : ℕ) (is_new : Bool) (old new : Stamps) → AddsStamp old new bound at is_new → at < bound → is_stamped new at ≡ true
 stamped_now bound at true old new adds lt = (adds.new_one refl).1
@@ -62,6 +63,15 @@ alone p m is_new old new empty add method = let adds = add empty.counted in reco
 
 -- ---- methods of a name
 
+some_tells : {P : ℕ → Type 0} (found : Option ℕ) → Finds found P → Decides (is_some found) ((c : ℕ) × P c)
+some_tells None h = (λ e. absurd (false≢true e), λ w. absurd (none-some w.0 ((h w.0).1 w.1)))
+some_tells (Some c) h = (λ e. (c, (h c).0 refl), λ w. refl)
+
+named_listed : (p : Rows) (x : ℕ) → Lists (falling (length p) (is_named p kind.Method x)) (λ d. (role_at p d ≡ role.Method) × (((c : ℕ) × DeclaredIn p c d) × (name_row p d ≡ x)))
+named_listed p x = falling_lists (is_named p kind.Method x) (λ d. (role_at p d ≡ role.Method) × (((c : ℕ) × DeclaredIn p c d) × (name_row p d ≡ x))) (length p)
+    (λ d. both (role_tells (role_at p d) role.Method) (both (some_tells (declaring_type p d) (declaring_finds p d)) (Decides-eqb (name_row p d) x)))
+    (λ d k. method_below p d k.0)
+
 module _ (p : Rows) (m : ℕ) where
   same_row : (k : ℕ) → name p k ≡ name p m → name_row p k ≡ name_row p m
   same_row k alike = (Decides-eqb (name_row p k) (name_row p m)).0 ((name_tells p k m).1 alike)
@@ -69,7 +79,7 @@ module _ (p : Rows) (m : ℕ) where
   pub are_of_name : (x : ℕ) (named : List ℕ) → x ≡ name_row p m → named ≡ falling (length p) (is_named p kind.Method x) → AreOfName p m named
   are_of_name x named is same = subst (AreOfName p m) (sym same) (record {
     methods = λ k h. ((named_listed p x k).0 h).0;
-    told = λ k c method declared alike. (named_listed p x k).1 (method, (c, declared), same_row k alike ∙ sym is);
+    told = λ k c method declared alike. (named_listed p x k).1 (method, ((c, declared), same_row k alike ∙ sym is));
   })
 
 pub are_declared_by : (p : Rows) (c : ℕ) (all : List ℕ) → all ≡ falling (length p) (is_declared_by p kind.Method c) → AreDeclaredBy p c all
@@ -140,7 +150,7 @@ module _ (p : Rows) (t : Table) (m : ℕ) where
 
 module _ (p : Rows) (called : Stamps) where
   pub not_stamped : (k : ℕ) → is_stamped called k ≡ false → Decides false (IsNamedStamp p called k)
-  not_stamped k no = (λ e. absurd (false≢true e), λ is. absurd (false≢true (sym no ∙ is.stamped)))
+  not_stamped k fails = (λ e. absurd (false≢true e), λ is. absurd (false≢true (sym fails ∙ is.stamped)))
 
   pub named_if : (k : ℕ) (is : Bool) → is_stamped called k ≡ true → is ≡ bytes_eq (name p k) (codes "toString") → Decides is (IsNamedStamp p called k)
   named_if k is stamped same = (λ e. record { stamped = stamped; named = (bytes_eq-Decides (name p k) (codes "toString")).0 (sym same ∙ e) }, λ h. same ∙ (bytes_eq-Decides (name p k) (codes "toString")).1 h.named)
@@ -156,13 +166,13 @@ module _ (p : Rows) (called : Stamps) where
 
     module _ (k : ℕ) (more rest : List ℕ) (is : Bool) (front : more ≡ k ∷ rest) where
       pub stamped_next : is ≡ false → Decides is (IsNamedStamp p called k) → HasLeft all more → HasLeft all rest
-      stamped_next no d s = record {
+      stamped_next fails d s = record {
         each = λ x h. s.each x (rest_in k x rest more front h);
-        told = λ x h named. ⊎_elim (λ e. absurd (false≢true (sym no ∙ d.1 (subst (IsNamedStamp p called) (sym e) named)))) (λ left. left) (front_in k x rest more front (s.told x h named));
+        told = λ x h named. ⊎_elim (λ e. absurd (false≢true (sym fails ∙ d.1 (subst (IsNamedStamp p called) (sym e) named)))) (λ left. left) (front_in k x rest more front (s.told x h named));
       }
 
       pub stamped_there : is ≡ true → Decides is (IsNamedStamp p called k) → HasLeft all more → Decides true (HasNamedStamp p called all)
-      stamped_there yes d s = (λ e. record { method = k; among = s.each k (first_in k rest more front); is = d.0 yes }, λ w. refl)
+      stamped_there passes d s = (λ e. record { method = k; among = s.each k (first_in k rest more front); is = d.0 passes }, λ w. refl)
 
     pub stamped_end : (rest : List ℕ) → rest ≡ [] → HasLeft all rest → Decides false (HasNamedStamp p called all)
     stamped_end rest none s = (λ e. absurd (false≢true e), λ w. absurd (none_in w.method rest none (s.told w.method w.among w.is)))

@@ -1,5 +1,5 @@
 -- Lines of places, one behind another.
-use Rattle.std.proofs.Common.{◌≡◌, sym, ◌∙◌, ap, ℕ, List, [], ◌∷◌, ◌++◌, append_assoc, append-nil, map, flat_map, length}
+use Rattle.std.proofs.Common.{◌≡◌, sym, ◌∙◌, ap, ℕ, List, [], ◌∷◌, ◌++◌, append_assoc, append-nil, map, flat_map}
 
 module _ {A B : Type 0} (f : A → B) where
   pub map_more : (old new : List B) (all left more : List A) (x : A) → left ≡ x ∷ more → new ≡ old ++ f x ∷ [] → old ++ map f left ≡ map f all → new ++ map f more ≡ map f all

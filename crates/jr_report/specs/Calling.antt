@@ -19,9 +19,14 @@ pub record CallsOne (p : Rows) (t : Table) (called : Stamps) (n : ℕ) : Type 0 
 abbrev pub view_rows : View → Rows
 view_rows view = rows_in view.sight.world
 
--- such a call, or a string conversion of an object where these are sought too
+-- a string conversion of an object, where these are sought
+pub record IsShownAt (view : View) (shows : Bool) (n : ℕ) : Type 0 where
+  pub sought : shows ≡ true
+  pub shown : shows_object (view_rows view) (types_in view) n ≡ true
+
+-- such a call, or such a conversion
 abbrev pub IsSoughtAt : View → Stamps → Bool → ℕ → Type 0
-IsSoughtAt view called shows n = CallsOne (view_rows view) (table_in view.sight.world) called n ⊎ ((shows ≡ true) × (shows_object (view_rows view) (types_in view) n ≡ true))
+IsSoughtAt view called shows n = CallsOne (view_rows view) (table_in view.sight.world) called n ⊎ IsShownAt view shows n
 
 -- one of the rows from the first on, before the end
 pub record HoldsSought (view : View) (called : Stamps) (shows : Bool) (first stop : ℕ) : Type 0 where

@@ -1,5 +1,5 @@
 -- What is reported of a program, and why it is not.
-use Rattle.std.specs.Prelude.{◌≡◌, ℕ, Bool, true, false, List, ◌++◌, flat_map, length, map, if◌then◌else◌, nat_lt, Option, Some, None, Result, Ok, Err, slice_get, slice_index_or, codes, decimal}
+use Rattle.std.specs.Prelude.{◌≡◌, ℕ, Bool, true, false, List, ◌++◌, flat_map, length, map, if◌then◌else◌, nat_lt, Some, None, Result, Ok, Err, slice_get, slice_index_or, codes, decimal}
 use Rattle.std.specs.Ordering.{nat_cmp, ordering_then}
 use Rattle.std.specs.declared.cmp.Ordering.{Ordering}
 use Rattle.std.specs.List.Sorted.{IsPermutation, IsSorted}

@@ -113,6 +113,16 @@ fn calls_one(view: &View, called: &Stamps, at: u32) -> bool
     }
 }
 
+// The row is a string conversion, where these are sought.
+fn is_conversion(view: &View, is_to_string: bool, at: u32) -> bool
+    ensures { at + 2 < 2 ^ 32 → Decides result (tell.IsShownAt view.now is_to_string at) }
+{
+    if !is_to_string {
+        return false;
+    }
+    shows_object(view, at)
+}
+
 // The row is a call or conversion that is sought.
 fn is_sought(view: &View, sought: Sought<'_>, at: u32) -> bool
     ensures { at + 2 < 2 ^ 32 → Decides result (tell.IsSoughtAt view.now sought.entry.called.now sought.entry.is_to_string at) }
@@ -120,7 +130,7 @@ fn is_sought(view: &View, sought: Sought<'_>, at: u32) -> bool
     if calls_one(view, sought.called, at) {
         return true;
     }
-    sought.is_to_string && shows_object(view, at)
+    is_conversion(view, sought.is_to_string, at)
 }
 
 // A declaration whose code runs.

@@ -1,7 +1,7 @@
-use Rattle.std.proofs.Common.{◌∙◌, ap, subst, sym}
+use Rattle.std.proofs.Common.{subst, sym}
 use Rattle.jr_members.specs.declared.declared.MemberKind.TheVariants as kind
 use Rattle.jr_members.specs.Keys.{AreDeclared}
-use Rattle.jr_report.specs.Listed.{rows_in, table_in}
+use Rattle.jr_report.specs.Listed.{rows_in}
 use Rattle.jr_report.proofs.Gathering.{are_of_name, method_below}
 use Rattle.jr_report.proofs.Referring.{if_ok_so}
 use Rattle.jr_report.proofs.called.all_of_name.Goals as goal

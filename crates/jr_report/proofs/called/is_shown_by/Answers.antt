@@ -1,6 +1,6 @@
 use Rattle.std.proofs.Common.{◌∙◌, sym}
 use Rattle.jr_report.specs.Listed.{rows_in}
-use Rattle.jr_report.proofs.Gathering.{not_stamped, named_if}
+use Rattle.jr_report.proofs.Gathering.{not_stamped}
 use Rattle.jr_report.proofs.called.is_shown_by.Goals as goal
 
 pub returns-then-not-has : goal.returns-then-not-has

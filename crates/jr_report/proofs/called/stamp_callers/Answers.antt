@@ -1,6 +1,6 @@
 use Rattle.std.proofs.Common.{subst, sym}
 use Rattle.jr_supers.specs.Supers.{ListsOnce}
-use Rattle.jr_report.specs.Called.{AreOfName, IsGathering}
+use Rattle.jr_report.specs.Called.{AreOfName}
 use Rattle.jr_report.specs.Listed.{IsSubtypeOf, rows_in, table_in}
 use Rattle.jr_report.proofs.Gathering.{gather_first}
 use Rattle.jr_report.proofs.called.stamp_callers.Goals as goal

@@ -9,8 +9,8 @@ loop-at-init c = λ tree. listing_start (IsSoughtIn c.args.view.now c.args.sough
 
 pub loop-at-preserved : goal.loop-at-preserved
 loop-at-preserved c = λ tree. listing_more (IsSoughtIn c.args.view.now c.args.sought.called.now c.args.sought.is_to_string) c.loop-at.at _ _ _ (c.loop-at.invariant tree)
-    (c.is_caller-is_such.ensures (in_range c.args.view.now c.args.sought.called.now c.args.sought.is_to_string c.loop-at.at c.in-Ok.count tree c.in-Ok.ensures c.loop-at-test.true (omega arith))) c.in_ok-push_if.ensures
+    (c.is_caller-is_such.ensures (in_range c.args.view.now c.args.sought.called.now c.args.sought.is_to_string c.loop-at.at c.in-Ok.count tree c.in-Ok.ensures.1 c.loop-at-test.true (omega arith))) c.in_ok-push_if.ensures
 
 pub returns : goal.returns
 returns c = λ tree. listing_whole (IsSoughtIn c.args.view.now c.args.sought.called.now c.args.sought.is_to_string) c.loop-at.at (length (view_rows c.args.view.now)) _ (c.loop-at.invariant tree)
-    (let past = c.loop-at-test.false in omega (arith, past, c.in-Ok.ensures)) (λ k h. code_below c.args.view.now c.args.sought.called.now c.args.sought.is_to_string k h)
+    (let past = c.loop-at-test.false in omega (arith, past, c.in-Ok.ensures.1)) (λ k h. code_below c.args.view.now c.args.sought.called.now c.args.sought.is_to_string k h)

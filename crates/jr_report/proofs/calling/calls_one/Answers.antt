@@ -1,4 +1,4 @@
-use Rattle.std.proofs.Common.{◌∙◌, ap, sym}
+use Rattle.std.proofs.Common.{◌∙◌, sym}
 use Rattle.jr_report.specs.Calling.{view_rows}
 use Rattle.jr_report.specs.Listed.{table_in}
 use Rattle.jr_report.proofs.Seeking.{no_call, no_target, target_if}

@@ -1,4 +1,4 @@
-use Rattle.std.proofs.Common.{◌∙◌, ap, sym, subst, ◌+◌, ◌<◌, ◌^◌}
+use Rattle.std.proofs.Common.{◌∙◌, sym, subst, ◌+◌, ◌<◌, ◌^◌}
 use Rattle.jr_report.proofs.Seeking.{no_code, code_if}
 use Rattle.jr_report.proofs.calling.is_caller.Goals as goal
 

@@ -1,9 +1,8 @@
-use Rattle.std.proofs.Common.{◌≡◌, ◌∙◌, ap, sym, subst, true}
+use Rattle.std.proofs.Common.{◌≡◌, sym, subst, true}
 use Rattle.jr_supers.specs.Supers.{ListsOnce}
 use Rattle.jr_report.specs.Listed.{rows_in}
 use Rattle.jr_report.specs.Reports.{IsListed, has_report}
 use Rattle.jr_report.proofs.Referring.{if_ok_so, method_there}
-
 use Rattle.jr_report.proofs.reporting.rows_of.Goals as goal
 
 pub returns-in-References : goal.returns-in-References
