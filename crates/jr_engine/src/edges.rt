@@ -1,9 +1,9 @@
 // Whether edges of flow are kept, and whether there are too many points of flow.
 
-ghost use Rattle.std.specs.Prelude.{◌≡◌, true, None, IfOk, IfErr};
+ghost use Rattle.std.specs.Prelude.{◌≡◌, ◌+◌, ◌<◌, ◌^◌, true, length, None, IfOk, IfErr};
 ghost use Rattle.jr_headed.specs.Founded.{IsProgram};
 ghost use Rattle.jr_marks.specs.Places.{IsOrdered, place_of_name};
-ghost use Rattle.jr_front.specs.Bound.{IsBoundIn};
+ghost use Rattle.jr_front.specs.Bound.{IsBoundIn, rows_in};
 ghost use Rattle.jr_engine.specs.Refusing as refusing;
 ghost use Rattle.jr_engine.specs.Refusing.{IsHinderedIn, IsLargeIn};
 ghost use Rattle.jr_engine.specs.Written.{HasTables, IsAskedFor, IsBoundByLocks, IsLockedBy, IsSound, KeepsCallsIn, KeepsFlowIn, rows_of};
@@ -35,12 +35,19 @@ fn lost(kind: LostKind, edge: LostEdge) -> StepFault
     }
 }
 
+// Its rows can be counted, with room for three more.
+fn has_few_rows(workspace: &Workspace) -> bool
+    ensures { result ≡ true → length (rows_in workspace.now) + 3 < 2 ^ 32 }
+{
+    are_few(workspace.index.rows())
+}
+
 /// No body has too many points of flow. Rows that cannot be counted are answered for want of memory.
 pub fn is_within_flow(alloc: Global, workspace: &Workspace) -> Result<(), StepFault>
     requires { HasTables workspace.now }
     ensures { IfErr result (IsLargeIn workspace.now) }
 {
-    if !are_few(workspace.index.rows()) {
+    if !has_few_rows(workspace) {
         return Err(StepFault::OutOfMemory);
     }
     let is_large = has_too_many_points(alloc, &workspace.view())?;
@@ -126,7 +133,6 @@ fn not_compared(asked: Asked, fault: FlowFault) -> StepFault
 }
 
 // Control goes as before, and where no edge from a definition to a use is lost, uses have the values that they had. It gives the first that is lost.
-#[tactic(auto, using(crate::proofs::Stepping::flow_hinders))]
 fn keeps_control(
     alloc: Global,
     asked: Asked,
