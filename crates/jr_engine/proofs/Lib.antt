@@ -4,3 +4,4 @@ pub mod Spelling
 pub mod Small
 pub mod Rising
 pub mod Reading
+pub mod Barring

@@ -1,5 +1,5 @@
 -- The texts of a changed program, and those of the files left.
-use Rattle.std.proofs.Common.{◌≡◌, ◌∙◌, ◌<◌, ◌≤◌, ◌^◌, ap, refl, sym, subst, List, ℕ, suc, ◌++◌, length, map, Result, Ok, Err, IfOk, arith}
+use Rattle.std.proofs.Common.{◌≡◌, ◌∙◌, ◌<◌, ◌≤◌, ◌^◌, ap, refl, sym, subst, List, ℕ, suc, ◌++◌, length, map, Result, Ok, Err, IfOk, IfErr, arith}
 use Rattle.std.proofs.lemmas.Bool.{leb-true}
 use Rattle.std.specs.FinMap as files
 use Rattle.std.specs.List.{AllByRecursion}
@@ -23,15 +23,17 @@ use Rattle.jr_edits.specs.Place.{EditList}
 use Rattle.jr_shapes.specs.declared.spelling.Spelling.{Spelling}
 use Rattle.jr_weave.specs.Weaving.{AreRespelled}
 use Rattle.jr_front.specs.Bound.{IsIndexed}
+use Rattle.jr_change.specs.declared.change.Change.{Change}
 use Rattle.jr_engine.specs.Steps.{IsRead}
-use Rattle.jr_engine.specs.Texts.{HaveTexts, changed_files, written_files}
-use Rattle.jr_engine.specs.Written.{HasTextsOf, IsBoundByLocks, IsIndexedAs, IsReadBy, locks_of, rows_of as rows_under}
+use Rattle.jr_engine.specs.Barring.{Bars}
+use Rattle.jr_engine.specs.Texts.{AreSmall, AreTexts, HaveTexts, changed_files, written_files}
+use Rattle.jr_engine.specs.Written.{AreTextsOf, HasTextsOf, IsBoundByLocks, IsIndexedAs, IsNotLeft, IsReadBy, locks_of, rows_of as rows_under}
 use Rattle.jr_engine.specs.declared.asked.Asked.{Asked}
 use Rattle.jr_engine.specs.declared.fault.StepFault.{StepFault}
+use Rattle.jr_engine.specs.declared.fault.StepFault.TheVariants as step
 use Rattle.jr_engine.specs.declared.left.Left.{Left}
 use Rattle.jr_engine.specs.declared.locked.Locked.{Locked}
 use Rattle.jr_engine.specs.declared.tried.Spelled.{Spelled}
-use Rattle.jr_engine.proofs.Small.{AreSmall}
 
 -- ---- tokens of the changed program
 
@@ -44,7 +46,7 @@ io_small = let least = leb-true (length io_text) 65536 refl in omega (arith, lea
 two_files : (texts : List (List ℕ × List ℕ)) → 2 ≤ length (prelude_files ++ texts)
 two_files texts = let count : length (prelude_files ++ texts) ≡ suc (suc (length texts)) = refl in omega (arith, count)
 
-tokens_apart : (texts : List (List ℕ × List ℕ)) (units : List UnitAt) → AreUnitsOf (prelude_files ++ texts) units → AreSmall texts → HaveTokensApart units
+pub tokens_apart : (texts : List (List ℕ × List ℕ)) (units : List UnitAt) → AreUnitsOf (prelude_files ++ texts) units → AreSmall texts → HaveTokensApart units
 tokens_apart texts units are small = units_apart (prelude_files ++ texts) units are (lang_small, (io_small, small)) (two_files texts)
 
 -- ---- the changed program under its locks
@@ -72,28 +74,39 @@ read_by asked units held texts program (Ok locked) old same are small read index
     }
 read_by asked units held texts program (Err why) old same are small read indexed = tt
 
--- ---- the files left
+-- ---- the files left, and those that were to be
 
-pub texts_so : (locked : Locked) (all : List Spelling) (m : Marks) (table : List Referent) (edits held : List EditList) (units : List UnitAt) (texts : List (List ℕ × List ℕ)) (result : Result Left StepFault)
+pub texts_by : (locked : Locked) (all : List Spelling) (m : Marks) (table : List Referent) (edits held : List EditList) (units : List UnitAt) (texts : List (List ℕ × List ℕ))
     → (rows_under locked ≡ rows_of locked.program.program → locked.program.index.value.marks ≡ program_marks (map (λ u. u.unit) locked.program.program.units) → AreMade locked.program.program m)
     → (IsOrdered m → AreRespelled m (entries table) all edits) → table ≡ locked.program.bound.value.table.items → held ≡ edits → units ≡ locked.program.program.units → texts ≡ written_files units held
-    → IfOk result (λ left. files.entries left.files ≡ texts) → (asked : Asked) → IsReadBy asked locked → IsBoundByLocks locked → IfOk result (HasTextsOf locked all)
-texts_so locked all m table edits held units texts (Ok left) made spelled tables edits_are units_are written kept asked read bound =
+    → (asked : Asked) → IsReadBy asked locked → IsBoundByLocks locked → AreTextsOf locked all texts
+texts_by locked all m table edits held units texts made spelled tables edits_are units_are written asked read bound =
     let is = made read.indexed.rows read.indexed.marks in
     record {
       marks = m;
       made = is;
       edits = edits;
       respelled = subst (λ (t : Table). AreRespelled m t all edits) (ap entries tables ∙ bound.table) (spelled (marks_ordered locked.program.program m read.indexed.shaped is read.indexed.apart));
-      written = kept ∙ written ∙ ap (λ (u : List UnitAt). written_files u held) units_are ∙ ap (λ (e : List EditList). written_files locked.program.program.units e) edits_are;
+      written = written ∙ ap (λ (u : List UnitAt). written_files u held) units_are ∙ ap (λ (e : List EditList). written_files locked.program.program.units e) edits_are;
     }
-texts_so locked all m table edits held units texts (Err why) made spelled tables edits_are units_are written kept asked read bound = tt
 
-pub texts_left : (found : FileMap) (asked : Asked) (locked : Locked) (all : List Spelling) (left : Left) → IsRead found asked.old.now → IsReadBy asked locked → HasTextsOf locked all left
-    → HaveTexts found asked.change.now (rows_under locked) (locks_of locked) all left.files
-texts_left found asked locked all left old read is = record {
-  before = asked.old.now.program;
-  reads = old.reads;
+pub texts_so : (locked : Locked) (all : List Spelling) (asked : Asked) (texts : List (List ℕ × List ℕ)) (result : Result Left StepFault) → (IsReadBy asked locked → IsBoundByLocks locked → AreTextsOf locked all texts)
+    → IfOk result (λ left. files.entries left.files ≡ texts) → IsReadBy asked locked → IsBoundByLocks locked → IfOk result (HasTextsOf locked all)
+texts_so locked all asked texts (Ok left) are kept read bound = subst (λ (t : List (List ℕ × List ℕ)). AreTextsOf locked all t) (sym kept) (are read bound)
+texts_so locked all asked texts (Err why) are kept read bound = tt
+
+pub not_left : (change : Change) (locked : Locked) (all : List Spelling) (texts : List (List ℕ × List ℕ)) (why : StepFault) → AreTextsOf locked all texts → Bars change texts why → IsNotLeft change locked all why
+not_left change locked all texts step.OutOfMemory are bars = tt
+not_left change locked all texts _ are bars = record { texts = texts; are = are; bars = bars }
+
+pub not_left_if : (change : Change) (locked : Locked) (all : List Spelling) (texts : List (List ℕ × List ℕ)) (result : Result Left StepFault) → AreTextsOf locked all texts → IfErr result (Bars change texts)
+    → IfErr result (IsNotLeft change locked all)
+not_left_if change locked all texts (Ok left) are bars = tt
+not_left_if change locked all texts (Err why) are bars = not_left change locked all texts why are bars
+
+pub texts_under : (asked : Asked) (locked : Locked) (all : List Spelling) (texts : List (List ℕ × List ℕ)) → IsReadBy asked locked → AreTextsOf locked all texts
+    → AreTexts asked.old.now.program.units asked.change.now (rows_under locked) (locks_of locked) all texts
+texts_under asked locked all texts read is = record {
   after = locked.program.program;
   units = read.units;
   are = read.indexed.rows;
@@ -103,3 +116,7 @@ texts_left found asked locked all left old read is = record {
   respelled = is.respelled;
   written = is.written;
 }
+
+pub texts_left : (found : FileMap) (asked : Asked) (locked : Locked) (all : List Spelling) (left : Left) → IsRead found asked.old.now → IsReadBy asked locked → HasTextsOf locked all left
+    → HaveTexts found asked.change.now (rows_under locked) (locks_of locked) all left.files
+texts_left found asked locked all left old read is = record { before = asked.old.now.program; reads = old.reads; texts = texts_under asked locked all (files.entries left.files) read is }

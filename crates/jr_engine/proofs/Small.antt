@@ -1,9 +1,6 @@
 -- Texts that are small.
 use Rattle.std.proofs.Common.{◌≡◌, ℕ, ◌<◌, ◌≤◌, ◌^◌, ◌+◌, List, [], ◌∷◌, ◌++◌, length, arith}
-use Rattle.std.specs.List.{AllByRecursion}
-
-abbrev pub AreSmall : List (List ℕ × List ℕ) → Type 0
-AreSmall files = AllByRecursion (λ file. length file.1 < 2 ^ 32) files
+use Rattle.jr_engine.specs.Texts.{AreSmall}
 
 pub one_more : (files : List (List ℕ × List ℕ)) (path text : List ℕ) → AreSmall files → length text ≤ 67108864 → AreSmall (files ++ (path, text) ∷ [])
 one_more [] path text small few = (omega (arith, few), tt)

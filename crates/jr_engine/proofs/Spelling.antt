@@ -1,5 +1,5 @@
 -- The program under its locks is whole, and its spellings are the first that fit.
-use Rattle.std.proofs.Common.{◌≡◌, ◌∙◌, ap, refl, sym, subst, ⊎_elim, arith, ℕ, ◌+◌, ◌<◌, ◌≤◌, ◌^◌, Bool, true, false, cond, List, [], ◌∷◌, length, get_or, Option, Some, None, is_some, Decides, slice_index_or}
+use Rattle.std.proofs.Common.{◌≡◌, ◌∙◌, ap, refl, sym, subst, ◌⊎◌, ⊎_elim, inl, inr, arith, ℕ, ◌+◌, ◌<◌, ◌≤◌, ◌^◌, Bool, true, false, cond, List, [], ◌∷◌, length, get_or, Option, Some, None, is_some, Decides, slice_index_or}
 use Rattle.std.specs.List.{AllByRecursion}
 use Rattle.std.specs.Option.{option_map_or}
 use Rattle.std.proofs.Math.Path.{fun_ext}
@@ -67,16 +67,16 @@ use Rattle.jr_shapes.specs.declared.spelling.Spelling.{Spelling}
 use Rattle.jr_spelling_rules.specs.Fitting.{TellsConstants}
 use Rattle.jr_spelling_rules.specs.Spelling.{HasNoSpelling, Written, spelling}
 use Rattle.jr_spelling_rules.proofs.Spelled.{no_spelling, spelling_is}
-use Rattle.jr_spell.specs.Shaping.{IsWholeView, AreSpelledIn, HasNoneIn}
+use Rattle.jr_spell.specs.Shaping.{IsWholeView, AreSpelledIn, AreToldIn, HasNoneIn}
 use Rattle.jr_spell.specs.declared.fault.SpellFault.TheVariants as spell_fault
-use Rattle.jr_spell.specs.Spelling.{HasTypes, IsExactAt, IsSpelled, IsWritten as Says, first_written}
+use Rattle.jr_spell.specs.Spelling.{HasLock, HasSpelling, HasTypes, IsExactAt, IsSpelled, AreTold, Stays, IsWritten as Says, first_written}
 use Rattle.jr_view.specs.declared.View.{View}
 use Rattle.jr_front.specs.Bound.{IsBoundIn, rows_in, table_in}
 use Rattle.jr_front.specs.Viewed.{IsViewOf}
 use Rattle.jr_front.specs.declared.workspace.Workspace.{Workspace}
 use Rattle.jr_front.proofs.Bound.{program_of}
 use Rattle.jr_member_rules.proofs.Inner.{variable_finds}
-use Rattle.jr_engine.specs.Steps.{AreFirst, IsFirst, is_constant, types, values}
+use Rattle.jr_engine.specs.Steps.{AreFirst, IsFirst, StaysFirst, is_constant, types, values}
 use Rattle.jr_engine.specs.Refusing.{IsHinderedIn, IsShownAt, IsUnspelled}
 use Rattle.jr_engine.specs.Written.{AreFirstIn, IsAskedFor, IsBoundByLocks, IsLockedBy, IsSound, is_constant_by, locks_of, rows_of}
 use Rattle.jr_engine.specs.declared.fault.StepFault.{StepFault}
@@ -336,27 +336,34 @@ module _ (asked : Asked) (locked : Locked) (bound : IsBoundIn asked.old.now) (pr
   one_first : (a : Spelling) → IsSpelled q l (types q l) constant start variable a → IsFirst (rows_in asked.old.now) (table_in asked.old.now) asked.change.now q l a
   one_first a told = first_of a (spelling q l (types q l) constant start a.row variable) refl (told (record { typed = λ e. has_types asked locked program begins sound is }))
 
-  are_first : (all : List Spelling) → AreSpelledBy q l (types q l) constant start variable all → AreFirst (rows_in asked.old.now) (table_in asked.old.now) asked.change.now q l all
-  are_first all h = record { each = each_of (λ a. IsSpelled q l (types q l) constant start variable a) (λ a. IsFirst (rows_in asked.old.now) (table_in asked.old.now) asked.change.now q l a) one_first all h }
+  stays_first : (n : ℕ) → Stays q l (types q l) constant start variable n → StaysFirst (rows_in asked.old.now) (table_in asked.old.now) asked.change.now q l n
+  stays_first n h = record {
+    written = h.written;
+    first = spelling_is q l (types q l) constant start n variable (typable asked locked program begins sound is).headed (tells asked locked program begins sound is) h.written h.spells;
+    stands = h.stands;
+  }
 
-  -- the same, of a view of the program
-  module _ (view : View) (of : IsViewOf q locked.program.places.value locked.program.scopes.value locked.program.bound.value view) (all : List Spelling) where
-    abbrev variable_in_code : code.Constants → ℕ → Bool
-    variable_in_code c d = is_some (slice_index_or c.variables.items d None)
+  others_first : (all : List Spelling) → AreTold q l (types q l) constant start variable all → (n : ℕ) → HasLock q l n → HasSpelling all n ⊎ StaysFirst (rows_in asked.old.now) (table_in asked.old.now) asked.change.now q l n
+  others_first all told n lock = ⊎_elim (λ k. inl k) (λ k. inr (stays_first n (k (record { typed = λ e. has_types asked locked program begins sound is })))) (told n lock)
 
-    abbrev type_in_code : List (Option RowType) → Types
-    type_in_code all n = slice_index_or all n None
+  are_first : (all : List Spelling) → AreSpelledBy q l (types q l) constant start variable all → AreTold q l (types q l) constant start variable all → AreFirst (rows_in asked.old.now) (table_in asked.old.now) asked.change.now q l all
+  are_first all h told = record {
+    each = each_of (λ a. IsSpelled q l (types q l) constant start variable a) (λ a. IsFirst (rows_in asked.old.now) (table_in asked.old.now) asked.change.now q l a) one_first all h;
+    others = others_first all told;
+  }
 
-    seen_so : AreSpelledBy view.sight.world.under.rows.now (entries view.sight.world.under.table.now) (type_in_code view.types.now) constant start (variable_in_code view.constants.now) all
-        → AreSpelledBy q l (types q l) constant start (variable_in_code new) all
-    seen_so h =
-        let rows : AreSpelledBy q (entries view.sight.world.under.table.now) (type_in_code view.types.now) constant start (variable_in_code view.constants.now) all =
-        subst (λ (r : Rows). AreSpelledBy r (entries view.sight.world.under.table.now) (type_in_code view.types.now) constant start (variable_in_code view.constants.now) all) of.rows_are h in
-        let table : AreSpelledBy q l (type_in_code view.types.now) constant start (variable_in_code view.constants.now) all =
-        subst (λ (x : List Referent). AreSpelledBy q (entries x) (type_in_code view.types.now) constant start (variable_in_code view.constants.now) all) of.table_is rows in
-        let typed : AreSpelledBy q l (types q l) constant start (variable_in_code view.constants.now) all =
-        subst (λ (f : Types). AreSpelledBy q l f constant start (variable_in_code view.constants.now) all) (ap (λ (x : List (Option RowType)). type_in_code x) of.types_are ∙ types_are asked locked program begins sound is) table in
-        subst (λ (c : code.Constants). AreSpelledBy q l (types q l) constant start (variable_in_code c) all) of.constants_are typed
+  -- what is said of a view of the program is said of the program
+  seen_so : (view : View) → IsViewOf q locked.program.places.value locked.program.scopes.value locked.program.bound.value view → (F : Rows → Table → Types → (ℕ → Bool) → Type 0)
+      → F view.sight.world.under.rows.now (entries view.sight.world.under.table.now) (λ m. slice_index_or view.types.now m None) (λ d. is_some (slice_index_or view.constants.now.variables.items d None)) → F q l (types q l) variable
+  seen_so view of F h =
+      let rows : F q (entries view.sight.world.under.table.now) (λ m. slice_index_or view.types.now m None) (λ d. is_some (slice_index_or view.constants.now.variables.items d None)) =
+      subst (λ (r : Rows). F r (entries view.sight.world.under.table.now) (λ m. slice_index_or view.types.now m None) (λ d. is_some (slice_index_or view.constants.now.variables.items d None))) of.rows_are h in
+      let table : F q l (λ m. slice_index_or view.types.now m None) (λ d. is_some (slice_index_or view.constants.now.variables.items d None)) =
+      subst (λ (x : List Referent). F q (entries x) (λ m. slice_index_or view.types.now m None) (λ d. is_some (slice_index_or view.constants.now.variables.items d None))) of.table_is rows in
+      let typed : F q l (types q l) (λ d. is_some (slice_index_or view.constants.now.variables.items d None)) =
+      subst (λ (f : Types). F q l f (λ d. is_some (slice_index_or view.constants.now.variables.items d None)))
+      (ap {B = ℕ → Option RowType} (λ (x : List (Option RowType)) (m : ℕ). slice_index_or x m None) of.types_are ∙ types_are asked locked program begins sound is) table in
+      subst (λ (c : code.Constants). F q l (types q l) (λ d. is_some (slice_index_or c.variables.items d None))) of.constants_are typed
 
   -- and of a reference that has none
   abbrev LacksBy : Rows → Table → Types → (ℕ → Bool) → ℕ → (ℕ → Bool) → ℕ → Type 0
@@ -366,35 +373,28 @@ module _ (asked : Asked) (locked : Locked) (bound : IsBoundIn asked.old.now) (pr
   lacks_so n told = no_spelling q l (types q l) constant start n variable (typable asked locked program begins sound is).headed (tells asked locked program begins sound is)
       (told (record { typed = λ e. has_types asked locked program begins sound is }))
 
-  lacks_seen : (view : View) → IsViewOf q locked.program.places.value locked.program.scopes.value locked.program.bound.value view → (n : ℕ)
-      → LacksBy view.sight.world.under.rows.now (entries view.sight.world.under.table.now) (λ m. slice_index_or view.types.now m None) constant start (λ d. is_some (slice_index_or view.constants.now.variables.items d None)) n
-      → LacksBy q l (types q l) constant start variable n
-  lacks_seen view of n h =
-      let rows : LacksBy q (entries view.sight.world.under.table.now) (λ m. slice_index_or view.types.now m None) constant start (λ d. is_some (slice_index_or view.constants.now.variables.items d None)) n =
-      subst (λ (r : Rows). LacksBy r (entries view.sight.world.under.table.now) (λ m. slice_index_or view.types.now m None) constant start (λ d. is_some (slice_index_or view.constants.now.variables.items d None)) n) of.rows_are h in
-      let table : LacksBy q l (λ m. slice_index_or view.types.now m None) constant start (λ d. is_some (slice_index_or view.constants.now.variables.items d None)) n =
-      subst (λ (x : List Referent). LacksBy q (entries x) (λ m. slice_index_or view.types.now m None) constant start (λ d. is_some (slice_index_or view.constants.now.variables.items d None)) n) of.table_is rows in
-      let typed : LacksBy q l (types q l) constant start (λ d. is_some (slice_index_or view.constants.now.variables.items d None)) n =
-      subst (λ (f : Types). LacksBy q l f constant start (λ d. is_some (slice_index_or view.constants.now.variables.items d None)) n)
-      (ap {B = ℕ → Option RowType} (λ (x : List (Option RowType)) (m : ℕ). slice_index_or x m None) of.types_are ∙ types_are asked locked program begins sound is) table in
-      subst (λ (c : code.Constants). LacksBy q l (types q l) constant start (λ d. is_some (slice_index_or c.variables.items d None)) n) of.constants_are typed
-
 -- what is told of the view of the program under its locks is told of the change
 pub first_in : (asked : Asked) (locked : Locked) (project : Project) (constant : List Bool) (all : List Spelling) → IsBoundIn asked.old.now → IsProgram (rows_of locked) → BeginsWithLang (rows_of locked) → IsSound asked locked
     → IsLockedBy asked locked → IsBoundByLocks locked → project.marks.starts.now ≡ unit_rows (rows_of locked) (length (rows_of locked))
     → IsViewOf (rows_of locked) locked.program.places.value locked.program.scopes.value locked.program.bound.value project.view
     → constant ≡ tabulated (is_constant_by asked locked) (length locked.locks.origin.items)
-    → (IsWholeView project.view → AreSpelledIn project.view constant (first_written project.marks.starts.now) all) → AreFirstIn asked locked all
-first_in asked locked project constant all bound program begins sound by is starts of made told =
+    → (IsWholeView project.view → AreSpelledIn project.view constant (first_written project.marks.starts.now) all) → (IsWholeView project.view → AreToldIn project.view constant (first_written project.marks.starts.now) all) → AreFirstIn asked locked all
+first_in asked locked project constant all bound program begins sound by is starts of made spelled told =
     let p : Rows = rows_of locked in
     let wanted : ℕ → Bool = is_constant (rows_in asked.old.now) (table_in asked.old.now) asked.change.now p (table_in locked.program) in
     let same : (λ n. slice_index_or constant n false) ≡ wanted = fun_ext (constant_at asked locked bound program begins sound by is constant made) in
-    let in_view = told (whole asked locked program begins sound is project.view of) in
-    let began = subst (λ (n : ℕ). AreSpelledIn project.view constant n all) (ap first_written starts) in_view in
-    let meant = subst (λ (f : ℕ → Bool). AllByRecursion (λ a. IsSpelled project.view.sight.world.under.rows.now (entries project.view.sight.world.under.table.now) (λ n. slice_index_or project.view.types.now n None) f
-    (first_written (unit_rows p (length p))) (λ d. is_some (slice_index_or project.view.constants.now.variables.items d None)) a) all) same began in
+    let viewed = whole asked locked program begins sound is project.view of in
+    let each = subst (λ (n : ℕ). AreSpelledIn project.view constant n all) (ap first_written starts) (spelled viewed) in
+    let others = subst (λ (n : ℕ). AreToldIn project.view constant n all) (ap first_written starts) (told viewed) in
+    let seen = seen_so asked locked bound program begins sound by is project.view of in
     subst (λ (x : Table). AreFirst (rows_in asked.old.now) (table_in asked.old.now) asked.change.now p x all) is.table
-    (are_first asked locked bound program begins sound by is all (seen_so asked locked bound program begins sound by is project.view of all meant))
+    (are_first asked locked bound program begins sound by is all
+    (seen (λ r x type_of variable. AllByRecursion (λ a. IsSpelled r x type_of wanted (first_written (unit_rows p (length p))) variable a) all)
+    (subst (λ (f : ℕ → Bool). AllByRecursion (λ a. IsSpelled project.view.sight.world.under.rows.now (entries project.view.sight.world.under.table.now) (λ n. slice_index_or project.view.types.now n None) f
+    (first_written (unit_rows p (length p))) (λ d. is_some (slice_index_or project.view.constants.now.variables.items d None)) a) all) same each))
+    (seen (λ r x type_of variable. AreTold r x type_of wanted (first_written (unit_rows p (length p))) variable all)
+    (subst (λ (f : ℕ → Bool). AreTold project.view.sight.world.under.rows.now (entries project.view.sight.world.under.table.now) (λ n. slice_index_or project.view.types.now n None) f
+    (first_written (unit_rows p (length p))) (λ d. is_some (slice_index_or project.view.constants.now.variables.items d None)) all) same others)))
 
 unspelled_so : (a : Asked) (rows : Rows) (locks : Table) (origin : List ℕ) (row : ℕ) (told : StepFault) → IsChanged (rows_in a.old.now) (table_in a.old.now) a.change.now rows locks → origin ≡ origins_by a.change.now
     → HasNoSpelling rows locks (types rows locks) (is_constant (rows_in a.old.now) (table_in a.old.now) a.change.now rows locks) (first_written (unit_rows rows (length rows))) row
@@ -420,6 +420,7 @@ none_in asked locked project constant row found why of_request bound program beg
     let meant = subst (λ (f : ℕ → Bool). IsExactAt project.view.sight.world.under.rows.now (entries project.view.sight.world.under.table.now) (λ n. slice_index_or project.view.types.now n None) row
     → spelling project.view.sight.world.under.rows.now (entries project.view.sight.world.under.table.now) (λ n. slice_index_or project.view.types.now n None) f (first_written (unit_rows p (length p))) row
     (λ d. is_some (slice_index_or project.view.constants.now.variables.items d None)) ≡ None) same began in
-    let none = lacks_so asked locked bound program begins sound by is row (lacks_seen asked locked bound program begins sound by is project.view of row meant) in
+    let none = lacks_so asked locked bound program begins sound by is row (seen_so asked locked bound program begins sound by is project.view of
+    (λ r x type_of variable. IsExactAt r x type_of row → spelling r x type_of wanted (first_written (unit_rows p (length p))) row variable ≡ None) meant) in
     let under = subst (λ (x : Table). HasNoSpelling p x (types p x) (is_constant (rows_in asked.old.now) (table_in asked.old.now) asked.change.now p x) (first_written (unit_rows p (length p))) row) is.table none in
     unspelled_so asked p (locks_of locked) locked.locks.origin.items row why by.changed by.origin under at

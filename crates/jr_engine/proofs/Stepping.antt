@@ -1,6 +1,6 @@
 -- What is known of a step by its parts, and of steps one after another.
-use Rattle.std.proofs.Common.{◌≡◌, ◌∙◌, ◌+◌, ◌<◌, ◌^◌, ap, refl, true, Bool, Option, Some, None, is_some, List, append_assoc, [], ◌∷◌, ◌++◌, ℕ, Result, Ok, Err, IfErr, IfOk, IsTrue, length, map, arith, sym, subst}
-use Rattle.std.proofs.lemmas.List.{append-nil}
+use Rattle.std.proofs.Common.{◌≡◌, ◌∙◌, ◌⊎◌, inl, inr, Decides, ◌+◌, ◌-◌, min, ◌<◌, ◌^◌, ap, refl, true, Bool, Option, Some, None, is_some, List, append_assoc, [], ◌∷◌, ◌++◌, ℕ, suc, Result, Ok, Err, IfErr, IfOk, IsTrue, length, map, arith, sym, subst}
+use Rattle.std.proofs.lemmas.List.{append-nil, length_push}
 use Rattle.std.proofs.lemmas.Option.{none-some, same_Some}
 use Rattle.std.specs.FinMap as files
 use Rattle.std.specs.List.{AllByRecursion}
@@ -16,13 +16,14 @@ use Rattle.jr_read.specs.Reading.{ReadsAs}
 use Rattle.jr_front.specs.Bound.{IsBoundIn, rows_in, table_in}
 use Rattle.jr_front.specs.Checking.{CheckedAs, accepted}
 use Rattle.jr_front.specs.Compiling.{Compiles}
-use Rattle.jr_front.proofs.Testable.{tables_view}
+use Rattle.jr_front.proofs.Reading.{read_begins}
+use Rattle.jr_front.proofs.Testable.{tables_view, testable_view}
 use Rattle.jr_front.proofs.Viewed.{seen_view, whole_view, whole_world}
 use Rattle.jr_front.specs.Viewed.{IsViewOf}
 use Rattle.jr_front.specs.declared.fault.FrontFault.{FrontFault}
 use Rattle.jr_front.specs.declared.workspace.Workspace.{Workspace}
 use Rattle.jr_engine.specs.Planning.{IsAccepted, PlannedAs, RefusedAs}
-use Rattle.jr_engine.specs.Refusing.{HasCause, IsCausedBy, IsHinderedIn, IsOfFlow, IsRefusedFrom, IsShownAt, IsToldAs, fault_of}
+use Rattle.jr_engine.specs.Refusing.{HasCause, HasLargeBody, IsBarred, IsCausedBy, IsHinderedIn, IsNumber, IsLargeIn, IsOfFiles, IsRefusedFrom, IsShownAt, IsToldAs, IsToldNumber, IsTooLarge, fault_of}
 use Rattle.jr_engine.specs.Steps.{Opened, IsOpened, IsRead, IsHeld, IsMeaningOf, KeepsFlow, IsAskedOf, IsRequested, LeftBy, IsStep, stays, leaves, AreSteps, none, more, IsFollowed, opened, opened_by}
 use Rattle.jr_tree.specs.Rows.{Rows}
 use Rattle.jr_defs.specs.Referents.{Table, entries}
@@ -62,8 +63,11 @@ use Rattle.jr_tree.proofs.Trees.{each_program_is_tree}
 use Rattle.jr_supers.specs.Supers.{AreSupersOf}
 use Rattle.jr_supers.specs.Tabled.{IsSized}
 use Rattle.jr_flow_defs.specs.Meaning.{Meaning}
-use Rattle.jr_kept.specs.Courses.{IsSeen, KeepsCourse, KeepsUsesOf}
+use Rattle.jr_flow.specs.Sizes.{HasTooLarge}
+use Rattle.jr_flow.specs.Views as flow
+use Rattle.jr_kept.specs.Courses.{IsSeen, KeepsCourse, KeepsRaisedFlow, KeepsUsesOf}
 use Rattle.jr_kept.specs.declared.kept.LostEdge.{LostEdge}
+use Rattle.jr_extract.specs.Extracting.{IsSeenAs}
 use Rattle.jr_shapes.specs.declared.spelling.Spelling.{Spelling}
 use Rattle.jr_view.specs.declared.View.{View}
 use Rattle.jr_engine.specs.Requested.{keeps_all}
@@ -71,12 +75,13 @@ use Rattle.jr_locks.specs.Changed.{IsChanged, origins_by, copies_by}
 use Rattle.jr_locks.specs.Origins.{origin_of, row_by}
 use Rattle.jr_edges.specs.Dispatched.{IsTold}
 use Rattle.jr_edges.specs.declared.dispatched.Lost.{Lost}
-use Rattle.jr_engine.proofs.Reading.{texts_left}
-use Rattle.jr_engine.specs.Written.{AreFirstIn, HasTextsOf, IsSpelledIn, IsLeftOf, IsAskedFor, IsLockedBy, IsBoundByLocks, IsReadBy, KeepsCallsIn, KeepsFlowIn, rows_of as rows_under, locks_of}
+use Rattle.jr_engine.proofs.Reading.{texts_left, texts_under}
+use Rattle.jr_engine.specs.Written.{AreFirstIn, HasBarredTexts, HasTextsOf, IsSpelledIn, IsLeftOf, IsAskedFor, IsLockedBy, IsBoundByLocks, HasTables, IsNotLeft, IsReadBy, KeepsCallsIn, KeepsFlowIn, rows_of as rows_under, locks_of}
 use Rattle.jr_engine.specs.declared.asked.Asked.{Asked}
 use Rattle.jr_engine.specs.declared.fault.EngineFault.{EngineFault}
 use Rattle.jr_engine.specs.declared.fault.EngineFault.TheVariants as fault
 use Rattle.jr_engine.specs.declared.fault.LostKind.TheVariants as kind
+use Rattle.jr_engine.specs.declared.fault.Refused.{Refused}
 use Rattle.jr_engine.specs.declared.fault.StepFault.{StepFault}
 use Rattle.jr_engine.specs.declared.fault.StepFault.TheVariants as step
 use Rattle.jr_engine.specs.declared.left.Left.{Left}
@@ -106,6 +111,46 @@ accepted_so o is = record { checked = accepted is.reads is.compiles; java = is.j
 pub written_so : (s : Spelled) (left : Left) (w : Workspace) → left.program ≡ w → IsHeld left → IsSpelledIn s w → IsLeftOf s.locked.now s.spellings.now left
 written_so s left w same is spelled = (subst (λ (v : Workspace). IsSpelledIn s v) (sym same) spelled, is)
 
+-- ---- a project as flow reads it
+
+-- what names, types and constants mean by the tables of a program
+meaning_in : Workspace → Meaning
+meaning_in w = record { targets = table_in w; values = values_of w.bound.value.constants.value; types = types_in w.bound.value.types.items }
+
+meaning_is : (w : Workspace) → IsBoundBy (rows_in w) w.places.value w.bound.value → IsMeaningOf (rows_in w) (table_in w) (meaning_in w)
+unfolding meaning_in
+meaning_is w under = record { targets = refl; types = under.types_are; sound = under.constants_are.sound; whole = under.constants_are.whole }
+
+some_value : (texts : List (List ℕ)) (value : Option Value) → is_some value ≡ is_some (value_in_if texts value)
+some_value texts None = refl
+some_value texts (Some value) = refl
+
+-- the tables of a bound program
+pub bound_tables : (w : Workspace) → IsBoundIn w → HasTables w
+bound_tables w bound = record { program = bound.of.program; bare = (program_in (rows_in w) w.places.value w.scopes.value bound.of bound.binding.binding.well).bare; under = bound.binding.binding.under }
+
+-- a view of them is seen by flow as it is
+flow_view : (w : Workspace) (view : View) → HasTables w → length (rows_in w) + 3 < 2 ^ 32 → IsViewOf (rows_in w) w.places.value w.scopes.value w.bound.value view → flow.IsViewOf view (meaning_in w)
+unfolding meaning_in
+flow_view w view is few of = record {
+  few = subst (λ (r : Rows). length r + 3 < 2 ^ 32) (sym of.rows_are) few;
+  targets = ap entries of.table_is;
+  supers = subst (λ (t : Table). AreSupersOf view.sight.world.under.rows.now t view.sight.world.supers.now) (ap entries of.table_is) (whole_world w view is.under of is.bare).world_is.seen.above;
+  types = λ n. ap (λ (all : List (Option RowType)). types_in all n) of.types_are;
+  constants = λ n. ap (λ (found : Constants). is_some (item found.values.items n)) of.constants_are ∙ some_value w.bound.value.constants.value.texts (item w.bound.value.constants.value.values.items n);
+}
+
+tree_of : (w : Workspace) → HasTables w → IsTree (rows_in w)
+tree_of w is = subst (λ (r : Rows). IsTree r) (sym is.program.rows_are) (each_program_is_tree is.program.units)
+
+-- and so is a project
+seen_project : (w : Workspace) (project : Project) → HasTables w → length (rows_in w) + 3 < 2 ^ 32 → project.marks.rows.now ≡ rows_in w → IsViewOf (rows_in w) w.places.value w.scopes.value w.bound.value project.view
+    → IsSeen project (meaning_in w)
+seen_project w project is few rows of = record { rows = of.rows_are ∙ sym rows; view = flow_view w project.view is few of; tree = subst (λ (r : Rows). IsTree r) (sym rows) (tree_of w is) }
+
+seen_as : (old : Project) (m : Meaning) → IsSeen old m → IsSeenAs old m
+seen_as old m seen = record { rows = seen.rows; tree = subst (λ (r : Rows). IsTree r) (sym seen.rows) seen.tree; view = seen.view }
+
 -- ---- the change of a request
 
 requested : (found : FileMap) (w : Workspace) (old : Project) (request : Request) (answer : Result Change ChangeFault) → IsRead found w → IsAskedOf w old request answer → IsRequested (opened found w) request answer
@@ -123,6 +168,12 @@ requested found w old request answer is a = record {
     view_rows = a.of.view.rows_are ∙ sym a.of.rows;
     sized = subst IsSized (a.of.view.rows_are ∙ sym a.of.rows) (seen_view w old.view is.bound a.of.view).sized;
     tables = tables_view w old.view is.bound a.of.view;
+    throwing = (testable_view w old.view is.bound a.of.view (subst BeginsWithLang (sym is.are) (read_begins found w.program is.reads))).throwing;
+    flow = λ few. (
+      meaning_in w,
+      meaning_is w is.bound.binding.binding.under,
+      seen_as old (meaning_in w) (seen_project w old (bound_tables w is.bound) few a.of.rows a.of.view),
+    );
   };
   asked = a.asked;
 }
@@ -140,8 +191,8 @@ pub hindered_caused : (a : Asked) (why : StepFault) → IsAskedFor a → IsHinde
 unfolding requested
 hindered_caused a why asked is = λ found read. HasCause.hindered (requested found a.old.now a.project.now a.request.now (Ok a.change.now) read asked) is
 
-pub flow_caused : (w : Workspace) (request : Request) (why : StepFault) → IsOfFlow why → IsCausedBy w request (fault.Step why)
-flow_caused w request (step.TooLarge size.Flow) is = λ found read. HasCause.large
+pub flow_caused : (w : Workspace) (request : Request) (why : StepFault) → IsLargeIn w why → IsCausedBy w request (fault.Step why)
+flow_caused w request (step.TooLarge size.Flow) is = λ found read. HasCause.large is
 flow_caused w request step.OutOfMemory is = λ found read. HasCause.memory
 flow_caused w request _ is = absurd is
 
@@ -161,14 +212,17 @@ no_change_caused_as w old request why told e a = subst (λ (f : StepFault). IsCa
 told_hinders : (a : Asked) (why told : StepFault) → told ≡ why → IsHinderedIn a why → IsHinderedIn a told
 told_hinders a why told e h = subst (λ (f : StepFault). IsHinderedIn a f) (sym e) h
 
-flow_hinders : (a : Asked) (told : StepFault) → IsOfFlow told → IsHinderedIn a told
-flow_hinders a (step.TooLarge size.Flow) is = tt
-flow_hinders a step.OutOfMemory is = tt
-flow_hinders a _ is = absurd is
+-- a body of the changed program is too large
+flow_hinders : (a : Asked) (locked : Locked) (told : StepFault) → IsLockedBy a locked → table_in locked.program ≡ locks_of locked → IsLargeIn locked.program told → IsHinderedIn a told
+flow_hinders a locked (step.TooLarge size.Flow) by table is =
+    IsTooLarge.by_flow (record { rows = rows_under locked; locks = locks_of locked; changed = by.changed; large = subst (λ (l : Table). HasLargeBody (rows_under locked) l) table is })
+flow_hinders a locked step.OutOfMemory by table is = tt
+flow_hinders a locked _ by table is = absurd is
 
-pub flow_hinders_if : (a : Asked) (result : Result (Unit {0}) StepFault) → IfErr result IsOfFlow → IfErr result (IsHinderedIn a)
-flow_hinders_if a (Ok _) is = tt
-flow_hinders_if a (Err why) is = flow_hinders a why is
+pub flow_hinders_if : (a : Asked) (locked : Locked) (result : Result (Unit {0}) StepFault) → IsLockedBy a locked → table_in locked.program ≡ locks_of locked → IfErr result (IsLargeIn locked.program)
+    → IfErr result (IsHinderedIn a)
+flow_hinders_if a locked (Ok _) by table is = tt
+flow_hinders_if a locked (Err why) by table is = flow_hinders a locked why by table is
 
 pub lost_hinders : (a : Asked) (first second : Place) (is_old : Bool) (told : StepFault) → told ≡ step.LostEdge kind.DefUse first second is_old → IsHinderedIn a told
 lost_hinders a first second is_old told e = told_hinders a _ told e tt
@@ -178,6 +232,27 @@ control_hinders a first second is_old told e = told_hinders a _ told e tt
 
 pub memory_hinders : (a : Asked) (told : StepFault) → told ≡ step.OutOfMemory → IsHinderedIn a told
 memory_hinders a told e = told_hinders a _ told e tt
+
+-- the files that were to be left are the texts of the changed program with the first spellings
+to_be_left : (a : Asked) (locked : Locked) (all : List Spelling) (why : StepFault) → IsLockedBy a locked → AreFirstIn a locked all → IsReadBy a locked → HasBarredTexts a.change.now locked all why
+    → IsBarred a.old.now.program.units (rows_in a.old.now) (table_in a.old.now) a.change.now why
+to_be_left a locked all why by first read h = record {
+  texts = h.texts;
+  are = record { rows = rows_under locked; locks = locks_of locked; changed = by.changed; spellings = all; first = first; texts_are = texts_under a locked all h.texts read h.are };
+  bars = h.bars;
+}
+
+not_left_hinders : (a : Asked) (locked : Locked) (all : List Spelling) (why : StepFault) → IsLockedBy a locked → AreFirstIn a locked all → IsReadBy a locked → IsNotLeft a.change.now locked all why → IsHinderedIn a why
+not_left_hinders a locked all (step.Broken rule place) by first read h = to_be_left a locked all (step.Broken rule place) by first read h
+not_left_hinders a locked all (step.TooLarge what) by first read h = IsTooLarge.by_files (to_be_left a locked all (step.TooLarge what) by first read h)
+not_left_hinders a locked all (step.Differs place) by first read h = tt
+not_left_hinders a locked all step.OutOfMemory by first read h = tt
+not_left_hinders a locked all _ by first read h = absurd h.bars
+
+pub not_left_hinders_if : (a : Asked) (locked : Locked) (all : List Spelling) (result : Result Left StepFault) → IsLockedBy a locked → AreFirstIn a locked all → IsReadBy a locked
+    → IfErr result (IsNotLeft a.change.now locked all) → IfErr result (IsHinderedIn a)
+not_left_hinders_if a locked all (Ok left) by first read h = tt
+not_left_hinders_if a locked all (Err why) by first read h = not_left_hinders a locked all why by first read h
 
 -- ---- places in the old files
 
@@ -288,36 +363,21 @@ call_hinders a locked found lost told by is some e = told_hinders a (step.LostEd
 
 -- ---- where control goes
 
--- what names, types and constants mean by the tables of a program
-meaning_in : Workspace → Meaning
-meaning_in w = record { targets = table_in w; values = values_of w.bound.value.constants.value; types = types_in w.bound.value.types.items }
+-- those of a changed program under its locks
+pub locked_tables : (locked : Locked) → IsProgram (rows_under locked) → AreWell (rows_under locked) → IsBoundByLocks locked → HasTables locked.program
+locked_tables locked program well is = record { program = program; bare = well.object.bare; under = locked_under locked program well is }
 
-meaning_is : (w : Workspace) → IsBoundBy (rows_in w) w.places.value w.bound.value → IsMeaningOf (rows_in w) (table_in w) (meaning_in w)
-unfolding meaning_in
-meaning_is w under = record { targets = refl; types = under.types_are; sound = under.constants_are.sound; whole = under.constants_are.whole }
-
-some_value : (texts : List (List ℕ)) (value : Option Value) → is_some value ≡ is_some (value_in_if texts value)
-some_value texts None = refl
-some_value texts (Some value) = refl
-
--- a project with the rows and tables of a program is seen by flow as it is
-seen_project : (w : Workspace) (project : Project) → IsBoundBy (rows_in w) w.places.value w.bound.value → ObjectIsBare (rows_in w) → IsProgram (rows_in w) → length (rows_in w) + 3 < 2 ^ 32
-    → project.marks.rows.now ≡ rows_in w → IsViewOf (rows_in w) w.places.value w.scopes.value w.bound.value project.view → IsSeen project (meaning_in w)
-unfolding meaning_in
-seen_project w project under bare program few rows of = record {
-  rows = of.rows_are ∙ sym rows;
-  view = record {
-    few = subst (λ (r : Rows). length r + 3 < 2 ^ 32) (sym of.rows_are) few;
-    targets = ap entries of.table_is;
-    supers = subst (λ (t : Table). AreSupersOf project.view.sight.world.under.rows.now t project.view.sight.world.supers.now) (ap entries of.table_is) (whole_world w project.view under of bare).world_is.seen.above;
-    types = λ n. ap (λ (all : List (Option RowType)). types_in all n) of.types_are;
-    constants = λ n. ap (λ (found : Constants). is_some (item found.values.items n)) of.constants_are ∙ some_value w.bound.value.constants.value.texts (item w.bound.value.constants.value.values.items n);
-  };
-  tree = subst (λ (r : Rows). IsTree r) (sym (rows ∙ program.rows_are)) (each_program_is_tree program.units);
+-- where a body of the view is told to be too large, one of the program is
+pub large_body : (w : Workspace) (view : View) (is_large : Bool) → HasTables w → length (rows_in w) + 3 < 2 ^ 32 → IsViewOf (rows_in w) w.places.value w.scopes.value w.bound.value view
+    → ((m : Meaning) → flow.IsViewOf view m → IsTree (flow.rows_in view) → Decides is_large (HasTooLarge (flow.rows_in view) m)) → is_large ≡ true → HasLargeBody (rows_in w) (table_in w)
+large_body w view is_large is few of told e = record {
+  meaning = meaning_in w;
+  is = meaning_is w is.under;
+  large = subst (λ (r : Rows). HasTooLarge r (meaning_in w)) of.rows_are ((told (meaning_in w) (flow_view w view is few of) (subst (λ (r : Rows). IsTree r) (sym of.rows_are) (tree_of w is))).0 e);
 }
 
 abbrev IsCourseKept : Asked → Meaning → Meaning → Rows → Rows → List ℕ → List ℕ → Type 0
-IsCourseKept asked m w p q origin copy = KeepsCourse asked.change.now.course p q m w origin copy × KeepsUsesOf asked.change.now.course p q m w origin copy
+IsCourseKept asked m w p q origin copy = KeepsCourse asked.change.now.course p q m w origin copy × KeepsUsesOf asked.change.now.course p q m w origin copy × KeepsRaisedFlow asked.change.now.raised p q m w origin copy
 
 -- where no edge of control and none from a definition to a use is lost between the two, control goes as it went, and uses have the values that they had
 pub flow_kept : (asked : Asked) (locked : Locked) (old new : Project) (control uses : Option LostEdge) → IsBoundIn asked.old.now → IsProgram (rows_under locked) → AreWell (rows_under locked) → IsBoundByLocks locked
@@ -326,16 +386,20 @@ pub flow_kept : (asked : Asked) (locked : Locked) (old new : Project) (control u
     → IsViewOf (rows_under locked) locked.program.places.value locked.program.scopes.value locked.program.bound.value new.view
     → ((m w : Meaning) → IsSeen old m → IsSeen new w → control ≡ None → KeepsCourse asked.change.now.course old.marks.rows.now new.marks.rows.now m w locked.locks.origin.items locked.locks.copy.items)
     → ((m w : Meaning) → IsSeen old m → IsSeen new w → control ≡ None → uses ≡ None → KeepsUsesOf asked.change.now.course old.marks.rows.now new.marks.rows.now m w locked.locks.origin.items locked.locks.copy.items)
+    → ((m w : Meaning) → IsSeen old m → IsSeen new w → control ≡ None → uses ≡ None → KeepsRaisedFlow asked.change.now.raised old.marks.rows.now new.marks.rows.now m w locked.locks.origin.items locked.locks.copy.items)
     → control ≡ None → uses ≡ None → KeepsFlowIn asked locked
-flow_kept asked locked old new control uses bound program well is by few_old few_new old_rows new_rows old_of new_of told uses_told nothing no_use =
-    let bare = program_in (rows_in asked.old.now) asked.old.now.places.value asked.old.now.scopes.value bound.of bound.binding.binding.well in
-    let under = bound.binding.binding.under in
-    let later = locked_under locked program well is in
+flow_kept asked locked old new control uses bound program well is by few_old few_new old_rows new_rows old_of new_of told uses_told raised_told nothing no_use =
+    let before = bound_tables asked.old.now bound in
+    let after = locked_tables locked program well is in
     let m = meaning_in asked.old.now in
     let w = meaning_in locked.program in
-    let old_seen = seen_project asked.old.now old under bare.bare bound.of.program few_old old_rows old_of in
-    let new_seen = seen_project locked.program new later well.object.bare program few_new new_rows new_of in
-    let first : IsCourseKept asked m w old.marks.rows.now new.marks.rows.now locked.locks.origin.items locked.locks.copy.items = (told m w old_seen new_seen nothing, uses_told m w old_seen new_seen nothing no_use) in
+    let old_seen = seen_project asked.old.now old before few_old old_rows old_of in
+    let new_seen = seen_project locked.program new after few_new new_rows new_of in
+    let first : IsCourseKept asked m w old.marks.rows.now new.marks.rows.now locked.locks.origin.items locked.locks.copy.items = (
+      told m w old_seen new_seen nothing,
+      uses_told m w old_seen new_seen nothing no_use,
+      raised_told m w old_seen new_seen nothing no_use,
+    ) in
     let second : IsCourseKept asked m w (rows_in asked.old.now) (rows_under locked) locked.locks.origin.items locked.locks.copy.items =
     subst (λ (p : Rows). IsCourseKept asked m w p (rows_under locked) locked.locks.origin.items locked.locks.copy.items) old_rows (subst (λ (q : Rows). IsCourseKept asked m w old.marks.rows.now q locked.locks.origin.items locked.locks.copy.items) new_rows first) in
     let third : IsCourseKept asked m w (rows_in asked.old.now) (rows_under locked) (origins_by asked.change.now) (copies_by (origins_by asked.change.now) (length (rows_in asked.old.now))) =
@@ -344,10 +408,11 @@ flow_kept asked locked old new control uses bound program well is by few_old few
     record {
       before = m;
       after = w;
-      before_is = meaning_is asked.old.now under;
-      after_is = subst (λ (l : Table). IsMeaningOf (rows_under locked) l w) is.table (meaning_is locked.program later);
+      before_is = meaning_is asked.old.now before.under;
+      after_is = subst (λ (l : Table). IsMeaningOf (rows_under locked) l w) is.table (meaning_is locked.program after.under);
       kept = third.0;
       uses = third.1;
+      raised = third.2;
     }
 
 -- ---- the changed program under its locks
@@ -377,54 +442,109 @@ steps_then : {first now next : Opened} {before : List Request} {request : Reques
 steps_then none step = more step none
 steps_then (more one rest) step = more one (steps_then rest step)
 
--- the steps of the requests before those that are left lead from the first files to these
-pub record AreStepsTo (first : Opened) (requests : List Request) (now : Left) (rest : List Request) : Type 0 where
+-- the steps of the requests before those that are left lead from the first files to these, and so many they are; a number past 2 ^ 32 cannot be told
+pub record AreStepsTo (first : Opened) (requests : List Request) (now : Left) (rest : List Request) (number : ℕ) : Type 0 where
   pub held : IsHeld now
   pub before : List Request
   pub split : requests ≡ before ++ rest
   pub steps : AreSteps first before (opened_by now)
+  pub counted : length before < 2 ^ 32 → number ≡ length before
 
-pub at_first : (first : Left) (requests : List Request) → IsHeld first → AreStepsTo (opened_by first) requests first requests
-at_first first requests is = record { held = is; before = []; split = refl; steps = none }
+pub at_first : (first : Left) (requests : List Request) → IsHeld first → AreStepsTo (opened_by first) requests first requests 0
+at_first first requests is = record { held = is; before = []; split = refl; steps = none; counted = λ few. refl }
 
-pub at_next : (first : Opened) (requests : List Request) (now next : Left) (request : Request) (rest after : List Request) → AreStepsTo first requests now rest → rest ≡ request ∷ after
-    → IsStep (opened_by now) request (opened_by next) → IsHeld next → AreStepsTo first requests next after
-at_next first requests now next request rest after is split step held = record {
+pub at_next : (first : Opened) (requests : List Request) (now next : Left) (request : Request) (rest after : List Request) (number behind : ℕ) → AreStepsTo first requests now rest number → rest ≡ request ∷ after
+    → behind ≡ min (number + 1) (2 ^ 32 - 1) → IsStep (opened_by now) request (opened_by next) → IsHeld next → AreStepsTo first requests next after behind
+at_next first requests now next request rest after number behind is split adds step held = record {
   held = held;
   before = is.before ++ request ∷ [];
   split = is.split ∙ ap (λ (r : List Request). is.before ++ r) split ∙ sym (append_assoc is.before (request ∷ []) after);
   steps = steps_then is.steps step;
+  counted = λ few. let long = length_push is.before request in let so_far : number ≡ length is.before = is.counted (omega (arith, few, long)) in omega (arith, few, long, so_far, adds);
 }
 
-pub at_last : (first : Opened) (requests : List Request) (now : Left) (rest : List Request) → AreStepsTo first requests now rest → length rest ≡ 0 → AreSteps first requests (opened_by now)
-at_last first requests now [] is ends = subst (λ (all : List Request). AreSteps first all (opened_by now)) (sym (is.split ∙ append-nil is.before)) is.steps
-at_last first requests now (request ∷ rest) is ends = absurd (omega (arith, ends))
+pub at_last : (first : Opened) (requests : List Request) (now : Left) (rest : List Request) (number : ℕ) → AreStepsTo first requests now rest number → length rest ≡ 0 → AreSteps first requests (opened_by now)
+at_last first requests now [] number is ends = subst (λ (all : List Request). AreSteps first all (opened_by now)) (sym (is.split ∙ append-nil is.before)) is.steps
+at_last first requests now (request ∷ rest) number is ends = absurd (omega (arith, ends))
+
+-- the number of the next request, which is told
+next_number : (before after : List Request) (why : EngineFault) (number behind told : ℕ) → (length before < 2 ^ 32 → number ≡ length before) → behind ≡ min (number + 1) (2 ^ 32 - 1) → IsToldNumber behind why told
+    → IsNumber before after why told
+next_number before after why number behind told counted adds (inl same) = IsNumber.counted (λ few. let so_far : number ≡ length before = counted (omega (arith, few)) in omega (arith, few, so_far, adds, same))
+next_number [] after why number behind told counted adds (inr h) = IsNumber.of_files refl h.1 h.2
+next_number (request ∷ before) after why number behind told counted adds (inr h) =
+    IsNumber.counted (λ few. let so_far : number ≡ length (request ∷ before) = counted (omega (arith, few)) in let first = h.0 in absurd (omega (arith, few, so_far, adds, first)))
 
 -- where the next request is refused
-pub refused_at : (first : Opened) (requests : List Request) (now : Left) (request : Request) (rest after : List Request) (why : EngineFault) → AreStepsTo first requests now rest → rest ≡ request ∷ after
-    → IsCausedBy now.program request why → IsRefusedFrom first requests why
-refused_at first requests now request rest after why is split caused = record {
+pub refused_at : (first : Opened) (requests : List Request) (now : Left) (request : Request) (rest after : List Request) (number behind told : ℕ) (why : EngineFault) → AreStepsTo first requests now rest number
+    → rest ≡ request ∷ after → behind ≡ min (number + 1) (2 ^ 32 - 1) → IsCausedBy now.program request why → IsToldNumber behind why told → IsRefusedFrom first requests told why
+refused_at first requests now request rest after number behind told why is split adds caused numbered = record {
   before = is.before;
   request = request;
   after = after;
   split = is.split ∙ ap (λ (r : List Request). is.before ++ r) split;
+  numbered = next_number is.before after why number behind told is.counted adds numbered;
   now = opened_by now;
   steps = is.steps;
   cause = caused now.files is.held.read;
 }
 
-pub one_refused : (first : Left) (request : Request) (why : EngineFault) → IsHeld first → IsCausedBy first.program request why → IsRefusedFrom (opened_by first) (request ∷ []) why
-one_refused first request why is caused = refused_at (opened_by first) (request ∷ []) first request (request ∷ []) [] why (at_first first (request ∷ []) is) refl caused
+-- the number of a request of a list is 0 where the fault is one of the files found alone
+pub zero_of_files : (number behind told : ℕ) (why : EngineFault) → behind ≡ min (number + 1) (2 ^ 32 - 1) → IsToldNumber behind why told → told ≡ 0 → IsOfFiles why
+zero_of_files number behind told why adds (inl same) zero = absurd (omega (arith, adds, same, zero))
+zero_of_files number behind told why adds (inr h) zero = h.2
 
-pub refused_so : (found : FileMap) (first : Left) (requests : List Request) (why : EngineFault) → first.files ≡ found → IsHeld first → IsRefusedFrom (opened_by first) requests why → RefusedAs found requests why
-refused_so found first requests why same is from = RefusedAs.refused same (held_opened first is) from
+-- the number of a request alone is 0
+pub alone_zero : (why : EngineFault) (told : ℕ) → IsToldNumber 0 why told → told ≡ 0
+alone_zero why told (inl same) = same
+alone_zero why told (inr h) = h.1
 
-pub front_so : (found : FileMap) (requests : List Request) (why : FrontFault) (told : EngineFault) → CheckedAs found (Err why) → IsToldAs (fault.Front why) told → RefusedAs found requests told
-front_so found requests why _ checked IsToldAs.told = RefusedAs.not_compiling checked
-front_so found requests why _ checked IsToldAs.no_room = RefusedAs.memory
+pub one_refused : (first : Left) (request : Request) (told : ℕ) (why : EngineFault) → IsHeld first → IsCausedBy first.program request why → IsToldNumber 0 why told → IsRefusedFrom (opened_by first) (request ∷ []) told why
+one_refused first request told why is caused numbered = record {
+  before = [];
+  request = request;
+  after = [];
+  split = refl;
+  numbered = IsNumber.alone refl refl (alone_zero why told numbered);
+  now = opened_by first;
+  steps = none;
+  cause = caused first.files is.read;
+}
 
-pub no_memory_so : (found : FileMap) (requests : List Request) (why : EngineFault) → why ≡ fault.Step step.OutOfMemory → RefusedAs found requests why
-no_memory_so found requests why e = subst (λ (w : EngineFault). RefusedAs found requests w) (sym e) RefusedAs.memory
+pub refused_so : (found : FileMap) (first : Left) (requests : List Request) (number : ℕ) (why : EngineFault) → first.files ≡ found → IsHeld first → IsRefusedFrom (opened_by first) requests number why
+    → RefusedAs found requests number why
+refused_so found first requests number why same is from = RefusedAs.refused same (held_opened first is) from
+
+pub front_so : (found : FileMap) (requests : List Request) (why : FrontFault) (number : ℕ) (told : EngineFault) → CheckedAs found (Err why) → number ≡ 0 → IsToldAs (fault.Front why) told → RefusedAs found requests number told
+front_so found requests why number _ checked zero IsToldAs.told = subst (λ (n : ℕ). RefusedAs found requests n (fault.Front why)) (sym zero) (RefusedAs.not_compiling checked)
+front_so found requests why number _ checked zero IsToldAs.no_room = RefusedAs.memory
+
+pub no_memory_so : (found : FileMap) (requests : List Request) (number : ℕ) (why : EngineFault) → why ≡ fault.Step step.OutOfMemory → RefusedAs found requests number why
+no_memory_so found requests number why e = subst (λ (w : EngineFault). RefusedAs found requests number w) (sym e) RefusedAs.memory
+
+-- ---- faults of the files found
+
+pub front_of_files : (why : FrontFault) (told : EngineFault) → IsToldAs (fault.Front why) told → IsOfFiles told
+front_of_files why _ IsToldAs.told = tt
+front_of_files why _ IsToldAs.no_room = tt
+
+pub memory_of_files : (told : EngineFault) → told ≡ fault.Step step.OutOfMemory → IsOfFiles told
+memory_of_files told e = subst (λ (w : EngineFault). IsOfFiles w) (sym e) tt
+
+flow_of_files : (w : Workspace) (why : StepFault) → IsLargeIn w why → IsOfFiles (fault.Step why)
+flow_of_files w (step.TooLarge size.Flow) is = tt
+flow_of_files w step.OutOfMemory is = tt
+flow_of_files w _ is = absurd is
+
+pub number_told_if : (request : ℕ) (result : Result (Option Left) Refused) → IfErr result (λ refused. refused.request ≡ request) → IfErr result (λ refused. IsToldNumber request refused.fault refused.request)
+number_told_if request (Ok left) same = tt
+number_told_if request (Err refused) same = inl same
+
+-- a program with too many points of flow is told by 0 before the first request of a list
+pub flow_number : (w : Workspace) (why : StepFault) (told : EngineFault) (request number : ℕ) → IsLargeIn w why → IsToldAs (fault.Step why) told → (number ≡ request) ⊎ ((request ≡ 1) × (number ≡ 0)) → IsToldNumber request told number
+flow_number w why told request number is shown (inl same) = inl same
+flow_number w why _ request number is IsToldAs.told (inr h) = inr (h.0, h.1, flow_of_files w why is)
+flow_number w why _ request number is IsToldAs.no_room (inr h) = inr (h.0, h.1, tt)
 
 pub one_step : (first last : Opened) (request : Request) → IsStep first request last → AreSteps first (request ∷ []) last
 one_step first last request step = more step none

@@ -1,6 +1,7 @@
 pub mod Requested
 pub mod Steps
 pub mod Texts
+pub mod Barring
 pub mod Written
 pub mod Refusing
 pub mod Planning

@@ -1,5 +1,5 @@
 -- What one request after another leaves of files.
-use Rattle.std.specs.Prelude.{◌≡◌, ℕ, Bool, List, [], ◌∷◌, true, Option, Some, None, Result, Ok, IsTrue, is_some, length}
+use Rattle.std.specs.Prelude.{◌≡◌, ◌⊎◌, ℕ, ◌^◌, ◌<◌, ◌+◌, Bool, List, [], ◌∷◌, true, Option, Some, None, Result, Ok, IsTrue, is_some, length}
 use Rattle.std.specs.FinMap as files
 use Rattle.std.specs.List.{AllByRecursion}
 use Rattle.std.specs.Option.{option_map_or}
@@ -17,9 +17,9 @@ use Rattle.jr_plain.specs.Conversions.{Constants}
 use Rattle.jr_plain.specs.Overloads.{Types}
 use Rattle.jr_plain.specs.Typing.{IsTypable, expression_types}
 use Rattle.jr_flow_defs.specs.Meaning.{Meaning}
-use Rattle.jr_kept.specs.Courses.{KeepsCourse, KeepsUsesOf}
+use Rattle.jr_kept.specs.Courses.{KeepsCourse, KeepsRaisedFlow, KeepsUsesOf}
 use Rattle.jr_shapes.specs.declared.spelling.Spelling.{Spelling}
-use Rattle.jr_spell.specs.Spelling.{IsWritten as Says, first_written}
+use Rattle.jr_spell.specs.Spelling.{HasLock, HasSpelling, IsAsItStands, IsWritten as Says, first_written}
 use Rattle.jr_spelling_rules.specs.Spelling.{IsSpelling, Written}
 use Rattle.jr_index.specs.NodeRows.{unit_rows}
 use Rattle.jr_marks.specs.Places.{IsOrdered}
@@ -27,6 +27,7 @@ use Rattle.jr_change.specs.declared.change.Change.{Change}
 use Rattle.jr_change.specs.declared.project.Project.{Project}
 use Rattle.jr_change.specs.declared.reason.ChangeFault.{ChangeFault}
 use Rattle.jr_draft.specs.Asking.{table_of}
+use Rattle.jr_extract.specs.Extracting.{IsSeenAs}
 use Rattle.jr_engine.specs.Requested.{IsAskedBy, keeps_all}
 use Rattle.jr_engine.specs.Texts.{HaveTexts}
 use Rattle.jr_locks.specs.Changed.{IsChanged, origins_by, copies_by}
@@ -36,6 +37,7 @@ use Rattle.jr_runs.specs.Respelled.{IsRespelled}
 use Rattle.jr_read.specs.Reading.{ReadsAs}
 use Rattle.jr_supers.specs.Tabled.{IsSized}
 use Rattle.jr_dispatch.specs.Methods.{IsWholeWorld}
+use Rattle.jr_flow_faults.specs.Reading.{IsThrowingView}
 use Rattle.jr_front.specs.Bound.{rows_in, table_in, IsBoundIn}
 use Rattle.jr_front.specs.Compiling.{Compiles}
 use Rattle.jr_front.specs.Viewed.{HasTablesOfRows, IsViewOf}
@@ -75,12 +77,19 @@ pub record IsFirst (p : Rows) (t : Table) (change : Change) (q : Rows) (l : Tabl
   pub first : IsSpelling q l (types q l) (is_constant p t change q l) (first_written (unit_rows q (length q))) a.row written
   pub says : Says a.row (Some a) (Some written)
 
--- so is each spelling
+-- of all ways to write the reference the first that fits is how it stands in the changed program
+pub record StaysFirst (p : Rows) (t : Table) (change : Change) (q : Rows) (l : Table) (n : ℕ) : Type 0 where
+  pub written : Written
+  pub first : IsSpelling q l (types q l) (is_constant p t change q l) (first_written (unit_rows q (length q))) n written
+  pub stands : IsAsItStands q l n written
+
+-- so is each spelling, and each reference with a lock that has none stays as it stands
 pub record AreFirst (p : Rows) (t : Table) (change : Change) (q : Rows) (l : Table) (all : List Spelling) : Type 0 where
   pub each : AllByRecursion (λ a. IsFirst p t change q l a) all
+  pub others : (n : ℕ) → HasLock q l n → HasSpelling all n ⊎ StaysFirst p t change q l n
 
--- The files left are a changed program that is written with the first spellings that fit: they have its texts, with each reference as it is spelled, each of its rows stands there, and by the
--- binding of the rows of the files left each reference refers to its lock.
+-- The files left are a changed program in which the first spelling that fits stands at each reference: they have its texts, with each reference as it is spelled or as it stands, each of its rows
+-- stands there, and by the binding of the rows of the files left each reference refers to its lock.
 pub record IsWritten (old : Opened) (change : Change) (rows : Rows) (locks : Table) (left : Opened) : Type 0 where
   pub opened : IsOpened left
   pub spellings : List Spelling
@@ -88,7 +97,15 @@ pub record IsWritten (old : Opened) (change : Change) (rows : Rows) (locks : Tab
   pub texts : HaveTexts old.files change rows locks spellings left.files
   pub respelled : IsRespelled rows locks spellings left.rows left.table
 
--- the program of the files with its tables, as changes read it: its supertypes and members are those under the binding, and of each row the type and the value are those of the definitions
+-- what names refer to by the table, with types of expressions by values, and the values of constants, all of them where each expression has one type (JLS 15, 15.28)
+pub record IsMeaningOf (p : Rows) (t : Table) (m : Meaning) : Type 0 where
+  pub targets : m.targets ≡ t
+  pub types : (n : ℕ) → m.types n ≡ expression_types p t m.values n
+  pub sound : (n : ℕ) (v : Const) → m.values n ≡ Some v → Constant p t n v
+  pub whole : IsTypable p t → (n : ℕ) → m.values n ≡ constants p t (has_constant_form p t) n
+
+-- the program of the files with its tables, as changes read it: its supertypes and members are those under the binding, of each row the type and the value are those of the definitions, and java.lang has
+-- one class of each name by which what is thrown is checked
 pub record IsProjectOf (o : Opened) (old : Project) : Type 0 where
   pub program : Program
   pub reads : ReadsAs o.files (Ok program)
@@ -101,6 +118,9 @@ pub record IsProjectOf (o : Opened) (old : Project) : Type 0 where
   pub view_rows : old.view.sight.world.under.rows.now ≡ old.marks.rows.now
   pub sized : IsSized old.marks.rows.now
   pub tables : HasTablesOfRows old.view
+  pub throwing : IsThrowingView old.view
+  -- where there are not too many rows, it is as flow reads it by the meaning of names, types and constants
+  pub flow : length o.rows + 3 < 2 ^ 32 → (m : Meaning) × IsMeaningOf o.rows o.table m × IsSeenAs old m
 
 -- the answer is the change for which the request asks, or why there is none
 pub record IsRequested (o : Opened) (request : Request) (answer : Result Change ChangeFault) : Type 0 where
@@ -112,15 +132,8 @@ pub record IsRequested (o : Opened) (request : Request) (answer : Result Change 
 abbrev pub KeepsCalls : Opened → Change → Rows → Table → Type 0
 KeepsCalls old change rows locks = KeepsDispatch old.rows old.table rows locks (copies_by (origins_by change) (length old.rows))
 
--- what names refer to by the table, with types of expressions by values, and the values of constants, all of them where each expression has one type (JLS 15, 15.28)
-pub record IsMeaningOf (p : Rows) (t : Table) (m : Meaning) : Type 0 where
-  pub targets : m.targets ≡ t
-  pub types : (n : ℕ) → m.types n ≡ expression_types p t m.values n
-  pub sound : (n : ℕ) (v : Const) → m.values n ≡ Some v → Constant p t n v
-  pub whole : IsTypable p t → (n : ℕ) → m.values n ≡ constants p t (has_constant_form p t) n
-
 -- after an inlining and an extraction control goes from statement to statement as it went (`KeepsControl`), and the same definitions reach each use
--- (`KeepsInlinedFlow`, `KeepsExtractedFlow`); of other changes nothing is told
+-- (`KeepsInlinedFlow`, `KeepsExtractedFlow`), and so it is in a method that is pulled up (`KeepsRaisedFlow`); of other bodies nothing is told
 pub record KeepsFlow (p : Rows) (t : Table) (change : Change) (q : Rows) (l : Table) : Type 0 where
   pub before : Meaning
   pub after : Meaning
@@ -128,6 +141,7 @@ pub record KeepsFlow (p : Rows) (t : Table) (change : Change) (q : Rows) (l : Ta
   pub after_is : IsMeaningOf q l after
   pub kept : KeepsCourse change.course p q before after (origins_by change) (copies_by (origins_by change) (length p))
   pub uses : KeepsUsesOf change.course p q before after (origins_by change) (copies_by (origins_by change) (length p))
+  pub raised : KeepsRaisedFlow change.raised p q before after (origins_by change) (copies_by (origins_by change) (length p))
 
 -- What a request leaves: the files as they are, where the change for which it asks keeps all units, or those of a changed program in which each row that comes from
 -- an old one must refer to what that referred to, where it stands now, calls find what they found, and control goes as it went.

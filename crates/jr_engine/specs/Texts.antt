@@ -1,6 +1,7 @@
 -- The texts of a changed program, before and after its references are spelled anew.
-use Rattle.std.specs.Prelude.{◌≡◌, ℕ, List, [], ◌∷◌, ◌++◌, Ok, map, slice_get}
+use Rattle.std.specs.Prelude.{◌≡◌, ℕ, suc, ◌<◌, ◌^◌, List, [], ◌∷◌, ◌++◌, Option, Some, None, Ok, map, length, slice_get, bytes_eq, if◌then◌else◌}
 use Rattle.std.specs.FinMap as files
+use Rattle.std.specs.List.{AllByRecursion}
 use Rattle.jr_base.specs.Files.{FileMap}
 use Rattle.jr_tree.specs.Rows.{Rows}
 use Rattle.jr_defs.specs.Program.{AreUnitsOf, prelude_files, rows_of}
@@ -40,16 +41,38 @@ abbrev pub written_files : List UnitAt → List EditList → List (List ℕ × L
 written_files (lang ∷ text ∷ found) (none ∷ more ∷ all) = edited_files found all
 written_files _ _ = []
 
--- The files left are the old bytes with the edits of the change, and at each reference its spelling: the changed program is what the texts of the change read as, behind the prelude, and the files left
--- are, path by path and in this order, the bytes of its units with the edits of the spellings at their tokens.
-pub record HaveTexts (old : FileMap) (change : Change) (rows : Rows) (locks : Table) (spellings : List Spelling) (left : FileMap) : Type 0 where
-  pub before : Program
-  pub reads : ReadsAs old (Ok before)
+-- none of them has 2 ^ 32 bytes
+abbrev pub AreSmall : List (List ℕ × List ℕ) → Type 0
+AreSmall texts = AllByRecursion (λ file. length file.1 < 2 ^ 32) texts
+
+-- ---- two files of one path
+
+-- the number of the first unit whose path the next one has too, behind one of this path and number
+abbrev pub next_twice : List ℕ → ℕ → List (List ℕ × List ℕ) → Option ℕ
+next_twice path number [] = None
+next_twice path number (file ∷ rest) = if bytes_eq path file.0 then Some number else next_twice file.0 (suc number) rest
+
+-- the number of the first unit whose path the next one has too; the two of the prelude stand before all
+abbrev pub first_twice : List (List ℕ × List ℕ) → Option ℕ
+first_twice [] = None
+first_twice (file ∷ rest) = next_twice file.0 2 rest
+
+-- ---- the texts of a change with its spellings
+
+-- The old bytes with the edits of the change, and at each reference its spelling: the changed program is what the texts of the change read as, behind the prelude, and these texts are, path by path and in
+-- this order, the bytes of its units with the edits of the spellings at their tokens. Two may have one path.
+pub record AreTexts (old : List UnitAt) (change : Change) (rows : Rows) (locks : Table) (spellings : List Spelling) (texts : List (List ℕ × List ℕ)) : Type 0 where
   pub after : Program
-  pub units : AreUnitsOf (prelude_files ++ changed_files before.units change.units.items) after.units
+  pub units : AreUnitsOf (prelude_files ++ changed_files old change.units.items) after.units
   pub are : rows ≡ rows_of after
   pub marks : Marks
   pub made : AreMade after marks
   pub edits : List EditList
   pub respelled : AreRespelled marks locks spellings edits
-  pub written : files.entries left ≡ written_files after.units edits
+  pub written : texts ≡ written_files after.units edits
+
+-- the files left are these texts, of the program of the files found
+pub record HaveTexts (old : FileMap) (change : Change) (rows : Rows) (locks : Table) (spellings : List Spelling) (left : FileMap) : Type 0 where
+  pub before : Program
+  pub reads : ReadsAs old (Ok before)
+  pub texts : AreTexts before.units change rows locks spellings (files.entries left)

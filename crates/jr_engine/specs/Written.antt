@@ -1,11 +1,11 @@
 -- A changed program under its locks with its spellings, as the code holds it.
-use Rattle.std.specs.Prelude.{◌≡◌, ℕ, ◌+◌, ◌<◌, ◌^◌, ◌++◌, Bool, List, Some, Ok, is_some, length}
+use Rattle.std.specs.Prelude.{◌≡◌, ℕ, ◌+◌, ◌<◌, ◌^◌, ◌++◌, Bool, List, Some, Ok, is_some, length, ⊤}
 use Rattle.std.specs.FinMap as files
 use Rattle.std.specs.Option.{option_map_or}
 use Rattle.jr_front.specs.Bound.{IsIndexed, rows_in, table_in}
 use Rattle.jr_front.specs.declared.workspace.Workspace.{Workspace}
 use Rattle.jr_tree.specs.Rows.{Rows}
-use Rattle.jr_headed.specs.Founded.{AreWell}
+use Rattle.jr_headed.specs.Founded.{IsProgram, AreWell}
 use Rattle.jr_defs.specs.Program.{AreUnitsOf, prelude_files}
 use Rattle.jr_defs.specs.Referents.{Table, entries}
 use Rattle.jr_defs.specs.declared.program.Program.{Program}
@@ -17,7 +17,7 @@ use Rattle.jr_places.specs.Places.{ArePlaces}
 use Rattle.jr_supers.specs.Supers.{IsWellHeaded, HasNoCycle}
 use Rattle.jr_members.specs.Held.{ObjectIsBare}
 use Rattle.jr_members.specs.Sources.{ArePlaced}
-use Rattle.jr_bind.specs.Exact.{IsExact}
+use Rattle.jr_bind.specs.Exact.{IsExact, IsBoundBy}
 use Rattle.jr_bind.specs.Rebound.{AreLocks}
 use Rattle.jr_constants.specs.Tables.{item}
 use Rattle.jr_lookup.specs.Imports.{AreImports}
@@ -27,9 +27,13 @@ use Rattle.jr_locks.specs.Changed.{IsChanged, origins_by, copies_by}
 use Rattle.jr_locks.specs.Origins.{origin_of, row_by}
 use Rattle.jr_shapes.specs.declared.spelling.Spelling.{Spelling}
 use Rattle.jr_edges.specs.Dispatched.{KeepsDispatch}
+use Rattle.jr_change.specs.declared.change.Change.{Change}
+use Rattle.jr_engine.specs.Barring.{Bars}
 use Rattle.jr_engine.specs.Steps.{AreFirst, IsHeld, KeepsFlow, IsAskedOf}
 use Rattle.jr_engine.specs.Texts.{changed_files, written_files}
 use Rattle.jr_engine.specs.declared.asked.Asked.{Asked}
+use Rattle.jr_engine.specs.declared.fault.StepFault.{StepFault}
+use Rattle.jr_engine.specs.declared.fault.StepFault.TheVariants as step
 use Rattle.jr_engine.specs.declared.left.Left.{Left}
 use Rattle.jr_engine.specs.declared.locked.Locked.{Locked}
 use Rattle.jr_engine.specs.declared.tried.Spelled.{Spelled}
@@ -58,13 +62,28 @@ pub record IsReadBy (a : Asked) (locked : Locked) : Type 0 where
   pub units : AreUnitsOf (prelude_files ++ changed_files a.old.now.program.units a.change.now.units.items) locked.program.program.units
   pub indexed : IsIndexed locked.program.program locked.program.index.value
 
--- the files left are the texts of the changed program with the edits of the spellings
-pub record HasTextsOf (locked : Locked) (all : List Spelling) (left : Left) : Type 0 where
+-- the texts are those of the changed program with the edits of the spellings
+pub record AreTextsOf (locked : Locked) (all : List Spelling) (texts : List (List ℕ × List ℕ)) : Type 0 where
   pub marks : Marks
   pub made : AreMade locked.program.program marks
   pub edits : List EditList
   pub respelled : AreRespelled marks (locks_of locked) all edits
-  pub written : files.entries left.files ≡ written_files locked.program.program.units edits
+  pub written : texts ≡ written_files locked.program.program.units edits
+
+-- the files left are these
+abbrev pub HasTextsOf : Locked → List Spelling → Left → Type 0
+HasTextsOf locked all left = AreTextsOf locked all (files.entries left.files)
+
+-- the texts of the changed program may not be left, for what is told
+pub record HasBarredTexts (change : Change) (locked : Locked) (all : List Spelling) (why : StepFault) : Type 0 where
+  pub texts : List (List ℕ × List ℕ)
+  pub are : AreTextsOf locked all texts
+  pub bars : Bars change texts why
+
+-- why no files are left; where memory is wanting, there may be no texts
+abbrev pub IsNotLeft : Change → Locked → List Spelling → StepFault → Type 0
+IsNotLeft change locked all step.OutOfMemory = ⊤
+IsNotLeft change locked all why = HasBarredTexts change locked all why
 
 -- the change is that for which the request asks
 abbrev pub IsAskedFor : Asked → Type 0
@@ -97,6 +116,12 @@ pub record IsSound (a : Asked) (locked : Locked) : Type 0 where
 abbrev pub is_constant_by : Asked → Locked → ℕ → Bool
 is_constant_by a locked n = option_map_or (λ from. is_some (item a.old.now.bound.value.constants.value.values.items from)) (row_by (origin_of locked.locks.origin.items n))
     (is_some (item locked.program.bound.value.constants.value.values.items n))
+
+-- the rows are those of a program with one bare Object, and the tables are those under its own table
+pub record HasTables (w : Workspace) : Type 0 where
+  pub program : IsProgram (rows_in w)
+  pub bare : ObjectIsBare (rows_in w)
+  pub under : IsBoundBy (rows_in w) w.places.value w.bound.value
 
 -- these are the first spellings that fit
 abbrev pub AreFirstIn : Asked → Locked → List Spelling → Type 0

@@ -1,10 +1,11 @@
 // What is asked of a program, and places in its files.
 
-ghost use Rattle.std.specs.Prelude.{◌≡◌, length};
+ghost use Rattle.std.specs.Prelude.{◌≡◌, ℕ, List, length};
 ghost use Rattle.jr_index.specs.NodeRows.{unit_rows};
 ghost use Rattle.jr_front.specs.Bound.{rows_in};
 ghost use Rattle.jr_front.specs.Viewed.{IsViewOf};
 ghost use Rattle.jr_marks.specs.Places.{IsOrdered};
+ghost use Rattle.jr_engine.specs.Barring.{Bars, IsDifference};
 ghost use Rattle.jr_engine.specs.Refusing.{IsHinderedIn, IsShownAt};
 ghost use Rattle.jr_engine.specs.Steps.{IsProjectIn};
 
@@ -112,7 +113,9 @@ impl<'a> Asked<'a> {
 
     /// What was read is not what was to be written.
     pub fn differs(self) -> StepFault
-        ensures { IsHinderedIn self.entry result }
+        ensures difference { IsDifference result }
+        ensures bars { (texts : List (List ℕ × List ℕ)) → Bars self.entry.change.now texts result }
+        ensures hindered { IsHinderedIn self.entry result }
     {
         StepFault::Differs {
             place: self.place(),

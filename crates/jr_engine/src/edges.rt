@@ -1,22 +1,24 @@
 // Whether edges of flow are kept, and whether there are too many points of flow.
 
-ghost use Rattle.std.specs.Prelude.{◌≡◌, true, None, IfOk, IfErr};
+ghost use Rattle.std.specs.Prelude.{◌≡◌, ◌+◌, ◌<◌, ◌^◌, true, length, None, IfOk, IfErr};
 ghost use Rattle.jr_headed.specs.Founded.{IsProgram};
 ghost use Rattle.jr_marks.specs.Places.{IsOrdered, place_of_name};
-ghost use Rattle.jr_front.specs.Bound.{IsBoundIn};
-ghost use Rattle.jr_engine.specs.Refusing.{IsHinderedIn, IsOfFlow};
-ghost use Rattle.jr_engine.specs.Written.{IsAskedFor, IsBoundByLocks, IsLockedBy, IsSound, KeepsCallsIn, KeepsFlowIn, rows_of};
+ghost use Rattle.jr_front.specs.Bound.{IsBoundIn, rows_in};
+ghost use Rattle.jr_engine.specs.Refusing as refusing;
+ghost use Rattle.jr_engine.specs.Refusing.{IsHinderedIn, IsLargeIn};
+ghost use Rattle.jr_engine.specs.Written.{HasTables, IsAskedFor, IsBoundByLocks, IsLockedBy, IsSound, KeepsCallsIn, KeepsFlowIn, rows_of};
 ghost use Rattle.jr_engine.specs.declared.fault.LostKind.TheVariants as kind;
 ghost use Rattle.jr_engine.specs.declared.fault.StepFault.TheVariants as step;
 
 use crate::asked::{Asked, project_of};
 use crate::fault::{LostKind, StepFault};
 use crate::locked::Locked;
+use crate::sound::are_few;
 use jr_base::Size;
 use jr_change::Course;
 use jr_dispatch::Methods;
 use jr_edges::{Lost, lost_dispatch};
-use jr_flow::has_too_many_points;
+use jr_flow::{FlowFault, has_too_many_points};
 use jr_front::Workspace;
 use jr_kept::{LostEdge, lost_flow};
 use std::alloc::Global;
@@ -33,18 +35,35 @@ fn lost(kind: LostKind, edge: LostEdge) -> StepFault
     }
 }
 
-/// No body has too many points of flow.
-pub fn is_within_flow(alloc: Global, workspace: &Workspace) -> Result<(), StepFault>
-    ensures { IfErr result IsOfFlow }
+// Its rows can be counted, with room for three more.
+fn has_few_rows(workspace: &Workspace) -> bool
+    ensures { result ≡ true → length (rows_in workspace.now) + 3 < 2 ^ 32 }
 {
-    if has_too_many_points(alloc, &workspace.view())? {
-        return Err(StepFault::TooLarge(Size::Flow));
+    are_few(workspace.index.rows())
+}
+
+/// No body has too many points of flow. Rows that cannot be counted are answered for want of memory.
+pub fn is_within_flow(alloc: Global, workspace: &Workspace) -> Result<(), StepFault>
+    requires { HasTables workspace.now }
+    ensures { IfErr result (IsLargeIn workspace.now) }
+{
+    if !has_few_rows(workspace) {
+        return Err(StepFault::OutOfMemory);
     }
-    Ok(())
+    let is_large = has_too_many_points(alloc, &workspace.view())?;
+    if is_large {
+        Err(StepFault::TooLarge(Size::Flow))
+    } else {
+        Ok(())
+    }
 }
 
 // No body of the changed program has too many points of flow. Bodies that stay as they are have no more than before.
 fn is_changed_within_flow(alloc: Global, asked: Asked, locked: &Locked) -> Result<(), StepFault>
+    requires new { IsProgram (rows_of locked.now) }
+    requires sound { IsSound asked locked.now }
+    requires locked { IsLockedBy asked locked.now }
+    requires bound { IsBoundByLocks locked.now }
     ensures { IfErr result (IsHinderedIn asked.entry) }
 {
     match asked.change.course {
@@ -88,6 +107,31 @@ fn keeps_calls(alloc: Global, asked: Asked, locked: &Locked) -> Result<(), StepF
     }
 }
 
+// Flow is compared after an inlining and an extraction.
+fn has_compared_flow(course: &Course) -> bool
+    ensures { result ≡ refusing.has_compared_flow course.now }
+{
+    match course {
+        Course::Inlined { .. } => true,
+        Course::Extracted { .. } => true,
+        _ => false,
+    }
+}
+
+// Flow cannot be compared. Where none is compared, memory was wanting.
+fn not_compared(asked: Asked, fault: FlowFault) -> StepFault
+    ensures { IsHinderedIn asked.entry result }
+{
+    let FlowFault::TooManyPoints = fault else {
+        return StepFault::OutOfMemory;
+    };
+    if has_compared_flow(&asked.change.course) {
+        StepFault::TooLarge(Size::Flow)
+    } else {
+        StepFault::OutOfMemory
+    }
+}
+
 // Control goes as before, and where no edge from a definition to a use is lost, uses have the values that they had. It gives the first that is lost.
 fn keeps_control(
     alloc: Global,
@@ -104,7 +148,10 @@ fn keeps_control(
 {
     let old = project_of(asked.old);
     let new = project_of(&locked.program);
-    let flow = lost_flow(alloc, &old, &new, &locked.locks, asked.change)?;
+    let flow = match lost_flow(alloc, &old, &new, &locked.locks, asked.change) {
+        Ok(flow) => flow,
+        Err(fault) => return Err(not_compared(asked, fault)),
+    };
     match flow.control {
         Some(edge) => Err(lost(LostKind::Control, edge)),
         None => Ok(flow.def_use),

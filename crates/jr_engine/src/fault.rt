@@ -2,7 +2,6 @@
 
 use jr_base::{DeclId, OccId, OutOfMemory, Path, Place, Size};
 use jr_change::Reason;
-use jr_flow::FlowFault;
 use jr_front::FrontFault;
 use jr_rule::Rule;
 use std::alloc::{AllocError, AllocFailed};
@@ -103,18 +102,5 @@ impl<T: Drop> From<AllocFailed<T>> for StepFault {
 
     fn from(_: AllocFailed<T>) -> Self {
         StepFault::OutOfMemory
-    }
-}
-
-impl From<FlowFault> for StepFault {
-    ghost use Rattle.jr_engine.specs.Refusing.{IsOfFlow};
-
-    ghost from_gives = { λ _ fault. IsOfFlow fault };
-
-    fn from(fault: FlowFault) -> Self {
-        match fault {
-            FlowFault::TooManyPoints => StepFault::TooLarge(Size::Flow),
-            FlowFault::OutOfMemory => StepFault::OutOfMemory,
-        }
     }
 }

@@ -122,10 +122,11 @@ pub fn lock(alloc: Global, asked: Asked) -> Result<Locked, StepFault>
     ensures err { IfErr result (IsHinderedIn asked.entry) }
 {
     let units = asked.old.program.units.as_slice();
-    let texts = changed_texts(alloc, units, asked.change)?;
-    match read_units(alloc, &texts) {
+    let changed = changed_texts(alloc, units, asked.change)?;
+    let texts = changed.as_slice();
+    match read_units(alloc, texts) {
         Ok(program) => locked_program(alloc, asked, program),
-        Err(fault) => Err(unread(asked, fault)),
+        Err(fault) => Err(unread(alloc, asked, texts, fault)),
     }
 }
 

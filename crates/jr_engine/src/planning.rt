@@ -3,7 +3,7 @@
 ghost use Rattle.std.specs.Prelude.{◌≡◌, List, IfOk, IfErr, Ok, [], ◌∷◌};
 ghost use Rattle.jr_base.specs.declared.request.Request.{Request};
 ghost use Rattle.jr_engine.specs.Planning.{PlannedAs, RefusedAs};
-ghost use Rattle.jr_engine.specs.Refusing.{IsCausedBy, IsRefusedFrom};
+ghost use Rattle.jr_engine.specs.Refusing.{IsCausedBy, IsRefusedFrom, IsToldNumber, IsZeroOfFiles};
 ghost use Rattle.jr_engine.specs.Steps.{IsHeld, IsStep, AreSteps, opened_by};
 
 use crate::fault::Refused;
@@ -16,7 +16,9 @@ use std::alloc::Global;
 // Equal files of their own.
 fn copied(alloc: Global, files: &Files) -> Result<Files, Refused>
     ensures ok { IfOk result (λ copy. copy ≡ files.now) }
-    ensures err { (requests : List Request) → IfErr result (λ refused. RefusedAs files.now requests refused.fault) }
+    ensures err { (requests : List Request) → IfErr result (λ refused. RefusedAs files.now requests refused.request refused.fault) }
+    ensures number { IfErr result (λ refused. refused.request ≡ 0) }
+    ensures zero { IfErr result IsZeroOfFiles }
 {
     match files.copy(alloc) {
         Ok(files) => Ok(files),
@@ -29,7 +31,9 @@ fn copied(alloc: Global, files: &Files) -> Result<Files, Refused>
 fn opened(alloc: Global, files: &Files) -> Result<Left, Refused>
     ensures same { IfOk result (λ found. found.files ≡ files.now) }
     ensures held { IfOk result IsHeld }
-    ensures err { (requests : List Request) → IfErr result (λ refused. RefusedAs files.now requests refused.fault) }
+    ensures err { (requests : List Request) → IfErr result (λ refused. RefusedAs files.now requests refused.request refused.fault) }
+    ensures number { IfErr result (λ refused. refused.request ≡ 0) }
+    ensures zero { IfErr result IsZeroOfFiles }
 {
     let copy = copied(alloc, files)?;
     match open_files(alloc, files) {
@@ -48,6 +52,7 @@ fn next(alloc: Global, now: Left, request: &Request, number: u32) -> Result<Left
     ensures held { IfOk result IsHeld }
     ensures step { IfOk result (λ left. IsStep (opened_by now) request.now (opened_by left)) }
     ensures err { IfErr result (λ refused. IsCausedBy now.program request.now refused.fault) }
+    ensures number { IfErr result (λ refused. IsToldNumber number refused.fault refused.request) }
 {
     match left_behind(alloc, &now.program, request, number)? {
         Some(left) => Ok(left),
@@ -61,7 +66,8 @@ fn left_by_all(alloc: Global, found: Left, requests: &[Request]) -> Result<Left,
     requires { IsHeld found }
     ensures held { IfOk result IsHeld }
     ensures steps { IfOk result (λ left. AreSteps (opened_by found) requests.now (opened_by left)) }
-    ensures err { IfErr result (λ refused. IsRefusedFrom (opened_by found) requests.now refused.fault) }
+    ensures err { IfErr result (λ refused. IsRefusedFrom (opened_by found) requests.now refused.request refused.fault) }
+    ensures zero { IfErr result IsZeroOfFiles }
 {
     let mut now = found;
     let mut rest = requests;
@@ -76,7 +82,8 @@ fn left_by_all(alloc: Global, found: Left, requests: &[Request]) -> Result<Left,
 
 /// The files that a request leaves. Where it changes nothing they are those found.
 pub fn plan(alloc: Global, files: &Files, request: &Request) -> Result<Files, Refused>
-    ensures { PlannedAs files.now (request.now ∷ []) result }
+    ensures planned { PlannedAs files.now (request.now ∷ []) result }
+    ensures number { IfErr result (λ refused. refused.request ≡ 0) }
 {
     let found = opened(alloc, files)?;
     match next(alloc, found, request, 0) {
@@ -87,7 +94,8 @@ pub fn plan(alloc: Global, files: &Files, request: &Request) -> Result<Files, Re
 
 /// The files that requests leave, each asked of what the one before has left. They are counted from 1.
 pub fn plan_all(alloc: Global, files: &Files, requests: &[Request]) -> Result<Files, Refused>
-    ensures { PlannedAs files.now requests.now result }
+    ensures planned { PlannedAs files.now requests.now result }
+    ensures zero { IfErr result IsZeroOfFiles }
 {
     let found = opened(alloc, files)?;
     match left_by_all(alloc, found, requests) {

@@ -112,8 +112,8 @@ fn are_locks(rows: &[Row], table: &[Referent]) -> bool
     table.len() == rows.len() && may_all_refer(rows, table, end)
 }
 
-// The rows can be counted, with room for three more.
-fn are_few(rows: &[Row]) -> bool
+/// The rows can be counted, with room for three more.
+pub fn are_few(rows: &[Row]) -> bool
     ensures { Decides result (length rows.now + 3 < 2 ^ 32) }
 {
     rows.len() < u32::MAX as usize - 2

@@ -1,11 +1,11 @@
 // One request of a program.
 
-ghost use Rattle.std.specs.Prelude.{◌≡◌, List, IfOk, IfErr, Ok, Err};
+ghost use Rattle.std.specs.Prelude.{◌≡◌, ◌⊎◌, List, IfOk, IfErr, Ok, Err};
 ghost use Rattle.jr_base.specs.declared.request.Request.{Request};
 ghost use Rattle.jr_front.specs.Checking.{CheckedAs};
 ghost use Rattle.jr_front.specs.Bound.{IsBoundIn};
 ghost use Rattle.jr_engine.specs.Planning.{RefusedAs};
-ghost use Rattle.jr_engine.specs.Refusing.{IsCausedBy, IsHinderedIn, IsToldAs};
+ghost use Rattle.jr_engine.specs.Refusing.{IsCausedBy, IsHinderedIn, IsLargeIn, IsToldAs, IsToldNumber, IsZeroOfFiles};
 ghost use Rattle.jr_engine.specs.Steps.{LeftBy, IsFollowed, IsAskedOf, IsProjectIn};
 ghost use Rattle.jr_engine.specs.Written.{IsAskedFor};
 ghost use Rattle.jr_engine.specs.declared.fault.EngineFault.TheVariants as engine;
@@ -82,7 +82,8 @@ fn refused(
     fault: EngineFault,
     paths: Result<Vec<Path>, OutOfMemory>,
 ) -> Refused
-    ensures { IsToldAs fault result.fault }
+    ensures told { IsToldAs fault result.fault }
+    ensures number { result.request ≡ request }
 {
     match paths {
         Ok(paths) => Refused {
@@ -96,7 +97,8 @@ fn refused(
 
 /// Refused for want of memory.
 pub fn no_memory(alloc: Global, request: u32) -> Refused
-    ensures { result.fault ≡ engine.Step step.OutOfMemory }
+    ensures fault { result.fault ≡ engine.Step step.OutOfMemory }
+    ensures number { result.request ≡ request }
 {
     Refused {
         request,
@@ -108,7 +110,9 @@ pub fn no_memory(alloc: Global, request: u32) -> Refused
 /// The files found do not compile, or memory has failed.
 pub fn refused_found(alloc: Global, files: &Files, fault: FrontFault) -> Refused
     requires { CheckedAs files.now (Err fault) }
-    ensures { (requests : List Request) → RefusedAs files.now requests result.fault }
+    ensures why { (requests : List Request) → RefusedAs files.now requests result.request result.fault }
+    ensures number { result.request ≡ 0 }
+    ensures zero { IsZeroOfFiles result }
 {
     match fault {
         FrontFault::OutOfMemory => no_memory(alloc, 0),
@@ -121,7 +125,8 @@ pub fn refused_found(alloc: Global, files: &Files, fault: FrontFault) -> Refused
 
 // Refused with places in the old files.
 fn refused_old(alloc: Global, old: &Workspace, request: u32, fault: StepFault) -> Refused
-    ensures { IsToldAs (engine.Step fault) result.fault }
+    ensures told { IsToldAs (engine.Step fault) result.fault }
+    ensures number { result.request ≡ request }
 {
     refused(
         alloc,
@@ -133,7 +138,8 @@ fn refused_old(alloc: Global, old: &Workspace, request: u32, fault: StepFault) -
 
 // Refused with places in the files that were to be left, where a rule is broken in them, else in the old files.
 fn refused_change(alloc: Global, asked: Asked, request: u32, fault: StepFault) -> Refused
-    ensures { IsToldAs (engine.Step fault) result.fault }
+    ensures told { IsToldAs (engine.Step fault) result.fault }
+    ensures number { result.request ≡ request }
 {
     match fault {
         StepFault::Broken { .. } => refused(
@@ -152,6 +158,7 @@ fn left_by(alloc: Global, asked: Asked, request: u32) -> Result<Option<Left>, Re
     requires asked { IsAskedFor asked }
     ensures ok { IfOk result (LeftBy asked.entry.old.now asked.entry.request.now) }
     ensures err { IfErr result (λ refused. IsCausedBy asked.entry.old.now asked.entry.request.now refused.fault) }
+    ensures number { IfErr result (λ refused. refused.request ≡ request) }
 {
     if changes_nothing(asked.old.program.units.as_slice(), &asked.change.units) {
         return Ok(None);
@@ -183,7 +190,9 @@ fn asked_of(
 }
 
 // The number with which a size of the program found is answered: none before the first request of a list.
-fn first_zero(request: u32) -> u32 {
+fn first_zero(request: u32) -> u32
+    ensures { (result ≡ request) ⊎ ((request ≡ 1) × (result ≡ 0)) }
+{
     if request == 1 { 0 } else { request }
 }
 
@@ -197,6 +206,7 @@ fn left_within(
     requires { IsBoundIn old.now }
     ensures ok { IfOk result (LeftBy old.now asked.now) }
     ensures err { IfErr result (λ refused. IsCausedBy old.now asked.now refused.fault) }
+    ensures number { IfErr result (λ refused. refused.request ≡ request) }
 {
     let project = project_of(old);
     match asked_of(alloc, old, &project, asked) {
@@ -213,6 +223,15 @@ fn left_within(
     }
 }
 
+// The program has too many points of flow, before the request of this number.
+fn refused_large(alloc: Global, old: &Workspace, request: u32, fault: StepFault) -> Refused
+    requires { IsLargeIn old.now fault }
+    ensures told { IsToldAs (engine.Step fault) result.fault }
+    ensures number { IsToldNumber request result.fault result.request }
+{
+    refused_old(alloc, old, first_zero(request), fault)
+}
+
 /// What the request of this number leaves of a program; None where it changes nothing.
 pub fn left_behind(
     alloc: Global,
@@ -223,9 +242,10 @@ pub fn left_behind(
     requires { IsBoundIn old.now }
     ensures ok { IfOk result (LeftBy old.now asked.now) }
     ensures err { IfErr result (λ refused. IsCausedBy old.now asked.now refused.fault) }
+    ensures number { IfErr result (λ refused. IsToldNumber request refused.fault refused.request) }
 {
     match is_within_flow(alloc, old) {
         Ok(()) => left_within(alloc, old, asked, request),
-        Err(fault) => Err(refused_old(alloc, old, first_zero(request), fault)),
+        Err(fault) => Err(refused_large(alloc, old, request, fault)),
     }
 }

@@ -1,12 +1,10 @@
 // The texts of a changed program.
-ghost use Rattle.std.specs.Prelude.{◌≡◌, ◌+◌, ◌<◌, ◌^◌, IfOk, length, slice_get};
-ghost use Rattle.std.specs.List.{AllByRecursion};
+ghost use Rattle.std.specs.Prelude.{◌≡◌, ◌+◌, Some, IfOk, IfSome, length, slice_get};
 ghost use Rattle.jr_base.specs.Files.{plain};
 ghost use Rattle.jr_edits.specs.Place as place;
 ghost use Rattle.jr_text.specs.Spans.{bytes_by};
 ghost use Rattle.jr_engine.specs.Texts as spec;
 
-use crate::asked::PRELUDE;
 use jr_base::{OutOfMemory, Path};
 use jr_change::{Change, ChangedUnit, UnitSource};
 use jr_defs::UnitAt;
@@ -62,7 +60,7 @@ fn left_after(left: usize, text: &[u8]) -> Result<usize, OutOfMemory>
 #[tactic(auto, using(crate::proofs::Small::one_more))]
 pub fn changed_texts(alloc: Global, units: &[UnitAt], change: &Change) -> Result<Texts, OutOfMemory>
     ensures files { IfOk result (λ texts. plain texts.items ≡ spec.changed_files units.now change.now.units.items) }
-    ensures small { IfOk result (λ texts. AllByRecursion (λ file. length file.1 < 2 ^ 32) (plain texts.items)) }
+    ensures small { IfOk result (λ texts. spec.AreSmall (plain texts.items)) }
 {
     let mut texts = Vec::new(alloc);
     let mut left = MOST;
@@ -75,8 +73,10 @@ pub fn changed_texts(alloc: Global, units: &[UnitAt], change: &Change) -> Result
 }
 
 // The texts of units with their edits, of which each has some or none.
+#[tactic(auto, using(crate::proofs::Small::one_more))]
 fn edited_texts(alloc: Global, units: &[UnitAt], edits: &[Edits]) -> Result<Texts, OutOfMemory>
-    ensures { IfOk result (λ texts. plain texts.items ≡ spec.edited_files units.now edits.now) }
+    ensures files { IfOk result (λ texts. plain texts.items ≡ spec.edited_files units.now edits.now) }
+    ensures small { IfOk result (λ texts. spec.AreSmall (plain texts.items)) }
 {
     let mut texts = Vec::new(alloc);
     let mut left = MOST;
@@ -95,7 +95,8 @@ fn edited_texts(alloc: Global, units: &[UnitAt], edits: &[Edits]) -> Result<Text
 
 /// The texts of a program with the edits of its units, without the prelude.
 pub fn written_texts(alloc: Global, units: &[UnitAt], edits: &[Edits]) -> Result<Texts, OutOfMemory>
-    ensures { IfOk result (λ texts. plain texts.items ≡ spec.written_files units.now edits.now) }
+    ensures files { IfOk result (λ texts. plain texts.items ≡ spec.written_files units.now edits.now) }
+    ensures small { IfOk result (λ texts. spec.AreSmall (plain texts.items)) }
 {
     let [_, _, found @ ..] = units else {
         return Err(OutOfMemory);
@@ -107,12 +108,25 @@ pub fn written_texts(alloc: Global, units: &[UnitAt], edits: &[Edits]) -> Result
 }
 
 /// The number in its program of the first unit whose path the next one has too.
-pub fn first_twice(texts: &[(Path, Vec<u8>)]) -> Option<u32> {
-    for at in 1..texts.len() {
-        let before = &texts[at - 1].0;
-        if before.bytes() == texts[at].0.bytes() {
-            return u32::try_from(at.saturating_add(PRELUDE - 1)).ok();
+pub fn first_twice(texts: &[(Path, Vec<u8>)]) -> Option<u32>
+    ensures { IfSome result (λ unit. spec.first_twice (plain texts.now) ≡ Some unit) }
+{
+    let Some((first, others)) = texts.split_first() else {
+        return None;
+    };
+    let mut last = first.0.bytes();
+    let mut rest = others;
+    let mut number: u32 = 2;
+    while let Some((next, after)) = rest.split_first() {
+        if last == next.0.bytes() {
+            return Some(number);
         }
+        let Some(behind) = number.checked_add(1) else {
+            return None;
+        };
+        number = behind;
+        last = next.0.bytes();
+        rest = after;
     }
     None
 }

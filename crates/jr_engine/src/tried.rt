@@ -1,7 +1,7 @@
 // Whether a program is the changed one with its names spelled anew.
 
-ghost use Rattle.std.specs.Prelude.{◌≡◌, IfOk, IfErr, IsNone};
-ghost use Rattle.jr_engine.specs.Refusing.{IsHinderedIn};
+ghost use Rattle.std.specs.Prelude.{◌≡◌, ℕ, List, IfOk, IfErr, IsNone};
+ghost use Rattle.jr_engine.specs.Barring.{Bars};
 ghost use Rattle.jr_engine.specs.Written.{IsSpelledIn};
 ghost use Rattle.jr_engine.specs.declared.fault.StepFault.TheVariants as StepFault;
 
@@ -42,7 +42,7 @@ fn difference(alloc: Global, spelled: Spelled, new: &Workspace) -> Result<Option
 pub fn is_as_spelled(alloc: Global, spelled: Spelled, new: &Workspace) -> Result<(), StepFault>
     ensures ok { IfOk result (λ _. IsSpelledIn spelled.entry new.now) }
     ensures err { IsSpelledIn spelled.entry new.now → IfErr result (λ fault. fault ≡ StepFault.OutOfMemory) }
-    ensures hindered { IfErr result (IsHinderedIn spelled.entry.asked) }
+    ensures bars { (texts : List (List ℕ × List ℕ)) → IfErr result (Bars spelled.entry.asked.change.now texts) }
 {
     match difference(alloc, spelled, new) {
         Ok(None) => Ok(()),

@@ -1,14 +1,21 @@
 // The files that are written, and whether they may be.
 
-ghost use Rattle.std.specs.Prelude.{◌≡◌, map, IfOk, IfErr};
+ghost use Rattle.std.specs.Prelude.{◌≡◌, ◌⊎◌, ◌++◌, ℕ, List, map, Some, Err, IfOk, IfErr, IfSome};
 ghost use Rattle.std.specs.FinMap as finite;
 ghost use Rattle.std.specs.List.{AllByRecursion};
 ghost use Rattle.jr_base.specs.Files.{plain};
 ghost use Rattle.jr_tree.specs.Shape.{IsShaped};
-ghost use Rattle.jr_engine.specs.Refusing.{IsHinderedIn};
-ghost use Rattle.jr_engine.specs.Written.{HasTextsOf, IsBoundByLocks, IsLeftOf, IsReadBy};
+ghost use Rattle.jr_defs.specs.Program.{AreUnitsOf, prelude_files};
+ghost use Rattle.jr_rule.specs.declared.Rule.TheVariants as rules;
+ghost use Rattle.jr_front.specs.Checking.{CheckedAs};
+ghost use Rattle.jr_change.specs.declared.change.Change.{Change};
+ghost use Rattle.jr_engine.specs.Barring as barring;
+ghost use Rattle.jr_engine.specs.Barring.{AreTooLarge, Bars, IsToldFor};
+ghost use Rattle.jr_engine.specs.Texts as spec;
+ghost use Rattle.jr_engine.specs.Written.{AreTextsOf, HasTextsOf, IsBoundByLocks, IsLeftOf, IsNotLeft, IsReadBy, IsSpelledIn};
+ghost use Rattle.jr_engine.specs.declared.fault.StepFault.TheVariants as step;
 
-use crate::asked::project_of;
+use crate::asked::{Asked, project_of};
 use crate::fault::StepFault;
 use crate::filing::{files_of, rise};
 use crate::left::Left;
@@ -26,20 +33,29 @@ use jr_rule::{Fault, Rule};
 use jr_weave::respelled;
 use std::alloc::Global;
 
+// The program of units that were read, of which two may have one path.
+fn open_units(alloc: Global, spelled: Spelled, program: Program) -> Result<Workspace, StepFault>
+    requires { AllByRecursion IsShaped (map (λ u. u.unit) program.units) }
+    ensures { (texts : List (List ℕ × List ℕ)) → AreUnitsOf (prelude_files ++ texts) program.units → spec.AreSmall texts → IfErr result (Bars spelled.entry.asked.change.now texts) }
+{
+    match open_program(alloc, program) {
+        Ok(new) => Ok(new),
+        Err(fault) => Err(not_compiling(spelled.asked, fault)),
+    }
+}
+
 // The program of texts whose sizes are not tested and of which two may have one path.
 fn opened(
     alloc: Global,
     spelled: Spelled,
     texts: &[(Path, Vec<u8>)],
 ) -> Result<Workspace, StepFault>
-    ensures { IfErr result (IsHinderedIn spelled.entry.asked) }
+    requires { spec.AreSmall (plain texts.now) }
+    ensures { IfErr result (Bars spelled.entry.asked.change.now (plain texts.now)) }
 {
     match read_units(alloc, texts) {
-        Ok(program) => match open_program(alloc, program) {
-            Ok(new) => Ok(new),
-            Err(fault) => Err(not_compiling(spelled.asked, fault)),
-        },
-        Err(fault) => Err(unread(spelled.asked, fault)),
+        Ok(program) => open_units(alloc, spelled, program),
+        Err(fault) => Err(unread(alloc, spelled.asked, texts, fault)),
     }
 }
 
@@ -53,50 +69,107 @@ fn before_paths(fault: FrontFault) -> bool {
     }
 }
 
+// Two units have one path, of which the first has this number.
+fn path_twice(unit: u32) -> StepFault
+    ensures { result ≡ step.Broken rules.PathTwice (record { cu = record { 0 = unit }; at = 0 }) }
+{
+    StepFault::Broken {
+        rule: Rule::PathTwice,
+        place: Place {
+            cu: CuId(unit),
+            at: 0,
+        },
+    }
+}
+
+// What is told of two units of one path, the first of this number, in a program that the front refuses.
+fn twice_or(asked: Asked, fault: FrontFault, unit: u32) -> StepFault
+    ensures { IsToldFor fault result ⊎ (result ≡ step.Broken rules.PathTwice (record { cu = record { 0 = unit }; at = 0 })) }
+{
+    if before_paths(fault) {
+        not_compiling(asked, fault)
+    } else {
+        path_twice(unit)
+    }
+}
+
 // The program has two units of one path, of which the first has this number.
 fn twice_in(alloc: Global, spelled: Spelled, program: Program, unit: u32) -> StepFault
     requires { AllByRecursion IsShaped (map (λ u. u.unit) program.units) }
-    ensures { IsHinderedIn spelled.entry.asked result }
+    ensures { (texts : List (List ℕ × List ℕ)) → AreUnitsOf (prelude_files ++ texts) program.units → spec.AreSmall texts → spec.first_twice texts ≡ Some unit → Bars spelled.entry.asked.change.now texts result }
 {
-    let place = Place {
-        cu: CuId(unit),
-        at: 0,
-    };
     match open_program(alloc, program) {
-        Err(fault) if before_paths(fault) => not_compiling(spelled.asked, fault),
-        _ => StepFault::Broken {
-            rule: Rule::PathTwice,
-            place,
-        },
+        Ok(new) => {
+            drop(new);
+            path_twice(unit)
+        }
+        Err(fault) => twice_or(spelled.asked, fault, unit),
     }
 }
 
 // Two texts have one path, of which the first is that of the unit of this number.
 fn twice(alloc: Global, spelled: Spelled, texts: &[(Path, Vec<u8>)], unit: u32) -> StepFault
-    ensures { IsHinderedIn spelled.entry.asked result }
+    requires small { spec.AreSmall (plain texts.now) }
+    requires twice { spec.first_twice (plain texts.now) ≡ Some unit }
+    ensures { Bars spelled.entry.asked.change.now (plain texts.now) result }
 {
     match read_units(alloc, texts) {
         Ok(program) => twice_in(alloc, spelled, program, unit),
-        Err(fault) => unread(spelled.asked, fault),
+        Err(fault) => unread(alloc, spelled.asked, texts, fault),
+    }
+}
+
+// What is told where two texts have one path.
+fn path_fault(alloc: Global, spelled: Spelled, texts: &[(Path, Vec<u8>)]) -> Option<StepFault>
+    requires { spec.AreSmall (plain texts.now) }
+    ensures { IfSome result (Bars spelled.entry.asked.change.now (plain texts.now)) }
+{
+    match first_twice(texts) {
+        Some(unit) => Some(twice(alloc, spelled, texts, unit)),
+        None => None,
     }
 }
 
 // The texts compile and are as they were to be written.
 fn is_right(alloc: Global, spelled: Spelled, texts: &[(Path, Vec<u8>)]) -> Result<(), StepFault>
-    ensures { IfErr result (IsHinderedIn spelled.entry.asked) }
+    requires { spec.AreSmall (plain texts.now) }
+    ensures { IfErr result (Bars spelled.entry.asked.change.now (plain texts.now)) }
 {
     let new = opened(alloc, spelled, texts)?;
     is_as_spelled(alloc, spelled, &new)
 }
 
-// A size passes its limit, unless there is something else to be told before.
-fn too_large(alloc: Global, spelled: Spelled, files: &Files, size: Size) -> StepFault
-    ensures { IsHinderedIn spelled.entry.asked result }
+// What is told where a size passes its limit: what was found before, unless that is a size too.
+fn size_or(found: StepFault, size: Size) -> StepFault
+    ensures { (change : Change) (texts : List (List ℕ × List ℕ)) → AreTooLarge texts size → Bars change texts found → Bars change texts result }
 {
-    match is_right(alloc, spelled, files.entries()) {
+    match found {
+        StepFault::TooLarge(_) => StepFault::TooLarge(size),
+        _ => found,
+    }
+}
+
+// A size of the texts passes its limit, unless there is something else to be told before.
+fn too_large(alloc: Global, spelled: Spelled, texts: &[(Path, Vec<u8>)], size: Size) -> StepFault
+    requires small { spec.AreSmall (plain texts.now) }
+    requires large { AreTooLarge (plain texts.now) size }
+    ensures { Bars spelled.entry.asked.change.now (plain texts.now) result }
+{
+    match is_right(alloc, spelled, texts) {
         Ok(()) => StepFault::TooLarge(size),
-        Err(StepFault::TooLarge(_)) => StepFault::TooLarge(size),
-        Err(fault) => fault,
+        Err(fault) => size_or(fault, size),
+    }
+}
+
+// Why the files may not be left, which the front refuses.
+fn fault_of_files(alloc: Global, spelled: Spelled, files: &Files, fault: FrontFault) -> StepFault
+    requires small { spec.AreSmall (finite.entries files.now) }
+    requires checked { CheckedAs files.now (Err fault) }
+    ensures { Bars spelled.entry.asked.change.now (finite.entries files.now) result }
+{
+    match fault {
+        FrontFault::TooLarge(size) => too_large(alloc, spelled, files.entries(), size),
+        _ => not_compiling(spelled.asked, fault),
     }
 }
 
@@ -111,15 +184,35 @@ fn moved(edits: &[Edits], place: Place) -> Place {
     }
 }
 
+// A local is inlined.
+fn is_inlining(course: &Course) -> bool
+    ensures { result ≡ barring.is_inlining course.now }
+{
+    match course {
+        Course::Inlined { .. } => true,
+        _ => false,
+    }
+}
+
+// The row has another type than before.
+fn type_change(place: Place) -> StepFault
+    ensures { result ≡ step.Broken rules.TypeChange place }
+{
+    StepFault::Broken {
+        rule: Rule::TypeChange,
+        place,
+    }
+}
+
 // After an inlining each expression that stays has the type that it had.
 fn keeps_types(spelled: Spelled, edits: &[Edits]) -> Result<(), StepFault>
-    ensures { IfErr result (IsHinderedIn spelled.entry.asked) }
+    ensures { (texts : List (List ℕ × List ℕ)) → IfErr result (Bars spelled.entry.asked.change.now texts) }
 {
     let asked = spelled.asked;
     let locked = spelled.locked;
-    let Course::Inlined { .. } = asked.change.course else {
+    if !is_inlining(&asked.change.course) {
         return Ok(());
-    };
+    }
     let old = project_of(asked.old);
     let new = project_of(&locked.program);
     match first_retyped(&old, &new, &locked.locks, asked.change) {
@@ -128,12 +221,26 @@ fn keeps_types(spelled: Spelled, edits: &[Edits]) -> Result<(), StepFault>
                 row,
                 rule: Rule::TypeChange,
             });
-            Err(StepFault::Broken {
-                rule: Rule::TypeChange,
-                place: moved(edits, place),
-            })
+            Err(type_change(moved(edits, place)))
         }
         None => Ok(()),
+    }
+}
+
+// The program of these files is as it was to be written.
+fn is_left_as(
+    alloc: Global,
+    spelled: Spelled,
+    edits: &[Edits],
+    files: &Files,
+    program: &Workspace,
+) -> Result<(), StepFault>
+    ensures ok { IfOk result (λ _. IsSpelledIn spelled.entry program.now) }
+    ensures err { IfErr result (Bars spelled.entry.asked.change.now (finite.entries files.now)) }
+{
+    match is_as_spelled(alloc, spelled, program) {
+        Ok(()) => keeps_types(spelled, edits),
+        Err(fault) => Err(fault),
     }
 }
 
@@ -145,53 +252,65 @@ fn left_as(
     edits: &[Edits],
     files: Files,
 ) -> Result<Left, StepFault>
+    requires { spec.AreSmall (finite.entries files) }
     ensures ok { IfOk result (λ left. IsLeftOf spelled.entry.locked.now spelled.entry.spellings.now left) }
     ensures files { IfOk result (λ left. left.files ≡ files) }
-    ensures err { IfErr result (IsHinderedIn spelled.entry.asked) }
+    ensures err { IfErr result (Bars spelled.entry.asked.change.now (finite.entries files)) }
 {
     match open_files(alloc, &files) {
         Ok(program) => {
-            is_as_spelled(alloc, spelled, &program)?;
-            keeps_types(spelled, edits)?;
+            is_left_as(alloc, spelled, edits, &files, &program)?;
             match Left::of(files, program) {
                 Some(left) => Ok(left),
                 None => Err(spelled.asked.differs()),
             }
         }
-        Err(FrontFault::TooLarge(size)) => Err(too_large(alloc, spelled, &files, size)),
-        Err(fault) => Err(not_compiling(spelled.asked, fault)),
+        Err(fault) => Err(fault_of_files(alloc, spelled, &files, fault)),
     }
 }
 
-// The files that these texts are, if they are a program as it was to be written. Paths that do not rise are not as they were to be.
-fn left_with(
-    alloc: Global,
-    spelled: Spelled,
-    edits: &[Edits],
+// The texts of the changed program with its spellings, and their edits.
+#[derive(Drop)]
+struct NewTexts {
+    edits: Vec<Edits>,
     texts: Texts,
-) -> Result<Left, StepFault>
-    ensures ok { IfOk result (λ left. IsLeftOf spelled.entry.locked.now spelled.entry.spellings.now left) }
-    ensures files { IfOk result (λ left. finite.entries left.files ≡ plain texts.items) }
-    ensures err { IfErr result (IsHinderedIn spelled.entry.asked) }
-{
-    if !rise(&texts) {
-        return Err(spelled.asked.differs());
-    }
-    left_as(alloc, spelled, edits, files_of(alloc, texts)?)
 }
 
-/// The files that are left where references are written so, if they may be left.
-pub fn left_of(alloc: Global, spelled: Spelled) -> Result<Left, StepFault>
-    ensures ok { IfOk result (λ left. IsLeftOf spelled.entry.locked.now spelled.entry.spellings.now left) }
-    ensures texts { IsReadBy spelled.entry.asked spelled.entry.locked.now → IsBoundByLocks spelled.entry.locked.now → IfOk result (HasTextsOf spelled.entry.locked.now spelled.entry.spellings.now) }
-    ensures err { IfErr result (IsHinderedIn spelled.entry.asked) }
+// The changed program with the edits of the spellings.
+fn new_texts(alloc: Global, spelled: Spelled) -> Result<NewTexts, OutOfMemory>
+    ensures are { IsReadBy spelled.entry.asked spelled.entry.locked.now → IsBoundByLocks spelled.entry.locked.now → IfOk result (λ all. AreTextsOf spelled.entry.locked.now spelled.entry.spellings.now (plain all.texts.items)) }
+    ensures small { IfOk result (λ all. spec.AreSmall (plain all.texts.items)) }
 {
     let locked = &spelled.locked.program;
     let marks = locked.marks();
     let edits = respelled(alloc, &marks, &locked.bound.table, spelled.spellings)?;
     let texts = written_texts(alloc, locked.program.units.as_slice(), &edits)?;
-    match first_twice(&texts) {
-        Some(unit) => Err(twice(alloc, spelled, &texts, unit)),
-        None => left_with(alloc, spelled, &edits, texts),
+    Ok(NewTexts { edits, texts })
+}
+
+// The files that these texts are, if they are a program as it was to be written. Paths that do not rise are not as they were to be.
+fn left_with(alloc: Global, spelled: Spelled, new: NewTexts) -> Result<Left, StepFault>
+    requires { spec.AreSmall (plain new.texts.items) }
+    ensures ok { IfOk result (λ left. IsLeftOf spelled.entry.locked.now spelled.entry.spellings.now left) }
+    ensures files { IfOk result (λ left. finite.entries left.files ≡ plain new.texts.items) }
+    ensures err { IfErr result (Bars spelled.entry.asked.change.now (plain new.texts.items)) }
+{
+    if !rise(&new.texts) {
+        return Err(spelled.asked.differs());
+    }
+    let files = files_of(alloc, new.texts)?;
+    left_as(alloc, spelled, &new.edits, files)
+}
+
+/// The files that are left where references are written so, if they may be left; else why those that were to be left may not be.
+pub fn left_of(alloc: Global, spelled: Spelled) -> Result<Left, StepFault>
+    ensures ok { IfOk result (λ left. IsLeftOf spelled.entry.locked.now spelled.entry.spellings.now left) }
+    ensures texts { IsReadBy spelled.entry.asked spelled.entry.locked.now → IsBoundByLocks spelled.entry.locked.now → IfOk result (HasTextsOf spelled.entry.locked.now spelled.entry.spellings.now) }
+    ensures err { IsReadBy spelled.entry.asked spelled.entry.locked.now → IsBoundByLocks spelled.entry.locked.now → IfErr result (IsNotLeft spelled.entry.asked.change.now spelled.entry.locked.now spelled.entry.spellings.now) }
+{
+    let new = new_texts(alloc, spelled)?;
+    match path_fault(alloc, spelled, &new.texts) {
+        Some(fault) => Err(fault),
+        None => left_with(alloc, spelled, new),
     }
 }

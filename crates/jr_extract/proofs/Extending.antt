@@ -23,6 +23,7 @@ use Rattle.jr_flow.specs.Numbered.{OnlyWhere}
 use Rattle.jr_tree.specs.Rows.{end}
 use Rattle.jr_tree.specs.Tree.{IsTree}
 use Rattle.jr_flow_faults.specs.Computed.{table_in}
+use Rattle.jr_flow_faults.specs.Reading.{IsThrowingView}
 use Rattle.jr_change.specs.declared.change.Change.{Change}
 use Rattle.jr_change.specs.declared.change.RowRange.{RowRange}
 use Rattle.jr_change.specs.declared.change.UnitSource.TheVariants as source
@@ -37,9 +38,12 @@ use Rattle.jr_extract.specs.declared.locals.Locals.{Locals}
 use Rattle.jr_extract.specs.declared.run.Run.{Run}
 use Rattle.jr_extract.specs.Handing.{AreHanded}
 use Rattle.jr_extract.specs.Running.{run_at}
+use Rattle.jr_extract.specs.Throwing.{AreThrownOut}
 use Rattle.jr_extract.specs.Writing.{Extracted, with_call, with_method}
 use Rattle.jr_extract.specs.Extracting.{AreLocals, Extending, IsFinishedWith, IsExtractAnswer, IsExtracted, IsGraphFault, IsGraphFor, IsGraphIn, IsGraphMade, IsMethodOf, IsNamedAnswer, IsRangeAnswer, IsRunAnswer, IsRunFault, IsRunMethod, IsSeenAs, IsWithin, all_extended, class_of, edited, extended, extended_below, extraction, fault_of, is_extended, nowhere, rows_added, rows_before, rows_between, rows_called, span_of, with_method_text, with_one, with_rows_placed, with_statement}
+use Rattle.jr_extract.proofs.Calling.{method_found}
 use Rattle.jr_extract.proofs.Counting.{run_within, unit_within}
+use Rattle.jr_extract.proofs.Statements.{run_statements}
 
 -- ---- units
 
@@ -142,7 +146,7 @@ module _ (old : Project) (run : Run) (within : IsWithin old.marks run) where
   run_fault why IsGraphFault.memory = IsRunFault.memory
 
   pub run_method : (name : List ℕ) (graph : Graph) (locals : Locals) (change : Change) → IsGraphMade old.view run.member graph
-      → (IsSized (rows_in old.view) → AreHanded (rows_in old.view) (table_in old.view) graph run locals) → IsMethodOf old.marks run name locals change → IsRunMethod old run name change
+      → (IsSized (rows_in old.view) → AreHanded (rows_in old.view) (table_in old.view) graph run locals) → IsMethodOf old run name locals change → IsRunMethod old run name change
   run_method name graph locals change made handed method = record {
     locals = locals;
     handed = record {
@@ -159,13 +163,16 @@ memory_fault old run why is = subst (IsRunFault old run) (sym is) IsRunFault.mem
 pub finished_so : (m : Marks) (e : Extracted) (d : Drafted) (placed : Placed) (change : Change) → record { drafted = d; placed = placed } ≡ all_extended m e → IsFinishedWith d placed change → IsExtracted m e change
 finished_so m e d placed change is made = subst (λ s. IsFinishedWith s.drafted s.placed change) is made
 
-method_of : (m : Marks) (run : Run) (name : List ℕ) (locals : Locals) (thrown : List ℕ) (e : Extracted) (change : Change) → e ≡ extraction m run name locals thrown → IsExtracted m e change → IsMethodOf m run name locals change
-method_of m run name locals thrown e change is made = record { thrown = thrown; made = subst (λ e. IsExtracted m e change) is made }
+method_of : (old : Project) (run : Run) (name : List ℕ) (locals : Locals) (thrown : List ℕ) (e : Extracted) (change : Change) → (IsThrowingView old.view → AreThrownOut old.view run thrown)
+    → e ≡ extraction old.marks run name locals thrown → IsExtracted old.marks e change → IsMethodOf old run name locals change
+method_of old run name locals thrown e change throws is made = record { thrown = thrown; throws = throws; made = subst (λ e. IsExtracted old.marks e change) is made; finds = method_found old.marks (extraction old.marks run name locals thrown) }
 
-pub methods_of : (m : Marks) (run : Run) (name : List ℕ) (locals : Locals) (thrown : List ℕ) (e : Extracted) (answer : Result Change ChangeFault) → (IsOrdered m → e ≡ extraction m run name locals thrown)
-    → IfOk answer (λ change. IsOrdered m → IsWithin m e.run → IsExtracted m e change) → IfOk answer (λ change. IsOrdered m → IsWithin m run → IsMethodOf m run name locals change)
-methods_of m run name locals thrown e (Ok change) is made = λ ordered within. method_of m run name locals thrown e change (is ordered) (made ordered (subst (IsWithin m) (ap (λ e. e.run) (sym (is ordered))) within))
-methods_of m run name locals thrown e (Err why) is made = tt
+pub methods_of : (old : Project) (run : Run) (name : List ℕ) (locals : Locals) (all thrown : List ℕ) (e : Extracted) (answer : Result Change ChangeFault) → (IsThrowingView old.view → AreThrownOut old.view run all) → thrown ≡ all
+    → (IsOrdered old.marks → e ≡ extraction old.marks run name locals thrown) → IfOk answer (λ change. IsOrdered old.marks → IsWithin old.marks e.run → IsExtracted old.marks e change)
+    → IfOk answer (λ change. IsOrdered old.marks → IsWithin old.marks run → IsMethodOf old run name locals change)
+methods_of old run name locals all thrown e (Ok change) throws same is made = λ ordered within. method_of old run name locals thrown e change (λ right. subst (AreThrownOut old.view run) (sym same) (throws right)) (is ordered)
+    (made ordered (subst (IsWithin old.marks) (ap (λ e. e.run) (sym (is ordered))) within))
+methods_of old run name locals all thrown e (Err why) throws same is made = tt
 
 -- ---- the answers to a request
 
@@ -177,7 +184,7 @@ run_answer old run name (Err why) ordered within made failed = IsRunAnswer.faile
 pub range_of_run : (old : Project) (range : Span) (name : List ℕ) (unit : ℕ) (run : Run) (answer : Result Change ChangeFault) → IsOrdered old.marks → Some run ≡ run_at old.marks unit range
     → IfOk answer (λ change. IsOrdered old.marks → IsWithin old.marks run → IsRunMethod old run name change) → IfErr answer (λ why. IsWithin old.marks run → IsRunFault old run why) → IsRangeAnswer old range name unit answer
 range_of_run old range name unit run answer ordered is made failed = let within = run_within old.marks unit range run (sym is) in
-    IsRangeAnswer.of_run (sym is) (run_answer old run name answer ordered within made failed)
+    IsRangeAnswer.of_run (sym is) (run_statements old.marks unit range run (sym is)) (run_answer old run name answer ordered within made failed)
 
 pub range_no_run : (old : Project) (range : Span) (name : List ℕ) (unit : ℕ) → None ≡ run_at old.marks unit range → IsRangeAnswer old range name unit (Err (fault.Bad reason.BadRange))
 range_no_run old range name unit is = IsRangeAnswer.no_run (sym is)

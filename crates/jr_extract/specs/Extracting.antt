@@ -19,6 +19,7 @@ use Rattle.jr_flow.specs.Coded.{IsTooLarge}
 use Rattle.jr_flow.specs.Reached.{IsGraphOf}
 use Rattle.jr_flow.specs.Views.{IsViewOf, rows_in}
 use Rattle.jr_flow_faults.specs.Computed.{table_in}
+use Rattle.jr_flow_faults.specs.Reading.{IsThrowingView}
 use Rattle.jr_change.specs.declared.change.Change.{Change}
 use Rattle.jr_change.specs.declared.change.ChangedUnit.{ChangedUnit}
 use Rattle.jr_change.specs.declared.change.Course.TheVariants as course
@@ -34,8 +35,9 @@ use Rattle.jr_extract.specs.declared.extracting.Placed.{Placed}
 use Rattle.jr_extract.specs.declared.locals.Locals.{Locals}
 use Rattle.jr_extract.specs.declared.run.Run.{Run}
 use Rattle.jr_extract.specs.Handing.{AreHanded}
-use Rattle.jr_extract.specs.Running.{run_at}
-use Rattle.jr_extract.specs.Writing.{Extracted, method_text, statement_text, with_call, with_method, with_target}
+use Rattle.jr_extract.specs.Running.{IsOfStatements, run_at}
+use Rattle.jr_extract.specs.Throwing.{AreThrownOut}
+use Rattle.jr_extract.specs.Writing.{Extracted, method_row, method_text, statement_text, with_call, with_method, with_target}
 
 -- ---- texts
 
@@ -94,6 +96,10 @@ placed_in m e unit d = record {
   call = (rows_before m e unit d).count;
   method = record { first = (rows_called m e unit d).count; end = (rows_added m e unit d).count };
 }
+
+-- the row to which the call refers is that at which the method is put, wherever the unit comes to stand
+pub record FindsMethod (m : Marks) (e : Extracted) : Type 0 where
+  pub finds : (unit : ℕ) (d : Drafted) → method_row e.parameters (placed_in m e unit d).call (rows_between m.rows.now e.run) ≡ (placed_in m e unit d).method.first
 
 -- ---- the change
 
@@ -181,16 +187,18 @@ pub record AreLocals (old : Project) (run : Run) (locals : Locals) : Type 0 wher
 
 -- ---- the answer
 
--- the run is a method of the name that has these locals
-pub record IsMethodOf (m : Marks) (run : Run) (name : List ℕ) (locals : Locals) (change : Change) : Type 0 where
+-- the run is a method of the name that has these locals, and throws the classes that come out of the run
+pub record IsMethodOf (old : Project) (run : Run) (name : List ℕ) (locals : Locals) (change : Change) : Type 0 where
   pub thrown : List ℕ
-  pub made : IsExtracted m (extraction m run name locals thrown) change
+  pub throws : IsThrowingView old.view → AreThrownOut old.view run thrown
+  pub made : IsExtracted old.marks (extraction old.marks run name locals thrown) change
+  pub finds : FindsMethod old.marks (extraction old.marks run name locals thrown)
 
 -- it has those of the run
 pub record IsRunMethod (old : Project) (run : Run) (name : List ℕ) (change : Change) : Type 0 where
   pub locals : Locals
   pub handed : AreLocals old run locals
-  pub made : IsMethodOf old.marks run name locals change
+  pub made : IsMethodOf old run name locals change
 
 -- why it is none: too many points of flow, or want of memory
 pub data IsRunFault (old : Project) (run : Run) : ChangeFault → Type 0 where
@@ -205,7 +213,7 @@ pub data IsRunAnswer (old : Project) (run : Run) (name : List ℕ) : Result Chan
 -- what comes of a range of bytes of a unit: that it is no run, or what comes of the run
 pub data IsRangeAnswer (old : Project) (range : Span) (name : List ℕ) (unit : ℕ) : Result Change ChangeFault → Type 0 where
   no_run : run_at old.marks unit range ≡ None → IsRangeAnswer old range name unit (Err (fault.Bad reason.BadRange))
-  of_run : {run : Run} {answer : Result Change ChangeFault} → run_at old.marks unit range ≡ Some run → IsRunAnswer old run name answer → IsRangeAnswer old range name unit answer
+  of_run : {run : Run} {answer : Result Change ChangeFault} → run_at old.marks unit range ≡ Some run → IsOfStatements old.marks run → IsRunAnswer old run name answer → IsRangeAnswer old range name unit answer
 
 -- what comes of a range and a name: that this is none, or what comes of the range
 pub data IsNamedAnswer (old : Project) (range : Span) (name : List ℕ) (unit : ℕ) : Result Change ChangeFault → Type 0 where

@@ -1,4 +1,5 @@
 pub mod Running
 pub mod Writing
 pub mod Handing
+pub mod Throwing
 pub mod Extracting

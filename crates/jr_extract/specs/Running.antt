@@ -1,5 +1,5 @@
 -- The run of statements for which a request asks (JLS 8.8.7.1, 14.2).
-use Rattle.std.specs.Prelude.{ℕ, zero, suc, Bool, true, false, not, ◌&&◌, if◌then◌else◌, List, length, Option, Some, None, unwrap_or, nat_eq, nat_le, nat_lt, slice_get}
+use Rattle.std.specs.Prelude.{◌≡◌, ℕ, zero, suc, Bool, true, false, not, ◌&&◌, if◌then◌else◌, List, length, Option, Some, None, unwrap_or, nat_eq, nat_le, nat_lt, slice_get}
 use Rattle.jr_base.specs.declared.token.Span.{Span}
 use Rattle.jr_base.specs.declared.token.Token.{Token}
 use Rattle.jr_tree.specs.declared.label.Label.{Label}
@@ -126,3 +126,12 @@ run_at m unit range = run_of m unit (tokens_in (tokens_of m unit) range)
 -- the row stands in the run
 abbrev pub holds : Run → ℕ → Bool
 holds run n = nat_le run.rows.first n && nat_lt n run.rows.end
+
+-- its tokens begin with those of a statement of a block, and end with those of one of the same block
+pub record IsOfStatements (m : Marks) (run : Run) : Type 0 where
+  pub block : is_block (label m.rows.now (parent m.rows.now run.rows.first)) ≡ true
+  pub begins : (mark_of m run.rows.first).first ≡ run.tokens.first
+  pub last : ℕ
+  pub beside : parent m.rows.now last ≡ parent m.rows.now run.rows.first
+  pub ends : (mark_of m last).after ≡ run.tokens.after
+  pub behind : end m.rows.now last ≡ run.rows.end

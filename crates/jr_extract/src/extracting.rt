@@ -100,7 +100,7 @@ fn with_locals(
     name: &[u8],
     locals: &Locals,
 ) -> Result<Change, ChangeFault>
-    ensures ok { IfOk result (λ change. IsOrdered old.now.marks → spec.IsWithin old.now.marks run → spec.IsMethodOf old.now.marks run name.now locals.now change) }
+    ensures ok { IfOk result (λ change. IsOrdered old.now.marks → spec.IsWithin old.now.marks run → spec.IsMethodOf old.now run name.now locals.now change) }
     ensures fault { IfErr result (λ fault. fault ≡ ChangeFault.OutOfMemory) }
 {
     let thrown = thrown_out(alloc, &old.view, run)?;

@@ -14,4 +14,5 @@ pub mod Uncaught
 pub mod Arriving
 pub mod Noted
 mod Readings
+mod Leaving
 mod Added

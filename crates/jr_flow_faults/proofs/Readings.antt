@@ -30,7 +30,7 @@ use Rattle.jr_flow_faults.proofs.Guarded.{finally_tells, guards_find}
 
 -- ---- the block of the `finally` of each row, as it is known
 
-abbrev HaveLasts : Rows → Facts → Type 0
+abbrev pub HaveLasts : Rows → Facts → Type 0
 HaveLasts p f = (n : ℕ) → Finds (fact f n).last (λ k. IsLastBlock p n k)
 
 module _ (p : Rows) (t : Table) (constant : Constants) where
@@ -40,7 +40,7 @@ module _ (p : Rows) (t : Table) (constant : Constants) where
   try_row : (n k : ℕ) → IsLastBlock p n k → n < length p
   try_row n k h = bounded (λ l. l ≡ is.Try true) (λ e. absurd (cc)) p n h.block.guarded
 
-  have_lasts : HaveLasts p (facts p t constant)
+  pub have_lasts : HaveLasts p (facts p t constant)
   have_lasts n = ⊎_elim
       (λ lt. subst (λ (x : Fact). Finds x.last (λ k. IsLastBlock p n k)) (sym (tabulated_at (fact_at p t constant) _ (length p) n lt)) (last_finds p n))
       (λ le. subst (λ o. Finds o (λ k. IsLastBlock p n k)) (sym (last_past n le)) (λ k. (λ h. absurd (none-some k h), λ h. let lt = try_row n k h in absurd (omega arith))))

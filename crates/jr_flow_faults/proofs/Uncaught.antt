@@ -222,7 +222,7 @@ module _ (p : Rows) (t : Table) (headed : IsHeaded p) (local : IsLocal p) where
 
 -- ---- how it goes outwards
 
-code_tells : (l : Label) → Decides (is_code l) (IsCode l)
+pub code_tells : (l : Label) → Decides (is_code l) (IsCode l)
 code_tells (is.Method m v b) = always
 code_tells (is.Constructor m) = always
 code_tells is.DefaultConstructor = always
@@ -314,7 +314,7 @@ module _ (p : Rows) (t : Table) (headed : IsHeaded p) (local : IsLocal p) (compl
   outwards_into c room {n} fits ComesTo.here = outwards_here c room n
   outwards_into c room {n} {k} fits (ComesTo.further go rest) = outwards_step c n k go (λ r f. outwards_into c r f rest) room fits
 
-  outwards_list : (c n : ℕ) → Lists (outwards p t completes c n) (To c n)
+  pub outwards_list : (c n : ℕ) → Lists (outwards p t completes c n) (To c n)
   outwards_list c n k = (outwards_out c n n k, outwards_into c n (inl (omega arith)))
 
   -- ---- the rules

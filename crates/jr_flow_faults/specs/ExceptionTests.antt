@@ -196,6 +196,10 @@ unthrown_rows p t type_of completes = all_such (length p) (is_unthrown p t type_
 
 -- ---- what the code has
 
+-- a block right behind the row over it: of a `try` that is its body
+abbrev pub is_first_block : Rows → ℕ → Bool
+is_first_block p k = is_block (label p k) && nat_eq k (parent p k + 1)
+
 -- under each `try` stand the classes of its catches among the first n rows
 abbrev pub AreCatchesTo : Rows → Table → ℕ → List Entry → Type 0
 AreCatchesTo p t n pairs = (o c : ℕ) → Decides (has_pair pairs o c) ((k : ℕ) × (k < n) × IsCatchOf p t o k c)

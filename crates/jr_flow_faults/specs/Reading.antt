@@ -13,6 +13,7 @@ use Rattle.jr_supers.specs.Tabled.{IsSized}
 use Rattle.jr_reach.specs.Statements.{Entries, later, entries, courses}
 use Rattle.jr_view.specs.declared.View.{View}
 use Rattle.jr_flow_faults.specs.declared.catches.Arrived as arriving
+use Rattle.jr_flow_faults.specs.declared.going.Tracing as tracing
 use Rattle.jr_flow_faults.specs.declared.guards.Around as round
 use Rattle.jr_flow_faults.specs.declared.throwing.Reading as code
 use Rattle.jr_flow_faults.specs.Computed.{rows_in, table_in, facts_in}
@@ -118,3 +119,10 @@ pub record FollowsUncaught (p : Rows) (t : Table) (completes : ℕ → Bool) (n 
 pub record NotesRow (p : Rows) (t : Table) (type_of : Types) (completes : ℕ → Bool) (n : ℕ) (new : arriving.Arrived) (broken : Bool) : Type 0 where
   pub uncaught : broken ≡ is_uncaught p t type_of completes n
   pub arrived : AreArrived p t completes (n + 1) new
+
+-- ---- from row to row
+
+pub record IsTracing (trace : tracing.Tracing) : Type 0 where
+  pub view : IsThrowingView trace.view.now
+  pub around : IsAround trace.view.now trace.around.now
+  pub catches : AreCatchesTo (rows_in trace.view.now) (table_in trace.view.now) (length (rows_in trace.view.now)) trace.catches.now.table

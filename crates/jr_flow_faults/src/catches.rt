@@ -18,7 +18,7 @@ ghost use Rattle.jr_flow_faults.specs.Outwards.{AreAbove};
 ghost use Rattle.jr_flow_faults.specs.Roots.{AreRoots};
 ghost use Rattle.jr_flow_faults.specs.Arriving as tell;
 
-use crate::classes::{Roots, has_above, is_either};
+use crate::classes::{Roots, is_either};
 use crate::pairs::{add_pair, add_pairs, is_any_pair, is_pair};
 use crate::thrown::catch_class;
 use jr_base::OutOfMemory;
@@ -149,9 +149,18 @@ impl Catches {
         is_any_pair(&self.table, over, classes)
     }
 
-    /// The `try` catches the class.
-    pub fn catches(&self, supers: &Supers, over: u32, class: u32) -> bool {
-        has_above(supers, &self.table, over, class)
+    /// The `try` catches the class, or one above it.
+    pub fn catches(
+        &self,
+        alloc: Global,
+        rows: &[Row],
+        supers: &Supers,
+        over: u32,
+        class: u32,
+    ) -> Result<bool, OutOfMemory>
+        ensures { (t : Table) → AreSupersOf rows.now t supers.now → tests.AreCatchesTo rows.now t (length rows.now) self.now.table → IfOk result (λ b. b ≡ tests.catches rows.now t over class) }
+    {
+        is_caught(alloc, rows, supers, &self.table, over, class)
     }
 }
 

@@ -6,7 +6,7 @@ ghost use Rattle.jr_plain.specs.Declarations.{is_prelude};
 ghost use Rattle.jr_supers.specs.Supers.{AreSupersOf};
 ghost use Rattle.jr_flow_faults.specs.Roots as tell;
 
-use jr_places::{Chains, is_type, name_at, parent_at};
+use jr_places::{is_type, name_at, parent_at};
 use jr_supers::Supers;
 use jr_tree::Row;
 
@@ -99,19 +99,4 @@ impl Roots {
     {
         self.exception == Some(at) || self.throwable == Some(at)
     }
-}
-
-/// The class or one above it stands in a table under this number.
-pub(crate) fn has_above(supers: &Supers, table: &Chains, first: u32, class: u32) -> bool {
-    let mut up = Some(class);
-    for _turn in 0..supers.order().len().saturating_add(1) {
-        let Some(here) = up else {
-            return false;
-        };
-        if table.last(first, here).is_some() {
-            return true;
-        }
-        up = supers.superclass(here);
-    }
-    false
 }

@@ -43,7 +43,7 @@ pub(crate) fn guard_at(rows: &[Row], at: u32) -> Guard
 }
 
 /// The row is a `try`.
-pub fn is_try(rows: &[Row], at: u32) -> bool
+pub(crate) fn is_try(rows: &[Row], at: u32) -> bool
     ensures { result ≡ tell.is_try (label rows.now at) }
 {
     match guard_at(rows, at) {
@@ -89,23 +89,23 @@ fn guard_in(known: &[Option<u32>], at: u32) -> Option<u32>
     }
 }
 
-// The row is the one right after the other.
-fn is_next(over: u32, at: u32) -> bool
+/// The row is the one right after the other.
+pub(crate) fn is_next(over: u32, at: u32) -> bool
     ensures { result ≡ nat_eq at (over + 1) }
 {
     over < at && at - over == 1
 }
 
 impl<'a> Around<'a> {
-    // What is thrown in the `try` is lost.
-    fn loses(&self, at: u32) -> bool
+    /// What is thrown in the `try` is lost.
+    pub(crate) fn loses(&self, at: u32) -> bool
         ensures { result ≡ tell.loses self.now.facts.now (later (length self.now.rows.now) self.now.all.now) at }
     {
         loses(self.facts, self.all, self.rows, at)
     }
 
-    // The row is the block of the `finally` of a `try`.
-    fn is_last(&self, over: u32, at: u32) -> bool
+    /// The row is the block of the `finally` of a `try`.
+    pub(crate) fn is_last(&self, over: u32, at: u32) -> bool
         ensures { result ≡ is_it (fact self.now.facts.now over).last at }
     {
         match last_of(self.facts, over) {
@@ -150,7 +150,7 @@ impl<'a> Around<'a> {
     }
 
     /// For each row what meets first what is thrown there.
-    pub fn guards(&self, alloc: Global) -> Result<Vec<Option<u32>>, OutOfMemory>
+    pub(crate) fn guards(&self, alloc: Global) -> Result<Vec<Option<u32>>, OutOfMemory>
         ensures { length self.now.rows.now < 2 ^ 32 → IfOk result (λ all. all.items ≡ tell.guards self.now.rows.now self.now.facts.now (later (length self.now.rows.now) self.now.all.now) (length self.now.rows.now)) }
     {
         let Ok(count) = u32::try_from(self.rows.len()) else {
@@ -165,7 +165,7 @@ impl<'a> Around<'a> {
     }
 
     /// What meets next what the `try` does not catch.
-    pub fn next_guard(&self, guards: &[Option<u32>], at: u32) -> Option<u32>
+    pub(crate) fn next_guard(&self, guards: &[Option<u32>], at: u32) -> Option<u32>
         ensures { result ≡ tell.next_guard self.now.facts.now (later (length self.now.rows.now) self.now.all.now) guards.now at }
     {
         if self.loses(at) {
@@ -176,7 +176,7 @@ impl<'a> Around<'a> {
 }
 
 /// What meets first what is thrown at a row.
-pub fn first_guard(guards: &[Option<u32>], at: u32) -> Option<u32>
+pub(crate) fn first_guard(guards: &[Option<u32>], at: u32) -> Option<u32>
     ensures { result ≡ tell.guard_in guards.now at }
 {
     guard_in(guards, at)

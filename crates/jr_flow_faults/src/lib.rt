@@ -4,6 +4,7 @@
 mod catches;
 mod classes;
 mod facts;
+mod going;
 mod guards;
 mod jumps;
 mod pairs;
@@ -13,6 +14,7 @@ mod thrown;
 pub use catches::Catches;
 pub use classes::Roots;
 pub use facts::facts_of;
-pub use guards::{Around, first_guard, is_try};
+pub use going::Tracing;
+pub use guards::Around;
 pub use throwing::flow_faults;
 pub use thrown::thrown_at;

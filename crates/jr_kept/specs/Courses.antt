@@ -2,13 +2,14 @@
 use Rattle.std.specs.Prelude.{◌≡◌, ⊤, ℕ, ◌<◌, ◌≤◌, true, List, length, Option, Some, None}
 use Rattle.jr_tree.specs.Rows.{Rows, parent, end}
 use Rattle.jr_tree.specs.Tree.{IsTree}
+use Rattle.jr_change.specs.declared.change.Raised.{Raised}
 use Rattle.jr_change.specs.declared.change.Course.{Course}
 use Rattle.jr_change.specs.declared.change.Course.TheVariants as course
 use Rattle.jr_change.specs.declared.project.Project.{Project}
 use Rattle.jr_locks.specs.Origins.{origin_of, row_by}
 use Rattle.jr_flow_defs.specs.Meaning.{Meaning}
 use Rattle.jr_flow_defs.specs.Edges.{body_flow}
-use Rattle.jr_flow_defs.specs.Kept.{KeepsControl, KeepsInlined, KeepsExtracted, joined_flow}
+use Rattle.jr_flow_defs.specs.Kept.{KeepsControl, KeepsBody, KeepsInlined, KeepsExtracted, joined_flow}
 use Rattle.jr_flow.specs.Bodies.{has_code}
 use Rattle.jr_flow.specs.Views.{rows_in, IsViewOf}
 use Rattle.jr_kept.specs.Named.{origin_in}
@@ -85,3 +86,29 @@ KeepsUsesOf (course.Inlined local statement) p q m w origin copy = KeepsInlinedF
 KeepsUsesOf (course.Extracted call method) p q m w origin copy = KeepsExtractedFlow p q m w origin call method
 KeepsUsesOf course.Same p q m w origin copy = ⊤
 KeepsUsesOf (course.Removed range) p q m w origin copy = ⊤
+
+-- the method goes elsewhere, and its body has a copy with the same edges of control
+pub record KeepsMovedControl (p q : Rows) (m w : Meaning) (origin copy : List ℕ) (method : ℕ) : Type 0 where
+  pub after : ℕ
+  pub few : method < length p
+  pub is_copy : row_by (origin_of copy method) ≡ Some after
+  pub few_after : after < length q
+  pub kept : KeepsControl p q (body_flow p m method) (body_flow q w after) method after None (origin_in origin)
+
+-- and with the same edges from definitions to uses too
+pub record KeepsMovedFlow (p q : Rows) (m w : Meaning) (origin copy : List ℕ) (method : ℕ) : Type 0 where
+  pub after : ℕ
+  pub few : method < length p
+  pub is_copy : row_by (origin_of copy method) ≡ Some after
+  pub few_after : after < length q
+  pub kept : KeepsBody p q (body_flow p m method) (body_flow q w after) method after None (origin_in origin)
+
+-- what a pull up keeps of the method that goes to the superclass, if the change is one
+abbrev pub KeepsRaisedControl : Option Raised → Rows → Rows → Meaning → Meaning → List ℕ → List ℕ → Type 0
+KeepsRaisedControl None p q m w origin copy = ⊤
+KeepsRaisedControl (Some raised) p q m w origin copy = KeepsMovedControl p q m w origin copy raised.method.first
+
+-- and where no edge from a definition to a use is lost either
+abbrev pub KeepsRaisedFlow : Option Raised → Rows → Rows → Meaning → Meaning → List ℕ → List ℕ → Type 0
+KeepsRaisedFlow None p q m w origin copy = ⊤
+KeepsRaisedFlow (Some raised) p q m w origin copy = KeepsMovedFlow p q m w origin copy raised.method.first

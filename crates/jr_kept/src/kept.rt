@@ -20,10 +20,10 @@ use crate::flows::{Flows, body_round, rows_of};
 use crate::handing::Handing;
 use crate::joined::joined;
 use crate::names::Names;
+use crate::raising::lost_by_raising;
 use crate::returning::put_held_returns;
-use crate::starting::lost_initialization;
 use jr_base::{OutOfMemory, Place};
-use jr_change::{Change, Course, Locks, Project, Raised, RowRange};
+use jr_change::{Change, Course, Locks, Project, RowRange};
 use jr_flow::{FlowFault, Graph, graph};
 use jr_locks::row_for;
 use jr_places::parent_at;
@@ -47,7 +47,8 @@ pub struct LostFlow {
     pub def_use: Option<LostEdge>,
 }
 
-fn placed(old: &Project, edge: Edge, is_old: bool) -> LostEdge {
+/// An edge by places.
+pub(crate) fn placed(old: &Project, edge: Edge, is_old: bool) -> LostEdge {
     LostEdge {
         first: old.marks.node_place(edge.first),
         second: old.marks.node_place(edge.second),
@@ -55,7 +56,8 @@ fn placed(old: &Project, edge: Edge, is_old: bool) -> LostEdge {
     }
 }
 
-fn first_of(old: &Project, lost: Firsts) -> Option<LostEdge>
+/// The first edge of those found, if any was.
+pub(crate) fn first_of(old: &Project, lost: Firsts) -> Option<LostEdge>
     ensures { result ≡ None → AreNone lost }
 {
     match lost.before {
@@ -67,33 +69,16 @@ fn first_of(old: &Project, lost: Firsts) -> Option<LostEdge>
     }
 }
 
-fn nothing() -> LostFlow {
+/// Nothing is lost.
+pub(crate) fn nothing() -> LostFlow {
     LostFlow {
         control: None,
         def_use: None,
     }
 }
 
-// What is lost where a method goes to the superclass of its class, if one does.
-fn lost_by_raising(
-    alloc: Global,
-    old: &Project,
-    raised: Option<Raised>,
-) -> Result<LostFlow, FlowFault> {
-    let Some(raised) = raised else {
-        return Ok(nothing());
-    };
-    match lost_initialization(alloc, old, raised)? {
-        Some(edge) => Ok(LostFlow {
-            control: Some(placed(old, edge, true)),
-            def_use: None,
-        }),
-        None => Ok(nothing()),
-    }
-}
-
-// What is lost where the body round an old row has no copy.
-fn lost_at(old: &Project, row: u32) -> LostFlow
+/// What is lost where the body round an old row has no copy.
+pub(crate) fn lost_at(old: &Project, row: u32) -> LostFlow
     ensures { result.control ≡ None → ⊥ }
 {
     let edge = Edge {
@@ -127,21 +112,22 @@ fn lost_in_inlined(
     })
 }
 
-// The graph of a body of a project.
-fn graph_of(alloc: Global, project: &Project, body: u32) -> Result<Graph, FlowFault>
+/// The graph of a body of a project.
+pub(crate) fn graph_of(alloc: Global, project: &Project, body: u32) -> Result<Graph, FlowFault>
     ensures { (m : Meaning) → tell.IsSeen project.now m → body < length project.now.marks.rows.now → IfOk result (λ made. (made.body ≡ body) × IsGraphOf project.now.marks.rows.now m made) }
 {
     graph(alloc, &project.view, body)
 }
 
-fn is_row(rows: &[Row], row: u32) -> bool
+/// The row is one of these.
+pub(crate) fn is_row(rows: &[Row], row: u32) -> bool
     ensures { result ≡ true → row < length rows.now }
 {
     (row as usize) < rows.len()
 }
 
-// What a table of copies or origins has for a row, if it is one of these rows.
-fn row_among(all: &[u32], rows: &[Row], at: u32) -> Option<u32>
+/// What a table of copies or origins has for a row, if it is one of these rows.
+pub(crate) fn row_among(all: &[u32], rows: &[Row], at: u32) -> Option<u32>
     ensures { IfSome result (λ row. (row_by (origin_of all.now at) ≡ Some row) × (row < length rows.now)) }
 {
     match row_for(all, at) {
@@ -316,15 +302,62 @@ fn lost_by_extracting(
     lost_in_extracted(alloc, old, &flows, &inner, call, method)
 }
 
+// What a course of statements loses.
+fn lost_by_course(
+    alloc: Global,
+    old: &Project,
+    locked: &Project,
+    locks: &Locks,
+    course: Course,
+) -> Result<LostFlow, FlowFault>
+    ensures control { (m w : Meaning) → tell.IsSeen old.now m → tell.IsSeen locked.now w
+        → IfOk result (λ lost. lost.control ≡ None → tell.KeepsCourse course old.now.marks.rows.now locked.now.marks.rows.now m w locks.now.origin.items locks.now.copy.items) }
+    ensures uses { (m w : Meaning) → tell.IsSeen old.now m → tell.IsSeen locked.now w
+        → IfOk result (λ lost. lost.control ≡ None → lost.def_use ≡ None → tell.KeepsUsesOf course old.now.marks.rows.now locked.now.marks.rows.now m w locks.now.origin.items locks.now.copy.items) }
+{
+    match course {
+        Course::Same => Ok(nothing()),
+        Course::Removed(_) => Ok(nothing()),
+        Course::Inlined { local, statement } => {
+            lost_by_inlining(alloc, old, locked, locks, local, statement)
+        }
+        Course::Extracted { call, method } => {
+            lost_by_extracting(alloc, old, locked, locks, call, method)
+        }
+    }
+}
+
+// The first of two edges that there is.
+fn first_edge(one: Option<LostEdge>, other: Option<LostEdge>) -> Option<LostEdge>
+    ensures one { result ≡ None → one ≡ None }
+    ensures other { result ≡ None → other ≡ None }
+{
+    match one {
+        Some(edge) => Some(edge),
+        None => other,
+    }
+}
+
+// What is lost in one way and in another.
+fn both_lost(one: LostFlow, other: LostFlow) -> LostFlow
+    ensures control { result.control ≡ None → (one.control ≡ None) × (other.control ≡ None) }
+    ensures def_use { result.def_use ≡ None → (one.def_use ≡ None) × (other.def_use ≡ None) }
+{
+    LostFlow {
+        control: first_edge(one.control, other.control),
+        def_use: first_edge(one.def_use, other.def_use),
+    }
+}
+
 /// The first edge of control and the first edge from a definition to a use that the change loses, where `locked` is the changed program under its locks,
 /// before names are spelled. Nodes are named by what they are copies of, and what is added is passed over.
 ///
-/// A change that leaves each body as it is, or takes whole ones away, loses none, but for a static method that goes to the superclass of its class, where a
-/// call of it that may begin the initialization of that class begins it no more. Where a local is replaced by its initializer, each event stands once, and
-/// no local that is used in the initializer gets another value before a use of the replaced one, nor does any other where the initializer may throw, and no
-/// creation that has it among its arguments may begin the initialization of a class. Where statements go into a method of their own, the points of the
-/// method stand in place of its call, each `return` among them completes the body at once, and no value of a local is used outside the method that is not
-/// handed back.
+/// A change that leaves each body as it is, or takes whole ones away, loses none. A method that goes to the superclass of its class keeps the edges of its
+/// body; where it is static, a call of it that may begin the initialization of its class begins it no more. Where a local is replaced by its initializer,
+/// each event stands once, and no local that is used in the initializer gets another value before a use of the replaced one, nor does any other where the
+/// initializer may throw, and no creation that has it among its arguments may begin the initialization of a class. Where statements go into a method of
+/// their own, the points of the method stand in place of its call, each `return` among them completes the body at once, and no value of a local is used
+/// outside the method that is not handed back.
 pub fn lost_flow(
     alloc: Global,
     old: &Project,
@@ -336,15 +369,12 @@ pub fn lost_flow(
         → IfOk result (λ lost. lost.control ≡ None → tell.KeepsCourse change.now.course old.now.marks.rows.now locked.now.marks.rows.now m w locks.now.origin.items locks.now.copy.items) }
     ensures uses { (m w : Meaning) → tell.IsSeen old.now m → tell.IsSeen locked.now w
         → IfOk result (λ lost. lost.control ≡ None → lost.def_use ≡ None → tell.KeepsUsesOf change.now.course old.now.marks.rows.now locked.now.marks.rows.now m w locks.now.origin.items locks.now.copy.items) }
+    ensures raised { (m w : Meaning) → tell.IsSeen old.now m → tell.IsSeen locked.now w
+        → IfOk result (λ lost. lost.control ≡ None → tell.KeepsRaisedControl change.now.raised old.now.marks.rows.now locked.now.marks.rows.now m w locks.now.origin.items locks.now.copy.items) }
+    ensures raised_uses { (m w : Meaning) → tell.IsSeen old.now m → tell.IsSeen locked.now w
+        → IfOk result (λ lost. lost.control ≡ None → lost.def_use ≡ None → tell.KeepsRaisedFlow change.now.raised old.now.marks.rows.now locked.now.marks.rows.now m w locks.now.origin.items locks.now.copy.items) }
 {
-    match change.course {
-        Course::Same => lost_by_raising(alloc, old, change.raised),
-        Course::Removed(_) => Ok(nothing()),
-        Course::Inlined { local, statement } => {
-            lost_by_inlining(alloc, old, locked, locks, local, statement)
-        }
-        Course::Extracted { call, method } => {
-            lost_by_extracting(alloc, old, locked, locks, call, method)
-        }
-    }
+    let raised = lost_by_raising(alloc, old, locked, locks, change.raised)?;
+    let ordered = lost_by_course(alloc, old, locked, locks, change.course)?;
+    Ok(both_lost(raised, ordered))
 }

@@ -17,6 +17,7 @@ mod kept;
 mod lists;
 mod names;
 mod parts;
+mod raising;
 mod reached;
 mod returning;
 mod search;

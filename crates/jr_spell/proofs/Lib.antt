@@ -8,6 +8,8 @@ pub mod Keeping
 pub mod Shaped
 pub mod Tracing
 pub mod Spelled
+pub mod Staying
+pub mod Turning
 pub mod ByObject
 pub mod BySuper
 pub mod AsItStands

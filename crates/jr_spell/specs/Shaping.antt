@@ -1,5 +1,6 @@
 -- What a shape of spelling finds is what the candidates of the definition find.
 use Rattle.std.specs.Prelude.{◌≡◌, ℕ, ◌+◌, Bool, if◌then◌else◌, List, [], ◌∷◌, Option, Some, None, nat_eq, nat_lt, true, false, is_some, slice_index_or}
+use Rattle.std.specs.List.{Contains}
 use Rattle.jr_base.specs.declared.text.Text.{Text}
 use Rattle.jr_tree.specs.Rows.{Rows, parent}
 use Rattle.jr_defs.specs.declared.referent.Element.{Element}
@@ -121,6 +122,18 @@ pub record AreSpelled (s : Speller) (all : List Spelling) : Type 0 where
 abbrev pub HasNone : Speller → SpellFault → Type 0
 HasNone s fault = spelled.HasNone (rows_of s) (table_of s) (types_of s) (was_constant s) s.written (is_constant_variable s) fault
 
+-- a reference with a lock has a spelling in the list, or it stays as it stands
+abbrev pub IsTold : Speller → List Spelling → ℕ → Type 0
+IsTold s all n = spelled.IsTold (rows_of s) (table_of s) (types_of s) (was_constant s) s.written (is_constant_variable s) all n
+
+-- so it is with each of these rows
+pub record AreTold (s : Speller) (order : List ℕ) (all : List Spelling) : Type 0 where
+  pub each : (n : ℕ) → Contains order n → IsTold s all n
+
+-- what is in one list is in the other
+abbrev pub KeepsAll : {A : Type 0} → List A → List A → Type 0
+KeepsAll {A} old new = (a : A) → Contains old a → Contains new a
+
 -- ---- under the locks of a program
 
 -- with all that lookup reads
@@ -131,6 +144,10 @@ pub record IsWholeView (v : View) : Type 0 where
 
 abbrev pub AreSpelledIn : View → List Bool → ℕ → List Spelling → Type 0
 AreSpelledIn v constant first all = spelled.AreSpelled v.sight.world.under.rows.now (entries v.sight.world.under.table.now) (λ n. slice_index_or v.types.now n None) (λ n. slice_index_or constant n false) first
+    (λ d. is_some (slice_index_or v.constants.now.variables.items d None)) all
+
+abbrev pub AreToldIn : View → List Bool → ℕ → List Spelling → Type 0
+AreToldIn v constant first all = spelled.AreTold v.sight.world.under.rows.now (entries v.sight.world.under.table.now) (λ n. slice_index_or v.types.now n None) (λ n. slice_index_or constant n false) first
     (λ d. is_some (slice_index_or v.constants.now.variables.items d None)) all
 
 abbrev pub HasNoneIn : View → List Bool → ℕ → SpellFault → Type 0

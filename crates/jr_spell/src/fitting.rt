@@ -63,8 +63,8 @@ pub fn level_of(found: Referent) -> Option<u32>
     }
 }
 
-// Both are one.
-fn is_same(one: Referent, other: Referent) -> bool
+/// Both are one.
+pub fn is_same(one: Referent, other: Referent) -> bool
     ensures { Decides result (one ≡ other) }
 {
     one == other

@@ -9,11 +9,13 @@ mod kept;
 mod looking;
 mod objects;
 mod paths;
+mod plain;
 mod reference;
 mod resolving;
 mod shapes;
 mod speller;
 mod spelling;
+mod turns;
 
 pub use fault::SpellFault;
 pub use spelling::spell;

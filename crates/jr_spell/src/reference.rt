@@ -1,12 +1,14 @@
 // References and what stands before them.
-ghost use Rattle.std.specs.Prelude.{◌≡◌, ◌<◌, ◌+◌, ◌^◌, ◌||◌, false, nat_lt, is_some, IfSome, length};
+ghost use Rattle.std.specs.Prelude.{◌≡◌, ◌<◌, ◌+◌, ◌^◌, ◌||◌, true, false, nat_lt, is_some, IfSome, length};
 ghost use Rattle.jr_tree.specs.Rows.{label, parent, sought_at as seeks};
 ghost use Rattle.jr_defs.specs.Referents.{entries};
+ghost use Rattle.jr_plain.specs.Declarations as plain;
 ghost use Rattle.jr_shapes.specs.Parts as part;
 ghost use Rattle.jr_spelling_rules.specs.Candidates as candidate;
 ghost use Rattle.jr_spelling_rules.specs.Naming.{kind_before as before_kind};
 ghost use Rattle.jr_spell.specs.Forming as forming;
 ghost use Rattle.jr_spell.specs.Spellers as tell;
+ghost use Rattle.jr_spell.specs.Spelling as spelled;
 
 use crate::fitting::{level_of, target_of};
 use crate::resolving::kind_before;
@@ -60,7 +62,9 @@ pub struct Reference {
 }
 
 /// The row is an identifier before a dot of a name, or of a call.
-fn is_before_dot(rows: &[Row], at: u32) -> bool {
+fn is_before_dot(rows: &[Row], at: u32) -> bool
+    ensures { result ≡ plain.is_before_dot (label rows.now at) }
+{
     match rows.get(at as usize) {
         Some(row) => match row.label {
             Label::Name {
@@ -263,8 +267,11 @@ impl Reference {
 
 impl<'a> Speller<'a> {
     // The row refers to a package or type.
-    fn is_package_or_type(&self, at: u32) -> bool {
-        match self.under().referent(at) {
+    fn is_package_or_type(&self, at: u32) -> bool
+        ensures { result ≡ plain.is_package_or_type (tell.rows_of self.now) (tell.table_of self.now at) }
+    {
+        let view = self.view;
+        match view.sight.world.under.referent(at) {
             Referent::Package => true,
             Referent::Declared { row, .. } => is_type(self.rows(), row),
             _ => false,
@@ -372,21 +379,30 @@ impl<'a> Speller<'a> {
         }
     }
 
-    /// The reference at a row, if it is one that has a lock. A package or type before a dot belongs to the reference behind it.
+    // A package or type before a dot belongs to the reference behind it.
+    fn is_part(&self, row: u32) -> bool
+        ensures { result ≡ plain.is_part (tell.rows_of self.now) (tell.table_of self.now) row }
+    {
+        is_before_dot(self.rows(), row) && self.is_package_or_type(row)
+    }
+
+    /// The reference at a row, if it is one that has a lock.
     pub fn reference(&self, row: u32) -> Option<Reference>
         ensures row { IfSome result (λ r. r.row ≡ row) }
         ensures at_row { IfSome result (λ r. tell.IsAtRow self.now r) }
+        ensures there { spelled.HasLock (tell.rows_of self.now) (tell.table_of self.now) row → is_some result ≡ true }
         ensures whole { tell.IsWholeSpeller self.now → row < length (tell.rows_of self.now) → tell.IsKnown (tell.rows_of self.now) (tell.table_of self.now row) → IfSome result (λ r. tell.IsSought self.now r) }
     {
-        if is_before_dot(self.rows(), row) && self.is_package_or_type(row) {
+        let view = self.view;
+        let rows = view.sight.world.under.rows;
+        if self.is_part(row) {
             return None;
         }
-        let sought = sought_at(self.rows(), row);
+        let sought = sought_at(rows, row);
         match sought {
-            Sought::Nothing => return None,
-            _ => (),
+            Sought::Nothing => None,
+            _ => self.reference_with(row, sought),
         }
-        self.reference_with(row, sought)
     }
 
     // The reference, where it has a lock.
@@ -394,6 +410,7 @@ impl<'a> Speller<'a> {
         ensures row { IfSome result (λ r. r.row ≡ row) }
         ensures lock { IfSome result (λ r. r.lock ≡ tell.table_of self.now row) }
         ensures sought { IfSome result (λ r. r.sought ≡ sought) }
+        ensures there { spelled.HasLock (tell.rows_of self.now) (tell.table_of self.now) row → is_some result ≡ true }
         ensures whole { tell.IsWholeSpeller self.now → sought ≡ seeks (tell.rows_of self.now) row → row < length (tell.rows_of self.now) → tell.IsKnown (tell.rows_of self.now) (tell.table_of self.now row) → IfSome result (λ r. tell.IsSought self.now r) }
     {
         let view = self.view;

@@ -14,12 +14,12 @@ ghost use Rattle.jr_spell.specs.Spelling as spelled;
 use crate::fault::SpellFault;
 use crate::fitting::{Fit, Looked, level_of, target_of};
 use crate::paths::Paths;
-use crate::reference::{Dot, Reference};
+use crate::reference::Reference;
 use crate::speller::Speller;
+use crate::turns::order_of_rows;
 use jr_base::OutOfMemory;
-use jr_change::{Project, Shape, Spelling, TypeName};
+use jr_change::{Project, Spelling, TypeName};
 use jr_defs::{Referent, RowType};
-use jr_marks::order_of_occurrences;
 use jr_tree::Row;
 use std::alloc::Global;
 
@@ -178,59 +178,6 @@ impl<'a> Speller<'a> {
         }
     }
 
-    // The old shape needs no new text.
-    fn is_text_kept(
-        &self,
-        alloc: Global,
-        reference: &Reference,
-        parts: &[u32],
-    ) -> Result<bool, OutOfMemory> {
-        if self.places().name(reference.row) != reference.name {
-            return Ok(false);
-        }
-        match reference.dot {
-            Dot::Names => match self.kept_names(alloc, reference)? {
-                Some(names) => Ok(are_equal(&names, &self.numbers_back(alloc, parts)?)),
-                None => Ok(false),
-            },
-            _ => Ok(true),
-        }
-    }
-
-    // The packages and types before the reference are those of the locks.
-    fn is_trace_kept(&self, parts: &[u32], trace: &[Referent]) -> bool {
-        let count = parts.len();
-        if trace.len() != count {
-            return false;
-        }
-        for nth in 0..count {
-            let Some(part) = parts.get(count - 1 - nth) else {
-                return false;
-            };
-            if trace.get(nth).copied() != Some(self.under().referent(*part)) {
-                return false;
-            }
-        }
-        true
-    }
-
-    // The reference stays as it stands, and all that it names is as the locks say.
-    fn is_plain(
-        &self,
-        alloc: Global,
-        reference: &Reference,
-        spelling: &Spelling,
-    ) -> Result<bool, OutOfMemory> {
-        if !is_kept(spelling.shape) || !spelling.casts.is_empty() {
-            return Ok(false);
-        }
-        let parts = self.parts(alloc, reference)?;
-        if spelling.found != reference.lock || !self.is_trace_kept(&parts, &spelling.trace) {
-            return Ok(false);
-        }
-        self.is_text_kept(alloc, reference, &parts)
-    }
-
     // What the old shape finds, where it finds anything; for a package also a type that is found in its place.
     fn found_instead(&self, alloc: Global, reference: &Reference) -> Result<Referent, OutOfMemory> {
         let mut arguments = Vec::new(alloc);
@@ -267,6 +214,8 @@ impl<'a> Speller<'a> {
         spelling: Spelling,
     ) -> Result<(), SpellFault>
         ensures spelled { shaping.IsSpelled self.now spelling → shaping.AreSpelled self.now all.old.items → OnOk result (shaping.AreSpelled self.now all.new.items) }
+        ensures keeps { OnOk result (shaping.KeepsAll all.old.items all.new.items) }
+        ensures told { tell.IsWholeSpeller self.now → tell.IsSought self.now reference.now → spelling.row ≡ reference.now.row → shaping.IsSpelled self.now spelling → OnOk result (shaping.IsTold self.now all.new.items reference.now.row) }
         ensures fault { IfErr result (λ fault. fault ≡ faults.OutOfMemory) }
     {
         let Ok(is_plain) = self.is_plain(alloc, reference, &spelling) else {
@@ -286,6 +235,8 @@ impl<'a> Speller<'a> {
         reference: &Reference,
     ) -> Result<(), SpellFault>
         ensures spelled { tell.IsWholeSpeller self.now → tell.IsSought self.now reference.now → shaping.AreSpelled self.now all.old.items → OnOk result (shaping.AreSpelled self.now all.new.items) }
+        ensures keeps { OnOk result (shaping.KeepsAll all.old.items all.new.items) }
+        ensures told { tell.IsWholeSpeller self.now → tell.IsSought self.now reference.now → OnOk result (shaping.IsTold self.now all.new.items reference.now.row) }
         ensures fault { tell.IsWholeSpeller self.now → tell.IsSought self.now reference.now → IfErr result (λ fault. shaping.HasNone self.now fault) }
     {
         let Ok(first) = self.first_spelling(alloc, reference) else {
@@ -315,6 +266,8 @@ impl<'a> Speller<'a> {
     // Adds the spelling of one row, if it is a reference and does not stay as it stands.
     fn spell_row(&self, alloc: Global, all: &mut Vec<Spelling>, row: u32) -> Result<(), SpellFault>
         ensures spelled { tell.IsWholeSpeller self.now → shaping.AreSpelled self.now all.old.items → OnOk result (shaping.AreSpelled self.now all.new.items) }
+        ensures keeps { OnOk result (shaping.KeepsAll all.old.items all.new.items) }
+        ensures told { tell.IsWholeSpeller self.now → OnOk result (shaping.IsTold self.now all.new.items row) }
         ensures fault { tell.IsWholeSpeller self.now → IfErr result (λ fault. shaping.HasNone self.now fault) }
     {
         if !self.is_known(row) {
@@ -329,6 +282,7 @@ impl<'a> Speller<'a> {
     // The spellings of these rows that do not stay as they stand.
     fn spell_all(&self, alloc: Global, order: &[u32]) -> Result<Vec<Spelling>, SpellFault>
         ensures spelled { tell.IsWholeSpeller self.now → IfOk result (λ all. shaping.AreSpelled self.now all.items) }
+        ensures told { tell.IsWholeSpeller self.now → IfOk result (λ all. shaping.AreTold self.now order.now all.items) }
         ensures fault { tell.IsWholeSpeller self.now → IfErr result (λ fault. shaping.HasNone self.now fault) }
     {
         let mut all = Vec::new(alloc);
@@ -340,11 +294,6 @@ impl<'a> Speller<'a> {
         }
         Ok(all)
     }
-}
-
-// Both are one list.
-fn are_equal(one: &[u32], other: &[u32]) -> bool {
-    one == other
 }
 
 fn push_spelling(all: &mut Vec<Spelling>, spelling: Spelling) -> Result<(), SpellFault>
@@ -365,14 +314,6 @@ fn last_found(found: Referent, trace: &[Referent]) -> Referent {
             None => found,
         },
         _ => found,
-    }
-}
-
-/// The shape is the old one.
-fn is_kept(shape: Shape) -> bool {
-    match shape {
-        Shape::Kept => true,
-        _ => false,
     }
 }
 
@@ -440,6 +381,7 @@ pub fn spell(
     constant: &[bool],
 ) -> Result<Vec<Spelling>, SpellFault>
     ensures spelled { shaping.IsWholeView locked.now.view → IfOk result (λ all. shaping.AreSpelledIn locked.now.view constant.now (spelled.first_written locked.now.marks.starts.now) all.items) }
+    ensures told { shaping.IsWholeView locked.now.view → IfOk result (λ all. shaping.AreToldIn locked.now.view constant.now (spelled.first_written locked.now.marks.starts.now) all.items) }
     ensures fault { shaping.IsWholeView locked.now.view → IfErr result (λ fault. shaping.HasNoneIn locked.now.view constant.now (spelled.first_written locked.now.marks.starts.now) fault) }
 {
     let view = &locked.view;
@@ -447,7 +389,7 @@ pub fn spell(
     let Ok(paths) = Paths::of(alloc, rows, view.sight.world.under.places) else {
         return Err(SpellFault::OutOfMemory);
     };
-    let Ok(order) = order_of_occurrences(alloc, rows) else {
+    let Ok(order) = order_of_rows(alloc, rows) else {
         return Err(SpellFault::OutOfMemory);
     };
     let units = locked.marks.starts;

@@ -8,8 +8,9 @@ use Rattle.jr_front.proofs.Viewed.{seen_view, whole_view}
 use Rattle.jr_change.specs.declared.project.Project.{Project}
 use Rattle.jr_request.specs.declared.command.Command.{Command}
 use Rattle.jr_request.specs.declared.command.Command.TheVariants.{Check, Run, Refs, Subtypes, Callers}
+use Rattle.jr_report.specs.declared.kind.Report.TheVariants as report
 use Rattle.jr_run.specs.Runs.{IsReadProject}
-use Rattle.jr_top.specs.Showing.{AnsweredAs, IsProjectIn, IsQuestionOf}
+use Rattle.jr_top.specs.Showing.{AnsweredAs, IsProjectIn, IsQuestionOf, ReportedAs}
 use Rattle.jr_top.specs.declared.showing.Question.{Question}
 use Rattle.jr_top.specs.declared.showing.Question.TheVariants as question
 use Rattle.jr_top.specs.declared.showing.Unanswered.{Unanswered}
@@ -17,7 +18,7 @@ use Rattle.jr_top.specs.declared.showing.Unanswered.TheVariants as unanswered
 
 -- ---- the project
 
--- what a run reads of the project is right
+-- what runs and reports read of the project is right
 pub read_project : (found : FileMap) (project : Project) → IsProjectIn found project → IsReadProject project
 read_project found project is = record {
   whole = whole_view is.workspace project.view is.of.bound is.view;
@@ -39,14 +40,14 @@ asked_by {command} {one} {q} {r} is same asks = subst (λ x. IsQuestionOf (Some 
 pub run_asked : {command : Command} {name : List ℕ} {count : ℕ} {class : Bor (List ℕ)} → command ≡ Run name count → class.now ≡ name → (q : Question) → q ≡ question.Run class count → IsQuestionOf (Some command) q
 run_asked is named q same = asked_by is same (named, refl)
 
-pub references_asked : {command : Command} {name : List ℕ} {offset at : ℕ} {file : Bor (List ℕ)} → command ≡ Refs name offset → (q : Question) → q ≡ question.References file at → IsQuestionOf (Some command) q
-references_asked is q same = asked_by is same tt
+pub references_asked : {command : Command} {name : List ℕ} {offset : ℕ} {file : Bor (List ℕ)} → command ≡ Refs name offset → file.now ≡ name → (q : Question) → q ≡ question.References file offset → IsQuestionOf (Some command) q
+references_asked is named q same = asked_by is same (named, refl)
 
-pub subtypes_asked : {command : Command} {name : List ℕ} {offset at : ℕ} {file : Bor (List ℕ)} → command ≡ Subtypes name offset → (q : Question) → q ≡ question.Subtypes file at → IsQuestionOf (Some command) q
-subtypes_asked is q same = asked_by is same tt
+pub subtypes_asked : {command : Command} {name : List ℕ} {offset : ℕ} {file : Bor (List ℕ)} → command ≡ Subtypes name offset → file.now ≡ name → (q : Question) → q ≡ question.Subtypes file offset → IsQuestionOf (Some command) q
+subtypes_asked is named q same = asked_by is same (named, refl)
 
-pub callers_asked : {command : Command} {name : List ℕ} {offset at : ℕ} {file : Bor (List ℕ)} → command ≡ Callers name offset → (q : Question) → q ≡ question.Callers file at → IsQuestionOf (Some command) q
-callers_asked is q same = asked_by is same tt
+pub callers_asked : {command : Command} {name : List ℕ} {offset : ℕ} {file : Bor (List ℕ)} → command ≡ Callers name offset → file.now ≡ name → (q : Question) → q ≡ question.Callers file offset → IsQuestionOf (Some command) q
+callers_asked is named q same = asked_by is same (named, refl)
 
 -- a run is that of the command
 run_command : (asked : Option Command) (class : Bor (List ℕ)) (steps : ℕ) → IsQuestionOf asked (question.Run class steps) → Some (Run class.now steps) ≡ asked
@@ -58,12 +59,46 @@ pub run_answered : (asked : Option Command) (found : FileMap) (class : Bor (List
     → AnsweredAs (Some (Run class.now steps)) found result → AnsweredAs asked found result
 run_answered asked found class steps q result same is answer = subst (λ a. AnsweredAs a found result) (run_command asked class steps (subst (IsQuestionOf asked) same is)) answer
 
--- any other command asks for no run, and of what answers it nothing is said
-no_run : (asked : Option Command) (found : FileMap) (result : Result (List ℕ) Unanswered) → ((class : List ℕ) (steps : ℕ) → asked ≡ Some (Run class steps) → ⊥) → AnsweredAs asked found result
-no_run (Some (Run class steps)) found result none = absurd (none class steps refl)
-no_run asked found (Err unanswered.OutOfMemory) none = tt
-no_run asked found (Ok text) none = tt
-no_run asked found (Err (unanswered.Bad reason)) none = tt
+-- ---- reports
 
-pub other_answered : (asked : Option Command) (found : FileMap) (q : Question) (result : Result (List ℕ) Unanswered) → IsQuestionOf asked q → ((class : List ℕ) (steps : ℕ) → IsQuestionOf (Some (Run class steps)) q → ⊥) → AnsweredAs asked found result
-other_answered asked found q result is none = no_run asked found result (λ class steps same. none class steps (subst (λ a. IsQuestionOf a q) same is))
+references_command : (asked : Option Command) (file : Bor (List ℕ)) (at : ℕ) → IsQuestionOf asked (question.References file at) → Some (Refs file.now at) ≡ asked
+references_command None file at is = absurd is
+references_command (Some (Refs name offset)) file at is = ap (λ x. Some (Refs x at)) is.0 ∙ ap (λ k. Some (Refs name k)) is.1
+references_command (Some other) file at is = absurd is
+
+references_reported : (found : FileMap) (file : List ℕ) (at : ℕ) (result : Result (List ℕ) Unanswered) → ReportedAs found report.References file at result → AnsweredAs (Some (Refs file at)) found result
+references_reported found file at (Ok text) h = h
+references_reported found file at (Err (unanswered.Bad reason)) h = h
+references_reported found file at (Err unanswered.OutOfMemory) h = tt
+
+pub references_answered : (asked : Option Command) (found : FileMap) (file : Bor (List ℕ)) (at : ℕ) (q : Question) (result : Result (List ℕ) Unanswered) → q ≡ question.References file at → IsQuestionOf asked q
+    → ReportedAs found report.References file.now at result → AnsweredAs asked found result
+references_answered asked found file at q result same is answer = subst (λ a. AnsweredAs a found result) (references_command asked file at (subst (IsQuestionOf asked) same is)) (references_reported found file.now at result answer)
+
+subtypes_command : (asked : Option Command) (file : Bor (List ℕ)) (at : ℕ) → IsQuestionOf asked (question.Subtypes file at) → Some (Subtypes file.now at) ≡ asked
+subtypes_command None file at is = absurd is
+subtypes_command (Some (Subtypes name offset)) file at is = ap (λ x. Some (Subtypes x at)) is.0 ∙ ap (λ k. Some (Subtypes name k)) is.1
+subtypes_command (Some other) file at is = absurd is
+
+subtypes_reported : (found : FileMap) (file : List ℕ) (at : ℕ) (result : Result (List ℕ) Unanswered) → ReportedAs found report.Subtypes file at result → AnsweredAs (Some (Subtypes file at)) found result
+subtypes_reported found file at (Ok text) h = h
+subtypes_reported found file at (Err (unanswered.Bad reason)) h = h
+subtypes_reported found file at (Err unanswered.OutOfMemory) h = tt
+
+pub subtypes_answered : (asked : Option Command) (found : FileMap) (file : Bor (List ℕ)) (at : ℕ) (q : Question) (result : Result (List ℕ) Unanswered) → q ≡ question.Subtypes file at → IsQuestionOf asked q
+    → ReportedAs found report.Subtypes file.now at result → AnsweredAs asked found result
+subtypes_answered asked found file at q result same is answer = subst (λ a. AnsweredAs a found result) (subtypes_command asked file at (subst (IsQuestionOf asked) same is)) (subtypes_reported found file.now at result answer)
+
+callers_command : (asked : Option Command) (file : Bor (List ℕ)) (at : ℕ) → IsQuestionOf asked (question.Callers file at) → Some (Callers file.now at) ≡ asked
+callers_command None file at is = absurd is
+callers_command (Some (Callers name offset)) file at is = ap (λ x. Some (Callers x at)) is.0 ∙ ap (λ k. Some (Callers name k)) is.1
+callers_command (Some other) file at is = absurd is
+
+callers_reported : (found : FileMap) (file : List ℕ) (at : ℕ) (result : Result (List ℕ) Unanswered) → ReportedAs found report.Callers file at result → AnsweredAs (Some (Callers file at)) found result
+callers_reported found file at (Ok text) h = h
+callers_reported found file at (Err (unanswered.Bad reason)) h = h
+callers_reported found file at (Err unanswered.OutOfMemory) h = tt
+
+pub callers_answered : (asked : Option Command) (found : FileMap) (file : Bor (List ℕ)) (at : ℕ) (q : Question) (result : Result (List ℕ) Unanswered) → q ≡ question.Callers file at → IsQuestionOf asked q
+    → ReportedAs found report.Callers file.now at result → AnsweredAs asked found result
+callers_answered asked found file at q result same is answer = subst (λ a. AnsweredAs a found result) (callers_command asked file at (subst (IsQuestionOf asked) same is)) (callers_reported found file.now at result answer)

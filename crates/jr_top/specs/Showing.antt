@@ -10,6 +10,11 @@ use Rattle.jr_front.specs.Compiling.{Compiles}
 use Rattle.jr_front.specs.Viewed.{HasTablesOfRows, IsViewOf}
 use Rattle.jr_front.specs.declared.workspace.Workspace.{Workspace}
 use Rattle.jr_change.specs.declared.project.Project.{Project}
+use Rattle.jr_change.specs.declared.reason.ChangeFault.{ChangeFault}
+use Rattle.jr_change.specs.declared.reason.ChangeFault.TheVariants as change
+use Rattle.jr_report.specs.declared.kind.Report.{Report}
+use Rattle.jr_report.specs.declared.kind.Report.TheVariants as report
+use Rattle.jr_report.specs.Reports.{IsReportOf}
 use Rattle.jr_request.specs.declared.command.Command.{Command}
 use Rattle.jr_request.specs.declared.command.Command.TheVariants.{Run, Refs, Subtypes, Callers}
 use Rattle.jr_run.specs.Runs.{IsRunText}
@@ -31,10 +36,11 @@ pub record IsWorkspaceOf (found : FileMap) (w : Workspace) : Type 0 where
   pub rows : w.index.value.rows ≡ rows_of w.program
   pub bound : IsBoundIn w
 
--- the program of the files with its tables, and the rows at which its units begin
+-- the program of the files with its tables, its units, and the rows at which these begin
 pub record IsProjectIn (found : FileMap) (project : Project) : Type 0 where
   pub workspace : Workspace
   pub of : IsWorkspaceOf found workspace
+  pub units : project.marks.units.now ≡ workspace.program.units
   pub starts : project.marks.starts.now ≡ unit_rows workspace.index.value.rows (length workspace.index.value.rows)
   pub view : IsViewOf workspace.index.value.rows workspace.places.value workspace.scopes.value workspace.bound.value project.view
 
@@ -46,19 +52,44 @@ pub record IsRunOf (found : FileMap) (class : List ℕ) (steps : ℕ) (result : 
   pub tables : HasTablesOfRows project.view
   pub runs : IsRunText project class steps result
 
+-- ---- reports
+
+-- the same, among the faults of changes
+abbrev pub reported_as : Result (List ℕ) RunFault → Result (List ℕ) ChangeFault
+reported_as (Ok text) = Ok text
+reported_as (Err (run.Bad reason)) = Err (change.Bad reason)
+reported_as (Err run.OutOfMemory) = Err change.OutOfMemory
+
+-- the report on what stands at the offset of a file, or why there is none, by the program of the files, whose tables have of its rows what the
+-- definitions say
+pub record IsReportIn (found : FileMap) (what : Report) (file : List ℕ) (at : ℕ) (result : Result (List ℕ) RunFault) : Type 0 where
+  pub project : Project
+  pub of : IsProjectIn found project
+  pub tables : HasTablesOfRows project.view
+  pub reports : IsReportOf project what file at (reported_as result)
+
+-- what a report comes to
+abbrev pub ReportedAs : FileMap → Report → List ℕ → ℕ → Result (List ℕ) Unanswered → Type 0
+ReportedAs found what file at (Ok text) = IsReportIn found what file at (Ok text)
+ReportedAs found what file at (Err (unanswered.Bad reason)) = IsReportIn found what file at (Err (run.Bad reason))
+ReportedAs found what file at (Err unanswered.OutOfMemory) = ⊤
+
 -- ---- questions
 
--- the text, or the reason why there is none, answers the command; of texts but those of runs nothing is said yet
+-- the text, or the reason why there is none, answers the command
 abbrev pub IsAnswerTo : Option Command → FileMap → Result (List ℕ) RunFault → Type 0
 IsAnswerTo (Some (Run class steps)) found result = IsRunOf found class steps result
+IsAnswerTo (Some (Refs file at)) found result = IsReportIn found report.References file at result
+IsAnswerTo (Some (Subtypes file at)) found result = IsReportIn found report.Subtypes file at result
+IsAnswerTo (Some (Callers file at)) found result = IsReportIn found report.Callers file at result
 IsAnswerTo other found result = ⊤
 
 -- the command asks the question
 abbrev pub IsQuestionOf : Option Command → Question → Type 0
 IsQuestionOf (Some (Run name count)) (question.Run class steps) = (class.now ≡ name) × (steps ≡ count)
-IsQuestionOf (Some (Refs name offset)) (question.References file at) = ⊤
-IsQuestionOf (Some (Subtypes name offset)) (question.Subtypes file at) = ⊤
-IsQuestionOf (Some (Callers name offset)) (question.Callers file at) = ⊤
+IsQuestionOf (Some (Refs name offset)) (question.References file at) = (file.now ≡ name) × (at ≡ offset)
+IsQuestionOf (Some (Subtypes name offset)) (question.Subtypes file at) = (file.now ≡ name) × (at ≡ offset)
+IsQuestionOf (Some (Callers name offset)) (question.Callers file at) = (file.now ≡ name) × (at ≡ offset)
 IsQuestionOf other asked = ⊥
 
 -- what a question on files that compile comes to

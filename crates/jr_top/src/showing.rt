@@ -4,12 +4,13 @@ ghost use Rattle.std.specs.Prelude.{Option, Some};
 ghost use Rattle.jr_base.specs.Files.{FileMap};
 ghost use Rattle.jr_request.specs.declared.command.Command.{Command};
 ghost use Rattle.jr_request.specs.declared.command.Command.TheVariants.{Run};
-ghost use Rattle.jr_top.specs.Showing.{AnsweredAs, IsProjectIn, IsQuestionOf, IsWorkspaceOf, ShownAs};
+ghost use Rattle.jr_top.specs.Showing.{AnsweredAs, IsProjectIn, IsQuestionOf, IsWorkspaceOf, ReportedAs, ShownAs};
 
 use crate::show_fault::ShowFault;
 use jr_base::{Files, Text};
 use jr_change::{ChangeFault, Project, Reason};
 use jr_front::{Workspace, open_files};
+use jr_ordered::is_ordered;
 use jr_report::{Report, report};
 use jr_run::{RunFault, run_text};
 use std::alloc::Global;
@@ -33,14 +34,19 @@ enum Unanswered {
     OutOfMemory,
 }
 
-// What is reported of a program.
+// What is reported of a program. Marks that are out of order are answered for want of memory, which those of a program are not.
 fn reported(
     alloc: Global,
     project: &Project,
     what: Report,
     file: &[u8],
     at: u32,
-) -> Result<Text, Unanswered> {
+) -> Result<Text, Unanswered>
+    ensures { (found : FileMap) → IsProjectIn found project.now → ReportedAs found what file.now at result }
+{
+    if !is_ordered(&project.marks) {
+        return Err(Unanswered::OutOfMemory);
+    }
     match report(alloc, project, what, file, at) {
         Ok(text) => Ok(text),
         Err(ChangeFault::Bad(reason)) => Err(Unanswered::Bad(reason)),

@@ -83,6 +83,29 @@ fn a_method_is_pulled_up(rt: HostRuntime) -> Result<(), Fail> {
     Ok(())
 }
 
+const THROWN_IN_CATCH: &str =
+    "class A { static void g() throws Exception { } static void f() { try { g(); } catch (Exception e) { g(); } finally { while (true) { } } } }";
+
+#[test]
+fn what_comes_out_of_the_statements_is_declared(rt: HostRuntime) -> Result<(), Fail> {
+    let alloc = rt.alloc();
+    let new =
+        "class A { static void g() throws Exception { } static void f() { try { g(); } catch (Exception e) { h(); } finally { while (true) { } } }\n\nprivate static void h() throws Exception {\ng();\n} }";
+    assert!(rt; changes(alloc, THROWN_IN_CATCH, ". extract A.java 100 104 h", new)?);
+    Ok(())
+}
+
+const CAST_TO_ITS_CLASS: &str =
+    "class A { } class B extends A { B m() { B b = (B) this; return b; } }";
+
+#[test]
+fn a_method_that_goes_up_keeps_its_edges(rt: HostRuntime) -> Result<(), Fail> {
+    let alloc = rt.alloc();
+    let edge = "lost edge: control A.java:34 A.java:40\n";
+    assert!(rt; leaves_it(alloc, CAST_TO_ITS_CLASS, ". pullup A.java 34", 5, edge)?);
+    Ok(())
+}
+
 #[test]
 fn a_call_that_begins_an_initialization_keeps_its_class(rt: HostRuntime) -> Result<(), Fail> {
     let alloc = rt.alloc();

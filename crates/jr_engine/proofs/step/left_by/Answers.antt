@@ -9,4 +9,4 @@ returns-then-changes_nothing-clause-ok c = stays_so c.args.asked.old.now c.args.
     (ap₂ keeps_all (sym c.as_slice.ensures) (sym c.deref.ensures.value) ∙ c.changes_nothing.ensures c.if-changes_nothing.true)
 
 pub returns-in-Err-clause-err : goal.returns-in-Err-clause-err
-returns-in-Err-clause-err c = told_caused c.args.asked.old.now c.args.asked.request.now (engine.Step c.in-Err.fault) c.refused_change.result.fault c.refused_change.ensures (hindered_caused c.args.asked c.in-Err.fault c.requires.asked c.in-Err.ensures.err)
+returns-in-Err-clause-err c = told_caused c.args.asked.old.now c.args.asked.request.now (engine.Step c.in-Err.fault) c.refused_change.result.fault c.refused_change.ensures.told (hindered_caused c.args.asked c.in-Err.fault c.requires.asked c.in-Err.ensures.err)

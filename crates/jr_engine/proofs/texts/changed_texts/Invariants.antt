@@ -1,7 +1,6 @@
 use Rattle.std.proofs.Common.{◌≡◌, ◌≤◌, ◌++◌, drop}
 use Rattle.jr_base.specs.Files.{plain}
-use Rattle.jr_engine.specs.Texts.{changed_files}
-use Rattle.jr_engine.proofs.Small.{AreSmall}
+use Rattle.jr_engine.specs.Texts.{AreSmall, changed_files}
 use Rattle.jr_engine.proofs.texts.changed_texts.Given as goal
 
 abbrev pub invariant-loop-changed : goal.invariant-loop-changed

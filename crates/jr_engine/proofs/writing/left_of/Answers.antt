@@ -1,10 +1,19 @@
-use Rattle.std.proofs.Common.{◌∙◌, ap}
+use Rattle.std.proofs.Common.{ap, subst, sym}
 use Rattle.jr_base.specs.Files.{plain}
-use Rattle.jr_bind.specs.declared.binder.Bound.{Bound}
-use Rattle.jr_engine.proofs.Reading.{texts_so}
+use Rattle.jr_engine.specs.Texts.{AreSmall}
+use Rattle.jr_engine.proofs.Barring.{entries_bar}
+use Rattle.jr_engine.proofs.Reading.{not_left, not_left_if, texts_so}
 use Rattle.jr_engine.proofs.writing.left_of.Goals as goal
 
-pub returns-clause-texts : goal.returns-clause-texts
-returns-clause-texts c = texts_so c.args.spelled.locked.now c.args.spelled.spellings.now c.marks-marks.result c.deref-2.result.now c.in_ok-edits.edits.items c.deref-3.result.now c.as_slice.result.now
-    (plain c.in_ok-texts.texts.items) c.left_with.result c.marks-marks.ensures.made c.in_ok-edits.ensures (c.deref-2.ensures.value ∙ ap (λ (b : Bound). b.table.items) c.deref.ensures) c.deref-3.ensures.value c.as_slice.ensures
-    c.in_ok-texts.ensures c.left_with.ensures.files c.args.spelled.asked
+pub path_fault-requires : goal.path_fault-requires
+path_fault-requires c = subst (λ all. AreSmall (plain all)) (sym c.deref.ensures.value) c.in_ok-new.ensures.small
+
+pub returns-in-None-clause-texts : goal.returns-in-None-clause-texts
+returns-in-None-clause-texts c = texts_so c.args.spelled.locked.now c.args.spelled.spellings.now c.args.spelled.asked (plain c.in_ok-new.new.texts.items) c.left_with.result c.in_ok-new.ensures.are c.left_with.ensures.files
+
+pub returns-in-None-clause-err : goal.returns-in-None-clause-err
+returns-in-None-clause-err c = λ read bound. not_left_if c.args.spelled.asked.change.now c.args.spelled.locked.now c.args.spelled.spellings.now (plain c.in_ok-new.new.texts.items) c.left_with.result (c.in_ok-new.ensures.are read bound) c.left_with.ensures.err
+
+pub returns-in-Some-clause-err : goal.returns-in-Some-clause-err
+returns-in-Some-clause-err c = λ read bound. not_left c.args.spelled.asked.change.now c.args.spelled.locked.now c.args.spelled.spellings.now (plain c.in_ok-new.new.texts.items) c.in-Some.fault (c.in_ok-new.ensures.are read bound)
+    (entries_bar c.args.spelled.asked.change.now (plain c.deref.result.now) (plain c.in_ok-new.new.texts.items) c.in-Some.fault (ap plain c.deref.ensures.value) c.in-Some.ensures)

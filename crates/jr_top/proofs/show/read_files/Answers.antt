@@ -6,10 +6,10 @@ pub returns-in-Run-clause-answer : goal.returns-in-Run-clause-answer
 returns-in-Run-clause-answer g c reads = c.show_all.ensures.answer (Some c.args.command.now) (run_asked c.in-Run.is c.bytes-class.ensures _ refl)
 
 pub returns-in-Refs-clause-answer : goal.returns-in-Refs-clause-answer
-returns-in-Refs-clause-answer g c reads = c.show_all-in-Refs.ensures.answer (Some c.args.command.now) (references_asked c.in-Refs.is _ refl)
+returns-in-Refs-clause-answer g c reads = c.show_all-in-Refs.ensures.answer (Some c.args.command.now) (references_asked c.in-Refs.is c.bytes-file.ensures _ refl)
 
 pub returns-in-Subtypes-clause-answer : goal.returns-in-Subtypes-clause-answer
-returns-in-Subtypes-clause-answer g c reads = c.show_all-in-Subtypes.ensures.answer (Some c.args.command.now) (subtypes_asked c.in-Subtypes.is _ refl)
+returns-in-Subtypes-clause-answer g c reads = c.show_all-in-Subtypes.ensures.answer (Some c.args.command.now) (subtypes_asked c.in-Subtypes.is c.bytes-file-in-Subtypes.ensures _ refl)
 
 pub returns-in-Callers-clause-answer : goal.returns-in-Callers-clause-answer
-returns-in-Callers-clause-answer g c reads = c.show_all-in-Callers.ensures.answer (Some c.args.command.now) (callers_asked c.in-Callers.is _ refl)
+returns-in-Callers-clause-answer g c reads = c.show_all-in-Callers.ensures.answer (Some c.args.command.now) (callers_asked c.in-Callers.is c.bytes-file-in-Callers.ensures _ refl)

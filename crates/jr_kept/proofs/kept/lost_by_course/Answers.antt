@@ -1,6 +1,6 @@
 use Rattle.std.proofs.Common.{◌≡◌, sym, subst, IfOk, None}
 use Rattle.jr_kept.specs.Courses.{KeepsCourse, KeepsUsesOf}
-use Rattle.jr_kept.proofs.kept.lost_flow.Goals as goal
+use Rattle.jr_kept.proofs.kept.lost_by_course.Goals as goal
 
 pub returns-in-Inlined-clause-control : goal.returns-in-Inlined-clause-control
 returns-in-Inlined-clause-control c = λ m w seen other. let p = c.args.old.now.marks.rows.now in let q = c.args.locked.now.marks.rows.now in
