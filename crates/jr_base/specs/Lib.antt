@@ -11,3 +11,5 @@ pub mod Numerals
 pub mod Reading
 pub mod Tokens
 pub mod Respelled
+pub mod Mirror
+pub mod Faithful

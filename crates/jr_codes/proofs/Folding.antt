@@ -3,10 +3,10 @@ use Rattle.std.proofs.Common.{◌≡◌, refl, sym, ◌∙◌, ap, ℕ, suc, ◌
 use Rattle.std.proofs.lemmas.Bool.{false≢true, true≢false}
 use Rattle.std.proofs.lemmas.Option.{none-some}
 use Rattle.jr_base.specs.declared.ids.NodeAt.{NodeAt}
-use Rattle.jr_ty.specs.declared.constant.Const.{Const}
-use Rattle.jr_ty.specs.declared.ty.Ty.{Ty}
-use Rattle.jr_ty.specs.declared.ty.Ty.TheVariants as ty
-use Rattle.jr_ty.specs.declared.constant.Const.TheVariants as c
+use Rattle.jr_base.specs.declared.constant.Const.{Const}
+use Rattle.jr_base.specs.declared.ty.Ty.{Ty}
+use Rattle.jr_base.specs.declared.ty.Ty.TheVariants as ty
+use Rattle.jr_base.specs.declared.constant.Const.TheVariants as c
 use Rattle.jr_defs.specs.declared.referent.Element.{Element}
 use Rattle.jr_defs.specs.declared.referent.Element.TheVariants as element
 use Rattle.jr_defs.specs.Operators.{as_long, number_to, then_number, cast_to}

@@ -1,6 +1,6 @@
 -- Conversions of values (JLS 5.1.2, 5.1.3, 5.2, 5.5, 5.6, 15.18.1.1).
 use Rattle.std.specs.Prelude.{◌≡◌, ℕ, ◌∷◌, Bool, true, false, not, ◌&&◌, if◌then◌else◌, Option, Some, None, option_map}
-use Rattle.jr_ty.specs.declared.constant.Const.{Const}
+use Rattle.jr_base.specs.declared.constant.Const.{Const}
 use Rattle.jr_core.specs.declared.code.Code.{Code}
 use Rattle.jr_core.specs.declared.code.Code.TheVariants as c
 use Rattle.jr_defs.specs.declared.referent.Element.{Element}

@@ -1,9 +1,9 @@
 -- What elaboration reads of a program, and types in a core.
 use Rattle.std.specs.Prelude.{ℕ, zero, suc, ◌+◌, Bool, List, Option, nat_lt}
 use Rattle.jr_base.specs.declared.ids.DeclId.{DeclId}
-use Rattle.jr_ty.specs.declared.constant.Const.{Const}
-use Rattle.jr_ty.specs.declared.ty.Ty.{Ty}
-use Rattle.jr_ty.specs.declared.ty.Ty.TheVariants as ty
+use Rattle.jr_base.specs.declared.constant.Const.{Const}
+use Rattle.jr_base.specs.declared.ty.Ty.{Ty}
+use Rattle.jr_base.specs.declared.ty.Ty.TheVariants as ty
 use Rattle.jr_tree.specs.Rows.{Rows, end}
 use Rattle.jr_defs.specs.declared.referent.Element.{Element}
 use Rattle.jr_defs.specs.declared.referent.Element.TheVariants as element

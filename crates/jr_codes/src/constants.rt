@@ -1,16 +1,15 @@
 // Values of constants in a core, and its types.
 ghost use Rattle.std.specs.Prelude.{◌≡◌, IfOk, slice_get};
-ghost use Rattle.jr_ty.specs.declared.constant.Const.TheVariants as c;
-ghost use Rattle.jr_ty.specs.declared.ty.Ty.TheVariants as ty;
+ghost use Rattle.jr_base.specs.declared.constant.Const.TheVariants as c;
+ghost use Rattle.jr_base.specs.declared.ty.Ty.TheVariants as ty;
 ghost use Rattle.jr_constants.specs.Values.{value_in, text_at};
 ghost use Rattle.jr_codes.specs.Facts.{element_in, type_in};
 ghost use Rattle.jr_codes.specs.Reads.{texts_of, facts};
 
 use crate::source::Source;
-use jr_base::{Boxed, OutOfMemory, Units};
+use jr_base::{Boxed, Const, OutOfMemory, Ty, Units};
 use jr_constants::Value;
 use jr_defs::{Element, RowType};
-use jr_ty::{Const, Ty};
 use std::alloc::Global;
 
 fn text(source: &Source, number: u32) -> Result<Const, OutOfMemory>

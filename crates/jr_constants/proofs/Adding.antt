@@ -3,8 +3,8 @@ use Rattle.std.proofs.Common.{◌≡◌, refl, ap, true, false, ℕ, List, [], �
 use Rattle.std.proofs.lemmas.Bool.{false≢true}
 use Rattle.jr_base.specs.declared.kind.Symbol.{Symbol}
 use Rattle.jr_base.specs.declared.kind.Symbol.TheVariants as y
-use Rattle.jr_ty.specs.declared.constant.Const.{Const}
-use Rattle.jr_ty.specs.declared.constant.Const.TheVariants as c
+use Rattle.jr_base.specs.declared.constant.Const.{Const}
+use Rattle.jr_base.specs.declared.constant.Const.TheVariants as c
 use Rattle.jr_defs.specs.Operators.{text_of, text_value, joined, binary_value}
 use Rattle.jr_constants.specs.declared.value.Value.{Value}
 use Rattle.jr_constants.specs.declared.value.Value.TheVariants as v

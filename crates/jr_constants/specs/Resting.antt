@@ -1,6 +1,6 @@
 -- Tables in which no value is missing: each row has what the rows below it give, and each variable what its initializer gives.
 use Rattle.std.specs.Prelude.{◌≡◌, ℕ, ◌+◌, ◌≤◌, Bool, true, Option, Some, slice_set}
-use Rattle.jr_ty.specs.declared.constant.Const.{Const}
+use Rattle.jr_base.specs.declared.constant.Const.{Const}
 use Rattle.jr_tree.specs.Rows.{Rows, label}
 use Rattle.jr_defs.specs.Operators.{assigned_to}
 use Rattle.jr_defs.specs.Referents.{Table}

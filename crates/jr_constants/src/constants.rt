@@ -3,7 +3,7 @@
 ghost use Rattle.std.specs.Prelude.{◌≡◌, ◌+◌, ◌<◌, ◌^◌, if◌then◌else◌, true, false, Some, None, ℕ, Bool, length, replicate, slice_get, slice_set, slice_index_or, IfSome, IfOk, OnOk};
 ghost use Rattle.jr_tree.specs.Rows.{label};
 ghost use Rattle.jr_tree.specs.Tree.{IsTree};
-ghost use Rattle.jr_ty.specs.declared.constant.Const.{Const};
+ghost use Rattle.jr_base.specs.declared.constant.Const.{Const};
 ghost use Rattle.jr_defs.specs.Constants.{Constant};
 ghost use Rattle.jr_defs.specs.Operators as defined;
 ghost use Rattle.jr_defs.specs.Referents.{Table, entries};

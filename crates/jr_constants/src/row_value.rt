@@ -11,7 +11,7 @@ ghost use Rattle.jr_supers.specs.Tabled.{declared};
 ghost use Rattle.jr_constants.specs.Values.{seen, seen_if, value_in, value_in_if};
 ghost use Rattle.jr_constants.specs.Values as told;
 ghost use Rattle.jr_base.specs.declared.kind.Kind.TheVariants as token;
-ghost use Rattle.jr_ty.specs.declared.constant.Const.TheVariants as c;
+ghost use Rattle.jr_base.specs.declared.constant.Const.TheVariants as c;
 ghost use Rattle.jr_constants.specs.Tables as tell;
 
 use crate::operators::{bool_value, number_value, unary_value};

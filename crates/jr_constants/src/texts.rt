@@ -1,7 +1,7 @@
 // The pool of constant strings (JLS 15.18.1, 15.28).
 ghost use Rattle.std.specs.Prelude.{◌≡◌, [], ◌∷◌, ◌++◌, Some, true, IfOk, OnOk, slice_get, length};
 ghost use Rattle.std.specs.Fmt.{signed_decimal};
-ghost use Rattle.jr_ty.specs.declared.constant.Const.TheVariants as c;
+ghost use Rattle.jr_base.specs.declared.constant.Const.TheVariants as c;
 ghost use Rattle.jr_defs.specs.Operators as defined;
 ghost use Rattle.jr_constants.specs.Values.{value_in, value_in_if, text_at, equal_texts, compared, has_text, texts_value};
 ghost use Rattle.jr_constants.specs.Tables.{IsGrown, IsInIf};

@@ -2,7 +2,7 @@
 
 ghost use Rattle.std.specs.Prelude.{◌≡◌, if◌then◌else◌};
 ghost use Rattle.std.specs.Int.{w8, w16, w32};
-ghost use Rattle.jr_ty.specs.declared.constant.Const.TheVariants as c;
+ghost use Rattle.jr_base.specs.declared.constant.Const.TheVariants as c;
 ghost use Rattle.jr_defs.specs.declared.referent.Element.TheVariants as element;
 ghost use Rattle.jr_defs.specs.Operators as defined;
 ghost use Rattle.jr_constants.specs.Values.{seen, seen_if};

@@ -1,6 +1,6 @@
 -- Code of the program and plain data are the same things.
 use Rattle.std.proofs.Common.{◌≡◌, refl, ap, ◌∙◌, subst, List, [], ◌∷◌, map, Option, Some, None}
-use Rattle.jr_ty.proofs.Same.{tree_ty, plain_tree_ty, tree_plain_ty}
+use Rattle.jr_base.proofs.Same.{tree_ty, plain_tree_ty, tree_plain_ty}
 use Rattle.jr_core.specs.declared.code.Code as declared_code
 use Rattle.jr_core.specs.declared.code.Code.{roll-Code}
 use Rattle.jr_core.specs.declared.code.Catch as declared_catch

@@ -3,8 +3,8 @@ use Rattle.std.specs.Prelude.{Bool, List, [], ◌∷◌, map, Option, Some, None
 use Rattle.std.specs.Option.{option_map}
 use Rattle.jr_base.specs.declared.ids.DeclId.{DeclId}
 use Rattle.jr_base.specs.declared.ids.TypeId.{TypeId}
-use Rattle.jr_ty.specs.declared.constant.Const.{Const}
-use Rattle.jr_ty.specs.Mirror.{Ty, plain_ty}
+use Rattle.jr_base.specs.declared.constant.Const.{Const}
+use Rattle.jr_base.specs.Mirror.{Ty, plain_ty}
 use Rattle.jr_core.specs.declared.operators.BinaryOp.{BinaryOp}
 use Rattle.jr_core.specs.declared.operators.UnaryOp.{UnaryOp}
 use Rattle.jr_core.specs.declared.operators.StepOp.{StepOp}

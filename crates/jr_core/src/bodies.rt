@@ -1,8 +1,7 @@
 // Classes and bodies (JLS 8, 9).
 
 use crate::Code;
-use jr_base::{DeclId, Items, TypeId};
-use jr_ty::{Const, Ty};
+use jr_base::{Const, DeclId, Items, Ty, TypeId};
 
 /// A class or an interface (JLS 8.1, 9.1).
 #[derive(Drop)]

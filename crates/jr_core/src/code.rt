@@ -1,8 +1,7 @@
 // Elaborated statements and expressions (JLS 14, 15).
 
 use crate::{BinaryOp, StepOp, UnaryOp};
-use jr_base::{Boxed, DeclId, Items, TypeId};
-use jr_ty::{Const, Ty};
+use jr_base::{Boxed, Const, DeclId, Items, Ty, TypeId};
 
 /// A label of a `switch`; that of a case is the value of its constant expression (JLS 14.11).
 #[derive(Clone, Copy, Debug, PartialEq, Eq)]

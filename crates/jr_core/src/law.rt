@@ -1,5 +1,5 @@
 // The law of the view of code as plain data.
-ghost use Rattle.jr_ty.specs.Faithful.{IsOneToOne, IsOnto};
+ghost use Rattle.jr_base.specs.Faithful.{IsOneToOne, IsOnto};
 ghost use Rattle.jr_core.specs.Mirror.{plain_code, plain_core};
 
 /// Seen as plain data, code and a core are neither more nor less than they are: the views are one to one and onto.

@@ -16,7 +16,7 @@ use Rattle.jr_tree.specs.declared.tree.Name.{Name}
 use Rattle.jr_tree.specs.Mirror.Exprs as x
 use Rattle.jr_tree.specs.Mirror.Stmts as s
 use Rattle.jr_tree.specs.Mirror.Decls as d
-use Rattle.jr_ty.specs.declared.constant.Const.TheVariants as c
+use Rattle.jr_base.specs.declared.constant.Const.TheVariants as c
 use Rattle.jr_tree.specs.declared.label.Label.TheVariants as is
 use Rattle.jr_tree.specs.declared.label.NameKind.TheVariants as kind
 use Rattle.jr_tree.specs.declared.label.NamePlace.TheVariants as place

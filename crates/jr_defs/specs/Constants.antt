@@ -4,8 +4,8 @@ use Rattle.jr_base.specs.declared.kind.Kind.{Kind}
 use Rattle.jr_base.specs.declared.kind.Kind.TheVariants as token
 use Rattle.jr_base.specs.declared.kind.Keyword.TheVariants as word
 use Rattle.jr_base.specs.declared.kind.Symbol.{Symbol}
-use Rattle.jr_ty.specs.declared.constant.Const.{Const}
-use Rattle.jr_ty.specs.declared.constant.Const.TheVariants as c
+use Rattle.jr_base.specs.declared.constant.Const.{Const}
+use Rattle.jr_base.specs.declared.constant.Const.TheVariants as c
 use Rattle.jr_tree.specs.declared.label.Label.TheVariants as is
 use Rattle.jr_tree.specs.declared.label.NameKind.TheVariants as kind
 use Rattle.jr_tree.specs.declared.label.Sought.{Sought}

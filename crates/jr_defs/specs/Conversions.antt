@@ -1,6 +1,6 @@
 -- Promotion, assignment and casts (JLS 5.2, 5.5, 5.6).
 use Rattle.std.specs.Prelude.{◌≡◌, ◌⊎◌, ℕ, suc, Option, Some}
-use Rattle.jr_ty.specs.declared.constant.Const.{Const}
+use Rattle.jr_base.specs.declared.constant.Const.{Const}
 use Rattle.jr_tree.specs.Rows.{Rows}
 use Rattle.jr_defs.specs.declared.referent.Element.{Element}
 use Rattle.jr_defs.specs.declared.referent.Element.TheVariants as element

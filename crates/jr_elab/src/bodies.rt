@@ -21,7 +21,7 @@ ghost use Rattle.jr_expressions.specs.Stacks.{stacks_of};
 
 use crate::reads::{add_made, children, label_of, row_count};
 use crate::statements::{Making, make_below};
-use jr_base::{Boxed, DeclId, Items, OutOfMemory};
+use jr_base::{Boxed, Const, DeclId, Items, OutOfMemory};
 use jr_codes::{Parts, Source, add, add_item, constant_of, type_of};
 use jr_constants::Value;
 use jr_core::{Body, Code};
@@ -29,7 +29,6 @@ use jr_defs::{Element, RowType};
 use jr_expressions::this_of;
 use jr_places::{is_static, role_at, written_at};
 use jr_tree::{Label, Role};
-use jr_ty::Const;
 use jr_types::plain_type;
 
 // The row is a parameter.

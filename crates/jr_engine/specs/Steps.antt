@@ -10,7 +10,7 @@ use Rattle.jr_tree.specs.Rows.{Rows}
 use Rattle.jr_defs.specs.Program.{rows_of}
 use Rattle.jr_defs.specs.Referents.{Table, entries}
 use Rattle.jr_defs.specs.declared.program.Program.{Program}
-use Rattle.jr_ty.specs.declared.constant.Const.{Const}
+use Rattle.jr_base.specs.declared.constant.Const.{Const}
 use Rattle.jr_defs.specs.Constants.{Constant}
 use Rattle.jr_plain.specs.Constants.{constants, has_constant_form}
 use Rattle.jr_plain.specs.Conversions.{Constants}

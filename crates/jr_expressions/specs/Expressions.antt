@@ -2,7 +2,7 @@
 use Rattle.std.specs.Prelude.{ℕ, zero, suc, ◌+◌, Bool, false, if◌then◌else◌, List, [], ◌∷◌, map, Option, Some, None, option_map, is_some}
 use Rattle.jr_base.specs.declared.kind.Symbol.{Symbol}
 use Rattle.jr_base.specs.declared.kind.Symbol.TheVariants as y
-use Rattle.jr_ty.specs.declared.constant.Const.{Const}
+use Rattle.jr_base.specs.declared.constant.Const.{Const}
 use Rattle.jr_core.specs.declared.code.Code.{Code}
 use Rattle.jr_core.specs.declared.code.Code.TheVariants as c
 use Rattle.jr_core.specs.declared.operators.BinaryOp.{BinaryOp}

@@ -1,6 +1,6 @@
 -- Names, fields, `this` and initializers (JLS 6.5.6, 10.6, 10.7, 15.8.3, 15.8.4, 15.11, 15.28).
 use Rattle.std.specs.Prelude.{◌≡◌, ℕ, zero, suc, ◌+◌, ◌-◌, Bool, true, false, not, ◌||◌, if◌then◌else◌, List, [], ◌∷◌, Option, Some, None, option_map, is_some, nat_eq}
-use Rattle.jr_ty.specs.declared.constant.Const.{Const}
+use Rattle.jr_base.specs.declared.constant.Const.{Const}
 use Rattle.jr_core.specs.declared.code.Code.{Code}
 use Rattle.jr_core.specs.declared.code.Code.TheVariants as c
 use Rattle.jr_tree.specs.declared.label.Label.{Label}

@@ -1,7 +1,7 @@
 -- The code of a statement by the parts below it, and of each row of a program (JLS 14).
 use Rattle.std.specs.Prelude.{◌≡◌, ℕ, zero, suc, ◌+◌, ◌-◌, ◌<◌, ◌≤◌, ℤ, Bool, true, false, ◌&&◌, if◌then◌else◌, List, [], ◌∷◌, ◌++◌, map, Option, Some, None, option_map, nat_eq, nat_lt}
 use Rattle.jr_base.specs.declared.ids.DeclId.{DeclId}
-use Rattle.jr_ty.specs.declared.constant.Const.{Const}
+use Rattle.jr_base.specs.declared.constant.Const.{Const}
 use Rattle.jr_core.specs.declared.code.Code.{Code}
 use Rattle.jr_core.specs.declared.code.Code.TheVariants as c
 use Rattle.jr_core.specs.declared.code.Catch.{Catch, roll-Catch}

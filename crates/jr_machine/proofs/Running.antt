@@ -1,7 +1,7 @@
 -- Runs that go on, and runs that stay as they are.
 use Rattle.std.proofs.Common.{◌≡◌, refl, ap, sym, ◌∙◌, subst, ℕ, zero, suc, ◌+◌, ◌-◌, ◌<◌, ◌≤◌, Bool, true, false, if◌then◌else◌, Some, None, sub-one, arith}
 use Rattle.jr_base.specs.declared.ids.DeclId.{DeclId}
-use Rattle.jr_ty.specs.Mirror as t
+use Rattle.jr_base.specs.Mirror as t
 use Rattle.jr_core.specs.Mirror.{Code, Core}
 use Rattle.jr_machine_defs.specs.Prelude.{string_class}
 use Rattle.jr_machine_defs.specs.declared.state.RunEnd.{RunEnd}

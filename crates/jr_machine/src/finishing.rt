@@ -1,6 +1,6 @@
 // What the finishing item of a statement or an expression does (JLS 14, 15).
 ghost use Rattle.std.specs.Prelude.{◌≡◌, if◌then◌else◌, IfOk, [], ◌∷◌};
-ghost use Rattle.jr_ty.specs.Mirror.{plain_ty};
+ghost use Rattle.jr_base.specs.Mirror.{plain_ty};
 ghost use Rattle.jr_core.specs.Mirror as m;
 ghost use Rattle.jr_core.specs.Mirror.{plain_code, plain_codes};
 ghost use Rattle.jr_machine_defs.specs.declared.work.Work.TheVariants as w;
@@ -15,7 +15,7 @@ ghost use Rattle.jr_machine_defs.specs.Calls.{calls, creates_any, constructs};
 ghost use Rattle.jr_machine_defs.specs.States.{with_one, with_two, with_some, with_outcome, settled, add_work};
 ghost use Rattle.jr_machine_defs.specs.Follows.{Follows, TakesArgs};
 
-use jr_base::{Boxed, DeclId, Items, OutOfMemory, TypeId};
+use jr_base::{Boxed, DeclId, Items, OutOfMemory, Ty, TypeId};
 use jr_core::{BinaryOp, Code, Group, StepOp, UnaryOp};
 use jr_machine_defs::{Cell, Exit, Fault, Number, Outcome, Stack, State, Value, Work};
 use jr_machine_exits::{
@@ -27,7 +27,6 @@ use jr_machine_ops::{
     push_eval, raise, set_local, settle, stepped, take, text_of, throw, to_string_method, unary,
     units_of,
 };
-use jr_ty::Ty;
 use std::alloc::Global;
 
 /// The old value or the new one.

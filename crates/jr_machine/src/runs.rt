@@ -1,20 +1,19 @@
 // A run.
 ghost use Rattle.std.specs.Prelude.{◌≡◌, IfOk};
-ghost use Rattle.jr_ty.specs.Mirror as t;
-ghost use Rattle.jr_ty.specs.Mirror.{plain_ty};
+ghost use Rattle.jr_base.specs.Mirror as t;
+ghost use Rattle.jr_base.specs.Mirror.{plain_ty};
 ghost use Rattle.jr_machine_defs.specs.Prelude.{string_class};
 ghost use Rattle.jr_core.specs.Mirror.{plain_code, plain_core};
 ghost use Rattle.jr_machine_defs.specs.Steps.{is_running, start_call, start_with, IsRunFrom, IsRun};
 ghost use Rattle.jr_machine_defs.specs.Follows.{Advances};
 
 use crate::steps::step;
-use jr_base::{DeclId, Items, OutOfMemory};
+use jr_base::{DeclId, Items, OutOfMemory, Ty};
 use jr_core::{Code, Core};
 use jr_machine_defs::{
     Cell, Cells, CodeRef, Frame, Printed, Purpose, Ran, RunEnd, Stack, State, TyRef, Value, Work,
 };
 use jr_machine_ops::{Program, object_class, string_class};
-use jr_ty::Ty;
 use std::alloc::Global;
 
 fn is_running(end: RunEnd) -> bool

@@ -3,7 +3,7 @@ use Rattle.std.proofs.Common.{◌≡◌, refl, sym, ap, ◌∙◌, ℕ, zero, su
 use Rattle.std.specs.Prelude.{replicate}
 use Rattle.std.proofs.lemmas.List.{map-append}
 use Rattle.jr_base.specs.declared.ids.DeclId.{DeclId}
-use Rattle.jr_ty.specs.Mirror as t
+use Rattle.jr_base.specs.Mirror as t
 use Rattle.jr_machine_defs.specs.declared.value.Value.{Value}
 use Rattle.jr_machine_defs.specs.declared.value.Value.TheVariants as v
 use Rattle.jr_machine_defs.specs.declared.heap.Cell.TheVariants as cell

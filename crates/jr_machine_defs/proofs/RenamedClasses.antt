@@ -6,7 +6,7 @@ use Rattle.std.proofs.lemmas.List.{map_push, length-map}
 use Rattle.std.proofs.lemmas.Option.{slice_get-map}
 use Rattle.jr_base.specs.declared.ids.DeclId.{DeclId}
 use Rattle.jr_base.specs.declared.ids.TypeId.{TypeId}
-use Rattle.jr_ty.specs.Mirror as t
+use Rattle.jr_base.specs.Mirror as t
 use Rattle.jr_core.specs.declared.bodies.Class.{Class}
 use Rattle.jr_core.specs.Mirror.{Body, Core}
 use Rattle.jr_machine_defs.specs.declared.value.Value.{Value}

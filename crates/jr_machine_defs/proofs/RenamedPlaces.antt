@@ -5,7 +5,7 @@ use Rattle.std.specs.Prelude.{slice_get, unwrap_or, ℤ}
 use Rattle.std.proofs.lemmas.List.{map-set}
 use Rattle.std.proofs.lemmas.Option.{slice_get-map}
 use Rattle.jr_base.specs.declared.ids.DeclId.{DeclId}
-use Rattle.jr_ty.specs.Mirror as t
+use Rattle.jr_base.specs.Mirror as t
 use Rattle.jr_core.specs.Mirror as m
 use Rattle.jr_core.specs.Mirror.{Code, Core, Body}
 use Rattle.jr_machine_defs.specs.declared.value.Value.{Value}

@@ -4,7 +4,7 @@ use Rattle.std.specs.Cmp.Derive.{both_true}
 use Rattle.std.proofs.lemmas.Bool.{eqb-true, eq-eqb, and_parts}
 use Rattle.jr_base.specs.declared.ids.DeclId.{DeclId}
 use Rattle.jr_base.specs.declared.ids.TypeId.{TypeId}
-use Rattle.jr_ty.specs.Mirror as t
+use Rattle.jr_base.specs.Mirror as t
 use Rattle.jr_machine_defs.specs.declared.value.Value.{Value}
 use Rattle.jr_machine_defs.specs.declared.slots.Slot.{Slot}
 use Rattle.jr_machine_defs.specs.Values.{same_decl, same_type, value_of, assigned, slot_of, default_of}

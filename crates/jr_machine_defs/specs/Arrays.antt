@@ -1,6 +1,6 @@
 -- Creation of arrays (JLS 15.10, 10.6).
 use Rattle.std.specs.Prelude.{ℕ, zero, suc, ◌+◌, ◌*◌, Bool, true, false, if◌then◌else◌, List, [], ◌∷◌, ◌++◌, length, Option, Some, None, replicate, ℤ, pos, negsuc}
-use Rattle.jr_ty.specs.Mirror as t
+use Rattle.jr_base.specs.Mirror as t
 use Rattle.jr_machine_defs.specs.declared.value.Value.{Value}
 use Rattle.jr_machine_defs.specs.declared.value.Value.TheVariants as v
 use Rattle.jr_machine_defs.specs.declared.heap.Cell.{Cell}

@@ -1,9 +1,9 @@
 -- How code, types and a core are stored.
 use Rattle.std.specs.Coded.{Coded, code_by}
-use Rattle.jr_ty.specs.declared.ty.Ty as declared_ty
-use Rattle.jr_ty.specs.contracts.ty.Ty as stored_ty
-use Rattle.jr_ty.specs.Mirror.{Ty, plain_ty}
-use Rattle.jr_ty.proofs.Same.{tree_ty, plain_tree_ty}
+use Rattle.jr_base.specs.declared.ty.Ty as declared_ty
+use Rattle.jr_base.specs.contracts.ty.Ty as stored_ty
+use Rattle.jr_base.specs.Mirror.{Ty, plain_ty}
+use Rattle.jr_base.proofs.Same.{tree_ty, plain_tree_ty}
 use Rattle.jr_core.specs.declared.code.Code as declared_code
 use Rattle.jr_core.specs.contracts.code.Code as stored_code
 use Rattle.jr_core.specs.declared.bodies.Core as declared_core

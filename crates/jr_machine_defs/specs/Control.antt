@@ -3,7 +3,7 @@ use Rattle.std.specs.Prelude.{ℕ, zero, suc, Bool, true, false, ◌||◌, if◌
 use Rattle.std.specs.Ordering.{int_eq}
 use Rattle.jr_base.specs.declared.ids.DeclId.{DeclId}
 use Rattle.jr_base.specs.declared.ids.TypeId.{TypeId}
-use Rattle.jr_ty.specs.Mirror as t
+use Rattle.jr_base.specs.Mirror as t
 use Rattle.jr_core.specs.declared.bodies.Class.{Class}
 use Rattle.jr_core.specs.declared.code.SwitchLabel.{SwitchLabel}
 use Rattle.jr_core.specs.declared.code.SwitchLabel.TheVariants as label

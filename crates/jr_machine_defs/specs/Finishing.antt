@@ -1,7 +1,7 @@
 -- What the finishing item of a statement or an expression does (JLS 14, 15).
 use Rattle.std.specs.Prelude.{ℕ, Bool, true, false, if◌then◌else◌, List, [], ◌∷◌, ◌++◌, length, Option, Some, None, slice_get, ℤ}
 use Rattle.jr_base.specs.declared.ids.DeclId.{DeclId}
-use Rattle.jr_ty.specs.Mirror as t
+use Rattle.jr_base.specs.Mirror as t
 use Rattle.jr_core.specs.declared.operators.BinaryOp.{BinaryOp}
 use Rattle.jr_core.specs.declared.operators.StepOp.{StepOp}
 use Rattle.jr_core.specs.Mirror as m

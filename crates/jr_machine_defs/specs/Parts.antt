@@ -1,8 +1,8 @@
 -- What a statement or an expression is replaced by: its parts in the order of evaluation, and its finishing item (JLS 14, 15.7).
 use Rattle.std.specs.Prelude.{List, [], ◌∷◌, ◌++◌, Option, Some, None, ℕ, ◌+◌}
 use Rattle.jr_base.specs.declared.ids.DeclId.{DeclId}
-use Rattle.jr_ty.specs.declared.constant.Const.{Const}
-use Rattle.jr_ty.specs.declared.constant.Const.TheVariants as k
+use Rattle.jr_base.specs.declared.constant.Const.{Const}
+use Rattle.jr_base.specs.declared.constant.Const.TheVariants as k
 use Rattle.jr_core.specs.declared.operators.BinaryOp.{BinaryOp}
 use Rattle.jr_core.specs.Mirror as m
 use Rattle.jr_core.specs.Mirror.{Code, Codes}

@@ -3,8 +3,8 @@ use Rattle.std.specs.Prelude.{◌≡◌, ℕ, suc, ◌+◌, unwrap_or, List, [],
 use Rattle.std.specs.Option.{option_map}
 use Rattle.jr_base.specs.declared.ids.DeclId.{DeclId}
 use Rattle.jr_base.specs.declared.ids.TypeId.{TypeId}
-use Rattle.jr_ty.specs.Faithful.{IsOneToOne}
-use Rattle.jr_ty.specs.Mirror as t
+use Rattle.jr_base.specs.Faithful.{IsOneToOne}
+use Rattle.jr_base.specs.Mirror as t
 use Rattle.jr_core.specs.declared.bodies.Class.{Class}
 use Rattle.jr_core.specs.Mirror as m
 use Rattle.jr_core.specs.Mirror.{Code, Codes, Core, Body}

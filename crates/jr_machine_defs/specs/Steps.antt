@@ -4,7 +4,7 @@ use Rattle.jr_base.specs.declared.ids.DeclId.{DeclId}
 use Rattle.jr_base.specs.declared.ids.TypeId.{TypeId}
 use Rattle.jr_core.specs.Mirror as m
 use Rattle.jr_core.specs.Mirror.{Code, Core, Body}
-use Rattle.jr_ty.specs.Mirror as t
+use Rattle.jr_base.specs.Mirror as t
 use Rattle.jr_machine_defs.specs.declared.value.Value.{Value}
 use Rattle.jr_machine_defs.specs.declared.value.Value.TheVariants as v
 use Rattle.jr_machine_defs.specs.declared.heap.Cell.TheVariants as cell

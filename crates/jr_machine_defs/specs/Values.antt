@@ -2,7 +2,7 @@
 use Rattle.std.specs.Prelude.{ℕ, Bool, true, false, ◌&&◌, ◌==◌, if◌then◌else◌, List, [], ◌∷◌, Option, Some, None, pos}
 use Rattle.jr_base.specs.declared.ids.DeclId.{DeclId}
 use Rattle.jr_base.specs.declared.ids.TypeId.{TypeId}
-use Rattle.jr_ty.specs.Mirror as t
+use Rattle.jr_base.specs.Mirror as t
 use Rattle.jr_machine_defs.specs.declared.value.Value.{Value}
 use Rattle.jr_machine_defs.specs.declared.value.Value.TheVariants as v
 use Rattle.jr_machine_defs.specs.declared.slots.Slot.{Slot}

@@ -1,11 +1,10 @@
 // Parts of the core, by reference: contracts see what they refer to.
 ghost use Rattle.std.specs.Prelude.{◌≡◌};
-ghost use Rattle.jr_ty.specs.Mirror.{plain_ty};
+ghost use Rattle.jr_base.specs.Mirror.{plain_ty};
 ghost use Rattle.jr_core.specs.Mirror.{plain_code};
 
-use jr_base::Units;
+use jr_base::{Ty, Units};
 use jr_core::Code;
-use jr_ty::Ty;
 use std::marker::Model;
 
 /// Code of the core.
@@ -48,7 +47,7 @@ pub struct TyRef<'a> {
 }
 
 impl<'a> Model for TyRef<'a> {
-    ghost use Rattle.jr_ty.specs.Mirror.{Ty, plain_ty};
+    ghost use Rattle.jr_base.specs.Mirror.{Ty, plain_ty};
     ghost use Rattle.jr_machine_defs.specs.Codes.{code_of_ty};
 
     ghost Value = { Ty };

@@ -6,11 +6,10 @@ ghost use Rattle.jr_machine_defs.specs.declared.work.Work.TheVariants as w;
 ghost use Rattle.jr_machine_defs.specs.declared.work.Exit.TheVariants as exit;
 ghost use Rattle.jr_machine_defs.specs.Parts.{evals, eval_any, literal, plain_target, old_target, assign_target, target_parts, for_turn, new_array_parts, parts, after_body};
 
-use jr_base::{Boxed, DeclId, Items, OutOfMemory};
+use jr_base::{Boxed, Const, DeclId, Items, OutOfMemory};
 use jr_core::{BinaryOp, Code};
 use jr_machine_defs::{CodeRef, Exit, Stack, UnitsRef, Value, Work};
 use jr_machine_ops::{push_codes, push_eval};
-use jr_ty::Const;
 
 /// The value of a literal (JLS 15.8.1, 3.10.5).
 pub fn literal<'a>(value: &'a Option<Const>) -> Value<'a>

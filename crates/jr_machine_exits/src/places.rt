@@ -1,6 +1,6 @@
 // Fields and components of arrays: the checks, reading and writing (JLS 15.11, 15.13, 15.26).
 ghost use Rattle.std.specs.Prelude.{◌≡◌, IfOk, Some, slice_get};
-ghost use Rattle.jr_ty.specs.Mirror.{plain_ty};
+ghost use Rattle.jr_base.specs.Mirror.{plain_ty};
 ghost use Rattle.jr_core.specs.Mirror as m;
 ghost use Rattle.jr_core.specs.Mirror.{plain_code, plain_body};
 ghost use Rattle.jr_machine_defs.specs.Classes.{body_in};
@@ -9,14 +9,13 @@ ghost use Rattle.jr_machine_defs.specs.States.{with_one, with_two, with_outcome,
 ghost use Rattle.jr_machine_defs.specs.Follows.{Follows};
 
 use crate::parts::literal;
-use jr_base::{Boxed, DeclId, OutOfMemory, Units};
+use jr_base::{Boxed, Const, DeclId, OutOfMemory, Ty, Units};
 use jr_core::{Body, Code};
 use jr_machine_defs::{Cell, Fault, Given, Outcome, Placed, Slot, State, Value};
 use jr_machine_ops::{
     Program, assign, default_of, drop_receiver, give, int_of_count, place_in, push, push_value,
     raise, set_local, settle, value_of,
 };
-use jr_ty::{Const, Ty};
 use std::alloc::Global;
 
 /// The value of a variable, or the default value of its type.

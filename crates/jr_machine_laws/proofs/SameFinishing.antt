@@ -1,7 +1,7 @@
 -- What the finishing items and the exits of code do in cores that are the same.
 use Rattle.std.proofs.Common.{◌≡◌, refl, ap, ℕ, Bool, true, false, cond, List, [], Option, Some, None}
 use Rattle.jr_base.specs.declared.ids.TypeId.{TypeId}
-use Rattle.jr_ty.specs.Mirror as t
+use Rattle.jr_base.specs.Mirror as t
 use Rattle.jr_core.specs.declared.operators.BinaryOp.{BinaryOp}
 use Rattle.jr_core.specs.declared.operators.StepOp.{StepOp}
 use Rattle.jr_core.specs.Mirror as m

@@ -2,7 +2,7 @@
 use Rattle.std.proofs.Common.{◌≡◌, refl, ap, sym, ◌∙◌, ℕ, zero, suc, ◌+◌, ◌-◌, ◌*◌, ◌<◌, ◌≤◌, take, drop, get_or, List, [], ◌∷◌, ◌++◌, length, length-append, append_assoc, sub-one, arith}
 use Rattle.std.specs.Prelude.{replicate}
 use Rattle.std.proofs.lemmas.List.{take_all}
-use Rattle.jr_ty.specs.Mirror as t
+use Rattle.jr_base.specs.Mirror as t
 use Rattle.jr_core.specs.declared.code.Code as declared_code
 use Rattle.jr_core.specs.Mirror.{plain_codes}
 use Rattle.jr_machine_defs.specs.declared.value.Value.TheVariants as v

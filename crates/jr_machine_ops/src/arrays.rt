@@ -1,6 +1,6 @@
 // Creation of arrays (JLS 15.10, 10.6).
 ghost use Rattle.std.specs.Prelude.{◌≡◌, ◌+◌, ◌*◌, ◌++◌, [], IfOk, OnOk, false, length, replicate};
-ghost use Rattle.jr_ty.specs.Mirror.{plain_ty};
+ghost use Rattle.jr_base.specs.Mirror.{plain_ty};
 ghost use Rattle.jr_machine_defs.specs.Values.{default_of};
 ghost use Rattle.jr_machine_defs.specs.Arrays.{makes_array, references, arrays_of_arrays, arrays, is_array_of, makes_fit, makes_arrays, sizes_from};
 ghost use Rattle.jr_machine_defs.specs.Places.{place_in};
@@ -9,9 +9,8 @@ ghost use Rattle.jr_machine_defs.specs.declared.heap.Cell.TheVariants as cell;
 
 use crate::changes::{push, raise};
 use crate::variables::default_of;
-use jr_base::{Items, OutOfMemory};
+use jr_base::{Items, OutOfMemory, Ty};
 use jr_machine_defs::{Cell, Cells, Fault, Sizes, Stack, State, TyRef, Value};
-use jr_ty::Ty;
 use std::alloc::Global;
 
 /// The values from the top down.

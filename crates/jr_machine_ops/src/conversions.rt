@@ -1,13 +1,13 @@
 // Conversions of values (JLS 5.1, 15.26.2).
 ghost use Rattle.std.specs.Prelude.{◌≡◌, ◌%◌, ◌^◌};
 ghost use Rattle.std.specs.Int.{w8, w16, w32, w64, cast_unsigned};
-ghost use Rattle.jr_ty.specs.Mirror.{plain_ty};
+ghost use Rattle.jr_base.specs.Mirror.{plain_ty};
 ghost use Rattle.jr_machine_defs.specs.Operators.{lowest, converted, converted_number, converted_to, number_of, cast_back, step_operator, stepped};
 
 use crate::operators::{number_of, number_value, on_numbers};
+use jr_base::Ty;
 use jr_core::{BinaryOp, StepOp};
 use jr_machine_defs::{Number, Outcome, Value};
-use jr_ty::Ty;
 
 /// The lowest 8 bits (JLS 5.1.3).
 fn lowest_byte(number: i64) -> i8

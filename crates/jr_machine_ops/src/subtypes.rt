@@ -2,18 +2,17 @@
 ghost use Rattle.std.specs.Prelude.{◌≡◌, [], ◌∷◌, length, OnOk, IfOk};
 ghost use Rattle.std.specs.Option.{option_copied, option_map};
 ghost use Rattle.jr_core.specs.Mirror as m;
-ghost use Rattle.jr_ty.specs.Mirror as t;
-ghost use Rattle.jr_ty.specs.Mirror.{plain_ty};
+ghost use Rattle.jr_base.specs.Mirror as t;
+ghost use Rattle.jr_base.specs.Mirror.{plain_ty};
 ghost use Rattle.jr_machine_defs.specs.Control.{catch_for};
 ghost use Rattle.jr_machine_defs.specs.Classes.{is_among, with_other, with_others, with_parent, with_supers, with_supers_of, is_above, is_below, is_subtype, class_of_object, is_instance};
 
 use crate::prelude::{object_class, string_class};
 use crate::program::Program;
 use crate::variables::same_type;
-use jr_base::{Items, OutOfMemory, TypeId};
+use jr_base::{Items, OutOfMemory, Ty, TypeId};
 use jr_core::{Catch, Class};
 use jr_machine_defs::{Cell, Value};
-use jr_ty::Ty;
 use std::alloc::Global;
 
 /// Whether the class or interface is one of these.

@@ -3,11 +3,10 @@ ghost use Rattle.std.specs.Prelude.{◌≡◌, OnOk};
 ghost use Rattle.std.specs.Option.{option_copied};
 ghost use Rattle.jr_machine_defs.specs.Values.{same_decl, same_type, value_of, assigned, default_of};
 ghost use Rattle.jr_machine_defs.specs.Finding.{slot_index};
-ghost use Rattle.jr_ty.specs.Mirror.{plain_ty};
+ghost use Rattle.jr_base.specs.Mirror.{plain_ty};
 
-use jr_base::{DeclId, Items, OutOfMemory, TypeId};
+use jr_base::{DeclId, Items, OutOfMemory, Ty, TypeId};
 use jr_machine_defs::{Slot, Value};
-use jr_ty::Ty;
 
 /// Whether the two are the same declaration.
 pub fn same_decl(left: DeclId, right: DeclId) -> bool

@@ -1,7 +1,7 @@
 -- What gives that the values of variables are those of the definition.
 use Rattle.std.proofs.Common.{◌≡◌, refl, sym, ap, ◌∙◌, ℕ, ◌+◌, Bool, true, false, cond, Option, Some, None}
 use Rattle.std.proofs.lemmas.Option.{none-some}
-use Rattle.jr_ty.specs.declared.constant.Const.{Const}
+use Rattle.jr_base.specs.declared.constant.Const.{Const}
 use Rattle.jr_tree.specs.Rows.{Rows}
 use Rattle.jr_defs.specs.Constants.{ConstantOf, ConstantVariable, HasConstantForm}
 use Rattle.jr_defs.specs.Laws.{Picked}

@@ -3,8 +3,8 @@ use Rattle.std.proofs.Common.{◌≡◌, ◌⊎◌, refl, sym, ◌∙◌, ap, su
 use Rattle.std.proofs.lemmas.Bool.{false≢true}
 use Rattle.std.proofs.lemmas.Bool.Decides.{Decides-eqb}
 use Rattle.std.proofs.lemmas.Option.{none-some, same_Some}
-use Rattle.jr_ty.specs.declared.constant.Const.{Const}
-use Rattle.jr_ty.specs.declared.constant.Const.TheVariants as c
+use Rattle.jr_base.specs.declared.constant.Const.{Const}
+use Rattle.jr_base.specs.declared.constant.Const.TheVariants as c
 use Rattle.jr_tree.specs.Rows.{Rows}
 use Rattle.jr_defs.specs.declared.referent.Element.{Element}
 use Rattle.jr_defs.specs.declared.referent.Element.TheVariants as element

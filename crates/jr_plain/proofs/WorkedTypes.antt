@@ -1,6 +1,6 @@
 -- Types and constants on the rows of two small programs.
 use Rattle.std.proofs.Common.{◌≡◌, refl, cond, ◌||◌, nat_eq, Some, None, pos}
-use Rattle.jr_ty.specs.declared.constant.Const.TheVariants as c
+use Rattle.jr_base.specs.declared.constant.Const.TheVariants as c
 use Rattle.jr_defs.specs.declared.referent.Element.TheVariants as element
 use Rattle.jr_defs.specs.declared.referent.Referent.TheVariants.{Declared, Unbound}
 use Rattle.jr_defs.specs.Referents.{Table}

@@ -49,7 +49,7 @@ ghost use Rattle.jr_defs.specs.Headers.{NamesHeader, IsSettled};
 ghost use Rattle.jr_defs.specs.declared.referent.Referent.TheVariants.{Declared};
 ghost use Rattle.jr_defs.specs.Operators.{cast_to, assigned_to};
 ghost use Rattle.jr_defs.specs.Constants.{Converts, ConstantOf, HasConstantForm};
-ghost use Rattle.jr_ty.specs.declared.constant.Const.{Const};
+ghost use Rattle.jr_base.specs.declared.constant.Const.{Const};
 ghost use Rattle.jr_plain.specs.Constants.{converted_as, constants, has_constant_form};
 ghost use Rattle.jr_defs.specs.Conversions.{Promotes, PromotesBoth, IsCastable, IsAssignable};
 ghost use Rattle.jr_plain.specs.Conversions.{Constants, promoted_type, promoted_both, is_castable, is_assignable};

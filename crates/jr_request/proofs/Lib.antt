@@ -3,3 +3,6 @@ pub mod Elements
 pub mod Fields
 pub mod Keys
 pub mod One
+pub mod Fronts
+pub mod Answering
+pub mod OneAnswer

@@ -1,6 +1,6 @@
 -- The values of constant expressions and the types of expressions of a program are those that are computed.
 use Rattle.std.proofs.Common.{ℕ, ◌+◌}
-use Rattle.jr_ty.specs.declared.constant.Const.{Const}
+use Rattle.jr_base.specs.declared.constant.Const.{Const}
 use Rattle.jr_tree.specs.Rows.{Rows, end}
 use Rattle.jr_defs.specs.Referents.{Table}
 use Rattle.jr_defs.specs.Constants.{HasConstantForm, ConstantOf, ConstantVariable, Constant}

@@ -1,8 +1,8 @@
 -- Rules 23, 28, 29, 31 and 34, computed: thrown classes, conditions, switches, returns and jumps (JLS 8.4.6, 14.9 to 14.18, 14.20).
 use Rattle.std.specs.Prelude.{ℕ, ◌+◌, Bool, true, false, not, ◌&&◌, ◌||◌, length, codes, if◌then◌else◌, Option, None, option_and_then, is_some, nat_eq, nat_lt, bytes_eq}
 use Rattle.std.specs.Ordering.{int_eq}
-use Rattle.jr_ty.specs.declared.constant.Const.{Const}
-use Rattle.jr_ty.specs.declared.constant.Const.TheVariants as c
+use Rattle.jr_base.specs.declared.constant.Const.{Const}
+use Rattle.jr_base.specs.declared.constant.Const.TheVariants as c
 use Rattle.jr_tree.specs.declared.label.Label.{Label}
 use Rattle.jr_tree.specs.declared.label.Label.TheVariants as is
 use Rattle.jr_tree.specs.declared.label.NamePlace.TheVariants as place

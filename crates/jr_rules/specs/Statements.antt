@@ -1,6 +1,6 @@
 -- Rules 23, 28, 29, 31 and 34: thrown classes, conditions, switches, returns and jumps (JLS 8.4.6, 14.9 to 14.18, 14.20).
 use Rattle.std.specs.Prelude.{◌≡◌, ℕ, ◌+◌, ◌<◌, true, false, codes, Option, Some}
-use Rattle.jr_ty.specs.declared.constant.Const.{Const}
+use Rattle.jr_base.specs.declared.constant.Const.{Const}
 use Rattle.jr_tree.specs.declared.label.Label.{Label}
 use Rattle.jr_tree.specs.declared.label.Label.TheVariants as is
 use Rattle.jr_tree.specs.declared.label.Role.{Role}

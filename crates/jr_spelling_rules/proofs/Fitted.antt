@@ -4,7 +4,7 @@ use Rattle.std.specs.Option.{option_map_or}
 use Rattle.std.proofs.lemmas.Bool.{false≢true}
 use Rattle.std.proofs.lemmas.Bool.Decides.{Decides-eqb}
 use Rattle.std.proofs.lemmas.Option.{none-some, same_Some}
-use Rattle.jr_ty.specs.declared.constant.Const.{Const}
+use Rattle.jr_base.specs.declared.constant.Const.{Const}
 use Rattle.jr_tree.specs.declared.label.Role.TheVariants as role
 use Rattle.jr_tree.specs.Rows.{Rows, role_at}
 use Rattle.jr_defs.specs.declared.referent.Referent.{Referent}

@@ -1,7 +1,7 @@
 -- When a way to write a reference fits: it finds what the reference must refer to, on the same object, accessible, and constant as before (JLS 6.5, 6.6, 8.3, 8.4, 15.28).
 use Rattle.std.specs.Prelude.{◌≡◌, ◌⊎◌, ℕ, zero, suc, Bool, true, false, not, ◌&&◌, ◌||◌, if◌then◌else◌, List, [], ◌∷◌, length, Option, Some, None, nat_eq, Decides}
 use Rattle.std.specs.Option.{option_map_or}
-use Rattle.jr_ty.specs.declared.constant.Const.{Const}
+use Rattle.jr_base.specs.declared.constant.Const.{Const}
 use Rattle.jr_tree.specs.declared.label.Role.TheVariants as role
 use Rattle.jr_tree.specs.Rows.{Rows, name, role_at}
 use Rattle.jr_defs.specs.declared.referent.Element.{Element}

@@ -2,10 +2,10 @@
 use Rattle.std.proofs.Common.{◌≡◌, ◌⊎◌, inl, inr, ℕ, List, [], Option, Some, Ok, Err, Vec, Global, sym, ap, subst, ◌∙◌, arith}
 use Rattle.std.proofs.lemmas.Option.{same_Some}
 use Rattle.jr_base.specs.declared.request.Request.{Request}
-use Rattle.jr_batch.specs.Input.{ForInput, IsInputAnswer, LeavesSome}
-use Rattle.jr_batch.specs.declared.fault.BatchFault.{BatchFault}
-use Rattle.jr_batch.specs.declared.fault.BatchFault.TheVariants as fault
-use Rattle.jr_batch.proofs.OneAnswer.{one_answer}
+use Rattle.jr_request.specs.Input.{ForInput, IsInputAnswer, LeavesSome}
+use Rattle.jr_request.specs.declared.input_fault.BatchFault.{BatchFault}
+use Rattle.jr_request.specs.declared.input_fault.BatchFault.TheVariants as fault
+use Rattle.jr_request.proofs.OneAnswer.{one_answer}
 use Rattle.jr_commit.specs.Restoring.{Restored, RestoresTo, StartsRecover}
 use Rattle.jr_request.specs.declared.command.Command.TheVariants.{Batch}
 use Rattle.jr_store.specs.Image.{Image}

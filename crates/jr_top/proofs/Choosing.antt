@@ -3,9 +3,9 @@ use Rattle.std.proofs.Common.{◌≡◌, ◌⊎◌, inl, inr, ℕ, ◌≤◌, Li
 use Rattle.std.proofs.lemmas.Option.{same_Some, none-some}
 use Rattle.jr_base.specs.declared.request.Request.{Request}
 use Rattle.jr_base.specs.declared.request.Request.TheVariants.{Rename}
-use Rattle.jr_batch.specs.Input.{ForInput, IsInputAnswer}
-use Rattle.jr_batch.specs.declared.fault.BatchFault.{BatchFault}
-use Rattle.jr_batch.proofs.OneAnswer.{one_answer}
+use Rattle.jr_request.specs.Input.{ForInput, IsInputAnswer}
+use Rattle.jr_request.specs.declared.input_fault.BatchFault.{BatchFault}
+use Rattle.jr_request.proofs.OneAnswer.{one_answer}
 use Rattle.jr_commit.specs.Planned.{Planned}
 use Rattle.jr_commit.specs.Restoring.{Restored}
 use Rattle.jr_gather.specs.Gathering.{HoldsFiles, IsFirstTooLarge}

@@ -3,8 +3,8 @@ use Rattle.std.proofs.Common.{◌≡◌, ◌⊎◌, inl, inr, ⊎_elim, ℕ, Lis
 use Rattle.std.proofs.lemmas.Option.{same_Some, none-some}
 use Rattle.jr_base.specs.declared.request.Request.{Request}
 use Rattle.jr_base.specs.declared.request.Request.TheVariants.{Rename}
-use Rattle.jr_batch.specs.Input.{IsInputAnswer}
-use Rattle.jr_batch.specs.declared.fault.BatchFault.{BatchFault}
+use Rattle.jr_request.specs.Input.{IsInputAnswer}
+use Rattle.jr_request.specs.declared.input_fault.BatchFault.{BatchFault}
 use Rattle.jr_commit.specs.Restoring.{Restored}
 use Rattle.jr_request.specs.Words.{command_of}
 use Rattle.jr_request.specs.declared.command.Command.{Command}

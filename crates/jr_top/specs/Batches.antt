@@ -1,8 +1,8 @@
 -- The answers to a batch.
 use Rattle.std.specs.Prelude.{◌≡◌, ℕ, List, Option, Some, Err}
-use Rattle.jr_batch.specs.Input.{ForInput, IsInputAnswer}
-use Rattle.jr_batch.specs.declared.fault.BatchFault.{BatchFault}
-use Rattle.jr_batch.specs.declared.fault.BatchFault.TheVariants as fault
+use Rattle.jr_request.specs.Input.{ForInput, IsInputAnswer}
+use Rattle.jr_request.specs.declared.input_fault.BatchFault.{BatchFault}
+use Rattle.jr_request.specs.declared.input_fault.BatchFault.TheVariants as fault
 use Rattle.jr_request.specs.Words.{command_of}
 use Rattle.jr_request.specs.declared.command.Command.TheVariants.{Batch}
 use Rattle.jr_store.specs.Image.{Image, Rose}

@@ -2,8 +2,8 @@
 use Rattle.std.specs.Prelude.{◌≡◌, ◌⊎◌, ℕ, List, Option, Some, None, Err, ⊤}
 use Rattle.jr_base.specs.declared.request.Request.{Request}
 use Rattle.jr_base.specs.declared.request.Request.TheVariants.{Rename}
-use Rattle.jr_batch.specs.Input.{IsInputAnswer}
-use Rattle.jr_batch.specs.declared.fault.BatchFault.{BatchFault}
+use Rattle.jr_request.specs.Input.{IsInputAnswer}
+use Rattle.jr_request.specs.declared.input_fault.BatchFault.{BatchFault}
 use Rattle.jr_commit.specs.Restoring.{Restored}
 use Rattle.jr_request.specs.Words.{command_of}
 use Rattle.jr_request.specs.declared.command.Command.{Command}

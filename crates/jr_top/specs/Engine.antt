@@ -4,7 +4,7 @@ use Rattle.jr_base.specs.Files.{FileMap}
 use Rattle.jr_base.specs.declared.limits.Size.{Size}
 use Rattle.jr_base.specs.declared.request.Request.{Request}
 use Rattle.jr_base.specs.declared.request.Request.TheVariants.{Rename}
-use Rattle.jr_batch.specs.Input.{ForInput, IsInputAnswer}
+use Rattle.jr_request.specs.Input.{ForInput, IsInputAnswer}
 use Rattle.jr_top.specs.Reasons.{reason_number}
 use Rattle.jr_commit.specs.Differences.{differences}
 use Rattle.jr_commit.specs.Journal.{spelling, new_sides}

@@ -2,7 +2,7 @@
 ghost use Rattle.std.specs.Prelude.{◌≡◌, ◌≢◌, ◌≤◌, ◌∷◌, [], ◌↔◌, ℕ, List, Some, IsTrue, IfOk, IfSome, MatchOption, length, option_map};
 ghost use Rattle.std.specs.FinMap as map;
 ghost use Rattle.jr_base.specs.Paths.{is_java};
-ghost use Rattle.jr_batch.specs.Input.{LeavesSome};
+ghost use Rattle.jr_request.specs.Input.{LeavesSome};
 ghost use Rattle.jr_store.specs.Image.{Image, HasStoreCause, LeavesOnly};
 ghost use Rattle.jr_thin.specs.Renaming.{Serves, IsDone};
 ghost use Rattle.jr_top.specs.Changing.{IsPlanOf};

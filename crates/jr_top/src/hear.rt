@@ -1,11 +1,11 @@
 // What the input of a batch asks for.
 ghost use Rattle.std.specs.Prelude.{◌≡◌, ℕ, List, Some};
-ghost use Rattle.jr_batch.specs.Input.{LeavesSome};
+ghost use Rattle.jr_request.specs.Input.{LeavesSome};
 ghost use Rattle.jr_top.specs.Decisions.{HearsSo};
 
 use crate::status::Status;
 use jr_base::Request;
-use jr_batch::{BatchFault, read_requests};
+use jr_request::{BatchFault, read_requests};
 use jr_store::Source;
 use std::alloc::Global;
 

@@ -1,7 +1,7 @@
 // The top call: from the words, the store and the output to the answer.
 ghost use Rattle.std.specs.Prelude.{◌≡◌, ◌≢◌, ◌⊎◌, ◌↔◌, [], ℕ, List, Some, None, Err, OnOk, IsSome, MatchOption};
-ghost use Rattle.jr_batch.specs.Input.{IsInputAnswer, LeavesSome};
-ghost use Rattle.jr_batch.specs.declared.fault.BatchFault.{BatchFault};
+ghost use Rattle.jr_request.specs.Input.{IsInputAnswer, LeavesSome};
+ghost use Rattle.jr_request.specs.declared.input_fault.BatchFault.{BatchFault};
 ghost use Rattle.jr_commit.specs.Planned.{StartsCommit, ChangesOnlyPlanned};
 ghost use Rattle.jr_commit.specs.Restoring.{Restored, RestoresTo, StartsRecover, MayBegin};
 ghost use Rattle.jr_commit.specs.SidesAt.{with_sides};

@@ -1,7 +1,7 @@
 -- The third child, and constants by the numbers of their texts.
 use Rattle.std.proofs.Common.{◌≡◌, refl, sym, ◌∙◌, ap, ℕ, List, [], Option, Some, None}
 use Rattle.std.specs.Prelude.{ℤ, is_some, option_map}
-use Rattle.jr_ty.specs.declared.constant.Const.TheVariants as c
+use Rattle.jr_base.specs.declared.constant.Const.TheVariants as c
 use Rattle.jr_tree.specs.Rows.{Rows}
 use Rattle.jr_defs.specs.declared.referent.Element.{Element}
 use Rattle.jr_defs.specs.declared.referent.Element.TheVariants as element

@@ -1,8 +1,8 @@
 -- The type of `?:` by the ints that constants are.
 use Rattle.std.proofs.Common.{◌≡◌, refl, ◌∙◌, ap, ap₂, ℕ, ◌+◌, cond, ◌&&◌, Option, Some, None, List}
 use Rattle.std.specs.Prelude.{ℤ, option_map, slice_index_or}
-use Rattle.jr_ty.specs.declared.constant.Const.{Const}
-use Rattle.jr_ty.specs.declared.constant.Const.TheVariants as c
+use Rattle.jr_base.specs.declared.constant.Const.{Const}
+use Rattle.jr_base.specs.declared.constant.Const.TheVariants as c
 use Rattle.jr_tree.specs.Rows.{Rows, end}
 use Rattle.jr_defs.specs.declared.referent.Element.{Element}
 use Rattle.jr_defs.specs.declared.referent.Element.TheVariants as element

@@ -1,7 +1,7 @@
 -- What the code has for a class of operators and for two values, as the definitions have it.
 use Rattle.std.specs.Prelude.{ℕ, zero, suc, ℤ, Option, Some, None}
-use Rattle.jr_ty.specs.declared.constant.Const.{Const}
-use Rattle.jr_ty.specs.declared.constant.Const.TheVariants as c
+use Rattle.jr_base.specs.declared.constant.Const.{Const}
+use Rattle.jr_base.specs.declared.constant.Const.TheVariants as c
 use Rattle.jr_defs.specs.Typing as typing
 use Rattle.jr_types.specs.declared.operators.OperatorClass.{OperatorClass}
 use Rattle.jr_types.specs.declared.operators.OperatorClass.TheVariants as class

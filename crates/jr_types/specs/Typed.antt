@@ -1,7 +1,7 @@
 -- What stands behind a typing in code: its types and values by rows, and when its tables are right (JLS 15).
 use Rattle.std.specs.Prelude.{◌≡◌, ℕ, ◌+◌, ◌≤◌, ℤ, List, length, Option, Some, None, option_map, option_and_then, slice_get, slice_index_or}
-use Rattle.jr_ty.specs.declared.constant.Const.{Const}
-use Rattle.jr_ty.specs.declared.constant.Const.TheVariants as c
+use Rattle.jr_base.specs.declared.constant.Const.{Const}
+use Rattle.jr_base.specs.declared.constant.Const.TheVariants as c
 use Rattle.jr_tree.specs.declared.tree.Primitive.{Primitive}
 use Rattle.jr_tree.specs.declared.label.Label.{Label}
 use Rattle.jr_tree.specs.declared.label.Label.TheVariants as is

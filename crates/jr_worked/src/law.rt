@@ -1,7 +1,7 @@
 // What the worked programs refer to: in each, every row refers to what lookup gives for it.
 ghost use Rattle.std.specs.Prelude.{Some, pos};
-ghost use Rattle.jr_ty.specs.declared.constant.Const.{Const};
-ghost use Rattle.jr_ty.specs.declared.constant.Const.TheVariants as c;
+ghost use Rattle.jr_base.specs.declared.constant.Const.{Const};
+ghost use Rattle.jr_base.specs.declared.constant.Const.TheVariants as c;
 ghost use Rattle.jr_defs.specs.declared.referent.Element.TheVariants as element;
 ghost use Rattle.jr_defs.specs.declared.referent.RowType.{RowType};
 ghost use Rattle.jr_defs.specs.Access.{IsAccessible};

@@ -3,9 +3,8 @@
 use crate::line::{any_decl, decl, number};
 use crate::operators::{binary_op, step_op, unary_op};
 use crate::stacks::put;
-use jr_base::{Boxed, Items, TypeId, Units};
+use jr_base::{Boxed, Const, Items, Ty, TypeId, Units};
 use jr_core::Code;
-use jr_ty::{Const, Ty};
 use std::alloc::Global;
 
 /// The units from the third number on.

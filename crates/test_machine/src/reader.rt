@@ -7,10 +7,9 @@ use crate::codes::{
 use crate::line::{any_class, count, decl, number};
 use crate::report::{report, report_name};
 use crate::stacks::{add, one, put, take};
-use jr_base::{DeclId, Items, TypeId};
+use jr_base::{Const, DeclId, Items, Ty, TypeId};
 use jr_core::{Body, Catch, Class, Code, Core, Group, SwitchLabel};
 use jr_machine::run;
-use jr_ty::{Const, Ty};
 use std::alloc::Global;
 
 /// The core that was read so far, what stands on the stacks, and what runs of the core came to.

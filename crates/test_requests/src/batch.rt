@@ -1,6 +1,6 @@
 // The batches of inputs in memory.
 use jr_base::{Request, Size};
-use jr_batch::{BatchFault, read_requests};
+use jr_request::{BatchFault, read_requests};
 use jr_store::MemSource;
 use std::alloc::Global;
 use std::process::Abort;

@@ -1,5 +1,5 @@
 -- Each view has a way back.
-use Rattle.jr_ty.proofs.Same.{one_to_one, onto}
+use Rattle.jr_base.proofs.Same.{one_to_one, onto}
 use Rattle.jr_core.specs.Mirror.{plain_code, plain_core}
 use Rattle.jr_core.proofs.Same.{tree_code, plain_tree_code, tree_plain_code, tree_core, plain_tree_core, tree_plain_core}
 use Rattle.jr_core.proofs.law.plain_codes_are_faithful.Goals as goal

@@ -1,5 +1,5 @@
 use Rattle.std.proofs.lemmas.Result.{IfOk-weaker}
-use Rattle.jr_ty.specs.Mirror.{plain_ty}
+use Rattle.jr_base.specs.Mirror.{plain_ty}
 use Rattle.jr_core.specs.Mirror.{plain_code, plain_core}
 use Rattle.jr_machine.proofs.Running.{starts_run}
 use Rattle.jr_machine.proofs.runs.run.Goals as goal

@@ -1,9 +1,9 @@
 use Rattle.std.proofs.Common.{◌≡◌, ◌-◌, ap, sym, ◌∙◌, length, take, drop, get_or}
-use Rattle.jr_ty.specs.declared.ty.Ty.TheVariants.{rolls-Array}
-use Rattle.jr_ty.specs.declared.ty.Ty.TheOpen.{Ty-F}
-use Rattle.jr_ty.specs.declared.ty.Ty.TheFolds.{fold-roll-Ty}
-use Rattle.jr_ty.specs.Mirror as t
-use Rattle.jr_ty.specs.Mirror.{plain_ty}
+use Rattle.jr_base.specs.declared.ty.Ty.TheVariants.{rolls-Array}
+use Rattle.jr_base.specs.declared.ty.Ty.TheOpen.{Ty-F}
+use Rattle.jr_base.specs.declared.ty.Ty.TheFolds.{fold-roll-Ty}
+use Rattle.jr_base.specs.Mirror as t
+use Rattle.jr_base.specs.Mirror.{plain_ty}
 use Rattle.jr_machine_ops.proofs.Counting.{deeper, split_first}
 use Rattle.jr_machine_ops.proofs.arrays.+push_arrays.Goals as goal
 

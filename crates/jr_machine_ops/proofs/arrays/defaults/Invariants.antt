@@ -1,6 +1,6 @@
 use Rattle.std.proofs.Common.{◌≡◌, ◌++◌, ◌-◌}
 use Rattle.std.specs.Prelude.{replicate}
-use Rattle.jr_ty.specs.Mirror.{plain_ty}
+use Rattle.jr_base.specs.Mirror.{plain_ty}
 use Rattle.jr_machine_defs.specs.Values.{default_of}
 use Rattle.jr_machine_ops.proofs.arrays.defaults.Given as goal
 

@@ -1,5 +1,5 @@
 use Rattle.std.proofs.Common.{◌≡◌, ◌++◌, ◌-◌}
-use Rattle.jr_ty.specs.Mirror.{plain_ty}
+use Rattle.jr_base.specs.Mirror.{plain_ty}
 use Rattle.jr_machine_defs.specs.Arrays.{arrays_of_arrays}
 use Rattle.jr_machine_ops.proofs.arrays.push_level.Given as goal
 

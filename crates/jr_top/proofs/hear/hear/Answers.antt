@@ -1,6 +1,6 @@
 use Rattle.std.proofs.Common.{Err, arith, subst}
-use Rattle.jr_batch.specs.Input.{Leaves}
-use Rattle.jr_batch.specs.declared.fault.BatchFault.{BatchFault}
+use Rattle.jr_request.specs.Input.{Leaves}
+use Rattle.jr_request.specs.declared.input_fault.BatchFault.{BatchFault}
 use Rattle.jr_top.proofs.hear.hear.Goals as goal
 
 pub returns-in-Ok-clause-taken : goal.returns-in-Ok-clause-taken
