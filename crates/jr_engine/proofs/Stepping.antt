@@ -13,7 +13,7 @@ use Rattle.jr_tree.specs.Shape.{IsShaped}
 use Rattle.jr_defs.specs.Program.{rows_of}
 use Rattle.jr_defs.specs.declared.program.Program.{Program}
 use Rattle.jr_read.specs.Reading.{ReadsAs}
-use Rattle.jr_front.specs.Bound.{IsBoundIn, rows_in, table_in}
+use Rattle.jr_front.specs.Bound.{IsBoundIn, IsIndexed, rows_in, table_in}
 use Rattle.jr_front.specs.Checking.{CheckedAs, accepted}
 use Rattle.jr_front.specs.Compiling.{Compiles}
 use Rattle.jr_front.proofs.Reading.{read_begins}
@@ -88,22 +88,25 @@ use Rattle.jr_engine.specs.declared.left.Left.{Left}
 use Rattle.jr_engine.specs.declared.locked.Locked.{Locked}
 use Rattle.jr_engine.specs.declared.tried.Spelled.{Spelled}
 
-pub read_so : (files : FileMap) (w : Workspace) → ReadsAs files (Ok w.program) → rows_in w ≡ rows_of w.program → IsBoundIn w → Compiles files w.program (table_in w) → IsRead files w
-read_so files w reads are bound compiles = record { reads = reads; are = are; bound = bound; compiles = compiles }
+pub read_so : (files : FileMap) (w : Workspace) → ReadsAs files (Ok w.program) → IsIndexed w.program w.index.value → IsBoundIn w → Compiles files w.program (table_in w) → IsRead files w
+read_so files w reads indexed bound compiles = record { reads = reads; indexed = indexed; bound = bound; compiles = compiles }
 
 -- so of equal files
-pub read_copy : (files copy : FileMap) (w : Workspace) → copy ≡ files → ReadsAs files (Ok w.program) → rows_in w ≡ rows_of w.program → IsBoundIn w → Compiles files w.program (table_in w) → IsRead copy w
-read_copy files copy w same reads are bound compiles = subst (λ (f : FileMap). IsRead f w) (sym same) (read_so files w reads are bound compiles)
+pub read_copy : (files copy : FileMap) (w : Workspace) → copy ≡ files → ReadsAs files (Ok w.program) → IsIndexed w.program w.index.value → IsBoundIn w → Compiles files w.program (table_in w) → IsRead copy w
+read_copy files copy w same reads indexed bound compiles = subst (λ (f : FileMap). IsRead f w) (sym same) (read_so files w reads indexed bound compiles)
 
 pub held_so : (left : Left) → IsRead left.files left.program → AllByRecursion (λ path. IsTrue (is_java path)) (files.keys left.files) → IsHeld left
 held_so left is java = record { read = is; java = java }
 
 -- files that are held are those of their program
 pub held_opened : (left : Left) → IsHeld left → IsOpened (opened_by left)
-held_opened left is = record { program = left.program.program; reads = is.read.reads; are = is.read.are; compiles = is.read.compiles; java = is.java }
+held_opened left is = record { program = left.program.program; reads = is.read.reads; are = is.read.indexed.rows; compiles = is.read.compiles; java = is.java }
 
 pub held_bound : (left : Left) → IsHeld left → IsBoundIn left.program
 held_bound left is = is.read.bound
+
+pub held_indexed : (left : Left) → IsHeld left → IsIndexed left.program.program left.program.index.value
+held_indexed left is = is.read.indexed
 
 pub accepted_so : (o : Opened) → IsOpened o → IsAccepted o.files
 accepted_so o is = record { checked = accepted is.reads is.compiles; java = is.java }
@@ -159,16 +162,14 @@ requested found w old request answer is a = record {
   project = record {
     program = w.program;
     reads = is.reads;
-    units = a.of.units;
+    made = a.of.made is.indexed;
     rows = a.of.rows;
-    starts = a.of.starts;
     table = ap entries a.of.table;
-    ordered = a.ordered;
     whole = whole_view w old.view is.bound a.of.view;
     view_rows = a.of.view.rows_are ∙ sym a.of.rows;
     sized = subst IsSized (a.of.view.rows_are ∙ sym a.of.rows) (seen_view w old.view is.bound a.of.view).sized;
     tables = tables_view w old.view is.bound a.of.view;
-    throwing = (testable_view w old.view is.bound a.of.view (subst BeginsWithLang (sym is.are) (read_begins found w.program is.reads))).throwing;
+    throwing = (testable_view w old.view is.bound a.of.view (subst BeginsWithLang (sym is.indexed.rows) (read_begins found w.program is.reads))).throwing;
     flow = λ few. (
       meaning_in w,
       meaning_is w is.bound.binding.binding.under,

@@ -22,6 +22,7 @@ use Rattle.jr_shapes.specs.declared.spelling.Spelling.{Spelling}
 use Rattle.jr_spell.specs.Spelling.{HasLock, HasSpelling, IsAsItStands, IsWritten as Says, first_written}
 use Rattle.jr_spelling_rules.specs.Spelling.{IsSpelling, Written}
 use Rattle.jr_index.specs.NodeRows.{unit_rows}
+use Rattle.jr_marks.specs.Made.{AreMade}
 use Rattle.jr_marks.specs.Places.{IsOrdered}
 use Rattle.jr_change.specs.declared.change.Change.{Change}
 use Rattle.jr_change.specs.declared.project.Project.{Project}
@@ -38,7 +39,7 @@ use Rattle.jr_read.specs.Reading.{ReadsAs}
 use Rattle.jr_supers.specs.Tabled.{IsSized}
 use Rattle.jr_dispatch.specs.Methods.{IsWholeWorld}
 use Rattle.jr_flow_faults.specs.Reading.{IsThrowingView}
-use Rattle.jr_front.specs.Bound.{rows_in, table_in, IsBoundIn}
+use Rattle.jr_front.specs.Bound.{rows_in, table_in, IsBoundIn, IsIndexed}
 use Rattle.jr_front.specs.Compiling.{Compiles}
 use Rattle.jr_front.specs.Viewed.{HasTablesOfRows, IsViewOf}
 use Rattle.jr_front.specs.declared.workspace.Workspace.{Workspace}
@@ -104,16 +105,14 @@ pub record IsMeaningOf (p : Rows) (t : Table) (m : Meaning) : Type 0 where
   pub sound : (n : ℕ) (v : Const) → m.values n ≡ Some v → Constant p t n v
   pub whole : IsTypable p t → (n : ℕ) → m.values n ≡ constants p t (has_constant_form p t) n
 
--- the program of the files with its tables, as changes read it: its supertypes and members are those under the binding, of each row the type and the value are those of the definitions, and java.lang has
+-- the program of the files with its marks and tables, as changes read it: its supertypes and members are those under the binding, of each row the type and the value are those of the definitions, and java.lang has
 -- one class of each name by which what is thrown is checked
 pub record IsProjectOf (o : Opened) (old : Project) : Type 0 where
   pub program : Program
   pub reads : ReadsAs o.files (Ok program)
-  pub units : old.marks.units.now ≡ program.units
+  pub made : AreMade program old.marks
   pub rows : old.marks.rows.now ≡ o.rows
-  pub starts : old.marks.starts.now ≡ unit_rows o.rows (length o.rows)
   pub table : entries (table_of old) ≡ o.table
-  pub ordered : IsOrdered old.marks
   pub whole : IsWholeWorld (entries (table_of old)) old.view.sight.world
   pub view_rows : old.view.sight.world.under.rows.now ≡ old.marks.rows.now
   pub sized : IsSized old.marks.rows.now
@@ -164,10 +163,10 @@ opened found w = record { files = found; rows = rows_in w; table = table_in w }
 abbrev pub opened_by : Left → Opened
 opened_by left = opened left.files left.program
 
--- the program is that of the files, and its table their binding, with the tables under it
+-- the program is that of the files, with its rows and marks, and its table their binding, with the tables under it
 pub record IsRead (found : FileMap) (w : Workspace) : Type 0 where
   pub reads : ReadsAs found (Ok w.program)
-  pub are : rows_in w ≡ rows_of w.program
+  pub indexed : IsIndexed w.program w.index.value
   pub bound : IsBoundIn w
   pub compiles : Compiles found w.program (table_in w)
 
@@ -186,15 +185,14 @@ abbrev pub LeftBy : Workspace → Request → Option Left → Type 0
 LeftBy old request None = (found : FileMap) → IsRead found old → IsStep (opened found old) request (opened found old)
 LeftBy old request (Some left) = IsFollowed old request left
 
--- the project is that of the program
+-- the project is that of the program, with its marks where the index has them
 pub record IsProjectIn (w : Workspace) (old : Project) : Type 0 where
-  pub units : old.marks.units.now ≡ w.program.units
+  pub made : IsIndexed w.program w.index.value → AreMade w.program old.marks
   pub rows : old.marks.rows.now ≡ rows_in w
-  pub starts : old.marks.starts.now ≡ unit_rows (rows_in w) (length (rows_in w))
   pub table : table_of old ≡ w.bound.value.table.items
   pub view : IsViewOf (rows_in w) w.places.value w.scopes.value w.bound.value old.view
 
--- and the answer is the change for which the request asks of it, or why there is none
+-- and the answer is the change for which the request asks of it, by marks in order, or why there is none
 pub record IsAskedOf (w : Workspace) (old : Project) (request : Request) (answer : Result Change ChangeFault) : Type 0 where
   pub of : IsProjectIn w old
   pub ordered : IsOrdered old.marks

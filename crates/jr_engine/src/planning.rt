@@ -46,7 +46,7 @@ fn opened(alloc: Global, files: &Files) -> Result<Left, Refused>
 }
 
 // What the request of this number leaves of what is there.
-#[tactic(auto, using(crate::proofs::Stepping::held_bound))]
+#[tactic(auto, using(crate::proofs::Stepping::held_bound, crate::proofs::Stepping::held_indexed))]
 fn next(alloc: Global, now: Left, request: &Request, number: u32) -> Result<Left, Refused>
     requires { IsHeld now }
     ensures held { IfOk result IsHeld }

@@ -3,7 +3,7 @@
 ghost use Rattle.std.specs.Prelude.{◌≡◌, ◌⊎◌, List, IfOk, IfErr, Ok, Err};
 ghost use Rattle.jr_base.specs.declared.request.Request.{Request};
 ghost use Rattle.jr_front.specs.Checking.{CheckedAs};
-ghost use Rattle.jr_front.specs.Bound.{IsBoundIn};
+ghost use Rattle.jr_front.specs.Bound.{IsBoundIn, IsIndexed};
 ghost use Rattle.jr_engine.specs.Planning.{RefusedAs};
 ghost use Rattle.jr_engine.specs.Refusing.{IsCausedBy, IsHinderedIn, IsLargeIn, IsToldAs, IsToldNumber, IsZeroOfFiles};
 ghost use Rattle.jr_engine.specs.Steps.{LeftBy, IsFollowed, IsAskedOf, IsProjectIn};
@@ -26,7 +26,6 @@ use jr_base::{Files, OutOfMemory, Path, Request};
 use jr_change::{Change, ChangedUnit, Project};
 use jr_defs::UnitAt;
 use jr_front::{FrontFault, Workspace};
-use jr_ordered::is_ordered;
 use std::alloc::Global;
 
 // What a change leaves.
@@ -169,20 +168,18 @@ fn left_by(alloc: Global, asked: Asked, request: u32) -> Result<Option<Left>, Re
     }
 }
 
-// The change for which a request asks of a program. Marks of a program are in order; others are answered for want of memory.
+// The change for which a request asks of a program.
 fn asked_of(
     alloc: Global,
     old: &Workspace,
     project: &Project,
     request: &Request,
 ) -> Result<Change, StepFault>
-    requires { IsProjectIn old.now project.now }
+    requires project { IsProjectIn old.now project.now }
+    requires indexed { IsIndexed old.now.program old.now.index.value }
     ensures ok { IfOk result (λ change. IsAskedOf old.now project.now request.now (Ok change)) }
     ensures err { IfErr result (λ fault. IsCausedBy old.now request.now (engine.Step fault)) }
 {
-    if !is_ordered(&project.marks) {
-        return Err(StepFault::OutOfMemory);
-    }
     match change_of(alloc, project, request) {
         Ok(change) => Ok(change),
         Err(fault) => Err(no_change(fault)),
@@ -203,7 +200,8 @@ fn left_within(
     asked: &Request,
     request: u32,
 ) -> Result<Option<Left>, Refused>
-    requires { IsBoundIn old.now }
+    requires bound { IsBoundIn old.now }
+    requires indexed { IsIndexed old.now.program old.now.index.value }
     ensures ok { IfOk result (LeftBy old.now asked.now) }
     ensures err { IfErr result (λ refused. IsCausedBy old.now asked.now refused.fault) }
     ensures number { IfErr result (λ refused. refused.request ≡ request) }
@@ -239,7 +237,8 @@ pub fn left_behind(
     asked: &Request,
     request: u32,
 ) -> Result<Option<Left>, Refused>
-    requires { IsBoundIn old.now }
+    requires bound { IsBoundIn old.now }
+    requires indexed { IsIndexed old.now.program old.now.index.value }
     ensures ok { IfOk result (LeftBy old.now asked.now) }
     ensures err { IfErr result (λ refused. IsCausedBy old.now asked.now refused.fault) }
     ensures number { IfErr result (λ refused. IsToldNumber request refused.fault refused.request) }

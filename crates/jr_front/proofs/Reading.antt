@@ -9,7 +9,8 @@ use Rattle.jr_marks.specs.Made.{HaveTokensApart}
 use Rattle.jr_ordered.proofs.Lexed.{units_apart}
 use Rattle.jr_prelude.specs.Begins.{BeginsWithLang}
 use Rattle.jr_prelude.proofs.Readings.{programs_begin}
-use Rattle.jr_front.specs.Bound.{table_in}
+use Rattle.jr_index.specs.Marking.{program_marks}
+use Rattle.jr_front.specs.Bound.{table_in, IsIndexed}
 use Rattle.jr_defs.specs.declared.program.Program.{Program}
 use Rattle.jr_defs.specs.declared.program.UnitAt.{UnitAt}
 use Rattle.jr_read.specs.Reading.{ReadsAs, unit_files, program as one_program}
@@ -47,6 +48,14 @@ pub compiled : (found : FileMap) (p : Program) (result : Result Workspace FrontF
     → IfOk result (λ workspace. KeepsAllRules p (table_in workspace)) → IfOk result (λ workspace. Compiles found workspace.program (table_in workspace))
 compiled found p (Ok workspace) reads program placed kept = subst (λ (q : Program). Compiles found q (table_in workspace)) (sym program) (compiles_by found p workspace reads placed kept)
 compiled found p (Err why) reads program placed kept = tt
+
+-- its index has its rows and marks
+pub indexed_program : (found : FileMap) (p : Program) (result : Result Workspace FrontFault) → ReadsAs found (Ok p) → IfOk result (λ workspace. workspace.program ≡ p)
+    → IfOk result (λ workspace. workspace.index.value.rows ≡ rows_of p) → IfOk result (λ workspace. workspace.index.value.marks ≡ program_marks (map (λ (u : UnitAt). u.unit) p.units))
+    → IfOk result (λ workspace. IsIndexed workspace.program workspace.index.value)
+indexed_program found p (Ok workspace) reads same rows marks = subst (λ (q : Program). IsIndexed q workspace.index.value) (sym same)
+    (record { shaped = read_shaped found p reads; apart = read_apart found p reads; rows = rows; marks = marks })
+indexed_program found p (Err why) reads same rows marks = tt
 
 -- its rows begin with those of java.lang
 pub read_begins : (found : FileMap) (p : Program) → ReadsAs found (Ok p) → BeginsWithLang (rows_of p)

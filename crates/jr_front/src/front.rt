@@ -200,6 +200,7 @@ pub fn open_program(alloc: Global, program: Program) -> Result<Workspace, FrontF
     requires { AllByRecursion IsShaped (map (λ u. u.unit) program.units) }
     ensures same { IfOk result (λ workspace. workspace.program ≡ program) }
     ensures rows { IfOk result (λ workspace. workspace.index.value.rows ≡ rows_of program) }
+    ensures marks { IfOk result (λ workspace. workspace.index.value.marks ≡ program_marks (map (λ u. u.unit) program.units)) }
     ensures bound { BeginsWithLang (rows_of program) → IfOk result IsBoundIn }
     ensures placed { OnOk result (IsWellPlaced program) }
     ensures kept { BeginsWithLang (rows_of program) → HaveTokensApart program.units → IfOk result (λ workspace. KeepsAllRules program (table_in workspace)) }
@@ -215,7 +216,7 @@ pub fn open_program(alloc: Global, program: Program) -> Result<Workspace, FrontF
 #[tactic(auto, using(crate::proofs::Reading::read_shaped, crate::proofs::Reading::read_begins, crate::proofs::Reading::opened_program, crate::proofs::Reading::compiled))]
 pub fn open_files(alloc: Global, files: &Files) -> Result<Workspace, FrontFault>
     ensures ok { IfOk result (λ workspace. ReadsAs files.now (Ok workspace.program)) }
-    ensures rows { IfOk result (λ workspace. workspace.index.value.rows ≡ rows_of workspace.program) }
+    ensures indexed { IfOk result (λ workspace. IsIndexed workspace.program workspace.index.value) }
     ensures bound { IfOk result IsBoundIn }
     ensures compiles { IfOk result (λ workspace. Compiles files.now workspace.program (table_in workspace)) }
     ensures checked { CheckedAs files.now (forgotten result) }

@@ -1,3 +1,2 @@
 pub mod StandApart
-pub mod Rising
 pub mod Lexed

@@ -1,10 +1,6 @@
-//! Whether marks are ordered, and that tokens that are read are.
+//! That tokens that are read stand apart.
 #![tactic(auto)]
 
-mod apart;
 mod law;
-mod ordered;
-mod starts;
 
 pub use law::{tokens_stand_apart, units_have_tokens_apart};
-pub use ordered::is_ordered;

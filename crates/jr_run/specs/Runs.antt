@@ -6,6 +6,7 @@ use Rattle.jr_core.specs.Mirror as m
 use Rattle.jr_core.specs.Mirror.{plain_core}
 use Rattle.jr_supers.specs.Tabled.{IsSized}
 use Rattle.jr_dispatch.specs.Methods.{IsWholeWorld}
+use Rattle.jr_marks.specs.Places.{IsOrdered}
 use Rattle.jr_codes.specs.declared.source.Source.{Source}
 use Rattle.jr_codes.specs.Numbered.{NumbersDeclarations}
 use Rattle.jr_codes.specs.Reads.{facts, rows_of}
@@ -35,10 +36,11 @@ pub record IsTextFrom (view : View) (start n : ℕ) (text : Text) : Type 0 where
   pub is_core : IsCoreOf (facts source) core
   pub runs : IsTextOfCore source (plain_core core) start n text
 
--- the tables of a program are those under its binding, and no number in its rows is too large
+-- the tables of a program are those under its binding, no number in its rows is too large, and its marks are in order
 pub record IsReadProject (project : Project) : Type 0 where
   pub whole : IsWholeWorld (table_in project.view.sight.world) project.view.sight.world
   pub sized : IsSized (rows_in project.view.sight.world)
+  pub ordered : IsOrdered project.marks
 
 -- the text of a run of the class that is named, or why there is none
 pub data IsRunText (project : Project) (x : Text) (n : ℕ) : Result Text RunFault → Type 0 where

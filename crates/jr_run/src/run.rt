@@ -18,7 +18,6 @@ use jr_codes::{Ids, Source};
 use jr_core::Core;
 use jr_elab::elaborate;
 use jr_machine::run;
-use jr_ordered::is_ordered;
 use jr_view::View;
 use std::alloc::Global;
 
@@ -63,7 +62,7 @@ fn run_from(alloc: Global, project: &Project, start: u32, steps: u64) -> Result<
 
 /// The text of a run of at most so many steps from the static void `main(String[])` of a class, given by its canonical name: what the program
 /// prints, with LF at its end, and a line that tells how the run ended (JLS 12.1.4). Rows that are too many to be counted are answered for want
-/// of memory, and so are marks that are out of order, which those of a program are not.
+/// of memory.
 pub fn run_text(
     alloc: Global,
     project: &Project,
@@ -73,9 +72,6 @@ pub fn run_text(
     ensures { IsReadProject project.now → IsRunText project.now class.now steps result }
 {
     if !are_few(project.view.sight.world.under.rows) {
-        return Err(RunFault::OutOfMemory);
-    }
-    if !is_ordered(&project.marks) {
         return Err(RunFault::OutOfMemory);
     }
     match start_of(alloc, project, class) {

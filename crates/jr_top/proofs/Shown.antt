@@ -3,8 +3,10 @@ use Rattle.std.proofs.Common.{◌≡◌, refl, sym, ◌∙◌, ap, subst, ℕ, L
 use Rattle.std.specs.Borrow.{Bor}
 use Rattle.jr_base.specs.Files.{FileMap}
 use Rattle.jr_front.specs.Viewed.{HasTablesOfRows}
+use Rattle.jr_front.proofs.Refusals.{ordered_so}
 use Rattle.jr_front.proofs.Testable.{tables_view}
 use Rattle.jr_front.proofs.Viewed.{seen_view, whole_view}
+use Rattle.jr_marks.specs.Places.{IsOrdered}
 use Rattle.jr_change.specs.declared.project.Project.{Project}
 use Rattle.jr_request.specs.declared.command.Command.{Command}
 use Rattle.jr_request.specs.declared.command.Command.TheVariants.{Check, Run, Refs, Subtypes, Callers}
@@ -18,11 +20,16 @@ use Rattle.jr_top.specs.declared.showing.Unanswered.TheVariants as unanswered
 
 -- ---- the project
 
+-- its marks are in order
+pub project_ordered : (found : FileMap) (project : Project) → IsProjectIn found project → IsOrdered project.marks
+project_ordered found project is = ordered_so is.workspace.program is.workspace.index.value project.marks is.of.indexed is.made
+
 -- what runs and reports read of the project is right
 pub read_project : (found : FileMap) (project : Project) → IsProjectIn found project → IsReadProject project
 read_project found project is = record {
   whole = whole_view is.workspace project.view is.of.bound is.view;
   sized = (seen_view is.workspace project.view is.of.bound is.view).sized;
+  ordered = project_ordered found project is;
 }
 
 pub project_tables : (found : FileMap) (project : Project) → IsProjectIn found project → HasTablesOfRows project.view

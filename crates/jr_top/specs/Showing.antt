@@ -1,10 +1,9 @@
 -- What is shown of files.
 use Rattle.std.specs.Prelude.{◌≡◌, ℕ, List, length, Option, Some, Result, Ok, Err, ⊤}
 use Rattle.jr_base.specs.Files.{FileMap}
-use Rattle.jr_defs.specs.Program.{rows_of}
-use Rattle.jr_index.specs.NodeRows.{unit_rows}
+use Rattle.jr_marks.specs.Made.{AreMade}
 use Rattle.jr_read.specs.Reading.{ReadsAs}
-use Rattle.jr_front.specs.Bound.{table_in, IsBoundIn}
+use Rattle.jr_front.specs.Bound.{table_in, IsBoundIn, IsIndexed}
 use Rattle.jr_front.specs.Checking.{CheckedAs}
 use Rattle.jr_front.specs.Compiling.{Compiles}
 use Rattle.jr_front.specs.Viewed.{HasTablesOfRows, IsViewOf}
@@ -29,19 +28,18 @@ use Rattle.jr_top.specs.declared.showing.Unanswered.TheVariants as unanswered
 
 -- ---- runs
 
--- the files are read as the program, which compiles under its binding, and all its tables are those under this binding
+-- the files are read as the program, which has these rows and marks and compiles under its binding, and all its tables are those under this binding
 pub record IsWorkspaceOf (found : FileMap) (w : Workspace) : Type 0 where
   pub reads : ReadsAs found (Ok w.program)
   pub compiles : Compiles found w.program (table_in w)
-  pub rows : w.index.value.rows ≡ rows_of w.program
+  pub indexed : IsIndexed w.program w.index.value
   pub bound : IsBoundIn w
 
--- the program of the files with its tables, its units, and the rows at which these begin
+-- the program of the files with its marks and tables
 pub record IsProjectIn (found : FileMap) (project : Project) : Type 0 where
   pub workspace : Workspace
   pub of : IsWorkspaceOf found workspace
-  pub units : project.marks.units.now ≡ workspace.program.units
-  pub starts : project.marks.starts.now ≡ unit_rows workspace.index.value.rows (length workspace.index.value.rows)
+  pub made : AreMade workspace.program project.marks
   pub view : IsViewOf workspace.index.value.rows workspace.places.value workspace.scopes.value workspace.bound.value project.view
 
 -- the text of a run of the class that is named, in at most so many steps, or why there is none, by the program of the files (JLS 12.1), whose

@@ -10,7 +10,6 @@ use crate::show_fault::ShowFault;
 use jr_base::{Files, Text};
 use jr_change::{ChangeFault, Project, Reason};
 use jr_front::{Workspace, open_files};
-use jr_ordered::is_ordered;
 use jr_report::{Report, report};
 use jr_run::{RunFault, run_text};
 use std::alloc::Global;
@@ -34,7 +33,7 @@ enum Unanswered {
     OutOfMemory,
 }
 
-// What is reported of a program. Marks that are out of order are answered for want of memory, which those of a program are not.
+// What is reported of a program.
 fn reported(
     alloc: Global,
     project: &Project,
@@ -44,9 +43,6 @@ fn reported(
 ) -> Result<Text, Unanswered>
     ensures { (found : FileMap) → IsProjectIn found project.now → ReportedAs found what file.now at result }
 {
-    if !is_ordered(&project.marks) {
-        return Err(Unanswered::OutOfMemory);
-    }
     match report(alloc, project, what, file, at) {
         Ok(text) => Ok(text),
         Err(ChangeFault::Bad(reason)) => Err(Unanswered::Bad(reason)),

@@ -1,8 +1,11 @@
 use Rattle.std.proofs.Common.{Err, sym, subst}
 use Rattle.jr_front.specs.Checking.{CheckedAs, not_read}
 use Rattle.jr_front.specs.declared.fault.FrontFault.{FrontFault}
-use Rattle.jr_front.proofs.Reading.{read_apart, read_begins, compiled, opened}
+use Rattle.jr_front.proofs.Reading.{read_apart, read_begins, compiled, indexed_program, opened}
 use Rattle.jr_front.proofs.front.open_files.Goals as goal
+
+pub returns-in-Ok-clause-indexed : goal.returns-in-Ok-clause-indexed
+returns-in-Ok-clause-indexed c = indexed_program c.args.files.now c.in-Ok.program c.open_program.result c.in-Ok.ensures c.open_program.ensures.same c.open_program.ensures.rows c.open_program.ensures.marks
 
 pub returns-in-Ok-clause-compiles : goal.returns-in-Ok-clause-compiles
 returns-in-Ok-clause-compiles c = compiled c.args.files.now c.in-Ok.program c.open_program.result c.in-Ok.ensures c.open_program.ensures.same c.open_program.ensures.placed

@@ -7,15 +7,12 @@ use Rattle.jr_run.proofs.run.run_text.Goals as goal
 pub returns-then-not-are_few : goal.returns-then-not-are_few
 returns-then-not-are_few c = λ read. IsRunText.no_memory
 
-pub returns-then-not-is_ordered : goal.returns-then-not-is_ordered
-returns-then-not-is_ordered c = λ read. IsRunText.no_memory
-
 pub returns-in-Ok : goal.returns-in-Ok
 returns-in-Ok c = λ read.
     let world : IsReadWorld c.args.project.now.view.sight.world = record { whole = read.whole; sized = read.sized; few = c.are_few.ensures.0 c.if-not-are_few.false } in
-    c.run_from.ensures world c.args.class.now (subst (IsStartOf c.args.project.now c.args.class.now) c.in-Ok.is (c.start_of.ensures world (c.is_ordered.ensures.0 c.if-not-is_ordered.false)))
+    c.run_from.ensures world c.args.class.now (subst (IsStartOf c.args.project.now c.args.class.now) c.in-Ok.is (c.start_of.ensures world read.ordered))
 
 pub returns-in-Err : goal.returns-in-Err
 returns-in-Err c = λ read.
     let world : IsReadWorld c.args.project.now.view.sight.world = record { whole = read.whole; sized = read.sized; few = c.are_few.ensures.0 c.if-not-are_few.false } in
-    no_start c.args.project.now c.args.class.now c.args.steps _ (subst (IsStartOf c.args.project.now c.args.class.now) c.in-Err.is (c.start_of.ensures world (c.is_ordered.ensures.0 c.if-not-is_ordered.false)))
+    no_start c.args.project.now c.args.class.now c.args.steps _ (subst (IsStartOf c.args.project.now c.args.class.now) c.in-Err.is (c.start_of.ensures world read.ordered))

@@ -8,7 +8,7 @@ returns-in-Ok c = λ found is. record {
   project = c.args.project.now;
   of = is;
   tables = project_tables _ _ is;
-  reports = c.in-Ok.ensures (c.is_ordered.ensures.0 c.if-not-is_ordered.false) (read_project _ _ is).whole;
+  reports = c.in-Ok.ensures (read_project _ _ is).ordered (read_project _ _ is).whole;
 }
 
 pub returns-in-Err-Bad : goal.returns-in-Err-Bad
@@ -17,5 +17,5 @@ returns-in-Err-Bad c = λ found is. record {
   of = is;
   tables = project_tables _ _ is;
   reports = subst (λ f. IsReportOf c.args.project.now c.args.what c.args.file.now c.args.at (Err f)) c.in-Err-Bad.field-0-is
-      (c.in-Err-Bad.ensures (c.is_ordered.ensures.0 c.if-not-is_ordered.false) (read_project _ _ is).whole);
+      (c.in-Err-Bad.ensures (read_project _ _ is).ordered (read_project _ _ is).whole);
 }
