@@ -67,6 +67,8 @@ use Rattle.jr_flow.specs.Sizes.{HasTooLarge}
 use Rattle.jr_flow.specs.Views as flow
 use Rattle.jr_kept.specs.Courses.{IsSeen, KeepsCourse, KeepsRaisedFlow, KeepsUsesOf}
 use Rattle.jr_kept.specs.declared.kept.LostEdge.{LostEdge}
+use Rattle.jr_meaning.specs.Meaning.{IsMeant, KeepsBodies}
+use Rattle.jr_meaning.specs.declared.meant.Meant.{Meant}
 use Rattle.jr_extract.specs.Extracting.{IsSeenAs}
 use Rattle.jr_shapes.specs.declared.spelling.Spelling.{Spelling}
 use Rattle.jr_view.specs.declared.View.{View}
@@ -76,7 +78,7 @@ use Rattle.jr_locks.specs.Origins.{origin_of, row_by}
 use Rattle.jr_edges.specs.Dispatched.{IsTold}
 use Rattle.jr_edges.specs.declared.dispatched.Lost.{Lost}
 use Rattle.jr_engine.proofs.Reading.{texts_left, texts_under}
-use Rattle.jr_engine.specs.Written.{AreFirstIn, HasBarredTexts, HasTextsOf, IsSpelledIn, IsLeftOf, IsAskedFor, IsLockedBy, IsBoundByLocks, HasTables, IsNotLeft, IsReadBy, KeepsCallsIn, KeepsFlowIn, rows_of as rows_under, locks_of}
+use Rattle.jr_engine.specs.Written.{AreFirstIn, KeepsBodiesIn, meaning_in, HasBarredTexts, HasTextsOf, IsSpelledIn, IsLeftOf, IsAskedFor, IsLockedBy, IsBoundByLocks, HasTables, IsNotLeft, IsReadBy, KeepsCallsIn, KeepsFlowIn, rows_of as rows_under, locks_of}
 use Rattle.jr_engine.specs.declared.asked.Asked.{Asked}
 use Rattle.jr_engine.specs.declared.fault.EngineFault.{EngineFault}
 use Rattle.jr_engine.specs.declared.fault.EngineFault.TheVariants as fault
@@ -116,12 +118,7 @@ written_so s left w same is spelled = (subst (λ (v : Workspace). IsSpelledIn s 
 
 -- ---- a project as flow reads it
 
--- what names, types and constants mean by the tables of a program
-meaning_in : Workspace → Meaning
-meaning_in w = record { targets = table_in w; values = values_of w.bound.value.constants.value; types = types_in w.bound.value.types.items }
-
 meaning_is : (w : Workspace) → IsBoundBy (rows_in w) w.places.value w.bound.value → IsMeaningOf (rows_in w) (table_in w) (meaning_in w)
-unfolding meaning_in
 meaning_is w under = record { targets = refl; types = under.types_are; sound = under.constants_are.sound; whole = under.constants_are.whole }
 
 some_value : (texts : List (List ℕ)) (value : Option Value) → is_some value ≡ is_some (value_in_if texts value)
@@ -134,7 +131,6 @@ bound_tables w bound = record { program = bound.of.program; bare = (program_in (
 
 -- a view of them is seen by flow as it is
 flow_view : (w : Workspace) (view : View) → HasTables w → length (rows_in w) + 3 < 2 ^ 32 → IsViewOf (rows_in w) w.places.value w.scopes.value w.bound.value view → flow.IsViewOf view (meaning_in w)
-unfolding meaning_in
 flow_view w view is few of = record {
   few = subst (λ (r : Rows). length r + 3 < 2 ^ 32) (sym of.rows_are) few;
   targets = ap entries of.table_is;
@@ -388,8 +384,8 @@ pub flow_kept : (asked : Asked) (locked : Locked) (old new : Project) (control u
     → ((m w : Meaning) → IsSeen old m → IsSeen new w → control ≡ None → KeepsCourse asked.change.now.course old.marks.rows.now new.marks.rows.now m w locked.locks.origin.items locked.locks.copy.items)
     → ((m w : Meaning) → IsSeen old m → IsSeen new w → control ≡ None → uses ≡ None → KeepsUsesOf asked.change.now.course old.marks.rows.now new.marks.rows.now m w locked.locks.origin.items locked.locks.copy.items)
     → ((m w : Meaning) → IsSeen old m → IsSeen new w → control ≡ None → uses ≡ None → KeepsRaisedFlow asked.change.now.raised old.marks.rows.now new.marks.rows.now m w locked.locks.origin.items locked.locks.copy.items)
-    → control ≡ None → uses ≡ None → KeepsFlowIn asked locked
-flow_kept asked locked old new control uses bound program well is by few_old few_new old_rows new_rows old_of new_of told uses_told raised_told nothing no_use =
+    → KeepsBodiesIn asked locked → control ≡ None → uses ≡ None → KeepsFlowIn asked locked
+flow_kept asked locked old new control uses bound program well is by few_old few_new old_rows new_rows old_of new_of told uses_told raised_told alone nothing no_use =
     let before = bound_tables asked.old.now bound in
     let after = locked_tables locked program well is in
     let m = meaning_in asked.old.now in
@@ -414,7 +410,34 @@ flow_kept asked locked old new control uses bound program well is by few_old few
       kept = third.0;
       uses = third.1;
       raised = third.2;
+      bodies = alone;
     }
+
+-- what is read of both programs for the meaning of their rows, by the test that each body left alone keeps it
+pub bodies_kept : (asked : Asked) (locked : Locked) (old new : View) (before after : Meant) (copy : List ℕ) (told : Bool) → IsBoundIn asked.old.now → IsProgram (rows_under locked) → AreWell (rows_under locked)
+    → IsBoundByLocks locked → IsLockedBy asked locked → length (rows_in asked.old.now) + 3 < 2 ^ 32 → length (rows_under locked) + 3 < 2 ^ 32
+    → IsViewOf (rows_in asked.old.now) asked.old.now.places.value asked.old.now.scopes.value asked.old.now.bound.value old
+    → IsViewOf (rows_under locked) locked.program.places.value locked.program.scopes.value locked.program.bound.value new
+    → before.rows.now ≡ flow.rows_in old → after.rows.now ≡ flow.rows_in new → ((m : Meaning) → flow.IsViewOf old m → IsMeant before m) → ((m : Meaning) → flow.IsViewOf new m → IsMeant after m)
+    → copy ≡ locked.locks.copy.items
+    → ((m w : Meaning) (change : Change) → IsMeant before m → IsMeant after w → copy ≡ copies_by (origins_by change) (length before.rows.now) → IsTree before.rows.now → IsTree after.rows.now
+    → IsChanged before.rows.now m.targets change after.rows.now w.targets → told ≡ true → KeepsBodies before.rows.now after.rows.now m w change)
+    → told ≡ true → KeepsBodiesIn asked locked
+bodies_kept asked locked old new before after copy told bound program well is by few_old few_new old_of new_of old_rows new_rows old_meant new_meant copies keeps yes =
+    let first = bound_tables asked.old.now bound in
+    let second = locked_tables locked program well is in
+    let m = meaning_in asked.old.now in
+    let w = meaning_in locked.program in
+    let change = asked.change.now in
+    let p : before.rows.now ≡ rows_in asked.old.now = old_rows ∙ old_of.rows_are in
+    let q : after.rows.now ≡ rows_under locked = new_rows ∙ new_of.rows_are in
+    let changed : IsChanged (rows_in asked.old.now) (table_in asked.old.now) change (rows_under locked) (table_in locked.program) =
+    subst (λ (l : Table). IsChanged (rows_in asked.old.now) (table_in asked.old.now) change (rows_under locked) l) (sym is.table) by.changed in
+    let whole : KeepsBodies before.rows.now after.rows.now m w change = keeps m w change (old_meant m (flow_view asked.old.now old first few_old old_of)) (new_meant w (flow_view locked.program new second few_new new_of))
+    (copies ∙ by.copies ∙ ap (λ (r : Rows). copies_by (origins_by change) (length r)) (sym p)) (subst (λ (r : Rows). IsTree r) (sym p) (tree_of asked.old.now first)) (subst (λ (r : Rows). IsTree r) (sym q) (tree_of locked.program second))
+    (subst (λ (r : Rows). IsChanged r (table_in asked.old.now) change after.rows.now (table_in locked.program)) (sym p)
+    (subst (λ (r : Rows). IsChanged (rows_in asked.old.now) (table_in asked.old.now) change r (table_in locked.program)) (sym q) changed)) yes in
+    subst (λ (r : Rows). KeepsBodies r (rows_under locked) m w change) p (subst (λ (r : Rows). KeepsBodies before.rows.now r m w change) q whole)
 
 -- ---- the changed program under its locks
 

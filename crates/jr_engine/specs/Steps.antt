@@ -18,6 +18,7 @@ use Rattle.jr_plain.specs.Overloads.{Types}
 use Rattle.jr_plain.specs.Typing.{IsTypable, expression_types}
 use Rattle.jr_flow_defs.specs.Meaning.{Meaning}
 use Rattle.jr_kept.specs.Courses.{KeepsCourse, KeepsRaisedFlow, KeepsUsesOf}
+use Rattle.jr_meaning.specs.Meaning.{KeepsBodies}
 use Rattle.jr_shapes.specs.declared.spelling.Spelling.{Spelling}
 use Rattle.jr_spell.specs.Spelling.{HasLock, HasSpelling, IsAsItStands, IsWritten as Says, first_written}
 use Rattle.jr_spelling_rules.specs.Spelling.{IsSpelling, Written}
@@ -132,7 +133,7 @@ abbrev pub KeepsCalls : Opened → Change → Rows → Table → Type 0
 KeepsCalls old change rows locks = KeepsDispatch old.rows old.table rows locks (copies_by (origins_by change) (length old.rows))
 
 -- after an inlining and an extraction control goes from statement to statement as it went (`KeepsControl`), and the same definitions reach each use
--- (`KeepsInlinedFlow`, `KeepsExtractedFlow`), and so it is in a method that is pulled up (`KeepsRaisedFlow`); of other bodies nothing is told
+-- (`KeepsInlinedFlow`, `KeepsExtractedFlow`), so it is in a method that is pulled up (`KeepsRaisedFlow`), and in each body that the change leaves alone (`KeepsBodies`)
 pub record KeepsFlow (p : Rows) (t : Table) (change : Change) (q : Rows) (l : Table) : Type 0 where
   pub before : Meaning
   pub after : Meaning
@@ -141,6 +142,7 @@ pub record KeepsFlow (p : Rows) (t : Table) (change : Change) (q : Rows) (l : Ta
   pub kept : KeepsCourse change.course p q before after (origins_by change) (copies_by (origins_by change) (length p))
   pub uses : KeepsUsesOf change.course p q before after (origins_by change) (copies_by (origins_by change) (length p))
   pub raised : KeepsRaisedFlow change.raised p q before after (origins_by change) (copies_by (origins_by change) (length p))
+  pub bodies : KeepsBodies p q before after change
 
 -- What a request leaves: the files as they are, where the change for which it asks keeps all units, or those of a changed program in which each row that comes from
 -- an old one must refer to what that referred to, where it stands now, calls find what they found, and control goes as it went.

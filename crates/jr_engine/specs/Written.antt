@@ -19,7 +19,11 @@ use Rattle.jr_members.specs.Held.{ObjectIsBare}
 use Rattle.jr_members.specs.Sources.{ArePlaced}
 use Rattle.jr_bind.specs.Exact.{IsExact, IsBoundBy}
 use Rattle.jr_bind.specs.Rebound.{AreLocks}
+use Rattle.jr_constants.specs.Resting.{values_of}
 use Rattle.jr_constants.specs.Tables.{item}
+use Rattle.jr_types.specs.Typed.{types_in}
+use Rattle.jr_flow_defs.specs.Meaning.{Meaning}
+use Rattle.jr_meaning.specs.Meaning.{KeepsBodies}
 use Rattle.jr_lookup.specs.Imports.{AreImports}
 use Rattle.jr_lookup.specs.Scopes.{AreScopes, AreTops}
 use Rattle.jr_runs.specs.Respelled.{IsRespelled}
@@ -111,6 +115,14 @@ pub record IsSound (a : Asked) (locked : Locked) : Type 0 where
   pub few_new : length (rows_of locked) + 3 < 2 ^ 32
   pub well : AreWell (rows_of locked)
   pub locks : AreLocks (rows_of locked) locked.program.bound.value.table.items
+
+-- what names, types and constants mean by the tables of a program
+abbrev pub meaning_in : Workspace → Meaning
+meaning_in w = record { targets = table_in w; values = values_of w.bound.value.constants.value; types = types_in w.bound.value.types.items }
+
+-- each body that the change leaves alone keeps its edges of control and those from definitions to uses in its copy
+abbrev pub KeepsBodiesIn : Asked → Locked → Type 0
+KeepsBodiesIn a locked = KeepsBodies (rows_in a.old.now) (rows_of locked) (meaning_in a.old.now) (meaning_in locked.program) a.change.now
 
 -- the row is to be a constant expression: as the old one was, or by the locks
 abbrev pub is_constant_by : Asked → Locked → ℕ → Bool

@@ -11,6 +11,7 @@ ghost use Rattle.jr_engine.specs.declared.fault.LostKind.TheVariants as kind;
 ghost use Rattle.jr_engine.specs.declared.fault.StepFault.TheVariants as step;
 
 use crate::asked::{Asked, project_of};
+use crate::bodies::keeps_bodies;
 use crate::fault::{LostKind, StepFault};
 use crate::locked::Locked;
 use crate::sound::are_few;
@@ -146,6 +147,9 @@ fn keeps_control(
     ensures ok { IfOk result (λ def_use. def_use ≡ None → KeepsFlowIn asked.entry locked.now) }
     ensures err { IfErr result (IsHinderedIn asked.entry) }
 {
+    if !keeps_bodies(asked, locked) {
+        return Err(asked.differs());
+    }
     let old = project_of(asked.old);
     let new = project_of(&locked.program);
     let flow = match lost_flow(alloc, &old, &new, &locked.locks, asked.change) {

@@ -2,6 +2,7 @@
 #![tactic(auto)]
 
 mod asked;
+mod bodies;
 mod deep;
 mod edges;
 mod fault;

@@ -1,0 +1,43 @@
+// Whether bodies that a change leaves alone mean what they meant.
+
+ghost use Rattle.std.specs.Prelude.{◌≡◌, true};
+ghost use Rattle.jr_flow_defs.specs.Meaning.{Meaning};
+ghost use Rattle.jr_flow.specs.Views as flow;
+ghost use Rattle.jr_headed.specs.Founded.{IsProgram};
+ghost use Rattle.jr_front.specs.Bound.{IsBoundIn};
+ghost use Rattle.jr_meaning.specs.Meaning.{IsMeant};
+ghost use Rattle.jr_engine.specs.Written.{IsBoundByLocks, IsLockedBy, IsSound, KeepsBodiesIn, rows_of};
+
+use crate::asked::Asked;
+use crate::locked::Locked;
+use jr_meaning::{Meant, keeps_meaning};
+use jr_view::View;
+
+// What is read of a program for the meaning of its rows.
+fn meant_by<'a>(view: &View<'a>) -> Meant<'a>
+    ensures rows { result.rows.now ≡ flow.rows_in view.now }
+    ensures meant { (m : Meaning) → flow.IsViewOf view.now m → IsMeant result m }
+{
+    let world = view.sight.world;
+    Meant {
+        rows: world.under.rows,
+        table: world.under.table,
+        types: view.types,
+        constants: view.constants,
+        supers: world.supers,
+    }
+}
+
+/// Each body that the change leaves alone means in its copy what it meant.
+pub fn keeps_bodies(asked: Asked, locked: &Locked) -> bool
+    requires old { IsBoundIn asked.old.now }
+    requires new { IsProgram (rows_of locked.now) }
+    requires sound { IsSound asked locked.now }
+    requires locked { IsLockedBy asked locked.now }
+    requires bound { IsBoundByLocks locked.now }
+    ensures { result ≡ true → KeepsBodiesIn asked.entry locked.now }
+{
+    let old = asked.old.view();
+    let new = locked.program.view();
+    keeps_meaning(&meant_by(&old), &meant_by(&new), &locked.locks.copy)
+}
