@@ -23,7 +23,7 @@ use Rattle.jr_front.specs.Viewed.{IsViewOf}
 use Rattle.jr_front.specs.declared.fault.FrontFault.{FrontFault}
 use Rattle.jr_front.specs.declared.workspace.Workspace.{Workspace}
 use Rattle.jr_engine.specs.Planning.{IsAccepted, PlannedAs, RefusedAs}
-use Rattle.jr_engine.specs.Refusing.{HasCause, HasLargeBody, IsBarred, IsCausedBy, IsHinderedIn, IsNumber, IsLargeIn, IsOfFiles, IsRefusedFrom, IsShownAt, IsToldAs, IsToldNumber, IsTooLarge, fault_of}
+use Rattle.jr_engine.specs.Refusing.{Comparison, HasCause, HasLargeBody, LosesControl, LosesUses, IsBarred, IsCausedBy, IsHinderedIn, IsNumber, IsLargeIn, IsOfFiles, IsRefusedFrom, IsShownAt, IsToldAs, IsToldNumber, IsTooLarge, fault_of}
 use Rattle.jr_engine.specs.Steps.{Opened, IsOpened, IsRead, IsHeld, IsMeaningOf, KeepsFlow, IsAskedOf, IsRequested, LeftBy, IsStep, stays, leaves, AreSteps, none, more, IsFollowed, opened, opened_by}
 use Rattle.jr_tree.specs.Rows.{Rows}
 use Rattle.jr_defs.specs.Referents.{Table, entries}
@@ -65,7 +65,8 @@ use Rattle.jr_supers.specs.Tabled.{IsSized}
 use Rattle.jr_flow_defs.specs.Meaning.{Meaning}
 use Rattle.jr_flow.specs.Sizes.{HasTooLarge}
 use Rattle.jr_flow.specs.Views as flow
-use Rattle.jr_kept.specs.Courses.{IsSeen, KeepsCourse, KeepsRaisedFlow, KeepsUsesOf}
+use Rattle.jr_kept.specs.Courses.{HandsByOneIn, IsSeen, KeepsCourse, KeepsRaisedControl, KeepsRaisedFlow, KeepsUsesOf}
+use Rattle.jr_kept.specs.Started.{BeginsFirstIn, LeavesStartIn}
 use Rattle.jr_kept.specs.declared.kept.LostEdge.{LostEdge}
 use Rattle.jr_meaning.specs.Meaning.{IsMeant, KeepsBodies}
 use Rattle.jr_meaning.specs.declared.meant.Meant.{Meant}
@@ -78,7 +79,7 @@ use Rattle.jr_locks.specs.Origins.{origin_of, row_by}
 use Rattle.jr_edges.specs.Dispatched.{IsTold}
 use Rattle.jr_edges.specs.declared.dispatched.Lost.{Lost}
 use Rattle.jr_engine.proofs.Reading.{texts_left, texts_under}
-use Rattle.jr_engine.specs.Written.{AreFirstIn, KeepsBodiesIn, meaning_in, HasBarredTexts, HasTextsOf, IsSpelledIn, IsLeftOf, IsAskedFor, IsLockedBy, IsBoundByLocks, HasTables, IsNotLeft, IsReadBy, KeepsCallsIn, KeepsFlowIn, rows_of as rows_under, locks_of}
+use Rattle.jr_engine.specs.Written.{AreFirstIn, KeepsBodiesIn, meaning_in, HasBarredTexts, HasTextsOf, IsSpelledIn, IsLeftOf, IsAskedFor, IsLockedBy, IsBoundByLocks, HasTables, IsNotLeft, IsReadBy, IsSound, KeepsCallsIn, KeepsFlowIn, rows_of as rows_under, locks_of}
 use Rattle.jr_engine.specs.declared.asked.Asked.{Asked}
 use Rattle.jr_engine.specs.declared.fault.EngineFault.{EngineFault}
 use Rattle.jr_engine.specs.declared.fault.EngineFault.TheVariants as fault
@@ -221,11 +222,11 @@ pub flow_hinders_if : (a : Asked) (locked : Locked) (result : Result (Unit {0}) 
 flow_hinders_if a locked (Ok _) by table is = tt
 flow_hinders_if a locked (Err why) by table is = flow_hinders a locked why by table is
 
-pub lost_hinders : (a : Asked) (first second : Place) (is_old : Bool) (told : StepFault) → told ≡ step.LostEdge kind.DefUse first second is_old → IsHinderedIn a told
-lost_hinders a first second is_old told e = told_hinders a _ told e tt
+pub control_hinders : (a : Asked) (first second : Place) (is_old : Bool) (told : StepFault) → LosesControl (rows_in a.old.now) (table_in a.old.now) a.change.now → told ≡ step.LostEdge kind.Control first second is_old → IsHinderedIn a told
+control_hinders a first second is_old told lost e = told_hinders a _ told e lost
 
-pub control_hinders : (a : Asked) (first second : Place) (is_old : Bool) (told : StepFault) → told ≡ step.LostEdge kind.Control first second is_old → IsHinderedIn a told
-control_hinders a first second is_old told e = told_hinders a _ told e tt
+pub uses_hinder : (a : Asked) (first second : Place) (is_old : Bool) (told : StepFault) → LosesUses (rows_in a.old.now) (table_in a.old.now) a.change.now → told ≡ step.LostEdge kind.DefUse first second is_old → IsHinderedIn a told
+uses_hinder a first second is_old told lost e = told_hinders a _ told e lost
 
 pub memory_hinders : (a : Asked) (told : StepFault) → told ≡ step.OutOfMemory → IsHinderedIn a told
 memory_hinders a told e = told_hinders a _ told e tt
@@ -376,42 +377,89 @@ large_body w view is_large is few of told e = record {
 abbrev IsCourseKept : Asked → Meaning → Meaning → Rows → Rows → List ℕ → List ℕ → Type 0
 IsCourseKept asked m w p q origin copy = KeepsCourse asked.change.now.course p q m w origin copy × KeepsUsesOf asked.change.now.course p q m w origin copy × KeepsRaisedFlow asked.change.now.raised p q m w origin copy
 
--- where no edge of control and none from a definition to a use is lost between the two, control goes as it went, and uses have the values that they had
-pub flow_kept : (asked : Asked) (locked : Locked) (old new : Project) (control uses : Option LostEdge) → IsBoundIn asked.old.now → IsProgram (rows_under locked) → AreWell (rows_under locked) → IsBoundByLocks locked
-    → IsLockedBy asked locked → length (rows_in asked.old.now) + 3 < 2 ^ 32 → length (rows_under locked) + 3 < 2 ^ 32 → old.marks.rows.now ≡ rows_in asked.old.now → new.marks.rows.now ≡ rows_under locked
-    → IsViewOf (rows_in asked.old.now) asked.old.now.places.value asked.old.now.scopes.value asked.old.now.bound.value old.view
-    → IsViewOf (rows_under locked) locked.program.places.value locked.program.scopes.value locked.program.bound.value new.view
-    → ((m w : Meaning) → IsSeen old m → IsSeen new w → control ≡ None → KeepsCourse asked.change.now.course old.marks.rows.now new.marks.rows.now m w locked.locks.origin.items locked.locks.copy.items)
-    → ((m w : Meaning) → IsSeen old m → IsSeen new w → control ≡ None → uses ≡ None → KeepsUsesOf asked.change.now.course old.marks.rows.now new.marks.rows.now m w locked.locks.origin.items locked.locks.copy.items)
-    → ((m w : Meaning) → IsSeen old m → IsSeen new w → control ≡ None → uses ≡ None → KeepsRaisedFlow asked.change.now.raised old.marks.rows.now new.marks.rows.now m w locked.locks.origin.items locked.locks.copy.items)
-    → KeepsBodiesIn asked locked → control ≡ None → uses ≡ None → KeepsFlowIn asked locked
-flow_kept asked locked old new control uses bound program well is by few_old few_new old_rows new_rows old_of new_of told uses_told raised_told alone nothing no_use =
-    let before = bound_tables asked.old.now bound in
-    let after = locked_tables locked program well is in
-    let m = meaning_in asked.old.now in
-    let w = meaning_in locked.program in
-    let old_seen = seen_project asked.old.now old before few_old old_rows old_of in
-    let new_seen = seen_project locked.program new after few_new new_rows new_of in
-    let first : IsCourseKept asked m w old.marks.rows.now new.marks.rows.now locked.locks.origin.items locked.locks.copy.items = (
-      told m w old_seen new_seen nothing,
-      uses_told m w old_seen new_seen nothing no_use,
-      raised_told m w old_seen new_seen nothing no_use,
-    ) in
-    let second : IsCourseKept asked m w (rows_in asked.old.now) (rows_under locked) locked.locks.origin.items locked.locks.copy.items =
-    subst (λ (p : Rows). IsCourseKept asked m w p (rows_under locked) locked.locks.origin.items locked.locks.copy.items) old_rows (subst (λ (q : Rows). IsCourseKept asked m w old.marks.rows.now q locked.locks.origin.items locked.locks.copy.items) new_rows first) in
-    let third : IsCourseKept asked m w (rows_in asked.old.now) (rows_under locked) (origins_by asked.change.now) (copies_by (origins_by asked.change.now) (length (rows_in asked.old.now))) =
-    subst (λ (copy : List ℕ). IsCourseKept asked m w (rows_in asked.old.now) (rows_under locked) (origins_by asked.change.now) copy) by.copies
-    (subst (λ (origin : List ℕ). IsCourseKept asked m w (rows_in asked.old.now) (rows_under locked) origin locked.locks.copy.items) by.origin second) in
-    record {
-      before = m;
-      after = w;
-      before_is = meaning_is asked.old.now before.under;
-      after_is = subst (λ (l : Table). IsMeaningOf (rows_under locked) l w) is.table (meaning_is locked.program after.under);
-      kept = third.0;
-      uses = third.1;
-      raised = third.2;
-      bodies = alone;
-    }
+-- what is said of the rows, origins and copies of two projects is said of those of the two programs
+of_programs : (asked : Asked) (locked : Locked) (old new : Project) (P : Rows → Rows → List ℕ → List ℕ → Type 0) → IsLockedBy asked locked → old.marks.rows.now ≡ rows_in asked.old.now → new.marks.rows.now ≡ rows_under locked
+    → P old.marks.rows.now new.marks.rows.now locked.locks.origin.items locked.locks.copy.items
+    → P (rows_in asked.old.now) (rows_under locked) (origins_by asked.change.now) (copies_by (origins_by asked.change.now) (length (rows_in asked.old.now)))
+of_programs asked locked old new P by old_rows new_rows h =
+    subst (λ (copy : List ℕ). P (rows_in asked.old.now) (rows_under locked) (origins_by asked.change.now) copy) by.copies
+    (subst (λ (origin : List ℕ). P (rows_in asked.old.now) (rows_under locked) origin locked.locks.copy.items) by.origin
+    (subst (λ (p : Rows). P p (rows_under locked) locked.locks.origin.items locked.locks.copy.items) old_rows
+    (subst (λ (q : Rows). P old.marks.rows.now q locked.locks.origin.items locked.locks.copy.items) new_rows h)))
+
+-- both programs with their meanings
+compared : (asked : Asked) (locked : Locked) → IsBoundIn asked.old.now → IsProgram (rows_under locked) → AreWell (rows_under locked) → IsBoundByLocks locked → IsLockedBy asked locked
+    → Comparison (rows_in asked.old.now) (table_in asked.old.now) asked.change.now
+compared asked locked bound program well is by = record {
+  rows = rows_under locked;
+  locks = locks_of locked;
+  changed = by.changed;
+  before = meaning_in asked.old.now;
+  after = meaning_in locked.program;
+  before_is = meaning_is asked.old.now (bound_tables asked.old.now bound).under;
+  after_is = subst (λ (l : Table). IsMeaningOf (rows_under locked) l (meaning_in locked.program)) is.table (meaning_is locked.program (locked_tables locked program well is).under);
+}
+
+module _ (asked : Asked) (locked : Locked) (old new : Project) (bound : IsBoundIn asked.old.now) (program : IsProgram (rows_under locked)) (sound : IsSound asked locked) (is : IsBoundByLocks locked) (by : IsLockedBy asked locked)
+    (old_rows : old.marks.rows.now ≡ rows_in asked.old.now) (new_rows : new.marks.rows.now ≡ rows_under locked)
+    (old_of : IsViewOf (rows_in asked.old.now) asked.old.now.places.value asked.old.now.scopes.value asked.old.now.bound.value old.view)
+    (new_of : IsViewOf (rows_under locked) locked.program.places.value locked.program.scopes.value locked.program.bound.value new.view) where
+  old_seen : IsSeen old (meaning_in asked.old.now)
+  old_seen = seen_project asked.old.now old (bound_tables asked.old.now bound) sound.few old_rows old_of
+
+  new_seen : IsSeen new (meaning_in locked.program)
+  new_seen = seen_project locked.program new (locked_tables locked program sound.well is) sound.few_new new_rows new_of
+
+  -- where no edge of control and none from a definition to a use is lost between the two, control goes as it went, and uses have the values that they had
+  pub flow_kept : (control uses : Option LostEdge)
+      → ((m w : Meaning) → IsSeen old m → IsSeen new w → control ≡ None → KeepsCourse asked.change.now.course old.marks.rows.now new.marks.rows.now m w locked.locks.origin.items locked.locks.copy.items)
+      → ((m w : Meaning) → IsSeen old m → IsSeen new w → control ≡ None → uses ≡ None → KeepsUsesOf asked.change.now.course old.marks.rows.now new.marks.rows.now m w locked.locks.origin.items locked.locks.copy.items)
+      → ((m w : Meaning) → IsSeen old m → IsSeen new w → control ≡ None → uses ≡ None → KeepsRaisedFlow asked.change.now.raised old.marks.rows.now new.marks.rows.now m w locked.locks.origin.items locked.locks.copy.items)
+      → KeepsBodiesIn asked locked → control ≡ None → uses ≡ None → KeepsFlowIn asked locked
+  unfolding compared
+  flow_kept control uses told uses_told raised_told alone nothing no_use =
+      let m = meaning_in asked.old.now in
+      let w = meaning_in locked.program in
+      let kept = of_programs asked locked old new (IsCourseKept asked m w) by old_rows new_rows (told m w old_seen new_seen nothing, uses_told m w old_seen new_seen nothing no_use, raised_told m w old_seen new_seen nothing no_use) in
+      let both = compared asked locked bound program sound.well is by in
+      record {
+        before = m;
+        after = w;
+        before_is = both.before_is;
+        after_is = both.after_is;
+        kept = kept.0;
+        uses = kept.1;
+        raised = kept.2;
+        bodies = alone;
+      }
+
+  -- where an edge of control is told, not all keeps its course
+  pub control_lost : (control : Option LostEdge) (edge : LostEdge)
+      → ((m w : Meaning) → IsSeen old m → IsSeen new w → (LeavesStartIn asked.change.now.raised old.marks.rows.now m → ⊥) → (BeginsFirstIn asked.change.now.course old.marks.rows.now m → ⊥)
+      → KeepsCourse asked.change.now.course old.marks.rows.now new.marks.rows.now m w locked.locks.origin.items locked.locks.copy.items
+      → KeepsRaisedControl asked.change.now.raised old.marks.rows.now new.marks.rows.now m w locked.locks.origin.items locked.locks.copy.items → control ≡ None)
+      → control ≡ Some edge → LosesControl (rows_in asked.old.now) (table_in asked.old.now) asked.change.now
+  unfolding compared
+  control_lost control edge only some =
+      let m = meaning_in asked.old.now in
+      let w = meaning_in locked.program in
+      let P : Rows → Rows → List ℕ → List ℕ → Type 0 = λ p q origin copy. (LeavesStartIn asked.change.now.raised p m → ⊥) → (BeginsFirstIn asked.change.now.course p m → ⊥)
+      → KeepsCourse asked.change.now.course p q m w origin copy → KeepsRaisedControl asked.change.now.raised p q m w origin copy → ⊥ in
+      record { to = compared asked locked bound program sound.well is by; lost = of_programs asked locked old new P by old_rows new_rows (λ start first course raised. none-some edge (sym (only m w old_seen new_seen start first course raised) ∙ some)) }
+
+  -- where an edge from a definition to a use is told, not all uses keep theirs
+  pub uses_lost : (uses : Option LostEdge) (edge : LostEdge)
+      → ((m w : Meaning) → IsSeen old m → IsSeen new w → HandsByOneIn asked.change.now.course new.marks.rows.now w locked.locks.origin.items
+      → KeepsUsesOf asked.change.now.course old.marks.rows.now new.marks.rows.now m w locked.locks.origin.items locked.locks.copy.items
+      → KeepsRaisedFlow asked.change.now.raised old.marks.rows.now new.marks.rows.now m w locked.locks.origin.items locked.locks.copy.items → uses ≡ None)
+      → uses ≡ Some edge → LosesUses (rows_in asked.old.now) (table_in asked.old.now) asked.change.now
+  unfolding compared
+  uses_lost uses edge only some =
+      let m = meaning_in asked.old.now in
+      let w = meaning_in locked.program in
+      let P : Rows → Rows → List ℕ → List ℕ → Type 0 = λ p q origin copy. HandsByOneIn asked.change.now.course q w origin → KeepsUsesOf asked.change.now.course p q m w origin copy
+      → KeepsRaisedFlow asked.change.now.raised p q m w origin copy → ⊥ in
+      record { to = compared asked locked bound program sound.well is by; lost = of_programs asked locked old new P by old_rows new_rows (λ hands course raised. none-some edge (sym (only m w old_seen new_seen hands course raised) ∙ some)) }
 
 -- what is read of both programs for the meaning of their rows, by the test that each body left alone keeps it
 pub bodies_kept : (asked : Asked) (locked : Locked) (old new : View) (before after : Meant) (copy : List ℕ) (told : Bool) → IsBoundIn asked.old.now → IsProgram (rows_under locked) → AreWell (rows_under locked)

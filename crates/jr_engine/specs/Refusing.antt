@@ -25,6 +25,8 @@ use Rattle.jr_change.specs.declared.reason.ChangeFault.{ChangeFault}
 use Rattle.jr_change.specs.declared.reason.ChangeFault.TheVariants as change
 use Rattle.jr_flow_defs.specs.Meaning.{Meaning}
 use Rattle.jr_flow.specs.Sizes.{HasTooLarge}
+use Rattle.jr_kept.specs.Courses.{HandsByOneIn, KeepsCourse, KeepsRaisedControl, KeepsRaisedFlow, KeepsUsesOf}
+use Rattle.jr_kept.specs.Started.{BeginsFirstIn, LeavesStartIn}
 use Rattle.jr_front.specs.Bound.{rows_in, table_in}
 use Rattle.jr_front.specs.declared.workspace.Workspace.{Workspace}
 use Rattle.jr_engine.specs.Barring.{HasDeepText, Bars}
@@ -67,6 +69,34 @@ pub record LosesCall (p : Rows) (t : Table) (m : Marks) (change : Change) (class
   pub is : IsLost rows locks (copies_by (origins_by change) (length p)) p t lost
   pub class_at : class ≡ place_of_name m lost.class
   pub method_at : method ≡ place_of_name m lost.method
+
+-- ---- flow
+
+-- a changed program under its locks, with what names, types and constants mean in the old program and in it
+pub record Comparison (p : Rows) (t : Table) (change : Change) : Type 0 where
+  pub rows : Rows
+  pub locks : Table
+  pub changed : IsChanged p t change rows locks
+  pub before : Meaning
+  pub after : Meaning
+  pub before_is : IsMeaningOf p t before
+  pub after_is : IsMeaningOf rows locks after
+
+-- not all of this holds: control goes in a changed program as it went, where statements move (`KeepsCourse`) and in a method that is pulled up; and neither leaves the change out
+-- where the initialization of a class begins (`LeavesStartIn`), nor does it put something before that (`BeginsFirstIn`, JLS 12.4.1)
+pub record LosesControl (p : Rows) (t : Table) (change : Change) : Type 0 where
+  pub to : Comparison p t change
+  pub lost : (LeavesStartIn change.raised p to.before → ⊥) → (BeginsFirstIn change.course p to.before → ⊥)
+      → KeepsCourse change.course p to.rows to.before to.after (origins_by change) (copies_by (origins_by change) (length p))
+      → KeepsRaisedControl change.raised p to.rows to.before to.after (origins_by change) (copies_by (origins_by change) (length p)) → ⊥
+
+-- not all of this holds: the definitions that reached a use there reach its copy in a changed program, and no others (`KeepsUsesOf`); and what statements that go into a method hand on is
+-- told by one table (`HandsByOneIn`)
+pub record LosesUses (p : Rows) (t : Table) (change : Change) : Type 0 where
+  pub to : Comparison p t change
+  pub lost : HandsByOneIn change.course to.rows to.after (origins_by change)
+      → KeepsUsesOf change.course p to.rows to.before to.after (origins_by change) (copies_by (origins_by change) (length p))
+      → KeepsRaisedFlow change.raised p to.rows to.before to.after (origins_by change) (copies_by (origins_by change) (length p)) → ⊥
 
 -- ---- the files that were to be left
 
@@ -116,13 +146,15 @@ pub data IsTooLarge (units : List UnitAt) (p : Rows) (t : Table) (change : Chang
 
 -- ---- the causes
 
--- Why what a change is to leave of a program with these units cannot be left. Where there is a change, the request is no bad one; of an edge of control or from a definition to a use that is lost, of what differs, and
+-- Why what a change is to leave of a program with these units cannot be left. Where there is a change, the request is no bad one; which edge of control or from a definition to a use is told among those that are lost is not said, and of what differs, and
 -- of want of memory nothing is said.
 abbrev pub IsHindered : List UnitAt → Rows → Table → Marks → Change → StepFault → Type 0
 IsHindered units p t m change (step.BadRequest reason) = ⊥
 IsHindered units p t m change (step.StillUsed place) = ⊥
 IsHindered units p t m change (step.NoSpelling occ place lock) = LacksSpelling p t m change place
 IsHindered units p t m change (step.LostEdge kind.Dispatch class method is_old) = LosesCall p t m change class method × (is_old ≡ true)
+IsHindered units p t m change (step.LostEdge kind.Control first second is_old) = LosesControl p t change
+IsHindered units p t m change (step.LostEdge kind.DefUse first second is_old) = LosesUses p t change
 IsHindered units p t m change (step.Broken rule place) = IsBarred units p t change (step.Broken rule place)
 IsHindered units p t m change (step.TooLarge what) = IsTooLarge units p t change what
 IsHindered units p t m change other = ⊤

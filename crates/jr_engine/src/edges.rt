@@ -1,11 +1,12 @@
 // Whether edges of flow are kept, and whether there are too many points of flow.
 
-ghost use Rattle.std.specs.Prelude.{◌≡◌, ◌+◌, ◌<◌, ◌^◌, true, length, None, IfOk, IfErr};
+ghost use Rattle.std.specs.Prelude.{◌≡◌, ◌+◌, ◌<◌, ◌^◌, true, length, None, Some, IfOk, IfErr};
 ghost use Rattle.jr_headed.specs.Founded.{IsProgram};
 ghost use Rattle.jr_marks.specs.Places.{IsOrdered, place_of_name};
-ghost use Rattle.jr_front.specs.Bound.{IsBoundIn, rows_in};
+ghost use Rattle.jr_front.specs.Bound.{IsBoundIn, rows_in, table_in};
+ghost use Rattle.jr_kept.specs.declared.kept.LostEdge.{LostEdge};
 ghost use Rattle.jr_engine.specs.Refusing as refusing;
-ghost use Rattle.jr_engine.specs.Refusing.{IsHinderedIn, IsLargeIn};
+ghost use Rattle.jr_engine.specs.Refusing.{IsHinderedIn, IsLargeIn, LosesUses};
 ghost use Rattle.jr_engine.specs.Written.{HasTables, IsAskedFor, IsBoundByLocks, IsLockedBy, IsSound, KeepsCallsIn, KeepsFlowIn, rows_of};
 ghost use Rattle.jr_engine.specs.declared.fault.LostKind.TheVariants as kind;
 ghost use Rattle.jr_engine.specs.declared.fault.StepFault.TheVariants as step;
@@ -145,6 +146,7 @@ fn keeps_control(
     requires locked { IsLockedBy asked locked.now }
     requires bound { IsBoundByLocks locked.now }
     ensures ok { IfOk result (λ def_use. def_use ≡ None → KeepsFlowIn asked.entry locked.now) }
+    ensures uses { IfOk result (λ def_use. (edge : LostEdge) → def_use ≡ Some edge → LosesUses (rows_in asked.old.now) (table_in asked.old.now) asked.change.now) }
     ensures err { IfErr result (IsHinderedIn asked.entry) }
 {
     if !keeps_bodies(asked, locked) {
