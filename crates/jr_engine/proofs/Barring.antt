@@ -15,7 +15,7 @@ use Rattle.jr_base.specs.declared.limits.Size.TheVariants as size
 use Rattle.jr_base.specs.declared.limits.TheConstants.Limits as limits
 use Rattle.jr_base.specs.declared.token.Place.{Place}
 use Rattle.jr_base.specs.declared.token.Token.{Token}
-use Rattle.jr_rule.specs.declared.Rule.TheVariants.{PathTwice, TypeChange}
+use Rattle.jr_rule.specs.declared.Rule.TheVariants.{PathTwice}
 use Rattle.jr_parse.specs.Answers.{Answers}
 use Rattle.jr_parse.specs.declared.fault.ParseFault.{ParseFault}
 use Rattle.jr_parse.specs.declared.fault.ParseFault.TheVariants as parsing
@@ -31,9 +31,8 @@ use Rattle.jr_front.specs.Checking.{CheckedAs, fault_of}
 use Rattle.jr_front.specs.Refusing.{IsRefusal}
 use Rattle.jr_front.specs.declared.fault.FrontFault.{FrontFault}
 use Rattle.jr_front.specs.declared.fault.FrontFault.TheVariants as front
-use Rattle.jr_change.specs.declared.change.Change.{Change}
 use Rattle.jr_flow.proofs.Woven.{in_map}
-use Rattle.jr_engine.specs.Barring.{AreRefused, AreRefusedFor, AreTooDeep, AreTooLarge, Bars, BreakRule, HasDeepText, HasText, IsDepth, IsDifference, IsNestedTooDeep, IsToldFor, IsUnread, is_inlining}
+use Rattle.jr_engine.specs.Barring.{AreRefused, AreRefusedFor, AreTooDeep, AreTooLarge, Bars, BreakRule, HasDeepText, HasText, IsDepth, IsDifference, IsNestedTooDeep, IsToldFor, IsUnread}
 use Rattle.jr_engine.specs.Refusing.{IsHinderedIn, IsTooLarge}
 use Rattle.jr_engine.specs.Texts.{AreSmall, changed_files, first_twice}
 use Rattle.jr_engine.specs.declared.asked.Asked.{Asked}
@@ -43,8 +42,8 @@ use Rattle.jr_engine.specs.declared.left.Left.{Left}
 use Rattle.jr_engine.proofs.Beginning.{units_begin}
 use Rattle.jr_engine.proofs.Reading.{tokens_apart}
 
-told_as : (change : Change) (texts : List (List ℕ × List ℕ)) (why told : StepFault) → told ≡ why → Bars change texts why → Bars change texts told
-told_as change texts why told e h = subst (λ (f : StepFault). Bars change texts f) (sym e) h
+told_as : (texts : List (List ℕ × List ℕ)) (why told : StepFault) → told ≡ why → Bars texts why → Bars texts told
+told_as texts why told e h = subst (λ (f : StepFault). Bars texts f) (sym e) h
 
 -- ---- texts that are nested too deep
 
@@ -71,11 +70,11 @@ deep_among texts bytes among deep = record { bytes = bytes; among = among; deep 
 behind_prelude : (texts : List (List ℕ × List ℕ)) → HasDeepText texts → HasDeepText (prelude_files ++ texts)
 behind_prelude texts h = deep_among (prelude_files ++ texts) h.bytes (record { path = h.among.path; member = Contains-append_right prelude_files texts (h.among.path, h.bytes) h.among.member }) h.deep
 
-pub unread_bars : (change : Change) (texts : List (List ℕ × List ℕ)) (why : StepFault) → IsUnread texts why → Bars change texts why
-unread_bars change texts (step.TooLarge size.Nesting) h = AreTooLarge.by_levels (behind_prelude texts h)
-unread_bars change texts (step.Differs place) h = tt
-unread_bars change texts step.OutOfMemory h = tt
-unread_bars change texts _ h = absurd h
+pub unread_bars : (texts : List (List ℕ × List ℕ)) (why : StepFault) → IsUnread texts why → Bars texts why
+unread_bars texts (step.TooLarge size.Nesting) h = AreTooLarge.by_levels (behind_prelude texts h)
+unread_bars texts (step.Differs place) h = tt
+unread_bars texts step.OutOfMemory h = tt
+unread_bars texts _ h = absurd h
 
 -- so it hinders a change whose texts these are
 pub unread_hinders : (a : Asked) (texts : List (List ℕ × List ℕ)) (why : StepFault) → texts ≡ changed_files a.old.now.program.units a.change.now.units.items → IsUnread texts why → IsHinderedIn a why
@@ -152,53 +151,50 @@ checked_for found _ (CheckedAs.not_read {why = why} is) = unread_for found why i
 
 -- ---- how it is told
 
-difference_bars : (change : Change) (texts : List (List ℕ × List ℕ)) (told : StepFault) → IsDifference told → Bars change texts told
-difference_bars change texts (step.Differs place) h = tt
-difference_bars change texts step.OutOfMemory h = tt
-difference_bars change texts _ h = absurd h
+difference_bars : (texts : List (List ℕ × List ℕ)) (told : StepFault) → IsDifference told → Bars texts told
+difference_bars texts (step.Differs place) h = tt
+difference_bars texts step.OutOfMemory h = tt
+difference_bars texts _ h = absurd h
 
 pub difference_unread : (texts : List (List ℕ × List ℕ)) (told : StepFault) → IsDifference told → IsUnread texts told
 difference_unread texts (step.Differs place) h = tt
 difference_unread texts step.OutOfMemory h = tt
 difference_unread texts _ h = absurd h
 
-told_bars : (change : Change) (texts : List (List ℕ × List ℕ)) (why : FrontFault) (told : StepFault) → IsToldFor why told → AreRefusedFor texts why → Bars change texts told
-told_bars change texts (front.TooLarge what) told e h = told_as change texts (step.TooLarge what) told e h
-told_bars change texts (front.Parse (parsing.TooDeep number) place) told e h = told_as change texts (step.TooLarge size.Nesting) told e (AreTooLarge.by_levels h)
-told_bars change texts (front.Duplicate place) told e h = told_as change texts _ told e (BreakRule.by_names h)
-told_bars change texts (front.Cycle place) told e h = told_as change texts _ told e (BreakRule.by_headers h)
-told_bars change texts (front.Broken rule place) told e h = told_as change texts (step.Broken rule place) told e (BreakRule.by_front h)
-told_bars change texts _ told e h = difference_bars change texts told e
+told_bars : (texts : List (List ℕ × List ℕ)) (why : FrontFault) (told : StepFault) → IsToldFor why told → AreRefusedFor texts why → Bars texts told
+told_bars texts (front.TooLarge what) told e h = told_as texts (step.TooLarge what) told e h
+told_bars texts (front.Parse (parsing.TooDeep number) place) told e h = told_as texts (step.TooLarge size.Nesting) told e (AreTooLarge.by_levels h)
+told_bars texts (front.Duplicate place) told e h = told_as texts _ told e (BreakRule.by_names h)
+told_bars texts (front.Cycle place) told e h = told_as texts _ told e (BreakRule.by_headers h)
+told_bars texts (front.Broken rule place) told e h = told_as texts (step.Broken rule place) told e (BreakRule.by_front h)
+told_bars texts _ told e h = difference_bars texts told e
 
 -- the front refuses a program that was read from the texts
-pub program_bars : (change : Change) (texts : List (List ℕ × List ℕ)) (program : Program) (why : FrontFault) (told : StepFault) → IsToldFor why told
-    → (BeginsWithLang (rows_of program) → HaveTokensApart program.units → IsRefusal program why) → AreUnitsOf (prelude_files ++ texts) program.units → AreSmall texts → Bars change texts told
-program_bars change texts program why told e is units small =
-    told_bars change texts why told e (refusal_for texts program why units (is (units_begin texts program.units units) (tokens_apart texts program.units units small)))
+pub program_bars : (texts : List (List ℕ × List ℕ)) (program : Program) (why : FrontFault) (told : StepFault) → IsToldFor why told
+    → (BeginsWithLang (rows_of program) → HaveTokensApart program.units → IsRefusal program why) → AreUnitsOf (prelude_files ++ texts) program.units → AreSmall texts → Bars texts told
+program_bars texts program why told e is units small =
+    told_bars texts why told e (refusal_for texts program why units (is (units_begin texts program.units units) (tokens_apart texts program.units units small)))
 
 -- it refuses the files
-pub files_bar : (change : Change) (found : FileMap) (why : FrontFault) (told : StepFault) → IsToldFor why told → CheckedAs found (Err why) → Bars change (files.entries found) told
-files_bar change found why told e is = told_bars change (files.entries found) why told e (checked_for found (Err why) is)
+pub files_bar : (found : FileMap) (why : FrontFault) (told : StepFault) → IsToldFor why told → CheckedAs found (Err why) → Bars (files.entries found) told
+files_bar found why told e is = told_bars (files.entries found) why told e (checked_for found (Err why) is)
 
 -- it refuses them for a size
 pub files_large : (found : FileMap) (texts : List (List ℕ × List ℕ)) (why : FrontFault) (what : Size) → texts ≡ files.entries found → why ≡ front.TooLarge what → CheckedAs found (Err why) → AreTooLarge texts what
 files_large found texts why what are e is = subst (λ (all : List (List ℕ × List ℕ)). AreTooLarge all what) (sym are) (subst (λ (w : FrontFault). AreRefusedFor (files.entries found) w) e (checked_for found (Err why) is))
 
-pub entries_bar : (change : Change) (texts all : List (List ℕ × List ℕ)) (told : StepFault) → texts ≡ all → Bars change texts told → Bars change all told
-entries_bar change texts all told are h = subst (λ (e : List (List ℕ × List ℕ)). Bars change e told) are h
+pub entries_bar : (texts all : List (List ℕ × List ℕ)) (told : StepFault) → texts ≡ all → Bars texts told → Bars all told
+entries_bar texts all told are h = subst (λ (e : List (List ℕ × List ℕ)). Bars e told) are h
 
-pub bars_if : (change : Change) (texts all : List (List ℕ × List ℕ)) (result : Result Left StepFault) → texts ≡ all → IfErr result (Bars change texts) → IfErr result (Bars change all)
-bars_if change texts all result are h = subst (λ (e : List (List ℕ × List ℕ)). IfErr result (Bars change e)) are h
+pub bars_if : (texts all : List (List ℕ × List ℕ)) (result : Result Left StepFault) → texts ≡ all → IfErr result (Bars texts) → IfErr result (Bars all)
+bars_if texts all result are h = subst (λ (e : List (List ℕ × List ℕ)). IfErr result (Bars e)) are h
 
-pub twice_bars : (change : Change) (texts : List (List ℕ × List ℕ)) (unit : ℕ) (told : StepFault) → told ≡ step.Broken PathTwice (record { cu = record { 0 = unit }; at = 0 }) → first_twice texts ≡ Some unit → Bars change texts told
-twice_bars change texts unit told e is = told_as change texts _ told e (BreakRule.by_paths is)
+pub twice_bars : (texts : List (List ℕ × List ℕ)) (unit : ℕ) (told : StepFault) → told ≡ step.Broken PathTwice (record { cu = record { 0 = unit }; at = 0 }) → first_twice texts ≡ Some unit → Bars texts told
+twice_bars texts unit told e is = told_as texts _ told e (BreakRule.by_paths is)
 
 -- the front refuses a program of which two units have one path, and this or that is told
-pub either_bars : (change : Change) (texts : List (List ℕ × List ℕ)) (program : Program) (unit : ℕ) (why : FrontFault) (told : StepFault)
+pub either_bars : (texts : List (List ℕ × List ℕ)) (program : Program) (unit : ℕ) (why : FrontFault) (told : StepFault)
     → IsToldFor why told ⊎ (told ≡ step.Broken PathTwice (record { cu = record { 0 = unit }; at = 0 })) → (BeginsWithLang (rows_of program) → HaveTokensApart program.units → IsRefusal program why)
-    → AreUnitsOf (prelude_files ++ texts) program.units → AreSmall texts → first_twice texts ≡ Some unit → Bars change texts told
-either_bars change texts program unit why told (inl e) refusal units small is = program_bars change texts program why told e refusal units small
-either_bars change texts program unit why told (inr e) refusal units small is = twice_bars change texts unit told e is
-
-pub types_bar : (change : Change) (texts : List (List ℕ × List ℕ)) (place : Place) (told : StepFault) → told ≡ step.Broken TypeChange place → is_inlining change.course ≡ true → Bars change texts told
-types_bar change texts place told e is = told_as change texts (step.Broken TypeChange place) told e (BreakRule.by_types is)
+    → AreUnitsOf (prelude_files ++ texts) program.units → AreSmall texts → first_twice texts ≡ Some unit → Bars texts told
+either_bars texts program unit why told (inl e) refusal units small is = program_bars texts program why told e refusal units small
+either_bars texts program unit why told (inr e) refusal units small is = twice_bars texts unit told e is

@@ -1,5 +1,5 @@
 -- The texts of a changed program, and those of the files left.
-use Rattle.std.proofs.Common.{◌≡◌, ◌∙◌, ◌<◌, ◌≤◌, ◌^◌, ap, refl, sym, subst, List, ℕ, suc, ◌++◌, length, map, Result, Ok, Err, IfOk, IfErr, arith}
+use Rattle.std.proofs.Common.{◌≡◌, ◌⊎◌, inl, inr, ◌∙◌, ◌<◌, ◌≤◌, ◌^◌, ap, refl, sym, subst, List, ℕ, suc, ◌++◌, length, map, Result, Ok, Err, IfOk, IfErr, arith}
 use Rattle.std.proofs.lemmas.Bool.{leb-true}
 use Rattle.std.specs.FinMap as files
 use Rattle.std.specs.List.{AllByRecursion}
@@ -23,11 +23,10 @@ use Rattle.jr_edits.specs.Place.{EditList}
 use Rattle.jr_shapes.specs.declared.spelling.Spelling.{Spelling}
 use Rattle.jr_weave.specs.Weaving.{AreRespelled}
 use Rattle.jr_front.specs.Bound.{IsIndexed}
-use Rattle.jr_change.specs.declared.change.Change.{Change}
 use Rattle.jr_engine.specs.Steps.{IsRead}
 use Rattle.jr_engine.specs.Barring.{Bars}
 use Rattle.jr_engine.specs.Texts.{AreSmall, AreTexts, HaveTexts, changed_files, written_files}
-use Rattle.jr_engine.specs.Written.{AreTextsOf, HasTextsOf, IsBoundByLocks, IsIndexedAs, IsNotLeft, IsReadBy, locks_of, rows_of as rows_under}
+use Rattle.jr_engine.specs.Written.{AreNotLeft, AreTextsOf, HasBarredTexts, IsRetypedIn, HasTextsOf, IsBoundByLocks, IsIndexedAs, IsNotLeft, IsReadBy, locks_of, rows_of as rows_under}
 use Rattle.jr_engine.specs.declared.asked.Asked.{Asked}
 use Rattle.jr_engine.specs.declared.fault.StepFault.{StepFault}
 use Rattle.jr_engine.specs.declared.fault.StepFault.TheVariants as step
@@ -90,19 +89,47 @@ texts_by locked all m table edits held units texts made spelled tables edits_are
       written = written ∙ ap (λ (u : List UnitAt). written_files u held) units_are ∙ ap (λ (e : List EditList). written_files locked.program.program.units e) edits_are;
     }
 
-pub texts_so : (locked : Locked) (all : List Spelling) (asked : Asked) (texts : List (List ℕ × List ℕ)) (result : Result Left StepFault) → (IsReadBy asked locked → IsBoundByLocks locked → AreTextsOf locked all texts)
-    → IfOk result (λ left. files.entries left.files ≡ texts) → IsReadBy asked locked → IsBoundByLocks locked → IfOk result (HasTextsOf locked all)
-texts_so locked all asked texts (Ok left) are kept read bound = subst (λ (t : List (List ℕ × List ℕ)). AreTextsOf locked all t) (sym kept) (are read bound)
-texts_so locked all asked texts (Err why) are kept read bound = tt
+pub texts_so : (locked : Locked) (all : List Spelling) (texts : List (List ℕ × List ℕ)) (result : Result Left StepFault) → AreTextsOf locked all texts → IfOk result (λ left. files.entries left.files ≡ texts)
+    → IfOk result (HasTextsOf locked all)
+texts_so locked all texts (Ok left) are kept = subst (λ (t : List (List ℕ × List ℕ)). AreTextsOf locked all t) (sym kept) are
+texts_so locked all texts (Err why) are kept = tt
 
-pub not_left : (change : Change) (locked : Locked) (all : List Spelling) (texts : List (List ℕ × List ℕ)) (why : StepFault) → AreTextsOf locked all texts → Bars change texts why → IsNotLeft change locked all why
-not_left change locked all texts step.OutOfMemory are bars = tt
-not_left change locked all texts _ are bars = record { texts = texts; are = are; bars = bars }
+-- what bars texts lets no files be left
+pub bars_not_left : (a : Asked) (texts : List (List ℕ × List ℕ)) (why : StepFault) → Bars texts why → AreNotLeft a texts why
+bars_not_left a texts (step.Differs place) h = tt
+bars_not_left a texts step.OutOfMemory h = tt
+bars_not_left a texts _ h = inl h
 
-pub not_left_if : (change : Change) (locked : Locked) (all : List Spelling) (texts : List (List ℕ × List ℕ)) (result : Result Left StepFault) → AreTextsOf locked all texts → IfErr result (Bars change texts)
-    → IfErr result (IsNotLeft change locked all)
-not_left_if change locked all texts (Ok left) are bars = tt
-not_left_if change locked all texts (Err why) are bars = not_left change locked all texts why are bars
+pub bars_not_left_if : (a : Asked) (texts : List (List ℕ × List ℕ)) (result : Result (Unit {0}) StepFault) → IfErr result (Bars texts) → IfErr result (AreNotLeft a texts)
+bars_not_left_if a texts (Ok _) h = tt
+bars_not_left_if a texts (Err why) h = bars_not_left a texts why h
+
+pub retyped_not_left_if : (a : Asked) (texts : List (List ℕ × List ℕ)) (result : Result (Unit {0}) StepFault) → IfErr result (IsRetypedIn a) → IfErr result (AreNotLeft a texts)
+retyped_not_left_if a texts (Ok _) h = tt
+retyped_not_left_if a texts (Err (step.Broken rule place)) h = inr h
+retyped_not_left_if a texts (Err _) h = absurd h
+
+pub not_left_same : (a : Asked) (texts all : List (List ℕ × List ℕ)) (result : Result Left StepFault) → texts ≡ all → IfErr result (AreNotLeft a texts) → IfErr result (AreNotLeft a all)
+not_left_same a texts all result are h = subst (λ (e : List (List ℕ × List ℕ)). IfErr result (AreNotLeft a e)) are h
+
+held_texts : (a : Asked) (locked : Locked) (all : List Spelling) (texts : List (List ℕ × List ℕ)) (why : StepFault) → AreTextsOf locked all texts → Bars texts why ⊎ IsRetypedIn a why → HasBarredTexts locked all why ⊎ IsRetypedIn a why
+held_texts a locked all texts why are (inl bars) = inl (record { texts = texts; are = are; bars = bars })
+held_texts a locked all texts why are (inr retyped) = inr retyped
+
+pub not_left : (a : Asked) (locked : Locked) (all : List Spelling) (texts : List (List ℕ × List ℕ)) (why : StepFault) → AreTextsOf locked all texts → AreNotLeft a texts why → IsNotLeft a locked all why
+not_left a locked all texts (step.Differs place) are h = tt
+not_left a locked all texts step.OutOfMemory are h = tt
+not_left a locked all texts (step.BadRequest reason) are h = held_texts a locked all texts (step.BadRequest reason) are h
+not_left a locked all texts (step.NoSpelling occ place lock) are h = held_texts a locked all texts (step.NoSpelling occ place lock) are h
+not_left a locked all texts (step.LostEdge lost first second is_old) are h = held_texts a locked all texts (step.LostEdge lost first second is_old) are h
+not_left a locked all texts (step.Broken rule place) are h = held_texts a locked all texts (step.Broken rule place) are h
+not_left a locked all texts (step.TooLarge what) are h = held_texts a locked all texts (step.TooLarge what) are h
+not_left a locked all texts (step.StillUsed place) are h = held_texts a locked all texts (step.StillUsed place) are h
+
+pub not_left_if : (a : Asked) (locked : Locked) (all : List Spelling) (texts : List (List ℕ × List ℕ)) (result : Result Left StepFault) → AreTextsOf locked all texts → IfErr result (AreNotLeft a texts)
+    → IfErr result (IsNotLeft a locked all)
+not_left_if a locked all texts (Ok left) are h = tt
+not_left_if a locked all texts (Err why) are h = not_left a locked all texts why are h
 
 pub texts_under : (asked : Asked) (locked : Locked) (all : List Spelling) (texts : List (List ℕ × List ℕ)) → IsReadBy asked locked → AreTextsOf locked all texts
     → AreTexts asked.old.now.program.units asked.change.now (rows_under locked) (locks_of locked) all texts

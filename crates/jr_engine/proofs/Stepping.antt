@@ -6,7 +6,10 @@ use Rattle.std.specs.FinMap as files
 use Rattle.std.specs.List.{AllByRecursion}
 use Rattle.jr_base.specs.Files.{FileMap}
 use Rattle.jr_base.specs.Paths.{is_java}
+use Rattle.jr_base.specs.declared.limits.Size.{Size}
 use Rattle.jr_base.specs.declared.limits.Size.TheVariants as size
+use Rattle.jr_rule.specs.declared.Rule.{Rule}
+use Rattle.jr_rule.specs.declared.Rule.TheVariants.{TypeChange}
 use Rattle.jr_base.specs.declared.request.Request.{Request}
 use Rattle.jr_base.specs.declared.token.Place.{Place}
 use Rattle.jr_tree.specs.Shape.{IsShaped}
@@ -17,14 +20,17 @@ use Rattle.jr_front.specs.Bound.{IsBoundIn, IsIndexed, rows_in, table_in}
 use Rattle.jr_front.specs.Checking.{CheckedAs, accepted}
 use Rattle.jr_front.specs.Compiling.{Compiles}
 use Rattle.jr_front.proofs.Reading.{read_begins}
+use Rattle.jr_front.proofs.Refusals.{ordered_so}
 use Rattle.jr_front.proofs.Testable.{tables_view, testable_view}
 use Rattle.jr_front.proofs.Viewed.{seen_view, whole_view, whole_world}
 use Rattle.jr_front.specs.Viewed.{IsViewOf}
 use Rattle.jr_front.specs.declared.fault.FrontFault.{FrontFault}
 use Rattle.jr_front.specs.declared.workspace.Workspace.{Workspace}
+use Rattle.jr_engine.specs.Barring.{Bars}
+use Rattle.jr_engine.specs.Comparing.{Comparison, LosesControl, LosesUses}
 use Rattle.jr_engine.specs.Planning.{IsAccepted, PlannedAs, RefusedAs}
-use Rattle.jr_engine.specs.Refusing.{Comparison, HasCause, HasLargeBody, LosesControl, LosesUses, IsBarred, IsCausedBy, IsHinderedIn, IsNumber, IsLargeIn, IsOfFiles, IsRefusedFrom, IsShownAt, IsToldAs, IsToldNumber, IsTooLarge, fault_of}
-use Rattle.jr_engine.specs.Steps.{Opened, IsOpened, IsRead, IsHeld, IsMeaningOf, KeepsFlow, IsAskedOf, IsRequested, LeftBy, IsStep, stays, leaves, AreSteps, none, more, IsFollowed, opened, opened_by}
+use Rattle.jr_engine.specs.Refusing.{HasCause, HasLargeBody, IsBarred, IsCausedBy, IsHinderedIn, IsNumber, IsLargeIn, IsOfFiles, IsRefusedFrom, IsShownAt, IsToldAs, IsToldNumber, IsTooLarge, fault_of}
+use Rattle.jr_engine.specs.Steps.{IsProjectIn, Opened, IsOpened, IsRead, IsHeld, IsMeaningOf, KeepsFlow, IsAskedOf, IsRequested, LeftBy, IsStep, stays, leaves, AreSteps, none, more, IsFollowed, opened, opened_by}
 use Rattle.jr_tree.specs.Rows.{Rows}
 use Rattle.jr_defs.specs.Referents.{Table, entries}
 use Rattle.jr_defs.specs.declared.referent.Referent.{Referent}
@@ -65,6 +71,7 @@ use Rattle.jr_supers.specs.Tabled.{IsSized}
 use Rattle.jr_flow_defs.specs.Meaning.{Meaning}
 use Rattle.jr_flow.specs.Sizes.{HasTooLarge}
 use Rattle.jr_flow.specs.Views as flow
+use Rattle.jr_inline.specs.Retyping.{AreCompared, IsRetyped, IsRetypedIf, IsTypedAs, Typed}
 use Rattle.jr_kept.specs.Courses.{HandsByOneIn, IsSeen, KeepsCourse, KeepsRaisedControl, KeepsRaisedFlow, KeepsUsesOf}
 use Rattle.jr_kept.specs.Started.{BeginsFirstIn, LeavesStartIn}
 use Rattle.jr_kept.specs.declared.kept.LostEdge.{LostEdge}
@@ -79,7 +86,7 @@ use Rattle.jr_locks.specs.Origins.{origin_of, row_by}
 use Rattle.jr_edges.specs.Dispatched.{IsTold}
 use Rattle.jr_edges.specs.declared.dispatched.Lost.{Lost}
 use Rattle.jr_engine.proofs.Reading.{texts_left, texts_under}
-use Rattle.jr_engine.specs.Written.{AreFirstIn, KeepsBodiesIn, meaning_in, HasBarredTexts, HasTextsOf, IsSpelledIn, IsLeftOf, IsAskedFor, IsLockedBy, IsBoundByLocks, HasTables, IsNotLeft, IsReadBy, IsSound, KeepsCallsIn, KeepsFlowIn, rows_of as rows_under, locks_of}
+use Rattle.jr_engine.specs.Written.{AreFirstIn, KeepsBodiesIn, meaning_in, HasBarredTexts, HasTextsOf, IsSpelledIn, IsLeftOf, IsAskedFor, IsLockedBy, IsBoundByLocks, HasTables, IsNotLeft, IsReadBy, IsReady, IsRetypedIn, IsSound, KeepsCallsIn, KeepsFlowIn, rows_of as rows_under, locks_of}
 use Rattle.jr_engine.specs.declared.asked.Asked.{Asked}
 use Rattle.jr_engine.specs.declared.fault.EngineFault.{EngineFault}
 use Rattle.jr_engine.specs.declared.fault.EngineFault.TheVariants as fault
@@ -232,7 +239,7 @@ pub memory_hinders : (a : Asked) (told : StepFault) → told ≡ step.OutOfMemor
 memory_hinders a told e = told_hinders a _ told e tt
 
 -- the files that were to be left are the texts of the changed program with the first spellings
-to_be_left : (a : Asked) (locked : Locked) (all : List Spelling) (why : StepFault) → IsLockedBy a locked → AreFirstIn a locked all → IsReadBy a locked → HasBarredTexts a.change.now locked all why
+to_be_left : (a : Asked) (locked : Locked) (all : List Spelling) (why : StepFault) → IsLockedBy a locked → AreFirstIn a locked all → IsReadBy a locked → HasBarredTexts locked all why
     → IsBarred a.old.now.program.units (rows_in a.old.now) (table_in a.old.now) a.change.now why
 to_be_left a locked all why by first read h = record {
   texts = h.texts;
@@ -240,15 +247,32 @@ to_be_left a locked all why by first read h = record {
   bars = h.bars;
 }
 
-not_left_hinders : (a : Asked) (locked : Locked) (all : List Spelling) (why : StepFault) → IsLockedBy a locked → AreFirstIn a locked all → IsReadBy a locked → IsNotLeft a.change.now locked all why → IsHinderedIn a why
-not_left_hinders a locked all (step.Broken rule place) by first read h = to_be_left a locked all (step.Broken rule place) by first read h
-not_left_hinders a locked all (step.TooLarge what) by first read h = IsTooLarge.by_files (to_be_left a locked all (step.TooLarge what) by first read h)
+rule_hinders : (a : Asked) (locked : Locked) (all : List Spelling) (rule : Rule) (place : Place) → IsLockedBy a locked → AreFirstIn a locked all → IsReadBy a locked
+    → HasBarredTexts locked all (step.Broken rule place) ⊎ IsRetypedIn a (step.Broken rule place) → IsHinderedIn a (step.Broken rule place)
+rule_hinders a locked all rule place by first read (inl h) = inl (to_be_left a locked all (step.Broken rule place) by first read h)
+rule_hinders a locked all rule place by first read (inr h) = inr h
+
+size_hinders : (a : Asked) (locked : Locked) (all : List Spelling) (what : Size) → IsLockedBy a locked → AreFirstIn a locked all → IsReadBy a locked
+    → HasBarredTexts locked all (step.TooLarge what) ⊎ IsRetypedIn a (step.TooLarge what) → IsHinderedIn a (step.TooLarge what)
+size_hinders a locked all what by first read (inl h) = IsTooLarge.by_files (to_be_left a locked all (step.TooLarge what) by first read h)
+size_hinders a locked all what by first read (inr h) = absurd h
+
+none_bars : (a : Asked) (locked : Locked) (all : List Spelling) (why : StepFault) → ((texts : List (List ℕ × List ℕ)) → Bars texts why → ⊥) → (IsRetypedIn a why → ⊥) → HasBarredTexts locked all why ⊎ IsRetypedIn a why → ⊥
+none_bars a locked all why no none (inl h) = no h.texts h.bars
+none_bars a locked all why no none (inr h) = none h
+
+not_left_hinders : (a : Asked) (locked : Locked) (all : List Spelling) (why : StepFault) → IsLockedBy a locked → AreFirstIn a locked all → IsReadBy a locked → IsNotLeft a locked all why → IsHinderedIn a why
+not_left_hinders a locked all (step.Broken rule place) by first read h = rule_hinders a locked all rule place by first read h
+not_left_hinders a locked all (step.TooLarge what) by first read h = size_hinders a locked all what by first read h
 not_left_hinders a locked all (step.Differs place) by first read h = tt
 not_left_hinders a locked all step.OutOfMemory by first read h = tt
-not_left_hinders a locked all _ by first read h = absurd h.bars
+not_left_hinders a locked all (step.BadRequest reason) by first read h = absurd (none_bars a locked all (step.BadRequest reason) (λ texts b. b) (λ b. b) h)
+not_left_hinders a locked all (step.NoSpelling occ place lock) by first read h = absurd (none_bars a locked all (step.NoSpelling occ place lock) (λ texts b. b) (λ b. b) h)
+not_left_hinders a locked all (step.LostEdge lost one two is_old) by first read h = absurd (none_bars a locked all (step.LostEdge lost one two is_old) (λ texts b. b) (λ b. b) h)
+not_left_hinders a locked all (step.StillUsed place) by first read h = absurd (none_bars a locked all (step.StillUsed place) (λ texts b. b) (λ b. b) h)
 
 pub not_left_hinders_if : (a : Asked) (locked : Locked) (all : List Spelling) (result : Result Left StepFault) → IsLockedBy a locked → AreFirstIn a locked all → IsReadBy a locked
-    → IfErr result (IsNotLeft a.change.now locked all) → IfErr result (IsHinderedIn a)
+    → IfErr result (IsNotLeft a locked all) → IfErr result (IsHinderedIn a)
 not_left_hinders_if a locked all (Ok left) by first read h = tt
 not_left_hinders_if a locked all (Err why) by first read h = not_left_hinders a locked all why by first read h
 
@@ -487,7 +511,46 @@ bodies_kept asked locked old new before after copy told bound program well is by
     (subst (λ (r : Rows). IsChanged (rows_in asked.old.now) (table_in asked.old.now) change r (table_in locked.program)) (sym q) changed)) yes in
     subst (λ (r : Rows). KeepsBodies r (rows_under locked) m w change) p (subst (λ (r : Rows). KeepsBodies before.rows.now r m w change) q whole)
 
+-- ---- types
+
+-- a view of the tables of a bound program has the types and values that the definitions have
+typed_view : (w : Workspace) (view : View) → IsViewOf (rows_in w) w.places.value w.scopes.value w.bound.value view → IsTypedAs view (record { types = (meaning_in w).types; values = (meaning_in w).values })
+typed_view w view of = record {
+  types = λ n. ap (λ (all : List (Option RowType)). types_in all n) of.types_are;
+  values = λ n. ap (λ (found : Constants). values_of found n) of.constants_are;
+}
+
+-- where a row is told to be retyped, one is
+pub retyped_so : (a : Asked) (locked : Locked) (old new : Project) (row : ℕ) (found : Option ℕ) (place : Place) (told : StepFault) → IsReady a locked → old.marks.rows.now ≡ rows_in a.old.now → IsProjectIn locked.program new
+    → IsViewOf (rows_in a.old.now) a.old.now.places.value a.old.now.scopes.value a.old.now.bound.value old.view
+    → ((before after : Typed) → AreCompared old new locked.locks a.change.now before after → IsRetypedIf old.marks.rows.now a.change.now before after new.marks found) → found ≡ Some row
+    → told ≡ step.Broken TypeChange place → IsRetypedIn a told
+retyped_so a locked old new row found place told ready rows of old_of tells some e =
+    let m = meaning_in a.old.now in
+    let w = meaning_in locked.program in
+    let before : Typed = record { types = m.types; values = m.values } in
+    let after : Typed = record { types = w.types; values = w.values } in
+    let count = ready.by.changed.count in
+    let made = of.made ready.read.indexed in
+    let first : IsRetypedIf old.marks.rows.now a.change.now before after new.marks (Some row) = subst (λ (o : Option ℕ). IsRetypedIf old.marks.rows.now a.change.now before after new.marks o) some (tells before after (record {
+      ordered = ordered_so locked.program.program locked.program.index.value new.marks ready.read.indexed made;
+      few = let many = ap length ready.by.origin in let few_new = ready.sound.few_new in omega (arith, count, many, few_new);
+      origins = ready.by.origin;
+      copies = ready.by.copies ∙ ap (λ (r : Rows). copies_by (origins_by a.change.now) (length r)) (sym rows);
+      before_is = typed_view a.old.now old.view old_of;
+      after_is = typed_view locked.program new.view of.view;
+    })) in
+    subst (λ (f : StepFault). IsRetypedIn a f) (sym e) (record {
+      to = compared a locked ready.old ready.new ready.sound.well ready.bound ready.by;
+      row = row;
+      is = subst (λ (r : Rows). IsRetyped r a.change.now before after row) rows first.retyped;
+    })
+
 -- ---- the changed program under its locks
+
+pub ready_so : (a : Asked) (locked : Locked) → IsAskedFor a → IsBoundIn a.old.now → IsProgram (rows_under locked) → BeginsWithLang (rows_under locked) → IsReadBy a locked → IsSound a locked → IsLockedBy a locked → IsBoundByLocks locked
+    → IsReady a locked
+ready_so a locked asked old new begins read sound by bound = record { asked = asked; old = old; new = new; begins = begins; read = read; sound = sound; by = by; bound = bound }
 
 pub bound_so : (locked : Locked) (rows : Rows) (these places : Places) (bound : Bound) → rows ≡ rows_under locked → these ≡ locked.program.places.value → places ≡ locked.program.places.value → locked.program.bound.value ≡ bound
     → bound.table.items ≡ locked.locks.table.items → ArePlaces rows locked.program.places.value → (ArePlaced rows these → AreScopes rows locked.program.scopes.value) → (ArePlaced rows these → AreTops rows these locked.program.scopes.value)

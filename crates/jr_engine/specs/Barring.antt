@@ -8,7 +8,7 @@ use Rattle.jr_base.specs.declared.limits.TheConstants.Limits as limits
 use Rattle.jr_base.specs.declared.token.Place.{Place}
 use Rattle.jr_base.specs.declared.token.Token.{Token}
 use Rattle.jr_rule.specs.declared.Rule.{Rule}
-use Rattle.jr_rule.specs.declared.Rule.TheVariants.{TypeNames, PathTwice, TypeChange, HeaderCycle}
+use Rattle.jr_rule.specs.declared.Rule.TheVariants.{TypeNames, PathTwice, HeaderCycle}
 use Rattle.jr_parse.specs.Answers.{IsTooDeep}
 use Rattle.jr_parse.specs.declared.fault.ParseFault.{ParseFault}
 use Rattle.jr_parse.specs.declared.fault.ParseFault.TheVariants as parsing
@@ -20,9 +20,6 @@ use Rattle.jr_read.specs.declared.lexed.Lexed.{Lexed}
 use Rattle.jr_front.specs.Refusing.{IsRefusal}
 use Rattle.jr_front.specs.declared.fault.FrontFault.{FrontFault}
 use Rattle.jr_front.specs.declared.fault.FrontFault.TheVariants as front
-use Rattle.jr_change.specs.declared.change.Change.{Change}
-use Rattle.jr_change.specs.declared.change.Course.{Course}
-use Rattle.jr_change.specs.declared.change.Course.TheVariants.{Inlined}
 use Rattle.jr_engine.specs.Texts.{first_twice}
 use Rattle.jr_engine.specs.declared.fault.StepFault.{StepFault}
 use Rattle.jr_engine.specs.declared.fault.StepFault.TheVariants as step
@@ -65,28 +62,23 @@ pub record AreRefused (texts : List (List ℕ × List ℕ)) (why : FrontFault) :
   pub units : AreUnitsOf (prelude_files ++ texts) program.units
   pub refusal : IsRefusal program why
 
-abbrev pub is_inlining : Course → Bool
-is_inlining (Inlined local statement) = true
-is_inlining other = false
-
--- The files with these texts break the rule, which is shown at the place: the front refuses their program for it, or for two top-level types of one name (rule 2), or for a cycle of headers (46); two of them
--- have one path, of which the first is shown (44); or, where a local was inlined, an expression has another type (45), of which no more is said.
-pub data BreakRule (change : Change) (texts : List (List ℕ × List ℕ)) : Rule → Place → Type 0 where
-  by_front : {rule : Rule} {place : Place} → AreRefused texts (front.Broken rule place) → BreakRule change texts rule place
-  by_names : {place : Place} → AreRefused texts (front.Duplicate place) → BreakRule change texts TypeNames place
-  by_headers : {place : Place} → AreRefused texts (front.Cycle place) → BreakRule change texts HeaderCycle place
-  by_paths : {unit : ℕ} → first_twice texts ≡ Some unit → BreakRule change texts PathTwice (record { cu = record { 0 = unit }; at = 0 })
-  by_types : {place : Place} → is_inlining change.course ≡ true → BreakRule change texts TypeChange place
+-- The files with these texts break the rule, which is shown at the place: the front refuses their program for it, or for two top-level types of one name (rule 2), or for a cycle of headers (46); or two of them
+-- have one path, of which the first is shown (44).
+pub data BreakRule (texts : List (List ℕ × List ℕ)) : Rule → Place → Type 0 where
+  by_front : {rule : Rule} {place : Place} → AreRefused texts (front.Broken rule place) → BreakRule texts rule place
+  by_names : {place : Place} → AreRefused texts (front.Duplicate place) → BreakRule texts TypeNames place
+  by_headers : {place : Place} → AreRefused texts (front.Cycle place) → BreakRule texts HeaderCycle place
+  by_paths : {unit : ℕ} → first_twice texts ≡ Some unit → BreakRule texts PathTwice (record { cu = record { 0 = unit }; at = 0 })
 
 -- ---- both
 
 -- why the files with these texts may not be left, by the fault that is told; of what differs, and of want of memory, nothing is said
-abbrev pub Bars : Change → List (List ℕ × List ℕ) → StepFault → Type 0
-Bars change texts (step.Broken rule place) = BreakRule change texts rule place
-Bars change texts (step.TooLarge what) = AreTooLarge texts what
-Bars change texts (step.Differs place) = ⊤
-Bars change texts step.OutOfMemory = ⊤
-Bars change texts other = ⊥
+abbrev pub Bars : List (List ℕ × List ℕ) → StepFault → Type 0
+Bars texts (step.Broken rule place) = BreakRule texts rule place
+Bars texts (step.TooLarge what) = AreTooLarge texts what
+Bars texts (step.Differs place) = ⊤
+Bars texts step.OutOfMemory = ⊤
+Bars texts other = ⊥
 
 -- ---- what the code holds of it
 

@@ -25,11 +25,10 @@ use Rattle.jr_change.specs.declared.reason.ChangeFault.{ChangeFault}
 use Rattle.jr_change.specs.declared.reason.ChangeFault.TheVariants as change
 use Rattle.jr_flow_defs.specs.Meaning.{Meaning}
 use Rattle.jr_flow.specs.Sizes.{HasTooLarge}
-use Rattle.jr_kept.specs.Courses.{HandsByOneIn, KeepsCourse, KeepsRaisedControl, KeepsRaisedFlow, KeepsUsesOf}
-use Rattle.jr_kept.specs.Started.{BeginsFirstIn, LeavesStartIn}
 use Rattle.jr_front.specs.Bound.{rows_in, table_in}
 use Rattle.jr_front.specs.declared.workspace.Workspace.{Workspace}
 use Rattle.jr_engine.specs.Barring.{HasDeepText, Bars}
+use Rattle.jr_engine.specs.Comparing.{BreaksTypes, LosesControl, LosesUses}
 use Rattle.jr_engine.specs.Steps.{Opened, IsMeaningOf, IsRequested, AreFirst, AreSteps, IsRead, is_constant, opened, types}
 use Rattle.jr_engine.specs.Texts.{AreTexts, changed_files}
 use Rattle.jr_engine.specs.declared.asked.Asked.{Asked}
@@ -70,34 +69,6 @@ pub record LosesCall (p : Rows) (t : Table) (m : Marks) (change : Change) (class
   pub class_at : class ≡ place_of_name m lost.class
   pub method_at : method ≡ place_of_name m lost.method
 
--- ---- flow
-
--- a changed program under its locks, with what names, types and constants mean in the old program and in it
-pub record Comparison (p : Rows) (t : Table) (change : Change) : Type 0 where
-  pub rows : Rows
-  pub locks : Table
-  pub changed : IsChanged p t change rows locks
-  pub before : Meaning
-  pub after : Meaning
-  pub before_is : IsMeaningOf p t before
-  pub after_is : IsMeaningOf rows locks after
-
--- not all of this holds: control goes in a changed program as it went, where statements move (`KeepsCourse`) and in a method that is pulled up; and neither leaves the change out
--- where the initialization of a class begins (`LeavesStartIn`), nor does it put something before that (`BeginsFirstIn`, JLS 12.4.1)
-pub record LosesControl (p : Rows) (t : Table) (change : Change) : Type 0 where
-  pub to : Comparison p t change
-  pub lost : (LeavesStartIn change.raised p to.before → ⊥) → (BeginsFirstIn change.course p to.before → ⊥)
-      → KeepsCourse change.course p to.rows to.before to.after (origins_by change) (copies_by (origins_by change) (length p))
-      → KeepsRaisedControl change.raised p to.rows to.before to.after (origins_by change) (copies_by (origins_by change) (length p)) → ⊥
-
--- not all of this holds: the definitions that reached a use there reach its copy in a changed program, and no others (`KeepsUsesOf`); and what statements that go into a method hand on is
--- told by one table (`HandsByOneIn`)
-pub record LosesUses (p : Rows) (t : Table) (change : Change) : Type 0 where
-  pub to : Comparison p t change
-  pub lost : HandsByOneIn change.course to.rows to.after (origins_by change)
-      → KeepsUsesOf change.course p to.rows to.before to.after (origins_by change) (copies_by (origins_by change) (length p))
-      → KeepsRaisedFlow change.raised p to.rows to.before to.after (origins_by change) (copies_by (origins_by change) (length p)) → ⊥
-
 -- ---- the files that were to be left
 
 -- The texts that a change was to leave of a program with these units: those of a changed program under its locks, written with the first spellings that fit, as where files are left (`IsWritten`). Two may have one path.
@@ -113,7 +84,7 @@ pub record AreToBeLeft (units : List UnitAt) (p : Rows) (t : Table) (change : Ch
 pub record IsBarred (units : List UnitAt) (p : Rows) (t : Table) (change : Change) (why : StepFault) : Type 0 where
   pub texts : List (List ℕ × List ℕ)
   pub are : AreToBeLeft units p t change texts
-  pub bars : Bars change texts why
+  pub bars : Bars texts why
 
 -- ---- points of flow
 
@@ -155,7 +126,7 @@ IsHindered units p t m change (step.NoSpelling occ place lock) = LacksSpelling p
 IsHindered units p t m change (step.LostEdge kind.Dispatch class method is_old) = LosesCall p t m change class method × (is_old ≡ true)
 IsHindered units p t m change (step.LostEdge kind.Control first second is_old) = LosesControl p t change
 IsHindered units p t m change (step.LostEdge kind.DefUse first second is_old) = LosesUses p t change
-IsHindered units p t m change (step.Broken rule place) = IsBarred units p t change (step.Broken rule place)
+IsHindered units p t m change (step.Broken rule place) = IsBarred units p t change (step.Broken rule place) ⊎ BreaksTypes p t change rule
 IsHindered units p t m change (step.TooLarge what) = IsTooLarge units p t change what
 IsHindered units p t m change other = ⊤
 

@@ -1,8 +1,8 @@
 -- A changed program under its locks with its spellings, as the code holds it.
-use Rattle.std.specs.Prelude.{◌≡◌, ℕ, ◌+◌, ◌<◌, ◌^◌, ◌++◌, Bool, List, Some, Ok, is_some, length, ⊤}
+use Rattle.std.specs.Prelude.{◌≡◌, ◌⊎◌, ℕ, ◌+◌, ◌<◌, ◌^◌, ◌++◌, Bool, List, Some, Ok, is_some, length, ⊤}
 use Rattle.std.specs.FinMap as files
 use Rattle.std.specs.Option.{option_map_or}
-use Rattle.jr_front.specs.Bound.{IsIndexed, rows_in, table_in}
+use Rattle.jr_front.specs.Bound.{IsBoundIn, IsIndexed, rows_in, table_in}
 use Rattle.jr_front.specs.declared.workspace.Workspace.{Workspace}
 use Rattle.jr_tree.specs.Rows.{Rows}
 use Rattle.jr_headed.specs.Founded.{IsProgram, AreWell}
@@ -10,6 +10,7 @@ use Rattle.jr_defs.specs.Program.{AreUnitsOf, prelude_files}
 use Rattle.jr_defs.specs.Referents.{Table, entries}
 use Rattle.jr_defs.specs.declared.program.Program.{Program}
 use Rattle.jr_marks.specs.Made.{AreMade}
+use Rattle.jr_prelude.specs.Begins.{BeginsWithLang}
 use Rattle.jr_marks.specs.declared.marks.Marks.{Marks}
 use Rattle.jr_edits.specs.Place.{EditList}
 use Rattle.jr_weave.specs.Weaving.{AreRespelled}
@@ -33,6 +34,7 @@ use Rattle.jr_shapes.specs.declared.spelling.Spelling.{Spelling}
 use Rattle.jr_edges.specs.Dispatched.{KeepsDispatch}
 use Rattle.jr_change.specs.declared.change.Change.{Change}
 use Rattle.jr_engine.specs.Barring.{Bars}
+use Rattle.jr_engine.specs.Comparing.{BreaksTypes}
 use Rattle.jr_engine.specs.Steps.{AreFirst, IsHeld, KeepsFlow, IsAskedOf}
 use Rattle.jr_engine.specs.Texts.{changed_files, written_files}
 use Rattle.jr_engine.specs.declared.asked.Asked.{Asked}
@@ -79,15 +81,27 @@ abbrev pub HasTextsOf : Locked → List Spelling → Left → Type 0
 HasTextsOf locked all left = AreTextsOf locked all (files.entries left.files)
 
 -- the texts of the changed program may not be left, for what is told
-pub record HasBarredTexts (change : Change) (locked : Locked) (all : List Spelling) (why : StepFault) : Type 0 where
+pub record HasBarredTexts (locked : Locked) (all : List Spelling) (why : StepFault) : Type 0 where
   pub texts : List (List ℕ × List ℕ)
   pub are : AreTextsOf locked all texts
-  pub bars : Bars change texts why
+  pub bars : Bars texts why
 
--- why no files are left; where memory is wanting, there may be no texts
-abbrev pub IsNotLeft : Change → Locked → List Spelling → StepFault → Type 0
-IsNotLeft change locked all step.OutOfMemory = ⊤
-IsNotLeft change locked all why = HasBarredTexts change locked all why
+-- an expression of the changed program has another type than before, which is told as rule 45
+abbrev pub IsRetypedIn : Asked → StepFault → Type 0
+IsRetypedIn a (step.Broken rule place) = BreaksTypes (rows_in a.old.now) (table_in a.old.now) a.change.now rule
+IsRetypedIn a other = ⊥
+
+-- the files with these texts may not be left, by their texts or by the types of what they say
+abbrev pub AreNotLeft : Asked → List (List ℕ × List ℕ) → StepFault → Type 0
+AreNotLeft a texts (step.Differs place) = ⊤
+AreNotLeft a texts step.OutOfMemory = ⊤
+AreNotLeft a texts why = Bars texts why ⊎ IsRetypedIn a why
+
+-- why no files are left; where memory is wanting, there may be no texts, and of what differs nothing is said
+abbrev pub IsNotLeft : Asked → Locked → List Spelling → StepFault → Type 0
+IsNotLeft a locked all (step.Differs place) = ⊤
+IsNotLeft a locked all step.OutOfMemory = ⊤
+IsNotLeft a locked all why = HasBarredTexts locked all why ⊎ IsRetypedIn a why
 
 -- the change is that for which the request asks
 abbrev pub IsAskedFor : Asked → Type 0
@@ -123,6 +137,17 @@ meaning_in w = record { targets = table_in w; values = values_of w.bound.value.c
 -- each body that the change leaves alone keeps its edges of control and those from definitions to uses in its copy
 abbrev pub KeepsBodiesIn : Asked → Locked → Type 0
 KeepsBodiesIn a locked = KeepsBodies (rows_in a.old.now) (rows_of locked) (meaning_in a.old.now) (meaning_in locked.program) a.change.now
+
+-- what is known of a changed program under its locks, whose rows and locks are as in all programs
+pub record IsReady (a : Asked) (locked : Locked) : Type 0 where
+  pub asked : IsAskedFor a
+  pub old : IsBoundIn a.old.now
+  pub new : IsProgram (rows_of locked)
+  pub begins : BeginsWithLang (rows_of locked)
+  pub read : IsReadBy a locked
+  pub sound : IsSound a locked
+  pub by : IsLockedBy a locked
+  pub bound : IsBoundByLocks locked
 
 -- the row is to be a constant expression: as the old one was, or by the locks
 abbrev pub is_constant_by : Asked → Locked → ℕ → Bool

@@ -8,6 +8,7 @@ ghost use Rattle.jr_marks.specs.Places.{IsOrdered};
 ghost use Rattle.jr_engine.specs.Barring.{Bars, IsDifference};
 ghost use Rattle.jr_engine.specs.Refusing.{IsHinderedIn, IsShownAt};
 ghost use Rattle.jr_engine.specs.Steps.{IsProjectIn};
+ghost use Rattle.jr_engine.specs.Written.{AreNotLeft};
 
 use crate::fault::StepFault;
 use jr_base::{CuId, Place, Request, Text};
@@ -114,7 +115,8 @@ impl<'a> Asked<'a> {
     /// What was read is not what was to be written.
     pub fn differs(self) -> StepFault
         ensures difference { IsDifference result }
-        ensures bars { (texts : List (List ℕ × List ℕ)) → Bars self.entry.change.now texts result }
+        ensures bars { (texts : List (List ℕ × List ℕ)) → Bars texts result }
+        ensures left { (texts : List (List ℕ × List ℕ)) → AreNotLeft self.entry texts result }
         ensures hindered { IsHinderedIn self.entry result }
     {
         StepFault::Differs {

@@ -3,10 +3,8 @@
 ghost use Rattle.std.specs.Prelude.{◌≡◌, true};
 ghost use Rattle.jr_flow_defs.specs.Meaning.{Meaning};
 ghost use Rattle.jr_flow.specs.Views as flow;
-ghost use Rattle.jr_headed.specs.Founded.{IsProgram};
-ghost use Rattle.jr_front.specs.Bound.{IsBoundIn};
 ghost use Rattle.jr_meaning.specs.Meaning.{IsMeant};
-ghost use Rattle.jr_engine.specs.Written.{IsBoundByLocks, IsLockedBy, IsSound, KeepsBodiesIn, rows_of};
+ghost use Rattle.jr_engine.specs.Written.{IsReady, KeepsBodiesIn};
 
 use crate::asked::Asked;
 use crate::locked::Locked;
@@ -30,11 +28,7 @@ fn meant_by<'a>(view: &View<'a>) -> Meant<'a>
 
 /// Each body that the change leaves alone means in its copy what it meant.
 pub fn keeps_bodies(asked: Asked, locked: &Locked) -> bool
-    requires old { IsBoundIn asked.old.now }
-    requires new { IsProgram (rows_of locked.now) }
-    requires sound { IsSound asked locked.now }
-    requires locked { IsLockedBy asked locked.now }
-    requires bound { IsBoundByLocks locked.now }
+    requires { IsReady asked locked.now }
     ensures { result ≡ true → KeepsBodiesIn asked.entry locked.now }
 {
     let old = asked.old.view();

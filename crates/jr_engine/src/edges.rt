@@ -1,13 +1,13 @@
 // Whether edges of flow are kept, and whether there are too many points of flow.
 
 ghost use Rattle.std.specs.Prelude.{◌≡◌, ◌+◌, ◌<◌, ◌^◌, true, length, None, Some, IfOk, IfErr};
-ghost use Rattle.jr_headed.specs.Founded.{IsProgram};
 ghost use Rattle.jr_marks.specs.Places.{IsOrdered, place_of_name};
-ghost use Rattle.jr_front.specs.Bound.{IsBoundIn, rows_in, table_in};
+ghost use Rattle.jr_front.specs.Bound.{rows_in, table_in};
 ghost use Rattle.jr_kept.specs.declared.kept.LostEdge.{LostEdge};
 ghost use Rattle.jr_engine.specs.Refusing as refusing;
-ghost use Rattle.jr_engine.specs.Refusing.{IsHinderedIn, IsLargeIn, LosesUses};
-ghost use Rattle.jr_engine.specs.Written.{HasTables, IsAskedFor, IsBoundByLocks, IsLockedBy, IsSound, KeepsCallsIn, KeepsFlowIn, rows_of};
+ghost use Rattle.jr_engine.specs.Refusing.{IsHinderedIn, IsLargeIn};
+ghost use Rattle.jr_engine.specs.Comparing.{LosesUses};
+ghost use Rattle.jr_engine.specs.Written.{HasTables, IsReady, KeepsCallsIn, KeepsFlowIn};
 ghost use Rattle.jr_engine.specs.declared.fault.LostKind.TheVariants as kind;
 ghost use Rattle.jr_engine.specs.declared.fault.StepFault.TheVariants as step;
 
@@ -62,10 +62,7 @@ pub fn is_within_flow(alloc: Global, workspace: &Workspace) -> Result<(), StepFa
 
 // No body of the changed program has too many points of flow. Bodies that stay as they are have no more than before.
 fn is_changed_within_flow(alloc: Global, asked: Asked, locked: &Locked) -> Result<(), StepFault>
-    requires new { IsProgram (rows_of locked.now) }
-    requires sound { IsSound asked locked.now }
-    requires locked { IsLockedBy asked locked.now }
-    requires bound { IsBoundByLocks locked.now }
+    requires { IsReady asked locked.now }
     ensures { IfErr result (IsHinderedIn asked.entry) }
 {
     match asked.change.course {
@@ -90,12 +87,7 @@ fn lost_call(asked: Asked, lost: Lost) -> StepFault
 
 // Calls find in each class the methods that they found there.
 fn keeps_calls(alloc: Global, asked: Asked, locked: &Locked) -> Result<(), StepFault>
-    requires asked { IsAskedFor asked }
-    requires old { IsBoundIn asked.old.now }
-    requires new { IsProgram (rows_of locked.now) }
-    requires sound { IsSound asked locked.now }
-    requires locked { IsLockedBy asked locked.now }
-    requires bound { IsBoundByLocks locked.now }
+    requires { IsReady asked locked.now }
     ensures ok { IfOk result (λ _. KeepsCallsIn asked.entry locked.now) }
     ensures err { IfErr result (IsHinderedIn asked.entry) }
 {
@@ -140,11 +132,7 @@ fn keeps_control(
     asked: Asked,
     locked: &Locked,
 ) -> Result<Option<LostEdge>, StepFault>
-    requires old { IsBoundIn asked.old.now }
-    requires new { IsProgram (rows_of locked.now) }
-    requires sound { IsSound asked locked.now }
-    requires locked { IsLockedBy asked locked.now }
-    requires bound { IsBoundByLocks locked.now }
+    requires { IsReady asked locked.now }
     ensures ok { IfOk result (λ def_use. def_use ≡ None → KeepsFlowIn asked.entry locked.now) }
     ensures uses { IfOk result (λ def_use. (edge : LostEdge) → def_use ≡ Some edge → LosesUses (rows_in asked.old.now) (table_in asked.old.now) asked.change.now) }
     ensures err { IfErr result (IsHinderedIn asked.entry) }
@@ -166,12 +154,7 @@ fn keeps_control(
 
 /// Control goes as before, calls find in each class the methods that they found there, and uses of locals the values that they had.
 pub fn keeps_edges(alloc: Global, asked: Asked, locked: &Locked) -> Result<(), StepFault>
-    requires asked { IsAskedFor asked }
-    requires old { IsBoundIn asked.old.now }
-    requires new { IsProgram (rows_of locked.now) }
-    requires sound { IsSound asked locked.now }
-    requires locked { IsLockedBy asked locked.now }
-    requires bound { IsBoundByLocks locked.now }
+    requires { IsReady asked locked.now }
     ensures calls { IfOk result (λ _. KeepsCallsIn asked.entry locked.now) }
     ensures flow { IfOk result (λ _. KeepsFlowIn asked.entry locked.now) }
     ensures err { IfErr result (IsHinderedIn asked.entry) }

@@ -10,9 +10,8 @@ ghost use Rattle.jr_prelude.specs.Begins.{BeginsWithLang};
 ghost use Rattle.jr_index.specs.Marking.{program_marks};
 ghost use Rattle.jr_marks.specs.Made.{HaveTokensApart};
 ghost use Rattle.jr_marks.specs.Places.{IsOrdered};
-ghost use Rattle.jr_front.specs.Bound.{IsBoundIn};
 ghost use Rattle.jr_engine.specs.Refusing.{IsHinderedIn, IsUnspelled};
-ghost use Rattle.jr_engine.specs.Written.{AreFirstIn, IsAskedFor, IsBoundByLocks, IsIndexedAs, IsLockedBy, IsReadBy, IsSound, is_constant_by, rows_of};
+ghost use Rattle.jr_engine.specs.Written.{AreFirstIn, IsBoundByLocks, IsIndexedAs, IsLockedBy, IsReadBy, IsReady, is_constant_by, rows_of};
 
 use crate::asked::{Asked, project_of};
 use crate::fault::StepFault;
@@ -186,13 +185,7 @@ fn no_spelling(asked: Asked, locked: &Locked, row: u32) -> StepFault
 
 /// How each reference of the changed program is to be written.
 pub fn spellings(alloc: Global, asked: Asked, locked: &Locked) -> Result<Vec<Spelling>, StepFault>
-    requires asked { IsAskedFor asked }
-    requires old { IsBoundIn asked.old.now }
-    requires new { IsProgram (rows_of locked.now) }
-    requires begins { BeginsWithLang (rows_of locked.now) }
-    requires sound { IsSound asked locked.now }
-    requires locked { IsLockedBy asked locked.now }
-    requires bound { IsBoundByLocks locked.now }
+    requires { IsReady asked locked.now }
     ensures ok { IfOk result (λ all. AreFirstIn asked.entry locked.now all.items) }
     ensures err { IfErr result (IsHinderedIn asked.entry) }
 {

@@ -42,7 +42,7 @@ fn difference(alloc: Global, spelled: Spelled, new: &Workspace) -> Result<Option
 pub fn is_as_spelled(alloc: Global, spelled: Spelled, new: &Workspace) -> Result<(), StepFault>
     ensures ok { IfOk result (λ _. IsSpelledIn spelled.entry new.now) }
     ensures err { IsSpelledIn spelled.entry new.now → IfErr result (λ fault. fault ≡ StepFault.OutOfMemory) }
-    ensures bars { (texts : List (List ℕ × List ℕ)) → IfErr result (Bars spelled.entry.asked.change.now texts) }
+    ensures bars { (texts : List (List ℕ × List ℕ)) → IfErr result (Bars texts) }
 {
     match difference(alloc, spelled, new) {
         Ok(None) => Ok(()),

@@ -8,11 +8,9 @@ ghost use Rattle.jr_tree.specs.Shape.{IsShaped};
 ghost use Rattle.jr_defs.specs.Program.{AreUnitsOf, prelude_files};
 ghost use Rattle.jr_rule.specs.declared.Rule.TheVariants as rules;
 ghost use Rattle.jr_front.specs.Checking.{CheckedAs};
-ghost use Rattle.jr_change.specs.declared.change.Change.{Change};
-ghost use Rattle.jr_engine.specs.Barring as barring;
 ghost use Rattle.jr_engine.specs.Barring.{AreTooLarge, Bars, IsToldFor};
 ghost use Rattle.jr_engine.specs.Texts as spec;
-ghost use Rattle.jr_engine.specs.Written.{AreTextsOf, HasTextsOf, IsBoundByLocks, IsLeftOf, IsNotLeft, IsReadBy, IsSpelledIn};
+ghost use Rattle.jr_engine.specs.Written.{AreNotLeft, AreTextsOf, HasTextsOf, IsLeftOf, IsNotLeft, IsReady, IsRetypedIn, IsSpelledIn};
 ghost use Rattle.jr_engine.specs.declared.fault.StepFault.TheVariants as step;
 
 use crate::asked::{Asked, project_of};
@@ -23,7 +21,6 @@ use crate::texts::{Texts, first_twice, written_texts};
 use crate::tried::{Spelled, is_as_spelled};
 use crate::verdicts::{not_compiling, unread};
 use jr_base::{CuId, Files, OutOfMemory, Path, Place, Size};
-use jr_change::Course;
 use jr_defs::Program;
 use jr_edits::Edits;
 use jr_front::{FrontFault, Workspace, open_files, open_program};
@@ -36,7 +33,7 @@ use std::alloc::Global;
 // The program of units that were read, of which two may have one path.
 fn open_units(alloc: Global, spelled: Spelled, program: Program) -> Result<Workspace, StepFault>
     requires { AllByRecursion IsShaped (map (λ u. u.unit) program.units) }
-    ensures { (texts : List (List ℕ × List ℕ)) → AreUnitsOf (prelude_files ++ texts) program.units → spec.AreSmall texts → IfErr result (Bars spelled.entry.asked.change.now texts) }
+    ensures { (texts : List (List ℕ × List ℕ)) → AreUnitsOf (prelude_files ++ texts) program.units → spec.AreSmall texts → IfErr result (Bars texts) }
 {
     match open_program(alloc, program) {
         Ok(new) => Ok(new),
@@ -51,7 +48,7 @@ fn opened(
     texts: &[(Path, Vec<u8>)],
 ) -> Result<Workspace, StepFault>
     requires { spec.AreSmall (plain texts.now) }
-    ensures { IfErr result (Bars spelled.entry.asked.change.now (plain texts.now)) }
+    ensures { IfErr result (Bars (plain texts.now)) }
 {
     match read_units(alloc, texts) {
         Ok(program) => open_units(alloc, spelled, program),
@@ -96,7 +93,7 @@ fn twice_or(asked: Asked, fault: FrontFault, unit: u32) -> StepFault
 // The program has two units of one path, of which the first has this number.
 fn twice_in(alloc: Global, spelled: Spelled, program: Program, unit: u32) -> StepFault
     requires { AllByRecursion IsShaped (map (λ u. u.unit) program.units) }
-    ensures { (texts : List (List ℕ × List ℕ)) → AreUnitsOf (prelude_files ++ texts) program.units → spec.AreSmall texts → spec.first_twice texts ≡ Some unit → Bars spelled.entry.asked.change.now texts result }
+    ensures { (texts : List (List ℕ × List ℕ)) → AreUnitsOf (prelude_files ++ texts) program.units → spec.AreSmall texts → spec.first_twice texts ≡ Some unit → Bars texts result }
 {
     match open_program(alloc, program) {
         Ok(new) => {
@@ -111,7 +108,7 @@ fn twice_in(alloc: Global, spelled: Spelled, program: Program, unit: u32) -> Ste
 fn twice(alloc: Global, spelled: Spelled, texts: &[(Path, Vec<u8>)], unit: u32) -> StepFault
     requires small { spec.AreSmall (plain texts.now) }
     requires twice { spec.first_twice (plain texts.now) ≡ Some unit }
-    ensures { Bars spelled.entry.asked.change.now (plain texts.now) result }
+    ensures { Bars (plain texts.now) result }
 {
     match read_units(alloc, texts) {
         Ok(program) => twice_in(alloc, spelled, program, unit),
@@ -122,7 +119,7 @@ fn twice(alloc: Global, spelled: Spelled, texts: &[(Path, Vec<u8>)], unit: u32) 
 // What is told where two texts have one path.
 fn path_fault(alloc: Global, spelled: Spelled, texts: &[(Path, Vec<u8>)]) -> Option<StepFault>
     requires { spec.AreSmall (plain texts.now) }
-    ensures { IfSome result (Bars spelled.entry.asked.change.now (plain texts.now)) }
+    ensures { IfSome result (Bars (plain texts.now)) }
 {
     match first_twice(texts) {
         Some(unit) => Some(twice(alloc, spelled, texts, unit)),
@@ -133,7 +130,7 @@ fn path_fault(alloc: Global, spelled: Spelled, texts: &[(Path, Vec<u8>)]) -> Opt
 // The texts compile and are as they were to be written.
 fn is_right(alloc: Global, spelled: Spelled, texts: &[(Path, Vec<u8>)]) -> Result<(), StepFault>
     requires { spec.AreSmall (plain texts.now) }
-    ensures { IfErr result (Bars spelled.entry.asked.change.now (plain texts.now)) }
+    ensures { IfErr result (Bars (plain texts.now)) }
 {
     let new = opened(alloc, spelled, texts)?;
     is_as_spelled(alloc, spelled, &new)
@@ -141,7 +138,7 @@ fn is_right(alloc: Global, spelled: Spelled, texts: &[(Path, Vec<u8>)]) -> Resul
 
 // What is told where a size passes its limit: what was found before, unless that is a size too.
 fn size_or(found: StepFault, size: Size) -> StepFault
-    ensures { (change : Change) (texts : List (List ℕ × List ℕ)) → AreTooLarge texts size → Bars change texts found → Bars change texts result }
+    ensures { (texts : List (List ℕ × List ℕ)) → AreTooLarge texts size → Bars texts found → Bars texts result }
 {
     match found {
         StepFault::TooLarge(_) => StepFault::TooLarge(size),
@@ -153,7 +150,7 @@ fn size_or(found: StepFault, size: Size) -> StepFault
 fn too_large(alloc: Global, spelled: Spelled, texts: &[(Path, Vec<u8>)], size: Size) -> StepFault
     requires small { spec.AreSmall (plain texts.now) }
     requires large { AreTooLarge (plain texts.now) size }
-    ensures { Bars spelled.entry.asked.change.now (plain texts.now) result }
+    ensures { Bars (plain texts.now) result }
 {
     match is_right(alloc, spelled, texts) {
         Ok(()) => StepFault::TooLarge(size),
@@ -165,7 +162,7 @@ fn too_large(alloc: Global, spelled: Spelled, texts: &[(Path, Vec<u8>)], size: S
 fn fault_of_files(alloc: Global, spelled: Spelled, files: &Files, fault: FrontFault) -> StepFault
     requires small { spec.AreSmall (finite.entries files.now) }
     requires checked { CheckedAs files.now (Err fault) }
-    ensures { Bars spelled.entry.asked.change.now (finite.entries files.now) result }
+    ensures { Bars (finite.entries files.now) result }
 {
     match fault {
         FrontFault::TooLarge(size) => too_large(alloc, spelled, files.entries(), size),
@@ -184,16 +181,6 @@ fn moved(edits: &[Edits], place: Place) -> Place {
     }
 }
 
-// A local is inlined.
-fn is_inlining(course: &Course) -> bool
-    ensures { result ≡ barring.is_inlining course.now }
-{
-    match course {
-        Course::Inlined { .. } => true,
-        _ => false,
-    }
-}
-
 // The row has another type than before.
 fn type_change(place: Place) -> StepFault
     ensures { result ≡ step.Broken rules.TypeChange place }
@@ -206,13 +193,11 @@ fn type_change(place: Place) -> StepFault
 
 // After an inlining each expression that stays has the type that it had.
 fn keeps_types(spelled: Spelled, edits: &[Edits]) -> Result<(), StepFault>
-    ensures { (texts : List (List ℕ × List ℕ)) → IfErr result (Bars spelled.entry.asked.change.now texts) }
+    requires { IsReady spelled.entry.asked spelled.entry.locked.now }
+    ensures { IfErr result (IsRetypedIn spelled.entry.asked) }
 {
     let asked = spelled.asked;
     let locked = spelled.locked;
-    if !is_inlining(&asked.change.course) {
-        return Ok(());
-    }
     let old = project_of(asked.old);
     let new = project_of(&locked.program);
     match first_retyped(&old, &new, &locked.locks, asked.change) {
@@ -235,8 +220,9 @@ fn is_left_as(
     files: &Files,
     program: &Workspace,
 ) -> Result<(), StepFault>
+    requires { IsReady spelled.entry.asked spelled.entry.locked.now }
     ensures ok { IfOk result (λ _. IsSpelledIn spelled.entry program.now) }
-    ensures err { IfErr result (Bars spelled.entry.asked.change.now (finite.entries files.now)) }
+    ensures err { IfErr result (AreNotLeft spelled.entry.asked (finite.entries files.now)) }
 {
     match is_as_spelled(alloc, spelled, program) {
         Ok(()) => keeps_types(spelled, edits),
@@ -252,10 +238,11 @@ fn left_as(
     edits: &[Edits],
     files: Files,
 ) -> Result<Left, StepFault>
-    requires { spec.AreSmall (finite.entries files) }
+    requires ready { IsReady spelled.entry.asked spelled.entry.locked.now }
+    requires small { spec.AreSmall (finite.entries files) }
     ensures ok { IfOk result (λ left. IsLeftOf spelled.entry.locked.now spelled.entry.spellings.now left) }
     ensures files { IfOk result (λ left. left.files ≡ files) }
-    ensures err { IfErr result (Bars spelled.entry.asked.change.now (finite.entries files)) }
+    ensures err { IfErr result (AreNotLeft spelled.entry.asked (finite.entries files)) }
 {
     match open_files(alloc, &files) {
         Ok(program) => {
@@ -278,7 +265,8 @@ struct NewTexts {
 
 // The changed program with the edits of the spellings.
 fn new_texts(alloc: Global, spelled: Spelled) -> Result<NewTexts, OutOfMemory>
-    ensures are { IsReadBy spelled.entry.asked spelled.entry.locked.now → IsBoundByLocks spelled.entry.locked.now → IfOk result (λ all. AreTextsOf spelled.entry.locked.now spelled.entry.spellings.now (plain all.texts.items)) }
+    requires { IsReady spelled.entry.asked spelled.entry.locked.now }
+    ensures are { IfOk result (λ all. AreTextsOf spelled.entry.locked.now spelled.entry.spellings.now (plain all.texts.items)) }
     ensures small { IfOk result (λ all. spec.AreSmall (plain all.texts.items)) }
 {
     let locked = &spelled.locked.program;
@@ -290,10 +278,11 @@ fn new_texts(alloc: Global, spelled: Spelled) -> Result<NewTexts, OutOfMemory>
 
 // The files that these texts are, if they are a program as it was to be written. Paths that do not rise are not as they were to be.
 fn left_with(alloc: Global, spelled: Spelled, new: NewTexts) -> Result<Left, StepFault>
-    requires { spec.AreSmall (plain new.texts.items) }
+    requires ready { IsReady spelled.entry.asked spelled.entry.locked.now }
+    requires small { spec.AreSmall (plain new.texts.items) }
     ensures ok { IfOk result (λ left. IsLeftOf spelled.entry.locked.now spelled.entry.spellings.now left) }
     ensures files { IfOk result (λ left. finite.entries left.files ≡ plain new.texts.items) }
-    ensures err { IfErr result (Bars spelled.entry.asked.change.now (plain new.texts.items)) }
+    ensures err { IfErr result (AreNotLeft spelled.entry.asked (plain new.texts.items)) }
 {
     if !rise(&new.texts) {
         return Err(spelled.asked.differs());
@@ -304,9 +293,10 @@ fn left_with(alloc: Global, spelled: Spelled, new: NewTexts) -> Result<Left, Ste
 
 /// The files that are left where references are written so, if they may be left; else why those that were to be left may not be.
 pub fn left_of(alloc: Global, spelled: Spelled) -> Result<Left, StepFault>
+    requires { IsReady spelled.entry.asked spelled.entry.locked.now }
     ensures ok { IfOk result (λ left. IsLeftOf spelled.entry.locked.now spelled.entry.spellings.now left) }
-    ensures texts { IsReadBy spelled.entry.asked spelled.entry.locked.now → IsBoundByLocks spelled.entry.locked.now → IfOk result (HasTextsOf spelled.entry.locked.now spelled.entry.spellings.now) }
-    ensures err { IsReadBy spelled.entry.asked spelled.entry.locked.now → IsBoundByLocks spelled.entry.locked.now → IfErr result (IsNotLeft spelled.entry.asked.change.now spelled.entry.locked.now spelled.entry.spellings.now) }
+    ensures texts { IfOk result (HasTextsOf spelled.entry.locked.now spelled.entry.spellings.now) }
+    ensures err { IfErr result (IsNotLeft spelled.entry.asked spelled.entry.locked.now spelled.entry.spellings.now) }
 {
     let new = new_texts(alloc, spelled)?;
     match path_fault(alloc, spelled, &new.texts) {

@@ -6,4 +6,4 @@ pub returns-in-Ok : goal.returns-in-Ok
 returns-in-Ok c = c.twice_in.ensures (plain c.args.texts.now) c.in-Ok.ensures.ok c.requires.small c.requires.twice
 
 pub returns-in-Err : goal.returns-in-Err
-returns-in-Err c = unread_bars c.args.spelled.asked.change.now (plain c.args.texts.now) c.unread.result c.unread.ensures
+returns-in-Err c = unread_bars (plain c.args.texts.now) c.unread.result c.unread.ensures
