@@ -7,6 +7,7 @@ use Rattle.std.specs.List.{AllByRecursion}
 use Rattle.jr_base.specs.Files.{FileMap}
 use Rattle.jr_base.specs.Paths.{is_java}
 use Rattle.jr_base.specs.declared.limits.Size.{Size}
+use Rattle.jr_base.specs.declared.memory.OutOfMemory.{OutOfMemory}
 use Rattle.jr_base.specs.declared.limits.Size.TheVariants as size
 use Rattle.jr_rule.specs.declared.Rule.{Rule}
 use Rattle.jr_rule.specs.declared.Rule.TheVariants.{TypeChange}
@@ -75,8 +76,9 @@ use Rattle.jr_inline.specs.Retyping.{AreCompared, IsRetyped, IsRetypedIf, IsType
 use Rattle.jr_kept.specs.Courses.{HandsByOneIn, IsSeen, KeepsCourse, KeepsRaisedControl, KeepsRaisedFlow, KeepsUsesOf}
 use Rattle.jr_kept.specs.Started.{BeginsFirstIn, LeavesStartIn}
 use Rattle.jr_kept.specs.declared.kept.LostEdge.{LostEdge}
-use Rattle.jr_meaning.specs.Meaning.{IsMeant, KeepsBodies}
-use Rattle.jr_meaning.specs.declared.meant.Meant.{Meant}
+use Rattle.jr_meaning.specs.Kept.{KeepsBodies}
+use Rattle.jr_meaning.specs.Meaning.{IsMeant}
+use Rattle.jr_meaning.specs.declared.reading.Meant.{Meant}
 use Rattle.jr_extract.specs.Extracting.{IsSeenAs}
 use Rattle.jr_shapes.specs.declared.spelling.Spelling.{Spelling}
 use Rattle.jr_view.specs.declared.View.{View}
@@ -485,31 +487,31 @@ module _ (asked : Asked) (locked : Locked) (old new : Project) (bound : IsBoundI
       → KeepsRaisedFlow asked.change.now.raised p q m w origin copy → ⊥ in
       record { to = compared asked locked bound program sound.well is by; lost = of_programs asked locked old new P by old_rows new_rows (λ hands course raised. none-some edge (sym (only m w old_seen new_seen hands course raised) ∙ some)) }
 
--- what is read of both programs for the meaning of their rows, by the test that each body left alone keeps it
-pub bodies_kept : (asked : Asked) (locked : Locked) (old new : View) (before after : Meant) (copy : List ℕ) (told : Bool) → IsBoundIn asked.old.now → IsProgram (rows_under locked) → AreWell (rows_under locked)
-    → IsBoundByLocks locked → IsLockedBy asked locked → length (rows_in asked.old.now) + 3 < 2 ^ 32 → length (rows_under locked) + 3 < 2 ^ 32
+-- where each body that is left alone is found to mean what it meant, it keeps its edges
+pub bodies_kept : (asked : Asked) (locked : Locked) (old new : View) (before after : Meant) (copy : List ℕ) (told : Result Bool OutOfMemory) → IsReady asked locked
     → IsViewOf (rows_in asked.old.now) asked.old.now.places.value asked.old.now.scopes.value asked.old.now.bound.value old
     → IsViewOf (rows_under locked) locked.program.places.value locked.program.scopes.value locked.program.bound.value new
     → before.rows.now ≡ flow.rows_in old → after.rows.now ≡ flow.rows_in new → ((m : Meaning) → flow.IsViewOf old m → IsMeant before m) → ((m : Meaning) → flow.IsViewOf new m → IsMeant after m)
     → copy ≡ locked.locks.copy.items
     → ((m w : Meaning) (change : Change) → IsMeant before m → IsMeant after w → copy ≡ copies_by (origins_by change) (length before.rows.now) → IsTree before.rows.now → IsTree after.rows.now
-    → IsChanged before.rows.now m.targets change after.rows.now w.targets → told ≡ true → KeepsBodies before.rows.now after.rows.now m w change)
-    → told ≡ true → KeepsBodiesIn asked locked
-bodies_kept asked locked old new before after copy told bound program well is by few_old few_new old_of new_of old_rows new_rows old_meant new_meant copies keeps yes =
-    let first = bound_tables asked.old.now bound in
-    let second = locked_tables locked program well is in
+    → IsChanged before.rows.now m.targets change after.rows.now w.targets → IfOk told (λ is. is ≡ true → KeepsBodies before.rows.now after.rows.now m w change))
+    → IfOk told (λ is. is ≡ true → KeepsBodiesIn asked locked)
+bodies_kept asked locked old new before after copy told ready old_of new_of old_rows new_rows old_meant new_meant copies keeps =
+    let first = bound_tables asked.old.now ready.old in
+    let second = locked_tables locked ready.new ready.sound.well ready.bound in
     let m = meaning_in asked.old.now in
     let w = meaning_in locked.program in
     let change = asked.change.now in
     let p : before.rows.now ≡ rows_in asked.old.now = old_rows ∙ old_of.rows_are in
     let q : after.rows.now ≡ rows_under locked = new_rows ∙ new_of.rows_are in
     let changed : IsChanged (rows_in asked.old.now) (table_in asked.old.now) change (rows_under locked) (table_in locked.program) =
-    subst (λ (l : Table). IsChanged (rows_in asked.old.now) (table_in asked.old.now) change (rows_under locked) l) (sym is.table) by.changed in
-    let whole : KeepsBodies before.rows.now after.rows.now m w change = keeps m w change (old_meant m (flow_view asked.old.now old first few_old old_of)) (new_meant w (flow_view locked.program new second few_new new_of))
-    (copies ∙ by.copies ∙ ap (λ (r : Rows). copies_by (origins_by change) (length r)) (sym p)) (subst (λ (r : Rows). IsTree r) (sym p) (tree_of asked.old.now first)) (subst (λ (r : Rows). IsTree r) (sym q) (tree_of locked.program second))
+    subst (λ (l : Table). IsChanged (rows_in asked.old.now) (table_in asked.old.now) change (rows_under locked) l) (sym ready.bound.table) ready.by.changed in
+    let whole : IfOk told (λ is. is ≡ true → KeepsBodies before.rows.now after.rows.now m w change) =
+    keeps m w change (old_meant m (flow_view asked.old.now old first ready.sound.few old_of)) (new_meant w (flow_view locked.program new second ready.sound.few_new new_of))
+    (copies ∙ ready.by.copies ∙ ap (λ (r : Rows). copies_by (origins_by change) (length r)) (sym p)) (subst (λ (r : Rows). IsTree r) (sym p) (tree_of asked.old.now first)) (subst (λ (r : Rows). IsTree r) (sym q) (tree_of locked.program second))
     (subst (λ (r : Rows). IsChanged r (table_in asked.old.now) change after.rows.now (table_in locked.program)) (sym p)
-    (subst (λ (r : Rows). IsChanged (rows_in asked.old.now) (table_in asked.old.now) change r (table_in locked.program)) (sym q) changed)) yes in
-    subst (λ (r : Rows). KeepsBodies r (rows_under locked) m w change) p (subst (λ (r : Rows). KeepsBodies before.rows.now r m w change) q whole)
+    (subst (λ (r : Rows). IsChanged (rows_in asked.old.now) (table_in asked.old.now) change r (table_in locked.program)) (sym q) changed)) in
+    subst (λ (r : Rows). IfOk told (λ is. is ≡ true → KeepsBodies r (rows_under locked) m w change)) p (subst (λ (r : Rows). IfOk told (λ is. is ≡ true → KeepsBodies before.rows.now r m w change)) q whole)
 
 -- ---- types
 

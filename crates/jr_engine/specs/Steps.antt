@@ -18,7 +18,7 @@ use Rattle.jr_plain.specs.Overloads.{Types}
 use Rattle.jr_plain.specs.Typing.{IsTypable, expression_types}
 use Rattle.jr_flow_defs.specs.Meaning.{Meaning}
 use Rattle.jr_kept.specs.Courses.{KeepsCourse, KeepsRaisedFlow, KeepsUsesOf}
-use Rattle.jr_meaning.specs.Meaning.{KeepsBodies}
+use Rattle.jr_meaning.specs.Kept.{KeepsBodies}
 use Rattle.jr_shapes.specs.declared.spelling.Spelling.{Spelling}
 use Rattle.jr_spell.specs.Spelling.{HasLock, HasSpelling, IsAsItStands, IsWritten as Says, first_written}
 use Rattle.jr_spelling_rules.specs.Spelling.{IsSpelling, Written}

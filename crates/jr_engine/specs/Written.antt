@@ -24,7 +24,7 @@ use Rattle.jr_constants.specs.Resting.{values_of}
 use Rattle.jr_constants.specs.Tables.{item}
 use Rattle.jr_types.specs.Typed.{types_in}
 use Rattle.jr_flow_defs.specs.Meaning.{Meaning}
-use Rattle.jr_meaning.specs.Meaning.{KeepsBodies}
+use Rattle.jr_meaning.specs.Kept.{KeepsBodies}
 use Rattle.jr_lookup.specs.Imports.{AreImports}
 use Rattle.jr_lookup.specs.Scopes.{AreScopes, AreTops}
 use Rattle.jr_runs.specs.Respelled.{IsRespelled}

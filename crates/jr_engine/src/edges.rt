@@ -137,7 +137,8 @@ fn keeps_control(
     ensures uses { IfOk result (λ def_use. (edge : LostEdge) → def_use ≡ Some edge → LosesUses (rows_in asked.old.now) (table_in asked.old.now) asked.change.now) }
     ensures err { IfErr result (IsHinderedIn asked.entry) }
 {
-    if !keeps_bodies(asked, locked) {
+    let are_kept = keeps_bodies(alloc, asked, locked)?;
+    if !are_kept {
         return Err(asked.differs());
     }
     let old = project_of(asked.old);
