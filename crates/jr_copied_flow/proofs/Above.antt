@@ -1,16 +1,11 @@
 -- The copy of a body that stands further up has the edges of the body: the body is a copy of it.
-use Rattle.std.proofs.Common.{◌≡◌, refl, sym, ◌∙◌, ap, ap₂, subst, ⊎_elim, arith, ℕ, ◌+◌, ◌≤◌, length, Option, Some, None, option_map, option_and_then}
+use Rattle.std.proofs.Common.{◌≡◌, refl, sym, ◌∙◌, ap, subst, ⊎_elim, arith, ℕ, ◌+◌, ◌≤◌, length, Option, Some, None, option_and_then}
 use Rattle.jr_tree.specs.Rows.{Rows, end, role_at}
 use Rattle.jr_tree.specs.Tree.{IsTree}
-use Rattle.jr_defs.specs.declared.referent.Element.TheVariants as element
-use Rattle.jr_defs.specs.declared.referent.RowType.{RowType}
 use Rattle.jr_defs.specs.declared.referent.Referent.{Referent}
 use Rattle.jr_defs.specs.declared.referent.Referent.TheVariants.{Unbound, Ambiguous, ArrayLength, Package, Declared}
-use Rattle.jr_defs.specs.Correspondence.{moved_type}
-use Rattle.jr_plain.specs.Supertypes.{is_subtype}
-use Rattle.jr_plain.specs.Typing.{is_string_type}
 use Rattle.jr_flow_defs.specs.declared.point.PointKind.TheVariants as kind
-use Rattle.jr_flow_defs.specs.Meaning.{Meaning, is_constant}
+use Rattle.jr_flow_defs.specs.Meaning.{Meaning, is_constant, is_text, is_shown, narrows, declared}
 use Rattle.jr_flow_defs.specs.Edges.{body_flow, ControlEdge, DefUse}
 use Rattle.jr_flow_defs.specs.Kept.{Same, old_name, new_name, HasOneCopy, KeepsControl, Arrives, CopyArrives, KeepsDefinitions, Never, NoHanding}
 use Rattle.jr_flow_laws.specs.Shifted.{IsIn, IsWholeBody, moved_row, AreShiftedRows}
@@ -23,7 +18,7 @@ use Rattle.jr_locks.specs.Ending.{StandsAgain}
 use Rattle.jr_locks.specs.Changed.{IsChanged}
 use Rattle.jr_locks.proofs.Standing.{on_few, on_labels, on_ends, again_back}
 use Rattle.jr_copied_flow.specs.Alone.{copy_in, IsLeftAlone, KeepsMeaning, origin_by, KeepsFlowAt}
-use Rattle.jr_copied_flow.proofs.Seen.{in_or_not, row_inside, row_outside, type_back, types_back, GoesTo, moved_back}
+use Rattle.jr_copied_flow.proofs.Seen.{in_or_not, row_inside, row_outside, GoesTo, moved_back}
 use Rattle.jr_copied_flow.proofs.Alone as alone
 use Rattle.jr_copied_flow.proofs.Whole.{whole_at}
 
@@ -87,52 +82,20 @@ module _ (p q : Rows) (change : Change) (m w : Meaning) (body at : ℕ) (move : 
 
   -- ---- roles of what is declared outside
 
-  role_back : (a b : Referent) (d : ℕ) (level : Option ℕ) → GoesTo change.inner (alone.origin p q change m w body at move changed here there fits whole left read) (length p) at a b
-      → b ≡ Declared d level → role_at p (old_row d) ≡ role_at q d
-  role_back Unbound b d level g e = absurd (cc)
-  role_back Ambiguous b d level g e = absurd (cc)
-  role_back ArrayLength b d level g e = absurd (cc)
-  role_back Package b d level g e = absurd (cc)
-  role_back (Declared c over) b d level g e =
+  role_back : (n : ℕ) (a b : Referent) (d : ℕ) (level : Option ℕ) → In n → m.targets n ≡ a → w.targets (copy_in body at n) ≡ b
+      → GoesTo change.inner (alone.origin p q change m w body at move changed here there fits whole left read) (length p) at a b → b ≡ Declared d level → role_at p (old_row d) ≡ role_at q d
+  role_back n Unbound b d level i was is g e = absurd (cc)
+  role_back n Ambiguous b d level i was is g e = absurd (cc)
+  role_back n ArrayLength b d level i was is g e = absurd (cc)
+  role_back n Package b d level i was is g e = absurd (cc)
+  role_back n (Declared c over) b d level i was is g e =
       let same : g.row ≡ d = same_row g.row d g.over level (sym g.is ∙ e) in
       subst (λ z. role_at p (old_row z) ≡ role_at q z) same
       (ap (role_at p) (alone.seen_origin p q change m w body at move changed here there fits whole left read c g.row g.sees)
-      ∙ sym (alone.seen_role p q change m w body at move changed here there fits whole left read c g.row g.sees))
+      ∙ sym (read.roles n c g.row i (ap declared was) (ap declared (is ∙ g.is))))
     where
       same_row : (c d : ℕ) (one other : Option ℕ) → Declared c one ≡ Declared d other → c ≡ d
       same_row c d one other e = cc
-
-  -- ---- types
-
-  old_type : (k : ℕ) → Under k → w.types k ≡ option_map (moved_type move) (m.types (k + s))
-  old_type k u = ap w.types (sym (down k u)) ∙ read.types (k + s) (up_in k u)
-
-  class_back : (k c : ℕ) (a : RowType) → Under k → m.types (k + s) ≡ Some a → a.element ≡ element.Class c → over (move c) ≡ c
-  class_back k c a u e f = over_old (move c) c (read.classes (k + s) c a (up_in k u) e f)
-
-  types_over : (k : ℕ) → Under k → m.types (k + s) ≡ option_map (moved_type over) (w.types k)
-  types_over k u = sym (ap (option_map (moved_type over)) (old_type k u) ∙ types_back move over (m.types (k + s)) (λ c a e f. class_back k c a u e f))
-
-  -- the type of a row of the copy, and that of which it comes
-  record HasOld (k : ℕ) (a : RowType) : Type 0 where
-    old : RowType
-    has : m.types (k + s) ≡ Some old
-    moved : moved_type move old ≡ a
-    back : moved_type over a ≡ old
-
-  old_by : (k : ℕ) (o : Option RowType) (a : RowType) → m.types (k + s) ≡ o → ((b : RowType) → m.types (k + s) ≡ Some b → moved_type over (moved_type move b) ≡ b) → option_map (moved_type move) o ≡ Some a → HasOld k a
-  old_by k None a e h f = absurd (cc)
-  old_by k (Some b) a e h f = let same : moved_type move b ≡ a = cc in record { old = b; has = e; moved = same; back = ap (moved_type over) (sym same) ∙ h b e }
-
-  has_old : (k : ℕ) (a : RowType) → Under k → w.types k ≡ Some a → HasOld k a
-  has_old k a u e = old_by k (m.types (k + s)) a refl (λ b f. type_back move over b (λ c g. class_back k c b u f g)) (sym (old_type k u) ∙ e)
-
-  string_over : (k : ℕ) (a : RowType) → Under k → w.types k ≡ Some a → is_string_type p (moved_type over a) ≡ is_string_type q a
-  string_over k a u e = let o = has_old k a u e in ap (is_string_type p) o.back ∙ (sym (read.strings (k + s) o.old (up_in k u) o.has) ∙ ap (is_string_type q) o.moved)
-
-  subtype_over : (k j : ℕ) (a b : RowType) → Under k → Under j → w.types k ≡ Some a → w.types j ≡ Some b → is_subtype p m.targets (moved_type over a) (moved_type over b) ≡ is_subtype q w.targets a b
-  subtype_over k j a b u v e f = let o = has_old k a u e in let r = has_old j b v f in
-      ap₂ (is_subtype p m.targets) o.back r.back ∙ (sym (read.subtypes (k + s) (j + s) o.old r.old (up_in k u) (up_in j v) o.has r.has) ∙ ap₂ (is_subtype q w.targets) o.moved r.moved)
 
   shifted : AreShiftedRows q p w m at s old_row
   shifted = record {
@@ -141,11 +104,11 @@ module _ (p q : Rows) (change : Change) (m w : Meaning) (body at : ℕ) (move : 
     ends = ends_back;
     parents = λ k u less. parents_follow q p at s there here copy_whole.few few_back ends_back k u less;
     referents = λ k u. moved_back change.inner (alone.origin p q change m w body at move changed here there fits whole left read) (length p) at over (m.targets (k + s)) (w.targets k) (goes k u) over_seen;
-    roles = λ k d level u e none. role_back (m.targets (k + s)) (w.targets k) d level (goes k u) e;
+    roles = λ k d level u e none. role_back (k + s) (m.targets (k + s)) (w.targets k) d level (up_in k u) refl (ap w.targets (down k u)) (goes k u) e;
     constants = λ k u. sym (read.constants (k + s) (up_in k u)) ∙ ap (is_constant w) (down k u);
-    types = types_over;
-    strings = string_over;
-    subtypes = subtype_over;
+    texts = λ k u. sym (read.texts (k + s) (up_in k u)) ∙ ap (λ z. is_text q (w.types z)) (down k u);
+    shown = λ k u. sym (read.shown (k + s) (up_in k u)) ∙ ap (λ z. is_shown q (w.types z)) (down k u);
+    casts = λ k u e. sym (read.casts (k + s) (up_in k u) (on_labels q p at s stands k u.from u.to ∙ e)) ∙ ap (narrows q w) (down k u);
   }
 
   -- ---- edges, by origins

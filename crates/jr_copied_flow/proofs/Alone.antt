@@ -1,20 +1,13 @@
 -- The copy of a body that a change leaves alone, further down or further up, reads what the body reads.
-use Rattle.std.proofs.Common.{◌≡◌, refl, sym, ◌∙◌, ap, ap₂, subst, ⊎_elim, arith, ℕ, ◌+◌, ◌-◌, ◌<◌, ◌≤◌, Bool, true, false, if◌then◌else◌, List, length, Option, Some, None, nat_eq}
-use Rattle.std.proofs.lemmas.Bool.{cases_lt}
+use Rattle.std.proofs.Common.{◌≡◌, refl, sym, ◌∙◌, ap, subst, ⊎_elim, arith, ℕ, ◌+◌, ◌-◌, ◌<◌, ◌≤◌, Bool, true, false, if◌then◌else◌, List, length, Option, Some, None, nat_eq}
 use Rattle.std.proofs.lemmas.Bool.Decides.{Decides-eqb}
-use Rattle.std.proofs.lemmas.List.{get_or_past}
 use Rattle.std.proofs.lemmas.Option.{none-some, same_Some}
 use Rattle.jr_tree.specs.declared.label.Label.{Label}
 use Rattle.jr_tree.specs.declared.label.Label.TheVariants as is
-use Rattle.jr_tree.specs.Labels.{role_of}
 use Rattle.jr_tree.specs.Rows.{Rows, label, end, role_at}
 use Rattle.jr_tree.specs.Tree.{IsTree}
-use Rattle.jr_defs.specs.declared.referent.RowType.{RowType}
-use Rattle.jr_defs.specs.Correspondence.{moved_type}
 use Rattle.jr_defs.specs.declared.referent.Referent.TheVariants.{Declared}
-use Rattle.jr_plain.specs.Supertypes.{is_subtype}
-use Rattle.jr_plain.specs.Typing.{is_string_type}
-use Rattle.jr_flow_defs.specs.Meaning.{Meaning, is_constant}
+use Rattle.jr_flow_defs.specs.Meaning.{Meaning, is_constant, is_text, is_shown, narrows, declared}
 use Rattle.jr_flow_defs.specs.Edges.{body_flow}
 use Rattle.jr_flow_defs.specs.Kept.{KeepsBody}
 use Rattle.jr_flow_laws.specs.Shifted.{IsIn, declares_code, IsWholeBody, moved_row, AreShiftedRows, AreOrigins}
@@ -23,12 +16,11 @@ use Rattle.jr_flow_laws.proofs.Keeping.{body_by_origins}
 use Rattle.jr_change.specs.declared.change.Change.{Change}
 use Rattle.jr_locks.specs.Origins.{no_row, origin_of, row_by}
 use Rattle.jr_locks.specs.Ending.{takes_declarations, StandsAgain}
-use Rattle.jr_locks.specs.Copying.{turned_at}
 use Rattle.jr_locks.specs.Locked.{IsSeenFrom, IsLockOf, raised_to}
-use Rattle.jr_locks.specs.Changed.{IsChanged, origins_by, turned_by}
+use Rattle.jr_locks.specs.Changed.{IsChanged, origins_by}
 use Rattle.jr_locks.proofs.Standing.{each_origin, stands_again, on_few, on_labels, on_ends}
 use Rattle.jr_copied_flow.specs.Alone.{copy_in, IsLeftAlone, KeepsMeaning, origin_by, KeepsFlowAt}
-use Rattle.jr_copied_flow.proofs.Seen.{in_or_not, row_inside, row_outside, type_same, types_same, Sees, IsSeenAs, GoesTo, goes_by_lock, moved_there}
+use Rattle.jr_copied_flow.proofs.Seen.{in_or_not, row_inside, row_outside, Sees, IsSeenAs, GoesTo, goes_by_lock, moved_there}
 
 code_takes_none : (l : Label) → declares_code l ≡ true → takes_declarations l ≡ false
 code_takes_none (is.Method modifiers is_void has_body) e = refl
@@ -99,20 +91,6 @@ module _ (p q : Rows) (change : Change) (m w : Meaning) (body at : ℕ) (move : 
   pub seen_origin : (d c : ℕ) → Seen d c → origin_of origin c ≡ d
   seen_origin d c s = origin_seen d c s.seen
 
-  copies_few : (d c : ℕ) → origin_of origin c ≡ d → d < length p → c < length q
-  copies_few d c e stood = ⊎_elim (λ less. less)
-      (λ past. let count = changed.count in let none = get_or_past origin c no_row (omega (arith, past, count)) in absurd (omega (arith, none, e, stood, fits)))
-      (cases_lt c (length q))
-
-  role_by : (d c : ℕ) → origin_of origin c ≡ d → d < length p → c < length q → (b : Bool) → turned_at (turned_by change) c ≡ b → role_at q c ≡ role_at p d
-  role_by d c e stood few true t = read.roles c few t ∙ ap (role_at p) e
-  role_by d c e stood few false t =
-      ap role_of ((changed.copied.each c few (λ none. absurd (omega (arith, none, e, stood, fits)))).label_is t) ∙ ap (role_at p) e
-
-  -- a declaration has the role that it had
-  pub seen_role : (d c : ℕ) → Seen d c → role_at q c ≡ role_at p d
-  seen_role d c s = role_by d c (seen_origin d c s) s.stood (copies_few d c (seen_origin d c s) s.stood) (turned_at (turned_by change) c) refl
-
   pub seen_inside : (d c : ℕ) → Seen d c → In d → c ≡ copy_in body at d
   seen_inside d c s i = alone.once d c i (seen_origin d c s)
 
@@ -139,17 +117,11 @@ module _ (p q : Rows) (change : Change) (m w : Meaning) (body at : ℕ) (move : 
 
     over_seen : (d c : ℕ) → Seen d c → over d ≡ c
     over_seen d c v = ⊎_elim (λ i. row_inside p body s move d i ∙ (sym (on d i) ∙ sym (seen_inside d c v i)))
-        (λ none. row_outside p body s move d none ∙ read.sees d c v.seen) (in_or_not p body d)
-
-    over_class : (c : ℕ) → origin_of origin (move c) ≡ c → move c ≡ over c
-    over_class c e = ⊎_elim (λ i. alone.once c (move c) i e ∙ (on c i ∙ sym (row_inside p body s move c i))) (λ none. sym (row_outside p body s move c none)) (in_or_not p body c)
+        (λ none. row_outside p body s move d none ∙ read.sees d c v.stood v.seen) (in_or_not p body d)
 
     role_outside : (n d : ℕ) (level : Option ℕ) → In n → m.targets n ≡ Declared d level → role_at q (move d) ≡ role_at p d
     role_outside n d level i e = let v : IsSeenAs change.inner origin (length p) at d (w.targets (copy_in body at n)) = subst (λ z. GoesTo change.inner origin (length p) at z (w.targets (copy_in body at n))) e (goes n i) in
-        ap (role_at q) (read.sees d v.row v.sees.seen) ∙ seen_role d v.row v.sees
-
-    same_over : (n : ℕ) (a : RowType) → In n → m.types n ≡ Some a → moved_type over a ≡ moved_type move a
-    same_over n a i e = sym (type_same move over a (λ c f. over_class c (read.classes n c a i e f)))
+        ap (role_at q) (read.sees d v.row v.sees.stood v.sees.seen) ∙ read.roles n d v.row i (ap declared e) (ap declared v.is)
 
     shifted : AreShiftedRows p q m w body s move
     shifted = record {
@@ -161,9 +133,9 @@ module _ (p q : Rows) (change : Change) (m w : Meaning) (body at : ℕ) (move : 
           (subst (λ z. GoesTo change.inner origin (length p) at (m.targets n) (w.targets z)) (on n i) (goes n i)) over_seen;
       roles = λ n d level i e none. role_outside n d level i e;
       constants = λ n i. ap (is_constant w) (sym (on n i)) ∙ read.constants n i;
-      types = λ n i. ap w.types (sym (on n i)) ∙ (read.types n i ∙ types_same move over (m.types n) (λ c a e f. over_class c (read.classes n c a i e f)));
-      strings = λ n a i e. ap (is_string_type q) (same_over n a i e) ∙ read.strings n a i e;
-      subtypes = λ n k a b i j e f. ap₂ (is_subtype q w.targets) (same_over n a i e) (same_over k b j f) ∙ read.subtypes n k a b i j e f;
+      texts = λ n i. ap (λ k. is_text q (w.types k)) (sym (on n i)) ∙ read.texts n i;
+      shown = λ n i. ap (λ k. is_shown q (w.types k)) (sym (on n i)) ∙ read.shown n i;
+      casts = λ n i e. ap (narrows q w) (sym (on n i)) ∙ read.casts n i e;
     }
 
     own : AreOrigins p body s (origin_by change)

@@ -2,5 +2,5 @@ mod Seen
 mod Alone
 mod Whole
 mod Above
-mod Kept
+pub mod Kept
 mod Segments

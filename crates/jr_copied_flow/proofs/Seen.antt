@@ -1,13 +1,9 @@
 -- What a row refers to, and what its copy does.
-use Rattle.std.proofs.Common.{◌≡◌, ◌⊎◌, refl, sym, ◌∙◌, ap, subst, inl, inr, ⊎_elim, ℕ, ◌+◌, ◌<◌, Bool, true, false, not, ◌&&◌, if◌then◌else◌, List, Option, Some, None, option_map, nat_eq, nat_le, nat_lt}
+use Rattle.std.proofs.Common.{◌≡◌, ◌⊎◌, refl, sym, ◌∙◌, ap, subst, inl, inr, ⊎_elim, ℕ, ◌+◌, ◌<◌, Bool, true, false, not, ◌&&◌, if◌then◌else◌, List, Option, Some, None, nat_eq, nat_le, nat_lt}
 use Rattle.std.proofs.lemmas.Bool.Decides.{Decides-ltb}
 use Rattle.jr_tree.specs.Rows.{Rows, end}
-use Rattle.jr_defs.specs.declared.referent.Element.{Element}
-use Rattle.jr_defs.specs.declared.referent.Element.TheVariants as element
-use Rattle.jr_defs.specs.declared.referent.RowType.{RowType}
 use Rattle.jr_defs.specs.declared.referent.Referent.{Referent}
 use Rattle.jr_defs.specs.declared.referent.Referent.TheVariants.{Unbound, Ambiguous, ArrayLength, Package, Declared}
-use Rattle.jr_defs.specs.Correspondence.{moved_element, moved_type}
 use Rattle.jr_plain.proofs.Tests.{both, decide}
 use Rattle.jr_plain.proofs.Enclosed.{most}
 use Rattle.jr_flow_defs.specs.Meaning.{declared}
@@ -33,40 +29,6 @@ module _ (p : Rows) (body s : ℕ) (outside : ℕ → ℕ) where
     false_from : (b : Bool) → (b ≡ true → ⊥) → b ≡ false
     false_from true h = absurd (h refl)
     false_from false h = refl
-
--- ---- types
-
-module _ (f g : ℕ → ℕ) where
-  element_same : (e : Element) → ((c : ℕ) → e ≡ element.Class c → f c ≡ g c) → moved_element f e ≡ moved_element g e
-  element_same (element.Class c) h = ap element.Class (h c refl)
-  element_same _ h = refl
-
-  pub type_same : (a : RowType) → ((c : ℕ) → a.element ≡ element.Class c → f c ≡ g c) → moved_type f a ≡ moved_type g a
-  type_same a h i = record { element = element_same a.element h i; dims = a.dims }
-
-  pub types_same : (o : Option RowType) → ((c : ℕ) (a : RowType) → o ≡ Some a → a.element ≡ element.Class c → f c ≡ g c) → option_map (moved_type f) o ≡ option_map (moved_type g) o
-  types_same None h = refl
-  types_same (Some a) h = ap Some (type_same a (λ c e. h c a refl e))
-
--- a type that went to a class and comes back
-module _ (f g : ℕ → ℕ) where
-  element_back : (e : Element) → ((c : ℕ) → e ≡ element.Class c → g (f c) ≡ c) → moved_element g (moved_element f e) ≡ e
-  element_back (element.Class c) h = ap element.Class (h c refl)
-  element_back element.Boolean h = refl
-  element_back element.Byte h = refl
-  element_back element.Short h = refl
-  element_back element.Char h = refl
-  element_back element.Int h = refl
-  element_back element.Long h = refl
-  element_back element.Null h = refl
-  element_back element.Void h = refl
-
-  pub type_back : (a : RowType) → ((c : ℕ) → a.element ≡ element.Class c → g (f c) ≡ c) → moved_type g (moved_type f a) ≡ a
-  type_back a h i = record { element = element_back a.element h i; dims = a.dims }
-
-  pub types_back : (o : Option RowType) → ((c : ℕ) (a : RowType) → o ≡ Some a → a.element ≡ element.Class c → g (f c) ≡ c) → option_map (moved_type g) (option_map (moved_type f) o) ≡ o
-  types_back None h = refl
-  types_back (Some a) h = ap Some (type_back a (λ c e. h c a refl e))
 
 -- ---- referents
 

@@ -232,15 +232,17 @@ module _ (p q : Rows) (change : Change) (m w : Meaning) (body at : ℕ) (move : 
 
   -- ---- locals
 
-  local_by : (n : ℕ) (a b : Referent) (d : ℕ) → In n → m.targets n ≡ a → Goes a b → local_among q (declared b) ≡ Some d → Under d
-  local_by n Unbound b d i e g l = absurd (none-some d (sym (ap (λ z. local_among q (declared z)) g) ∙ l))
-  local_by n Ambiguous b d i e g l = absurd (none-some d (sym (ap (λ z. local_among q (declared z)) g) ∙ l))
-  local_by n ArrayLength b d i e g l = absurd (none-some d (sym (ap (λ z. local_among q (declared z)) g) ∙ l))
-  local_by n Package b d i e g l = absurd (none-some d (sym (ap (λ z. local_among q (declared z)) g) ∙ l))
-  local_by n (Declared c level) b d i e g l =
+  local_by : (n k : ℕ) (a b : Referent) (d : ℕ) → In n → Stands n k → m.targets n ≡ a → w.targets k ≡ b → Goes a b → local_among q (declared b) ≡ Some d → Under d
+  local_by n k Unbound b d i st e h g l = absurd (none-some d (sym (ap (λ z. local_among q (declared z)) g) ∙ l))
+  local_by n k Ambiguous b d i st e h g l = absurd (none-some d (sym (ap (λ z. local_among q (declared z)) g) ∙ l))
+  local_by n k ArrayLength b d i st e h g l = absurd (none-some d (sym (ap (λ z. local_among q (declared z)) g) ∙ l))
+  local_by n k Package b d i st e h g l = absurd (none-some d (sym (ap (λ z. local_among q (declared z)) g) ∙ l))
+  local_by n k (Declared c level) b d i st e h g l =
       let now : local_among q (Some g.row) ≡ Some d = sym (ap (λ z. local_among q (declared z)) g.is) ∙ l in
       let same : g.row ≡ d = same_Some g.row d (local_is q (Some g.row) d now) in
-      let role = alone.seen_role p q change m w body at move changed here there fits whole left read c g.row g.sees in
+      let from = i.from in
+      let stood : copy_in body at n ≡ k = omega (arith, st, from) in
+      let role = read.roles n c g.row i (ap declared e) (ap (λ z. declared (w.targets z)) stood ∙ (ap declared h ∙ ap declared g.is)) in
       let old : local_at p m n ≡ Some c = ap (λ z. local_among p (declared z)) e ∙ local_was c g.row (ap is_local_role role) d now in
       let j = whole.locals n c i old in
       let at_copy = alone.seen_inside p q change m w body at move changed here there fits whole left read c g.row g.sees j in
@@ -256,7 +258,7 @@ module _ (p q : Rows) (change : Change) (m w : Meaning) (body at : ℕ) (move : 
 
   locals_at : (k d : ℕ) → Under k → local_at q w k ≡ Some d → Under d
   locals_at k d u l = let e = stands_at k u in let i = old_in (copy_in at body k) k u e in
-      local_by (copy_in at body k) (m.targets (copy_in at body k)) (w.targets k) d i refl (goes_at (copy_in at body k) k i e) l
+      local_by (copy_in at body k) k (m.targets (copy_in at body k)) (w.targets k) d i e refl refl (goes_at (copy_in at body k) k i e) l
 
   pub whole_at : IsWholeBody q w at
   whole_at = record {

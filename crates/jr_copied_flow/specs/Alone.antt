@@ -1,22 +1,17 @@
 -- A body that a change leaves as it is, and what its copy reads.
-use Rattle.std.specs.Prelude.{◌≡◌, ℕ, ◌+◌, ◌-◌, ◌<◌, true, false, length, Some, None, option_map}
-use Rattle.jr_tree.specs.Rows.{Rows, role_at}
-use Rattle.jr_defs.specs.declared.referent.Element.TheVariants as element
-use Rattle.jr_defs.specs.declared.referent.RowType.{RowType}
+use Rattle.std.specs.Prelude.{◌≡◌, ℕ, ◌+◌, ◌-◌, ◌<◌, false, length, Some, None}
+use Rattle.jr_tree.specs.declared.label.Label.TheVariants as is
+use Rattle.jr_tree.specs.Rows.{Rows, label, role_at}
 use Rattle.jr_defs.specs.declared.referent.Referent.TheVariants.{Unbound}
-use Rattle.jr_defs.specs.Correspondence.{moved_type}
-use Rattle.jr_plain.specs.Supertypes.{is_subtype}
-use Rattle.jr_plain.specs.Typing.{is_string_type}
-use Rattle.jr_flow_defs.specs.Meaning.{Meaning, is_constant, declared}
+use Rattle.jr_flow_defs.specs.Meaning.{Meaning, is_constant, is_text, is_shown, narrows, declared}
 use Rattle.jr_flow_defs.specs.Edges.{body_flow}
 use Rattle.jr_flow_defs.specs.Kept.{Origin, KeepsBody}
 use Rattle.jr_flow_laws.specs.Shifted.{IsIn}
 use Rattle.jr_change.specs.declared.change.Change.{Change}
 use Rattle.jr_locks.specs.Origins.{origin_of, row_by}
 use Rattle.jr_locks.specs.Ending.{StandsInOne}
-use Rattle.jr_locks.specs.Copying.{turned_at}
-use Rattle.jr_locks.specs.Locked.{IsCopyOf, IsSeenFrom, is_in, is_added}
-use Rattle.jr_locks.specs.Changed.{origins_by, turned_by, rests_by}
+use Rattle.jr_locks.specs.Locked.{IsSeenFrom, is_in, is_added}
+use Rattle.jr_locks.specs.Changed.{origins_by, rests_by}
 
 -- where the copy of the row n of the body stands that has its copy at a row
 abbrev pub copy_in : ℕ → ℕ → ℕ → ℕ
@@ -31,19 +26,17 @@ pub record IsLeftAlone (p : Rows) (change : Change) (body at : ℕ) : Type 0 whe
   pub unsaid : (n : ℕ) → IsIn p body n → is_added change.added.items (copy_in body at n) ≡ false
 
 -- What the copy of the body reads is what the body reads, where `move` tells of each declaration that has a copy which one the copy of the body sees. What the body refers to is a row of
--- the program, and the copy still refers to something there; rows that get another label keep their role; what is constant stays so; and types are what they were, with their classes
--- where these stand now, and strings and subtypes among them.
+-- the program, and the copy refers to something there that has the role of it; what is constant stays so; strings are strings, what is shown as one is shown (JLS 15.18.1), and casts
+-- that can fail can fail (JLS 15.16).
 pub record KeepsMeaning (p q : Rows) (m w : Meaning) (change : Change) (body at : ℕ) (move : ℕ → ℕ) : Type 0 where
-  pub sees : (d c : ℕ) → IsSeenFrom change.inner (origins_by change) (length p) at d c → move d ≡ c
+  pub sees : (d c : ℕ) → d < length p → IsSeenFrom change.inner (origins_by change) (length p) at d c → move d ≡ c
   pub known : (n d : ℕ) → IsIn p body n → declared (m.targets n) ≡ Some d → d < length p
   pub bound : (n d : ℕ) → IsIn p body n → declared (m.targets n) ≡ Some d → w.targets (copy_in body at n) ≡ Unbound → ⊥
-  pub roles : (c : ℕ) → c < length q → turned_at (turned_by change) c ≡ true → role_at q c ≡ role_at p (origin_of (origins_by change) c)
+  pub roles : (n d c : ℕ) → IsIn p body n → declared (m.targets n) ≡ Some d → declared (w.targets (copy_in body at n)) ≡ Some c → role_at q c ≡ role_at p d
   pub constants : (n : ℕ) → IsIn p body n → is_constant w (copy_in body at n) ≡ is_constant m n
-  pub types : (n : ℕ) → IsIn p body n → w.types (copy_in body at n) ≡ option_map (moved_type move) (m.types n)
-  pub classes : (n c : ℕ) (a : RowType) → IsIn p body n → m.types n ≡ Some a → a.element ≡ element.Class c → IsCopyOf (origins_by change) (move c) c
-  pub strings : (n : ℕ) (a : RowType) → IsIn p body n → m.types n ≡ Some a → is_string_type q (moved_type move a) ≡ is_string_type p a
-  pub subtypes : (n k : ℕ) (a b : RowType) → IsIn p body n → IsIn p body k → m.types n ≡ Some a → m.types k ≡ Some b
-      → is_subtype q w.targets (moved_type move a) (moved_type move b) ≡ is_subtype p m.targets a b
+  pub texts : (n : ℕ) → IsIn p body n → is_text q (w.types (copy_in body at n)) ≡ is_text p (m.types n)
+  pub shown : (n : ℕ) → IsIn p body n → is_shown q (w.types (copy_in body at n)) ≡ is_shown p (m.types n)
+  pub casts : (n : ℕ) → IsIn p body n → label p n ≡ is.Cast → narrows q w (copy_in body at n) ≡ narrows p m n
 
 -- the old row of which a row of the changed program is a copy, if it is one
 abbrev pub origin_by : Change → Origin

@@ -12,7 +12,7 @@ use Rattle.jr_flow_defs.specs.Acts.{part, event, node, define, use_of, quit, for
 use Rattle.jr_flow_laws.specs.Shifted.{IsIn, declares_code, for_parts, least_parts, IsWholeBody, AreShiftedRows}
 use Rattle.jr_flow_laws.proofs.Moving.{same_less, IsOver, none_over, more_over, one_over, part_over, append_over, if_over, parts_over, stores_over}
 use Rattle.jr_flow_laws.proofs.Standing.{filter_over, filter_in, any_over, first_in, second_in, third_in, below_in, ends_in, stands_below, siblings_in, children_in, last_row_in, next_over, end_over, second_over, third_over, siblings_to, children_over, last_row_over}
-use Rattle.jr_flow_laws.proofs.Meant.{local_at_over, reads_over, parent_label_over, only_written_over, operand_over, makes_over, shows_over, narrows_over}
+use Rattle.jr_flow_laws.proofs.Meant.{local_at_over, reads_over, parent_label_over, only_written_over, operand_over, makes_over, shows_over}
 use Rattle.jr_flow_laws.proofs.Jumping.{breaks_over, continues_over}
 
 module _ (p q : Rows) (m w : Meaning) (body s : ℕ) (outside : ℕ → ℕ) (whole : IsWholeBody p m body) (rows : AreShiftedRows p q m w body s outside) where
@@ -236,9 +236,8 @@ module _ (p q : Rows) (m w : Meaning) (body s : ℕ) (outside : ℕ → ℕ) (wh
       → Over (parts p n ++ jump (continues (continue_target p m n b)) ∷ []) (parts q (n + s) ++ jump (continues (continue_target q w (n + s) b)) ∷ [])
   continue_over n b i e = append_over s In (own_parts n i) (one_over s In (jump (continues (continue_target p m n b))) (jump (continues (continue_target q w (n + s) b))) (ap jump (continues_over p q m w body s outside whole rows n b i e)) tt)
 
-  cast_over : (n : ℕ) → In n → 2 ≤ least_parts (label p n) → Over (parts p n ++ event_if (narrows p m n) n) (parts q (n + s) ++ event_if (narrows q w (n + s)) (n + s))
-  cast_over n i h = append_over s In (own_parts n i) (event_over (narrows p m n) (narrows q w (n + s)) n
-      (narrows_over p q m w body s outside whole rows n i (first_in p m body whole n i (omega (arith, h))) (second_in p m body whole n i h)) i)
+  cast_over : (n : ℕ) → In n → label p n ≡ is.Cast → Over (parts p n ++ event_if (narrows p m n) n) (parts q (n + s) ++ event_if (narrows q w (n + s)) (n + s))
+  cast_over n i e = append_over s In (own_parts n i) (event_over (narrows p m n) (narrows q w (n + s)) n (rows.casts n i e) i)
 
   below : (l : Label) (n : ℕ) → In n → label p n ≡ l → declares_code l ≡ false → body < n
   below l n i e none = stands_below p m body whole n i (ap declares_code e ∙ none)
@@ -281,7 +280,7 @@ module _ (p q : Rows) (m w : Meaning) (body s : ℕ) (outside : ℕ → ℕ) (wh
       two_ways_over n (first_in p m body whole n i (omega (arith, h))) (second_in p m body whole n i (omega (arith, h))) (third_in p m body whole n i h)
   acts_by_over (is.Binary op) n i e = let h = enough (is.Binary op) n e in binary_over op n i (first_in p m body whole n i (omega (arith, h))) (second_in p m body whole n i h)
   acts_by_over (is.Unary y.Not) n i e = then_node n i
-  acts_by_over is.Cast n i e = cast_over n i (enough is.Cast n e)
+  acts_by_over is.Cast n i e = cast_over n i e
   acts_by_over (is.TypeUse primitive dims) n i e = none
   acts_by_over _ n i e = own_parts n i
 

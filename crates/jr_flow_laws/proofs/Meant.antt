@@ -8,32 +8,15 @@ use Rattle.jr_tree.specs.declared.label.Label.{Label}
 use Rattle.jr_tree.specs.declared.label.Label.TheVariants as is
 use Rattle.jr_tree.specs.Rows.{Rows, label, parent, end, role_at}
 use Rattle.jr_tree.specs.Labels.{role_of}
-use Rattle.jr_defs.specs.declared.referent.Element.{Element}
-use Rattle.jr_defs.specs.declared.referent.Element.TheVariants as element
-use Rattle.jr_defs.specs.declared.referent.RowType.{RowType}
 use Rattle.jr_defs.specs.declared.referent.Referent.{Referent}
 use Rattle.jr_defs.specs.declared.referent.Referent.TheVariants.{Declared}
-use Rattle.jr_defs.specs.Correspondence.{moved_element, moved_type}
-use Rattle.jr_plain.specs.Supertypes.{is_reference, is_subtype}
-use Rattle.jr_plain.specs.Typing.{is_string_type, is_plus}
+use Rattle.jr_plain.specs.Typing.{is_plus}
 use Rattle.jr_plain.proofs.Tests.{both, decide}
 use Rattle.jr_plain.proofs.Enclosed.{most}
-use Rattle.jr_flow_defs.specs.Meaning.{Meaning, declared, is_local_role, is_field_role, local_among, local_at, is_read, reads_field, is_plain_assignment, is_only_written, is_paren, unwrapped, operand, divides, adds, is_text, makes, is_shown, shows_left, is_checked_cast, narrows}
+use Rattle.jr_flow_defs.specs.Meaning.{Meaning, declared, is_local_role, is_field_role, local_among, local_at, is_read, reads_field, is_plain_assignment, is_only_written, is_paren, unwrapped, operand, divides, adds, makes, is_shown, shows_left}
 use Rattle.jr_flow_laws.specs.Shifted.{IsIn, least_parts, IsWholeBody, moved_row, IsMovedReferent, AreShiftedRows}
 use Rattle.jr_flow_laws.proofs.Moving.{same_number}
-use Rattle.jr_flow_laws.proofs.Standing.{first_in, parent_in, label_over, second_over, next_over}
-
-reference_over : (f : ℕ → ℕ) (dims : ℕ) (e : Element) → is_reference dims (moved_element f e) ≡ is_reference dims e
-reference_over f (suc dims) e = refl
-reference_over f zero (element.Class c) = refl
-reference_over f zero element.Boolean = refl
-reference_over f zero element.Byte = refl
-reference_over f zero element.Short = refl
-reference_over f zero element.Char = refl
-reference_over f zero element.Int = refl
-reference_over f zero element.Long = refl
-reference_over f zero element.Null = refl
-reference_over f zero element.Void = refl
+use Rattle.jr_flow_laws.proofs.Standing.{first_in, parent_in, label_over, next_over}
 
 module _ (p q : Rows) (m w : Meaning) (body s : ℕ) (outside : ℕ → ℕ) (whole : IsWholeBody p m body) (rows : AreShiftedRows p q m w body s outside) where
   abbrev In : ℕ → Type 0
@@ -137,31 +120,9 @@ module _ (p q : Rows) (m w : Meaning) (body s : ℕ) (outside : ℕ → ℕ) (wh
 
   -- ---- operators
 
-  text_told : (o : Option RowType) → ((a : RowType) → o ≡ Some a → is_string_type q (moved_type move a) ≡ is_string_type p a) → is_text q (option_map (moved_type move) o) ≡ is_text p o
-  text_told None h = refl
-  text_told (Some a) h = h a refl
-
-  text_over : (n : ℕ) → In n → is_text q (w.types (n + s)) ≡ is_text p (m.types n)
-  text_over n i = ap (is_text q) (rows.types n i) ∙ text_told (m.types n) (λ a e. rows.strings n a i e)
-
   pub makes_over : (n : ℕ) → In n → (op : Symbol) → makes q w (n + s) op ≡ makes p m n op
-  makes_over n i op = ap₂ (λ c t. not c && (divides op || (adds op && t))) (rows.constants n i) (text_over n i)
-
-  shown_told : (o : Option RowType) → ((a : RowType) → o ≡ Some a → is_string_type q (moved_type move a) ≡ is_string_type p a) → is_shown q (option_map (moved_type move) o) ≡ is_shown p o
-  shown_told None h = refl
-  shown_told (Some a) h = ap₂ (λ r t. r && not t) (reference_over move a.dims a.element) (h a refl)
+  makes_over n i op = ap₂ (λ c t. not c && (divides op || (adds op && t))) (rows.constants n i) (rows.texts n i)
 
   pub shows_over : (n : ℕ) → In n → In (n + 1) → (op : Symbol) → shows_left q w (n + s) op ≡ shows_left p m n op
   shows_over n i j op = ap₂ (λ b t. is_plus op && b && t) (makes_over n i op)
-      (ap (λ k. is_shown q (w.types k)) (next_over p q m w body s outside whole rows n) ∙ (ap (is_shown q) (rows.types (n + 1) j) ∙ shown_told (m.types (n + 1)) (λ a e. rows.strings (n + 1) a j e)))
-
-  cast_told : (o r : Option RowType) → ((a b : RowType) → o ≡ Some a → r ≡ Some b → is_subtype q w.targets (moved_type move a) (moved_type move b) ≡ is_subtype p m.targets a b)
-      → is_checked_cast q w (option_map (moved_type move) o) (option_map (moved_type move) r) ≡ is_checked_cast p m o r
-  cast_told None None h = refl
-  cast_told None (Some b) h = refl
-  cast_told (Some a) None h = refl
-  cast_told (Some a) (Some b) h = ap₂ (λ x y. x && not y) (ap₂ (λ x y. x && y) (reference_over move a.dims a.element) (reference_over move b.dims b.element)) (h a b refl refl)
-
-  pub narrows_over : (n : ℕ) → In n → In (n + 1) → In (end p (n + 1)) → narrows q w (n + s) ≡ narrows p m n
-  narrows_over n i j k = ap₂ (is_checked_cast q w) (ap w.types (second_over p q m w body s outside whole rows n j) ∙ rows.types (end p (n + 1)) k) (rows.types n i)
-      ∙ cast_told (m.types (end p (n + 1))) (m.types n) (λ a b e f. rows.subtypes (end p (n + 1)) n a b k i e f)
+      (ap (λ k. is_shown q (w.types k)) (next_over p q m w body s outside whole rows n) ∙ rows.shown (n + 1) j)

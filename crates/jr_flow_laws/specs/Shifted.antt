@@ -1,16 +1,12 @@
 -- A body that stands in another program as it stood, so many rows on.
-use Rattle.std.specs.Prelude.{◌≡◌, ℕ, ◌+◌, ◌<◌, ◌≤◌, Bool, true, false, ◌&&◌, if◌then◌else◌, length, map, Option, Some, option_map, nat_le, nat_lt}
+use Rattle.std.specs.Prelude.{◌≡◌, ℕ, ◌+◌, ◌<◌, ◌≤◌, Bool, true, false, ◌&&◌, if◌then◌else◌, length, map, Option, Some, nat_le, nat_lt}
 use Rattle.jr_tree.specs.declared.label.Label.{Label}
 use Rattle.jr_tree.specs.declared.label.Label.TheVariants as is
 use Rattle.jr_tree.specs.Rows.{Rows, label, parent, end, role_at}
 use Rattle.jr_tree.specs.Tree.{IsTree}
-use Rattle.jr_defs.specs.declared.referent.RowType.{RowType}
 use Rattle.jr_defs.specs.declared.referent.Referent.{Referent}
 use Rattle.jr_defs.specs.declared.referent.Referent.TheVariants.{Unbound, Ambiguous, ArrayLength, Package, Declared}
-use Rattle.jr_defs.specs.Correspondence.{moved_type}
-use Rattle.jr_plain.specs.Supertypes.{is_subtype}
-use Rattle.jr_plain.specs.Typing.{is_string_type}
-use Rattle.jr_flow_defs.specs.Meaning.{Meaning, is_constant, local_at}
+use Rattle.jr_flow_defs.specs.Meaning.{Meaning, is_constant, is_text, is_shown, narrows, local_at}
 use Rattle.jr_flow_defs.specs.Acts.{Completion, normally, by_break, by_continue, by_return, by_throw, children, break_target, continue_target}
 use Rattle.jr_flow_defs.specs.States.{Moment, before, completed, State}
 use Rattle.jr_flow_defs.specs.Kept.{Origin}
@@ -101,8 +97,9 @@ pub data IsMovedReferent (move : ℕ → ℕ) : Referent → Referent → Type 0
   a_package : IsMovedReferent move Package Package
   declared : {d : ℕ} {level over : Option ℕ} → IsMovedReferent move (Declared d level) (Declared (move d) over)
 
--- The rows of the body stand in q so many rows on: with the same labels, ends and parents. What they refer to, and their types, are where they stand now: in the body so many
--- rows on, and outside as is told. Constant is what was, and what is told of a declaration outside has the role of that, strings and subtypes among the types.
+-- The rows of the body stand in q so many rows on: with the same labels, ends and parents. What they refer to is where it stands now: in the body so many rows on, and outside as
+-- is told. Constant is what was, and what is told of a declaration outside has the role of that. Strings are strings, what is shown as one is shown (JLS 15.18.1), and casts that
+-- can fail can fail (JLS 15.16).
 pub record AreShiftedRows (p q : Rows) (m w : Meaning) (body shift : ℕ) (outside : ℕ → ℕ) : Type 0 where
   pub few : end p body + shift ≤ length q
   pub labels : (n : ℕ) → IsIn p body n → label q (n + shift) ≡ label p n
@@ -111,10 +108,9 @@ pub record AreShiftedRows (p q : Rows) (m w : Meaning) (body shift : ℕ) (outsi
   pub referents : (n : ℕ) → IsIn p body n → IsMovedReferent (moved_row p body shift outside) (m.targets n) (w.targets (n + shift))
   pub roles : (n d : ℕ) (level : Option ℕ) → IsIn p body n → m.targets n ≡ Declared d level → (IsIn p body d → ⊥) → role_at q (outside d) ≡ role_at p d
   pub constants : (n : ℕ) → IsIn p body n → is_constant w (n + shift) ≡ is_constant m n
-  pub types : (n : ℕ) → IsIn p body n → w.types (n + shift) ≡ option_map (moved_type (moved_row p body shift outside)) (m.types n)
-  pub strings : (n : ℕ) (a : RowType) → IsIn p body n → m.types n ≡ Some a → is_string_type q (moved_type (moved_row p body shift outside) a) ≡ is_string_type p a
-  pub subtypes : (n k : ℕ) (a b : RowType) → IsIn p body n → IsIn p body k → m.types n ≡ Some a → m.types k ≡ Some b
-      → is_subtype q w.targets (moved_type (moved_row p body shift outside) a) (moved_type (moved_row p body shift outside) b) ≡ is_subtype p m.targets a b
+  pub texts : (n : ℕ) → IsIn p body n → is_text q (w.types (n + shift)) ≡ is_text p (m.types n)
+  pub shown : (n : ℕ) → IsIn p body n → is_shown q (w.types (n + shift)) ≡ is_shown p (m.types n)
+  pub casts : (n : ℕ) → IsIn p body n → label p n ≡ is.Cast → narrows q w (n + shift) ≡ narrows p m n
 
 -- the rows of the copy have those of the body as origins, and no others have them
 pub record AreOrigins (p : Rows) (body shift : ℕ) (origin : Origin) : Type 0 where

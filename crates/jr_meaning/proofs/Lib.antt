@@ -1,0 +1,6 @@
+mod Nears
+mod Likeness
+mod Holds
+mod Loops
+mod Firsts
+mod Bodies
