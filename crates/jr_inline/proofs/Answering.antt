@@ -8,10 +8,11 @@ use Rattle.jr_text.specs.Spans.{unit_bytes}
 use Rattle.jr_change.specs.declared.change.Change.{Change}
 use Rattle.jr_change.specs.declared.change.Course.{Course}
 use Rattle.jr_change.specs.declared.project.Project.{Project}
+use Rattle.jr_marks.specs.declared.marks.Marks.{Marks}
 use Rattle.jr_change.specs.declared.reason.ChangeFault.{ChangeFault}
 use Rattle.jr_change.specs.declared.reason.ChangeFault.TheVariants as fault
 use Rattle.jr_change.specs.declared.reason.Reason.TheVariants as reason
-use Rattle.jr_draft.specs.Asking.{rows_of, asked}
+use Rattle.jr_draft.specs.Asking.{rows_of, table_of, asked}
 use Rattle.jr_draft.specs.Drafting.{Drafted, IsFinished, no_edits}
 use Rattle.jr_inline.specs.declared.local.Local.{Local}
 use Rattle.jr_inline.specs.declared.removal.Joined.{Joined}
@@ -19,14 +20,15 @@ use Rattle.jr_inline.specs.declared.removal.Removal.{Removal}
 use Rattle.jr_inline.specs.Inlinable.{inlinable}
 use Rattle.jr_inline.specs.Removing.{joined_by, removal_of}
 use Rattle.jr_inline.specs.Forms.{IsCast}
-use Rattle.jr_inline.specs.Inlining.{Plan, IsPlanOf, IsInlined, IsInlinedBy, IsAskedFor, IsInlineAnswer, course_of, draft_of, edits_in, marks_of, with_uses, without_local}
+use Rattle.jr_inline.specs.Inlining.{Plan, IsPlanOf, IsInlined, IsInlinedBy, IsAskedFor, IsInlineAnswer, course_of, draft_of, edits_in, with_uses, without_local}
 
 -- ---- the plan
 
 pub plan_so : (old : Project) (local : Local) (removal : Removal) (joined : Option Joined) (cast : Option RowType) → removal ≡ removal_of old.marks local → joined ≡ joined_by (rows_of old) removal.rows
-    → IsCast old local cast → IsPlanOf old local (record { old = old; local = local; removal = removal; joined = joined; cast = cast })
+    → IsCast old local cast → IsPlanOf old local (record { rows = rows_of old; table = table_of old; local = local; removal = removal; joined = joined; cast = cast })
 plan_so old local removal joined cast goes joins casts = record {
-  old_is = refl;
+  rows_are = refl;
+  table_is = refl;
   local_is = refl;
   goes = goes;
   joins = joins ∙ ap (λ removal. joined_by (rows_of old) removal.rows) goes;
@@ -35,20 +37,20 @@ plan_so old local removal joined cast goes joins casts = record {
 
 -- ---- the change
 
-pub edited_by : (plan : Plan) (none without all : EditList) → none ≡ no_edits (length (unit_bytes (marks_of plan) plan.local.declarator)) → without ≡ without_local plan none → all ≡ with_uses plan without
-    → all ≡ edits_in plan
-edited_by plan none without all start goes uses = uses ∙ ap (with_uses plan) (goes ∙ ap (without_local plan) start)
+pub edited_by : (marks : Marks) (plan : Plan) (none without all : EditList) → none ≡ no_edits (length (unit_bytes marks plan.local.declarator)) → without ≡ without_local plan none
+    → all ≡ with_uses marks plan without → all ≡ edits_in marks plan
+edited_by marks plan none without all start goes uses = uses ∙ ap (with_uses marks plan) (goes ∙ ap (without_local plan) start)
 
 pub finished_by : (draft all : Drafted) (course : Course) (change : Change) → draft ≡ all → IsFinished draft course change → IsFinished all course change
 finished_by draft all course change same made = subst (λ draft. IsFinished draft course change) same made
 
-pub inlined_by : (old : Project) (local : Local) (plan : Plan) (answer : Result Change ChangeFault) → plan.old ≡ old → plan.local ≡ local → (IsOrdered old.marks → IsPlanOf old local plan)
-    → IfOk answer (λ change. IsOrdered plan.old.marks → IsFinished (draft_of plan) (course_of plan.local) change) → IfOk answer (λ change. IsOrdered old.marks → IsInlined old local change)
-inlined_by old local plan (Err why) old_is local_is planned made = tt
-inlined_by old local plan (Ok change) old_is local_is planned made = λ ordered. record {
+pub inlined_by : (old : Project) (local : Local) (plan : Plan) (answer : Result Change ChangeFault) → plan.local ≡ local → (IsOrdered old.marks → IsPlanOf old local plan)
+    → IfOk answer (λ change. IsOrdered old.marks → IsFinished (draft_of old.marks plan) (course_of plan.local) change) → IfOk answer (λ change. IsOrdered old.marks → IsInlined old local change)
+inlined_by old local plan (Err why) local_is planned made = tt
+inlined_by old local plan (Ok change) local_is planned made = λ ordered. record {
   plan = plan;
   is_plan = planned ordered;
-  finished = subst (λ local. IsFinished (draft_of plan) (course_of local) change) local_is (made (subst (λ old. IsOrdered old.marks) (sym old_is) ordered));
+  finished = subst (λ local. IsFinished (draft_of old.marks plan) (course_of local) change) local_is (made ordered);
 }
 
 -- ---- the answers to a request

@@ -4,6 +4,7 @@ use Rattle.std.proofs.lemmas.Bool.{false≢true, cases_lt}
 use Rattle.std.proofs.lemmas.Bool.Decides.{Decides-ltb}
 use Rattle.jr_draft.specs.Drafting.{Drafted}
 use Rattle.jr_edits.specs.Place.{EditList}
+use Rattle.jr_marks.specs.declared.marks.Marks.{Marks}
 use Rattle.jr_inline.specs.Inlining.{Copies, Plan, by_each, last_copied, rows_between, rows_to, units_to, uses_between, with_one, with_row, with_use}
 
 -- there is no step before the first number
@@ -46,20 +47,20 @@ rows_all plan first behind d n before all past reached early h made =
 
 -- ---- uses
 
-pub uses_start : (plan : Plan) (first : ℕ) (edits : EditList) → edits ≡ uses_between plan first edits first
-uses_start plan first edits = sym (each_none first (with_use plan) edits first (omega arith))
+pub uses_start : (marks : Marks) (plan : Plan) (first : ℕ) (edits : EditList) → edits ≡ uses_between marks plan first edits first
+uses_start marks plan first edits = sym (each_none first (with_use marks plan) edits first (omega arith))
 
-pub uses_more : (plan : Plan) (first : ℕ) (edits : EditList) (n : ℕ) (before more : EditList) → first ≤ n → before ≡ uses_between plan first edits n → more ≡ with_use plan n before → more ≡ uses_between plan first edits (n + 1)
-uses_more plan first edits n before more le h made = each_more first (with_use plan) edits n before more le h made
+pub uses_more : (marks : Marks) (plan : Plan) (first : ℕ) (edits : EditList) (n : ℕ) (before more : EditList) → first ≤ n → before ≡ uses_between marks plan first edits n → more ≡ with_use marks plan n before → more ≡ uses_between marks plan first edits (n + 1)
+uses_more marks plan first edits n before more le h made = each_more first (with_use marks plan) edits n before more le h made
 
-pub uses_all : (plan : Plan) (first behind : ℕ) (edits : EditList) (n : ℕ) (all : EditList) → behind ≤ n → (first ≤ behind → n ≤ behind) → (behind < first → n ≤ first) → all ≡ uses_between plan first edits n
-    → all ≡ uses_between plan first edits behind
-uses_all plan first behind edits n all past reached early h = h ∙ each_all first (with_use plan) edits n behind past reached early
+pub uses_all : (marks : Marks) (plan : Plan) (first behind : ℕ) (edits : EditList) (n : ℕ) (all : EditList) → behind ≤ n → (first ≤ behind → n ≤ behind) → (behind < first → n ≤ first) → all ≡ uses_between marks plan first edits n
+    → all ≡ uses_between marks plan first edits behind
+uses_all marks plan first behind edits n all past reached early h = h ∙ each_all first (with_use marks plan) edits n behind past reached early
 
 -- ---- units
 
-pub units_more : (plan : Plan) (unit : ℕ) (before more : Drafted) → 2 ≤ unit → before ≡ units_to plan unit → more ≡ with_one plan unit before → more ≡ units_to plan (unit + 1)
-units_more plan unit before more le h made = each_more 2 (with_one plan) (units_to plan 0) unit before more le h made
+pub units_more : (marks : Marks) (plan : Plan) (unit : ℕ) (before more : Drafted) → 2 ≤ unit → before ≡ units_to marks plan unit → more ≡ with_one marks plan unit before → more ≡ units_to marks plan (unit + 1)
+units_more marks plan unit before more le h made = each_more 2 (with_one marks plan) (units_to marks plan 0) unit before more le h made
 
-pub units_all : (plan : Plan) (unit count : ℕ) (draft : Drafted) → unit ≡ count → draft ≡ units_to plan unit → draft ≡ units_to plan count
-units_all plan unit count draft same h = h ∙ ap (units_to plan) same
+pub units_all : (marks : Marks) (plan : Plan) (unit count : ℕ) (draft : Drafted) → unit ≡ count → draft ≡ units_to marks plan unit → draft ≡ units_to marks plan count
+units_all marks plan unit count draft same h = h ∙ ap (units_to marks plan) same

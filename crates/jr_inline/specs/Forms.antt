@@ -17,7 +17,6 @@ use Rattle.jr_shapes.specs.Parts.{end_of}
 use Rattle.jr_weave.specs.Wording.{brackets, word_of}
 use Rattle.jr_marks.specs.declared.marks.Marks.{Marks}
 use Rattle.jr_text.specs.Spans.{part, tokens_span, unit_bytes}
-use Rattle.jr_view.specs.declared.View.{View}
 use Rattle.jr_change.specs.declared.change.Target.TheVariants as target
 use Rattle.jr_change.specs.declared.project.Project.{Project}
 use Rattle.jr_draft.specs.Asking.{rows_of, table_of}
@@ -27,9 +26,9 @@ use Rattle.jr_inline.specs.declared.local.Local.{Local}
 
 -- ---- which form
 
--- the type of the expression at a row, if it is one, as the view has it
-abbrev pub type_in : View → ℕ → Option RowType
-type_in view n = slice_index_or view.types.now n None
+-- the type of the expression at a row, if it is one, by the types of the program
+abbrev pub type_in : List (Option RowType) → ℕ → Option RowType
+type_in types n = slice_index_or types n None
 
 abbrev pub has_type : Option RowType → RowType → Bool
 has_type None ty = false
@@ -41,7 +40,7 @@ cast_by (Some ty) found = if has_type found ty then None else Some ty
 
 -- the type to which the initializer is cast: that of the local, where it has another one
 abbrev pub IsCast : Project → Local → Option RowType → Type 0
-IsCast old local cast = IsSized (rows_of old) → cast ≡ cast_by (type_of_declared (rows_of old) (entries (table_of old)) local.declarator) (type_in old.view local.value)
+IsCast old local cast = IsSized (rows_of old) → cast ≡ cast_by (type_of_declared (rows_of old) (entries (table_of old)) local.declarator) (type_in old.view.types.now local.value)
 
 abbrev pub name_place_by : Label → Option NamePlace
 name_place_by (is.Name kind place is_qualified) = Some place
@@ -110,8 +109,8 @@ abbrev pub back_text : Form → List ℕ
 back_text form = close_text form.is_enclosed ++ close_text (is_some form.cast)
 
 -- `a`, `(a)`, `((T)a)` or `((T)(a))`
-abbrev pub form_text : Marks → ℕ → Form → List ℕ
-form_text m value form = front_text m.rows.now form ++ (value_text m value ++ back_text form)
+abbrev pub form_text : Rows → List ℕ → Form → List ℕ
+form_text p value form = front_text p form ++ (value ++ back_text form)
 
 -- ---- its rows
 

@@ -1,14 +1,16 @@
 -- The local that is inlined (JLS 6.3, 14.4, 15.14, 15.15, 15.26).
-use Rattle.std.specs.Prelude.{ℕ, Bool, true, false, not, ◌&&◌, if◌then◌else◌, Option, Some, None, is_some, nat_eq, nat_le}
+use Rattle.std.specs.Prelude.{ℕ, Bool, true, false, not, ◌&&◌, if◌then◌else◌, List, Option, Some, None, is_some, nat_eq, nat_le, slice_index_or}
 use Rattle.jr_tree.specs.declared.label.Label.{Label}
 use Rattle.jr_tree.specs.declared.label.Label.TheVariants as is
 use Rattle.jr_tree.specs.declared.label.Role.TheVariants as role
 use Rattle.jr_tree.specs.Rows.{Rows, label, parent, role_at}
+use Rattle.jr_defs.specs.declared.referent.Referent.{Referent}
+use Rattle.jr_defs.specs.declared.referent.Referent.TheVariants.{Unbound}
 use Rattle.jr_plain.specs.Same.{same_role}
 use Rattle.jr_plain.specs.Search.{first_below}
 use Rattle.jr_shapes.specs.Parts.{end_of}
 use Rattle.jr_change.specs.declared.project.Project.{Project}
-use Rattle.jr_draft.specs.Asking.{rows_of, refers_to}
+use Rattle.jr_draft.specs.Asking.{declared_by, rows_of, table_of}
 use Rattle.jr_draft.specs.Drafting.{plus}
 use Rattle.jr_inline.specs.declared.local.Local.{Local}
 
@@ -87,27 +89,31 @@ abbrev pub is_row : Option ℕ → ℕ → Bool
 is_row None n = false
 is_row (Some found) n = nat_eq found n
 
-abbrev pub is_operand_of : Project → ℕ → Option ℕ → Bool
-is_operand_of old d None = false
-is_operand_of old d (Some operand) = is_row (refers_to old operand) d
+-- the declaration to which a row refers, by the table of the program
+abbrev pub refers_by : List Referent → ℕ → Option ℕ
+refers_by table n = declared_by (slice_index_or table n Unbound)
+
+abbrev pub is_operand_of : List Referent → ℕ → Option ℕ → Bool
+is_operand_of table d None = false
+is_operand_of table d (Some operand) = is_row (refers_by table operand) d
 
 -- the row assigns to the variable
-abbrev pub assigns_to : Project → ℕ → ℕ → Bool
-assigns_to old d n = is_operand_of old d (assigned_by (rows_of old) n)
+abbrev pub assigns_to : Rows → List Referent → ℕ → ℕ → Bool
+assigns_to p table d n = is_operand_of table d (assigned_by p n)
 
 -- the first of these rows that assigns to the variable
-abbrev pub first_assignment : Project → ℕ → ℕ → ℕ → Option ℕ
-first_assignment old d first behind = first_below behind (λ n. nat_le first n && assigns_to old d n)
+abbrev pub first_assignment : Rows → List Referent → ℕ → ℕ → ℕ → Option ℕ
+first_assignment p table d first behind = first_below behind (λ n. nat_le first n && assigns_to p table d n)
 
 -- some assignment or step in its scope changes the local
-abbrev pub is_assigned : Project → Local → Bool
-is_assigned old local = is_some (first_assignment old local.declarator local.declarator (scope_end (rows_of old) local))
+abbrev pub is_assigned : Rows → List Referent → Local → Bool
+is_assigned p table local = is_some (first_assignment p table local.declarator local.declarator (scope_end p local))
 
-abbrev pub if_never_assigned : Project → Option Local → Option Local
-if_never_assigned old None = None
-if_never_assigned old (Some local) = if is_assigned old local then None else Some local
+abbrev pub if_never_assigned : Rows → List Referent → Option Local → Option Local
+if_never_assigned p table None = None
+if_never_assigned p table (Some local) = if is_assigned p table local then None else Some local
 
 -- the local that can be inlined: it has an expression as initializer, and is never assigned again
 abbrev pub inlinable : Project → Option ℕ → Option Local
 inlinable old None = None
-inlinable old (Some d) = if_never_assigned old (local_of (rows_of old) d)
+inlinable old (Some d) = if_never_assigned (rows_of old) (table_of old) (local_of (rows_of old) d)

@@ -5,6 +5,7 @@ use Rattle.jr_tree.specs.declared.label.Label.TheVariants as is
 use Rattle.jr_tree.specs.declared.label.ReceiverKind.{ReceiverKind}
 use Rattle.jr_tree.specs.declared.label.ReceiverKind.TheVariants as on
 use Rattle.jr_tree.specs.Rows.{Rows, label, parent}
+use Rattle.jr_defs.specs.declared.referent.Referent.{Referent}
 use Rattle.jr_defs.specs.declared.referent.RowType.{RowType}
 use Rattle.jr_shapes.specs.Parts.{end_of}
 use Rattle.jr_marks.specs.declared.marks.Marks.{Marks}
@@ -21,7 +22,7 @@ use Rattle.jr_change.specs.declared.project.Project.{Project}
 use Rattle.jr_change.specs.declared.reason.ChangeFault.{ChangeFault}
 use Rattle.jr_change.specs.declared.reason.ChangeFault.TheVariants as fault
 use Rattle.jr_change.specs.declared.reason.Reason.TheVariants as reason
-use Rattle.jr_draft.specs.Asking.{rows_of, asked, refers_to}
+use Rattle.jr_draft.specs.Asking.{rows_of, table_of, asked}
 use Rattle.jr_draft.specs.Drafting.{Drafted, IsFinished, begun, copied, kept, no_edits, path_of, plus, turned, unit_row, with_unit}
 use Rattle.jr_inline.specs.declared.course.Fate.{Fate}
 use Rattle.jr_inline.specs.declared.course.Fate.TheVariants as fate
@@ -30,9 +31,9 @@ use Rattle.jr_inline.specs.declared.form.Form.{Form}
 use Rattle.jr_inline.specs.declared.local.Local.{Local}
 use Rattle.jr_inline.specs.declared.removal.Joined.{Joined}
 use Rattle.jr_inline.specs.declared.removal.Removal.{Removal}
-use Rattle.jr_inline.specs.Inlinable.{inlinable, is_row, scope_end}
+use Rattle.jr_inline.specs.Inlinable.{inlinable, is_row, refers_by, scope_end}
 use Rattle.jr_inline.specs.Removing.{is_gone, joined_by, removal_of}
-use Rattle.jr_inline.specs.Forms.{IsCast, form_of, form_rows, form_text, is_name}
+use Rattle.jr_inline.specs.Forms.{IsCast, form_of, form_rows, form_text, is_name, value_text}
 
 -- what a start becomes by a step at each number from the first on up to before another one
 abbrev pub by_each : {A : Type 0} → ℕ → (ℕ → A → A) → A → ℕ → A
@@ -43,27 +44,23 @@ by_each first step start (suc n) = let before = by_each first step start n in if
 
 -- a local of a program that is inlined, and what goes with it
 pub record Plan : Type 0 where
-  pub old : Project
+  pub rows : Rows
+  pub table : List Referent
   pub local : Local
   pub removal : Removal
   pub joined : Option Joined
   pub cast : Option RowType
 
 abbrev pub plan_by : Inlining → Plan
-plan_by i = record { old = i.old.now; local = i.local; removal = i.removal; joined = i.joined; cast = i.cast }
+plan_by i = record { rows = i.rows.now; table = i.table.now; local = i.local; removal = i.removal; joined = i.joined; cast = i.cast }
 
 pub record IsPlanOf (old : Project) (local : Local) (plan : Plan) : Type 0 where
-  pub old_is : plan.old ≡ old
+  pub rows_are : plan.rows ≡ rows_of old
+  pub table_is : plan.table ≡ table_of old
   pub local_is : plan.local ≡ local
   pub goes : plan.removal ≡ removal_of old.marks local
   pub joins : plan.joined ≡ joined_by (rows_of old) (removal_of old.marks local).rows
   pub casts : IsCast old local plan.cast
-
-abbrev pub marks_of : Plan → Marks
-marks_of plan = plan.old.marks
-
-abbrev pub rows_in : Plan → Rows
-rows_in plan = rows_of plan.old
 
 -- ---- what becomes of a row
 
@@ -88,11 +85,11 @@ is_for p n = is_for_by (label p n)
 
 -- the row refers to the local
 abbrev pub is_use : Plan → ℕ → Bool
-is_use plan n = is_row (refers_to plan.old n) plan.local.declarator
+is_use plan n = is_row (refers_by plan.table n) plan.local.declarator
 
 -- the last identifier of a name whose first one, which is the last row below it, refers to the local
 abbrev pub begins_with_local : Plan → ℕ → Bool
-begins_with_local plan n = is_name (rows_in plan) n && is_use plan (end_of (rows_in plan) n - 1)
+begins_with_local plan n = is_name plan.rows n && is_use plan (end_of plan.rows n - 1)
 
 -- these rows begin right below the row, and behind it
 abbrev pub begins_with : Rows → RowRange → ℕ → Bool
@@ -100,11 +97,11 @@ begins_with p r n = nat_eq (parent p r.first) n && nat_eq r.first (plus n 1)
 
 -- a `for` whose first part goes
 abbrev pub loses_first_part : Plan → ℕ → Bool
-loses_first_part plan n = is_for (rows_in plan) n && begins_with (rows_in plan) plan.removal.rows n
+loses_first_part plan n = is_for plan.rows n && begins_with plan.rows plan.removal.rows n
 
 -- the row stays, with another label: of a longer name a selection is left, which is no name before the dot of a call, and a `for` has no first part
 abbrev pub is_turned : Plan → ℕ → Bool
-is_turned plan n = if is_call_of_name (rows_in plan) n then begins_with_local plan (plus n 1) else (begins_with_local plan n || loses_first_part plan n)
+is_turned plan n = if is_call_of_name plan.rows n then begins_with_local plan (plus n 1) else (begins_with_local plan n || loses_first_part plan n)
 
 -- of two groups that become one the copy of the second stands in place of the first
 abbrev pub fate_in : Joined → ℕ → Fate
@@ -126,32 +123,32 @@ is_replaced fate.Replaced = true
 is_replaced _ = false
 
 abbrev pub form_at : Plan → ℕ → Form
-form_at plan n = form_of (rows_in plan) plan.local.value plan.cast n
+form_at plan n = form_of plan.rows plan.local.value plan.cast n
 
 -- ---- texts
 
-abbrev pub with_initializer : Plan → ℕ → EditList → EditList
-with_initializer plan n edits = pushed edits (own_span (marks_of plan) n) (form_text (marks_of plan) plan.local.value (form_at plan n))
+abbrev pub with_initializer : Marks → Plan → ℕ → EditList → EditList
+with_initializer marks plan n edits = pushed edits (own_span marks n) (form_text plan.rows (value_text marks plan.local.value) (form_at plan n))
 
 -- a use becomes the initializer in its form
-abbrev pub with_use : Plan → ℕ → EditList → EditList
-with_use plan n edits = if is_replaced (fate_of plan n) then with_initializer plan n edits else edits
+abbrev pub with_use : Marks → Plan → ℕ → EditList → EditList
+with_use marks plan n edits = if is_replaced (fate_of plan n) then with_initializer marks plan n edits else edits
 
 -- so does each use from a row on up to before another one
-abbrev pub uses_between : Plan → ℕ → EditList → ℕ → EditList
-uses_between plan first edits behind = by_each first (with_use plan) edits behind
+abbrev pub uses_between : Marks → Plan → ℕ → EditList → ℕ → EditList
+uses_between marks plan first edits behind = by_each first (with_use marks plan) edits behind
 
 -- and each use in the scope of the local
-abbrev pub with_uses : Plan → EditList → EditList
-with_uses plan edits = uses_between plan plan.local.declarator edits (scope_end (rows_in plan) plan.local)
+abbrev pub with_uses : Marks → Plan → EditList → EditList
+with_uses marks plan edits = uses_between marks plan plan.local.declarator edits (scope_end plan.rows plan.local)
 
 -- the declaration goes
 abbrev pub without_local : Plan → EditList → EditList
 without_local plan edits = pushed edits plan.removal.span []
 
 -- the edits of the text of the unit of the local
-abbrev pub edits_in : Plan → EditList
-edits_in plan = with_uses plan (without_local plan (no_edits (length (unit_bytes (marks_of plan) plan.local.declarator))))
+abbrev pub edits_in : Marks → Plan → EditList
+edits_in marks plan = with_uses marks plan (without_local plan (no_edits (length (unit_bytes marks plan.local.declarator))))
 
 -- ---- rows
 
@@ -160,7 +157,7 @@ abbrev pub fate_rows : Fate → Plan → ℕ → Drafted → Drafted
 fate_rows fate.Kept plan n d = copied d n (plus n 1)
 fate_rows fate.Turned plan n d = turned d n
 fate_rows fate.Gone plan n d = d
-fate_rows fate.Replaced plan n d = form_rows (rows_in plan) plan.local.value (form_at plan n) d
+fate_rows fate.Replaced plan n d = form_rows plan.rows plan.local.value (form_at plan n) d
 fate_rows (fate.Instead row) plan n d = copied d row (plus row 1)
 
 -- rows so far, and the first one of those that stay and are still to be copied
@@ -187,26 +184,26 @@ rows_between plan first behind d = last_copied (rows_to plan first d behind) beh
 
 -- with what stands in place of a row and of all below it
 abbrev pub with_rows : Plan → ℕ → Drafted → Drafted
-with_rows plan over d = rows_between plan over (end_of (rows_in plan) over) d
+with_rows plan over d = rows_between plan over (end_of plan.rows over) d
 
 -- ---- the change
 
-abbrev pub edited_unit : Plan → ℕ → ChangedUnit
-edited_unit plan unit = record { path = path_of (marks_of plan) unit; source = source.Edited unit (edits_in plan) }
+abbrev pub edited_unit : Marks → Plan → ℕ → ChangedUnit
+edited_unit marks plan unit = record { path = path_of marks unit; source = source.Edited unit (edits_in marks plan) }
 
-abbrev pub with_edited : Plan → ℕ → Drafted → Drafted
-with_edited plan unit d = with_rows plan (unit_row (marks_of plan) unit) (with_unit d (edited_unit plan unit))
+abbrev pub with_edited : Marks → Plan → ℕ → Drafted → Drafted
+with_edited marks plan unit d = with_rows plan (unit_row marks unit) (with_unit d (edited_unit marks plan unit))
 
 -- the unit of the local is edited, and each other one stays
-abbrev pub with_one : Plan → ℕ → Drafted → Drafted
-with_one plan unit d = if nat_eq unit (unit_of (marks_of plan) plan.local.declarator) then with_edited plan unit d else kept (marks_of plan) unit d
+abbrev pub with_one : Marks → Plan → ℕ → Drafted → Drafted
+with_one marks plan unit d = if nat_eq unit (unit_of marks plan.local.declarator) then with_edited marks plan unit d else kept marks unit d
 
 -- the units of the workspace among the first ones, so many of them; they stand behind the two of the prelude
-abbrev pub units_to : Plan → ℕ → Drafted
-units_to plan count = by_each 2 (with_one plan) (begun (marks_of plan)) count
+abbrev pub units_to : Marks → Plan → ℕ → Drafted
+units_to marks plan count = by_each 2 (with_one marks plan) (begun marks) count
 
-abbrev pub draft_of : Plan → Drafted
-draft_of plan = units_to plan (length (marks_of plan).units.now)
+abbrev pub draft_of : Marks → Plan → Drafted
+draft_of marks plan = units_to marks plan (length marks.units.now)
 
 abbrev pub course_of : Local → Course
 course_of local = course.Inlined local.declarator local.statement
@@ -215,7 +212,7 @@ course_of local = course.Inlined local.declarator local.statement
 pub record IsInlined (old : Project) (local : Local) (change : Change) : Type 0 where
   pub plan : Plan
   pub is_plan : IsPlanOf old local plan
-  pub finished : IsFinished (draft_of plan) (course_of local) change
+  pub finished : IsFinished (draft_of old.marks plan) (course_of local) change
 
 -- what comes of a local that can be inlined: the change; or want of memory, which is also told where the copies of the initializer have more than 64 MiB, or what is replaced
 -- does not stand apart

@@ -4,12 +4,12 @@ ghost use Rattle.jr_marks.specs.Places.{IsOrdered};
 ghost use Rattle.jr_inline.specs.Inlining as spec;
 
 use crate::form::{Form, cast_of, is_name};
-use crate::local::{Local, is_row};
+use crate::local::{Local, is_row, refers_by};
 use crate::removal::{Joined, Removal, is_gone, joined_by};
 use jr_base::OutOfMemory;
 use jr_change::{Project, RowRange};
-use jr_defs::RowType;
-use jr_draft::{Draft, refers_to};
+use jr_defs::{Referent, RowType};
+use jr_draft::Draft;
 use jr_places::parent_at;
 use jr_shapes::end_of;
 use jr_tree::{Label, ReceiverKind, Row};
@@ -32,7 +32,9 @@ pub enum Fate {
 /// A local of a program that is inlined, and what goes with it.
 #[derive(Clone, Copy)]
 pub struct Inlining<'a> {
-    pub old: &'a Project<'a>,
+    pub rows: &'a [Row],
+    /// What the rows refer to.
+    pub table: &'a [Referent],
     pub local: Local,
     pub removal: Removal,
     pub joined: Option<Joined>,
@@ -114,15 +116,16 @@ pub fn is_replaced(fate: Fate) -> bool
 impl<'a> Inlining<'a> {
     /// The inlining of a local.
     pub fn of(old: &'a Project<'a>, local: Local) -> Inlining<'a>
-        ensures old_is { result.old.now ≡ old.now }
         ensures local_is { result.local ≡ local }
         ensures plan { IsOrdered old.now.marks → spec.IsPlanOf old.now local (spec.plan_by result) }
     {
+        let rows = old.marks.rows;
         let removal = Removal::of(&old.marks, local);
-        let joined = joined_by(old.marks.rows, removal.rows);
+        let joined = joined_by(rows, removal.rows);
         let cast = cast_of(old, local);
         Inlining {
-            old,
+            rows,
+            table: old.view.sight.world.under.table,
             local,
             removal,
             joined,
@@ -130,39 +133,32 @@ impl<'a> Inlining<'a> {
         }
     }
 
-    fn rows(&self) -> &'a [Row]
-        ensures { result.now ≡ spec.rows_in (spec.plan_by self.now) }
-    {
-        let old = self.old;
-        old.marks.rows
-    }
-
     // The row refers to the local.
     fn is_use(&self, at: u32) -> bool
         ensures { result ≡ spec.is_use (spec.plan_by self.now) at }
     {
-        is_row(refers_to(self.old, at), self.local.declarator)
+        is_row(refers_by(self.table, at), self.local.declarator)
     }
 
     // The row is the last identifier of a name whose first one, which is the last row below it, refers to the local.
     fn begins_with_local(&self, at: u32) -> bool
         ensures { result ≡ spec.begins_with_local (spec.plan_by self.now) at }
     {
-        is_name(self.rows(), at) && self.is_use(end_of(self.rows(), at).saturating_sub(1))
+        is_name(self.rows, at) && self.is_use(end_of(self.rows, at).saturating_sub(1))
     }
 
     // The row is a `for` whose first part goes.
     fn loses_first_part(&self, at: u32) -> bool
         ensures { result ≡ spec.loses_first_part (spec.plan_by self.now) at }
     {
-        is_for(self.rows(), at) && begins_with(self.rows(), self.removal.rows, at)
+        is_for(self.rows, at) && begins_with(self.rows, self.removal.rows, at)
     }
 
     // The row keeps its place, but not its label: of a longer name a selection is left, which is no name before the dot of a call.
     fn is_turned(&self, at: u32) -> bool
         ensures { result ≡ spec.is_turned (spec.plan_by self.now) at }
     {
-        if is_call_of_name(self.rows(), at) {
+        if is_call_of_name(self.rows, at) {
             self.begins_with_local(at.saturating_add(1))
         } else {
             self.begins_with_local(at) || self.loses_first_part(at)
@@ -188,7 +184,7 @@ impl<'a> Inlining<'a> {
     pub fn form(&self, used: u32) -> Form
         ensures { result ≡ spec.form_at (spec.plan_by self.now) used }
     {
-        Form::of(self.rows(), self.local.value, self.cast, used)
+        Form::of(self.rows, self.local.value, self.cast, used)
     }
 
     // Adds what stands in place of a row.
@@ -199,7 +195,7 @@ impl<'a> Inlining<'a> {
             Fate::Kept => draft.copy(at, at.saturating_add(1)),
             Fate::Turned => draft.turned(at),
             Fate::Gone => Ok(()),
-            Fate::Replaced => self.form(at).add_rows(draft, self.rows(), self.local.value),
+            Fate::Replaced => self.form(at).add_rows(draft, self.rows, self.local.value),
             Fate::Instead(row) => draft.copy(row, row.saturating_add(1)),
         }
     }
@@ -242,6 +238,6 @@ impl<'a> Inlining<'a> {
     pub fn add_rows(&self, draft: &mut Draft, over: u32) -> Result<(), OutOfMemory>
         ensures { OnOk result (draft.new ≡ spec.with_rows (spec.plan_by self.now) over draft.old) }
     {
-        self.add_between(draft, over, end_of(self.rows(), over))
+        self.add_between(draft, over, end_of(self.rows, over))
     }
 }

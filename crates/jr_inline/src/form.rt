@@ -15,7 +15,6 @@ use jr_shapes::end_of;
 use jr_supers::Tabled;
 use jr_text::{part, tokens_span, unit_bytes};
 use jr_tree::{Label, NamePlace, Row};
-use jr_view::View;
 use jr_weave::{is_atom, word_of};
 use std::alloc::Global;
 
@@ -28,11 +27,11 @@ pub struct Form {
     pub is_enclosed: bool,
 }
 
-/// The type of the expression at a row, if it is one.
-pub fn type_of(view: &View, at: u32) -> Option<RowType>
-    ensures { result ≡ spec.type_in view.now at }
+/// The type of the expression at a row, if it is one, by the types of the program.
+pub fn type_of(types: &[Option<RowType>], at: u32) -> Option<RowType>
+    ensures { result ≡ spec.type_in types.now at }
 {
-    match view.types.get(at as usize) {
+    match types.get(at as usize) {
         Some(ty) => *ty,
         None => None,
     }
@@ -79,8 +78,8 @@ fn is_before_dot(rows: &[Row], at: u32) -> bool
     }
 }
 
-// What is found is this type.
-fn has_type(found: Option<RowType>, ty: RowType) -> bool
+/// What is found is this type.
+pub fn has_type(found: Option<RowType>, ty: RowType) -> bool
     ensures { result ≡ spec.has_type found ty }
 {
     match found {
@@ -113,7 +112,7 @@ pub fn cast_of(old: &Project, local: Local) -> Option<RowType>
     };
     cast_by(
         tabled.type_of_declared(local.declarator),
-        type_of(&old.view, local.value),
+        type_of(old.view.types, local.value),
     )
 }
 
@@ -185,12 +184,11 @@ fn add_close(out: &mut Vec<u8>, is_open: bool) -> Result<(), OutOfMemory>
     if is_open { add(out, b")") } else { Ok(()) }
 }
 
-// The bytes of an expression.
-fn add_value(out: &mut Vec<u8>, marks: &Marks, value: u32) -> Result<(), OutOfMemory>
-    ensures { OnOk result (IsOrdered marks.now → out.new.items ≡ out.old.items ++ spec.value_text marks.now value) }
+/// The bytes of an expression.
+pub fn value_bytes<'p>(marks: &Marks<'p>, value: u32) -> &'p [u8]
+    ensures { IsOrdered marks.now → result.now ≡ spec.value_text marks.now value }
 {
-    out.extend_from_slice(part(unit_bytes(marks, value), tokens_span(marks, value)))?;
-    Ok(())
+    part(unit_bytes(marks, value), tokens_span(marks, value))
 }
 
 // The name of a class refers to that.
@@ -257,22 +255,22 @@ impl Form {
         add_close(out, self.cast.is_some())
     }
 
-    // The initializer in this form.
-    fn add_all(self, out: &mut Vec<u8>, marks: &Marks, value: u32) -> Result<(), OutOfMemory>
-        ensures { OnOk result (IsOrdered marks.now → out.new.items ≡ out.old.items ++ spec.form_text marks.now value self) }
+    // These bytes in this form.
+    #[tactic(auto, using(jr_weave::proofs::Adding::adds_three))]
+    fn add_all(self, out: &mut Vec<u8>, rows: &[Row], value: &[u8]) -> Result<(), OutOfMemory>
+        ensures { OnOk result (out.new.items ≡ out.old.items ++ spec.form_text rows.now value.now self) }
     {
-        self.add_front(out, marks.rows)?;
-        add_value(out, marks, value)?;
-        self.add_back(out)?;
-        Ok(())
+        self.add_front(out, rows)?;
+        add(out, value)?;
+        self.add_back(out)
     }
 
-    /// The text of the initializer at a row in this form.
-    pub fn text(self, alloc: Global, marks: &Marks, value: u32) -> Result<Text, OutOfMemory>
-        ensures { IfOk result (λ text. IsOrdered marks.now → text ≡ spec.form_text marks.now value self) }
+    /// The text of an initializer of these bytes in this form.
+    pub fn text(self, alloc: Global, rows: &[Row], value: &[u8]) -> Result<Text, OutOfMemory>
+        ensures { IfOk result (λ text. text ≡ spec.form_text rows.now value.now self) }
     {
         let mut out = Vec::new(alloc);
-        self.add_all(&mut out, marks, value)?;
+        self.add_all(&mut out, rows, value)?;
         Ok(Text::new(out))
     }
 

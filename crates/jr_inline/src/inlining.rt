@@ -1,15 +1,18 @@
 // The inline of a local.
 ghost use Rattle.std.specs.Prelude.{◌≡◌, IfErr, IfOk, OnOk};
 ghost use Rattle.jr_marks.specs.Places.{IsOrdered};
+ghost use Rattle.jr_edits.specs.Place.{pushed};
 ghost use Rattle.jr_draft.specs.Drafting.{IsFinished};
 ghost use Rattle.jr_inline.specs.Inlining as spec;
 
 use crate::course::{Inlining, is_replaced};
+use crate::form::value_bytes;
 use crate::local::{Local, inlinable};
-use jr_base::{OutOfMemory, Text};
+use jr_base::{OutOfMemory, Span, Text};
 use jr_change::{Change, ChangeFault, Course, Project, Reason, UnitSource};
 use jr_draft::{Draft, PRELUDE, asked, count_units, edits_of, path_of, unit_row};
 use jr_edits::Edits;
+use jr_marks::Marks;
 use jr_text::own_span;
 use jr_weave::MOST_BYTES;
 use std::alloc::Global;
@@ -45,23 +48,35 @@ fn left_after(left: usize, text: &[u8]) -> Result<usize, OutOfMemory> {
     }
 }
 
+// Replaces the bytes of a span, which stand apart from those replaced before; want of memory is told where they do not.
+fn put(edits: &mut Edits, span: Span, text: Text) -> Result<(), OutOfMemory>
+    ensures { OnOk result (edits.new ≡ pushed edits.old span text) }
+{
+    match edits.push(span, text) {
+        Ok(()) => Ok(()),
+        Err(_) => Err(OutOfMemory),
+    }
+}
+
 // Replaces a use, where so many bytes of copies are left. It gives how many are left then.
 fn replace_use(
     alloc: Global,
     edits: &mut Edits,
+    marks: &Marks,
     inlining: &Inlining,
     left: usize,
     at: u32,
-) -> Result<usize, ChangeFault>
-    ensures ok { OnOk result (IsOrdered inlining.now.old.now.marks → edits.new ≡ spec.with_initializer (spec.plan_by inlining.now) at edits.old) }
-    ensures fault { IfErr result (λ fault. fault ≡ ChangeFault.OutOfMemory) }
+) -> Result<usize, OutOfMemory>
+    ensures { OnOk result (IsOrdered marks.now → edits.new ≡ spec.with_initializer marks.now (spec.plan_by inlining.now) at edits.old) }
 {
-    let old = inlining.old;
-    let marks = &old.marks;
     let form = inlining.form(at);
-    let text = form.text(alloc, marks, inlining.local.value)?;
+    let text = form.text(
+        alloc,
+        inlining.rows,
+        value_bytes(marks, inlining.local.value),
+    )?;
     let rest = left_after(left, text.bytes())?;
-    edits.push(own_span(marks, at), text)?;
+    put(edits, own_span(marks, at), text)?;
     Ok(rest)
 }
 
@@ -69,15 +84,15 @@ fn replace_use(
 fn push_use(
     alloc: Global,
     edits: &mut Edits,
+    marks: &Marks,
     inlining: &Inlining,
     at: u32,
     left: usize,
-) -> Result<usize, ChangeFault>
-    ensures ok { OnOk result (IsOrdered inlining.now.old.now.marks → edits.new ≡ spec.with_use (spec.plan_by inlining.now) at edits.old) }
-    ensures fault { IfErr result (λ fault. fault ≡ ChangeFault.OutOfMemory) }
+) -> Result<usize, OutOfMemory>
+    ensures { OnOk result (IsOrdered marks.now → edits.new ≡ spec.with_use marks.now (spec.plan_by inlining.now) at edits.old) }
 {
     if is_replaced(inlining.fate(at)) {
-        replace_use(alloc, edits, inlining, left, at)
+        replace_use(alloc, edits, marks, inlining, left, at)
     } else {
         Ok(left)
     }
@@ -87,49 +102,48 @@ fn push_use(
 fn push_between(
     alloc: Global,
     edits: &mut Edits,
+    marks: &Marks,
     inlining: &Inlining,
     first: u32,
     behind: u32,
-) -> Result<(), ChangeFault>
-    ensures ok { OnOk result (IsOrdered inlining.now.old.now.marks → edits.new ≡ spec.uses_between (spec.plan_by inlining.now) first edits.old behind) }
-    ensures fault { IfErr result (λ fault. fault ≡ ChangeFault.OutOfMemory) }
+) -> Result<(), OutOfMemory>
+    ensures { OnOk result (IsOrdered marks.now → edits.new ≡ spec.uses_between marks.now (spec.plan_by inlining.now) first edits.old behind) }
 {
     let mut left = MOST_BYTES;
     for at in first..behind {
-        left = push_use(alloc, edits, inlining, at, left)?;
+        left = push_use(alloc, edits, marks, inlining, at, left)?;
     }
     Ok(())
 }
 
 // Replaces the uses.
-fn push_uses(alloc: Global, edits: &mut Edits, inlining: &Inlining) -> Result<(), ChangeFault>
-    ensures ok { OnOk result (IsOrdered inlining.now.old.now.marks → edits.new ≡ spec.with_uses (spec.plan_by inlining.now) edits.old) }
-    ensures fault { IfErr result (λ fault. fault ≡ ChangeFault.OutOfMemory) }
+fn push_uses(
+    alloc: Global,
+    edits: &mut Edits,
+    marks: &Marks,
+    inlining: &Inlining,
+) -> Result<(), OutOfMemory>
+    ensures { OnOk result (IsOrdered marks.now → edits.new ≡ spec.with_uses marks.now (spec.plan_by inlining.now) edits.old) }
 {
-    let old = inlining.old;
     let local = inlining.local;
-    let behind = local.scope_end(old.marks.rows);
-    push_between(alloc, edits, inlining, local.declarator, behind)
+    let behind = local.scope_end(inlining.rows);
+    push_between(alloc, edits, marks, inlining, local.declarator, behind)
 }
 
 // Takes the declaration away.
-fn push_removal(alloc: Global, edits: &mut Edits, inlining: &Inlining) -> Result<(), ChangeFault>
-    ensures ok { OnOk result (edits.new ≡ spec.without_local (spec.plan_by inlining.now) edits.old) }
-    ensures fault { IfErr result (λ fault. fault ≡ ChangeFault.OutOfMemory) }
+fn push_removal(alloc: Global, edits: &mut Edits, inlining: &Inlining) -> Result<(), OutOfMemory>
+    ensures { OnOk result (edits.new ≡ spec.without_local (spec.plan_by inlining.now) edits.old) }
 {
-    edits.push(inlining.removal.span, Text::of(alloc, &[])?)?;
-    Ok(())
+    put(edits, inlining.removal.span, Text::of(alloc, &[])?)
 }
 
 // The edits of the unit of the local.
-fn edited(alloc: Global, inlining: &Inlining) -> Result<Edits, ChangeFault>
-    ensures ok { IfOk result (λ edits. IsOrdered inlining.now.old.now.marks → edits ≡ spec.edits_in (spec.plan_by inlining.now)) }
-    ensures fault { IfErr result (λ fault. fault ≡ ChangeFault.OutOfMemory) }
+fn edited(alloc: Global, marks: &Marks, inlining: &Inlining) -> Result<Edits, OutOfMemory>
+    ensures { IfOk result (λ edits. IsOrdered marks.now → edits ≡ spec.edits_in marks.now (spec.plan_by inlining.now)) }
 {
-    let old = inlining.old;
-    let mut edits = edits_of(alloc, &old.marks, inlining.local.declarator)?;
+    let mut edits = edits_of(alloc, marks, inlining.local.declarator)?;
     push_removal(alloc, &mut edits, inlining)?;
-    push_uses(alloc, &mut edits, inlining)?;
+    push_uses(alloc, &mut edits, marks, inlining)?;
     Ok(edits)
 }
 
@@ -137,63 +151,52 @@ fn edited(alloc: Global, inlining: &Inlining) -> Result<Edits, ChangeFault>
 fn add_edited(
     alloc: Global,
     draft: &mut Draft,
+    marks: &Marks,
     inlining: &Inlining,
     unit: u32,
-) -> Result<(), ChangeFault>
-    ensures ok { OnOk result (IsOrdered inlining.now.old.now.marks → draft.new ≡ spec.with_edited (spec.plan_by inlining.now) unit draft.old) }
-    ensures fault { IfErr result (λ fault. fault ≡ ChangeFault.OutOfMemory) }
+) -> Result<(), OutOfMemory>
+    ensures { OnOk result (IsOrdered marks.now → draft.new ≡ spec.with_edited marks.now (spec.plan_by inlining.now) unit draft.old) }
 {
-    let old = inlining.old;
-    let marks = &old.marks;
-    let edits = edited(alloc, inlining)?;
-    draft.add(
-        path_of(alloc, marks, unit)?,
-        UnitSource::Edited { unit, edits },
-    )?;
-    inlining.add_rows(draft, unit_row(marks, unit))?;
-    Ok(())
+    let path = path_of(alloc, marks, unit)?;
+    let edits = edited(alloc, marks, inlining)?;
+    draft.add(path, UnitSource::Edited { unit, edits })?;
+    inlining.add_rows(draft, unit_row(marks, unit))
 }
 
 // Adds a unit.
 fn add_one(
     alloc: Global,
     draft: &mut Draft,
+    marks: &Marks,
     inlining: &Inlining,
     unit: u32,
-) -> Result<(), ChangeFault>
-    ensures ok { OnOk result (IsOrdered inlining.now.old.now.marks → draft.new ≡ spec.with_one (spec.plan_by inlining.now) unit draft.old) }
-    ensures fault { IfErr result (λ fault. fault ≡ ChangeFault.OutOfMemory) }
+) -> Result<(), OutOfMemory>
+    ensures { OnOk result (IsOrdered marks.now → draft.new ≡ spec.with_one marks.now (spec.plan_by inlining.now) unit draft.old) }
 {
-    let old = inlining.old;
-    let marks = &old.marks;
     if unit == marks.unit_of(inlining.local.declarator) {
-        add_edited(alloc, draft, inlining, unit)
+        add_edited(alloc, draft, marks, inlining, unit)
     } else {
-        draft.keep(alloc, marks, unit)?;
-        Ok(())
+        draft.keep(alloc, marks, unit)
     }
 }
 
 // All units, of which that of the local is changed.
-fn draft_inlined(alloc: Global, inlining: &Inlining) -> Result<Draft, ChangeFault>
-    ensures ok { IfOk result (λ draft. IsOrdered inlining.now.old.now.marks → draft ≡ spec.draft_of (spec.plan_by inlining.now)) }
-    ensures fault { IfErr result (λ fault. fault ≡ ChangeFault.OutOfMemory) }
+fn draft_inlined(alloc: Global, marks: &Marks, inlining: &Inlining) -> Result<Draft, OutOfMemory>
+    ensures { IfOk result (λ draft. IsOrdered marks.now → draft ≡ spec.draft_of marks.now (spec.plan_by inlining.now)) }
 {
-    let old = inlining.old;
-    let marks = &old.marks;
     let mut draft = Draft::new(alloc, marks)?;
     for unit in PRELUDE..count_units(marks) {
-        add_one(alloc, &mut draft, inlining, unit)?;
+        add_one(alloc, &mut draft, marks, inlining, unit)?;
     }
     Ok(draft)
 }
 
 // The change that the inlining makes.
-fn inlined(alloc: Global, inlining: &Inlining) -> Result<Change, ChangeFault>
-    ensures ok { IfOk result (λ change. IsOrdered inlining.now.old.now.marks → IsFinished (spec.draft_of (spec.plan_by inlining.now)) (spec.course_of inlining.now.local) change) }
+fn inlined(alloc: Global, marks: &Marks, inlining: &Inlining) -> Result<Change, ChangeFault>
+    ensures ok { IfOk result (λ change. IsOrdered marks.now → IsFinished (spec.draft_of marks.now (spec.plan_by inlining.now)) (spec.course_of inlining.now.local) change) }
     ensures fault { IfErr result (λ fault. fault ≡ ChangeFault.OutOfMemory) }
 {
-    let draft = draft_inlined(alloc, inlining)?;
+    let draft = draft_inlined(alloc, marks, inlining)?;
     Ok(draft.finish_as(Course::Inlined {
         local: inlining.local.declarator,
         statement: inlining.local.statement,
@@ -206,5 +209,5 @@ fn inlined_local(alloc: Global, old: &Project, local: Local) -> Result<Change, C
     ensures fault { IfErr result (λ fault. fault ≡ ChangeFault.OutOfMemory) }
 {
     let inlining = Inlining::of(old, local);
-    inlined(alloc, &inlining)
+    inlined(alloc, &old.marks, &inlining)
 }

@@ -3,7 +3,7 @@ ghost use Rattle.std.specs.Prelude.{◌≡◌};
 ghost use Rattle.jr_inline.specs.Inlinable as spec;
 
 use jr_change::Project;
-use jr_draft::refers_to;
+use jr_defs::Referent;
 use jr_places::{parent_at, role_at};
 use jr_shapes::end_of;
 use jr_tree::{Label, Role, Row};
@@ -119,22 +119,38 @@ pub fn is_row(found: Option<u32>, row: u32) -> bool
     }
 }
 
-// The row assigns to the variable.
-fn assigns_to(old: &Project, declared: u32, at: u32) -> bool
-    ensures { result ≡ spec.assigns_to old.now declared at }
+/// The declaration to which a row refers, by the table of the program.
+pub fn refers_by(table: &[Referent], row: u32) -> Option<u32>
+    ensures { result ≡ spec.refers_by table.now row }
 {
-    match assigned_by(old.marks.rows, at) {
-        Some(operand) => is_row(refers_to(old, operand), declared),
+    match table.get(row as usize) {
+        Some(Referent::Declared { row, .. }) => Some(*row),
+        _ => None,
+    }
+}
+
+// The row assigns to the variable.
+fn assigns_to(rows: &[Row], table: &[Referent], declared: u32, at: u32) -> bool
+    ensures { result ≡ spec.assigns_to rows.now table.now declared at }
+{
+    match assigned_by(rows, at) {
+        Some(operand) => is_row(refers_by(table, operand), declared),
         None => false,
     }
 }
 
 // The first of these rows that assigns to the variable.
-fn first_assignment(old: &Project, declared: u32, first: u32, behind: u32) -> Option<u32>
-    ensures { result ≡ spec.first_assignment old.now declared first behind }
+fn first_assignment(
+    rows: &[Row],
+    table: &[Referent],
+    declared: u32,
+    first: u32,
+    behind: u32,
+) -> Option<u32>
+    ensures { result ≡ spec.first_assignment rows.now table.now declared first behind }
 {
     for at in first..behind {
-        if assigns_to(old, declared, at) {
+        if assigns_to(rows, table, declared, at) {
             return Some(at);
         }
     }
@@ -142,11 +158,11 @@ fn first_assignment(old: &Project, declared: u32, first: u32, behind: u32) -> Op
 }
 
 // Some assignment or step changes the local.
-fn is_assigned(old: &Project, local: Local) -> bool
-    ensures { result ≡ spec.is_assigned old.now local }
+fn is_assigned(rows: &[Row], table: &[Referent], local: Local) -> bool
+    ensures { result ≡ spec.is_assigned rows.now table.now local }
 {
-    let behind = local.scope_end(old.marks.rows);
-    first_assignment(old, local.declarator, local.declarator, behind).is_some()
+    let behind = local.scope_end(rows);
+    first_assignment(rows, table, local.declarator, local.declarator, behind).is_some()
 }
 
 impl Local {
@@ -185,11 +201,11 @@ fn scope_over(rows: &[Row], over: u32) -> u32
 }
 
 // The local, if it is never assigned again.
-fn if_never_assigned(old: &Project, local: Option<Local>) -> Option<Local>
-    ensures { result ≡ spec.if_never_assigned old.now local }
+fn if_never_assigned(rows: &[Row], table: &[Referent], local: Option<Local>) -> Option<Local>
+    ensures { result ≡ spec.if_never_assigned rows.now table.now local }
 {
     let local = local?;
-    if is_assigned(old, local) {
+    if is_assigned(rows, table, local) {
         None
     } else {
         Some(local)
@@ -201,5 +217,7 @@ pub fn inlinable(old: &Project, declared: Option<u32>) -> Option<Local>
     ensures { result ≡ spec.inlinable old.now declared }
 {
     let declared = declared?;
-    if_never_assigned(old, Local::of(old.marks.rows, declared))
+    let rows = old.marks.rows;
+    let table = old.view.sight.world.under.table;
+    if_never_assigned(rows, table, Local::of(rows, declared))
 }

@@ -62,7 +62,7 @@ fn declarator_behind(rows: &[Row], local: Local) -> Option<u32>
     }
 }
 
-fn rows_of(rows: &[Row], at: u32) -> RowRange
+pub fn rows_of(rows: &[Row], at: u32) -> RowRange
     ensures { result ≡ spec.rows_at rows.now at }
 {
     RowRange {

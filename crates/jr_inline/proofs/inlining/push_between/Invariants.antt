@@ -6,5 +6,5 @@ use Rattle.jr_inline.proofs.inlining.push_between.Given as goal
 abbrev pub invariant-loop-at : goal.invariant-loop-at
 invariant-loop-at l = record {
   early : l.behind < l.first → l.at ≤ l.first;
-  uses : IsOrdered l.inlining.old.now.marks → l.edits ≡ uses_between (plan_by l.inlining) l.first l.fn.edits l.at;
+  uses : IsOrdered l.marks → l.edits ≡ uses_between l.marks (plan_by l.inlining) l.first l.fn.edits l.at;
 }
