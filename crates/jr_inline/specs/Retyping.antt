@@ -1,5 +1,5 @@
 -- Expressions that have another type after an inline of a local (JLS 4.12.2, 15, 15.28).
-use Rattle.std.specs.Prelude.{◌≡◌, ◌⊎◌, ℕ, ◌≤◌, ◌<◌, ◌^◌, Bool, true, false, not, ◌&&◌, ◌||◌, if◌then◌else◌, List, length, Option, Some, None, option_map, nat_eq, nat_lt}
+use Rattle.std.specs.Prelude.{◌≡◌, ◌⊎◌, ℕ, ◌≤◌, ◌<◌, ◌^◌, Bool, true, false, not, ◌&&◌, ◌||◌, if◌then◌else◌, List, length, Option, Some, None, nat_eq, nat_lt}
 use Rattle.jr_base.specs.declared.constant.Const.{Const}
 use Rattle.jr_base.specs.declared.constant.Const.TheVariants as constant
 use Rattle.jr_base.specs.declared.token.Place.{Place}

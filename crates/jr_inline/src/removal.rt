@@ -62,6 +62,7 @@ fn declarator_behind(rows: &[Row], local: Local) -> Option<u32>
     }
 }
 
+/// A row and all below it.
 pub fn rows_of(rows: &[Row], at: u32) -> RowRange
     ensures { result ≡ spec.rows_at rows.now at }
 {

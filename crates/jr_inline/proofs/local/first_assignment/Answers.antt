@@ -1,4 +1,4 @@
-use Rattle.std.proofs.Common.{◌≡◌, ◌∙◌, sym, arith, nat_le, ◌&&◌}
+use Rattle.std.proofs.Common.{◌∙◌, sym, arith, nat_le, ◌&&◌}
 use Rattle.jr_marks.proofs.Firsts.{first_none, first_some}
 use Rattle.jr_marks.proofs.Cuts.{from_passes, more_fails}
 use Rattle.jr_inline.specs.Inlinable.{assigns_to}
