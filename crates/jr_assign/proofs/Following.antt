@@ -1,5 +1,5 @@
 -- Where two tables follow the equations round by round, from the same on, they have the same once each row has waited for those before it. So the equations of a member have one solution.
-use Rattle.std.proofs.Common.{◌≡◌, refl, sym, ◌∙◌, ap, ap₂, subst, ⊎_elim, arith, ℕ, zero, suc, ◌+◌, ◌-◌, ◌*◌, ◌<◌, ◌≤◌, Bool, true, false, if◌then◌else◌, length, Some}
+use Rattle.std.proofs.Common.{◌≡◌, refl, sym, ◌∙◌, ap, ap₂, subst, ⊎_elim, arith, ℕ, zero, suc, ◌+◌, ◌-◌, ◌*◌, ◌<◌, ◌≤◌, Bool, true, false, if◌then◌else◌, length, Some, nat_eq}
 use Rattle.std.proofs.lemmas.Bool.{cases_eq, cases_lt, cases_Bool}
 use Rattle.jr_tree.specs.declared.label.Label.TheVariants as is
 use Rattle.jr_tree.specs.Rows.{Rows, label, end}
@@ -11,6 +11,19 @@ use Rattle.jr_assign.specs.Assigned as tell
 use Rattle.jr_assign.specs.Assigned.{Seen, Gain, last_part, AreAssigned, followed, solved}
 use Rattle.jr_assign.proofs.Inside.{eq_true, eq_false, IsStart, child_ends, last_tells, first_starts, next_starts, ends_before}
 use Rattle.jr_assign.proofs.Once.{IsSame, AreSame, is_for, for_tells, behind_same, in_turn, in_header, at_body, in_updates, low_update, update_starts, for_ends}
+
+-- what the equations say of a table
+abbrev pub next_round : {A : Type 0} → Sets A → Rows → Facts → ℕ → A → (ℕ → Seen A) → ℕ → Seen A
+next_round s p f root start a n = let m = tell.met_at s p f (tell.guarded_in p root) a in let gain = tell.gain_at s p f a m n in record {
+  before = if nat_eq n root then start else tell.before_at s p f a m n;
+  done = gain.done;
+  yes = gain.yes;
+  no = gain.no;
+}
+
+abbrev pub rounds_from : {A : Type 0} → Sets A → Rows → Facts → ℕ → A → (ℕ → Seen A) → ℕ → ℕ → Seen A
+rounds_from s p f root start first zero n = first n
+rounds_from s p f root start first (suc k) n = next_round s p f root start (rounds_from s p f root start first k) n
 
 module _ {A : Type 0} (s : Sets A) (p : Rows) (tree : IsTree p) (f : Facts) (lasts : (n : ℕ) → tell.has_last p f n ≡ true) (root : ℕ) (there : root < length p)
     (parts : (n : ℕ) → root ≤ n → n < end p root → tell.has_parts p f n ≡ true) where
@@ -183,6 +196,32 @@ module _ {A : Type 0} (s : Sets A) (p : Rows) (tree : IsTree p) (f : Facts) (las
             (record { before = λ k n low high. later k n low; done = λ k n low high. refl; yes = λ k n low high. refl; no = λ k n low high. refl })
             (record { before = λ k n low high. later (suc k) n low; done = λ k n low high. refl; yes = λ k n low high. refl; no = λ k n low high. refl })
             (λ k le. begins k ∙ sym (begins (suc k))) (2 * (end p root - root)) (omega arith)
+
+  -- ---- what a table has, and what the equations say of one that has it, their solution has
+
+  module _ (start : A) (first : ℕ → Seen A) (P : (ℕ → Seen A) → Type 0) (begun : (first root).before ≡ start) (holds : P first) (keeps : (a : ℕ → Seen A) → P a → P (next_round s p f root start a)) where
+    abbrev from_first : ℕ → ℕ → Seen A
+    from_first = rounds_from s p f root start first
+
+    each_holds : (k : ℕ) → P (from_first k)
+    each_holds zero = holds
+    each_holds (suc k) = keeps (from_first k) (each_holds k)
+
+    begun_so : (k : ℕ) → (from_first k root).before ≡ start
+    begun_so zero = begun
+    begun_so (suc k) = ap (λ b. if b then start else before_of (from_first k) root) (eq_true root root refl)
+
+    later_so : (k n : ℕ) → root < n → (from_first (suc k) n).before ≡ before_of (from_first k) n
+    later_so k n low = ap (λ b. if b then start else before_of (from_first k) n) (eq_false n root (λ e. absurd (omega arith)))
+
+    pub solution_holds : (a : ℕ → Seen A) → AreAssigned s p f root start a → (b : ℕ → Seen A) × P b × AreSame a b root (end p root)
+    solution_holds a h = (
+      from_first (2 * (end p root - root)),
+      each_holds (2 * (end p root - root)),
+      rows_same (λ k. a) from_first (always start a h)
+          (record { before = λ k n low high. later_so k n low; done = λ k n low high. refl; yes = λ k n low high. refl; no = λ k n low high. refl })
+          (λ k le. h.begins ∙ sym (begun_so k)) (2 * (end p root - root)) (omega arith),
+    )
 
 pub seen_same : {A : Type 0} (x y : Seen A) → x.before ≡ y.before → x.done ≡ y.done → x.yes ≡ y.yes → x.no ≡ y.no → x ≡ y
 seen_same {A} x y e g h k = ap₂ (λ (before : A) (done : A). record { before = before; done = done; yes = x.yes; no = x.no }) e g ∙ ap₂ (λ (yes : A) (no : A). record { before = y.before; done = y.done; yes = yes; no = no }) h k

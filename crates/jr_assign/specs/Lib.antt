@@ -6,4 +6,5 @@ pub mod Confirmed
 pub mod Judged
 pub mod Blank
 pub mod Made
+pub mod Initialized
 pub mod Walked

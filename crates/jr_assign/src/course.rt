@@ -53,8 +53,10 @@ pub(crate) fn parent_of(rows: &[Row], at: usize) -> usize
     }
 }
 
-fn previous_of(rows: &[Row], at: usize) -> usize
-    ensures { result ≡ previous rows.now at }
+/// The row before a row.
+pub(crate) fn previous_of(rows: &[Row], at: usize) -> usize
+    ensures is { result ≡ previous rows.now at }
+    ensures most { result ≤ at + 2 ^ 32 }
 {
     match rows.get(at) {
         Some(row) => row.previous as usize,
@@ -114,7 +116,7 @@ pub(crate) fn update_of(rows: &[Row], at: usize, has_first: bool, has_condition:
     }
 }
 
-fn is_row(part: Option<u32>, at: usize) -> bool
+pub(crate) fn is_row(part: Option<u32>, at: usize) -> bool
     ensures { result ≡ tell.is_row part at }
 {
     match part {

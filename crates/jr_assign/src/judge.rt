@@ -1,12 +1,12 @@
 // Whether the locals that the rows of a member read are assigned there, by the table of the member.
 ghost use Rattle.std.specs.Prelude.{◌≡◌, ◌<◌, ◌^◌, None, OnOk, Some, slice_index_or, slice_set};
 ghost use Rattle.jr_tree.specs.Rows.{label};
-ghost use Rattle.jr_assign.specs.Assigned.{guarded_in, is_row};
+ghost use Rattle.jr_assign.specs.Assigned.{guarded_in};
 ghost use Rattle.jr_assign.specs.Changes.{member_in};
 ghost use Rattle.jr_assign.specs.Judged as tell;
 ghost use Rattle.jr_assign.specs.Walked.{frame_of, IsTableOf};
 
-use crate::course::Course;
+use crate::course::{Course, is_row};
 use jr_base::OutOfMemory;
 use jr_tree::Label;
 
@@ -15,15 +15,6 @@ use jr_tree::Label;
 pub(crate) struct Owners<'a> {
     pub(crate) owners: &'a [Option<u32>],
     pub(crate) members: &'a [u32],
-}
-
-fn is_row(part: Option<u32>, at: usize) -> bool
-    ensures { result ≡ is_row part at }
-{
-    match part {
-        Some(row) => row as usize == at,
-        None => false,
-    }
 }
 
 fn member_in(members: &[u32], at: usize) -> usize

@@ -14,6 +14,7 @@ mod member;
 mod numbers;
 mod parts;
 mod run;
+mod scope;
 
 pub use builders::change_faults;
 pub use fact::{Fact, Way, no_fact};

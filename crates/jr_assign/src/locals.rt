@@ -1,5 +1,5 @@
-// The locals that are read in each member, 64 at a time.
-ghost use Rattle.std.specs.Prelude.{◌≡◌, OnOk};
+// The locals that are read in each member: those with an initializer by their scopes, the others 64 at a time.
+ghost use Rattle.std.specs.Prelude.{◌≡◌, ◌<◌, ◌^◌, OnOk, length};
 ghost use Rattle.jr_assign.specs.Assigned.{guarded_in};
 ghost use Rattle.jr_assign.specs.Judged.{AreJudged};
 
@@ -9,6 +9,7 @@ use crate::fact::Fact;
 use crate::judge::Owners;
 use crate::numbers::Numbers;
 use crate::run::{Frame, table_of};
+use crate::scope::{Reads, are_linked};
 use jr_base::OutOfMemory;
 use jr_tree::Row;
 use std::alloc::Global;
@@ -118,14 +119,24 @@ pub(crate) fn judge_locals(
     size: u32,
     verdicts: &mut Vec<Option<bool>>,
 ) -> Result<(), OutOfMemory>
+    requires { length rows.now < 2 ^ 32 }
     ensures { OnOk result (AreJudged rows.now facts.now members.now verdicts.old.items → AreJudged rows.now facts.now members.now verdicts.new.items) }
 {
-    let numbers = Numbers::of_locals(alloc, rows, members, size)?;
+    let mut open = vec![in alloc; false; rows.len()]?;
+    let reads = Reads {
+        rows,
+        facts,
+        members,
+        are_linked: are_linked(rows),
+    };
+    reads.judge(size, &mut open, verdicts);
+    let numbers = Numbers::of_locals(alloc, rows, members, &open, size)?;
     let known = Known {
         rows,
         facts,
         numbers: &numbers,
         members,
     };
-    judge_members(alloc, known, size, verdicts)
+    judge_members(alloc, known, size, verdicts)?;
+    Ok(())
 }

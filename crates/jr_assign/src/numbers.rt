@@ -2,9 +2,10 @@
 
 use crate::member::member_of;
 use crate::parts::{body_of_field, is_blank};
+use crate::scope::is_local;
 use jr_base::OutOfMemory;
 use jr_places::end_at;
-use jr_tree::{Label, Row};
+use jr_tree::Row;
 use std::alloc::Global;
 
 /// For each row the number of the variable that it declares and the body or member that holds it, and how many variables each of these has.
@@ -15,12 +16,9 @@ pub(crate) struct Numbers {
     counts: Vec<u32>,
 }
 
-fn is_local(rows: &[Row], at: u32) -> bool {
-    match rows.get(at as usize) {
-        Some(row) => match row.label {
-            Label::Local { .. } => true,
-            _ => false,
-        },
+fn is_open_local(rows: &[Row], open: &[bool], at: u32) -> bool {
+    match open.get(at as usize) {
+        Some(is_open) => *is_open && is_local(rows, at as usize),
         None => false,
     }
 }
@@ -111,16 +109,17 @@ impl Numbers {
         Ok(all)
     }
 
-    /// The numbers of locals, by the members that hold them.
+    /// The numbers of the locals that are marked, by the members that hold them.
     pub(crate) fn of_locals(
         alloc: Global,
         rows: &[Row],
         members: &[u32],
+        open: &[bool],
         size: u32,
     ) -> Result<Numbers, OutOfMemory> {
         let mut all = Numbers::none(alloc, rows)?;
         for at in 0..size {
-            if is_local(rows, at) {
+            if is_open_local(rows, open, at) {
                 all.add(member_of(members, at), at);
             }
         }
