@@ -1,5 +1,5 @@
 // What a change loses.
-ghost use Rattle.std.specs.Prelude.{◌≡◌, ◌+◌, ◌<◌, ◌^◌, ℕ, None, IfOk, IfSome, length, true};
+ghost use Rattle.std.specs.Prelude.{◌≡◌, ◌+◌, ◌<◌, ◌^◌, ℕ, None, Decides, IfOk, IfSome, Some, length, true};
 ghost use Rattle.jr_tree.specs.Rows as tree;
 ghost use Rattle.jr_locks.specs.Origins.{origin_of, row_by};
 ghost use Rattle.jr_flow_defs.specs.Meaning.{Meaning};
@@ -58,7 +58,8 @@ pub(crate) fn placed(old: &Project, edge: Edge, is_old: bool) -> LostEdge {
 
 /// The first edge of those found, if any was.
 pub(crate) fn first_of(old: &Project, lost: Firsts) -> Option<LostEdge>
-    ensures { result ≡ None → AreNone lost }
+    ensures none { result ≡ None → AreNone lost }
+    ensures some { AreNone lost → result ≡ None }
 {
     match lost.before {
         Some(edge) => Some(placed(old, edge, true)),
@@ -70,7 +71,10 @@ pub(crate) fn first_of(old: &Project, lost: Firsts) -> Option<LostEdge>
 }
 
 /// Nothing is lost.
-pub(crate) fn nothing() -> LostFlow {
+pub(crate) fn nothing() -> LostFlow
+    ensures control { result.control ≡ None }
+    ensures def_use { result.def_use ≡ None }
+{
     LostFlow {
         control: None,
         def_use: None,
@@ -79,7 +83,8 @@ pub(crate) fn nothing() -> LostFlow {
 
 /// What is lost where the body round an old row has no copy.
 pub(crate) fn lost_at(old: &Project, row: u32) -> LostFlow
-    ensures { result.control ≡ None → ⊥ }
+    ensures control { result.control ≡ None → ⊥ }
+    ensures def_use { result.def_use ≡ None }
 {
     let edge = Edge {
         first: row,
@@ -121,14 +126,15 @@ pub(crate) fn graph_of(alloc: Global, project: &Project, body: u32) -> Result<Gr
 
 /// The row is one of these.
 pub(crate) fn is_row(rows: &[Row], row: u32) -> bool
-    ensures { result ≡ true → row < length rows.now }
+    ensures { Decides result (row < length rows.now) }
 {
     (row as usize) < rows.len()
 }
 
 /// What a table of copies or origins has for a row, if it is one of these rows.
 pub(crate) fn row_among(all: &[u32], rows: &[Row], at: u32) -> Option<u32>
-    ensures { IfSome result (λ row. (row_by (origin_of all.now at) ≡ Some row) × (row < length rows.now)) }
+    ensures some { IfSome result (λ row. (row_by (origin_of all.now at) ≡ Some row) × (row < length rows.now)) }
+    ensures none { (row : ℕ) → result ≡ None → row_by (origin_of all.now at) ≡ Some row → row < length rows.now → ⊥ }
 {
     match row_for(all, at) {
         Some(row) => { if is_row(rows, row) { Some(row) } else { None } }
@@ -331,6 +337,7 @@ fn lost_by_course(
 fn first_edge(one: Option<LostEdge>, other: Option<LostEdge>) -> Option<LostEdge>
     ensures one { result ≡ None → one ≡ None }
     ensures other { result ≡ None → other ≡ None }
+    ensures none { one ≡ None → other ≡ None → result ≡ None }
 {
     match one {
         Some(edge) => Some(edge),
@@ -342,6 +349,8 @@ fn first_edge(one: Option<LostEdge>, other: Option<LostEdge>) -> Option<LostEdge
 fn both_lost(one: LostFlow, other: LostFlow) -> LostFlow
     ensures control { result.control ≡ None → (one.control ≡ None) × (other.control ≡ None) }
     ensures def_use { result.def_use ≡ None → (one.def_use ≡ None) × (other.def_use ≡ None) }
+    ensures no_control { one.control ≡ None → other.control ≡ None → result.control ≡ None }
+    ensures no_use { one.def_use ≡ None → other.def_use ≡ None → result.def_use ≡ None }
 {
     LostFlow {
         control: first_edge(one.control, other.control),

@@ -21,6 +21,8 @@ use std::alloc::Global;
 fn lost_in_moved(alloc: Global, old: &Project, flows: &Flows) -> Result<LostFlow, FlowFault>
     ensures control { (m w : Meaning) → IsGraphOf flows.now.names.rows.now m flows.now.before.now → IsGraphOf flows.now.rows.now w flows.now.after.now → IfOk result (λ lost. lost.control ≡ None → KeepsBodies flows.now m w) }
     ensures uses { (m w : Meaning) → IsGraphOf flows.now.names.rows.now m flows.now.before.now → IsGraphOf flows.now.rows.now w flows.now.after.now → IfOk result (λ lost. lost.control ≡ None → lost.def_use ≡ None → KeepsWholeBodies flows.now m w) }
+    ensures only_control { (m w : Meaning) → IsGraphOf flows.now.names.rows.now m flows.now.before.now → IsGraphOf flows.now.rows.now w flows.now.after.now → IfOk result (λ lost. KeepsBodies flows.now m w → lost.control ≡ None) }
+    ensures only_uses { (m w : Meaning) → IsGraphOf flows.now.names.rows.now m flows.now.before.now → IsGraphOf flows.now.rows.now w flows.now.after.now → IfOk result (λ lost. KeepsWholeBodies flows.now m w → lost.def_use ≡ None) }
 {
     let control = lost_control(alloc, flows)?;
     let mut lost = Firsts::none();
@@ -44,6 +46,10 @@ fn lost_by_moving(
         → IfOk result (λ lost. lost.control ≡ None → tell.KeepsMovedControl old.now.marks.rows.now locked.now.marks.rows.now m w locks.now.origin.items locks.now.copy.items method) }
     ensures uses { (m w : Meaning) → tell.IsSeen old.now m → tell.IsSeen locked.now w
         → IfOk result (λ lost. lost.control ≡ None → lost.def_use ≡ None → tell.KeepsMovedFlow old.now.marks.rows.now locked.now.marks.rows.now m w locks.now.origin.items locks.now.copy.items method) }
+    ensures only_control { (m w : Meaning) → tell.IsSeen old.now m → tell.IsSeen locked.now w
+        → IfOk result (λ lost. tell.KeepsMovedControl old.now.marks.rows.now locked.now.marks.rows.now m w locks.now.origin.items locks.now.copy.items method → lost.control ≡ None) }
+    ensures only_uses { (m w : Meaning) → tell.IsSeen old.now m → tell.IsSeen locked.now w
+        → IfOk result (λ lost. tell.KeepsMovedFlow old.now.marks.rows.now locked.now.marks.rows.now m w locks.now.origin.items locks.now.copy.items method → lost.def_use ≡ None) }
 {
     if !is_row(old.marks.rows, method) {
         return Ok(lost_at(old, method));

@@ -12,22 +12,22 @@ use Rattle.jr_kept.proofs.Rounding.{rows_few, parent_before}
 use Rattle.jr_kept.proofs.kept.lost_by_extracting.Goals as goal
 
 pub returns-in_default-clause-control : goal.returns-in_default-clause-control
-returns-in_default-clause-control c = λ m w seen other none. absurd (c.lost_at.ensures none)
+returns-in_default-clause-control c = λ m w seen other none. absurd (c.lost_at.ensures.control none)
 
 pub returns-in_default-clause-uses : goal.returns-in_default-clause-uses
-returns-in_default-clause-uses c = λ m w seen other none no_use. absurd (c.lost_at.ensures none)
+returns-in_default-clause-uses c = λ m w seen other none no_use. absurd (c.lost_at.ensures.control none)
 
 pub returns-then-not-is_apart-clause-control : goal.returns-then-not-is_apart-clause-control
-returns-then-not-is_apart-clause-control c = λ m w seen other none. absurd (c.lost_at-then-not-is_apart.ensures none)
+returns-then-not-is_apart-clause-control c = λ m w seen other none. absurd (c.lost_at-then-not-is_apart.ensures.control none)
 
 pub returns-then-not-is_apart-clause-uses : goal.returns-then-not-is_apart-clause-uses
-returns-then-not-is_apart-clause-uses c = λ m w seen other none no_use. absurd (c.lost_at-then-not-is_apart.ensures none)
+returns-then-not-is_apart-clause-uses c = λ m w seen other none no_use. absurd (c.lost_at-then-not-is_apart.ensures.control none)
 
 pub returns-clause-control : goal.returns-clause-control
 returns-clause-control c = λ m w seen other. let p = c.args.old.now.marks.rows.now in let q = c.args.locked.now.marks.rows.now in let origin = c.args.locks.now.origin.items in
     let call = c.args.call in let method = c.args.method in let after = c.in-Some.copy in let body = c.in-Some-row_among.body in let joined = c.in_ok-after.after in
     let round : IsBodyRound q call after = subst (λ o. IfSome o (λ k. IsBodyRound q call k)) c.in-Some.is (c.in_ok-copy.ensures (rows_few c.args.locked.now w other)) in
-    let copy : (row_by (origin_of origin after) ≡ Some body) × (body < length p) = subst (λ o. IfSome o (λ k. (row_by (origin_of origin after) ≡ Some k) × (k < length p))) c.in-Some-row_among.is (subst (λ xs. IfSome c.row_among.result (λ k. (row_by (origin_of xs after) ≡ Some k) × (k < length p))) c.deref.ensures.value c.row_among.ensures) in
+    let copy : (row_by (origin_of origin after) ≡ Some body) × (body < length p) = subst (λ o. IfSome o (λ k. (row_by (origin_of origin after) ≡ Some k) × (k < length p))) c.in-Some-row_among.is (subst (λ xs. IfSome c.row_among.result (λ k. (row_by (origin_of xs after) ≡ Some k) × (k < length p))) c.deref.ensures.value c.row_among.ensures.some) in
     let before_graph = c.in_ok-before.ensures m seen copy.1 in
     let after_graph = c.in_ok-after.ensures w method other round.is.few (c.in_ok-inner.ensures w other (c.is_apart.ensures.row c.if-not-is_apart.false)) (c.is_apart.ensures.apart c.if-not-is_apart.false) in
     IfOk-weaker c.lost_in_extracted.result _ _ (λ lost keeps none. record {
@@ -46,7 +46,7 @@ pub returns-clause-uses : goal.returns-clause-uses
 returns-clause-uses c = λ m w seen other. let p = c.args.old.now.marks.rows.now in let q = c.args.locked.now.marks.rows.now in let origin = c.args.locks.now.origin.items in
     let call = c.args.call in let method = c.args.method in let after = c.in-Some.copy in let body = c.in-Some-row_among.body in let joined = c.in_ok-after.after in
     let round : IsBodyRound q call after = subst (λ o. IfSome o (λ k. IsBodyRound q call k)) c.in-Some.is (c.in_ok-copy.ensures (rows_few c.args.locked.now w other)) in
-    let copy : (row_by (origin_of origin after) ≡ Some body) × (body < length p) = subst (λ o. IfSome o (λ k. (row_by (origin_of origin after) ≡ Some k) × (k < length p))) c.in-Some-row_among.is (subst (λ xs. IfSome c.row_among.result (λ k. (row_by (origin_of xs after) ≡ Some k) × (k < length p))) c.deref.ensures.value c.row_among.ensures) in
+    let copy : (row_by (origin_of origin after) ≡ Some body) × (body < length p) = subst (λ o. IfSome o (λ k. (row_by (origin_of origin after) ≡ Some k) × (k < length p))) c.in-Some-row_among.is (subst (λ xs. IfSome c.row_among.result (λ k. (row_by (origin_of xs after) ≡ Some k) × (k < length p))) c.deref.ensures.value c.row_among.ensures.some) in
     let before_graph = c.in_ok-before.ensures m seen copy.1 in let is_row = c.is_apart.ensures.row c.if-not-is_apart.false in
     let alone = c.in_ok-inner.ensures w other is_row in let after_graph = c.in_ok-after.ensures w method other round.is.few alone (c.is_apart.ensures.apart c.if-not-is_apart.false) in
     let few = rows_few c.args.locked.now w other in let last = other.tree.last after round.is.few in let to = round.to in

@@ -10,16 +10,16 @@ use Rattle.jr_kept.proofs.Rounding.{rows_few}
 use Rattle.jr_kept.proofs.kept.lost_by_inlining.Goals as goal
 
 pub returns-in_default-clause-control : goal.returns-in_default-clause-control
-returns-in_default-clause-control c = λ m w seen other none. absurd (c.lost_at.ensures none)
+returns-in_default-clause-control c = λ m w seen other none. absurd (c.lost_at.ensures.control none)
 
 pub returns-in_default-clause-uses : goal.returns-in_default-clause-uses
-returns-in_default-clause-uses c = λ m w seen other none no_use. absurd (c.lost_at.ensures none)
+returns-in_default-clause-uses c = λ m w seen other none no_use. absurd (c.lost_at.ensures.control none)
 
 pub returns-clause-control : goal.returns-clause-control
 returns-clause-control c = λ m w seen other. let p = c.args.old.now.marks.rows.now in let q = c.args.locked.now.marks.rows.now in let origin = c.args.locks.now.origin.items in let copies = c.args.locks.now.copy.items in
     let local = c.args.local in let statement = c.args.statement in let body = c.in-Some.body in let after = c.in-Some-row_among.copy in
     let found : IsBodyRound p local body × (parent p local ≡ statement) = subst (λ o. IfSome o (λ k. IsBodyRound p local k × (parent p local ≡ statement))) c.in-Some.is (c.in_ok-body.ensures (rows_few c.args.old.now m seen)) in let round = found.0 in
-    let copy : (row_by (origin_of copies body) ≡ Some after) × (after < length q) = subst (λ o. IfSome o (λ k. (row_by (origin_of copies body) ≡ Some k) × (k < length q))) c.in-Some-row_among.is (subst (λ xs. IfSome c.row_among.result (λ k. (row_by (origin_of xs body) ≡ Some k) × (k < length q))) c.deref.ensures.value c.row_among.ensures) in
+    let copy : (row_by (origin_of copies body) ≡ Some after) × (after < length q) = subst (λ o. IfSome o (λ k. (row_by (origin_of copies body) ≡ Some k) × (k < length q))) c.in-Some-row_among.is (subst (λ xs. IfSome c.row_among.result (λ k. (row_by (origin_of xs body) ≡ Some k) × (k < length q))) c.deref.ensures.value c.row_among.ensures.some) in
     let before_graph = c.in_ok-before.ensures m seen round.is.few in let after_graph = c.in_ok-after.ensures w other copy.1 in
     IfOk-weaker c.lost_in_inlined.result _ _ (λ lost keeps none. record {
       body = body;
@@ -37,7 +37,7 @@ pub returns-clause-uses : goal.returns-clause-uses
 returns-clause-uses c = λ m w seen other. let p = c.args.old.now.marks.rows.now in let q = c.args.locked.now.marks.rows.now in let origin = c.args.locks.now.origin.items in let copies = c.args.locks.now.copy.items in
     let local = c.args.local in let statement = c.args.statement in let body = c.in-Some.body in let after = c.in-Some-row_among.copy in
     let found : IsBodyRound p local body × (parent p local ≡ statement) = subst (λ o. IfSome o (λ k. IsBodyRound p local k × (parent p local ≡ statement))) c.in-Some.is (c.in_ok-body.ensures (rows_few c.args.old.now m seen)) in let round = found.0 in
-    let copy : (row_by (origin_of copies body) ≡ Some after) × (after < length q) = subst (λ o. IfSome o (λ k. (row_by (origin_of copies body) ≡ Some k) × (k < length q))) c.in-Some-row_among.is (subst (λ xs. IfSome c.row_among.result (λ k. (row_by (origin_of xs body) ≡ Some k) × (k < length q))) c.deref.ensures.value c.row_among.ensures) in
+    let copy : (row_by (origin_of copies body) ≡ Some after) × (after < length q) = subst (λ o. IfSome o (λ k. (row_by (origin_of copies body) ≡ Some k) × (k < length q))) c.in-Some-row_among.is (subst (λ xs. IfSome c.row_among.result (λ k. (row_by (origin_of xs body) ≡ Some k) × (k < length q))) c.deref.ensures.value c.row_among.ensures.some) in
     let before_graph = c.in_ok-before.ensures m seen round.is.few in let after_graph = c.in_ok-after.ensures w other copy.1 in
     let few = rows_few c.args.old.now m seen in let last = seen.tree.last body round.is.few in let to = round.to in
     IfOk-weaker c.lost_in_inlined.result _ _ (λ lost keeps none no_use.
