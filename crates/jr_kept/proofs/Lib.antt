@@ -24,3 +24,4 @@ pub mod Going
 pub mod Waited
 pub mod AtOnce
 pub mod Moved
+pub mod Starting

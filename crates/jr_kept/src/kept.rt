@@ -9,6 +9,7 @@ ghost use Rattle.jr_flow.specs.Reached.{steps_of, IsGraphOf};
 ghost use Rattle.jr_kept.specs.Ordered.{AreNone};
 ghost use Rattle.jr_kept.specs.Compared.{KeepsBodies, KeepsWholeBodies, KeepsJoined, KeepsJoinedUses, KeepsJoinedValues, KeepsJoinedReturns, IsOldBody, IsJoinedGraph, IsMethodGraph};
 ghost use Rattle.jr_kept.specs.Courses as tell;
+ghost use Rattle.jr_kept.specs.Started.{IsPlainCourse, LeavesStartIn};
 
 use crate::arriving::put_lost_definitions;
 use crate::carried::put_lost_values;
@@ -320,6 +321,8 @@ fn lost_by_course(
         → IfOk result (λ lost. lost.control ≡ None → tell.KeepsCourse course old.now.marks.rows.now locked.now.marks.rows.now m w locks.now.origin.items locks.now.copy.items) }
     ensures uses { (m w : Meaning) → tell.IsSeen old.now m → tell.IsSeen locked.now w
         → IfOk result (λ lost. lost.control ≡ None → lost.def_use ≡ None → tell.KeepsUsesOf course old.now.marks.rows.now locked.now.marks.rows.now m w locks.now.origin.items locks.now.copy.items) }
+    ensures no_control { IsPlainCourse course → IfOk result (λ lost. lost.control ≡ None) }
+    ensures no_use { IsPlainCourse course → IfOk result (λ lost. lost.def_use ≡ None) }
 {
     match course {
         Course::Same => Ok(nothing()),
@@ -382,6 +385,10 @@ pub fn lost_flow(
         → IfOk result (λ lost. lost.control ≡ None → tell.KeepsRaisedControl change.now.raised old.now.marks.rows.now locked.now.marks.rows.now m w locks.now.origin.items locks.now.copy.items) }
     ensures raised_uses { (m w : Meaning) → tell.IsSeen old.now m → tell.IsSeen locked.now w
         → IfOk result (λ lost. lost.control ≡ None → lost.def_use ≡ None → tell.KeepsRaisedFlow change.now.raised old.now.marks.rows.now locked.now.marks.rows.now m w locks.now.origin.items locks.now.copy.items) }
+    ensures only_control { (m w : Meaning) → tell.IsSeen old.now m → tell.IsSeen locked.now w → IsPlainCourse change.now.course
+        → IfOk result (λ lost. tell.KeepsRaisedControl change.now.raised old.now.marks.rows.now locked.now.marks.rows.now m w locks.now.origin.items locks.now.copy.items → (LeavesStartIn change.now.raised old.now.marks.rows.now m → ⊥) → lost.control ≡ None) }
+    ensures only_uses { (m w : Meaning) → tell.IsSeen old.now m → tell.IsSeen locked.now w → IsPlainCourse change.now.course
+        → IfOk result (λ lost. tell.KeepsRaisedFlow change.now.raised old.now.marks.rows.now locked.now.marks.rows.now m w locks.now.origin.items locks.now.copy.items → lost.def_use ≡ None) }
 {
     let raised = lost_by_raising(alloc, old, locked, locks, change.raised)?;
     let ordered = lost_by_course(alloc, old, locked, locks, change.course)?;

@@ -4,6 +4,7 @@ ghost use Rattle.jr_flow_defs.specs.Meaning.{Meaning};
 ghost use Rattle.jr_flow.specs.Reached.{IsGraphOf};
 ghost use Rattle.jr_kept.specs.Compared.{KeepsBodies, KeepsWholeBodies};
 ghost use Rattle.jr_kept.specs.Courses as tell;
+ghost use Rattle.jr_kept.specs.Started.{LeavesStart, LeavesStartIn};
 
 use crate::arriving::put_lost_definitions;
 use crate::control::lost_control;
@@ -87,6 +88,10 @@ fn lost_by_pull_up(
         → IfOk result (λ lost. lost.control ≡ None → tell.KeepsMovedControl old.now.marks.rows.now locked.now.marks.rows.now m w locks.now.origin.items locks.now.copy.items raised.method.first) }
     ensures uses { (m w : Meaning) → tell.IsSeen old.now m → tell.IsSeen locked.now w
         → IfOk result (λ lost. lost.control ≡ None → lost.def_use ≡ None → tell.KeepsMovedFlow old.now.marks.rows.now locked.now.marks.rows.now m w locks.now.origin.items locks.now.copy.items raised.method.first) }
+    ensures only_control { (m w : Meaning) → tell.IsSeen old.now m → tell.IsSeen locked.now w
+        → IfOk result (λ lost. tell.KeepsMovedControl old.now.marks.rows.now locked.now.marks.rows.now m w locks.now.origin.items locks.now.copy.items raised.method.first → (LeavesStart old.now.marks.rows.now m raised → ⊥) → lost.control ≡ None) }
+    ensures only_uses { (m w : Meaning) → tell.IsSeen old.now m → tell.IsSeen locked.now w
+        → IfOk result (λ lost. tell.KeepsMovedFlow old.now.marks.rows.now locked.now.marks.rows.now m w locks.now.origin.items locks.now.copy.items raised.method.first → lost.def_use ≡ None) }
 {
     match lost_initialization(alloc, old, raised)? {
         Some(edge) => Ok(LostFlow {
@@ -109,6 +114,10 @@ pub(crate) fn lost_by_raising(
         → IfOk result (λ lost. lost.control ≡ None → tell.KeepsRaisedControl raised old.now.marks.rows.now locked.now.marks.rows.now m w locks.now.origin.items locks.now.copy.items) }
     ensures uses { (m w : Meaning) → tell.IsSeen old.now m → tell.IsSeen locked.now w
         → IfOk result (λ lost. lost.control ≡ None → lost.def_use ≡ None → tell.KeepsRaisedFlow raised old.now.marks.rows.now locked.now.marks.rows.now m w locks.now.origin.items locks.now.copy.items) }
+    ensures only_control { (m w : Meaning) → tell.IsSeen old.now m → tell.IsSeen locked.now w
+        → IfOk result (λ lost. tell.KeepsRaisedControl raised old.now.marks.rows.now locked.now.marks.rows.now m w locks.now.origin.items locks.now.copy.items → (LeavesStartIn raised old.now.marks.rows.now m → ⊥) → lost.control ≡ None) }
+    ensures only_uses { (m w : Meaning) → tell.IsSeen old.now m → tell.IsSeen locked.now w
+        → IfOk result (λ lost. tell.KeepsRaisedFlow raised old.now.marks.rows.now locked.now.marks.rows.now m w locks.now.origin.items locks.now.copy.items → lost.def_use ≡ None) }
 {
     match raised {
         Some(raised) => lost_by_pull_up(alloc, old, locked, locks, raised),

@@ -1,0 +1,6 @@
+use Rattle.std.proofs.lemmas.Result.{IfOk-weaker}
+use Rattle.jr_kept.proofs.Starting.{started_told}
+use Rattle.jr_kept.proofs.starting.node_started.Goals as goal
+
+pub returns : goal.returns
+returns c = λ m seen is. IfOk-weaker c.node_in.result _ _ (λ found acts. started_told c.args.old.now.marks.rows.now m c.args.body c.args.class is (c.is_started.ensures c.if-not-is_started.false) found acts) (c.node_in.ensures m seen is.few)

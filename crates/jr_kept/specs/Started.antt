@@ -1,0 +1,72 @@
+-- Initializations of classes that a change may move (JLS 12.4.1, 12.4.2).
+use Rattle.std.specs.Prelude.{◌≡◌, ⊤, ℕ, true, List, if◌then◌else◌, Option, Some, None, nat_eq, slice_get}
+use Rattle.jr_tree.specs.declared.label.Label.{Label}
+use Rattle.jr_tree.specs.declared.label.Label.TheVariants as is
+use Rattle.jr_tree.specs.Rows.{Rows, label, parent}
+use Rattle.jr_plain.specs.Enclosing.{declaring_type}
+use Rattle.jr_plain.specs.Modifiers.{is_static}
+use Rattle.jr_change.specs.declared.change.Raised.{Raised}
+use Rattle.jr_change.specs.declared.change.Course.{Course}
+use Rattle.jr_change.specs.declared.change.Course.TheVariants as course
+use Rattle.jr_flow_defs.specs.declared.point.Point.{Point}
+use Rattle.jr_flow_defs.specs.declared.point.PointKind.{PointKind}
+use Rattle.jr_flow_defs.specs.declared.point.PointKind.TheVariants as kind
+use Rattle.jr_flow_defs.specs.Meaning.{Meaning, declared}
+use Rattle.jr_flow_defs.specs.States.{State}
+use Rattle.jr_flow_defs.specs.Paths.{IsReached}
+use Rattle.jr_flow_defs.specs.Edges.{point, body_flow}
+use Rattle.jr_kept.specs.Courses.{IsBody}
+
+-- the class in whose initialization a body runs: that of a static initializer or of a static field (JLS 8.3.2.1, 8.7)
+abbrev pub class_by : Label → Rows → ℕ → Option ℕ
+class_by (is.Initializer true) p n = Some (parent p (parent p n))
+class_by (is.Field modifiers dims) p n = if is_static p n then declaring_type p n else None
+class_by _ p n = None
+
+-- control comes in the body to a node at the row, which is not that of the body
+pub record IsActing (p : Rows) (m : Meaning) (body row : ℕ) : Type 0 where
+  pub at : State
+  pub reached : IsReached (body_flow p m body) at
+  pub stands : (body_flow p m body).point at ≡ point row kind.Node
+  pub other : row ≡ body → ⊥
+
+-- something acts in the initialization of the class
+pub record ActsAtStart (p : Rows) (m : Meaning) (class : ℕ) : Type 0 where
+  pub body : ℕ
+  pub is : IsBody p body
+  pub of_class : class_by (label p body) p body ≡ Some class
+  pub row : ℕ
+  pub acts : IsActing p m body row
+
+-- the method is static and used, and something acts in the initialization of the class that it leaves: a call of it may begin that, and does no more
+pub record LeavesStart (p : Rows) (m : Meaning) (raised : Raised) : Type 0 where
+  pub static : is_static p raised.method.first ≡ true
+  pub acts : ActsAtStart p m raised.from
+  pub used_at : ℕ
+  pub uses : declared (m.targets used_at) ≡ Some raised.method.first
+
+abbrev pub LeavesStartIn : Option Raised → Rows → Meaning → Type 0
+LeavesStartIn None p m = ⊥
+LeavesStartIn (Some raised) p m = LeavesStart p m raised
+
+-- the statements of bodies keep their places
+abbrev pub IsPlainCourse : Course → Type 0
+IsPlainCourse course.Same = ⊤
+IsPlainCourse (course.Removed range) = ⊤
+IsPlainCourse (course.Inlined local statement) = ⊥
+IsPlainCourse (course.Extracted call method) = ⊥
+
+-- ---- by points
+
+abbrev pub node_by : PointKind → ℕ → ℕ → Option ℕ
+node_by kind.Node row body = if nat_eq row body then None else Some row
+node_by _ row body = None
+
+-- the row of the point, if it is a node and not that of the body
+abbrev pub node_at : ℕ → Option Point → Option ℕ
+node_at body None = None
+node_at body (Some x) = node_by x.kind x.row body
+
+pub record IsNodeAmong (points : List Point) (body row : ℕ) : Type 0 where
+  pub number : ℕ
+  pub is : node_at body (slice_get points number) ≡ Some row
