@@ -77,7 +77,7 @@ waits_above p body k w apart free (Waits.none e f) = absurd (apart e)
 waits_above p body k w apart free (Waits.plainly {n = n} b is h) = subst (λ z. Waits p body z w) (sym b.under) h
 waits_above p body k w apart free (Waits.pushed b is e h) = absurd (false≢true (sym free ∙ is))
 
-waits_from : (p : Rows) (body k : ℕ) (w : Pending) → Waits p body k w → body ≤ k
+pub waits_from : (p : Rows) (body k : ℕ) (w : Pending) → Waits p body k w → body ≤ k
 waits_from p body k w (Waits.none e f) = omega (arith, e)
 waits_from p body k w (Waits.plainly {n = n} b is h) = let low = waits_from p body n w h in let behind = b.behind in omega (arith, low, behind)
 waits_from p body k w (Waits.pushed {n = n} {u = u} b is e h) = let low = waits_from p body n u h in let behind = b.behind in omega (arith, low, behind)

@@ -68,7 +68,7 @@ inside_tells first last row = (
         by (inl less) = absurd (false≢true (sym (ap not ((Decides-ltb row first).1 less)) ∙ f))
         by (inr past) = let same : row ≡ first = omega (arith, le, past) in absurd (false≢true (sym (ap not ((Decides-eqb row first).1 same)) ∙ e))
 
-either_way : (b : Bool) → (b ≡ true) ⊎ (b ≡ false)
+pub either_way : (b : Bool) → (b ≡ true) ⊎ (b ≡ false)
 either_way true = inl refl
 either_way false = inr refl
 
@@ -294,7 +294,7 @@ some_out : (j d : ℕ) (b : Bool) → some_if j b ≡ Some d → (b ≡ true) ×
 some_out j d true e = (refl, same_Some j d e)
 some_out j d false e = absurd (none-some d e)
 
-step_there : (all : List Step) (n : ℕ) (s : Step) → slice_get all n ≡ Some s → Contains (map step_seen all) (step_seen s)
+pub step_there : (all : List Step) (n : ℕ) (s : Step) → slice_get all n ≡ Some s → Contains (map step_seen all) (step_seen s)
 step_there [] n s e = let lt = get_inside [] n s e in absurd (omega (arith, lt))
 step_there (x ∷ all) zero s e = subst (λ z. Contains (map step_seen (x ∷ all)) (step_seen z)) (same_Some x s e) (contains_first (step_seen x) (map step_seen all))
 step_there (x ∷ all) (suc n) s e = contains_more (step_seen x) (map step_seen all) (step_seen s) (step_there all n s e)

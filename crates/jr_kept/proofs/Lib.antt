@@ -23,5 +23,6 @@ pub mod Below
 pub mod Going
 pub mod Waited
 pub mod AtOnce
+pub mod Upward
 pub mod Moved
 pub mod Starting

@@ -123,7 +123,8 @@ fn throws(range: RowRange, points: &[Point], step: Option<Step>) -> bool
     }
 }
 
-fn is_either(one: bool, other: bool) -> bool
+/// One of both holds, or both do.
+pub(crate) fn is_either(one: bool, other: bool) -> bool
     ensures { result ≡ (one || other) }
 {
     one || other
