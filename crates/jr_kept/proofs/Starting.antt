@@ -4,6 +4,8 @@ use Rattle.std.proofs.lemmas.Bool.{false≢true}
 use Rattle.std.proofs.lemmas.Bool.Decides.{Decides-eqb}
 use Rattle.std.specs.Option.{option_eq}
 use Rattle.std.proofs.lemmas.Option.{none-some, same_Some}
+use Rattle.jr_tree.specs.declared.label.Label.{Label}
+use Rattle.jr_tree.specs.declared.label.Label.TheVariants as label_is
 use Rattle.jr_tree.specs.Rows.{Rows, label}
 use Rattle.jr_defs.specs.declared.referent.Referent.{Referent}
 use Rattle.jr_defs.specs.declared.referent.Referent.TheVariants as referent
@@ -16,7 +18,7 @@ use Rattle.jr_flow_defs.specs.Meaning.{Meaning, declared}
 use Rattle.jr_flow_defs.specs.Edges.{point, body_flow, IsGraph, own_number}
 use Rattle.jr_flow_defs.specs.Graphs.{StepList}
 use Rattle.jr_kept.specs.Courses.{IsBody}
-use Rattle.jr_kept.specs.Started.{class_by, node_by, node_at, IsNodeAmong, IsActing, ActsAtStart, LeavesStart}
+use Rattle.jr_kept.specs.Started.{class_by, node_by, node_at, IsNodeAmong, IsActing, ActsAtStart, ActsAtSomeStart, CreatesAt, IsRound, IsInCreation, BeginsFirst, LeavesStart, is_creation}
 use Rattle.jr_kept.proofs.Comparing.{place_of}
 
 abbrev IsNodeAt : ℕ → ℕ → Option Point → Type 0
@@ -56,3 +58,29 @@ same_declared (referent.Declared n level) = refl
 pub same_row : (o : Option ℕ) (n : ℕ) → option_eq nat_eq o (Some n) ≡ true → o ≡ Some n
 same_row None n e = absurd (false≢true e)
 same_row (Some k) n e = ap Some ((Decides-eqb k n).0 e)
+
+-- ---- creations
+
+pub creation_label : (l : Label) → is_creation l ≡ true → l ≡ label_is.New
+creation_label label_is.New e = refl
+creation_label _ e = absurd (false≢true e)
+
+pub if_some : (P : Type 0) (found : Option ℕ) → P → IfSome found (λ n. P)
+if_some P None p = tt
+if_some P (Some n) p = p
+
+pub some_started : (p : Rows) (m : Meaning) (body class : ℕ) → IsBody p body → class_by (label p body) p body ≡ Some class → (found : Option ℕ) → IfSome found (λ row. IsActing p m body row) → IfSome found (λ row. ActsAtSomeStart p m)
+some_started p m body class is of_class None acts = acts
+some_started p m body class is of_class (Some row) acts = record { class = class; acts = record { body = body; is = is; of_class = of_class; row = row; acts = acts } }
+
+pub creation_told : (p : Rows) (m : Meaning) (over : ℕ) → label p over ≡ label_is.New → (found : Option ℕ) → IfSome found (λ row. ActsAtSomeStart p m) → IfSome found (λ row. CreatesAt p m over)
+creation_told p m over creates None acts = acts
+creation_told p m over creates (Some row) acts = record { creates = creates; acts = acts }
+
+pub first_told : (p : Rows) (m : Meaning) (local row : ℕ) → declared (m.targets row) ≡ Some local → (found : Option ℕ) → IfSome found (λ node. IsInCreation p m row) → IfSome found (λ node. BeginsFirst p m local)
+first_told p m local row uses None inside = inside
+first_told p m local row uses (Some node) inside = record { used_at = row; uses = uses; inside = inside }
+
+pub never_some : (P : Type 0) (found : Option ℕ) → IfSome found (λ node. P) → (P → ⊥) → found ≡ None
+never_some P None is apart = refl
+never_some P (Some node) is apart = absurd (apart is)

@@ -1,5 +1,5 @@
 -- Initializations of classes that a change may move (JLS 12.4.1, 12.4.2).
-use Rattle.std.specs.Prelude.{◌≡◌, ⊤, ℕ, true, List, if◌then◌else◌, Option, Some, None, nat_eq, slice_get}
+use Rattle.std.specs.Prelude.{◌≡◌, ⊤, ℕ, Bool, true, false, List, if◌then◌else◌, Option, Some, None, nat_eq, slice_get}
 use Rattle.jr_tree.specs.declared.label.Label.{Label}
 use Rattle.jr_tree.specs.declared.label.Label.TheVariants as is
 use Rattle.jr_tree.specs.Rows.{Rows, label, parent}
@@ -48,6 +48,37 @@ pub record LeavesStart (p : Rows) (m : Meaning) (raised : Raised) : Type 0 where
 abbrev pub LeavesStartIn : Option Raised → Rows → Meaning → Type 0
 LeavesStartIn None p m = ⊥
 LeavesStartIn (Some raised) p m = LeavesStart p m raised
+
+-- something acts in the initialization of some class
+pub record ActsAtSomeStart (p : Rows) (m : Meaning) : Type 0 where
+  pub class : ℕ
+  pub acts : ActsAtStart p m class
+
+abbrev pub is_creation : Label → Bool
+is_creation is.New = true
+is_creation _ = false
+
+-- the row is that of a creation, and something acts in the initialization of some class
+pub record CreatesAt (p : Rows) (m : Meaning) (row : ℕ) : Type 0 where
+  pub creates : label p row ≡ is.New
+  pub acts : ActsAtSomeStart p m
+
+-- the row stands over another, or is that
+pub data IsRound (p : Rows) (row : ℕ) : ℕ → Type 0 where
+  itself : {over : ℕ} → over ≡ row → IsRound p row over
+  above : {k over : ℕ} → IsRound p row k → over ≡ parent p k → IsRound p row over
+
+-- a creation stands round the row, and something acts in the initialization of some class
+pub record IsInCreation (p : Rows) (m : Meaning) (row : ℕ) : Type 0 where
+  pub over : ℕ
+  pub round : IsRound p row over
+  pub creates : CreatesAt p m over
+
+-- the local is used in a creation, and something acts in the initialization of some class: the creation may begin that before its arguments (JLS 12.4.1, 15.9.4)
+pub record BeginsFirst (p : Rows) (m : Meaning) (local : ℕ) : Type 0 where
+  pub used_at : ℕ
+  pub uses : declared (m.targets used_at) ≡ Some local
+  pub inside : IsInCreation p m used_at
 
 -- the statements of bodies keep their places
 abbrev pub IsPlainCourse : Course → Type 0

@@ -146,8 +146,8 @@ pub(crate) fn runs_before(old: &Project, class: u32, at: u32) -> bool {
     }
 }
 
-// The row refers to the declaration.
-fn refers_to(old: &Project, row: u32, declaration: u32) -> bool
+/// The row refers to the declaration.
+pub(crate) fn refers_to(old: &Project, row: u32, declaration: u32) -> bool
     ensures { (m : Meaning) → IsSeen old.now m → result ≡ true → declared (m.targets row) ≡ Some declaration }
 {
     is_same(old.view.sight.world.under.declared(row), declaration)

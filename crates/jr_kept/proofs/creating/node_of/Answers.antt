@@ -1,0 +1,7 @@
+use Rattle.std.proofs.Common.{sym, ◌∙◌}
+use Rattle.std.proofs.lemmas.Result.{IfOk-weaker}
+use Rattle.jr_kept.proofs.Starting.{some_started}
+use Rattle.jr_kept.proofs.creating.node_of.Goals as goal
+
+pub returns : goal.returns
+returns c = λ m seen is. IfOk-weaker c.node_in.result _ _ (λ found acts. some_started c.args.old.now.marks.rows.now m c.args.body c.in-Some.other is (sym c.initialized_by.ensures ∙ c.in-Some.is) found acts) (c.node_in.ensures m seen is.few)

@@ -1,0 +1,13 @@
+use Rattle.std.proofs.Common.{refl, subst, IfSome}
+use Rattle.jr_kept.specs.Started.{IsRound, CreatesAt}
+use Rattle.jr_kept.proofs.creating.node_round.Goals as goal
+
+pub loop-turn-init : goal.loop-turn-init
+loop-turn-init c = IsRound.itself refl
+
+pub loop-turn-preserved : goal.loop-turn-preserved
+loop-turn-preserved c = IsRound.above c.loop-turn.invariant c.parent_at-over.ensures
+
+pub returns-in-Some : goal.returns-in-Some
+returns-in-Some c = λ m seen. let p = c.args.old.now.marks.rows.now in let over = c.loop-turn.over in
+    record { over = over; round = c.loop-turn.invariant; creates = subst (λ o. IfSome o (λ row. CreatesAt p m over)) c.in-Some.is (c.in_ok-node_over.ensures m seen) }

@@ -1,0 +1,6 @@
+use Rattle.std.proofs.lemmas.Result.{IfOk-weaker}
+use Rattle.jr_kept.proofs.Starting.{first_told}
+use Rattle.jr_kept.proofs.creating.node_round_use.Goals as goal
+
+pub returns : goal.returns
+returns c = λ m seen. IfOk-weaker c.node_round.result _ _ (λ found inside. first_told c.args.old.now.marks.rows.now m c.args.local c.args.row (c.refers_to.ensures m seen c.if-not-refers_to.false) found inside) (c.node_round.ensures m seen)
